@@ -1,0 +1,6 @@
+pub mod Vectors
+pub mod Sums
+pub mod Division
+pub mod Burst
+pub mod Register
+pub mod Multiples

@@ -1,0 +1,24 @@
+-- Outside vectors, computed.
+use Rattle.std.proofs.Common.{◌≡◌, [], ◌∷◌, refl}
+use Rattle.ffv1_bits.specs.Bits.{number_bits, bits_of}
+use Rattle.ffv1_bits.specs.Parity.{polynomial_of, reduced_at, divided, remainder_of}
+
+one : remainder_of (bits_of (0x01 ∷ [])) ≡ 1
+unfolding number_bits bits_of polynomial_of reduced_at divided remainder_of
+one = refl
+
+one_shifted : remainder_of (bits_of (0x01 ∷ 0 ∷ 0 ∷ 0 ∷ 0 ∷ [])) ≡ 0x04C11DB7
+unfolding number_bits bits_of polynomial_of reduced_at divided remainder_of
+one_shifted = refl
+
+fd_shifted : remainder_of (bits_of (0xFD ∷ 0 ∷ 0 ∷ 0 ∷ 0 ∷ [])) ≡ 0xB8757BDA
+unfolding number_bits bits_of polynomial_of reduced_at divided remainder_of
+fd_shifted = refl
+
+slice : remainder_of (bits_of (0xFD ∷ 0xF6 ∷ 0x80 ∷ 0 ∷ 0 ∷ 3 ∷ 0 ∷ 0x1C ∷ 0x3E ∷ 0xA0 ∷ 0x9B ∷ [])) ≡ 0
+unfolding number_bits bits_of polynomial_of reduced_at divided remainder_of
+slice = refl
+
+other_slice : remainder_of (bits_of (0x3F ∷ 0x2B ∷ 0x80 ∷ 0 ∷ 0 ∷ 3 ∷ 0 ∷ 0x56 ∷ 0x0F ∷ 0xD7 ∷ 0x3B ∷ [])) ≡ 0
+unfolding number_bits bits_of polynomial_of reduced_at divided remainder_of
+other_slice = refl

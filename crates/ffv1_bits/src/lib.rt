@@ -1,0 +1,6 @@
+//! Bits of bytes, and the parity that closes configuration records and slices (RFC 9043, sections 4.3.2 and 4.9.3).
+#![tactic(auto)]
+
+mod parity;
+
+pub use parity::{burst_seen, passes, remainder, remainder_is_one};
