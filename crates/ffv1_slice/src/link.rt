@@ -1,0 +1,88 @@
+//! A link: one slice where it stands in a payload. Its footer (RFC 9043, section 4.9) has 3 bytes of size, 1 of error
+//! status and 4 of parity. Each link has room for its footer, and its size field is the number of its bytes less 8.
+ghost use Rattle.std.specs.Prelude.{◌≡◌, ◌+◌, ◌≤◌, ◌↔◌, ℕ, IsTrue, length};
+ghost use Rattle.ffv1_bits.specs.Parity.{PassesParity};
+ghost use Rattle.ffv1_slice.specs.Chain.{IsCut, IsFramed, status_before, piece_of};
+
+use ffv1_bits::passes;
+use std::marker::Model;
+
+/// The number of bytes of a footer.
+pub(crate) const FOOTER_LENGTH: usize = 8;
+
+/// A slice where it stands in a payload, with its footer. Its parity can be wrong.
+#[derive(Drop)]
+pub struct Link<'a> {
+    start: usize,
+    bytes: &'a [u8],
+    status: u8,
+    passes: bool,
+}
+
+impl<'a> Model for Link<'a> {
+    ghost use Rattle.std.specs.Prelude.{ℕ, List, ◌≡◌, ◌+◌, ◌^◌, ◌<◌, ◌↔◌, IsTrue, length};
+    ghost use Rattle.ffv1_slice.specs.Chain.{Piece, piece_code, IsFramed, status_before};
+    ghost use Rattle.ffv1_bits.specs.Parity.{PassesParity};
+
+    ghost Value = { Piece };
+
+    ghost coded = { piece_code };
+
+    ghost view = { λ a. record { start = a.start; bytes = a.bytes.now } };
+
+    ghost invariant = { λ a. IsFramed a.bytes.now × (a.status ≡ status_before a.bytes.now (length a.bytes.now)) × (IsTrue a.passes ↔ PassesParity a.bytes.now) × (a.start + length a.bytes.now < 2 ^ 64) };
+}
+
+impl<'a> Link<'a> {
+    /// The slice from `start` up to `end`, whose footer ends there.
+    pub(crate) fn cut(payload: &'a [u8], start: usize, end: usize) -> Link<'a>
+        requires within { end ≤ length payload.now }
+        requires cut { IsCut payload.now start end }
+        ensures { result ≡ piece_of payload.now start end }
+    {
+        let bytes = &payload[start..end];
+        Link {
+            start,
+            bytes,
+            status: bytes[bytes.len() - 5],
+            passes: passes(bytes),
+        }
+    }
+
+    /// Where the slice begins: how many bytes of the payload stand before it.
+    pub fn start(&self) -> usize
+        ensures { result ≡ self.now.start }
+    {
+        self.start
+    }
+
+    /// Where the slice ends: how many bytes of the payload stand before its last one, and that one.
+    pub fn end(&self) -> usize
+        ensures { result ≡ self.now.start + length self.now.bytes }
+    {
+        self.start + self.bytes.len()
+    }
+
+    /// The whole slice, with its footer: at least 8 bytes, and the footer's size field is their number less 8.
+    pub fn bytes(&self) -> &'a [u8]
+        ensures value { result.now ≡ self.now.bytes }
+        ensures framed { IsFramed result.now }
+    {
+        self.bytes
+    }
+
+    /// The footer's error status (RFC 9043, section 4.9.2): 0 no error, 1 correctable, 2 uncorrectable errors; others
+    /// are reserved, and are answered as they stand.
+    pub fn status(&self) -> u8
+        ensures { result ≡ status_before self.now.bytes (length self.now.bytes) }
+    {
+        self.status
+    }
+
+    /// Whether the slice passes its parity (RFC 9043, section 4.9.3): nothing is left of the whole slice.
+    pub fn passes(&self) -> bool
+        ensures { IsTrue result ↔ PassesParity self.now.bytes }
+    {
+        self.passes
+    }
+}

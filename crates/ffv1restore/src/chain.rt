@@ -1,0 +1,96 @@
+//! The command `chain`: tells the links of a frame payload and how their chain ends.
+ghost use Rattle.std.specs.Prelude.{◌≡◌, ◌≤◌, ◌++◌, ◌^◌, length, IfOk, IfErr, OnOk, IfSome, string_bytes};
+ghost use Rattle.ffv1restore.specs.ChainText.{link_place, link_state, parity_word, end_line, IsChainText, PrintsChain, ChainStops};
+ghost use Rattle.ffv1_slice.specs.Chain.{IsFramed};
+
+use crate::devices::{read_file, write_file};
+use crate::fault::CliFault;
+use ffv1_slice::{Chain, ChainEnd, Link};
+use std::alloc::{AllocError, Global};
+use std::io::{Read, Write};
+
+/// Reads a frame payload to its end and prints its links, from the payload's end, and how their chain ends: a line for
+/// each, as `11..22 size 3 status 0 pass` (from this byte of the payload up to that one, the bytes before the footer, the
+/// error status, and `pass` or `fail` for the parity), then `end whole` or `end broken at 5`.
+///
+/// Any bytes are a payload. The frame is path 0, the output path 1. `Read` comes where the frame can't be read or is
+/// longer than 2^30 bytes, and `Memory` where a growth is refused: then nothing was written. `Write` comes where the
+/// output fails: a front of the text was written.
+pub fn run_chain<R: Read, W: Write>(
+    alloc: Global,
+    frame: &mut R,
+    output: &mut W,
+) -> Result<(), CliFault>
+    ensures ok { OnOk result (IfSome (R.remaining frame.old)
+        (λ payload. PrintsChain payload (W.contents output.old) (W.contents output.new))) }
+    ensures few { OnOk result (IfSome (R.remaining frame.old) (λ payload. length payload ≤ 2 ^ 30)) }
+    ensures err { IfErr result (ChainStops (R.remaining frame.old) (W.contents output.old) (W.contents output.new)) }
+{
+    let payload = read_file(alloc, frame, 0)?;
+    let Ok(text) = chain_text(alloc, payload.as_slice()) else {
+        return Err(CliFault::Memory);
+    };
+    if write_file(output, text.as_bytes()).is_err() {
+        return Err(CliFault::Write(1));
+    }
+    Ok(())
+}
+
+/// The text that tells a payload's chain.
+fn chain_text(alloc: Global, payload: &[u8]) -> Result<String, AllocError>
+    ensures { IfOk result (λ text. IsChainText payload.now (string_bytes text)) }
+{
+    let chain = Chain::new(payload);
+    let end = chain.end();
+    let mut text = String::new(alloc);
+    for link in chain {
+        push_link(&mut text, &link)?;
+    }
+    push_end(&mut text, end)?;
+    Ok(text)
+}
+
+/// Adds the line of a link.
+fn push_link(text: &mut String, link: &Link<'_>) -> Result<(), AllocError>
+    ensures { OnOk result (string_bytes text.new ≡ string_bytes text.old ++ (link_place link.now ++ link_state link.now)) }
+{
+    push_place(text, link)?;
+    push_state(text, link)
+}
+
+/// Adds where a link lies and how many of its bytes stand before its footer.
+fn push_place(text: &mut String, link: &Link<'_>) -> Result<(), AllocError>
+    ensures { OnOk result (string_bytes text.new ≡ string_bytes text.old ++ link_place link.now) }
+{
+    let start = link.start();
+    let end = link.end();
+    let size = link.bytes().len() - 8;
+    write!(text, "{start}..{end} size {size}")
+}
+
+/// Adds a link's error status and parity, and ends the line.
+fn push_state(text: &mut String, link: &Link<'_>) -> Result<(), AllocError>
+    ensures { OnOk result (string_bytes text.new ≡ string_bytes text.old ++ link_state link.now) }
+{
+    let status = link.status();
+    let parity = parity_word(link);
+    writeln!(text, " status {status} {parity}")
+}
+
+/// Whether a link's parity is right, as it is told.
+fn parity_word(link: &Link<'_>) -> &'static str
+    ensures { result.now ≡ parity_word link.now.bytes }
+{
+    let _framed = link.bytes();
+    if link.passes() { "pass" } else { "fail" }
+}
+
+/// Adds the line of the chain's end.
+fn push_end(text: &mut String, end: ChainEnd) -> Result<(), AllocError>
+    ensures { OnOk result (string_bytes text.new ≡ string_bytes text.old ++ end_line end) }
+{
+    match end {
+        ChainEnd::Whole => text.push_str("end whole\n"),
+        ChainEnd::Broken(place) => writeln!(text, "end broken at {place}"),
+    }
+}
