@@ -9,6 +9,8 @@ mod chain;
 mod devices;
 mod fault;
 mod files;
+#[cfg(test)]
+mod tests;
 mod words;
 
 use chain::run_chain;
