@@ -4,3 +4,5 @@ pub mod Division
 pub mod Burst
 pub mod Register
 pub mod Multiples
+pub mod Numbers
+pub mod Places

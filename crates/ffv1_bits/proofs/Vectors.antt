@@ -1,6 +1,7 @@
 -- Outside vectors, computed.
-use Rattle.std.proofs.Common.{◌≡◌, [], ◌∷◌, refl}
+use Rattle.std.proofs.Common.{◌≡◌, true, false, [], ◌∷◌, ◌++◌, refl}
 use Rattle.ffv1_bits.specs.Bits.{number_bits, bits_of}
+use Rattle.ffv1_bits.specs.Reader.{Reads}
 use Rattle.ffv1_bits.specs.Parity.{polynomial_of, reduced_at, divided, remainder_of}
 
 one : remainder_of (bits_of (0x01 ∷ [])) ≡ 1
@@ -22,3 +23,15 @@ slice = refl
 other_slice : remainder_of (bits_of (0x3F ∷ 0x2B ∷ 0x80 ∷ 0 ∷ 0 ∷ 3 ∷ 0 ∷ 0x56 ∷ 0x0F ∷ 0xD7 ∷ 0x3B ∷ [])) ≡ 0
 unfolding number_bits bits_of polynomial_of reduced_at divided remainder_of
 other_slice = refl
+
+number_in_bits : number_bits 5 0x16 ≡ true ∷ false ∷ true ∷ true ∷ false ∷ []
+unfolding number_bits
+number_in_bits = refl
+
+two_bytes : bits_of (0xB6 ∷ 0x0F ∷ []) ≡ number_bits 4 0xB ++ number_bits 12 0x60F
+unfolding number_bits bits_of
+two_bytes = refl
+
+read_three : Reads (record { place = 8; left = bits_of (0xB6 ∷ []) }) (number_bits 3 5) (record { place = 11; left = number_bits 5 0x16 })
+unfolding number_bits bits_of
+read_three = record { begins = refl; moves = refl }

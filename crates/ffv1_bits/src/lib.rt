@@ -2,5 +2,7 @@
 #![tactic(auto)]
 
 mod parity;
+mod reader;
 
 pub use parity::{burst_seen, passes, remainder, remainder_is_one};
+pub use reader::{Bits, place_and_left_add_up};

@@ -1,0 +1,130 @@
+//! The bits of bytes, read one after the other, most significant first (RFC 9043, section 4).
+//!
+//! A reader never stands past its last bit.
+ghost use Rattle.std.specs.Prelude.{◌≡◌, ℕ, ◌+◌, ◌^◌, ◌<◌, ◌≤◌, [], ◌∷◌, length, IfSome, IfNone};
+ghost use Rattle.ffv1_bits.specs.Bits.{bits_of, number_bits};
+ghost use Rattle.ffv1_bits.specs.Reader.{Reading, Reads, PlaceAndLeftAddUp};
+
+use std::marker::Model;
+
+/// A reader over the bits of some bytes. Contracts see it as its place and the bits that are left.
+#[derive(Drop)]
+pub struct Bits<'a> {
+    bytes: &'a [u8],
+    place: usize,
+}
+
+impl<'a> Model for Bits<'a> {
+    ghost use Rattle.std.specs.Prelude.{ℕ, ◌*◌, ◌^◌, ◌≤◌, drop, length};
+    ghost use Rattle.ffv1_bits.specs.Bits.{bits_of};
+    ghost use Rattle.ffv1_bits.specs.Reader.{Reading};
+
+    ghost Value = { Reading };
+
+    ghost view = { λ b. record { place = b.place; left = drop b.place (bits_of b.bytes.now) } };
+
+    ghost invariant = { λ b. record { short : length b.bytes.now ≤ 2 ^ 30; within : b.place ≤ 8 * length b.bytes.now } };
+}
+
+impl<'a> Bits<'a> {
+    /// All bits of the bytes, none of them read. There are at most 2^30 bytes.
+    pub fn new(bytes: &'a [u8]) -> Self
+        requires { length bytes.now ≤ 2 ^ 30 }
+        ensures place { result.place ≡ 0 }
+        ensures left { result.left ≡ bits_of bytes.now }
+    {
+        Bits { bytes, place: 0 }
+    }
+
+    /// Another reader at the same place, to read ahead.
+    pub fn fork(&self) -> Self
+        ensures { result ≡ self.now }
+    {
+        Bits {
+            bytes: self.bytes,
+            place: self.place,
+        }
+    }
+
+    /// The number of bits read.
+    pub fn place(&self) -> usize
+        ensures value { result ≡ self.now.place }
+        ensures bound { result ≤ 2 ^ 33 }
+    {
+        self.place
+    }
+
+    /// The number of bits left.
+    pub fn left(&self) -> usize
+        ensures value { result ≡ length self.now.left }
+        ensures bound { result ≤ 2 ^ 33 }
+    {
+        8 * self.bytes.len() - self.place
+    }
+
+    /// The next bit; None where none is left, and then nothing changes.
+    pub fn bit(&mut self) -> Option<bool>
+        ensures some { IfSome result (λ bit. Reads self.old (bit ∷ []) self.new) }
+        ensures none { IfNone result (self.old.left ≡ []) }
+        ensures unchanged { IfNone result (self.new ≡ self.old) }
+    {
+        let byte = *self.bytes.get(self.place / 8)?;
+        let bit = (byte >> (7 - self.place % 8)) & 1 == 1;
+        self.place += 1;
+        Some(bit)
+    }
+
+    /// The next `count` bits as a number, the first of them highest; None where fewer are left,
+    /// and then nothing changes.
+    pub fn take(&mut self, count: u32) -> Option<u32>
+        requires { count ≤ 24 }
+        ensures some { IfSome result (λ number. Reads self.old (number_bits count number) self.new) }
+        ensures fits { IfSome result (λ number. number < 2 ^ count) }
+        ensures none { IfNone result (length self.old.left < count) }
+        ensures unchanged { IfNone result (self.new ≡ self.old) }
+    {
+        let mut ahead = self.fork();
+        let mut number = 0;
+        for _ in 0..count {
+            number = 2 * number + u32::from(ahead.bit()?);
+        }
+        *self = ahead;
+        Some(number)
+    }
+}
+
+/// The bits read and those left of some bytes are together eight for each byte.
+pub fn place_and_left_add_up()
+    ensures { PlaceAndLeftAddUp }
+{}
+
+#[cfg(test)]
+mod tests {
+    use super::*;
+    use std::test::*;
+
+    #[test]
+    fn bits_come_most_significant_first(rt: HostRuntime) {
+        let bytes = [0xB6, 0x0F];
+        let mut bits = Bits::new(&bytes);
+        assert_eq!(rt; bits.take(3), Some(5));
+        assert_eq!(rt; bits.bit(), Some(true));
+        let mut ahead = bits.fork();
+        assert_eq!(rt; ahead.take(8), Some(0x60));
+        assert_eq!(rt; (bits.place(), bits.left()), (4, 12));
+        assert_eq!(rt; bits.take(12), Some(0x60F));
+        assert_eq!(rt; (bits.place(), bits.left()), (16, 0));
+        assert_eq!(rt; bits.bit(), None);
+    }
+
+    #[test]
+    fn too_few_bits_leave_the_place(rt: HostRuntime) {
+        let bytes = [0xFF; 3];
+        let mut bits = Bits::new(&bytes);
+        assert_eq!(rt; bits.take(1), Some(1));
+        assert_eq!(rt; bits.take(24), None);
+        assert_eq!(rt; bits.place(), 1);
+        assert_eq!(rt; bits.take(0), Some(0));
+        assert_eq!(rt; bits.take(23), Some(0x7F_FFFF));
+    }
+}

@@ -1,0 +1,131 @@
+-- Where a fault is told no code is there, and it is one.
+use Rattle.std.proofs.Common.{◌≡◌, ℕ, ◌+◌, ◌*◌, ◌/◌, ◌^◌, ◌≤◌, Bool, true, List, ◌∷◌, ◌++◌, length, length-append, refl, sym, ap, subst, ◌∙◌, arith, ltb, cond, append_assoc, ◌⊎◌, inl, inr, ⊎_elim, ℤ, pos}
+use Rattle.std.proofs.lemmas.Int.{ints}
+use Rattle.ffv1_bits.specs.Bits.{number_bits}
+use Rattle.ffv1_bits.specs.Reader.{Reading}
+use Rattle.ffv1_bits.proofs.Numbers.{length-number_bits}
+use Rattle.ffv1_rice.proofs.OneNumber.{Parts, parts_of, byte_parts, one_prefix, one_shape, one_number_code_of}
+use Rattle.ffv1_rice.proofs.OneCode.{one_parameter, one_value, small_code, decoded_range, decoded_low, IsValueRead, decoded_alike}
+use Rattle.ffv1_rice.specs.States.{ContextState, IsParameter, code_number}
+use Rattle.ffv1_rice.specs.Codes.{prefix_bits, suffix_length, shape_bits, code_bits, SpellsValue, decoded_value, IsCoded, IsCodedDifference, IsCutCode, IsNeedlessEscape, IsLargeCode, IsLargeLevel, IsNumberFault, IsCodeFault, FaultsExcludeCodes, FaultsAreOne}
+use Rattle.ffv1_rice.specs.declared.code.CodeFault.{CodeFault}
+use Rattle.ffv1_rice.specs.declared.code.CodeFault.TheVariants as faults
+
+-- ---- faults of numbers
+
+large_parts : (k : ℕ) (bits : List Bool) (fault : IsLargeCode k bits) → Parts k fault.number
+large_parts k bits fault = parts_of k fault.number fault.fits
+
+-- bits that end within a shape begin with none
+no_shape_cut : (k ones low : ℕ) (bits rest : List Bool) → ones ≤ 12 → bits ≡ shape_bits k ones low ++ rest → IsCutCode k bits → ⊥
+unfolding shape_bits
+no_shape_cut k ones low bits rest few is cut =
+    let behind : List Bool = rest ++ (cut.missing ∷ cut.rest) in
+    let whole : shape_bits k cut.zeros cut.suffix ≡ shape_bits k ones low ++ behind =
+    cut.cut ∙ ap (λ l. l ++ (cut.missing ∷ cut.rest)) is ∙ append_assoc (shape_bits k ones low) rest (cut.missing ∷ cut.rest) in
+    let joined : prefix_bits cut.zeros ++ number_bits (suffix_length k cut.zeros) cut.suffix ≡ prefix_bits ones ++ (number_bits (suffix_length k ones) low ++ behind) =
+    whole ∙ append_assoc (prefix_bits ones) (number_bits (suffix_length k ones) low) behind in
+    let one = one_prefix cut.zeros ones _ _ cut.few few joined in
+    let lengths : length (number_bits (suffix_length k cut.zeros) cut.suffix) ≡ length (number_bits (suffix_length k ones) low ++ behind) = ap length one.1 in
+    let widths : suffix_length k cut.zeros ≡ suffix_length k ones = ap (suffix_length k) one.0 in
+    omega (
+      arith,
+      lengths,
+      widths,
+      length-number_bits (suffix_length k cut.zeros) cut.suffix,
+      length-number_bits (suffix_length k ones) low,
+      length-append (number_bits (suffix_length k ones) low) behind,
+      length-append rest (cut.missing ∷ cut.rest),
+    )
+
+-- .. and with no number's code
+no_code_cut : (k u : ℕ) (bits rest : List Bool) → Parts k u → bits ≡ code_bits u k ++ rest → IsCutCode k bits → ⊥
+no_code_cut k u bits rest a is cut = no_shape_cut k a.ones a.low bits rest a.few (is ∙ ap (λ l. l ++ rest) a.is_code) cut
+
+-- a needless escape is no number's code
+no_code_needless : (k u : ℕ) (bits rest : List Bool) → Parts k u → bits ≡ code_bits u k ++ rest → IsNeedlessEscape k bits → ⊥
+unfolding suffix_length
+no_code_needless k u bits rest a is fault =
+    let whole : shape_bits k 12 fault.suffix ++ fault.rest ≡ shape_bits k a.ones a.low ++ rest = sym fault.begins ∙ is ∙ ap (λ l. l ++ rest) a.is_code in
+    let one = one_shape k 12 a.ones fault.suffix a.low fault.rest rest (omega arith) a.few fault.fits a.fits whole in
+    let number : fault.suffix + 11 ≡ u = ap (λ z. z + 11) one.1 ∙ ap (λ z. cond (ltb z 12) (z * 2 ^ k + a.low) (a.low + 11)) one.0 ∙ a.number in
+    let same : (fault.suffix + 11) / 2 ^ k ≡ u / 2 ^ k = ap (λ n. n / 2 ^ k) number in
+    let long : 12 ≤ u / 2 ^ k = a.escaped (omega (arith, one.0)) in
+    omega (arith, same, long, fault.short)
+
+-- the code of a number above 255 is no byte's
+no_code_large : (k u : ℕ) (bits rest : List Bool) → u ≤ 255 → bits ≡ code_bits u k ++ rest → IsLargeCode k bits → ⊥
+no_code_large k u bits rest small is fault =
+    let one = one_number_code_of k fault.number u fault.rest rest (large_parts k bits fault) (byte_parts k u small) (sym fault.begins ∙ is) in
+    omega (arith, one.0, fault.large)
+
+-- where a number's fault is told, no byte's code is there
+no_number_at_fault : (k u : ℕ) (bits rest : List Bool) (fault : CodeFault) → u ≤ 255 → bits ≡ code_bits u k ++ rest → IsNumberFault k bits fault → ⊥
+no_number_at_fault k u bits rest faults.Truncated small is told = no_code_cut k u bits rest (byte_parts k u small) is told
+no_number_at_fault k u bits rest faults.EscapeNotNeeded small is told = no_code_needless k u bits rest (byte_parts k u small) is told
+no_number_at_fault k u bits rest faults.CodeTooLarge small is told = no_code_large k u bits rest small is told
+no_number_at_fault k u bits rest faults.LevelTooLarge small is told = told
+
+-- a number has one fault
+one_number_fault : (k : ℕ) (bits : List Bool) (fault other : CodeFault) → IsNumberFault k bits fault → IsNumberFault k bits other → fault ≡ other
+one_number_fault k bits faults.Truncated faults.Truncated a b = refl
+one_number_fault k bits faults.Truncated faults.EscapeNotNeeded a b = absurd (no_shape_cut k 12 b.suffix bits b.rest (omega arith) b.begins a)
+one_number_fault k bits faults.Truncated faults.CodeTooLarge a b = absurd (no_code_cut k b.number bits b.rest (large_parts k bits b) b.begins a)
+one_number_fault k bits faults.EscapeNotNeeded faults.Truncated a b = absurd (no_shape_cut k 12 a.suffix bits a.rest (omega arith) a.begins b)
+one_number_fault k bits faults.EscapeNotNeeded faults.EscapeNotNeeded a b = refl
+one_number_fault k bits faults.EscapeNotNeeded faults.CodeTooLarge a b = absurd (no_code_needless k b.number bits b.rest (large_parts k bits b) b.begins a)
+one_number_fault k bits faults.CodeTooLarge faults.Truncated a b = absurd (no_code_cut k a.number bits a.rest (large_parts k bits a) a.begins b)
+one_number_fault k bits faults.CodeTooLarge faults.EscapeNotNeeded a b = absurd (no_code_needless k a.number bits a.rest (large_parts k bits a) a.begins b)
+one_number_fault k bits faults.CodeTooLarge faults.CodeTooLarge a b = refl
+one_number_fault k bits faults.LevelTooLarge other a b = absurd a
+one_number_fault k bits faults.Truncated faults.LevelTooLarge a b = absurd b
+one_number_fault k bits faults.EscapeNotNeeded faults.LevelTooLarge a b = absurd b
+one_number_fault k bits faults.CodeTooLarge faults.LevelTooLarge a b = absurd b
+
+-- a fault is either that of the number ..
+number_told : (s : ContextState) (level : Bool) (bits : List Bool) (fault : CodeFault) → IsCodeFault s level bits fault → ((k : ℕ) × IsParameter s k × IsNumberFault k bits fault) ⊎ ((fault ≡ faults.LevelTooLarge) × IsLargeLevel s level bits)
+number_told s level bits faults.Truncated told = inl told
+number_told s level bits faults.EscapeNotNeeded told = inl told
+number_told s level bits faults.CodeTooLarge told = inl told
+number_told s level bits faults.LevelTooLarge told = inr (refl, told)
+
+-- .. which excludes the code of each value
+no_value_at_fault : (s : ContextState) (v : ℤ) (k : ℕ) (bits code rest : List Bool) (fault : CodeFault) → IsParameter s k → IsNumberFault k bits fault → SpellsValue s v code → bits ≡ code ++ rest → ⊥
+no_value_at_fault s v k bits code rest fault parameter told spells is =
+    no_number_at_fault k (code_number s v) bits rest fault (small_code s v)
+    (is ∙ ap (λ l. l ++ rest) (spells.same ∙ ap (code_bits (code_number s v)) (one_parameter s spells.parameter k spells.is_parameter parameter))) told
+
+pub no_code_at_fault : FaultsExcludeCodes
+no_code_at_fault s level fault difference bits code rest told coded spells is =
+    ⊎_elim
+    (λ number. no_value_at_fault s (decoded_value level difference) number.0 bits code rest fault number.1 number.2 spells is)
+    (λ large.
+    let one = one_value s (decoded_value level difference) (pos 127) code large.1.code rest large.1.rest (decoded_range level difference coded)
+    (record { low = omega (arith, ints); high = omega (arith, ints) }) spells large.1.spells (sym is ∙ large.1.begins) in
+    decoded_low level difference coded large.1.is_level one.0)
+    (number_told s level bits fault told)
+
+pub one_fault : FaultsAreOne
+one_fault s level bits fault other told also =
+    ⊎_elim
+    (λ number. ⊎_elim
+    (λ second. one_number_fault number.0 bits fault other number.2
+    (subst (λ k. IsNumberFault k bits other) (one_parameter s second.0 number.0 second.1 number.1) second.2))
+    (λ large. absurd (no_value_at_fault s (pos 127) number.0 bits large.1.code large.1.rest fault number.1 number.2 large.1.spells large.1.begins))
+    (number_told s level bits other also))
+    (λ large. ⊎_elim
+    (λ number. absurd (no_value_at_fault s (pos 127) number.0 bits large.1.code large.1.rest other number.1 number.2 large.1.spells large.1.begins))
+    (λ second. large.0 ∙ sym second.0)
+    (number_told s level bits other also))
+    (number_told s level bits fault told)
+
+-- ---- faults of readings
+
+pub no_level_above : (s : ContextState) (level : Bool) (value difference : ℤ) (old new after : Reading) → IsValueRead s value old new
+    → level ≡ true → value ≡ pos 127 → IsCodedDifference level difference → IsCoded s level difference old after → ⊥
+no_level_above s level value difference old new after read levels top told spelled =
+    decoded_low level difference told levels (decoded_alike s level value difference old new after read told spelled ∙ top)
+
+pub no_difference_at_fault : (s : ContextState) (level : Bool) (fault : CodeFault) (k : ℕ) (difference : ℤ) (old after : Reading) → IsParameter s k → IsNumberFault k old.left fault → IsCoded s level difference old after → ⊥
+no_difference_at_fault s level fault k difference old after parameter told spelled =
+    no_value_at_fault s (decoded_value level difference) k old.left spelled.code after.left fault parameter told spelled.spells spelled.reads.begins

@@ -1,0 +1,33 @@
+use Rattle.std.proofs.Common.{◌≡◌, ap, sym, arith, ◌∙◌, to_z, of_z, w32}
+use Rattle.std.specs.Prelude.{Ok}
+use Rattle.std.proofs.lemmas.Int.{ints}
+use Rattle.ffv1_rice.proofs.OneCode.{IsValueRead, value_read, same_difference}
+use Rattle.ffv1_rice.proofs.Faults.{no_level_above, no_difference_at_fault}
+use Rattle.ffv1_rice.proofs.state.VlcState.decode.Goals as goal
+
+pub returns-in_err-number-clause-found : goal.returns-in_err-number-clause-found
+returns-in_err-number-clause-found c = λ difference after told spelled.
+    absurd (no_difference_at_fault c.args.self.now c.args.level c.in_err-number.field-0.0 c.k.result difference c.args.bits.now after
+    c.k.ensures.parameter (rw c.fork-ahead.ensures at c.in_err-number.ensures.err) spelled)
+
+pub returns-in_err-difference-clause-found : goal.returns-in_err-difference-clause-found
+returns-in_err-difference-clause-found c = λ difference after told spelled.
+    let coded : to_z w32 (of_z w32 c.coded-coded.result) ≡ c.coded-coded.result = omega (arith, ints) in
+    let value : to_z w32 (of_z w32 c.value.result) ≡ c.value.result = omega (arith, ints) in
+    let read : IsValueRead c.args.self.now c.value.result c.args.bits.now c.read_number.new.bits =
+    value_read c.args.self.now c.in_ok-number.number c.k.result c.coded-coded.result c.value.result c.args.bits.now c.read_number.new.bits c.k.ensures.parameter
+    c.coded-coded.ensures.number (c.value.ensures.coded ∙ coded) c.value.ensures.range (rw c.fork-ahead.ensures at c.in_ok-number.ensures.ok) in
+    absurd (no_level_above c.args.self.now c.args.level c.value.result difference c.args.bits.now c.read_number.new.bits after read
+    c.in_err-difference.ensures.err.0 (sym value ∙ c.in_err-difference.ensures.err.2) told spelled)
+
+pub returns-clause-found : goal.returns-clause-found
+returns-clause-found c = λ difference after told spelled.
+    let coded : to_z w32 (of_z w32 c.coded-coded.result) ≡ c.coded-coded.result = omega (arith, ints) in
+    let value : to_z w32 (of_z w32 c.value.result) ≡ c.value.result = omega (arith, ints) in
+    let read : IsValueRead c.args.self.now c.value.result c.args.bits.now c.read_number.new.bits =
+    value_read c.args.self.now c.in_ok-number.number c.k.result c.coded-coded.result c.value.result c.args.bits.now c.read_number.new.bits c.k.ensures.parameter
+    c.coded-coded.ensures.number (c.value.ensures.coded ∙ coded) c.value.ensures.range (rw c.fork-ahead.ensures at c.in_ok-number.ensures.ok) in
+    let same : c.in_ok-difference.difference ≡ difference =
+    same_difference c.args.self.now c.args.level c.value.result c.in_ok-difference.difference difference c.args.bits.now c.read_number.new.bits after read
+    c.in_ok-difference.ensures.range (c.in_ok-difference.ensures.ok ∙ value) told spelled in
+    ap Ok (omega (arith, ints, same, told.0.low, told.0.high))

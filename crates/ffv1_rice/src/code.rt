@@ -1,0 +1,163 @@
+//! Golomb-Rice codes: a prefix of zeros, and a suffix of bits (RFC 9043, section 3.8.2.1).
+ghost use Rattle.std.specs.Prelude.{◌≡◌, ℕ, ◌/◌, ◌%◌, ◌-◌, ◌^◌, ◌≤◌, ◌<◌, ◌++◌, ℤ, false, true, pos, replicate, IfOk, IfErr, IfSome, IfNone, OnErr};
+ghost use Rattle.ffv1_bits.specs.Bits.{number_bits};
+ghost use Rattle.ffv1_bits.specs.Reader.{Reading, Reads};
+ghost use Rattle.ffv1_rice.specs.States.{IsDifference, after_value};
+ghost use Rattle.ffv1_rice.specs.Codes.{prefix_bits, code_bits, decoded_value, IsCoded, IsCodedDifference, IsNumberFault, IsCodeFault, CodesAreOne, FaultsExcludeCodes, FaultsAreOne};
+ghost use Rattle.ffv1_rice.specs.declared.code.CodeFault.TheVariants as CodeFault;
+
+use crate::state::VlcState;
+use ffv1_bits::Bits;
+
+/// Why no code or run word can be read.
+#[derive(Clone, Copy, Debug, PartialEq, Eq)]
+pub enum CodeFault {
+    /// The bits end within it.
+    Truncated,
+    /// An escape for a number that has the shorter form.
+    EscapeNotNeeded,
+    /// The code of a number above 255.
+    CodeTooLarge,
+    /// The code of a level of 128, which no sample has.
+    LevelTooLarge,
+}
+
+/// The zeros of an escape. No bit 1 ends them.
+const ESCAPE_ZEROS: u32 = 12;
+
+/// The bits of an escape's suffix.
+const ESCAPE_BITS: u32 = 8;
+
+/// An escape's number is its suffix plus this.
+const ESCAPE_OFFSET: u32 = 11;
+
+/// The largest number of a code.
+const LARGEST_NUMBER: u32 = 255;
+
+/// The zeros of a prefix, at most 12. After None the bits stand at their end.
+#[tactic(auto, unfolding(crate::specs::Codes::prefix_bits))]
+fn read_prefix(bits: &mut Bits) -> Option<u32>
+    ensures few { IfSome result (λ zeros. zeros ≤ 12) }
+    ensures some { IfSome result (λ zeros. Reads bits.old (prefix_bits zeros) bits.new) }
+    ensures none { IfNone result ((zeros : ℕ) × (zeros < 12) × (bits.old.left ≡ replicate zeros false)) }
+{
+    for zeros in 0..ESCAPE_ZEROS {
+        if bits.bit()? {
+            return Some(zeros);
+        }
+    }
+    Some(ESCAPE_ZEROS)
+}
+
+/// The number whose code at the parameter `k` comes next. After a fault the bits stand at any place.
+fn read_number(bits: &mut Bits, k: u32) -> Result<u32, CodeFault>
+    requires { k ≤ 7 }
+    ensures byte { IfOk result (λ u. u ≤ 255) }
+    ensures ok { IfOk result (λ u. Reads bits.old (code_bits u k) bits.new) }
+    ensures err { IfErr result (λ fault. IsNumberFault k bits.old.left fault) }
+{
+    match read_prefix(bits) {
+        None => Err(CodeFault::Truncated),
+        Some(zeros) if zeros < ESCAPE_ZEROS => read_short(bits, k, zeros),
+        Some(_) => read_escaped(bits, k),
+    }
+}
+
+/// The number whose prefix of fewer than 12 zeros was read.
+fn read_short(bits: &mut Bits, k: u32, zeros: u32) -> Result<u32, CodeFault>
+    requires parameter { k ≤ 7 }
+    requires zeros { zeros < 12 }
+    ensures byte { IfOk result (λ u. u ≤ 255) }
+    ensures prefix { IfOk result (λ u. u / 2 ^ k ≡ zeros) }
+    ensures suffix { IfOk result (λ u. Reads bits.old (number_bits k (u % 2 ^ k)) bits.new) }
+    ensures err { IfErr result (λ fault. IsNumberFault k (prefix_bits zeros ++ bits.old.left) fault) }
+{
+    let Some(low) = bits.take(k) else {
+        return Err(CodeFault::Truncated);
+    };
+    let number = (zeros << k) + low;
+    if number > LARGEST_NUMBER {
+        return Err(CodeFault::CodeTooLarge);
+    }
+    Ok(number)
+}
+
+/// The number whose escape was read.
+fn read_escaped(bits: &mut Bits, k: u32) -> Result<u32, CodeFault>
+    requires { k ≤ 7 }
+    ensures byte { IfOk result (λ u. u ≤ 255) }
+    ensures prefix { IfOk result (λ u. 12 ≤ u / 2 ^ k) }
+    ensures suffix { IfOk result (λ u. Reads bits.old (number_bits 8 (u - 11)) bits.new) }
+    ensures err { IfErr result (λ fault. IsNumberFault k (prefix_bits 12 ++ bits.old.left) fault) }
+{
+    let Some(low) = bits.take(ESCAPE_BITS) else {
+        return Err(CodeFault::Truncated);
+    };
+    let number = low + ESCAPE_OFFSET;
+    if number >> k < ESCAPE_ZEROS {
+        return Err(CodeFault::EscapeNotNeeded);
+    }
+    if number > LARGEST_NUMBER {
+        return Err(CodeFault::CodeTooLarge);
+    }
+    Ok(number)
+}
+
+/// The difference whose code gave this value.
+fn difference_of(value: i32, level: bool) -> Result<i32, CodeFault>
+    requires { IsDifference value }
+    ensures range { IfOk result (IsCodedDifference level) }
+    ensures ok { IfOk result (λ difference. decoded_value level difference ≡ value) }
+    ensures err { IfErr result (λ fault. (level ≡ true) × (fault ≡ CodeFault.LevelTooLarge) × (value ≡ pos 127)) }
+{
+    if !level || value < 0 {
+        Ok(value)
+    } else if value < 127 {
+        Ok(value + 1)
+    } else {
+        Err(CodeFault::LevelTooLarge)
+    }
+}
+
+impl VlcState {
+    /// The difference whose code comes next, from -128 to 127; the state becomes that after it
+    /// (RFC 9043, sections 3.8.2.1 and 3.8.2.3). With `level` the code is that of a run's level,
+    /// whose difference is never 0 (section 3.8.2.2.2).
+    ///
+    /// The faults are judged in the order in which `CodeFault` has them; `LevelTooLarge` comes
+    /// with `level` alone. On a fault state and bits are unchanged.
+    pub fn decode(&mut self, bits: &mut Bits, level: bool) -> Result<i32, CodeFault>
+        ensures range { IfOk result (IsCodedDifference level) }
+        ensures ok { IfOk result (λ difference. IsCoded self.old level difference bits.old bits.new) }
+        ensures state { IfOk result (λ difference. self.new ≡ after_value self.old (decoded_value level difference)) }
+
+        // Wherever a difference has its code next, it is answered.
+        ensures found { (difference : ℤ) (after : Reading) → IsCodedDifference level difference → IsCoded self.old level difference bits.old after → result ≡ Ok difference }
+
+        ensures err { IfErr result (IsCodeFault self.old level bits.old.left) }
+        ensures unchanged { OnErr result ((self.new ≡ self.old) × (bits.new ≡ bits.old)) }
+    {
+        let mut ahead = bits.fork();
+        let number = read_number(&mut ahead, self.k())?;
+        let coded = self.coded(number);
+        let difference = difference_of(self.value(coded), level)?;
+        *self = self.updated(coded);
+        *bits = ahead;
+        Ok(difference)
+    }
+}
+
+/// No bits begin with the codes of two values of a state.
+pub fn codes_are_one()
+    ensures { CodesAreOne }
+{}
+
+/// Where a fault is told, no difference has a code.
+pub fn faults_exclude_codes()
+    ensures { FaultsExcludeCodes }
+{}
+
+/// No bits have two faults.
+pub fn faults_are_one()
+    ensures { FaultsAreOne }
+{}
