@@ -1,0 +1,291 @@
+-- A header is read where its fields are coded, and nowhere else.
+use Rattle.std.proofs.Common.{◌≡◌, ℕ, suc, zero, ◌+◌, ◌-◌, ◌*◌, ◌/◌, ◌^◌, ◌<◌, ◌≤◌, Bool, true, false, List, [], ◌∷◌, ◌++◌, Result, Ok, Err, refl, sym, ap, ◌∙◌, subst, arith, length, append_assoc}
+use Rattle.std.specs.Prelude.{◌↔◌, IfOk, IsTrue, nat_lt, ◌==◌, ◌&&◌, slice_index, slice_set, if◌then◌else◌}
+use Rattle.std.specs.Bool.{MatchBool}
+use Rattle.std.specs.List.{All, flat_map}
+use Rattle.std.proofs.lemmas.List.{append-nil}
+use Rattle.std.proofs.lemmas.List.Elements.{All-cons, All-nil, All-head, All-tail}
+use Rattle.std.proofs.lemmas.Bool.{and_parts, and_from, ltb-true, lt-ltb, eqb-true, eq-eqb}
+use Rattle.ffv1_range.specs.Results.{◌>>=◌ as ◌>>>◌}
+use Rattle.ffv1_range.specs.Coding.{Coder, Place, PlaceOf, bit_at, slot_at, start_of, started, refilled, with_byte, state_after, IsRangeRun}
+use Rattle.ffv1_range.specs.Symbols.{symbol_bits}
+use Rattle.ffv1_range.specs.Forms.{lifted_result, apart, on}
+use Rattle.ffv1_range.specs.Reading.{symbol_form}
+use Rattle.ffv1_range.specs.TableForms.{fresh_row}
+use Rattle.ffv1_range.specs.HeaderForms.{symbols_onto, fields_form, key_coder}
+use Rattle.ffv1_range.specs.Header.{IsHeaderOf, IsHeadOf, IsTileHeader, HeadLimits, header_read, head_judged, head_read, head_with, is_in_place}
+use Rattle.ffv1_range.specs.declared.coding.RangeFault.{RangeFault}
+use Rattle.ffv1_range.specs.declared.coding.RangeFault.TheVariants.{Start}
+use Rattle.ffv1_range.specs.declared.head.HeadFault.{HeadFault}
+use Rattle.ffv1_range.specs.declared.head.HeadFault.TheVariants.{Range, NotKey}
+use Rattle.ffv1_range.specs.declared.head.SliceHead.{SliceHead}
+use Rattle.ffv1_range.proofs.Forms.{place_of, bind_ok}
+use Rattle.ffv1_range.proofs.Spelling.{bind_is_ok, same_ok, run_append, run_split, symbol_is_spelled}
+
+-- ---- symbols in a row
+
+-- n symbols are coded from p up to q
+record AreSymbols (closed : Bool) (n : ℕ) (p q : Place) (symbols : List ℕ) : Type 0 where
+  count : length symbols ≡ n
+  fit : All (λ symbol. symbol < 2 ^ 32) symbols
+  coded : IsRangeRun closed p (flat_map symbol_bits symbols) q
+
+symbols_found : (closed : Bool) (n : ℕ) (done fields : List ℕ) (p q : Place) → symbols_onto n done closed p ≡ Ok (fields, q)
+    → (more : List ℕ) × (fields ≡ done ++ more) × AreSymbols closed n p q more
+unfolding symbols_onto IsRangeRun
+symbols_found closed zero done fields p q h =
+    let e = same_ok (done, p) (fields, q) h in
+    ([], sym (ap (λ z. z.0) e) ∙ sym (append-nil done), record { count = refl; fit = All-nil (λ symbol. symbol < 2 ^ 32); coded = ap (λ z. z.1) e })
+symbols_found closed (suc n) done fields p q h =
+    let x = bind_is_ok (symbol_form closed p) (λ x. symbols_onto n (done ++ x.0 ∷ []) closed x.1) (fields, q) h in
+    let first = (symbol_is_spelled closed p x.0.1 x.0.0).0 x.1 in
+    let rest = symbols_found closed n (done ++ x.0.0 ∷ []) fields x.0.1 q x.2 in (
+      x.0.0 ∷ rest.0,
+      rest.1 ∙ append_assoc done (x.0.0 ∷ []) rest.0,
+      record {
+        count = ap suc rest.2.count;
+        fit = All-cons (λ symbol. symbol < 2 ^ 32) x.0.0 rest.0 first.0 rest.2.fit;
+        coded = run_append closed (symbol_bits x.0.0) (flat_map symbol_bits rest.0) p x.0.1 q first.1 rest.2.coded;
+      },
+    )
+
+symbols_run : (closed : Bool) (done fields : List ℕ) (p q : Place) → All (λ symbol. symbol < 2 ^ 32) fields → IsRangeRun closed p (flat_map symbol_bits fields) q
+    → symbols_onto (length fields) done closed p ≡ Ok (done ++ fields, q)
+unfolding symbols_onto IsRangeRun
+symbols_run closed done [] p q fit run = ap (λ z. Ok (done, z)) run ∙ ap (λ z. Ok (z, q)) (sym (append-nil done))
+symbols_run closed done (a ∷ fields) p q fit run =
+    let parts = run_split closed (symbol_bits a) (flat_map symbol_bits fields) p q run in
+    let read = (symbol_is_spelled closed p parts.0 a).1 (All-head (λ symbol. symbol < 2 ^ 32) a fields fit, parts.1) in
+    bind_ok (symbol_form closed p) (λ x. symbols_onto (length fields) (done ++ x.0 ∷ []) closed x.1) (a, parts.0) read
+    ∙ symbols_run closed (done ++ a ∷ []) fields parts.0 q (All-tail (λ symbol. symbol < 2 ^ 32) a fields fit) parts.2
+    ∙ ap (λ z. Ok (z, q)) (append_assoc done (a ∷ []) fields)
+
+fields_found : (c : Coder) (fields : List ℕ) (q : PlaceOf (Unit {0})) → fields_form false (place_of c tt) ≡ Ok (fields, q)
+    → (end : Place) × (q.coder ≡ end.coder) × AreSymbols false 9 (place_of c fresh_row) end fields
+fields_found c fields q h =
+    let x = bind_is_ok (symbols_onto 9 [] false (place_of c fresh_row)) (λ x. Ok (x.0, place_of x.1.coder tt)) (fields, q) h in
+    let e = same_ok (x.0.0, place_of x.0.1.coder tt) (fields, q) x.2 in
+    let found = symbols_found false 9 [] x.0.0 (place_of c fresh_row) x.0.1 x.1 in
+    let same : fields ≡ found.0 = sym (ap (λ z. z.0) e) ∙ found.1 in
+    (x.0.1, sym (ap (λ z. z.1.coder) e), subst (λ z. AreSymbols false 9 (place_of c fresh_row) x.0.1 z) (sym same) found.2)
+
+fields_run : (c : Coder) (fields : List ℕ) (end : Place) → length fields ≡ 9 → All (λ field. field < 2 ^ 32) fields
+    → IsRangeRun false (place_of c fresh_row) (flat_map symbol_bits fields) end → fields_form false (place_of c tt) ≡ Ok (fields, place_of end.coder tt)
+fields_run c fields end nine fit run =
+    bind_ok (symbols_onto 9 [] false (place_of c fresh_row)) (λ x. Ok (x.0, place_of x.1.coder tt)) (fields, end)
+    (ap (λ n. symbols_onto n [] false (place_of c fresh_row)) (sym nine) ∙ symbols_run false [] fields (place_of c fresh_row) end fit run)
+
+-- ---- what is still to come never grows
+
+refilled_shrinks : (closed : Bool) (range low : ℕ) (rest : List ℕ) (d : Coder) → refilled closed range low rest ≡ Ok d → length d.rest ≤ length rest
+refilled_shrinks closed range low rest d h =
+    elim (nat_lt range 256) as (λ b. (if b then with_byte closed range low rest else Ok (record { range = range; low = low; rest = rest })) ≡ Ok d → length d.rest ≤ length rest) [
+      | true ↦ λ e. byte_shrinks closed range low rest d e
+      | false ↦ λ e. let same = same_ok (record { range = range; low = low; rest = rest }) d e in omega (arith, ap (λ z. length z.rest) same)
+    ] h
+  where
+    byte_shrinks : (closed : Bool) (range low : ℕ) (rest : List ℕ) (d : Coder) → with_byte closed range low rest ≡ Ok d → length d.rest ≤ length rest
+    byte_shrinks closed range low (byte ∷ rest) d h = omega (arith, ap (λ z. length z.rest) (same_ok (record { range = 256 * range; low = 256 * low + byte; rest = rest }) d h))
+    byte_shrinks true range low [] d h = omega (arith, ap (λ z. length z.rest) (same_ok (record { range = 256 * range; low = 256 * low; rest = [] }) d h))
+    byte_shrinks false range low [] d h = absurd cc
+
+abbrev with_bit : Bool → Coder → Result (Bool × Coder) RangeFault
+with_bit bit d = Ok (bit, d)
+
+cut_shrinks : (closed : Bool) (range low : ℕ) (rest : List ℕ) (told bit : Bool) (d : Coder) → (refilled closed range low rest >>> with_bit told) ≡ Ok (bit, d) → length d.rest ≤ length rest
+cut_shrinks closed range low rest told bit d h =
+    let x = bind_is_ok (refilled closed range low rest) (with_bit told) (bit, d) h in
+    let same = same_ok (told, x.0) (bit, d) x.2 in
+    omega (arith, refilled_shrinks closed range low rest x.0 x.1, ap (λ z. length z.1.rest) same)
+
+bit_shrinks : (closed : Bool) (c d : Coder) (state : ℕ) (bit : Bool) → bit_at closed c state ≡ Ok (bit, d) → length d.rest ≤ length c.rest
+unfolding bit_at
+bit_shrinks closed c d state bit h =
+    elim (nat_lt c.low (c.range - c.range * state / 256)) as
+    (λ b. (if b then (refilled closed (c.range - c.range * state / 256) c.low c.rest >>> with_bit false) else (refilled closed (c.range * state / 256) (c.low - (c.range - c.range * state / 256)) c.rest >>> with_bit true)) ≡ Ok (bit, d) → length d.rest ≤ length c.rest) [
+      | true ↦ λ e. cut_shrinks closed (c.range - c.range * state / 256) c.low c.rest false bit d e
+      | false ↦ λ e. cut_shrinks closed (c.range * state / 256) (c.low - (c.range - c.range * state / 256)) c.rest true bit d e
+    ] h
+
+slot_shrinks : (closed : Bool) (p q : Place) (slot : ℕ) (bit : Bool) → slot_at closed p slot ≡ Ok (bit, q) → length q.coder.rest ≤ length p.coder.rest
+unfolding slot_at
+slot_shrinks closed p q slot bit h =
+    let x = bind_is_ok (bit_at closed p.coder (slice_index p.states slot)) (λ x. Ok (x.0, place_of x.1 (slice_set p.states slot (state_after (slice_index p.states slot) x.0)))) (bit, q) h in
+    let same = same_ok (x.0.0, place_of x.0.1 (slice_set p.states slot (state_after (slice_index p.states slot) x.0.0))) (bit, q) x.2 in
+    omega (arith, bit_shrinks closed p.coder x.0.1 (slice_index p.states slot) x.0.0 x.1, ap (λ z. length z.1.coder.rest) same)
+
+run_shrinks : (closed : Bool) (p q : Place) (bits : List (ℕ × Bool)) → IsRangeRun closed p bits q → length q.coder.rest ≤ length p.coder.rest
+unfolding IsRangeRun
+run_shrinks closed p q [] h = omega (arith, ap (λ z. length z.coder.rest) h)
+run_shrinks closed p q (x ∷ bits) h = omega (arith, slot_shrinks closed p h.0 x.0 x.1 h.1, run_shrinks closed h.0 q bits h.2)
+
+start_leaves : (content : List ℕ) (c : Coder) → start_of false content ≡ Ok c → length c.rest + 2 ≤ length content
+unfolding start_of
+start_leaves [] c h = absurd cc
+start_leaves (a ∷ []) c h = absurd cc
+start_leaves (a ∷ b ∷ rest) c h =
+    elim (nat_lt (256 * a + b) 65280) as (λ t. (if t then Ok (record { range = 65280; low = 256 * a + b; rest = rest }) else Err Start) ≡ Ok c → length c.rest + 2 ≤ length (a ∷ b ∷ rest))
+    [ true ↦ λ e. omega (arith, ap (λ z. length z.rest) (same_ok (record { range = 65280; low = 256 * a + b; rest = rest }) c e)) | false ↦ λ e. absurd cc ] h
+
+-- ---- the keyframe bit
+
+lifted_ok : {A : Type 0} (r : Result A RangeFault) (x : A) → lifted_result Range r ≡ Ok x → r ≡ Ok x
+lifted_ok (Ok y) x h = ap Ok (same_ok y x h)
+lifted_ok (Err e) x h = absurd cc
+
+key_bit : (b : Bool) (c d : Coder) → (if b then Ok c else Err NotKey) ≡ Ok d → (b ≡ true) × (c ≡ d)
+key_bit true c d h = (refl, same_ok c d h)
+key_bit false c d h = absurd cc
+
+key_found : (first : Bool) (c d : Coder) → key_coder first c ≡ Ok d → MatchBool first (bit_at false c 128 ≡ Ok (true, d)) (d ≡ c)
+key_found false c d h = sym (same_ok c d h)
+key_found true c d h =
+    let x = bind_is_ok (lifted_result Range (bit_at false c 128)) (λ bit. if bit.0 then Ok bit.1 else Err NotKey) d h in
+    let bit = key_bit x.0.0 x.0.1 d x.2 in
+    lifted_ok (bit_at false c 128) x.0 x.1 ∙ ap (λ z. Ok (z, x.0.1)) bit.0 ∙ ap (λ z. Ok (true, z)) bit.1
+
+key_read : (first : Bool) (c d : Coder) → MatchBool first (bit_at false c 128 ≡ Ok (true, d)) (d ≡ c) → key_coder first c ≡ Ok d
+key_read false c d h = ap Ok (sym h)
+key_read true c d h = ap (λ z. lifted_result Range z >>> λ bit. if bit.0 then Ok bit.1 else Err NotKey) h
+
+key_shrinks : (first : Bool) (c d : Coder) → MatchBool first (bit_at false c 128 ≡ Ok (true, d)) (d ≡ c) → length d.rest ≤ length c.rest
+key_shrinks true c d h = bit_shrinks false c d 128 true h
+key_shrinks false c d h = omega (arith, ap (λ z. length z.rest) h)
+
+-- ---- the header
+
+after_fields : List ℕ → List ℕ × PlaceOf (Unit {0}) → Result (List ℕ × ℕ) HeadFault
+after_fields content read = lifted_result Range (bit_at false read.1.coder 129) >>> λ last. Ok (read.0, length content - (length last.1.rest + 1))
+
+after_key : List ℕ → Coder → Result (List ℕ × ℕ) HeadFault
+after_key content coder = lifted_result Range (fields_form false (place_of coder tt)) >>> after_fields content
+
+after_start : List ℕ → Bool → Coder → Result (List ℕ × ℕ) HeadFault
+after_start content first start = key_coder first start >>> after_key content
+
+header_found : (content : List ℕ) (first : Bool) (fields : List ℕ) (place : ℕ) → header_read content first ≡ Ok (fields, place) → IsHeaderOf content first fields place
+unfolding after_start after_key after_fields
+header_found content first fields place h =
+    let start = bind_is_ok (lifted_result Range (start_of false content)) (after_start content first) (fields, place) h in
+    let key = bind_is_ok (key_coder first start.0) (after_key content) (fields, place) start.2 in
+    let read = bind_is_ok (lifted_result Range (fields_form false (place_of key.0 tt))) (after_fields content) (fields, place) key.2 in
+    let last = bind_is_ok (lifted_result Range (bit_at false read.0.1.coder 129)) (λ last. Ok (read.0.0, length content - (length last.1.rest + 1))) (fields, place) read.2 in
+    let end = same_ok (read.0.0, length content - (length last.0.1.rest + 1)) (fields, place) last.2 in
+    let got = fields_found key.0 read.0.0 read.0.1 (lifted_ok (fields_form false (place_of key.0 tt)) read.0 read.1) in
+    let same : read.0.0 ≡ fields = ap (λ z. z.0) end in
+    let symbols = subst (λ z. AreSymbols false 9 (place_of key.0 fresh_row) got.0 z) same got.2 in
+    let started = lifted_ok (start_of false content) start.0 start.1 in
+    let keyed = key_found first start.0 key.0 key.1 in
+    let ended : bit_at false got.0.coder 129 ≡ Ok last.0 = ap (λ z. bit_at false z 129) (sym got.1) ∙ lifted_ok (bit_at false read.0.1.coder 129) last.0 last.1 in
+    record {
+      before_key = start.0;
+      start = started;
+      after_key = key.0;
+      key = keyed;
+      nine = symbols.count;
+      fit = symbols.fit;
+      end = got.0;
+      coded = symbols.coded;
+      last = last.0;
+      ended = ended;
+      at = omega (arith, start_leaves content start.0 started, key_shrinks first start.0 key.0 keyed, run_shrinks false (place_of key.0 fresh_row) got.0 (flat_map symbol_bits fields) symbols.coded, bit_shrinks false got.0.coder last.0.1 129 last.0.0 ended, ap (λ z. z.1) end);
+    }
+
+header_run : (content : List ℕ) (first : Bool) (fields : List ℕ) (place : ℕ) → IsHeaderOf content first fields place → header_read content first ≡ Ok (fields, place)
+unfolding after_start after_key after_fields
+header_run content first fields place h =
+    bind_ok (lifted_result Range (start_of false content)) (after_start content first) h.before_key (ap (lifted_result Range) h.start)
+    ∙ bind_ok (key_coder first h.before_key) (after_key content) h.after_key (key_read first h.before_key h.after_key h.key)
+    ∙ bind_ok (lifted_result Range (fields_form false (place_of h.after_key tt))) (after_fields content) (fields, place_of h.end.coder tt) (ap (lifted_result Range) (fields_run h.after_key fields h.end h.nine h.fit h.coded))
+    ∙ bind_ok (lifted_result Range (bit_at false h.end.coder 129)) (λ last. Ok (fields, length content - (length last.1.rest + 1))) h.last (ap (lifted_result Range) h.ended)
+    ∙ (let at : length content - (length h.last.1.rest + 1) ≡ place = omega (arith, h.at) in ap (λ z. Ok (fields, z)) at)
+
+-- ---- the fields of one tile
+
+if_ok : {A : Type 0} (b : Bool) (r : Result A HeadFault) (e : HeadFault) (x : A) → (if b then r else Err e) ≡ Ok x → (b ≡ true) × (r ≡ Ok x)
+if_ok true r e x h = (refl, h)
+if_ok false r e x h = absurd cc
+
+if_true : {A : Type 0} (b : Bool) (r s : Result A HeadFault) → b ≡ true → (if b then r else s) ≡ r
+if_true true r s h = refl
+if_true false r s h = absurd cc
+
+in_place : (first : Bool) (tile : ℕ) → is_in_place first tile ≡ true → IsTrue first ↔ (tile ≡ 0)
+in_place true tile h = (λ _. eqb-true tile 0 h, λ _. refl)
+in_place false tile h = (λ t. absurd cc, λ e. absurd (let l : 0 < tile = ltb-true 0 tile h in omega arith))
+
+placed : (first : Bool) (tile : ℕ) → IsTrue first ↔ (tile ≡ 0) → is_in_place first tile ≡ true
+placed true tile h = eq-eqb tile 0 (h.0 refl)
+placed false zero h = absurd (let e : false ≡ true = h.1 refl in cc)
+placed false (suc tile) h = lt-ltb 0 (suc tile) (omega arith)
+
+judged_found : (limits : HeadLimits) (first : Bool) (fields : List ℕ) (head : SliceHead) → head_judged limits first fields ≡ Ok head
+    → IsTileHeader limits fields × (head ≡ head_with limits fields) × (IsTrue first ↔ (head.tile ≡ 0))
+judged_found limits first fields head h =
+    let tile = slice_index fields 1 * limits.across + slice_index fields 0 in
+    let grid = if_ok (nat_lt (slice_index fields 0) limits.across && nat_lt (slice_index fields 1) limits.down) _ _ head h in
+    let spans = if_ok (slice_index fields 2 == 0 && slice_index fields 3 == 0) _ _ head grid.1 in
+    let tables = if_ok (nat_lt (slice_index fields 4) limits.sets && nat_lt (slice_index fields 5) limits.sets) _ _ head spans.1 in
+    let place = if_ok (is_in_place first (slice_index fields 1 * limits.across + slice_index fields 0)) _ _ head tables.1 in
+    let in_grid = and_parts (nat_lt (slice_index fields 0) limits.across) (nat_lt (slice_index fields 1) limits.down) grid.0 in
+    let one_tile = and_parts (slice_index fields 2 == 0) (slice_index fields 3 == 0) spans.0 in
+    let has_tables = and_parts (nat_lt (slice_index fields 4) limits.sets) (nat_lt (slice_index fields 5) limits.sets) tables.0 in
+    let same : head ≡ head_with limits fields = sym (same_ok (head_with limits fields) head place.1) in (
+      record {
+        column = ltb-true (slice_index fields 0) limits.across in_grid.0;
+        row = ltb-true (slice_index fields 1) limits.down in_grid.1;
+        width = eqb-true (slice_index fields 2) 0 one_tile.0;
+        height = eqb-true (slice_index fields 3) 0 one_tile.1;
+        luma_table = ltb-true (slice_index fields 4) limits.sets has_tables.0;
+        chroma_table = ltb-true (slice_index fields 5) limits.sets has_tables.1;
+      },
+      same,
+      subst (λ z. IsTrue first ↔ (z.tile ≡ 0)) (sym same) (in_place first (slice_index fields 1 * limits.across + slice_index fields 0) place.0),
+    )
+
+judged_run : (limits : HeadLimits) (first : Bool) (fields : List ℕ) (head : SliceHead) → IsTileHeader limits fields → head ≡ head_with limits fields
+    → IsTrue first ↔ (head.tile ≡ 0) → head_judged limits first fields ≡ Ok head
+judged_run limits first fields head h same is_first =
+    if_true (nat_lt (slice_index fields 0) limits.across && nat_lt (slice_index fields 1) limits.down) _ _
+    (and_from (nat_lt (slice_index fields 0) limits.across) (nat_lt (slice_index fields 1) limits.down) (lt-ltb (slice_index fields 0) limits.across h.column) (lt-ltb (slice_index fields 1) limits.down h.row))
+    ∙ if_true (slice_index fields 2 == 0 && slice_index fields 3 == 0) _ _
+    (and_from (slice_index fields 2 == 0) (slice_index fields 3 == 0) (eq-eqb (slice_index fields 2) 0 h.width) (eq-eqb (slice_index fields 3) 0 h.height))
+    ∙ if_true (nat_lt (slice_index fields 4) limits.sets && nat_lt (slice_index fields 5) limits.sets) _ _
+    (and_from (nat_lt (slice_index fields 4) limits.sets) (nat_lt (slice_index fields 5) limits.sets) (lt-ltb (slice_index fields 4) limits.sets h.luma_table) (lt-ltb (slice_index fields 5) limits.sets h.chroma_table))
+    ∙ if_true (is_in_place first (slice_index fields 1 * limits.across + slice_index fields 0)) _ _
+    (placed first (slice_index fields 1 * limits.across + slice_index fields 0) (subst (λ z. IsTrue first ↔ (z.tile ≡ 0)) same is_first))
+    ∙ ap Ok (sym same)
+
+-- ---- the head
+
+after_header : HeadLimits → Bool → List ℕ × ℕ → Result (SliceHead × ℕ) HeadFault
+after_header limits first read = head_judged limits first read.0 >>> λ head. Ok (head, read.1)
+
+pub head_found : (limits : HeadLimits) (content : List ℕ) (first : Bool) (head : SliceHead) (place : ℕ) → head_read limits content first ≡ Ok (head, place)
+    → IsHeadOf limits content first head place
+unfolding after_header
+head_found limits content first head place h =
+    let read = bind_is_ok (header_read content first) (after_header limits first) (head, place) h in
+    let got = bind_is_ok (head_judged limits first read.0.0) (λ head. Ok (head, read.0.1)) (head, place) read.2 in
+    let end = same_ok (got.0, read.0.1) (head, place) got.2 in
+    let header = header_found content first read.0.0 read.0.1 read.1 in
+    let judged = judged_found limits first read.0.0 got.0 got.1 in
+    record {
+      fields = read.0.0;
+      header = subst (λ z. IsHeaderOf content first read.0.0 z) (ap (λ z. z.1) end) header;
+      of_tile = judged.0;
+      values = sym (ap (λ z. z.0) end) ∙ judged.1;
+      first_tile = subst (λ z. IsTrue first ↔ (z.tile ≡ 0)) (ap (λ z. z.0) end) judged.2;
+    }
+
+pub head_run : (limits : HeadLimits) (content : List ℕ) (first : Bool) (head : SliceHead) (place : ℕ) → IsHeadOf limits content first head place
+    → head_read limits content first ≡ Ok (head, place)
+unfolding after_header
+head_run limits content first head place h =
+    bind_ok (header_read content first) (after_header limits first) (h.fields, place) (header_run content first h.fields place h.header)
+    ∙ bind_ok (head_judged limits first h.fields) (λ head. Ok (head, place)) head (judged_run limits first h.fields head h.of_tile h.values h.first_tile)
+
+pub head_is_found : (limits : HeadLimits) (content : List ℕ) (first : Bool) (r : Result (SliceHead × ℕ) HeadFault) → r ≡ head_read limits content first
+    → IfOk r (λ x. IsHeadOf limits content first x.0 x.1)
+head_is_found limits content first (Ok x) h = head_found limits content first x.0 x.1 (sym h)
+head_is_found limits content first (Err e) h = tt

@@ -1,0 +1,215 @@
+-- A configuration record read part by part.
+use Rattle.std.proofs.Common.{◌≡◌, ℕ, Bool, true, false, List, [], ◌∷◌, Result, Ok, Err, refl, sym, ap, ◌∙◌, subst, length}
+use Rattle.std.specs.Prelude.{map, ◌&&◌, if◌then◌else◌}
+use Rattle.ffv1_range.specs.Results.{◌>>=◌ as ◌>>>◌}
+use Rattle.ffv1_range.specs.Coding.{Coder, Place, start_of}
+use Rattle.ffv1_range.specs.Decoder.{Reader, Starts}
+use Rattle.ffv1_range.specs.Forms.{Form, ◌>>=◌, giving, accepted, apart, from_place, form_at, Reads}
+use Rattle.ffv1_range.specs.Fields.{last_fields}
+use Rattle.ffv1_range.specs.Tables.{SetValue}
+use Rattle.ffv1_range.specs.TableForms.{fresh_row, sets_from, deltas_form}
+use Rattle.ffv1_range.specs.Setup.{SetupValue}
+use Rattle.ffv1_range.specs.TableViews.{set_values, contexts_of}
+use Rattle.ffv1_range.specs.declared.tables.TableSet.{TableSet}
+use Rattle.ffv1_range.specs.SetupForms.{FrontValue, front_form, setup_form, checked_content, is_size, setup_read}
+use Rattle.ffv1_range.specs.declared.coding.RangeFault.{RangeFault}
+use Rattle.ffv1_range.specs.declared.fault.SetupFault.{SetupFault}
+use Rattle.ffv1_range.specs.declared.fault.SetupFault.TheVariants.{Range, Memory, Size}
+use Rattle.ffv1_range.proofs.Forms.{Continues, bind_ok, bind_err, place_of, continue_start, continue_next, continue_stop, continue_end, continue_give, continue_accepted, refused, read_on, at_ok}
+
+-- ---- before the fields
+
+-- Length, parity and size are right, and the decoder is at the start of the content.
+pub record IsOpened (config : List ℕ) (width height : ℕ) (r : Reader) : Type 0 where
+  pub content : List ℕ
+  pub checked : checked_content config ≡ Ok content
+  pub is_width : is_size width ≡ true
+  pub is_height : is_size height ≡ true
+  pub start : Coder
+  pub started : start_of true content ≡ Ok start
+  pub reader : r ≡ record { closed = true; total = length content; at = Ok start }
+
+unfoldable pub value_of : Result (SetupValue × Place) SetupFault → Result SetupValue SetupFault
+value_of outcome = outcome >>> λ x. Ok x.0
+
+-- what the record gives once it is opened
+unfoldable pub fields_read : Bool → ℕ → ℕ → List ℕ → Result SetupValue SetupFault
+fields_read granted width height content = value_of (from_place Range (start_of true content) (λ c. setup_form granted width height true (place_of c fresh_row)))
+
+unfoldable pub sized : Bool → Bool → Bool → ℕ → ℕ → List ℕ → Result SetupValue SetupFault
+sized granted is_width is_height width height content = if is_width && is_height then fields_read granted width height content else Err Size
+
+pub not_checked : (granted : Bool) (config : List ℕ) (width height : ℕ) (e : SetupFault) → checked_content config ≡ Err e → setup_read granted config width height ≡ Err e
+unfolding sized fields_read value_of
+not_checked granted config width height e h = bind_err (checked_content config) (sized granted (is_size width) (is_size height) width height) e h
+
+pub width_refused : (granted : Bool) (config content : List ℕ) (width height : ℕ) → checked_content config ≡ Ok content → is_size width ≡ false
+    → setup_read granted config width height ≡ Err Size
+unfolding sized fields_read value_of
+width_refused granted config content width height h w =
+    bind_ok (checked_content config) (sized granted (is_size width) (is_size height) width height) content h
+    ∙ ap (λ z. sized granted z (is_size height) width height content) w
+
+pub height_refused : (granted : Bool) (config content : List ℕ) (width height : ℕ) → checked_content config ≡ Ok content → is_size width ≡ true → is_size height ≡ false
+    → setup_read granted config width height ≡ Err Size
+unfolding sized fields_read value_of
+height_refused granted config content width height h w v =
+    bind_ok (checked_content config) (sized granted (is_size width) (is_size height) width height) content h
+    ∙ ap (λ z. sized granted z (is_size height) width height content) w
+    ∙ ap (λ z. sized granted true z width height content) v
+
+pub sized_read : (granted : Bool) (config content : List ℕ) (width height : ℕ) → checked_content config ≡ Ok content → is_size width ≡ true → is_size height ≡ true
+    → setup_read granted config width height ≡ fields_read granted width height content
+unfolding sized fields_read value_of
+sized_read granted config content width height h w v =
+    bind_ok (checked_content config) (sized granted (is_size width) (is_size height) width height) content h
+    ∙ ap (λ z. sized granted z (is_size height) width height content) w
+    ∙ ap (λ z. sized granted true z width height content) v
+
+pub start_refused : (granted : Bool) (config content : List ℕ) (width height : ℕ) (f : RangeFault) → checked_content config ≡ Ok content → is_size width ≡ true → is_size height ≡ true
+    → start_of true content ≡ Err f → setup_read granted config width height ≡ Err (Range f)
+unfolding fields_read value_of
+start_refused granted config content width height f h w v s =
+    sized_read granted config content width height h w v
+    ∙ ap (λ z. value_of (from_place Range z (λ c. setup_form granted width height true (place_of c fresh_row)))) s
+
+pub opened_read : (granted : Bool) (config : List ℕ) (width height : ℕ) (r : Reader) (outcome : Result (SetupValue × Place) SetupFault) → IsOpened config width height r
+    → form_at Range (setup_form granted width height) r fresh_row ≡ outcome → setup_read granted config width height ≡ (outcome >>> λ x. Ok x.0)
+unfolding fields_read value_of
+opened_read granted config width height r outcome o h =
+    sized_read granted config o.content width height o.checked o.is_width o.is_height
+    ∙ ap (λ z. value_of (from_place Range z (λ c. setup_form granted width height true (place_of c fresh_row)))) o.started
+    ∙ ap value_of (ap (λ z. form_at Range (setup_form granted width height) z fresh_row) (sym o.reader) ∙ h)
+
+-- ---- the fields
+
+abbrev pub Setups : Type 0
+Setups = Form (List ℕ) SetupValue SetupFault
+
+unfoldable pub last_rest : ℕ → ℕ → FrontValue → List SetValue → ℕ → Setups
+last_rest width height front sets intra =
+    giving (record {
+      micro = front.micro;
+      has_chroma = front.planes.has_chroma;
+      shift_h = front.planes.shift_h;
+      shift_v = front.planes.shift_v;
+      across = front.tiles.across;
+      down = front.tiles.down;
+      sets = sets;
+      ec = 1;
+      intra = intra;
+      width = width;
+      height = height;
+    })
+
+unfoldable pub deltas_rest : ℕ → ℕ → FrontValue → List SetValue → Unit {0} → Setups
+deltas_rest width height front sets done = last_fields >>= last_rest width height front sets
+
+unfoldable pub sets_rest : ℕ → ℕ → FrontValue → List SetValue → Setups
+sets_rest width height front sets = deltas_form (map (λ set. set.contexts) sets) >>= deltas_rest width height front sets
+
+unfoldable pub memory_rest : ℕ → ℕ → FrontValue → Bool → Setups
+memory_rest width height front has_memory = apart tt (sets_from front.sets []) >>= sets_rest width height front
+
+unfoldable pub front_rest : Bool → ℕ → ℕ → FrontValue → Setups
+front_rest granted width height front = accepted granted Memory >>= memory_rest width height front
+
+setup_form-open : (granted : Bool) (width height : ℕ) (r : Reader) (row : List ℕ)
+    → Continues Range (setup_form granted width height) r row (front_form width height >>= front_rest granted width height) r row
+unfolding front_rest memory_rest sets_rest deltas_rest last_rest
+setup_form-open granted width height r row = continue_start Range (setup_form granted width height) r row
+
+pub front_fails : (granted : Bool) (width height : ℕ) (e : SetupFault) (r s : Reader) (row a : List ℕ) → Reads Range (front_form width height) r row (Err e) s a
+    → form_at Range (setup_form granted width height) r row ≡ Err e
+front_fails granted width height e r s row a h =
+    continue_stop Range (setup_form granted width height) (front_form width height) (front_rest granted width height) r r s row row a e
+    (setup_form-open granted width height r row) h
+
+front_read : (granted : Bool) (width height : ℕ) (f : FrontValue) (r s : Reader) (row a : List ℕ) → Reads Range (front_form width height) r row (Ok f) s a
+    → Continues Range (setup_form granted width height) r row (front_rest granted width height f) s a
+front_read granted width height f r s row a h =
+    continue_next Range (setup_form granted width height) (front_form width height) (front_rest granted width height) r r s row row a f
+    (setup_form-open granted width height r row) h
+
+pub memory_refused : (width height : ℕ) (f : FrontValue) (r s : Reader) (row a : List ℕ) → Reads Range (front_form width height) r row (Ok f) s a
+    → form_at Range (setup_form false width height) r row ≡ Err Memory
+unfolding front_rest
+memory_refused width height f r s row a h =
+    refused Range (setup_form false width height) false Memory (memory_rest width height f) r s row a refl (h.0, at_ok r s h.0 h.2)
+    (front_read false width height f r s row a h)
+
+memory_granted : (width height : ℕ) (f : FrontValue) (r s : Reader) (row a : List ℕ) → Reads Range (front_form width height) r row (Ok f) s a
+    → Continues Range (setup_form true width height) r row (apart tt (sets_from f.sets []) >>= sets_rest width height f) s a
+unfolding front_rest memory_rest
+memory_granted width height f r s row a h =
+    continue_accepted Range (setup_form true width height) true Memory (memory_rest width height f) r s row a refl (front_read true width height f r s row a h)
+
+pub sets_fail : (width height : ℕ) (f : FrontValue) (e : SetupFault) (r s t : Reader) (row a : List ℕ) → Reads Range (front_form width height) r row (Ok f) s a
+    → Reads Range (sets_from f.sets []) s tt (Err e) t tt → form_at Range (setup_form true width height) r row ≡ Err e
+sets_fail width height f e r s t row a h k =
+    continue_stop Range (setup_form true width height) (apart tt (sets_from f.sets [])) (sets_rest width height f) r s t row a a e
+    (memory_granted width height f r s row a h)
+    (read_on Range (λ at_hand. tt) (λ at_hand used. at_hand) (sets_from f.sets []) s t a tt (Err e) k)
+
+sets_read : (width height : ℕ) (f : FrontValue) (sets : List SetValue) (r s t : Reader) (row a : List ℕ) → Reads Range (front_form width height) r row (Ok f) s a
+    → Reads Range (sets_from f.sets []) s tt (Ok sets) t tt
+    → Continues Range (setup_form true width height) r row (deltas_form (map (λ set. set.contexts) sets) >>= deltas_rest width height f sets) t a
+unfolding sets_rest
+sets_read width height f sets r s t row a h k =
+    continue_next Range (setup_form true width height) (apart tt (sets_from f.sets [])) (sets_rest width height f) r s t row a a sets
+    (memory_granted width height f r s row a h)
+    (read_on Range (λ at_hand. tt) (λ at_hand used. at_hand) (sets_from f.sets []) s t a tt (Ok sets) k)
+
+pub deltas_fail : (width height : ℕ) (f : FrontValue) (sets : List SetValue) (contexts : List ℕ) (e : SetupFault) (r s t u : Reader) (row a b : List ℕ)
+    → contexts ≡ map (λ set. set.contexts) sets
+    → Reads Range (front_form width height) r row (Ok f) s a → Reads Range (sets_from f.sets []) s tt (Ok sets) t tt
+    → Reads Range (deltas_form contexts) t a (Err e) u b → form_at Range (setup_form true width height) r row ≡ Err e
+deltas_fail width height f sets contexts e r s t u row a b same h k l =
+    continue_stop Range (setup_form true width height) (deltas_form (map (λ set. set.contexts) sets)) (deltas_rest width height f sets) r t u row a b e
+    (sets_read width height f sets r s t row a h k)
+    (subst (λ z. Reads Range (deltas_form z) t a (Err e) u b) same l)
+
+deltas_read : (width height : ℕ) (f : FrontValue) (sets : List SetValue) (contexts : List ℕ) (r s t u : Reader) (row a b : List ℕ)
+    → contexts ≡ map (λ set. set.contexts) sets
+    → Reads Range (front_form width height) r row (Ok f) s a → Reads Range (sets_from f.sets []) s tt (Ok sets) t tt
+    → Reads Range (deltas_form contexts) t a (Ok tt) u b
+    → Continues Range (setup_form true width height) r row (last_fields >>= last_rest width height f sets) u b
+unfolding deltas_rest
+deltas_read width height f sets contexts r s t u row a b same h k l =
+    continue_next Range (setup_form true width height) (deltas_form (map (λ set. set.contexts) sets)) (deltas_rest width height f sets) r t u row a b tt
+    (sets_read width height f sets r s t row a h k)
+    (subst (λ z. Reads Range (deltas_form z) t a (Ok tt) u b) same l)
+
+pub last_fails : (width height : ℕ) (f : FrontValue) (sets : List SetValue) (contexts : List ℕ) (e : SetupFault) (r s t u v : Reader) (row a b d : List ℕ)
+    → contexts ≡ map (λ set. set.contexts) sets
+    → Reads Range (front_form width height) r row (Ok f) s a → Reads Range (sets_from f.sets []) s tt (Ok sets) t tt
+    → Reads Range (deltas_form contexts) t a (Ok tt) u b → Reads Range last_fields u b (Err e) v d
+    → form_at Range (setup_form true width height) r row ≡ Err e
+last_fails width height f sets contexts e r s t u v row a b d same h k l m =
+    continue_stop Range (setup_form true width height) last_fields (last_rest width height f sets) r u v row b d e
+    (deltas_read width height f sets contexts r s t u row a b same h k l) m
+
+pub all_read : (width height : ℕ) (f : FrontValue) (sets : List SetValue) (contexts : List ℕ) (intra : ℕ) (r s t u v : Reader) (row a b d : List ℕ)
+    → contexts ≡ map (λ set. set.contexts) sets
+    → Reads Range (front_form width height) r row (Ok f) s a → Reads Range (sets_from f.sets []) s tt (Ok sets) t tt
+    → Reads Range (deltas_form contexts) t a (Ok tt) u b → Reads Range last_fields u b (Ok intra) v d
+    → Reads Range (setup_form true width height) r row
+    (Ok (record { micro = f.micro; has_chroma = f.planes.has_chroma; shift_h = f.planes.shift_h; shift_v = f.planes.shift_v; across = f.tiles.across; down = f.tiles.down; sets = sets; ec = 1; intra = intra; width = width; height = height })) v d
+unfolding last_rest
+all_read width height f sets contexts intra r s t u v row a b d same h k l m =
+    continue_end Range (setup_form true width height) (last_rest width height f sets intra) r v v row d d
+    (Ok (record { micro = f.micro; has_chroma = f.planes.has_chroma; shift_h = f.planes.shift_h; shift_v = f.planes.shift_v; across = f.tiles.across; down = f.tiles.down; sets = sets; ec = 1; intra = intra; width = width; height = height }))
+    (continue_next Range (setup_form true width height) last_fields (last_rest width height f sets) r u v row b d intra
+    (deltas_read width height f sets contexts r s t u row a b same h k l) m)
+    (continue_give Range v m.0 d _ (last_rest width height f sets intra) (at_ok u v m.0 m.2) refl)
+
+-- an opened record
+pub opened : (config content : List ℕ) (width height : ℕ) (r : Reader) → checked_content config ≡ Ok content → is_size width ≡ true → is_size height ≡ true
+    → Starts true content (Ok r) → IsOpened config width height r
+opened config content width height r h w v s =
+    record { content = content; checked = h; is_width = w; is_height = v; start = s.0; started = s.1; reader = s.2 }
+
+-- the code's contexts are those of its sets' values
+pub contexts_of-values : (sets : List TableSet) → contexts_of sets ≡ map (λ set. set.contexts) (set_values sets)
+contexts_of-values [] = refl
+contexts_of-values (set ∷ sets) = ap (λ z. set.contexts ∷ z) (contexts_of-values sets)

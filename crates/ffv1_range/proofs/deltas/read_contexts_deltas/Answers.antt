@@ -1,0 +1,33 @@
+use Rattle.std.proofs.Common.{◌+◌, ◌-◌, arith}
+use Rattle.std.proofs.lemmas.Result.{err_from_is_err_and}
+use Rattle.ffv1_range.specs.TableForms.{contexts_deltas}
+use Rattle.ffv1_range.proofs.Forms.{at_ok}
+use Rattle.ffv1_range.proofs.DeltaSteps.{contexts_turn, contexts_fails, contexts_end}
+use Rattle.ffv1_range.proofs.deltas.read_contexts_deltas.Goals as goal
+
+pub returns-in_err-read_context_deltas-clause-read : goal.returns-in_err-read_context_deltas-clause-read
+returns-in_err-read_context_deltas-clause-read c =
+    let p = err_from_is_err_and c.from_residual.result c.from_residual.ensures.1 in
+    rw (p.1, p.2)
+    (contexts_fails (contexts_deltas c.args.contexts) (c.args.contexts - c.loop.counter) (c.args.contexts - (c.loop.counter + 1)) c.in_err-read_context_deltas.field-0.0
+    c.args.decoder.now c.loop.decoder c.read_context_deltas.new.decoder c.args.rows.now c.loop.rows c.read_context_deltas.new.rows (omega arith)
+    c.loop.invariant.going c.in_err-read_context_deltas.ensures.read)
+
+pub loop-preserved : goal.loop-preserved
+loop-preserved c =
+    record {
+      going =
+          contexts_turn (contexts_deltas c.args.contexts) (c.args.contexts - c.loop.counter) (c.args.contexts - (c.loop.counter + 1)) c.args.decoder.now
+          c.loop.decoder c.read_context_deltas.new.decoder c.args.rows.now c.loop.rows c.read_context_deltas.new.rows (omega arith) c.loop.invariant.going
+          c.in_ok-read_context_deltas.ensures.read;
+      rows = c.in_ok-read_context_deltas.ensures.in_range;
+      alive = (
+        c.in_ok-read_context_deltas.ensures.read.0,
+        at_ok c.loop.decoder c.read_context_deltas.new.decoder c.in_ok-read_context_deltas.ensures.read.0 c.in_ok-read_context_deltas.ensures.read.2,
+      );
+    }
+
+pub returns-clause-read : goal.returns-clause-read
+returns-clause-read c =
+    contexts_end (contexts_deltas c.args.contexts) (c.args.contexts - c.loop.counter) c.args.decoder.now c.loop.decoder c.args.rows.now c.loop.rows (omega arith)
+    c.loop.invariant.alive c.loop.invariant.going

@@ -1,0 +1,54 @@
+-- What a range decoder stands for: whether zero bytes follow its content, how long that is, and where it is, or the fault that it met.
+use Rattle.std.specs.Prelude.{◌≡◌, ℕ, ◌+◌, ◌≤◌, ◌<◌, Bool, List, length, Result, Ok, Err, Option, Some, None, slice_index}
+use Rattle.ffv1_range.specs.Results.{◌>>=◌}
+use Rattle.ffv1_range.specs.Coding.{Coder, bit_at, state_after, IsState, start_of}
+use Rattle.ffv1_range.specs.declared.coding.RangeFault.{RangeFault}
+
+pub record Reader : Type 0 where
+  pub closed : Bool
+  pub total : ℕ
+  pub at : Result Coder RangeFault
+
+-- a decoder's fields as what they stand for
+abbrev pub at_of : Option RangeFault → Coder → Result Coder RangeFault
+at_of None c = Ok c
+at_of (Some fault) c = Err fault
+
+-- the same decoder at another place, or with a fault
+abbrev pub reader_at : Reader → Result Coder RangeFault → Reader
+reader_at r at = record { closed = r.closed; total = r.total; at = at }
+
+-- what reading one bit gives
+abbrev pub reads_bit : Reader → ℕ → Result (Bool × Coder) RangeFault
+reads_bit r state = r.at >>= λ c. bit_at r.closed c state
+
+-- A call read one bit at a state: decoder and state are as they are after it.
+abbrev pub ReadsBit : Reader → ℕ → Result Bool RangeFault → Reader → ℕ → Type 0
+ReadsBit r state (Ok bit) s after =
+    (c : Coder) × (reads_bit r state ≡ Ok (bit, c)) × (s ≡ reader_at r (Ok c)) × (after ≡ state_after state bit)
+ReadsBit r state (Err e) s after = reads_bit r state ≡ Err e
+
+-- After a fault the decoder keeps that fault, and so answers it from then on.
+abbrev pub KeepsFault : {A : Type 0} → Reader → Result A RangeFault → Reader → Type 0
+KeepsFault r (Ok a) s = Unit {0}
+KeepsFault r (Err e) s = s ≡ reader_at r (Err e)
+
+abbrev pub AreStates : List ℕ → Type 0
+AreStates states = (i : ℕ) → i < length states → IsState (slice_index states i)
+
+-- A call made a decoder of this content.
+abbrev pub Starts : Bool → List ℕ → Result Reader RangeFault → Type 0
+Starts closed content (Ok r) =
+    (c : Coder) × (start_of closed content ≡ Ok c) × (r ≡ record { closed = closed; total = length content; at = Ok c })
+Starts closed content (Err e) = start_of closed content ≡ Err e
+
+-- The end of the values: one bit of either value at state 129; the place is one byte before those that are still to come.
+abbrev pub EndsAt : Reader → Result ℕ RangeFault → Type 0
+EndsAt r (Ok place) = (x : Bool × Coder) × (reads_bit r 129 ≡ Ok x) × (place + 1 + length x.1.rest ≡ r.total)
+EndsAt r (Err e) = reads_bit r 129 ≡ Err e
+
+-- what a coder keeps: the range has 9 to 16 bits, and the offset lies in it
+pub record IsCoder (range low : ℕ) : Type 0 where
+  pub wide : 256 ≤ range
+  pub narrow : range ≤ 65280
+  pub inside : low < range

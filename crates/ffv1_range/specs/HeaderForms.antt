@@ -1,0 +1,34 @@
+-- A slice header read from left to right, with the first fault that is met.
+use Rattle.std.specs.Prelude.{◌≡◌, ℕ, zero, suc, Bool, true, false, List, [], ◌∷◌, ◌++◌, Result, Ok, Err, if◌then◌else◌}
+use Rattle.ffv1_range.specs.Results.{◌>>=◌ as ◌>>>◌}
+use Rattle.ffv1_range.specs.Coding.{Coder, bit_at}
+use Rattle.ffv1_range.specs.Decoder.{Reader, reader_at}
+use Rattle.ffv1_range.specs.Forms.{Form, ◌>>=◌, giving, apart, lifted_result, from_place}
+use Rattle.ffv1_range.specs.Reading.{symbol_form}
+use Rattle.ffv1_range.specs.TableForms.{fresh_row}
+use Rattle.ffv1_range.specs.declared.coding.RangeFault.{RangeFault}
+use Rattle.ffv1_range.specs.declared.head.HeadFault.{HeadFault}
+use Rattle.ffv1_range.specs.declared.head.HeadFault.TheVariants.{Range, NotKey}
+
+-- n more unsigned symbols, behind those that were read
+unfoldable pub symbols_onto : ℕ → List ℕ → Form (List ℕ) (List ℕ) RangeFault
+symbols_onto zero done = giving done
+symbols_onto (suc n) done = symbol_form >>= λ symbol. symbols_onto n (done ++ symbol ∷ [])
+
+-- the nine fields of a header, at a fresh row of states
+abbrev pub fields_form : Form (Unit {0}) (List ℕ) RangeFault
+fields_form = apart fresh_row (symbols_onto 9 [])
+
+-- the keyframe bit, which stands before the payload's first header, at a state of its own
+abbrev pub key_coder : Bool → Coder → Result Coder HeadFault
+key_coder false c = Ok c
+key_coder true c = lifted_result Range (bit_at false c 128) >>> λ bit. if bit.0 then Ok bit.1 else Err NotKey
+
+-- A call read the keyframe bit where there has to be one: the decoder is behind it.
+abbrev pub ReadsKey : Bool → Reader → Result (Unit {0}) HeadFault → Reader → Type 0
+ReadsKey first r (Ok _) s = (c : Coder) × (from_place Range r.at (key_coder first) ≡ Ok c) × (s ≡ reader_at r (Ok c))
+ReadsKey first r (Err e) s = from_place Range r.at (key_coder first) ≡ Err e
+
+-- The decoder is at a place, and not at a fault.
+abbrev pub IsAtPlace : Reader → Type 0
+IsAtPlace r = (c : Coder) × (r.at ≡ Ok c)

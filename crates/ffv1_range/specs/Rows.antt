@@ -1,0 +1,22 @@
+-- Range-coded values at several rows of states: one coder reads them all, and each row has states of its own.
+use Rattle.std.specs.Prelude.{◌≡◌, ℕ, Bool, List, [], ◌∷◌, ◌==◌, if◌then◌else◌}
+use Rattle.ffv1_range.specs.Coding.{PlaceOf, Place, IsRangeRun}
+
+-- rows of states, by their numbers
+abbrev pub Rows : Type 0
+Rows = ℕ → List ℕ
+
+-- rows with another one at a number
+abbrev pub with_row : Rows → ℕ → List ℕ → Rows
+with_row rows number row k = if k == number then row else rows k
+
+-- bits at the slots of the row of a number
+abbrev pub Piece : Type 0
+Piece = ℕ × List (ℕ × Bool)
+
+-- From p these pieces are coded, one after the other, up to q.
+unfoldable pub IsRowsRun : Bool → PlaceOf Rows → List Piece → PlaceOf Rows → Type 0
+IsRowsRun closed p [] q = p ≡ q
+IsRowsRun closed p (piece ∷ pieces) q =
+    (m : Place) × IsRangeRun closed (record { coder = p.coder; states = p.states piece.0 }) piece.1 m
+    × IsRowsRun closed (record { coder = m.coder; states = with_row p.states piece.0 m.states }) pieces q

@@ -1,0 +1,227 @@
+-- A setup: what a configuration record says of its frames (RFC 9043, sections 4.2 and 4.3), for frames of one size.
+use Rattle.std.specs.Prelude.{◌≡◌, ℕ, ◌+◌, ◌-◌, ◌*◌, ◌^◌, ◌<◌, ◌≤◌, ◌⊎◌, Bool, true, false, List, [], ◌∷◌, ◌++◌, Ok, Option, Some, None, length, map, take, ℤ, unsigned_abs, slice_index_or, if◌then◌else◌, refl}
+use Rattle.std.specs.Coded.{Coded, code_by, coded×, coded_ℕ, coded_bool, coded_list}
+use Rattle.std.specs.List.{All, flat_map}
+use Rattle.ffv1_bits.specs.Parity.{RecordPassesParity}
+use Rattle.ffv1_range.specs.Coding.{Coder, PlaceOf, start_of}
+use Rattle.ffv1_range.specs.Rows.{Rows, Piece, IsRowsRun}
+use Rattle.ffv1_range.specs.Symbols.{symbol_bits, signed_symbol_bits}
+use Rattle.ffv1_range.specs.Tables.{SetValue, IsTableSet, HaveContexts, set_of, table_entry}
+use Rattle.ffv1_range.specs.TableForms.{fresh_row}
+
+pub record SetupValue : Type 0 where
+  pub micro : ℕ
+  pub has_chroma : Bool
+  pub shift_h : ℕ
+  pub shift_v : ℕ
+  pub across : ℕ
+  pub down : ℕ
+  pub sets : List SetValue
+  pub ec : ℕ
+  pub intra : ℕ
+  pub width : ℕ
+  pub height : ℕ
+
+-- a setup as one of the coded types, of which sets and lists can be made
+abbrev pub coded_set : Coded SetValue
+coded_set =
+    code_by (List (List ℕ) × ℕ) (coded× (coded_list (coded_list coded_ℕ)) coded_ℕ) (λ s. (s.halves, s.contexts)) (λ p. record { halves = p.0; contexts = p.1 }) (λ _. refl)
+
+abbrev pub coded_setup : Coded SetupValue
+coded_setup =
+    code_by (Bool × (List SetValue × (ℕ × (ℕ × (ℕ × (ℕ × (ℕ × (ℕ × (ℕ × (ℕ × ℕ))))))))))
+    (coded× coded_bool (coded× (coded_list coded_set) (coded× coded_ℕ (coded× coded_ℕ (coded× coded_ℕ (coded× coded_ℕ (coded× coded_ℕ (coded× coded_ℕ (coded× coded_ℕ (coded× coded_ℕ coded_ℕ))))))))))
+    (λ s. (s.has_chroma, (s.sets, (s.micro, (s.shift_h, (s.shift_v, (s.across, (s.down, (s.ec, (s.intra, (s.width, s.height)))))))))))
+    (λ p. record { has_chroma = p.0; sets = p.1.0; micro = p.1.1.0; shift_h = p.1.1.1.0; shift_v = p.1.1.1.1.0; across = p.1.1.1.1.1.0; down = p.1.1.1.1.1.1.0; ec = p.1.1.1.1.1.1.1.0; intra = p.1.1.1.1.1.1.1.1.0; width = p.1.1.1.1.1.1.1.1.1.0; height = p.1.1.1.1.1.1.1.1.1.1 })
+    (λ _. refl)
+
+-- a set of no tables
+abbrev pub no_set : SetValue
+no_set = record { halves = []; contexts = 0 }
+
+-- the number of contexts of the set of this number
+abbrev pub set_contexts : SetupValue → ℕ → ℕ
+set_contexts setup set = (slice_index_or setup.sets set no_set).contexts
+
+-- an entry of a table of a set
+abbrev pub set_entry : SetupValue → ℕ → ℕ → ℕ → ℤ
+set_entry setup set table index = table_entry (slice_index_or (slice_index_or setup.sets set no_set).halves table []) index
+
+-- ---- the fields of a record
+
+-- One field as it is coded: an unsigned symbol, or one bit at slot 0.
+pub data FieldValue : Type 0 where
+  symbol : ℕ → FieldValue
+  bit : Bool → FieldValue
+
+abbrev pub field_bits : FieldValue → List (ℕ × Bool)
+field_bits (symbol n) = symbol_bits n
+field_bits (bit b) = (0, b) ∷ []
+
+unfoldable pub fields_bits : List FieldValue → List (ℕ × Bool)
+fields_bits [] = []
+fields_bits (field ∷ fields) = field_bits field ++ fields_bits fields
+
+-- symbols have 32 bits at most
+abbrev pub IsSymbol : ℕ → Type 0
+IsSymbol n = n < 2 ^ 32
+
+-- A set as it is coded: the runs of its tables, and for each of its contexts 32 deltas where states_coded is 1.
+pub record SetFields : Type 0 where
+  pub tables : List (List ℕ)
+  pub deltas : Option (List (List ℤ))
+
+pub record RecordFields : Type 0 where
+  pub version : ℕ
+  pub micro_version : ℕ
+  pub coder_type : ℕ
+  pub colorspace_type : ℕ
+  pub bits_per_raw_sample : ℕ
+  pub chroma_planes : Bool
+  pub log2_h_chroma_subsample : ℕ
+  pub log2_v_chroma_subsample : ℕ
+  pub extra_plane : Bool
+  pub num_h_slices_less_1 : ℕ
+  pub num_v_slices_less_1 : ℕ
+  pub sets : List SetFields
+  pub ec : ℕ
+  pub intra : ℕ
+
+-- the fields before the tables, in their order; the last is quant_table_set_count
+abbrev pub front_fields : RecordFields → List FieldValue
+front_fields r =
+    symbol r.version ∷ symbol r.micro_version ∷ symbol r.coder_type ∷ symbol r.colorspace_type ∷ symbol r.bits_per_raw_sample ∷
+    bit r.chroma_planes ∷ symbol r.log2_h_chroma_subsample ∷ symbol r.log2_v_chroma_subsample ∷ bit r.extra_plane ∷
+    symbol r.num_h_slices_less_1 ∷ symbol r.num_v_slices_less_1 ∷ symbol (length r.sets) ∷ []
+
+-- the fields behind the deltas
+abbrev pub back_fields : RecordFields → List FieldValue
+back_fields r = symbol r.ec ∷ symbol r.intra ∷ []
+
+-- The rows of states: row 0 is that of the fields, row 1 + k that of the deltas of number k, row 33 + n that of table n,
+-- counted over all sets. All states start at 128.
+
+abbrev pub fresh_states : Rows
+fresh_states row = fresh_row
+
+-- each length of a run is coded less 1
+abbrev pub run_fields : List ℕ → List FieldValue
+run_fields runs = map (λ len. symbol (len - 1)) runs
+
+unfoldable pub table_pieces : ℕ → List (List ℕ) → List Piece
+table_pieces n [] = []
+table_pieces n (runs ∷ tables) = (33 + n, fields_bits (run_fields runs)) ∷ table_pieces (n + 1) tables
+
+-- the deltas of a context, the first of number k
+unfoldable pub context_pieces : ℕ → List ℤ → List Piece
+context_pieces k [] = []
+context_pieces k (delta ∷ deltas) = (1 + k, signed_symbol_bits delta) ∷ context_pieces (k + 1) deltas
+
+abbrev pub deltas_pieces : Option (List (List ℤ)) → List Piece
+deltas_pieces None = (0, fields_bits (bit false ∷ [])) ∷ []
+deltas_pieces (Some contexts) = (0, fields_bits (bit true ∷ [])) ∷ flat_map (context_pieces 0) contexts
+
+-- the whole record, piece by piece
+abbrev pub record_pieces : RecordFields → List Piece
+record_pieces r =
+    (0, fields_bits (front_fields r))
+    ∷ (table_pieces 0 (flat_map (λ set. set.tables) r.sets)
+    ++ (flat_map (λ set. deltas_pieces set.deltas) r.sets
+    ++ (0, fields_bits (back_fields r)) ∷ []))
+
+-- ---- what is accepted
+
+-- A set has a delta for each of the 32 states of each of its contexts, or none.
+abbrev pub AreDeltas : ℕ → Option (List (List ℤ)) → Type 0
+AreDeltas contexts None = Unit {0}
+AreDeltas contexts (Some deltas) =
+    (length deltas ≡ contexts) × All (λ context. (length context ≡ 32) × All (λ delta. IsSymbol (unsigned_abs delta)) context) deltas
+
+pub record IsSetFields (set : SetFields) : Type 0 where
+  pub tables : IsTableSet set.tables
+  pub deltas : AreDeltas (set_of set.tables).contexts set.deltas
+
+-- The fields are those of the profile, for frames of this width and height.
+pub record IsAccepted (width height : ℕ) (r : RecordFields) : Type 0 where
+  pub version : r.version ≡ 3
+  pub micro_version : 4 ≤ r.micro_version
+  pub coder_type : r.coder_type ≡ 0
+  pub colorspace_type : r.colorspace_type ≡ 0
+  pub bits_per_raw_sample : (r.bits_per_raw_sample ≡ 0) ⊎ (r.bits_per_raw_sample ≡ 8)
+  pub log2_h_chroma_subsample : r.chroma_planes ≡ true → r.log2_h_chroma_subsample ≤ 2
+  pub log2_v_chroma_subsample : r.chroma_planes ≡ true → r.log2_v_chroma_subsample ≤ 2
+  pub extra_plane : r.extra_plane ≡ false
+  pub across : r.num_h_slices_less_1 + 1 ≤ width
+  pub down : r.num_v_slices_less_1 + 1 ≤ height
+  pub tiles : (r.num_h_slices_less_1 + 1) * (r.num_v_slices_less_1 + 1) ≤ 1024
+  pub some_set : 1 ≤ length r.sets
+  pub few_sets : length r.sets ≤ 8
+  pub sets : All IsSetFields r.sets
+  pub ec : r.ec ≡ 1
+  pub symbols : IsSymbol r.micro_version × IsSymbol r.log2_h_chroma_subsample × IsSymbol r.log2_v_chroma_subsample × IsSymbol r.intra
+
+-- what the fields say; the shifts of a gray record are taken as 0
+abbrev pub setup_value : ℕ → ℕ → RecordFields → SetupValue
+setup_value width height r =
+    record {
+      micro = r.micro_version;
+      has_chroma = r.chroma_planes;
+      shift_h = if r.chroma_planes then r.log2_h_chroma_subsample else 0;
+      shift_v = if r.chroma_planes then r.log2_v_chroma_subsample else 0;
+      across = r.num_h_slices_less_1 + 1;
+      down = r.num_v_slices_less_1 + 1;
+      sets = map (λ set. set_of set.tables) r.sets;
+      ec = r.ec;
+      intra = r.intra;
+      width = width;
+      height = height;
+    }
+
+-- a width or a height of the profile, in samples
+abbrev pub IsSize : ℕ → Type 0
+IsSize n = (1 ≤ n) × (n ≤ 16384)
+
+-- what stands before the parity
+abbrev pub content_of : List ℕ → List ℕ
+content_of config = take (length config - 4) config
+
+-- The setup of a configuration record, for frames of this width and height: the record passes its parity, and some
+-- fields that are accepted are range-coded in what stands before it.
+pub record IsSetupOf (config : List ℕ) (width height : ℕ) (value : SetupValue) : Type 0 where
+  pub passes : RecordPassesParity config
+  pub is_width : IsSize width
+  pub is_height : IsSize height
+  pub fields : RecordFields
+  pub accepted : IsAccepted width height fields
+  pub start : Coder
+  pub started : start_of true (content_of config) ≡ Ok start
+  pub end : PlaceOf Rows
+  pub coded : IsRowsRun true (record { coder = start; states = fresh_states }) (record_pieces fields) end
+  pub is : value ≡ setup_value width height fields
+
+-- What each setup of the profile keeps.
+pub record IsInProfile (setup : SetupValue) : Type 0 where
+  pub late : 4 ≤ setup.micro
+  pub small_h : setup.shift_h ≤ 2
+  pub small_v : setup.shift_v ≤ 2
+  pub some_across : 1 ≤ setup.across
+  pub coarse_across : setup.across ≤ setup.width
+  pub some_down : 1 ≤ setup.down
+  pub coarse_down : setup.down ≤ setup.height
+  pub few_tiles : setup.across * setup.down ≤ 1024
+  pub narrow : setup.width ≤ 16384
+  pub low : setup.height ≤ 16384
+  pub some_set : 1 ≤ length setup.sets
+  pub few_sets : length setup.sets ≤ 8
+  pub contexts : HaveContexts setup.sets
+
+-- ---- laws
+
+-- One record and size have one setup.
+abbrev pub SetupIsOne : Type 0
+SetupIsOne =
+    (config : List ℕ) (width height : ℕ) (a b : SetupValue) → IsSetupOf config width height a → IsSetupOf config width height b → a ≡ b
+
+-- A record's setup is of the profile.
+abbrev pub SetupIsInProfile : Type 0
+SetupIsInProfile = (config : List ℕ) (width height : ℕ) (setup : SetupValue) → IsSetupOf config width height setup → IsInProfile setup

@@ -1,0 +1,66 @@
+-- A whole configuration record as it is read, with the first fault.
+use Rattle.std.specs.Prelude.{ℕ, Bool, true, List, [], map, length, Result, Ok, Err, nat_lt, nat_le, ◌==◌, ◌&&◌, if◌then◌else◌}
+use Rattle.ffv1_bits.specs.Bits.{bits_of}
+use Rattle.ffv1_bits.specs.Parity.{remainder_of}
+use Rattle.ffv1_range.specs.Results.{◌>>=◌ as ◌>>>◌}
+use Rattle.ffv1_range.specs.Coding.{start_of}
+use Rattle.ffv1_range.specs.Forms.{Form, ◌>>=◌, giving, accepted, apart, from_place}
+use Rattle.ffv1_range.specs.Fields.{PlanesValue, TileCounts, versions, planes, tile_counts, last_fields}
+use Rattle.ffv1_range.specs.TableForms.{fresh_row, set_count, sets_from, deltas_form}
+use Rattle.ffv1_range.specs.Setup.{SetupValue, content_of}
+use Rattle.ffv1_range.specs.declared.fault.SetupFault.{SetupFault}
+use Rattle.ffv1_range.specs.declared.fault.SetupFault.TheVariants.{TooShort, Parity, Range, Size, Memory}
+
+-- what stands before the tables
+pub record FrontValue : Type 0 where
+  pub micro : ℕ
+  pub planes : PlanesValue
+  pub tiles : TileCounts
+  pub sets : ℕ
+
+abbrev pub front_form : ℕ → ℕ → Form (List ℕ) FrontValue SetupFault
+front_form width height = do
+  micro ← versions
+  shape ← planes
+  tiles ← tile_counts width height
+  sets ← set_count
+  giving (record { micro = micro; planes = shape; tiles = tiles; sets = sets })
+
+-- The record's fields; behind quant_table_set_count memory for the sets is wanted, which is granted or refused.
+abbrev pub setup_form : Bool → ℕ → ℕ → Form (List ℕ) SetupValue SetupFault
+setup_form granted width height = do
+  front ← front_form width height
+  has_memory ← accepted granted Memory
+  sets ← apart tt (sets_from front.sets [])
+  done ← deltas_form (map (λ set. set.contexts) sets)
+  intra ← last_fields
+  giving (record {
+    micro = front.micro;
+    has_chroma = front.planes.has_chroma;
+    shift_h = front.planes.shift_h;
+    shift_v = front.planes.shift_v;
+    across = front.tiles.across;
+    down = front.tiles.down;
+    sets = sets;
+    ec = 1;
+    intra = intra;
+    width = width;
+    height = height;
+  })
+
+-- the bytes before the parity, where that passes
+abbrev pub checked_content : List ℕ → Result (List ℕ) SetupFault
+checked_content config =
+    if nat_lt (length config) 6 then Err TooShort
+    else (if remainder_of (bits_of config) == 0 then Ok (content_of config) else Err Parity)
+
+abbrev pub is_size : ℕ → Bool
+is_size n = nat_le 1 n && nat_le n 16384
+
+-- the setup of a record, or the first fault
+abbrev pub setup_read : Bool → List ℕ → ℕ → ℕ → Result SetupValue SetupFault
+setup_read granted config width height =
+    checked_content config >>> λ content.
+    if is_size width && is_size height
+    then (from_place Range (start_of true content) (λ c. setup_form granted width height true (record { coder = c; states = fresh_row })) >>> λ x. Ok x.0)
+    else Err Size

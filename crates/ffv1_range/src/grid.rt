@@ -1,0 +1,276 @@
+//! The grid of a frame: its tiles, counted row by row, and where each lies in each plane (RFC 9043, sections 4.6 and
+//! 4.7). A grid is never finer than its frame, so each tile has at least one sample, and in luma the tiles cover the
+//! frame, each place once.
+ghost use Rattle.std.specs.Prelude.{◌≡◌, ◌+◌, ◌*◌, ◌≤◌, ◌<◌, ℕ};
+ghost use Rattle.ffv1_range.specs.Tiles.{part_start, EachPlaceInOneTile, EachTileInFrame};
+
+use crate::setup::Setup;
+use std::marker::Model;
+
+/// A rectangle of samples in a plane: the place of its first sample, counted from the plane's first column and row, and
+/// its size.
+#[derive(Clone, Copy, Debug, PartialEq, Eq)]
+pub struct TileRect {
+    /// Samples to the left of it.
+    pub x: u32,
+    /// Rows above it.
+    pub y: u32,
+    /// Samples in each of its rows.
+    pub w: u32,
+    /// Its rows.
+    pub h: u32,
+}
+
+/// The tiles of a frame.
+#[derive(Clone, Copy)]
+pub struct Grid {
+    width: u32,
+    height: u32,
+    across: u32,
+    down: u32,
+    has_chroma: bool,
+    shift_h: u32,
+    shift_v: u32,
+}
+
+impl Model for Grid {
+    ghost use Rattle.ffv1_range.specs.Tiles.{GridValue, IsGrid};
+
+    ghost Value = { GridValue };
+
+    ghost view = { λ g. record { width = g.width; height = g.height; across = g.across; down = g.down; has_chroma = g.has_chroma; shift_h = g.shift_h; shift_v = g.shift_v } };
+
+    ghost inverse = { λ g. record { width = g.width; height = g.height; across = g.across; down = g.down; has_chroma = g.has_chroma; shift_h = g.shift_h; shift_v = g.shift_v } };
+
+    ghost invariant = { λ g. IsGrid (record { width = g.width; height = g.height; across = g.across; down = g.down; has_chroma = g.has_chroma; shift_h = g.shift_h; shift_v = g.shift_v }) };
+}
+
+impl Grid {
+    ghost use Rattle.ffv1_range.specs.Tiles.{GridValue, IsGrid, tile_count, plane_count, tile_rect, plane_rect, frame_rect, rect_in_plane, grid_of};
+
+    /// The grid of a setup's frames.
+    pub(crate) fn of(setup: &Setup) -> Grid
+        ensures { result ≡ grid_of setup.now }
+    {
+        Grid {
+            width: setup.width,
+            height: setup.height,
+            across: setup.counts.across,
+            down: setup.counts.down,
+            has_chroma: setup.planes.has_chroma,
+            shift_h: setup.planes.shift_h,
+            shift_v: setup.planes.shift_v,
+        }
+    }
+
+    /// The grid with these numbers of tiles across and down.
+    pub(crate) fn new(
+        size: (u32, u32),
+        across: u32,
+        down: u32,
+        has_chroma: bool,
+        shifts: (u32, u32),
+    ) -> Grid
+        requires { IsGrid (record { width = size.0; height = size.1; across = across; down = down; has_chroma = has_chroma; shift_h = shifts.0; shift_v = shifts.1 }) }
+        ensures { result ≡ record { width = size.0; height = size.1; across = across; down = down; has_chroma = has_chroma; shift_h = shifts.0; shift_v = shifts.1 } }
+    {
+        Grid {
+            width: size.0,
+            height: size.1,
+            across,
+            down,
+            has_chroma,
+            shift_h: shifts.0,
+            shift_v: shifts.1,
+        }
+    }
+
+    /// The tiles in a row, at least 1.
+    pub fn across(&self) -> u32
+        ensures value { result ≡ self.now.across }
+        ensures grid { IsGrid self.now }
+    {
+        self.across
+    }
+
+    /// The tiles in a column, at least 1.
+    pub fn down(&self) -> u32
+        ensures { result ≡ self.now.down }
+    {
+        self.down
+    }
+
+    /// All tiles: from 1 to 1024.
+    pub fn tiles(&self) -> usize
+        ensures value { result ≡ tile_count self.now }
+        ensures some { 1 ≤ result }
+        ensures few { result ≤ 1024 }
+    {
+        (self.across * self.down) as usize
+    }
+
+    /// Where the tile of this number, counted from 0 row by row, lies in luma. The number has to be under `tiles`.
+    pub fn tile(&self, index: usize) -> TileRect
+        requires { index < tile_count self.now }
+        ensures { result ≡ tile_rect self.now index }
+    {
+        let across = self.across();
+        let column = index as u32 % across;
+        let row = index as u32 / across;
+        let x = part_start(self.width, across, column);
+        let y = part_start(self.height, self.down, row);
+        TileRect {
+            x,
+            y,
+            w: part_start(self.width, across, column + 1) - x,
+            h: part_start(self.height, self.down, row + 1) - y,
+        }
+    }
+
+    /// Where a tile lies in a plane: 0 is luma, 1 and 2 are chroma. The plane has to be one of the frame.
+    pub fn plane_rect(&self, index: usize, plane: usize) -> TileRect
+        requires tile { index < tile_count self.now }
+        requires plane { plane < plane_count self.now }
+        ensures { result ≡ plane_rect self.now index plane }
+    {
+        self.in_plane(self.tile(index), plane)
+    }
+
+    /// The whole frame in a plane: its place is 0, 0. The plane has to be one of the frame.
+    pub fn plane_size(&self, plane: usize) -> TileRect
+        requires { plane < plane_count self.now }
+        ensures { result ≡ frame_rect self.now plane }
+    {
+        let frame = TileRect {
+            x: 0,
+            y: 0,
+            w: self.width,
+            h: self.height,
+        };
+        self.in_plane(frame, plane)
+    }
+
+    /// A rectangle of luma in a plane.
+    fn in_plane(&self, rect: TileRect, plane: usize) -> TileRect
+        ensures { result ≡ rect_in_plane self.now plane rect }
+    {
+        if plane == 0 {
+            return rect;
+        }
+        TileRect {
+            x: rect.x >> self.shift_h,
+            y: rect.y >> self.shift_v,
+            w: rect.w.div_ceil(1 << self.shift_h),
+            h: rect.h.div_ceil(1 << self.shift_v),
+        }
+    }
+}
+
+/// Where a part begins of a length that is cut into so many parts.
+fn part_start(len: u32, parts: u32, index: u32) -> u32
+    requires some { 1 ≤ parts }
+    requires few { parts ≤ 1024 }
+    requires among { index ≤ parts }
+    requires short { len ≤ 16384 }
+    ensures { result ≡ part_start len parts index }
+{
+    index * len / parts
+}
+
+/// Each place of the frame lies in exactly one tile.
+pub fn each_place_in_one_tile()
+    ensures { EachPlaceInOneTile }
+{}
+
+/// Each tile has at least one sample, and lies in the frame.
+pub fn each_tile_in_frame()
+    ensures { EachTileInFrame }
+{}
+
+#[cfg(test)]
+mod tests {
+    use super::*;
+
+    #[test]
+    fn chroma_rectangles_overlap(rt: HostRuntime) {
+        let grid = Grid::new((6, 2), 2, 1, true, (1, 1));
+        assert_eq!(rt; (grid.across(), grid.down(), grid.tiles()), (2, 1, 2));
+        assert_eq!(rt;
+            grid.tile(0),
+            TileRect {
+                x: 0,
+                y: 0,
+                w: 3,
+                h: 2
+            }
+        );
+        assert_eq!(rt;
+            grid.tile(1),
+            TileRect {
+                x: 3,
+                y: 0,
+                w: 3,
+                h: 2
+            }
+        );
+        assert_eq!(rt;
+            grid.plane_rect(0, 1),
+            TileRect {
+                x: 0,
+                y: 0,
+                w: 2,
+                h: 1
+            }
+        );
+        assert_eq!(rt;
+            grid.plane_rect(1, 2),
+            TileRect {
+                x: 1,
+                y: 0,
+                w: 2,
+                h: 1
+            }
+        );
+        assert_eq!(rt;
+            grid.plane_size(1),
+            TileRect {
+                x: 0,
+                y: 0,
+                w: 3,
+                h: 1
+            }
+        );
+    }
+
+    #[test]
+    fn chroma_column_in_no_tile(rt: HostRuntime) {
+        let grid = Grid::new((3, 2), 2, 1, true, (1, 1));
+        assert_eq!(rt;
+            grid.plane_rect(0, 1),
+            TileRect {
+                x: 0,
+                y: 0,
+                w: 1,
+                h: 1
+            }
+        );
+        assert_eq!(rt;
+            grid.plane_rect(1, 1),
+            TileRect {
+                x: 0,
+                y: 0,
+                w: 1,
+                h: 1
+            }
+        );
+        assert_eq!(rt;
+            grid.plane_size(2),
+            TileRect {
+                x: 0,
+                y: 0,
+                w: 2,
+                h: 1
+            }
+        );
+    }
+}

@@ -1,0 +1,23 @@
+//! Range-coded values of FFV1 version 3, and the configuration record that says how its frames are coded
+//! (RFC 9043, sections 3.8.1, 4.2 and 4.3).
+#![tactic(auto)]
+
+mod coding;
+mod deltas;
+mod fault;
+mod fields;
+mod grid;
+mod head;
+mod setup;
+mod symbols;
+mod tables;
+
+pub use coding::{RangeDecoder, RangeFault, next_state};
+pub use fault::SetupFault;
+pub use grid::{Grid, TileRect, each_place_in_one_tile, each_tile_in_frame};
+pub use head::{HeadFault, SliceHead, read_head};
+pub use setup::{Setup, setup_is_in_profile, setup_is_one};
+pub use symbols::{signed_symbol_is_spelled, symbol_is_spelled};
+
+#[cfg(test)]
+mod tests;

@@ -1,0 +1,215 @@
+//! The configuration record (RFC 9043, sections 4.2 and 4.3), and the setup that it gives for frames of one size.
+//!
+//! A `Setup` is of the profile: version 3 with micro_version 4 or greater, Golomb-Rice codes, 8 bits a sample, gray or
+//! Y Cb Cr with chroma shifts of at most 2, at most 1024 tiles, and 1 to 8 sets of quantization tables.
+ghost use Rattle.std.specs.Prelude.{◌≡◌, ◌<◌, ◌⊎◌, Bool, length, MatchResult, IfOk, IfErr};
+ghost use Rattle.ffv1_range.specs.Setup.{SetupValue, set_contexts, set_entry, IsSetupOf, IsInProfile, SetupIsOne, SetupIsInProfile};
+ghost use Rattle.ffv1_range.specs.SetupFaults.{FirstSetupFault};
+ghost use Rattle.ffv1_range.specs.SetupForms.{checked_content, is_size, setup_read};
+ghost use Rattle.ffv1_range.specs.Tiles.{grid_of};
+ghost use Rattle.ffv1_range.specs.Views.{Gives};
+ghost use Rattle.ffv1_range.specs.declared.fault.SetupFault.TheVariants.{Memory};
+
+use crate::coding::RangeDecoder;
+use crate::deltas::read_deltas;
+use crate::fault::SetupFault;
+use crate::fields::{Counts, Planes, read_front, read_last_fields};
+use crate::grid::Grid;
+use crate::tables::{TableSet, read_sets};
+use ffv1_bits::remainder;
+use std::alloc::Global;
+use std::marker::Model;
+
+/// What a configuration record says of its frames.
+#[derive(Drop)]
+pub struct Setup {
+    pub(crate) micro: u32,
+    pub(crate) planes: Planes,
+    pub(crate) counts: Counts,
+    pub(crate) sets: Vec<TableSet>,
+    pub(crate) ec: u32,
+    pub(crate) intra: u32,
+    pub(crate) width: u32,
+    pub(crate) height: u32,
+}
+
+impl Model for Setup {
+    ghost use Rattle.ffv1_range.specs.Setup.{SetupValue, IsInProfile};
+    ghost use Rattle.ffv1_range.specs.TableViews.{set_values};
+
+    ghost Value = { SetupValue };
+
+    ghost view = { λ x. record { micro = x.micro; has_chroma = x.planes.has_chroma; shift_h = x.planes.shift_h; shift_v = x.planes.shift_v; across = x.counts.across; down = x.counts.down; sets = set_values x.sets.items; ec = x.ec; intra = x.intra; width = x.width; height = x.height } };
+
+    ghost invariant = { λ x. IsInProfile (record { micro = x.micro; has_chroma = x.planes.has_chroma; shift_h = x.planes.shift_h; shift_v = x.planes.shift_v; across = x.counts.across; down = x.counts.down; sets = set_values x.sets.items; ec = x.ec; intra = x.intra; width = x.width; height = x.height }) };
+}
+
+impl Setup {
+    /// Reads a configuration record, its parity included, for frames of this width and height in samples (RFC 9043,
+    /// sections 4.2 and 4.3). What is left of the record behind its last field is ignored.
+    ///
+    /// Refused with the first of its faults: `TooShort`, `Parity`, `Size`, then those of the fields in the order in
+    /// which they are read, each as soon as its value was read; those of the grid after both of its numbers, that of
+    /// the contexts after each table of a set. `Memory` stands between the number of sets and the first set.
+    pub fn read(alloc: Global, config: &[u8], width: u32, height: u32) -> Result<Setup, SetupFault>
+        // The answer is the record's setup.
+        ensures found { IfOk result (IsSetupOf config.now width height) }
+
+        // A record that has a setup is answered with it, or for want of memory.
+        ensures only { (setup : SetupValue) → IsSetupOf config.now width height setup → MatchResult result (λ read. read ≡ setup) (λ fault. fault ≡ Memory) }
+
+        // A refusal is the first that reading meets, or want of memory ..
+        ensures first { IfErr result (λ fault. (fault ≡ Memory) ⊎ FirstSetupFault config.now width height fault) }
+
+        // .. which stands behind the fields before the sets.
+        ensures fault { IfErr result (λ fault. (granted : Bool) × (setup_read granted config.now width height ≡ Err fault)) }
+    {
+        let content = checked_content(config)?;
+        if !is_size(width) || !is_size(height) {
+            return Err(SetupFault::Size);
+        }
+        let mut decoder = RangeDecoder::closed(content)?;
+        let mut states = [128; 32];
+        let front = read_front(&mut decoder, &mut states, width, height)?;
+        let mut sets = Vec::with_capacity(alloc, front.sets as usize)?;
+        read_sets(&mut decoder, &mut sets, front.sets)?;
+        read_deltas(&mut decoder, &mut states, &sets)?;
+        let intra = read_last_fields(&mut decoder, &mut states)?;
+        Ok(Setup {
+            micro: front.micro,
+            planes: front.planes,
+            counts: front.counts,
+            sets,
+            ec: 1,
+            intra,
+            width,
+            height,
+        })
+    }
+
+    /// micro_version, 4 or greater.
+    pub fn micro(&self) -> u32
+        ensures { result ≡ self.now.micro }
+    {
+        self.micro
+    }
+
+    /// Whether planes Cb and Cr follow plane Y.
+    pub fn has_chroma(&self) -> bool
+        ensures { result ≡ self.now.has_chroma }
+    {
+        self.planes.has_chroma
+    }
+
+    /// log2_h_chroma_subsample: the logarithm of a chroma sample's width in luma samples, at most 2; 0 of a gray frame.
+    pub fn shift_h(&self) -> u32
+        ensures { result ≡ self.now.shift_h }
+    {
+        self.planes.shift_h
+    }
+
+    /// log2_v_chroma_subsample: the logarithm of a chroma sample's height in luma samples, at most 2; 0 of a gray frame.
+    pub fn shift_v(&self) -> u32
+        ensures { result ≡ self.now.shift_v }
+    {
+        self.planes.shift_v
+    }
+
+    /// quant_table_set_count: the number of sets of quantization tables, 1 to 8.
+    pub fn sets(&self) -> usize
+        ensures { result ≡ length self.now.sets }
+    {
+        self.sets.len()
+    }
+
+    /// The number of contexts of a set.
+    pub fn contexts(&self, set: usize) -> u32
+        requires { set < length self.now.sets }
+        ensures { result ≡ set_contexts self.now set }
+    {
+        self.sets[set].contexts
+    }
+
+    /// An entry of a table of a set, at its scale: the tables count from 0, and the 256 entries are indexed by a
+    /// difference of two samples modulo 256 (RFC 9043, section 3.5).
+    pub fn entry(&self, set: usize, table: usize, index: usize) -> i32
+        requires set { set < length self.now.sets }
+        requires table { table < 5 }
+        requires index { index < 256 }
+        ensures { result ≡ set_entry self.now set table index }
+    {
+        self.sets[set].entry(table, index)
+    }
+
+    /// ec: 1, each slice has its parity.
+    pub fn ec(&self) -> u32
+        ensures { result ≡ self.now.ec }
+    {
+        self.ec
+    }
+
+    /// intra, as the record has it.
+    pub fn intra(&self) -> u32
+        ensures { result ≡ self.now.intra }
+    {
+        self.intra
+    }
+
+    /// Each setup is of the profile, and its tables keep within its contexts.
+    pub fn keeps_profile(&self)
+        ensures { IsInProfile self.now }
+    {
+        let _sets = &self.sets;
+    }
+
+    /// The tiles of the frames.
+    pub fn grid(&self) -> Grid
+        ensures { result ≡ grid_of self.now }
+    {
+        Grid::of(self)
+    }
+
+    /// The width of the frames, in samples, 1 to 16384.
+    pub fn width(&self) -> u32
+        ensures { result ≡ self.now.width }
+    {
+        self.width
+    }
+
+    /// The height of the frames, in samples, 1 to 16384.
+    pub fn height(&self) -> u32
+        ensures { result ≡ self.now.height }
+    {
+        self.height
+    }
+}
+
+/// The bytes before the parity, where that passes.
+fn checked_content(config: &[u8]) -> Result<&[u8], SetupFault>
+    ensures { Gives (λ content. content.now) result (checked_content config.now) }
+{
+    if config.len() < 6 {
+        return Err(SetupFault::TooShort);
+    }
+    if remainder(config) != 0 {
+        return Err(SetupFault::Parity);
+    }
+    Ok(&config[..config.len() - 4])
+}
+
+/// Whether a width or a height is in 1..=16384.
+fn is_size(size: u32) -> bool
+    ensures { result ≡ is_size size }
+{
+    1 <= size && size <= 16384
+}
+
+/// One record and size have one setup.
+pub fn setup_is_one()
+    ensures { SetupIsOne }
+{}
+
+/// A record's setup is of the profile.
+pub fn setup_is_in_profile()
+    ensures { SetupIsInProfile }
+{}
