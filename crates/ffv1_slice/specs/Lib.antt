@@ -1,6 +1,9 @@
 pub mod Chain
 pub mod Walk
 pub mod Ending
--- what the clauses cite of the crate below
-pub use Rattle.ffv1_bits.specs.Parity
+pub mod Slices
+-- what the clauses cite of the crates below
 pub use Rattle.ffv1_bits.specs.Bits
+pub use Rattle.ffv1_bits.specs.Parity
+pub use Rattle.ffv1_range.specs.Setup
+pub use Rattle.ffv1_range.specs.Header

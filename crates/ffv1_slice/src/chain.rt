@@ -1,9 +1,10 @@
 //! The chain of a payload's slices, from its end (RFC 9043, section 4.9). A link that fails its parity is still a link,
 //! and its size is still followed.
-ghost use Rattle.std.specs.Prelude.{◌≡◌, ◌-◌, ◌*◌, ◌≤◌, ℕ, length, MatchOption, ⊤};
+ghost use Rattle.std.specs.Prelude.{◌≡◌, ◌+◌, ◌-◌, ◌*◌, ◌≤◌, ℕ, length, MatchOption, IfSome, ⊤};
 ghost use Rattle.std.specs.Iterator.{YieldsFirst, item_count, MakesProgress};
 ghost use Rattle.ffv1_slice.specs.Chain.{IsCut, AreLinksOf, IsEnd};
 ghost use Rattle.ffv1_slice.specs.Ending.{EndsAs};
+ghost use Rattle.ffv1_slice.specs.Walk.{links_of};
 
 use crate::link::{FOOTER_LENGTH, Link};
 use byteorder::{BigEndian, ByteOrder};
@@ -45,6 +46,7 @@ impl<'a> Chain<'a> {
     pub fn new(payload: &'a [u8]) -> Chain<'a>
         ensures payload { result.payload ≡ payload.now }
         ensures links { AreLinksOf payload.now result.left }
+        ensures value { result.left ≡ links_of payload.now }
         ensures few { 8 * length result.left ≤ length payload.now }
     {
         Chain {
@@ -88,7 +90,8 @@ impl<'a> Iterator for Chain<'a> {
 /// Where the slice begins whose footer ends at this place.
 fn slice_start(payload: &[u8], place: usize) -> Option<usize>
     requires { place ≤ length payload.now }
-    ensures { MatchOption result ((p : ℕ) → IsCut payload.now p place → ⊥) (λ p. IsCut payload.now p place) }
+    ensures cut { MatchOption result ((p : ℕ) → IsCut payload.now p place → ⊥) (λ p. IsCut payload.now p place) }
+    ensures short { IfSome result (λ p. place ≤ p + 16777223) }
 {
     if place < FOOTER_LENGTH {
         return None;

@@ -3,10 +3,14 @@
 #![tactic(auto)]
 
 mod chain;
+mod found;
 mod link;
+mod slice;
 
 pub use chain::{Chain, ChainEnd};
+pub use found::{FoundSlice, find_slices, found_slices_are_found, original_is_found};
 pub use link::Link;
+pub use slice::{LinkFault, read_slice, slice_of};
 
 #[cfg(test)]
 mod tests;

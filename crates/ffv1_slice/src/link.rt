@@ -20,7 +20,7 @@ pub struct Link<'a> {
 }
 
 impl<'a> Model for Link<'a> {
-    ghost use Rattle.std.specs.Prelude.{ℕ, List, ◌≡◌, ◌+◌, ◌^◌, ◌<◌, ◌↔◌, IsTrue, length};
+    ghost use Rattle.std.specs.Prelude.{ℕ, List, ◌≡◌, ◌+◌, ◌^◌, ◌<◌, ◌≤◌, ◌↔◌, IsTrue, length};
     ghost use Rattle.ffv1_slice.specs.Chain.{Piece, piece_code, IsFramed, status_before};
     ghost use Rattle.ffv1_bits.specs.Parity.{PassesParity};
 
@@ -30,7 +30,7 @@ impl<'a> Model for Link<'a> {
 
     ghost view = { λ a. record { start = a.start; bytes = a.bytes.now } };
 
-    ghost invariant = { λ a. IsFramed a.bytes.now × (a.status ≡ status_before a.bytes.now (length a.bytes.now)) × (IsTrue a.passes ↔ PassesParity a.bytes.now) × (a.start + length a.bytes.now < 2 ^ 64) };
+    ghost invariant = { λ a. IsFramed a.bytes.now × (a.status ≡ status_before a.bytes.now (length a.bytes.now)) × (IsTrue a.passes ↔ PassesParity a.bytes.now) × (a.start + length a.bytes.now < 2 ^ 64) × (length a.bytes.now ≤ 16777223) };
 }
 
 impl<'a> Link<'a> {
@@ -38,6 +38,7 @@ impl<'a> Link<'a> {
     pub(crate) fn cut(payload: &'a [u8], start: usize, end: usize) -> Link<'a>
         requires within { end ≤ length payload.now }
         requires cut { IsCut payload.now start end }
+        requires short { end ≤ start + 16777223 }
         ensures { result ≡ piece_of payload.now start end }
     {
         let bytes = &payload[start..end];
@@ -63,10 +64,11 @@ impl<'a> Link<'a> {
         self.start + self.bytes.len()
     }
 
-    /// The whole slice, with its footer: at least 8 bytes, and the footer's size field is their number less 8.
+    /// The whole slice, with its footer: from 8 to 16777223 bytes, and the footer's size field is their number less 8.
     pub fn bytes(&self) -> &'a [u8]
         ensures value { result.now ≡ self.now.bytes }
         ensures framed { IsFramed result.now }
+        ensures short { length result.now ≤ 16777223 }
     {
         self.bytes
     }

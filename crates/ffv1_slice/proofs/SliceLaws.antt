@@ -1,0 +1,88 @@
+-- A slice is read where it is one, and nowhere else.
+use Rattle.std.proofs.Common.{◌≡◌, ℕ, suc, zero, ◌+◌, ◌-◌, ◌*◌, ◌<◌, ◌≤◌, Bool, true, false, List, [], ◌∷◌, ◌++◌, Result, Ok, Err, Option, Some, None, refl, sym, ap, ◌∙◌, subst, arith, length, take}
+use Rattle.std.specs.Prelude.{◌↔◌, IfOk, IsTrue, nat_le, ◌==◌, ◌&&◌, Contains, if◌then◌else◌}
+use Rattle.std.proofs.lemmas.Bool.{and_parts, and_from, leb-true, le-leb, eqb-true, eq-eqb}
+use Rattle.ffv1_bits.specs.Bits.{bits_of}
+use Rattle.ffv1_bits.specs.Parity.{remainder_of, PassesParity}
+use Rattle.ffv1_range.specs.Setup.{SetupValue}
+use Rattle.ffv1_range.specs.Header.{IsHeadOf, header_limits, head_read}
+use Rattle.ffv1_range.specs.declared.head.SliceHead.{SliceHead}
+use Rattle.ffv1_range.specs.declared.head.HeadFault.{HeadFault}
+use Rattle.ffv1_range.proofs.HeaderFound.{head_found, head_run}
+use Rattle.ffv1_slice.specs.Chain.{size_before, IsFramed, Piece}
+use Rattle.ffv1_slice.specs.Slices.{IsSliceOf, content_of, tile_of_head, is_whole, slice_read, with_tile, slice_at}
+use Rattle.ffv1_slice.specs.declared.slice.LinkFault.{LinkFault}
+use Rattle.ffv1_slice.specs.declared.slice.LinkFault.TheVariants.{Parity, Head}
+
+-- ---- framed, with a right parity
+
+whole_parts : (slice : List ℕ) → is_whole slice ≡ true → IsFramed slice × PassesParity slice
+whole_parts slice h =
+    let long = and_parts (nat_le 8 (length slice)) ((size_before slice (length slice) == length slice - 8) && (remainder_of (bits_of slice) == 0)) h in
+    let sized = and_parts (size_before slice (length slice) == length slice - 8) (remainder_of (bits_of slice) == 0) long.1 in
+    let room : 8 ≤ length slice = leb-true 8 (length slice) long.0 in
+    (record { footer = room; size = eqb-true (size_before slice (length slice)) (length slice - 8) sized.0 }, (room, eqb-true (remainder_of (bits_of slice)) 0 sized.1))
+
+whole_from : (slice : List ℕ) → IsFramed slice → PassesParity slice → is_whole slice ≡ true
+whole_from slice framed passes =
+    and_from (nat_le 8 (length slice)) ((size_before slice (length slice) == length slice - 8) && (remainder_of (bits_of slice) == 0)) (le-leb 8 (length slice) framed.footer)
+    (and_from (size_before slice (length slice) == length slice - 8) (remainder_of (bits_of slice) == 0) (eq-eqb (size_before slice (length slice)) (length slice - 8) framed.size) (eq-eqb (remainder_of (bits_of slice)) 0 passes.1))
+
+if_whole : (b : Bool) (r : Result ℕ LinkFault) (tile : ℕ) → (if b then r else Err Parity) ≡ Ok tile → (b ≡ true) × (r ≡ Ok tile)
+if_whole true r tile h = (refl, h)
+if_whole false r tile h = absurd cc
+
+pub if_true : {A : Type 0} (b : Bool) (r s : A) → b ≡ true → (if b then r else s) ≡ r
+if_true true r s h = refl
+if_true false r s h = absurd cc
+
+tile_head : (r : Result (SliceHead × ℕ) HeadFault) (tile : ℕ) → tile_of_head r ≡ Ok tile → (head : SliceHead) × (place : ℕ) × (r ≡ Ok (head, place)) × (head.tile ≡ tile)
+tile_head (Ok read) tile h = (read.0, read.1, refl, same)
+  where
+    same : read.0.tile ≡ tile
+    same = cc
+tile_head (Err fault) tile h = absurd cc
+
+-- ---- slices
+
+pub slice_found : (setup : SetupValue) (slice : List ℕ) (first : Bool) (tile : ℕ) → slice_read setup slice first ≡ Ok tile → IsSliceOf setup slice first tile
+unfolding slice_read
+slice_found setup slice first tile h =
+    let whole = if_whole (is_whole slice) (tile_of_head (head_read (header_limits setup) (content_of slice) first)) tile h in
+    let parts = whole_parts slice whole.0 in
+    let head = tile_head (head_read (header_limits setup) (content_of slice) first) tile whole.1 in
+    record {
+      passes = parts.1;
+      framed = parts.0;
+      head = head.0;
+      place = head.1;
+      is_head = head_found (header_limits setup) (content_of slice) first head.0 head.1 head.2;
+      of_tile = head.3;
+    }
+
+-- what is whole is read by its header
+pub slice_read-whole : (setup : SetupValue) (slice : List ℕ) (first : Bool) → IsFramed slice → PassesParity slice
+    → slice_read setup slice first ≡ tile_of_head (head_read (header_limits setup) (content_of slice) first)
+unfolding slice_read
+slice_read-whole setup slice first framed passes =
+    if_true (is_whole slice) (tile_of_head (head_read (header_limits setup) (content_of slice) first)) (Err Parity) (whole_from slice framed passes)
+
+-- what fails its parity is refused for that
+pub slice_read-fails : (setup : SetupValue) (slice : List ℕ) (first : Bool) → (PassesParity slice → ⊥) → slice_read setup slice first ≡ Err Parity
+unfolding slice_read
+slice_read-fails setup slice first fails =
+    elim (is_whole slice) as (λ b. is_whole slice ≡ b → (if b then tile_of_head (head_read (header_limits setup) (content_of slice) first) else Err Parity) ≡ Err Parity)
+    [ true ↦ λ e. absurd (fails (whole_parts slice e).1) | false ↦ λ e. refl ] refl
+
+pub slice_run : (setup : SetupValue) (slice : List ℕ) (first : Bool) (tile : ℕ) → IsSliceOf setup slice first tile → slice_read setup slice first ≡ Ok tile
+slice_run setup slice first tile h =
+    slice_read-whole setup slice first h.framed h.passes
+    ∙ ap tile_of_head (head_run (header_limits setup) (content_of slice) first h.head h.place h.is_head) ∙ ap Ok h.of_tile
+
+pub slice_is_found : (setup : SetupValue) (slice : List ℕ) (first : Bool) (r : Result ℕ LinkFault) → r ≡ slice_read setup slice first → IfOk r (IsSliceOf setup slice first)
+slice_is_found setup slice first (Ok tile) h = slice_found setup slice first tile (sym h)
+slice_is_found setup slice first (Err fault) h = tt
+
+-- bytes are a slice of one tile
+pub one_tile : (setup : SetupValue) (slice : List ℕ) (first : Bool) (a b : ℕ) → IsSliceOf setup slice first a → IsSliceOf setup slice first b → a ≡ b
+one_tile setup slice first a b h k = let both = sym (slice_run setup slice first a h) ∙ slice_run setup slice first b k in cc

@@ -1,0 +1,75 @@
+//! Slices: links that pass their parity and whose content begins with a header of the profile, for a tile of the grid
+//! (RFC 9043, sections 4.5, 4.6 and 4.9). Only what is found here may ever be called restored.
+ghost use Rattle.std.specs.Prelude.{◌≡◌, ◌==◌, ℕ, ◌≤◌, IfOk, Ok, Err, true, length};
+ghost use Rattle.ffv1_bits.specs.Parity.{PassesParity};
+ghost use Rattle.ffv1_range.specs.Header.{header_limits, head_read};
+ghost use Rattle.ffv1_slice.specs.Slices.{IsSliceOf, content_of, tile_of_head, is_whole, slice_read};
+
+use crate::link::{FOOTER_LENGTH, Link};
+use byteorder::{BigEndian, ByteOrder};
+use ffv1_bits::passes;
+use ffv1_range::{HeadFault, Setup, read_head};
+
+/// Why a link is no slice.
+#[derive(Clone, Copy, Debug, PartialEq, Eq)]
+pub enum LinkFault {
+    /// It does not pass its parity.
+    Parity,
+    /// Its content has no header of the profile, for a tile of the grid.
+    Head(HeadFault),
+}
+
+/// The tile of which a link is a slice, counted from 0 row by row. A link at the payload's start is read with the
+/// keyframe bit, and has to be of tile 0; no other may be. It takes no memory.
+///
+/// `Parity` comes exactly where the link fails its parity; `Head` has the fault of its header, in `read_head`'s order.
+pub fn slice_of(setup: &Setup, link: &Link<'_>) -> Result<usize, LinkFault>
+    ensures found { IfOk result (λ tile. IsSliceOf setup.now link.now.bytes (link.now.start == 0) tile) }
+    ensures only { (tile : ℕ) → IsSliceOf setup.now link.now.bytes (link.now.start == 0) tile → result ≡ Ok tile }
+
+    ensures parity { (PassesParity link.now.bytes → ⊥) → result ≡ Err LinkFault.Parity }
+    ensures head { PassesParity link.now.bytes → result ≡ tile_of_head (head_read (header_limits setup.now) (content_of link.now.bytes) (link.now.start == 0)) }
+    ensures read { result ≡ slice_read setup.now link.now.bytes (link.now.start == 0) }
+{
+    read_slice(setup, link.bytes(), link.start() == 0)
+}
+
+/// The tile of which these bytes, footer and all, are a slice. They are read with the keyframe bit where they are `first`
+/// of their payload. It takes no memory.
+///
+/// `Parity` comes where there is no footer, where its size field is not the number of bytes before it, and where the
+/// bytes do not pass their parity; `Head` has the fault of the header.
+pub fn read_slice(setup: &Setup, slice: &[u8], first: bool) -> Result<usize, LinkFault>
+    ensures found { IfOk result (λ tile. IsSliceOf setup.now slice.now first tile) }
+    ensures only { (tile : ℕ) → IsSliceOf setup.now slice.now first tile → result ≡ Ok tile }
+    ensures read { result ≡ slice_read setup.now slice.now first }
+{
+    tile_read(setup, slice, first)
+}
+
+/// The tile of a slice, as it is read.
+#[tactic(auto, unfolding(crate::specs::Slices::slice_read))]
+fn tile_read(setup: &Setup, slice: &[u8], first: bool) -> Result<usize, LinkFault>
+    ensures { result ≡ slice_read setup.now slice.now first }
+{
+    if !is_whole(slice) {
+        return Err(LinkFault::Parity);
+    }
+    let content = &slice[..slice.len() - FOOTER_LENGTH];
+    match read_head(setup, content, first) {
+        Ok((head, _place)) => Ok(head.tile),
+        Err(fault) => Err(LinkFault::Head(fault)),
+    }
+}
+
+/// Whether the bytes end with a footer that has their size, and pass their parity.
+fn is_whole(slice: &[u8]) -> bool
+    ensures value { result ≡ is_whole slice.now }
+    ensures long { result ≡ true → 8 ≤ length slice.now }
+{
+    if slice.len() < FOOTER_LENGTH {
+        return false;
+    }
+    let size = slice.len() - FOOTER_LENGTH;
+    BigEndian::read_u24(&slice[size..]) as usize == size && passes(slice)
+}
