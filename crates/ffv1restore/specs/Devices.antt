@@ -1,6 +1,6 @@
 -- What a command takes from a file and leaves in one.
 use Rattle.std.specs.Prelude.{ℕ, ◌≡◌, ◌^◌, ◌≤◌, ◌++◌, List, length, Option}
-use Rattle.std.specs.Io.KnownBytes.{Appends, Consumes, IsAtEnd}
+use Rattle.std.specs.Io.KnownBytes.{Appends, Consumes, IsAtEnd, Keeps}
 use Rattle.ffv1restore.specs.declared.fault.CliFault.{CliFault}
 use Rattle.ffv1restore.specs.declared.fault.CliFault.TheVariants as faults
 
@@ -26,3 +26,9 @@ abbrev pub IsInputFault : ℕ → CliFault → Type 0
 IsInputFault path (faults.Read named) = named ≡ path
 IsInputFault path faults.Memory = Unit {0}
 IsInputFault path _ = ⊥
+
+-- What a fault of printing a text left in the command's path of this number: a front of the text, or nothing.
+abbrev pub PrintStops : ℕ → List ℕ → Option (List ℕ) → Option (List ℕ) → CliFault → Type 0
+PrintStops path text before after (faults.Write named) = (named ≡ path) × WritesFront before after text
+PrintStops path text before after faults.Memory = Keeps before after
+PrintStops path text before after _ = ⊥

@@ -1,7 +1,8 @@
 //! Why a command stopped, and how that is told.
 ghost use Rattle.std.specs.Prelude.{◌≡◌, IfOk, length, map, string_bytes};
-ghost use Rattle.ffv1restore.specs.Fault.{NamesPathBelow, fault_line, status_of};
+ghost use Rattle.ffv1restore.specs.Fault.{NamesPathBelow, fault_line, setup_fault_number, status_of};
 
+use ffv1_range::SetupFault;
 use std::alloc::{AllocError, Global};
 use thiserror::Error;
 
@@ -15,6 +16,9 @@ pub enum CliFault {
     /// The file could not be made or written.
     #[error("file {0} was not written")]
     Write(usize),
+    /// The configuration record, with its width and height, gives no setup of the profile.
+    #[error("setup fault")]
+    Setup(SetupFault),
     /// A growth of memory was refused.
     #[error("no memory")]
     Memory,
@@ -39,6 +43,10 @@ impl CliFault {
                 let path = paths[*path];
                 format!(in alloc; "cannot write {path}")
             }
+            CliFault::Setup(fault) => {
+                let number = setup_fault_number(*fault);
+                format!(in alloc; "setup fault {number}")
+            }
             CliFault::Memory => String::from_str(alloc, "memory"),
             CliFault::Words => String::from_str(alloc, "words refused"),
         }
@@ -52,5 +60,46 @@ impl CliFault {
             CliFault::Words => 2,
             _ => 1,
         }
+    }
+}
+
+impl From<SetupFault> for CliFault {
+    ghost use Rattle.std.specs.Prelude.{◌≡◌};
+    ghost use Rattle.ffv1restore.specs.Fault.{of_setup};
+
+    ghost from_gives = { λ fault result. result ≡ of_setup fault };
+
+    /// Want of memory is told as such.
+    fn from(fault: SetupFault) -> CliFault {
+        match fault {
+            SetupFault::Memory => CliFault::Memory,
+            fault => CliFault::Setup(fault),
+        }
+    }
+}
+
+/// The number of a setup's fault.
+fn setup_fault_number(fault: SetupFault) -> u32
+    ensures { result ≡ setup_fault_number fault }
+{
+    match fault {
+        SetupFault::TooShort => 1,
+        SetupFault::Parity => 2,
+        SetupFault::Range(_) => 3,
+        SetupFault::Version => 4,
+        SetupFault::Micro => 5,
+        SetupFault::Coder => 6,
+        SetupFault::ColorSpace => 7,
+        SetupFault::Depth => 8,
+        SetupFault::ExtraPlane => 9,
+        SetupFault::Subsampling => 10,
+        SetupFault::GridTooFine => 11,
+        SetupFault::TooManyTiles => 12,
+        SetupFault::TableCount => 13,
+        SetupFault::TableRun => 14,
+        SetupFault::Contexts => 15,
+        SetupFault::ParityMode => 16,
+        SetupFault::Size => 17,
+        SetupFault::Memory => 18,
     }
 }

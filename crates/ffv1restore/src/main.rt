@@ -9,6 +9,7 @@ mod chain;
 mod devices;
 mod fault;
 mod files;
+mod show;
 #[cfg(test)]
 mod tests;
 mod words;
@@ -16,6 +17,7 @@ mod words;
 use chain::run_chain;
 use fault::CliFault;
 use files::InputFile;
+use show::run_show;
 use std::alloc::Global;
 use std::process::ExitCode;
 use std::{env, io};
@@ -43,6 +45,15 @@ fn chain_of_file(rt: &HostRuntime, frame: &str) -> ExitCode {
     }
 }
 
+fn show_of_file(rt: &HostRuntime, record: &str, width: u32, height: u32) -> ExitCode {
+    let mut input = InputFile::new(rt, record);
+    let mut output = io::writer(rt);
+    match run_show(rt.alloc(), &mut input, width, height, &mut output) {
+        Ok(()) => ExitCode::SUCCESS,
+        Err(fault) => tell(rt, &fault, &[record, "standard output"]),
+    }
+}
+
 fn main(rt: HostRuntime) -> ExitCode {
     let alloc: Global = rt.alloc();
     let words = match env::args(&rt) {
@@ -57,6 +68,13 @@ fn main(rt: HostRuntime) -> ExitCode {
     };
     match read_words(alloc, words.as_slice()) {
         Ok(Words::Chain { frame }) => chain_of_file(&rt, frame),
+        Ok(
+            Words::Show {
+                record,
+                width,
+                height,
+            },
+        ) => show_of_file(&rt, record, width, height),
         Err(fault) => tell(&rt, &fault, &[]),
     }
 }

@@ -11,7 +11,15 @@ use std::alloc::{AllocError, Global};
 #[derive(Drop)]
 pub enum Words<'a> {
     /// Tells the chain of a frame payload.
-    Chain { frame: &'a str },
+    Chain {
+        frame: &'a str,
+    },
+    /// Tells the setup of a configuration record, for frames of this size in samples.
+    Show {
+        record: &'a str,
+        width: u32,
+        height: u32,
+    },
 }
 
 /// A word that has to be there, by this name.
@@ -22,9 +30,14 @@ fn one<'a>(alloc: Global, name: &'a str) -> Arg<'a> {
 /// The commands and the names of their words.
 fn program<'a>(alloc: Global) -> Result<Command<'a>, AllocError> {
     let chain = Command::new(alloc, "chain").arg(one(alloc, "FRAME"))?;
+    let show = Command::new(alloc, "show")
+        .arg(one(alloc, "RECORD"))?
+        .arg(one(alloc, "WIDTH"))?
+        .arg(one(alloc, "HEIGHT"))?;
     Command::new(alloc, "ffv1restore")
         .subcommand_required(true)
-        .subcommand(chain)
+        .subcommand(chain)?
+        .subcommand(show)
 }
 
 /// The word of this name.
@@ -34,6 +47,16 @@ fn word<'a>(matches: &ArgMatches<'a>, name: &str) -> Result<&'a str, CliFault>
     matches.get_str(name).ok_or(CliFault::Words)
 }
 
+/// The word of this name, as a number.
+fn number(matches: &ArgMatches, name: &str) -> Result<u32, CliFault>
+    ensures { IfErr result (NamesPathBelow 0) }
+{
+    match word(matches, name)?.parse::<u32>() {
+        Ok(number) => Ok(number),
+        Err(_) => Err(CliFault::Words),
+    }
+}
+
 /// The command of this name, with its words.
 fn words_of<'a>(name: &str, matches: &ArgMatches<'a>) -> Result<Words<'a>, CliFault>
     ensures { IfErr result (NamesPathBelow 0) }
@@ -41,6 +64,11 @@ fn words_of<'a>(name: &str, matches: &ArgMatches<'a>) -> Result<Words<'a>, CliFa
     match name {
         "chain" => Ok(Words::Chain {
             frame: word(matches, "FRAME")?,
+        }),
+        "show" => Ok(Words::Show {
+            record: word(matches, "RECORD")?,
+            width: number(matches, "WIDTH")?,
+            height: number(matches, "HEIGHT")?,
         }),
         _ => Err(CliFault::Words),
     }

@@ -1,0 +1,123 @@
+//! The command `show`: tells the setup that a configuration record gives for frames of one size.
+ghost use Rattle.std.specs.Prelude.{◌≡◌, ◌++◌, IfOk, IfErr, OnOk, IfSome, string_bytes};
+ghost use Rattle.ffv1restore.specs.ShowText.{version_lines, planes_line, grid_line, contexts_word, tables_line, end_lines, show_text, PrintsSetup, ShowStops};
+ghost use Rattle.std.specs.List.{flat_map};
+ghost use Rattle.std.specs.Io.KnownBytes.{Appends};
+ghost use Rattle.ffv1restore.specs.Devices.{PrintStops};
+
+use crate::devices::{read_file, write_file};
+use crate::fault::CliFault;
+use ffv1_range::Setup;
+use std::alloc::{AllocError, Global};
+use std::io::{Read, Write};
+
+/// Reads a configuration record to its end and prints its setup for frames of this width and height in samples: the
+/// versions, the planes with the logarithms of the chroma subsampling, the grid, the sets of quantization tables with
+/// their contexts, ec and intra.
+///
+/// The record is path 0, the output path 1. `Read` comes where the record can't be read or is longer than 2^30 bytes,
+/// `Setup` with the first fault of the record where it gives no setup of the profile, and `Memory` where a growth is
+/// refused: then nothing was written. `Write` comes where the output fails: a front of the text was written.
+pub fn run_show<R: Read, W: Write>(
+    alloc: Global,
+    input: &mut R,
+    width: u32,
+    height: u32,
+    output: &mut W,
+) -> Result<(), CliFault>
+    ensures ok { OnOk result (IfSome (R.remaining input.old)
+        (λ config. PrintsSetup config width height (W.contents output.old) (W.contents output.new))) }
+    ensures err { IfErr result (ShowStops width height (R.remaining input.old) (W.contents output.old) (W.contents output.new)) }
+{
+    let config = read_file(alloc, input, 0)?;
+    let setup = Setup::read(alloc, config.as_slice(), width, height)?;
+    print_setup(alloc, &setup, output)
+}
+
+/// Prints a setup to the command's path 1.
+fn print_setup<W: Write>(alloc: Global, setup: &Setup, output: &mut W) -> Result<(), CliFault>
+    ensures ok { OnOk result (Appends (W.contents output.old) (W.contents output.new) (show_text setup.now)) }
+    ensures err { IfErr result (PrintStops 1 (show_text setup.now) (W.contents output.old) (W.contents output.new)) }
+{
+    let Ok(text) = setup_text(alloc, setup) else {
+        return Err(CliFault::Memory);
+    };
+    if write_file(output, text.as_bytes()).is_err() {
+        return Err(CliFault::Write(1));
+    }
+    Ok(())
+}
+
+/// The text that tells a setup.
+fn setup_text(alloc: Global, setup: &Setup) -> Result<String, AllocError>
+    ensures { IfOk result (λ text. string_bytes text ≡ show_text setup.now) }
+{
+    let mut text = String::new(alloc);
+    push_versions(&mut text, setup)?;
+    push_planes(&mut text, setup)?;
+    push_grid(&mut text, setup)?;
+    push_tables(&mut text, setup)?;
+    push_end(&mut text, setup)?;
+    Ok(text)
+}
+
+/// Adds the lines of the versions and of what the profile fixes.
+fn push_versions(text: &mut String, setup: &Setup) -> Result<(), AllocError>
+    ensures { OnOk result (string_bytes text.new ≡ string_bytes text.old ++ version_lines setup.now) }
+{
+    let micro = setup.micro();
+    write!(text, "version 3.{micro}\ncoder 0 colorspace 0 depth 8\n")
+}
+
+/// Adds the line of the planes.
+fn push_planes(text: &mut String, setup: &Setup) -> Result<(), AllocError>
+    ensures { OnOk result (string_bytes text.new ≡ string_bytes text.old ++ planes_line setup.now) }
+{
+    let planes = if setup.has_chroma() { "3" } else { "1" };
+    let (shift_h, shift_v) = (setup.shift_h(), setup.shift_v());
+    writeln!(text, "planes {planes} shift {shift_h} {shift_v}")
+}
+
+/// Adds the line of the grid.
+fn push_grid(text: &mut String, setup: &Setup) -> Result<(), AllocError>
+    ensures { OnOk result (string_bytes text.new ≡ string_bytes text.old ++ grid_line setup.now) }
+{
+    let grid = setup.grid();
+    let (across, down, tiles) = (grid.across(), grid.down(), grid.tiles());
+    writeln!(text, "grid {across}x{down} tiles {tiles}")
+}
+
+/// Adds the line of the sets of tables.
+fn push_tables(text: &mut String, setup: &Setup) -> Result<(), AllocError>
+    ensures { OnOk result (string_bytes text.new ≡ string_bytes text.old ++ tables_line setup.now) }
+{
+    let sets = setup.sets();
+    write!(text, "tables {sets} contexts")?;
+    push_contexts(text, setup)?;
+    text.push_str("\n")
+}
+
+/// Adds the number of contexts of each set.
+fn push_contexts(text: &mut String, setup: &Setup) -> Result<(), AllocError>
+    ensures { OnOk result (string_bytes text.new ≡ string_bytes text.old ++ flat_map (λ set. contexts_word set.contexts) setup.now.sets) }
+{
+    for set in 0..setup.sets() {
+        push_context(text, setup.contexts(set))?;
+    }
+    Ok(())
+}
+
+/// Adds a number of contexts.
+fn push_context(text: &mut String, contexts: u32) -> Result<(), AllocError>
+    ensures { OnOk result (string_bytes text.new ≡ string_bytes text.old ++ contexts_word contexts) }
+{
+    write!(text, " {contexts}")
+}
+
+/// Adds the lines behind the tables.
+fn push_end(text: &mut String, setup: &Setup) -> Result<(), AllocError>
+    ensures { OnOk result (string_bytes text.new ≡ string_bytes text.old ++ end_lines setup.now) }
+{
+    let (ec, intra) = (setup.ec(), setup.intra());
+    writeln!(text, "ec {ec} intra {intra}")
+}
