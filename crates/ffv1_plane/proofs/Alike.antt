@@ -1,0 +1,258 @@
+-- No bits begin with the spellings of two planes.
+use Rattle.std.proofs.Common.{◌≡◌, ◌≢◌, ℕ, zero, suc, ◌+◌, ◌-◌, ◌%◌, ◌*◌, ◌/◌, ◌<◌, ◌≤◌, Bool, true, false, not, ◌&&◌, cond, eqb, List, [], ◌∷◌, ◌++◌, map, filter, fold, refl, sym, ap, ◌∙◌, subst, arith, append_assoc, inl, inr, ⊎_elim, ◌⊎◌, ℤ, pos, negsuc, nat_abs, int_lt, ◌-ℤ◌}
+use Rattle.std.proofs.lemmas.Int.{ints}
+use Rattle.std.proofs.lemmas.Bool.{cases_lt}
+use Rattle.std.proofs.lemmas.Nat.{div-add-mod', mod-mul-add}
+use Rattle.std.proofs.Math.Nat.{mul-add-mod_self_right, mod_self}
+use Rattle.std.proofs.lemmas.List.{map-append}
+use Rattle.std.proofs.lemmas.List.Elements.{filter-append}
+use Rattle.ffv1_rice.specs.States.{start_state, after_value, IsDifference}
+use Rattle.ffv1_rice.specs.Codes.{SpellsValue, decoded_value}
+use Rattle.ffv1_rice.specs.Runs.{SpellsRun}
+use Rattle.ffv1_rice.proofs.OneCode.{one_value}
+use Rattle.ffv1_rice.proofs.OneRun.{one_run}
+use Rattle.ffv1_plane.specs.Spelling.{Residuals, begins_line, is_zero, is_in_run, is_skipped, is_coded, follows_skipped, starts_run, left_in_line, skipped_among, run_length, value_at, samples_before, state_before, SampleSpells, SamplesSpell}
+
+abbrev pub residuals : ℕ → (ℕ → ℤ) → (ℕ → ℤ) → Residuals
+residuals width context difference = record { width = width; context = context; difference = difference }
+
+pub is_bool : (b : Bool) → (b ≡ true) ⊎ (b ≡ false)
+is_bool true = inl refl
+is_bool false = inr refl
+
+-- one column on, in one line
+pub next_column : (n w : ℕ) → 0 < w → eqb ((n + 1) % w) 0 ≡ false → (n + 1) % w ≡ n % w + 1
+next_column n w some inside =
+    let whole : n / w * w + n % w ≡ n = div-add-mod' n w in
+    let below : n % w < w = omega arith in
+    let split : n + 1 ≡ n / w * w + (n % w + 1) = omega (arith, whole) in
+    ⊎_elim
+    (λ less. ap (λ k. k % w) split ∙ mod-mul-add (n / w) w (n % w + 1) less)
+    (λ most.
+    let end : n % w + 1 ≡ w = omega arith in
+    let again : (n / w * w + (n % w + 1)) % w ≡ 0 = ap (λ k. (n / w * w + k) % w) end ∙ mul-add-mod_self_right (n / w) w w ∙ mod_self w in
+    absurd (let zero_there : (n + 1) % w ≡ 0 = ap (λ k. k % w) split ∙ again in let t : eqb ((n + 1) % w) 0 ≡ true = ap (λ k. eqb k 0) zero_there in cc))
+    (cases_lt (n % w + 1) w)
+
+module _ (w : ℕ) (c e d f : ℕ → ℤ) where
+  in_run_alike : (n : ℕ) → ((j : ℕ) → j ≤ n → c j ≡ e j) → ((j : ℕ) → j < n → d j ≡ f j) → is_in_run (residuals w c d) n ≡ is_in_run (residuals w e f) n
+  unfolding is_in_run
+  in_run_alike zero same alike = ap is_zero (same 0 (omega arith))
+  in_run_alike (suc n) same alike =
+      let here : c (suc n) ≡ e (suc n) = same (suc n) (omega arith) in
+      let before : d n ≡ f n = alike n (omega arith) in
+      let ind : is_in_run (residuals w c d) n ≡ is_in_run (residuals w e f) n = in_run_alike n (λ j h. same j (omega arith)) (λ j h. alike j (omega arith)) in
+      rw (here, before, ind) refl
+
+  follows_alike : (n : ℕ) → ((j : ℕ) → j ≤ n → c j ≡ e j) → ((j : ℕ) → j < n → d j ≡ f j) → follows_skipped (residuals w c d) n ≡ follows_skipped (residuals w e f) n
+  unfolding follows_skipped
+  follows_alike zero same alike = refl
+  follows_alike (suc n) same alike =
+      let before : d n ≡ f n = alike n (omega arith) in
+      let ind : is_in_run (residuals w c d) n ≡ is_in_run (residuals w e f) n = in_run_alike n (λ j h. same j (omega arith)) (λ j h. alike j (omega arith)) in
+      rw (before, ind) refl
+
+kept : (b : Bool) (n : ℕ) (g h : ℕ → ℤ) → g n ≡ h n → map g (cond b (n ∷ []) []) ≡ map h (cond b (n ∷ []) [])
+kept true n g h same = ap (λ x. x ∷ []) same
+kept false n g h same = refl
+
+-- lists of samples on which two tests and two values agree
+values_alike : (n : ℕ) (p q : ℕ → Bool) (g h : ℕ → ℤ) → ((j : ℕ) → j < n → p j ≡ q j) → ((j : ℕ) → j < n → g j ≡ h j) → map g (filter p (samples_before n)) ≡ map h (filter q (samples_before n))
+unfolding samples_before
+values_alike zero p q g h tests values = refl
+values_alike (suc n) p q g h tests values =
+    let ind : map g (filter p (samples_before n)) ≡ map h (filter q (samples_before n)) = values_alike n p q g h (λ j k. tests j (omega arith)) (λ j k. values j (omega arith)) in
+    let test : p n ≡ q n = tests n (omega arith) in
+    let value : g n ≡ h n = values n (omega arith) in
+    rw (filter-append p, filter-append q, map-append g, map-append h, ind) (ap (λ l. map h (filter q (samples_before n)) ++ l) (rw test (kept (q n) n g h value)))
+
+-- a level's difference isn't 0, so its value tells it
+one_difference : (level : Bool) (x y : ℤ) → (level ≡ true → x ≢ pos 0) → (level ≡ true → y ≢ pos 0) → decoded_value level x ≡ decoded_value level y → x ≡ y
+one_difference false x y some other same = same
+one_difference true x y some other same = let p : x ≢ pos 0 = some refl in let q : y ≢ pos 0 = other refl in grind (arith, ints)
+
+in_either : (b : Bool) (x y : ℤ) → (b ≡ true → IsDifference x) → IsDifference y → IsDifference (cond b x y)
+in_either true x y h k = h refl
+in_either false x y h k = k
+
+pub and_true : (a b : Bool) → (a && b) ≡ true → (a ≡ true) × (b ≡ true)
+and_true true b h = (refl, h)
+and_true false b h = absurd cc
+
+value_range : (level : Bool) (x : ℤ) → IsDifference x → IsDifference (decoded_value level x)
+value_range level x h = in_either (level && int_lt (pos 0) x) (x -ℤ pos 1) x (λ b. let p = and_true level (int_lt (pos 0) x) b in record { low = grind (arith, ints); high = omega (arith, ints) }) h
+
+pub zero_of : (x : ℤ) → is_zero x ≡ true → x ≡ pos 0
+zero_of (pos zero) h = refl
+zero_of (pos (suc n)) h = absurd (grind (arith, ints))
+zero_of (negsuc n) h = absurd (grind (arith, ints))
+
+pub nonzero_of : (x : ℤ) → is_zero x ≡ false → x ≢ pos 0
+nonzero_of x h e = let f : is_zero x ≡ true = ap is_zero e in absurd cc
+
+-- Two planes that the same bits begin to spell, up to sample n: what was read of them is alike.
+pub record Alike (w : ℕ) (c e d f : ℕ → ℤ) (n : ℕ) : Type 0 where
+  pub contexts : (j : ℕ) → j < n → c j ≡ e j
+  pub differences : (j : ℕ) → j < n → d j ≡ f j
+  pub runs : follows_skipped (residuals w c d) n ≡ true → run_length (residuals w c d) n ≡ run_length (residuals w e f) n
+
+follows_of : (a b : Bool) → a ≡ true → (a && not b) ≡ false → b ≡ true
+follows_of true true h k = refl
+follows_of true false h k = absurd cc
+follows_of false b h k = absurd cc
+
+pub not_true : (b : Bool) → not b ≡ true → b ≡ false
+not_true true h = absurd cc
+not_true false h = refl
+
+pub not_both : (a b : Bool) → a ≡ true → (a && b) ≡ false → b ≡ false
+not_both true b h k = k
+not_both false b h k = absurd cc
+
+same_test : (a b : Bool) (m n : ℕ) → cond a (suc m) 0 ≡ cond b (suc n) 0 → a ≡ b
+same_test true true m n h = refl
+same_test false false m n h = refl
+same_test true false m n h = absurd (omega arith)
+same_test false true m n h = absurd (omega arith)
+
+-- the run's length tells whether its first sample is skipped ..
+first_skipped : (r q : Residuals) (s count m n : ℕ) → count ≡ suc m → skipped_among r count s ≡ skipped_among q count s → is_skipped r s ≡ is_skipped q s
+unfolding skipped_among
+first_skipped r q s count m n is same =
+    let opened : skipped_among r (suc m) s ≡ skipped_among q (suc m) s = ap (λ k. skipped_among r k s) (sym is) ∙ same ∙ ap (λ k. skipped_among q k s) is in
+    same_test _ _ _ _ opened
+
+-- .. and how long it is behind it
+length_behind : (r q : Residuals) (s count m : ℕ) → count ≡ suc m → is_skipped r s ≡ true → is_skipped q s ≡ true → skipped_among r count s ≡ skipped_among q count s → skipped_among r m (s + 1) ≡ skipped_among q m (s + 1)
+unfolding skipped_among
+length_behind r q s count m is a b same =
+    let opened : skipped_among r (suc m) s ≡ skipped_among q (suc m) s = ap (λ k. skipped_among r k s) (sym is) ∙ same ∙ ap (λ k. skipped_among q k s) is in
+    let left : skipped_among r (suc m) s ≡ suc (skipped_among r m (s + 1)) = ap (λ t. cond t (suc (skipped_among r m (s + 1))) 0) a in
+    let right : skipped_among q (suc m) s ≡ suc (skipped_among q m (s + 1)) = ap (λ t. cond t (suc (skipped_among q m (s + 1))) 0) b in
+    omega (arith, opened, left, right)
+
+module _ (earlier : ℕ → List ℤ) (w : ℕ) (c e d f : ℕ → ℤ) (some : 0 < w)
+    (range : (j : ℕ) → IsDifference (d j)) (also : (j : ℕ) → IsDifference (f j))
+    (determined : (n : ℕ) → ((j : ℕ) → j < n → d j ≡ f j) → c n ≡ e n) where
+  contexts_to : (n : ℕ) → ((j : ℕ) → j < n → d j ≡ f j) → (j : ℕ) → j ≤ n → c j ≡ e j
+  contexts_to n alike j h = determined j (λ i less. alike i (omega arith))
+
+  states_alike : (n k : ℕ) → ((j : ℕ) → j < n → d j ≡ f j) → state_before earlier (residuals w c d) k n ≡ state_before earlier (residuals w e f) k n
+  states_alike n k alike =
+      let runs : (j : ℕ) → j < n → is_in_run (residuals w c d) j ≡ is_in_run (residuals w e f) j = λ j h. in_run_alike w c e d f j (contexts_to j (λ i less. alike i (omega arith))) (λ i less. alike i (omega arith)) in
+      ap (λ l. fold (λ state value. after_value state value) start_state (earlier k ++ l))
+      (values_alike n _ _ _ _
+      (λ j h. let r : is_in_run (residuals w c d) j ≡ is_in_run (residuals w e f) j = runs j h in let a : d j ≡ f j = alike j h in let b : c j ≡ e j = determined j (λ i less. alike i (omega arith)) in rw (r, a, b) refl)
+      (λ j h. let r : is_in_run (residuals w c d) j ≡ is_in_run (residuals w e f) j = runs j h in let a : d j ≡ f j = alike j h in rw (r, a) refl))
+
+  -- sample n, behind what was read alike
+  record AfterRun (n next then : ℕ) (rest more : List Bool) : Type 0 where
+    index : next ≡ then
+    behind : rest ≡ more
+    lengths : is_in_run (residuals w c d) n ≡ true → run_length (residuals w c d) n ≡ run_length (residuals w e f) n
+
+  after_run : (n index then next last : ℕ) (piece words rest more : List Bool) → Alike w c e d f n → index ≡ then → piece ++ rest ≡ words ++ more
+      → (a : SampleSpells earlier (residuals w c d) n index piece next) → (b : SampleSpells earlier (residuals w e f) n then words last) → AfterRun n next last (a.code ++ rest) (b.code ++ more)
+  after_run n index then next last piece words rest more alike same joined a b =
+      let inner : a.run ++ (a.code ++ rest) ≡ b.run ++ (b.code ++ more) = sym (append_assoc a.run a.code rest) ∙ ap (λ l. l ++ rest) (sym a.joined) ∙ joined ∙ ap (λ l. l ++ more) b.joined ∙ append_assoc b.run b.code more in
+      let runs : is_in_run (residuals w c d) n ≡ is_in_run (residuals w e f) n = in_run_alike w c e d f n (contexts_to n alike.differences) alike.differences in
+      let follows : follows_skipped (residuals w c d) n ≡ follows_skipped (residuals w e f) n = follows_alike w c e d f n (contexts_to n alike.differences) alike.differences in
+      let starts : starts_run (residuals w c d) n ≡ starts_run (residuals w e f) n = rw (runs, follows) refl in
+      ⊎_elim
+      (λ yes.
+      let P : ℕ → Type 0 = λ i. SpellsRun (run_length (residuals w e f) n) (left_in_line (residuals w e f) n) i b.run last in
+      let one = one_run _ _ _ _ _ _ a.run b.run (a.code ++ rest) (b.code ++ more) (a.run_starts yes) (subst P (sym same) (b.run_starts (sym starts ∙ yes))) inner in
+      record { index = one.1; behind = one.2; lengths = λ h. one.0 })
+      (λ no.
+      let p = a.no_run_starts no in
+      let q = b.no_run_starts (sym starts ∙ no) in
+      record {
+        index = p.1 ∙ same ∙ sym q.1;
+        behind = ap (λ l. l ++ (a.code ++ rest)) (sym p.0) ∙ inner ∙ ap (λ l. l ++ (b.code ++ more)) q.0;
+        lengths = λ h. alike.runs (follows_of (is_in_run (residuals w c d) n) _ h no);
+      })
+      (is_bool (starts_run (residuals w c d) n))
+
+  skipped_alike : (n next then : ℕ) (rest more : List Bool) → Alike w c e d f n → AfterRun n next then rest more → is_skipped (residuals w c d) n ≡ is_skipped (residuals w e f) n
+  skipped_alike n next then rest more alike after =
+      let runs : is_in_run (residuals w c d) n ≡ is_in_run (residuals w e f) n = in_run_alike w c e d f n (contexts_to n alike.differences) alike.differences in
+      let left : 0 < left_in_line (residuals w c d) n = (let small : n % w < w = omega arith in omega arith) in
+      ⊎_elim
+      (λ yes. first_skipped (residuals w c d) (residuals w e f) n (left_in_line (residuals w c d) n) (left_in_line (residuals w c d) n - 1) 0 (omega arith) (after.lengths yes))
+      (λ no. let other : is_in_run (residuals w e f) n ≡ false = sym runs ∙ no in rw (no, other) refl)
+      (is_bool (is_in_run (residuals w c d) n))
+
+  -- one sample more
+  one_sample : (n index then next last : ℕ) (piece words rest more : List Bool) → Alike w c e d f n → index ≡ then → piece ++ rest ≡ words ++ more
+      → SampleSpells earlier (residuals w c d) n index piece next → SampleSpells earlier (residuals w e f) n then words last → (d n ≡ f n) × (next ≡ last) × (rest ≡ more)
+  one_sample n index then next last piece words rest more alike same joined a b =
+      let after = after_run n index then next last piece words rest more alike same joined a b in
+      let skipped : is_skipped (residuals w c d) n ≡ is_skipped (residuals w e f) n = skipped_alike n next last _ _ alike after in
+      let runs : is_in_run (residuals w c d) n ≡ is_in_run (residuals w e f) n = in_run_alike w c e d f n (contexts_to n alike.differences) alike.differences in
+      let here : c n ≡ e n = determined n alike.differences in
+      ⊎_elim
+      (λ yes.
+      let p = and_true (is_in_run (residuals w c d) n) (is_zero (d n)) yes in
+      let q = and_true (is_in_run (residuals w e f) n) (is_zero (f n)) (sym skipped ∙ yes) in
+      let un : is_coded (residuals w c d) n ≡ false = ap not yes in
+      let un' : is_coded (residuals w e f) n ≡ false = ap not (sym skipped ∙ yes) in (
+        zero_of (d n) p.1 ∙ sym (zero_of (f n) q.1),
+        after.index,
+        ap (λ l. l ++ rest) (sym (a.not_coded un)) ∙ after.behind ∙ ap (λ l. l ++ more) (b.not_coded un'),
+      ))
+      (λ no.
+      let co : is_coded (residuals w c d) n ≡ true = ap not no in
+      let co' : is_coded (residuals w e f) n ≡ true = ap not (sym skipped ∙ no) in
+      let first = a.coded co in
+      let second = b.coded co' in
+      let states : state_before earlier (residuals w e f) (nat_abs (e n)) n ≡ state_before earlier (residuals w c d) (nat_abs (c n)) n =
+      sym (states_alike n (nat_abs (e n)) alike.differences) ∙ ap (λ z. state_before earlier (residuals w c d) (nat_abs z) n) (sym here) in
+      let second' : SpellsValue (state_before earlier (residuals w c d) (nat_abs (c n)) n) (value_at (residuals w e f) n) b.code = rw (← states) second in
+      let one = one_value _ _ _ a.code b.code rest more (value_range _ _ (range n)) (value_range _ _ (also n)) first second' after.behind in
+      let values : decoded_value (is_in_run (residuals w c d) n) (d n) ≡ decoded_value (is_in_run (residuals w c d) n) (f n) = one.0 ∙ ap (λ l. decoded_value l (f n)) (sym runs) in (
+        one_difference (is_in_run (residuals w c d) n) (d n) (f n)
+            (λ t. nonzero_of (d n) (not_both (is_in_run (residuals w c d) n) _ t no))
+            (λ t. nonzero_of (f n) (not_both (is_in_run (residuals w e f) n) _ (sym runs ∙ t) (sym skipped ∙ no)))
+            values,
+        after.index,
+        one.1,
+      ))
+      (is_bool (is_skipped (residuals w c d) n))
+
+  -- what is alike before the next sample, too
+  alike_more : (n next last : ℕ) (rest more : List Bool) → Alike w c e d f n → AfterRun n next last rest more → d n ≡ f n → Alike w c e d f (n + 1)
+  unfolding follows_skipped
+  alike_more n next last rest more alike after here = record {
+    contexts = λ j h. determined j (λ i less. alike.differences i (omega arith));
+    differences = λ j h. ⊎_elim (λ less. alike.differences j less) (λ most. let j_is : j ≡ n = omega arith in rw j_is here) (cases_lt j n);
+    runs = λ follows.
+        let runs : is_in_run (residuals w c d) n ≡ is_in_run (residuals w e f) n = in_run_alike w c e d f n (contexts_to n alike.differences) alike.differences in
+        let opened : (not (begins_line (residuals w c d) (suc n)) && is_skipped (residuals w c d) n) ≡ true = ap (λ k. follows_skipped (residuals w c d) k) (let k : suc n ≡ n + 1 = omega arith in k) ∙ follows in
+        let both = and_true (not (begins_line (residuals w c d) (suc n))) (is_skipped (residuals w c d) n) opened in
+        let skip : is_skipped (residuals w c d) n ≡ true = both.1 in
+        let skip' : is_skipped (residuals w e f) n ≡ true = rw (← runs, ← here) skip in
+        let length = after.lengths ((and_true (is_in_run (residuals w c d) n) (is_zero (d n)) skip).0) in
+        let small : n % w < w = omega arith in
+        let k : suc n ≡ n + 1 = omega arith in
+        let inside : eqb ((n + 1) % w) 0 ≡ false = ap (λ j. eqb (j % w) 0) (sym k) ∙ not_true (begins_line (residuals w c d) (suc n)) both.0 in
+        let column : (n + 1) % w ≡ n % w + 1 = next_column n w some inside in
+        let left : left_in_line (residuals w c d) n ≡ suc (w - (n + 1) % w) = omega arith in
+        length_behind (residuals w c d) (residuals w e f) n (left_in_line (residuals w c d) n) (w - (n + 1) % w) left skip skip' length;
+  }
+
+  pub one_reading : (n : ℕ) (front words rest more : List Bool) (next last : ℕ) → SamplesSpell earlier (residuals w c d) n front next → SamplesSpell earlier (residuals w e f) n words last
+      → front ++ rest ≡ words ++ more → Alike w c e d f n × (next ≡ last) × (rest ≡ more)
+  unfolding SamplesSpell follows_skipped
+  one_reading zero front words rest more next last a b same = (
+    record { contexts = λ j h. absurd (omega arith); differences = λ j h. absurd (omega arith); runs = λ h. absurd cc },
+    a.1 ∙ sym b.1,
+    ap (λ l. l ++ rest) (sym a.0) ∙ same ∙ ap (λ l. l ++ more) b.0,
+  )
+  one_reading (suc n) front words rest more next last (a0, a1, a2, a3, a4, a5) (b0, b1, b2, b3, b4, b5) same =
+      let joined : a0 ++ (a1 ++ rest) ≡ b0 ++ (b1 ++ more) = sym (append_assoc a0 a1 rest) ∙ ap (λ l. l ++ rest) (sym a3) ∙ same ∙ ap (λ l. l ++ more) b3 ∙ append_assoc b0 b1 more in
+      let before = one_reading n a0 b0 (a1 ++ rest) (b1 ++ more) a2 b2 a4 b4 joined in
+      let after = after_run n a2 b2 next last a1 b1 rest more before.0 before.1 before.2 a5 b5 in
+      let sample = one_sample n a2 b2 next last a1 b1 rest more before.0 before.1 before.2 a5 b5 in
+      let all : Alike w c e d f (n + 1) = alike_more n next last _ _ before.0 after sample.0 in
+      let n_is : n + 1 ≡ suc n = omega arith in
+      (subst (Alike w c e d f) n_is all, sample.1, sample.2)

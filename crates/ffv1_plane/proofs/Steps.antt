@@ -1,0 +1,270 @@
+-- A plane's spelling, one scalar or one run further.
+use Rattle.std.proofs.Common.{◌≡◌, ℕ, zero, suc, ◌+◌, ◌-◌, ◌*◌, ◌/◌, ◌%◌, ◌<◌, ◌≤◌, Bool, true, false, not, ◌&&◌, ◌||◌, cond, eqb, List, [], ◌∷◌, ◌++◌, refl, sym, ap, ◌∙◌, subst, arith, append_assoc, inl, inr, ⊎_elim, ◌⊎◌, ℤ, map, fold}
+use Rattle.std.proofs.lemmas.Bool.{cases_lt}
+use Rattle.std.proofs.lemmas.Nat.{div-add-mod', mod-mul-add}
+use Rattle.std.proofs.Math.Nat.{mul-add-mod_self_right, mod_self}
+use Rattle.std.proofs.lemmas.List.{append-nil}
+use Rattle.ffv1_rice.specs.Codes.{SpellsValue, decoded_value}
+use Rattle.ffv1_rice.specs.Runs.{SpellsRun}
+use Rattle.ffv1_plane.specs.Spelling.{Residuals, begins_line, is_zero, is_in_run, is_skipped, is_coded, follows_skipped, starts_run, left_in_line, skipped_among, run_length, value_at, context_number, samples_before, values_before, state_before, SamplesSpell}
+use Rattle.std.proofs.lemmas.List.{map-append}
+use Rattle.std.proofs.lemmas.List.Elements.{filter-append}
+use Rattle.std.proofs.lemmas.List.Sums.{fold-append}
+use Rattle.ffv1_rice.specs.States.{start_state, after_value}
+use Rattle.ffv1_plane.specs.Progress.{Progress}
+use Rattle.ffv1_plane.proofs.Alike.{and_true}
+
+pub in_run_is : (r : Residuals) (s : ℕ) → is_in_run r s ≡ (is_zero (r.context s) || follows_skipped r s)
+unfolding is_in_run follows_skipped
+in_run_is r zero = grind arith
+in_run_is r (suc s) = refl
+
+not_skipped_behind : (r : Residuals) (s : ℕ) → is_skipped r s ≡ false → follows_skipped r (suc s) ≡ false
+unfolding follows_skipped
+not_skipped_behind r s coded = rw coded (either (not (begins_line r (suc s))))
+  where
+    either : (b : Bool) → (b && false) ≡ false
+    either true = refl
+    either false = refl
+
+pub scalar_step : (earlier : ℕ → List ℤ) (r : Residuals) (s index : ℕ) (bits code left rest : List Bool) → Progress earlier r s bits index left → is_zero (r.context s) ≡ false
+    → SpellsValue (state_before earlier r (context_number r s) s) (r.difference s) code → left ≡ code ++ rest → Progress earlier r (suc s) bits index rest
+unfolding SamplesSpell
+scalar_step earlier r s index bits code left rest p scalar coded is =
+    let outside : is_in_run r s ≡ false = in_run_is r s ∙ rw (scalar, p.fresh) refl in
+    let skip : is_skipped r s ≡ false = rw outside refl in
+    let start : starts_run r s ≡ false = rw outside refl in
+    record {
+      front = p.front ++ code;
+      begins = p.begins ∙ ap (λ l. p.front ++ l) is ∙ sym (append_assoc p.front code rest);
+      spells = (
+        p.front,
+        code,
+        index,
+        refl,
+        p.spells,
+        record {
+          run = [];
+          code = code;
+          joined = refl;
+          run_starts = λ h. absurd cc;
+          no_run_starts = λ h. (refl, refl);
+          coded = λ h. let value : r.difference s ≡ value_at r s = rw outside refl in subst (λ (v : ℤ). SpellsValue (state_before earlier r (context_number r s) s) v code) value coded;
+          not_coded = λ h. absurd (let no : is_coded r s ≡ true = ap not skip in cc);
+        },
+      );
+      fresh = not_skipped_behind r s skip;
+    }
+
+-- ---- the states, one sample further
+
+values_more : (r : Residuals) (k s : ℕ) → values_before r k (suc s) ≡ values_before r k s ++ map (value_at r) (cond (is_coded r s && eqb (context_number r s) k) (s ∷ []) [])
+unfolding samples_before
+values_more r k s = ap (map (value_at r)) (filter-append (λ j. is_coded r j && eqb (context_number r j) k) (samples_before s) (s ∷ [])) ∙ map-append (value_at r) _ _
+
+pub state_more : (earlier : ℕ → List ℤ) (r : Residuals) (k s : ℕ) → state_before earlier r k (suc s)
+    ≡ cond (is_coded r s && eqb (context_number r s) k) (after_value (state_before earlier r k s) (value_at r s)) (state_before earlier r k s)
+state_more earlier r k s =
+    let apart : earlier k ++ values_before r k (suc s) ≡ (earlier k ++ values_before r k s) ++ map (value_at r) (cond (is_coded r s && eqb (context_number r s) k) (s ∷ []) []) =
+    ap (λ l. earlier k ++ l) (values_more r k s) ∙ sym (append_assoc (earlier k) (values_before r k s) _) in
+    ap (fold (λ state value. after_value state value) start_state) apart ∙ fold-append (λ state value. after_value state value) start_state (earlier k ++ values_before r k s) _
+    ∙ either (is_coded r s && eqb (context_number r s) k)
+  where
+    either : (b : Bool) → fold (λ state value. after_value state value) (state_before earlier r k s) (map (value_at r) (cond b (s ∷ []) [])) ≡ cond b (after_value (state_before earlier r k s) (value_at r s)) (state_before earlier r k s)
+    either true = refl
+    either false = refl
+
+-- ---- a run of n samples from s
+
+module _ (earlier : ℕ → List ℤ) (r : Residuals) (some : 0 < r.width) (s n : ℕ) (zero_here : is_zero (r.context s) ≡ true) (fresh : follows_skipped r s ≡ false) (fits : n ≤ left_in_line r s) (skipped : (j : ℕ) → j < n → is_zero (r.difference (s + j)) ≡ true) where
+  column : (j : ℕ) → s % r.width + j < r.width → (s + j) % r.width ≡ s % r.width + j
+  column j less =
+      let whole : s / r.width * r.width + s % r.width ≡ s = div-add-mod' s r.width in
+      let split : s + j ≡ s / r.width * r.width + (s % r.width + j) = omega (arith, whole) in
+      ap (λ k. k % r.width) split ∙ mod-mul-add (s / r.width) r.width (s % r.width + j) less
+
+  within : (j : ℕ) → s % r.width + suc j < r.width → begins_line r (suc (s + j)) ≡ false
+  within j less =
+      let here : (s + suc j) % r.width ≡ s % r.width + suc j = column (suc j) less in
+      let k : s + suc j ≡ suc (s + j) = omega arith in
+      let there : suc (s + j) % r.width ≡ s % r.width + suc j = ap (λ i. i % r.width) (sym k) ∙ here in
+      rw there (grind arith)
+
+  pub in_run_to : (j : ℕ) → j ≤ n → j < left_in_line r s → is_in_run r (s + j) ≡ true
+  unfolding is_in_run
+  in_run_to zero h less = let k : s + 0 ≡ s = omega arith in ap (λ i. is_in_run r i) k ∙ in_run_is r s ∙ rw zero_here refl
+  in_run_to (suc j) h less =
+      let before : is_in_run r (s + j) ≡ true = in_run_to j (omega arith) (omega arith) in
+      let zero_before : is_zero (r.difference (s + j)) ≡ true = skipped j (omega arith) in
+      let inside : begins_line r (suc (s + j)) ≡ false = within j (omega arith) in
+      let k : s + suc j ≡ suc (s + j) = omega arith in
+      let opened : is_in_run r (suc (s + j)) ≡ true = rw (inside, before, zero_before) (either (is_zero (r.context (suc (s + j))))) in
+      ap (λ i. is_in_run r i) k ∙ opened
+    where
+      either : (b : Bool) → (b || true) ≡ true
+      either true = refl
+      either false = refl
+
+  pub skipped_to : (j : ℕ) → j < n → is_skipped r (s + j) ≡ true
+  skipped_to j h = let run : is_in_run r (s + j) ≡ true = in_run_to j (omega arith) (omega arith) in let z : is_zero (r.difference (s + j)) ≡ true = skipped j h in rw (run, z) refl
+
+  pub follows_to : (j : ℕ) → suc j ≤ n → suc j < left_in_line r s → follows_skipped r (suc (s + j)) ≡ true
+  unfolding follows_skipped
+  follows_to j h less =
+      let inside : begins_line r (suc (s + j)) ≡ false = within j (omega arith) in
+      let before : is_skipped r (s + j) ≡ true = skipped_to j (omega arith) in
+      rw (inside, before) refl
+
+  length_from : (m j count : ℕ) → j + m ≡ n → m ≤ count → (count ≡ m) ⊎ (is_skipped r (s + n) ≡ false) → skipped_among r count (s + j) ≡ m
+  unfolding skipped_among
+  length_from zero j zero sum enough end = refl
+  length_from zero j (suc count) sum enough end = ⊎_elim (λ a. absurd (omega arith))
+      (λ b. let k : s + n ≡ s + j = omega arith in let here : is_skipped r (s + j) ≡ false = ap (λ i. is_skipped r i) (sym k) ∙ b in rw here refl) end
+  length_from (suc m) j zero sum enough end = absurd (omega arith)
+  length_from (suc m) j (suc count) sum enough end =
+      let here : is_skipped r (s + j) ≡ true = skipped_to j (omega arith) in
+      let k : s + j + 1 ≡ s + (j + 1) = omega arith in
+      let ind : skipped_among r count (s + (j + 1)) ≡ m = length_from m (j + 1) count (omega arith) (omega arith) (⊎_elim (λ a. inl (omega arith)) (λ b. inr b) end) in
+      ap (λ t. cond t (suc (skipped_among r count (s + j + 1))) 0) here ∙ ap suc (ap (λ i. skipped_among r count i) k ∙ ind)
+
+  length_is : (left_in_line r s ≡ n) ⊎ (is_skipped r (s + n) ≡ false) → run_length r s ≡ n
+  length_is end = let k : s + 0 ≡ s = omega arith in ap (λ i. skipped_among r (left_in_line r s) i) (sym k) ∙ length_from n 0 (left_in_line r s) (omega arith) fits end
+
+  starts_here : starts_run r s ≡ true
+  starts_here = let run : is_in_run r s ≡ true = in_run_is r s ∙ rw zero_here refl in rw (run, fresh) refl
+
+  -- the run's bits, and then nothing for the samples that it skips
+  module _ (index next : ℕ) (run : List Bool) (spelled : SpellsRun n (left_in_line r s) index run next) (end : (left_in_line r s ≡ n) ⊎ (is_skipped r (s + n) ≡ false)) where
+    run_here : SpellsRun (run_length r s) (left_in_line r s) index run next
+    run_here = let is : n ≡ run_length r s = sym (length_is end) in subst (λ (k : ℕ). SpellsRun k (left_in_line r s) index run next) is spelled
+
+    pub run_to : (j : ℕ) → j < n → (front : List Bool) → SamplesSpell earlier r s front index → SamplesSpell earlier r (suc (s + j)) (front ++ run) next
+    unfolding SamplesSpell
+    run_to zero h front before =
+        let skip : is_skipped r s ≡ true = (let k : s + 0 ≡ s = omega arith in ap (λ i. is_skipped r i) (sym k) ∙ skipped_to 0 h) in
+        let k : s ≡ s + 0 = omega arith in
+        let here : SamplesSpell earlier r (suc s) (front ++ run) next = (
+          front,
+          run,
+          index,
+          refl,
+          before,
+          record {
+            run = run;
+            code = [];
+            joined = sym (append-nil run);
+            run_starts = λ t. run_here;
+            no_run_starts = λ t. absurd (let yes_there : starts_run r s ≡ true = starts_here in cc);
+            coded = λ t. absurd (let coded_not : is_coded r s ≡ false = ap not skip in cc);
+            not_coded = λ t. refl;
+          },
+        ) in
+        subst (λ (i : ℕ). SamplesSpell earlier r (suc i) (front ++ run) next) k here
+    run_to (suc j) h front before =
+        let follows : follows_skipped r (suc (s + j)) ≡ true = follows_to j (omega arith) (omega arith) in
+        let k : s + suc j ≡ suc (s + j) = omega arith in
+        let skip : is_skipped r (suc (s + j)) ≡ true = ap (λ i. is_skipped r i) (sym k) ∙ skipped_to (suc j) h in
+        let in_it : is_in_run r (suc (s + j)) ≡ true = (and_true (is_in_run r (suc (s + j))) (is_zero (r.difference (suc (s + j)))) skip).0 in
+        let no_start : starts_run r (suc (s + j)) ≡ false = rw (in_it, follows) refl in
+        let here : SamplesSpell earlier r (suc (suc (s + j))) (front ++ run) next = (
+          front ++ run,
+          [],
+          next,
+          sym (append-nil (front ++ run)),
+          run_to j (omega arith) front before,
+          record {
+            run = [];
+            code = [];
+            joined = refl;
+            run_starts = λ t. absurd cc;
+            no_run_starts = λ t. (refl, refl);
+            coded = λ t. absurd (let coded_not : is_coded r (suc (s + j)) ≡ false = ap not skip in cc);
+            not_coded = λ t. refl;
+          },
+        ) in
+        subst (λ (i : ℕ). SamplesSpell earlier r (suc i) (front ++ run) next) (sym k) here
+
+    -- the run takes the line to its end
+    pub run_end : (bits left rest : List Bool) → left_in_line r s ≡ n → Progress earlier r s bits index left → left ≡ run ++ rest → Progress earlier r (s + n) bits next rest
+    unfolding follows_skipped
+    run_end bits left rest whole p is =
+        let small : s % r.width < r.width = omega arith in
+        let last = n - 1 in
+        let k : suc (s + last) ≡ s + n = omega arith in
+        let spelled_on : SamplesSpell earlier r (suc (s + last)) (p.front ++ run) next = run_to last (omega arith) p.front p.spells in
+        let rows : s / r.width * r.width + s % r.width ≡ s = div-add-mod' s r.width in
+        let place : suc (s + last) ≡ s / r.width * r.width + r.width = omega (arith, rows) in
+        let column_0 : suc (s + last) % r.width ≡ 0 = ap (λ i. i % r.width) place ∙ mul-add-mod_self_right (s / r.width) r.width r.width ∙ mod_self r.width in
+        let line : begins_line r (suc (s + last)) ≡ true = rw column_0 refl in
+        let fresh_there : follows_skipped r (suc (s + last)) ≡ false = rw line refl in
+        record {
+          front = p.front ++ run;
+          begins = p.begins ∙ ap (λ l. p.front ++ l) is ∙ sym (append_assoc p.front run rest);
+          spells = subst (λ (i : ℕ). SamplesSpell earlier r i (p.front ++ run) next) k spelled_on;
+          fresh = subst (λ (i : ℕ). follows_skipped r i ≡ false) k fresh_there;
+        }
+
+    level_piece : (code : List Bool) → n < left_in_line r s → is_zero (r.difference (s + n)) ≡ false
+        → SpellsValue (state_before earlier r (context_number r (s + n)) (s + n)) (decoded_value true (r.difference (s + n))) code
+        → (front : List Bool) → SamplesSpell earlier r s front index → SamplesSpell earlier r (suc (s + n)) (front ++ (run ++ code)) next
+    unfolding SamplesSpell
+    level_piece code inside level coded front before =
+        let in_it : is_in_run r (s + n) ≡ true = in_run_to n (omega arith) inside in
+        let skip : is_skipped r (s + n) ≡ false = rw (in_it, level) refl in
+        let value : decoded_value true (r.difference (s + n)) ≡ value_at r (s + n) = rw in_it refl in
+        let coded' : SpellsValue (state_before earlier r (context_number r (s + n)) (s + n)) (value_at r (s + n)) code = subst (λ (v : ℤ). SpellsValue (state_before earlier r (context_number r (s + n)) (s + n)) v code) value coded in
+        ⊎_elim
+        (λ none.
+        let k : s ≡ s + n = omega arith in
+        let start : starts_run r (s + n) ≡ true = ap (λ i. starts_run r i) (sym k) ∙ starts_here in
+        let run_there : SpellsRun (run_length r (s + n)) (left_in_line r (s + n)) index run next = subst (λ (i : ℕ). SpellsRun (run_length r i) (left_in_line r i) index run next) k run_here in (
+          front,
+          run ++ code,
+          index,
+          refl,
+          subst (λ (i : ℕ). SamplesSpell earlier r i front index) k before,
+          record {
+            run = run;
+            code = code;
+            joined = refl;
+            run_starts = λ t. run_there;
+            no_run_starts = λ t. absurd cc;
+            coded = λ t. coded';
+            not_coded = λ t. absurd (let is : is_coded r (s + n) ≡ true = ap not skip in cc);
+          },
+        ))
+        (λ more.
+        let last = n - 1 in
+        let k : suc (s + last) ≡ s + n = omega arith in
+        let follows : follows_skipped r (s + n) ≡ true = ap (λ i. follows_skipped r i) (sym k) ∙ follows_to last (omega arith) (omega arith) in
+        let no_start : starts_run r (s + n) ≡ false = rw (in_it, follows) refl in
+        let spelled_on : SamplesSpell earlier r (suc (s + last)) (front ++ run) next = run_to last (omega arith) front before in (
+          front ++ run,
+          code,
+          next,
+          sym (append_assoc front run code),
+          subst (λ (i : ℕ). SamplesSpell earlier r i (front ++ run) next) k spelled_on,
+          record {
+            run = [];
+            code = code;
+            joined = refl;
+            run_starts = λ t. absurd cc;
+            no_run_starts = λ t. (refl, refl);
+            coded = λ t. coded';
+            not_coded = λ t. absurd (let is : is_coded r (s + n) ≡ true = ap not skip in cc);
+          },
+        ))
+        (let some_or : (n < 1) ⊎ (1 ≤ n) = cases_lt n 1 in some_or)
+
+    -- a level ends the run
+    pub run_level : (bits left code rest : List Bool) → n < left_in_line r s → is_zero (r.difference (s + n)) ≡ false
+        → SpellsValue (state_before earlier r (context_number r (s + n)) (s + n)) (decoded_value true (r.difference (s + n))) code
+        → Progress earlier r s bits index left → left ≡ run ++ (code ++ rest) → Progress earlier r (suc (s + n)) bits next rest
+    run_level bits left code rest inside level coded p is =
+        let in_it : is_in_run r (s + n) ≡ true = in_run_to n (omega arith) inside in
+        record {
+          front = p.front ++ (run ++ code);
+          begins = p.begins ∙ ap (λ l. p.front ++ l) (is ∙ sym (append_assoc run code rest)) ∙ sym (append_assoc p.front (run ++ code) rest);
+          spells = level_piece code inside level coded p.front p.spells;
+          fresh = not_skipped_behind r (s + n) (rw (in_it, level) refl);
+        }

@@ -1,0 +1,93 @@
+-- A tile's picture, and the content of a slice that spells it (RFC 9043, sections 3.8.2 and 4.5 to 4.8).
+use Rattle.std.specs.Prelude.{◌≡◌, ℕ, zero, suc, ◌<◌, ◌==◌, Bool, List, [], ◌∷◌, ◌++◌, length, map, drop, ℤ, slice_index_or, if◌then◌else◌}
+use Rattle.ffv1_bits.specs.Bits.{bits_of}
+use Rattle.ffv1_range.specs.Header.{IsHeadOf, header_limits}
+use Rattle.ffv1_range.specs.Setup.{SetupValue, IsInProfile, set_entry}
+use Rattle.ffv1_range.specs.Tiles.{grid_of, plane_count, plane_rect, tile_count}
+use Rattle.ffv1_range.specs.declared.grid.TileRect.{TileRect}
+use Rattle.ffv1_range.specs.declared.head.SliceHead.{SliceHead}
+use Rattle.ffv1_plane.specs.Samples.{Plane, plane_of, IsPlaneOfSize}
+use Rattle.ffv1_plane.specs.Spelling.{PlaneSpells, values_after}
+
+-- The planes Y, or Y, Cb and Cr, each row by row, and how many bits stand behind the last code.
+pub record PictureValue : Type 0 where
+  pub planes : List (List ℕ)
+  pub spare_bits : ℕ
+
+abbrev pub samples_of : List (List ℕ) → ℕ → List ℕ
+samples_of planes plane = slice_index_or planes plane []
+
+-- ---- the planes of a tile
+
+-- The samples fill the rectangle, a byte each.
+abbrev pub IsPlaneIn : TileRect → List ℕ → Type 0
+IsPlaneIn rect samples = IsPlaneOfSize rect.w rect.h samples
+
+-- The planes are those of a tile: as many as the setup has, each of the size that the tile has in it.
+pub record ArePlanesOf (setup : SetupValue) (tile : ℕ) (planes : List (List ℕ)) : Type 0 where
+  pub count : length planes ≡ plane_count (grid_of setup)
+  pub sizes : (plane : ℕ) → plane < plane_count (grid_of setup) → IsPlaneIn (plane_rect (grid_of setup) tile plane) (samples_of planes plane)
+
+-- Y is coded by the header's first set of tables, Cb and Cr by its second.
+abbrev pub plane_set : SliceHead → ℕ → ℕ
+plane_set head zero = head.table_y
+plane_set head (suc plane) = head.table_c
+
+-- these samples as plane number `plane` of a header's tile
+abbrev pub shaped_plane : SetupValue → SliceHead → ℕ → List ℕ → Plane
+shaped_plane setup head plane samples = plane_of (plane_rect (grid_of setup) head.tile plane).w (set_entry setup (plane_set head plane)) samples
+
+abbrev pub tile_plane : SetupValue → SliceHead → List (List ℕ) → ℕ → Plane
+tile_plane setup head planes plane = shaped_plane setup head plane (samples_of planes plane)
+
+-- ---- the bits of a picture
+
+-- the planes that share adaptive states: Y has its own, Cb and Cr have some together
+abbrev pub plane_groups : Bool → List (List ℕ)
+plane_groups has_chroma = if has_chroma then (0 ∷ []) ∷ (1 ∷ 2 ∷ []) ∷ [] else (0 ∷ []) ∷ []
+
+-- no values were coded yet
+abbrev pub no_values : ℕ → List ℤ
+no_values context = []
+
+-- the bits of some planes that share states, one plane after the other, behind earlier values
+abbrev pub PlanesSpell : (ℕ → List ℤ) → List Plane → List Bool → Type 0
+PlanesSpell earlier [] bits = bits ≡ []
+PlanesSpell earlier (plane ∷ planes) bits =
+    (front : List Bool) × (back : List Bool) × (bits ≡ front ++ back) × PlaneSpells earlier plane front × PlanesSpell (values_after earlier plane) planes back
+
+-- the bits of some groups, whose states start anew
+abbrev pub GroupsSpell : List (List Plane) → List Bool → Type 0
+GroupsSpell [] bits = bits ≡ []
+GroupsSpell (group ∷ groups) bits =
+    (front : List Bool) × (back : List Bool) × (bits ≡ front ++ back) × PlanesSpell no_values group front × GroupsSpell groups back
+
+-- the bits of a whole picture: the states start anew in each slice
+abbrev pub PictureSpells : SetupValue → SliceHead → List (List ℕ) → List Bool → Type 0
+PictureSpells setup head planes bits = GroupsSpell (map (map (tile_plane setup head planes)) (plane_groups setup.has_chroma)) bits
+
+-- The picture of a tile that the content of its slice spells: a header of that tile, the payload's first where the tile is
+-- 0, then the bits of the planes, and then spare bits.
+pub record IsPictureOf (setup : SetupValue) (tile : ℕ) (content : List ℕ) (picture : PictureValue) : Type 0 where
+  pub head : SliceHead
+  pub place : ℕ
+  pub is_head : IsHeadOf (header_limits setup) content (tile == 0) head place
+  pub of_tile : head.tile ≡ tile
+  pub planes : ArePlanesOf setup tile picture.planes
+  pub words : List Bool
+  pub spare : List Bool
+  pub begins : bits_of (drop place content) ≡ words ++ spare
+  pub spells : PictureSpells setup head picture.planes words
+  pub spare_bits : picture.spare_bits ≡ length spare
+
+-- ---- laws
+
+-- No bits begin with the spellings of two pictures of a tile, nor with two spellings of one; so a content has one picture.
+pub record OneReading : Type 0 where
+  pub planes :
+      (setup : SetupValue) (head : SliceHead) (planes others : List (List ℕ)) (words more rest tail : List Bool) → IsInProfile setup → head.tile < tile_count (grid_of setup)
+      → ArePlanesOf setup head.tile planes → ArePlanesOf setup head.tile others → PictureSpells setup head planes words → PictureSpells setup head others more
+      → words ++ rest ≡ more ++ tail → (planes ≡ others) × (rest ≡ tail)
+  pub pictures :
+      (setup : SetupValue) (tile : ℕ) (content : List ℕ) (picture other : PictureValue) → IsInProfile setup → tile < tile_count (grid_of setup)
+      → IsPictureOf setup tile content picture → IsPictureOf setup tile content other → picture ≡ other

@@ -1,0 +1,14 @@
+//! The picture of a tile, from the content of its slice (RFC 9043, sections 3.1 to 3.5, 3.8.2 and 4.7).
+#![tactic(auto)]
+
+mod neighbours;
+mod plane;
+mod run;
+mod tile;
+
+pub use tile::{TileFault, TilePicture, decode_tile, one_reading};
+
+#[cfg(test)]
+mod recorded;
+#[cfg(test)]
+mod tests;

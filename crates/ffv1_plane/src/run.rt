@@ -1,0 +1,34 @@
+//! A whole run of samples that are what is predicted of them (RFC 9043, section 3.8.2.2.1).
+ghost use Rattle.std.specs.Prelude.{◌≤◌, IfOk, OnErr};
+ghost use Rattle.ffv1_plane.specs.Progress.{IsRunRead, IsNoRun};
+
+use ffv1_bits::Bits;
+use ffv1_rice::{CodeFault, RunIndex, RunWord};
+
+/// A run that can't be read to its end.
+#[derive(Drop)]
+pub(crate) struct CutRun {
+    pub(crate) fault: CodeFault,
+    /// How many of its samples were read before the word that can't be.
+    pub(crate) skipped: u32,
+}
+
+/// How many samples the next run skips, in a line with `left` samples to come.
+#[tactic(auto, using(crate::proofs::Runs::begin_run, crate::proofs::Runs::full_length, crate::proofs::Runs::more_run, crate::proofs::Runs::rest_run, crate::proofs::Runs::end_run, crate::proofs::Runs::line_run, crate::proofs::Runs::cut_run))]
+pub(crate) fn read_run(index: &mut RunIndex, bits: &mut Bits, left: u32) -> Result<u32, CutRun>
+    requires some_left { 1 ≤ left }
+    requires few_left { left ≤ 16384 }
+    ensures ok { IfOk result (λ n. IsRunRead left index.old bits.old.left n index.new bits.new.left) }
+    ensures err { OnErr result (IsNoRun left index.old bits.old.left) }
+{
+    let mut skipped = 0;
+    while skipped < left {
+        match index.read(bits, left - skipped) {
+            Ok(RunWord::Full(n)) => skipped += n,
+            Ok(RunWord::Rest(n)) => return Ok(skipped + n),
+            Ok(RunWord::ToEnd) => return Ok(left),
+            Err(fault) => return Err(CutRun { fault, skipped }),
+        }
+    }
+    Ok(skipped)
+}

@@ -1,0 +1,246 @@
+//! The picture of a tile, from the content of its slice (RFC 9043, sections 4.5 to 4.8).
+//!
+//! Planes stand in the order Y, Cb, Cr, and a gray tile has Y alone. The adaptive states start anew in each slice: there
+//! are some for Y, and some for Cb and Cr together. Bits after the last sample are counted and ignored.
+ghost use Rattle.std.specs.Prelude.{◌≡◌, ◌≢◌, ◌<◌, ◌≤◌, ◌^◌, ◌==◌, ℕ, Err, length, map, IfOk, IfErr, MatchResult, ◌⊎◌};
+ghost use Rattle.ffv1_range.specs.Setup.{IsInProfile, set_contexts, set_entry};
+ghost use Rattle.ffv1_range.specs.Tiles.{grid_of, tile_count, plane_count, plane_rect};
+ghost use Rattle.ffv1_plane.specs.Progress.{AreStatesAfter, IsPlaneRead, IsNoPlane};
+ghost use Rattle.ffv1_plane.specs.Picture.{PictureValue, IsPictureOf, IsPlaneIn, plane_set, no_values, OneReading};
+ghost use Rattle.ffv1_plane.specs.Groups.{IsLumaRead, IsNoLuma, IsChromaRead, IsNoChroma, ArePlanesRead, AreNoPlanes};
+ghost use Rattle.ffv1_plane.specs.Views.{picture_value, IsOfCode};
+ghost use Rattle.ffv1_range.specs.Header.{IsHeadOf, header_limits, head_read};
+ghost use Rattle.ffv1_range.specs.declared.head.HeadFault.{HeadFault};
+ghost use Rattle.ffv1_range.specs.declared.head.SliceHead.{SliceHead};
+ghost use Rattle.ffv1_plane.specs.declared.tile.TileFault.TheVariants as TileFault;
+
+use crate::plane::{PlaneFault, decode_plane};
+use ffv1_bits::Bits;
+use ffv1_range::{HeadFault, Setup, SliceHead, read_head};
+use ffv1_rice::{CodeFault, VlcState};
+use std::alloc::{AllocError, AllocFailed, Global};
+
+/// Why a slice's content gives no picture of a tile.
+#[derive(Clone, Copy, Debug, PartialEq, Eq)]
+pub enum TileFault {
+    /// The content has no header of the profile.
+    Head(HeadFault),
+    /// The header is that of another tile.
+    OtherTile,
+    /// A run word or a code can't be read. The place is the sample at which it begins: its plane (0 is Y, 1 is Cb, 2 is
+    /// Cr), its row and its column, counted from the tile's first.
+    Code {
+        fault: CodeFault,
+        plane: usize,
+        y: usize,
+        x: usize,
+    },
+    /// A growth of memory was refused.
+    Memory,
+}
+
+impl From<HeadFault> for TileFault {
+    ghost use Rattle.std.specs.Prelude.{◌≡◌};
+    ghost use Rattle.ffv1_plane.specs.declared.tile.TileFault.TheVariants.{Head};
+
+    ghost from_gives = { λ fault result. result ≡ Head fault };
+
+    fn from(fault: HeadFault) -> TileFault {
+        TileFault::Head(fault)
+    }
+}
+
+impl From<AllocError> for TileFault {
+    ghost use Rattle.std.specs.Prelude.{◌≡◌};
+    ghost use Rattle.ffv1_plane.specs.declared.tile.TileFault.TheVariants.{Memory};
+
+    ghost from_gives = { λ error result. result ≡ Memory };
+
+    fn from(_error: AllocError) -> TileFault {
+        TileFault::Memory
+    }
+}
+
+impl<T: Drop> From<AllocFailed<T>> for TileFault {
+    ghost use Rattle.std.specs.Prelude.{◌≡◌};
+    ghost use Rattle.ffv1_plane.specs.declared.tile.TileFault.TheVariants.{Memory};
+
+    ghost from_gives = { λ error result. result ≡ Memory };
+
+    fn from(_error: AllocFailed<T>) -> TileFault {
+        TileFault::Memory
+    }
+}
+
+/// The picture of a tile.
+#[derive(Debug, Drop)]
+pub struct TilePicture {
+    /// Y, or Y, Cb and Cr: a byte a sample, row by row.
+    pub planes: Vec<Vec<u8>>,
+    /// How many bits of the content stand after those of the last sample.
+    pub spare_bits: usize,
+}
+
+/// Decodes the tile of this number, counted from 0 row by row, from the content of its slice, that is the slice without
+/// its footer (RFC 9043, sections 4.5 to 4.8). The number has to be under the number of tiles, and the content has at
+/// most 2^30 bytes; that of tile 0 is read as the payload's first, with a keyframe bit before its header.
+///
+/// Refused with `Head` where the content has no header of the profile, then `OtherTile` where the header is that of
+/// another tile, then `Code` where the bits behind it spell no picture; `Memory` comes where a growth was refused. A
+/// picture takes memory for its planes and, while they are decoded, for the adaptive states of Y, then of Cb and Cr.
+pub fn decode_tile(
+    alloc: Global,
+    setup: &Setup,
+    index: usize,
+    content: &[u8],
+) -> Result<TilePicture, TileFault>
+    requires tile { index < tile_count (grid_of setup.now) }
+    requires content { length content.now ≤ 2 ^ 30 }
+
+    // The answer is the picture that the content spells.
+    ensures ok { IfOk result (λ picture. IsPictureOf setup.now index content.now (picture_value picture)) }
+
+    // Wherever the content spells a picture, that is the answer, or want of memory.
+    ensures found { (picture : PictureValue) → IsPictureOf setup.now index content.now picture → MatchResult result (λ read. picture_value read ≡ picture) (λ fault. fault ≡ TileFault.Memory) }
+
+    // A content without a header of the profile is refused for the header's first fault ..
+    ensures head { (fault : HeadFault) → head_read (header_limits setup.now) content.now (index == 0) ≡ Err fault → result ≡ Err (TileFault.Head fault) }
+
+    // .. one with a header of another tile for that ..
+    ensures other { (head : SliceHead) (place : ℕ) → IsHeadOf (header_limits setup.now) content.now (index == 0) head place → head.tile ≢ index → result ≡ Err TileFault.OtherTile }
+
+    // .. and one with a header of this tile for what follows it, or for want of memory.
+    ensures code { (head : SliceHead) (place : ℕ) → IsHeadOf (header_limits setup.now) content.now (index == 0) head place → head.tile ≡ index → IfErr result (λ fault. (fault ≡ TileFault.Memory) ⊎ IsOfCode fault) }
+{
+    setup.keeps_profile();
+    let (head, place) = read_head(setup, content, index == 0)?;
+    if head.tile != index {
+        return Err(TileFault::OtherTile);
+    }
+    let mut bits = Bits::new(&content[place..]);
+    let planes = decode_planes(alloc, setup, &head, &mut bits)?;
+    let spare_bits = bits.left();
+    Ok(TilePicture { planes, spare_bits })
+}
+
+/// Decodes the planes of a tile.
+fn decode_planes(
+    alloc: Global,
+    setup: &Setup,
+    head: &SliceHead,
+    bits: &mut Bits,
+) -> Result<Vec<Vec<u8>>, TileFault>
+    requires profile { IsInProfile setup.now }
+    requires tile { head.now.tile < tile_count (grid_of setup.now) }
+    requires luma_table { head.now.table_y < length setup.now.sets }
+    requires chroma_table { head.now.table_c < length setup.now.sets }
+    ensures ok { IfOk result (λ planes. ArePlanesRead setup.now head.now bits.old.left (map (λ plane. plane.items) planes.items) bits.new.left) }
+    ensures err { IfErr result (λ fault. (fault ≡ TileFault.Memory) ⊎ (IsOfCode fault × AreNoPlanes setup.now head.now bits.old.left)) }
+{
+    let luma = decode_luma(alloc, setup, head, bits)?;
+    if setup.has_chroma() {
+        let (cb, cr) = decode_chroma(alloc, setup, head, bits)?;
+        Ok(vec![in alloc; luma, cb, cr]?)
+    } else {
+        Ok(vec![in alloc; luma]?)
+    }
+}
+
+/// Decodes plane Y, whose states start anew.
+fn decode_luma(
+    alloc: Global,
+    setup: &Setup,
+    head: &SliceHead,
+    bits: &mut Bits,
+) -> Result<Vec<u8>, TileFault>
+    requires profile { IsInProfile setup.now }
+    requires tile { head.now.tile < tile_count (grid_of setup.now) }
+    requires luma_table { head.now.table_y < length setup.now.sets }
+    requires chroma_table { head.now.table_c < length setup.now.sets }
+    ensures ok { IfOk result (λ samples. IsLumaRead setup.now head.now bits.old.left samples.items bits.new.left) }
+    ensures err { IfErr result (λ fault. (fault ≡ TileFault.Memory) ⊎ (IsOfCode fault × IsNoLuma setup.now head.now bits.old.left)) }
+{
+    let mut states = start_states(alloc, setup, head.table_y)?;
+    decode_plane_of(alloc, setup, head, 0, &mut states, bits)
+}
+
+/// Decodes the planes Cb and Cr. Their states start anew before Cb, and Cr goes on with them.
+fn decode_chroma(
+    alloc: Global,
+    setup: &Setup,
+    head: &SliceHead,
+    bits: &mut Bits,
+) -> Result<(Vec<u8>, Vec<u8>), TileFault>
+    requires profile { IsInProfile setup.now }
+    requires tile { head.now.tile < tile_count (grid_of setup.now) }
+    requires luma_table { head.now.table_y < length setup.now.sets }
+    requires chroma_table { head.now.table_c < length setup.now.sets }
+    requires chroma { plane_count (grid_of setup.now) ≡ 3 }
+    ensures ok { IfOk result (λ planes. IsChromaRead setup.now head.now bits.old.left planes.0.items planes.1.items bits.new.left) }
+    ensures err { IfErr result (λ fault. (fault ≡ TileFault.Memory) ⊎ (IsOfCode fault × IsNoChroma setup.now head.now bits.old.left)) }
+{
+    let mut states = start_states(alloc, setup, head.table_c)?;
+    let cb = decode_plane_of(alloc, setup, head, 1, &mut states, bits)?;
+    let cr = decode_plane_of(alloc, setup, head, 2, &mut states, bits)?;
+    Ok((cb, cr))
+}
+
+/// The start state for each context of a set.
+fn start_states(alloc: Global, setup: &Setup, set: usize) -> Result<Vec<VlcState>, AllocError>
+    requires { set < length setup.now.sets }
+    ensures len { IfOk result (λ states. length states.items ≡ set_contexts setup.now set) }
+    ensures fresh { IfOk result (λ states. AreStatesAfter no_values states.items) }
+{
+    vec![in alloc; VlcState::start(); setup.contexts(set) as usize]
+}
+
+/// Decodes one plane of a tile, with the states that those before it have left.
+fn decode_plane_of(
+    alloc: Global,
+    setup: &Setup,
+    head: &SliceHead,
+    plane: usize,
+    states: &mut Vec<VlcState>,
+    bits: &mut Bits,
+) -> Result<Vec<u8>, TileFault>
+    requires profile { IsInProfile setup.now }
+    requires tile { head.now.tile < tile_count (grid_of setup.now) }
+    requires plane { plane < plane_count (grid_of setup.now) }
+    requires luma_table { head.now.table_y < length setup.now.sets }
+    requires chroma_table { head.now.table_c < length setup.now.sets }
+    requires contexts { length states.old.items ≡ set_contexts setup.now (plane_set head.now plane) }
+    ensures len { length states.new.items ≡ length states.old.items }
+    ensures size { IfOk result (λ samples. IsPlaneIn (plane_rect (grid_of setup.now) head.now.tile plane) samples.items) }
+    ensures read { IfOk result (λ samples. IsPlaneRead (plane_rect (grid_of setup.now) head.now.tile plane).w (plane_rect (grid_of setup.now) head.now.tile plane).h (set_entry setup.now (plane_set head.now plane)) states.old.items bits.old.left samples.items states.new.items bits.new.left) }
+    ensures err { IfErr result (λ fault. (fault ≡ TileFault.Memory) ⊎ (IsOfCode fault × IsNoPlane (plane_rect (grid_of setup.now) head.now.tile plane).w (plane_rect (grid_of setup.now) head.now.tile plane).h (set_entry setup.now (plane_set head.now plane)) states.old.items bits.old.left)) }
+{
+    let rect = setup.grid().plane_rect(head.tile, plane);
+    let (width, height) = (rect.w as usize, rect.h as usize);
+    let set = table_set(head, plane);
+    match decode_plane(alloc, width, height, setup, set, states, bits) {
+        Ok(samples) => Ok(samples),
+        Err(PlaneFault::Memory) => Err(TileFault::Memory),
+        Err(PlaneFault::Code { fault, sample }) => Err(TileFault::Code {
+            fault,
+            plane,
+            y: sample / width,
+            x: sample % width,
+        }),
+    }
+}
+
+/// The set of tables of a plane: Y has the header's first, Cb and Cr have its second.
+fn table_set(head: &SliceHead, plane: usize) -> usize
+    ensures { result ≡ plane_set head.now plane }
+{
+    if plane == 0 {
+        head.table_y
+    } else {
+        head.table_c
+    }
+}
+
+/// No bits begin with the spellings of two pictures of a tile, and a content has one picture.
+pub fn one_reading()
+    ensures { OneReading }
+{}
