@@ -1,0 +1,14 @@
+-- The bytes that a number was read from are its bytes.
+use Rattle.std.proofs.Common.{◌≡◌, ℕ, List, length}
+use Rattle.std.proofs.lemmas.Nat.{be_bytes_2, be_bytes_4}
+use Rattle.std.specs.Int.{w16, w32, from_be_bytes}
+use Rattle.ffv1_hold.specs.Reading.{AreBytes}
+use Rattle.ffv1_hold.specs.HoldingText.{be2, be4}
+
+pub be2_of : (bs : List ℕ) (n : ℕ) → length bs ≡ 2 → AreBytes bs → n ≡ from_be_bytes w16 bs → be2 n ≡ bs
+unfolding be2
+be2_of bs n len bytes e = be_bytes_2 bs n len bytes e
+
+pub be4_of : (bs : List ℕ) (n : ℕ) → length bs ≡ 4 → AreBytes bs → n ≡ from_be_bytes w32 bs → be4 n ≡ bs
+unfolding be4
+be4_of bs n len bytes e = be_bytes_4 bs n len bytes e

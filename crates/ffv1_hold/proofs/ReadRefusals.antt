@@ -1,0 +1,78 @@
+-- What a call that failed says, after bytes that an earlier call took.
+use Rattle.std.proofs.Common.{ℕ, ◌≤◌, List, [], ◌∷◌, ◌++◌, Option, arith, inl, inr, subst, sym, append_assoc, length-append}
+use Rattle.std.specs.Io.KnownBytes.{Consumes}
+use Rattle.std.proofs.KnownBytes.{Consumes-nil, Consumes-trans}
+use Rattle.ffv1_hold.specs.declared.file_fault.HoldFileFault.{HoldFileFault}
+use Rattle.ffv1_hold.specs.declared.file_fault.HoldFileFault.TheVariants as faults
+use Rattle.ffv1_hold.specs.Reading.{Takes, EndsIn, ShowsIn, PassesIn, GoesOnIn, Refuses}
+
+pub Takes-nil : (a : Option (List ℕ)) (n : ℕ) → n ≤ 2147483648 → Takes a a n n []
+Takes-nil a n h = record { taken = Consumes-nil a; moved = omega arith; within = h }
+
+pub Takes-trans : (a b c : Option (List ℕ)) (i j k : ℕ) (xs ys : List ℕ) → Takes a b i j xs → Takes b c j k ys → Takes a c i k (xs ++ ys)
+Takes-trans a b c i j k xs ys p q = record {
+  taken = Consumes-trans a b c xs ys p.taken q.taken;
+  moved = omega (arith, p.moved, q.moved, length-append xs ys);
+  within = q.within;
+}
+
+EndsIn-after : (P P' : List ℕ → Type 0) (a b c : Option (List ℕ)) (i j : ℕ) (xs : List ℕ) → Takes a b i j xs → ((s : List ℕ) → P s → P' (xs ++ s)) → EndsIn P b c j → EndsIn P' a c i
+EndsIn-after P P' a b c i j xs t more e = record {
+  seen = xs ++ e.seen;
+  unfinished = more e.seen e.unfinished;
+  taken = Consumes-trans a b c xs e.seen t.taken e.taken;
+  at_end = e.at_end;
+  within = omega (arith, t.moved, e.within, length-append xs e.seen);
+}
+
+ShowsIn-after : (P P' : List ℕ → Type 0) (a b c : Option (List ℕ)) (i j : ℕ) (xs : List ℕ) → Takes a b i j xs → ((s : List ℕ) → P s → P' (xs ++ s)) → ShowsIn P b c j → ShowsIn P' a c i
+ShowsIn-after P P' a b c i j xs t more e = record {
+  seen = xs ++ e.seen;
+  shown = more e.seen e.shown;
+  taken = Consumes-trans a b c xs e.seen t.taken e.taken;
+  within = omega (arith, t.moved, e.within, length-append xs e.seen);
+}
+
+PassesIn-after : (P P' : List ℕ → Type 0) (a b c : Option (List ℕ)) (i j : ℕ) (xs : List ℕ) → Takes a b i j xs → ((s : List ℕ) → P s → P' (xs ++ s)) → PassesIn P b c j → PassesIn P' a c i
+PassesIn-after P P' a b c i j xs t more e = record {
+  seen = xs ++ e.seen;
+  more = e.more;
+  unfinished = more e.seen e.unfinished;
+  taken = subst (Consumes a c) (sym (append_assoc xs e.seen (e.more ∷ []))) (Consumes-trans a b c xs (e.seen ++ e.more ∷ []) t.taken e.taken);
+  at_limit = omega (arith, t.moved, e.at_limit, length-append xs e.seen);
+}
+
+GoesOnIn-after : (P P' : List ℕ → Type 0) (a b c : Option (List ℕ)) (i j : ℕ) (xs : List ℕ) → Takes a b i j xs → ((s : List ℕ) → P s → P' (xs ++ s)) → GoesOnIn P b c j → GoesOnIn P' a c i
+GoesOnIn-after P P' a b c i j xs t more e = record {
+  seen = xs ++ e.seen;
+  more = e.more;
+  whole = more e.seen e.whole;
+  taken = subst (Consumes a c) (sym (append_assoc xs e.seen (e.more ∷ []))) (Consumes-trans a b c xs (e.seen ++ e.more ∷ []) t.taken e.taken);
+  within = omega (arith, t.moved, e.within, length-append xs e.seen);
+}
+
+-- an earlier call took xs, and behind it the faults are those of P, W and Q
+pub Refuses-after : (P P' W W' : List ℕ → Type 0) (Q Q' : HoldFileFault → List ℕ → Type 0) (a b c : Option (List ℕ)) (i j : ℕ) (xs : List ℕ) (f : HoldFileFault)
+    → Takes a b i j xs → Refuses P W Q b c j f
+    → ((s : List ℕ) → P s → P' (xs ++ s)) → ((s : List ℕ) → W s → W' (xs ++ s)) → ((f : HoldFileFault) (s : List ℕ) → Q f s → Q' f (xs ++ s))
+    → Refuses P' W' Q' a c i f
+Refuses-after P P' W W' Q Q' a b c i j xs faults.Read t r p w q = tt
+Refuses-after P P' W W' Q Q' a b c i j xs faults.Memory t r p w q = tt
+Refuses-after P P' W W' Q Q' a b c i j xs faults.Write t r p w q = r
+Refuses-after P P' W W' Q Q' a b c i j xs faults.OtherReel t r p w q = r
+Refuses-after P P' W W' Q Q' a b c i j xs faults.Truncated t r p w q = EndsIn-after P P' a b c i j xs t p r
+Refuses-after P P' W W' Q Q' a b c i j xs faults.TooLong t (inl r) p w q = inl (ShowsIn-after _ _ a b c i j xs t (q faults.TooLong) r)
+Refuses-after P P' W W' Q Q' a b c i j xs faults.TooLong t (inr r) p w q = inr (PassesIn-after P P' a b c i j xs t p r)
+Refuses-after P P' W W' Q Q' a b c i j xs faults.Trailing t r p w q = GoesOnIn-after W W' a b c i j xs t w r
+Refuses-after P P' W W' Q Q' a b c i j xs faults.Magic t r p w q = ShowsIn-after _ _ a b c i j xs t (q faults.Magic) r
+Refuses-after P P' W W' Q Q' a b c i j xs (faults.Setup f) t r p w q = ShowsIn-after _ _ a b c i j xs t (q (faults.Setup f)) r
+Refuses-after P P' W W' Q Q' a b c i j xs faults.Tag t r p w q = ShowsIn-after _ _ a b c i j xs t (q faults.Tag) r
+Refuses-after P P' W W' Q Q' a b c i j xs faults.Order t r p w q = ShowsIn-after _ _ a b c i j xs t (q faults.Order) r
+Refuses-after P P' W W' Q Q' a b c i j xs faults.NotASlice t r p w q = ShowsIn-after _ _ a b c i j xs t (q faults.NotASlice) r
+
+-- the same faults, said of more
+pub Refuses-weaker : (P P' W W' : List ℕ → Type 0) (Q Q' : HoldFileFault → List ℕ → Type 0) (a c : Option (List ℕ)) (i : ℕ) (f : HoldFileFault)
+    → i ≤ 2147483648 → Refuses P W Q a c i f
+    → ((s : List ℕ) → P s → P' s) → ((s : List ℕ) → W s → W' s) → ((f : HoldFileFault) (s : List ℕ) → Q f s → Q' f s)
+    → Refuses P' W' Q' a c i f
+Refuses-weaker P P' W W' Q Q' a c i f h r p w q = Refuses-after P P' W W' Q Q' a a c i i [] f (Takes-nil a i h) r p w q

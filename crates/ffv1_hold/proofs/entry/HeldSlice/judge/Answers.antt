@@ -1,0 +1,14 @@
+use Rattle.std.proofs.Common.{ℕ, List, ◌==◌, refl, sym, ◌∙◌, subst}
+use Rattle.std.proofs.lemmas.Bool.{eq-eqb}
+use Rattle.ffv1_slice.specs.Slices.{IsSliceOf}
+use Rattle.ffv1_hold.specs.SliceOrder.{Entry}
+use Rattle.ffv1_hold.proofs.entry.HeldSlice.judge.Goals as goal
+
+-- a slice of its tile would have been read as that
+pub returns-then-ne-clause-err : goal.returns-then-ne-clause-err
+returns-then-ne-clause-err c = λ is.
+    let tile = c.self.inside.tile in
+    let own = subst (λ (e : Entry). IsSliceOf c.args.setup.now e.1 (e.0 == 0) e.0) (sym c.self.view_is) is in
+    let read = c.read_slice.ensures.only tile (subst (λ (bytes : List ℕ). IsSliceOf c.args.setup.now bytes (tile == 0) tile) (sym c.deref.ensures.value) own) in
+    let differs = rw (read, eq-eqb tile tile refl) at c.ne.ensures in
+    absurd (let both = sym c.if-ne.true ∙ differs in cc)

@@ -1,0 +1,10 @@
+use Rattle.std.proofs.Common.{sym, ◌∙◌}
+use Rattle.ffv1_hold.proofs.OneFault.{one_fault}
+use Rattle.ffv1_hold.proofs.OneInput.{one_input}
+use Rattle.ffv1_hold.proofs.laws.one_fault.Goals as goal
+
+pub returns-clause-input : goal.returns-clause-input
+returns-clause-input c = one_input
+
+pub returns-clause-beginnings : goal.returns-clause-beginnings
+returns-clause-beginnings c input seen rest others rest' f g one two a b = one_fault f g seen others rest rest' (sym one ∙ two) a b

@@ -1,0 +1,166 @@
+//! The entries of a holding file (own): slices with their footers (RFC 9043, section 4.9), and their tiles.
+ghost use Rattle.std.specs.Prelude.{◌≡◌, ◌≢◌, ◌+◌, ◌*◌, ◌^◌, ◌<◌, ◌≤◌, ◌↔◌, ◌==◌, [], ◌∷◌, ◌++◌, length, IsTrue, IfSome, IfNone, OnErr, OnOk, IfOk, IfErr};
+ghost use Rattle.ffv1_slice.specs.Slices.{IsSliceOf};
+ghost use Rattle.ffv1_hold.specs.Sets as set;
+ghost use Rattle.ffv1_hold.specs.Reading.{Takes, Refuses, Never, CountsRead};
+ghost use Rattle.ffv1_hold.specs.Contents.{IsEntryOf, AreEntriesOf, slice_limit};
+ghost use Rattle.ffv1_hold.specs.HoldingText.{body_text, entry_text, entries_text, file_limit};
+ghost use Rattle.ffv1_hold.specs.FileEntries.{Follows};
+ghost use Rattle.ffv1_hold.specs.FileFaults.{IsPartOfBody, IsPartOfEntry, BodyIsTooLong, EntryShows, IsPartOfEntries, EntriesShow, IsWrong};
+
+use crate::fields::read_field;
+use crate::file_fault::HoldFileFault;
+use crate::number::{read_bytes, read_u16, read_u32};
+use crate::streams::Source;
+use crate::tile_sets::TileSets;
+use ffv1_range::Setup;
+use ffv1_slice::read_slice;
+use std::alloc::Global;
+use std::cmp::Ordering;
+use std::marker::Model;
+
+/// The greatest length of a slice with its footer, in bytes.
+const SLICE_LIMIT: u32 = 16777223;
+
+/// A slice with its footer, and its tile.
+#[derive(Drop)]
+pub(crate) struct HeldSlice {
+    tile: u16,
+    bytes: Vec<u8>,
+}
+
+impl Model for HeldSlice {
+    ghost use Rattle.ffv1_hold.specs.SliceOrder.{Entry, coded_entry};
+
+    ghost Value = { Entry };
+
+    ghost coded = { coded_entry };
+
+    ghost view = { λ s. (s.tile, s.bytes.items) };
+}
+
+impl HeldSlice {
+    ghost use Rattle.ffv1_hold.specs.SliceOrder.{entry_cmp};
+
+    /// The order in a holding file: by tile, and then as byte slices compare.
+    fn compare(&self, other: &HeldSlice) -> Ordering
+        ensures { result ≡ entry_cmp self.now other.now }
+    {
+        let by_tile = self.tile.cmp(&other.tile);
+        by_tile.then_with(|| self.bytes.as_slice().cmp(other.bytes.as_slice()))
+    }
+
+    /// Whether it stands behind the last one, if there is one.
+    fn follows(&self, last: &Option<HeldSlice>) -> bool
+        ensures { IsTrue result ↔ Follows last.now self.now }
+    {
+        match last {
+            Some(last) => last.compare(self) == Ordering::Less,
+            None => true,
+        }
+    }
+
+    /// Whether it is a slice of its tile that stands behind the last one.
+    fn judge(&self, setup: &Setup, last: &Option<HeldSlice>) -> Result<(), HoldFileFault>
+        ensures slice { OnOk result (IsSliceOf setup.now self.now.1 (self.now.0 == 0) self.now.0) }
+        ensures place { OnOk result (Follows last.now self.now) }
+        ensures err { IfErr result (IsWrong setup.now last.now self.now) }
+    {
+        if read_slice(setup, &self.bytes, self.tile == 0) != Ok(self.tile as usize) {
+            return Err(HoldFileFault::NotASlice);
+        }
+        if !self.follows(last) {
+            return Err(HoldFileFault::Order);
+        }
+        Ok(())
+    }
+}
+
+/// Reads an entry behind its tag.
+fn read_body<S: Source>(
+    alloc: Global,
+    source: &mut S,
+    place: &mut u32,
+) -> Result<HeldSlice, HoldFileFault>
+    requires { place.old ≤ file_limit }
+    ensures ok { IfOk result (λ e. Takes (S.remaining source.old) (S.remaining source.new) place.old place.new (body_text e)) }
+    ensures tile { IfOk result (λ e. e.0 < 2 ^ 16) }
+    ensures fits { IfOk result (λ e. length e.1 ≤ slice_limit) }
+    ensures err { IfErr result (Refuses IsPartOfBody Never BodyIsTooLong
+        (S.remaining source.old) (S.remaining source.new) place.old) }
+    ensures failed { IfErr result (λ f. CountsRead f (S.failures source.old) (S.failures source.new)) }
+    ensures counted { S.failures source.old ≤ S.failures source.new }
+    ensures taken { OnOk result (S.taken source.new + place.old ≤ S.taken source.old + place.new) }
+    ensures most { OnErr result (S.taken source.new + place.old ≤ S.taken source.old + file_limit + 1) }
+{
+    let tile = read_u16(source, place)?;
+    let length = read_u32(source, place)?;
+    if length > SLICE_LIMIT {
+        return Err(HoldFileFault::TooLong);
+    }
+    let bytes = read_bytes(alloc, source, place, length)?;
+    Ok(HeldSlice { tile, bytes })
+}
+
+/// Reads the next entry, which follows the last one, or `None` at the end tag.
+fn read_entry<S: Source>(
+    alloc: Global,
+    source: &mut S,
+    place: &mut u32,
+    setup: &Setup,
+    last: &Option<HeldSlice>,
+) -> Result<Option<HeldSlice>, HoldFileFault>
+    requires { place.old ≤ file_limit }
+    ensures some { IfOk result (λ r. IfSome r (λ e. Takes (S.remaining source.old) (S.remaining source.new) place.old place.new (entry_text e))) }
+    ensures entry { IfOk result (λ r. IfSome r (λ e. IsEntryOf setup.now e × Follows last.now e)) }
+    ensures none { IfOk result (λ r. IfNone r (Takes (S.remaining source.old) (S.remaining source.new) place.old place.new (0 ∷ []))) }
+    ensures err { IfErr result (Refuses IsPartOfEntry Never (EntryShows setup.now last.now)
+        (S.remaining source.old) (S.remaining source.new) place.old) }
+    ensures failed { IfErr result (λ f. CountsRead f (S.failures source.old) (S.failures source.new)) }
+    ensures counted { S.failures source.old ≤ S.failures source.new }
+    ensures taken { OnOk result (S.taken source.new + place.old ≤ S.taken source.old + place.new) }
+    ensures most { OnErr result (S.taken source.new + place.old ≤ S.taken source.old + file_limit + 1) }
+{
+    let mut tag = [0u8; 1];
+    read_field(source, place, &mut tag)?;
+    match tag[0] {
+        0 => Ok(None),
+        1 => {
+            let slice = read_body(alloc, source, place)?;
+            slice.judge(setup, last)?;
+            Ok(Some(slice))
+        }
+        _ => Err(HoldFileFault::Tag),
+    }
+}
+
+/// Reads all entries, and the end tag.
+pub(crate) fn read_entries<S: Source>(
+    alloc: Global,
+    source: &mut S,
+    place: &mut u32,
+    setup: &Setup,
+    held: &mut TileSets,
+) -> Result<(), HoldFileFault>
+    requires place { place.old ≤ file_limit }
+    requires tiles { held.old.tiles ≡ setup.now.across * setup.now.down }
+    requires empty { held.old.slices ≡ set.empty }
+    ensures ok { OnOk result (Takes (S.remaining source.old) (S.remaining source.new) place.old place.new (entries_text (set.items held.new.slices) ++ 0 ∷ [])) }
+    ensures entries { OnOk result (AreEntriesOf setup.now held.new.slices) }
+    ensures tiles { OnOk result (held.new.tiles ≡ held.old.tiles) }
+    ensures err { IfErr result (Refuses (IsPartOfEntries setup.now) Never (EntriesShow setup.now)
+        (S.remaining source.old) (S.remaining source.new) place.old) }
+    ensures failed { IfErr result (λ f. CountsRead f (S.failures source.old) (S.failures source.new)) }
+    ensures counted { S.failures source.old ≤ S.failures source.new }
+    ensures taken { OnOk result (S.taken source.new + place.old ≤ S.taken source.old + place.new) }
+    ensures most { OnErr result (S.taken source.new + place.old ≤ S.taken source.old + file_limit + 1) }
+{
+    let mut last = None;
+    while let Some(slice) = read_entry(alloc, source, place, setup, &last)? {
+        let Ok(()) = held.insert(slice.tile as usize, &slice.bytes) else {
+            return Err(HoldFileFault::Memory);
+        };
+        last = Some(slice);
+    }
+    Ok(())
+}

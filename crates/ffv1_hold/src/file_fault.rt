@@ -1,0 +1,68 @@
+//! Why a holding file was not read or written (own).
+ghost use Rattle.std.specs.Prelude.{◌≡◌};
+ghost use Rattle.ffv1_hold.specs.declared.file_fault.HoldFileFault.TheVariants.{Memory, Read, Write};
+
+use crate::fields::{ReadFailed, WriteFailed};
+use ffv1_range::SetupFault;
+use std::alloc::{AllocError, AllocFailed};
+
+/// Why a holding file was not read or written.
+#[derive(Clone, Copy, Debug, PartialEq, Eq)]
+pub enum HoldFileFault {
+    /// The first eight bytes are other than `FFV1HLD` and the version 1.
+    Magic,
+    /// The record has no setup for the size. `Memory` is never this fault's cause.
+    Setup(SetupFault),
+    /// The input ends before the end tag.
+    Truncated,
+    /// A tag is neither 0 nor 1.
+    Tag,
+    /// An entry does not stand behind the one before it, in the order of tile and bytes.
+    Order,
+    /// An entry's bytes are no slice of its tile.
+    NotASlice,
+    /// A byte stands behind the end tag.
+    Trailing,
+    /// The source failed.
+    Read,
+    /// The sink failed.
+    Write,
+    /// A growth of memory was refused.
+    Memory,
+    /// The record has more than 2^24 bytes, an entry more than 16777223, or the file more than 2^31.
+    TooLong,
+    /// The other file is of another record, width or height.
+    OtherReel,
+}
+
+impl From<AllocError> for HoldFileFault {
+    ghost from_gives = { λ _ e. e ≡ Memory };
+
+    fn from(_refusal: AllocError) -> HoldFileFault {
+        HoldFileFault::Memory
+    }
+}
+
+impl<T: Drop> From<AllocFailed<T>> for HoldFileFault {
+    ghost from_gives = { λ _ e. e ≡ Memory };
+
+    fn from(_refusal: AllocFailed<T>) -> HoldFileFault {
+        HoldFileFault::Memory
+    }
+}
+
+impl From<ReadFailed> for HoldFileFault {
+    ghost from_gives = { λ _ e. e ≡ Read };
+
+    fn from(_failure: ReadFailed) -> HoldFileFault {
+        HoldFileFault::Read
+    }
+}
+
+impl From<WriteFailed> for HoldFileFault {
+    ghost from_gives = { λ _ e. e ≡ Write };
+
+    fn from(_failure: WriteFailed) -> HoldFileFault {
+        HoldFileFault::Write
+    }
+}

@@ -1,0 +1,76 @@
+//! What stands before the entries of a holding file (own): its name and version, the size and the configuration record (RFC
+//! 9043, section 4.3).
+ghost use Rattle.std.specs.Prelude.{◌≡◌, ◌+◌, ◌≤◌, ◌++◌, length, OnErr, OnOk, IfOk, IfErr};
+ghost use Rattle.ffv1_hold.specs.Reels.{IsReel};
+ghost use Rattle.ffv1_hold.specs.Reading.{Takes, Refuses, Never, CountsRead};
+ghost use Rattle.ffv1_hold.specs.HoldingText.{magic, sized_record, file_limit};
+ghost use Rattle.ffv1_hold.specs.FileFaults.{IsPartOfMagic, MagicShows, IsFileReel, IsPartOfReel, ReelShows};
+
+use crate::fields::read_full;
+use crate::file_fault::HoldFileFault;
+use crate::number::{read_bytes, read_u32};
+use crate::reel::Reel;
+use crate::streams::Source;
+use ffv1_range::SetupFault;
+use std::alloc::Global;
+
+/// What a holding file begins with: its name and version.
+const MAGIC: [u8; 8] = *b"FFV1HLD\x01";
+
+/// The greatest length of a record in a holding file, in bytes.
+pub(crate) const RECORD_LIMIT: u32 = 1 << 24;
+
+/// Reads the name and the version.
+pub(crate) fn read_magic<S: Source>(source: &mut S, place: &mut u32) -> Result<(), HoldFileFault>
+    requires { place.old ≡ 0 }
+    ensures ok { OnOk result (Takes (S.remaining source.old) (S.remaining source.new) place.old place.new magic) }
+    ensures err { IfErr result (Refuses IsPartOfMagic Never MagicShows
+        (S.remaining source.old) (S.remaining source.new) place.old) }
+    ensures failed { IfErr result (λ f. CountsRead f (S.failures source.old) (S.failures source.new)) }
+    ensures counted { S.failures source.old ≤ S.failures source.new }
+    ensures taken { OnOk result (S.taken source.new + place.old ≤ S.taken source.old + place.new) }
+    ensures most { OnErr result (S.taken source.new + place.old ≤ S.taken source.old + file_limit + 1) }
+{
+    let mut bytes = [0u8; 8];
+    let count = read_full(source, &mut bytes)?;
+    if bytes[..count] != MAGIC[..count] {
+        return Err(HoldFileFault::Magic);
+    }
+    if count < bytes.len() {
+        return Err(HoldFileFault::Truncated);
+    }
+    *place += count as u32;
+    Ok(())
+}
+
+/// Reads the size and the record, and judges them.
+pub(crate) fn read_reel<S: Source>(
+    alloc: Global,
+    source: &mut S,
+    place: &mut u32,
+) -> Result<Reel, HoldFileFault>
+    requires { place.old ≤ file_limit }
+    ensures ok { IfOk result (λ r. Takes (S.remaining source.old) (S.remaining source.new) place.old place.new (sized_record r.config r.setup.width r.setup.height)) }
+    ensures reel { IfOk result IsFileReel }
+    ensures err { IfErr result (Refuses IsPartOfReel Never ReelShows
+        (S.remaining source.old) (S.remaining source.new) place.old) }
+    ensures failed { IfErr result (λ f. CountsRead f (S.failures source.old) (S.failures source.new)) }
+    ensures counted { S.failures source.old ≤ S.failures source.new }
+    ensures taken { OnOk result (S.taken source.new + place.old ≤ S.taken source.old + place.new) }
+    ensures most { OnErr result (S.taken source.new + place.old ≤ S.taken source.old + file_limit + 1) }
+{
+    let width = read_u32(source, place)?;
+    let height = read_u32(source, place)?;
+    let length = read_u32(source, place)?;
+    if length > RECORD_LIMIT {
+        return Err(HoldFileFault::TooLong);
+    }
+    let config = read_bytes(alloc, source, place, length)?;
+    match Reel::read(alloc, config, width, height) {
+        Ok(reel) => Ok(reel),
+        Err(fault) => match fault {
+            SetupFault::Memory => Err(HoldFileFault::Memory),
+            _ => Err(HoldFileFault::Setup(fault)),
+        },
+    }
+}

@@ -1,0 +1,25 @@
+//! Laws of holdings and of their files (own), as contracts of functions that do nothing.
+ghost use Rattle.ffv1_hold.specs.Laws.{OneText, OneFault, OneShownFault, TextHasNoFault, TextShowsNoFault, CopiesHoldTheOriginal};
+
+/// Two holdings with one text are equal.
+pub fn one_text()
+    ensures { OneText }
+{}
+
+/// The text of a holding has no fault: no beginning of it shows one, and the whole text is no unfinished one.
+pub fn text_shows_no_fault()
+    ensures text { TextHasNoFault }
+    ensures beginnings { TextShowsNoFault }
+{}
+
+/// An input has one fault at most: it shows one, ends too early, passes the limit or goes on behind a text.
+pub fn one_fault()
+    ensures input { OneFault }
+    ensures beginnings { OneShownFault }
+{}
+
+/// Where every slice that is found in the copies is the original's for its tile, and each of the original's is found in some
+/// copy, the holding of the copies holds exactly the original's slices. With `restore`, it then answers the original.
+pub fn copies_hold_the_original()
+    ensures { CopiesHoldTheOriginal }
+{}

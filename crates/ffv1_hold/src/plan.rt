@@ -1,0 +1,161 @@
+//! Plans (own): which copies are taken, in which order and grouping, which holdings are joined, and which go through a file.
+ghost use Rattle.std.specs.Prelude.{◌≡◌, IfOk, IfErr, OnOk};
+ghost use Rattle.ffv1_range.specs.Setup.{IsSetupOf};
+ghost use Rattle.ffv1_hold.specs.TakeFaults.{AreShort};
+ghost use Rattle.ffv1_hold.specs.Contents.{holding_of, IsHolding};
+ghost use Rattle.ffv1_hold.specs.Saving.{IsTooLong};
+ghost use Rattle.ffv1_hold.specs.Plans.{copies_of, IsPlanFault, IsRereadFault, RereadsFit};
+ghost use Rattle.ffv1_hold.specs.Headline.{SameCopiesAreEqual};
+
+use crate::fault::HoldFault;
+use crate::file_fault::HoldFileFault;
+use crate::holding::Holding;
+use crate::join::Join;
+use crate::reading::read_hold;
+use crate::saving::write_hold;
+use crate::streams::{FromRead, FromWrite};
+use crate::take::TakeAllFault;
+use ffv1_range::SetupFault;
+use std::alloc::Global;
+
+/// How a holding comes to be. Every step is carried out for one record and size.
+#[derive(Drop)]
+pub enum Plan<'a> {
+    /// An empty holding.
+    New,
+    /// A copy is taken into what a plan gives.
+    Take(Box<Plan<'a>>, &'a [u8]),
+    /// Many copies are taken, one after the other.
+    TakeAll(Box<Plan<'a>>, &'a [&'a [u8]]),
+    /// What the second plan gives is joined into what the first gives.
+    Join(Box<Plan<'a>>, Box<Plan<'a>>),
+    /// What a plan gives is written to a holding file, and read from it again.
+    Reread(Box<Plan<'a>>),
+}
+
+/// Why a plan could not be carried out.
+#[derive(Clone, Copy, Debug, PartialEq, Eq)]
+pub enum PlanFault {
+    /// The record has no setup for the size, or there was no memory for it.
+    Setup(SetupFault),
+    /// A copy was not taken, or holdings not joined.
+    Hold(HoldFault),
+    /// A holding has no file, by `TooLong`, or there was no memory for it, by `Memory`.
+    File(HoldFileFault),
+}
+
+impl From<SetupFault> for PlanFault {
+    ghost use Rattle.std.specs.Prelude.{◌≡◌};
+    ghost use Rattle.ffv1_hold.specs.declared.plan.PlanFault.TheVariants.{Setup};
+
+    ghost from_gives = { λ f e. e ≡ Setup f };
+
+    fn from(fault: SetupFault) -> PlanFault {
+        PlanFault::Setup(fault)
+    }
+}
+
+impl From<HoldFault> for PlanFault {
+    ghost use Rattle.std.specs.Prelude.{◌≡◌};
+    ghost use Rattle.ffv1_hold.specs.declared.plan.PlanFault.TheVariants.{Hold};
+
+    ghost from_gives = { λ f e. e ≡ Hold f };
+
+    fn from(fault: HoldFault) -> PlanFault {
+        PlanFault::Hold(fault)
+    }
+}
+
+impl From<TakeAllFault> for PlanFault {
+    ghost use Rattle.std.specs.Prelude.{◌≡◌};
+    ghost use Rattle.ffv1_hold.specs.declared.plan.PlanFault.TheVariants.{Hold};
+
+    ghost from_gives = { λ f e. e ≡ Hold f.cause };
+
+    fn from(fault: TakeAllFault) -> PlanFault {
+        PlanFault::Hold(fault.cause)
+    }
+}
+
+impl From<HoldFileFault> for PlanFault {
+    ghost use Rattle.std.specs.Prelude.{◌≡◌};
+    ghost use Rattle.ffv1_hold.specs.declared.plan.PlanFault.TheVariants.{File};
+
+    ghost from_gives = { λ f e. e ≡ File f };
+
+    fn from(fault: HoldFileFault) -> PlanFault {
+        PlanFault::File(fault)
+    }
+}
+
+/// Carries a plan out. What is held then is exactly what is found in the plan's copies, however they are ordered, grouped
+/// or repeated. A refusal is that of the plan's first step that is refused, where all steps before it are carried out.
+pub fn run(
+    alloc: Global,
+    plan: &Plan<'_>,
+    config: &[u8],
+    width: u32,
+    height: u32,
+) -> Result<Holding, PlanFault>
+    ensures config { IfOk result (λ h. h.reel.config ≡ config.now) }
+    ensures setup { IfOk result (λ h. IsSetupOf config.now width height h.reel.setup) }
+    ensures meaning { IfOk result (λ h. h ≡ holding_of h.reel (copies_of plan.now)) }
+    ensures sound { IfOk result IsHolding }
+
+    ensures short { OnOk result (AreShort (copies_of plan.now)) }
+    ensures fits { IfOk result (λ h. RereadsFit h.reel plan.now) }
+    ensures fault { IfErr result (IsPlanFault config.now width height plan.now) }
+{
+    match plan {
+        Plan::New => Ok(Holding::new(alloc, config, width, height)?),
+        Plan::Take(before, copy) => {
+            let mut holding = run(alloc, before, config, width, height)?;
+            holding.take(copy)?;
+            Ok(holding)
+        }
+        Plan::TakeAll(before, copies) => {
+            let mut holding = run(alloc, before, config, width, height)?;
+            holding.take_all(copies)?;
+            Ok(holding)
+        }
+        Plan::Join(left, right) => {
+            let mut holding = run(alloc, left, config, width, height)?;
+            let other = run(alloc, right, config, width, height)?;
+            holding.join_with(&other)?;
+            Ok(holding)
+        }
+        Plan::Reread(before) => {
+            let holding = run(alloc, before, config, width, height)?;
+            Ok(reread(alloc, &holding)?)
+        }
+    }
+}
+
+// Writes a holding file to memory, and reads it again. `TooLong` comes exactly where the holding has none; the only other
+// refusal is `Memory`.
+fn reread(alloc: Global, holding: &Holding) -> Result<Holding, HoldFileFault>
+    requires { IsHolding holding.now }
+    ensures same { IfOk result (λ h. h ≡ holding.now) }
+    ensures fits { OnOk result (¬ IsTooLong holding.now) }
+    ensures fault { IfErr result (IsRereadFault holding.now) }
+{
+    let mut text = FromWrite::new(Vec::new(alloc));
+    match write_hold(holding, &mut text) {
+        Ok(()) => {}
+        Err(HoldFileFault::TooLong) => return Err(HoldFileFault::TooLong),
+        // No other device than memory was written.
+        Err(_) => return Err(HoldFileFault::Memory),
+    }
+    let text = text.into_inner();
+    match read_hold(alloc, &mut FromRead::new(text.as_slice())) {
+        Ok(read) => Ok(read),
+        // The text of a holding shows no fault, and no other device than memory was read.
+        Err(_) => Err(HoldFileFault::Memory),
+    }
+}
+
+/// Two plans of the same copies, carried out for one record and size, give equal holdings: so how each tile stands, how many
+/// slices it has and their least error_status are equal, and the holding files are, byte for byte.
+pub fn same_copies()
+    ensures { SameCopiesAreEqual }
+{}

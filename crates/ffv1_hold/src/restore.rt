@@ -1,0 +1,109 @@
+//! What a holding says of its tiles, and the payload that it restores (own). A slice's error_status is the byte of its footer
+//! behind the three of its size (RFC 9043, sections 4.9.1 and 4.9.2).
+ghost use Rattle.std.specs.Prelude.{◌≡◌, ◌<◌, ℕ, List, IfOk, IfErr, OnOk, OnErr};
+ghost use Rattle.ffv1_slice.specs.Slices.{IsOriginal};
+ghost use Rattle.ffv1_hold.specs.Sets as set;
+ghost use Rattle.ffv1_hold.specs.Reels.{tile_count};
+ghost use Rattle.ffv1_hold.specs.TileSets.{tile_slices};
+ghost use Rattle.ffv1_hold.specs.Standing.{tile_state, IsLeastStatus, AreSettled, restored_payload};
+ghost use Rattle.ffv1_hold.specs.TileStates.{standing_shown};
+ghost use Rattle.ffv1_hold.specs.Refusals.{IsRefusal};
+ghost use Rattle.ffv1_hold.specs.Originals.{HoldsExactly};
+
+use crate::holding::Holding;
+use crate::standing::{least_status, state};
+use crate::tile_state::TileState;
+use std::alloc::AllocError;
+
+/// Why there is no restored payload.
+#[derive(Clone, Copy, Debug, PartialEq, Eq)]
+pub enum RestoreFault {
+    /// No slice of this tile is held. No earlier tile is unsettled.
+    Missing(usize),
+    /// Several slices of this tile have the least error_status. No earlier tile is unsettled.
+    Disputed(usize),
+    /// A growth of memory was refused.
+    Memory,
+}
+
+impl From<AllocError> for RestoreFault {
+    ghost use Rattle.std.specs.Prelude.{◌≡◌};
+    ghost use Rattle.ffv1_hold.specs.declared.restore.RestoreFault.TheVariants.{Memory};
+
+    ghost from_gives = { λ _ e. e ≡ Memory };
+
+    fn from(_refusal: AllocError) -> RestoreFault {
+        RestoreFault::Memory
+    }
+}
+
+impl Holding {
+    /// How many slices are held, of all tiles.
+    pub fn size(&self) -> usize
+        ensures { result ≡ set.size self.now.slices }
+    {
+        self.held.size()
+    }
+
+    /// How many slices of a tile are held. Tiles count from 0, row by row of the grid; `tile` must be less than their number.
+    pub fn held(&self, tile: usize) -> usize
+        requires { tile < tile_count self.now.reel }
+        ensures { result ≡ set.size (tile_slices self.now.slices tile) }
+    {
+        self.held.of_tile(tile).len()
+    }
+
+    /// The least error_status (RFC 9043, section 4.9.2) of the slices that are held of a tile, or `None` where none is held.
+    /// `tile` must be less than the number of tiles.
+    pub fn status(&self, tile: usize) -> Option<u8>
+        requires { tile < tile_count self.now.reel }
+        ensures { IsLeastStatus (set.items (tile_slices self.now.slices tile)) result }
+    {
+        least_status(self.held.of_tile(tile))
+    }
+
+    /// How a tile stands, by its slices of the least error_status. `tile` must be less than the number of tiles.
+    pub fn state(&self, tile: usize) -> TileState<'_>
+        requires { tile < tile_count self.now.reel }
+        ensures { standing_shown result ≡ tile_state self.now tile }
+    {
+        state(self.held.of_tile(tile))
+    }
+
+    /// The settled slices, joined in tile order: the frame's payload.
+    ///
+    /// `Missing` or `Disputed` comes exactly where a tile is not settled, for the first such tile, before any growth. `Memory`
+    /// comes only where every tile is settled. The holding is unchanged in any case.
+    pub fn restore(&self) -> Result<Vec<u8>, RestoreFault>
+        ensures ok { IfOk result (λ payload. payload.items ≡ restored_payload self.now) }
+        ensures settled { OnOk result (AreSettled self.now) }
+        ensures refused { IfErr result (IsRefusal self.now) }
+
+        // Where just the original's slices are held, no answer is another payload, and the only refusal is `Memory`.
+        ensures original { (payload : List ℕ) (slices : List (List ℕ)) → IsOriginal self.now.reel.setup payload slices → HoldsExactly self.now slices → IfOk result (λ restored. restored.items ≡ payload) }
+        ensures original_settled { (payload : List ℕ) (slices : List (List ℕ)) → IsOriginal self.now.reel.setup payload slices → HoldsExactly self.now slices → OnErr result (result ≡ Err RestoreFault.Memory) }
+    {
+        for tile in 0..self.held.tiles() {
+            match self.state(tile) {
+                TileState::Settled(_) => {}
+                TileState::Missing => return Err(RestoreFault::Missing(tile)),
+                TileState::Disputed(_) => return Err(RestoreFault::Disputed(tile)),
+            }
+        }
+        self.joined_slices()
+    }
+
+    // The slices of the settled tiles, joined in tile order.
+    fn joined_slices(&self) -> Result<Vec<u8>, RestoreFault>
+        ensures ok { IfOk result (λ payload. payload.items ≡ restored_payload self.now) }
+        ensures memory { OnErr result (result ≡ Err RestoreFault.Memory) }
+    {
+        let mut payload = Vec::new(self.held.alloc());
+        for tile in 0..self.held.tiles() {
+            if let TileState::Settled(slice) = self.state(tile) {
+                payload.extend_from_slice(slice)?;
+            }
+        }
+        Ok(payload)
+    }
+}

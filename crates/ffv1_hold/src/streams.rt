@@ -1,0 +1,151 @@
+//! Devices that are read and written, and how often they failed (own).
+
+ghost use Rattle.std.specs.Prelude.{◌≡◌, ℕ, ◌+◌, ◌-◌, ◌^◌, ◌≤◌, min, List, Option, is_err, IfOk, OnErr};
+ghost use Rattle.std.specs.Io.{ReadsAtMost, WritesAtMost};
+ghost use Rattle.std.specs.Io.KnownBytes.{ReadConsumes, WriteAppends};
+ghost use Rattle.ffv1_hold.specs.Streams.{failures_after, takes_none, sum_to_limit};
+
+use std::io;
+use std::io::{Read, Write};
+
+/// What is read. Where its bytes are told, `remaining` is those that are left.
+pub trait Source {
+    ghost remaining: { Self → Option (List ℕ) };
+
+    // How many reads failed. At `u64::MAX` it rises no more.
+    ghost failures: { Self → ℕ };
+
+    // How many bytes were read, `u64::MAX` for more.
+    ghost taken: { Self → ℕ };
+
+    /// One try, which may be interrupted.
+    fn read(&mut self, buf: &mut [u8]) -> io::Result<usize>
+        ensures bound { ReadsAtMost result buf.new }
+        ensures bytes { ReadConsumes (remaining self.old) (remaining self.new) result buf.new }
+        ensures failures { failures self.new ≡ failures_after (is_err result) (failures self.old) }
+        ensures taken { IfOk result (λ n. taken self.new ≡ sum_to_limit (taken self.old) n) }
+        ensures none_taken { OnErr result (taken self.new ≡ taken self.old) };
+
+    /// How many tries failed, interrupted ones among them: `u64::MAX` for that many or more.
+    fn failures(&self) -> u64
+        ensures { result ≡ failures self.now };
+
+    /// How many bytes were read: `u64::MAX` for that many or more.
+    fn taken(&self) -> u64
+        ensures { result ≡ taken self.now };
+}
+
+/// What is written. Where its bytes are told, `contents` is those that it holds.
+pub trait Sink {
+    ghost contents: { Self → Option (List ℕ) };
+
+    // How many writes failed. At `u64::MAX` it rises no more.
+    ghost failures: { Self → ℕ };
+
+    /// One try, which may be interrupted. One of some bytes that takes none has failed.
+    fn write(&mut self, buf: &[u8]) -> io::Result<usize>
+        ensures bound { WritesAtMost result buf.now }
+        ensures bytes { WriteAppends (contents self.old) (contents self.new) result buf.now }
+        ensures failures { failures self.new ≡ failures_after (takes_none result buf.now) (failures self.old) };
+
+    /// How many tries failed, interrupted ones among them: `u64::MAX` for that many or more.
+    fn failures(&self) -> u64
+        ensures { result ≡ failures self.now };
+}
+
+/// A reader of std as a source, without a buffer.
+#[derive(Drop)]
+pub struct FromRead<R> {
+    reader: R,
+    failed_reads: u64,
+    taken: u64,
+}
+
+impl<R: Read> FromRead<R> {
+    /// The reader, with no failure and no byte counted yet.
+    pub fn new(reader: R) -> FromRead<R>
+        ensures bytes { ⟦<FromRead<R> as Source>⟧.remaining result ≡ R.remaining reader }
+        ensures failures { ⟦<FromRead<R> as Source>⟧.failures result ≡ 0 }
+        ensures taken { ⟦<FromRead<R> as Source>⟧.taken result ≡ 0 }
+    {
+        FromRead {
+            reader,
+            failed_reads: 0,
+            taken: 0,
+        }
+    }
+}
+
+impl<R: Read> Source for FromRead<R> {
+    ghost remaining = { λ s. R.remaining s.reader };
+
+    ghost failures = { λ s. s.failed_reads };
+
+    ghost taken = { λ s. s.taken };
+
+    fn read(&mut self, buf: &mut [u8]) -> io::Result<usize> {
+        let result = self.reader.read(buf);
+        match &result {
+            Ok(n) => self.taken = self.taken.saturating_add(*n as u64),
+            Err(_) => self.failed_reads = self.failed_reads.saturating_add(1),
+        }
+        result
+    }
+
+    fn failures(&self) -> u64 {
+        self.failed_reads
+    }
+
+    fn taken(&self) -> u64 {
+        self.taken
+    }
+}
+
+/// A writer of std as a sink, without a buffer.
+#[derive(Drop)]
+pub struct FromWrite<W> {
+    writer: W,
+    failed_writes: u64,
+}
+
+impl<W: Write> FromWrite<W> {
+    /// The writer, with no failure counted yet.
+    pub fn new(writer: W) -> FromWrite<W>
+        ensures bytes { ⟦<FromWrite<W> as Sink>⟧.contents result ≡ W.contents writer }
+        ensures failures { ⟦<FromWrite<W> as Sink>⟧.failures result ≡ 0 }
+    {
+        FromWrite {
+            writer,
+            failed_writes: 0,
+        }
+    }
+
+    /// The writer, with what was written to it.
+    pub fn into_inner(self) -> W
+        ensures { W.contents result ≡ ⟦<FromWrite<W> as Sink>⟧.contents self }
+    {
+        self.writer
+    }
+}
+
+impl<W: Write> Sink for FromWrite<W> {
+    ghost contents = { λ s. W.contents s.writer };
+
+    ghost failures = { λ s. s.failed_writes };
+
+    fn write(&mut self, buf: &[u8]) -> io::Result<usize> {
+        let result = self.writer.write(buf);
+        let failed = match &result {
+            Ok(n) => *n == 0 && !buf.is_empty(),
+            Err(_) => true,
+        };
+        if failed {
+            self.failed_writes = self.failed_writes.saturating_add(1);
+        }
+        result
+    }
+
+    fn failures(&self) -> u64 {
+        self.failed_writes
+    }
+}

@@ -1,0 +1,69 @@
+//! Whole fields to a sink (own).
+
+ghost use Rattle.std.specs.Prelude.{◌≡◌, ◌<◌, ◌≤◌, ◌++◌, length, take, IfOk, OnOk, OnErr};
+ghost use Rattle.std.specs.Io.{WritesAtMost};
+ghost use Rattle.std.specs.Io.KnownBytes.{Appends, Keeps};
+ghost use Rattle.ffv1_hold.specs.Streams.{HasFailed};
+ghost use Rattle.ffv1_hold.specs.Writing.{WritesFront};
+
+use crate::fields::{TRIES, WriteFailed};
+use crate::streams::Sink;
+use std::io::ErrorKind;
+
+/// One write, made again where it is interrupted.
+fn write_some<S: Sink>(sink: &mut S, bytes: &[u8]) -> Result<usize, WriteFailed>
+    requires { 0 < length bytes.now }
+    ensures bound { WritesAtMost result bytes.now }
+    ensures some { IfOk result (λ n. 0 < n) }
+    ensures ok { IfOk result (λ n. Appends (S.contents sink.old) (S.contents sink.new) (take n bytes.now)) }
+    ensures err { OnErr result (Keeps (S.contents sink.old) (S.contents sink.new)) }
+    ensures failed { OnErr result (HasFailed (S.failures sink.old) (S.failures sink.new)) }
+    ensures counted { S.failures sink.old ≤ S.failures sink.new }
+{
+    for _ in 0..TRIES {
+        match sink.write(bytes) {
+            Ok(0) => return Err(WriteFailed),
+            Ok(count) => return Ok(count),
+            Err(error) => {
+                if error.kind() != ErrorKind::Interrupted {
+                    return Err(WriteFailed);
+                }
+            }
+        }
+    }
+    Err(WriteFailed)
+}
+
+/// Writes all of the bytes.
+///
+/// It is refused only where the sink counted a failure: an interrupted try is made again, and 65 in a row are a failure. Then
+/// a front of the bytes was written, none or all of them among it.
+pub fn write_field<S: Sink>(sink: &mut S, bytes: &[u8]) -> Result<(), WriteFailed>
+    ensures ok { OnOk result (Appends (S.contents sink.old) (S.contents sink.new) bytes.now) }
+    ensures err { OnErr result (WritesFront (S.contents sink.old) (S.contents sink.new) bytes.now) }
+    ensures failed { OnErr result (HasFailed (S.failures sink.old) (S.failures sink.new)) }
+    ensures counted { S.failures sink.old ≤ S.failures sink.new }
+{
+    let mut rest = bytes;
+    while !rest.is_empty() {
+        let count = write_some(sink, rest)?;
+        rest = &rest[count..];
+    }
+    Ok(())
+}
+
+/// Writes one field, and then another.
+pub(crate) fn write_pair<S: Sink>(
+    sink: &mut S,
+    first: &[u8],
+    second: &[u8],
+) -> Result<(), WriteFailed>
+    ensures ok { OnOk result (Appends (S.contents sink.old) (S.contents sink.new) (first.now ++ second.now)) }
+    ensures err { OnErr result (WritesFront (S.contents sink.old) (S.contents sink.new) (first.now ++ second.now)) }
+    ensures failed { OnErr result (HasFailed (S.failures sink.old) (S.failures sink.new)) }
+    ensures counted { S.failures sink.old ≤ S.failures sink.new }
+{
+    write_field(sink, first)?;
+    write_field(sink, second)?;
+    Ok(())
+}
