@@ -1,0 +1,11 @@
+pub mod WholePlanes
+pub mod Drawings
+pub mod Decoded
+pub mod SettledSlices
+pub mod TileFaults
+pub mod FrameFaults
+pub mod OneFrame
+pub mod Reports
+pub mod OnePicture
+pub mod Restorations
+mod Vectors

@@ -1,0 +1,54 @@
+-- What a report counts and measures.
+use Rattle.std.proofs.Common.{◌≡◌, ℕ, zero, suc, ◌+◌, ◌<◌, ◌≤◌, Bool, true, false, cond, List, [], ◌∷◌, ◌++◌, length, get_or, count_by, Option, Some, None, Result, Ok, Err, OnOk, append_assoc, unwrap_or, sym, ap, ◌∙◌, arith}
+use Rattle.std.specs.List.{range_with_len, sum_by}
+use Rattle.std.proofs.lemmas.List.Sums.{sum_by-append}
+use Rattle.ffv1_hold.specs.Contents.{Contents}
+use Rattle.ffv1_hold.specs.Standing.{Standing, status_of, tile_state, IsLeastStatus}
+use Rattle.ffv1_hold.proofs.Lists.{range_more}
+use Rattle.ffv1_picture.specs.ReportText.{least_status}
+
+-- ---- the least error_status
+
+least_below : (xs : List (List ℕ)) (i : ℕ) (d : List ℕ) → i < length xs → least_status xs ≤ status_of (get_or xs i d)
+least_below [] i d lt = absurd (omega arith)
+least_below (b ∷ []) zero d lt = omega arith
+least_below (b ∷ []) (suc i) d lt = absurd (omega arith)
+least_below (b ∷ c ∷ bs) zero d lt = omega arith
+least_below (b ∷ c ∷ bs) (suc i) d lt = omega (arith, least_below (c ∷ bs) i d (omega arith))
+
+least_above : (xs : List (List ℕ)) (least : ℕ) → 0 < length xs → ((i : ℕ) (d : List ℕ) → i < length xs → least ≤ status_of (get_or xs i d)) → least ≤ least_status xs
+least_above [] least some low = absurd (omega arith)
+least_above (b ∷ []) least some low = low 0 b (omega arith)
+least_above (b ∷ c ∷ bs) least some low =
+    omega (arith, low 0 b (omega arith), least_above (c ∷ bs) least (omega arith) (λ i d lt. low (suc i) d (omega arith)))
+
+pub least_is : (xs : List (List ℕ)) (o : Option ℕ) → IsLeastStatus xs o → unwrap_or o 0 ≡ least_status xs
+least_is xs None none = sym (ap least_status none)
+least_is xs (Some least) is =
+    omega (arith, least_above xs least (omega (arith, is.in_range)) is.low, least_below xs is.at [] is.in_range, is.met [])
+
+-- ---- how many tiles stand in a way
+
+count_by-push : (p : ℕ → Bool) (xs : List ℕ) (x : ℕ) → count_by p (xs ++ x ∷ []) ≡ count_by p xs + cond (p x) 1 0
+count_by-push p xs x = sum_by-append (λ y. cond (p y) 1 0) xs (x ∷ []) ∙ (let e : count_by p xs + sum_by (λ y. cond (p y) 1 0) (x ∷ []) ≡ count_by p xs + cond (p x) 1 0 = omega arith in e)
+
+module _ (h : Contents) (stands : Standing → Bool) (n count : ℕ) (so_far : count ≡ count_by (λ tile. stands (tile_state h tile)) (range_with_len 0 n)) (s : Standing) (is : s ≡ tile_state h n) where
+  more : count_by (λ tile. stands (tile_state h tile)) (range_with_len 0 (n + 1)) ≡ count + cond (stands s) 1 0
+  more =
+      ap (count_by (λ tile. stands (tile_state h tile))) (range_more 0 n n (omega arith)) ∙ count_by-push (λ tile. stands (tile_state h tile)) (range_with_len 0 n) n
+      ∙ (λ i. sym so_far i + cond (stands (sym is i)) 1 0)
+
+  pub one_more : stands s ≡ true → count + 1 ≡ count_by (λ tile. stands (tile_state h tile)) (range_with_len 0 (n + 1))
+  one_more does = sym (more ∙ ap (λ b. count + cond b 1 0) does)
+
+  pub none_more : stands s ≡ false → count ≡ count_by (λ tile. stands (tile_state h tile)) (range_with_len 0 (n + 1))
+  none_more not_so = sym (more ∙ ap (λ b. count + cond b 1 0) not_so ∙ (let e : count + 0 ≡ count = omega arith in e))
+
+-- ---- text that is added
+
+-- a piece behind a piece
+pub then_pushed : {E : Type 0} (r : Result (Unit {0}) E) (old mid new first second second' : List ℕ) → mid ≡ old ++ first → OnOk r (new ≡ mid ++ second) → second ≡ second'
+    → OnOk r (new ≡ old ++ (first ++ second'))
+then_pushed (Ok done) old mid new first second second' before added same =
+    added ∙ ap (λ text. text ++ second) before ∙ append_assoc old first second ∙ ap (λ piece. old ++ (first ++ piece)) same
+then_pushed (Err fault) old mid new first second second' before added same = added

@@ -1,0 +1,69 @@
+-- The definitions, evaluated on worked frames and reports.
+use Rattle.std.proofs.Common.{◌≡◌, ℕ, true, List, [], ◌∷◌, Some, None, refl}
+use Rattle.std.specs.Prelude.{codes}
+use Rattle.std.specs.Fmt.{digits}
+use Rattle.ffv1_range.specs.Tiles.{GridValue}
+use Rattle.ffv1_hold.specs.Standing.{standing_of}
+use Rattle.ffv1_picture.specs.WholePicture.{Planes, greatest_sample, whole_plane, whole_picture}
+use Rattle.ffv1_picture.specs.ReportText.{state_words, count_words, hex_byte}
+
+-- ---- chroma of half the width and height, in two tiles beside each other
+
+half_chroma : ℕ → GridValue
+half_chroma width = record { width = width; height = 2; across = 2; down = 1; has_chroma = true; shift_h = 1; shift_v = 1 }
+
+left_of_6 : Planes
+left_of_6 = (1 ∷ 2 ∷ 3 ∷ 4 ∷ 5 ∷ 6 ∷ []) ∷ (10 ∷ 20 ∷ []) ∷ (11 ∷ 21 ∷ []) ∷ []
+
+right_of_6 : Planes
+right_of_6 = (7 ∷ 8 ∷ 9 ∷ 10 ∷ 11 ∷ 12 ∷ []) ∷ (30 ∷ 40 ∷ []) ∷ (31 ∷ 41 ∷ []) ∷ []
+
+-- both tiles cover the second chroma column: the greater one's sample stands
+two_cover : whole_picture (half_chroma 6) (Some left_of_6 ∷ Some right_of_6 ∷ [])
+    ≡ (1 ∷ 2 ∷ 3 ∷ 7 ∷ 8 ∷ 9 ∷ 4 ∷ 5 ∷ 6 ∷ 10 ∷ 11 ∷ 12 ∷ []) ∷ (10 ∷ 30 ∷ 40 ∷ []) ∷ (11 ∷ 31 ∷ 41 ∷ []) ∷ []
+unfolding half_chroma left_of_6 right_of_6 greatest_sample whole_plane
+two_cover = refl
+
+-- without it that column is the smaller one's, and the last is 128
+one_covers : whole_picture (half_chroma 6) (Some left_of_6 ∷ None ∷ [])
+    ≡ (1 ∷ 2 ∷ 3 ∷ 128 ∷ 128 ∷ 128 ∷ 4 ∷ 5 ∷ 6 ∷ 128 ∷ 128 ∷ 128 ∷ []) ∷ (10 ∷ 20 ∷ 128 ∷ []) ∷ (11 ∷ 21 ∷ 128 ∷ []) ∷ []
+unfolding half_chroma left_of_6 greatest_sample whole_plane
+one_covers = refl
+
+left_of_3 : Planes
+left_of_3 = (1 ∷ 4 ∷ []) ∷ (50 ∷ []) ∷ (60 ∷ []) ∷ []
+
+right_of_3 : Planes
+right_of_3 = (2 ∷ 3 ∷ 5 ∷ 6 ∷ []) ∷ (51 ∷ []) ∷ (61 ∷ []) ∷ []
+
+-- no tile covers the second chroma column
+none_covers : whole_picture (half_chroma 3) (Some left_of_3 ∷ Some right_of_3 ∷ [])
+    ≡ (1 ∷ 2 ∷ 3 ∷ 4 ∷ 5 ∷ 6 ∷ []) ∷ (51 ∷ 128 ∷ []) ∷ (61 ∷ 128 ∷ []) ∷ []
+unfolding half_chroma left_of_3 right_of_3 greatest_sample whole_plane
+none_covers = refl
+
+-- ---- reports
+
+black : List ℕ
+black = 0xFD ∷ 0xF6 ∷ 0x80 ∷ 0 ∷ 0 ∷ 3 ∷ 0 ∷ 0x1C ∷ 0x3E ∷ 0xA0 ∷ 0x9B ∷ []
+
+dark : List ℕ
+dark = 0xFD ∷ 0xF6 ∷ 0x40 ∷ 0 ∷ 0 ∷ 3 ∷ 0 ∷ 0x17 ∷ 0x60 ∷ 0xA5 ∷ 0x79 ∷ []
+
+disputed_words : state_words (dark ∷ black ∷ []) (standing_of (dark ∷ black ∷ [])) ≡ codes " disputed 2 status 0 held 2"
+unfolding black dark digits
+disputed_words = refl
+
+missing_words : state_words [] (standing_of []) ≡ codes " missing"
+missing_words = refl
+
+one_disputed : count_words 0 1 0 ≡ codes "settled 0 disputed 1 missing 0\n"
+unfolding digits
+one_disputed = refl
+
+none_held : count_words 0 0 2 ≡ codes "settled 0 disputed 0 missing 2\n"
+unfolding digits
+none_held = refl
+
+hex_digits : hex_byte 0x9B ≡ codes "9b"
+hex_digits = refl

@@ -1,0 +1,40 @@
+use Rattle.std.proofs.Common.{◌≡◌, length, List, subst, ◌∙◌, rules, IfOk, IfErr}
+use Rattle.std.proofs.Math.ListN.{length-reverse}
+use Rattle.ffv1_range.specs.Setup.{SetupValue, IsInProfile}
+use Rattle.ffv1_range.specs.Tiles.{grid_of, tile_count}
+use Rattle.ffv1_slice.specs.Chain.{Piece}
+use Rattle.ffv1_slice.specs.Walk.{links_of}
+use Rattle.ffv1_picture.specs.Frames.{links_from_front, HasWholeChain, IsOrdered, IsDrawnOf, IsDecodedFrame}
+use Rattle.ffv1_picture.specs.FrameFaults.{AreInOrderBefore, IsFirstFault, IsFirstUnreadable}
+use Rattle.ffv1_picture.proofs.FrameFaults.{first_fault}
+use Rattle.ffv1_picture.proofs.OneFrame.{decoded, found}
+use Rattle.ffv1_picture.proofs.decoder.Decoder.decode_frame.Goals as goal
+use Rattle.ffv1_picture.proofs.decoder.Decoder.decode_frame.Goals.{After-drop-links-2}
+
+is_ordered : (c : After-drop-links-2) → IsOrdered c.self.inside.setup c.args.payload.now
+is_ordered c =
+    let setup = c.self.inside.setup in
+    let payload = c.args.payload.now in
+    let chain : HasWholeChain setup payload = search rules in
+    let P : List Piece → Type 0 = λ links. AreInOrderBefore setup links (length links) in
+    let first = subst P (c.deref.ensures.value ∙ c.in_ok-links.ensures) c.in_ok-check_order.ensures.ok in
+    let count : length (links_from_front payload) ≡ tile_count (grid_of setup) = length-reverse (links_of payload) ∙ chain.count in
+    record { chain = chain; each = subst (λ n. AreInOrderBefore setup (links_from_front payload) n) count first }
+
+pub returns-clause-frame : goal.returns-clause-frame
+returns-clause-frame c =
+    let payload = c.args.payload.now in
+    let P : List Piece → Type 0 = λ links. IfOk c.draw_links.result (IsDrawnOf c.self.inside.setup links (length links)) in
+    let Q : SetupValue → Type 0 = λ s. IfOk c.draw_links.result (IsDecodedFrame s payload) in
+    subst Q c.self.view_is (decoded c.self.inside.setup payload (is_ordered c) c.draw_links.result (subst P (c.deref-2.ensures.value ∙ c.in_ok-links.ensures) c.draw_links.ensures.ok))
+
+pub returns-clause-fault : goal.returns-clause-fault
+returns-clause-fault c =
+    let payload = c.args.payload.now in
+    let P : List Piece → Type 0 = λ links. IfErr c.draw_links.result (IsFirstUnreadable c.self.inside.setup links) in
+    let Q : SetupValue → Type 0 = λ s. IfErr c.draw_links.result (IsFirstFault s payload) in
+    subst Q c.self.view_is (first_fault c.self.inside.setup payload (is_ordered c) c.draw_links.result (subst P (c.deref-2.ensures.value ∙ c.in_ok-links.ensures) c.draw_links.ensures.err))
+
+pub returns-clause-found : goal.returns-clause-found
+returns-clause-found c pictures spells =
+    found c.args.self.now c.args.payload.now pictures spells (subst IsInProfile c.self.view_is c.keeps_profile.ensures) c.draw_links.result (returns-clause-frame c) (returns-clause-fault c)

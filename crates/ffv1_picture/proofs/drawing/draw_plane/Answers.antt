@@ -1,0 +1,29 @@
+use Rattle.std.proofs.Common.{◌≡◌, ◌+◌, ◌-◌, ◌*◌, ◌≤◌, length, get_or, drop, ap, ◌∙◌, subst, arith, ℕ}
+use Rattle.std.proofs.lemmas.List.{length-take-le, length-drop, get_or-take, get_or-drop}
+use Rattle.std.proofs.Math.Nat.{mul-le-mul_right}
+use borrow.Rule.Slice.PartMut.{put_mid}
+use Rattle.ffv1_picture.specs.Drawing.{Draws}
+use Rattle.ffv1_picture.proofs.Drawings.{first_rows, row_drawn}
+use Rattle.ffv1_picture.proofs.drawing.draw_plane.Goals as goal
+
+pub loop-row-preserved : goal.loop-row-preserved
+loop-row-preserved c =
+    let r = c.args.rect in
+    let n = c.loop-row.row in
+    let width = c.args.width in
+    let samples = c.args.samples.now in
+    let mid = c.loop-row.plane in
+    let piece = c.copy_from_slice.new.self in
+    let to = (r.y + n) * width + r.x in
+    let from = n * r.w in
+    let last : r.y + n + 1 ≤ r.y + r.h = omega arith in
+    let last_of_tile : n + 1 ≤ r.h = omega arith in
+    let read : from + r.w ≤ length samples = omega (arith, mul-le-mul_right r.w last_of_tile) in
+    let of_samples = c.copy_from_slice.ensures.after in
+    let long : length piece ≡ r.w = ap length of_samples ∙ length-take-le (from + r.w - from) (drop from samples) (omega (arith, length-drop from samples)) ∙ (let e : from + r.w - from ≡ r.w = omega arith in e) in
+    let P : ℕ → Type 0 = λ k. Draws width (first_rows r (n + 1)) samples c.args.plane.now (put_mid to k mid piece) in
+    subst P {x = r.w} {y = to + r.w - to} (omega arith)
+    (row_drawn width r n samples c.args.plane.now mid piece c.requires.inside.in_width
+    (omega (arith, mul-le-mul_right width last, c.requires.inside.in_height))
+    c.loop-row.invariant long
+    (λ i lt. ap (λ xs. get_or xs i 0) of_samples ∙ get_or-take (from + r.w - from) (drop from samples) i 0 (omega arith) ∙ get_or-drop from samples i 0))

@@ -1,0 +1,20 @@
+use Rattle.std.proofs.lemmas.Result.{err_from_is_err_and}
+use Rattle.ffv1_picture.proofs.TileFaults.{unreadable}
+use Rattle.ffv1_picture.proofs.drawing.draw_slice.Goals as goal
+
+pub returns-in_err-picture-clause-fault : goal.returns-in_err-picture-clause-fault
+returns-in_err-picture-clause-fault c =
+    let p = err_from_is_err_and c.from_residual.result c.from_residual.ensures.1 in
+    let told = c.in_err-picture.ensures in
+    rw (p.1, p.2)
+    (unreadable c.args.setup.now c.args.tile _ c.in_err-picture.field-0.0 (record {
+      found = λ picture is. told.found picture is;
+      head = λ fault is. let same = told.head fault is in cc;
+      other = λ h place is differs. let same = told.other h place is differs in cc;
+      code = λ h place is same. told.code h place is same;
+    }))
+
+pub draw_picture-requires-clause-picture : goal.draw_picture-requires-clause-picture
+draw_picture-requires-clause-picture c =
+    let sizes = c.in_ok-picture.ensures.ok.planes in
+    rw (c.grid.ensures, c.deref.ensures.value) (record { count = sizes.count; each = λ plane lt. (sizes.sizes plane lt).count })

@@ -1,0 +1,55 @@
+-- The partial picture of a holding: what can be shown of its settled tiles.
+use Rattle.std.specs.Prelude.{◌≡◌, ℕ, ◌<◌, List, length, Option, Some, None, slice_index_or}
+use Rattle.ffv1_range.specs.Setup.{SetupValue}
+use Rattle.ffv1_range.specs.Tiles.{grid_of}
+use Rattle.ffv1_slice.specs.Slices.{content_of}
+use Rattle.ffv1_plane.specs.Views.{IsOfCode}
+use Rattle.ffv1_picture.specs.TilePictures.{SpellsPlanes, IsPictureOfSlice, IsUnreadable}
+use Rattle.ffv1_hold.specs.Reels.{tile_count}
+use Rattle.ffv1_hold.specs.Contents.{Contents}
+use Rattle.ffv1_hold.specs.Standing.{Standing, missing, settled, disputed, tile_state}
+use Rattle.ffv1_picture.specs.WholePicture.{Planes}
+use Rattle.ffv1_picture.specs.Frames.{IsFrameOf}
+use Rattle.ffv1_picture.specs.Drawing.{DrawsAny}
+use Rattle.ffv1_picture.specs.declared.frame.Frame.{Frame}
+use Rattle.ffv1_picture.specs.declared.partial.Partial.{Partial}
+use Rattle.ffv1_picture.specs.declared.partial.TileOutcome.{TileOutcome}
+use Rattle.ffv1_picture.specs.declared.partial.TileOutcome.TheVariants.{Decoded, Missing, Disputed, Fault}
+
+-- How a tile that stands so comes out, and its picture: a settled slice is decoded, or a code of it can't be read; others have no
+-- picture.
+abbrev pub IsShown : SetupValue → ℕ → Standing → TileOutcome → Option Planes → Type 0
+IsShown setup tile (settled slice) (Decoded spare) (Some planes) = SpellsPlanes setup tile (content_of slice) planes spare
+IsShown setup tile (settled slice) (Fault cause) None = IsUnreadable setup tile (content_of slice) cause × IsOfCode cause
+IsShown setup tile missing Missing None = Unit {0}
+IsShown setup tile (disputed n) (Disputed slices) None = slices ≡ n
+IsShown setup tile state outcome picture = ⊥
+
+-- The picture of a tile that stands so: that of its settled slice, if it spells one.
+abbrev pub IsPictureOfTile : SetupValue → ℕ → Standing → Option Planes → Type 0
+IsPictureOfTile setup tile missing picture = picture ≡ None
+IsPictureOfTile setup tile (settled slice) picture = IsPictureOfSlice setup tile slice picture
+IsPictureOfTile setup tile (disputed n) picture = picture ≡ None
+
+-- These are the pictures of the tiles of a holding.
+pub record ArePicturesOf (h : Contents) (pictures : List (Option Planes)) : Type 0 where
+  pub count : length pictures ≡ tile_count h.reel
+  pub each : (tile : ℕ) → tile < tile_count h.reel → IsPictureOfTile h.reel.setup tile (tile_state h tile) (slice_index_or pictures tile None)
+
+-- A tile comes out so, and if it has a picture, that was drawn.
+pub record ShowsTile (h : Contents) (tile : ℕ) (outcome : TileOutcome) (old new : Frame) : Type 0 where
+  pub picture : Option Planes
+  pub shown : IsShown h.reel.setup tile (tile_state h tile) outcome picture
+  pub drawn : DrawsAny (grid_of h.reel.setup) tile picture old new
+
+-- The outcomes are those of the tiles below a number, and the frame has their pictures.
+pub record ShowsTiles (h : Contents) (tiles : ℕ) (outcomes : List TileOutcome) (frame : Frame) : Type 0 where
+  pub pictures : List (Option Planes)
+  pub count : length pictures ≡ tiles
+  pub told : length outcomes ≡ tiles
+  pub each : (tile : ℕ) → tile < tiles → IsShown h.reel.setup tile (tile_state h tile) (slice_index_or outcomes tile Missing) (slice_index_or pictures tile None)
+  pub is_frame : IsFrameOf h.reel.setup pictures frame
+
+-- The partial picture of a holding, with the outcome of each of its tiles.
+abbrev pub IsPartialPicture : Contents → Partial → Type 0
+IsPartialPicture h partial = ShowsTiles h (tile_count h.reel) partial.tiles.items partial.frame

@@ -1,0 +1,23 @@
+//! What is seen of a frame: its decoded samples, what can be shown of a damaged holding, tile by tile, and the report to file
+//! with the reel.
+#![tactic(auto)]
+
+mod decoder;
+mod drawing;
+mod fault;
+mod frame;
+mod partial;
+mod raw;
+mod reporting;
+mod restoring;
+
+pub use decoder::Decoder;
+pub use fault::FrameFault;
+pub use frame::Frame;
+pub use partial::{Partial, TileOutcome, picture};
+pub use raw::{WriteFault, write_raw};
+pub use reporting::report;
+pub use restoring::{Restoration, RestorationFault, restored};
+
+#[cfg(test)]
+mod tests;

@@ -1,0 +1,36 @@
+//! Writing the samples of a frame: planes in the order of RFC 9043, section 4.7, a byte a sample.
+ghost use Rattle.std.specs.Prelude.{◌≡◌, OnOk, OnErr};
+ghost use Rattle.std.specs.List.{flat_map};
+ghost use Rattle.std.specs.Io.KnownBytes.{Appends};
+ghost use Rattle.ffv1_hold.specs.Streams.{HasFailed};
+ghost use Rattle.ffv1_hold.specs.Writing.{WritesFront};
+
+use crate::frame::Frame;
+use ffv1_hold::{Sink, WriteFailed, write_field};
+
+/// Why the samples of a frame were not written.
+#[derive(Clone, Copy, Debug, PartialEq, Eq)]
+pub enum WriteFault {
+    /// The sink failed. A front of the samples was written.
+    Write,
+}
+
+impl From<WriteFailed> for WriteFault {
+    fn from(_failure: WriteFailed) -> WriteFault {
+        WriteFault::Write
+    }
+}
+
+/// Writes the samples of a frame, a byte each: planes Y, Cb and Cr one after the other, each row by row.
+///
+/// After `Write`, which comes only where the sink counted a failure, a front of the samples was written. It takes no memory.
+pub fn write_raw<W: Sink>(frame: &Frame, sink: &mut W) -> Result<(), WriteFault>
+    ensures ok { OnOk result (Appends (W.contents sink.old) (W.contents sink.new) (flat_map (λ plane. plane.items) frame.now.planes.items)) }
+    ensures write { OnErr result (WritesFront (W.contents sink.old) (W.contents sink.new) (flat_map (λ plane. plane.items) frame.now.planes.items)) }
+    ensures failed { OnErr result (HasFailed (W.failures sink.old) (W.failures sink.new)) }
+{
+    for plane in &frame.planes {
+        write_field(sink, plane)?;
+    }
+    Ok(())
+}

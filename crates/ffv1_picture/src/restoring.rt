@@ -1,0 +1,112 @@
+//! The whole way from copies to a restored frame (own).
+ghost use Rattle.std.specs.Prelude.{◌≡◌, ℕ, List, Option, IfOk, OnOk, IfErr, IsOkAnd, string_bytes};
+ghost use Rattle.ffv1_hold.specs.Contents.{Contents, HasSameCopies};
+ghost use Rattle.ffv1_hold.specs.Plans.{copies_of, RereadsFit};
+ghost use Rattle.ffv1_hold.specs.TakeFaults.{AreShort};
+ghost use Rattle.ffv1_hold.specs.declared.plan.Plan.{Plan};
+ghost use Rattle.ffv1_picture.specs.ReportText.{report_text};
+ghost use Rattle.ffv1_picture.specs.PartialPictures.{ArePicturesOf, IsPartialPicture};
+ghost use Rattle.ffv1_picture.specs.Frames.{IsFrameOf};
+ghost use Rattle.ffv1_picture.specs.WholePicture.{Planes};
+ghost use Rattle.ffv1_picture.specs.Headline.{IsHoldingOfPlan, AreEqualInAll, IsRestored, IsPlanFor, ShowsSlices, IsRestorationFault};
+
+use crate::partial::{Partial, picture};
+use crate::reporting::report;
+use ffv1_hold::{Holding, Plan, PlanFault, RestoreFault, run};
+use std::alloc::{AllocError, Global};
+
+/// What copies of a frame came to.
+#[derive(Drop)]
+pub struct Restoration {
+    /// The slices that were found in them.
+    pub holding: Holding,
+    /// The frame's payload, or the first tile that is not settled: `Missing` or `Disputed`, and never `Memory`.
+    pub payload: Result<Vec<u8>, RestoreFault>,
+    /// The damage report.
+    pub report: String,
+    /// What can be shown.
+    pub picture: Partial,
+}
+
+/// Why nothing came of copies.
+#[derive(Clone, Copy, Debug, PartialEq, Eq)]
+pub enum RestorationFault {
+    /// The plan was not carried out.
+    Plan(PlanFault),
+    /// A growth of memory was refused.
+    Memory,
+}
+
+impl From<PlanFault> for RestorationFault {
+    ghost use Rattle.std.specs.Prelude.{◌≡◌};
+    ghost use Rattle.ffv1_picture.specs.declared.restoring.RestorationFault.TheVariants as faults;
+
+    ghost from_gives = { λ f e. e ≡ faults.Plan f };
+
+    fn from(fault: PlanFault) -> RestorationFault {
+        RestorationFault::Plan(fault)
+    }
+}
+
+impl From<AllocError> for RestorationFault {
+    ghost use Rattle.std.specs.Prelude.{◌≡◌};
+    ghost use Rattle.ffv1_picture.specs.declared.restoring.RestorationFault.TheVariants.{Memory};
+
+    ghost from_gives = { λ _ e. e ≡ Memory };
+
+    fn from(_refusal: AllocError) -> RestorationFault {
+        RestorationFault::Memory
+    }
+}
+
+/// Carries a plan out, and answers the restored payload, the report and the picture of what is held then.
+///
+/// However the same copies are ordered, grouped or repeated, the holdings are equal in every tile, file byte and report line.
+/// Where every slice found in them is the original's for its tile, and each tile's is found in some copy, the restored payload
+/// is the original byte for byte, and each sample is the one that the greatest decoded tile covering it spells.
+///
+/// `Plan` comes with a refusal of one of the plan's steps, `Memory` where a growth is refused behind them.
+pub fn restored(
+    alloc: Global,
+    plan: &Plan<'_>,
+    config: &[u8],
+    width: u32,
+    height: u32,
+) -> Result<Restoration, RestorationFault>
+    // What is held is what is found in the plan's copies; payload, report and picture are those of what is held.
+    ensures holding { IfOk result (λ r. IsHoldingOfPlan config.now width height plan.now r.holding) }
+    ensures payload { IfOk result (λ r. IsRestored r.holding r.payload) }
+    ensures report { IfOk result (λ r. string_bytes r.report ≡ report_text r.holding) }
+    ensures picture { IfOk result (λ r. IsPartialPicture r.holding r.picture) }
+    ensures whole { (pictures : List (Option Planes)) → IfOk result (λ r. ArePicturesOf r.holding pictures → IsFrameOf r.holding.reel.setup pictures r.picture.frame) }
+
+    // However the same copies are ordered, grouped or repeated, the holdings are equal in every tile, file byte and report line.
+    ensures same_copies { (other : Plan) (h : Contents) → IsHoldingOfPlan config.now width height other h → HasSameCopies (copies_of plan.now) (copies_of other) → IfOk result (λ r. AreEqualInAll r.holding h) }
+
+    // Where every slice found in them is the original's for its tile, and each tile's is found in some copy, the restored payload
+    // is the original byte for byte ..
+    ensures original { (original : List ℕ) (slices : List (List ℕ)) → IfOk result (λ r. IsPlanFor r.holding.reel.setup plan.now original slices → IsOkAnd r.payload (λ payload. payload.items ≡ original)) }
+
+    // .. and each sample is the one that the greatest decoded tile covering it spells.
+    ensures samples { (original : List ℕ) (slices : List (List ℕ)) → IfOk result (λ r. IsPlanFor r.holding.reel.setup plan.now original slices → ShowsSlices r.holding.reel.setup slices r.picture.frame) }
+
+    // The plan was carried out: its copies are short enough, and what goes through a file has one.
+    ensures short { OnOk result (AreShort (copies_of plan.now)) }
+    ensures fits { IfOk result (λ r. RereadsFit r.holding.reel plan.now) }
+
+    ensures fault { IfErr result (IsRestorationFault config.now width height plan.now) }
+{
+    let holding = run(alloc, plan, config, width, height)?;
+    let payload = holding.restore();
+    if let Err(RestoreFault::Memory) = payload {
+        return Err(RestorationFault::Memory);
+    }
+    let report = report(alloc, &holding)?;
+    let picture = picture(alloc, &holding)?;
+    Ok(Restoration {
+        holding,
+        payload,
+        report,
+        picture,
+    })
+}
