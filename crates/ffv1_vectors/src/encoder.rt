@@ -2,29 +2,40 @@
 //!
 //! Nothing is promised of its bytes but what reading them back shows. Its range is in 256..=65280 between two bits, and
 //! its low end, the carry included, never passes 17 bits.
-ghost use Rattle.std.specs.Prelude.{◌≡◌, ◌+◌, ◌≤◌, ◌<◌, OnErr, IfErr};
-ghost use Rattle.ffv1_range.specs.Coding.{IsState};
+ghost use Rattle.std.specs.Prelude.{◌≡◌, ◌+◌, ◌≤◌, ◌<◌, OnOk, OnErr, IfErr};
+ghost use Rattle.ffv1_range.specs.Coding.{IsState, state_after};
 ghost use Rattle.ffv1_range.specs.Decoder.{AreStates};
+ghost use Rattle.ffv1_vectors.specs.Encoder.{encoder_start};
 ghost use Rattle.ffv1_vectors.specs.declared.fault.MakeFault.TheVariants.{Memory};
 
 use crate::fault::MakeFault;
 use ffv1_range::next_state;
 use std::alloc::Global;
+use std::marker::Model;
 
-/// Writes range-coded values.
+/// Writes range-coded values. Contracts see it as its low end, its range and the bytes that it has written.
 #[derive(Drop)]
 pub struct RangeEncoder {
     low: u32,
     range: u32,
     bytes: Vec<u8>,
-    ghost wide: { 256 ≤ range },
-    ghost narrow: { range ≤ 65280 },
-    ghost short: { low + range ≤ 131072 },
+}
+
+impl Model for RangeEncoder {
+    ghost use Rattle.ffv1_vectors.specs.Encoder.{EncoderValue, IsEncoder};
+
+    ghost Value = { EncoderValue };
+
+    ghost view = { λ e. record { low = e.low; range = e.range; bytes = e.bytes.items } };
+
+    ghost invariant = { λ e. IsEncoder e.low e.range };
 }
 
 impl RangeEncoder {
-    /// An encoder that has written nothing. It takes no memory.
-    pub fn new(alloc: Global) -> RangeEncoder {
+    /// An encoder that has written nothing: its low end is 0, its range 65280. It takes no memory.
+    pub fn new(alloc: Global) -> RangeEncoder
+        ensures { result ≡ encoder_start }
+    {
         RangeEncoder {
             low: 0,
             range: 65280,
@@ -32,12 +43,14 @@ impl RangeEncoder {
         }
     }
 
-    /// Writes one bit at a state in 8..=248, which changes. `Memory` changes nothing.
+    /// Writes one bit at a state in 8..=248, which becomes the one after that bit (section 3.8.1.5). `Memory`, the one
+    /// fault, comes where a growth of memory was refused, and leaves the encoder and the state as they were.
     pub fn bit(&mut self, state: &mut u8, bit: bool) -> Result<(), MakeFault>
         requires { IsState state.old }
         ensures in_range { IsState state.new }
+        ensures state { OnOk result (state.new ≡ state_after state.old bit) }
         ensures memory { IfErr result (λ fault. fault ≡ Memory) }
-        ensures unchanged { OnErr result (state.new ≡ state.old) }
+        ensures unchanged { OnErr result ((self.new ≡ self.old) × (state.new ≡ state.old)) }
     {
         let part = (self.range * u32::from(*state)) >> 8;
         let (low, range) = if bit {
@@ -66,8 +79,8 @@ impl RangeEncoder {
         self.slot(states, 0, bit)
     }
 
-    /// Writes an unsigned symbol at a row of states in 8..=248, which change. After `Memory` nothing is known of what was
-    /// written, and the states are in 8..=248.
+    /// Writes an unsigned symbol at a row of states in 8..=248, which change. `Memory`, the one fault, comes where a growth
+    /// of memory was refused; then some of the symbol's bits may be written, and the states are in 8..=248.
     pub fn unsigned(&mut self, states: &mut [u8; 32], value: u32) -> Result<(), MakeFault>
         requires { AreStates states.old }
         ensures in_range { AreStates states.new }
@@ -94,7 +107,8 @@ impl RangeEncoder {
         self.slot(states, 11 + exponent.min(10) as usize, value < 0)
     }
 
-    /// Ends values that zero bytes follow, and answers their bytes.
+    /// Ends values that zero bytes follow, and answers their bytes. `Memory`, the one fault, comes where a growth of memory
+    /// was refused.
     pub fn finish_closed(self) -> Result<Vec<u8>, MakeFault>
         ensures { IfErr result (λ fault. fault ≡ Memory) }
     {
@@ -104,7 +118,8 @@ impl RangeEncoder {
         Ok(encoder.bytes)
     }
 
-    /// Ends values that codes follow: writes a bit 0 at state 129, and answers the bytes up to the codes.
+    /// Ends values that codes follow: writes a bit 0 at state 129, and answers the bytes up to the codes. `Memory`, the one
+    /// fault, comes where a growth of memory was refused.
     pub fn finish_sentinel(self) -> Result<Vec<u8>, MakeFault>
         ensures { IfErr result (λ fault. fault ≡ Memory) }
     {
@@ -166,6 +181,7 @@ impl RangeEncoder {
     fn push_byte(&mut self, low: u32) -> Result<(), MakeFault>
         requires { low ≤ 131072 }
         ensures memory { IfErr result (λ fault. fault ≡ Memory) }
+        ensures unchanged { OnErr result (self.new ≡ self.old) }
     {
         self.bytes.reserve(1)?;
         if low >= 65536 {

@@ -1,17 +1,31 @@
-//! Vectors: records and slices made to measure, each read back before it is answered.
+//! Vectors: records, slices and frames made to measure, each read back before it is answered; damage that is exact; and
+//! the suite of cases on which all calls are tried.
 #![tactic(auto)]
 
 mod asked;
+mod coding;
+mod damage;
 mod encoder;
 mod fault;
+mod frame;
 mod parity;
+mod plane;
 mod record;
 mod slice;
+mod suite;
+mod writer;
 
+pub use damage::{cut, flip, put_front, zero};
 pub use encoder::RangeEncoder;
 pub use fault::MakeFault;
+pub use frame::{FrameSpec, TileSpec, make_frame};
 pub use record::{RecordSpec, make_record, spell_record};
 pub use slice::spell_slice;
+pub use suite::{
+    SUITE_NUMBERS, SuiteCase, SuiteContent, SuiteTables, suite_case, suite_frame, suite_record,
+};
 
+#[cfg(test)]
+mod frame_tests;
 #[cfg(test)]
 mod tests;

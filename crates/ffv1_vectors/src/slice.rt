@@ -1,5 +1,5 @@
 //! Slices (RFC 9043, sections 4.5, 4.6 and 4.9), spelled from their header's fields, their codes and their status.
-ghost use Rattle.std.specs.Prelude.{◌≡◌, ◌<◌, ◌^◌, ◌++◌, ℕ, List, IsTrue, IfOk, IfErr, OnOk, false, length};
+ghost use Rattle.std.specs.Prelude.{◌≡◌, ◌<◌, ◌≤◌, ◌^◌, ◌++◌, ℕ, List, IsTrue, IfOk, IfErr, OnOk, false, length};
 ghost use Rattle.ffv1_bits.specs.Parity.{PassesParity};
 ghost use Rattle.ffv1_range.specs.Decoder.{AreStates};
 ghost use Rattle.ffv1_range.specs.Forms.{Reads, same_fault};
@@ -39,13 +39,14 @@ pub fn spell_slice(
     codes: &[u8],
     status: u8,
 ) -> Result<Vec<u8>, MakeFault>
-    ensures { IfOk result (λ bytes. IsSpelled bytes.items first key fields.now codes.now status) }
+    ensures spelled { IfOk result (λ bytes. IsSpelled bytes.items first key fields.now codes.now status) }
+    ensures short { IfOk result (λ bytes. length bytes.items ≤ 16777223) }
 {
     let head = spell_header(alloc, first, key, fields)?;
     let place = head.len();
     let mut content = head;
     content.extend_from_slice(codes)?;
-    if codes.is_empty() || content.len() > MOST_CONTENT {
+    if content.len() > MOST_CONTENT {
         return Err(MakeFault::NotSelf);
     }
     let Ok(true) = reads_back(&content, first, key, fields, place) else {

@@ -1,0 +1,27 @@
+use Rattle.std.proofs.Common.{◌≡◌, ◌++◌, get_or, ap, ◌∙◌, arith}
+use Rattle.std.proofs.lemmas.List.{get_or_default}
+use Rattle.ffv1_range.specs.Tiles.{grid_of, tile_count}
+use Rattle.ffv1_vectors.specs.declared.frame.TileSpec.{TileSpec}
+use Rattle.ffv1_vectors.proofs.FrameSteps.{made_none, made_more, made_all}
+use Rattle.ffv1_vectors.proofs.frame.make_frame.Goals as goal
+
+pub loop-tile-init : goal.loop-tile-init
+loop-tile-init c = made_none c.args.setup.now c.args.spec.now c.new-payload.result.items c.new-payload.ensures.items
+
+pub loop-tile-preserved : goal.loop-tile-preserved
+loop-tile-preserved c =
+    let tiles = c.deref-tile_spec-items.ensures.value in
+    let grown : c.extend_from_slice.new.self.items ≡ c.loop-tile.payload.items ++ c.in_ok-slice.slice.items =
+    c.in_ok-extend_from_slice.ensures.items ∙ ap (λ bytes. c.loop-tile.payload.items ++ bytes) c.deref.ensures.value in
+    made_more c.args.setup.now c.args.spec.now c.loop-tile.tile c.loop-tile.payload.items c.extend_from_slice.new.self.items c.in_ok-slice.slice.items c.tile_spec-item.result
+    c.loop-tile.invariant grown (omega (arith, c.in_ok-slice.slice.ok.0, c.loop-tile.payload.ok.0))
+    (λ (d : TileSpec).
+    c.tile_spec-item.is ∙ get_or_default c.deref-tile_spec-items.result.now c.loop-tile.tile c.tile_spec-item.result d c.loop-tile-test.true
+    ∙ ap (λ ts. get_or ts c.loop-tile.tile d) tiles)
+    c.in_ok-slice.ensures
+
+pub returns-clause-made : goal.returns-clause-made
+returns-clause-made c =
+    let fits = c.fits_setup.ensures.0 c.if-not-fits_setup.false in
+    let all : c.loop-tile.tile ≡ tile_count (grid_of c.args.setup.now) = omega (arith, fits.count, c.deref-tile_spec-items.ensures.len) in
+    made_all c.args.setup.now c.args.spec.now c.loop-tile.tile c.loop-tile.payload.items all c.loop-tile.invariant
