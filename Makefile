@@ -2,7 +2,7 @@
 PROGRAM := crates/ffv1restore/out/ffv1restore
 PREFIX ?= $(HOME)/.local
 
-.PHONY: run test cases install
+.PHONY: run test cases ffmpeg bench install
 
 # Proves and builds what is needed, and runs the stored example.
 run: $(PROGRAM)
@@ -20,6 +20,14 @@ test:
 # The cases alone.
 cases:
 	tests/run $(PROGRAM)
+
+# FFmpeg's samples of the stored frames, where it is installed.
+ffmpeg:
+	tests/ffmpeg
+
+# Times beside FFmpeg's decoder and a plain copy.
+bench: $(PROGRAM)
+	tests/bench $(PROGRAM)
 
 install: $(PROGRAM)
 	install -D $(PROGRAM) $(DESTDIR)$(PREFIX)/bin/ffv1restore

@@ -1,1 +1,10 @@
 pub mod Shows
+pub mod InputLaws
+pub mod WriteSteps
+pub mod TakeSteps
+pub mod JoinSteps
+pub mod RestoreSteps
+pub mod Outcomes
+pub mod ReportSteps
+pub mod DecodeSteps
+pub mod PictureSteps

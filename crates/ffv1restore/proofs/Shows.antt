@@ -1,6 +1,6 @@
 -- What printing a setup does to the output, once the record was read to its end.
-use Rattle.std.proofs.Common.{◌≡◌, ℕ, List, Option, IfSome, Result, Ok, Err, OnOk, IfErr}
-use Rattle.std.specs.Io.KnownBytes.{Appends, Keeps}
+use Rattle.std.proofs.Common.{ℕ, List, Option, IfSome, Result, Ok, Err, OnOk, IfErr}
+use Rattle.std.specs.Io.KnownBytes.{Appends}
 use Rattle.std.proofs.KnownBytes.{Consumes-whole}
 use Rattle.ffv1_range.specs.Setup.{SetupValue, IsSetupOf}
 use Rattle.ffv1restore.specs.Devices.{ReadsWhole, WritesFront, PrintStops}
@@ -19,6 +19,11 @@ module _ (before after old new : Option (List ℕ)) (config : List ℕ) (width h
       (stops.0, Consumes-whole before after config (λ bytes. (value : SetupValue) × IsSetupOf bytes width height value × WritesFront old new (show_text value)) whole.taken whole.end (setup, is, stops.1))
   setup_stopped_at (faults.Setup fault) stops = absurd stops
   setup_stopped_at faults.Memory stops = stops
+  setup_stopped_at (faults.Hold fault) stops = absurd stops
+  setup_stopped_at (faults.HoldFile fault) stops = absurd stops
+  setup_stopped_at (faults.Frame fault) stops = absurd stops
+  setup_stopped_at (faults.Missing tile) stops = absurd stops
+  setup_stopped_at (faults.Disputed tile) stops = absurd stops
   setup_stopped_at faults.Words stops = absurd stops
 
   pub setup_stopped : (r : Result (Unit {0}) CliFault) → IfErr r (PrintStops 1 (show_text setup) old new) → IfErr r (ShowStops width height before old new)

@@ -51,5 +51,4 @@ ChainStops frame before after (faults.Read path) = (path ≡ 0) × Keeps before 
 ChainStops frame before after (faults.Write path) =
     (path ≡ 1) × IfSome frame (λ payload. (text : List ℕ) × IsChainText payload text × WritesFront before after text)
 ChainStops frame before after faults.Memory = Keeps before after
-ChainStops frame before after faults.Words = ⊥
-ChainStops frame before after (faults.Setup fault) = ⊥
+ChainStops frame before after _ = ⊥

@@ -1,6 +1,7 @@
 -- What a command takes from a file and leaves in one.
-use Rattle.std.specs.Prelude.{ℕ, ◌≡◌, ◌^◌, ◌≤◌, ◌++◌, List, length, Option}
+use Rattle.std.specs.Prelude.{ℕ, ◌≡◌, ◌^◌, ◌<◌, ◌≤◌, ◌++◌, List, [], ◌∷◌, length, Option, IfSome, ◌⊎◌}
 use Rattle.std.specs.Io.KnownBytes.{Appends, Consumes, IsAtEnd, Keeps}
+use Rattle.ffv1_hold.specs.declared.fault.HoldFault.TheVariants as holds
 use Rattle.ffv1restore.specs.declared.fault.CliFault.{CliFault}
 use Rattle.ffv1restore.specs.declared.fault.CliFault.TheVariants as faults
 
@@ -14,6 +15,26 @@ pub record ReadsWhole (before after : Option (List ℕ)) (bytes : List ℕ) : Ty
   pub end : IsAtEnd after
   pub few : length bytes ≤ file_limit
 
+-- An input has these bytes, where it tells its bytes.
+abbrev pub Tells : Option (List ℕ) → List ℕ → Type 0
+Tells input bytes = IfSome input (λ told. told ≡ bytes)
+
+-- An input is read whole as these bytes: it has them, where it tells its bytes, and they are not too many.
+pub record IsWholeInput (input : Option (List ℕ)) (bytes : List ℕ) : Type 0 where
+  pub told : Tells input bytes
+  pub few : length bytes ≤ file_limit
+
+-- Each of the inputs is read whole as its bytes.
+abbrev pub AreWholeInputs : List (Option (List ℕ)) → List (List ℕ) → Type 0
+AreWholeInputs [] [] = Unit {0}
+AreWholeInputs [] (bytes ∷ rest) = ⊥
+AreWholeInputs (input ∷ inputs) [] = ⊥
+AreWholeInputs (input ∷ inputs) (bytes ∷ rest) = IsWholeInput input bytes × AreWholeInputs inputs rest
+
+-- An input is longer than the limit, where it tells its bytes.
+abbrev pub IsTooLong : Option (List ℕ) → Type 0
+IsTooLong input = IfSome input (λ bytes. file_limit < length bytes)
+
 -- A front of the bytes was written, and nothing else.
 pub record WritesFront (before after : Option (List ℕ)) (bytes : List ℕ) : Type 0 where
   pub done : List ℕ
@@ -26,6 +47,32 @@ abbrev pub IsInputFault : ℕ → CliFault → Type 0
 IsInputFault path (faults.Read named) = named ≡ path
 IsInputFault path faults.Memory = Unit {0}
 IsInputFault path _ = ⊥
+
+-- the faults of reading the copy that is the command's path of this number
+abbrev pub IsCopyFault : ℕ → Option (List ℕ) → CliFault → Type 0
+IsCopyFault path copy (faults.Read named) = named ≡ path
+IsCopyFault path copy (faults.Hold fault) = (fault ≡ holds.PayloadTooLong) × IsTooLong copy
+IsCopyFault path copy faults.Memory = Unit {0}
+IsCopyFault path copy _ = ⊥
+
+-- What holds of a fault that comes before anything is written.
+abbrev pub UnlessWriting : CliFault → Type 0 → Type 0
+UnlessWriting (faults.Write path) P = Unit {0}
+UnlessWriting _ P = P
+
+-- What holds of a fault of the record, which is the command's path 0 and is judged before any other input is read.
+abbrev pub IfOfRecord : CliFault → Type 0 → Type 0
+IfOfRecord (faults.Read path) P = path ≡ 0 → P
+IfOfRecord (faults.Setup fault) P = P
+IfOfRecord _ P = Unit {0}
+
+-- What a fault of writing a file and then printing a text left in these paths: a front of the file, or the whole file and a
+-- front of the text.
+abbrev pub WriteStops : (path printed : ℕ) (file text : List ℕ) (file_before file_after text_before text_after : Option (List ℕ)) → CliFault → Type 0
+WriteStops path printed file text file_before file_after text_before text_after (faults.Write named) =
+    ((named ≡ path) × WritesFront file_before file_after file × Keeps text_before text_after)
+    ⊎ ((named ≡ printed) × Appends file_before file_after file × WritesFront text_before text_after text)
+WriteStops path printed file text file_before file_after text_before text_after _ = ⊥
 
 -- What a fault of printing a text left in the command's path of this number: a front of the text, or nothing.
 abbrev pub PrintStops : ℕ → List ℕ → Option (List ℕ) → Option (List ℕ) → CliFault → Type 0

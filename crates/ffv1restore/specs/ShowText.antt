@@ -1,5 +1,5 @@
 -- The text that tells a setup.
-use Rattle.std.specs.Prelude.{ℕ, ◌*◌, ◌≡◌, ◌++◌, Bool, List, length, map, Option, IfSome, Err, codes, if◌then◌else◌}
+use Rattle.std.specs.Prelude.{ℕ, ◌*◌, ◌≡◌, ◌++◌, Bool, List, length, Option, IfSome, Err, codes, if◌then◌else◌}
 use Rattle.std.specs.List.{flat_map}
 use Rattle.std.specs.Fmt.{decimal}
 use Rattle.std.specs.Io.KnownBytes.{Appends, Keeps}
@@ -49,4 +49,4 @@ ShowStops width height config before after (faults.Write path) =
 ShowStops width height config before after (faults.Setup fault) =
     IfSome config (λ bytes. (granted : Bool) × (setup_read granted bytes width height ≡ Err fault)) × Keeps before after
 ShowStops width height config before after faults.Memory = Keeps before after
-ShowStops width height config before after faults.Words = ⊥
+ShowStops width height config before after _ = ⊥

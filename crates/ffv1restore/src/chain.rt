@@ -1,5 +1,7 @@
-//! The command `chain`: tells the links of a frame payload and how their chain ends.
+//! The command `chain`: tells the links of a frame payload and how their chain ends (RFC 9043, section 4.9).
 ghost use Rattle.std.specs.Prelude.{◌≡◌, ◌≤◌, ◌++◌, ◌^◌, length, IfOk, IfErr, OnOk, IfSome, string_bytes};
+ghost use Rattle.ffv1restore.specs.Fault.{NamesPathBelow};
+ghost use Rattle.ffv1restore.specs.Devices.{UnlessWriting};
 ghost use Rattle.ffv1restore.specs.ChainText.{link_place, link_state, parity_word, end_line, IsChainText, PrintsChain, ChainStops};
 ghost use Rattle.ffv1_slice.specs.Chain.{IsFramed};
 
@@ -25,6 +27,8 @@ pub fn run_chain<R: Read, W: Write>(
         (λ payload. PrintsChain payload (W.contents output.old) (W.contents output.new))) }
     ensures few { OnOk result (IfSome (R.remaining frame.old) (λ payload. length payload ≤ 2 ^ 30)) }
     ensures err { IfErr result (ChainStops (R.remaining frame.old) (W.contents output.old) (W.contents output.new)) }
+    ensures untouched { IfErr result (λ fault. UnlessWriting fault (output.new ≡ output.old)) }
+    ensures names { IfErr result (NamesPathBelow 2) }
 {
     let payload = read_file(alloc, frame, 0)?;
     let Ok(text) = chain_text(alloc, payload.as_slice()) else {

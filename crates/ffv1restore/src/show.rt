@@ -1,11 +1,13 @@
-//! The command `show`: tells the setup that a configuration record gives for frames of one size.
-ghost use Rattle.std.specs.Prelude.{◌≡◌, ◌++◌, IfOk, IfErr, OnOk, IfSome, string_bytes};
+//! The command `show`: tells the setup that a configuration record gives for frames of one size (RFC 9043,
+//! section 4.3).
+ghost use Rattle.std.specs.Prelude.{◌≡◌, ◌≤◌, ◌^◌, ◌++◌, length, IfOk, IfErr, OnOk, IfSome, string_bytes};
+ghost use Rattle.ffv1restore.specs.Fault.{NamesPathBelow};
 ghost use Rattle.ffv1restore.specs.ShowText.{version_lines, planes_line, grid_line, contexts_word, tables_line, end_lines, show_text, PrintsSetup, ShowStops};
 ghost use Rattle.std.specs.List.{flat_map};
 ghost use Rattle.std.specs.Io.KnownBytes.{Appends};
-ghost use Rattle.ffv1restore.specs.Devices.{PrintStops};
+ghost use Rattle.ffv1restore.specs.Devices.{PrintStops, UnlessWriting};
 
-use crate::devices::{read_file, write_file};
+use crate::devices::{print_text, read_file};
 use crate::fault::CliFault;
 use ffv1_range::Setup;
 use std::alloc::{AllocError, Global};
@@ -27,7 +29,10 @@ pub fn run_show<R: Read, W: Write>(
 ) -> Result<(), CliFault>
     ensures ok { OnOk result (IfSome (R.remaining input.old)
         (λ config. PrintsSetup config width height (W.contents output.old) (W.contents output.new))) }
+    ensures few { OnOk result (IfSome (R.remaining input.old) (λ config. length config ≤ 2 ^ 30)) }
     ensures err { IfErr result (ShowStops width height (R.remaining input.old) (W.contents output.old) (W.contents output.new)) }
+    ensures untouched { IfErr result (λ fault. UnlessWriting fault (output.new ≡ output.old)) }
+    ensures names { IfErr result (NamesPathBelow 2) }
 {
     let config = read_file(alloc, input, 0)?;
     let setup = Setup::read(alloc, config.as_slice(), width, height)?;
@@ -38,14 +43,13 @@ pub fn run_show<R: Read, W: Write>(
 fn print_setup<W: Write>(alloc: Global, setup: &Setup, output: &mut W) -> Result<(), CliFault>
     ensures ok { OnOk result (Appends (W.contents output.old) (W.contents output.new) (show_text setup.now)) }
     ensures err { IfErr result (PrintStops 1 (show_text setup.now) (W.contents output.old) (W.contents output.new)) }
+    ensures untouched { IfErr result (λ fault. UnlessWriting fault (output.new ≡ output.old)) }
+    ensures names { IfErr result (NamesPathBelow 2) }
 {
     let Ok(text) = setup_text(alloc, setup) else {
         return Err(CliFault::Memory);
     };
-    if write_file(output, text.as_bytes()).is_err() {
-        return Err(CliFault::Write(1));
-    }
-    Ok(())
+    print_text(output, 1, text.as_str())
 }
 
 /// The text that tells a setup.

@@ -1,8 +1,16 @@
 use crate::chain::run_chain;
+use crate::decode::run_decode;
 use crate::fault::CliFault;
+use crate::join::run_join;
+use crate::picture::run_picture;
+use crate::report::run_report;
+use crate::restore::run_restore;
+use crate::take::run_take;
+use ffv1_hold::HoldFileFault;
 use std::alloc::Global;
 use std::io;
 use std::io::{ErrorKind, Read, Write};
+use std::test::Fail;
 
 /// A gray frame of 2 x 1 samples in two tiles.
 const FRAME: [u8; 22] = [
@@ -122,6 +130,47 @@ fn interrupted_reads_are_tried_again(rt: HostRuntime) {
     }
 }
 
+/// Takes bytes after so many interruptions in a row.
+#[derive(Drop)]
+struct Interrupting {
+    taken: Vec<u8>,
+    times: u32,
+}
+
+impl Write for Interrupting {
+    fn write(&mut self, buf: &[u8]) -> io::Result<usize> {
+        if self.times > 0 {
+            self.times -= 1;
+            return Err(io::Error::from(ErrorKind::Interrupted));
+        }
+        self.taken.extend_from_slice(buf)?;
+        Ok(buf.len())
+    }
+
+    fn flush(&mut self) -> io::Result<()> {
+        Ok(())
+    }
+}
+
+/// What `chain` writes after so many interruptions in a row, if it does not fail.
+fn written_after(alloc: Global, times: u32) -> Option<Vec<u8>> {
+    let mut frame: &[u8] = &FRAME;
+    let mut output = Interrupting {
+        taken: Vec::new(alloc),
+        times,
+    };
+    run_chain(alloc, &mut frame, &mut output).ok()?;
+    Some(output.taken)
+}
+
+#[test]
+fn interrupted_writes_are_tried_again(rt: HostRuntime) -> Result<(), Fail> {
+    let text = written_after(rt.alloc(), 64).ok_or("64 tries are made again")?;
+    assert!(rt; text.as_slice() == FRAME_TEXT.as_bytes());
+    assert!(rt; written_after(rt.alloc(), 65).is_none());
+    Ok(())
+}
+
 #[test]
 fn failed_writes_leave_a_front_of_the_text(rt: HostRuntime) {
     for room in 0..FRAME_TEXT.len() {
@@ -134,4 +183,230 @@ fn failed_writes_leave_a_front_of_the_text(rt: HostRuntime) {
         assert!(rt; matches!(fault, Some(CliFault::Write(1))));
         assert!(rt; output.taken.as_slice() == &FRAME_TEXT.as_bytes()[..room]);
     }
+}
+
+/// A gray record of two tiles beside each other, of micro version 4, its five tables of one run each.
+const RECORD: [u8; 17] = [
+    0x56, 0x2B, 0x83, 0x32, 0x5C, 0xCD, 0x9B, 0x36, 0x6C, 0xD9, 0xB3, 0x66, 0xC4, 0x90, 0xE4, 0xD4,
+    0x86,
+];
+
+/// The frame with a damaged tile 0.
+fn left_damaged() -> [u8; 22] {
+    let mut copy = FRAME;
+    copy[2] = 0;
+    copy
+}
+
+/// The frame with a damaged tile 1.
+fn right_damaged() -> [u8; 22] {
+    let mut copy = FRAME;
+    copy[13] = 0;
+    copy
+}
+
+/// The holding file of copies, and what was printed of them.
+fn taken(alloc: Global, mut copies: [&[u8]; 2]) -> Result<(Vec<u8>, Vec<u8>), Fail> {
+    let mut record = RECORD.as_slice();
+    let mut out = Vec::new(alloc);
+    let mut output = Vec::new(alloc);
+    run_take(alloc, &mut record, 2, 1, &mut copies, &mut out, &mut output)
+        .ok()
+        .ok_or("ample memory")?;
+    Ok((out, output))
+}
+
+#[test]
+fn commands_restore_what_two_copies_have(rt: HostRuntime) -> Result<(), Fail> {
+    let (a, b) = (left_damaged(), right_damaged());
+    let (both, lines) = taken(rt.alloc(), [&b, &a])?;
+    let expected = "copy 1 links 2 slices 1 new 1\ncopy 2 links 2 slices 1 new 1\n";
+    assert!(rt; lines.as_slice() == expected.as_bytes());
+    let (left, _) = taken(rt.alloc(), [&b, &b])?;
+    let mut first = left.as_slice();
+    let mut others = [both.as_slice()];
+    let mut union: Vec<u8> = Vec::new(rt.alloc());
+    let mut output: Vec<u8> = Vec::new(rt.alloc());
+    let joined = run_join(rt.alloc(), &mut first, &mut others, &mut union, &mut output);
+    assert!(rt; joined.is_ok());
+    assert!(rt; output.as_slice() == "file 1 new 1\nfile 2 new 1\n".as_bytes());
+    assert!(rt; union.as_slice() == both.as_slice());
+    let mut file = union.as_slice();
+    let mut payload: Vec<u8> = Vec::new(rt.alloc());
+    let mut printed: Vec<u8> = Vec::new(rt.alloc());
+    let restored = run_restore(rt.alloc(), &mut file, &mut payload, &mut printed);
+    assert!(rt; restored.is_ok());
+    assert!(rt; printed.as_slice() == "restored 22 bytes\n".as_bytes());
+    assert!(rt; payload.as_slice() == FRAME.as_slice());
+    Ok(())
+}
+
+#[test]
+fn cut_files_leave_the_outputs_alone(rt: HostRuntime) -> Result<(), Fail> {
+    let (a, b) = (left_damaged(), right_damaged());
+    let (both, _) = taken(rt.alloc(), [&a, &b])?;
+    for length in 0..both.len() {
+        let mut file = &both[..length];
+        let mut payload: Vec<u8> = Vec::new(rt.alloc());
+        let mut printed: Vec<u8> = Vec::new(rt.alloc());
+        let fault = run_restore(rt.alloc(), &mut file, &mut payload, &mut printed).err();
+        assert!(rt; matches!(fault, Some(CliFault::HoldFile(HoldFileFault::Truncated))));
+        assert!(rt; payload.is_empty() && printed.is_empty());
+    }
+    Ok(())
+}
+
+#[test]
+fn failed_outputs_hold_a_front_of_the_payload(rt: HostRuntime) -> Result<(), Fail> {
+    let (a, b) = (left_damaged(), right_damaged());
+    let (both, _) = taken(rt.alloc(), [&a, &b])?;
+    for room in 0..FRAME.len() {
+        let mut file = both.as_slice();
+        let mut out = Full {
+            taken: Vec::new(rt.alloc()),
+            room,
+        };
+        let mut printed: Vec<u8> = Vec::new(rt.alloc());
+        let fault = run_restore(rt.alloc(), &mut file, &mut out, &mut printed).err();
+        assert!(rt; matches!(fault, Some(CliFault::Write(1))));
+        assert!(rt; out.taken.as_slice() == &FRAME[..room]);
+        assert!(rt; printed.is_empty());
+    }
+    Ok(())
+}
+
+/// What `picture` writes and prints of a holding file, and whether each tile has samples.
+fn pictured(alloc: Global, mut file: &[u8]) -> Result<(Vec<u8>, Vec<u8>, bool), Fail> {
+    let mut samples = Vec::new(alloc);
+    let mut printed = Vec::new(alloc);
+    let whole = run_picture(alloc, &mut file, &mut samples, &mut printed)
+        .ok()
+        .ok_or("ample memory")?;
+    Ok((samples, printed, whole))
+}
+
+/// What `report` prints of a holding file.
+fn reported(alloc: Global, mut file: &[u8]) -> Result<Vec<u8>, Fail> {
+    let mut printed = Vec::new(alloc);
+    run_report(alloc, &mut file, &mut printed)
+        .ok()
+        .ok_or("ample memory")?;
+    Ok(printed)
+}
+
+/// What `decode` writes and prints of a payload.
+fn decoded(alloc: Global, mut payload: &[u8]) -> Result<(Vec<u8>, Vec<u8>), CliFault> {
+    let mut record = RECORD.as_slice();
+    let mut samples = Vec::new(alloc);
+    let mut printed = Vec::new(alloc);
+    run_decode(
+        alloc,
+        &mut record,
+        2,
+        1,
+        &mut payload,
+        &mut samples,
+        &mut printed,
+    )?;
+    Ok((samples, printed))
+}
+
+/// The line of the fault of `decode`.
+fn decode_fault(alloc: Global, payload: &[u8]) -> Result<String, Fail> {
+    let fault = decoded(alloc, payload).err().ok_or("a fault")?;
+    match fault {
+        CliFault::Frame(fault) => Ok(CliFault::Frame(fault).line(alloc, &[])?),
+        _ => Err("a fault of the frame".into()),
+    }
+}
+
+#[test]
+fn commands_show_what_copies_have(rt: HostRuntime) -> Result<(), Fail> {
+    let (a, b) = (left_damaged(), right_damaged());
+    let (left, _) = taken(rt.alloc(), [&b, &b])?;
+    let (samples, printed, whole) = pictured(rt.alloc(), left.as_slice())?;
+    assert!(rt; samples.as_slice() == [0, 128].as_slice());
+    assert!(rt; printed.as_slice() == "tile 1 missing\n".as_bytes());
+    assert!(rt; !whole);
+    let (both, _) = taken(rt.alloc(), [&a, &b])?;
+    let (samples, printed, whole) = pictured(rt.alloc(), both.as_slice())?;
+    assert!(rt; samples.as_slice() == [0, 0].as_slice());
+    assert!(rt; printed.is_empty() && whole);
+    Ok(())
+}
+
+#[test]
+fn a_report_names_each_tile(rt: HostRuntime) -> Result<(), Fail> {
+    let (left, _) = taken(rt.alloc(), [&right_damaged(), &right_damaged()])?;
+    let text = reported(rt.alloc(), left.as_slice())?;
+    let expected = "reel 2x1 tiles 2\n\
+        tile 0 settled status 0 bytes 11 held 1 sha256 \
+        2d7579baf47b64e0c763d978a7604faa134c6b5bad2d5de919e8d5e71d947f53\n\
+        tile 1 missing\nsettled 1 disputed 0 missing 1\nframe incomplete\n";
+    assert!(rt; text.as_slice() == expected.as_bytes());
+    Ok(())
+}
+
+#[test]
+fn a_frame_is_decoded_or_its_first_fault_told(rt: HostRuntime) -> Result<(), Fail> {
+    let (samples, printed) = decoded(rt.alloc(), &FRAME).ok().ok_or("a frame")?;
+    assert!(rt; samples.as_slice() == [0, 0].as_slice());
+    assert!(rt; printed.as_slice() == "decoded 2 x 1 planes 1\n".as_bytes());
+    let line = decode_fault(rt.alloc(), &FRAME[11..])?;
+    assert!(rt; line.as_str() == "frame fault 1");
+    let line = decode_fault(rt.alloc(), &left_damaged())?;
+    assert!(rt; line.as_str() == "frame fault 2 at 0");
+    Ok(())
+}
+
+/// The numbers of the faults of the holding file of both tiles where the lowest bit of one byte is turned, by the byte's
+/// place; 0 where it is then the file of another size.
+const BIT_TURNED: [u8; 74] = [
+    1, 1, 1, 1, 1, 1, 1, 1, 2, 2, 0, 0, 2, 2, 0, 2, 11, 3, 3, 2, 2, 2, 2, 2, 2, 2, 2, 2, 2, 2, 2,
+    2, 2, 2, 2, 2, 2, 7, 6, 6, 11, 3, 3, 6, 6, 6, 6, 6, 6, 6, 6, 6, 6, 6, 6, 7, 6, 6, 11, 3, 3, 6,
+    6, 6, 6, 6, 6, 6, 6, 6, 6, 6, 6, 3,
+];
+
+/// The same where all bits of the byte are turned.
+const BYTE_TURNED: [u8; 74] = [
+    1, 1, 1, 1, 1, 1, 1, 1, 2, 2, 2, 0, 2, 2, 2, 0, 11, 3, 3, 3, 2, 2, 2, 2, 2, 2, 2, 2, 2, 2, 2,
+    2, 2, 2, 2, 2, 2, 4, 6, 6, 11, 3, 3, 3, 6, 6, 6, 6, 6, 6, 6, 6, 6, 6, 6, 4, 6, 6, 11, 3, 3, 3,
+    6, 6, 6, 6, 6, 6, 6, 6, 6, 6, 6, 4,
+];
+
+/// Whether `restore` tells this fault of a holding file and leaves the outputs alone; for 0, whether it restores the frame.
+fn is_told(alloc: Global, mut file: &[u8], number: u8) -> Result<bool, Fail> {
+    let mut payload: Vec<u8> = Vec::new(alloc);
+    let mut printed: Vec<u8> = Vec::new(alloc);
+    match run_restore(alloc, &mut file, &mut payload, &mut printed) {
+        Ok(()) => Ok(number == 0 && payload.as_slice() == FRAME.as_slice()),
+        Err(fault) => {
+            let expected = format!(in alloc; "holding file fault {number}")?;
+            let line = fault.line(alloc, &["HOLD", "OUT", "standard output"]);
+            Ok(line?.as_str() == expected.as_str() && payload.is_empty() && printed.is_empty())
+        }
+    }
+}
+
+/// Whether each of these faults is told where the byte at its place is changed by the mask.
+fn are_told(alloc: Global, file: &[u8], mask: u8, numbers: &[u8]) -> Result<bool, Fail> {
+    for (place, number) in numbers.iter().enumerate() {
+        let mut changed = file.to_vec(alloc)?;
+        if let Some(byte) = changed.get_mut(place) {
+            *byte ^= mask;
+        }
+        if !is_told(alloc, &changed, *number)? {
+            return Ok(false);
+        }
+    }
+    Ok(true)
+}
+
+#[test]
+fn each_changed_byte_of_a_holding_file_is_told(rt: HostRuntime) -> Result<(), Fail> {
+    let (both, _) = taken(rt.alloc(), [&left_damaged(), &right_damaged()])?;
+    assert_eq!(rt; both.len(), 74);
+    assert!(rt; are_told(rt.alloc(), &both, 1, &BIT_TURNED)?);
+    assert!(rt; are_told(rt.alloc(), &both, 0xFF, &BYTE_TURNED)?);
+    Ok(())
 }

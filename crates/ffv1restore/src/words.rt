@@ -20,24 +20,89 @@ pub enum Words<'a> {
         width: u32,
         height: u32,
     },
+    /// Makes the holding file of copies, for a configuration record and the size of the frame in samples.
+    Take {
+        record: &'a str,
+        width: u32,
+        height: u32,
+        out: &'a str,
+        copies: Vec<&'a str>,
+    },
+    /// Makes the holding file of the union of holding files.
+    Join {
+        out: &'a str,
+        first: &'a str,
+        others: Vec<&'a str>,
+    },
+    /// Tells the damage report of a holding file.
+    Report {
+        file: &'a str,
+    },
+    /// Writes the payload that a holding file restores.
+    Restore {
+        file: &'a str,
+        out: &'a str,
+    },
+    /// Writes what can be shown of a holding file.
+    Picture {
+        file: &'a str,
+        out: &'a str,
+    },
+    /// Writes the samples of a frame payload, for a configuration record and the size of the frame in samples.
+    Decode {
+        record: &'a str,
+        width: u32,
+        height: u32,
+        frame: &'a str,
+        out: &'a str,
+    },
 }
+
+/// The commands: the name of each, its words, and behind them the word of which there has to be one at least.
+const COMMANDS: [(&str, &[&str], Option<&str>); 8] = [
+    ("chain", &["FRAME"], None),
+    ("show", &["RECORD", "WIDTH", "HEIGHT"], None),
+    ("take", &["RECORD", "WIDTH", "HEIGHT", "OUT"], Some("COPY")),
+    ("join", &["OUT"], Some("HOLD")),
+    ("report", &["HOLD"], None),
+    ("restore", &["HOLD", "OUT"], None),
+    ("picture", &["HOLD", "OUT"], None),
+    (
+        "decode",
+        &["RECORD", "WIDTH", "HEIGHT", "FRAME", "OUT"],
+        None,
+    ),
+];
 
 /// A word that has to be there, by this name.
 fn one<'a>(alloc: Global, name: &'a str) -> Arg<'a> {
     Arg::new(alloc, name).required(true).action(ArgAction::Set)
 }
 
-/// The commands and the names of their words.
+/// A command of this name, with its words, and the word of which there has to be one at least.
+fn command<'a>(
+    alloc: Global,
+    name: &'a str,
+    words: &[&'a str],
+    several: Option<&'a str>,
+) -> Result<Command<'a>, AllocError> {
+    let mut command = Command::new(alloc, name);
+    for word in words {
+        command = command.arg(one(alloc, word))?;
+    }
+    match several {
+        Some(word) => command.arg(one(alloc, word).num_args(1..)),
+        None => Ok(command),
+    }
+}
+
+/// The program's commands.
 fn program<'a>(alloc: Global) -> Result<Command<'a>, AllocError> {
-    let chain = Command::new(alloc, "chain").arg(one(alloc, "FRAME"))?;
-    let show = Command::new(alloc, "show")
-        .arg(one(alloc, "RECORD"))?
-        .arg(one(alloc, "WIDTH"))?
-        .arg(one(alloc, "HEIGHT"))?;
-    Command::new(alloc, "ffv1restore")
-        .subcommand_required(true)
-        .subcommand(chain)?
-        .subcommand(show)
+    let mut program = Command::new(alloc, "ffv1restore").subcommand_required(true);
+    for (name, words, several) in COMMANDS {
+        program = program.subcommand(command(alloc, name, words, several)?)?;
+    }
+    Ok(program)
 }
 
 /// The word of this name.
@@ -57,8 +122,62 @@ fn number(matches: &ArgMatches, name: &str) -> Result<u32, CliFault>
     }
 }
 
+/// The words of this name.
+fn several<'m, 'a>(matches: &'m ArgMatches<'a>, name: &str) -> Result<&'m [&'a str], CliFault>
+    ensures { IfErr result (NamesPathBelow 0) }
+{
+    matches.get_strs(name).ok_or(CliFault::Words)
+}
+
+/// A list of words in memory of its own.
+fn list<'a>(alloc: Global, words: &[&'a str]) -> Result<Vec<&'a str>, CliFault>
+    ensures { IfErr result (NamesPathBelow 0) }
+{
+    Ok(words.to_vec(alloc)?)
+}
+
+/// The words of `take`.
+fn take_words<'a>(alloc: Global, matches: &ArgMatches<'a>) -> Result<Words<'a>, CliFault>
+    ensures { IfErr result (NamesPathBelow 0) }
+{
+    Ok(Words::Take {
+        record: word(matches, "RECORD")?,
+        width: number(matches, "WIDTH")?,
+        height: number(matches, "HEIGHT")?,
+        out: word(matches, "OUT")?,
+        copies: list(alloc, several(matches, "COPY")?)?,
+    })
+}
+
+/// The words of `join`.
+fn join_words<'a>(alloc: Global, matches: &ArgMatches<'a>) -> Result<Words<'a>, CliFault>
+    ensures { IfErr result (NamesPathBelow 0) }
+{
+    let [first, others @ ..] = several(matches, "HOLD")? else {
+        return Err(CliFault::Words);
+    };
+    Ok(Words::Join {
+        out: word(matches, "OUT")?,
+        first,
+        others: list(alloc, others)?,
+    })
+}
+
+/// The words of `decode`.
+fn decode_words<'a>(matches: &ArgMatches<'a>) -> Result<Words<'a>, CliFault>
+    ensures { IfErr result (NamesPathBelow 0) }
+{
+    Ok(Words::Decode {
+        record: word(matches, "RECORD")?,
+        width: number(matches, "WIDTH")?,
+        height: number(matches, "HEIGHT")?,
+        frame: word(matches, "FRAME")?,
+        out: word(matches, "OUT")?,
+    })
+}
+
 /// The command of this name, with its words.
-fn words_of<'a>(name: &str, matches: &ArgMatches<'a>) -> Result<Words<'a>, CliFault>
+fn words_of<'a>(alloc: Global, name: &str, matches: &ArgMatches<'a>) -> Result<Words<'a>, CliFault>
     ensures { IfErr result (NamesPathBelow 0) }
 {
     match name {
@@ -70,6 +189,20 @@ fn words_of<'a>(name: &str, matches: &ArgMatches<'a>) -> Result<Words<'a>, CliFa
             width: number(matches, "WIDTH")?,
             height: number(matches, "HEIGHT")?,
         }),
+        "take" => take_words(alloc, matches),
+        "join" => join_words(alloc, matches),
+        "report" => Ok(Words::Report {
+            file: word(matches, "HOLD")?,
+        }),
+        "restore" => Ok(Words::Restore {
+            file: word(matches, "HOLD")?,
+            out: word(matches, "OUT")?,
+        }),
+        "picture" => Ok(Words::Picture {
+            file: word(matches, "HOLD")?,
+            out: word(matches, "OUT")?,
+        }),
+        "decode" => decode_words(matches),
         _ => Err(CliFault::Words),
     }
 }
@@ -88,7 +221,7 @@ pub fn read_words<'a>(alloc: Global, words: &'a [String]) -> Result<Words<'a>, C
         Err(_) => return Err(CliFault::Words),
     };
     match matches.subcommand() {
-        Some((name, found)) => words_of(name, found),
+        Some((name, found)) => words_of(alloc, name, found),
         None => Err(CliFault::Words),
     }
 }

@@ -1,7 +1,6 @@
 use Rattle.std.proofs.Common.{◌≡◌, ◌++◌, length}
 use Rattle.std.specs.List.{flat_map}
 use Rattle.std.specs.String.{string_bytes}
-use Rattle.ffv1_slice.specs.Walk.{Walk}
 use Rattle.ffv1restore.specs.ChainText.{link_line}
 use Rattle.ffv1restore.proofs.chain.chain_text.Given as goal
 

@@ -1,7 +1,6 @@
 use Rattle.std.proofs.Common.{◌≡◌, ◌++◌, take}
 use Rattle.std.specs.List.{flat_map}
 use Rattle.std.specs.String.{string_bytes}
-use Rattle.ffv1_range.specs.Setup.{SetupValue}
 use Rattle.ffv1restore.specs.ShowText.{contexts_word}
 use Rattle.ffv1restore.proofs.show.push_contexts.Given as goal
 

@@ -1,0 +1,58 @@
+-- What decoding a frame does to the outputs.
+use Rattle.std.proofs.Common.{◌≡◌, ℕ, List, Option, Result, Ok, Err, OnOk, IfErr, sym, subst, inr}
+use Rattle.std.specs.Io.KnownBytes.{Appends}
+use Rattle.ffv1_range.specs.Setup.{SetupValue}
+use Rattle.ffv1_picture.specs.Frames.{IsDecodedFrame}
+use Rattle.ffv1_picture.specs.FrameFaults.{IsFirstFault}
+use Rattle.ffv1_picture.specs.declared.frame.Frame.{Frame}
+use Rattle.ffv1_picture.specs.declared.fault.FrameFault.{FrameFault}
+use Rattle.ffv1_picture.specs.declared.fault.FrameFault.TheVariants as frames
+use Rattle.ffv1restore.specs.Devices.{IsWholeInput, IsInputFault, WriteStops}
+use Rattle.ffv1restore.specs.RecordInputs.{IsSetupInput}
+use Rattle.ffv1restore.specs.Fault.{of_frame}
+use Rattle.ffv1restore.specs.SamplesText.{raw_bytes, frame_line}
+use Rattle.ffv1restore.specs.DecodeText.{IsFrameInput, DecodesFile, DecodeStops}
+use Rattle.ffv1restore.specs.declared.fault.CliFault.{CliFault}
+use Rattle.ffv1restore.specs.declared.fault.CliFault.TheVariants as faults
+use Rattle.ffv1restore.proofs.WriteSteps.{writing}
+
+-- want of memory, and nothing else
+abbrev IsMemory : FrameFault → Type 0
+IsMemory frames.Memory = Unit {0}
+IsMemory fault = ⊥
+
+module _ (record' : Option (List ℕ)) (width height : ℕ) (input ob oa pb pa : Option (List ℕ)) (setup : SetupValue) (of_record : IsSetupInput record' width height setup) where
+  -- the payload was not read
+  pub payload_refused : (fault : CliFault) → IsInputFault 1 fault → DecodeStops record' width height input ob oa pb pa fault
+  payload_refused (faults.Read path) stops = inr (stops, (setup, of_record))
+  payload_refused (faults.Write path) stops = absurd stops
+  payload_refused (faults.Setup fault) stops = absurd stops
+  payload_refused (faults.Hold fault) stops = absurd stops
+  payload_refused (faults.HoldFile fault) stops = absurd stops
+  payload_refused (faults.Frame fault) stops = absurd stops
+  payload_refused (faults.Missing tile) stops = absurd stops
+  payload_refused (faults.Disputed tile) stops = absurd stops
+  payload_refused faults.Memory stops = tt
+  payload_refused faults.Words stops = absurd stops
+
+module _ (record' : Option (List ℕ)) (width height : ℕ) (input ob oa pb pa : Option (List ℕ)) (setup : SetupValue) (of_record : IsSetupInput record' width height setup) (payload : List ℕ) (read : IsWholeInput input payload) where
+  -- a payload's fault is told as such, and want of memory as its own
+  pub frame_refused : (fault : FrameFault) → IsFirstFault setup payload fault → DecodeStops record' width height input ob oa pb pa (of_frame fault)
+  frame_refused frames.Chain first = (setup, of_record, (payload, read, first), λ e. subst IsMemory (sym e) tt)
+  frame_refused (frames.Slice place cause) first = (setup, of_record, (payload, read, first), λ e. subst IsMemory (sym e) tt)
+  frame_refused (frames.Order place) first = (setup, of_record, (payload, read, first), λ e. subst IsMemory (sym e) tt)
+  frame_refused (frames.Tile tile cause) first = (setup, of_record, (payload, read, first), λ e. subst IsMemory (sym e) tt)
+  frame_refused frames.Memory first = tt
+
+  module _ (frame : Frame) (is : IsDecodedFrame setup payload frame) (samples line : List ℕ) (raw : samples ≡ raw_bytes frame) (size : line ≡ frame_line frame) where
+    is_input : IsFrameInput record' width height input frame
+    is_input = record { setup = setup; of_record = of_record; payload = payload; read = read; decoded = is }
+
+    pub decoded : (r : Result (Unit {0}) CliFault) → OnOk r (Appends ob oa samples) → OnOk r (Appends pb pa line) → OnOk r (DecodesFile record' width height input ob oa pb pa)
+    decoded (Ok done) wrote printed = record { frame = frame; is_frame = is_input; samples = subst (Appends ob oa) raw wrote; printed = subst (Appends pb pa) size printed }
+    decoded (Err fault) wrote printed = tt
+
+    pub decode_stopped : (r : Result (Unit {0}) CliFault) → IfErr r (WriteStops 2 3 samples line ob oa pb pa) → IfErr r (DecodeStops record' width height input ob oa pb pa)
+    decode_stopped = writing 2 3 samples line ob oa pb pa (DecodeStops record' width height input ob oa pb pa) (λ named stops.
+        let whole = subst (λ (s : List ℕ). WriteStops 2 3 s line ob oa pb pa (faults.Write named)) raw stops in
+        (frame, is_input, subst (λ (l : List ℕ). WriteStops 2 3 (raw_bytes frame) l ob oa pb pa (faults.Write named)) size whole))

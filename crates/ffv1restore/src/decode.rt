@@ -1,0 +1,54 @@
+//! The command `decode`: writes the samples of a frame (RFC 9043, sections 4.4 to 4.9).
+ghost use Rattle.std.specs.Prelude.{◌≡◌, IfOk, IfErr, OnOk, string_bytes};
+ghost use Rattle.ffv1restore.specs.Fault.{NamesPathBelow};
+ghost use Rattle.ffv1restore.specs.Devices.{UnlessWriting, IfOfRecord};
+ghost use Rattle.ffv1restore.specs.SamplesText.{decoded_line};
+ghost use Rattle.ffv1restore.specs.DecodeText.{DecodesFile, DecodeStops};
+
+use crate::devices::{read_file, write_both};
+use crate::fault::CliFault;
+use crate::samples::samples_of;
+use ffv1_picture::Decoder;
+use std::alloc::{AllocError, Global};
+use std::io::{Read, Write};
+
+/// Decodes a frame's payload, for a configuration record and the size of the frame in samples; writes its planes Y, Cb and
+/// Cr to `out`, row by row, a byte a sample, and then prints its size, as `decoded 720 x 576 planes 3`.
+///
+/// The record is path 0, the payload path 1, `out` path 2, the output path 3. The record is judged before the payload is
+/// read. `Read` comes where one of them can't be read, or is longer than 2^30 bytes; `Setup` with the record's first fault;
+/// `Frame` with the payload's; `Memory` where a growth is refused: then nothing was written, and `out` was not touched.
+/// `Write` comes where `out` or the output fails: a front of the samples was written, or all samples and a front of the
+/// line.
+pub fn run_decode<R: Read, F: Read, O: Write, W: Write>(
+    alloc: Global,
+    configuration: &mut R,
+    width: u32,
+    height: u32,
+    input: &mut F,
+    out: &mut O,
+    output: &mut W,
+) -> Result<(), CliFault>
+    ensures ok { OnOk result (DecodesFile (R.remaining configuration.old) width height (F.remaining input.old)
+        (O.contents out.old) (O.contents out.new) (W.contents output.old) (W.contents output.new)) }
+    ensures err { IfErr result (DecodeStops (R.remaining configuration.old) width height (F.remaining input.old)
+        (O.contents out.old) (O.contents out.new) (W.contents output.old) (W.contents output.new)) }
+    ensures untouched { IfErr result (λ fault. UnlessWriting fault ((out.new ≡ out.old) × (output.new ≡ output.old))) }
+    ensures in_turn { IfErr result (λ fault. IfOfRecord fault (input.new ≡ input.old)) }
+    ensures names { IfErr result (NamesPathBelow 4) }
+{
+    let config = read_file(alloc, configuration, 0)?;
+    let decoder = Decoder::new(alloc, config.as_slice(), width, height)?;
+    let payload = read_file(alloc, input, 1)?;
+    let frame = decoder.decode_frame(payload.as_slice())?;
+    let samples = samples_of(alloc, &frame)?;
+    let line = decoded_text(alloc, frame.width, frame.height, frame.planes.len())?;
+    write_both(out, 2, samples.as_slice(), output, 3, line.as_str())
+}
+
+/// The line that tells a frame's size in luma samples, and how many planes it has.
+fn decoded_text(alloc: Global, width: u32, height: u32, planes: usize) -> Result<String, AllocError>
+    ensures { IfOk result (λ line. string_bytes line ≡ decoded_line width height planes) }
+{
+    format!(in alloc; "decoded {width} x {height} planes {planes}\n")
+}

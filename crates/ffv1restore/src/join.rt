@@ -1,0 +1,90 @@
+//! The command `join`: makes the holding file of the union of holding files (own).
+ghost use Rattle.std.specs.Prelude.{◌≡◌, ◌+◌, ◌<◌, ◌≤◌, ◌^◌, [], ◌∷◌, ◌++◌, length, map, IfOk, IfErr, OnOk, string_bytes};
+ghost use Rattle.ffv1restore.specs.Fault.{NamesPathBelow};
+ghost use Rattle.ffv1restore.specs.Devices.{UnlessWriting};
+ghost use Rattle.ffv1restore.specs.JoinText.{file_line, JoinsEach, JoinsOne, JoinsFiles, IsJoinFault, IsFaultOfFiles, JoinStops};
+
+use crate::devices::write_both;
+use crate::fault::CliFault;
+use crate::holdings::{file_of, read_holding};
+use ffv1_hold::{Holding, Join};
+use std::alloc::{AllocError, Global};
+use std::io::{Read, Write};
+
+/// Joins the holdings of files, one after the other; writes the file of their union to `out`, and then prints a line for
+/// each file, as `file 1 new 1`: how many of its slices no earlier file had.
+///
+/// `out` is path 0, the files are the paths from 1 on, and the output is the path behind them. Each file is joined before
+/// the next is read. `Read` comes where a file can't be read; `HoldFile` with the first fault of a file in the order of its
+/// bytes, or where the union's file would pass its limit; `Hold` where a file is of another record or size than the first;
+/// `Memory` where a growth is refused: then nothing was written, and `out` was not touched. `Write` comes where `out` or
+/// the output fails: a front of the file was written, or the whole file and a front of the lines.
+pub fn run_join<R: Read, O: Write, W: Write>(
+    alloc: Global,
+    first: &mut R,
+    others: &mut [R],
+    out: &mut O,
+    output: &mut W,
+) -> Result<(), CliFault>
+    requires { length others.old < 2 ^ 63 }
+    ensures ok { OnOk result (JoinsFiles (R.remaining first.old ∷ map R.remaining others.old) (O.contents out.old) (O.contents out.new) (W.contents output.old) (W.contents output.new)) }
+    ensures err { IfErr result (JoinStops (R.remaining first.old ∷ map R.remaining others.old) (O.contents out.old) (O.contents out.new) (W.contents output.old) (W.contents output.new)) }
+    ensures untouched { IfErr result (λ fault. UnlessWriting fault ((out.new ≡ out.old) × (output.new ≡ output.old))) }
+    ensures names { IfErr result (NamesPathBelow (length others.old + 3)) }
+{
+    let mut lines = String::new(alloc);
+    let whole = join_files(alloc, first, others, &mut lines)?;
+    let file = file_of(alloc, &whole)?;
+    write_both(
+        out,
+        0,
+        file.as_slice(),
+        output,
+        others.len() + 2,
+        lines.as_str(),
+    )
+}
+
+/// Joins the holdings of files, the first of which is the command's path 1, and tells each in a line.
+fn join_files<R: Read>(
+    alloc: Global,
+    first: &mut R,
+    others: &mut [R],
+    lines: &mut String,
+) -> Result<Holding, CliFault>
+    requires few { length others.old < 2 ^ 63 }
+    requires none { string_bytes lines.old ≡ [] }
+    ensures ok { IfOk result (λ whole. JoinsEach (R.remaining first.old ∷ map R.remaining others.old) whole (string_bytes lines.new)) }
+    ensures err { IfErr result (IsFaultOfFiles (R.remaining first.old ∷ map R.remaining others.old)) }
+{
+    let mut whole = read_holding(alloc, first, 1)?;
+    push_file(lines, 1, whole.size())?;
+    for index in 0..others.len() {
+        join_file(alloc, &mut whole, &mut others[index], index + 2, lines)?;
+    }
+    Ok(whole)
+}
+
+/// Joins the holding of a file into another, and tells it in a line. The file is the command's path of this number.
+fn join_file<R: Read>(
+    alloc: Global,
+    whole: &mut Holding,
+    file: &mut R,
+    number: usize,
+    lines: &mut String,
+) -> Result<(), CliFault>
+    ensures ok { OnOk result (JoinsOne (R.remaining file.old) number whole.old whole.new (string_bytes lines.old) (string_bytes lines.new)) }
+    ensures err { IfErr result (IsJoinFault number (R.remaining file.old) whole.old) }
+{
+    let other = read_holding(alloc, file, number)?;
+    let new = whole.join_with(&other)?;
+    push_file(lines, number, new)?;
+    Ok(())
+}
+
+/// Adds the line of a file.
+fn push_file(text: &mut String, number: usize, new: usize) -> Result<(), AllocError>
+    ensures { OnOk result (string_bytes text.new ≡ string_bytes text.old ++ file_line number new) }
+{
+    writeln!(text, "file {number} new {new}")
+}

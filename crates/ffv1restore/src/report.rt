@@ -1,0 +1,33 @@
+//! The command `report`: prints the damage report of a holding file (own).
+ghost use Rattle.std.specs.Prelude.{◌≡◌, IfErr, OnOk};
+ghost use Rattle.ffv1restore.specs.Fault.{NamesPathBelow};
+ghost use Rattle.ffv1restore.specs.Devices.{UnlessWriting};
+ghost use Rattle.ffv1restore.specs.ReportedText.{ReportsFile, ReportStops};
+
+use crate::devices::print_text;
+use crate::fault::CliFault;
+use crate::holdings::read_holding;
+use ffv1_picture::report;
+use std::alloc::Global;
+use std::io::{Read, Write};
+
+/// Reads a holding file to its end, and prints its damage report: a line for the recording, one for each tile, one that
+/// counts them, and one for the whole frame.
+///
+/// The file is path 0, the output path 1. `Read` comes where the file can't be read; `HoldFile` with its first fault in the
+/// order of its bytes; `Memory` where a growth is refused: then nothing was written. `Write` comes where the output fails: a
+/// front of the report was written.
+pub fn run_report<R: Read, W: Write>(
+    alloc: Global,
+    file: &mut R,
+    output: &mut W,
+) -> Result<(), CliFault>
+    ensures ok { OnOk result (ReportsFile (R.remaining file.old) (W.contents output.old) (W.contents output.new)) }
+    ensures err { IfErr result (ReportStops (R.remaining file.old) (W.contents output.old) (W.contents output.new)) }
+    ensures untouched { IfErr result (λ fault. UnlessWriting fault (output.new ≡ output.old)) }
+    ensures names { IfErr result (NamesPathBelow 2) }
+{
+    let holding = read_holding(alloc, file, 0)?;
+    let text = report(alloc, &holding)?;
+    print_text(output, 1, text.as_str())
+}

@@ -1,0 +1,42 @@
+//! The command `restore`: writes the frame payload that a holding file restores (own).
+ghost use Rattle.std.specs.Prelude.{◌≡◌, IfOk, IfErr, OnOk, string_bytes};
+ghost use Rattle.ffv1restore.specs.Fault.{NamesPathBelow};
+ghost use Rattle.ffv1restore.specs.Devices.{UnlessWriting};
+ghost use Rattle.ffv1restore.specs.RestoreText.{restored_line, RestoresFile, RestoreStops};
+
+use crate::devices::write_both;
+use crate::fault::CliFault;
+use crate::holdings::read_holding;
+use std::alloc::{AllocError, Global};
+use std::io::{Read, Write};
+
+/// Reads a holding file to its end, writes the settled slices, joined in tile order, to `out`, and then prints how many
+/// bytes they are, as `restored 22 bytes`.
+///
+/// The file is path 0, `out` path 1, the output path 2. `Read` comes where the file can't be read; `HoldFile` with its
+/// first fault in the order of its bytes; `Missing` or `Disputed` for the first tile that isn't settled; `Memory` where a
+/// growth is refused: then nothing was written, and `out` was not touched. `Write` comes where `out` or the output fails: a
+/// front of the payload was written, or the whole payload and a front of the line.
+pub fn run_restore<R: Read, O: Write, W: Write>(
+    alloc: Global,
+    file: &mut R,
+    out: &mut O,
+    output: &mut W,
+) -> Result<(), CliFault>
+    ensures ok { OnOk result (RestoresFile (R.remaining file.old) (O.contents out.old) (O.contents out.new) (W.contents output.old) (W.contents output.new)) }
+    ensures err { IfErr result (RestoreStops (R.remaining file.old) (O.contents out.old) (O.contents out.new) (W.contents output.old) (W.contents output.new)) }
+    ensures untouched { IfErr result (λ fault. UnlessWriting fault ((out.new ≡ out.old) × (output.new ≡ output.old))) }
+    ensures names { IfErr result (NamesPathBelow 3) }
+{
+    let holding = read_holding(alloc, file, 0)?;
+    let payload = holding.restore()?;
+    let line = restored_text(alloc, payload.len())?;
+    write_both(out, 1, payload.as_slice(), output, 2, line.as_str())
+}
+
+/// The line that tells how many bytes were restored.
+fn restored_text(alloc: Global, count: usize) -> Result<String, AllocError>
+    ensures { IfOk result (λ line. string_bytes line ≡ restored_line count) }
+{
+    format!(in alloc; "restored {count} bytes\n")
+}

@@ -1,0 +1,105 @@
+//! The command `take`: makes the holding file of all slices that are found in copies of one frame (own;
+//! slices are those of RFC 9043, sections 4.5 and 4.9).
+ghost use Rattle.std.specs.Prelude.{◌≡◌, ◌≢◌, ◌+◌, ◌<◌, ◌≤◌, ◌^◌, ◌++◌, length, map, IfOk, IfErr, OnOk, string_bytes};
+ghost use Rattle.ffv1_hold.specs.Contents.{no_slices};
+ghost use Rattle.ffv1restore.specs.Fault.{NamesPathBelow};
+ghost use Rattle.ffv1restore.specs.Devices.{IfOfRecord, IsCopyFault, UnlessWriting};
+ghost use Rattle.ffv1restore.specs.TakeText.{copy_line, TakesEach, TakesOne, TakesCopies, IsFaultOfCopies, TakeStops};
+
+use crate::devices::{read_copy, read_file, write_both};
+use crate::fault::CliFault;
+use crate::holdings::file_of;
+use ffv1_hold::{Holding, Taken};
+use std::alloc::{AllocError, Global};
+use std::io::{Read, Write};
+
+/// Takes copies of a frame, one after the other, into an empty holding for a configuration record and the size of the
+/// frame in samples; writes the holding's file to `out`, and then prints a line for each copy, as
+/// `copy 1 links 2 slices 1 new 1`: its links, those that are slices, and the slices that no earlier copy gave.
+///
+/// The record is path 0, `out` path 1, the copies are the paths from 2 on, and the output is the path behind them. The
+/// record is judged before the first copy is read, and each copy is taken before the next is read. `Read` comes where the
+/// record or a copy can't be read, or the record is longer than 2^30 bytes; `Setup` with the record's first fault; `Hold`
+/// where a copy is longer than 2^30 bytes; `HoldFile` where the holding's file would pass its limit; `Memory` where a
+/// growth is refused: then nothing was written, and `out` was not touched. `Write` comes where `out` or the output fails:
+/// a front of the file was written, or the whole file and a front of the lines.
+pub fn run_take<R: Read, C: Read, O: Write, W: Write>(
+    alloc: Global,
+    configuration: &mut R,
+    width: u32,
+    height: u32,
+    copies: &mut [C],
+    out: &mut O,
+    output: &mut W,
+) -> Result<(), CliFault>
+    requires { length copies.old < 2 ^ 63 }
+    ensures ok { OnOk result (TakesCopies (R.remaining configuration.old) width height (map C.remaining copies.old)
+        (O.contents out.old) (O.contents out.new) (W.contents output.old) (W.contents output.new)) }
+    ensures err { IfErr result (TakeStops (R.remaining configuration.old) width height (map C.remaining copies.old)
+        (O.contents out.old) (O.contents out.new) (W.contents output.old) (W.contents output.new)) }
+    ensures untouched { IfErr result (λ fault. UnlessWriting fault ((out.new ≡ out.old) × (output.new ≡ output.old))) }
+    ensures in_turn { IfErr result (λ fault. IfOfRecord fault (copies.new ≡ copies.old)) }
+    ensures names { IfErr result (NamesPathBelow (length copies.old + 3)) }
+{
+    let config = read_file(alloc, configuration, 0)?;
+    let mut holding = Holding::new(alloc, config.as_slice(), width, height)?;
+    let lines = take_copies(alloc, &mut holding, copies)?;
+    let file = file_of(alloc, &holding)?;
+    write_both(
+        out,
+        1,
+        file.as_slice(),
+        output,
+        copies.len() + 2,
+        lines.as_str(),
+    )
+}
+
+/// Takes copies into an empty holding, and tells each in a line. The first is the command's path 2.
+fn take_copies<C: Read>(
+    alloc: Global,
+    holding: &mut Holding,
+    copies: &mut [C],
+) -> Result<String, CliFault>
+    requires empty { holding.old ≡ no_slices holding.old.reel }
+    requires few { length copies.old < 2 ^ 63 }
+    ensures ok { IfOk result (λ lines. TakesEach (map C.remaining copies.old) holding.old.reel holding.new (string_bytes lines)) }
+    ensures reel { holding.new.reel ≡ holding.old.reel }
+    ensures err { IfErr result (IsFaultOfCopies (map C.remaining copies.old)) }
+{
+    let mut lines = String::new(alloc);
+    for index in 0..copies.len() {
+        take_copy(alloc, holding, &mut copies[index], index, &mut lines)?;
+    }
+    Ok(lines)
+}
+
+/// Takes a copy, before which stand so many others, and tells it in a line.
+fn take_copy<C: Read>(
+    alloc: Global,
+    holding: &mut Holding,
+    copy: &mut C,
+    before: usize,
+    lines: &mut String,
+) -> Result<(), CliFault>
+    requires { before < 2 ^ 63 }
+    ensures ok { OnOk result (TakesOne (C.remaining copy.old) (before + 1) holding.old holding.new (string_bytes lines.old) (string_bytes lines.new)) }
+    ensures reel { holding.new.reel ≡ holding.old.reel }
+    ensures err { IfErr result (IsCopyFault (before + 2) (C.remaining copy.old)) }
+{
+    let payload = read_copy(alloc, copy, before + 2)?;
+    let taken = holding.take(payload.as_slice())?;
+    push_taken(lines, before + 1, taken)?;
+    Ok(())
+}
+
+/// Adds the line of a copy.
+fn push_taken(text: &mut String, number: usize, taken: Taken) -> Result<(), AllocError>
+    ensures { OnOk result (string_bytes text.new ≡ string_bytes text.old ++ copy_line number taken.links taken.slices taken.new) }
+{
+    let (links, slices, new) = (taken.links, taken.slices, taken.new);
+    writeln!(
+        text,
+        "copy {number} links {links} slices {slices} new {new}"
+    )
+}
