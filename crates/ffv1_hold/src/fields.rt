@@ -11,7 +11,7 @@ use crate::file_fault::HoldFileFault;
 use crate::streams::{Sink, Source};
 use std::io::ErrorKind;
 
-/// The greatest length of a holding file.
+/// The greatest length of a holding file, in bytes.
 pub const FILE_LIMIT: u32 = 1 << 31;
 
 /// How many interrupted tries in a row are a failure.
@@ -21,7 +21,7 @@ pub(crate) const TRIES: u32 = 65;
 #[derive(Clone, Copy, Debug, PartialEq, Eq)]
 pub(crate) struct ReadFailed;
 
-/// A sink failed.
+/// A sink failed: a try failed and was not interrupted, took none of some bytes, or was the 65th interrupted one in a row.
 #[derive(Clone, Copy, Debug, PartialEq, Eq)]
 pub struct WriteFailed;
 

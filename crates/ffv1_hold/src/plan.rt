@@ -90,6 +90,10 @@ impl From<HoldFileFault> for PlanFault {
 
 /// Carries a plan out. What is held then is exactly what is found in the plan's copies, however they are ordered, grouped
 /// or repeated. A refusal is that of the plan's first step that is refused, where all steps before it are carried out.
+///
+/// `config` is the configuration record, `width` and `height` the frames' size in samples. `Setup` comes with the record's
+/// first fault, `Hold` where a copy has more than 2^30 bytes, `File` where a holding that is reread has no file; each also
+/// for want of memory.
 pub fn run(
     alloc: Global,
     plan: &Plan<'_>,

@@ -18,7 +18,7 @@ use std::alloc::Global;
 /// Reads a holding file, to the end of the input.
 ///
 /// The faults are judged in byte order, and at most 2^31 + 1 bytes are read. `Read` comes only where the source counted a
-/// failure: an interrupted try is made again, and 65 in a row are a failure.
+/// failure: an interrupted try is made again, and 65 in a row are a failure. `Memory` comes where a growth is refused.
 pub fn read_hold<R: Source>(alloc: Global, source: &mut R) -> Result<Holding, HoldFileFault>
     // The whole input is the text of the holding.
     ensures text { IfOk result (λ h. Consumes (R.remaining source.old) (R.remaining source.new) (holding_text h)) }

@@ -18,7 +18,7 @@ pub trait Source {
     // How many bytes were read, `u64::MAX` for more.
     ghost taken: { Self → ℕ };
 
-    /// One try, which may be interrupted.
+    /// One try: answers how many bytes came to the front of `buf`. It may be interrupted; each error counts as a failure.
     fn read(&mut self, buf: &mut [u8]) -> io::Result<usize>
         ensures bound { ReadsAtMost result buf.new }
         ensures bytes { ReadConsumes (remaining self.old) (remaining self.new) result buf.new }
@@ -42,7 +42,8 @@ pub trait Sink {
     // How many writes failed. At `u64::MAX` it rises no more.
     ghost failures: { Self → ℕ };
 
-    /// One try, which may be interrupted. One of some bytes that takes none has failed.
+    /// One try: answers how many of the first bytes were taken. It may be interrupted; an error counts as a failure, and so
+    /// does taking none of some bytes.
     fn write(&mut self, buf: &[u8]) -> io::Result<usize>
         ensures bound { WritesAtMost result buf.now }
         ensures bytes { WriteAppends (contents self.old) (contents self.new) result buf.now }

@@ -63,7 +63,8 @@ impl Holding {
 
     /// Adds the slices that are found in copies, one copy after the other.
     ///
-    /// It stops at the first copy that is refused: then just those before it were taken.
+    /// It stops at the first copy that is refused, with `PayloadTooLong` where that has more than 2^30 bytes, else `Memory`:
+    /// then just those before it were taken, and the fault says how many.
     pub fn take_all(&mut self, copies: &[&[u8]]) -> Result<(), TakeAllFault>
         ensures ok { OnOk result (self.new ≡ with_copies self.old (map (λ copy. copy.now) copies.now)) }
         ensures short { OnOk result (AreShort (map (λ copy. copy.now) copies.now)) }

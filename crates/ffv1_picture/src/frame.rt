@@ -14,9 +14,9 @@ pub struct Frame {
     pub height: u32,
     /// Whether planes Cb and Cr follow plane Y.
     pub has_chroma: bool,
-    /// The logarithm of a chroma sample's width in luma samples.
+    /// The logarithm to base 2 of a chroma sample's width in luma samples; 0 of a gray frame.
     pub shift_h: u32,
-    /// The logarithm of a chroma sample's height in luma samples.
+    /// The logarithm to base 2 of a chroma sample's height in luma samples; 0 of a gray frame.
     pub shift_v: u32,
     /// The samples of each plane, row by row.
     pub planes: Vec<Vec<u8>>,

@@ -59,7 +59,8 @@ impl From<AllocError> for RestorationFault {
     }
 }
 
-/// Carries a plan out, and answers the restored payload, the report and the picture of what is held then.
+/// Carries a plan out, for a configuration record and the size of its frames in samples, and answers the restored payload,
+/// the report and the picture of what is held then.
 ///
 /// However the same copies are ordered, grouped or repeated, the holdings are equal in every tile, file byte and report line.
 /// Where every slice found in them is the original's for its tile, and each tile's is found in some copy, the restored payload

@@ -4,7 +4,7 @@ use std::alloc::{AllocError, AllocFailed};
 /// Why a vector was not made.
 #[derive(Clone, Copy, Debug, PartialEq, Eq)]
 pub enum MakeFault {
-    /// What was made does not read back as what was asked.
+    /// What is asked for does not fit or passes a limit, or what was made does not read back as it.
     NotSelf,
     /// A growth of memory was refused.
     Memory,

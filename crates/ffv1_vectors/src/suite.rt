@@ -39,7 +39,7 @@ pub enum SuiteContent {
 pub struct SuiteCase {
     /// The tables.
     pub tables: SuiteTables,
-    /// The logarithms of a chroma sample's width and height in luma samples; `None` where the recording is gray.
+    /// The logarithms to base 2 of a chroma sample's width and height in luma samples; `None` where the recording is gray.
     pub chroma: Option<(u32, u32)>,
     /// The tiles across and down.
     pub grid: (u32, u32),

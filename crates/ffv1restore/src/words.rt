@@ -207,8 +207,8 @@ fn words_of<'a>(alloc: Global, name: &str, matches: &ArgMatches<'a>) -> Result<W
     }
 }
 
-/// The command that the program's words name, the first of which is the program's own. All other words are refused,
-/// those that ask for help among them.
+/// The command that the program's words name, the first of which is the program's own. All other words are refused with
+/// `Words`, those that ask for help among them; `Memory` comes where a growth is refused.
 pub fn read_words<'a>(alloc: Global, words: &'a [String]) -> Result<Words<'a>, CliFault>
     ensures { IfErr result (NamesPathBelow 0) }
 {
