@@ -1,3 +1,4 @@
+pub mod Alone
 pub mod WholePlanes
 pub mod Drawings
 pub mod Decoded

@@ -32,7 +32,7 @@ module _ (setup : SetupValue) (profile : IsInProfile setup) (tile : ℕ) (lt : t
   same_of_slice slice None (Some b) none other = absurd (none b other.0 other.1)
   same_of_slice slice None None none other = refl
 
-  one_picture : (state : Standing) (a b : Option Planes) → IsPictureOfTile setup tile state a → IsPictureOfTile setup tile state b → a ≡ b
+  pub one_picture : (state : Standing) (a b : Option Planes) → IsPictureOfTile setup tile state a → IsPictureOfTile setup tile state b → a ≡ b
   one_picture missing a b one other = one ∙ sym other
   one_picture (settled slice) a b one other = same_of_slice slice a b one other
   one_picture (disputed n) a b one other = one ∙ sym other

@@ -82,7 +82,7 @@ or_else_assoc : (a b c : Option ℕ) → or_else (or_else a b) c ≡ or_else a (
 or_else_assoc (Some x) b c = refl
 or_else_assoc None b c = refl
 
-or_else_none : (a : Option ℕ) → or_else a None ≡ a
+pub or_else_none : (a : Option ℕ) → or_else a None ≡ a
 or_else_none (Some x) = refl
 or_else_none None = refl
 

@@ -6,3 +6,4 @@ pub mod FrameFaults
 pub mod PartialPictures
 pub mod ReportText
 pub mod Headline
+pub mod TileAlone

@@ -1,12 +1,10 @@
 -- What the content of a slice spells of its tile, or why it spells nothing (RFC 9043, sections 4.5 to 4.8).
-use Rattle.std.specs.Prelude.{◌≡◌, ◌≢◌, ◌==◌, ℕ, List, Option, Some, None, Err}
+use Rattle.std.specs.Prelude.{ℕ, List, Option, Some, None}
 use Rattle.ffv1_range.specs.Setup.{SetupValue}
-use Rattle.ffv1_range.specs.Header.{IsHeadOf, header_limits, head_read}
-use Rattle.ffv1_range.specs.declared.head.SliceHead.{SliceHead}
 use Rattle.ffv1_slice.specs.Slices.{content_of}
 use Rattle.ffv1_plane.specs.Picture.{IsPictureOf}
+use Rattle.ffv1_plane.specs.StuckLaws.{IsRefusedFor}
 use Rattle.ffv1_plane.specs.declared.tile.TileFault.{TileFault}
-use Rattle.ffv1_plane.specs.declared.tile.TileFault.TheVariants.{Head, OtherTile, Code, Memory}
 use Rattle.ffv1_picture.specs.WholePicture.{Planes}
 
 -- The content spells these planes of the tile, and then has so many spare bits.
@@ -18,19 +16,7 @@ abbrev pub IsPictureOfSlice : SetupValue → ℕ → List ℕ → Option Planes 
 IsPictureOfSlice setup tile slice (Some planes) = (spare : ℕ) × SpellsPlanes setup tile (content_of slice) planes spare
 IsPictureOfSlice setup tile slice None = (planes : Planes) (spare : ℕ) → ¬ SpellsPlanes setup tile (content_of slice) planes spare
 
--- The content begins with a header of the profile. That of tile 0 is read as the payload's first.
-abbrev pub HasHead : SetupValue → ℕ → List ℕ → SliceHead → Type 0
-HasHead setup tile content head = (place : ℕ) × IsHeadOf (header_limits setup) content (tile == 0) head place
-
--- Why a content spells no picture of a tile: it has no header of the profile, for this first fault; or it has one of another tile; or
--- it has one of the tile, and a run word or a code behind that can't be read.
-abbrev pub IsCauseOf : SetupValue → ℕ → List ℕ → TileFault → Type 0
-IsCauseOf setup tile content (Head fault) = head_read (header_limits setup) content (tile == 0) ≡ Err fault
-IsCauseOf setup tile content OtherTile = (head : SliceHead) × HasHead setup tile content head × (head.tile ≢ tile)
-IsCauseOf setup tile content (Code fault plane y x) = (head : SliceHead) × HasHead setup tile content head × (head.tile ≡ tile)
-IsCauseOf setup tile content Memory = ⊥
-
 -- The content spells no picture of the tile, and this is why.
 pub record IsUnreadable (setup : SetupValue) (tile : ℕ) (content : List ℕ) (cause : TileFault) : Type 0 where
   pub no_picture : (planes : Planes) (spare : ℕ) → ¬ SpellsPlanes setup tile content planes spare
-  pub is_cause : IsCauseOf setup tile content cause
+  pub is_cause : IsRefusedFor setup tile content cause

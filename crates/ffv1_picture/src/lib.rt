@@ -14,7 +14,7 @@ mod restoring;
 pub use decoder::Decoder;
 pub use fault::FrameFault;
 pub use frame::Frame;
-pub use partial::{Partial, TileOutcome, picture};
+pub use partial::{Partial, TileOutcome, picture, tile_alone};
 pub use raw::{WriteFault, write_raw};
 pub use reporting::report;
 pub use restoring::{Restoration, RestorationFault, restored};

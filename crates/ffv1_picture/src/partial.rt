@@ -6,6 +6,7 @@ ghost use Rattle.ffv1_picture.specs.Drawing.{HasSizes};
 ghost use Rattle.ffv1_picture.specs.Frames.{planes_of, IsFrameOf};
 ghost use Rattle.ffv1_picture.specs.WholePicture.{Planes};
 ghost use Rattle.ffv1_picture.specs.PartialPictures.{ShowsTile, ArePicturesOf, IsPartialPicture};
+ghost use Rattle.ffv1_picture.specs.TileAlone.{TileAlone};
 
 use crate::drawing::draw_slice;
 use crate::frame::Frame;
@@ -81,3 +82,8 @@ fn show_tile(
         }
     }
 }
+
+/// What is shown of a tile depends on its own slices alone.
+pub fn tile_alone()
+    ensures { TileAlone }
+{}

@@ -35,7 +35,7 @@ next_column n w some inside =
     (cases_lt (n % w + 1) w)
 
 module _ (w : ℕ) (c e d f : ℕ → ℤ) where
-  in_run_alike : (n : ℕ) → ((j : ℕ) → j ≤ n → c j ≡ e j) → ((j : ℕ) → j < n → d j ≡ f j) → is_in_run (residuals w c d) n ≡ is_in_run (residuals w e f) n
+  pub in_run_alike : (n : ℕ) → ((j : ℕ) → j ≤ n → c j ≡ e j) → ((j : ℕ) → j < n → d j ≡ f j) → is_in_run (residuals w c d) n ≡ is_in_run (residuals w e f) n
   unfolding is_in_run
   in_run_alike zero same alike = ap is_zero (same 0 (omega arith))
   in_run_alike (suc n) same alike =
@@ -44,7 +44,7 @@ module _ (w : ℕ) (c e d f : ℕ → ℤ) where
       let ind : is_in_run (residuals w c d) n ≡ is_in_run (residuals w e f) n = in_run_alike n (λ j h. same j (omega arith)) (λ j h. alike j (omega arith)) in
       rw (here, before, ind) refl
 
-  follows_alike : (n : ℕ) → ((j : ℕ) → j ≤ n → c j ≡ e j) → ((j : ℕ) → j < n → d j ≡ f j) → follows_skipped (residuals w c d) n ≡ follows_skipped (residuals w e f) n
+  pub follows_alike : (n : ℕ) → ((j : ℕ) → j ≤ n → c j ≡ e j) → ((j : ℕ) → j < n → d j ≡ f j) → follows_skipped (residuals w c d) n ≡ follows_skipped (residuals w e f) n
   unfolding follows_skipped
   follows_alike zero same alike = refl
   follows_alike (suc n) same alike =
@@ -134,10 +134,10 @@ length_behind r q s count m is a b same =
 module _ (earlier : ℕ → List ℤ) (w : ℕ) (c e d f : ℕ → ℤ) (some : 0 < w)
     (range : (j : ℕ) → IsDifference (d j)) (also : (j : ℕ) → IsDifference (f j))
     (determined : (n : ℕ) → ((j : ℕ) → j < n → d j ≡ f j) → c n ≡ e n) where
-  contexts_to : (n : ℕ) → ((j : ℕ) → j < n → d j ≡ f j) → (j : ℕ) → j ≤ n → c j ≡ e j
+  pub contexts_to : (n : ℕ) → ((j : ℕ) → j < n → d j ≡ f j) → (j : ℕ) → j ≤ n → c j ≡ e j
   contexts_to n alike j h = determined j (λ i less. alike i (omega arith))
 
-  states_alike : (n k : ℕ) → ((j : ℕ) → j < n → d j ≡ f j) → state_before earlier (residuals w c d) k n ≡ state_before earlier (residuals w e f) k n
+  pub states_alike : (n k : ℕ) → ((j : ℕ) → j < n → d j ≡ f j) → state_before earlier (residuals w c d) k n ≡ state_before earlier (residuals w e f) k n
   states_alike n k alike =
       let runs : (j : ℕ) → j < n → is_in_run (residuals w c d) j ≡ is_in_run (residuals w e f) j = λ j h. in_run_alike w c e d f j (contexts_to j (λ i less. alike i (omega arith))) (λ i less. alike i (omega arith)) in
       ap (λ l. fold (λ state value. after_value state value) start_state (earlier k ++ l))
@@ -146,34 +146,42 @@ module _ (earlier : ℕ → List ℤ) (w : ℕ) (c e d f : ℕ → ℤ) (some : 
       (λ j h. let r : is_in_run (residuals w c d) j ≡ is_in_run (residuals w e f) j = runs j h in let a : d j ≡ f j = alike j h in rw (r, a) refl))
 
   -- sample n, behind what was read alike
-  record AfterRun (n next then : ℕ) (rest more : List Bool) : Type 0 where
-    index : next ≡ then
-    behind : rest ≡ more
-    lengths : is_in_run (residuals w c d) n ≡ true → run_length (residuals w c d) n ≡ run_length (residuals w e f) n
+  pub record AfterRun (n next then : ℕ) (rest more : List Bool) : Type 0 where
+    pub index : next ≡ then
+    pub behind : rest ≡ more
+    pub lengths : is_in_run (residuals w c d) n ≡ true → run_length (residuals w c d) n ≡ run_length (residuals w e f) n
 
-  after_run : (n index then next last : ℕ) (piece words rest more : List Bool) → Alike w c e d f n → index ≡ then → piece ++ rest ≡ words ++ more
-      → (a : SampleSpells earlier (residuals w c d) n index piece next) → (b : SampleSpells earlier (residuals w e f) n then words last) → AfterRun n next last (a.code ++ rest) (b.code ++ more)
-  after_run n index then next last piece words rest more alike same joined a b =
-      let inner : a.run ++ (a.code ++ rest) ≡ b.run ++ (b.code ++ more) = sym (append_assoc a.run a.code rest) ∙ ap (λ l. l ++ rest) (sym a.joined) ∙ joined ∙ ap (λ l. l ++ more) b.joined ∙ append_assoc b.run b.code more in
+  -- runs that stand there are one
+  pub runs_alike : (n index then next last : ℕ) (run words rest more : List Bool) → Alike w c e d f n → index ≡ then → run ++ rest ≡ words ++ more
+      → (starts_run (residuals w c d) n ≡ true → SpellsRun (run_length (residuals w c d) n) (left_in_line (residuals w c d) n) index run next) → (starts_run (residuals w c d) n ≡ false → (run ≡ []) × (next ≡ index))
+      → (starts_run (residuals w e f) n ≡ true → SpellsRun (run_length (residuals w e f) n) (left_in_line (residuals w e f) n) then words last) → (starts_run (residuals w e f) n ≡ false → (words ≡ []) × (last ≡ then))
+      → AfterRun n next last rest more
+  runs_alike n index then next last run words rest more alike same joined a_starts a_none b_starts b_none =
       let runs : is_in_run (residuals w c d) n ≡ is_in_run (residuals w e f) n = in_run_alike w c e d f n (contexts_to n alike.differences) alike.differences in
       let follows : follows_skipped (residuals w c d) n ≡ follows_skipped (residuals w e f) n = follows_alike w c e d f n (contexts_to n alike.differences) alike.differences in
       let starts : starts_run (residuals w c d) n ≡ starts_run (residuals w e f) n = rw (runs, follows) refl in
       ⊎_elim
       (λ yes.
-      let P : ℕ → Type 0 = λ i. SpellsRun (run_length (residuals w e f) n) (left_in_line (residuals w e f) n) i b.run last in
-      let one = one_run _ _ _ _ _ _ a.run b.run (a.code ++ rest) (b.code ++ more) (a.run_starts yes) (subst P (sym same) (b.run_starts (sym starts ∙ yes))) inner in
+      let P : ℕ → Type 0 = λ i. SpellsRun (run_length (residuals w e f) n) (left_in_line (residuals w e f) n) i words last in
+      let one = one_run _ _ _ _ _ _ run words rest more (a_starts yes) (subst P (sym same) (b_starts (sym starts ∙ yes))) joined in
       record { index = one.1; behind = one.2; lengths = λ h. one.0 })
       (λ no.
-      let p = a.no_run_starts no in
-      let q = b.no_run_starts (sym starts ∙ no) in
+      let p = a_none no in
+      let q = b_none (sym starts ∙ no) in
       record {
         index = p.1 ∙ same ∙ sym q.1;
-        behind = ap (λ l. l ++ (a.code ++ rest)) (sym p.0) ∙ inner ∙ ap (λ l. l ++ (b.code ++ more)) q.0;
+        behind = ap (λ l. l ++ rest) (sym p.0) ∙ joined ∙ ap (λ l. l ++ more) q.0;
         lengths = λ h. alike.runs (follows_of (is_in_run (residuals w c d) n) _ h no);
       })
       (is_bool (starts_run (residuals w c d) n))
 
-  skipped_alike : (n next then : ℕ) (rest more : List Bool) → Alike w c e d f n → AfterRun n next then rest more → is_skipped (residuals w c d) n ≡ is_skipped (residuals w e f) n
+  after_run : (n index then next last : ℕ) (piece words rest more : List Bool) → Alike w c e d f n → index ≡ then → piece ++ rest ≡ words ++ more
+      → (a : SampleSpells earlier (residuals w c d) n index piece next) → (b : SampleSpells earlier (residuals w e f) n then words last) → AfterRun n next last (a.code ++ rest) (b.code ++ more)
+  after_run n index then next last piece words rest more alike same joined a b =
+      let inner : a.run ++ (a.code ++ rest) ≡ b.run ++ (b.code ++ more) = sym (append_assoc a.run a.code rest) ∙ ap (λ l. l ++ rest) (sym a.joined) ∙ joined ∙ ap (λ l. l ++ more) b.joined ∙ append_assoc b.run b.code more in
+      runs_alike n index then next last a.run b.run (a.code ++ rest) (b.code ++ more) alike same inner a.run_starts a.no_run_starts b.run_starts b.no_run_starts
+
+  pub skipped_alike : (n next then : ℕ) (rest more : List Bool) → Alike w c e d f n → AfterRun n next then rest more → is_skipped (residuals w c d) n ≡ is_skipped (residuals w e f) n
   skipped_alike n next then rest more alike after =
       let runs : is_in_run (residuals w c d) n ≡ is_in_run (residuals w e f) n = in_run_alike w c e d f n (contexts_to n alike.differences) alike.differences in
       let left : 0 < left_in_line (residuals w c d) n = (let small : n % w < w = omega arith in omega arith) in
@@ -183,7 +191,7 @@ module _ (earlier : ℕ → List ℤ) (w : ℕ) (c e d f : ℕ → ℤ) (some : 
       (is_bool (is_in_run (residuals w c d) n))
 
   -- one sample more
-  one_sample : (n index then next last : ℕ) (piece words rest more : List Bool) → Alike w c e d f n → index ≡ then → piece ++ rest ≡ words ++ more
+  pub one_sample : (n index then next last : ℕ) (piece words rest more : List Bool) → Alike w c e d f n → index ≡ then → piece ++ rest ≡ words ++ more
       → SampleSpells earlier (residuals w c d) n index piece next → SampleSpells earlier (residuals w e f) n then words last → (d n ≡ f n) × (next ≡ last) × (rest ≡ more)
   one_sample n index then next last piece words rest more alike same joined a b =
       let after = after_run n index then next last piece words rest more alike same joined a b in

@@ -1,14 +1,19 @@
 pub mod Alike
-pub mod Blocked
 pub mod Back
 pub mod Causal
 pub mod Contexts
+pub mod Fronts
+pub mod Halting
 pub mod OnePlane
+pub mod OneStuck
 pub mod Pictures
 pub mod Places
 pub mod Prefixes
 pub mod Reading
+pub mod Refused
 pub mod Runs
 pub mod Steps
+pub mod Stops
+pub mod Totals
 mod Vectors
 pub mod Wholes

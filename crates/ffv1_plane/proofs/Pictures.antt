@@ -15,9 +15,9 @@ use Rattle.ffv1_range.proofs.Spelling.{same_ok}
 use Rattle.ffv1_rice.specs.States.{ContextState}
 use Rattle.ffv1_plane.specs.Samples.{plane_of}
 use Rattle.ffv1_plane.specs.Spelling.{PlaneSpells, values_after}
-use Rattle.ffv1_plane.specs.Progress.{AreStatesAfter, IsPlaneRead, IsNoPlane}
+use Rattle.ffv1_plane.specs.Progress.{AreStatesAfter, IsPlaneRead}
 use Rattle.ffv1_plane.specs.Picture.{PictureValue, ArePlanesOf, IsPlaneIn, samples_of, plane_set, shaped_plane, tile_plane, plane_groups, no_values, GroupsSpell, IsPictureOf, OneReading}
-use Rattle.ffv1_plane.specs.Groups.{IsLumaRead, IsNoLuma, IsChromaRead, IsNoChroma, ArePlanesRead, AreNoPlanes}
+use Rattle.ffv1_plane.specs.Groups.{IsLumaRead, IsChromaRead, ArePlanesRead}
 use Rattle.ffv1_plane.proofs.OnePlane.{one_plane}
 
 -- ---- sizes
@@ -91,17 +91,6 @@ module _ (setup : SetupValue) (head : SliceHead) (profile : IsInProfile setup) (
       a.cr_spells (subst P (sym first.0) b.cr_spells) first.1 in
       (first.0, second.0, second.1)
 
-  -- where Cr can't be read behind Cb
-  pub no_cr : (bits mid : List Bool) (states after : List ContextState) (blue : List ℕ) → AreStatesAfter no_values states
-      → IsPlaneIn (plane_rect (grid_of setup) head.tile 1) blue
-      → IsPlaneRead (plane_rect (grid_of setup) head.tile 1).w (plane_rect (grid_of setup) head.tile 1).h (set_entry setup (plane_set head 1)) states bits blue after mid
-      → IsNoPlane (plane_rect (grid_of setup) head.tile 2).w (plane_rect (grid_of setup) head.tile 2).h (set_entry setup (plane_set head 2)) after mid → IsNoChroma setup head bits
-  no_cr bits mid states after blue fresh size read none cb cr rest h =
-      let first = read no_values fresh in
-      let one = same_plane (plane_rect (grid_of setup) head.tile 1) (set_entry setup (plane_set head 1)) no_values cb blue h.front first.0 (h.back ++ rest) mid (some_columns 1) h.cb_size size h.cb_spells first.2 (sym h.begins ∙ first.1) in
-      let P : List ℕ → Type 0 = λ l. PlaneSpells (values_after no_values (shaped_plane setup head 1 l)) (shaped_plane setup head 2 cr) h.back in
-      none (values_after no_values (shaped_plane setup head 1 blue)) cr h.back rest first.3 h.cr_size (subst P one.0 h.cr_spells) (sym one.1)
-
   pub chroma_read : (bits mid rest : List Bool) (states between after : List ContextState) (cb cr : List ℕ) → AreStatesAfter no_values states
       → IsPlaneIn (plane_rect (grid_of setup) head.tile 1) cb → IsPlaneIn (plane_rect (grid_of setup) head.tile 2) cr
       → IsPlaneRead (plane_rect (grid_of setup) head.tile 1).w (plane_rect (grid_of setup) head.tile 1).h (set_entry setup (plane_set head 1)) states bits cb between mid
@@ -113,14 +102,14 @@ module _ (setup : SetupValue) (head : SliceHead) (profile : IsInProfile setup) (
 
   -- ---- whole pictures
 
-  gray_sizes : (samples : List ℕ) → plane_count (grid_of setup) ≡ 1 → IsPlaneIn (plane_rect (grid_of setup) head.tile 0) samples → ArePlanesOf setup head.tile (samples ∷ [])
+  pub gray_sizes : (samples : List ℕ) → plane_count (grid_of setup) ≡ 1 → IsPlaneIn (plane_rect (grid_of setup) head.tile 0) samples → ArePlanesOf setup head.tile (samples ∷ [])
   gray_sizes samples one size = record { count = sym one; sizes = sizes }
     where
       sizes : (plane : ℕ) → plane < plane_count (grid_of setup) → IsPlaneIn (plane_rect (grid_of setup) head.tile plane) (samples_of (samples ∷ []) plane)
       sizes zero less = size
       sizes (suc plane) less = absurd (omega (arith, one))
 
-  colour_sizes : (y cb cr : List ℕ) → plane_count (grid_of setup) ≡ 3 → IsPlaneIn (plane_rect (grid_of setup) head.tile 0) y → IsPlaneIn (plane_rect (grid_of setup) head.tile 1) cb → IsPlaneIn (plane_rect (grid_of setup) head.tile 2) cr
+  pub colour_sizes : (y cb cr : List ℕ) → plane_count (grid_of setup) ≡ 3 → IsPlaneIn (plane_rect (grid_of setup) head.tile 0) y → IsPlaneIn (plane_rect (grid_of setup) head.tile 1) cb → IsPlaneIn (plane_rect (grid_of setup) head.tile 2) cr
       → ArePlanesOf setup head.tile (y ∷ cb ∷ cr ∷ [])
   colour_sizes y cb cr three y_size cb_size cr_size = record { count = sym three; sizes = sizes }
     where
@@ -130,7 +119,7 @@ module _ (setup : SetupValue) (head : SliceHead) (profile : IsInProfile setup) (
       sizes (suc (suc zero)) less = cr_size
       sizes (suc (suc (suc plane))) less = absurd (omega (arith, three))
 
-  count_of : (b : Bool) → setup.has_chroma ≡ b → plane_count (grid_of setup) ≡ cond b 3 1
+  pub count_of : (b : Bool) → setup.has_chroma ≡ b → plane_count (grid_of setup) ≡ cond b 3 1
   count_of b is = ap (λ c. cond c 3 1) is
 
   pub gray_read : (bits rest : List Bool) (samples : List ℕ) → setup.has_chroma ≡ false → IsLumaRead setup head bits samples rest → ArePlanesRead setup head bits (samples ∷ []) rest
@@ -208,21 +197,6 @@ module _ (setup : SetupValue) (head : SliceHead) (profile : IsInProfile setup) (
         };
       }
 
-  -- nothing that goes on from what was read, so nothing at all
-  pub luma_none : (bits : List Bool) → IsNoLuma setup head bits → AreNoPlanes setup head bits
-  luma_none bits none planes rest h = either setup.has_chroma refl
-    where
-      either : (b : Bool) → setup.has_chroma ≡ b → ⊥
-      either true colour = let parts = colour_parts bits rest planes colour h in none (samples_of planes 0) parts.mid parts.luma
-      either false gray = none (samples_of planes 0) rest (gray_parts bits rest planes gray h)
-
-  pub chroma_none : (bits mid : List Bool) (samples : List ℕ) → setup.has_chroma ≡ true → IsLumaRead setup head bits samples mid → IsNoChroma setup head mid → AreNoPlanes setup head bits
-  chroma_none bits mid samples colour luma none planes rest h =
-      let parts = colour_parts bits rest planes colour h in
-      let one = one_luma bits (samples_of planes 0) samples parts.mid mid parts.luma luma in
-      let P : List Bool → Type 0 = λ l. IsChromaRead setup head l (samples_of planes 1) (samples_of planes 2) rest in
-      none (samples_of planes 1) (samples_of planes 2) rest (subst P one.1 parts.chroma)
-
   -- one picture
   pub one_picture : (bits rest more : List Bool) (planes others : List (List ℕ)) → ArePlanesRead setup head bits planes rest → ArePlanesRead setup head bits others more → (planes ≡ others) × (rest ≡ more)
   one_picture bits rest more planes others a b = either setup.has_chroma refl
@@ -254,7 +228,7 @@ module _ (setup : SetupValue) (head : SliceHead) (profile : IsInProfile setup) (
 
 -- ---- the law
 
-head_is_one : (limits : HeadLimits) (content : List ℕ) (first : Bool) (a b : SliceHead) (place other : ℕ) → IsHeadOf limits content first a place → IsHeadOf limits content first b other → (a ≡ b) × (place ≡ other)
+pub head_is_one : (limits : HeadLimits) (content : List ℕ) (first : Bool) (a b : SliceHead) (place other : ℕ) → IsHeadOf limits content first a place → IsHeadOf limits content first b other → (a ≡ b) × (place ≡ other)
 head_is_one limits content first a b place other h k =
     let same = same_ok (a, place) (b, other) (sym (head_run limits content first a place h) ∙ head_run limits content first b other k) in
     (ap (λ z. z.0) same, ap (λ z. z.1) same)

@@ -4,22 +4,24 @@ use Rattle.std.proofs.lemmas.List.{get_or_append_left, get_or_push, length_push,
 use Rattle.std.proofs.lemmas.Bool.{cases_eq, cases_lt, ne_eqb}
 use Rattle.std.proofs.lemmas.Int.{ints}
 use Rattle.ffv1_rice.specs.States.{ContextState, start_state, after_value, fold}
-use Rattle.ffv1_rice.specs.Codes.{decoded_value, IsCoded, IsCodedDifference, SpellsValue}
+use Rattle.ffv1_rice.specs.Codes.{IsCodeFault, decoded_value, IsCoded, IsCodedDifference, SpellsValue}
 use Rattle.ffv1_bits.specs.Reader.{Reading}
 use Rattle.ffv1_plane.specs.declared.neighbours.Neighbours.{Neighbours}
 use Rattle.ffv1_plane.specs.Samples.{plane_of, neighbours_at, prediction_of, context_of, difference_of}
 use Rattle.ffv1_plane.specs.Spelling.{Residuals, residuals_of, context_number, is_zero, is_in_run, is_skipped, is_coded, value_at, state_after, state_before, values_after, samples_before, follows_skipped, SamplesSpell, PlaneSpells}
-use Rattle.ffv1_plane.specs.Progress.{AreStatesAfter, IsSampleRead, IsReadTo, IsRunRead, IsNoCode, AreSkipped, Progress}
+use Rattle.ffv1_plane.specs.Progress.{AreStatesAfter, IsSampleRead, IsReadTo, IsRunRead, AreSkipped, Progress}
+use Rattle.ffv1_plane.specs.Halts.{IsCodeHalted, next_context}
+use Rattle.ffv1_rice.specs.declared.code.CodeFault.{CodeFault}
 use Rattle.ffv1_plane.proofs.Alike.{is_bool, zero_of}
 use Rattle.ffv1_plane.proofs.Steps.{state_more, scalar_step, in_run_is, skipped_to, in_run_to, run_end, run_level}
 use Rattle.ffv1_plane.proofs.Causal.{neighbours_same}
 
-same_before : (old more : List ℕ) (x j : ℕ) → j < length old → get_or ((old ++ x ∷ []) ++ more) j 0 ≡ get_or old j 0
+pub same_before : (old more : List ℕ) (x j : ℕ) → j < length old → get_or ((old ++ x ∷ []) ++ more) j 0 ≡ get_or old j 0
 same_before old more x j h =
     let longer : j < length (old ++ x ∷ []) = omega (arith, length_push old x) in
     get_or_append_left (old ++ x ∷ []) more 0 j longer ∙ get_or_append_left old (x ∷ []) 0 j h
 
-this_one : (old more : List ℕ) (x : ℕ) → get_or ((old ++ x ∷ []) ++ more) (length old) 0 ≡ x
+pub this_one : (old more : List ℕ) (x : ℕ) → get_or ((old ++ x ∷ []) ++ more) (length old) 0 ≡ x
 this_one old more x =
     let longer : length old < length (old ++ x ∷ []) = omega (arith, length_push old x) in
     get_or_append_left (old ++ x ∷ []) more 0 (length old) longer ∙ get_or_push old x 0 (length old) refl
@@ -129,19 +131,19 @@ skipped_states earlier r s k (suc n) skipped =
 module _ (earlier : ℕ → List ℤ) (width : ℕ) (entry : ℕ → ℕ → ℤ) (some : 0 < width) (bits left : List Bool) (old mid : List ℕ) (index : ℕ) (states : List ContextState) (so_far : IsReadTo earlier width entry bits old index states left)
     (zero_context : (more : List ℕ) → is_zero ((residuals_of (plane_of width entry (old ++ more))).context (length old)) ≡ true)
     (n next : ℕ) (tail : List Bool) (run : IsRunRead (width - length old % width) index left n next tail) (skips : AreSkipped width entry old mid n) where
-  lists_mid : (more : List ℕ) → old ++ (skips.samples ++ more) ≡ mid ++ more
+  pub lists_mid : (more : List ℕ) → old ++ (skips.samples ++ more) ≡ mid ++ more
   lists_mid more = sym (append_assoc old skips.samples more) ∙ ap (λ l. l ++ more) (sym skips.pushed)
 
-  longer_mid : length mid ≡ length old + n
+  pub longer_mid : length mid ≡ length old + n
   longer_mid = omega (arith, ap length skips.pushed, length-append old skips.samples, skips.count)
 
-  before_mid : (more : List ℕ) → Progress earlier (residuals_of (plane_of width entry (mid ++ more))) (length old) bits index left
+  pub before_mid : (more : List ℕ) → Progress earlier (residuals_of (plane_of width entry (mid ++ more))) (length old) bits index left
   before_mid more = let P : List ℕ → Type 0 = λ l. Progress earlier (residuals_of (plane_of width entry l)) (length old) bits index left in subst P (lists_mid more) (so_far.progress (skips.samples ++ more))
 
-  zero_mid : (more : List ℕ) → is_zero ((residuals_of (plane_of width entry (mid ++ more))).context (length old)) ≡ true
+  pub zero_mid : (more : List ℕ) → is_zero ((residuals_of (plane_of width entry (mid ++ more))).context (length old)) ≡ true
   zero_mid more = let P : List ℕ → Type 0 = λ l. is_zero ((residuals_of (plane_of width entry l)).context (length old)) ≡ true in subst P (lists_mid more) (zero_context (skips.samples ++ more))
 
-  states_mid : (more : List ℕ) (k : ℕ) → k < length states → get_or states k start_state ≡ state_before earlier (residuals_of (plane_of width entry (mid ++ more))) k (length old + n)
+  pub states_mid : (more : List ℕ) (k : ℕ) → k < length states → get_or states k start_state ≡ state_before earlier (residuals_of (plane_of width entry (mid ++ more))) k (length old + n)
   unfolding residuals_of
   states_mid more k h =
       let r = residuals_of (plane_of width entry (mid ++ more)) in
@@ -231,7 +233,7 @@ no_samples earlier width entry bits states fresh = record {
 
 -- ---- one skipped sample further
 
-same_zero : (context : ℤ) (p : ℕ) → difference_of context p p ≡ pos 0
+pub same_zero : (context : ℤ) (p : ℕ) → difference_of context p p ≡ pos 0
 unfolding difference_of
 same_zero context p = either (int_lt context (pos 0))
   where
@@ -309,16 +311,12 @@ scalar_read_at earlier width entry old new index states after left rest near con
     let large : 0 < nat_abs context = some_abs context not_zero in
     scalar_read earlier width entry bits left rest old new index states after so_far read (omega (arith, told, large))
 
--- where no difference has its code under the state that stood there
-pub no_code_at : (width : ℕ) (entry : ℕ → ℕ → ℤ) (level : Bool) (samples : List ℕ) (states : List ContextState) (bits : Reading) (near : Neighbours) (context : ℤ) (i : ℕ) (z : ContextState)
+-- where the code can't be read under the state that stood there
+pub code_halted_at : (width : ℕ) (entry : ℕ → ℕ → ℤ) (level : Bool) (samples : List ℕ) (states : List ContextState) (bits : List Bool) (near : Neighbours) (context : ℤ) (i sample : ℕ) (z : ContextState) (fault : CodeFault)
     → near ≡ neighbours_at width samples (length samples) → context ≡ context_of entry near → i ≡ nat_abs context → i < length states → z ≡ get_or states i z
-    → ((difference : ℤ) (after : Reading) → IsCodedDifference level difference → IsCoded z level difference bits after → ⊥) → IsNoCode width entry level samples states bits.left
-no_code_at width entry level samples states bits near context i z near_is context_is i_is below z_is none =
-    let number : i ≡ nat_abs (context_of entry (neighbours_at width samples (length samples))) = i_is ∙ ap nat_abs (context_is ∙ ap (context_of entry) near_is) in
-    let z_there : z ≡ get_or states (nat_abs (context_of entry (neighbours_at width samples (length samples)))) start_state = get_or_read states i z below z_is start_state ∙ ap (λ k. get_or states k start_state) number in
-    record {
-      below = omega (arith, number, below);
-      none = λ difference code rest range spells begins.
-          let P : ContextState → Type 0 = λ s. SpellsValue s (decoded_value level difference) code in
-          none difference (record { place = bits.place + length code; left = rest }) range (record { code = code; spells = subst P (sym z_there) spells; reads = record { begins = begins; moves = refl } });
-    }
+    → IsCodeFault z level bits fault → sample ≡ length samples → IsCodeHalted width entry level samples states bits fault sample
+code_halted_at width entry level samples states bits near context i sample z fault near_is context_is i_is below z_is told place =
+    let number : i ≡ next_context width entry samples = i_is ∙ ap nat_abs (context_is ∙ ap (context_of entry) near_is) in
+    let z_there : z ≡ get_or states (next_context width entry samples) start_state = get_or_read states i z below z_is start_state ∙ ap (λ k. get_or states k start_state) number in
+    let P : ContextState → Type 0 = λ s. IsCodeFault s level bits fault in
+    record { place = place; below = omega (arith, number, below); told = subst P z_there told }

@@ -4,8 +4,9 @@ use Rattle.std.proofs.Math.Nat.{one-le-pow}
 use Rattle.ffv1_bits.specs.Reader.{Reading}
 use Rattle.ffv1_rice.specs.declared.run.RunWord.TheVariants.{Full, Rest, ToEnd}
 use Rattle.ffv1_rice.specs.Runs.{SpellsRun, line_end, whole, rest, over_end, long_rest, run_exponent, whole_length, IsRead, IsCutWord}
-use Rattle.ffv1_rice.proofs.OneRun.{no_run_when_cut}
-use Rattle.ffv1_plane.specs.Progress.{IsRunRead, IsRunBegun, IsNoRun}
+use Rattle.ffv1_plane.specs.Stuck.{SpellsFront, no_word, one_word}
+use Rattle.ffv1_plane.specs.Progress.{IsRunRead, IsRunBegun}
+use Rattle.ffv1_plane.specs.Halts.{IsRunCut}
 
 pub begin_run : (left index : ℕ) (bits : List Bool) → IsRunBegun left index bits 0 index bits
 begin_run left index bits =
@@ -14,8 +15,8 @@ begin_run left index bits =
       words = [];
       begins = refl;
       fits = omega arith;
+      front = no_word refl refl refl;
       completes = λ m last others h. let k : 0 + m ≡ m = omega arith in rw k (rw (← all) at h);
-      goes_on = λ n last run tail h same. (n, run, subst (λ (room : ℕ). SpellsRun n room index run last) all h, same);
     }
 
 some_length : (i : ℕ) → 1 ≤ whole_length i
@@ -25,7 +26,7 @@ pub full_length : (left i n next : ℕ) (bits others : Reading) → IsRead left 
 full_length left i n next bits others h = let p = some_length i in (omega (arith, h.is_word.0), h.is_word.1)
 
 -- a run that begins with a whole length goes on behind it
-behind_whole : (left i m last n : ℕ) (run tail bits : List Bool) → SpellsRun m left i run last → n ≡ whole_length i → n ≤ left → run ++ tail ≡ true ∷ bits
+pub behind_whole : (left i m last n : ℕ) (run tail bits : List Bool) → SpellsRun m left i run last → n ≡ whole_length i → n ≤ left → run ++ tail ≡ true ∷ bits
     → (k : ℕ) × (others : List Bool) × SpellsRun k (left - n) (i + 1) others last × (bits ≡ others ++ tail)
 behind_whole left i m last n run tail bits (line_end a b c d) is fits same = absurd (let p = some_length i in omega arith)
 behind_whole left i m last n run tail bits (whole k room others a b c d) is fits same =
@@ -36,6 +37,11 @@ behind_whole left i m last n run tail bits (rest a b c d) is fits same = absurd 
 behind_whole left i m last n run tail bits (over_end a b c d e) is fits same = absurd (omega arith)
 behind_whole left i m last n run tail bits (long_rest told a b c d e f) is fits same = absurd (omega arith)
 
+-- one whole length more
+front_more : {done i next : ℕ} {words : List Bool} → SpellsFront done i words next → SpellsFront (done + whole_length next) i (words ++ (true ∷ [])) (next + 1)
+front_more {next = next} (no_word a b c) = one_word 0 [] (omega (arith, a, ap whole_length c)) (ap (λ l. l ++ (true ∷ [])) b) (no_word refl refl (ap (λ k. k + 1) c))
+front_more {next = next} (one_word m others a b c) = one_word (m + whole_length next) (others ++ (true ∷ [])) (omega (arith, a)) (ap (λ l. l ++ (true ∷ [])) b) (front_more c)
+
 pub more_run : (left index done i n next : ℕ) (bits : List Bool) (words others : Reading) → IsRunBegun left index bits done i words.left → IsRead (left - done) i (Full n) words next others → IsRunBegun left index bits (done + n) next others.left
 more_run left index done i n next bits words others a b =
     let room : left - done - n ≡ left - (done + n) = omega arith in
@@ -45,15 +51,15 @@ more_run left index done i n next bits words others a b =
       words = a.words ++ (true ∷ []);
       begins = a.begins ∙ ap (λ l. a.words ++ l) read ∙ sym (append_assoc a.words (true ∷ []) others.left);
       fits = omega (arith, a.fits, b.is_word.1);
+      front =
+          let P : ℕ → Type 0 = λ k. SpellsFront (done + k) index (a.words ++ (true ∷ [])) (i + 1) in
+          let Q : ℕ → Type 0 = λ k. SpellsFront (done + n) index (a.words ++ (true ∷ [])) k in
+          subst Q (sym next_is) (subst P (sym b.is_word.0) (front_more a.front));
       completes = λ m last tail h.
           let inner : SpellsRun m (left - done - n) (i + 1) tail last = rw (room, ← next_is) h in
           let step : SpellsRun (n + m) (left - done) i (true ∷ tail) last = whole m (left - done - n) tail (omega (arith, b.is_word.0)) (omega (arith, b.is_word.0, b.is_word.1, a.fits)) refl inner in
           let sum : done + n + m ≡ done + (n + m) = omega arith in
           rw sum (rw (append_assoc a.words (true ∷ []) tail) (a.completes (n + m) last (true ∷ tail) step));
-      goes_on = λ m last run tail h same.
-          let here = a.goes_on m last run tail h same in
-          let behind = behind_whole (left - done) i here.0 last n here.1 tail others.left here.2 b.is_word.0 b.is_word.1 (sym here.3 ∙ read) in
-          (behind.0, behind.1, rw (← room, next_is) behind.2, behind.3);
     }
 
 close : (left index done i m last : ℕ) (bits words others tail : List Bool) → (a : IsRunBegun left index bits done i words) → words ≡ others ++ tail → m ≤ left - done → SpellsRun m (left - done) i others last → IsRunRead left index bits (done + m) last tail
@@ -82,8 +88,6 @@ line_run left index done i bits words all a =
     let none : IsRunRead left index bits (done + 0) i words = close left index done i 0 i bits words [] words a refl (omega arith) (line_end refl (omega (arith, all)) refl refl) in
     rw sum at none
 
--- where a word is cut, no run begins the bits
-pub cut_run : (left index done i : ℕ) (bits words : List Bool) → done < left → IsRunBegun left index bits done i words → IsCutWord i words → IsNoRun left index bits
-cut_run left index done i bits words before a cut n last run tail h same =
-    let here = a.goes_on n last run tail h same in
-    no_run_when_cut.no_run here.0 (left - done) i last words here.1 tail (omega arith) cut here.2 here.3
+-- where a word is cut, the run is
+pub cut_run : (left index done i : ℕ) (bits words : List Bool) → done < left → IsRunBegun left index bits done i words → IsCutWord i words → IsRunCut left index bits done
+cut_run left index done i bits words before a cut = record { words = a.words; next = i; others = words; begins = a.begins; front = a.front; inside = before; cut = cut }

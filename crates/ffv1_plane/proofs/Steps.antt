@@ -127,15 +127,26 @@ module _ (earlier : ℕ → List ℤ) (r : Residuals) (some : 0 < r.width) (s n 
       let ind : skipped_among r count (s + (j + 1)) ≡ m = length_from m (j + 1) count (omega arith) (omega arith) (⊎_elim (λ a. inl (omega arith)) (λ b. inr b) end) in
       ap (λ t. cond t (suc (skipped_among r count (s + j + 1))) 0) here ∙ ap suc (ap (λ i. skipped_among r count i) k ∙ ind)
 
+  pub length_least : (m j count : ℕ) → j + m ≡ n → m ≤ count → m ≤ skipped_among r count (s + j)
+  unfolding skipped_among
+  length_least zero j count sum enough = omega arith
+  length_least (suc m) j zero sum enough = absurd (omega arith)
+  length_least (suc m) j (suc count) sum enough =
+      let here : is_skipped r (s + j) ≡ true = skipped_to j (omega arith) in
+      let k : s + j + 1 ≡ s + (j + 1) = omega arith in
+      let ind : m ≤ skipped_among r count (s + (j + 1)) = length_least m (j + 1) count (omega arith) (omega arith) in
+      let opened : skipped_among r (suc count) (s + j) ≡ suc (skipped_among r count (s + j + 1)) = ap (λ t. cond t (suc (skipped_among r count (s + j + 1))) 0) here in
+      omega (arith, opened, ind, ap (λ i. skipped_among r count i) k)
+
   length_is : (left_in_line r s ≡ n) ⊎ (is_skipped r (s + n) ≡ false) → run_length r s ≡ n
   length_is end = let k : s + 0 ≡ s = omega arith in ap (λ i. skipped_among r (left_in_line r s) i) (sym k) ∙ length_from n 0 (left_in_line r s) (omega arith) fits end
 
-  starts_here : starts_run r s ≡ true
+  pub starts_here : starts_run r s ≡ true
   starts_here = let run : is_in_run r s ≡ true = in_run_is r s ∙ rw zero_here refl in rw (run, fresh) refl
 
   -- the run's bits, and then nothing for the samples that it skips
   module _ (index next : ℕ) (run : List Bool) (spelled : SpellsRun n (left_in_line r s) index run next) (end : (left_in_line r s ≡ n) ⊎ (is_skipped r (s + n) ≡ false)) where
-    run_here : SpellsRun (run_length r s) (left_in_line r s) index run next
+    pub run_here : SpellsRun (run_length r s) (left_in_line r s) index run next
     run_here = let is : n ≡ run_length r s = sym (length_is end) in subst (λ (k : ℕ). SpellsRun k (left_in_line r s) index run next) is spelled
 
     pub run_to : (j : ℕ) → j < n → (front : List Bool) → SamplesSpell earlier r s front index → SamplesSpell earlier r (suc (s + j)) (front ++ run) next

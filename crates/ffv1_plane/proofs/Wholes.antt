@@ -1,16 +1,18 @@
 -- A whole plane, line by line.
-use Rattle.std.proofs.Common.{◌≡◌, ℕ, zero, suc, ◌∷◌, ⊎_elim, ◌+◌, ◌*◌, ◌/◌, ◌%◌, ◌<◌, ◌≤◌, List, Bool, [], ◌++◌, get_or, drop, length, length-drop, refl, subst, arith, ℤ}
+use Rattle.std.proofs.Common.{◌≡◌, ℕ, zero, suc, ◌∷◌, ⊎_elim, ◌+◌, ◌-◌, ◌*◌, ◌/◌, ◌%◌, ◌<◌, ◌≤◌, List, Bool, [], ◌++◌, get_or, replicate, length, length-append, refl, arith, ℤ}
 use Rattle.std.proofs.Math.Nat.{mul-le-mul_left}
+use Rattle.std.proofs.Math.Seq.{get_or-append_right}
 use Rattle.std.proofs.lemmas.Nat.{div-add-mod', div_below}
 use Rattle.std.proofs.lemmas.Bool.{cases_lt}
-use Rattle.std.proofs.lemmas.List.{append-nil}
+use Rattle.std.proofs.lemmas.List.{get_or_append_left, length-replicate}
 use Rattle.ffv1_rice.specs.States.{ContextState}
-use Rattle.ffv1_plane.specs.Samples.{plane_of}
-use Rattle.ffv1_plane.specs.Spelling.{residuals_of, PlaneSpells}
-use Rattle.ffv1_plane.specs.Progress.{Progress, AreStatesAfter, IsReadTo, IsBlocked, IsNoPlane}
-use Rattle.ffv1_plane.proofs.Prefixes.{begins_with}
+use Rattle.ffv1_plane.specs.Samples.{IsPlaneOfSize}
+use Rattle.ffv1_plane.specs.Progress.{AreStatesAfter, IsReadTo}
+use Rattle.ffv1_plane.specs.Halts.{IsNextHalted, IsDecodingHalted}
+use Rattle.ffv1_plane.specs.declared.plane.PlaneFault.{PlaneFault}
+use Rattle.ffv1_plane.specs.declared.plane.PlaneFault.TheVariants as plane_faults
 
-past_end : (xs : List ℕ) (i : ℕ) → length xs ≤ i → get_or xs i 0 ≡ 0
+pub past_end : (xs : List ℕ) (i : ℕ) → length xs ≤ i → get_or xs i 0 ≡ 0
 past_end [] i h = refl
 past_end (x ∷ xs) zero h = absurd (omega arith)
 past_end (x ∷ xs) (suc i) h = past_end xs i (omega arith)
@@ -27,20 +29,34 @@ line_fits n w h some less =
     let rows : w * (n / w + 1) ≤ w * h = mul-le-mul_left w (omega arith) in
     omega arith
 
--- a plane of which a line can't be read is no plane
-pub no_plane : (width height : ℕ) (entry : ℕ → ℕ → ℤ) (before states : List ContextState) (bits left : List Bool) (samples : List ℕ) (index : ℕ) → 1 ≤ width
+-- a plane that begins with these samples
+pub filled : (width height : ℕ) (samples : List ℕ) → ((s : ℕ) → get_or samples s 0 < 256) → length samples ≤ width * height → IsPlaneOfSize width height (samples ++ replicate (width * height - length samples) 0)
+filled width height samples small fits = record {
+  count = omega (arith, length-append samples (replicate (width * height - length samples) 0), length-replicate {A = ℕ} (width * height - length samples) 0);
+  bytes = λ s. ⊎_elim
+      (λ inside. let e = get_or_append_left samples (replicate (width * height - length samples) 0) 0 s inside in let h = small s in omega (arith, e, h))
+      (λ behind. let e = get_or-append_right samples (replicate (width * height - length samples) 0) s 0 behind in let z = none_there (width * height - length samples) (s - length samples) in omega (arith, e, z))
+      (cases_lt s (length samples));
+}
+  where
+    none_there : (n i : ℕ) → get_or (replicate n zero) i zero ≡ zero
+    none_there zero i = refl
+    none_there (suc n) zero = refl
+    none_there (suc n) (suc i) = none_there n i
+
+-- where a line halts, so does a plane that begins with it
+pub plane_halted : (width height : ℕ) (entry : ℕ → ℕ → ℤ) (before states : List ContextState) (bits left : List Bool) (samples : List ℕ) (index : ℕ) (fault : PlaneFault) → 1 ≤ width
     → ((earlier : ℕ → List ℤ) → AreStatesAfter earlier before → IsReadTo earlier width entry bits samples index states left)
-    → ((j : ℕ) → get_or samples j 0 < 256) → length samples < width * height → IsBlocked width entry samples index states left → IsNoPlane width height entry before bits
-no_plane width height entry before states bits left samples index some read small less blocked earlier target front rest after is_plane spells same =
-    let so_far = read earlier after in
-    let P : List ℕ → Type 0 = λ l. Progress earlier (residuals_of (plane_of width entry l)) (length samples) bits index left in
-    let p : Progress earlier (residuals_of (plane_of width entry samples)) (length samples) bits index left = subst P (append-nil samples) (so_far.progress []) in
-    let count = is_plane.count in
-    let whole : target ≡ samples ++ drop (length samples) target =
-    begins_with earlier width entry bits left front rest samples target index spells.0 some small is_plane.bytes (omega arith) p.front p.spells p.begins spells.1 same in
+    → ((j : ℕ) → get_or samples j 0 < 256) → length samples < width * height → IsNextHalted width entry samples index states left fault → IsDecodingHalted width height entry before bits fault
+plane_halted width height entry before states bits left samples index (plane_faults.Code fault sample) some read small less halts = λ earlier after.
     let line = line_fits (length samples) width height some less in
-    let size = length-drop (length samples) target in
-    blocked earlier bits front rest (drop (length samples) target) so_far
-    (subst (λ (l : List ℕ). (s : ℕ) → get_or l s 0 < 256) whole is_plane.bytes)
-    (omega (arith, line, size, count))
-    (subst (λ (l : List ℕ). PlaneSpells earlier (plane_of width entry l) front) whole spells) same
+    let column : length samples % width < width = omega arith in
+    let there = halts earlier bits small (read earlier after) in
+    let fits : length there.samples ≤ width * height = (let in_line = there.in_line in omega (arith, line, in_line, column)) in
+    record {
+      samples = there.samples ++ replicate (width * height - length there.samples) 0;
+      size = filled width height there.samples there.bytes fits;
+      inside = (let in_samples = there.inside in omega (arith, in_samples, fits));
+      halted = there.halted (replicate (width * height - length there.samples) 0);
+    }
+plane_halted width height entry before states bits left samples index plane_faults.Memory some read small less halts = tt

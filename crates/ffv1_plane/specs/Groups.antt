@@ -13,10 +13,6 @@ pub record IsLumaRead (setup : SetupValue) (head : SliceHead) (bits : List Bool)
   pub begins : bits ≡ front ++ rest
   pub spells : PlaneSpells no_values (shaped_plane setup head 0 samples) front
 
--- No plane Y begins the bits.
-abbrev pub IsNoLuma : SetupValue → SliceHead → List Bool → Type 0
-IsNoLuma setup head bits = (samples : List ℕ) (rest : List Bool) → IsLumaRead setup head bits samples rest → ⊥
-
 -- The planes Cb and Cr were read.
 pub record IsChromaRead (setup : SetupValue) (head : SliceHead) (bits : List Bool) (cb cr : List ℕ) (rest : List Bool) : Type 0 where
   pub cb_size : IsPlaneIn (plane_rect (grid_of setup) head.tile 1) cb
@@ -27,17 +23,9 @@ pub record IsChromaRead (setup : SetupValue) (head : SliceHead) (bits : List Boo
   pub cb_spells : PlaneSpells no_values (shaped_plane setup head 1 cb) front
   pub cr_spells : PlaneSpells (values_after no_values (shaped_plane setup head 1 cb)) (shaped_plane setup head 2 cr) back
 
--- No planes Cb and Cr begin the bits.
-abbrev pub IsNoChroma : SetupValue → SliceHead → List Bool → Type 0
-IsNoChroma setup head bits = (cb cr : List ℕ) (rest : List Bool) → IsChromaRead setup head bits cb cr rest → ⊥
-
 -- All planes were read.
 pub record ArePlanesRead (setup : SetupValue) (head : SliceHead) (bits : List Bool) (planes : List (List ℕ)) (rest : List Bool) : Type 0 where
   pub sizes : ArePlanesOf setup head.tile planes
   pub words : List Bool
   pub begins : bits ≡ words ++ rest
   pub spells : PictureSpells setup head planes words
-
--- No planes begin the bits.
-abbrev pub AreNoPlanes : SetupValue → SliceHead → List Bool → Type 0
-AreNoPlanes setup head bits = (planes : List (List ℕ)) (rest : List Bool) → ArePlanesRead setup head bits planes rest → ⊥

@@ -5,3 +5,6 @@ pub mod Progress
 pub mod Picture
 pub mod Groups
 pub mod Views
+pub mod Stuck
+pub mod StuckLaws
+pub mod Halts

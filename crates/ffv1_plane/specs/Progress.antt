@@ -1,9 +1,10 @@
 -- How far a plane is read: what holds of every plane that begins with the samples so far.
-use Rattle.std.specs.Prelude.{◌≡◌, ℕ, ◌+◌, ◌-◌, ◌/◌, ◌%◌, ◌<◌, ◌≤◌, ◌⊎◌, Bool, false, true, List, [], ◌∷◌, ◌++◌, length, get_or, set, ℤ, nat_abs}
+use Rattle.std.specs.Prelude.{◌≡◌, ℕ, ◌+◌, ◌-◌, ◌/◌, ◌%◌, ◌<◌, ◌≤◌, ◌⊎◌, Bool, false, true, List, [], ◌∷◌, ◌++◌, length, get_or, set, ℤ}
 use Rattle.ffv1_rice.specs.States.{ContextState, start_state, after_value}
 use Rattle.ffv1_rice.specs.Codes.{SpellsValue, decoded_value, IsCodedDifference}
 use Rattle.ffv1_rice.specs.Runs.{SpellsRun}
-use Rattle.ffv1_plane.specs.Samples.{plane_of, neighbours_at, context_of, IsPlaneOfSize}
+use Rattle.ffv1_plane.specs.Stuck.{SpellsFront}
+use Rattle.ffv1_plane.specs.Samples.{plane_of}
 use Rattle.ffv1_plane.specs.Spelling.{Residuals, residuals_of, state_after, state_before, values_after, follows_skipped, SamplesSpell, PlaneSpells, context_number, is_zero}
 
 -- The place at this column and row comes before sample s in scan order: in a row above that of s, or beside it.
@@ -35,14 +36,13 @@ pub record IsRunRead (left index : ℕ) (bits : List Bool) (n next : ℕ) (rest 
   pub begins : bits ≡ run ++ rest
   pub fits : n ≤ left
 
--- Some words of a run are read: whatever completes it from here completes it from its start, and whatever run begins the
--- bits goes on from here.
+-- Some words of a run are read, which are first words of a run: whatever completes it from here completes it from its start.
 pub record IsRunBegun (left index : ℕ) (bits : List Bool) (done next : ℕ) (rest : List Bool) : Type 0 where
   pub words : List Bool
   pub begins : bits ≡ words ++ rest
   pub fits : done ≤ left
+  pub front : SpellsFront done index words next
   pub completes : (m last : ℕ) (others : List Bool) → SpellsRun m (left - done) next others last → SpellsRun (done + m) left index (words ++ others) last
-  pub goes_on : (n last : ℕ) (run tail : List Bool) → SpellsRun n left index run last → bits ≡ run ++ tail → (m : ℕ) × (others : List Bool) × SpellsRun m (left - done) next others last × (rest ≡ others ++ tail)
 
 -- The next sample x is read by one code. All is told of every plane that begins with the samples and x.
 pub record IsSampleRead (width : ℕ) (entry : ℕ → ℕ → ℤ) (level : Bool) (old : List ℕ) (states : List ContextState) (bits : List Bool) (new : List ℕ) (after : List ContextState) (rest : List Bool) : Type 0 where
@@ -66,27 +66,6 @@ pub record AreSkipped (width : ℕ) (entry : ℕ → ℕ → ℤ) (old new : Lis
   pub count : length samples ≡ n
   pub zero_differences : (more : List ℕ) (j : ℕ) → j < n → is_zero ((residuals_of (plane_of width entry (new ++ more))).difference (length old + j)) ≡ true
 
--- ---- what can't be read
-
--- No run begins the bits.
-abbrev pub IsNoRun : ℕ → ℕ → List Bool → Type 0
-IsNoRun left index bits = (n last : ℕ) (run rest : List Bool) → SpellsRun n left index run last → bits ≡ run ++ rest → ⊥
-
--- The next sample has a state, and no difference of it has its code next.
-pub record IsNoCode (width : ℕ) (entry : ℕ → ℕ → ℤ) (level : Bool) (samples : List ℕ) (states : List ContextState) (bits : List Bool) : Type 0 where
-  pub below : nat_abs (context_of entry (neighbours_at width samples (length samples))) < length states
-  pub none :
-      (difference : ℤ) (code rest : List Bool) → IsCodedDifference level difference
-      → SpellsValue (get_or states (nat_abs (context_of entry (neighbours_at width samples (length samples)))) start_state) (decoded_value level difference) code
-      → bits ≡ code ++ rest → ⊥
-
--- No plane that begins with the samples, and has the rest of their line, is spelled.
-abbrev pub IsBlocked : ℕ → (ℕ → ℕ → ℤ) → List ℕ → ℕ → List ContextState → List Bool → Type 0
-IsBlocked width entry samples index states left =
-    (earlier : ℕ → List ℤ) (bits front rest : List Bool) (more : List ℕ) → IsReadTo earlier width entry bits samples index states left
-    → ((s : ℕ) → get_or (samples ++ more) s 0 < 256) → width - length samples % width ≤ length more
-    → PlaneSpells earlier (plane_of width entry (samples ++ more)) front → bits ≡ front ++ rest → ⊥
-
 -- ---- whole planes
 
 -- A plane was read, and the states are what its values leave behind earlier ones.
@@ -95,9 +74,3 @@ IsPlaneRead width height entry states bits samples after rest =
     (earlier : ℕ → List ℤ) → AreStatesAfter earlier states
     → (front : List Bool) × (bits ≡ front ++ rest) × PlaneSpells earlier (plane_of width entry samples) front
     × AreStatesAfter (values_after earlier (plane_of width entry samples)) after
-
--- No plane of this size begins the bits.
-abbrev pub IsNoPlane : ℕ → ℕ → (ℕ → ℕ → ℤ) → List ContextState → List Bool → Type 0
-IsNoPlane width height entry states bits =
-    (earlier : ℕ → List ℤ) (samples : List ℕ) (front rest : List Bool) → AreStatesAfter earlier states → IsPlaneOfSize width height samples
-    → PlaneSpells earlier (plane_of width entry samples) front → bits ≡ front ++ rest → ⊥

@@ -6,7 +6,7 @@ mod plane;
 mod run;
 mod tile;
 
-pub use tile::{TileFault, TilePicture, decode_tile, one_reading};
+pub use tile::{TileFault, TilePicture, decode_tile, each_is_spelled, one_fault, one_reading};
 
 #[cfg(test)]
 mod recorded;

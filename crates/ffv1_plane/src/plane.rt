@@ -1,8 +1,9 @@
 //! A plane, sample by sample and run by run (RFC 9043, sections 3.8.2 and 4.8).
-ghost use Rattle.std.specs.Prelude.{◌≡◌, ℕ, ◌<◌, ◌≤◌, ◌+◌, ◌*◌, ◌%◌, ◌-◌, length, slice_index, List, Bool, OnOk, IfOk, IfErr, OnErr, ◌⊎◌, Err, ℤ};
+ghost use Rattle.std.specs.Prelude.{◌≡◌, ℕ, ◌<◌, ◌≤◌, ◌+◌, ◌*◌, ◌%◌, ◌-◌, length, slice_index, List, Bool, OnOk, IfOk, IfErr, OnErr, Err, ℤ};
 ghost use Rattle.ffv1_range.specs.Setup.{IsInProfile, set_contexts, set_entry};
 ghost use Rattle.ffv1_plane.specs.Samples.{IsPlaneOfSize};
-ghost use Rattle.ffv1_plane.specs.Progress.{IsReadTo, IsSampleRead, AreSkipped, IsNoCode, IsBlocked, IsPlaneRead, IsNoPlane};
+ghost use Rattle.ffv1_plane.specs.Progress.{IsReadTo, IsSampleRead, AreSkipped, IsPlaneRead};
+ghost use Rattle.ffv1_plane.specs.Halts.{IsSampleHalted, IsNextHalted, IsDecodingHalted};
 ghost use Rattle.ffv1_plane.specs.declared.plane.PlaneFault.TheVariants as PlaneFault;
 
 use crate::neighbours::{Neighbours, sample_of};
@@ -81,7 +82,7 @@ fn read_sample(
     ensures len { length states.new.items ≡ length states.old.items }
     ensures one { OnOk result (length samples.new.items ≡ length samples.old.items + 1) }
     ensures bytes { OnOk result ((s : ℕ) → slice_index samples.new.items s < 256) }
-    ensures err { IfErr result (λ fault. (fault ≡ PlaneFault.Memory) ⊎ IsNoCode width (set_entry setup.now set) level samples.old.items states.old.items bits.old.left) }
+    ensures err { IfErr result (IsSampleHalted width (set_entry setup.now set) level samples.old.items states.old.items bits.old.left) }
 {
     let near = Neighbours::of_next(samples.as_slice(), width);
     let context = near.context(setup, set);
@@ -118,7 +119,7 @@ fn read_next(
     ensures bytes { OnOk result ((s : ℕ) → slice_index samples.new.items s < 256) }
     ensures more { OnOk result (length samples.old.items < length samples.new.items) }
     ensures line { OnOk result (length samples.new.items + length samples.old.items % width ≤ length samples.old.items + width) }
-    ensures err { IfErr result (λ fault. (fault ≡ PlaneFault.Memory) ⊎ IsBlocked width (set_entry setup.now set) samples.old.items index.old states.old.items bits.old.left) }
+    ensures err { IfErr result (IsNextHalted width (set_entry setup.now set) samples.old.items index.old states.old.items bits.old.left) }
 {
     let near = Neighbours::of_next(samples.as_slice(), width);
     if near.context(setup, set) != 0 {
@@ -162,7 +163,7 @@ pub(crate) fn decode_plane(
     ensures len { length states.new.items ≡ length states.old.items }
     ensures size { IfOk result (λ samples. IsPlaneOfSize width height samples.items) }
     ensures read { IfOk result (λ samples. IsPlaneRead width height (set_entry setup.now set) states.old.items bits.old.left samples.items states.new.items bits.new.left) }
-    ensures err { IfErr result (λ fault. (fault ≡ PlaneFault.Memory) ⊎ IsNoPlane width height (set_entry setup.now set) states.old.items bits.old.left) }
+    ensures err { IfErr result (IsDecodingHalted width height (set_entry setup.now set) states.old.items bits.old.left) }
 {
     let mut index = RunIndex::start();
     let mut samples = Vec::with_capacity(alloc, width * height)?;

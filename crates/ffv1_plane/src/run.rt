@@ -1,6 +1,8 @@
 //! A whole run of samples that are what is predicted of them (RFC 9043, section 3.8.2.2.1).
-ghost use Rattle.std.specs.Prelude.{◌≤◌, IfOk, OnErr};
-ghost use Rattle.ffv1_plane.specs.Progress.{IsRunRead, IsNoRun};
+ghost use Rattle.std.specs.Prelude.{◌≡◌, ◌≤◌, IfOk, IfErr};
+ghost use Rattle.ffv1_rice.specs.declared.code.CodeFault.TheVariants as CodeFault;
+ghost use Rattle.ffv1_plane.specs.Progress.{IsRunRead};
+ghost use Rattle.ffv1_plane.specs.Halts.{IsRunCut};
 
 use ffv1_bits::Bits;
 use ffv1_rice::{CodeFault, RunIndex, RunWord};
@@ -19,7 +21,8 @@ pub(crate) fn read_run(index: &mut RunIndex, bits: &mut Bits, left: u32) -> Resu
     requires some_left { 1 ≤ left }
     requires few_left { left ≤ 16384 }
     ensures ok { IfOk result (λ n. IsRunRead left index.old bits.old.left n index.new bits.new.left) }
-    ensures err { OnErr result (IsNoRun left index.old bits.old.left) }
+    ensures truncated { IfErr result (λ cut. cut.fault ≡ CodeFault.Truncated) }
+    ensures err { IfErr result (λ cut. IsRunCut left index.old bits.old.left cut.skipped) }
 {
     let mut skipped = 0;
     while skipped < left {

@@ -83,7 +83,7 @@ fn single_samples(rt: HostRuntime) -> Result<(), Fail> {
 #[test]
 fn contents_without_a_picture(rt: HostRuntime) -> Result<(), Fail> {
     let alloc = rt.alloc();
-    let cases: [(&[u8], (u32, u32), TileFault); 7] = [
+    let cases: [(&[u8], (u32, u32), TileFault); 10] = [
         (
             &[0xFD, 0xF6, 0x00],
             (1, 1),
@@ -108,6 +108,24 @@ fn contents_without_a_picture(rt: HostRuntime) -> Result<(), Fail> {
             &[0xFD, 0xF6, 0x00, 0x07, 0xA0, 0x00, 0x00],
             (2, 1),
             code(CodeFault::Truncated, 0, 1),
+        ),
+        // twelve zeros and `00100100`, behind a run word
+        (
+            &[0xFD, 0xF6, 0x00, 0x01, 0x20],
+            (1, 1),
+            code(CodeFault::EscapeNotNeeded, 0, 0),
+        ),
+        // twelve zeros and `11110101`
+        (
+            &[0xFD, 0xF6, 0x00, 0x07, 0xA8],
+            (1, 1),
+            code(CodeFault::CodeTooLarge, 0, 0),
+        ),
+        // eight ones stand for twelve samples
+        (
+            &[0xFD, 0xF6, 0xFF],
+            (16, 1),
+            code(CodeFault::Truncated, 0, 12),
         ),
         (
             &[0xFD, 0xF6],

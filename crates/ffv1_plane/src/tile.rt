@@ -5,10 +5,14 @@
 ghost use Rattle.std.specs.Prelude.{◌≡◌, ◌≢◌, ◌<◌, ◌≤◌, ◌^◌, ◌==◌, ℕ, Err, length, map, IfOk, IfErr, MatchResult, ◌⊎◌};
 ghost use Rattle.ffv1_range.specs.Setup.{IsInProfile, set_contexts, set_entry};
 ghost use Rattle.ffv1_range.specs.Tiles.{grid_of, tile_count, plane_count, plane_rect};
-ghost use Rattle.ffv1_plane.specs.Progress.{AreStatesAfter, IsPlaneRead, IsNoPlane};
+ghost use Rattle.ffv1_plane.specs.Progress.{AreStatesAfter, IsPlaneRead};
+ghost use Rattle.ffv1_plane.specs.Halts.{IsPlaneOfHalted, IsLumaHalted, IsChromaHalted, ArePlanesHalted};
+ghost use Rattle.ffv1_plane.specs.Stuck.{IsStuckAt};
+ghost use Rattle.ffv1_rice.specs.declared.code.CodeFault.{CodeFault};
 ghost use Rattle.ffv1_plane.specs.Picture.{PictureValue, IsPictureOf, IsPlaneIn, plane_set, no_values, OneReading};
-ghost use Rattle.ffv1_plane.specs.Groups.{IsLumaRead, IsNoLuma, IsChromaRead, IsNoChroma, ArePlanesRead, AreNoPlanes};
+ghost use Rattle.ffv1_plane.specs.Groups.{IsLumaRead, IsChromaRead, ArePlanesRead};
 ghost use Rattle.ffv1_plane.specs.Views.{picture_value, IsOfCode};
+ghost use Rattle.ffv1_plane.specs.StuckLaws.{EachPictureIsSpelled, FrontsGoOn, StuckSpellsNothing, StuckIsOne, IsRefusedFor, OneAnswer};
 ghost use Rattle.ffv1_range.specs.Header.{IsHeadOf, header_limits, head_read};
 ghost use Rattle.ffv1_range.specs.declared.head.HeadFault.{HeadFault};
 ghost use Rattle.ffv1_range.specs.declared.head.SliceHead.{SliceHead};
@@ -109,8 +113,15 @@ pub fn decode_tile(
     // .. one with a header of another tile for that ..
     ensures other { (head : SliceHead) (place : ℕ) → IsHeadOf (header_limits setup.now) content.now (index == 0) head place → head.tile ≢ index → result ≡ Err TileFault.OtherTile }
 
-    // .. and one with a header of this tile for what follows it, or for want of memory.
+    // .. and one with a header of this tile for what follows it, or for want of memory ..
     ensures code { (head : SliceHead) (place : ℕ) → IsHeadOf (header_limits setup.now) content.now (index == 0) head place → head.tile ≡ index → IfErr result (λ fault. (fault ≡ TileFault.Memory) ⊎ IsOfCode fault) }
+
+    // .. so that each refusal but want of memory is the one that the content gives: a fault of a run word or a code tells
+    // where the content is stuck ..
+    ensures refused { IfErr result (λ fault. (fault ≡ TileFault.Memory) ⊎ IsRefusedFor setup.now index content.now fault) }
+
+    // .. and wherever it is stuck, that is the answer, or want of memory.
+    ensures stuck { (fault : CodeFault) (plane y x : ℕ) → IsStuckAt setup.now index content.now fault plane y x → MatchResult result (λ read. ⊥) (λ told. (told ≡ TileFault.Memory) ⊎ (told ≡ TileFault.Code fault plane y x)) }
 {
     setup.keeps_profile();
     let (head, place) = read_head(setup, content, index == 0)?;
@@ -135,7 +146,7 @@ fn decode_planes(
     requires luma_table { head.now.table_y < length setup.now.sets }
     requires chroma_table { head.now.table_c < length setup.now.sets }
     ensures ok { IfOk result (λ planes. ArePlanesRead setup.now head.now bits.old.left (map (λ plane. plane.items) planes.items) bits.new.left) }
-    ensures err { IfErr result (λ fault. (fault ≡ TileFault.Memory) ⊎ (IsOfCode fault × AreNoPlanes setup.now head.now bits.old.left)) }
+    ensures err { IfErr result (ArePlanesHalted setup.now head.now bits.old.left) }
 {
     let luma = decode_luma(alloc, setup, head, bits)?;
     if setup.has_chroma() {
@@ -158,7 +169,7 @@ fn decode_luma(
     requires luma_table { head.now.table_y < length setup.now.sets }
     requires chroma_table { head.now.table_c < length setup.now.sets }
     ensures ok { IfOk result (λ samples. IsLumaRead setup.now head.now bits.old.left samples.items bits.new.left) }
-    ensures err { IfErr result (λ fault. (fault ≡ TileFault.Memory) ⊎ (IsOfCode fault × IsNoLuma setup.now head.now bits.old.left)) }
+    ensures err { IfErr result (IsLumaHalted setup.now head.now bits.old.left) }
 {
     let mut states = start_states(alloc, setup, head.table_y)?;
     decode_plane_of(alloc, setup, head, 0, &mut states, bits)
@@ -177,7 +188,7 @@ fn decode_chroma(
     requires chroma_table { head.now.table_c < length setup.now.sets }
     requires chroma { plane_count (grid_of setup.now) ≡ 3 }
     ensures ok { IfOk result (λ planes. IsChromaRead setup.now head.now bits.old.left planes.0.items planes.1.items bits.new.left) }
-    ensures err { IfErr result (λ fault. (fault ≡ TileFault.Memory) ⊎ (IsOfCode fault × IsNoChroma setup.now head.now bits.old.left)) }
+    ensures err { IfErr result (IsChromaHalted setup.now head.now bits.old.left) }
 {
     let mut states = start_states(alloc, setup, head.table_c)?;
     let cb = decode_plane_of(alloc, setup, head, 1, &mut states, bits)?;
@@ -212,7 +223,7 @@ fn decode_plane_of(
     ensures len { length states.new.items ≡ length states.old.items }
     ensures size { IfOk result (λ samples. IsPlaneIn (plane_rect (grid_of setup.now) head.now.tile plane) samples.items) }
     ensures read { IfOk result (λ samples. IsPlaneRead (plane_rect (grid_of setup.now) head.now.tile plane).w (plane_rect (grid_of setup.now) head.now.tile plane).h (set_entry setup.now (plane_set head.now plane)) states.old.items bits.old.left samples.items states.new.items bits.new.left) }
-    ensures err { IfErr result (λ fault. (fault ≡ TileFault.Memory) ⊎ (IsOfCode fault × IsNoPlane (plane_rect (grid_of setup.now) head.now.tile plane).w (plane_rect (grid_of setup.now) head.now.tile plane).h (set_entry setup.now (plane_set head.now plane)) states.old.items bits.old.left)) }
+    ensures err { IfErr result (IsPlaneOfHalted setup.now head.now plane states.old.items bits.old.left) }
 {
     let rect = setup.grid().plane_rect(head.tile, plane);
     let (width, height) = (rect.w as usize, rect.h as usize);
@@ -243,4 +254,17 @@ fn table_set(head: &SliceHead, plane: usize) -> usize
 /// No bits begin with the spellings of two pictures of a tile, and a content has one picture.
 pub fn one_reading()
     ensures { OneReading }
+{}
+
+/// Every picture of a tile has a spelling, and what is read before a fault begins one.
+pub fn each_is_spelled()
+    ensures spelled { EachPictureIsSpelled }
+    ensures fronts { FrontsGoOn }
+{}
+
+/// A content that is stuck has no picture, and one fault at one sample.
+pub fn one_fault()
+    ensures nothing { StuckSpellsNothing }
+    ensures one { StuckIsOne }
+    ensures answer { OneAnswer }
 {}

@@ -7,12 +7,7 @@ returns-in_err-picture-clause-fault c =
     let p = err_from_is_err_and c.from_residual.result c.from_residual.ensures.1 in
     let told = c.in_err-picture.ensures in
     rw (p.1, p.2)
-    (unreadable c.args.setup.now c.args.tile _ c.in_err-picture.field-0.0 (record {
-      found = λ picture is. told.found picture is;
-      head = λ fault is. let same = told.head fault is in cc;
-      other = λ h place is differs. let same = told.other h place is differs in cc;
-      code = λ h place is same. told.code h place is same;
-    }))
+    (unreadable c.args.setup.now c.args.tile _ c.in_err-picture.field-0.0 (record { found = λ picture is. told.found picture is; refused = told.refused }))
 
 pub draw_picture-requires-clause-picture : goal.draw_picture-requires-clause-picture
 draw_picture-requires-clause-picture c =

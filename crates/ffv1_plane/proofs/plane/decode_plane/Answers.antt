@@ -1,8 +1,8 @@
-use Rattle.std.proofs.Common.{◌≤◌, ◌*◌, length, arith, rules, inl, inr, ⊎_elim, ◌∙◌}
+use Rattle.std.proofs.Common.{◌≤◌, ◌*◌, length, arith, rules, ◌∙◌}
 use Rattle.std.proofs.lemmas.Result.{err_from_is_err_and}
 use Rattle.ffv1_range.specs.Setup.{set_entry}
 use Rattle.ffv1_plane.proofs.Reading.{whole_plane}
-use Rattle.ffv1_plane.proofs.Wholes.{line_fits, no_plane}
+use Rattle.ffv1_plane.proofs.Wholes.{line_fits, plane_halted}
 use Rattle.ffv1_plane.proofs.plane.decode_plane.Goals as goal
 
 pub loop-index-preserved : goal.loop-index-preserved
@@ -20,10 +20,8 @@ pub returns-in_err-read_next-clause-err : goal.returns-in_err-read_next-clause-e
 returns-in_err-read_next-clause-err c =
     let p = err_from_is_err_and c.from_residual-in_err-read_next.result c.from_residual-in_err-read_next.ensures.1 in
     rw (p.1, p.2)
-    (⊎_elim (λ memory. inl memory)
-    (λ blocked. inr (no_plane c.args.width c.args.height (set_entry c.args.setup.now c.args.set) c.args.states.now.items c.loop-index.states.items c.args.bits.now.left c.loop-index.bits.left c.loop-index.samples.items c.loop-index.index
-    c.requires.some c.loop-index.invariant.read c.loop-index.invariant.bytes (search rules) blocked))
-    c.in_err-read_next.ensures.err)
+    (plane_halted c.args.width c.args.height (set_entry c.args.setup.now c.args.set) c.args.states.now.items c.loop-index.states.items c.args.bits.now.left c.loop-index.bits.left c.loop-index.samples.items c.loop-index.index _
+    c.requires.some c.loop-index.invariant.read c.loop-index.invariant.bytes (search rules) c.in_err-read_next.ensures.err)
 
 pub returns-clause-size : goal.returns-clause-size
 returns-clause-size c =

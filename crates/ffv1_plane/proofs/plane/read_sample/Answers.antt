@@ -1,10 +1,10 @@
-use Rattle.std.proofs.Common.{◌≡◌, nat_abs, length, arith, rules, inr, w32}
+use Rattle.std.proofs.Common.{◌≡◌, nat_abs, length, arith, rules, w32}
 use mir.Val.{SFits}
 use Rattle.std.proofs.lemmas.Int.{to_z-of_z}
 use Rattle.ffv1_range.specs.Setup.{set_entry}
 use Rattle.ffv1_plane.specs.Samples.{neighbours_at}
 use Rattle.ffv1_plane.proofs.Wholes.{all_bytes}
-use Rattle.ffv1_plane.proofs.Reading.{sample_read_at, no_code_at}
+use Rattle.ffv1_plane.proofs.Reading.{sample_read_at, code_halted_at}
 use Rattle.ffv1_plane.proofs.plane.read_sample.Goals as goal
 
 pub returns-clause-read : goal.returns-clause-read
@@ -25,11 +25,10 @@ returns-in-Err-clause-err c =
     let below = c.context-context.ensures.bound in
     let f : SFits w32 c.context-context.result = search rules in
     let i_is : c.unsigned_abs.result ≡ nat_abs c.context-context.result = (simp to_z-of_z at c.unsigned_abs.ensures.value) in
-    inr
-    (no_code_at c.args.width (set_entry c.args.setup.now c.args.set) c.args.level c.args.samples.now.items c.args.states.now.items c.args.bits.now
-    c.of_next-near.result c.context-context.result c.unsigned_abs.result c.index_mut-state.result.now
+    code_halted_at c.args.width (set_entry c.args.setup.now c.args.set) c.args.level c.args.samples.now.items c.args.states.now.items c.args.bits.now.left
+    c.of_next-near.result c.context-context.result c.unsigned_abs.result _ c.index_mut-state.result.now _
     near c.context-context.ensures.value i_is (omega (arith, i_is, below, c.requires.contexts)) c.index_mut-state.ensures.value
-    (λ difference after range coded. absurd (let same = c.in-Err.ensures.found difference after range coded in cc)))
+    c.in-Err.ensures.err (search rules)
 
 pub returns-clause-bytes : goal.returns-clause-bytes
 returns-clause-bytes c = all_bytes c.push.new.self.items c.type_inv.samples

@@ -1,9 +1,15 @@
-use Rattle.std.proofs.Common.{◌≡◌, ◌≤◌, ◌<◌, ℕ, sym, ◌∙◌, subst, inr, ⊎_elim, rules}
+use Rattle.std.proofs.Common.{◌≡◌, ◌≤◌, ◌<◌, ◌/◌, ◌%◌, ℕ, sym, subst, rules}
 use Rattle.ffv1_range.specs.Setup.{set_entry}
 use Rattle.ffv1_range.specs.Tiles.{grid_of, plane_rect}
 use Rattle.ffv1_range.specs.declared.grid.TileRect.{TileRect}
-use Rattle.ffv1_plane.specs.Progress.{IsPlaneRead, IsNoPlane}
+use Rattle.ffv1_plane.specs.Progress.{IsPlaneRead}
+use Rattle.ffv1_plane.specs.Halts.{IsDecodingHalted, IsPlaneOfHalted}
+use Rattle.ffv1_plane.specs.Picture.{plane_set}
+use Rattle.ffv1_plane.specs.declared.plane.PlaneFault.{PlaneFault}
+use Rattle.ffv1_plane.specs.declared.plane.PlaneFault.TheVariants as plane_faults
+use Rattle.ffv1_plane.specs.declared.tile.TileFault.TheVariants.{Code}
 use Rattle.ffv1_plane.proofs.Pictures.{plane_within}
+use Rattle.ffv1_plane.proofs.Stops.{tile_plane_stops}
 use Rattle.ffv1_plane.proofs.tile.decode_plane_of.Goals as goal
 
 pub decode_plane-requires-clause-some : goal.decode_plane-requires-clause-some
@@ -50,8 +56,13 @@ returns-in-Ok-clause-read c =
 
 pub returns-in-Err-Code-clause-err : goal.returns-in-Err-Code-clause-err
 returns-in-Err-Code-clause-err c =
+    let within = plane_within c.args.setup.now c.args.head.now.tile c.args.plane c.requires.profile c.requires.tile in
     let rect : c.plane_rect-rect.result ≡ plane_rect (grid_of c.args.setup.now) c.args.head.now.tile c.args.plane = search rules in
-    let R : TileRect → ℕ → Type 0 = λ r set. IsNoPlane r.w r.h (set_entry c.args.setup.now set) c.args.states.now.items c.args.bits.now.left in
-    let none : R c.plane_rect-rect.result c.table_set-set.result = ⊎_elim (λ memory. absurd (let same = sym c.in-Err-Code.field-0-is ∙ memory in cc)) (λ none. none) c.in-Err-Code.ensures.err in
-    let there : R (plane_rect (grid_of c.args.setup.now) c.args.head.now.tile c.args.plane) c.table_set-set.result = subst (λ (r : TileRect). R r c.table_set-set.result) rect none in
-    inr (tt, subst (λ (set : ℕ). R (plane_rect (grid_of c.args.setup.now) c.args.head.now.tile c.args.plane) set) c.table_set-set.ensures there)
+    let R : TileRect → ℕ → PlaneFault → Type 0 = λ r set fault. IsDecodingHalted r.w r.h (set_entry c.args.setup.now set) c.args.states.now.items c.args.bits.now.left fault in
+    let told : R c.plane_rect-rect.result c.table_set-set.result (plane_faults.Code c.in-Err-Code.fault c.in-Err-Code.sample) = subst (R c.plane_rect-rect.result c.table_set-set.result) c.in-Err-Code.field-0-is c.in-Err-Code.ensures.err in
+    let there : R (plane_rect (grid_of c.args.setup.now) c.args.head.now.tile c.args.plane) (plane_set c.args.head.now c.args.plane) (plane_faults.Code c.in-Err-Code.fault c.in-Err-Code.sample) =
+    subst (λ (set : ℕ). R (plane_rect (grid_of c.args.setup.now) c.args.head.now.tile c.args.plane) set (plane_faults.Code c.in-Err-Code.fault c.in-Err-Code.sample)) c.table_set-set.ensures
+    (subst (λ (r : TileRect). R r c.table_set-set.result (plane_faults.Code c.in-Err-Code.fault c.in-Err-Code.sample)) rect told) in
+    let all = tile_plane_stops c.args.setup.now c.args.head.now c.args.plane c.args.states.now.items c.args.bits.now.left c.in-Err-Code.fault c.in-Err-Code.sample within.some_columns there in
+    let S : TileRect → Type 0 = λ r. IsPlaneOfHalted c.args.setup.now c.args.head.now c.args.plane c.args.states.now.items c.args.bits.now.left (Code c.in-Err-Code.fault c.args.plane (c.in-Err-Code.sample / r.w) (c.in-Err-Code.sample % r.w)) in
+    subst S (sym rect) all

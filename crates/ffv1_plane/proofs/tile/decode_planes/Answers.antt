@@ -1,24 +1,20 @@
-use Rattle.std.proofs.Common.{◌≡◌, true, false, sym, inl, inr, ⊎_elim}
+use Rattle.std.proofs.Common.{◌≡◌, true, false, sym}
 use Rattle.std.proofs.lemmas.Result.{err_from_is_err_and}
-use Rattle.ffv1_plane.proofs.Pictures.{luma_none, chroma_none, gray_read, colour_read}
+use Rattle.ffv1_plane.proofs.Pictures.{gray_read, colour_read}
+use Rattle.ffv1_plane.proofs.Stops.{luma_planes, chroma_planes}
 use Rattle.ffv1_plane.proofs.tile.decode_planes.Goals as goal
 
 pub returns-in_err-luma-clause-err : goal.returns-in_err-luma-clause-err
 returns-in_err-luma-clause-err c =
     let p = err_from_is_err_and c.from_residual.result c.from_residual.ensures.1 in
-    rw (p.1, p.2)
-    (⊎_elim (λ memory. inl memory)
-    (λ none. inr (none.0, luma_none c.args.setup.now c.args.head.now c.requires.profile c.requires.tile c.args.bits.now.left none.1))
-    c.in_err-luma.ensures.err)
+    rw (p.1, p.2) (luma_planes c.args.setup.now c.args.head.now c.requires.profile c.requires.tile c.args.bits.now.left _ c.in_err-luma.ensures.err)
 
 pub returns-in_err-cb-clause-err : goal.returns-in_err-cb-clause-err
 returns-in_err-cb-clause-err c =
     let p = err_from_is_err_and c.from_residual-in_err-cb.result c.from_residual-in_err-cb.ensures.1 in
     let colour : c.args.setup.now.has_chroma ≡ true = sym c.if-has_chroma.ensures in
     rw (p.1, p.2)
-    (⊎_elim (λ memory. inl memory)
-    (λ none. inr (none.0, chroma_none c.args.setup.now c.args.head.now c.requires.profile c.requires.tile c.args.bits.now.left c.decode_luma.new.bits.left c.in_ok-luma.luma.items colour c.in_ok-luma.ensures.ok none.1))
-    c.in_err-cb.ensures.err)
+    (chroma_planes c.args.setup.now c.args.head.now c.requires.profile c.requires.tile c.args.bits.now.left c.decode_luma.new.bits.left c.in_ok-luma.luma.items colour c.in_ok-luma.ensures.ok _ c.in_err-cb.ensures.err)
 
 pub returns-in_ok-vec-clause-ok : goal.returns-in_ok-vec-clause-ok
 returns-in_ok-vec-clause-ok c =

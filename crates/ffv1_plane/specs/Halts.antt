@@ -1,0 +1,124 @@
+-- How the parts of the decoder stop at a word that can't be read: a run, a sample, a line, a plane and the planes of a tile.
+use Rattle.std.specs.Prelude.{◌≡◌, ℕ, ◌+◌, ◌-◌, ◌*◌, ◌%◌, ◌<◌, ◌≤◌, ◌⊎◌, Bool, List, ◌++◌, length, get_or, ℤ, nat_abs}
+use Rattle.ffv1_range.specs.Setup.{SetupValue, set_entry}
+use Rattle.ffv1_range.specs.Tiles.{grid_of, plane_rect}
+use Rattle.ffv1_range.specs.declared.head.SliceHead.{SliceHead}
+use Rattle.ffv1_rice.specs.States.{ContextState, start_state}
+use Rattle.ffv1_rice.specs.Codes.{IsCodeFault}
+use Rattle.ffv1_rice.specs.Runs.{IsCutWord}
+use Rattle.ffv1_rice.specs.declared.code.CodeFault.{CodeFault}
+use Rattle.ffv1_plane.specs.Samples.{plane_of, neighbours_at, context_of, IsPlaneOfSize}
+use Rattle.ffv1_plane.specs.Spelling.{Residuals, residuals_of, PlaneSpells, values_after}
+use Rattle.ffv1_plane.specs.Picture.{ArePlanesOf, IsPlaneIn, plane_set, shaped_plane, no_values}
+use Rattle.ffv1_plane.specs.Progress.{AreStatesAfter, IsReadTo}
+use Rattle.ffv1_plane.specs.Stuck.{SpellsFront, IsWordRefused, AreBitsStuck}
+use Rattle.ffv1_plane.specs.declared.plane.PlaneFault.{PlaneFault}
+use Rattle.ffv1_plane.specs.declared.plane.PlaneFault.TheVariants as plane_faults
+use Rattle.ffv1_plane.specs.declared.tile.TileFault.{TileFault}
+use Rattle.ffv1_plane.specs.declared.tile.TileFault.TheVariants.{Code, Memory}
+
+-- ---- a run and a code
+
+-- Words that skip some samples of the line were read, and the bits end within the next.
+pub record IsRunCut (left index : ℕ) (bits : List Bool) (skipped : ℕ) : Type 0 where
+  pub words : List Bool
+  pub next : ℕ
+  pub others : List Bool
+  pub begins : bits ≡ words ++ others
+  pub front : SpellsFront skipped index words next
+  pub inside : skipped < left
+  pub cut : IsCutWord next others
+
+-- the context of the next sample
+abbrev pub next_context : ℕ → (ℕ → ℕ → ℤ) → List ℕ → ℕ
+next_context width entry samples = nat_abs (context_of entry (neighbours_at width samples (length samples)))
+
+-- The code of the next sample can't be read.
+pub record IsCodeHalted (width : ℕ) (entry : ℕ → ℕ → ℤ) (level : Bool) (samples : List ℕ) (states : List ContextState) (bits : List Bool) (fault : CodeFault) (sample : ℕ) : Type 0 where
+  pub place : sample ≡ length samples
+  pub below : next_context width entry samples < length states
+  pub told : IsCodeFault (get_or states (next_context width entry samples) start_state) level bits fault
+
+abbrev pub IsSampleHalted : ℕ → (ℕ → ℕ → ℤ) → Bool → List ℕ → List ContextState → List Bool → PlaneFault → Type 0
+IsSampleHalted width entry level samples states bits (plane_faults.Code fault sample) = IsCodeHalted width entry level samples states bits fault sample
+IsSampleHalted width entry level samples states bits plane_faults.Memory = Unit {0}
+
+-- ---- a line and a plane
+
+-- Behind the words before it, no word of a sample can be read.
+pub record IsHalted (earlier : ℕ → List ℤ) (r : Residuals) (bits : List Bool) (fault : CodeFault) (sample : ℕ) : Type 0 where
+  pub part : List Bool
+  pub others : List Bool
+  pub begins : bits ≡ part ++ others
+  pub refused : IsWordRefused earlier r sample part others fault
+
+-- That sample is in the rest of the line, and all is told of every plane that begins with these samples.
+pub record IsLineHalted (earlier : ℕ → List ℤ) (width : ℕ) (entry : ℕ → ℕ → ℤ) (old : List ℕ) (bits : List Bool) (fault : CodeFault) (sample : ℕ) : Type 0 where
+  pub samples : List ℕ
+  pub bytes : (s : ℕ) → get_or samples s 0 < 256
+  pub inside : sample < length samples
+  pub in_line : length samples ≤ length old + (width - length old % width)
+  pub halted : (more : List ℕ) → IsHalted earlier (residuals_of (plane_of width entry (samples ++ more))) bits fault sample
+
+abbrev pub IsNextHalted : ℕ → (ℕ → ℕ → ℤ) → List ℕ → ℕ → List ContextState → List Bool → PlaneFault → Type 0
+IsNextHalted width entry old index states left (plane_faults.Code fault sample) =
+    (earlier : ℕ → List ℤ) (bits : List Bool) → ((s : ℕ) → get_or old s 0 < 256) → IsReadTo earlier width entry bits old index states left → IsLineHalted earlier width entry old bits fault sample
+IsNextHalted width entry old index states left plane_faults.Memory = Unit {0}
+
+-- For some plane of this size no word of a sample can be read.
+pub record IsPlaneHalted (earlier : ℕ → List ℤ) (width height : ℕ) (entry : ℕ → ℕ → ℤ) (bits : List Bool) (fault : CodeFault) (sample : ℕ) : Type 0 where
+  pub samples : List ℕ
+  pub size : IsPlaneOfSize width height samples
+  pub inside : sample < width * height
+  pub halted : IsHalted earlier (residuals_of (plane_of width entry samples)) bits fault sample
+
+abbrev pub IsDecodingHalted : ℕ → ℕ → (ℕ → ℕ → ℤ) → List ContextState → List Bool → PlaneFault → Type 0
+IsDecodingHalted width height entry states bits (plane_faults.Code fault sample) =
+    (earlier : ℕ → List ℤ) → AreStatesAfter earlier states → IsPlaneHalted earlier width height entry bits fault sample
+IsDecodingHalted width height entry states bits plane_faults.Memory = Unit {0}
+
+-- ---- the planes of a tile
+
+-- The place of a sample of a plane of a tile, behind earlier values.
+pub record IsTilePlaneHalted (setup : SetupValue) (head : SliceHead) (plane : ℕ) (earlier : ℕ → List ℤ) (bits : List Bool) (fault : CodeFault) (y x : ℕ) : Type 0 where
+  pub row_there : y < (plane_rect (grid_of setup) head.tile plane).h
+  pub column_there : x < (plane_rect (grid_of setup) head.tile plane).w
+  pub halted : IsPlaneHalted earlier (plane_rect (grid_of setup) head.tile plane).w (plane_rect (grid_of setup) head.tile plane).h (set_entry setup (plane_set head plane)) bits fault (y * (plane_rect (grid_of setup) head.tile plane).w + x)
+
+abbrev pub IsPlaneOfHalted : SetupValue → SliceHead → ℕ → List ContextState → List Bool → TileFault → Type 0
+IsPlaneOfHalted setup head plane states bits (Code fault level y x) = (level ≡ plane) × ((earlier : ℕ → List ℤ) → AreStatesAfter earlier states → IsTilePlaneHalted setup head plane earlier bits fault y x)
+IsPlaneOfHalted setup head plane states bits Memory = Unit {0}
+IsPlaneOfHalted setup head plane states bits other = ⊥
+
+abbrev pub IsLumaHalted : SetupValue → SliceHead → List Bool → TileFault → Type 0
+IsLumaHalted setup head bits (Code fault level y x) = (level ≡ 0) × IsTilePlaneHalted setup head 0 no_values bits fault y x
+IsLumaHalted setup head bits Memory = Unit {0}
+IsLumaHalted setup head bits other = ⊥
+
+-- Cb was read, and Cr halts.
+pub record IsCrHalted (setup : SetupValue) (head : SliceHead) (bits : List Bool) (fault : CodeFault) (y x : ℕ) : Type 0 where
+  pub cb : List ℕ
+  pub size : IsPlaneIn (plane_rect (grid_of setup) head.tile 1) cb
+  pub front : List Bool
+  pub rest : List Bool
+  pub begins : bits ≡ front ++ rest
+  pub spells : PlaneSpells no_values (shaped_plane setup head 1 cb) front
+  pub halted : IsTilePlaneHalted setup head 2 (values_after no_values (shaped_plane setup head 1 cb)) rest fault y x
+
+abbrev pub IsChromaHalted : SetupValue → SliceHead → List Bool → TileFault → Type 0
+IsChromaHalted setup head bits (Code fault level y x) =
+    ((level ≡ 1) × IsTilePlaneHalted setup head 1 no_values bits fault y x) ⊎ ((level ≡ 2) × IsCrHalted setup head bits fault y x)
+IsChromaHalted setup head bits Memory = Unit {0}
+IsChromaHalted setup head bits other = ⊥
+
+-- For some picture of the tile the bits are stuck at a sample.
+pub record ArePlanesStuck (setup : SetupValue) (head : SliceHead) (bits : List Bool) (fault : CodeFault) (plane y x : ℕ) : Type 0 where
+  pub planes : List (List ℕ)
+  pub sizes : ArePlanesOf setup head.tile planes
+  pub front : List Bool
+  pub stuck : AreBitsStuck setup head planes bits fault plane y x front
+
+abbrev pub ArePlanesHalted : SetupValue → SliceHead → List Bool → TileFault → Type 0
+ArePlanesHalted setup head bits (Code fault plane y x) = ArePlanesStuck setup head bits fault plane y x
+ArePlanesHalted setup head bits Memory = Unit {0}
+ArePlanesHalted setup head bits other = ⊥

@@ -1,0 +1,122 @@
+-- Where the content of a slice can't be read on (RFC 9043, section 3.8.2). As in Spelling, all is told of a whole picture
+-- and its bits: those of its words that start before a sample are there, and a word that is due at the sample isn't.
+use Rattle.std.specs.Prelude.{◌≡◌, ℕ, zero, suc, ◌+◌, ◌*◌, ◌<◌, ◌≤◌, ◌==◌, ◌⊎◌, Bool, true, false, List, [], ◌∷◌, ◌++◌, drop, ℤ, if◌then◌else◌}
+use Rattle.ffv1_bits.specs.Bits.{bits_of}
+use Rattle.ffv1_range.specs.Header.{IsHeadOf, header_limits}
+use Rattle.ffv1_range.specs.Setup.{SetupValue}
+use Rattle.ffv1_range.specs.Tiles.{grid_of, plane_count, plane_rect}
+use Rattle.ffv1_range.specs.declared.head.SliceHead.{SliceHead}
+use Rattle.ffv1_rice.specs.Codes.{IsCodeFault}
+use Rattle.ffv1_rice.specs.Runs.{whole_length, SpellsRun, IsCutWord}
+use Rattle.ffv1_rice.specs.declared.code.CodeFault.{CodeFault}
+use Rattle.ffv1_rice.specs.declared.code.CodeFault.TheVariants.{Truncated}
+use Rattle.ffv1_plane.specs.Spelling.{Residuals, residuals_of, is_in_run, is_coded, starts_run, left_in_line, run_length, context_number, state_before, SamplesSpell, PlaneSpells, values_after}
+use Rattle.ffv1_plane.specs.Picture.{ArePlanesOf, tile_plane, no_values, PictureSpells}
+
+-- ---- the words before a word of a run
+
+-- SpellsFront n i bits next: the first words of a run have these bits at the run index i, skip n samples, and leave the
+-- index at next, where another word of the run follows. So each of them is a one that stands for a whole length.
+pub data SpellsFront : ℕ → ℕ → List Bool → ℕ → Type 0 where
+  -- no word yet
+  no_word : {n i next : ℕ} {bits : List Bool} → n ≡ 0 → bits ≡ [] → next ≡ i → SpellsFront n i bits next
+  -- a one stands for a whole length, and the index rises
+  one_word : {n i next : ℕ} {bits : List Bool} (m : ℕ) (others : List Bool) → n ≡ whole_length i + m → bits ≡ true ∷ others → SpellsFront m (i + 1) others next → SpellsFront n i bits next
+
+-- A word of a run is due at sample s, at a run index. Each word starts at the first sample not yet skipped: words of the
+-- run have skipped those from its start up to s, which lies in its line. The bits are those of the words before s.
+pub record IsRunWordDue (earlier : ℕ → List ℤ) (r : Residuals) (s : ℕ) (bits : List Bool) (index : ℕ) : Type 0 where
+  pub start : ℕ
+  pub skipped : ℕ
+  pub place : s ≡ start + skipped
+  pub starts : starts_run r start ≡ true
+  pub in_run : skipped ≤ run_length r start
+  pub in_line : skipped < left_in_line r start
+  pub before : List Bool
+  pub begun : ℕ
+  pub spells : SamplesSpell earlier r start before begun
+  pub words : List Bool
+  pub front : SpellsFront skipped begun words index
+  pub joined : bits ≡ before ++ words
+
+-- ---- the words before a code
+
+-- A code is due at sample s, which is coded. The bits are those of the words before the code: all words that start before
+-- s, and for a level those of its run.
+pub record IsCodeDue (earlier : ℕ → List ℤ) (r : Residuals) (s : ℕ) (bits : List Bool) : Type 0 where
+  pub coded : is_coded r s ≡ true
+  pub before : List Bool
+  pub index : ℕ
+  pub spells : SamplesSpell earlier r s before index
+  pub run : List Bool
+  pub next : ℕ
+  pub run_starts : starts_run r s ≡ true → SpellsRun (run_length r s) (left_in_line r s) index run next
+  pub no_run_starts : starts_run r s ≡ false → (run ≡ []) × (next ≡ index)
+  pub joined : bits ≡ before ++ run
+
+-- ---- words that can't be read
+
+-- Behind these bits a word of a run is due at sample s, and the others end within it.
+abbrev pub IsRunWordCut : (ℕ → List ℤ) → Residuals → ℕ → List Bool → List Bool → Type 0
+IsRunWordCut earlier r s bits others = (index : ℕ) × IsRunWordDue earlier r s bits index × IsCutWord index others
+
+-- Behind these bits a code is due at sample s, and the others end within it or begin with what no sample has.
+abbrev pub IsCodeRefused : (ℕ → List ℤ) → Residuals → ℕ → List Bool → List Bool → CodeFault → Type 0
+IsCodeRefused earlier r s bits others fault =
+    IsCodeDue earlier r s bits × IsCodeFault (state_before earlier r (context_number r s) s) (is_in_run r s) others fault
+
+-- Behind these bits no word of sample s can be read, for this fault.
+abbrev pub IsWordRefused : (ℕ → List ℤ) → Residuals → ℕ → List Bool → List Bool → CodeFault → Type 0
+IsWordRefused earlier r s bits others fault = ((fault ≡ Truncated) × IsRunWordCut earlier r s bits others) ⊎ IsCodeRefused earlier r s bits others fault
+
+-- ---- whole pictures
+
+-- the values behind which a plane is coded: Cr goes on with the states of Cb
+abbrev pub values_behind : SetupValue → SliceHead → List (List ℕ) → ℕ → (ℕ → List ℤ)
+values_behind setup head planes plane = if plane == 2 then values_after no_values (tile_plane setup head planes 1) else no_values
+
+-- the bits of the planes below a number
+unfoldable pub PlanesBelow : SetupValue → SliceHead → List (List ℕ) → ℕ → List Bool → Type 0
+PlanesBelow setup head planes zero bits = bits ≡ []
+PlanesBelow setup head planes (suc plane) bits =
+    (front : List Bool) × (back : List Bool) × (bits ≡ front ++ back)
+    × PlanesBelow setup head planes plane front × PlaneSpells (values_behind setup head planes plane) (tile_plane setup head planes plane) back
+
+-- The place of a fault: a sample of a plane of a tile, by its row and its column.
+pub record IsPlaceIn (setup : SetupValue) (tile plane y x : ℕ) : Type 0 where
+  pub plane_there : plane < plane_count (grid_of setup)
+  pub row_there : y < (plane_rect (grid_of setup) tile plane).h
+  pub column_there : x < (plane_rect (grid_of setup) tile plane).w
+
+-- its number in scan order
+abbrev pub scan_place : SetupValue → ℕ → ℕ → ℕ → ℕ → ℕ
+scan_place setup tile plane y x = y * (plane_rect (grid_of setup) tile plane).w + x
+
+-- The bits begin with the planes below a number and with those words of the next plane that start before a sample, and
+-- then no word of that sample can be read, for this fault. `front` is what stands before it.
+pub record AreBitsStuck (setup : SetupValue) (head : SliceHead) (planes : List (List ℕ)) (bits : List Bool) (fault : CodeFault) (plane y x : ℕ) (front : List Bool) : Type 0 where
+  pub place : IsPlaceIn setup head.tile plane y x
+  pub whole : List Bool
+  pub below : PlanesBelow setup head planes plane whole
+  pub part : List Bool
+  pub joined : front ≡ whole ++ part
+  pub others : List Bool
+  pub begins : bits ≡ front ++ others
+  pub refused : IsWordRefused (values_behind setup head planes plane) (residuals_of (tile_plane setup head planes plane)) (scan_place setup head.tile plane y x) part others fault
+
+-- The content of a slice is stuck at a sample of a tile: it has a header of the tile, and for some picture of the tile and
+-- the bits of that picture, those of them before the sample's word begin the bits behind the header, and what follows
+-- there can't be read, for this fault.
+pub record IsStuckAt (setup : SetupValue) (tile : ℕ) (content : List ℕ) (fault : CodeFault) (plane y x : ℕ) : Type 0 where
+  pub head : SliceHead
+  pub place : ℕ
+  pub is_head : IsHeadOf (header_limits setup) content (tile == 0) head place
+  pub of_tile : head.tile ≡ tile
+  pub planes : List (List ℕ)
+  pub sizes : ArePlanesOf setup tile planes
+  pub words : List Bool
+  pub spells : PictureSpells setup head planes words
+  pub front : List Bool
+  pub behind : List Bool
+  pub begins : words ≡ front ++ behind
+  pub stuck : AreBitsStuck setup head planes (bits_of (drop place content)) fault plane y x front
