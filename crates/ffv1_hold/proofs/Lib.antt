@@ -34,3 +34,4 @@ pub mod OneFault
 pub mod Unfinished
 pub mod OneInput
 pub mod JoinLaws
+mod NearVectors

@@ -1,12 +1,14 @@
 -- Laws of holdings and their files, each the contract of a public function.
-use Rattle.std.specs.Prelude.{◌≡◌, ℕ, ◌++◌, ◌≤◌, List, length}
+use Rattle.std.specs.Prelude.{◌≡◌, ◌↔◌, ℕ, ◌++◌, ◌≤◌, true, List, Contains, length}
 use Rattle.ffv1_hold.specs.declared.file_fault.HoldFileFault.{HoldFileFault}
 use Rattle.ffv1_hold.specs.Reels.{Reel}
-use Rattle.ffv1_hold.specs.Contents.{Contents, IsHolding, holding_of}
-use Rattle.ffv1_slice.specs.Slices.{IsOriginal}
+use Rattle.ffv1_range.specs.Setup.{SetupValue}
+use Rattle.ffv1_hold.specs.Sets as set
+use Rattle.ffv1_hold.specs.Contents.{Contents, IsHolding, holding_of, slices_of_copies}
+use Rattle.ffv1_slice.specs.Slices.{IsFoundIn, IsOriginal}
 use Rattle.ffv1_hold.specs.HoldingText.{holding_text, record_limit, FitsInFile}
 use Rattle.ffv1_hold.specs.FileFaults.{IsPartOfFile, IsHoldingText, FileShows, IsFaultOf}
-use Rattle.ffv1_hold.specs.Originals.{AreCopiesOf, HoldsExactly}
+use Rattle.ffv1_hold.specs.Originals.{AreCopiesOf, AreNear, HoldsExactly}
 
 -- Two holdings with one text are equal, and each holding has the text `holding_text`: so each meaning has exactly one.
 abbrev pub OneText : Type 0
@@ -34,3 +36,14 @@ abbrev pub CopiesHoldTheOriginal : Type 0
 CopiesHoldTheOriginal =
     (reel : Reel) (payload : List ℕ) (slices copies : List (List ℕ)) → IsOriginal reel.setup payload slices → AreCopiesOf reel.setup slices copies
     → HoldsExactly (holding_of reel copies) slices
+
+-- Copies that are near an original, with each of its slices intact in one of them, hold exactly the original's slices.
+abbrev pub NearCopiesHoldTheOriginal : Type 0
+NearCopiesHoldTheOriginal =
+    (reel : Reel) (original : List ℕ) (slices copies : List (List ℕ)) → AreNear reel.setup original slices copies → HoldsExactly (holding_of reel copies) slices
+
+-- A slice of a tile is held of copies exactly where it is found in one of them.
+abbrev pub HeldIsFound : Type 0
+HeldIsFound =
+    (setup : SetupValue) (copies : List (List ℕ)) (tile : ℕ) (slice : List ℕ)
+    → (set.contains (slices_of_copies setup copies) (tile, slice) ≡ true) ↔ ((copy : List ℕ) × Contains copies copy × IsFoundIn setup copy tile slice)

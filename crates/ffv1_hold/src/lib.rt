@@ -31,7 +31,10 @@ pub use file_fault::HoldFileFault;
 pub use holding::Holding;
 pub use join::Join;
 pub use joins::{JoinAllFault, join_all};
-pub use laws::{copies_hold_the_original, one_fault, one_text, text_shows_no_fault};
+pub use laws::{
+    copies_hold_the_original, held_is_found, near_copies_hold_the_original, one_fault, one_text,
+    text_shows_no_fault,
+};
 pub use plan::{Plan, PlanFault, run, same_copies};
 pub use reading::read_hold;
 pub use restore::RestoreFault;

@@ -1,9 +1,10 @@
 //! Plans (own): which copies are taken, in which order and grouping, which holdings are joined, and which go through a file.
-ghost use Rattle.std.specs.Prelude.{◌≡◌, IfOk, IfErr, OnOk};
+ghost use Rattle.std.specs.Prelude.{◌≡◌, ℕ, List, IfOk, IfErr, OnOk};
 ghost use Rattle.ffv1_range.specs.Setup.{IsSetupOf};
 ghost use Rattle.ffv1_hold.specs.TakeFaults.{AreShort};
 ghost use Rattle.ffv1_hold.specs.Contents.{holding_of, IsHolding};
 ghost use Rattle.ffv1_hold.specs.Saving.{IsTooLong};
+ghost use Rattle.ffv1_hold.specs.Originals.{AreNear, HoldsExactly};
 ghost use Rattle.ffv1_hold.specs.Plans.{copies_of, IsPlanFault, IsRereadFault, RereadsFit};
 ghost use Rattle.ffv1_hold.specs.Headline.{SameCopiesAreEqual};
 
@@ -105,6 +106,9 @@ pub fn run(
     ensures setup { IfOk result (λ h. IsSetupOf config.now width height h.reel.setup) }
     ensures meaning { IfOk result (λ h. h ≡ holding_of h.reel (copies_of plan.now)) }
     ensures sound { IfOk result IsHolding }
+
+    // Where the plan's copies are near an original, with each of its slices intact in one of them, exactly its slices are held.
+    ensures near { (original : List ℕ) (slices : List (List ℕ)) → IfOk result (λ h. AreNear h.reel.setup original slices (copies_of plan.now) → HoldsExactly h slices) }
 
     ensures short { OnOk result (AreShort (copies_of plan.now)) }
     ensures fits { IfOk result (λ h. RereadsFit h.reel plan.now) }

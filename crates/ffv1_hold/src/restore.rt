@@ -8,7 +8,8 @@ ghost use Rattle.ffv1_hold.specs.TileSets.{tile_slices};
 ghost use Rattle.ffv1_hold.specs.Standing.{tile_state, IsLeastStatus, AreSettled, restored_payload};
 ghost use Rattle.ffv1_hold.specs.TileStates.{standing_shown};
 ghost use Rattle.ffv1_hold.specs.Refusals.{IsRefusal};
-ghost use Rattle.ffv1_hold.specs.Originals.{HoldsExactly};
+ghost use Rattle.ffv1_hold.specs.Contents.{holding_of};
+ghost use Rattle.ffv1_hold.specs.Originals.{AreNear, HoldsExactly};
 
 use crate::holding::Holding;
 use crate::standing::{least_status, state};
@@ -82,6 +83,11 @@ impl Holding {
         // Where just the original's slices are held, no answer is another payload, and the only refusal is `Memory`.
         ensures original { (payload : List ℕ) (slices : List (List ℕ)) → IsOriginal self.now.reel.setup payload slices → HoldsExactly self.now slices → IfOk result (λ restored. restored.items ≡ payload) }
         ensures original_settled { (payload : List ℕ) (slices : List (List ℕ)) → IsOriginal self.now.reel.setup payload slices → HoldsExactly self.now slices → OnErr result (result ≡ Err RestoreFault.Memory) }
+
+        // Where what is held is of copies that are near an original, with each of its slices intact in one of them, no answer is
+        // another payload, and the only refusal is `Memory`.
+        ensures near { (payload : List ℕ) (slices copies : List (List ℕ)) → AreNear self.now.reel.setup payload slices copies → self.now ≡ holding_of self.now.reel copies → IfOk result (λ restored. restored.items ≡ payload) }
+        ensures near_settled { (payload : List ℕ) (slices copies : List (List ℕ)) → AreNear self.now.reel.setup payload slices copies → self.now ≡ holding_of self.now.reel copies → OnErr result (result ≡ Err RestoreFault.Memory) }
     {
         for tile in 0..self.held.tiles() {
             match self.state(tile) {

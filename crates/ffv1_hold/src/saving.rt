@@ -5,7 +5,8 @@ ghost use Rattle.ffv1_hold.specs.Sets as set;
 ghost use Rattle.ffv1_hold.specs.Streams.{HasFailed};
 ghost use Rattle.ffv1_hold.specs.Writing.{WritesFront, IsWriteFault};
 ghost use Rattle.ffv1_hold.specs.TileSets.{tile_entries};
-ghost use Rattle.ffv1_hold.specs.HoldingText.{be2, be4, magic, head_text, entries_text, holding_text, record_limit, file_limit};
+ghost use Rattle.ffv1_hold.specs.HoldingText.{be2, be4, magic, head_text, entries_text, holding_text, record_limit, file_limit, FitsInFile};
+ghost use Rattle.ffv1_hold.specs.Contents.{IsHolding};
 ghost use Rattle.ffv1_hold.specs.Saving.{AreWithinLimit, AreWritable, IsTooLong, entries_length};
 
 use crate::fields::{FILE_LIMIT, WriteFailed};
@@ -25,6 +26,8 @@ use crate::writes::{write_field, write_pair};
 /// comes: nothing is allocated.
 pub fn write_hold<W: Sink>(holding: &Holding, sink: &mut W) -> Result<(), HoldFileFault>
     ensures text { OnOk result (Appends (W.contents sink.old) (W.contents sink.new) (holding_text holding.now)) }
+    ensures sound { IsHolding holding.now }
+    ensures fits { OnOk result (FitsInFile holding.now) }
 
     ensures write { IsErrOf result HoldFileFault.Write → WritesFront (W.contents sink.old) (W.contents sink.new) (holding_text holding.now) }
     ensures failed { IsErrOf result HoldFileFault.Write → HasFailed (W.failures sink.old) (W.failures sink.new) }

@@ -1,16 +1,17 @@
 -- What equal holdings have in common, and what copies of an original restore and show.
-use Rattle.std.proofs.Common.{◌≡◌, ℕ, ◌<◌, List, [], get_or, None, Result, Ok, Err, IsOkAnd, Vec, Global, refl, sym, ap, subst, ◌∙◌, arith}
-use Rattle.ffv1_hold.specs.Reels.{tile_count}
+use Rattle.std.proofs.Common.{◌≡◌, ℕ, List, [], get_or, None, Result, Ok, Err, IsOkAnd, Vec, Global, refl, sym, ap, subst, ◌∙◌, arith}
+use Rattle.ffv1_slice.specs.Slices.{IsOriginal}
 use Rattle.ffv1_hold.specs.Contents.{Contents, holding_of, HasSameCopies}
 use Rattle.ffv1_hold.specs.ContentsLaws.{holding_of-same}
-use Rattle.ffv1_hold.specs.Standing.{Standing, settled, tile_state, IsSettled}
-use Rattle.ffv1_hold.specs.Originals.{HoldsExactly}
+use Rattle.ffv1_hold.specs.Standing.{Standing, settled, IsSettled, IsLeastUnsettled}
+use Rattle.ffv1_hold.specs.Originals.{AreNear, HoldsExactly}
 use Rattle.ffv1_hold.specs.Plans.{copies_of}
 use Rattle.ffv1_hold.specs.declared.plan.Plan.{Plan}
 use Rattle.ffv1_hold.specs.declared.restore.RestoreFault.{RestoreFault}
 use Rattle.ffv1_hold.specs.declared.restore.RestoreFault.TheVariants as refusals
 use Rattle.ffv1_hold.proofs.PlanSteps.{one_reel}
-use Rattle.ffv1_hold.proofs.ExactlyHeld.{exactly_held}
+use Rattle.ffv1_range.specs.Setup.{SetupValue}
+use Rattle.ffv1_hold.proofs.ExactlyHeld.{exactly_held, near_are_copies}
 use Rattle.ffv1_hold.proofs.Restored.{settled_alone, restored_original}
 use Rattle.ffv1_picture.specs.PartialPictures.{IsShown, IsPartialPicture}
 use Rattle.ffv1_picture.specs.Headline.{IsHoldingOfPlan, AreEqualInAll, IsRestored, IsPlanFor, ShowsSlices}
@@ -18,7 +19,7 @@ use Rattle.ffv1_picture.specs.declared.partial.Partial.{Partial}
 use Rattle.ffv1_picture.specs.declared.partial.TileOutcome.TheVariants.{Missing}
 use Rattle.ffv1_picture.proofs.OnePicture.{shown_picture}
 
-same_in_all : (a : Contents) → AreEqualInAll a a
+pub same_in_all : (a : Contents) → AreEqualInAll a a
 same_in_all a = record { states = λ tile. refl; held = λ tile. refl; statuses = λ tile least is. is; file = refl; report = refl }
 
 -- plans of the same copies come to equal holdings
@@ -29,28 +30,44 @@ equal_holdings config width height plan other a b is also same =
     let P : Contents → Type 0 = λ h. AreEqualInAll a h in
     subst P e (same_in_all a)
 
+-- ---- a holding of just an original's slices
+
+module _ (h : Contents) (original : List ℕ) (slices : List (List ℕ)) (is_original : IsOriginal h.reel.setup original slices) (exact : HoldsExactly h slices) where
+  pub exact_shows : (partial : Partial) → IsPartialPicture h partial → ShowsSlices h.reel.setup slices partial.frame
+  exact_shows partial shown = record {
+    pictures = shown.pictures;
+    count = shown.count ∙ sym is_original.count;
+    each = λ tile d lt.
+        let P : Standing → Type 0 = λ s. IsShown h.reel.setup tile s (get_or partial.tiles.items tile Missing) (get_or shown.pictures tile None) in
+        shown_picture h.reel.setup tile (settled (get_or slices tile d)) (get_or partial.tiles.items tile Missing) (get_or shown.pictures tile None)
+        (subst P (settled_alone h slices exact tile d lt) (shown.each tile (omega (arith, lt, is_original.count))));
+    is_frame = shown.is_frame;
+  }
+
+  -- each of its tiles is settled
+  pub exact_settles : (tile : ℕ) → IsLeastUnsettled h tile → ⊥
+  exact_settles tile least = least.unsettled (subst IsSettled (sym (settled_alone h slices exact tile [] (omega (arith, least.in_grid, is_original.count)))) tt)
+
+  pub exact_restores : (r : Result (Vec ℕ Global) RestoreFault) → IsRestored h r → IsOkAnd r (λ payload. payload.items ≡ original)
+  exact_restores (Ok payload) is = is.1 ∙ restored_original h slices exact original is_original
+  exact_restores (Err (refusals.Missing tile)) is = absurd (exact_settles tile is.0.0)
+  exact_restores (Err (refusals.Disputed tile)) is = absurd (exact_settles tile is.0.0)
+  exact_restores (Err refusals.Memory) is = absurd (is.1 refl)
+
+-- ---- a plan of copies of an original
+
 module _ (config : List ℕ) (width height : ℕ) (plan : Plan) (h : Contents) (is : IsHoldingOfPlan config width height plan h) (original : List ℕ) (slices : List (List ℕ)) (for : IsPlanFor h.reel.setup plan original slices) where
-  pub held_exactly : HoldsExactly h slices
+  held_exactly : HoldsExactly h slices
   held_exactly =
       let P : Contents → Type 0 = λ g. HoldsExactly g slices in
       subst P (sym is.meaning) (exactly_held h.reel slices (copies_of plan) for.are_copies)
 
   pub shows_slices : (partial : Partial) → IsPartialPicture h partial → ShowsSlices h.reel.setup slices partial.frame
-  shows_slices partial shown = record {
-    pictures = shown.pictures;
-    count = shown.count ∙ sym for.is_original.count;
-    each = λ tile d lt.
-        let P : Standing → Type 0 = λ s. IsShown h.reel.setup tile s (get_or partial.tiles.items tile Missing) (get_or shown.pictures tile None) in
-        shown_picture h.reel.setup tile (settled (get_or slices tile d)) (get_or partial.tiles.items tile Missing) (get_or shown.pictures tile None)
-        (subst P (settled_alone h slices held_exactly tile d lt) (shown.each tile (omega (arith, lt, for.is_original.count))));
-    is_frame = shown.is_frame;
-  }
-
-  settled_at : (tile : ℕ) → tile < tile_count h.reel → IsSettled (tile_state h tile)
-  settled_at tile lt = subst IsSettled (sym (settled_alone h slices held_exactly tile [] (omega (arith, lt, for.is_original.count)))) tt
+  shows_slices = exact_shows h original slices for.is_original held_exactly
 
   pub restores_original : (r : Result (Vec ℕ Global) RestoreFault) → IsRestored h r → IsOkAnd r (λ payload. payload.items ≡ original)
-  restores_original (Ok payload) is = is.1 ∙ restored_original h slices held_exactly original for.is_original
-  restores_original (Err (refusals.Missing tile)) is = absurd (is.0.0.unsettled (settled_at tile is.0.0.in_grid))
-  restores_original (Err (refusals.Disputed tile)) is = absurd (is.0.0.unsettled (settled_at tile is.0.0.in_grid))
-  restores_original (Err refusals.Memory) is = absurd (is.1 refl)
+  restores_original = exact_restores h original slices for.is_original held_exactly
+
+-- copies near an original, with each of its slices intact in one of them, are copies of it
+pub near_plan : (setup : SetupValue) (plan : Plan) (original : List ℕ) (slices : List (List ℕ)) → AreNear setup original slices (copies_of plan) → IsPlanFor setup plan original slices
+near_plan setup plan original slices near = record { is_original = near.is_original; are_copies = near_are_copies setup original slices (copies_of plan) near }

@@ -1,6 +1,7 @@
 //! The whole way from copies to a restored frame (own).
 ghost use Rattle.std.specs.Prelude.{◌≡◌, ℕ, List, Option, IfOk, OnOk, IfErr, IsOkAnd, string_bytes};
 ghost use Rattle.ffv1_hold.specs.Contents.{Contents, HasSameCopies};
+ghost use Rattle.ffv1_hold.specs.Originals.{AreNear};
 ghost use Rattle.ffv1_hold.specs.Plans.{copies_of, RereadsFit};
 ghost use Rattle.ffv1_hold.specs.TakeFaults.{AreShort};
 ghost use Rattle.ffv1_hold.specs.declared.plan.Plan.{Plan};
@@ -90,6 +91,11 @@ pub fn restored(
 
     // .. and each sample is the one that the greatest decoded tile covering it spells.
     ensures samples { (original : List ℕ) (slices : List (List ℕ)) → IfOk result (λ r. IsPlanFor r.holding.reel.setup plan.now original slices → ShowsSlices r.holding.reel.setup slices r.picture.frame) }
+
+    // So they are where all copies differ from the original only within 32 bits of each slice, its size field unhurt, and each of
+    // its slices is intact in one of them.
+    ensures near { (original : List ℕ) (slices : List (List ℕ)) → IfOk result (λ r. AreNear r.holding.reel.setup original slices (copies_of plan.now) → IsOkAnd r.payload (λ payload. payload.items ≡ original)) }
+    ensures near_samples { (original : List ℕ) (slices : List (List ℕ)) → IfOk result (λ r. AreNear r.holding.reel.setup original slices (copies_of plan.now) → ShowsSlices r.holding.reel.setup slices r.picture.frame) }
 
     // The plan was carried out: its copies are short enough, and what goes through a file has one.
     ensures short { OnOk result (AreShort (copies_of plan.now)) }

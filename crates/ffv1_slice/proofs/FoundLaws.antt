@@ -1,19 +1,16 @@
 -- The found slices of a payload, and those of an intact original.
-use Rattle.std.proofs.Common.{◌≡◌, ℕ, suc, zero, ◌+◌, ◌-◌, ◌*◌, ◌<◌, ◌≤◌, Bool, true, false, List, [], ◌∷◌, ◌++◌, Result, Ok, Err, Option, Some, None, refl, sym, ap, ◌∙◌, subst, arith, length, take, drop, get_or, append_assoc, take-append-drop, drop-cons}
-use Rattle.std.specs.Prelude.{◌↔◌, ◌==◌, Contains, slice_range, slice_index_or}
+use Rattle.std.proofs.Common.{◌≡◌, ℕ, suc, zero, ◌+◌, ◌-◌, ◌<◌, ◌≤◌, List, [], ◌∷◌, ◌++◌, Result, Ok, Err, Option, Some, None, refl, sym, ap, ◌∙◌, subst, arith, length, take, drop, get_or}
+use Rattle.std.specs.Prelude.{◌==◌, Contains, slice_range}
 use Rattle.std.specs.List.{AllByRecursion, filter_map, cons_option, flat_map}
-use Rattle.std.proofs.Math.Seq.{drop-append-add, drop-append_seam, take-append_seam}
-use Rattle.std.proofs.lemmas.List.{append-nil, drop-append-le, take-append-le, take_more, take_all, get_or_default, length-append, length-drop, length-take-le}
-use Rattle.std.proofs.lemmas.Grind.{flat_map-append}
-use Rattle.std.proofs.lemmas.Bool.{eq-eqb, ne_eqb}
-use Rattle.byteorder.specs.Endian.{big_number}
+use Rattle.std.proofs.lemmas.List.{take_all, get_or_default}
 use Rattle.ffv1_range.specs.Setup.{SetupValue}
-use Rattle.ffv1_slice.specs.Chain.{footer_before, size_before, IsCut, IsEnd, IsLinkOf, Piece, piece_of, AreLinksOf, IsFramed}
-use Rattle.ffv1_slice.specs.Chain.IsEnd.{last, before}
+use Rattle.ffv1_slice.specs.Chain.{size_before, IsCut, IsLinkOf, Piece, piece_of}
 use Rattle.ffv1_slice.specs.Walk.{links_of}
 use Rattle.ffv1_slice.specs.Slices.{IsSliceOf, IsFoundIn, IsOriginal, slice_read, with_tile, slice_at, found_slices, FoundSlicesAreFound, OriginalIsFound}
 use Rattle.ffv1_slice.specs.declared.slice.LinkFault.{LinkFault}
 use Rattle.ffv1_slice.proofs.Links.{are_links}
+use Rattle.ffv1_slice.specs.Near.{starts_at}
+use Rattle.ffv1_slice.proofs.Places.{joined, size_in, range_in, around, starts_next, IsCutAt, end_of_tile, tile_of_cut, first_tile}
 use Rattle.ffv1_slice.proofs.SliceLaws.{slice_found, slice_run, one_tile}
 
 -- ---- what a list keeps under a test
@@ -93,52 +90,6 @@ found_to setup payload tile slice h =
 pub found_slices_are_found : FoundSlicesAreFound
 found_slices_are_found setup payload tile slice = (found_from setup payload tile slice, found_to setup payload tile slice)
 
--- ---- slices joined one after the other
-
-joined : List (List ℕ) → List ℕ
-joined slices = flat_map (λ slice. slice) slices
-
--- what of the slices stands before that of number k
-pub starts_at : List (List ℕ) → ℕ → ℕ
-unfolding joined
-starts_at slices k = length (joined (take k slices))
-
--- the footer of a slice in the middle is its own
-size_in : (front slice back : List ℕ) → 8 ≤ length slice → size_before (front ++ (slice ++ back)) (length front + length slice) ≡ size_before slice (length slice)
-size_in front slice back long =
-    let n = length slice in
-    let low : length front + length slice - 8 ≡ length front + (length slice - 8) = omega arith in
-    let eight : length front + length slice - (length front + (length slice - 8)) ≡ 8 = omega arith in
-    let own : length slice - (length slice - 8) ≡ 8 = omega arith in
-    let room : 8 ≤ length (drop (length slice - 8) slice) = simp length-drop (omega arith) in
-    let tail : drop (length front + (length slice - 8)) (front ++ (slice ++ back)) ≡ drop (length slice - 8) slice ++ back =
-    drop-append-add front (slice ++ back) (length slice - 8) ∙ drop-append-le (length slice - 8) slice back (omega arith) in
-    let footer : footer_before (front ++ (slice ++ back)) (length front + length slice) ≡ footer_before slice (length slice) =
-    ap (λ z. slice_range (front ++ (slice ++ back)) z (length front + length slice)) low
-    ∙ ap (λ z. take z (drop (length front + (length slice - 8)) (front ++ (slice ++ back)))) eight
-    ∙ ap (take 8) tail ∙ take-append-le 8 (drop (length slice - 8) slice) back room
-    ∙ ap (λ z. take z (drop (length slice - 8) slice)) (sym own) in
-    ap (big_number 3) footer
-
-range_in : (front slice back : List ℕ) → slice_range (front ++ (slice ++ back)) (length front) (length front + length slice) ≡ slice
-range_in front slice back =
-    let size : length front + length slice - length front ≡ length slice = omega arith in
-    ap (λ z. take z (drop (length front) (front ++ (slice ++ back)))) size ∙ ap (take (length slice)) (drop-append_seam front (slice ++ back)) ∙ take-append_seam slice back
-
--- the payload around the slice of number k
-around : (slices : List (List ℕ)) (k : ℕ) (d : List ℕ) → k < length slices → joined slices ≡ joined (take k slices) ++ (get_or slices k d ++ joined (drop (suc k) slices))
-unfolding joined
-around slices k d h =
-    ap (flat_map (λ slice. slice)) (sym (take-append-drop k slices) ∙ ap (λ z. take k slices ++ z) (drop-cons slices k d h))
-    ∙ flat_map-append (λ slice. slice) (take k slices) (get_or slices k d ∷ drop (suc k) slices)
-
-starts_next : (slices : List (List ℕ)) (k : ℕ) (d : List ℕ) → k < length slices → starts_at slices (k + 1) ≡ starts_at slices k + length (get_or slices k d)
-unfolding starts_at joined
-starts_next slices k d h =
-    ap (λ z. length (flat_map (λ slice. slice) z)) (take_more slices k d h)
-    ∙ ap length (flat_map-append (λ slice. slice) (take k slices) (get_or slices k d ∷ []) ∙ ap (λ z. flat_map (λ slice. slice) (take k slices) ++ z) (append-nil (get_or slices k d)))
-    ∙ length-append (flat_map (λ slice. slice) (take k slices)) (get_or slices k d)
-
 -- ---- the links of an original
 
 module _ (setup : SetupValue) (payload : List ℕ) (slices : List (List ℕ)) (original : IsOriginal setup payload slices) where
@@ -162,7 +113,7 @@ module _ (setup : SetupValue) (payload : List ℕ) (slices : List (List ℕ)) (o
 
   -- the slice of tile k ends where that of tile k + 1 begins
   cut_of_tile : (k : ℕ) → k < length slices → IsCut payload (starts_at slices k) (starts_at slices (k + 1))
-  unfolding starts_at
+  unfolding starts_at joined
   cut_of_tile k h =
       let size : size_before payload (starts_at slices k + length (slice_of_tile k)) ≡ length (slice_of_tile k) - 8 =
       ap (λ z. size_before z (starts_at slices k + length (slice_of_tile k))) (around_tile k h)
@@ -170,88 +121,65 @@ module _ (setup : SetupValue) (payload : List ℕ) (slices : List (List ℕ)) (o
       let long : 8 ≤ length (slice_of_tile k) = long_slice k h in
       subst (λ z. IsCut payload (starts_at slices k) z) (sym (next_tile k h)) (omega (arith, size))
 
-  bytes_of_tile : (k : ℕ) → k < length slices → slice_range payload (starts_at slices k) (starts_at slices (k + 1)) ≡ slice_of_tile k
-  unfolding starts_at
+  pub bytes_of_tile : (k : ℕ) → k < length slices → slice_range payload (starts_at slices k) (starts_at slices (k + 1)) ≡ get_or slices k []
+  unfolding starts_at joined slice_of_tile
   bytes_of_tile k h =
       ap (λ z. slice_range payload (starts_at slices k) z) (next_tile k h)
       ∙ ap (λ z. slice_range z (starts_at slices k) (starts_at slices k + length (slice_of_tile k))) (around_tile k h)
       ∙ range_in (joined (take k slices)) (slice_of_tile k) (joined (drop (suc k) slices))
 
-  starts_last : starts_at slices (length slices) ≡ length payload
-  unfolding starts_at joined
-  starts_last = ap (λ z. length (flat_map (λ slice. slice) z)) (take_all (length slices) slices (omega arith)) ∙ ap length (sym original.joined)
+  pub original_cut : IsCutAt payload slices
+  unfolding starts_at slice_of_tile
+  original_cut = record {
+    long = long_slice;
+    whole = ap (λ z. length (flat_map (λ slice. slice) z)) (take_all (length slices) slices (omega arith)) ∙ ap length (sym original.joined);
+    cut = cut_of_tile;
+  }
 
-  -- each tile's start is an end, counted back from the last
-  end_back : (n : ℕ) → n ≤ length slices → IsEnd payload (starts_at slices (length slices - n))
-  end_back zero h = subst (IsEnd payload) (sym (ap (starts_at slices) (omega arith) ∙ starts_last)) last
-  end_back (suc n) h =
-      let k : ℕ = length slices - suc n in
-      let next : length slices - n ≡ length slices - suc n + 1 = omega arith in
-      before (subst (λ z. IsEnd payload (starts_at slices z)) next (end_back n (omega arith))) (cut_of_tile (length slices - suc n) (omega arith))
+-- ---- what is found of a payload that is cut as an original is
 
-  end_of_tile : (k : ℕ) → k ≤ length slices → IsEnd payload (starts_at slices k)
-  end_of_tile k h =
-      let same : length slices - (length slices - k) ≡ k = omega arith in
-      subst (λ z. IsEnd payload (starts_at slices z)) same (end_back (length slices - k) (omega arith))
+module _ (setup : SetupValue) (original copy : List ℕ) (slices : List (List ℕ)) (is : IsOriginal setup original slices) (is_cut : IsCutAt copy slices) where
+  -- a slice stands at its tile's places, and is of that tile where what stands there is the original's
+  pub found_at : (tile : ℕ) (slice : List ℕ) → IsFoundIn setup copy tile slice
+      → (k : ℕ) × (k < length slices) × (slice ≡ slice_range copy (starts_at slices k) (starts_at slices (k + 1))) × IsSliceOf setup slice (k == 0) tile
+  found_at tile slice h =
+      let at = tile_of_cut copy slices is_cut h.start h.end h.link.is_end h.link.cut in
+      let is_first : (h.start == 0) ≡ (at.0 == 0) = ap (λ z. z == 0) at.2 ∙ first_tile copy slices is_cut at.0 at.1 in (
+        at.0,
+        at.1,
+        h.bytes ∙ ap (λ z. slice_range copy z h.end) at.2 ∙ ap (λ z. slice_range copy (starts_at slices at.0) z) at.3,
+        subst (λ z. IsSliceOf setup slice z tile) is_first h.is_slice,
+      )
 
-  same_start : (p k q : ℕ) → k < length slices → q ≡ starts_at slices (k + 1) → IsCut payload p q → p ≡ starts_at slices k
-  same_start p k q h e cut =
-      let own : IsCut payload (starts_at slices k) (starts_at slices (k + 1)) = cut_of_tile k h in
-      let moved : IsCut payload p (starts_at slices (k + 1)) = subst (IsCut payload p) e cut in omega arith
+  pub own_tile : (k tile : ℕ) (slice : List ℕ) → k < length slices → slice ≡ get_or slices k [] → IsSliceOf setup slice (k == 0) tile → (tile ≡ k) × (slice ≡ get_or slices tile slice)
+  own_tile k tile slice lt same is_slice =
+      let own : IsSliceOf setup (get_or slices k []) (k == 0) tile = subst (λ z. IsSliceOf setup z (k == 0) tile) same is_slice in
+      let tiles : tile ≡ k = one_tile setup (get_or slices k []) (k == 0) tile k own (is.each k [] lt) in
+      (tiles, same ∙ get_or_default slices k [] slice lt ∙ ap (λ z. get_or slices z slice) (sym tiles))
 
-  -- and there are no other ends
-  tile_at_end : (q : ℕ) → IsEnd payload q → (k : ℕ) × (k ≤ length slices) × (q ≡ starts_at slices k)
-  unfolding starts_at joined
-  tile_at_end q last = (length slices, omega arith, sym starts_last)
-  tile_at_end q (before {q = r} end cut) =
-      let at = tile_at_end r end in below q r at.0 at.1 at.2 cut
-    where
-      below : (q r k : ℕ) → k ≤ length slices → r ≡ starts_at slices k → IsCut payload q r → (j : ℕ) × (j ≤ length slices) × (q ≡ starts_at slices j)
-      below q r zero h e cut = absurd (omega arith)
-      below q r (suc k) h e cut = (k, omega arith, same_start q k r (omega arith) (let next : suc k ≡ k + 1 = omega arith in e ∙ ap (starts_at slices) next) cut)
-
-  -- only tile 0 begins at the payload's start
-  first_tile : (k : ℕ) → k < length slices → (starts_at slices k == 0) ≡ (k == 0)
-  unfolding starts_at joined
-  first_tile zero h = refl
-  first_tile (suc k) h =
-      let next : starts_at slices (k + 1) ≡ starts_at slices k + length (slice_of_tile k) = next_tile k (omega arith) in
-      let long : 8 ≤ length (slice_of_tile k) = long_slice k (omega arith) in
-      let number : suc k ≡ k + 1 = omega arith in
-      let same : starts_at slices (suc k) ≡ starts_at slices (k + 1) = ap (starts_at slices) number in
-      ne_eqb (starts_at slices (suc k)) 0 (λ e. omega arith) ∙ sym (ne_eqb (suc k) 0 (λ e. omega arith))
-
-  found_is : (tile : ℕ) (slice : List ℕ) → IsFoundIn setup payload tile slice → (tile < length slices) × (slice ≡ get_or slices tile slice)
-  unfolding starts_at joined slice_of_tile
-  found_is tile slice h =
-      let at = tile_at_end h.end h.link.is_end in found_at tile slice h at.0 at.1 at.2
-    where
-      found_at : (tile : ℕ) (slice : List ℕ) (h : IsFoundIn setup payload tile slice) (k : ℕ) → k ≤ length slices → h.end ≡ starts_at slices k → (tile < length slices) × (slice ≡ get_or slices tile slice)
-      found_at tile slice h zero few e = absurd (let cut : IsCut payload h.start h.end = h.link.cut in omega arith)
-      found_at tile slice h (suc k) few e =
-          let inside : k < length slices = omega arith in
-          let next : suc k ≡ k + 1 = omega arith in
-          let end : h.end ≡ starts_at slices (k + 1) = e ∙ ap (starts_at slices) next in
-          let start : h.start ≡ starts_at slices k = same_start h.start k h.end inside end h.link.cut in
-          let bytes : slice ≡ slice_of_tile k =
-          h.bytes ∙ ap (λ z. slice_range payload z h.end) start ∙ ap (λ z. slice_range payload (starts_at slices k) z) end ∙ bytes_of_tile k inside in
-          let is_first : (h.start == 0) ≡ (k == 0) = ap (λ z. z == 0) start ∙ first_tile k inside in
-          let is_own : IsSliceOf setup (slice_of_tile k) (k == 0) tile = subst (λ z. IsSliceOf setup z (k == 0) tile) bytes (subst (λ z. IsSliceOf setup slice z tile) is_first h.is_slice) in
-          let same : tile ≡ k = one_tile setup (slice_of_tile k) (k == 0) tile k is_own (is_slice_of_tile k inside) in
-          let default : get_or slices k [] ≡ get_or slices k slice = get_or_default slices k [] slice inside in
-          (omega arith, bytes ∙ default ∙ ap (λ z. get_or slices z slice) (sym same))
-
-  is_found : (tile : ℕ) (slice : List ℕ) → (tile < length slices) × (slice ≡ get_or slices tile slice) → IsFoundIn setup payload tile slice
-  unfolding slice_of_tile
-  is_found tile slice h =
-      let same : slice ≡ slice_of_tile tile = h.1 ∙ get_or_default slices tile slice [] h.0 in
+  -- and where the original's slice stands at its places, it is found
+  pub found_there : (tile : ℕ) (slice : List ℕ) → tile < length slices → slice ≡ get_or slices tile slice → slice_range copy (starts_at slices tile) (starts_at slices (tile + 1)) ≡ slice → IsFoundIn setup copy tile slice
+  found_there tile slice lt same intact =
       record {
         start = starts_at slices tile;
         end = starts_at slices (tile + 1);
-        link = record { is_end = end_of_tile (tile + 1) (omega (arith, h.0)); cut = cut_of_tile tile h.0 };
-        bytes = same ∙ sym (bytes_of_tile tile h.0);
-        is_slice = subst (λ z. IsSliceOf setup z (starts_at slices tile == 0) tile) (sym same) (subst (λ z. IsSliceOf setup (slice_of_tile tile) z tile) (sym (first_tile tile h.0)) (is_slice_of_tile tile h.0));
+        link = record { is_end = end_of_tile copy slices is_cut (tile + 1) (omega arith); cut = is_cut.cut tile lt };
+        bytes = sym intact;
+        is_slice = subst (λ z. IsSliceOf setup z (starts_at slices tile == 0) tile) (sym same)
+            (subst (λ z. IsSliceOf setup (get_or slices tile slice) z tile) (sym (first_tile copy slices is_cut tile lt)) (is.each tile slice lt));
       }
 
+module _ (setup : SetupValue) (payload : List ℕ) (slices : List (List ℕ)) (original : IsOriginal setup payload slices) where
+  original_from : (tile : ℕ) (slice : List ℕ) → IsFoundIn setup payload tile slice → (tile < length slices) × (slice ≡ get_or slices tile slice)
+  original_from tile slice h =
+      let at = found_at setup payload payload slices original (original_cut setup payload slices original) tile slice h in
+      let own = own_tile setup payload payload slices original (original_cut setup payload slices original) at.0 tile slice at.1 (at.2 ∙ bytes_of_tile setup payload slices original at.0 at.1) at.3 in
+      (subst (λ z. z < length slices) (sym own.0) at.1, own.1)
+
+  original_to : (tile : ℕ) (slice : List ℕ) → (tile < length slices) × (slice ≡ get_or slices tile slice) → IsFoundIn setup payload tile slice
+  original_to tile slice h =
+      found_there setup payload payload slices original (original_cut setup payload slices original) tile slice h.0 h.1
+      (bytes_of_tile setup payload slices original tile h.0 ∙ get_or_default slices tile [] slice h.0 ∙ sym h.1)
+
 pub original_is_found : OriginalIsFound
-original_is_found setup payload slices original tile slice = (found_is setup payload slices original tile slice, is_found setup payload slices original tile slice)
+original_is_found setup payload slices original tile slice = (original_from setup payload slices original tile slice, original_to setup payload slices original tile slice)

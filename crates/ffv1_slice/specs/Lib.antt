@@ -2,6 +2,7 @@ pub mod Chain
 pub mod Walk
 pub mod Ending
 pub mod Slices
+pub mod Near
 -- what the clauses cite of the crates below
 pub use Rattle.ffv1_bits.specs.Bits
 pub use Rattle.ffv1_bits.specs.Parity

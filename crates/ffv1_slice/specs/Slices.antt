@@ -1,5 +1,5 @@
 -- Slices: what a link has to be beyond its place in the chain (RFC 9043, sections 4.5, 4.6 and 4.9).
-use Rattle.std.specs.Prelude.{ℕ, ◌+◌, ◌-◌, ◌*◌, ◌<◌, ◌≤◌, ◌^◌, ◌≡◌, ◌==◌, ◌&&◌, nat_le, ◌↔◌, Bool, List, length, take, slice_range, slice_index_or, Result, Ok, Err, Option, Some, None, Contains, if◌then◌else◌}
+use Rattle.std.specs.Prelude.{ℕ, ◌-◌, ◌*◌, ◌<◌, ◌≤◌, ◌^◌, ◌≡◌, ◌==◌, ◌&&◌, nat_le, ◌↔◌, Bool, List, length, take, slice_range, slice_index_or, Result, Ok, Err, Option, Some, None, Contains, if◌then◌else◌}
 use Rattle.std.specs.List.{filter_map, flat_map}
 use Rattle.ffv1_bits.specs.Bits.{bits_of}
 use Rattle.ffv1_bits.specs.Parity.{remainder_of, PassesParity}
@@ -71,6 +71,10 @@ unfoldable pub found_slices : SetupValue → List ℕ → List (ℕ × List ℕ)
 found_slices setup payload = filter_map (slice_at setup) (links_of payload)
 
 -- ---- laws
+
+-- Bytes are read as a slice of a tile exactly where they are one.
+abbrev pub SliceReadIsSlice : Type 0
+SliceReadIsSlice = (setup : SetupValue) (slice : List ℕ) (first : Bool) (tile : ℕ) → (slice_read setup slice first ≡ Ok tile) ↔ IsSliceOf setup slice first tile
 
 -- The found slices are exactly those that are found.
 abbrev pub FoundSlicesAreFound : Type 0

@@ -1,6 +1,7 @@
 //! The slices that a payload really has: those of its links that are slices of the setup's tiles.
 ghost use Rattle.std.specs.Prelude.{◌≡◌, IfOk};
 ghost use Rattle.ffv1_slice.specs.Slices.{found_slices, FoundSlicesAreFound, OriginalIsFound};
+ghost use Rattle.ffv1_slice.specs.Near.{NearFound};
 
 use crate::chain::Chain;
 use crate::slice::slice_of;
@@ -72,4 +73,10 @@ pub fn found_slices_are_found()
 /// In an intact original, a payload of one slice a tile in tile order, exactly its slices are found.
 pub fn original_is_found()
     ensures { OriginalIsFound }
+{}
+
+/// Damage within 32 bits of a slice, its size field unhurt, is always seen: of a copy in which no slice of an original is hurt
+/// otherwise, exactly the slices that stand there intact are found, each of its tile.
+pub fn near_found()
+    ensures { NearFound }
 {}

@@ -8,9 +8,9 @@ mod link;
 mod slice;
 
 pub use chain::{Chain, ChainEnd};
-pub use found::{FoundSlice, find_slices, found_slices_are_found, original_is_found};
+pub use found::{FoundSlice, find_slices, found_slices_are_found, near_found, original_is_found};
 pub use link::Link;
-pub use slice::{LinkFault, read_slice, slice_of};
+pub use slice::{LinkFault, read_slice, slice_of, slice_read_is_slice};
 
 #[cfg(test)]
 mod tests;

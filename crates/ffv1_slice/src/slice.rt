@@ -3,7 +3,7 @@
 ghost use Rattle.std.specs.Prelude.{◌≡◌, ◌==◌, ℕ, ◌≤◌, IfOk, Ok, Err, true, length};
 ghost use Rattle.ffv1_bits.specs.Parity.{PassesParity};
 ghost use Rattle.ffv1_range.specs.Header.{header_limits, head_read};
-ghost use Rattle.ffv1_slice.specs.Slices.{IsSliceOf, content_of, tile_of_head, is_whole, slice_read};
+ghost use Rattle.ffv1_slice.specs.Slices.{IsSliceOf, content_of, tile_of_head, is_whole, slice_read, SliceReadIsSlice};
 
 use crate::link::{FOOTER_LENGTH, Link};
 use byteorder::{BigEndian, ByteOrder};
@@ -73,3 +73,9 @@ fn is_whole(slice: &[u8]) -> bool
     let size = slice.len() - FOOTER_LENGTH;
     BigEndian::read_u24(&slice[size..]) as usize == size && passes(slice)
 }
+
+/// Bytes are read as a slice of a tile exactly where they are one: what the found slices of a payload are told by is what a
+/// slice is.
+pub fn slice_read_is_slice()
+    ensures { SliceReadIsSlice }
+{}

@@ -10,7 +10,7 @@ use Rattle.ffv1_hold.specs.Contents.{Contents, IsSameReel, joined}
 use Rattle.ffv1_hold.specs.Joins.{joined_all, AreJoinable}
 use Rattle.ffv1restore.specs.Devices.{WriteStops}
 use Rattle.ffv1restore.specs.Fault.{NamesPathBelow, of_hold}
-use Rattle.ffv1restore.specs.Holdings.{IsHoldingFile, IsHoldingFault, IsFileFault}
+use Rattle.ffv1restore.specs.Holdings.{IsHoldingFile, HasFile, IsHoldingFault, IsFileFault}
 use Rattle.ffv1restore.specs.JoinText.{file_line, line_of_join, lines_from, join_text, AreHoldingFiles, JoinsEach, JoinsOne, JoinsFiles, AreJoinedBefore, IsJoinFault, IsFaultOfFiles, JoinStops}
 use Rattle.ffv1restore.specs.declared.fault.CliFault.{CliFault}
 use Rattle.ffv1restore.specs.declared.fault.CliFault.TheVariants as faults
@@ -162,9 +162,9 @@ module _ (inputs : List (Option (List ℕ))) (ob oa pb pa : Option (List ℕ)) w
     union_refused faults.Words stops = absurd stops
 
     module _ (file : List ℕ) (made : file ≡ holding_text whole) where
-      pub joins : (r : Result (Unit {0}) CliFault) → OnOk r (Appends ob oa file) → OnOk r (Appends pb pa lines) → OnOk r (JoinsFiles inputs ob oa pb pa)
-      joins (Ok done) wrote printed = record { whole = whole; text = lines; each = each; file = subst (Appends ob oa) made wrote; printed = printed }
-      joins (Err fault) wrote printed = tt
+      pub joins : HasFile whole → (r : Result (Unit {0}) CliFault) → OnOk r (Appends ob oa file) → OnOk r (Appends pb pa lines) → OnOk r (JoinsFiles inputs ob oa pb pa)
+      joins has (Ok done) wrote printed = record { whole = whole; text = lines; each = each; has_file = has; file = subst (Appends ob oa) made wrote; printed = printed }
+      joins has (Err fault) wrote printed = tt
 
       pub join_stopped : (printed : ℕ) → length inputs + 1 ≡ printed → (r : Result (Unit {0}) CliFault) → IfErr r (WriteStops 0 printed file lines ob oa pb pa) → IfErr r (JoinStops inputs ob oa pb pa)
       join_stopped printed is = writing 0 printed file lines ob oa pb pa (JoinStops inputs ob oa pb pa) (λ named stops.

@@ -8,3 +8,4 @@ pub mod Outcomes
 pub mod ReportSteps
 pub mod DecodeSteps
 pub mod PictureSteps
+pub mod CommandLaws

@@ -17,7 +17,7 @@ use Rattle.ffv1_hold.specs.HoldingText.{holding_text}
 use Rattle.ffv1restore.specs.Devices.{ReadsWhole, IsWholeInput, AreWholeInputs, IsCopyFault, WriteStops}
 use Rattle.ffv1restore.specs.RecordInputs.{IsReelInput}
 use Rattle.ffv1restore.specs.Fault.{NamesPathBelow, of_setup}
-use Rattle.ffv1restore.specs.Holdings.{IsFileFault}
+use Rattle.ffv1restore.specs.Holdings.{HasFile, IsFileFault}
 use Rattle.ffv1restore.specs.TakeText.{copy_line, held_of, line_behind, lines_behind, take_text, TakesEach, TakesOne, TakesCopies, IsFaultOfCopies, TakeStops}
 use Rattle.ffv1restore.specs.declared.fault.CliFault.{CliFault}
 use Rattle.ffv1restore.specs.declared.fault.CliFault.TheVariants as faults
@@ -120,9 +120,9 @@ module _ (record' after : Option (List ℕ)) (config : List ℕ) (width height :
       text : file ≡ holding_text (holding_of reel each.copies)
       text = made ∙ ap holding_text each.held
 
-      pub taken : (r : Result (Unit {0}) CliFault) → OnOk r (Appends ob oa file) → OnOk r (Appends pb pa lines) → OnOk r (TakesCopies record' width height inputs ob oa pb pa)
-      taken (Ok done) wrote printed = record { reel = reel; of_record = of_record reel is; copies = each.copies; read = each.read; file = subst (Appends ob oa) text wrote; printed = subst (Appends pb pa) each.lines printed }
-      taken (Err fault) wrote printed = tt
+      pub taken : HasFile held → (r : Result (Unit {0}) CliFault) → OnOk r (Appends ob oa file) → OnOk r (Appends pb pa lines) → OnOk r (TakesCopies record' width height inputs ob oa pb pa)
+      taken has (Ok done) wrote printed = record { reel = reel; of_record = of_record reel is; copies = each.copies; read = each.read; has_file = subst HasFile each.held has; file = subst (Appends ob oa) text wrote; printed = subst (Appends pb pa) each.lines printed }
+      taken has (Err fault) wrote printed = tt
 
       pub take_stopped : (printed : ℕ) → length inputs + 2 ≡ printed → (r : Result (Unit {0}) CliFault) → IfErr r (WriteStops 1 printed file lines ob oa pb pa) → IfErr r (TakeStops record' width height inputs ob oa pb pa)
       take_stopped printed count = writing 1 printed file lines ob oa pb pa (TakeStops record' width height inputs ob oa pb pa) (λ named stops.

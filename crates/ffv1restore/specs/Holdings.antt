@@ -15,6 +15,11 @@ pub record IsHoldingFile (input : Option (List ℕ)) (h : Contents) : Type 0 whe
   pub sound : IsHolding h
   pub fits : FitsInFile h
 
+-- A holding that has a file: it is one, and it and its record are within their limits.
+pub record HasFile (h : Contents) : Type 0 where
+  pub sound : IsHolding h
+  pub fits : FitsInFile h
+
 -- Why the file that is the command's path of this number gave no holding. A holding file's fault is that of the input's bytes.
 abbrev pub IsHoldingFault : ℕ → Option (List ℕ) → CliFault → Type 0
 IsHoldingFault path input (faults.Read named) = named ≡ path

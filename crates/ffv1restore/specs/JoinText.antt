@@ -8,7 +8,7 @@ use Rattle.ffv1_hold.specs.Joins.{joined_all, AreJoinable}
 use Rattle.ffv1_hold.specs.HoldingText.{holding_text}
 use Rattle.ffv1_hold.specs.declared.fault.HoldFault.TheVariants as holds
 use Rattle.ffv1restore.specs.Devices.{WriteStops}
-use Rattle.ffv1restore.specs.Holdings.{IsHoldingFile, IsHoldingFault, IsFileFault}
+use Rattle.ffv1restore.specs.Holdings.{IsHoldingFile, HasFile, IsHoldingFault, IsFileFault}
 use Rattle.ffv1restore.specs.declared.fault.CliFault.{CliFault}
 use Rattle.ffv1restore.specs.declared.fault.CliFault.TheVariants as faults
 
@@ -63,6 +63,7 @@ pub record JoinsFiles (inputs : List (Option (List ℕ))) (out_before out_after 
   pub whole : Contents
   pub text : List ℕ
   pub each : JoinsEach inputs whole text
+  pub has_file : HasFile whole
   pub file : Appends out_before out_after (holding_text whole)
   pub printed : Appends printed_before printed_after text
 

@@ -11,6 +11,7 @@ pub mod SamplesText
 pub mod DecodeText
 pub mod PictureText
 pub mod ReportedText
+pub mod Commands
 -- what the clauses cite of the crates below
 pub use Rattle.ffv1_slice.specs.Chain
 pub use Rattle.ffv1_slice.specs.Ending
@@ -23,6 +24,7 @@ pub use Rattle.ffv1_hold.specs.Sets
 pub use Rattle.ffv1_hold.specs.Reels
 pub use Rattle.ffv1_hold.specs.Contents
 pub use Rattle.ffv1_hold.specs.Headline
+pub use Rattle.ffv1_hold.specs.Originals
 pub use Rattle.ffv1_hold.specs.HoldingText
 pub use Rattle.ffv1_hold.specs.FileFaults
 pub use Rattle.ffv1_hold.specs.Joins

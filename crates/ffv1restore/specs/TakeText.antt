@@ -10,7 +10,7 @@ use Rattle.ffv1_hold.specs.Reels.{Reel}
 use Rattle.ffv1_hold.specs.Contents.{Contents, with_found, holding_of}
 use Rattle.ffv1_hold.specs.HoldingText.{holding_text}
 use Rattle.ffv1restore.specs.Devices.{IsWholeInput, AreWholeInputs, WriteStops, IsCopyFault}
-use Rattle.ffv1restore.specs.Holdings.{IsFileFault}
+use Rattle.ffv1restore.specs.Holdings.{HasFile, IsFileFault}
 use Rattle.ffv1restore.specs.RecordInputs.{IsReelInput}
 use Rattle.ffv1restore.specs.declared.fault.CliFault.{CliFault}
 use Rattle.ffv1restore.specs.declared.fault.CliFault.TheVariants as faults
@@ -58,6 +58,7 @@ pub record TakesCopies (record' : Option (List ℕ)) (width height : ℕ) (input
   pub of_record : IsReelInput record' width height reel
   pub copies : List (List ℕ)
   pub read : AreWholeInputs inputs copies
+  pub has_file : HasFile (holding_of reel copies)
   pub file : Appends out_before out_after (holding_text (holding_of reel copies))
   pub printed : Appends printed_before printed_after (take_text reel copies)
 

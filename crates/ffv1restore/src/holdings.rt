@@ -1,7 +1,7 @@
 //! Holding files, read from a reader and made for a writer of std.
-ghost use Rattle.std.specs.Prelude.{◌≡◌, IfOk, IfErr};
+ghost use Rattle.std.specs.Prelude.{◌≡◌, IfOk, IfErr, OnOk};
 ghost use Rattle.ffv1_hold.specs.HoldingText.{holding_text};
-ghost use Rattle.ffv1restore.specs.Holdings.{IsHoldingFile, IsHoldingFault, IsFileFault};
+ghost use Rattle.ffv1restore.specs.Holdings.{IsHoldingFile, HasFile, IsHoldingFault, IsFileFault};
 
 use crate::fault::{CliFault, of_hold_file};
 use ffv1_hold::{FromRead, FromWrite, HoldFileFault, Holding, read_hold, write_hold};
@@ -27,6 +27,7 @@ pub(crate) fn read_holding<R: Read>(
 /// The bytes of a holding's file.
 pub(crate) fn file_of(alloc: Global, holding: &Holding) -> Result<Vec<u8>, CliFault>
     ensures ok { IfOk result (λ file. file.items ≡ holding_text holding.now) }
+    ensures has_file { OnOk result (HasFile holding.now) }
     ensures err { IfErr result (IsFileFault holding.now) }
 {
     let mut sink = FromWrite::new(Vec::new(alloc));

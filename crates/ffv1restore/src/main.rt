@@ -12,6 +12,7 @@ mod fault;
 mod files;
 mod holdings;
 mod join;
+mod laws;
 #[cfg(test)]
 mod made_tests;
 mod picture;

@@ -6,7 +6,8 @@ use Rattle.ffv1_hold.specs.TakeFaults.{AreShort}
 use Rattle.ffv1_hold.specs.Plans.{copies_of, IsCarriedOut}
 use Rattle.ffv1_hold.specs.declared.plan.Plan.{Plan}
 use Rattle.ffv1_hold.specs.declared.plan.PlanFault.TheVariants.{Hold}
-use Rattle.ffv1_hold.proofs.PlanSteps.{after_found, after_copies, after_joined, AreShort-both, one_reel, joins_or_memory}
+use Rattle.ffv1_hold.proofs.ExactlyHeld.{near_exact}
+use Rattle.ffv1_hold.proofs.PlanSteps.{after_same, after_found, after_copies, after_joined, AreShort-both, one_reel, joins_or_memory}
 use Rattle.ffv1_hold.proofs.plan.+run.Goals as goal
 
 pub returns-in_err-take_all-in-TakeAll-clause-fault : goal.returns-in_err-take_all-in-TakeAll-clause-fault
@@ -78,3 +79,36 @@ returns-in_ok-join_with-in-Join-clause-short t c =
 -- what a holding keeps true is kept by the union
 pub returns-in_ok-join_with-in-Join-clause-sound : goal.returns-in_ok-join_with-in-Join-clause-sound
 returns-in_ok-join_with-in-Join-clause-sound t c = subst IsHolding c.holding-in-Join-2.view_is (record { reel = c.holding-in-Join-2.invariant.reel; slices = c.holding-in-Join-2.invariant.slices })
+
+pub returns-in_ok-take-in-Take-clause-sound : goal.returns-in_ok-take-in-Take-clause-sound
+returns-in_ok-take-in-Take-clause-sound t c = subst IsHolding c.holding.view_is (record { reel = c.holding.invariant.reel; slices = c.holding.invariant.slices })
+
+pub returns-in_ok-take_all-in-TakeAll-clause-sound : goal.returns-in_ok-take_all-in-TakeAll-clause-sound
+returns-in_ok-take_all-in-TakeAll-clause-sound t c = subst IsHolding c.holding-in-TakeAll.view_is (record { reel = c.holding-in-TakeAll.invariant.reel; slices = c.holding-in-TakeAll.invariant.slices })
+
+-- what is held of near copies is the original's slices, by what is held
+pub returns-in_ok-new-in-New-clause-near : goal.returns-in_ok-new-in-New-clause-near
+returns-in_ok-new-in-New-clause-near t c original slices near =
+    let h = c.in_ok-new-in-New.field-0 in
+    near_exact h original slices (copies_of c.args.plan.now) near (c.in_ok-new-in-New.ensures.empty ∙ ap (λ p. holding_of h.reel (copies_of p)) (sym c.in-New.is))
+
+pub returns-in_ok-take-in-Take-clause-near : goal.returns-in_ok-take-in-Take-clause-near
+returns-in_ok-take-in-Take-clause-near t c original slices near =
+    near_exact c.take.new.self original slices (copies_of c.args.plan.now) near (returns-in_ok-take-in-Take-clause-meaning t c)
+
+pub returns-in_ok-take_all-in-TakeAll-clause-near : goal.returns-in_ok-take_all-in-TakeAll-clause-near
+returns-in_ok-take_all-in-TakeAll-clause-near t c original slices near =
+    near_exact c.take_all.new.self original slices (copies_of c.args.plan.now) near (returns-in_ok-take_all-in-TakeAll-clause-meaning t c)
+
+pub returns-in_ok-join_with-in-Join-clause-near : goal.returns-in_ok-join_with-in-Join-clause-near
+returns-in_ok-join_with-in-Join-clause-near t c original slices near =
+    near_exact c.join_with.new.self original slices (copies_of c.args.plan.now) near (returns-in_ok-join_with-in-Join-clause-meaning t c)
+
+pub returns-in_ok-reread-in-Reread-clause-near : goal.returns-in_ok-reread-in-Reread-clause-near
+returns-in_ok-reread-in-Reread-clause-near t c original slices near =
+    let before = c.in_ok-holding-in-Reread.holding in
+    let after = c.in_ok-reread-in-Reread.field-0 in
+    near_exact after original slices (copies_of c.args.plan.now) near
+    (after_same before after (copies_of c.in-Reread.before.value)
+    (c.in_ok-holding-in-Reread.ensures.meaning ∙ ap (λ p. holding_of before.reel (copies_of p)) c.deref-in-Reread.ensures) c.in_ok-reread-in-Reread.ensures.same
+    ∙ ap (λ p. holding_of after.reel (copies_of p)) (sym c.in-Reread.is))

@@ -1,6 +1,6 @@
 use Rattle.std.proofs.Common.{rules}
 use Rattle.ffv1_picture.specs.Headline.{IsHoldingOfPlan}
-use Rattle.ffv1_picture.proofs.Restorations.{equal_holdings, restores_original, shows_slices}
+use Rattle.ffv1_picture.proofs.Restorations.{equal_holdings, restores_original, shows_slices, near_plan}
 use Rattle.ffv1_picture.proofs.restoring.restored.Goals as goal
 use Rattle.ffv1_picture.proofs.restoring.restored.Goals.{In_ok-picture}
 
@@ -22,3 +22,11 @@ returns-clause-original c original slices for =
 pub returns-clause-samples : goal.returns-clause-samples
 returns-clause-samples c original slices for =
     shows_slices c.args.config.now c.args.width c.args.height c.args.plan.now c.in_ok-holding.holding (held c) original slices for c.in_ok-picture.picture c.in_ok-picture.ensures.partial
+
+pub returns-clause-near : goal.returns-clause-near
+returns-clause-near c original slices near =
+    returns-clause-original c original slices (near_plan c.in_ok-holding.holding.reel.setup c.args.plan.now original slices near)
+
+pub returns-clause-near_samples : goal.returns-clause-near_samples
+returns-clause-near_samples c original slices near =
+    returns-clause-samples c original slices (near_plan c.in_ok-holding.holding.reel.setup c.args.plan.now original slices near)

@@ -25,7 +25,7 @@ returns-in_err-file-clause-err g c =
 pub returns-clause-ok : goal.returns-clause-ok
 returns-clause-ok g c =
     let each = subst (JoinsEach _ _) (sym c.as_str.ensures.value) c.in_ok-whole.ensures.ok in
-    joins _ _ _ _ _ c.in_ok-whole.whole c.as_str.result.now each c.as_slice.result.now (c.as_slice.ensures.value ∙ c.in_ok-file.ensures.ok) c.write_both.result c.write_both.ensures.file c.write_both.ensures.text
+    joins _ _ _ _ _ c.in_ok-whole.whole c.as_str.result.now each c.as_slice.result.now (c.as_slice.ensures.value ∙ c.in_ok-file.ensures.ok) c.in_ok-file.ensures.has_file c.write_both.result c.write_both.ensures.file c.write_both.ensures.text
 
 pub returns-clause-err : goal.returns-clause-err
 returns-clause-err g c =

@@ -44,7 +44,7 @@ returns-clause-ok g c =
     let is = subst (λ (bytes : List ℕ). IsReelOf bytes c.args.width c.args.height reel) c.as_slice.ensures.value (c.in_ok-holding.ensures.config, c.in_ok-holding.ensures.setup) in
     let each = subst (TakesEach (map g.C.Read.remaining c.args.copies.now) reel c.take_copies.new.holding) (sym c.as_str.ensures.value) c.in_ok-lines.ensures.ok in
     taken _ _ c.in_ok-config.config.items c.args.width c.args.height (map g.C.Read.remaining c.args.copies.now) _ _ _ _
-    c.in_ok-config.ensures.ok reel c.take_copies.new.holding c.as_str.result.now is each c.as_slice-2.result.now (c.as_slice-2.ensures.value ∙ c.in_ok-file.ensures.ok) c.write_both.result c.write_both.ensures.file c.write_both.ensures.text
+    c.in_ok-config.ensures.ok reel c.take_copies.new.holding c.as_str.result.now is each c.as_slice-2.result.now (c.as_slice-2.ensures.value ∙ c.in_ok-file.ensures.ok) c.in_ok-file.ensures.has_file c.write_both.result c.write_both.ensures.file c.write_both.ensures.text
 
 pub returns-clause-err : goal.returns-clause-err
 returns-clause-err g c =

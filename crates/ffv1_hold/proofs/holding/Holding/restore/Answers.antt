@@ -4,6 +4,7 @@ use Rattle.ffv1_hold.specs.Standing.{missing, disputed}
 use Rattle.ffv1_hold.specs.TileStates.{standing_shown}
 use Rattle.ffv1_hold.proofs.TileReads.{in_grid}
 use Rattle.ffv1_hold.proofs.Restored.{restored_original, never_unsettled}
+use Rattle.ffv1_hold.proofs.ExactlyHeld.{near_exact}
 use Rattle.ffv1_hold.proofs.holding.Holding.restore.Goals as goal
 
 -- what holds of the value in an `Ok` has consequences there
@@ -22,3 +23,15 @@ returns-in-Missing-clause-original_settled c payload slices original exact =
 pub returns-in-Disputed-clause-original_settled : goal.returns-in-Disputed-clause-original_settled
 returns-in-Disputed-clause-original_settled c payload slices original exact =
     absurd (never_unsettled c.args.self.now slices exact payload original c.loop-tile.tile (in_grid c.self.inside c.self.invariant c.args.self.now c.self.view_is c.loop-tile.tile _ c.loop-tile-test.true c.tiles-tile-end.ensures) (disputed c.in-Disputed.field-0) (ap standing_shown (sym c.in-Disputed.is) ∙ c.state.ensures) (λ b e. cc))
+
+pub returns-clause-near : goal.returns-clause-near
+returns-clause-near c payload slices copies near is =
+    returns-clause-original c payload slices near.is_original (near_exact c.args.self.now payload slices copies near is)
+
+pub returns-in-Missing-clause-near_settled : goal.returns-in-Missing-clause-near_settled
+returns-in-Missing-clause-near_settled c payload slices copies near is =
+    returns-in-Missing-clause-original_settled c payload slices near.is_original (near_exact c.args.self.now payload slices copies near is)
+
+pub returns-in-Disputed-clause-near_settled : goal.returns-in-Disputed-clause-near_settled
+returns-in-Disputed-clause-near_settled c payload slices copies near is =
+    returns-in-Disputed-clause-original_settled c payload slices near.is_original (near_exact c.args.self.now payload slices copies near is)

@@ -1,0 +1,45 @@
+-- Copies that are near an original: in each slice they differ from it only within 32 bits, and its size field is unhurt.
+use Rattle.std.specs.Prelude.{ℕ, ◌+◌, ◌-◌, ◌<◌, ◌≡◌, ◌⊎◌, ◌↔◌, List, length, take, slice_range, slice_index_or}
+use Rattle.std.specs.List.{flat_map}
+use Rattle.ffv1_bits.specs.Parity.{DifferWithin32, AreBytes}
+use Rattle.ffv1_range.specs.Setup.{SetupValue}
+use Rattle.ffv1_slice.specs.Slices.{IsFoundIn, IsOriginal}
+
+-- the place at which the slice of a tile begins, where slices are joined in tile order; behind the last tile, their length
+unfoldable pub starts_at : List (List ℕ) → ℕ → ℕ
+starts_at slices tile = length (flat_map (λ slice. slice) (take tile slices))
+
+-- what stands in a copy at the places of a tile's slice
+abbrev pub piece_at : List (List ℕ) → List ℕ → ℕ → List ℕ
+piece_at slices copy tile = slice_range copy (starts_at slices tile) (starts_at slices (tile + 1))
+
+-- the three bytes of the footer that give a slice's size (RFC 9043, section 4.9.1)
+abbrev pub size_field : List ℕ → List ℕ
+size_field slice = slice_range slice (length slice - 8) (length slice - 5)
+
+-- A piece differs from a slice only within 32 consecutive bits, and not in the size field.
+pub record IsHurtWithin32 (slice piece : List ℕ) : Type 0 where
+  pub at : ℕ
+  pub differ : DifferWithin32 slice piece at
+  pub size : size_field piece ≡ size_field slice
+
+-- A copy of an original: it has the original's length, and at each slice's places it is equal to the slice, or hurt within 32 bits.
+pub record IsNear (setup : SetupValue) (original : List ℕ) (slices : List (List ℕ)) (copy : List ℕ) : Type 0 where
+  pub is_original : IsOriginal setup original slices
+  pub original_bytes : AreBytes original
+  pub copy_bytes : AreBytes copy
+  pub same_length : length copy ≡ length original
+  pub each : (tile : ℕ) (d : List ℕ) → tile < length slices
+      → (piece_at slices copy tile ≡ slice_index_or slices tile d) ⊎ IsHurtWithin32 (slice_index_or slices tile d) (piece_at slices copy tile)
+
+-- A tile's slice is intact in a copy: it stands there at its places.
+abbrev pub IsIntactIn : List (List ℕ) → List ℕ → ℕ → List ℕ → Type 0
+IsIntactIn slices copy tile slice = piece_at slices copy tile ≡ slice
+
+-- ---- laws
+
+-- In a copy that is near an original exactly the original's intact slices are found, each of its tile.
+abbrev pub NearFound : Type 0
+NearFound =
+    (setup : SetupValue) (original : List ℕ) (slices : List (List ℕ)) (copy : List ℕ) → IsNear setup original slices copy → (tile : ℕ) (slice : List ℕ)
+    → IsFoundIn setup copy tile slice ↔ ((tile < length slices) × (slice ≡ slice_index_or slices tile slice) × IsIntactIn slices copy tile slice)
