@@ -24,12 +24,12 @@ use Rattle.ffv1_picture.proofs.WholePlanes.{get_or-whole_plane, or_else_none}
 module _ (setup : SetupValue) (profile : IsInProfile setup) (tile : ℕ) (lt : tile < tile_count (grid_of setup)) where
   decoded_one : (slice : List ℕ) (spare : ℕ) (planes : Planes) (outcome : TileOutcome) (picture : Option Planes) → IsShown setup tile (settled slice) (Decoded spare) (Some planes) → IsShown setup tile (settled slice) outcome picture → Decoded spare ≡ outcome
   decoded_one slice spare planes (Decoded bits) (Some others) one other = ap (λ p. Decoded p.spare_bits) (one_reading_is.pictures setup tile (content_of slice) _ _ profile lt one other)
-  decoded_one slice spare planes (Fault cause) None one other = absurd (other.0.no_picture planes spare one)
+  decoded_one slice spare planes (Fault cause) None one other = absurd (other.no_picture planes spare one)
   decoded_one slice spare planes outcome picture one other = absurd other
 
   fault_one : (slice : List ℕ) (outcome : TileOutcome) (picture : Option Planes) (cause : _) → IsShown setup tile (settled slice) (Fault cause) None → IsShown setup tile (settled slice) outcome picture → Fault cause ≡ outcome
-  fault_one slice (Decoded bits) (Some others) cause one other = absurd (one.0.no_picture others bits other)
-  fault_one slice (Fault told) None cause one other = ap Fault (one_answer.one_fault setup tile (content_of slice) cause told profile lt one.0.is_cause other.0.is_cause)
+  fault_one slice (Decoded bits) (Some others) cause one other = absurd (one.no_picture others bits other)
+  fault_one slice (Fault told) None cause one other = ap Fault (one_answer.one_fault setup tile (content_of slice) cause told profile lt one.is_cause other.is_cause)
   fault_one slice outcome picture cause one other = absurd other
 
   missing_one : (outcome : TileOutcome) (picture : Option Planes) → IsShown setup tile missing outcome picture → Missing ≡ outcome

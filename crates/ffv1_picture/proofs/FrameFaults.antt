@@ -15,7 +15,6 @@ use Rattle.ffv1_picture.specs.TilePictures.{IsUnreadable}
 use Rattle.ffv1_picture.specs.FrameFaults.{IsFirstUnreadable, IsFirstFault, fault_of_tile}
 use Rattle.ffv1_picture.specs.declared.fault.FrameFault.{FrameFault}
 use Rattle.ffv1_picture.specs.declared.fault.FrameFault.TheVariants.{Chain, Slice, Order, Tile, Memory}
-use Rattle.ffv1_picture.proofs.TileFaults.{of_code}
 
 pub first_unreadable : (setup : SetupValue) (links : List Piece) (tile : ℕ) (cause : TileFault) → tile < length links → ((t : ℕ) → t < tile → HasPicture setup links t)
     → (cause ≡ tiles.Memory) ⊎ IsUnreadable setup tile (content_at links tile) cause → IsFirstUnreadable setup links (fault_of_tile tile cause)
@@ -27,20 +26,12 @@ first_unreadable setup links tile (tiles.Code fault plane y x) lt before (inl is
 first_unreadable setup links tile (tiles.Code fault plane y x) lt before (inr why) = (lt, before, why)
 first_unreadable setup links tile tiles.Memory lt before why = tt
 
--- a slice in order is read as the payload's first exactly where it is tile 0's
-in_order : (setup : SetupValue) (payload : List ℕ) → IsOrdered setup payload → (tile : ℕ) → tile < length (links_from_front payload)
-    → IsSliceOf setup (link_at (links_from_front payload) tile).bytes (tile == 0) tile
-in_order setup payload ordered tile lt =
-    let link = link_at (links_from_front payload) tile in
-    let is = slice_found setup link.bytes (link.start == 0) tile (ordered.each tile (omega (arith, lt, length-reverse (links_of payload), ordered.chain.count))) in
-    subst (λ (first : Bool). IsSliceOf setup link.bytes first tile) (slice_first setup link.bytes (link.start == 0) tile is) is
-
 unreadable_is_first : (setup : SetupValue) (payload : List ℕ) → IsOrdered setup payload → (fault : FrameFault) → IsFirstUnreadable setup (links_from_front payload) fault → IsFirstFault setup payload fault
 unreadable_is_first setup payload ordered Chain first = absurd first
 unreadable_is_first setup payload ordered (Slice place cause) first = absurd first
 unreadable_is_first setup payload ordered (Order place) first = absurd first
 unreadable_is_first setup payload ordered (Tile tile cause) first =
-    (ordered, first, of_code setup tile (link_at (links_from_front payload) tile).bytes cause (in_order setup payload ordered tile first.0) first.2.is_cause)
+    (ordered, first)
 unreadable_is_first setup payload ordered Memory first = ordered.chain
 
 -- a fault of the tiles is the first of an ordered payload

@@ -19,7 +19,7 @@ use Rattle.ffv1_picture.specs.declared.partial.TileOutcome.TheVariants.{Decoded,
 pub shown_picture : (setup : SetupValue) (tile : ℕ) (state : Standing) (outcome : TileOutcome) (picture : Option Planes) → IsShown setup tile state outcome picture
     → IsPictureOfTile setup tile state picture
 shown_picture setup tile (settled slice) (Decoded spare) (Some planes) shown = (spare, shown)
-shown_picture setup tile (settled slice) (Fault cause) None shown = shown.0.no_picture
+shown_picture setup tile (settled slice) (Fault cause) None shown = shown.no_picture
 shown_picture setup tile missing Missing None shown = refl
 shown_picture setup tile (disputed n) (Disputed slices) None shown = refl
 shown_picture setup tile state outcome picture shown = absurd shown

@@ -7,7 +7,6 @@ use Rattle.ffv1_range.proofs.HeaderFound.{head_run}
 use Rattle.ffv1_range.proofs.Spelling.{same_ok}
 use Rattle.ffv1_slice.specs.Slices.{IsSliceOf, content_of}
 use Rattle.ffv1_plane.specs.Picture.{PictureValue, IsPictureOf}
-use Rattle.ffv1_plane.specs.Views.{IsOfCode}
 use Rattle.ffv1_plane.specs.declared.tile.TileFault.{TileFault}
 use Rattle.ffv1_plane.specs.declared.tile.TileFault.TheVariants.{Head, OtherTile, Code, Memory}
 use Rattle.ffv1_picture.specs.TilePictures.{IsUnreadable}
@@ -30,15 +29,3 @@ unreadable setup tile content cause told = ⊎_elim
       is_cause = is;
     }))
     told.refused
-
--- a slice of the tile has its header, so what can't be read is a code
-pub of_code : (setup : SetupValue) (tile : ℕ) (slice : List ℕ) (cause : TileFault) → IsSliceOf setup slice (tile == 0) tile → IsRefusedFor setup tile (content_of slice) cause → IsOfCode cause
-of_code setup tile slice (Head fault) is why =
-    let run = head_run (header_limits setup) (content_of slice) (tile == 0) is.head is.place is.is_head in absurd (cc (run, why))
-of_code setup tile slice OtherTile is why =
-    let run = head_run (header_limits setup) (content_of slice) (tile == 0) is.head is.place is.is_head in
-    let other = head_run (header_limits setup) (content_of slice) (tile == 0) why.0 why.1 why.2 in
-    let same = same_ok (why.0, why.1) (is.head, is.place) (sym other ∙ run) in
-    absurd (why.3 (ap (λ z. z.0.tile) same ∙ is.of_tile))
-of_code setup tile slice (Code fault plane y x) is why = tt
-of_code setup tile slice Memory is why = absurd why

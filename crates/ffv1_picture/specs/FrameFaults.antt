@@ -6,7 +6,6 @@ use Rattle.ffv1_slice.specs.Slices.{slice_read}
 use Rattle.ffv1_picture.specs.TilePictures.{IsUnreadable}
 use Rattle.ffv1_plane.specs.declared.tile.TileFault.{TileFault}
 use Rattle.ffv1_plane.specs.declared.tile.TileFault.TheVariants as tiles
-use Rattle.ffv1_plane.specs.Views.{IsOfCode}
 use Rattle.ffv1_picture.specs.Frames.{links_from_front, link_at, content_at, HasWholeChain, IsInOrder, IsOrdered, HasPicture}
 use Rattle.ffv1_picture.specs.declared.fault.FrameFault.{FrameFault}
 use Rattle.ffv1_picture.specs.declared.fault.FrameFault.TheVariants.{Chain, Slice, Order, Tile, Memory}
@@ -44,5 +43,5 @@ abbrev pub IsFirstFault : SetupValue → List ℕ → FrameFault → Type 0
 IsFirstFault setup payload Chain = ¬ HasWholeChain setup payload
 IsFirstFault setup payload (Slice place cause) = HasWholeChain setup payload × IsFirstDisorder setup (links_from_front payload) (Slice place cause)
 IsFirstFault setup payload (Order place) = HasWholeChain setup payload × IsFirstDisorder setup (links_from_front payload) (Order place)
-IsFirstFault setup payload (Tile tile cause) = IsOrdered setup payload × IsFirstUnreadable setup (links_from_front payload) (Tile tile cause) × IsOfCode cause
+IsFirstFault setup payload (Tile tile cause) = IsOrdered setup payload × IsFirstUnreadable setup (links_from_front payload) (Tile tile cause)
 IsFirstFault setup payload Memory = HasWholeChain setup payload

@@ -3,7 +3,6 @@ use Rattle.std.specs.Prelude.{◌≡◌, ℕ, ◌<◌, List, length, Option, Som
 use Rattle.ffv1_range.specs.Setup.{SetupValue}
 use Rattle.ffv1_range.specs.Tiles.{grid_of}
 use Rattle.ffv1_slice.specs.Slices.{content_of}
-use Rattle.ffv1_plane.specs.Views.{IsOfCode}
 use Rattle.ffv1_picture.specs.TilePictures.{SpellsPlanes, IsPictureOfSlice, IsUnreadable}
 use Rattle.ffv1_hold.specs.Reels.{tile_count}
 use Rattle.ffv1_hold.specs.Contents.{Contents}
@@ -20,7 +19,7 @@ use Rattle.ffv1_picture.specs.declared.partial.TileOutcome.TheVariants.{Decoded,
 -- picture.
 abbrev pub IsShown : SetupValue → ℕ → Standing → TileOutcome → Option Planes → Type 0
 IsShown setup tile (settled slice) (Decoded spare) (Some planes) = SpellsPlanes setup tile (content_of slice) planes spare
-IsShown setup tile (settled slice) (Fault cause) None = IsUnreadable setup tile (content_of slice) cause × IsOfCode cause
+IsShown setup tile (settled slice) (Fault cause) None = IsUnreadable setup tile (content_of slice) cause
 IsShown setup tile missing Missing None = Unit {0}
 IsShown setup tile (disputed n) (Disputed slices) None = slices ≡ n
 IsShown setup tile state outcome picture = ⊥

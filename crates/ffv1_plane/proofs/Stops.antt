@@ -17,7 +17,6 @@ use Rattle.ffv1_plane.specs.Groups.{IsLumaRead}
 use Rattle.ffv1_plane.specs.Stuck.{PlanesBelow, AreBitsStuck}
 use Rattle.ffv1_plane.specs.Halts.{IsPlaneHalted, IsDecodingHalted, IsTilePlaneHalted, IsPlaneOfHalted, IsLumaHalted, IsCrHalted, IsChromaHalted, ArePlanesStuck, ArePlanesHalted}
 use Rattle.ffv1_plane.specs.StuckLaws.{IsRefusedFor}
-use Rattle.ffv1_plane.specs.Views.{IsOfCode}
 use Rattle.ffv1_plane.specs.declared.plane.PlaneFault.TheVariants as plane_faults
 use Rattle.ffv1_plane.specs.declared.tile.TileFault.{TileFault}
 use Rattle.ffv1_plane.specs.declared.tile.TileFault.TheVariants.{Head, OtherTile, Code, Memory}
@@ -201,9 +200,3 @@ planes_refused setup tile content head place bits is_head of_tile behind (Code f
 planes_refused setup tile content head place bits is_head of_tile behind Memory h = inl refl
 planes_refused setup tile content head place bits is_head of_tile behind (Head fault) h = absurd h
 planes_refused setup tile content head place bits is_head of_tile behind OtherTile h = absurd h
-
-pub planes_code : (setup : SetupValue) (head : SliceHead) (bits : List Bool) (fault : TileFault) → ArePlanesHalted setup head bits fault → (fault ≡ Memory) ⊎ IsOfCode fault
-planes_code setup head bits (Code fault plane y x) h = inr tt
-planes_code setup head bits Memory h = inl refl
-planes_code setup head bits (Head fault) h = absurd h
-planes_code setup head bits OtherTile h = absurd h

@@ -1,16 +1,7 @@
 -- The code's pictures as those of the definitions.
 use Rattle.std.specs.Prelude.{map}
 use Rattle.ffv1_plane.specs.Picture.{PictureValue}
-use Rattle.ffv1_plane.specs.declared.tile.TileFault.{TileFault}
-use Rattle.ffv1_plane.specs.declared.tile.TileFault.TheVariants.{Head, OtherTile, Code, Memory}
 use Rattle.ffv1_plane.specs.declared.tile.TilePicture.{TilePicture}
 
 abbrev pub picture_value : TilePicture → PictureValue
 picture_value picture = record { planes = map (λ plane. plane.items) picture.planes.items; spare_bits = picture.spare_bits }
-
--- the fault is that of a run word or a code
-abbrev pub IsOfCode : TileFault → Type 0
-IsOfCode (Head fault) = ⊥
-IsOfCode OtherTile = ⊥
-IsOfCode (Code fault plane y x) = Unit {0}
-IsOfCode Memory = ⊥

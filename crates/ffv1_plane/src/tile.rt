@@ -11,7 +11,7 @@ ghost use Rattle.ffv1_plane.specs.Stuck.{IsStuckAt};
 ghost use Rattle.ffv1_rice.specs.declared.code.CodeFault.{CodeFault};
 ghost use Rattle.ffv1_plane.specs.Picture.{PictureValue, IsPictureOf, IsPlaneIn, plane_set, no_values, OneReading};
 ghost use Rattle.ffv1_plane.specs.Groups.{IsLumaRead, IsChromaRead, ArePlanesRead};
-ghost use Rattle.ffv1_plane.specs.Views.{picture_value, IsOfCode};
+ghost use Rattle.ffv1_plane.specs.Views.{picture_value};
 ghost use Rattle.ffv1_plane.specs.StuckLaws.{EachPictureIsSpelled, FrontsGoOn, StuckSpellsNothing, StuckIsOne, IsRefusedFor, OneAnswer};
 ghost use Rattle.ffv1_range.specs.Header.{IsHeadOf, header_limits, head_read};
 ghost use Rattle.ffv1_range.specs.declared.head.HeadFault.{HeadFault};
@@ -113,11 +113,8 @@ pub fn decode_tile(
     // .. one with a header of another tile for that ..
     ensures other { (head : SliceHead) (place : ℕ) → IsHeadOf (header_limits setup.now) content.now (index == 0) head place → head.tile ≢ index → result ≡ Err TileFault.OtherTile }
 
-    // .. and one with a header of this tile for what follows it, or for want of memory ..
-    ensures code { (head : SliceHead) (place : ℕ) → IsHeadOf (header_limits setup.now) content.now (index == 0) head place → head.tile ≡ index → IfErr result (λ fault. (fault ≡ TileFault.Memory) ⊎ IsOfCode fault) }
-
-    // .. so that each refusal but want of memory is the one that the content gives: a fault of a run word or a code tells
-    // where the content is stuck ..
+    // .. and each refusal but want of memory is the one that the content gives: with a header of this tile, a fault of a run
+    // word or a code, which tells where the content is stuck ..
     ensures refused { IfErr result (λ fault. (fault ≡ TileFault.Memory) ⊎ IsRefusedFor setup.now index content.now fault) }
 
     // .. and wherever it is stuck, that is the answer, or want of memory.

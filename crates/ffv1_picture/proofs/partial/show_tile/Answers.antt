@@ -8,7 +8,6 @@ use Rattle.ffv1_picture.specs.PartialPictures.{IsShown}
 use Rattle.ffv1_picture.specs.declared.partial.TileOutcome.TheVariants.{Decoded, Fault}
 use Rattle.ffv1_plane.specs.declared.tile.TileFault.TheVariants.{Memory}
 use Rattle.ffv1_picture.specs.TilePictures.{IsUnreadable}
-use Rattle.ffv1_picture.proofs.TileFaults.{of_code}
 use Rattle.ffv1_picture.proofs.SettledSlices.{settled_entry}
 use Rattle.ffv1_picture.proofs.partial.show_tile.Goals as goal
 
@@ -35,6 +34,5 @@ returns-in-Err c =
     let not_memory : cause ≡ Memory → ⊥ = search rules in
     let P : SetupValue → Type 0 = λ setup. (cause ≡ Memory) ⊎ IsUnreadable setup c.args.tile (content_of slice) cause in
     let why : IsUnreadable h.reel.setup c.args.tile (content_of slice) cause = ⊎_elim (λ memory. absurd (not_memory memory)) (λ why. why) (subst P c.setup.ensures.value c.in-Err.ensures.fault) in
-    let entry = settled_entry h c.setup.ensures.sound c.args.tile slice (sym c.in-Settled.ensures) in
     let Q : Standing → Type 0 = λ state. IsShown h.reel.setup c.args.tile state (Fault cause) None in
-    record { picture = None; shown = subst Q c.in-Settled.ensures (why, of_code h.reel.setup c.args.tile slice cause entry.slice why.is_cause); drawn = c.in-Err.ensures.err }
+    record { picture = None; shown = subst Q c.in-Settled.ensures why; drawn = c.in-Err.ensures.err }

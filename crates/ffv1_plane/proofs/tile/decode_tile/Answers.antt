@@ -5,7 +5,7 @@ use Rattle.ffv1_bits.specs.Bits.{bits_of}
 use Rattle.ffv1_range.proofs.Spelling.{same_ok}
 use Rattle.ffv1_plane.proofs.OneStuck.{one_answer}
 use Rattle.ffv1_plane.proofs.Pictures.{one_reading_is, picture_is, behind_place}
-use Rattle.ffv1_plane.proofs.Stops.{planes_refused, planes_code}
+use Rattle.ffv1_plane.proofs.Stops.{planes_refused}
 use Rattle.ffv1_plane.proofs.tile.decode_tile.Goals as goal
 
 pub returns-in_err-head-clause-found : goal.returns-in_err-head-clause-found
@@ -46,14 +46,6 @@ returns-clause-found c = λ picture is.
 pub returns-in_err-head-clause-other : goal.returns-in_err-head-clause-other
 returns-in_err-head-clause-other c = λ head place is other. absurd (let same = c.in_err-head.ensures.only head place is in cc)
 
-pub returns-in_err-head-clause-code : goal.returns-in_err-head-clause-code
-returns-in_err-head-clause-code c = λ head place is tile. absurd (let same = c.in_err-head.ensures.only head place is in cc)
-
-pub returns-then-head-index-clause-code : goal.returns-then-head-index-clause-code
-returns-then-head-index-clause-code c = λ head place is of_tile.
-    let same = same_ok (c.in_ok-head.head, c.in_ok-head.place) (head, place) (c.in_ok-head.ensures.only head place is) in
-    absurd (let tile : c.in_ok-head.head.tile ≡ c.args.index = ap (λ z. z.0.tile) same ∙ of_tile in c.if-head-index.true tile)
-
 pub returns-in_err-planes-clause-other : goal.returns-in_err-planes-clause-other
 returns-in_err-planes-clause-other c = λ head place is other.
     let same = same_ok (head, place) (c.in_ok-head.head, c.in_ok-head.place) (sym (c.in_ok-head.ensures.only head place is)) in
@@ -65,11 +57,6 @@ returns-clause-other c = λ head place is other.
     let same = same_ok (head, place) (c.in_ok-head.head, c.in_ok-head.place) (sym (c.in_ok-head.ensures.only head place is)) in
     let tile : c.in_ok-head.head.tile ≡ c.args.index = omega arith in
     absurd (other (ap (λ z. z.0.tile) same ∙ tile))
-
-pub returns-in_err-planes-clause-code : goal.returns-in_err-planes-clause-code
-returns-in_err-planes-clause-code c = λ head place is of_tile.
-    let p = err_from_is_err_and c.from_residual-in_err-planes.result c.from_residual-in_err-planes.ensures.1 in
-    rw (p.1, p.2) (planes_code c.args.setup.now c.in_ok-head.head c.new-bits.result.left _ c.in_err-planes.ensures.err)
 
 pub returns-in_err-head-clause-stuck : goal.returns-in_err-head-clause-stuck
 returns-in_err-head-clause-stuck c = λ fault plane y x is. absurd (let same = c.in_err-head.ensures.only is.head is.place is.is_head in cc)
