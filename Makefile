@@ -2,11 +2,12 @@
 PROGRAM := crates/ffv1restore/out/ffv1restore
 PREFIX ?= $(HOME)/.local
 
-.PHONY: run test cases ffmpeg bench install
+.PHONY: run test cases ffmpeg reel bench install
 
-# Proves and builds what is needed, and runs the stored example.
+# Proves and builds what is needed, runs the stored example, and restores a recorded frame from two damaged copies.
 run: $(PROGRAM)
 	cd crates/ffv1restore/data && ../out/ffv1restore chain f22.bin
+	tests/example $(PROGRAM)
 
 $(PROGRAM): crates.txt $(shell find crates -path '*/out' -prune -o -type f -print)
 	cd crates/ffv1restore && rt run -- chain data/f22.bin > /dev/null
@@ -14,6 +15,7 @@ $(PROGRAM): crates.txt $(shell find crates -path '*/out' -prune -o -type f -prin
 # The gate, and then the cases of the program that the gate has built.
 test:
 	rm -f $(PROGRAM)
+	tests/manual
 	rt ci
 	tests/run $(PROGRAM)
 
@@ -25,9 +27,20 @@ cases:
 ffmpeg:
 	tests/ffmpeg
 
+# Damaged reels, made and read by FFmpeg, mended: REELS of them, from the number FIRST on.
+REELS ?= 20
+FIRST ?= 0
+reel: $(PROGRAM)
+	tests/reel $(PROGRAM) $(REELS) $(FIRST)
+
 # Times beside FFmpeg's decoder and a plain copy.
 bench: $(PROGRAM)
 	tests/bench $(PROGRAM)
 
 install: $(PROGRAM)
 	install -D $(PROGRAM) $(DESTDIR)$(PREFIX)/bin/ffv1restore
+	install -D tools/mend-reel $(DESTDIR)$(PREFIX)/bin/mend-reel
+	install -D -m 644 -t $(DESTDIR)$(PREFIX)/share/man/man1 man/ffv1restore.1 man/mend-reel.1
+	install -D -m 644 completions/ffv1restore.bash $(DESTDIR)$(PREFIX)/share/bash-completion/completions/ffv1restore
+	ln -sf ffv1restore $(DESTDIR)$(PREFIX)/share/bash-completion/completions/mend-reel
+	install -D -m 644 -t $(DESTDIR)$(PREFIX)/share/zsh/site-functions completions/_ffv1restore

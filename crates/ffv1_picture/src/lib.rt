@@ -21,3 +21,5 @@ pub use restoring::{Restoration, RestorationFault, restored};
 
 #[cfg(test)]
 mod tests;
+#[cfg(test)]
+mod uses;

@@ -1,0 +1,26 @@
+# Completions of ffv1restore and mend-reel for bash.
+_ffv1restore() {
+    local word=${COMP_WORDS[COMP_CWORD]}
+    if [ "$COMP_CWORD" -eq 1 ]; then
+        mapfile -t COMPREPLY < <(compgen -W "chain show take join report restore picture decode" -- "$word")
+        return
+    fi
+    case "${COMP_WORDS[1]}:$COMP_CWORD" in
+        show:[34] | take:[34] | decode:[34]) COMPREPLY=() ;;
+        *) mapfile -t COMPREPLY < <(compgen -f -- "$word") ;;
+    esac
+}
+_mend_reel() {
+    local word=${COMP_WORDS[COMP_CWORD]}
+    case "${COMP_WORDS[COMP_CWORD - 1]}" in
+        --keep | --pictures | --work) mapfile -t COMPREPLY < <(compgen -d -- "$word") ;;
+        --jobs | --parallel) COMPREPLY=() ;;
+        *)
+            case "$word" in
+                -*) mapfile -t COMPREPLY < <(compgen -W "--force --keep --pictures --jobs --parallel --work --help" -- "$word") ;;
+                *) mapfile -t COMPREPLY < <(compgen -f -- "$word") ;;
+            esac ;;
+    esac
+}
+complete -o filenames -F _ffv1restore ffv1restore
+complete -o filenames -F _mend_reel mend-reel
