@@ -6,8 +6,8 @@ use Rattle.ffv1_hold.specs.declared.file_fault.HoldFileFault.TheVariants as faul
 use Rattle.ffv1_hold.specs.Sets as set
 use Rattle.ffv1_hold.specs.Contents.{Contents, IsHolding}
 use Rattle.ffv1_hold.specs.HoldingText.{holding_text, head_text, entries_text, FitsInFile, record_limit}
-use Rattle.ffv1_hold.specs.Reading.{Refuses, ShowsIn}
-use Rattle.ffv1_hold.specs.FileFaults.{IsPartOfFile, IsHoldingText, FileShows, IsOutside, Answers}
+use Rattle.ffv1_hold.specs.Reading.{Refuses, StopsIn}
+use Rattle.ffv1_hold.specs.FileFaults.{IsPartOfFile, FileIsWhole, FileShows, IsOutside, Answers}
 use Rattle.ffv1_hold.proofs.TextLaws.{one_text, same_head, same_entries, fitting_items, text_parts}
 use Rattle.ffv1_hold.proofs.FaultLaws.{text_none, text_whole}
 
@@ -33,11 +33,11 @@ module _ (h : Contents) (is : IsHolding h) (fits : FitsInFile h) where
       let long = ap length entries in
       omega (arith, ap length tails, ap (λ es. length (entries_text es)) entries, length-append hs (0 ∷ []), length-append gs (0 ∷ more ∷ rest))
 
-  shows_none : (fault : HoldFileFault) (new : Option (List ℕ)) → ShowsIn (FileShows fault) (Some (holding_text h)) new 0 → ⊥
-  shows_none fault new r = let front = taken_front (holding_text h) r.seen new r.taken in text_none h is fits.record' [] r.seen front.0 fault (append-nil (holding_text h) ∙ front.1) r.shown
+  shows_none : (fault : HoldFileFault) (new : Option (List ℕ)) → StopsIn (FileShows fault) (Some (holding_text h)) new 0 → ⊥
+  shows_none fault new r = let front = taken_front (holding_text h) r.seen new r.taken in text_none h is fits.record' [] r.seen front.0 fault (append-nil (holding_text h) ∙ front.1) r.is
 
   -- a refusal of a text is the device's or memory's
-  pub refused_outside : (f : HoldFileFault) (new : Option (List ℕ)) → Refuses IsPartOfFile IsHoldingText FileShows (Some (holding_text h)) new 0 f → IsOutside f
+  pub refused_outside : (f : HoldFileFault) (new : Option (List ℕ)) → Refuses IsPartOfFile FileIsWhole FileShows (Some (holding_text h)) new 0 f → IsOutside f
   refused_outside faults.Read new r = tt
   refused_outside faults.Memory new r = tt
   refused_outside faults.Write new r = r
@@ -61,8 +61,8 @@ module _ (h : Contents) (is : IsHolding h) (fits : FitsInFile h) where
 
   pub answered : (old new : Option (List ℕ)) (r : Result Contents HoldFileFault) → old ≡ Some (holding_text h)
       → IfOk r (λ g. Consumes old new (holding_text g)) → OnOk r (IsAtEnd new) → IfOk r IsHolding → IfOk r FitsInFile
-      → IfErr r (Refuses IsPartOfFile IsHoldingText FileShows old new 0) → Answers h r
+      → IfErr r (Refuses IsPartOfFile FileIsWhole FileShows old new 0) → Answers h r
   answered old new (Ok g) known text end sound small fault =
       let whole = taken_all (holding_text h) (holding_text g) new (subst (λ (o : Option (List ℕ)). Consumes o new (holding_text g)) known text) end in
       one_text g h sound is small.record' fits.record' (sym whole)
-  answered old new (Err f) known text end sound small fault = refused_outside f new (subst (λ (o : Option (List ℕ)). Refuses IsPartOfFile IsHoldingText FileShows o new 0 f) known fault)
+  answered old new (Err f) known text end sound small fault = refused_outside f new (subst (λ (o : Option (List ℕ)). Refuses IsPartOfFile FileIsWhole FileShows o new 0 f) known fault)

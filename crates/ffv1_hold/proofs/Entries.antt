@@ -35,10 +35,10 @@ body_shows setup last faults.Memory s h = absurd h
 body_shows setup last faults.OtherReel s h = absurd h
 
 -- an entry that was read whole, and is wrong
-pub wrong_refuses : (P W : List ℕ → Type 0) (setup : SetupValue) (last : Option Entry) (e : Entry) (a b : Option (List ℕ)) (i j : ℕ) (f : HoldFileFault)
+pub wrong_refuses : (P : List ℕ → Type 0) (W : HoldFileFault → List ℕ → Type 0) (setup : SetupValue) (last : Option Entry) (e : Entry) (a b : Option (List ℕ)) (i j : ℕ) (f : HoldFileFault)
     → Takes a b i j (entry_text e) → e.0 < 2 ^ 16 → length e.1 ≤ slice_limit → IsWrong setup last e f → Refuses P W (EntryShows setup last) a b i f
-wrong_refuses P W setup last e a b i j faults.NotASlice t small fits w = record { seen = entry_text e; shown = (body_text e, refl, (e, refl, small, fits, w)); taken = t.taken; within = omega (arith, t.moved, t.within) }
-wrong_refuses P W setup last e a b i j faults.Order t small fits w = record { seen = entry_text e; shown = (body_text e, refl, (e, refl, small, fits, w)); taken = t.taken; within = omega (arith, t.moved, t.within) }
+wrong_refuses P W setup last e a b i j faults.NotASlice t small fits w = record { seen = entry_text e; is = (body_text e, refl, (e, refl, small, fits, w)); taken = t.taken; within = omega (arith, t.moved, t.within) }
+wrong_refuses P W setup last e a b i j faults.Order t small fits w = record { seen = entry_text e; is = (body_text e, refl, (e, refl, small, fits, w)); taken = t.taken; within = omega (arith, t.moved, t.within) }
 wrong_refuses P W setup last e a b i j faults.TooLong t small fits w = absurd w
 wrong_refuses P W setup last e a b i j faults.Magic t small fits w = absurd w
 wrong_refuses P W setup last e a b i j (faults.Setup f) t small fits w = absurd w

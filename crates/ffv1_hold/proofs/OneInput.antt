@@ -6,8 +6,8 @@ use Rattle.std.specs.Io.KnownBytes.{Consumes}
 use Rattle.ffv1_hold.specs.declared.file_fault.HoldFileFault.{HoldFileFault}
 use Rattle.ffv1_hold.specs.declared.file_fault.HoldFileFault.TheVariants as faults
 use Rattle.ffv1_hold.specs.HoldingText.{file_limit}
-use Rattle.ffv1_hold.specs.Reading.{Refuses, ShowsIn}
-use Rattle.ffv1_hold.specs.FileFaults.{IsPartOfFile, IsHoldingText, FileShows, IsOutside, IsFaultOf}
+use Rattle.ffv1_hold.specs.Reading.{Refuses, StopsIn}
+use Rattle.ffv1_hold.specs.FileFaults.{IsPartOfFile, IsHoldingText, FileIsWhole, FileShows, IsOutside, IsFaultOf}
 use Rattle.ffv1_hold.proofs.FaultLaws.{text_none, text_whole}
 use Rattle.ffv1_hold.proofs.Answered.{taken_front, taken_all}
 use Rattle.ffv1_hold.proofs.OneFault.{one_fault}
@@ -52,17 +52,17 @@ record IsBehindText (input : List ℕ) (f : HoldFileFault) : Type 0 where
 abbrev Kinds : List ℕ → HoldFileFault → Type 0
 Kinds input f = IsShown input f ⊎ (IsCutOff input f ⊎ (IsOverLimit input f ⊎ IsBehindText input f))
 
-shown_kind : (input : List ℕ) (f : HoldFileFault) (left : Option (List ℕ)) → ShowsIn (FileShows f) (Some input) left 0 → Kinds input f
+shown_kind : (input : List ℕ) (f : HoldFileFault) (left : Option (List ℕ)) → StopsIn (FileShows f) (Some input) left 0 → Kinds input f
 shown_kind input f left r =
     let front = taken_front input r.seen left r.taken in
-    inl (record { seen = r.seen; rest = front.0; split = front.1; shown = r.shown; within = omega (arith, r.within) })
+    inl (record { seen = r.seen; rest = front.0; split = front.1; shown = r.is; within = omega (arith, r.within) })
 
 goes_on : (input seen : List ℕ) (more : ℕ) (left : Option (List ℕ)) → Consumes (Some input) left (seen ++ more ∷ []) → (rest : List ℕ) × (input ≡ seen ++ more ∷ rest)
 goes_on input seen more left taken =
     let front = taken_front input (seen ++ more ∷ []) left taken in
     (front.0, front.1 ∙ append_assoc seen (more ∷ []) front.0)
 
-kind_of : (input : List ℕ) (f : HoldFileFault) (left : Option (List ℕ)) → (IsOutside f → ⊥) → Refuses IsPartOfFile IsHoldingText FileShows (Some input) left 0 f → Kinds input f
+kind_of : (input : List ℕ) (f : HoldFileFault) (left : Option (List ℕ)) → (IsOutside f → ⊥) → Refuses IsPartOfFile FileIsWhole FileShows (Some input) left 0 f → Kinds input f
 kind_of input faults.Read left inside r = absurd (inside tt)
 kind_of input faults.Memory left inside r = absurd (inside tt)
 kind_of input faults.Write left inside r = absurd r

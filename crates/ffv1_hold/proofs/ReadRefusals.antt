@@ -1,10 +1,11 @@
 -- What a call that failed says, after bytes that an earlier call took.
+use Rattle.std.specs.Prelude.{◌⊎◌}
 use Rattle.std.proofs.Common.{ℕ, ◌≤◌, List, [], ◌∷◌, ◌++◌, Option, arith, inl, inr, subst, sym, append_assoc, length-append}
 use Rattle.std.specs.Io.KnownBytes.{Consumes}
 use Rattle.std.proofs.KnownBytes.{Consumes-nil, Consumes-trans}
 use Rattle.ffv1_hold.specs.declared.file_fault.HoldFileFault.{HoldFileFault}
 use Rattle.ffv1_hold.specs.declared.file_fault.HoldFileFault.TheVariants as faults
-use Rattle.ffv1_hold.specs.Reading.{Takes, EndsIn, ShowsIn, PassesIn, GoesOnIn, Refuses}
+use Rattle.ffv1_hold.specs.Reading.{Takes, EndsIn, StopsIn, PassesIn, GoesOnIn, Refuses}
 
 pub Takes-nil : (a : Option (List ℕ)) (n : ℕ) → n ≤ 2147483648 → Takes a a n n []
 Takes-nil a n h = record { taken = Consumes-nil a; moved = omega arith; within = h }
@@ -25,10 +26,10 @@ EndsIn-after P P' a b c i j xs t more e = record {
   within = omega (arith, t.moved, e.within, length-append xs e.seen);
 }
 
-ShowsIn-after : (P P' : List ℕ → Type 0) (a b c : Option (List ℕ)) (i j : ℕ) (xs : List ℕ) → Takes a b i j xs → ((s : List ℕ) → P s → P' (xs ++ s)) → ShowsIn P b c j → ShowsIn P' a c i
-ShowsIn-after P P' a b c i j xs t more e = record {
+StopsIn-after : (P P' : List ℕ → Type 0) (a b c : Option (List ℕ)) (i j : ℕ) (xs : List ℕ) → Takes a b i j xs → ((s : List ℕ) → P s → P' (xs ++ s)) → StopsIn P b c j → StopsIn P' a c i
+StopsIn-after P P' a b c i j xs t more e = record {
   seen = xs ++ e.seen;
-  shown = more e.seen e.shown;
+  is = more e.seen e.is;
   taken = Consumes-trans a b c xs e.seen t.taken e.taken;
   within = omega (arith, t.moved, e.within, length-append xs e.seen);
 }
@@ -51,28 +52,38 @@ GoesOnIn-after P P' a b c i j xs t more e = record {
   within = omega (arith, t.moved, e.within, length-append xs e.seen);
 }
 
+either : (P P' W W' : Type 0) → P ⊎ W → (P → P') → (W → W') → P' ⊎ W'
+either P P' W W' (inl x) p w = inl (p x)
+either P P' W W' (inr x) p w = inr (w x)
+
 -- an earlier call took xs, and behind it the faults are those of P, W and Q
-pub Refuses-after : (P P' W W' : List ℕ → Type 0) (Q Q' : HoldFileFault → List ℕ → Type 0) (a b c : Option (List ℕ)) (i j : ℕ) (xs : List ℕ) (f : HoldFileFault)
+pub Refuses-after : (P P' : List ℕ → Type 0) (W W' Q Q' : HoldFileFault → List ℕ → Type 0) (a b c : Option (List ℕ)) (i j : ℕ) (xs : List ℕ) (f : HoldFileFault)
     → Takes a b i j xs → Refuses P W Q b c j f
-    → ((s : List ℕ) → P s → P' (xs ++ s)) → ((s : List ℕ) → W s → W' (xs ++ s)) → ((f : HoldFileFault) (s : List ℕ) → Q f s → Q' f (xs ++ s))
+    → ((s : List ℕ) → P s → P' (xs ++ s)) → ((f : HoldFileFault) (s : List ℕ) → W f s → W' f (xs ++ s)) → ((f : HoldFileFault) (s : List ℕ) → Q f s → Q' f (xs ++ s))
     → Refuses P' W' Q' a c i f
-Refuses-after P P' W W' Q Q' a b c i j xs faults.Read t r p w q = tt
-Refuses-after P P' W W' Q Q' a b c i j xs faults.Memory t r p w q = tt
+Refuses-after P P' W W' Q Q' a b c i j xs faults.Read t r p w q =
+    StopsIn-after _ _ a b c i j xs t (λ s h. either (P s) (P' (xs ++ s)) (W faults.Read s) (W' faults.Read (xs ++ s)) h (p s) (w faults.Read s)) r
+Refuses-after P P' W W' Q Q' a b c i j xs faults.Memory t r p w q =
+    StopsIn-after _ _ a b c i j xs t (λ s h. either (P s) (P' (xs ++ s)) (W faults.Memory s) (W' faults.Memory (xs ++ s)) h (p s) (w faults.Memory s)) r
 Refuses-after P P' W W' Q Q' a b c i j xs faults.Write t r p w q = r
 Refuses-after P P' W W' Q Q' a b c i j xs faults.OtherReel t r p w q = r
 Refuses-after P P' W W' Q Q' a b c i j xs faults.Truncated t r p w q = EndsIn-after P P' a b c i j xs t p r
-Refuses-after P P' W W' Q Q' a b c i j xs faults.TooLong t (inl r) p w q = inl (ShowsIn-after _ _ a b c i j xs t (q faults.TooLong) r)
+Refuses-after P P' W W' Q Q' a b c i j xs faults.TooLong t (inl r) p w q = inl (StopsIn-after _ _ a b c i j xs t (q faults.TooLong) r)
 Refuses-after P P' W W' Q Q' a b c i j xs faults.TooLong t (inr r) p w q = inr (PassesIn-after P P' a b c i j xs t p r)
-Refuses-after P P' W W' Q Q' a b c i j xs faults.Trailing t r p w q = GoesOnIn-after W W' a b c i j xs t w r
-Refuses-after P P' W W' Q Q' a b c i j xs faults.Magic t r p w q = ShowsIn-after _ _ a b c i j xs t (q faults.Magic) r
-Refuses-after P P' W W' Q Q' a b c i j xs (faults.Setup f) t r p w q = ShowsIn-after _ _ a b c i j xs t (q (faults.Setup f)) r
-Refuses-after P P' W W' Q Q' a b c i j xs faults.Tag t r p w q = ShowsIn-after _ _ a b c i j xs t (q faults.Tag) r
-Refuses-after P P' W W' Q Q' a b c i j xs faults.Order t r p w q = ShowsIn-after _ _ a b c i j xs t (q faults.Order) r
-Refuses-after P P' W W' Q Q' a b c i j xs faults.NotASlice t r p w q = ShowsIn-after _ _ a b c i j xs t (q faults.NotASlice) r
+Refuses-after P P' W W' Q Q' a b c i j xs faults.Trailing t r p w q = GoesOnIn-after _ _ a b c i j xs t (w faults.Trailing) r
+Refuses-after P P' W W' Q Q' a b c i j xs faults.Magic t r p w q = StopsIn-after _ _ a b c i j xs t (q faults.Magic) r
+Refuses-after P P' W W' Q Q' a b c i j xs (faults.Setup f) t r p w q = StopsIn-after _ _ a b c i j xs t (q (faults.Setup f)) r
+Refuses-after P P' W W' Q Q' a b c i j xs faults.Tag t r p w q = StopsIn-after _ _ a b c i j xs t (q faults.Tag) r
+Refuses-after P P' W W' Q Q' a b c i j xs faults.Order t r p w q = StopsIn-after _ _ a b c i j xs t (q faults.Order) r
+Refuses-after P P' W W' Q Q' a b c i j xs faults.NotASlice t r p w q = StopsIn-after _ _ a b c i j xs t (q faults.NotASlice) r
 
 -- the same faults, said of more
-pub Refuses-weaker : (P P' W W' : List ℕ → Type 0) (Q Q' : HoldFileFault → List ℕ → Type 0) (a c : Option (List ℕ)) (i : ℕ) (f : HoldFileFault)
+pub Refuses-weaker : (P P' : List ℕ → Type 0) (W W' Q Q' : HoldFileFault → List ℕ → Type 0) (a c : Option (List ℕ)) (i : ℕ) (f : HoldFileFault)
     → i ≤ 2147483648 → Refuses P W Q a c i f
-    → ((s : List ℕ) → P s → P' s) → ((s : List ℕ) → W s → W' s) → ((f : HoldFileFault) (s : List ℕ) → Q f s → Q' f s)
+    → ((s : List ℕ) → P s → P' s) → ((f : HoldFileFault) (s : List ℕ) → W f s → W' f s) → ((f : HoldFileFault) (s : List ℕ) → Q f s → Q' f s)
     → Refuses P' W' Q' a c i f
 Refuses-weaker P P' W W' Q Q' a c i f h r p w q = Refuses-after P P' W W' Q Q' a a c i i [] f (Takes-nil a i h) r p w q
+
+-- no memory was granted behind bytes that are unfinished
+pub memory_stops : (P : List ℕ → Type 0) (W Q : HoldFileFault → List ℕ → Type 0) (a b : Option (List ℕ)) (i j : ℕ) (xs : List ℕ) → Takes a b i j xs → P xs → Refuses P W Q a b i faults.Memory
+memory_stops P W Q a b i j xs t is = record { seen = xs; is = inl is; taken = t.taken; within = omega (arith, t.moved, t.within) }

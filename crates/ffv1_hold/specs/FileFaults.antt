@@ -8,7 +8,7 @@ use Rattle.ffv1_slice.specs.Slices.{IsSliceOf}
 use Rattle.ffv1_hold.specs.declared.file_fault.HoldFileFault.{HoldFileFault}
 use Rattle.ffv1_hold.specs.declared.file_fault.HoldFileFault.TheVariants as faults
 use Rattle.ffv1_hold.specs.SliceOrder.{Entry}
-use Rattle.ffv1_hold.specs.Reels.{Reel, IsReel}
+use Rattle.ffv1_hold.specs.Reels.{Reel, IsReel, WantsMemory}
 use Rattle.ffv1_hold.specs.Contents.{Contents, IsHolding, slice_limit}
 use Rattle.ffv1_hold.specs.HoldingText.{magic, be2, be4, sized_record, head_text, holding_text, body_text, entries_text, record_limit}
 use Rattle.ffv1_hold.specs.Reading.{Refuses}
@@ -67,6 +67,11 @@ ReelShows faults.TooLong s = (w h n : ℕ) × (s ≡ be4 w ++ be4 h ++ be4 n) ×
 ReelShows (faults.Setup f) s = (config : List ℕ) × (w h : ℕ) × (s ≡ sized_record config w h) × (length config ≤ record_limit) × (w < 2 ^ 32) × (h < 2 ^ 32) × FirstSetupFault config w h f
 ReelShows _ s = ⊥
 
+-- the size and the record are whole, behind which memory for the setup is wanted
+abbrev pub ReelIsWhole : HoldFileFault → List ℕ → Type 0
+ReelIsWhole faults.Memory s = (config : List ℕ) × (w h : ℕ) × (s ≡ sized_record config w h) × (length config ≤ record_limit) × (w < 2 ^ 32) × (h < 2 ^ 32) × WantsMemory config w h
+ReelIsWhole _ s = ⊥
+
 -- a beginning of the magic
 abbrev pub IsPartOfMagic : List ℕ → Type 0
 IsPartOfMagic s = (length s < 8) × (s ≡ take (length s) magic)
@@ -93,6 +98,13 @@ FileShows f s = MagicShows f s
 abbrev pub IsHoldingText : List ℕ → Type 0
 IsHoldingText s = (h : Contents) × IsHolding h × (length h.reel.config ≤ record_limit) × (s ≡ holding_text h)
 
+-- What is whole where a fault comes that no byte of it shows: a text, whose end is looked for, or a head, whose setup wants memory.
+abbrev pub FileIsWhole : HoldFileFault → List ℕ → Type 0
+FileIsWhole faults.Read s = IsHoldingText s
+FileIsWhole faults.Trailing s = IsHoldingText s
+FileIsWhole faults.Memory s = (reel : List ℕ) × (s ≡ magic ++ reel) × ReelIsWhole faults.Memory reel
+FileIsWhole _ s = ⊥
+
 -- the device or memory is the fault, and not the bytes
 abbrev pub IsOutside : HoldFileFault → Type 0
 IsOutside faults.Read = Unit {0}
@@ -101,7 +113,7 @@ IsOutside _ = ⊥
 
 -- The fault of an input: what reading it to its end, or to the fault, comes to where neither device nor memory fails.
 abbrev pub IsFaultOf : List ℕ → HoldFileFault → Type 0
-IsFaultOf input f = (¬ IsOutside f) × ((left : Option (List ℕ)) × Refuses IsPartOfFile IsHoldingText FileShows (Some input) left 0 f)
+IsFaultOf input f = (¬ IsOutside f) × ((left : Option (List ℕ)) × Refuses IsPartOfFile FileIsWhole FileShows (Some input) left 0 f)
 
 -- the answer to the text of a holding
 abbrev pub Answers : Contents → Result Contents HoldFileFault → Type 0

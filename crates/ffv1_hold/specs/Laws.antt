@@ -18,6 +18,10 @@ OneText = (g h : Contents) → IsHolding g → IsHolding h → length g.reel.con
 abbrev pub TextShowsNoFault : Type 0
 TextShowsNoFault = (text : List ℕ) → IsHoldingText text → ((seen rest : List ℕ) (fault : HoldFileFault) → text ≡ seen ++ rest → ¬ FileShows fault seen) × (¬ IsPartOfFile text)
 
+-- No beginning of an unfinished file shows a fault.
+abbrev pub PartShowsNoFault : Type 0
+PartShowsNoFault = (part seen rest : List ℕ) (fault : HoldFileFault) → IsPartOfFile part → part ≡ seen ++ rest → ¬ FileShows fault seen
+
 -- The text of a holding has no fault, where it and its record are within their limits.
 abbrev pub TextHasNoFault : Type 0
 TextHasNoFault = (h : Contents) → IsHolding h → FitsInFile h → (fault : HoldFileFault) → ¬ IsFaultOf (holding_text h) fault

@@ -19,10 +19,10 @@ pub record EndsIn (P : List ℕ → Type 0) (old new : Option (List ℕ)) (from 
   pub at_end : IsAtEnd new
   pub within : from + length seen ≤ file_limit
 
--- The bytes `seen` were taken from the place on, within the limit.
-pub record ShowsIn (Q : List ℕ → Type 0) (old new : Option (List ℕ)) (from : ℕ) : Type 0 where
+-- The bytes `seen` were taken from the place on, within the limit, and no more.
+pub record StopsIn (P : List ℕ → Type 0) (old new : Option (List ℕ)) (from : ℕ) : Type 0 where
   pub seen : List ℕ
-  pub shown : Q seen
+  pub is : P seen
   pub taken : Consumes old new seen
   pub within : from + length seen ≤ file_limit
 
@@ -42,27 +42,25 @@ pub record GoesOnIn (P : List ℕ → Type 0) (old new : Option (List ℕ)) (fro
   pub taken : Consumes old new (seen ++ more ∷ [])
   pub within : from + length seen ≤ file_limit
 
--- What a fault says of the bytes that were taken: P, they are unfinished; W, they are whole; Q, they show the fault.
-abbrev pub Refuses : (P W : List ℕ → Type 0) → (HoldFileFault → List ℕ → Type 0) → Option (List ℕ) → Option (List ℕ) → ℕ → HoldFileFault → Type 0
-Refuses P W Q old new from faults.Read = Unit {0}
-Refuses P W Q old new from faults.Memory = Unit {0}
+-- What a fault says of the bytes that were taken. P: they are unfinished, and show no fault. W: they are whole, and the fault comes
+-- behind them. Q: they show the fault.
+abbrev pub Refuses : (List ℕ → Type 0) → (W Q : HoldFileFault → List ℕ → Type 0) → Option (List ℕ) → Option (List ℕ) → ℕ → HoldFileFault → Type 0
+Refuses P W Q old new from faults.Read = StopsIn (λ s. P s ⊎ W faults.Read s) old new from
+Refuses P W Q old new from faults.Memory = StopsIn (λ s. P s ⊎ W faults.Memory s) old new from
 Refuses P W Q old new from faults.Write = ⊥
 Refuses P W Q old new from faults.OtherReel = ⊥
 Refuses P W Q old new from faults.Truncated = EndsIn P old new from
-Refuses P W Q old new from faults.TooLong = ShowsIn (Q faults.TooLong) old new from ⊎ PassesIn P old new from
-Refuses P W Q old new from faults.Trailing = GoesOnIn W old new from
-Refuses P W Q old new from faults.Magic = ShowsIn (Q faults.Magic) old new from
-Refuses P W Q old new from (faults.Setup f) = ShowsIn (Q (faults.Setup f)) old new from
-Refuses P W Q old new from faults.Tag = ShowsIn (Q faults.Tag) old new from
-Refuses P W Q old new from faults.Order = ShowsIn (Q faults.Order) old new from
-Refuses P W Q old new from faults.NotASlice = ShowsIn (Q faults.NotASlice) old new from
+Refuses P W Q old new from faults.TooLong = StopsIn (Q faults.TooLong) old new from ⊎ PassesIn P old new from
+Refuses P W Q old new from faults.Trailing = GoesOnIn (W faults.Trailing) old new from
+Refuses P W Q old new from faults.Magic = StopsIn (Q faults.Magic) old new from
+Refuses P W Q old new from (faults.Setup f) = StopsIn (Q (faults.Setup f)) old new from
+Refuses P W Q old new from faults.Tag = StopsIn (Q faults.Tag) old new from
+Refuses P W Q old new from faults.Order = StopsIn (Q faults.Order) old new from
+Refuses P W Q old new from faults.NotASlice = StopsIn (Q faults.NotASlice) old new from
 
--- no bytes are so, or show a fault
-abbrev pub Never : List ℕ → Type 0
-Never bytes = ⊥
-
-abbrev pub NeverShows : HoldFileFault → List ℕ → Type 0
-NeverShows f bytes = ⊥
+-- no bytes are so, whatever the fault
+abbrev pub Never : HoldFileFault → List ℕ → Type 0
+Never f bytes = ⊥
 
 -- fewer bytes than n
 abbrev pub IsShorter : ℕ → List ℕ → Type 0
@@ -76,3 +74,7 @@ CountsRead _ old new = Unit {0}
 -- each is the value of a `u8`
 abbrev pub AreBytes : List ℕ → Type 0
 AreBytes bytes = (i : ℕ) → slice_index bytes i < 256
+
+-- fewer than n bytes were taken
+abbrev pub TakesFewer : Option (List ℕ) → Option (List ℕ) → ℕ → Type 0
+TakesFewer old new n = (seen : List ℕ) × (length seen < n) × Consumes old new seen

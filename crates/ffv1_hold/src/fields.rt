@@ -5,7 +5,7 @@ ghost use Rattle.std.specs.Io.{ReadsAtMost, WritesAtMost};
 ghost use Rattle.std.specs.Io.KnownBytes.{ReadConsumes, WriteAppends, Consumes, Appends, IsAtEnd};
 ghost use Rattle.ffv1_hold.specs.Streams.{HasFailed};
 ghost use Rattle.ffv1_hold.specs.HoldingText.{file_limit};
-ghost use Rattle.ffv1_hold.specs.Reading.{Takes, Refuses, IsShorter, Never, NeverShows, CountsRead, AreBytes};
+ghost use Rattle.ffv1_hold.specs.Reading.{Takes, TakesFewer, Refuses, IsShorter, Never, CountsRead, AreBytes};
 
 use crate::file_fault::HoldFileFault;
 use crate::streams::{Sink, Source};
@@ -52,6 +52,7 @@ pub(crate) fn read_full<S: Source>(source: &mut S, buf: &mut [u8]) -> Result<usi
     ensures bound { ReadsAtMost result buf.new }
     ensures bytes { IfOk result (λ n. Consumes (S.remaining source.old) (S.remaining source.new) (take n buf.new)) }
     ensures end { IfOk result (λ n. n < length buf.new → IsAtEnd (S.remaining source.new)) }
+    ensures fewer { OnErr result (TakesFewer (S.remaining source.old) (S.remaining source.new) (length buf.new)) }
     ensures failed { OnErr result (HasFailed (S.failures source.old) (S.failures source.new)) }
     ensures counted { S.failures source.old ≤ S.failures source.new }
     ensures within { S.taken source.new ≤ S.taken source.old + length buf.new }
@@ -71,6 +72,7 @@ pub(crate) fn read_full<S: Source>(source: &mut S, buf: &mut [u8]) -> Result<usi
 pub(crate) fn next_byte<S: Source>(source: &mut S) -> Result<Option<u8>, ReadFailed>
     ensures some { IfOk result (λ r. IfSome r (λ b. Consumes (S.remaining source.old) (S.remaining source.new) (b ∷ []))) }
     ensures none { IfOk result (λ r. IfNone r (Consumes (S.remaining source.old) (S.remaining source.new) [] × IsAtEnd (S.remaining source.new))) }
+    ensures kept { OnErr result (Consumes (S.remaining source.old) (S.remaining source.new) []) }
     ensures failed { OnErr result (HasFailed (S.failures source.old) (S.failures source.new)) }
     ensures counted { S.failures source.old ≤ S.failures source.new }
     ensures taken { S.taken source.new ≤ S.taken source.old + 1 }
@@ -91,7 +93,7 @@ fn read_within<S: Source>(
 ) -> Result<(), HoldFileFault>
     requires { place.old + length buf.old ≤ file_limit }
     ensures ok { OnOk result (Takes (S.remaining source.old) (S.remaining source.new) place.old place.new buf.new) }
-    ensures err { IfErr result (Refuses (IsShorter (length buf.old)) Never NeverShows
+    ensures err { IfErr result (Refuses (IsShorter (length buf.old)) Never Never
         (S.remaining source.old) (S.remaining source.new) place.old) }
     ensures failed { IfErr result (λ f. CountsRead f (S.failures source.old) (S.failures source.new)) }
     ensures counted { S.failures source.old ≤ S.failures source.new }
@@ -108,7 +110,7 @@ fn read_within<S: Source>(
 /// Fills a buffer that ends at the limit, for a field that goes on past it.
 fn read_to_limit<S: Source>(source: &mut S, place: &mut u32, buf: &mut [u8]) -> HoldFileFault
     requires { place.old + length buf.old ≡ file_limit }
-    ensures fault { Refuses (IsShorter (length buf.old + 1)) Never NeverShows
+    ensures fault { Refuses (IsShorter (length buf.old + 1)) Never Never
         (S.remaining source.old) (S.remaining source.new) place.old result }
     ensures failed { CountsRead result (S.failures source.old) (S.failures source.new) }
     ensures counted { S.failures source.old ≤ S.failures source.new }
@@ -134,7 +136,7 @@ pub(crate) fn read_field<S: Source>(
     requires { place.old ≤ file_limit }
     ensures ok { OnOk result (Takes (S.remaining source.old) (S.remaining source.new) place.old place.new buf.new) }
     ensures bytes { AreBytes buf.new }
-    ensures err { IfErr result (Refuses (IsShorter (length buf.old)) Never NeverShows
+    ensures err { IfErr result (Refuses (IsShorter (length buf.old)) Never Never
         (S.remaining source.old) (S.remaining source.new) place.old) }
     ensures failed { IfErr result (λ f. CountsRead f (S.failures source.old) (S.failures source.new)) }
     ensures counted { S.failures source.old ≤ S.failures source.new }

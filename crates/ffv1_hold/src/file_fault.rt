@@ -23,11 +23,11 @@ pub enum HoldFileFault {
     NotASlice,
     /// A byte stands behind the end tag.
     Trailing,
-    /// The source failed.
+    /// The source failed, before a fault was met.
     Read,
     /// The sink failed.
     Write,
-    /// A growth of memory was refused.
+    /// A growth of memory was refused, before a fault was met.
     Memory,
     /// The record has more than 2^24 bytes, an entry more than 16777223, or the file more than 2^31.
     TooLong,

@@ -4,9 +4,9 @@ ghost use Rattle.std.specs.Prelude.{◌≡◌, ◌+◌, ◌≤◌, ◌++◌, len
 ghost use Rattle.ffv1_hold.specs.Reels.{IsReel};
 ghost use Rattle.ffv1_hold.specs.Reading.{Takes, Refuses, Never, CountsRead};
 ghost use Rattle.ffv1_hold.specs.HoldingText.{magic, sized_record, file_limit};
-ghost use Rattle.ffv1_hold.specs.FileFaults.{IsPartOfMagic, MagicShows, IsFileReel, IsPartOfReel, ReelShows};
+ghost use Rattle.ffv1_hold.specs.FileFaults.{IsPartOfMagic, MagicShows, IsFileReel, IsPartOfReel, ReelIsWhole, ReelShows};
 
-use crate::fields::read_full;
+use crate::fields::read_field;
 use crate::file_fault::HoldFileFault;
 use crate::number::{read_bytes, read_u32};
 use crate::reel::Reel;
@@ -20,7 +20,7 @@ const MAGIC: [u8; 8] = *b"FFV1HLD\x01";
 /// The greatest length of a record in a holding file, in bytes.
 pub(crate) const RECORD_LIMIT: u32 = 1 << 24;
 
-/// Reads the name and the version.
+/// Reads the name and the version, byte by byte: a wrong byte is told whatever the device would do behind it.
 pub(crate) fn read_magic<S: Source>(source: &mut S, place: &mut u32) -> Result<(), HoldFileFault>
     requires { place.old ≡ 0 }
     ensures ok { OnOk result (Takes (S.remaining source.old) (S.remaining source.new) place.old place.new magic) }
@@ -31,15 +31,13 @@ pub(crate) fn read_magic<S: Source>(source: &mut S, place: &mut u32) -> Result<(
     ensures taken { OnOk result (S.taken source.new + place.old ≤ S.taken source.old + place.new) }
     ensures most { OnErr result (S.taken source.new + place.old ≤ S.taken source.old + file_limit + 1) }
 {
-    let mut bytes = [0u8; 8];
-    let count = read_full(source, &mut bytes)?;
-    if bytes[..count] != MAGIC[..count] {
-        return Err(HoldFileFault::Magic);
+    let mut byte = [0u8; 1];
+    for expected in MAGIC {
+        read_field(source, place, &mut byte)?;
+        if byte[0] != expected {
+            return Err(HoldFileFault::Magic);
+        }
     }
-    if count < bytes.len() {
-        return Err(HoldFileFault::Truncated);
-    }
-    *place += count as u32;
     Ok(())
 }
 
@@ -52,7 +50,7 @@ pub(crate) fn read_reel<S: Source>(
     requires { place.old ≤ file_limit }
     ensures ok { IfOk result (λ r. Takes (S.remaining source.old) (S.remaining source.new) place.old place.new (sized_record r.config r.setup.width r.setup.height)) }
     ensures reel { IfOk result IsFileReel }
-    ensures err { IfErr result (Refuses IsPartOfReel Never ReelShows
+    ensures err { IfErr result (Refuses IsPartOfReel ReelIsWhole ReelShows
         (S.remaining source.old) (S.remaining source.new) place.old) }
     ensures failed { IfErr result (λ f. CountsRead f (S.failures source.old) (S.failures source.new)) }
     ensures counted { S.failures source.old ≤ S.failures source.new }

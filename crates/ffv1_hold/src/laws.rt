@@ -1,15 +1,17 @@
 //! Laws of holdings and of their files (own), as contracts of functions that do nothing.
-ghost use Rattle.ffv1_hold.specs.Laws.{OneText, OneFault, OneShownFault, TextHasNoFault, TextShowsNoFault, CopiesHoldTheOriginal, NearCopiesHoldTheOriginal, HeldIsFound};
+ghost use Rattle.ffv1_hold.specs.Laws.{OneText, OneFault, OneShownFault, TextHasNoFault, TextShowsNoFault, PartShowsNoFault, CopiesHoldTheOriginal, NearCopiesHoldTheOriginal, HeldIsFound};
 
 /// Two holdings with one text are equal.
 pub fn one_text()
     ensures { OneText }
 {}
 
-/// The text of a holding has no fault: no beginning of it shows one, and the whole text is no unfinished one.
+/// The text of a holding has no fault: no beginning of it shows one, and the whole text is no unfinished one. Nor does a beginning
+/// of an unfinished file show one.
 pub fn text_shows_no_fault()
     ensures text { TextHasNoFault }
     ensures beginnings { TextShowsNoFault }
+    ensures unfinished { PartShowsNoFault }
 {}
 
 /// An input has one fault at most: it shows one, ends too early, passes the limit or goes on behind a text.

@@ -4,7 +4,7 @@ ghost use Rattle.std.specs.Io.KnownBytes.{Consumes, IsAtEnd};
 ghost use Rattle.ffv1_hold.specs.Reading.{Refuses, CountsRead};
 ghost use Rattle.ffv1_hold.specs.Contents.{Contents, IsHolding};
 ghost use Rattle.ffv1_hold.specs.HoldingText.{holding_text, file_limit, FitsInFile};
-ghost use Rattle.ffv1_hold.specs.FileFaults.{IsPartOfFile, IsHoldingText, FileShows, Answers};
+ghost use Rattle.ffv1_hold.specs.FileFaults.{IsPartOfFile, FileIsWhole, FileShows, Answers};
 
 use crate::entry::read_entries;
 use crate::fields::next_byte;
@@ -17,8 +17,10 @@ use std::alloc::Global;
 
 /// Reads a holding file, to the end of the input.
 ///
-/// The faults are judged in byte order, and at most 2^31 + 1 bytes are read. `Read` comes only where the source counted a
-/// failure: an interrupted try is made again, and 65 in a row are a failure. `Memory` comes where a growth is refused.
+/// The faults are judged in byte order, those of the first eight bytes too, and at most 2^31 + 1 bytes are read. `Read` comes
+/// only where the source counted a failure: an interrupted try is made again, and 65 in a row are a failure. `Memory` comes
+/// where a growth is refused. Both come only before a fault is met: none of the bytes that were read shows one, but that the
+/// setup of the record wants its memory where `Setup::read` tells.
 pub fn read_hold<R: Source>(alloc: Global, source: &mut R) -> Result<Holding, HoldFileFault>
     // The whole input is the text of the holding.
     ensures text { IfOk result (λ h. Consumes (R.remaining source.old) (R.remaining source.new) (holding_text h)) }
@@ -29,8 +31,9 @@ pub fn read_hold<R: Source>(alloc: Global, source: &mut R) -> Result<Holding, Ho
     // An input that is the text of a holding is answered by that holding, or by `Read` or `Memory`.
     ensures only { (h : Contents) → IsHolding h → FitsInFile h → R.remaining source.old ≡ Some (holding_text h) → Answers h result }
 
-    // The bytes that were read show the fault.
-    ensures fault { IfErr result (Refuses IsPartOfFile IsHoldingText FileShows
+    // The bytes that were read show the fault. At `Read` and `Memory` they show none: they are unfinished, or a text whose end
+    // was looked for, or a head whose setup wants memory before a fault.
+    ensures fault { IfErr result (Refuses IsPartOfFile FileIsWhole FileShows
         (R.remaining source.old) (R.remaining source.new) 0) }
     ensures failed { IfErr result (λ f. CountsRead f (R.failures source.old) (R.failures source.new)) }
 
@@ -46,7 +49,7 @@ fn read_parts<R: Source>(alloc: Global, source: &mut R) -> Result<Holding, HoldF
     ensures sound { IfOk result IsHolding }
     ensures fits { IfOk result FitsInFile }
 
-    ensures fault { IfErr result (Refuses IsPartOfFile IsHoldingText FileShows
+    ensures fault { IfErr result (Refuses IsPartOfFile FileIsWhole FileShows
         (R.remaining source.old) (R.remaining source.new) 0) }
     ensures failed { IfErr result (λ f. CountsRead f (R.failures source.old) (R.failures source.new)) }
 

@@ -1,9 +1,9 @@
 //! A recording (own): its configuration record (RFC 9043, section 4.3), and the setup that the record gives for the size of
 //! its frames.
-ghost use Rattle.std.specs.Prelude.{◌≡◌, ◌⊎◌, ◌↔◌, IsTrue, IfOk, IfErr, OnErr};
+ghost use Rattle.std.specs.Prelude.{◌≡◌, ◌⊎◌, ◌↔◌, IsTrue, IfOk, IfErr, OnErr, IsErrOf};
 ghost use Rattle.ffv1_range.specs.Setup.{SetupValue, IsSetupOf};
 ghost use Rattle.ffv1_range.specs.SetupFaults.{FirstSetupFault};
-ghost use Rattle.ffv1_hold.specs.Reels.{IsReel, tile_count};
+ghost use Rattle.ffv1_hold.specs.Reels.{IsReel, WantsMemory, tile_count};
 
 use ffv1_range::{Setup, SetupFault};
 use std::alloc::Global;
@@ -41,6 +41,7 @@ impl Reel {
         ensures sound { IfOk result IsReel }
         ensures only { (s : SetupValue) → IsSetupOf config.items width height s → OnErr result (result ≡ Err SetupFault.Memory) }
         ensures fault { IfErr result (λ fault. (fault ≡ SetupFault.Memory) ⊎ FirstSetupFault config.items width height fault) }
+        ensures memory { IsErrOf result SetupFault.Memory → WantsMemory config.items width height }
     {
         let setup = Setup::read(alloc, &config, width, height)?;
         Ok(Reel { config, setup })

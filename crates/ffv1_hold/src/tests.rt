@@ -478,6 +478,59 @@ fn a_failing_device_is_told_as_that(rt: HostRuntime) -> Result<(), Fail> {
     Ok(())
 }
 
+/// What comes of these bytes where the device fails behind them.
+fn fault_behind(alloc: Global, bytes: &[u8]) -> Option<HoldFileFault> {
+    let mut source = FromRead::new(Failing {
+        bytes,
+        kind: ErrorKind::Other,
+        times: 1,
+    });
+    read_hold(alloc, &mut source).err()
+}
+
+#[test]
+fn a_fault_that_was_read_comes_before_the_device(rt: HostRuntime) -> Result<(), Fail> {
+    let holding = sample_holding(rt.alloc(), &[&BLACK, &DARK])?;
+    let text = written(rt.alloc(), &holding)?;
+    let cases = [
+        (0, 0x45, 1, HoldFileFault::Magic),
+        (3, 0, 4, HoldFileFault::Magic),
+        (7, 2, 8, HoldFileFault::Magic),
+        (16, 2, 20, HoldFileFault::TooLong),
+        (11, 0, 37, HoldFileFault::Setup(SetupFault::Size)),
+        (37, 5, 38, HoldFileFault::Tag),
+        (40, 2, 44, HoldFileFault::TooLong),
+        (39, 1, 55, HoldFileFault::NotASlice),
+    ];
+    for (place, value, end, fault) in cases {
+        let mut changed = text.to_vec(rt.alloc())?;
+        if let Some(byte) = changed.get_mut(place) {
+            *byte = value;
+        }
+        assert_eq!(rt;
+            fault_behind(rt.alloc(), &changed[..end]),
+            Some(fault),
+            "at {place}"
+        );
+        assert_eq!(rt;
+            fault_behind(rt.alloc(), &changed[..end - 1]),
+            Some(HoldFileFault::Read),
+            "before {end}"
+        );
+    }
+    let swapped = joined(rt.alloc(), text.as_slice(), &[(0, 37), (55, 73), (37, 55)])?;
+    assert_eq!(rt; swapped.len(), 73);
+    assert_eq!(rt;
+        fault_behind(rt.alloc(), swapped.as_slice()),
+        Some(HoldFileFault::Order)
+    );
+    assert_eq!(rt;
+        fault_behind(rt.alloc(), &swapped[..72]),
+        Some(HoldFileFault::Read)
+    );
+    Ok(())
+}
+
 #[test]
 fn a_reader_that_never_ends_shows_its_first_fault(rt: HostRuntime) -> Result<(), Fail> {
     let mut zeros = FromRead::new(Endless { bytes: &[] });

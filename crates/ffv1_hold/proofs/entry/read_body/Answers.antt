@@ -1,7 +1,7 @@
 use Rattle.std.proofs.Common.{◌++◌, arith, refl, sym, subst, inl}
 use Rattle.std.proofs.lemmas.Result.{err_from_is_err_and}
 use Rattle.ffv1_hold.specs.HoldingText.{be2, be4}
-use Rattle.ffv1_hold.specs.Reading.{Takes, IsShorter, Never, NeverShows}
+use Rattle.ffv1_hold.specs.Reading.{Takes, IsShorter, Never}
 use Rattle.ffv1_hold.specs.FileFaults.{IsPartOfBody, BodyIsTooLong}
 use Rattle.ffv1_hold.proofs.ReadRefusals.{Takes-trans, Refuses-after}
 use Rattle.ffv1_hold.proofs.Bodies.{part_of_length, part_of_bytes, body_text-of}
@@ -10,8 +10,8 @@ use Rattle.ffv1_hold.proofs.entry.read_body.Goals as goal
 pub returns-in_err-length-clause-err : goal.returns-in_err-length-clause-err
 returns-in_err-length-clause-err g c =
     let p = err_from_is_err_and c.from_residual-in_err-length.result c.from_residual-in_err-length.ensures.1 in
-    rw (p.1, p.2) (Refuses-after (IsShorter 4) IsPartOfBody Never Never NeverShows BodyIsTooLong _ _ _ _ _ (be2 c.in_ok-tile.tile) _
-    c.in_ok-tile.ensures.ok c.in_err-length.ensures.err (part_of_length c.in_ok-tile.tile) (λ s h. h) (λ f s h. absurd h))
+    rw (p.1, p.2) (Refuses-after (IsShorter 4) IsPartOfBody Never Never Never BodyIsTooLong _ _ _ _ _ (be2 c.in_ok-tile.tile) _
+    c.in_ok-tile.ensures.ok c.in_err-length.ensures.err (part_of_length c.in_ok-tile.tile) (λ f s h. h) (λ f s h. absurd h))
 
 pub returns-then-length-gt-SLICE_LIMIT-clause-err :
     goal.returns-then-length-gt-SLICE_LIMIT-clause-err
@@ -19,7 +19,7 @@ returns-then-length-gt-SLICE_LIMIT-clause-err g c =
     let both = Takes-trans _ _ _ _ _ _ _ _ c.in_ok-tile.ensures.ok c.in_ok-length.ensures.ok in
     inl (record {
       seen = be2 c.in_ok-tile.tile ++ be4 c.in_ok-length.length;
-      shown = (c.in_ok-tile.tile, c.in_ok-length.length, refl, omega arith, omega arith);
+      is = (c.in_ok-tile.tile, c.in_ok-length.length, refl, omega arith, omega arith);
       taken = both.taken;
       within = omega (arith, both.moved, both.within);
     })
@@ -29,8 +29,8 @@ returns-in_err-bytes-clause-err g c =
     let p = err_from_is_err_and c.from_residual-in_err-bytes.result c.from_residual-in_err-bytes.ensures.1 in
     let n = c.in_ok-length.length in
     let both = Takes-trans _ _ _ _ _ _ _ _ c.in_ok-tile.ensures.ok c.in_ok-length.ensures.ok in
-    rw (p.1, p.2) (Refuses-after (IsShorter n) IsPartOfBody Never Never NeverShows BodyIsTooLong _ _ _ _ _ (be2 c.in_ok-tile.tile ++ be4 n) _
-    both c.in_err-bytes.ensures.err (λ s h. part_of_bytes c.in_ok-tile.tile n s (omega arith) h) (λ s h. h) (λ f s h. absurd h))
+    rw (p.1, p.2) (Refuses-after (IsShorter n) IsPartOfBody Never Never Never BodyIsTooLong _ _ _ _ _ (be2 c.in_ok-tile.tile ++ be4 n) _
+    both c.in_err-bytes.ensures.err (λ s h. part_of_bytes c.in_ok-tile.tile n s (omega arith) h) (λ f s h. h) (λ f s h. absurd h))
 
 pub returns-clause-ok : goal.returns-clause-ok
 returns-clause-ok g c =

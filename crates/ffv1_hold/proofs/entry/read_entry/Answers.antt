@@ -13,7 +13,7 @@ returns-in_err-slice-in-1-clause-err g c =
     let setup = c.args.setup.now in
     let last = c.args.last.now in
     rw (p.1, p.2) (Refuses-after IsPartOfBody IsPartOfEntry Never Never BodyIsTooLong (EntryShows setup last) _ _ _ _ _ (1 ∷ []) _
-    tag c.in_err-slice-in-1.ensures.err part_of_body (λ s h. h) (body_shows setup last))
+    tag c.in_err-slice-in-1.ensures.err part_of_body (λ f s h. h) (body_shows setup last))
 
 pub returns-in_err-judge-in-1-clause-err : goal.returns-in_err-judge-in-1-clause-err
 returns-in_err-judge-in-1-clause-err g c =

@@ -2,6 +2,7 @@ use Rattle.std.proofs.Common.{[], sym, subst, ◌∙◌, append-nil}
 use Rattle.ffv1_hold.specs.FileFaults.{IsPartOfFile}
 use Rattle.ffv1_hold.proofs.FaultLaws.{text_none, text_whole}
 use Rattle.ffv1_hold.proofs.Answered.{refused_outside}
+use Rattle.ffv1_hold.proofs.Unfinished.{part_shows_none}
 use Rattle.ffv1_hold.proofs.laws.text_shows_no_fault.Goals as goal
 
 pub returns-clause-text : goal.returns-clause-text
@@ -12,3 +13,6 @@ returns-clause-beginnings c text (h, is, fits, same) = (
   λ seen rest fault split shown. text_none h is fits [] seen rest fault (append-nil _ ∙ sym same ∙ split) shown,
   λ part. text_whole h is fits [] (subst IsPartOfFile (same ∙ sym (append-nil _)) part),
 )
+
+pub returns-clause-unfinished : goal.returns-clause-unfinished
+returns-clause-unfinished c part seen rest fault is split shown = part_shows_none fault part seen rest split is shown
