@@ -1,10 +1,10 @@
 -- One bit of some bytes inverted.
-use Rattle.std.proofs.Common.{◌≡◌, ◌≢◌, ℕ, zero, suc, ◌+◌, ◌-◌, ◌*◌, ◌/◌, ◌%◌, ◌^◌, ◌<◌, ◌≤◌, Bool, false, not, eqb, List, [], ◌∷◌, ◌++◌, length, get_or, set, refl, sym, ap, ◌∙◌, arith}
+use Rattle.std.proofs.Common.{◌≡◌, ◌≢◌, ℕ, zero, suc, ◌+◌, ◌-◌, ◌*◌, ◌%◌, ◌^◌, ◌<◌, ◌≤◌, Bool, false, not, eqb, List, [], ◌∷◌, ◌++◌, length, get_or, set, refl, sym, ap, ◌∙◌, arith}
 use Rattle.std.specs.Prelude.{bit_xor}
 use Rattle.std.specs.Int.{bit_at}
 use Rattle.std.proofs.Math.Nat.{mod-eq_of_lt}
 use Rattle.std.proofs.Math.Pow.{pow-lt}
-use Rattle.std.proofs.lemmas.List.{set-append_left, set-append_right, get_or_append_left, get_or-append-add, get_or_default}
+use Rattle.std.proofs.lemmas.List.{set-append_left, set-append_right, get_or_append_left, get_or-append-add}
 use Rattle.std.proofs.lemmas.Nat.Bits.{bit_at_xor, bit_at-lt, bit_at-pow_same, bit_at-pow_other}
 use Rattle.ffv1_bits.specs.Bits.{has_bit, number_bits, bits_of}
 use Rattle.ffv1_bits.proofs.Numbers.{length-number_bits}
@@ -73,17 +73,8 @@ mask_is k small =
     let one : 1 * 2 ^ k ≡ 2 ^ k = omega arith in
     ap (λ n. n % 256) one ∙ mod-eq_of_lt below
 
--- the bit of this place, in a copy
-pub bit_flipped : (given copy : List ℕ) (bit byte : ℕ) → copy ≡ given → bit < 8 * length given → byte ≡ get_or copy (bit / 8) byte
-    → bits_of (set copy (bit / 8) (bit_xor byte (1 * 2 ^ (7 - bit % 8) % 256))) ≡ set (bits_of given) bit (not (get_or (bits_of given) bit false))
-bit_flipped given copy bit byte same within is =
-    let at : 8 * (bit / 8) + bit % 8 ≡ bit = omega arith in
-    let here : bit / 8 < length given = omega arith in
-    let read : byte ≡ get_or given (bit / 8) byte = is ∙ ap (λ bytes. get_or bytes (bit / 8) byte) same in
-    let plain : byte ≡ get_or given (bit / 8) 0 = read ∙ get_or_default given (bit / 8) byte 0 here in
-    let mask : 1 * 2 ^ (7 - bit % 8) % 256 ≡ 2 ^ (7 - bit % 8) = mask_is (7 - bit % 8) (omega arith) in
-    ap (λ bytes. bits_of (set bytes (bit / 8) (bit_xor byte (1 * 2 ^ (7 - bit % 8) % 256)))) same
-    ∙ ap (λ m. bits_of (set given (bit / 8) (bit_xor byte m))) mask
-    ∙ ap (λ b. bits_of (set given (bit / 8) (bit_xor b (2 ^ (7 - bit % 8))))) plain
-    ∙ byte_flipped given (bit / 8) (bit % 8) here (omega arith)
-    ∙ ap (λ n. set (bits_of given) n (not (get_or (bits_of given) n false))) at
+-- a bit of a byte, as the code turns it
+pub bit_flipped : (bytes : List ℕ) (i j : ℕ) → i < length bytes → j < 8
+    → bits_of (set bytes i (bit_xor (get_or bytes i 0) (1 * 2 ^ (7 - j) % 256))) ≡ set (bits_of bytes) (8 * i + j) (not (get_or (bits_of bytes) (8 * i + j) false))
+bit_flipped bytes i j within small =
+    ap (λ m. bits_of (set bytes i (bit_xor (get_or bytes i 0) m))) (mask_is (7 - j) (omega arith)) ∙ byte_flipped bytes i j within small

@@ -1,4 +1,5 @@
 pub mod Asked
+pub mod Damage
 pub mod Spelled
 pub mod Words
 pub mod Frames

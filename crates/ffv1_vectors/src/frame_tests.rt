@@ -1,5 +1,6 @@
 //! Frames and damage made to measure.
 use crate::*;
+use ffv1_bits::passes;
 use ffv1_range::Setup;
 use ffv1_slice::{Chain, ChainEnd, find_slices};
 use std::alloc::Global;
@@ -181,6 +182,14 @@ fn damage_is_as_stated(rt: HostRuntime) -> Result<(), Fail> {
     let alloc = rt.alloc();
     let bytes = [1, 2, 3];
     assert_eq!(rt; flip(alloc, &bytes, 8)?.as_slice(), [1, 0x82, 3].as_slice());
+    assert_eq!(rt;
+        burst(alloc, &[1, 2, 3, 4, 5], 4, 0xF000_0001)?.as_slice(),
+        [0x0E, 2, 3, 4, 0x15].as_slice()
+    );
+    assert_eq!(rt;
+        burst(alloc, &SLICES[0], 0, 0xFFFF_FFFF)?.as_slice(),
+        [0x02, 0x09, 0x7F, 0xFF, 0, 3, 0, 0x1C, 0x3E, 0xA0, 0x9B].as_slice()
+    );
     assert_eq!(rt; zero(alloc, &bytes, 1, 3)?.as_slice(), [1, 0, 0].as_slice());
     assert_eq!(rt; cut(alloc, &bytes, 2)?.as_slice(), [1, 2].as_slice());
     assert_eq!(rt;
@@ -188,6 +197,33 @@ fn damage_is_as_stated(rt: HostRuntime) -> Result<(), Fail> {
         [9, 1, 2, 3].as_slice()
     );
     Ok(())
+}
+
+/// Three slices: that of tile 0 with sample 0, that with sample 1, and that of tile 1 in a grid two wide.
+const SLICES: [[u8; 11]; 3] = [
+    [0xFD, 0xF6, 0x80, 0, 0, 3, 0, 0x1C, 0x3E, 0xA0, 0x9B],
+    [0xFD, 0xF6, 0x40, 0, 0, 3, 0, 0x17, 0x60, 0xA5, 0x79],
+    [0x3F, 0x2B, 0x80, 0, 0, 3, 0, 0x56, 0x0F, 0xD7, 0x3B],
+];
+
+#[test]
+fn bursts_never_pass(rt: HostRuntime) -> Result<(), Fail> {
+    let alloc = rt.alloc();
+    for slice in SLICES {
+        for mask in [0xFFFF_FFFF, 0x8000_0001] {
+            for bit in 0..=56usize {
+                let damaged = burst(alloc, &slice, bit, mask)?;
+                assert!(rt; !passes(&damaged), "at {bit}");
+            }
+        }
+    }
+    Ok(())
+}
+
+#[test]
+fn wider_damage_can_pass(rt: HostRuntime) {
+    // The first slice with the error status 1 and its parity: what differs lies within 33 bits.
+    assert!(rt; passes(&[0xFD, 0xF6, 0x80, 0, 0, 3, 1, 0x18, 0xFF, 0xBD, 0x2C]));
 }
 
 /// Makes the frames of all cases with these tables, and answers how many there are.

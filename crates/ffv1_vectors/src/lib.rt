@@ -15,7 +15,7 @@ mod slice;
 mod suite;
 mod writer;
 
-pub use damage::{cut, flip, put_front, zero};
+pub use damage::{burst, cut, flip, put_front, zero};
 pub use encoder::RangeEncoder;
 pub use fault::MakeFault;
 pub use frame::{FrameSpec, TileSpec, make_frame};
