@@ -5,8 +5,8 @@ use crate::take::run_take;
 use ffv1_range::Setup;
 use ffv1_slice::{Chain, ChainEnd, Link};
 use ffv1_vectors::{
-    FrameSpec, SUITE_NUMBERS, SuiteCase, SuiteContent, SuiteTables, flip, make_frame, make_record,
-    suite_case, suite_frame, suite_record,
+    FrameSpec, SUITE_NUMBERS, SuiteCase, SuiteContent, SuiteTables, burst, flip, make_frame,
+    make_record, suite_case, suite_frame, suite_record,
 };
 use std::alloc::Global;
 use std::test::Fail;
@@ -239,6 +239,36 @@ fn damage_in_each_tile_is_restored_from_two_copies(rt: HostRuntime) -> Result<()
     assert!(rt; other.as_slice() == payload);
     let (_file, printed) = taken(rt.alloc(), &frame, [&first, &second])?;
     let lines = "copy 1 links 4 slices 2 new 2\ncopy 2 links 4 slices 2 new 2\n";
+    assert!(rt; printed.as_slice() == lines.as_bytes());
+    Ok(())
+}
+
+/// The payload with 32 bits flipped, from the fourth bit of a byte on.
+fn burst_at(alloc: Global, payload: &[u8], byte: usize) -> Result<Vec<u8>, Fail> {
+    if payload.len() < 5 || payload.len() > 1 << 30 || byte > payload.len() - 5 {
+        return Err("bytes of the payload".into());
+    }
+    Ok(burst(alloc, payload, byte * 8 + 3, 0xFFFF_FFFF)?)
+}
+
+#[test]
+fn bursts_in_each_tile_are_restored_from_two_copies(rt: HostRuntime) -> Result<(), Fail> {
+    let frame = four_tiles(rt.alloc())?;
+    let payload = frame.payload.as_slice();
+    let mut first = payload.to_vec(rt.alloc())?;
+    for tile in 1..4 {
+        let (start, _end) = place_of(rt.alloc(), payload, tile)?;
+        first = burst_at(rt.alloc(), &first, start.wrapping_add(4))?;
+    }
+    // The error status and the parity of tile 0.
+    let (_start, end) = place_of(rt.alloc(), payload, 0)?;
+    let second = burst_at(rt.alloc(), payload, end.wrapping_sub(5))?;
+    let one = restored(rt.alloc(), &frame, [&first, &second])?;
+    assert!(rt; one.as_slice() == payload);
+    let other = restored(rt.alloc(), &frame, [&second, &first])?;
+    assert!(rt; other.as_slice() == payload);
+    let (_file, printed) = taken(rt.alloc(), &frame, [&first, &second])?;
+    let lines = "copy 1 links 4 slices 1 new 1\ncopy 2 links 4 slices 3 new 3\n";
     assert!(rt; printed.as_slice() == lines.as_bytes());
     Ok(())
 }

@@ -348,6 +348,22 @@ fn a_report_names_each_tile(rt: HostRuntime) -> Result<(), Fail> {
 }
 
 #[test]
+fn the_slice_of_the_least_status_settles_a_tile(rt: HostRuntime) -> Result<(), Fail> {
+    let copy = right_damaged();
+    let mut marked = copy;
+    // The error status 1, and the parity with it.
+    marked[6..11].copy_from_slice(&[1, 0x18, 0xFF, 0xBD, 0x2C]);
+    let (both, _) = taken(rt.alloc(), [&marked, &copy])?;
+    let text = reported(rt.alloc(), both.as_slice())?;
+    let expected = "reel 2x1 tiles 2\n\
+        tile 0 settled status 0 bytes 11 held 2 sha256 \
+        2d7579baf47b64e0c763d978a7604faa134c6b5bad2d5de919e8d5e71d947f53\n\
+        tile 1 missing\nsettled 1 disputed 0 missing 1\nframe incomplete\n";
+    assert!(rt; text.as_slice() == expected.as_bytes());
+    Ok(())
+}
+
+#[test]
 fn a_frame_is_decoded_or_its_first_fault_told(rt: HostRuntime) -> Result<(), Fail> {
     let (samples, printed) = decoded(rt.alloc(), &FRAME).ok().ok_or("a frame")?;
     assert!(rt; samples.as_slice() == [0, 0].as_slice());
