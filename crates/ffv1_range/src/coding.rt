@@ -2,7 +2,7 @@
 //!
 //! An `Interval` keeps its range in 256..=65280 and its offset below the range. A state that is handed in within
 //! 8..=248 comes back within 8..=248. A decoder that met a fault keeps it.
-ghost use Rattle.std.specs.Prelude.{◌≡◌, ℕ, ◌+◌, ◌≤◌, ◌<◌, length, IfOk, false, true};
+ghost use Rattle.std.specs.Prelude.{◌≡◌, ℕ, ◌+◌, ◌≤◌, ◌<◌, length, IfOk, OnErr, false, true};
 ghost use Rattle.ffv1_range.specs.Coding.{start_of, started, IsState, state_after, one_state, bit_at, refilled, slot_at};
 ghost use Rattle.ffv1_range.specs.Forms.{Reads, same_fault, slot_form};
 ghost use Rattle.ffv1_range.specs.Decoder.{reader_at, ReadsBit, KeepsFault, AreStates, IsCoder, Starts, EndsAt};
@@ -172,12 +172,13 @@ impl<'a> RangeDecoder<'a> {
     /// Reads one bit at a state in 8..=248 (RFC 9043, section 3.8.1.1). The state becomes the one that follows the bit.
     ///
     /// Refused with `Short` where a byte past the content is wanted in sentinel mode. A fault is answered by each later
-    /// call too, and leaves the state in 8..=248.
+    /// call too, and leaves the state as it was.
     pub fn bit(&mut self, state: &mut u8) -> Result<bool, RangeFault>
         requires { IsState state.old }
         ensures read { ReadsBit self.old state.old result self.new state.new }
         ensures kept { KeepsFault self.old result self.new }
         ensures in_range { IsState state.new }
+        ensures unchanged { OnErr result (state.new ≡ state.old) }
     {
         if let Some(fault) = self.fault {
             return Err(fault);

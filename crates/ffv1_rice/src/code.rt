@@ -34,7 +34,7 @@ const ESCAPE_OFFSET: u32 = 11;
 /// The largest number of a code.
 const LARGEST_NUMBER: u32 = 255;
 
-/// The zeros of a prefix, at most 12. After None the bits stand at their end.
+/// The zeros of a prefix, at most 12. After `None` the bits stand at any place.
 #[tactic(auto, unfolding(crate::specs::Codes::prefix_bits))]
 fn read_prefix(bits: &mut Bits) -> Option<u32>
     ensures few { IfSome result (λ zeros. zeros ≤ 12) }
