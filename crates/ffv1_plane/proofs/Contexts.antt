@@ -3,8 +3,7 @@ use Rattle.std.proofs.Common.{ℕ, zero, suc, ◌+◌, ◌<◌, ◌≤◌, lengt
 use Rattle.std.proofs.lemmas.Int.{ints}
 use Rattle.ffv1_range.specs.Tables.{SetValue, HasContexts, HaveContexts}
 use Rattle.ffv1_range.specs.Setup.{SetupValue, IsInProfile, no_set, set_entry, set_contexts}
-use Rattle.ffv1_plane.specs.Samples.{context_of, modular_difference}
-use Rattle.ffv1_plane.specs.declared.neighbours.Neighbours.{Neighbours}
+use Rattle.ffv1_plane.specs.Samples.{SamplesAbout, context_of, modular_difference}
 
 has_contexts : (setup : SetupValue) (set : ℕ) → IsInProfile setup → set < length setup.sets → HasContexts (slice_index_or setup.sets set no_set)
 unfolding HaveContexts
@@ -52,7 +51,7 @@ sum_of_five : (a b c d e : ℤ) (i j k l m : ℕ) → nat_abs a ≤ i → nat_ab
 sum_of_five a b c d e i j k l m p q r s t =
     sum_of_two (a +ℤ b +ℤ c +ℤ d) e (i + j + k + l) m (sum_of_two (a +ℤ b +ℤ c) d (i + j + k) l (sum_of_two (a +ℤ b) c (i + j) k (sum_of_two a b i j p q) r) s) t
 
-pub context_fits : (setup : SetupValue) (set : ℕ) (n : Neighbours) → IsInProfile setup → set < length setup.sets → nat_abs (context_of (set_entry setup set) n) < set_contexts setup set
+pub context_fits : (setup : SetupValue) (set : ℕ) (n : SamplesAbout) → IsInProfile setup → set < length setup.sets → nat_abs (context_of (set_entry setup set) n) < set_contexts setup set
 unfolding context_of
 context_fits setup set n h less =
     let c = has_contexts setup set h less in

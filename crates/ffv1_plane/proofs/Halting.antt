@@ -7,8 +7,7 @@ use Rattle.ffv1_rice.specs.Codes.{IsCodeFault}
 use Rattle.ffv1_rice.specs.Runs.{SpellsRun}
 use Rattle.ffv1_rice.specs.declared.code.CodeFault.{CodeFault}
 use Rattle.ffv1_rice.specs.declared.code.CodeFault.TheVariants.{Truncated}
-use Rattle.ffv1_plane.specs.declared.neighbours.Neighbours.{Neighbours}
-use Rattle.ffv1_plane.specs.Samples.{plane_of, sample_inside, sample_at, neighbours_at, prediction_of, context_of, difference_of}
+use Rattle.ffv1_plane.specs.Samples.{SamplesAbout, plane_of, sample_inside, sample_at, neighbours_at, prediction_of, context_of, difference_of}
 use Rattle.ffv1_plane.specs.Spelling.{residuals_of, context_number, is_zero, is_in_run, is_skipped, is_coded, follows_skipped, starts_run, left_in_line, skipped_among, run_length, state_before, SamplesSpell}
 use Rattle.ffv1_plane.specs.Progress.{Progress, IsReadTo, IsRunRead, AreSkipped}
 use Rattle.ffv1_plane.specs.Stuck.{IsCodeDue}
@@ -75,7 +74,7 @@ skipping w entry old some small (suc n) =
 
 -- ---- a scalar
 
-module _ (width : ℕ) (entry : ℕ → ℕ → ℤ) (some : 1 ≤ width) (old : List ℕ) (index : ℕ) (states : List ContextState) (left : List Bool) (near : Neighbours) (context : ℤ)
+module _ (width : ℕ) (entry : ℕ → ℕ → ℤ) (some : 1 ≤ width) (old : List ℕ) (index : ℕ) (states : List ContextState) (left : List Bool) (near : SamplesAbout) (context : ℤ)
     (near_is : near ≡ neighbours_at width old (length old)) (context_is : context ≡ context_of entry near) where
   scalar_here : context ≢ pos 0 → (fault : CodeFault) (sample : ℕ) → IsCodeHalted width entry false old states left fault sample
       → (earlier : ℕ → List ℤ) (bits : List Bool) → IsReadTo earlier width entry bits old index states left → (more : List ℕ) → IsHalted earlier (residuals_of (plane_of width entry (old ++ more))) bits fault sample

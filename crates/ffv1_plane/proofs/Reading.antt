@@ -6,8 +6,7 @@ use Rattle.std.proofs.lemmas.Int.{ints}
 use Rattle.ffv1_rice.specs.States.{ContextState, start_state, after_value, fold}
 use Rattle.ffv1_rice.specs.Codes.{IsCodeFault, decoded_value, IsCoded, IsCodedDifference, SpellsValue}
 use Rattle.ffv1_bits.specs.Reader.{Reading}
-use Rattle.ffv1_plane.specs.declared.neighbours.Neighbours.{Neighbours}
-use Rattle.ffv1_plane.specs.Samples.{plane_of, neighbours_at, prediction_of, context_of, difference_of}
+use Rattle.ffv1_plane.specs.Samples.{SamplesAbout, plane_of, neighbours_at, prediction_of, context_of, difference_of}
 use Rattle.ffv1_plane.specs.Spelling.{Residuals, residuals_of, context_number, is_zero, is_in_run, is_skipped, is_coded, value_at, state_after, state_before, values_after, samples_before, follows_skipped, SamplesSpell, PlaneSpells}
 use Rattle.ffv1_plane.specs.Progress.{AreStatesAfter, IsSampleRead, IsReadTo, IsRunRead, AreSkipped, Progress}
 use Rattle.ffv1_plane.specs.Halts.{IsCodeHalted, next_context}
@@ -26,7 +25,7 @@ this_one old more x =
     let longer : length old < length (old ++ x ∷ []) = omega (arith, length_push old x) in
     get_or_append_left (old ++ x ∷ []) more 0 (length old) longer ∙ get_or_push old x 0 (length old) refl
 
-pub sample_read : (width : ℕ) (entry : ℕ → ℕ → ℤ) (level : Bool) (old new : List ℕ) (states after : List ContextState) (bits rest : Reading) (near : Neighbours) (context difference : ℤ) (x : ℕ) → 1 ≤ width
+pub sample_read : (width : ℕ) (entry : ℕ → ℕ → ℤ) (level : Bool) (old new : List ℕ) (states after : List ContextState) (bits rest : Reading) (near : SamplesAbout) (context difference : ℤ) (x : ℕ) → 1 ≤ width
     → near ≡ neighbours_at width old (length old) → context ≡ context_of entry near → difference_of context (prediction_of near) x ≡ difference
     → new ≡ old ++ x ∷ [] → IsCodedDifference level difference → nat_abs context < length states → IsCoded (get_or states (nat_abs context) start_state) level difference bits rest
     → after ≡ set states (nat_abs context) (after_value (get_or states (nat_abs context) start_state) (decoded_value level difference)) → IsSampleRead width entry level old states bits.left new after rest.left
@@ -244,7 +243,7 @@ same_zero context p = either (int_lt context (pos 0))
 pub none_skipped : (width : ℕ) (entry : ℕ → ℕ → ℤ) (old : List ℕ) → AreSkipped width entry old old 0
 none_skipped width entry old = record { samples = []; pushed = sym (append-nil old); count = refl; zero_differences = λ more j h. absurd (omega arith) }
 
-pub skip_more : (width : ℕ) (entry : ℕ → ℕ → ℤ) (old mid new : List ℕ) (n x : ℕ) (near : Neighbours) → 1 ≤ width → AreSkipped width entry old mid n
+pub skip_more : (width : ℕ) (entry : ℕ → ℕ → ℤ) (old mid new : List ℕ) (n x : ℕ) (near : SamplesAbout) → 1 ≤ width → AreSkipped width entry old mid n
     → near ≡ neighbours_at width mid (length mid) → x ≡ prediction_of near → new ≡ mid ++ x ∷ [] → AreSkipped width entry old new (n + 1)
 unfolding residuals_of
 skip_more width entry old mid new n x near some skips near_is x_is pushed =
@@ -272,7 +271,7 @@ skip_more width entry old mid new n x near some skips near_is x_is pushed =
     }
 
 -- the same, as the code has it: the number i of the context, the state z that stood there, numbers that were passed
-pub sample_read_at : (width : ℕ) (entry : ℕ → ℕ → ℤ) (level : Bool) (old new : List ℕ) (states : List ContextState) (bits rest : Reading) (near : Neighbours) (context passed difference told : ℤ) (x i p : ℕ) (z stepped : ContextState) → 1 ≤ width
+pub sample_read_at : (width : ℕ) (entry : ℕ → ℕ → ℤ) (level : Bool) (old new : List ℕ) (states : List ContextState) (bits rest : Reading) (near : SamplesAbout) (context passed difference told : ℤ) (x i p : ℕ) (z stepped : ContextState) → 1 ≤ width
     → near ≡ neighbours_at width old (length old) → context ≡ context_of entry near → p ≡ prediction_of near → passed ≡ context → told ≡ difference
     → difference_of passed p x ≡ told → new ≡ old ++ x ∷ [] → IsCodedDifference level difference → i ≡ nat_abs context → i < length states → z ≡ get_or states i z → IsCoded z level difference bits rest
     → stepped ≡ after_value z (decoded_value level difference) → IsSampleRead width entry level old states bits.left new (set states i stepped) rest.left
@@ -291,17 +290,17 @@ some_abs (negsuc n) h = omega arith
 
 -- ---- the same two steps, by what the code looked at
 
-pub context_here : (width : ℕ) (entry : ℕ → ℕ → ℤ) (old more : List ℕ) (near : Neighbours) → 1 ≤ width → near ≡ neighbours_at width old (length old)
+pub context_here : (width : ℕ) (entry : ℕ → ℕ → ℤ) (old more : List ℕ) (near : SamplesAbout) → 1 ≤ width → near ≡ neighbours_at width old (length old)
     → (residuals_of (plane_of width entry (old ++ more))).context (length old) ≡ context_of entry near
 unfolding residuals_of
 context_here width entry old more near some near_is =
     ap (context_of entry) (neighbours_same width (length old) some (old ++ more) old (λ j h. get_or_append_left old more 0 j h) ∙ sym near_is)
 
-pub zero_here : (width : ℕ) (entry : ℕ → ℕ → ℤ) (old : List ℕ) (near : Neighbours) (context : ℤ) → 1 ≤ width → near ≡ neighbours_at width old (length old) → context ≡ context_of entry near → context ≡ pos 0
+pub zero_here : (width : ℕ) (entry : ℕ → ℕ → ℤ) (old : List ℕ) (near : SamplesAbout) (context : ℤ) → 1 ≤ width → near ≡ neighbours_at width old (length old) → context ≡ context_of entry near → context ≡ pos 0
     → (more : List ℕ) → is_zero ((residuals_of (plane_of width entry (old ++ more))).context (length old)) ≡ true
 zero_here width entry old near context some near_is context_is zero_is more = ap is_zero (context_here width entry old more near some near_is ∙ sym context_is ∙ zero_is)
 
-pub scalar_read_at : (earlier : ℕ → List ℤ) (width : ℕ) (entry : ℕ → ℕ → ℤ) (old new : List ℕ) (index : ℕ) (states after : List ContextState) (left rest : List Bool) (near : Neighbours) (context : ℤ) → 1 ≤ width → near ≡ neighbours_at width old (length old)
+pub scalar_read_at : (earlier : ℕ → List ℤ) (width : ℕ) (entry : ℕ → ℕ → ℤ) (old new : List ℕ) (index : ℕ) (states after : List ContextState) (left rest : List Bool) (near : SamplesAbout) (context : ℤ) → 1 ≤ width → near ≡ neighbours_at width old (length old)
     → context ≡ context_of entry near → context ≢ pos 0 → IsSampleRead width entry false old states left new after rest
     → (bits : List Bool) → IsReadTo earlier width entry bits old index states left → IsReadTo earlier width entry bits new index after rest
 scalar_read_at earlier width entry old new index states after left rest near context some near_is context_is not_zero read bits so_far =
@@ -312,7 +311,7 @@ scalar_read_at earlier width entry old new index states after left rest near con
     scalar_read earlier width entry bits left rest old new index states after so_far read (omega (arith, told, large))
 
 -- where the code can't be read under the state that stood there
-pub code_halted_at : (width : ℕ) (entry : ℕ → ℕ → ℤ) (level : Bool) (samples : List ℕ) (states : List ContextState) (bits : List Bool) (near : Neighbours) (context : ℤ) (i sample : ℕ) (z : ContextState) (fault : CodeFault)
+pub code_halted_at : (width : ℕ) (entry : ℕ → ℕ → ℤ) (level : Bool) (samples : List ℕ) (states : List ContextState) (bits : List Bool) (near : SamplesAbout) (context : ℤ) (i sample : ℕ) (z : ContextState) (fault : CodeFault)
     → near ≡ neighbours_at width samples (length samples) → context ≡ context_of entry near → i ≡ nat_abs context → i < length states → z ≡ get_or states i z
     → IsCodeFault z level bits fault → sample ≡ length samples → IsCodeHalted width entry level samples states bits fault sample
 code_halted_at width entry level samples states bits near context i sample z fault near_is context_is i_is below z_is told place =

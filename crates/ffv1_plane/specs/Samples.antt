@@ -1,7 +1,6 @@
 -- The samples of a plane, what is predicted of them, and what is left to code (RFC 9043, sections 3.1 to 3.5 and 3.8).
 use Rattle.std.specs.Prelude.{ℕ, ◌+◌, ◌-◌, ◌*◌, ◌/◌, ◌%◌, ◌==◌, ◌≡◌, ◌<◌, nat_lt, min, max, List, length, get_or, ℤ, pos, ◌+ℤ◌, ◌-ℤ◌, int_lt, if◌then◌else◌}
 use Rattle.ffv1_rice.specs.States.{fold}
-use Rattle.ffv1_plane.specs.declared.neighbours.Neighbours.{Neighbours}
 
 -- ---- samples and borders
 
@@ -18,8 +17,17 @@ sample_at width samples column row =
     else if column == 1 then sample_inside width samples 2 (row - 1)
     else sample_inside width samples (min column (width + 1)) row
 
--- the samples about sample s, which are counted in scan order (section 3.2)
-unfoldable pub neighbours_at : ℕ → List ℕ → ℕ → Neighbours
+-- the samples about a place (section 3.2)
+pub record SamplesAbout : Type 0 where
+  pub left : ℕ
+  pub top : ℕ
+  pub top_left : ℕ
+  pub top_right : ℕ
+  pub left_of_left : ℕ
+  pub top_of_top : ℕ
+
+-- those about sample s, which are counted in scan order
+unfoldable pub neighbours_at : ℕ → List ℕ → ℕ → SamplesAbout
 neighbours_at width samples s =
     let x = s % width in
     let y = s / width in
@@ -38,7 +46,7 @@ abbrev pub median : ℕ → ℕ → ℕ → ℕ
 median a b c = max (min a b) (min (max a b) c)
 
 -- the prediction (section 3.3); a sum below 0 counts as 0 here, which changes no median of samples
-unfoldable pub prediction_of : Neighbours → ℕ
+unfoldable pub prediction_of : SamplesAbout → ℕ
 prediction_of n = median n.left n.top (n.left + n.top - n.top_left)
 
 -- the difference of two samples, modulo 256
@@ -46,7 +54,7 @@ abbrev pub modular_difference : ℕ → ℕ → ℕ
 modular_difference a b = (a + 256 - b) % 256
 
 -- the context, where entry t i is entry i of quantization table t (sections 3.4 and 3.5)
-unfoldable pub context_of : (ℕ → ℕ → ℤ) → Neighbours → ℤ
+unfoldable pub context_of : (ℕ → ℕ → ℤ) → SamplesAbout → ℤ
 context_of entry n =
     entry 0 (modular_difference n.left n.top_left)
     +ℤ entry 1 (modular_difference n.top_left n.top)

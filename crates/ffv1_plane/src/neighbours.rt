@@ -7,16 +7,27 @@ ghost use Rattle.ffv1_plane.specs.Sums.{IsSumModulo};
 ghost use Rattle.ffv1_plane.specs.Progress.{IsBefore};
 
 use ffv1_range::Setup;
+use std::marker::Model;
 
 /// The samples about a place (RFC 9043, section 3.2).
 #[derive(Clone, Copy)]
 pub(crate) struct Neighbours {
-    pub(crate) left: u8,
-    pub(crate) top: u8,
-    pub(crate) top_left: u8,
-    pub(crate) top_right: u8,
-    pub(crate) left_of_left: u8,
-    pub(crate) top_of_top: u8,
+    left: u8,
+    top: u8,
+    top_left: u8,
+    top_right: u8,
+    left_of_left: u8,
+    top_of_top: u8,
+}
+
+impl Model for Neighbours {
+    ghost use Rattle.ffv1_plane.specs.Samples.{SamplesAbout};
+
+    ghost Value = { SamplesAbout };
+
+    ghost view = { λ n. record { left = n.left; top = n.top; top_left = n.top_left; top_right = n.top_right; left_of_left = n.left_of_left; top_of_top = n.top_of_top } };
+
+    ghost inverse = { λ n. record { left = n.left; top = n.top; top_left = n.top_left; top_right = n.top_right; left_of_left = n.left_of_left; top_of_top = n.top_of_top } };
 }
 
 impl Neighbours {
