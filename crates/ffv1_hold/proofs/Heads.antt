@@ -1,5 +1,5 @@
 -- The parts of the size and the record.
-use Rattle.std.proofs.Common.{◌≡◌, ℕ, suc, ◌<◌, ◌≤◌, List, [], ◌∷◌, ◌++◌, length, take, get_or, arith, inl, inr, refl, sym, ap, ◌∙◌, append-nil, length-append, length-take-le}
+use Rattle.std.proofs.Common.{◌≡◌, ℕ, suc, ◌<◌, ◌≤◌, List, [], ◌∷◌, ◌++◌, length, take, get_or, Option, Result, Ok, Err, IfOk, IfErr, arith, inl, inr, refl, sym, ap, ◌∙◌, subst, append_assoc, append-nil, length-append, length-take-le}
 use Rattle.std.proofs.Math.Seq.{take-suc}
 use Rattle.std.specs.Prelude.{◌⊎◌}
 use Rattle.ffv1_range.specs.declared.fault.SetupFault.{SetupFault}
@@ -8,10 +8,14 @@ use Rattle.ffv1_range.specs.SetupFaults.{FirstSetupFault}
 use Rattle.ffv1_hold.specs.declared.file_fault.HoldFileFault.{HoldFileFault}
 use Rattle.ffv1_hold.specs.declared.file_fault.HoldFileFault.TheVariants as faults
 use Rattle.ffv1_hold.specs.Reels.{Reel}
-use Rattle.ffv1_hold.specs.HoldingText.{magic, be4, sized_record, head_text, entries_text}
+use Rattle.ffv1_hold.specs.HoldingText.{magic, be4, sized_record, head_text, entries_text, holding_text}
+use Rattle.ffv1_hold.specs.SliceOrder.{entry_cmp}
+use Rattle.ffv1_hold.specs.Sets as set
+use Rattle.ffv1_hold.specs.Reading.{Takes, Refuses}
 use Rattle.ffv1_hold.specs.FileEntries.{AreEntries}
-use Rattle.ffv1_hold.specs.FileFaults.{IsFileReel, IsPartOfMagic, IsPartOfReel, ReelIsWhole, FileIsWhole, ReelShows, IsPartOfEntries, EntriesShow, IsPartOfFile, MagicShows, FileShows}
+use Rattle.ffv1_hold.specs.FileFaults.{IsFileReel, IsPartOfReel, ReelIsWhole, FileIsWhole, ReelShows, EntriesAreWhole, IsPartOfEntries, EntriesShow, IsPartOfFile, MagicShows, FileShows}
 use Rattle.ffv1_hold.proofs.Bodies.{length-be4}
+use Rattle.ffv1_hold.proofs.ReadRefusals.{Takes-trans, Refuses-after}
 use Rattle.ffv1_hold.proofs.TextLaws.{same_back}
 
 pub part_of_height : (w : ℕ) (s : List ℕ) → length s < 4 → IsPartOfReel (be4 w ++ s)
@@ -27,7 +31,7 @@ pub sized_record-of : (config : List ℕ) (w h n : ℕ) → n ≡ length config 
 unfolding sized_record
 sized_record-of config w h n is = ap (λ k. be4 w ++ be4 h ++ be4 k ++ config) is
 
--- a byte of the magic, and another in its place
+-- a beginning of the magic, and a wrong byte behind it
 pub wrong_magic : (i : ℕ) (byte : List ℕ) → i < 8 → length byte ≡ 1 → (get_or byte 0 0 ≡ get_or magic i 0 → ⊥) → MagicShows faults.Magic (take i magic ++ byte)
 wrong_magic i byte lt one other =
     let front = length-take-le i magic (omega arith) in
@@ -38,19 +42,16 @@ wrong_magic i byte lt one other =
           other (ap (λ b. get_or b 0 0) back),
     )
 
-pub head_text-of : (r : Reel) → magic ++ sized_record r.config r.setup.width r.setup.height ≡ head_text r
+head_text-of : (r : Reel) → magic ++ sized_record r.config r.setup.width r.setup.height ≡ head_text r
 unfolding head_text
 head_text-of r = refl
 
 -- ---- the parts of a file
 
-pub file_from_magic_part : (s : List ℕ) → IsPartOfMagic s → IsPartOfFile s
-file_from_magic_part s h = inl h
-
-pub file_from_reel_part : (s : List ℕ) → IsPartOfReel s → IsPartOfFile (magic ++ s)
+file_from_reel_part : (s : List ℕ) → IsPartOfReel s → IsPartOfFile (magic ++ s)
 file_from_reel_part s h = inr (inl (s, refl, h))
 
-pub file_from_whole_reel : (f : HoldFileFault) (s : List ℕ) → ReelIsWhole f s → FileIsWhole f (magic ++ s)
+file_from_whole_reel : (f : HoldFileFault) (s : List ℕ) → ReelIsWhole f s → FileIsWhole f (magic ++ s)
 file_from_whole_reel faults.Memory s h = (s, refl, h)
 file_from_whole_reel faults.Magic s h = absurd h
 file_from_whole_reel (faults.Setup f) s h = absurd h
@@ -64,6 +65,24 @@ file_from_whole_reel faults.Write s h = absurd h
 file_from_whole_reel faults.TooLong s h = absurd h
 file_from_whole_reel faults.OtherReel s h = absurd h
 
+text_of : (r : Reel) (slices : set.SetOf entry_cmp) (s tag : List ℕ) → s ≡ entries_text (set.items slices) ++ tag → tag ≡ 0 ∷ [] → head_text r ++ s ≡ holding_text (record { reel = r; slices = slices })
+text_of r slices s tag same end = ap (λ t. head_text r ++ t) (same ∙ ap (λ t. entries_text (set.items slices) ++ t) end) ∙ sym (append_assoc (head_text r) (entries_text (set.items slices)) (0 ∷ []))
+
+-- a text, whose end is looked for
+pub file_from_whole_entries : (r : Reel) → IsFileReel r → (f : HoldFileFault) (s : List ℕ) → EntriesAreWhole r.setup f s → FileIsWhole f (head_text r ++ s)
+file_from_whole_entries r is faults.Read s (slices, tag, are, same, end) = (record { reel = r; slices = slices }, record { reel = is.reel; slices = are }, is.fits, text_of r slices s tag same end)
+file_from_whole_entries r is faults.Trailing s (slices, tag, are, same, end) = (record { reel = r; slices = slices }, record { reel = is.reel; slices = are }, is.fits, text_of r slices s tag same end)
+file_from_whole_entries r is faults.Magic s (slices, tag, are, same, end) = absurd end
+file_from_whole_entries r is (faults.Setup f) s (slices, tag, are, same, end) = absurd end
+file_from_whole_entries r is faults.Truncated s (slices, tag, are, same, end) = absurd end
+file_from_whole_entries r is faults.Tag s (slices, tag, are, same, end) = absurd end
+file_from_whole_entries r is faults.Order s (slices, tag, are, same, end) = absurd end
+file_from_whole_entries r is faults.NotASlice s (slices, tag, are, same, end) = absurd end
+file_from_whole_entries r is faults.Write s (slices, tag, are, same, end) = absurd end
+file_from_whole_entries r is faults.Memory s (slices, tag, are, same, end) = absurd end
+file_from_whole_entries r is faults.TooLong s (slices, tag, are, same, end) = absurd end
+file_from_whole_entries r is faults.OtherReel s (slices, tag, are, same, end) = absurd end
+
 pub file_from_entries_part : (r : Reel) → IsFileReel r → (s : List ℕ) → IsPartOfEntries r.setup s → IsPartOfFile (head_text r ++ s)
 file_from_entries_part r i s h = inr (inr (r, s, i, refl, h))
 
@@ -74,8 +93,18 @@ head_is_part r is =
     let none : AreEntries r.setup [] = record { each = tt; rising = λ i j d lt short. absurd (omega arith) } in
     inr (inr (r, [], is, sym (append-nil (head_text r)), ([], [], none, refl, inl refl)))
 
-pub file_from_reel_fault : (f : HoldFileFault) (s : List ℕ) → ReelShows f s → FileShows f (magic ++ s)
+file_from_reel_fault : (f : HoldFileFault) (s : List ℕ) → ReelShows f s → FileShows f (magic ++ s)
 file_from_reel_fault f s h = inr (inl (s, refl, h))
+
+-- a size and a record that were read, or refused, behind the magic
+module _ (a b c : Option (List ℕ)) (i j k : ℕ) (t : Takes a b i j magic) where
+  pub head_taken : (r : Result Reel HoldFileFault) → IfOk r (λ r. Takes b c j k (sized_record r.config r.setup.width r.setup.height)) → IfOk r (λ r. Takes a c i k (head_text r))
+  head_taken (Ok r) more = subst (Takes a c i k) (head_text-of r) (Takes-trans a b c i j k magic _ t more)
+  head_taken (Err f) more = tt
+
+  pub head_refused : (r : Result Reel HoldFileFault) → IfErr r (Refuses IsPartOfReel ReelIsWhole ReelShows b c j) → IfErr r (Refuses IsPartOfFile FileIsWhole FileShows a c i)
+  head_refused (Ok r) refused = tt
+  head_refused (Err f) refused = Refuses-after IsPartOfReel IsPartOfFile ReelIsWhole FileIsWhole ReelShows FileShows a b c i j magic f t refused file_from_reel_part file_from_whole_reel file_from_reel_fault
 
 pub file_from_entries_fault : (r : Reel) → IsFileReel r → (f : HoldFileFault) (s : List ℕ) → EntriesShow r.setup f s → FileShows f (head_text r ++ s)
 file_from_entries_fault r i f s h = inr (inr (r, s, i, refl, h))

@@ -20,6 +20,7 @@ pub mod Bodies
 pub mod Entries
 pub mod ItemsRise
 pub mod FileOrder
+pub mod ReadSteps
 pub mod Heads
 pub mod Slots
 pub mod TileTexts

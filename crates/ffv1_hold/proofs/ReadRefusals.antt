@@ -1,6 +1,6 @@
 -- What a call that failed says, after bytes that an earlier call took.
 use Rattle.std.specs.Prelude.{◌⊎◌}
-use Rattle.std.proofs.Common.{ℕ, ◌≤◌, List, [], ◌∷◌, ◌++◌, Option, arith, inl, inr, subst, sym, append_assoc, length-append}
+use Rattle.std.proofs.Common.{◌≡◌, ℕ, ◌≤◌, List, [], ◌∷◌, ◌++◌, Option, arith, inl, inr, subst, sym, append_assoc, length-append}
 use Rattle.std.specs.Io.KnownBytes.{Consumes}
 use Rattle.std.proofs.KnownBytes.{Consumes-nil, Consumes-trans}
 use Rattle.ffv1_hold.specs.declared.file_fault.HoldFileFault.{HoldFileFault}
@@ -16,6 +16,9 @@ Takes-trans a b c i j k xs ys p q = record {
   moved = omega (arith, p.moved, q.moved, length-append xs ys);
   within = q.within;
 }
+
+pub Takes-from : (a b : Option (List ℕ)) (i j k : ℕ) (xs : List ℕ) → i ≡ j → Takes a b i k xs → Takes a b j k xs
+Takes-from a b i j k xs same t = subst (λ n. Takes a b n k xs) same t
 
 EndsIn-after : (P P' : List ℕ → Type 0) (a b c : Option (List ℕ)) (i j : ℕ) (xs : List ℕ) → Takes a b i j xs → ((s : List ℕ) → P s → P' (xs ++ s)) → EndsIn P b c j → EndsIn P' a c i
 EndsIn-after P P' a b c i j xs t more e = record {
@@ -76,13 +79,6 @@ Refuses-after P P' W W' Q Q' a b c i j xs (faults.Setup f) t r p w q = StopsIn-a
 Refuses-after P P' W W' Q Q' a b c i j xs faults.Tag t r p w q = StopsIn-after _ _ a b c i j xs t (q faults.Tag) r
 Refuses-after P P' W W' Q Q' a b c i j xs faults.Order t r p w q = StopsIn-after _ _ a b c i j xs t (q faults.Order) r
 Refuses-after P P' W W' Q Q' a b c i j xs faults.NotASlice t r p w q = StopsIn-after _ _ a b c i j xs t (q faults.NotASlice) r
-
--- the same faults, said of more
-pub Refuses-weaker : (P P' : List ℕ → Type 0) (W W' Q Q' : HoldFileFault → List ℕ → Type 0) (a c : Option (List ℕ)) (i : ℕ) (f : HoldFileFault)
-    → i ≤ 2147483648 → Refuses P W Q a c i f
-    → ((s : List ℕ) → P s → P' s) → ((f : HoldFileFault) (s : List ℕ) → W f s → W' f s) → ((f : HoldFileFault) (s : List ℕ) → Q f s → Q' f s)
-    → Refuses P' W' Q' a c i f
-Refuses-weaker P P' W W' Q Q' a c i f h r p w q = Refuses-after P P' W W' Q Q' a a c i i [] f (Takes-nil a i h) r p w q
 
 -- no memory was granted behind bytes that are unfinished
 pub memory_stops : (P : List ℕ → Type 0) (W Q : HoldFileFault → List ℕ → Type 0) (a b : Option (List ℕ)) (i j : ℕ) (xs : List ℕ) → Takes a b i j xs → P xs → Refuses P W Q a b i faults.Memory

@@ -7,9 +7,10 @@ use Rattle.ffv1_range.specs.SetupFaults.{FirstSetupFault}
 use Rattle.ffv1_slice.specs.Slices.{IsSliceOf}
 use Rattle.ffv1_hold.specs.declared.file_fault.HoldFileFault.{HoldFileFault}
 use Rattle.ffv1_hold.specs.declared.file_fault.HoldFileFault.TheVariants as faults
-use Rattle.ffv1_hold.specs.SliceOrder.{Entry}
+use Rattle.ffv1_hold.specs.SliceOrder.{Entry, entry_cmp}
+use Rattle.ffv1_hold.specs.Sets as set
 use Rattle.ffv1_hold.specs.Reels.{Reel, IsReel, WantsMemory}
-use Rattle.ffv1_hold.specs.Contents.{Contents, IsHolding, slice_limit}
+use Rattle.ffv1_hold.specs.Contents.{Contents, IsHolding, AreEntriesOf, slice_limit}
 use Rattle.ffv1_hold.specs.HoldingText.{magic, be2, be4, sized_record, head_text, holding_text, body_text, entries_text, record_limit}
 use Rattle.ffv1_hold.specs.Reading.{Refuses}
 use Rattle.ffv1_hold.specs.FileEntries.{last_of, Follows, AreEntries}
@@ -50,6 +51,16 @@ IsPartOfEntries setup s = (es : List Entry) × (part : List ℕ) × AreEntries s
 
 abbrev pub EntriesShow : SetupValue → HoldFileFault → List ℕ → Type 0
 EntriesShow setup f s = (es : List Entry) × (seen : List ℕ) × AreEntries setup es × (s ≡ entries_text es ++ seen) × EntryShows setup (last_of es) f seen
+
+-- the end tag, behind which the end is looked for
+abbrev pub EndIsWhole : HoldFileFault → List ℕ → Type 0
+EndIsWhole faults.Read s = s ≡ 0 ∷ []
+EndIsWhole faults.Trailing s = s ≡ 0 ∷ []
+EndIsWhole _ s = ⊥
+
+-- all entries, and the end tag behind them
+abbrev pub EntriesAreWhole : SetupValue → HoldFileFault → List ℕ → Type 0
+EntriesAreWhole setup f s = (slices : set.SetOf entry_cmp) × (tag : List ℕ) × AreEntriesOf setup slices × (s ≡ entries_text (set.items slices) ++ tag) × EndIsWhole f tag
 
 -- ---- the head
 

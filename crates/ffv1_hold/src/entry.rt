@@ -12,7 +12,6 @@ use crate::fields::read_field;
 use crate::file_fault::HoldFileFault;
 use crate::number::{read_bytes, read_u16, read_u32};
 use crate::streams::Source;
-use crate::tile_sets::TileSets;
 use ffv1_range::Setup;
 use ffv1_slice::read_slice;
 use std::alloc::Global;
@@ -25,8 +24,8 @@ const SLICE_LIMIT: u32 = 16777223;
 /// A slice with its footer, and its tile.
 #[derive(Drop)]
 pub(crate) struct HeldSlice {
-    tile: u16,
-    bytes: Vec<u8>,
+    pub(crate) tile: u16,
+    pub(crate) bytes: Vec<u8>,
 }
 
 impl Model for HeldSlice {
@@ -103,7 +102,7 @@ fn read_body<S: Source>(
 }
 
 /// Reads the next entry, which follows the last one, or `None` at the end tag.
-fn read_entry<S: Source>(
+pub(crate) fn read_entry<S: Source>(
     alloc: Global,
     source: &mut S,
     place: &mut u32,
@@ -132,35 +131,4 @@ fn read_entry<S: Source>(
         }
         _ => Err(HoldFileFault::Tag),
     }
-}
-
-/// Reads all entries, and the end tag.
-pub(crate) fn read_entries<S: Source>(
-    alloc: Global,
-    source: &mut S,
-    place: &mut u32,
-    setup: &Setup,
-    held: &mut TileSets,
-) -> Result<(), HoldFileFault>
-    requires place { place.old ≤ file_limit }
-    requires tiles { held.old.tiles ≡ setup.now.across * setup.now.down }
-    requires empty { held.old.slices ≡ set.empty }
-    ensures ok { OnOk result (Takes (S.remaining source.old) (S.remaining source.new) place.old place.new (entries_text (set.items held.new.slices) ++ 0 ∷ [])) }
-    ensures entries { OnOk result (AreEntriesOf setup.now held.new.slices) }
-    ensures tiles { OnOk result (held.new.tiles ≡ held.old.tiles) }
-    ensures err { IfErr result (Refuses (IsPartOfEntries setup.now) Never (EntriesShow setup.now)
-        (S.remaining source.old) (S.remaining source.new) place.old) }
-    ensures failed { IfErr result (λ f. CountsRead f (S.failures source.old) (S.failures source.new)) }
-    ensures counted { S.failures source.old ≤ S.failures source.new }
-    ensures taken { OnOk result (S.taken source.new + place.old ≤ S.taken source.old + place.new) }
-    ensures most { OnErr result (S.taken source.new + place.old ≤ S.taken source.old + file_limit + 1) }
-{
-    let mut last = None;
-    while let Some(slice) = read_entry(alloc, source, place, setup, &last)? {
-        let Ok(()) = held.insert(slice.tile as usize, &slice.bytes) else {
-            return Err(HoldFileFault::Memory);
-        };
-        last = Some(slice);
-    }
-    Ok(())
 }

@@ -55,6 +55,7 @@ pub(crate) fn read_full<S: Source>(source: &mut S, buf: &mut [u8]) -> Result<usi
     ensures fewer { OnErr result (TakesFewer (S.remaining source.old) (S.remaining source.new) (length buf.new)) }
     ensures failed { OnErr result (HasFailed (S.failures source.old) (S.failures source.new)) }
     ensures counted { S.failures source.old ≤ S.failures source.new }
+    ensures taken { IfOk result (λ n. S.taken source.new ≤ S.taken source.old + n) }
     ensures within { S.taken source.new ≤ S.taken source.old + length buf.new }
 {
     let mut filled = 0;
@@ -76,6 +77,7 @@ pub(crate) fn next_byte<S: Source>(source: &mut S) -> Result<Option<u8>, ReadFai
     ensures failed { OnErr result (HasFailed (S.failures source.old) (S.failures source.new)) }
     ensures counted { S.failures source.old ≤ S.failures source.new }
     ensures taken { S.taken source.new ≤ S.taken source.old + 1 }
+    ensures none_taken { IfOk result (λ r. IfNone r (S.taken source.new ≤ S.taken source.old)) }
 {
     let mut byte = [0u8; 1];
     let count = read_full(source, &mut byte)?;

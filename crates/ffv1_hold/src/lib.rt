@@ -7,6 +7,7 @@ mod fault;
 mod fields;
 mod file_fault;
 mod head;
+mod hold_reader;
 mod holding;
 mod join;
 mod joins;

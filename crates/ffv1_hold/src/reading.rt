@@ -1,26 +1,26 @@
 //! Reading a holding file (own).
-ghost use Rattle.std.specs.Prelude.{◌≡◌, ◌+◌, ◌≤◌, Some, IfOk, OnOk, IfErr};
+ghost use Rattle.std.specs.Prelude.{◌≡◌, ◌+◌, ◌*◌, ◌≤◌, [], ◌∷◌, ◌++◌, None, Some, IfOk, OnOk, IfErr};
 ghost use Rattle.std.specs.Io.KnownBytes.{Consumes, IsAtEnd};
-ghost use Rattle.ffv1_hold.specs.Reading.{Refuses, CountsRead};
-ghost use Rattle.ffv1_hold.specs.Contents.{Contents, IsHolding};
-ghost use Rattle.ffv1_hold.specs.HoldingText.{holding_text, file_limit, FitsInFile};
-ghost use Rattle.ffv1_hold.specs.FileFaults.{IsPartOfFile, FileIsWhole, FileShows, Answers};
+ghost use Rattle.ffv1_hold.specs.Sets as set;
+ghost use Rattle.ffv1_hold.specs.Reading.{Takes, Refuses, CountsRead};
+ghost use Rattle.ffv1_hold.specs.Contents.{Contents, IsHolding, AreEntriesOf};
+ghost use Rattle.ffv1_hold.specs.HoldingText.{holding_text, entries_text, file_limit, FitsInFile};
+ghost use Rattle.ffv1_hold.specs.FileFaults.{IsPartOfFile, FileIsWhole, FileShows, IsPartOfEntries, EntriesAreWhole, EntriesShow, Answers};
 
-use crate::entry::read_entries;
-use crate::fields::next_byte;
 use crate::file_fault::HoldFileFault;
-use crate::head::{read_magic, read_reel};
+use crate::hold_reader::HoldReader;
 use crate::holding::Holding;
 use crate::streams::Source;
 use crate::tile_sets::TileSets;
+use ffv1_range::Setup;
 use std::alloc::Global;
 
 /// Reads a holding file, to the end of the input.
 ///
 /// The faults are judged in byte order, those of the first eight bytes too, and at most 2^31 + 1 bytes are read. `Read` comes
 /// only where the source counted a failure: an interrupted try is made again, and 65 in a row are a failure. `Memory` comes
-/// where a growth is refused. Both come only before a fault is met: none of the bytes that were read shows one, but that the
-/// setup of the record wants its memory where `Setup::read` tells.
+/// where a growth is refused. Both come only before a fault is met; within the record, memory for its setup is wanted where
+/// `Setup::read` tells.
 pub fn read_hold<R: Source>(alloc: Global, source: &mut R) -> Result<Holding, HoldFileFault>
     // The whole input is the text of the holding.
     ensures text { IfOk result (λ h. Consumes (R.remaining source.old) (R.remaining source.new) (holding_text h)) }
@@ -42,7 +42,7 @@ pub fn read_hold<R: Source>(alloc: Global, source: &mut R) -> Result<Holding, Ho
     read_parts(alloc, source)
 }
 
-// Reads the parts of a holding file one after the other, and then looks for its end.
+// Reads the head, and then the entries.
 fn read_parts<R: Source>(alloc: Global, source: &mut R) -> Result<Holding, HoldFileFault>
     ensures text { IfOk result (λ h. Consumes (R.remaining source.old) (R.remaining source.new) (holding_text h)) }
     ensures end { OnOk result (IsAtEnd (R.remaining source.new)) }
@@ -55,13 +55,41 @@ fn read_parts<R: Source>(alloc: Global, source: &mut R) -> Result<Holding, HoldF
 
     ensures taken { R.taken source.new ≤ R.taken source.old + file_limit + 1 }
 {
-    let mut place = 0;
-    read_magic(source, &mut place)?;
-    let reel = read_reel(alloc, source, &mut place)?;
+    let mut reader = HoldReader::new();
+    let reel = reader.read_head(alloc, source)?;
     let mut held = TileSets::new(alloc, reel.tiles())?;
-    read_entries(alloc, source, &mut place, reel.setup(), &mut held)?;
-    match next_byte(source)? {
-        Some(_) => Err(HoldFileFault::Trailing),
-        None => Ok(Holding { reel, held }),
+    read_entries(alloc, source, &mut reader, reel.setup(), &mut held)?;
+    Ok(Holding { reel, held })
+}
+
+// Reads the entries into the slices of their tiles, and to the end of the input.
+fn read_entries<R: Source>(
+    alloc: Global,
+    source: &mut R,
+    reader: &mut HoldReader,
+    setup: &Setup,
+    held: &mut TileSets,
+) -> Result<(), HoldFileFault>
+    requires place { reader.old.place ≤ file_limit }
+    requires first { reader.old.held ≡ None }
+    requires tiles { held.old.tiles ≡ setup.now.across * setup.now.down }
+    requires empty { held.old.slices ≡ set.empty }
+    ensures ok { OnOk result (Takes (R.remaining source.old) (R.remaining source.new) reader.old.place reader.new.place (entries_text (set.items held.new.slices) ++ 0 ∷ [])) }
+    ensures end { OnOk result (IsAtEnd (R.remaining source.new)) }
+    ensures entries { OnOk result (AreEntriesOf setup.now held.new.slices) }
+    ensures tiles { OnOk result (held.new.tiles ≡ held.old.tiles) }
+    ensures err { IfErr result (Refuses (IsPartOfEntries setup.now) (EntriesAreWhole setup.now) (EntriesShow setup.now)
+        (R.remaining source.old) (R.remaining source.new) reader.old.place) }
+    ensures failed { IfErr result (λ f. CountsRead f (R.failures source.old) (R.failures source.new)) }
+    ensures counted { R.failures source.old ≤ R.failures source.new }
+    ensures most { R.taken source.new + reader.old.place ≤ R.taken source.old + file_limit + 1 }
+{
+    reader.advance(alloc, source, setup)?;
+    while let Some(slice) = &reader.held {
+        let Ok(()) = held.insert(slice.tile as usize, &slice.bytes) else {
+            return Err(HoldFileFault::Memory);
+        };
+        reader.advance(alloc, source, setup)?;
     }
+    Ok(())
 }

@@ -1,0 +1,87 @@
+//! A holding file that is read entry by entry (own).
+ghost use Rattle.std.specs.Prelude.{◌≡◌, ◌+◌, ◌≤◌, None, IfSome, IfNone, IfOk, OnOk, IfErr};
+ghost use Rattle.std.specs.Io.KnownBytes.{IsAtEnd};
+ghost use Rattle.ffv1_hold.specs.Reading.{Takes, Refuses, CountsRead};
+ghost use Rattle.ffv1_hold.specs.Contents.{IsEntryOf};
+ghost use Rattle.ffv1_hold.specs.HoldingText.{head_text, file_limit};
+ghost use Rattle.ffv1_hold.specs.FileEntries.{Follows, next_text};
+ghost use Rattle.ffv1_hold.specs.FileFaults.{IsFileReel, IsPartOfFile, FileIsWhole, FileShows, IsPartOfEntry, EndIsWhole, EntryShows};
+
+use crate::entry::{HeldSlice, read_entry};
+use crate::fields::next_byte;
+use crate::file_fault::HoldFileFault;
+use crate::head::{read_magic, read_reel};
+use crate::reel::Reel;
+use crate::streams::Source;
+use ffv1_range::Setup;
+use std::alloc::Global;
+
+/// How far a holding file was read, and the entry that was read last: none before the first, and none behind the end tag.
+#[derive(Drop)]
+pub(crate) struct HoldReader {
+    place: u32,
+    pub(crate) held: Option<HeldSlice>,
+}
+
+impl HoldReader {
+    /// A file of which nothing was read.
+    pub(crate) fn new() -> HoldReader
+        ensures place { result.place ≡ 0 }
+        ensures held { result.held ≡ None }
+    {
+        HoldReader {
+            place: 0,
+            held: None,
+        }
+    }
+
+    /// Reads the head.
+    pub(crate) fn read_head<S: Source>(
+        &mut self,
+        alloc: Global,
+        source: &mut S,
+    ) -> Result<Reel, HoldFileFault>
+        requires { self.old.place ≡ 0 }
+        ensures ok { IfOk result (λ r. Takes (S.remaining source.old) (S.remaining source.new) 0 self.new.place (head_text r)) }
+        ensures reel { IfOk result IsFileReel }
+        ensures held { self.new.held ≡ self.old.held }
+        ensures err { IfErr result (Refuses IsPartOfFile FileIsWhole FileShows
+            (S.remaining source.old) (S.remaining source.new) 0) }
+        ensures failed { IfErr result (λ f. CountsRead f (S.failures source.old) (S.failures source.new)) }
+        ensures counted { S.failures source.old ≤ S.failures source.new }
+        ensures taken { OnOk result (S.taken source.new ≤ S.taken source.old + self.new.place) }
+        ensures most { S.taken source.new ≤ S.taken source.old + file_limit + 1 }
+    {
+        read_magic(source, &mut self.place)?;
+        read_reel(alloc, source, &mut self.place)
+    }
+
+    /// Reads the next entry in place of the one that is held, or the end tag and the end of the input.
+    pub(crate) fn advance<S: Source>(
+        &mut self,
+        alloc: Global,
+        source: &mut S,
+        setup: &Setup,
+    ) -> Result<(), HoldFileFault>
+        requires { self.old.place ≤ file_limit }
+        ensures next { OnOk result (Takes (S.remaining source.old) (S.remaining source.new) self.old.place self.new.place (next_text self.new.held)) }
+        ensures entry { OnOk result (IfSome self.new.held (IsEntryOf setup.now)) }
+        ensures follows { OnOk result (IfSome self.new.held (Follows self.old.held)) }
+        ensures end { OnOk result (IfNone self.new.held (IsAtEnd (S.remaining source.new))) }
+        ensures err { IfErr result (Refuses IsPartOfEntry EndIsWhole (EntryShows setup.now self.old.held)
+            (S.remaining source.old) (S.remaining source.new) self.old.place) }
+        ensures failed { IfErr result (λ f. CountsRead f (S.failures source.old) (S.failures source.new)) }
+        ensures counted { S.failures source.old ≤ S.failures source.new }
+        ensures taken { OnOk result (S.taken source.new + self.old.place ≤ S.taken source.old + self.new.place) }
+        ensures most { S.taken source.new + self.old.place ≤ S.taken source.old + file_limit + 1 }
+    {
+        match read_entry(alloc, source, &mut self.place, setup, &self.held)? {
+            Some(slice) => self.held = Some(slice),
+            None => match next_byte(source)? {
+                Some(_) => return Err(HoldFileFault::Trailing),
+                None => self.held = None,
+            },
+        }
+        Ok(())
+    }
+}
