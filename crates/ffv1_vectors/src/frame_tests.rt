@@ -126,6 +126,23 @@ fn made_frames_are_found_tile_by_tile(rt: HostRuntime) -> Result<(), Fail> {
     Ok(())
 }
 
+#[test]
+fn slices_of_1024_tiles_are_found(rt: HostRuntime) -> Result<(), Fail> {
+    let alloc = rt.alloc();
+    let setup = setup_of(alloc, SuiteTables::OneRun, None, (32, 32), (32, 32))?;
+    let mut tiles = Vec::new(alloc);
+    for _ in 0..1024 {
+        tiles.push(plain_tile(alloc, &[&[0]])?)?;
+    }
+    let frame = make_frame(alloc, &setup, &FrameSpec { tiles })?;
+    let found = found_tiles(alloc, &setup, &frame)?;
+    assert_eq!(rt; found.len(), 1024);
+    for (place, (tile, status)) in found.iter().enumerate() {
+        assert_eq!(rt; (tile.wrapping_add(place), *status), (1023, 0));
+    }
+    Ok(())
+}
+
 /// The end of the second slice from the end of a payload.
 fn second_end(payload: &[u8]) -> Option<usize> {
     Chain::new(payload).nth(1).map(|link| link.end())

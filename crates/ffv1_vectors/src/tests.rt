@@ -92,8 +92,10 @@ fn fronts_beyond_the_profile_are_refused(rt: HostRuntime) -> Result<(), Fail> {
     let mut spec = gray(alloc, &PLAIN)?;
     assert_eq!(rt; fault_of(alloc, &spec, 1)?, None);
     assert_eq!(rt; fault_of(alloc, &spec, 16385)?, Some(SetupFault::Size));
-    spec.ec = 0;
-    assert_eq!(rt; fault_of(alloc, &spec, 1)?, Some(SetupFault::ParityMode));
+    for ec in [0, 2] {
+        spec.ec = ec;
+        assert_eq!(rt; fault_of(alloc, &spec, 1)?, Some(SetupFault::ParityMode));
+    }
     spec.set_count = 9;
     assert_eq!(rt; fault_of(alloc, &spec, 1)?, Some(SetupFault::TableCount));
     spec.across = 33;
@@ -167,14 +169,143 @@ fn entries_follow_their_runs(rt: HostRuntime) -> Result<(), Fail> {
     Ok(())
 }
 
+/// What an independent range coder, which keeps the whole number and so carries nothing, makes of the symbols below.
+const SYMBOLS: [u8; 38] = [
+    0x88, 0x5A, 0x28, 0x14, 0x7E, 0xFC, 0xDC, 0x00, 0x2E, 0x95, 0x07, 0x05, 0x00, 0xDE, 0x1A, 0x06,
+    0x25, 0xD6, 0xE0, 0xEC, 0xFF, 0xFF, 0xFE, 0x96, 0x7C, 0x2D, 0xC8, 0xFF, 0xA0, 0x16, 0xFF, 0x7C,
+    0x82, 0x46, 0x00, 0x00, 0x00, 0x04,
+];
+
+/// Writes unsigned symbols at a row of states.
+fn spell_unsigned(encoder: &mut RangeEncoder, values: &[u32]) -> Result<(), MakeFault> {
+    let mut states = [128; 32];
+    for value in values {
+        encoder.unsigned(&mut states, *value)?;
+    }
+    Ok(())
+}
+
+/// Writes signed symbols at a row of states.
+fn spell_signed(encoder: &mut RangeEncoder, values: &[i32]) -> Result<(), MakeFault> {
+    let mut states = [128; 32];
+    for value in values {
+        encoder.signed(&mut states, *value)?;
+    }
+    Ok(())
+}
+
 #[test]
-fn deltas_are_read_over(rt: HostRuntime) -> Result<(), Fail> {
-    let alloc = rt.alloc();
-    let mut spec = gray(alloc, &[SIX, SIX, SIX, ONE, ONE])?;
-    let short = make_record(alloc, &spec)?;
+fn symbols_are_coded_byte_for_byte(rt: HostRuntime) -> Result<(), Fail> {
+    let mut encoder = RangeEncoder::new(rt.alloc());
+    spell_unsigned(
+        &mut encoder,
+        &[0, 1, 2, 7, 255, 0x10_0000, 0x10_0001, 0x1234_5679, u32::MAX],
+    )?;
+    spell_signed(&mut encoder, &[0, 1, -1, 5, -6, i32::MAX, i32::MIN])?;
+    assert_eq!(rt; encoder.finish_closed()?.as_slice(), SYMBOLS.as_slice());
+    Ok(())
+}
+
+#[test]
+fn a_carry_passes_through_bytes_of_ones(rt: HostRuntime) -> Result<(), Fail> {
+    let mut encoder = RangeEncoder::new(rt.alloc());
+    spell_unsigned(&mut encoder, &[757, 441, 734])?;
+    // As the same coder makes it: the two bytes 0 were 255 before the carry.
+    assert_eq!(rt;
+        encoder.finish_closed()?.as_slice(),
+        [0x7F, 0x4F, 0x89, 0x00, 0x00, 0x6A, 0x5B, 0x42].as_slice()
+    );
+    Ok(())
+}
+
+/// A record with a delta of -3 for each state of the 5 contexts of its first set and the 2 of its second, as an
+/// independent program makes it.
+const WITH_DELTAS: [u8; 146] = [
+    0x58, 0x07, 0xFB, 0xD8, 0x02, 0x5C, 0x84, 0x48, 0xD3, 0x9C, 0x27, 0x6D, 0x1D, 0xFB, 0xF7, 0xEF,
+    0xE0, 0xD2, 0xD3, 0x37, 0x6E, 0xDD, 0xBB, 0x76, 0xED, 0xDD, 0xC5, 0xAD, 0x6B, 0x5A, 0xD6, 0xB5,
+    0xAD, 0x6B, 0x5A, 0xD6, 0xB5, 0xAD, 0x6B, 0x5A, 0xD6, 0xB5, 0xAD, 0x6B, 0x5A, 0xD6, 0xC1, 0xBF,
+    0xAD, 0xCB, 0x8C, 0xEC, 0x81, 0x16, 0xB7, 0x74, 0xA8, 0x96, 0xC4, 0x8F, 0x13, 0xD2, 0x3E, 0x4D,
+    0xA1, 0x4B, 0x6B, 0xB1, 0xCB, 0x48, 0x45, 0xA5, 0xD6, 0x45, 0x64, 0xB1, 0xF3, 0xD9, 0x1C, 0x14,
+    0xAB, 0x4A, 0xAA, 0xA6, 0x26, 0xA4, 0xE6, 0xD9, 0x2D, 0x81, 0x85, 0x3B, 0xA1, 0x89, 0xD7, 0x89,
+    0xA0, 0x1B, 0xFF, 0x46, 0x7E, 0xB0, 0x55, 0x26, 0xD4, 0x66, 0x90, 0x20, 0x28, 0x7D, 0x42, 0xE8,
+    0x5D, 0xAE, 0xAC, 0x9E, 0x0C, 0xE8, 0xC1, 0x2E, 0xE7, 0xE5, 0xBC, 0xF5, 0x0A, 0x38, 0x6A, 0x33,
+    0xCC, 0x3B, 0xFA, 0xEE, 0x9C, 0xD7, 0x2E, 0x34, 0xAE, 0x23, 0x21, 0xC3, 0xFD, 0x02, 0x8A, 0x09,
+    0x85, 0xCB,
+];
+
+/// One set of these tables, and another.
+fn two_sets(
+    alloc: Global,
+    first: &[&[u32]; 5],
+    second: &[&[u32]; 5],
+) -> Result<Vec<Vec<Vec<u32>>>, Fail> {
+    let mut sets = one_set(alloc, first)?;
+    sets.append(&mut one_set(alloc, second)?)?;
+    Ok(sets)
+}
+
+/// What `WITH_DELTAS` says: a recording in 4:1:0 of 3 x 2 tiles with two sets.
+fn with_deltas(alloc: Global) -> Result<RecordSpec, Fail> {
+    let mut spec = gray(alloc, &PLAIN)?;
+    spec.micro = 0x10_0003;
+    spec.raw_depth = 0;
+    spec.has_chroma = true;
+    spec.shift_h = 2;
+    spec.shift_v = 1;
+    spec.across = 3;
+    spec.down = 2;
+    spec.set_count = 2;
+    spec.sets = two_sets(
+        alloc,
+        &[TWO, TWO, ONE, ONE, ONE],
+        &[TWO, ONE, ONE, ONE, ONE],
+    )?;
     spec.delta = Some(-3);
-    let long = make_record(alloc, &spec)?;
-    assert!(rt; short.len() < long.len());
+    spec.intra = 0;
+    Ok(spec)
+}
+
+#[test]
+fn deltas_are_written_for_each_context(rt: HostRuntime) -> Result<(), Fail> {
+    let alloc = rt.alloc();
+    let record = make_record(alloc, &with_deltas(alloc)?)?;
+    assert_eq!(rt; record.as_slice(), WITH_DELTAS.as_slice());
+    let setup = Setup::read(alloc, &record, 3, 2)?;
+    assert_eq!(rt;
+        (setup.micro(), setup.ec(), setup.intra()),
+        (0x10_0003, 1, 0)
+    );
+    assert!(rt; setup.sets() == 2);
+    assert_eq!(rt; (setup.contexts(0), setup.contexts(1)), (5, 2));
+    Ok(())
+}
+
+/// A record of which nearly nothing is of the profile, as an independent program makes it.
+const BEYOND: [u8; 26] = [
+    0x60, 0xF4, 0xF3, 0x35, 0x9B, 0xDC, 0x98, 0xFD, 0x98, 0x77, 0x5E, 0xBD, 0x7A, 0xF5, 0xEB, 0xD7,
+    0xAE, 0xFA, 0x95, 0xF5, 0xD5, 0x02, 0x49, 0x85, 0x75, 0xD8,
+];
+
+#[test]
+fn records_beyond_the_profile_are_spelled_byte_for_byte(rt: HostRuntime) -> Result<(), Fail> {
+    let alloc = rt.alloc();
+    let mut spec = with_deltas(alloc)?;
+    spec.version = 4;
+    spec.micro = 3;
+    spec.coder = 2;
+    spec.colorspace = 1;
+    spec.raw_depth = 10;
+    spec.shift_h = 3;
+    spec.shift_v = 4;
+    spec.extra_plane = true;
+    spec.across = 40;
+    spec.down = 50;
+    spec.set_count = 9;
+    spec.sets = one_set(alloc, &PLAIN)?;
+    spec.delta = None;
+    spec.ec = 2;
+    spec.intra = 0x10_0001;
+    assert_eq!(rt; spell_record(alloc, &spec)?.as_slice(), BEYOND.as_slice());
     Ok(())
 }
 
@@ -406,5 +537,81 @@ fn recorded_records_are_read(rt: HostRuntime) -> Result<(), Fail> {
             Some(SetupFault::Parity)
         );
     }
+    Ok(())
+}
+
+/// The runs of the tables that FFmpeg writes for differences of 11 and of 5 values.
+const ELEVEN: &[u32] = &[1, 1, 3, 7, 23, 93];
+
+const FIVE: &[u32] = &[1, 3, 124];
+
+/// What the configuration records of tests/real say.
+fn recorded(
+    alloc: Global,
+    [across, down, shift_h, shift_v]: [u32; 4],
+    has_chroma: bool,
+) -> Result<RecordSpec, Fail> {
+    let mut spec = gray(alloc, &PLAIN)?;
+    spec.raw_depth = 8;
+    spec.has_chroma = has_chroma;
+    spec.shift_h = shift_h;
+    spec.shift_v = shift_v;
+    spec.across = across;
+    spec.down = down;
+    spec.set_count = 2;
+    spec.sets = two_sets(
+        alloc,
+        &[ELEVEN, ELEVEN, ELEVEN, ONE, ONE],
+        &[ELEVEN, ELEVEN, FIVE, FIVE, FIVE],
+    )?;
+    Ok(spec)
+}
+
+#[test]
+fn recorded_records_are_made(rt: HostRuntime) -> Result<(), Fail> {
+    let alloc = rt.alloc();
+    for (record, [width, _, across, down, shift_h, shift_v]) in RECORDED {
+        let spec = recorded(alloc, [across, down, shift_h, shift_v], width != 48)?;
+        let made = make_record(alloc, &spec)?;
+        // FFmpeg wrote a zero byte more behind one of them.
+        let front = record.get(..made.len()).ok_or("a record as long")?;
+        assert_eq!(rt; made.as_slice(), front);
+        assert!(rt; record[front.len()..].iter().all(|byte| *byte == 0));
+    }
+    Ok(())
+}
+
+#[test]
+fn eight_sets_are_read(rt: HostRuntime) -> Result<(), Fail> {
+    let alloc = rt.alloc();
+    let mut spec = gray(alloc, &PLAIN)?;
+    let tables = [ONE, TWO, THREE, SIX, ELEVEN, FIVE, ALL, ONE];
+    let contexts = [1, 2, 3, 6, 6, 3, 128, 1];
+    spec.sets = Vec::new(alloc);
+    for runs in tables {
+        spec.sets
+            .append(&mut one_set(alloc, &[ONE, ONE, runs, ONE, ONE])?)?;
+    }
+    spec.set_count = 8;
+    let setup = Setup::read(alloc, &make_record(alloc, &spec)?, 1, 1)?;
+    assert!(rt; setup.sets() == 8);
+    for (set, wanted) in contexts.iter().enumerate() {
+        assert_eq!(rt; setup.contexts(set), *wanted);
+        assert_eq!(rt; setup.entry(set, 2, 127) as u32 + 1, *wanted);
+    }
+    Ok(())
+}
+
+#[test]
+fn long_slices_are_spelled(rt: HostRuntime) -> Result<(), Fail> {
+    let alloc = rt.alloc();
+    let mut codes = Vec::new(alloc);
+    codes.resize(0xFF_FFFD, 0x80)?;
+    let slice = spell_slice(alloc, true, true, &fields_of(0), &codes, 0)?;
+    assert_eq!(rt; slice.len(), 0x100_0007);
+    assert!(rt; slice.starts_with(&[0xFD, 0xF6, 0x80]));
+    codes.push(0x80)?;
+    let longer = spell_slice(alloc, true, true, &fields_of(0), &codes, 0);
+    assert_eq!(rt; longer.err(), Some(MakeFault::NotSelf));
     Ok(())
 }
