@@ -14,6 +14,7 @@ pub mod Refusals
 pub mod Originals
 pub mod HoldingText
 pub mod Streams
+pub mod Whole
 pub mod Reading
 pub mod Writing
 pub mod Saving

@@ -3,7 +3,7 @@
 ghost use Rattle.std.specs.Prelude.{◌≡◌, [], ◌∷◌, MatchOption, ◌+◌, ◌<◌, ◌≤◌, ◌++◌, length, take, IfOk, IfSome, IfNone, OnOk, OnErr, IfErr};
 ghost use Rattle.std.specs.Io.{ReadsAtMost, WritesAtMost};
 ghost use Rattle.std.specs.Io.KnownBytes.{ReadConsumes, WriteAppends, Consumes, Appends, IsAtEnd};
-ghost use Rattle.ffv1_hold.specs.Streams.{HasFailed};
+ghost use Rattle.ffv1_hold.specs.Streams.{HasFailed, HasGivenUp, most_tries, sum_to_limit};
 ghost use Rattle.ffv1_hold.specs.HoldingText.{file_limit};
 ghost use Rattle.ffv1_hold.specs.Reading.{Takes, TakesFewer, Refuses, IsShorter, Never, CountsRead, AreBytes};
 
@@ -26,12 +26,16 @@ pub(crate) struct ReadFailed;
 pub struct WriteFailed;
 
 /// One read, made again where it is interrupted.
-fn read_some<S: Source>(source: &mut S, buf: &mut [u8]) -> Result<usize, ReadFailed>
+pub(crate) fn read_some<S: Source>(source: &mut S, buf: &mut [u8]) -> Result<usize, ReadFailed>
     ensures bound { ReadsAtMost result buf.new }
     ensures bytes { ReadConsumes (S.remaining source.old) (S.remaining source.new) result buf.new }
     ensures failed { OnErr result (HasFailed (S.failures source.old) (S.failures source.new)) }
+    ensures gave_up { OnErr result (HasGivenUp (S.failures source.old) (S.failures source.new) (S.broken source.old) (S.broken source.new)) }
+    ensures unbroken { OnOk result (S.broken source.new ≡ S.broken source.old) }
+    ensures broken_once { S.broken source.new ≤ S.broken source.old + 1 }
     ensures counted { S.failures source.old ≤ S.failures source.new }
-    ensures taken { IfOk result (λ n. S.taken source.new ≤ S.taken source.old + n) }
+    ensures tries { S.failures source.new ≤ S.failures source.old + most_tries }
+    ensures taken { IfOk result (λ n. S.taken source.new ≡ sum_to_limit (S.taken source.old) n) }
     ensures none_taken { OnErr result (S.taken source.new ≡ S.taken source.old) }
 {
     for _ in 0..TRIES {
@@ -54,6 +58,9 @@ pub(crate) fn read_full<S: Source>(source: &mut S, buf: &mut [u8]) -> Result<usi
     ensures end { IfOk result (λ n. n < length buf.new → IsAtEnd (S.remaining source.new)) }
     ensures fewer { OnErr result (TakesFewer (S.remaining source.old) (S.remaining source.new) (length buf.new)) }
     ensures failed { OnErr result (HasFailed (S.failures source.old) (S.failures source.new)) }
+    ensures gave_up { OnErr result (HasGivenUp (S.failures source.old) (S.failures source.new) (S.broken source.old) (S.broken source.new)) }
+    ensures unbroken { OnOk result (S.broken source.new ≡ S.broken source.old) }
+    ensures broken_once { S.broken source.new ≤ S.broken source.old + 1 }
     ensures counted { S.failures source.old ≤ S.failures source.new }
     ensures taken { IfOk result (λ n. S.taken source.new ≤ S.taken source.old + n) }
     ensures within { S.taken source.new ≤ S.taken source.old + length buf.new }
@@ -75,6 +82,9 @@ pub(crate) fn next_byte<S: Source>(source: &mut S) -> Result<Option<u8>, ReadFai
     ensures none { IfOk result (λ r. IfNone r (Consumes (S.remaining source.old) (S.remaining source.new) [] × IsAtEnd (S.remaining source.new))) }
     ensures kept { OnErr result (Consumes (S.remaining source.old) (S.remaining source.new) []) }
     ensures failed { OnErr result (HasFailed (S.failures source.old) (S.failures source.new)) }
+    ensures gave_up { OnErr result (HasGivenUp (S.failures source.old) (S.failures source.new) (S.broken source.old) (S.broken source.new)) }
+    ensures unbroken { OnOk result (S.broken source.new ≡ S.broken source.old) }
+    ensures broken_once { S.broken source.new ≤ S.broken source.old + 1 }
     ensures counted { S.failures source.old ≤ S.failures source.new }
     ensures taken { S.taken source.new ≤ S.taken source.old + 1 }
     ensures none_taken { IfOk result (λ r. IfNone r (S.taken source.new ≤ S.taken source.old)) }

@@ -24,6 +24,7 @@ mod streams;
 mod take;
 mod tile_sets;
 mod tile_state;
+mod whole;
 mod writes;
 
 pub use fault::HoldFault;
@@ -44,6 +45,7 @@ pub use slice_set::SliceSet;
 pub use streams::{FromRead, FromWrite, Sink, Source};
 pub use take::{PAYLOAD_LIMIT, TakeAllFault, Taken};
 pub use tile_state::TileState;
+pub use whole::{WholeFault, read_whole};
 pub use writes::write_field;
 
 #[cfg(test)]

@@ -1,12 +1,12 @@
 //! Devices that are read and written, and how often they failed (own).
 
-ghost use Rattle.std.specs.Prelude.{◌≡◌, ℕ, ◌+◌, ◌-◌, ◌^◌, ◌≤◌, min, List, Option, is_err, IfOk, OnErr};
+ghost use Rattle.std.specs.Prelude.{◌≡◌, ℕ, ◌+◌, ◌-◌, ◌^◌, ◌≤◌, min, true, List, Option, is_err, IfOk, OnErr};
 ghost use Rattle.std.specs.Io.{ReadsAtMost, WritesAtMost};
 ghost use Rattle.std.specs.Io.KnownBytes.{ReadConsumes, WriteAppends};
-ghost use Rattle.ffv1_hold.specs.Streams.{failures_after, takes_none, sum_to_limit};
+ghost use Rattle.ffv1_hold.specs.Streams.{failures_after, takes_none, IsBrokenRead, IsBrokenWrite, sum_to_limit};
 
 use std::io;
-use std::io::{Read, Write};
+use std::io::{ErrorKind, Read, Write};
 
 /// What is read. Where its bytes are told, `remaining` is those that are left.
 pub trait Source {
@@ -14,6 +14,9 @@ pub trait Source {
 
     // How many reads failed. At `u64::MAX` it rises no more.
     ghost failures: { Self → ℕ };
+
+    // How many of them were not interrupted. At `u64::MAX` it rises no more.
+    ghost broken: { Self → ℕ };
 
     // How many bytes were read, `u64::MAX` for more.
     ghost taken: { Self → ℕ };
@@ -23,12 +26,18 @@ pub trait Source {
         ensures bound { ReadsAtMost result buf.new }
         ensures bytes { ReadConsumes (remaining self.old) (remaining self.new) result buf.new }
         ensures failures { failures self.new ≡ failures_after (is_err result) (failures self.old) }
+        ensures broken { IsBrokenRead result → broken self.new ≡ failures_after true (broken self.old) }
+        ensures unbroken { ¬ IsBrokenRead result → broken self.new ≡ broken self.old }
         ensures taken { IfOk result (λ n. taken self.new ≡ sum_to_limit (taken self.old) n) }
         ensures none_taken { OnErr result (taken self.new ≡ taken self.old) };
 
     /// How many tries failed, interrupted ones among them: `u64::MAX` for that many or more.
     fn failures(&self) -> u64
         ensures { result ≡ failures self.now };
+
+    /// How many of the tries that failed were not interrupted: `u64::MAX` for that many or more.
+    fn broken(&self) -> u64
+        ensures { result ≡ broken self.now };
 
     /// How many bytes were read: `u64::MAX` for that many or more.
     fn taken(&self) -> u64
@@ -42,16 +51,25 @@ pub trait Sink {
     // How many writes failed. At `u64::MAX` it rises no more.
     ghost failures: { Self → ℕ };
 
+    // How many of them were not interrupted. At `u64::MAX` it rises no more.
+    ghost broken: { Self → ℕ };
+
     /// One try: answers how many of the first bytes were taken. It may be interrupted; an error counts as a failure, and so
     /// does taking none of some bytes.
     fn write(&mut self, buf: &[u8]) -> io::Result<usize>
         ensures bound { WritesAtMost result buf.now }
         ensures bytes { WriteAppends (contents self.old) (contents self.new) result buf.now }
-        ensures failures { failures self.new ≡ failures_after (takes_none result buf.now) (failures self.old) };
+        ensures failures { failures self.new ≡ failures_after (takes_none result buf.now) (failures self.old) }
+        ensures broken { IsBrokenWrite result buf.now → broken self.new ≡ failures_after true (broken self.old) }
+        ensures unbroken { ¬ IsBrokenWrite result buf.now → broken self.new ≡ broken self.old };
 
     /// How many tries failed, interrupted ones among them: `u64::MAX` for that many or more.
     fn failures(&self) -> u64
         ensures { result ≡ failures self.now };
+
+    /// How many of the tries that failed were not interrupted: `u64::MAX` for that many or more.
+    fn broken(&self) -> u64
+        ensures { result ≡ broken self.now };
 }
 
 /// A reader of std as a source, without a buffer.
@@ -59,6 +77,7 @@ pub trait Sink {
 pub struct FromRead<R> {
     reader: R,
     failed_reads: u64,
+    broken_reads: u64,
     taken: u64,
 }
 
@@ -67,11 +86,13 @@ impl<R: Read> FromRead<R> {
     pub fn new(reader: R) -> FromRead<R>
         ensures bytes { ⟦<FromRead<R> as Source>⟧.remaining result ≡ R.remaining reader }
         ensures failures { ⟦<FromRead<R> as Source>⟧.failures result ≡ 0 }
+        ensures broken { ⟦<FromRead<R> as Source>⟧.broken result ≡ 0 }
         ensures taken { ⟦<FromRead<R> as Source>⟧.taken result ≡ 0 }
     {
         FromRead {
             reader,
             failed_reads: 0,
+            broken_reads: 0,
             taken: 0,
         }
     }
@@ -82,19 +103,30 @@ impl<R: Read> Source for FromRead<R> {
 
     ghost failures = { λ s. s.failed_reads };
 
+    ghost broken = { λ s. s.broken_reads };
+
     ghost taken = { λ s. s.taken };
 
     fn read(&mut self, buf: &mut [u8]) -> io::Result<usize> {
         let result = self.reader.read(buf);
         match &result {
             Ok(n) => self.taken = self.taken.saturating_add(*n as u64),
-            Err(_) => self.failed_reads = self.failed_reads.saturating_add(1),
+            Err(error) => {
+                self.failed_reads = self.failed_reads.saturating_add(1);
+                if error.kind() != ErrorKind::Interrupted {
+                    self.broken_reads = self.broken_reads.saturating_add(1);
+                }
+            }
         }
         result
     }
 
     fn failures(&self) -> u64 {
         self.failed_reads
+    }
+
+    fn broken(&self) -> u64 {
+        self.broken_reads
     }
 
     fn taken(&self) -> u64 {
@@ -107,6 +139,7 @@ impl<R: Read> Source for FromRead<R> {
 pub struct FromWrite<W> {
     writer: W,
     failed_writes: u64,
+    broken_writes: u64,
 }
 
 impl<W: Write> FromWrite<W> {
@@ -114,10 +147,12 @@ impl<W: Write> FromWrite<W> {
     pub fn new(writer: W) -> FromWrite<W>
         ensures bytes { ⟦<FromWrite<W> as Sink>⟧.contents result ≡ W.contents writer }
         ensures failures { ⟦<FromWrite<W> as Sink>⟧.failures result ≡ 0 }
+        ensures broken { ⟦<FromWrite<W> as Sink>⟧.broken result ≡ 0 }
     {
         FromWrite {
             writer,
             failed_writes: 0,
+            broken_writes: 0,
         }
     }
 
@@ -134,19 +169,31 @@ impl<W: Write> Sink for FromWrite<W> {
 
     ghost failures = { λ s. s.failed_writes };
 
+    ghost broken = { λ s. s.broken_writes };
+
     fn write(&mut self, buf: &[u8]) -> io::Result<usize> {
         let result = self.writer.write(buf);
-        let failed = match &result {
-            Ok(n) => *n == 0 && !buf.is_empty(),
-            Err(_) => true,
+        let (failed, broken) = match &result {
+            Ok(n) => {
+                let none_taken = *n == 0 && !buf.is_empty();
+                (none_taken, none_taken)
+            }
+            Err(error) => (true, error.kind() != ErrorKind::Interrupted),
         };
         if failed {
             self.failed_writes = self.failed_writes.saturating_add(1);
+        }
+        if broken {
+            self.broken_writes = self.broken_writes.saturating_add(1);
         }
         result
     }
 
     fn failures(&self) -> u64 {
         self.failed_writes
+    }
+
+    fn broken(&self) -> u64 {
+        self.broken_writes
     }
 }

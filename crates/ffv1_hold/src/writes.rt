@@ -1,9 +1,9 @@
 //! Whole fields to a sink (own).
 
-ghost use Rattle.std.specs.Prelude.{◌≡◌, ◌<◌, ◌≤◌, ◌++◌, length, take, IfOk, OnOk, OnErr};
+ghost use Rattle.std.specs.Prelude.{◌≡◌, ◌+◌, ◌<◌, ◌≤◌, ◌++◌, length, take, IfOk, OnOk, OnErr};
 ghost use Rattle.std.specs.Io.{WritesAtMost};
 ghost use Rattle.std.specs.Io.KnownBytes.{Appends, Keeps};
-ghost use Rattle.ffv1_hold.specs.Streams.{HasFailed};
+ghost use Rattle.ffv1_hold.specs.Streams.{HasFailed, HasGivenUp, most_tries};
 ghost use Rattle.ffv1_hold.specs.Writing.{WritesFront};
 
 use crate::fields::{TRIES, WriteFailed};
@@ -18,7 +18,11 @@ fn write_some<S: Sink>(sink: &mut S, bytes: &[u8]) -> Result<usize, WriteFailed>
     ensures ok { IfOk result (λ n. Appends (S.contents sink.old) (S.contents sink.new) (take n bytes.now)) }
     ensures err { OnErr result (Keeps (S.contents sink.old) (S.contents sink.new)) }
     ensures failed { OnErr result (HasFailed (S.failures sink.old) (S.failures sink.new)) }
+    ensures gave_up { OnErr result (HasGivenUp (S.failures sink.old) (S.failures sink.new) (S.broken sink.old) (S.broken sink.new)) }
+    ensures unbroken { OnOk result (S.broken sink.new ≡ S.broken sink.old) }
+    ensures broken_once { S.broken sink.new ≤ S.broken sink.old + 1 }
     ensures counted { S.failures sink.old ≤ S.failures sink.new }
+    ensures tries { S.failures sink.new ≤ S.failures sink.old + most_tries }
 {
     for _ in 0..TRIES {
         match sink.write(bytes) {
@@ -42,6 +46,9 @@ pub fn write_field<S: Sink>(sink: &mut S, bytes: &[u8]) -> Result<(), WriteFaile
     ensures ok { OnOk result (Appends (S.contents sink.old) (S.contents sink.new) bytes.now) }
     ensures err { OnErr result (WritesFront (S.contents sink.old) (S.contents sink.new) bytes.now) }
     ensures failed { OnErr result (HasFailed (S.failures sink.old) (S.failures sink.new)) }
+    ensures gave_up { OnErr result (HasGivenUp (S.failures sink.old) (S.failures sink.new) (S.broken sink.old) (S.broken sink.new)) }
+    ensures unbroken { OnOk result (S.broken sink.new ≡ S.broken sink.old) }
+    ensures broken_once { S.broken sink.new ≤ S.broken sink.old + 1 }
     ensures counted { S.failures sink.old ≤ S.failures sink.new }
 {
     let mut rest = bytes;
@@ -61,6 +68,9 @@ pub(crate) fn write_pair<S: Sink>(
     ensures ok { OnOk result (Appends (S.contents sink.old) (S.contents sink.new) (first.now ++ second.now)) }
     ensures err { OnErr result (WritesFront (S.contents sink.old) (S.contents sink.new) (first.now ++ second.now)) }
     ensures failed { OnErr result (HasFailed (S.failures sink.old) (S.failures sink.new)) }
+    ensures gave_up { OnErr result (HasGivenUp (S.failures sink.old) (S.failures sink.new) (S.broken sink.old) (S.broken sink.new)) }
+    ensures unbroken { OnOk result (S.broken sink.new ≡ S.broken sink.old) }
+    ensures broken_once { S.broken sink.new ≤ S.broken sink.old + 1 }
     ensures counted { S.failures sink.old ≤ S.failures sink.new }
 {
     write_field(sink, first)?;
