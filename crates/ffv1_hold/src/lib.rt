@@ -3,6 +3,7 @@
 #![tactic(auto)]
 
 mod entry;
+mod failures;
 mod fault;
 mod fields;
 mod file_fault;
@@ -42,7 +43,7 @@ pub use reading::read_hold;
 pub use restore::RestoreFault;
 pub use saving::write_hold;
 pub use slice_set::SliceSet;
-pub use streams::{FromRead, FromWrite, Sink, Source};
+pub use streams::{FromRead, FromWrite, Sink, Source, ThroughWrite};
 pub use take::{PAYLOAD_LIMIT, TakeAllFault, Taken};
 pub use tile_state::TileState;
 pub use whole::{WholeFault, read_whole};

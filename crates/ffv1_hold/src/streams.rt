@@ -3,10 +3,11 @@
 ghost use Rattle.std.specs.Prelude.{◌≡◌, ℕ, ◌+◌, ◌-◌, ◌^◌, ◌≤◌, min, true, List, Option, is_err, IfOk, OnErr};
 ghost use Rattle.std.specs.Io.{ReadsAtMost, WritesAtMost};
 ghost use Rattle.std.specs.Io.KnownBytes.{ReadConsumes, WriteAppends};
-ghost use Rattle.ffv1_hold.specs.Streams.{failures_after, takes_none, IsBrokenRead, IsBrokenWrite, sum_to_limit};
+ghost use Rattle.ffv1_hold.specs.Streams.{failures_after, takes_none, IsBrokenRead, IsBrokenWrite, sum_to_limit, writer_of};
 
+use crate::failures::{Failures, NONE_FAILED};
 use std::io;
-use std::io::{ErrorKind, Read, Write};
+use std::io::{Read, Write};
 
 /// What is read. Where its bytes are told, `remaining` is those that are left.
 pub trait Source {
@@ -54,6 +55,9 @@ pub trait Sink {
     // How many of them were not interrupted. At `u64::MAX` it rises no more.
     ghost broken: { Self → ℕ };
 
+    // Which reference it writes through, where it borrows its writer.
+    ghost reference: { Self → ℕ };
+
     /// One try: answers how many of the first bytes were taken. It may be interrupted; an error counts as a failure, and so
     /// does taking none of some bytes.
     fn write(&mut self, buf: &[u8]) -> io::Result<usize>
@@ -61,7 +65,8 @@ pub trait Sink {
         ensures bytes { WriteAppends (contents self.old) (contents self.new) result buf.now }
         ensures failures { failures self.new ≡ failures_after (takes_none result buf.now) (failures self.old) }
         ensures broken { IsBrokenWrite result buf.now → broken self.new ≡ failures_after true (broken self.old) }
-        ensures unbroken { ¬ IsBrokenWrite result buf.now → broken self.new ≡ broken self.old };
+        ensures unbroken { ¬ IsBrokenWrite result buf.now → broken self.new ≡ broken self.old }
+        ensures same_reference { reference self.new ≡ reference self.old };
 
     /// How many tries failed, interrupted ones among them: `u64::MAX` for that many or more.
     fn failures(&self) -> u64
@@ -76,8 +81,7 @@ pub trait Sink {
 #[derive(Drop)]
 pub struct FromRead<R> {
     reader: R,
-    failed_reads: u64,
-    broken_reads: u64,
+    failures: Failures,
     taken: u64,
 }
 
@@ -91,8 +95,7 @@ impl<R: Read> FromRead<R> {
     {
         FromRead {
             reader,
-            failed_reads: 0,
-            broken_reads: 0,
+            failures: NONE_FAILED,
             taken: 0,
         }
     }
@@ -101,32 +104,27 @@ impl<R: Read> FromRead<R> {
 impl<R: Read> Source for FromRead<R> {
     ghost remaining = { λ s. R.remaining s.reader };
 
-    ghost failures = { λ s. s.failed_reads };
+    ghost failures = { λ s. s.failures.failed };
 
-    ghost broken = { λ s. s.broken_reads };
+    ghost broken = { λ s. s.failures.broken };
 
     ghost taken = { λ s. s.taken };
 
     fn read(&mut self, buf: &mut [u8]) -> io::Result<usize> {
         let result = self.reader.read(buf);
-        match &result {
-            Ok(n) => self.taken = self.taken.saturating_add(*n as u64),
-            Err(error) => {
-                self.failed_reads = self.failed_reads.saturating_add(1);
-                if error.kind() != ErrorKind::Interrupted {
-                    self.broken_reads = self.broken_reads.saturating_add(1);
-                }
-            }
+        self.failures.count_read(&result);
+        if let Ok(n) = &result {
+            self.taken = self.taken.saturating_add(*n as u64);
         }
         result
     }
 
     fn failures(&self) -> u64 {
-        self.failed_reads
+        self.failures.failed
     }
 
     fn broken(&self) -> u64 {
-        self.broken_reads
+        self.failures.broken
     }
 
     fn taken(&self) -> u64 {
@@ -138,8 +136,7 @@ impl<R: Read> Source for FromRead<R> {
 #[derive(Drop)]
 pub struct FromWrite<W> {
     writer: W,
-    failed_writes: u64,
-    broken_writes: u64,
+    failures: Failures,
 }
 
 impl<W: Write> FromWrite<W> {
@@ -151,8 +148,7 @@ impl<W: Write> FromWrite<W> {
     {
         FromWrite {
             writer,
-            failed_writes: 0,
-            broken_writes: 0,
+            failures: NONE_FAILED,
         }
     }
 
@@ -167,33 +163,70 @@ impl<W: Write> FromWrite<W> {
 impl<W: Write> Sink for FromWrite<W> {
     ghost contents = { λ s. W.contents s.writer };
 
-    ghost failures = { λ s. s.failed_writes };
+    ghost failures = { λ s. s.failures.failed };
 
-    ghost broken = { λ s. s.broken_writes };
+    ghost broken = { λ s. s.failures.broken };
+
+    ghost reference = { λ _. 0 };
 
     fn write(&mut self, buf: &[u8]) -> io::Result<usize> {
         let result = self.writer.write(buf);
-        let (failed, broken) = match &result {
-            Ok(n) => {
-                let none_taken = *n == 0 && !buf.is_empty();
-                (none_taken, none_taken)
-            }
-            Err(error) => (true, error.kind() != ErrorKind::Interrupted),
-        };
-        if failed {
-            self.failed_writes = self.failed_writes.saturating_add(1);
-        }
-        if broken {
-            self.broken_writes = self.broken_writes.saturating_add(1);
-        }
+        self.failures.count_write(&result, buf);
         result
     }
 
     fn failures(&self) -> u64 {
-        self.failed_writes
+        self.failures.failed
     }
 
     fn broken(&self) -> u64 {
-        self.broken_writes
+        self.failures.broken
+    }
+}
+
+/// A borrowed writer of std as a sink, without a buffer. The writer holds what was written when the borrow ends.
+#[derive(Drop)]
+pub struct ThroughWrite<'a, W> {
+    writer: &'a mut W,
+    failures: Failures,
+}
+
+impl<'a, W: Write> ThroughWrite<'a, W> {
+    /// The writer, with no failure counted yet.
+    pub fn new(writer: &'a mut W) -> ThroughWrite<'a, W>
+        ensures writer { writer_of result ≡ writer.old }
+        ensures reference { ⟦<ThroughWrite<'a, W> as Sink>⟧.reference result ≡ writer.entry.ghost_name }
+        ensures bytes { ⟦<ThroughWrite<'a, W> as Sink>⟧.contents result ≡ W.contents writer.old }
+        ensures failures { ⟦<ThroughWrite<'a, W> as Sink>⟧.failures result ≡ 0 }
+        ensures broken { ⟦<ThroughWrite<'a, W> as Sink>⟧.broken result ≡ 0 }
+    {
+        ThroughWrite {
+            writer,
+            failures: NONE_FAILED,
+        }
+    }
+}
+
+impl<W: Write> Sink for ThroughWrite<'_, W> {
+    ghost contents = { λ s. W.contents s.writer.now };
+
+    ghost failures = { λ s. s.failures.failed };
+
+    ghost broken = { λ s. s.failures.broken };
+
+    ghost reference = { λ s. s.writer.ghost_name };
+
+    fn write(&mut self, buf: &[u8]) -> io::Result<usize> {
+        let result = self.writer.write(buf);
+        self.failures.count_write(&result, buf);
+        result
+    }
+
+    fn failures(&self) -> u64 {
+        self.failures.failed
+    }
+
+    fn broken(&self) -> u64 {
+        self.failures.broken
     }
 }

@@ -22,6 +22,7 @@ fn write_some<S: Sink>(sink: &mut S, bytes: &[u8]) -> Result<usize, WriteFailed>
     ensures unbroken { OnOk result (S.broken sink.new ≡ S.broken sink.old) }
     ensures broken_once { S.broken sink.new ≤ S.broken sink.old + 1 }
     ensures counted { S.failures sink.old ≤ S.failures sink.new }
+    ensures same_reference { S.reference sink.new ≡ S.reference sink.old }
     ensures tries { S.failures sink.new ≤ S.failures sink.old + most_tries }
 {
     for _ in 0..TRIES {
@@ -50,6 +51,7 @@ pub fn write_field<S: Sink>(sink: &mut S, bytes: &[u8]) -> Result<(), WriteFaile
     ensures unbroken { OnOk result (S.broken sink.new ≡ S.broken sink.old) }
     ensures broken_once { S.broken sink.new ≤ S.broken sink.old + 1 }
     ensures counted { S.failures sink.old ≤ S.failures sink.new }
+    ensures same_reference { S.reference sink.new ≡ S.reference sink.old }
 {
     let mut rest = bytes;
     while !rest.is_empty() {
