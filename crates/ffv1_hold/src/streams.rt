@@ -3,7 +3,7 @@
 ghost use Rattle.std.specs.Prelude.{◌≡◌, ℕ, ◌+◌, ◌-◌, ◌^◌, ◌≤◌, min, true, List, Option, is_err, IfOk, OnErr};
 ghost use Rattle.std.specs.Io.{ReadsAtMost, WritesAtMost};
 ghost use Rattle.std.specs.Io.KnownBytes.{ReadConsumes, WriteAppends};
-ghost use Rattle.ffv1_hold.specs.Streams.{failures_after, takes_none, IsBrokenRead, IsBrokenWrite, sum_to_limit, writer_of};
+ghost use Rattle.ffv1_hold.specs.Streams.{failures_after, takes_none, IsBrokenRead, IsBrokenWrite, sum_to_limit, reader_of, writer_of};
 
 use crate::failures::{Failures, NONE_FAILED};
 use std::io;
@@ -88,6 +88,7 @@ pub struct FromRead<R> {
 impl<R: Read> FromRead<R> {
     /// The reader, with no failure and no byte counted yet.
     pub fn new(reader: R) -> FromRead<R>
+        ensures reader { reader_of result ≡ reader }
         ensures bytes { ⟦<FromRead<R> as Source>⟧.remaining result ≡ R.remaining reader }
         ensures failures { ⟦<FromRead<R> as Source>⟧.failures result ≡ 0 }
         ensures broken { ⟦<FromRead<R> as Source>⟧.broken result ≡ 0 }

@@ -9,3 +9,4 @@ pub mod ReportSteps
 pub mod DecodeSteps
 pub mod PictureSteps
 pub mod CommandLaws
+pub mod Wrapped

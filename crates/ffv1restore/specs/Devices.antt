@@ -1,6 +1,8 @@
 -- What a command takes from a file and leaves in one.
-use Rattle.std.specs.Prelude.{ℕ, ◌≡◌, ◌^◌, ◌<◌, ◌≤◌, ◌++◌, List, [], ◌∷◌, length, Option, IfSome, ◌⊎◌}
+use Rattle.std.specs.Prelude.{ℕ, ◌≡◌, ◌+◌, ◌^◌, ◌<◌, ◌≤◌, ◌++◌, List, [], ◌∷◌, length, Option, IfSome, ◌⊎◌}
 use Rattle.std.specs.Io.KnownBytes.{Appends, Consumes, IsAtEnd, Keeps}
+use Rattle.ffv1_hold.specs.Streams.{HasCounted, HasGivenUp}
+pub use Rattle.ffv1_hold.specs.Writing.{WritesFront}
 use Rattle.ffv1_hold.specs.declared.fault.HoldFault.TheVariants as holds
 use Rattle.ffv1restore.specs.declared.fault.CliFault.{CliFault}
 use Rattle.ffv1restore.specs.declared.fault.CliFault.TheVariants as faults
@@ -34,13 +36,6 @@ AreWholeInputs (input ∷ inputs) (bytes ∷ rest) = IsWholeInput input bytes ×
 -- An input is longer than the limit, where it tells its bytes.
 abbrev pub IsTooLong : Option (List ℕ) → Type 0
 IsTooLong input = IfSome input (λ bytes. file_limit < length bytes)
-
--- A front of the bytes was written, and nothing else.
-pub record WritesFront (before after : Option (List ℕ)) (bytes : List ℕ) : Type 0 where
-  pub done : List ℕ
-  pub rest : List ℕ
-  pub split : bytes ≡ done ++ rest
-  pub written : Appends before after done
 
 -- the faults of reading the command's path of this number
 abbrev pub IsInputFault : ℕ → CliFault → Type 0
@@ -79,3 +74,18 @@ abbrev pub PrintStops : ℕ → List ℕ → Option (List ℕ) → Option (List 
 PrintStops path text before after (faults.Write named) = (named ≡ path) × WritesFront before after text
 PrintStops path text before after faults.Memory = Keeps before after
 PrintStops path text before after _ = ⊥
+
+-- How a device is told, by the counts of its failures and of those that were no interruption: it gave up where it is told, and else
+-- no failure but interruptions came.
+pub record TellsFailure (told : Type 0) (failures_old failures_new broken_old broken_new : ℕ) : Type 0 where
+  pub gave_up : told → HasGivenUp failures_old failures_new broken_old broken_new
+  pub unbroken : (¬ told) → broken_new ≡ broken_old
+  pub broken_once : broken_new ≤ broken_old + 1
+
+-- How an input with a limit is told, by the same counts and that of its bytes: it gave up or passed the limit where it is told, and
+-- else did neither.
+pub record TellsFile (told : Type 0) (failures_old failures_new broken_old broken_new taken_old taken_new : ℕ) : Type 0 where
+  pub stopped : told → HasGivenUp failures_old failures_new broken_old broken_new ⊎ HasCounted (file_limit + 1) taken_old taken_new
+  pub unbroken : (¬ told) → broken_new ≡ broken_old
+  pub broken_once : broken_new ≤ broken_old + 1
+  pub within : (¬ told) → taken_new ≤ taken_old + file_limit

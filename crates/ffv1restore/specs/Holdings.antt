@@ -27,8 +27,8 @@ IsHoldingFault path input (faults.HoldFile fault) = IfSome input (λ bytes. IsFa
 IsHoldingFault path input faults.Memory = Unit {0}
 IsHoldingFault path input _ = ⊥
 
--- why a holding's file was not made
+-- Why a holding's file was not made. One that is too long is told as that, and never as want of memory.
 abbrev pub IsFileFault : Contents → CliFault → Type 0
 IsFileFault h (faults.HoldFile fault) = (fault ≡ files.TooLong) × IsTooLong h
-IsFileFault h faults.Memory = Unit {0}
+IsFileFault h faults.Memory = ¬ IsTooLong h
 IsFileFault h _ = ⊥

@@ -20,6 +20,8 @@ pub use Rattle.ffv1_range.specs.SetupForms
 pub use Rattle.ffv1_range.specs.SetupFaults
 pub use Rattle.ffv1_slice.specs.Walk
 pub use Rattle.ffv1_slice.specs.Slices
+pub use Rattle.ffv1_hold.specs.Streams
+pub use Rattle.ffv1_hold.specs.Writing
 pub use Rattle.ffv1_hold.specs.Sets
 pub use Rattle.ffv1_hold.specs.Reels
 pub use Rattle.ffv1_hold.specs.Contents

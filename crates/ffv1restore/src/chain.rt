@@ -1,12 +1,13 @@
 //! The command `chain`: tells the links of a frame payload and how their chain ends (RFC 9043, section 4.9).
-ghost use Rattle.std.specs.Prelude.{◌≡◌, ◌≤◌, ◌++◌, ◌^◌, length, IfOk, IfErr, OnOk, IfSome, string_bytes};
+ghost use Rattle.std.specs.Prelude.{◌≡◌, ◌≤◌, ◌++◌, ◌^◌, length, IfOk, IfErr, IsErrOf, OnOk, IfSome, string_bytes};
 ghost use Rattle.ffv1restore.specs.Fault.{NamesPathBelow};
-ghost use Rattle.ffv1restore.specs.Devices.{UnlessWriting};
+ghost use Rattle.ffv1restore.specs.Devices.{UnlessWriting, TellsFailure, TellsFile};
 ghost use Rattle.ffv1restore.specs.ChainText.{link_place, link_state, parity_word, end_line, IsChainText, PrintsChain, ChainStops};
 ghost use Rattle.ffv1_slice.specs.Chain.{IsFramed};
 
 use crate::devices::{read_file, write_file};
 use crate::fault::CliFault;
+use ffv1_hold::{FromRead, Sink, Source, ThroughWrite};
 use ffv1_slice::{Chain, ChainEnd, Link};
 use std::alloc::{AllocError, Global};
 use std::io::{Read, Write};
@@ -30,14 +31,35 @@ pub fn run_chain<R: Read, W: Write>(
     ensures untouched { IfErr result (λ fault. UnlessWriting fault (output.new ≡ output.old)) }
     ensures names { IfErr result (NamesPathBelow 2) }
 {
+    chain_of(
+        alloc,
+        &mut FromRead::new(frame),
+        &mut ThroughWrite::new(output),
+    )
+}
+
+/// The command over a source and a sink.
+fn chain_of<R: Source, W: Sink>(
+    alloc: Global,
+    frame: &mut R,
+    output: &mut W,
+) -> Result<(), CliFault>
+    ensures ok { OnOk result (IfSome (R.remaining frame.old)
+        (λ payload. PrintsChain payload (W.contents output.old) (W.contents output.new))) }
+    ensures few { OnOk result (IfSome (R.remaining frame.old) (λ payload. length payload ≤ 2 ^ 30)) }
+    ensures err { IfErr result (ChainStops (R.remaining frame.old) (W.contents output.old) (W.contents output.new)) }
+    ensures untouched { IfErr result (λ fault. UnlessWriting fault (output.new ≡ output.old)) }
+    ensures names { IfErr result (NamesPathBelow 2) }
+
+    ensures frame_told { TellsFile (IsErrOf result (CliFault.Read 0)) (R.failures frame.old) (R.failures frame.new)
+        (R.broken frame.old) (R.broken frame.new) (R.taken frame.old) (R.taken frame.new) }
+    ensures output_told { TellsFailure (IsErrOf result (CliFault.Write 1)) (W.failures output.old) (W.failures output.new)
+        (W.broken output.old) (W.broken output.new) }
+    ensures same_output { W.reference output.new ≡ W.reference output.old }
+{
     let payload = read_file(alloc, frame, 0)?;
-    let Ok(text) = chain_text(alloc, payload.as_slice()) else {
-        return Err(CliFault::Memory);
-    };
-    if write_file(output, text.as_bytes()).is_err() {
-        return Err(CliFault::Write(1));
-    }
-    Ok(())
+    let text = chain_text(alloc, payload.as_slice())?;
+    write_file(output, 1, text.as_bytes())
 }
 
 /// The text that tells a payload's chain.

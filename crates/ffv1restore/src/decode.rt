@@ -1,13 +1,14 @@
 //! The command `decode`: writes the samples of a frame (RFC 9043, sections 4.4 to 4.9).
-ghost use Rattle.std.specs.Prelude.{◌≡◌, IfOk, IfErr, OnOk, string_bytes};
+ghost use Rattle.std.specs.Prelude.{◌≡◌, IfOk, IfErr, IsErrOf, OnOk, string_bytes};
 ghost use Rattle.ffv1restore.specs.Fault.{NamesPathBelow};
-ghost use Rattle.ffv1restore.specs.Devices.{UnlessWriting, IfOfRecord};
+ghost use Rattle.ffv1restore.specs.Devices.{UnlessWriting, IfOfRecord, TellsFailure, TellsFile};
 ghost use Rattle.ffv1restore.specs.SamplesText.{decoded_line};
 ghost use Rattle.ffv1restore.specs.DecodeText.{DecodesFile, DecodeStops};
 
 use crate::devices::{read_file, write_both};
 use crate::fault::CliFault;
 use crate::samples::samples_of;
+use ffv1_hold::{FromRead, Sink, Source, ThroughWrite};
 use ffv1_picture::Decoder;
 use std::alloc::{AllocError, Global};
 use std::io::{Read, Write};
@@ -36,6 +37,46 @@ pub fn run_decode<R: Read, F: Read, O: Write, W: Write>(
     ensures untouched { IfErr result (λ fault. UnlessWriting fault ((out.new ≡ out.old) × (output.new ≡ output.old))) }
     ensures in_turn { IfErr result (λ fault. IfOfRecord fault (input.new ≡ input.old)) }
     ensures names { IfErr result (NamesPathBelow 4) }
+{
+    decode_of(
+        alloc,
+        &mut FromRead::new(configuration),
+        width,
+        height,
+        &mut FromRead::new(input),
+        &mut ThroughWrite::new(out),
+        &mut ThroughWrite::new(output),
+    )
+}
+
+/// The command over sources and sinks.
+fn decode_of<R: Source, F: Source, O: Sink, W: Sink>(
+    alloc: Global,
+    configuration: &mut R,
+    width: u32,
+    height: u32,
+    input: &mut F,
+    out: &mut O,
+    output: &mut W,
+) -> Result<(), CliFault>
+    ensures ok { OnOk result (DecodesFile (R.remaining configuration.old) width height (F.remaining input.old)
+        (O.contents out.old) (O.contents out.new) (W.contents output.old) (W.contents output.new)) }
+    ensures err { IfErr result (DecodeStops (R.remaining configuration.old) width height (F.remaining input.old)
+        (O.contents out.old) (O.contents out.new) (W.contents output.old) (W.contents output.new)) }
+    ensures untouched { IfErr result (λ fault. UnlessWriting fault ((out.new ≡ out.old) × (output.new ≡ output.old))) }
+    ensures in_turn { IfErr result (λ fault. IfOfRecord fault (input.new ≡ input.old)) }
+    ensures names { IfErr result (NamesPathBelow 4) }
+
+    ensures record_told { TellsFile (IsErrOf result (CliFault.Read 0)) (R.failures configuration.old) (R.failures configuration.new)
+        (R.broken configuration.old) (R.broken configuration.new) (R.taken configuration.old) (R.taken configuration.new) }
+    ensures input_told { TellsFile (IsErrOf result (CliFault.Read 1)) (F.failures input.old) (F.failures input.new)
+        (F.broken input.old) (F.broken input.new) (F.taken input.old) (F.taken input.new) }
+    ensures out_told { TellsFailure (IsErrOf result (CliFault.Write 2)) (O.failures out.old) (O.failures out.new)
+        (O.broken out.old) (O.broken out.new) }
+    ensures output_told { TellsFailure (IsErrOf result (CliFault.Write 3)) (W.failures output.old) (W.failures output.new)
+        (W.broken output.old) (W.broken output.new) }
+    ensures same_out { O.reference out.new ≡ O.reference out.old }
+    ensures same_output { W.reference output.new ≡ W.reference output.old }
 {
     let config = read_file(alloc, configuration, 0)?;
     let decoder = Decoder::new(alloc, config.as_slice(), width, height)?;

@@ -1,24 +1,24 @@
-//! Holding files, read from a reader and made for a writer of std.
-ghost use Rattle.std.specs.Prelude.{◌≡◌, IfOk, IfErr, OnOk};
+//! Holding files, read from a source and made in memory.
+ghost use Rattle.std.specs.Prelude.{◌≡◌, IfOk, IfErr, IsErrOf, OnOk};
+ghost use Rattle.ffv1_hold.specs.Streams.{HasFailed};
 ghost use Rattle.ffv1_hold.specs.HoldingText.{holding_text};
 ghost use Rattle.ffv1restore.specs.Holdings.{IsHoldingFile, HasFile, IsHoldingFault, IsFileFault};
 
 use crate::fault::{CliFault, of_hold_file};
-use ffv1_hold::{FromRead, FromWrite, HoldFileFault, Holding, read_hold, write_hold};
+use ffv1_hold::{FromWrite, HoldFileFault, Holding, Source, read_hold, write_hold};
 use std::alloc::Global;
-use std::io::Read;
 
 /// The holding of the file that is the command's path of this number.
-pub(crate) fn read_holding<R: Read>(
+pub(crate) fn read_holding<S: Source>(
     alloc: Global,
-    input: &mut R,
+    source: &mut S,
     path: usize,
 ) -> Result<Holding, CliFault>
-    ensures ok { IfOk result (IsHoldingFile (R.remaining input.old)) }
-    ensures err { IfErr result (IsHoldingFault path (R.remaining input.old)) }
+    ensures ok { IfOk result (IsHoldingFile (S.remaining source.old)) }
+    ensures err { IfErr result (IsHoldingFault path (S.remaining source.old)) }
+    ensures failed { IsErrOf result (CliFault.Read path) → HasFailed (S.failures source.old) (S.failures source.new) }
 {
-    let mut source = FromRead::new(input);
-    match read_hold(alloc, &mut source) {
+    match read_hold(alloc, source) {
         Ok(holding) => Ok(holding),
         Err(fault) => Err(of_hold_file(path, fault)),
     }

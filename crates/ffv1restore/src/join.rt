@@ -1,13 +1,14 @@
 //! The command `join`: makes the holding file of the union of holding files (own).
-ghost use Rattle.std.specs.Prelude.{◌≡◌, ◌+◌, ◌<◌, ◌≤◌, ◌^◌, [], ◌∷◌, ◌++◌, length, map, IfOk, IfErr, OnOk, string_bytes};
+ghost use Rattle.std.specs.Prelude.{◌≡◌, ◌+◌, ◌<◌, ◌≤◌, ◌^◌, [], ◌∷◌, ◌++◌, length, map, IfOk, IfErr, IsErrOf, OnOk, string_bytes};
 ghost use Rattle.ffv1restore.specs.Fault.{NamesPathBelow};
-ghost use Rattle.ffv1restore.specs.Devices.{UnlessWriting};
+ghost use Rattle.ffv1restore.specs.Devices.{UnlessWriting, TellsFailure};
+ghost use Rattle.ffv1_hold.specs.Streams.{HasFailed};
 ghost use Rattle.ffv1restore.specs.JoinText.{file_line, JoinsEach, JoinsOne, JoinsFiles, IsJoinFault, IsFaultOfFiles, JoinStops};
 
 use crate::devices::write_both;
 use crate::fault::CliFault;
 use crate::holdings::{file_of, read_holding};
-use ffv1_hold::{Holding, Join};
+use ffv1_hold::{FromRead, Holding, Join, Sink, Source, ThroughWrite};
 use std::alloc::{AllocError, Global};
 use std::io::{Read, Write};
 
@@ -19,6 +20,8 @@ use std::io::{Read, Write};
 /// bytes, or where the union's file would pass its limit; `Hold` where a file is of another record or size than the first;
 /// `Memory` where a growth is refused: then nothing was written, and `out` was not touched. `Write` comes where `out` or
 /// the output fails: a front of the file was written, or the whole file and a front of the lines.
+///
+/// The other files are fewer than 2^63, as those of a `Vec` always are, so that each path has a number.
 pub fn run_join<R: Read, O: Write, W: Write>(
     alloc: Global,
     first: &mut R,
@@ -31,6 +34,37 @@ pub fn run_join<R: Read, O: Write, W: Write>(
     ensures err { IfErr result (JoinStops (R.remaining first.old ∷ map R.remaining others.old) (O.contents out.old) (O.contents out.new) (W.contents output.old) (W.contents output.new)) }
     ensures untouched { IfErr result (λ fault. UnlessWriting fault ((out.new ≡ out.old) × (output.new ≡ output.old))) }
     ensures names { IfErr result (NamesPathBelow (length others.old + 3)) }
+{
+    join_of(
+        alloc,
+        &mut FromRead::new(first),
+        others,
+        &mut ThroughWrite::new(out),
+        &mut ThroughWrite::new(output),
+    )
+}
+
+/// The command over a source, readers of the other files, and sinks.
+fn join_of<F: Source, R: Read, O: Sink, W: Sink>(
+    alloc: Global,
+    first: &mut F,
+    others: &mut [R],
+    out: &mut O,
+    output: &mut W,
+) -> Result<(), CliFault>
+    requires { length others.old < 2 ^ 63 }
+    ensures ok { OnOk result (JoinsFiles (F.remaining first.old ∷ map R.remaining others.old) (O.contents out.old) (O.contents out.new) (W.contents output.old) (W.contents output.new)) }
+    ensures err { IfErr result (JoinStops (F.remaining first.old ∷ map R.remaining others.old) (O.contents out.old) (O.contents out.new) (W.contents output.old) (W.contents output.new)) }
+    ensures untouched { IfErr result (λ fault. UnlessWriting fault ((out.new ≡ out.old) × (output.new ≡ output.old))) }
+    ensures names { IfErr result (NamesPathBelow (length others.old + 3)) }
+
+    ensures first_failed { IsErrOf result (CliFault.Read 1) → HasFailed (F.failures first.old) (F.failures first.new) }
+    ensures out_told { TellsFailure (IsErrOf result (CliFault.Write 0)) (O.failures out.old) (O.failures out.new)
+        (O.broken out.old) (O.broken out.new) }
+    ensures output_told { TellsFailure (IsErrOf result (CliFault.Write (length others.old + 2))) (W.failures output.old) (W.failures output.new)
+        (W.broken output.old) (W.broken output.new) }
+    ensures same_out { O.reference out.new ≡ O.reference out.old }
+    ensures same_output { W.reference output.new ≡ W.reference output.old }
 {
     let mut lines = String::new(alloc);
     let whole = join_files(alloc, first, others, &mut lines)?;
@@ -46,16 +80,17 @@ pub fn run_join<R: Read, O: Write, W: Write>(
 }
 
 /// Joins the holdings of files, the first of which is the command's path 1, and tells each in a line.
-fn join_files<R: Read>(
+fn join_files<F: Source, R: Read>(
     alloc: Global,
-    first: &mut R,
+    first: &mut F,
     others: &mut [R],
     lines: &mut String,
 ) -> Result<Holding, CliFault>
     requires few { length others.old < 2 ^ 63 }
     requires none { string_bytes lines.old ≡ [] }
-    ensures ok { IfOk result (λ whole. JoinsEach (R.remaining first.old ∷ map R.remaining others.old) whole (string_bytes lines.new)) }
-    ensures err { IfErr result (IsFaultOfFiles (R.remaining first.old ∷ map R.remaining others.old)) }
+    ensures ok { IfOk result (λ whole. JoinsEach (F.remaining first.old ∷ map R.remaining others.old) whole (string_bytes lines.new)) }
+    ensures err { IfErr result (IsFaultOfFiles (F.remaining first.old ∷ map R.remaining others.old)) }
+    ensures first_failed { IsErrOf result (CliFault.Read 1) → HasFailed (F.failures first.old) (F.failures first.new) }
 {
     let mut whole = read_holding(alloc, first, 1)?;
     push_file(lines, 1, whole.size())?;
@@ -75,6 +110,21 @@ fn join_file<R: Read>(
 ) -> Result<(), CliFault>
     ensures ok { OnOk result (JoinsOne (R.remaining file.old) number whole.old whole.new (string_bytes lines.old) (string_bytes lines.new)) }
     ensures err { IfErr result (IsJoinFault number (R.remaining file.old) whole.old) }
+{
+    join_file_of(alloc, whole, &mut FromRead::new(file), number, lines)
+}
+
+/// The same over a source.
+fn join_file_of<R: Source>(
+    alloc: Global,
+    whole: &mut Holding,
+    file: &mut R,
+    number: usize,
+    lines: &mut String,
+) -> Result<(), CliFault>
+    ensures ok { OnOk result (JoinsOne (R.remaining file.old) number whole.old whole.new (string_bytes lines.old) (string_bytes lines.new)) }
+    ensures err { IfErr result (IsJoinFault number (R.remaining file.old) whole.old) }
+    ensures failed { IsErrOf result (CliFault.Read number) → HasFailed (R.failures file.old) (R.failures file.new) }
 {
     let other = read_holding(alloc, file, number)?;
     let new = whole.join_with(&other)?;

@@ -1,12 +1,14 @@
 //! The command `report`: prints the damage report of a holding file (own).
-ghost use Rattle.std.specs.Prelude.{◌≡◌, IfErr, OnOk};
+ghost use Rattle.std.specs.Prelude.{◌≡◌, IfErr, IsErrOf, OnOk};
 ghost use Rattle.ffv1restore.specs.Fault.{NamesPathBelow};
-ghost use Rattle.ffv1restore.specs.Devices.{UnlessWriting};
+ghost use Rattle.ffv1restore.specs.Devices.{UnlessWriting, TellsFailure};
+ghost use Rattle.ffv1_hold.specs.Streams.{HasFailed};
 ghost use Rattle.ffv1restore.specs.ReportedText.{ReportsFile, ReportStops};
 
-use crate::devices::print_text;
+use crate::devices::write_file;
 use crate::fault::CliFault;
 use crate::holdings::read_holding;
+use ffv1_hold::{FromRead, Sink, Source, ThroughWrite};
 use ffv1_picture::report;
 use std::alloc::Global;
 use std::io::{Read, Write};
@@ -27,7 +29,30 @@ pub fn run_report<R: Read, W: Write>(
     ensures untouched { IfErr result (λ fault. UnlessWriting fault (output.new ≡ output.old)) }
     ensures names { IfErr result (NamesPathBelow 2) }
 {
+    report_of(
+        alloc,
+        &mut FromRead::new(file),
+        &mut ThroughWrite::new(output),
+    )
+}
+
+/// The command over a source and a sink.
+fn report_of<R: Source, W: Sink>(
+    alloc: Global,
+    file: &mut R,
+    output: &mut W,
+) -> Result<(), CliFault>
+    ensures ok { OnOk result (ReportsFile (R.remaining file.old) (W.contents output.old) (W.contents output.new)) }
+    ensures err { IfErr result (ReportStops (R.remaining file.old) (W.contents output.old) (W.contents output.new)) }
+    ensures untouched { IfErr result (λ fault. UnlessWriting fault (output.new ≡ output.old)) }
+    ensures names { IfErr result (NamesPathBelow 2) }
+
+    ensures file_failed { IsErrOf result (CliFault.Read 0) → HasFailed (R.failures file.old) (R.failures file.new) }
+    ensures output_told { TellsFailure (IsErrOf result (CliFault.Write 1)) (W.failures output.old) (W.failures output.new)
+        (W.broken output.old) (W.broken output.new) }
+    ensures same_output { W.reference output.new ≡ W.reference output.old }
+{
     let holding = read_holding(alloc, file, 0)?;
     let text = report(alloc, &holding)?;
-    print_text(output, 1, text.as_str())
+    write_file(output, 1, text.as_bytes())
 }

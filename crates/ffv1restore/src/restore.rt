@@ -1,12 +1,14 @@
 //! The command `restore`: writes the frame payload that a holding file restores (own).
-ghost use Rattle.std.specs.Prelude.{◌≡◌, IfOk, IfErr, OnOk, string_bytes};
+ghost use Rattle.std.specs.Prelude.{◌≡◌, IfOk, IfErr, IsErrOf, OnOk, string_bytes};
 ghost use Rattle.ffv1restore.specs.Fault.{NamesPathBelow};
-ghost use Rattle.ffv1restore.specs.Devices.{UnlessWriting};
+ghost use Rattle.ffv1restore.specs.Devices.{UnlessWriting, TellsFailure};
+ghost use Rattle.ffv1_hold.specs.Streams.{HasFailed};
 ghost use Rattle.ffv1restore.specs.RestoreText.{restored_line, RestoresFile, RestoreStops};
 
 use crate::devices::write_both;
 use crate::fault::CliFault;
 use crate::holdings::read_holding;
+use ffv1_hold::{FromRead, Sink, Source, ThroughWrite};
 use std::alloc::{AllocError, Global};
 use std::io::{Read, Write};
 
@@ -27,6 +29,34 @@ pub fn run_restore<R: Read, O: Write, W: Write>(
     ensures err { IfErr result (RestoreStops (R.remaining file.old) (O.contents out.old) (O.contents out.new) (W.contents output.old) (W.contents output.new)) }
     ensures untouched { IfErr result (λ fault. UnlessWriting fault ((out.new ≡ out.old) × (output.new ≡ output.old))) }
     ensures names { IfErr result (NamesPathBelow 3) }
+{
+    restore_of(
+        alloc,
+        &mut FromRead::new(file),
+        &mut ThroughWrite::new(out),
+        &mut ThroughWrite::new(output),
+    )
+}
+
+/// The command over a source and sinks.
+fn restore_of<R: Source, O: Sink, W: Sink>(
+    alloc: Global,
+    file: &mut R,
+    out: &mut O,
+    output: &mut W,
+) -> Result<(), CliFault>
+    ensures ok { OnOk result (RestoresFile (R.remaining file.old) (O.contents out.old) (O.contents out.new) (W.contents output.old) (W.contents output.new)) }
+    ensures err { IfErr result (RestoreStops (R.remaining file.old) (O.contents out.old) (O.contents out.new) (W.contents output.old) (W.contents output.new)) }
+    ensures untouched { IfErr result (λ fault. UnlessWriting fault ((out.new ≡ out.old) × (output.new ≡ output.old))) }
+    ensures names { IfErr result (NamesPathBelow 3) }
+
+    ensures file_failed { IsErrOf result (CliFault.Read 0) → HasFailed (R.failures file.old) (R.failures file.new) }
+    ensures out_told { TellsFailure (IsErrOf result (CliFault.Write 1)) (O.failures out.old) (O.failures out.new)
+        (O.broken out.old) (O.broken out.new) }
+    ensures output_told { TellsFailure (IsErrOf result (CliFault.Write 2)) (W.failures output.old) (W.failures output.new)
+        (W.broken output.old) (W.broken output.new) }
+    ensures same_out { O.reference out.new ≡ O.reference out.old }
+    ensures same_output { W.reference output.new ≡ W.reference output.old }
 {
     let holding = read_holding(alloc, file, 0)?;
     let payload = holding.restore()?;

@@ -1,14 +1,15 @@
 //! The command `show`: tells the setup that a configuration record gives for frames of one size (RFC 9043,
 //! section 4.3).
-ghost use Rattle.std.specs.Prelude.{◌≡◌, ◌≤◌, ◌^◌, ◌++◌, length, IfOk, IfErr, OnOk, IfSome, string_bytes};
+ghost use Rattle.std.specs.Prelude.{◌≡◌, ◌≤◌, ◌^◌, ◌++◌, length, IfOk, IfErr, IsErrOf, OnOk, IfSome, string_bytes};
 ghost use Rattle.ffv1restore.specs.Fault.{NamesPathBelow};
 ghost use Rattle.ffv1restore.specs.ShowText.{version_lines, planes_line, grid_line, contexts_word, tables_line, end_lines, show_text, PrintsSetup, ShowStops};
 ghost use Rattle.std.specs.List.{flat_map};
 ghost use Rattle.std.specs.Io.KnownBytes.{Appends};
-ghost use Rattle.ffv1restore.specs.Devices.{PrintStops, UnlessWriting};
+ghost use Rattle.ffv1restore.specs.Devices.{PrintStops, UnlessWriting, TellsFailure, TellsFile};
 
-use crate::devices::{print_text, read_file};
+use crate::devices::{read_file, write_file};
 use crate::fault::CliFault;
+use ffv1_hold::{FromRead, Sink, Source, ThroughWrite};
 use ffv1_range::Setup;
 use std::alloc::{AllocError, Global};
 use std::io::{Read, Write};
@@ -34,22 +35,53 @@ pub fn run_show<R: Read, W: Write>(
     ensures untouched { IfErr result (λ fault. UnlessWriting fault (output.new ≡ output.old)) }
     ensures names { IfErr result (NamesPathBelow 2) }
 {
+    show_of(
+        alloc,
+        &mut FromRead::new(input),
+        width,
+        height,
+        &mut ThroughWrite::new(output),
+    )
+}
+
+/// The command over a source and a sink.
+fn show_of<R: Source, W: Sink>(
+    alloc: Global,
+    input: &mut R,
+    width: u32,
+    height: u32,
+    output: &mut W,
+) -> Result<(), CliFault>
+    ensures ok { OnOk result (IfSome (R.remaining input.old)
+        (λ config. PrintsSetup config width height (W.contents output.old) (W.contents output.new))) }
+    ensures few { OnOk result (IfSome (R.remaining input.old) (λ config. length config ≤ 2 ^ 30)) }
+    ensures err { IfErr result (ShowStops width height (R.remaining input.old) (W.contents output.old) (W.contents output.new)) }
+    ensures untouched { IfErr result (λ fault. UnlessWriting fault (output.new ≡ output.old)) }
+    ensures names { IfErr result (NamesPathBelow 2) }
+
+    ensures input_told { TellsFile (IsErrOf result (CliFault.Read 0)) (R.failures input.old) (R.failures input.new)
+        (R.broken input.old) (R.broken input.new) (R.taken input.old) (R.taken input.new) }
+    ensures output_told { TellsFailure (IsErrOf result (CliFault.Write 1)) (W.failures output.old) (W.failures output.new)
+        (W.broken output.old) (W.broken output.new) }
+    ensures same_output { W.reference output.new ≡ W.reference output.old }
+{
     let config = read_file(alloc, input, 0)?;
     let setup = Setup::read(alloc, config.as_slice(), width, height)?;
     print_setup(alloc, &setup, output)
 }
 
 /// Prints a setup to the command's path 1.
-fn print_setup<W: Write>(alloc: Global, setup: &Setup, output: &mut W) -> Result<(), CliFault>
+fn print_setup<W: Sink>(alloc: Global, setup: &Setup, output: &mut W) -> Result<(), CliFault>
     ensures ok { OnOk result (Appends (W.contents output.old) (W.contents output.new) (show_text setup.now)) }
     ensures err { IfErr result (PrintStops 1 (show_text setup.now) (W.contents output.old) (W.contents output.new)) }
     ensures untouched { IfErr result (λ fault. UnlessWriting fault (output.new ≡ output.old)) }
     ensures names { IfErr result (NamesPathBelow 2) }
+    ensures told { TellsFailure (IsErrOf result (CliFault.Write 1)) (W.failures output.old) (W.failures output.new)
+        (W.broken output.old) (W.broken output.new) }
+    ensures same_output { W.reference output.new ≡ W.reference output.old }
 {
-    let Ok(text) = setup_text(alloc, setup) else {
-        return Err(CliFault::Memory);
-    };
-    print_text(output, 1, text.as_str())
+    let text = setup_text(alloc, setup)?;
+    write_file(output, 1, text.as_bytes())
 }
 
 /// The text that tells a setup.

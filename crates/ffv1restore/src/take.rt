@@ -1,15 +1,16 @@
 //! The command `take`: makes the holding file of all slices that are found in copies of one frame (own;
 //! slices are those of RFC 9043, sections 4.5 and 4.9).
-ghost use Rattle.std.specs.Prelude.{◌≡◌, ◌≢◌, ◌+◌, ◌<◌, ◌≤◌, ◌^◌, ◌++◌, length, map, IfOk, IfErr, OnOk, string_bytes};
+ghost use Rattle.std.specs.Prelude.{◌≡◌, ◌≢◌, ◌+◌, ◌<◌, ◌≤◌, ◌^◌, ◌++◌, length, map, IfOk, IfErr, IsErrOf, OnOk, string_bytes};
 ghost use Rattle.ffv1_hold.specs.Contents.{no_slices};
+ghost use Rattle.ffv1_hold.specs.Streams.{HasCounted};
 ghost use Rattle.ffv1restore.specs.Fault.{NamesPathBelow};
-ghost use Rattle.ffv1restore.specs.Devices.{IfOfRecord, IsCopyFault, UnlessWriting};
+ghost use Rattle.ffv1restore.specs.Devices.{IfOfRecord, IsCopyFault, UnlessWriting, TellsFailure, TellsFile, file_limit};
 ghost use Rattle.ffv1restore.specs.TakeText.{copy_line, TakesEach, TakesOne, TakesCopies, IsFaultOfCopies, TakeStops};
 
 use crate::devices::{read_copy, read_file, write_both};
 use crate::fault::CliFault;
 use crate::holdings::file_of;
-use ffv1_hold::{Holding, Taken};
+use ffv1_hold::{FromRead, HoldFault, Holding, Sink, Source, Taken, ThroughWrite};
 use std::alloc::{AllocError, Global};
 use std::io::{Read, Write};
 
@@ -23,6 +24,8 @@ use std::io::{Read, Write};
 /// where a copy is longer than 2^30 bytes; `HoldFile` where the holding's file would pass its limit; `Memory` where a
 /// growth is refused: then nothing was written, and `out` was not touched. `Write` comes where `out` or the output fails:
 /// a front of the file was written, or the whole file and a front of the lines.
+///
+/// The copies are fewer than 2^63, as those of a `Vec` always are, so that each path has a number.
 pub fn run_take<R: Read, C: Read, O: Write, W: Write>(
     alloc: Global,
     configuration: &mut R,
@@ -40,6 +43,45 @@ pub fn run_take<R: Read, C: Read, O: Write, W: Write>(
     ensures untouched { IfErr result (λ fault. UnlessWriting fault ((out.new ≡ out.old) × (output.new ≡ output.old))) }
     ensures in_turn { IfErr result (λ fault. IfOfRecord fault (copies.new ≡ copies.old)) }
     ensures names { IfErr result (NamesPathBelow (length copies.old + 3)) }
+{
+    take_of(
+        alloc,
+        &mut FromRead::new(configuration),
+        width,
+        height,
+        copies,
+        &mut ThroughWrite::new(out),
+        &mut ThroughWrite::new(output),
+    )
+}
+
+/// The command over a source, readers of copies, and sinks.
+fn take_of<R: Source, C: Read, O: Sink, W: Sink>(
+    alloc: Global,
+    configuration: &mut R,
+    width: u32,
+    height: u32,
+    copies: &mut [C],
+    out: &mut O,
+    output: &mut W,
+) -> Result<(), CliFault>
+    requires { length copies.old < 2 ^ 63 }
+    ensures ok { OnOk result (TakesCopies (R.remaining configuration.old) width height (map C.remaining copies.old)
+        (O.contents out.old) (O.contents out.new) (W.contents output.old) (W.contents output.new)) }
+    ensures err { IfErr result (TakeStops (R.remaining configuration.old) width height (map C.remaining copies.old)
+        (O.contents out.old) (O.contents out.new) (W.contents output.old) (W.contents output.new)) }
+    ensures untouched { IfErr result (λ fault. UnlessWriting fault ((out.new ≡ out.old) × (output.new ≡ output.old))) }
+    ensures in_turn { IfErr result (λ fault. IfOfRecord fault (copies.new ≡ copies.old)) }
+    ensures names { IfErr result (NamesPathBelow (length copies.old + 3)) }
+
+    ensures record_told { TellsFile (IsErrOf result (CliFault.Read 0)) (R.failures configuration.old) (R.failures configuration.new)
+        (R.broken configuration.old) (R.broken configuration.new) (R.taken configuration.old) (R.taken configuration.new) }
+    ensures out_told { TellsFailure (IsErrOf result (CliFault.Write 1)) (O.failures out.old) (O.failures out.new)
+        (O.broken out.old) (O.broken out.new) }
+    ensures output_told { TellsFailure (IsErrOf result (CliFault.Write (length copies.old + 2))) (W.failures output.old) (W.failures output.new)
+        (W.broken output.old) (W.broken output.new) }
+    ensures same_out { O.reference out.new ≡ O.reference out.old }
+    ensures same_output { W.reference output.new ≡ W.reference output.old }
 {
     let config = read_file(alloc, configuration, 0)?;
     let mut holding = Holding::new(alloc, config.as_slice(), width, height)?;
@@ -86,6 +128,26 @@ fn take_copy<C: Read>(
     ensures ok { OnOk result (TakesOne (C.remaining copy.old) (before + 1) holding.old holding.new (string_bytes lines.old) (string_bytes lines.new)) }
     ensures reel { holding.new.reel ≡ holding.old.reel }
     ensures err { IfErr result (IsCopyFault (before + 2) (C.remaining copy.old)) }
+{
+    take_copy_of(alloc, holding, &mut FromRead::new(copy), before, lines)
+}
+
+/// The same over a source.
+fn take_copy_of<C: Source>(
+    alloc: Global,
+    holding: &mut Holding,
+    copy: &mut C,
+    before: usize,
+    lines: &mut String,
+) -> Result<(), CliFault>
+    requires { before < 2 ^ 63 }
+    ensures ok { OnOk result (TakesOne (C.remaining copy.old) (before + 1) holding.old holding.new (string_bytes lines.old) (string_bytes lines.new)) }
+    ensures reel { holding.new.reel ≡ holding.old.reel }
+    ensures err { IfErr result (IsCopyFault (before + 2) (C.remaining copy.old)) }
+    ensures copy_told { TellsFailure (IsErrOf result (CliFault.Read (before + 2))) (C.failures copy.old) (C.failures copy.new)
+        (C.broken copy.old) (C.broken copy.new) }
+    ensures too_long { IsErrOf result (CliFault.Hold HoldFault.PayloadTooLong) → HasCounted (file_limit + 1) (C.taken copy.old) (C.taken copy.new) }
+    ensures within { (¬ IsErrOf result (CliFault.Hold HoldFault.PayloadTooLong)) → C.taken copy.new ≤ C.taken copy.old + file_limit }
 {
     let payload = read_copy(alloc, copy, before + 2)?;
     let taken = holding.take(payload.as_slice())?;

@@ -11,7 +11,7 @@ pub loop-index-init : goal.loop-index-init
 loop-index-init g c =
     let told = c.in_ok-push_file.ensures ∙ ap (λ t. t ++ file_line 1 c.size.result) c.requires.none ∙ ap (file_line 1) c.size.ensures in
     record {
-      joined = subst (λ (text : List ℕ). JoinsEach (g.R.Read.remaining c.args.first.now ∷ []) c.in_ok-whole.whole text) (sym told) (joins_first _ _ c.in_ok-whole.ensures.ok);
+      joined = subst (λ (text : List ℕ). JoinsEach (g.F.Source.remaining c.args.first.now ∷ []) c.in_ok-whole.whole text) (sym told) (joins_first _ _ c.in_ok-whole.ensures.ok);
       others = λ k d le. refl;
     }
 
@@ -20,7 +20,7 @@ loop-index-preserved g c =
     let i = c.loop-index.index in
     let old = c.args.others.now in
     let now = c.loop-index.others in
-    let first = g.R.Read.remaining c.args.first.now in
+    let first = g.F.Source.remaining c.args.first.now in
     let lt : i < length old = omega arith in
     let le : i ≤ length old = omega arith in
     let d = c.index-others-index.result in
@@ -38,7 +38,7 @@ loop-index-preserved g c =
 
 pub returns-clause-ok : goal.returns-clause-ok
 returns-clause-ok g c =
-    subst (λ (inputs : List (Option (List ℕ))). JoinsEach (g.R.Read.remaining c.args.first.now ∷ inputs) c.loop-index.whole (string_bytes c.loop-index.lines))
+    subst (λ (inputs : List (Option (List ℕ))). JoinsEach (g.F.Source.remaining c.args.first.now ∷ inputs) c.loop-index.whole (string_bytes c.loop-index.lines))
     (inputs_all g.R.Read.remaining c.args.others.now c.loop-index.index (omega arith)) c.loop-index.invariant.joined
 
 pub returns-in_err-join_file-clause-err : goal.returns-in_err-join_file-clause-err
@@ -51,5 +51,5 @@ returns-in_err-join_file-clause-err g c =
     let few : i < length (map g.R.Read.remaining old) = omega (arith, length-map old g.R.Read.remaining) in
     let same = c.loop-index.invariant.others i d (omega arith) in
     let each = c.loop-index.invariant.joined in
-    rw (p.1, p.2) (other_refused (g.R.Read.remaining c.args.first.now) _ (map g.R.Read.remaining old) i few (input_at g.R.Read.remaining old c.loop-index.others i d lt same)
+    rw (p.1, p.2) (other_refused (g.F.Source.remaining c.args.first.now) _ (map g.R.Read.remaining old) i few (input_at g.R.Read.remaining old c.loop-index.others i d lt same)
     c.loop-index.whole each.first each.files.0 (joins_reel _ _ _ each) _ each c.in_err-join_file.field-0.0 c.in_err-join_file.ensures.err)

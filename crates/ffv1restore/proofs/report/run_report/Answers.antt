@@ -1,11 +1,7 @@
-use Rattle.std.proofs.Common.{◌∙◌}
-use Rattle.ffv1restore.proofs.ReportSteps.{reported, report_stopped}
+use Rattle.std.proofs.Common.{rules, ap}
+use Rattle.ffv1_hold.specs.Streams.{writer_of}
+use Rattle.ffv1restore.proofs.Wrapped.{unless_writing}
 use Rattle.ffv1restore.proofs.report.run_report.Goals as goal
 
-pub returns-clause-ok : goal.returns-clause-ok
-returns-clause-ok g c =
-    reported _ _ _ c.in_ok-holding.holding c.as_str.result.now c.in_ok-holding.ensures.ok (c.as_str.ensures.value ∙ c.in_ok-text.ensures) c.print_text.result c.print_text.ensures.ok
-
-pub returns-clause-err : goal.returns-clause-err
-returns-clause-err g c =
-    report_stopped _ _ _ c.in_ok-holding.holding c.as_str.result.now c.in_ok-holding.ensures.ok (c.as_str.ensures.value ∙ c.in_ok-text.ensures) c.print_text.result c.print_text.ensures.err c.print_text.ensures.fault
+pub returns-clause-untouched : goal.returns-clause-untouched
+returns-clause-untouched g c = unless_writing _ _ c.report_of.result (λ same. search (rules, ap writer_of same)) c.report_of.ensures.untouched

@@ -1,14 +1,7 @@
-use Rattle.std.proofs.Common.{subst}
-use Rattle.ffv1_range.specs.Setup.{IsSetupOf}
-use Rattle.ffv1restore.proofs.Shows.{setup_printed, setup_stopped}
+use Rattle.std.proofs.Common.{rules, ap}
+use Rattle.ffv1_hold.specs.Streams.{writer_of}
+use Rattle.ffv1restore.proofs.Wrapped.{unless_writing}
 use Rattle.ffv1restore.proofs.show.run_show.Goals as goal
 
-pub returns-clause-ok : goal.returns-clause-ok
-returns-clause-ok g c =
-    setup_printed _ _ _ _ c.in_ok-config.config.items c.args.width c.args.height c.in_ok-setup.setup c.in_ok-config.ensures.ok
-    (subst (λ bytes. IsSetupOf bytes c.args.width c.args.height c.in_ok-setup.setup) c.as_slice.ensures.value c.in_ok-setup.ensures.found) c.print_setup.result c.print_setup.ensures.ok
-
-pub returns-clause-err : goal.returns-clause-err
-returns-clause-err g c =
-    setup_stopped _ _ _ _ c.in_ok-config.config.items c.args.width c.args.height c.in_ok-setup.setup c.in_ok-config.ensures.ok
-    (subst (λ bytes. IsSetupOf bytes c.args.width c.args.height c.in_ok-setup.setup) c.as_slice.ensures.value c.in_ok-setup.ensures.found) c.print_setup.result c.print_setup.ensures.err
+pub returns-clause-untouched : goal.returns-clause-untouched
+returns-clause-untouched g c = unless_writing _ _ c.show_of.result (λ same. search (rules, ap writer_of same)) c.show_of.ensures.untouched

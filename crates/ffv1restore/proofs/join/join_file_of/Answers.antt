@@ -2,7 +2,7 @@ use Rattle.std.proofs.Common.{◌++◌, ap, ◌∙◌}
 use Rattle.std.proofs.lemmas.Result.{err_from_is_err_and}
 use Rattle.std.specs.String.{string_bytes}
 use Rattle.ffv1restore.proofs.JoinSteps.{join_refused, line_of_join-from}
-use Rattle.ffv1restore.proofs.join.join_file.Goals as goal
+use Rattle.ffv1restore.proofs.join.join_file_of.Goals as goal
 
 pub returns-in_err-new-clause-err : goal.returns-in_err-new-clause-err
 returns-in_err-new-clause-err g c =
