@@ -1,4 +1,4 @@
--- Why a content spells no picture of a tile, and that of a slice of the tile it is a code that can't be read.
+-- Why a content spells no picture of a tile.
 use Rattle.std.proofs.Common.{◌≡◌, ◌⊎◌, ℕ, List, sym, ap, subst, ◌∙◌, inl, inr, ⊎_elim}
 use Rattle.std.specs.Prelude.{◌==◌}
 use Rattle.ffv1_range.specs.Setup.{SetupValue}
