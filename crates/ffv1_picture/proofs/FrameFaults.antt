@@ -1,16 +1,10 @@
 -- Faults of parts of a frame as those of the whole.
-use Rattle.std.proofs.Common.{◌≡◌, ◌⊎◌, ◌<◌, ℕ, Bool, List, length, Result, Ok, Err, IfErr, subst, inl, inr, arith}
-use Rattle.std.specs.Prelude.{◌==◌}
-use Rattle.std.proofs.Math.ListN.{length-reverse}
+use Rattle.std.proofs.Common.{◌≡◌, ◌⊎◌, ◌<◌, ℕ, List, length, Result, Ok, Err, IfErr, inl, inr}
 use Rattle.ffv1_range.specs.Setup.{SetupValue}
 use Rattle.ffv1_slice.specs.Chain.{Piece}
-use Rattle.ffv1_slice.specs.Walk.{links_of}
-use Rattle.ffv1_slice.specs.Slices.{IsSliceOf}
-use Rattle.ffv1_slice.proofs.SliceLaws.{slice_found}
-use Rattle.ffv1_slice.proofs.SliceFacts.{slice_first}
 use Rattle.ffv1_plane.specs.declared.tile.TileFault.{TileFault}
 use Rattle.ffv1_plane.specs.declared.tile.TileFault.TheVariants as tiles
-use Rattle.ffv1_picture.specs.Frames.{links_from_front, link_at, content_at, HasPicture, IsOrdered}
+use Rattle.ffv1_picture.specs.Frames.{links_from_front, content_at, HasPicture, IsOrdered}
 use Rattle.ffv1_picture.specs.TilePictures.{IsUnreadable}
 use Rattle.ffv1_picture.specs.FrameFaults.{IsFirstUnreadable, IsFirstFault, fault_of_tile}
 use Rattle.ffv1_picture.specs.declared.fault.FrameFault.{FrameFault}

@@ -1,14 +1,9 @@
 -- Why a content spells no picture of a tile.
-use Rattle.std.proofs.Common.{◌≡◌, ◌⊎◌, ℕ, List, sym, ap, subst, ◌∙◌, inl, inr, ⊎_elim}
-use Rattle.std.specs.Prelude.{◌==◌}
+use Rattle.std.proofs.Common.{◌≡◌, ◌⊎◌, ℕ, List, subst, inl, inr, ⊎_elim}
 use Rattle.ffv1_range.specs.Setup.{SetupValue}
-use Rattle.ffv1_range.specs.Header.{header_limits}
-use Rattle.ffv1_range.proofs.HeaderFound.{head_run}
-use Rattle.ffv1_range.proofs.Spelling.{same_ok}
-use Rattle.ffv1_slice.specs.Slices.{IsSliceOf, content_of}
 use Rattle.ffv1_plane.specs.Picture.{PictureValue, IsPictureOf}
 use Rattle.ffv1_plane.specs.declared.tile.TileFault.{TileFault}
-use Rattle.ffv1_plane.specs.declared.tile.TileFault.TheVariants.{Head, OtherTile, Code, Memory}
+use Rattle.ffv1_plane.specs.declared.tile.TileFault.TheVariants.{Memory}
 use Rattle.ffv1_picture.specs.TilePictures.{IsUnreadable}
 use Rattle.ffv1_plane.specs.StuckLaws.{IsRefusedFor}
 
