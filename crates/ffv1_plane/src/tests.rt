@@ -158,7 +158,7 @@ fn four_samples(rt: HostRuntime) -> Result<(), Fail> {
 
 #[test]
 fn lines_of_zeros(rt: HostRuntime) -> Result<(), Fail> {
-    let cases: [(&[u8], (u32, u32), usize, usize); 4] = [
+    let cases: [(&[u8], (u32, u32), usize, usize); 5] = [
         (&[0xFD, 0xF6, 0xFC], (8, 1), 8, 2),
         (&[0xFD, 0xF6, 0xFC], (7, 1), 7, 2),
         (&[0xFD, 0xF6, 0xFA], (7, 1), 7, 1),
@@ -167,6 +167,14 @@ fn lines_of_zeros(rt: HostRuntime) -> Result<(), Fail> {
             (16384, 3),
             49152,
             7,
+        ),
+        (
+            &[
+                0xFD, 0xF6, 0xFF, 0xFF, 0xFF, 0xFF, 0xFF, 0xFF, 0xFF, 0xFF, 0xFF, 0xFF, 0xFF, 0xFF,
+            ],
+            (16384, 65),
+            1_064_960,
+            1,
         ),
     ];
     for (content, size, samples, wanted) in cases {
