@@ -507,27 +507,22 @@ fn a_fault_that_was_read_comes_before_the_device(rt: HostRuntime) -> Result<(), 
         if let Some(byte) = changed.get_mut(place) {
             *byte = value;
         }
+        let seen = changed.get(..end).ok_or("the bytes up to the fault")?;
+        assert_eq!(rt; fault_behind(rt.alloc(), seen), Some(fault), "at {place}");
+        let (_, before) = seen.split_last().ok_or("a last byte")?;
         assert_eq!(rt;
-            fault_behind(rt.alloc(), &changed[..end]),
-            Some(fault),
-            "at {place}"
-        );
-        assert_eq!(rt;
-            fault_behind(rt.alloc(), &changed[..end - 1]),
+            fault_behind(rt.alloc(), before),
             Some(HoldFileFault::Read),
             "before {end}"
         );
     }
     let swapped = joined(rt.alloc(), text.as_slice(), &[(0, 37), (55, 73), (37, 55)])?;
-    assert_eq!(rt; swapped.len(), 73);
+    let (_, before) = swapped.split_last().ok_or("a last byte")?;
     assert_eq!(rt;
         fault_behind(rt.alloc(), swapped.as_slice()),
         Some(HoldFileFault::Order)
     );
-    assert_eq!(rt;
-        fault_behind(rt.alloc(), &swapped[..72]),
-        Some(HoldFileFault::Read)
-    );
+    assert_eq!(rt; fault_behind(rt.alloc(), before), Some(HoldFileFault::Read));
     Ok(())
 }
 
