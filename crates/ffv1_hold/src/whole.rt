@@ -62,7 +62,8 @@ pub fn read_whole<S: Source>(
     ensures within { (¬ IsErrOf result WholeFault.TooLong) → S.taken source.new ≤ S.taken source.old + limit }
 
     ensures failed { IsErrOf result WholeFault.Read → HasFailed (S.failures source.old) (S.failures source.new) }
-    ensures gave_up { IsErrOf result WholeFault.Read → HasGivenUp (S.failures source.old) (S.failures source.new) (S.broken source.old) (S.broken source.new) }
+    ensures gave_up { IsErrOf result WholeFault.Read → HasGivenUp (S.failures source.old) (S.failures source.new)
+        (S.broken source.old) (S.broken source.new) }
     ensures unbroken { (¬ IsErrOf result WholeFault.Read) → S.broken source.new ≡ S.broken source.old }
     ensures broken_once { S.broken source.new ≤ S.broken source.old + 1 }
     ensures counted { S.failures source.old ≤ S.failures source.new }

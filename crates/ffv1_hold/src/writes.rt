@@ -41,8 +41,8 @@ fn write_some<S: Sink>(sink: &mut S, bytes: &[u8]) -> Result<usize, WriteFailed>
 
 /// Writes all of the bytes.
 ///
-/// It is refused only where the sink counted a failure: an interrupted try is made again, and 65 in a row are a failure. Then
-/// a front of the bytes was written, none or all of them among it.
+/// It is refused only where the sink counted a failure: an interrupted try is made again, and 65 in a row are a failure; the
+/// first failure that is no interruption is told. Then a front of the bytes was written, none or all of them among it.
 pub fn write_field<S: Sink>(sink: &mut S, bytes: &[u8]) -> Result<(), WriteFailed>
     ensures ok { OnOk result (Appends (S.contents sink.old) (S.contents sink.new) bytes.now) }
     ensures err { OnErr result (WritesFront (S.contents sink.old) (S.contents sink.new) bytes.now) }

@@ -67,7 +67,7 @@ pub(crate) fn write_file<K: Sink>(sink: &mut K, path: usize, bytes: &[u8]) -> Re
     }
 }
 
-/// Writes a file to the command's path of this number, and then prints a text to its path `printed`, another one.
+/// Writes a file to the command's path of this number, and then prints a text to its path `printed`, which stands behind it.
 pub(crate) fn write_both<O: Sink, W: Sink>(
     out: &mut O,
     path: usize,
@@ -79,7 +79,8 @@ pub(crate) fn write_both<O: Sink, W: Sink>(
     requires { path < printed }
     ensures file { OnOk result (Appends (O.contents out.old) (O.contents out.new) file.now) }
     ensures text { OnOk result (Appends (W.contents output.old) (W.contents output.new) text.now) }
-    ensures err { IfErr result (WriteStops path printed file.now text.now (O.contents out.old) (O.contents out.new) (W.contents output.old) (W.contents output.new)) }
+    ensures err { IfErr result (WriteStops path printed file.now text.now
+        (O.contents out.old) (O.contents out.new) (W.contents output.old) (W.contents output.new)) }
     ensures out_told { TellsFailure (IsErrOf result (CliFault.Write path)) (O.failures out.old) (O.failures out.new)
         (O.broken out.old) (O.broken out.new) }
     ensures output_told { TellsFailure (IsErrOf result (CliFault.Write printed)) (W.failures output.old) (W.failures output.new)

@@ -1,8 +1,8 @@
 //! The command `join`: makes the holding file of the union of holding files (own).
 ghost use Rattle.std.specs.Prelude.{◌≡◌, ◌+◌, ◌<◌, ◌≤◌, ◌^◌, [], ◌∷◌, ◌++◌, length, map, IfOk, IfErr, IsErrOf, OnOk, string_bytes};
+ghost use Rattle.ffv1_hold.specs.Streams.{HasFailed};
 ghost use Rattle.ffv1restore.specs.Fault.{NamesPathBelow};
 ghost use Rattle.ffv1restore.specs.Devices.{UnlessWriting, TellsFailure};
-ghost use Rattle.ffv1_hold.specs.Streams.{HasFailed};
 ghost use Rattle.ffv1restore.specs.JoinText.{file_line, JoinsEach, JoinsOne, JoinsFiles, IsJoinFault, IsFaultOfFiles, JoinStops};
 
 use crate::devices::write_both;
@@ -30,8 +30,10 @@ pub fn run_join<R: Read, O: Write, W: Write>(
     output: &mut W,
 ) -> Result<(), CliFault>
     requires { length others.old < 2 ^ 63 }
-    ensures ok { OnOk result (JoinsFiles (R.remaining first.old ∷ map R.remaining others.old) (O.contents out.old) (O.contents out.new) (W.contents output.old) (W.contents output.new)) }
-    ensures err { IfErr result (JoinStops (R.remaining first.old ∷ map R.remaining others.old) (O.contents out.old) (O.contents out.new) (W.contents output.old) (W.contents output.new)) }
+    ensures ok { OnOk result (JoinsFiles (R.remaining first.old ∷ map R.remaining others.old)
+        (O.contents out.old) (O.contents out.new) (W.contents output.old) (W.contents output.new)) }
+    ensures err { IfErr result (JoinStops (R.remaining first.old ∷ map R.remaining others.old)
+        (O.contents out.old) (O.contents out.new) (W.contents output.old) (W.contents output.new)) }
     ensures untouched { IfErr result (λ fault. UnlessWriting fault ((out.new ≡ out.old) × (output.new ≡ output.old))) }
     ensures names { IfErr result (NamesPathBelow (length others.old + 3)) }
 {
@@ -53,8 +55,10 @@ fn join_of<F: Source, R: Read, O: Sink, W: Sink>(
     output: &mut W,
 ) -> Result<(), CliFault>
     requires { length others.old < 2 ^ 63 }
-    ensures ok { OnOk result (JoinsFiles (F.remaining first.old ∷ map R.remaining others.old) (O.contents out.old) (O.contents out.new) (W.contents output.old) (W.contents output.new)) }
-    ensures err { IfErr result (JoinStops (F.remaining first.old ∷ map R.remaining others.old) (O.contents out.old) (O.contents out.new) (W.contents output.old) (W.contents output.new)) }
+    ensures ok { OnOk result (JoinsFiles (F.remaining first.old ∷ map R.remaining others.old)
+        (O.contents out.old) (O.contents out.new) (W.contents output.old) (W.contents output.new)) }
+    ensures err { IfErr result (JoinStops (F.remaining first.old ∷ map R.remaining others.old)
+        (O.contents out.old) (O.contents out.new) (W.contents output.old) (W.contents output.new)) }
     ensures untouched { IfErr result (λ fault. UnlessWriting fault ((out.new ≡ out.old) × (output.new ≡ output.old))) }
     ensures names { IfErr result (NamesPathBelow (length others.old + 3)) }
 

@@ -1,8 +1,8 @@
 //! The command `picture`: writes what can be shown of a holding file (own).
 ghost use Rattle.std.specs.Prelude.{◌≡◌, ◌++◌, ◌<◌, ◌^◌, ◌↔◌, All, IsTrue, IfOk, IfErr, IsErrOf, OnOk, length, string_bytes};
+ghost use Rattle.ffv1_hold.specs.Streams.{HasFailed};
 ghost use Rattle.ffv1restore.specs.Fault.{NamesPathBelow};
 ghost use Rattle.ffv1restore.specs.Devices.{UnlessWriting, TellsFailure};
-ghost use Rattle.ffv1_hold.specs.Streams.{HasFailed};
 ghost use Rattle.ffv1restore.specs.PictureText.{place_line, header_line, unreadable_line, outcome_line, picture_text, IsDecoded, ShowsFile, PictureStops};
 
 use crate::devices::write_both;

@@ -1,8 +1,8 @@
 //! The command `report`: prints the damage report of a holding file (own).
 ghost use Rattle.std.specs.Prelude.{◌≡◌, IfErr, IsErrOf, OnOk};
+ghost use Rattle.ffv1_hold.specs.Streams.{HasFailed};
 ghost use Rattle.ffv1restore.specs.Fault.{NamesPathBelow};
 ghost use Rattle.ffv1restore.specs.Devices.{UnlessWriting, TellsFailure};
-ghost use Rattle.ffv1_hold.specs.Streams.{HasFailed};
 ghost use Rattle.ffv1restore.specs.ReportedText.{ReportsFile, ReportStops};
 
 use crate::devices::write_file;

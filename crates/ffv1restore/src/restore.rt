@@ -1,8 +1,8 @@
 //! The command `restore`: writes the frame payload that a holding file restores (own).
 ghost use Rattle.std.specs.Prelude.{◌≡◌, IfOk, IfErr, IsErrOf, OnOk, string_bytes};
+ghost use Rattle.ffv1_hold.specs.Streams.{HasFailed};
 ghost use Rattle.ffv1restore.specs.Fault.{NamesPathBelow};
 ghost use Rattle.ffv1restore.specs.Devices.{UnlessWriting, TellsFailure};
-ghost use Rattle.ffv1_hold.specs.Streams.{HasFailed};
 ghost use Rattle.ffv1restore.specs.RestoreText.{restored_line, RestoresFile, RestoreStops};
 
 use crate::devices::write_both;

@@ -426,3 +426,35 @@ fn each_changed_byte_of_a_holding_file_is_told(rt: HostRuntime) -> Result<(), Fa
     assert!(rt; are_told(rt.alloc(), &both, 0xFF, &BYTE_TURNED)?);
     Ok(())
 }
+
+/// Says that it gave so many bytes, and leaves the buffer as it is: what is read is the zeros that stand there.
+#[derive(Drop)]
+struct Zeros {
+    left: usize,
+}
+
+impl Read for Zeros {
+    fn read(&mut self, buf: &mut [u8]) -> io::Result<usize> {
+        let count = self.left.min(buf.len());
+        self.left -= count;
+        Ok(count)
+    }
+}
+
+#[test]
+fn inputs_and_outputs_of_over_a_mebibyte_are_whole(rt: HostRuntime) -> Result<(), Fail> {
+    let size = (1 << 20) + 8;
+    let mut expected = String::new(rt.alloc());
+    for link in 0..size / 8 {
+        let end = size - link * 8;
+        let start = end - 8;
+        writeln!(expected, "{start}..{end} size 0 status 0 pass")?;
+    }
+    expected.push_str("end whole\n")?;
+    let mut frame = Zeros { left: size };
+    let mut output: Vec<u8> = Vec::new(rt.alloc());
+    let done = run_chain(rt.alloc(), &mut frame, &mut output);
+    assert!(rt; done.is_ok());
+    assert!(rt; output.as_slice() == expected.as_bytes());
+    Ok(())
+}

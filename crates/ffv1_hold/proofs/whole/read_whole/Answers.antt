@@ -1,4 +1,4 @@
-use Rattle.std.proofs.Common.{◌+◌, ◌++◌, ℕ, arith, length, length-append, take}
+use Rattle.std.proofs.Common.{◌+◌, ◌++◌, arith, length-append, take}
 use Rattle.std.proofs.lemmas.List.{length-take}
 use Rattle.std.proofs.KnownBytes.{Consumes-trans}
 use Rattle.ffv1_hold.proofs.whole.read_whole.Goals as goal
