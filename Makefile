@@ -16,6 +16,7 @@ $(PROGRAM): crates.txt $(shell find crates -path '*/out' -prune -o -type f -prin
 test:
 	rm -f $(PROGRAM)
 	tests/manual
+	tests/recorded
 	rt ci
 	tests/run $(PROGRAM)
 
@@ -33,7 +34,7 @@ FIRST ?= 0
 reel: $(PROGRAM)
 	tests/reel $(PROGRAM) $(REELS) $(FIRST)
 
-# Times beside FFmpeg's decoder and a plain copy.
+# Times beside FFmpeg's decoder, zlib's crc32 and a plain copy.
 bench: $(PROGRAM)
 	tests/bench $(PROGRAM)
 

@@ -37,7 +37,8 @@ parts at xs =
     ap (λ ys. take at xs ++ (take 32 (drop at xs) ++ ys)) (sym (drop-drop 32 at xs))
     ∙ ap (λ ys. take at xs ++ ys) (take-append-drop 32 (drop at xs)) ∙ take-append-drop at xs
 
-folded_parts : (at : ℕ) (xs : List Bool) → remainder_of xs ≡ fold shifted (fold shifted (fold shifted 0 (take at xs)) (take 32 (drop at xs))) (drop (at + 32) xs)
+folded_parts : (at : ℕ) (xs : List Bool) → remainder_of xs ≡ fold shifted (fold shifted (fold shifted 0 (take at xs)) (take 32 (drop at xs)))
+    (drop (at + 32) xs)
 folded_parts at xs =
     remainder_is_fold xs ∙ ap (fold shifted 0) (sym (parts at xs))
     ∙ fold-append shifted 0 (take at xs) (take 32 (drop at xs) ++ drop (at + 32) xs)
@@ -49,7 +50,8 @@ same_bits at xs ys l front back e =
     let r : ℕ = fold shifted 0 (take at xs) in
     let v : List Bool = take 32 (drop at xs) in
     let w : List Bool = take 32 (drop at ys) in
-    let last : fold shifted (fold shifted (fold shifted 0 (take at xs)) v) (drop (at + 32) xs) ≡ fold shifted (fold shifted (fold shifted 0 (take at xs)) w) (drop (at + 32) xs) =
+    let last : fold shifted (fold shifted (fold shifted 0 (take at xs)) v) (drop (at + 32) xs) ≡ fold shifted (fold shifted (fold shifted 0 (take at xs)) w)
+    (drop (at + 32) xs) =
     sym (folded_parts at xs) ∙ e ∙ folded_parts at ys
     ∙ ap (λ z. fold shifted (fold shifted (fold shifted 0 z) w) (drop (at + 32) ys)) (sym front)
     ∙ ap (fold shifted (fold shifted (fold shifted 0 (take at xs)) w)) (sym back) in

@@ -6,3 +6,4 @@ pub mod Register
 pub mod Multiples
 pub mod Numbers
 pub mod Places
+pub mod Remainders

@@ -22,7 +22,8 @@ unfolding divided reduced_at
 divided_multiple zero p = subst IsMultiple (sym (xor_self p)) none
 divided_multiple (suc n) p =
     cond_both (has_bit p (32 + n)) (bit_xor p (divisor * 2 ^ n)) p (λ q. IsMultiple (bit_xor q (divided n q)) → IsMultiple (bit_xor p (divided n q)))
-    (λ t h. subst IsMultiple (moved p (divisor * 2 ^ n) (divided n (bit_xor p (divisor * 2 ^ n)))) (plus (bit_xor (bit_xor p (divisor * 2 ^ n)) (divided n (bit_xor p (divisor * 2 ^ n)))) n h))
+    (λ t h. subst IsMultiple (moved p (divisor * 2 ^ n) (divided n (bit_xor p (divisor * 2 ^ n))))
+    (plus (bit_xor (bit_xor p (divisor * 2 ^ n)) (divided n (bit_xor p (divisor * 2 ^ n)))) n h))
     (λ f h. h)
     (divided_multiple n (reduced_at n p))
 

@@ -73,7 +73,8 @@ fronts_alike front other rest more same joined = (
 )
 
 -- bits that begin with two numbers of one count
-pub one_number : (count m n : ℕ) (rest more : List Bool) → m < 2 ^ count → n < 2 ^ count → number_bits count m ++ rest ≡ number_bits count n ++ more → (m ≡ n) × (rest ≡ more)
+pub one_number : (count m n : ℕ) (rest more : List Bool) → m < 2 ^ count → n < 2 ^ count → number_bits count m ++ rest ≡ number_bits count n ++ more
+    → (m ≡ n) × (rest ≡ more)
 one_number count m n rest more below also joined =
     let parts = fronts_alike (number_bits count m) (number_bits count n) rest more (length-number_bits count m ∙ sym (length-number_bits count n)) joined in
     (sym (polynomial_of-number_bits count m below) ∙ ap polynomial_of parts.0 ∙ polynomial_of-number_bits count n also, parts.1)
@@ -83,5 +84,6 @@ pub goes_on : (count : ℕ) (bits : List Bool) → length bits < count → (n : 
 goes_on count bits few =
     let pad : List Bool = replicate (count - length bits - 1) false in
     let padded : List Bool = bits ++ (false ∷ pad) in
-    let whole : length (bits ++ (false ∷ pad)) ≡ count = length-append bits (false ∷ pad) ∙ (let h : length pad ≡ count - length bits - 1 = length-replicate _ _ in omega arith) in
+    let whole : length (bits ++ (false ∷ pad)) ≡ count = length-append bits (false ∷ pad)
+    ∙ (let h : length pad ≡ count - length bits - 1 = length-replicate _ _ in omega arith) in
     (polynomial_of padded, false, pad, ap (λ k. number_bits k (polynomial_of padded)) (sym whole) ∙ number_bits-polynomial_of padded)

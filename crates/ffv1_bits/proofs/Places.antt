@@ -9,7 +9,18 @@ use Rattle.ffv1_bits.specs.Bits.{has_bit, bit_value, number_bits, bits_of}
 use Rattle.ffv1_bits.specs.Reader.{Reading, Reads, PlaceAndLeftAddUp}
 use Rattle.ffv1_bits.proofs.Burst.{length-bits}
 use Rattle.ffv1_bits.proofs.Numbers.{length-number_bits, number_bits-push}
-use Rattle.ffv1_bits.proofs.Register.{bit_of_byte}
+
+bit_of_byte : (b k : ℕ) → k < 8 → get_or (number_bits 8 b) k false ≡ has_bit b (7 - k)
+unfolding number_bits
+bit_of_byte b zero h = refl
+bit_of_byte b (suc zero) h = refl
+bit_of_byte b (suc (suc zero)) h = refl
+bit_of_byte b (suc (suc (suc zero))) h = refl
+bit_of_byte b (suc (suc (suc (suc zero)))) h = refl
+bit_of_byte b (suc (suc (suc (suc (suc zero))))) h = refl
+bit_of_byte b (suc (suc (suc (suc (suc (suc zero)))))) h = refl
+bit_of_byte b (suc (suc (suc (suc (suc (suc (suc zero))))))) h = refl
+bit_of_byte b (suc (suc (suc (suc (suc (suc (suc (suc k)))))))) h = absurd (omega arith)
 
 -- bit j of byte i
 bit_in_byte : (bytes : List ℕ) (i j : ℕ) → i < length bytes → j < 8 → get_or (bits_of bytes) (8 * i + j) false ≡ has_bit (get_or bytes i 0) (7 - j)
@@ -62,7 +73,8 @@ fits_more count n v true small value = let wide : 2 ^ (count + 1) ≡ 2 ^ count 
 fits_more count n v false small value = let wide : 2 ^ (count + 1) ≡ 2 ^ count * 2 = rw add-one (pow-suc 2 count) in omega arith
 
 -- one more bit of a number
-pub one_more : (old mid new : Reading) (count n m v : ℕ) (bit : Bool) → Reads old (number_bits count n) mid → Reads mid (bit ∷ []) new → v ≡ bool_byte bit → m ≡ 2 * n + v → Reads old (number_bits (count + 1) m) new
+pub one_more : (old mid new : Reading) (count n m v : ℕ) (bit : Bool) → Reads old (number_bits count n) mid → Reads mid (bit ∷ []) new → v ≡ bool_byte bit
+    → m ≡ 2 * n + v → Reads old (number_bits (count + 1) m) new
 one_more old mid new count n m v bit before now value is =
     let longer : number_bits (count + 1) m ≡ number_bits count n ++ (bit ∷ []) =
     ap (λ c. number_bits c m) (let e : count + 1 ≡ suc count = omega arith in e)

@@ -12,6 +12,14 @@ one_shifted : remainder_of (bits_of (0x01 ∷ 0 ∷ 0 ∷ 0 ∷ 0 ∷ [])) ≡ 0
 unfolding number_bits bits_of polynomial_of reduced_at divided remainder_of
 one_shifted = refl
 
+two_shifted : remainder_of (bits_of (0x02 ∷ 0 ∷ 0 ∷ 0 ∷ 0 ∷ [])) ≡ 0x09823B6E
+unfolding number_bits bits_of polynomial_of reduced_at divided remainder_of
+two_shifted = refl
+
+ff_shifted : remainder_of (bits_of (0xFF ∷ 0 ∷ 0 ∷ 0 ∷ 0 ∷ [])) ≡ 0xB1F740B4
+unfolding number_bits bits_of polynomial_of reduced_at divided remainder_of
+ff_shifted = refl
+
 fd_shifted : remainder_of (bits_of (0xFD ∷ 0 ∷ 0 ∷ 0 ∷ 0 ∷ [])) ≡ 0xB8757BDA
 unfolding number_bits bits_of polynomial_of reduced_at divided remainder_of
 fd_shifted = refl

@@ -1,10 +1,9 @@
 //! The parity of records and slices: the remainder of their bits, read as a polynomial with coefficients 0 and 1.
 ghost use Rattle.std.specs.Prelude.{◌≡◌, ℕ, ◌+◌, ◌*◌, ◌^◌, ◌<◌, ◌≤◌, ◌↔◌, IsTrue, List};
-ghost use Rattle.ffv1_bits.specs.Bits.{bits_of, bit_value};
-ghost use Rattle.ffv1_bits.specs.Parity.{remainder_of, PassesParity, reduced_at, divided, BurstIsSeen, RemainderIsOne};
+ghost use Rattle.ffv1_bits.specs.Bits.{bits_of};
+ghost use Rattle.ffv1_bits.specs.Parity.{remainder_of, PassesParity, divided, BurstIsSeen, RemainderIsOne};
 
-/// The divisor without its highest power.
-const DIVISOR: u32 = 0x04C1_1DB7;
+use crate::table::byte_remainder;
 
 /// What is left of the bytes after division by the parity's polynomial.
 pub fn remainder(bytes: &[u8]) -> u32
@@ -35,25 +34,10 @@ pub fn remainder_is_one()
     ensures { RemainderIsOne }
 {}
 
-/// The remainder of more bits: one byte comes in at the low end.
+/// The remainder of more bits: one byte comes in at the low end, and the table takes away the byte that leaves at the top.
 fn with_byte(register: u32, byte: u8) -> u32
     ensures { result ≡ divided 8 (register * 2 ^ 8 + byte) }
 {
-    let mut longer = register;
-    for place in 0..8u32 {
-        longer = with_bit(longer, (byte >> (7 - place)) & 1 == 1);
-    }
-    longer
-}
-
-/// The remainder of more bits: one bit comes in at the low end.
-fn with_bit(register: u32, bit: bool) -> u32
-    ensures { result ≡ reduced_at 0 (register * 2 + bit_value bit) }
-{
-    let doubled = (register << 1) | u32::from(bit);
-    if register >> 31 == 1 {
-        doubled ^ DIVISOR
-    } else {
-        doubled
-    }
+    let [top, ..] = register.to_be_bytes();
+    byte_remainder(top) ^ ((register << 8) | u32::from(byte))
 }

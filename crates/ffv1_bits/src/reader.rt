@@ -1,7 +1,8 @@
 //! The bits of bytes, read one after the other, most significant first (RFC 9043, section 4).
 //!
 //! A reader never stands past its last bit.
-ghost use Rattle.std.specs.Prelude.{◌≡◌, ℕ, ◌+◌, ◌^◌, ◌<◌, ◌≤◌, [], ◌∷◌, length, IfSome, IfNone};
+ghost use Rattle.std.specs.Prelude.{◌≡◌, ℕ, ◌+◌, ◌*◌, ◌^◌, ◌<◌, ◌≤◌, [], ◌∷◌, length, IfSome, IfNone};
+ghost use Rattle.ffv1_bits.specs.Limits.{payload_limit};
 ghost use Rattle.ffv1_bits.specs.Bits.{bits_of, number_bits};
 ghost use Rattle.ffv1_bits.specs.Reader.{Reading, Reads, PlaceAndLeftAddUp};
 
@@ -18,18 +19,19 @@ impl<'a> Model for Bits<'a> {
     ghost use Rattle.std.specs.Prelude.{ℕ, ◌*◌, ◌^◌, ◌≤◌, drop, length};
     ghost use Rattle.ffv1_bits.specs.Bits.{bits_of};
     ghost use Rattle.ffv1_bits.specs.Reader.{Reading};
+    ghost use Rattle.ffv1_bits.specs.Limits.{payload_limit};
 
     ghost Value = { Reading };
 
     ghost view = { λ b. record { place = b.place; left = drop b.place (bits_of b.bytes.now) } };
 
-    ghost invariant = { λ b. record { short : length b.bytes.now ≤ 2 ^ 30; within : b.place ≤ 8 * length b.bytes.now } };
+    ghost invariant = { λ b. record { short : length b.bytes.now ≤ payload_limit; within : b.place ≤ 8 * length b.bytes.now } };
 }
 
 impl<'a> Bits<'a> {
-    /// All bits of the bytes, none of them read. There are at most 2^30 bytes.
+    /// All bits of the bytes, none of them read. There are at most `PAYLOAD_LIMIT` bytes.
     pub fn new(bytes: &'a [u8]) -> Self
-        requires { length bytes.now ≤ 2 ^ 30 }
+        requires { length bytes.now ≤ payload_limit }
         ensures place { result.place ≡ 0 }
         ensures left { result.left ≡ bits_of bytes.now }
     {
@@ -49,7 +51,7 @@ impl<'a> Bits<'a> {
     /// The number of bits read.
     pub fn place(&self) -> usize
         ensures value { result ≡ self.now.place }
-        ensures bound { result ≤ 2 ^ 33 }
+        ensures bound { result ≤ 8 * payload_limit }
     {
         self.place
     }
@@ -57,7 +59,7 @@ impl<'a> Bits<'a> {
     /// The number of bits left.
     pub fn left(&self) -> usize
         ensures value { result ≡ length self.now.left }
-        ensures bound { result ≤ 2 ^ 33 }
+        ensures bound { result ≤ 8 * payload_limit }
     {
         8 * self.bytes.len() - self.place
     }

@@ -2,16 +2,17 @@
 use Rattle.std.proofs.Common.{◌≡◌, ℕ, zero, suc, ◌<◌, List, [], ◌∷◌, ◌++◌, length, get_or, Some, refl, arith}
 use Rattle.std.specs.declared.cmp.Ordering.TheVariants.{Less}
 use Rattle.ffv1_range.specs.Setup.{SetupValue}
-use Rattle.ffv1_hold.specs.Sets as set
-use Rattle.ffv1_hold.specs.SliceOrder.{Entry, entry_cmp, entries_total, entries_antisymmetric}
-use Rattle.ffv1_hold.specs.Rising.{IsRising}
-use Rattle.ffv1_hold.specs.Contents.{IsEntryOf, AreEntriesOf}
+use Rattle.ffv1_holding.specs.Sets as set
+use Rattle.ffv1_holding.specs.SliceOrder.{Entry, entry_cmp, entries_total, entries_antisymmetric}
+use Rattle.ffv1_holding.specs.Rising.{IsRising}
+use Rattle.ffv1_holding.specs.Contents.{IsEntryOf, AreEntriesOf}
 use Rattle.ffv1_hold.specs.FileEntries.{last_of, Follows, AreEntries}
-use Rattle.ffv1_hold.proofs.RisingSets.{rising_rest, contains_item}
-use Rattle.ffv1_hold.proofs.ItemsRise.{items-rising, items-insert_last, all_by_recursion}
+use Rattle.ffv1_holding.proofs.RisingSets.{rising_rest, contains_item}
+use Rattle.ffv1_holding.proofs.ItemsRise.{items-rising, items-insert_last, all_by_recursion}
 
 -- what follows the last entry is above all
-pub above_all : (es : List Entry) (e : Entry) → IsRising entry_cmp es → Follows (last_of es) e → (i : ℕ) (d : Entry) → i < length es → entry_cmp (get_or es i d) e ≡ Less
+pub above_all : (es : List Entry) (e : Entry) → IsRising entry_cmp es → Follows (last_of es) e → (i : ℕ) (d : Entry) → i < length es
+    → entry_cmp (get_or es i d) e ≡ Less
 above_all [] e up follows i d lt = absurd (omega arith)
 above_all (x ∷ []) e up follows zero d lt = follows
 above_all (x ∷ []) e up follows (suc i) d lt = absurd (omega arith)

@@ -2,15 +2,16 @@
 use Rattle.std.proofs.Common.{◌≡◌, ℕ, suc, ◌<◌, ◌≤◌, List, [], ◌∷◌, ◌++◌, length, take, get_or, Option, Result, Ok, Err, IfOk, IfErr, arith, inl, inr, refl, sym, ap, ◌∙◌, subst, append_assoc, append-nil, length-append, length-take-le}
 use Rattle.std.proofs.Math.Seq.{take-suc}
 use Rattle.std.specs.Prelude.{◌⊎◌}
+use Rattle.ffv1_bits.specs.Limits.{record_limit}
 use Rattle.ffv1_range.specs.declared.fault.SetupFault.{SetupFault}
 use Rattle.ffv1_range.specs.declared.fault.SetupFault.TheVariants.{Memory as no_memory}
 use Rattle.ffv1_range.specs.SetupFaults.{FirstSetupFault}
 use Rattle.ffv1_hold.specs.declared.file_fault.HoldFileFault.{HoldFileFault}
 use Rattle.ffv1_hold.specs.declared.file_fault.HoldFileFault.TheVariants as faults
-use Rattle.ffv1_hold.specs.Reels.{Reel}
+use Rattle.ffv1_holding.specs.Reels.{Reel}
 use Rattle.ffv1_hold.specs.HoldingText.{magic, be4, sized_record, head_text, entries_text, holding_text}
-use Rattle.ffv1_hold.specs.SliceOrder.{entry_cmp}
-use Rattle.ffv1_hold.specs.Sets as set
+use Rattle.ffv1_holding.specs.SliceOrder.{entry_cmp}
+use Rattle.ffv1_holding.specs.Sets as set
 use Rattle.ffv1_hold.specs.Reading.{Takes, Refuses}
 use Rattle.ffv1_hold.specs.FileEntries.{AreEntries}
 use Rattle.ffv1_hold.specs.FileFaults.{IsFileReel, IsPartOfReel, ReelIsWhole, FileIsWhole, ReelShows, EntriesAreWhole, IsPartOfEntries, EntriesShow, IsPartOfFile, MagicShows, FileShows}
@@ -24,7 +25,7 @@ part_of_height w s h = inl (omega (arith, length-append (be4 w) s, length-be4 w)
 pub part_of_count : (w h : ℕ) (s : List ℕ) → length s < 4 → IsPartOfReel (be4 w ++ be4 h ++ s)
 part_of_count w h s short = inl (omega (arith, length-append (be4 w ++ be4 h) s, length-append (be4 w) (be4 h), length-be4 w, length-be4 h))
 
-pub part_of_config : (w h n : ℕ) (s : List ℕ) → n ≤ 16777216 → length s < n → IsPartOfReel (be4 w ++ be4 h ++ be4 n ++ s)
+pub part_of_config : (w h n : ℕ) (s : List ℕ) → n ≤ record_limit → length s < n → IsPartOfReel (be4 w ++ be4 h ++ be4 n ++ s)
 part_of_config w h n s fits short = inr (w, h, n, s, refl, fits, short)
 
 pub sized_record-of : (config : List ℕ) (w h n : ℕ) → n ≡ length config → be4 w ++ be4 h ++ be4 n ++ config ≡ sized_record config w h
@@ -65,13 +66,17 @@ file_from_whole_reel faults.Write s h = absurd h
 file_from_whole_reel faults.TooLong s h = absurd h
 file_from_whole_reel faults.OtherReel s h = absurd h
 
-text_of : (r : Reel) (slices : set.SetOf entry_cmp) (s tag : List ℕ) → s ≡ entries_text (set.items slices) ++ tag → tag ≡ 0 ∷ [] → head_text r ++ s ≡ holding_text (record { reel = r; slices = slices })
-text_of r slices s tag same end = ap (λ t. head_text r ++ t) (same ∙ ap (λ t. entries_text (set.items slices) ++ t) end) ∙ sym (append_assoc (head_text r) (entries_text (set.items slices)) (0 ∷ []))
+text_of : (r : Reel) (slices : set.SetOf entry_cmp) (s tag : List ℕ) → s ≡ entries_text (set.items slices) ++ tag → tag ≡ 0 ∷ []
+    → head_text r ++ s ≡ holding_text (record { reel = r; slices = slices })
+text_of r slices s tag same end = ap (λ t. head_text r ++ t) (same ∙ ap (λ t. entries_text (set.items slices) ++ t) end)
+    ∙ sym (append_assoc (head_text r) (entries_text (set.items slices)) (0 ∷ []))
 
 -- a text, whose end is looked for
 pub file_from_whole_entries : (r : Reel) → IsFileReel r → (f : HoldFileFault) (s : List ℕ) → EntriesAreWhole r.setup f s → FileIsWhole f (head_text r ++ s)
-file_from_whole_entries r is faults.Read s (slices, tag, are, same, end) = (record { reel = r; slices = slices }, record { reel = is.reel; slices = are }, is.fits, text_of r slices s tag same end)
-file_from_whole_entries r is faults.Trailing s (slices, tag, are, same, end) = (record { reel = r; slices = slices }, record { reel = is.reel; slices = are }, is.fits, text_of r slices s tag same end)
+file_from_whole_entries r is faults.Read s (slices, tag, are, same, end) =
+    (record { reel = r; slices = slices }, record { reel = is.reel; slices = are }, is.fits, text_of r slices s tag same end)
+file_from_whole_entries r is faults.Trailing s (slices, tag, are, same, end) =
+    (record { reel = r; slices = slices }, record { reel = is.reel; slices = are }, is.fits, text_of r slices s tag same end)
 file_from_whole_entries r is faults.Magic s (slices, tag, are, same, end) = absurd end
 file_from_whole_entries r is (faults.Setup f) s (slices, tag, are, same, end) = absurd end
 file_from_whole_entries r is faults.Truncated s (slices, tag, are, same, end) = absurd end
@@ -98,18 +103,22 @@ file_from_reel_fault f s h = inr (inl (s, refl, h))
 
 -- a size and a record that were read, or refused, behind the magic
 module _ (a b c : Option (List ℕ)) (i j k : ℕ) (t : Takes a b i j magic) where
-  pub head_taken : (r : Result Reel HoldFileFault) → IfOk r (λ r. Takes b c j k (sized_record r.config r.setup.width r.setup.height)) → IfOk r (λ r. Takes a c i k (head_text r))
+  pub head_taken : (r : Result Reel HoldFileFault) → IfOk r (λ r. Takes b c j k (sized_record r.config r.setup.width r.setup.height))
+      → IfOk r (λ r. Takes a c i k (head_text r))
   head_taken (Ok r) more = subst (Takes a c i k) (head_text-of r) (Takes-trans a b c i j k magic _ t more)
   head_taken (Err f) more = tt
 
-  pub head_refused : (r : Result Reel HoldFileFault) → IfErr r (Refuses IsPartOfReel ReelIsWhole ReelShows b c j) → IfErr r (Refuses IsPartOfFile FileIsWhole FileShows a c i)
+  pub head_refused : (r : Result Reel HoldFileFault) → IfErr r (Refuses IsPartOfReel ReelIsWhole ReelShows b c j)
+      → IfErr r (Refuses IsPartOfFile FileIsWhole FileShows a c i)
   head_refused (Ok r) refused = tt
-  head_refused (Err f) refused = Refuses-after IsPartOfReel IsPartOfFile ReelIsWhole FileIsWhole ReelShows FileShows a b c i j magic f t refused file_from_reel_part file_from_whole_reel file_from_reel_fault
+  head_refused (Err f) refused = Refuses-after IsPartOfReel IsPartOfFile ReelIsWhole FileIsWhole ReelShows FileShows a b c i j magic f t refused
+      file_from_reel_part file_from_whole_reel file_from_reel_fault
 
 pub file_from_entries_fault : (r : Reel) → IsFileReel r → (f : HoldFileFault) (s : List ℕ) → EntriesShow r.setup f s → FileShows f (head_text r ++ s)
 file_from_entries_fault r i f s h = inr (inr (r, s, i, refl, h))
 
 -- a refusal that isn't want of memory is the first fault of the record
-pub first_fault : (config : List ℕ) (w h : ℕ) (f : SetupFault) → (f ≡ no_memory) ⊎ FirstSetupFault config w h f → (f ≡ no_memory → ⊥) → FirstSetupFault config w h f
+pub first_fault : (config : List ℕ) (w h : ℕ) (f : SetupFault) → (f ≡ no_memory) ⊎ FirstSetupFault config w h f → (f ≡ no_memory → ⊥)
+    → FirstSetupFault config w h f
 first_fault config w h f (inl memory) other = absurd (other memory)
 first_fault config w h f (inr first) other = first

@@ -3,9 +3,9 @@ use Rattle.std.proofs.Common.{◌≡◌, ℕ, ◌≤◌, List, [], ◌∷◌, �
 use Rattle.std.specs.Prelude.{◌⊎◌}
 use Rattle.std.proofs.Math.Seq.{take-append_seam, take-append-le}
 use Rattle.std.specs.Io.KnownBytes.{Consumes}
+use Rattle.ffv1_bits.specs.Limits.{file_limit}
 use Rattle.ffv1_hold.specs.declared.file_fault.HoldFileFault.{HoldFileFault}
 use Rattle.ffv1_hold.specs.declared.file_fault.HoldFileFault.TheVariants as faults
-use Rattle.ffv1_hold.specs.HoldingText.{file_limit}
 use Rattle.ffv1_hold.specs.Reading.{Refuses, StopsIn}
 use Rattle.ffv1_hold.specs.FileFaults.{IsPartOfFile, IsHoldingText, FileIsWhole, FileShows, IsOutside, IsFaultOf}
 use Rattle.ffv1_hold.proofs.FaultLaws.{text_none, text_whole}
@@ -57,12 +57,14 @@ shown_kind input f left r =
     let front = taken_front input r.seen left r.taken in
     inl (record { seen = r.seen; rest = front.0; split = front.1; shown = r.is; within = omega (arith, r.within) })
 
-goes_on : (input seen : List ℕ) (more : ℕ) (left : Option (List ℕ)) → Consumes (Some input) left (seen ++ more ∷ []) → (rest : List ℕ) × (input ≡ seen ++ more ∷ rest)
+goes_on : (input seen : List ℕ) (more : ℕ) (left : Option (List ℕ)) → Consumes (Some input) left (seen ++ more ∷ []) → (rest : List ℕ)
+    × (input ≡ seen ++ more ∷ rest)
 goes_on input seen more left taken =
     let front = taken_front input (seen ++ more ∷ []) left taken in
     (front.0, front.1 ∙ append_assoc seen (more ∷ []) front.0)
 
-kind_of : (input : List ℕ) (f : HoldFileFault) (left : Option (List ℕ)) → (IsOutside f → ⊥) → Refuses IsPartOfFile FileIsWhole FileShows (Some input) left 0 f → Kinds input f
+kind_of : (input : List ℕ) (f : HoldFileFault) (left : Option (List ℕ)) → (IsOutside f → ⊥)
+    → Refuses IsPartOfFile FileIsWhole FileShows (Some input) left 0 f → Kinds input f
 kind_of input faults.Read left inside r = absurd (inside tt)
 kind_of input faults.Memory left inside r = absurd (inside tt)
 kind_of input faults.Write left inside r = absurd r
@@ -73,7 +75,15 @@ kind_of input faults.Truncated left inside r =
 kind_of input faults.TooLong left inside (inl r) = shown_kind input faults.TooLong left r
 kind_of input faults.TooLong left inside (inr r) =
     let on = goes_on input r.seen r.more left r.taken in
-    inr (inr (inl (record { is = refl; seen = r.seen; more = r.more; rest = on.0; split = on.1; unfinished = r.unfinished; at_limit = omega (arith, r.at_limit) })))
+    inr (inr (inl (record {
+      is = refl;
+      seen = r.seen;
+      more = r.more;
+      rest = on.0;
+      split = on.1;
+      unfinished = r.unfinished;
+      at_limit = omega (arith, r.at_limit);
+    })))
 kind_of input faults.Trailing left inside r =
     let on = goes_on input r.seen r.more left r.taken in
     inr (inr (inr (record { is = refl; seen = r.seen; more = r.more; rest = on.0; split = on.1; whole = r.whole; within = omega (arith, r.within) })))

@@ -1,13 +1,13 @@
 -- One step of a plan.
 use Rattle.std.proofs.Common.{◌≡◌, ◌≢◌, ℕ, Result, Err, refl, List, [], ◌∷◌, ◌++◌, sym, ap, ◌∙◌}
 use Rattle.ffv1_range.proofs.SetupFacts.{one_setup}
-use Rattle.ffv1_hold.specs.declared.fault.HoldFault.{HoldFault}
-use Rattle.ffv1_hold.specs.declared.fault.HoldFault.TheVariants.{OtherReel, PayloadTooLong, Memory}
-use Rattle.ffv1_hold.specs.Reels.{Reel}
+use Rattle.ffv1_holding.specs.declared.fault.HoldFault.{HoldFault}
+use Rattle.ffv1_holding.specs.declared.fault.HoldFault.TheVariants.{OtherReel, PayloadTooLong, Memory}
+use Rattle.ffv1_holding.specs.Reels.{Reel}
 use Rattle.ffv1_hold.specs.Headline.{IsReelOf}
-use Rattle.ffv1_hold.specs.TakeFaults.{AreShort}
-use Rattle.ffv1_hold.specs.Contents.{Contents, IsSameReel, with_found, with_copies, joined, holding_of}
-use Rattle.ffv1_hold.specs.ContentsLaws.{with_found-holding_of, with_copies-holding_of, joined-holding_of}
+use Rattle.ffv1_holding.specs.TakeFaults.{AreShort}
+use Rattle.ffv1_holding.specs.Contents.{Contents, IsSameReel, with_found, with_copies, joined, holding_of}
+use Rattle.ffv1_holding.specs.ContentsLaws.{with_found-holding_of, with_copies-holding_of, joined-holding_of}
 
 pub AreShort-both : (xs ys : List (List ℕ)) → AreShort xs → AreShort ys → AreShort (xs ++ ys)
 AreShort-both [] ys few more = more
@@ -27,7 +27,8 @@ module _ (before after : Contents) (copies : List (List ℕ)) (is : before ≡ h
       took ∙ ap (λ h. with_copies h more) is ∙ with_copies-holding_of before.reel copies more
       ∙ own_reel (copies ++ more) (sym (ap (λ (h : Contents). h.reel) took))
 
-  pub after_joined : (other : Contents) (others : List (List ℕ)) → other ≡ holding_of other.reel others → IsSameReel before other → after ≡ joined before other → after ≡ holding_of after.reel (copies ++ others)
+  pub after_joined : (other : Contents) (others : List (List ℕ)) → other ≡ holding_of other.reel others → IsSameReel before other
+      → after ≡ joined before other → after ≡ holding_of after.reel (copies ++ others)
   after_joined other others other_is same took =
       took
       ∙ (λ i. joined (is i) ((other_is ∙ ap (λ r. holding_of r others) (sym same)) i))
@@ -44,7 +45,8 @@ one_reel config width height r s is also =
     λ i. record { config = (is.0 ∙ sym also.0) i; setup = setup i }
 
 -- what can be joined meets only want of memory
-pub joins_or_memory : {T : Type 0} (J : Type 0) (r : Result T HoldFault) (f : HoldFault) → r ≡ Err f → (r ≡ Err OtherReel → ¬ J) → J → r ≢ Err PayloadTooLong → f ≡ Memory
+pub joins_or_memory : {T : Type 0} (J : Type 0) (r : Result T HoldFault) (f : HoldFault) → r ≡ Err f → (r ≡ Err OtherReel → ¬ J) → J → r ≢ Err PayloadTooLong
+    → f ≡ Memory
 joins_or_memory J r OtherReel was other same long = absurd (other was same)
 joins_or_memory J r PayloadTooLong was other same long = absurd (long was)
 joins_or_memory J r Memory was other same long = refl

@@ -3,11 +3,12 @@ use Rattle.std.specs.Prelude.{◌⊎◌}
 use Rattle.std.proofs.Common.{◌≡◌, ℕ, ◌≤◌, List, [], ◌∷◌, ◌++◌, Option, arith, inl, inr, subst, sym, append_assoc, length-append}
 use Rattle.std.specs.Io.KnownBytes.{Consumes}
 use Rattle.std.proofs.KnownBytes.{Consumes-nil, Consumes-trans}
+use Rattle.ffv1_bits.specs.Limits.{file_limit}
 use Rattle.ffv1_hold.specs.declared.file_fault.HoldFileFault.{HoldFileFault}
 use Rattle.ffv1_hold.specs.declared.file_fault.HoldFileFault.TheVariants as faults
 use Rattle.ffv1_hold.specs.Reading.{Takes, EndsIn, StopsIn, PassesIn, GoesOnIn, Refuses}
 
-pub Takes-nil : (a : Option (List ℕ)) (n : ℕ) → n ≤ 2147483648 → Takes a a n n []
+pub Takes-nil : (a : Option (List ℕ)) (n : ℕ) → n ≤ file_limit → Takes a a n n []
 Takes-nil a n h = record { taken = Consumes-nil a; moved = omega arith; within = h }
 
 pub Takes-trans : (a b c : Option (List ℕ)) (i j k : ℕ) (xs ys : List ℕ) → Takes a b i j xs → Takes b c j k ys → Takes a c i k (xs ++ ys)
@@ -20,7 +21,8 @@ Takes-trans a b c i j k xs ys p q = record {
 pub Takes-from : (a b : Option (List ℕ)) (i j k : ℕ) (xs : List ℕ) → i ≡ j → Takes a b i k xs → Takes a b j k xs
 Takes-from a b i j k xs same t = subst (λ n. Takes a b n k xs) same t
 
-EndsIn-after : (P P' : List ℕ → Type 0) (a b c : Option (List ℕ)) (i j : ℕ) (xs : List ℕ) → Takes a b i j xs → ((s : List ℕ) → P s → P' (xs ++ s)) → EndsIn P b c j → EndsIn P' a c i
+EndsIn-after : (P P' : List ℕ → Type 0) (a b c : Option (List ℕ)) (i j : ℕ) (xs : List ℕ) → Takes a b i j xs → ((s : List ℕ) → P s → P' (xs ++ s))
+    → EndsIn P b c j → EndsIn P' a c i
 EndsIn-after P P' a b c i j xs t more e = record {
   seen = xs ++ e.seen;
   unfinished = more e.seen e.unfinished;
@@ -29,7 +31,8 @@ EndsIn-after P P' a b c i j xs t more e = record {
   within = omega (arith, t.moved, e.within, length-append xs e.seen);
 }
 
-StopsIn-after : (P P' : List ℕ → Type 0) (a b c : Option (List ℕ)) (i j : ℕ) (xs : List ℕ) → Takes a b i j xs → ((s : List ℕ) → P s → P' (xs ++ s)) → StopsIn P b c j → StopsIn P' a c i
+StopsIn-after : (P P' : List ℕ → Type 0) (a b c : Option (List ℕ)) (i j : ℕ) (xs : List ℕ) → Takes a b i j xs → ((s : List ℕ) → P s → P' (xs ++ s))
+    → StopsIn P b c j → StopsIn P' a c i
 StopsIn-after P P' a b c i j xs t more e = record {
   seen = xs ++ e.seen;
   is = more e.seen e.is;
@@ -37,7 +40,8 @@ StopsIn-after P P' a b c i j xs t more e = record {
   within = omega (arith, t.moved, e.within, length-append xs e.seen);
 }
 
-PassesIn-after : (P P' : List ℕ → Type 0) (a b c : Option (List ℕ)) (i j : ℕ) (xs : List ℕ) → Takes a b i j xs → ((s : List ℕ) → P s → P' (xs ++ s)) → PassesIn P b c j → PassesIn P' a c i
+PassesIn-after : (P P' : List ℕ → Type 0) (a b c : Option (List ℕ)) (i j : ℕ) (xs : List ℕ) → Takes a b i j xs → ((s : List ℕ) → P s → P' (xs ++ s))
+    → PassesIn P b c j → PassesIn P' a c i
 PassesIn-after P P' a b c i j xs t more e = record {
   seen = xs ++ e.seen;
   more = e.more;
@@ -46,7 +50,8 @@ PassesIn-after P P' a b c i j xs t more e = record {
   at_limit = omega (arith, t.moved, e.at_limit, length-append xs e.seen);
 }
 
-GoesOnIn-after : (P P' : List ℕ → Type 0) (a b c : Option (List ℕ)) (i j : ℕ) (xs : List ℕ) → Takes a b i j xs → ((s : List ℕ) → P s → P' (xs ++ s)) → GoesOnIn P b c j → GoesOnIn P' a c i
+GoesOnIn-after : (P P' : List ℕ → Type 0) (a b c : Option (List ℕ)) (i j : ℕ) (xs : List ℕ) → Takes a b i j xs → ((s : List ℕ) → P s → P' (xs ++ s))
+    → GoesOnIn P b c j → GoesOnIn P' a c i
 GoesOnIn-after P P' a b c i j xs t more e = record {
   seen = xs ++ e.seen;
   more = e.more;
@@ -62,7 +67,8 @@ either P P' W W' (inr x) p w = inr (w x)
 -- an earlier call took xs, and behind it the faults are those of P, W and Q
 pub Refuses-after : (P P' : List ℕ → Type 0) (W W' Q Q' : HoldFileFault → List ℕ → Type 0) (a b c : Option (List ℕ)) (i j : ℕ) (xs : List ℕ) (f : HoldFileFault)
     → Takes a b i j xs → Refuses P W Q b c j f
-    → ((s : List ℕ) → P s → P' (xs ++ s)) → ((f : HoldFileFault) (s : List ℕ) → W f s → W' f (xs ++ s)) → ((f : HoldFileFault) (s : List ℕ) → Q f s → Q' f (xs ++ s))
+    → ((s : List ℕ) → P s → P' (xs ++ s)) → ((f : HoldFileFault) (s : List ℕ) → W f s → W' f (xs ++ s))
+    → ((f : HoldFileFault) (s : List ℕ) → Q f s → Q' f (xs ++ s))
     → Refuses P' W' Q' a c i f
 Refuses-after P P' W W' Q Q' a b c i j xs faults.Read t r p w q =
     StopsIn-after _ _ a b c i j xs t (λ s h. either (P s) (P' (xs ++ s)) (W faults.Read s) (W' faults.Read (xs ++ s)) h (p s) (w faults.Read s)) r
@@ -81,5 +87,6 @@ Refuses-after P P' W W' Q Q' a b c i j xs faults.Order t r p w q = StopsIn-after
 Refuses-after P P' W W' Q Q' a b c i j xs faults.NotASlice t r p w q = StopsIn-after _ _ a b c i j xs t (q faults.NotASlice) r
 
 -- no memory was granted behind bytes that are unfinished
-pub memory_stops : (P : List ℕ → Type 0) (W Q : HoldFileFault → List ℕ → Type 0) (a b : Option (List ℕ)) (i j : ℕ) (xs : List ℕ) → Takes a b i j xs → P xs → Refuses P W Q a b i faults.Memory
+pub memory_stops : (P : List ℕ → Type 0) (W Q : HoldFileFault → List ℕ → Type 0) (a b : Option (List ℕ)) (i j : ℕ) (xs : List ℕ) → Takes a b i j xs → P xs
+    → Refuses P W Q a b i faults.Memory
 memory_stops P W Q a b i j xs t is = record { seen = xs; is = inl is; taken = t.taken; within = omega (arith, t.moved, t.within) }

@@ -3,18 +3,19 @@ use Rattle.std.proofs.Common.{◌≡◌, ◌≢◌, ℕ, suc, ◌<◌, ◌≤◌
 use Rattle.std.specs.Int.{w16, w32, from_be_bytes}
 use Rattle.std.proofs.lemmas.Nat.{from_be_bytes-to_be_bytes_2, from_be_bytes-to_be_bytes_4}
 use Rattle.std.proofs.Math.Seq.{take-append_seam, drop-append_seam}
+use Rattle.ffv1_bits.specs.Limits.{slice_limit, record_limit}
 use Rattle.ffv1_range.proofs.SetupFacts.{setup_small, setup_tiles}
 use Rattle.ffv1_slice.proofs.SliceFacts.{slice_in_grid}
-use Rattle.ffv1_hold.specs.Sets as set
-use Rattle.ffv1_hold.specs.SliceOrder.{Entry, entry_cmp, entries_total, entries_antisymmetric}
-use Rattle.ffv1_hold.specs.Reels.{Reel, IsReel}
-use Rattle.ffv1_hold.specs.Contents.{Contents, IsHolding, IsEntryOf, AreEntriesOf, slice_limit}
-use Rattle.ffv1_hold.specs.HoldingText.{be2, be4, magic, sized_record, head_text, body_text, entry_text, entries_text, holding_text, record_limit}
+use Rattle.ffv1_holding.specs.Sets as set
+use Rattle.ffv1_holding.specs.SliceOrder.{Entry, entry_cmp, entries_total, entries_antisymmetric}
+use Rattle.ffv1_holding.specs.Reels.{Reel, IsReel}
+use Rattle.ffv1_holding.specs.Contents.{Contents, IsHolding, IsEntryOf, AreEntriesOf}
+use Rattle.ffv1_hold.specs.HoldingText.{be2, be4, magic, sized_record, head_text, body_text, entry_text, entries_text, holding_text}
 use Rattle.ffv1_hold.specs.FileFaults.{IsFileReel}
-use Rattle.ffv1_hold.proofs.RisingSets.{contains_item}
+use Rattle.ffv1_holding.proofs.RisingSets.{contains_item}
 use Rattle.ffv1_hold.proofs.Bodies.{length-be2, length-be4}
 use Rattle.ffv1_hold.proofs.Slots.{entries_text-none, entries_text-cons}
-use Rattle.ffv1_hold.proofs.Reels.{same_reel}
+use Rattle.ffv1_holding.proofs.Reels.{same_reel}
 
 -- ---- lists that begin alike
 
@@ -56,7 +57,8 @@ module _ (t u : ℕ) (m n : ℕ) (x y : List ℕ) (e : be2 t ++ (be4 m ++ x) ≡
   same_rest = same_back (be4 m) (be4 n) x y (length-be4 m ∙ sym (length-be4 n)) behind_tile
 
 -- two entries that begin the same bytes are the same
-module _ (e f : Entry) (x y : List ℕ) (e_tile : e.0 < 2 ^ 16) (f_tile : f.0 < 2 ^ 16) (e_fits : length e.1 ≤ slice_limit) (f_fits : length f.1 ≤ slice_limit) (same : body_text e ++ x ≡ body_text f ++ y) where
+module _ (e f : Entry) (x y : List ℕ) (e_tile : e.0 < 2 ^ 16) (f_tile : f.0 < 2 ^ 16) (e_fits : length e.1 ≤ slice_limit) (f_fits : length f.1 ≤ slice_limit)
+    (same : body_text e ++ x ≡ body_text f ++ y) where
   parts : be2 e.0 ++ (be4 (length e.1) ++ (e.1 ++ x)) ≡ be2 f.0 ++ (be4 (length f.1) ++ (f.1 ++ y))
   parts = sym (body_parts e x) ∙ same ∙ body_parts f y
 
@@ -98,12 +100,16 @@ AreFitting (e ∷ es) = ((e.0 < 2 ^ 16) × (length e.1 ≤ slice_limit)) × AreF
 -- a list of entries and the end tag are read in one way
 pub same_entries : (es fs : List Entry) (x y : List ℕ) → AreFitting es → AreFitting fs → entries_text es ++ 0 ∷ x ≡ entries_text fs ++ 0 ∷ y → es ≡ fs
 same_entries [] [] x y es_fit fs_fit e = refl
-same_entries [] (f ∷ fs) x y es_fit fs_fit e = absurd (no_tag x (body_text f ++ (entries_text fs ++ 0 ∷ y)) 0 1 (sym (none_behind (0 ∷ x)) ∙ e ∙ entries_behind f fs (0 ∷ y)) (λ same. omega arith))
-same_entries (g ∷ es) [] x y es_fit fs_fit e = absurd (no_tag (body_text g ++ (entries_text es ++ 0 ∷ x)) y 1 0 (sym (entries_behind g es (0 ∷ x)) ∙ e ∙ none_behind (0 ∷ y)) (λ same. omega arith))
+same_entries [] (f ∷ fs) x y es_fit fs_fit e = absurd (no_tag x (body_text f ++ (entries_text fs ++ 0 ∷ y)) 0 1 (sym (none_behind (0 ∷ x)) ∙ e
+    ∙ entries_behind f fs (0 ∷ y)) (λ same. omega arith))
+same_entries (g ∷ es) [] x y es_fit fs_fit e = absurd (no_tag (body_text g ++ (entries_text es ++ 0 ∷ x)) y 1 0 (sym (entries_behind g es (0 ∷ x)) ∙ e
+    ∙ none_behind (0 ∷ y)) (λ same. omega arith))
 same_entries (g ∷ es) (f ∷ fs) x y es_fit fs_fit e =
-    let bodies = rest_same (body_text g ++ (entries_text es ++ 0 ∷ x)) (body_text f ++ (entries_text fs ++ 0 ∷ y)) 1 1 (sym (entries_behind g es (0 ∷ x)) ∙ e ∙ entries_behind f fs (0 ∷ y)) in
+    let bodies = rest_same (body_text g ++ (entries_text es ++ 0 ∷ x)) (body_text f ++ (entries_text fs ++ 0 ∷ y)) 1 1 (sym (entries_behind g es (0 ∷ x)) ∙ e
+    ∙ entries_behind f fs (0 ∷ y)) in
     let one = same_body g f (entries_text es ++ 0 ∷ x) (entries_text fs ++ 0 ∷ y) es_fit.0.0 fs_fit.0.0 es_fit.0.1 fs_fit.0.1 bodies in
-    let others = same_entries es fs x y es_fit.1 fs_fit.1 (behind_body g f (entries_text es ++ 0 ∷ x) (entries_text fs ++ 0 ∷ y) es_fit.0.0 fs_fit.0.0 es_fit.0.1 fs_fit.0.1 bodies) in
+    let others = same_entries es fs x y es_fit.1 fs_fit.1 (behind_body g f (entries_text es ++ 0 ∷ x)
+    (entries_text fs ++ 0 ∷ y) es_fit.0.0 fs_fit.0.0 es_fit.0.1 fs_fit.0.1 bodies) in
     λ i. one i ∷ others i
 
 -- the entries of a reel's slices can be written in a file
@@ -135,7 +141,8 @@ module _ (m n : ℕ) (x y : List ℕ) (e : be4 m ++ x ≡ be4 n ++ y) where
   behind_number = same_back (be4 m) (be4 n) x y (length-be4 m ∙ sym (length-be4 n)) e
 
 -- two sizes and records that begin the same bytes are the same
-pub same_sized : (c d : List ℕ) (w h v k : ℕ) (x y : List ℕ) → length c ≤ record_limit → length d ≤ record_limit → w < 2 ^ 32 → h < 2 ^ 32 → v < 2 ^ 32 → k < 2 ^ 32
+pub same_sized : (c d : List ℕ) (w h v k : ℕ) (x y : List ℕ) → length c ≤ record_limit → length d ≤ record_limit → w < 2 ^ 32 → h < 2 ^ 32 → v < 2 ^ 32
+    → k < 2 ^ 32
     → sized_record c w h ++ x ≡ sized_record d v k ++ y → record { width : w ≡ v; height : h ≡ k; config : c ≡ d; rest : x ≡ y }
 same_sized c d w h v k x y c_fits d_fits w_fits h_fits v_fits k_fits e =
     let all = sym (sized_parts c w h x) ∙ e ∙ sized_parts d v k y in
@@ -143,7 +150,12 @@ same_sized c d w h v k x y c_fits d_fits w_fits h_fits v_fits k_fits e =
     let two = behind_number h k _ _ one in
     let long = number_same (length c) (length d) _ _ two (omega arith) (omega arith) in
     let three = behind_number (length c) (length d) _ _ two in
-    record { width = number_same w v _ _ all w_fits v_fits; height = number_same h k _ _ one h_fits k_fits; config = same_front c d x y long three; rest = same_back c d x y long three }
+    record {
+      width = number_same w v _ _ all w_fits v_fits;
+      height = number_same h k _ _ one h_fits k_fits;
+      config = same_front c d x y long three;
+      rest = same_back c d x y long three;
+    }
 
 pub head_parts : (r : Reel) (x : List ℕ) → head_text r ++ x ≡ magic ++ (sized_record r.config r.setup.width r.setup.height ++ x)
 unfolding head_text
@@ -158,7 +170,8 @@ same_head r s x y r_is s_is e =
     let r_small = setup_small r.config r.setup.width r.setup.height r.setup r_is.reel in
     let s_small = setup_small s.config s.setup.width s.setup.height s.setup s_is.reel in
     let sized = behind_magic _ _ (sym (head_parts r x) ∙ e ∙ head_parts s y) in
-    let same = same_sized r.config s.config r.setup.width r.setup.height s.setup.width s.setup.height x y r_is.fits s_is.fits r_small.0 r_small.1 s_small.0 s_small.1 sized in
+    let same = same_sized r.config s.config r.setup.width r.setup.height s.setup.width s.setup.height x y r_is.fits s_is.fits r_small.0 r_small.1 s_small.0
+    s_small.1 sized in
     (same_reel r s r_is.reel s_is.reel same.config same.width same.height, same.rest)
 
 -- ---- whole texts
@@ -167,9 +180,13 @@ pub text_parts : (h : Contents) → holding_text h ≡ head_text h.reel ++ (entr
 text_parts h = append_assoc (head_text h.reel) (entries_text (set.items h.slices)) (0 ∷ [])
 
 -- holdings of one text are equal
-pub one_text : (g h : Contents) → IsHolding g → IsHolding h → length g.reel.config ≤ record_limit → length h.reel.config ≤ record_limit → holding_text g ≡ holding_text h → g ≡ h
+pub one_text : (g h : Contents) → IsHolding g → IsHolding h → length g.reel.config ≤ record_limit → length h.reel.config ≤ record_limit
+    → holding_text g ≡ holding_text h → g ≡ h
 one_text g h g_is h_is g_fits h_fits e =
-    let heads = same_head g.reel h.reel _ _ (record { reel = g_is.reel; fits = g_fits }) (record { reel = h_is.reel; fits = h_fits }) (sym (text_parts g) ∙ e ∙ text_parts h) in
-    let entries = same_entries (set.items g.slices) (set.items h.slices) [] [] (fitting_items g.reel g_is.reel g.slices g_is.slices) (fitting_items h.reel h_is.reel h.slices h_is.slices) heads.1 in
-    let slices = sym (set.from_list-items entries_total entries_antisymmetric g.slices) ∙ ap set.from_list entries ∙ set.from_list-items entries_total entries_antisymmetric h.slices in
+    let heads = same_head g.reel h.reel _ _ (record { reel = g_is.reel; fits = g_fits }) (record { reel = h_is.reel; fits = h_fits })
+    (sym (text_parts g) ∙ e ∙ text_parts h) in
+    let entries = same_entries (set.items g.slices) (set.items h.slices) [] [] (fitting_items g.reel g_is.reel g.slices g_is.slices)
+    (fitting_items h.reel h_is.reel h.slices h_is.slices) heads.1 in
+    let slices = sym (set.from_list-items entries_total entries_antisymmetric g.slices) ∙ ap set.from_list entries
+    ∙ set.from_list-items entries_total entries_antisymmetric h.slices in
     λ i. record { reel = heads.0 i; slices = slices i }

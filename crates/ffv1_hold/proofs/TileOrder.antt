@@ -9,20 +9,21 @@ use Rattle.std.proofs.lemmas.List.{get_or-map, length-map}
 use Rattle.std.proofs.lemmas.List.Folds.{list_any-append}
 use Rattle.std.proofs.Math.ListN.{get_or-append}
 use Rattle.std.proofs.Math.Seq.{get_or-append_right}
-use Rattle.ffv1_hold.specs.Sets as set
-use Rattle.ffv1_hold.specs.SliceOrder.{Entry, bytes_cmp, entry_cmp, entries_total, entries_antisymmetric}
-use Rattle.ffv1_hold.specs.Rising.{IsRising}
-use Rattle.ffv1_hold.specs.TileSets.{tile_slices, tile_entries, entries_below}
-use Rattle.ffv1_hold.proofs.RisingSets.{items-from_list}
-use Rattle.ffv1_hold.proofs.ItemsRise.{items-rising, rising-append}
-use Rattle.ffv1_hold.proofs.Tiles.{any-same, any-other, contains-tile_slices}
+use Rattle.ffv1_holding.specs.Sets as set
+use Rattle.ffv1_holding.specs.SliceOrder.{Entry, bytes_cmp, entry_cmp, entries_total, entries_antisymmetric}
+use Rattle.ffv1_holding.specs.Rising.{IsRising}
+use Rattle.ffv1_holding.specs.TileSets.{tile_slices, tile_entries, entries_below}
+use Rattle.ffv1_holding.proofs.RisingSets.{items-from_list}
+use Rattle.ffv1_holding.proofs.ItemsRise.{items-rising, rising-append}
+use Rattle.ffv1_holding.proofs.Tiles.{any-same, any-other, contains-tile_slices}
 use Rattle.ffv1_hold.proofs.TileTexts.{entries_below-more}
 
 module _ (slices : set.SetOf entry_cmp) where
   below_suc : (n : ℕ) → entries_below slices (suc n) ≡ entries_below slices n ++ tile_entries slices n
   below_suc n = ap (entries_below slices) {x = suc n} {y = n + 1} (omega arith) ∙ entries_below-more slices n
 
-  entry_at : (n : ℕ) (i : ℕ) (d : Entry) → i < length (set.items (tile_slices slices n)) → get_or (tile_entries slices n) i d ≡ (n, get_or (set.items (tile_slices slices n)) i d.1)
+  entry_at : (n : ℕ) (i : ℕ) (d : Entry) → i < length (set.items (tile_slices slices n))
+      → get_or (tile_entries slices n) i d ≡ (n, get_or (set.items (tile_slices slices n)) i d.1)
   entry_at n i d lt = get_or-map (λ b. let e : Entry = (n, b) in e) (set.items (tile_slices slices n)) i d.1 d lt
 
   tiles_below : (n i : ℕ) (d : Entry) → i < length (entries_below slices n) → (get_or (entries_below slices n) i d).0 < n
@@ -42,7 +43,8 @@ module _ (slices : set.SetOf entry_cmp) where
       let bs = set.items (tile_slices slices n) in
       let long = length-map bs (λ b. let e : Entry = (n, b) in e) in
       rw (entry_at n i d (omega arith), entry_at n j d (omega arith))
-      (ap (λ o. ordering_then o (bytes_cmp (get_or bs i d.1) (get_or bs j d.1))) (tied_itself nat_cmp_total n) ∙ items-rising (tile_slices slices n) i j d.1 lt (omega arith))
+      (ap (λ o. ordering_then o (bytes_cmp (get_or bs i d.1) (get_or bs j d.1))) (tied_itself nat_cmp_total n)
+      ∙ items-rising (tile_slices slices n) i j d.1 lt (omega arith))
 
   all_rise : (n : ℕ) → IsRising entry_cmp (entries_below slices n)
   all_rise zero = λ i j d lt in_range. absurd (omega arith)
@@ -64,13 +66,17 @@ module _ (slices : set.SetOf entry_cmp) where
       ap (list_any (eq_by_cmp entry_cmp (t, b))) (below_suc n) ∙ list_any-append (eq_by_cmp entry_cmp (t, b)) (entries_below slices n) (tile_entries slices n)
       ∙ elim (cases_order t n) [
         | inl same ↦
-            (λ i. (any_below n t b ∙ ap (λ x. x && set.contains slices (t, b)) (le-ltb t n (omega arith))) i || (ap (λ k. list_any (eq_by_cmp entry_cmp (t, b)) (tile_entries slices k)) {x = n} {y = t} (omega arith) ∙ any-same t b (set.items (tile_slices slices t)) ∙ sym (set.contains-items (tile_slices slices t) b) ∙ contains-tile_slices slices t b) i)
+            (λ i. (any_below n t b ∙ ap (λ x. x && set.contains slices (t, b)) (le-ltb t n (omega arith))) i ||
+            (ap (λ k. list_any (eq_by_cmp entry_cmp (t, b)) (tile_entries slices k)) {x = n} {y = t} (omega arith)
+            ∙ any-same t b (set.items (tile_slices slices t)) ∙ sym (set.contains-items (tile_slices slices t) b) ∙ contains-tile_slices slices t b) i)
             ∙ sym (ap (λ x. x && set.contains slices (t, b)) (lt-ltb t (suc n) (omega arith)))
         | inr (inl less) ↦
-            (λ i. (any_below n t b ∙ ap (λ x. x && set.contains slices (t, b)) (lt-ltb t n less)) i || any-other t n b (set.items (tile_slices slices n)) (λ e. omega arith) i)
+            (λ i. (any_below n t b ∙ ap (λ x. x && set.contains slices (t, b)) (lt-ltb t n less)) i || any-other t n b (set.items (tile_slices slices n))
+            (λ e. omega arith) i)
             ∙ or_false (set.contains slices (t, b)) ∙ sym (ap (λ x. x && set.contains slices (t, b)) (lt-ltb t (suc n) (omega arith)))
         | inr (inr more) ↦
-            (λ i. (any_below n t b ∙ ap (λ x. x && set.contains slices (t, b)) (le-ltb t n (omega arith))) i || any-other t n b (set.items (tile_slices slices n)) (λ e. omega arith) i)
+            (λ i. (any_below n t b ∙ ap (λ x. x && set.contains slices (t, b)) (le-ltb t n (omega arith))) i || any-other t n b
+            (set.items (tile_slices slices n)) (λ e. omega arith) i)
             ∙ sym (ap (λ x. x && set.contains slices (t, b)) (le-ltb t (suc n) (omega arith)))
       ]
     where
@@ -82,7 +88,8 @@ module _ (slices : set.SetOf entry_cmp) where
   pub entries_below-all : (n : ℕ) → ((e : Entry) → set.contains slices e ≡ true → e.0 < n) → entries_below slices n ≡ set.items slices
   entries_below-all n few =
       sym (items-from_list entries_total (entries_below slices n) (all_rise n))
-      ∙ ap set.items (set.same_set entries_total entries_antisymmetric _ _ (λ q. set.contains-from_list entries_total (entries_below slices n) q ∙ any_below n q.0 q.1 ∙ kept q))
+      ∙ ap set.items (set.same_set entries_total entries_antisymmetric _ _
+      (λ q. set.contains-from_list entries_total (entries_below slices n) q ∙ any_below n q.0 q.1 ∙ kept q))
     where
       and_true : (a b : Bool) → (b ≡ true → a ≡ true) → (a && b) ≡ b
       and_true true b h = refl

@@ -1,16 +1,17 @@
 -- The entries of one tile, and of the tiles below a number, and their text.
 use Rattle.std.proofs.Common.{◌≡◌, ℕ, zero, suc, ◌+◌, ◌-◌, ◌<◌, ◌≤◌, List, [], ◌∷◌, ◌++◌, length, map, take, drop, get_or, refl, sym, ap, ◌∙◌, arith, append_assoc, append-nil, length-append, take-append-drop}
 use Rattle.std.proofs.lemmas.List.{get_or-map, take_more}
-use Rattle.ffv1_hold.specs.Sets as set
-use Rattle.ffv1_hold.specs.SliceOrder.{Entry, entry_cmp}
-use Rattle.ffv1_hold.specs.TileSets.{tile_entries, entries_below}
+use Rattle.ffv1_holding.specs.Sets as set
+use Rattle.ffv1_holding.specs.SliceOrder.{Entry, entry_cmp}
+use Rattle.ffv1_holding.specs.TileSets.{tile_entries, entries_below}
 use Rattle.ffv1_hold.specs.HoldingText.{entry_text, entries_text}
 use Rattle.ffv1_hold.specs.Saving.{entries_length}
-use Rattle.ffv1_hold.proofs.Lists.{flat_map-range_more}
+use Rattle.ffv1_holding.proofs.Lists.{flat_map-range_more}
 use Rattle.ffv1_hold.proofs.Slots.{entries_text-split, entries_text-cons, entries_text-none, length-entry_text}
 
 -- the entry of a slice at a place
-pub entry_at : (tile : ℕ) (bs : List (List ℕ)) (i : ℕ) (b : List ℕ) → i < length bs → b ≡ get_or bs i b → (tile, b) ≡ get_or (map (λ c. let x : Entry = (tile, c) in x) bs) i (tile, b)
+pub entry_at : (tile : ℕ) (bs : List (List ℕ)) (i : ℕ) (b : List ℕ) → i < length bs → b ≡ get_or bs i b
+    → (tile, b) ≡ get_or (map (λ c. let x : Entry = (tile, c) in x) bs) i (tile, b)
 entry_at tile bs i b lt at = (λ j. (tile, at j)) ∙ sym (get_or-map (λ c. let x : Entry = (tile, c) in x) bs i b (tile, b) lt)
 
 -- the text of slices of one tile is as long as its parts
@@ -25,7 +26,8 @@ entries_length-append : (bs cs : List (List ℕ)) → entries_length (bs ++ cs) 
 entries_length-append [] cs = omega arith
 entries_length-append (b ∷ bs) cs = omega (arith, entries_length-append bs cs)
 
-pub entries_length-more : (bs : List (List ℕ)) (i : ℕ) (b : List ℕ) → i < length bs → b ≡ get_or bs i b → entries_length (take (i + 1) bs) ≡ entries_length (take i bs) + (7 + length b)
+pub entries_length-more : (bs : List (List ℕ)) (i : ℕ) (b : List ℕ) → i < length bs → b ≡ get_or bs i b
+    → entries_length (take (i + 1) bs) ≡ entries_length (take i bs) + (7 + length b)
 entries_length-more bs i b lt at =
     ap entries_length (take_more bs i b lt) ∙ entries_length-append (take i bs) (get_or bs i b ∷ [])
     ∙ ap (λ n. entries_length (take i bs) + n) (omega (arith, ap length at))
@@ -48,11 +50,13 @@ module _ (slices : set.SetOf entry_cmp) where
       let before = rest_below t k (t + 1 + k) refl in (
         before.0 ++ tile_entries slices (t + 1 + k),
         ap (entries_below slices) {x = n} {y = (t + 1 + k) + 1} (omega arith) ∙ entries_below-more (t + 1 + k)
-            ∙ ap (λ xs. xs ++ tile_entries slices (t + 1 + k)) before.1 ∙ append_assoc (entries_below slices (t + 1)) before.0 (tile_entries slices (t + 1 + k)),
+            ∙ ap (λ xs. xs ++ tile_entries slices (t + 1 + k)) before.1
+            ∙ append_assoc (entries_below slices (t + 1)) before.0 (tile_entries slices (t + 1 + k)),
       )
 
   -- the text of all goes on behind that of a tile
-  pub text_behind : (t n : ℕ) → t < n → (rest : List ℕ) × (entries_text (entries_below slices n) ≡ entries_text (entries_below slices t) ++ (entries_text (tile_entries slices t) ++ rest))
+  pub text_behind : (t n : ℕ) → t < n → (rest : List ℕ) × (entries_text (entries_below slices n) ≡ entries_text (entries_below slices t) ++
+      (entries_text (tile_entries slices t) ++ rest))
   text_behind t n lt =
       let before = rest_below t (n - (t + 1)) n (omega arith) in (
         entries_text before.0,

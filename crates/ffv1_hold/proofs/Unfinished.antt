@@ -1,11 +1,11 @@
 -- No beginning of an unfinished file shows a fault.
 use Rattle.std.proofs.Common.{◌≡◌, ℕ, ◌<◌, ◌^◌, List, [], ◌∷◌, ◌++◌, length, take, drop, get_or, Option, Some, None, sym, ap, ◌∙◌, subst, inl, inr, arith, append_assoc, append-nil, length-append, take-append-drop}
+use Rattle.ffv1_bits.specs.Limits.{slice_limit, record_limit}
 use Rattle.ffv1_range.specs.Setup.{SetupValue}
 use Rattle.ffv1_hold.specs.declared.file_fault.HoldFileFault.{HoldFileFault}
-use Rattle.ffv1_hold.specs.SliceOrder.{Entry}
-use Rattle.ffv1_hold.specs.Reels.{Reel}
-use Rattle.ffv1_hold.specs.Contents.{slice_limit}
-use Rattle.ffv1_hold.specs.HoldingText.{be2, be4, magic, sized_record, head_text, body_text, entries_text, record_limit}
+use Rattle.ffv1_holding.specs.SliceOrder.{Entry}
+use Rattle.ffv1_holding.specs.Reels.{Reel}
+use Rattle.ffv1_hold.specs.HoldingText.{be2, be4, magic, sized_record, head_text, body_text, entries_text}
 use Rattle.ffv1_hold.specs.FileEntries.{last_of}
 use Rattle.ffv1_hold.specs.FileFaults.{IsPartOfBody, IsPartOfEntry, EntryShows, IsPartOfReel, ReelShows, IsPartOfFile, FileShows}
 use Rattle.ffv1_hold.proofs.Bodies.{length-be2, length-be4}
@@ -49,22 +49,36 @@ module _ (setup : SetupValue) where
       let all = sym (none_behind p) ∙ same ∙ ap (λ q. q ++ y) (entries_behind g fs t) ∙ ap (λ q. 1 ∷ q) (append_assoc (body_text g) (entries_text fs ++ t) y) in
       body_cut g ((entries_text fs ++ t) ++ y) fs_fit.0.1 (part_behind _ (subst IsPartOfEntry all part))
   entries_unfinished last (e ∷ es) [] f p t y valid fit fs_fit same part shown =
-      right_none setup last e (entries_text es ++ p) y valid.0.0 fit.0.0 valid.0.1 f t (sym (entries_behind e es p) ∙ same ∙ ap (λ q. q ++ y) (none_behind t)) shown
+      right_none setup last e (entries_text es ++ p) y valid.0.0 fit.0.0 valid.0.1 f t (sym (entries_behind e es p) ∙ same
+      ∙ ap (λ q. q ++ y) (none_behind t)) shown
   entries_unfinished last (e ∷ es) (g ∷ fs) f p t y valid fit fs_fit same part shown =
-      let bodies = rest_same (body_text e ++ (entries_text es ++ p)) ((body_text g ++ (entries_text fs ++ t)) ++ y) 1 1 (sym (entries_behind e es p) ∙ same ∙ ap (λ q. q ++ y) (entries_behind g fs t)) in
+      let bodies = rest_same (body_text e ++ (entries_text es ++ p)) ((body_text g ++ (entries_text fs ++ t)) ++ y) 1 1 (sym (entries_behind e es p) ∙ same
+      ∙ ap (λ q. q ++ y) (entries_behind g fs t)) in
       let apart = bodies ∙ append_assoc (body_text g) (entries_text fs ++ t) y in
       let one = same_body e g (entries_text es ++ p) ((entries_text fs ++ t) ++ y) fit.0.0 fs_fit.0.0 fit.0.1 fs_fit.0.1 apart in
       let behind = behind_body e g (entries_text es ++ p) ((entries_text fs ++ t) ++ y) fit.0.0 fs_fit.0.0 fit.0.1 fs_fit.0.1 apart in
-      entries_unfinished (Some e) es fs f p t y valid.1 fit.1 fs_fit.1 behind part (subst (λ (x : Entry). EntryShows setup (last_from (Some x) fs) f t) (sym one) shown)
+      entries_unfinished (Some e) es fs f p t y valid.1 fit.1 fs_fit.1 behind part
+      (subst (λ (x : Entry). EntryShows setup (last_from (Some x) fs) f t) (sym one) shown)
 
 -- ---- the head
 
 -- a record's length over the limit is no part of a size and a record
 record_cut : (w h n : ℕ) (y : List ℕ) → record_limit < n → n < 2 ^ 32 → IsPartOfReel ((be4 w ++ be4 h ++ be4 n) ++ y) → ⊥
 record_cut w h n y over small (inl short) =
-    omega (arith, short, length-append (be4 w ++ be4 h ++ be4 n) y, length-append (be4 w ++ be4 h) (be4 n), length-append (be4 w) (be4 h), length-be4 w, length-be4 h, length-be4 n)
+    omega (
+      arith,
+      short,
+      length-append (be4 w ++ be4 h ++ be4 n) y,
+      length-append (be4 w ++ be4 h) (be4 n),
+      length-append (be4 w)
+          (be4 h),
+      length-be4 w,
+      length-be4 h,
+      length-be4 n,
+    )
 record_cut w h n y over small (inr (v, k, m, config, split, few, cut)) =
-    let all = sym (append_assoc (be4 w) (be4 h) (be4 n ++ y)) ∙ sym (append_assoc (be4 w ++ be4 h) (be4 n) y) ∙ split ∙ append_assoc (be4 v ++ be4 k) (be4 m) config ∙ append_assoc (be4 v) (be4 k) (be4 m ++ config) in
+    let all = sym (append_assoc (be4 w) (be4 h) (be4 n ++ y)) ∙ sym (append_assoc (be4 w ++ be4 h) (be4 n) y) ∙ split
+    ∙ append_assoc (be4 v ++ be4 k) (be4 m) config ∙ append_assoc (be4 v) (be4 k) (be4 m ++ config) in
     let one = behind_number w v _ _ all in
     let two = behind_number h k _ _ one in
     let is = number_same n m _ _ two small (omega arith) in
@@ -102,6 +116,7 @@ part_shows_none f s t y same (inr (inr (q, p, q_is, s_split, part))) (inr (inl (
 part_shows_none f s t y same (inr (inr (q, p, q_is, s_split, (es, m, entries, inner, part)))) (inr (inr (r, u, r_is, split, (fs, n, others, behind, a)))) =
     let heads = same_head q r p (u ++ y) q_is r_is (sym s_split ∙ same ∙ ap (λ z. z ++ y) split ∙ append_assoc (head_text r) u y) in
     let setup = ap (λ (x : Reel). x.setup) heads.0 in
-    entries_unfinished q.setup None es fs f m n y (valid_list q.setup es entries) (fitting_all q q_is.reel es entries.each) (fitting_all r r_is.reel fs others.each)
+    entries_unfinished q.setup None es fs f m n y (valid_list q.setup es entries) (fitting_all q q_is.reel es entries.each)
+    (fitting_all r r_is.reel fs others.each)
     (sym inner ∙ heads.1 ∙ ap (λ z. z ++ y) behind) part
     (subst (λ (l : Option Entry). EntryShows q.setup l f n) (last_of-none fs) (subst (λ (x : SetupValue). EntryShows x (last_of fs) f n) (sym setup) a))

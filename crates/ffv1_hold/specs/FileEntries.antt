@@ -3,9 +3,9 @@ use Rattle.std.specs.Prelude.{◌≡◌, ℕ, List, [], ◌∷◌, Option, Some,
 use Rattle.std.specs.List.{AllByRecursion}
 use Rattle.std.specs.declared.cmp.Ordering.TheVariants.{Less}
 use Rattle.ffv1_range.specs.Setup.{SetupValue}
-use Rattle.ffv1_hold.specs.SliceOrder.{Entry, entry_cmp}
-use Rattle.ffv1_hold.specs.Rising.{IsRising}
-use Rattle.ffv1_hold.specs.Contents.{IsEntryOf}
+use Rattle.ffv1_holding.specs.SliceOrder.{Entry, entry_cmp}
+use Rattle.ffv1_holding.specs.Rising.{IsRising}
+use Rattle.ffv1_holding.specs.Contents.{IsEntryOf}
 use Rattle.ffv1_hold.specs.HoldingText.{entry_text}
 
 -- the last entry, if there is one

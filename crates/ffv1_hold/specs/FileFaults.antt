@@ -2,16 +2,17 @@
 -- the setup, behind the record; each tag; each entry's length; behind an entry's bytes whether they are a slice of its tile, and
 -- then whether it stands in order.
 use Rattle.std.specs.Prelude.{ℕ, ◌≡◌, ◌≢◌, ◌==◌, ◌^◌, ◌<◌, ◌≤◌, ◌⊎◌, List, [], ◌∷◌, ◌++◌, length, take, Option, Some, Result, Ok, Err}
+use Rattle.ffv1_bits.specs.Limits.{slice_limit, record_limit}
 use Rattle.ffv1_range.specs.Setup.{SetupValue}
 use Rattle.ffv1_range.specs.SetupFaults.{FirstSetupFault}
 use Rattle.ffv1_slice.specs.Slices.{IsSliceOf}
 use Rattle.ffv1_hold.specs.declared.file_fault.HoldFileFault.{HoldFileFault}
 use Rattle.ffv1_hold.specs.declared.file_fault.HoldFileFault.TheVariants as faults
-use Rattle.ffv1_hold.specs.SliceOrder.{Entry, entry_cmp}
-use Rattle.ffv1_hold.specs.Sets as set
-use Rattle.ffv1_hold.specs.Reels.{Reel, IsReel, WantsMemory}
-use Rattle.ffv1_hold.specs.Contents.{Contents, IsHolding, AreEntriesOf, slice_limit}
-use Rattle.ffv1_hold.specs.HoldingText.{magic, be2, be4, sized_record, head_text, holding_text, body_text, entries_text, record_limit}
+use Rattle.ffv1_holding.specs.SliceOrder.{Entry, entry_cmp}
+use Rattle.ffv1_holding.specs.Sets as set
+use Rattle.ffv1_holding.specs.Reels.{Reel, IsReel, WantsMemory}
+use Rattle.ffv1_holding.specs.Contents.{Contents, IsHolding, AreEntriesOf}
+use Rattle.ffv1_hold.specs.HoldingText.{magic, be2, be4, sized_record, head_text, holding_text, body_text, entries_text}
 use Rattle.ffv1_hold.specs.Reading.{Refuses}
 use Rattle.ffv1_hold.specs.FileEntries.{last_of, Follows, AreEntries}
 
@@ -60,7 +61,8 @@ EndIsWhole _ s = ⊥
 
 -- all entries, and the end tag behind them
 abbrev pub EntriesAreWhole : SetupValue → HoldFileFault → List ℕ → Type 0
-EntriesAreWhole setup f s = (slices : set.SetOf entry_cmp) × (tag : List ℕ) × AreEntriesOf setup slices × (s ≡ entries_text (set.items slices) ++ tag) × EndIsWhole f tag
+EntriesAreWhole setup f s = (slices : set.SetOf entry_cmp) × (tag : List ℕ) × AreEntriesOf setup slices × (s ≡ entries_text (set.items slices) ++ tag)
+    × EndIsWhole f tag
 
 -- ---- the head
 
@@ -75,12 +77,14 @@ IsPartOfReel s = (length s < 12) ⊎ ((w h n : ℕ) × (config : List ℕ) × (s
 
 abbrev pub ReelShows : HoldFileFault → List ℕ → Type 0
 ReelShows faults.TooLong s = (w h n : ℕ) × (s ≡ be4 w ++ be4 h ++ be4 n) × (record_limit < n) × (n < 2 ^ 32)
-ReelShows (faults.Setup f) s = (config : List ℕ) × (w h : ℕ) × (s ≡ sized_record config w h) × (length config ≤ record_limit) × (w < 2 ^ 32) × (h < 2 ^ 32) × FirstSetupFault config w h f
+ReelShows (faults.Setup f) s = (config : List ℕ) × (w h : ℕ) × (s ≡ sized_record config w h) × (length config ≤ record_limit) × (w < 2 ^ 32) × (h < 2 ^ 32)
+    × FirstSetupFault config w h f
 ReelShows _ s = ⊥
 
 -- the size and the record are whole, behind which memory for the setup is wanted
 abbrev pub ReelIsWhole : HoldFileFault → List ℕ → Type 0
-ReelIsWhole faults.Memory s = (config : List ℕ) × (w h : ℕ) × (s ≡ sized_record config w h) × (length config ≤ record_limit) × (w < 2 ^ 32) × (h < 2 ^ 32) × WantsMemory config w h
+ReelIsWhole faults.Memory s = (config : List ℕ) × (w h : ℕ) × (s ≡ sized_record config w h) × (length config ≤ record_limit) × (w < 2 ^ 32) × (h < 2 ^ 32)
+    × WantsMemory config w h
 ReelIsWhole _ s = ⊥
 
 -- a beginning of the magic

@@ -2,10 +2,11 @@
 use Rattle.std.specs.Prelude.{ℕ, ◌≤◌, List, [], ◌∷◌, ◌++◌, length}
 use Rattle.std.specs.List.{flat_map}
 use Rattle.std.specs.Int.{w16, w32, to_be_bytes}
-use Rattle.ffv1_hold.specs.SliceOrder.{Entry}
-use Rattle.ffv1_hold.specs.Sets as set
-use Rattle.ffv1_hold.specs.Reels.{Reel}
-use Rattle.ffv1_hold.specs.Contents.{Contents}
+use Rattle.ffv1_bits.specs.Limits.{record_limit, file_limit}
+use Rattle.ffv1_holding.specs.SliceOrder.{Entry}
+use Rattle.ffv1_holding.specs.Sets as set
+use Rattle.ffv1_holding.specs.Reels.{Reel}
+use Rattle.ffv1_holding.specs.Contents.{Contents}
 
 -- numbers of two and four bytes, most significant byte first
 unfoldable pub be2 : ℕ → List ℕ
@@ -39,13 +40,6 @@ entries_text es = flat_map entry_text es
 -- the text of a holding: its head, its entries in rising order of tile and bytes, and the end tag
 abbrev pub holding_text : Contents → List ℕ
 holding_text h = head_text h.reel ++ entries_text (set.items h.slices) ++ 0 ∷ []
-
--- the greatest length of a record in a holding file, and of the file, in bytes: 2^24 and 2^31
-abbrev pub record_limit : ℕ
-record_limit = 16777216
-
-abbrev pub file_limit : ℕ
-file_limit = 2147483648
 
 -- a holding has a text where that and its record are within their limits
 pub record FitsInFile (h : Contents) : Type 0 where

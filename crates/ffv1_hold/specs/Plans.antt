@@ -3,15 +3,15 @@ use Rattle.std.specs.Prelude.{◌≡◌, ◌⊎◌, ◌<◌, ℕ, List, [], ◌�
 use Rattle.ffv1_hold.specs.Headline.{IsReelOf}
 use Rattle.ffv1_range.specs.SetupFaults.{FirstSetupFault}
 use Rattle.ffv1_range.specs.declared.fault.SetupFault.TheVariants as setups
-use Rattle.ffv1_hold.specs.declared.fault.HoldFault.TheVariants as holds
+use Rattle.ffv1_holding.specs.declared.fault.HoldFault.TheVariants as holds
 use Rattle.ffv1_hold.specs.declared.file_fault.HoldFileFault.{HoldFileFault}
 use Rattle.ffv1_hold.specs.declared.file_fault.HoldFileFault.TheVariants as files
 use Rattle.ffv1_hold.specs.declared.plan.Plan.{Plan, New, Take', TakeAll', Join', Reread'}
 use Rattle.ffv1_hold.specs.declared.plan.PlanFault.{PlanFault}
 use Rattle.ffv1_hold.specs.declared.plan.PlanFault.TheVariants.{Setup, Hold, File}
-use Rattle.ffv1_hold.specs.Reels.{Reel}
-use Rattle.ffv1_hold.specs.Contents.{Contents, holding_of}
-use Rattle.ffv1_hold.specs.TakeFaults.{IsTakeFault, AreShort}
+use Rattle.ffv1_holding.specs.Reels.{Reel}
+use Rattle.ffv1_holding.specs.Contents.{Contents, holding_of}
+use Rattle.ffv1_holding.specs.TakeFaults.{IsTakeFault, AreShort}
 use Rattle.ffv1_hold.specs.Saving.{IsTooLong}
 
 abbrev pub copies_of : Plan → List (List ℕ)
@@ -67,7 +67,12 @@ IsCarriedOut config width height plan = (reel : Reel) × IsReelOf config width h
 -- The refusal of the first of the plan's steps that is refused: those before it are carried out.
 abbrev pub IsPlanFault : List ℕ → ℕ → ℕ → Plan → PlanFault → Type 0
 IsPlanFault config width height New fault = IsNewFault config width height fault
-IsPlanFault config width height (Take' p before copy) fault = IsPlanFault config width height before fault ⊎ (IsCarriedOut config width height before × IsFaultOfCopy copy.now fault)
-IsPlanFault config width height (TakeAll' p before copies) fault = IsPlanFault config width height before fault ⊎ (IsCarriedOut config width height before × IsFaultOfCopies (map (λ copy. copy.now) copies.now) fault)
-IsPlanFault config width height (Join' p left q right) fault = IsPlanFault config width height left fault ⊎ (IsCarriedOut config width height left × (IsPlanFault config width height right fault ⊎ (IsCarriedOut config width height right × (fault ≡ Hold holds.Memory))))
-IsPlanFault config width height (Reread' p before) fault = IsPlanFault config width height before fault ⊎ (IsCarriedOut config width height before × IsFaultOfFile config width height (copies_of before) fault)
+IsPlanFault config width height (Take' p before copy) fault = IsPlanFault config width height before fault
+    ⊎ (IsCarriedOut config width height before × IsFaultOfCopy copy.now fault)
+IsPlanFault config width height (TakeAll' p before copies) fault = IsPlanFault config width height before fault
+    ⊎ (IsCarriedOut config width height before × IsFaultOfCopies (map (λ copy. copy.now) copies.now) fault)
+IsPlanFault config width height (Join' p left q right) fault = IsPlanFault config width height left fault
+    ⊎ (IsCarriedOut config width height left × (IsPlanFault config width height right fault
+    ⊎ (IsCarriedOut config width height right × (fault ≡ Hold holds.Memory))))
+IsPlanFault config width height (Reread' p before) fault = IsPlanFault config width height before fault
+    ⊎ (IsCarriedOut config width height before × IsFaultOfFile config width height (copies_of before) fault)

@@ -1,7 +1,7 @@
 -- How the reading of a holding file stops at a fault.
-use Rattle.std.specs.Prelude.{ℕ, ◌≡◌, ◌+◌, ◌-◌, ◌^◌, ◌<◌, ◌≤◌, ◌⊎◌, List, [], ◌∷◌, ◌++◌, length, Option, slice_index}
-use Rattle.ffv1_hold.specs.HoldingText.{file_limit}
+use Rattle.std.specs.Prelude.{ℕ, ◌≡◌, ◌+◌, ◌-◌, ◌^◌, ◌<◌, ◌≤◌, ◌⊎◌, List, [], ◌∷◌, ◌++◌, length, Option}
 use Rattle.std.specs.Io.KnownBytes.{Consumes, IsAtEnd}
+use Rattle.ffv1_bits.specs.Limits.{file_limit}
 use Rattle.ffv1_hold.specs.declared.file_fault.HoldFileFault.{HoldFileFault}
 use Rattle.ffv1_hold.specs.declared.file_fault.HoldFileFault.TheVariants as faults
 
@@ -70,11 +70,3 @@ IsShorter n bytes = length bytes < n
 abbrev pub CountsRead : HoldFileFault → ℕ → ℕ → Type 0
 CountsRead faults.Read old new = (old < new) ⊎ (2 ^ 64 - 1 ≤ new)
 CountsRead _ old new = Unit {0}
-
--- each is the value of a `u8`
-abbrev pub AreBytes : List ℕ → Type 0
-AreBytes bytes = (i : ℕ) → slice_index bytes i < 256
-
--- fewer than n bytes were taken
-abbrev pub TakesFewer : Option (List ℕ) → Option (List ℕ) → ℕ → Type 0
-TakesFewer old new n = (seen : List ℕ) × (length seen < n) × Consumes old new seen

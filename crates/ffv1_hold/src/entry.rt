@@ -1,25 +1,24 @@
 //! The entries of a holding file (own): slices with their footers (RFC 9043, section 4.9), and their tiles.
 ghost use Rattle.std.specs.Prelude.{◌≡◌, ◌≢◌, ◌+◌, ◌*◌, ◌^◌, ◌<◌, ◌≤◌, ◌↔◌, ◌==◌, [], ◌∷◌, ◌++◌, length, IsTrue, IfSome, IfNone, OnErr, OnOk, IfOk, IfErr};
+ghost use Rattle.ffv1_bits.specs.Limits.{slice_limit, file_limit};
 ghost use Rattle.ffv1_slice.specs.Slices.{IsSliceOf};
-ghost use Rattle.ffv1_hold.specs.Sets as set;
+ghost use Rattle.ffv1_holding.specs.Sets as set;
 ghost use Rattle.ffv1_hold.specs.Reading.{Takes, Refuses, Never, CountsRead};
-ghost use Rattle.ffv1_hold.specs.Contents.{IsEntryOf, AreEntriesOf, slice_limit};
-ghost use Rattle.ffv1_hold.specs.HoldingText.{body_text, entry_text, entries_text, file_limit};
+ghost use Rattle.ffv1_holding.specs.Contents.{IsEntryOf, AreEntriesOf};
+ghost use Rattle.ffv1_hold.specs.HoldingText.{body_text, entry_text, entries_text};
 ghost use Rattle.ffv1_hold.specs.FileEntries.{Follows};
 ghost use Rattle.ffv1_hold.specs.FileFaults.{IsPartOfBody, IsPartOfEntry, BodyIsTooLong, EntryShows, IsPartOfEntries, EntriesShow, IsWrong};
 
 use crate::fields::read_field;
 use crate::file_fault::HoldFileFault;
 use crate::number::{read_bytes, read_u16, read_u32};
-use crate::streams::Source;
+use ffv1_bits::SLICE_LIMIT;
+use ffv1_devices::Source;
 use ffv1_range::Setup;
 use ffv1_slice::read_slice;
 use std::alloc::Global;
 use std::cmp::Ordering;
 use std::marker::Model;
-
-/// The greatest length of a slice with its footer, in bytes.
-const SLICE_LIMIT: u32 = 16777223;
 
 /// A slice with its footer, and its tile.
 #[derive(Drop)]
@@ -29,7 +28,7 @@ pub(crate) struct HeldSlice {
 }
 
 impl Model for HeldSlice {
-    ghost use Rattle.ffv1_hold.specs.SliceOrder.{Entry, coded_entry};
+    ghost use Rattle.ffv1_holding.specs.SliceOrder.{Entry, coded_entry};
 
     ghost Value = { Entry };
 
@@ -39,7 +38,7 @@ impl Model for HeldSlice {
 }
 
 impl HeldSlice {
-    ghost use Rattle.ffv1_hold.specs.SliceOrder.{entry_cmp};
+    ghost use Rattle.ffv1_holding.specs.SliceOrder.{entry_cmp};
 
     /// The order in a holding file: by tile, and then as byte slices compare.
     fn compare(&self, other: &HeldSlice) -> Ordering

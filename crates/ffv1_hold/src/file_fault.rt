@@ -2,7 +2,7 @@
 ghost use Rattle.std.specs.Prelude.{◌≡◌};
 ghost use Rattle.ffv1_hold.specs.declared.file_fault.HoldFileFault.TheVariants.{Memory, Read, Write};
 
-use crate::fields::{ReadFailed, WriteFailed};
+use ffv1_devices::{ReadFailed, WriteFailed};
 use ffv1_range::SetupFault;
 use std::alloc::{AllocError, AllocFailed};
 

@@ -1,24 +1,23 @@
 //! What stands before the entries of a holding file (own): its name and version, the size and the configuration record (RFC
 //! 9043, section 4.3).
 ghost use Rattle.std.specs.Prelude.{◌≡◌, ◌+◌, ◌≤◌, ◌++◌, length, OnErr, OnOk, IfOk, IfErr};
-ghost use Rattle.ffv1_hold.specs.Reels.{IsReel};
+ghost use Rattle.ffv1_bits.specs.Limits.{file_limit};
+ghost use Rattle.ffv1_holding.specs.Reels.{IsReel};
 ghost use Rattle.ffv1_hold.specs.Reading.{Takes, Refuses, Never, CountsRead};
-ghost use Rattle.ffv1_hold.specs.HoldingText.{magic, sized_record, file_limit};
+ghost use Rattle.ffv1_hold.specs.HoldingText.{magic, sized_record};
 ghost use Rattle.ffv1_hold.specs.FileFaults.{IsPartOfMagic, MagicShows, IsFileReel, IsPartOfReel, ReelIsWhole, ReelShows};
 
 use crate::fields::read_field;
 use crate::file_fault::HoldFileFault;
 use crate::number::{read_bytes, read_u32};
-use crate::reel::Reel;
-use crate::streams::Source;
+use ffv1_bits::RECORD_LIMIT;
+use ffv1_devices::Source;
+use ffv1_holding::Reel;
 use ffv1_range::SetupFault;
 use std::alloc::Global;
 
 /// What a holding file begins with: its name and version.
 const MAGIC: [u8; 8] = *b"FFV1HLD\x01";
-
-/// The greatest length of a record in a holding file, in bytes.
-pub(crate) const RECORD_LIMIT: u32 = 1 << 24;
 
 /// Reads the name and the version, byte by byte: a wrong byte is told whatever the device would do behind it.
 pub(crate) fn read_magic<S: Source>(source: &mut S, place: &mut u32) -> Result<(), HoldFileFault>
@@ -48,7 +47,8 @@ pub(crate) fn read_reel<S: Source>(
     place: &mut u32,
 ) -> Result<Reel, HoldFileFault>
     requires { place.old ≤ file_limit }
-    ensures ok { IfOk result (λ r. Takes (S.remaining source.old) (S.remaining source.new) place.old place.new (sized_record r.config r.setup.width r.setup.height)) }
+    ensures ok { IfOk result (λ r. Takes (S.remaining source.old) (S.remaining source.new) place.old place.new
+        (sized_record r.config r.setup.width r.setup.height)) }
     ensures reel { IfOk result IsFileReel }
     ensures err { IfErr result (Refuses IsPartOfReel ReelIsWhole ReelShows
         (S.remaining source.old) (S.remaining source.new) place.old) }

@@ -1,18 +1,18 @@
 //! A holding file that is read entry by entry (own).
 ghost use Rattle.std.specs.Prelude.{◌≡◌, ◌+◌, ◌≤◌, None, IfSome, IfNone, IfOk, OnOk, IfErr};
 ghost use Rattle.std.specs.Io.KnownBytes.{IsAtEnd};
+ghost use Rattle.ffv1_bits.specs.Limits.{file_limit};
 ghost use Rattle.ffv1_hold.specs.Reading.{Takes, Refuses, CountsRead};
-ghost use Rattle.ffv1_hold.specs.Contents.{IsEntryOf};
-ghost use Rattle.ffv1_hold.specs.HoldingText.{head_text, file_limit};
+ghost use Rattle.ffv1_holding.specs.Contents.{IsEntryOf};
+ghost use Rattle.ffv1_hold.specs.HoldingText.{head_text};
 ghost use Rattle.ffv1_hold.specs.FileEntries.{Follows, next_text};
 ghost use Rattle.ffv1_hold.specs.FileFaults.{IsFileReel, IsPartOfFile, FileIsWhole, FileShows, IsPartOfEntry, EndIsWhole, EntryShows};
 
 use crate::entry::{HeldSlice, read_entry};
-use crate::fields::next_byte;
 use crate::file_fault::HoldFileFault;
 use crate::head::{read_magic, read_reel};
-use crate::reel::Reel;
-use crate::streams::Source;
+use ffv1_devices::{Source, next_byte};
+use ffv1_holding::Reel;
 use ffv1_range::Setup;
 use std::alloc::Global;
 

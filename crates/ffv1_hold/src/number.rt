@@ -1,13 +1,13 @@
 //! Numbers of a holding file (own), most significant byte first.
 
 ghost use Rattle.std.specs.Prelude.{◌≡◌, ◌+◌, ◌≤◌, length, OnErr, OnOk, IfOk, IfErr};
-ghost use Rattle.ffv1_hold.specs.HoldingText.{file_limit};
+ghost use Rattle.ffv1_bits.specs.Limits.{file_limit};
 ghost use Rattle.ffv1_hold.specs.Reading.{Takes, Refuses, IsShorter, Never, CountsRead};
 ghost use Rattle.ffv1_hold.specs.HoldingText.{be2, be4};
 
 use crate::fields::read_field;
 use crate::file_fault::HoldFileFault;
-use crate::streams::Source;
+use ffv1_devices::Source;
 use std::alloc::Global;
 
 pub(crate) fn read_u16<S: Source>(source: &mut S, place: &mut u32) -> Result<u16, HoldFileFault>

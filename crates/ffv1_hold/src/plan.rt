@@ -1,21 +1,18 @@
 //! Plans (own): which copies are taken, in which order and grouping, which holdings are joined, and which go through a file.
 ghost use Rattle.std.specs.Prelude.{◌≡◌, ℕ, List, IfOk, IfErr, OnOk};
 ghost use Rattle.ffv1_range.specs.Setup.{IsSetupOf};
-ghost use Rattle.ffv1_hold.specs.TakeFaults.{AreShort};
-ghost use Rattle.ffv1_hold.specs.Contents.{holding_of, IsHolding};
+ghost use Rattle.ffv1_holding.specs.TakeFaults.{AreShort};
+ghost use Rattle.ffv1_holding.specs.Contents.{holding_of, IsHolding};
 ghost use Rattle.ffv1_hold.specs.Saving.{IsTooLong};
-ghost use Rattle.ffv1_hold.specs.Originals.{AreNear, HoldsExactly};
+ghost use Rattle.ffv1_holding.specs.Originals.{AreNear, HoldsExactly};
 ghost use Rattle.ffv1_hold.specs.Plans.{copies_of, IsPlanFault, IsRereadFault, RereadsFit};
 ghost use Rattle.ffv1_hold.specs.Headline.{SameCopiesAreEqual};
 
-use crate::fault::HoldFault;
 use crate::file_fault::HoldFileFault;
-use crate::holding::Holding;
-use crate::join::Join;
 use crate::reading::read_hold;
 use crate::saving::write_hold;
-use crate::streams::{FromRead, FromWrite};
-use crate::take::TakeAllFault;
+use ffv1_devices::{FromRead, FromWrite};
+use ffv1_holding::{HoldFault, Holding, Join, TakeAllFault};
 use ffv1_range::SetupFault;
 use std::alloc::Global;
 
@@ -108,7 +105,8 @@ pub fn run(
     ensures sound { IfOk result IsHolding }
 
     // Where the plan's copies are near an original, with each of its slices intact in one of them, exactly its slices are held.
-    ensures near { (original : List ℕ) (slices : List (List ℕ)) → IfOk result (λ h. AreNear h.reel.setup original slices (copies_of plan.now) → HoldsExactly h slices) }
+    ensures near { (original : List ℕ) (slices : List (List ℕ)) → IfOk result (λ h. AreNear h.reel.setup original slices (copies_of plan.now)
+        → HoldsExactly h slices) }
 
     ensures short { OnOk result (AreShort (copies_of plan.now)) }
     ensures fits { IfOk result (λ h. RereadsFit h.reel plan.now) }
@@ -139,8 +137,8 @@ pub fn run(
     }
 }
 
-// Writes a holding file to memory, and reads it again. `TooLong` comes exactly where the holding has none; the only other
-// refusal is `Memory`.
+/// Writes a holding file to memory, and reads it again. `TooLong` comes exactly where the holding has none; the only other
+/// refusal is `Memory`.
 fn reread(alloc: Global, holding: &Holding) -> Result<Holding, HoldFileFault>
     requires { IsHolding holding.now }
     ensures same { IfOk result (λ h. h ≡ holding.now) }

@@ -1,18 +1,17 @@
 //! Reading a holding file (own).
-ghost use Rattle.std.specs.Prelude.{◌≡◌, ◌+◌, ◌*◌, ◌≤◌, [], ◌∷◌, ◌++◌, None, Some, IfOk, OnOk, IfErr};
+ghost use Rattle.std.specs.Prelude.{◌≡◌, ◌+◌, ◌≤◌, [], ◌∷◌, ◌++◌, None, Some, IfOk, OnOk, IfErr};
 ghost use Rattle.std.specs.Io.KnownBytes.{Consumes, IsAtEnd};
-ghost use Rattle.ffv1_hold.specs.Sets as set;
+ghost use Rattle.ffv1_bits.specs.Limits.{file_limit};
+ghost use Rattle.ffv1_holding.specs.Sets as set;
 ghost use Rattle.ffv1_hold.specs.Reading.{Takes, Refuses, CountsRead};
-ghost use Rattle.ffv1_hold.specs.Contents.{Contents, IsHolding, AreEntriesOf};
-ghost use Rattle.ffv1_hold.specs.HoldingText.{holding_text, entries_text, file_limit, FitsInFile};
+ghost use Rattle.ffv1_holding.specs.Contents.{Contents, IsHolding};
+ghost use Rattle.ffv1_hold.specs.HoldingText.{holding_text, entries_text, FitsInFile};
 ghost use Rattle.ffv1_hold.specs.FileFaults.{IsPartOfFile, FileIsWhole, FileShows, IsPartOfEntries, EntriesAreWhole, EntriesShow, Answers};
 
 use crate::file_fault::HoldFileFault;
 use crate::hold_reader::HoldReader;
-use crate::holding::Holding;
-use crate::streams::Source;
-use crate::tile_sets::TileSets;
-use ffv1_range::Setup;
+use ffv1_devices::Source;
+use ffv1_holding::Holding;
 use std::alloc::Global;
 
 /// Reads a holding file, to the end of the input.
@@ -42,7 +41,7 @@ pub fn read_hold<R: Source>(alloc: Global, source: &mut R) -> Result<Holding, Ho
     read_parts(alloc, source)
 }
 
-// Reads the head, and then the entries.
+/// Reads the head, and then the entries.
 fn read_parts<R: Source>(alloc: Global, source: &mut R) -> Result<Holding, HoldFileFault>
     ensures text { IfOk result (λ h. Consumes (R.remaining source.old) (R.remaining source.new) (holding_text h)) }
     ensures end { OnOk result (IsAtEnd (R.remaining source.new)) }
@@ -57,39 +56,38 @@ fn read_parts<R: Source>(alloc: Global, source: &mut R) -> Result<Holding, HoldF
 {
     let mut reader = HoldReader::new();
     let reel = reader.read_head(alloc, source)?;
-    let mut held = TileSets::new(alloc, reel.tiles())?;
-    read_entries(alloc, source, &mut reader, reel.setup(), &mut held)?;
-    Ok(Holding { reel, held })
+    let mut holding = Holding::of_reel(alloc, reel)?;
+    read_entries(alloc, source, &mut reader, &mut holding)?;
+    Ok(holding)
 }
 
-// Reads the entries into the slices of their tiles, and to the end of the input.
+/// Reads the entries into a holding of no slices, and to the end of the input.
 fn read_entries<R: Source>(
     alloc: Global,
     source: &mut R,
     reader: &mut HoldReader,
-    setup: &Setup,
-    held: &mut TileSets,
+    holding: &mut Holding,
 ) -> Result<(), HoldFileFault>
     requires place { reader.old.place ≤ file_limit }
     requires first { reader.old.held ≡ None }
-    requires tiles { held.old.tiles ≡ setup.now.across * setup.now.down }
-    requires empty { held.old.slices ≡ set.empty }
-    ensures ok { OnOk result (Takes (R.remaining source.old) (R.remaining source.new) reader.old.place reader.new.place (entries_text (set.items held.new.slices) ++ 0 ∷ [])) }
+    requires empty { holding.old.slices ≡ set.empty }
+    ensures ok { OnOk result (Takes (R.remaining source.old) (R.remaining source.new) reader.old.place reader.new.place
+        (entries_text (set.items holding.new.slices) ++ 0 ∷ [])) }
     ensures end { OnOk result (IsAtEnd (R.remaining source.new)) }
-    ensures entries { OnOk result (AreEntriesOf setup.now held.new.slices) }
-    ensures tiles { OnOk result (held.new.tiles ≡ held.old.tiles) }
-    ensures err { IfErr result (Refuses (IsPartOfEntries setup.now) (EntriesAreWhole setup.now) (EntriesShow setup.now)
+    ensures sound { OnOk result (IsHolding holding.new) }
+    ensures reel { OnOk result (holding.new.reel ≡ holding.old.reel) }
+    ensures err { IfErr result (Refuses (IsPartOfEntries holding.old.reel.setup) (EntriesAreWhole holding.old.reel.setup) (EntriesShow holding.old.reel.setup)
         (R.remaining source.old) (R.remaining source.new) reader.old.place) }
     ensures failed { IfErr result (λ f. CountsRead f (R.failures source.old) (R.failures source.new)) }
     ensures counted { R.failures source.old ≤ R.failures source.new }
     ensures most { R.taken source.new + reader.old.place ≤ R.taken source.old + file_limit + 1 }
 {
-    reader.advance(alloc, source, setup)?;
+    reader.advance(alloc, source, holding.setup())?;
     while let Some(slice) = &reader.held {
-        let Ok(()) = held.insert(slice.tile as usize, &slice.bytes) else {
+        let Ok(()) = holding.insert(slice.tile as usize, &slice.bytes) else {
             return Err(HoldFileFault::Memory);
         };
-        reader.advance(alloc, source, setup)?;
+        reader.advance(alloc, source, holding.setup())?;
     }
     Ok(())
 }

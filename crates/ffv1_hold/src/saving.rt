@@ -1,23 +1,20 @@
 //! Writing a holding file (own).
 ghost use Rattle.std.specs.Prelude.{◌≡◌, ◌<◌, ◌≤◌, ◌↔◌, ◌++◌, ◌^◌, ◌∷◌, ◌+◌, [], length, map, OnOk, OnErr, IfErr, IfSome, IfNone, IsErrOf, IsTrue};
 ghost use Rattle.std.specs.Io.KnownBytes.{Appends};
-ghost use Rattle.ffv1_hold.specs.Sets as set;
-ghost use Rattle.ffv1_hold.specs.Streams.{HasFailed};
-ghost use Rattle.ffv1_hold.specs.Writing.{WritesFront, IsWriteFault};
-ghost use Rattle.ffv1_hold.specs.TileSets.{tile_entries};
-ghost use Rattle.ffv1_hold.specs.HoldingText.{be2, be4, magic, head_text, entries_text, holding_text, record_limit, file_limit, FitsInFile};
-ghost use Rattle.ffv1_hold.specs.Contents.{IsHolding};
-ghost use Rattle.ffv1_hold.specs.Saving.{AreWithinLimit, AreWritable, IsTooLong, entries_length};
+ghost use Rattle.ffv1_bits.specs.Limits.{record_limit, file_limit};
+ghost use Rattle.ffv1_holding.specs.Sets as set;
+ghost use Rattle.ffv1_devices.specs.Streams.{HasFailed};
+ghost use Rattle.ffv1_devices.specs.Writing.{WritesFront};
+ghost use Rattle.ffv1_holding.specs.TileSets.{tile_slices, tile_entries};
+ghost use Rattle.ffv1_holding.specs.Reels.{reel_tiles};
+ghost use Rattle.ffv1_hold.specs.HoldingText.{be2, be4, magic, head_text, entries_text, holding_text, FitsInFile};
+ghost use Rattle.ffv1_holding.specs.Contents.{IsHolding};
+ghost use Rattle.ffv1_hold.specs.Saving.{AreWithinLimit, AreWritable, IsTooLong, IsWriteFault, entries_length};
 
-use crate::fields::{FILE_LIMIT, WriteFailed};
 use crate::file_fault::HoldFileFault;
-use crate::head::RECORD_LIMIT;
-use crate::holding::Holding;
-use crate::reel::Reel;
-use crate::slice_set::SliceSet;
-use crate::streams::Sink;
-use crate::tile_sets::TileSets;
-use crate::writes::{write_field, write_pair};
+use ffv1_bits::{FILE_LIMIT, RECORD_LIMIT};
+use ffv1_devices::{Sink, WriteFailed, write_field, write_pair};
+use ffv1_holding::Holding;
 
 /// Writes the holding file of a holding.
 ///
@@ -37,72 +34,75 @@ pub fn write_hold<W: Sink>(holding: &Holding, sink: &mut W) -> Result<(), HoldFi
 
     ensures only { IfErr result IsWriteFault }
 {
-    if !fits_in_file(&holding.reel, &holding.held) {
+    if !fits_in_file(holding) {
         return Err(HoldFileFault::TooLong);
     }
-    write_text(&holding.reel, &holding.held, sink)?;
+    write_text(holding, sink)?;
     Ok(())
 }
 
-// Writes the text of these slices.
-fn write_text<S: Sink>(reel: &Reel, held: &TileSets, sink: &mut S) -> Result<(), WriteFailed>
-    requires reel { length reel.now.config ≤ record_limit }
-    requires entries { AreWritable held.now }
-    ensures ok { OnOk result (Appends (S.contents sink.old) (S.contents sink.new) (head_text reel.now ++ entries_text (set.items held.now.slices) ++ 0 ∷ [])) }
-    ensures err { OnErr result (WritesFront (S.contents sink.old) (S.contents sink.new) (head_text reel.now ++ entries_text (set.items held.now.slices) ++ 0 ∷ [])) }
+/// Writes the text of a holding.
+fn write_text<S: Sink>(holding: &Holding, sink: &mut S) -> Result<(), WriteFailed>
+    requires reel { length holding.now.reel.config ≤ record_limit }
+    requires entries { AreWritable holding.now }
+    ensures ok { OnOk result (Appends (S.contents sink.old) (S.contents sink.new) (holding_text holding.now)) }
+    ensures err { OnErr result (WritesFront (S.contents sink.old) (S.contents sink.new) (holding_text holding.now)) }
     ensures failed { OnErr result (HasFailed (S.failures sink.old) (S.failures sink.new)) }
 {
-    write_head(sink, reel)?;
-    write_entries(sink, held)?;
+    write_head(sink, holding)?;
+    write_entries(sink, holding)?;
     write_field(sink, &[0])?;
     Ok(())
 }
 
-// Writes what stands before the entries.
-fn write_head<S: Sink>(sink: &mut S, reel: &Reel) -> Result<(), WriteFailed>
-    requires { length reel.now.config ≤ record_limit }
-    ensures ok { OnOk result (Appends (S.contents sink.old) (S.contents sink.new) (head_text reel.now)) }
-    ensures err { OnErr result (WritesFront (S.contents sink.old) (S.contents sink.new) (head_text reel.now)) }
+/// Writes what stands before the entries.
+fn write_head<S: Sink>(sink: &mut S, holding: &Holding) -> Result<(), WriteFailed>
+    requires { length holding.now.reel.config ≤ record_limit }
+    ensures ok { OnOk result (Appends (S.contents sink.old) (S.contents sink.new) (head_text holding.now.reel)) }
+    ensures err { OnErr result (WritesFront (S.contents sink.old) (S.contents sink.new) (head_text holding.now.reel)) }
     ensures failed { OnErr result (HasFailed (S.failures sink.old) (S.failures sink.new)) }
     ensures counted { S.failures sink.old ≤ S.failures sink.new }
 {
+    let reel = holding.reel();
     let config = reel.config();
     let setup = reel.setup();
     let head = reel_head(setup.width(), setup.height(), config.len() as u32);
     write_pair(sink, &head, config)
 }
 
-// Writes the entries of all tiles.
-fn write_entries<S: Sink>(sink: &mut S, held: &TileSets) -> Result<(), WriteFailed>
-    requires { AreWritable held.now }
-    ensures ok { OnOk result (Appends (S.contents sink.old) (S.contents sink.new) (entries_text (set.items held.now.slices))) }
-    ensures err { OnErr result (WritesFront (S.contents sink.old) (S.contents sink.new) (entries_text (set.items held.now.slices))) }
+/// Writes the entries of all tiles.
+fn write_entries<S: Sink>(sink: &mut S, holding: &Holding) -> Result<(), WriteFailed>
+    requires { AreWritable holding.now }
+    ensures ok { OnOk result (Appends (S.contents sink.old) (S.contents sink.new) (entries_text (set.items holding.now.slices))) }
+    ensures err { OnErr result (WritesFront (S.contents sink.old) (S.contents sink.new) (entries_text (set.items holding.now.slices))) }
     ensures failed { OnErr result (HasFailed (S.failures sink.old) (S.failures sink.new)) }
     ensures counted { S.failures sink.old ≤ S.failures sink.new }
 {
-    for tile in 0..held.tiles() {
-        write_tile(sink, tile as u16, held.of_tile(tile))?;
+    for tile in 0..holding.reel().tiles() {
+        write_tile(sink, holding, tile)?;
     }
     Ok(())
 }
 
-// Writes the entries of one tile.
-fn write_tile<S: Sink>(sink: &mut S, tile: u16, slices: &SliceSet) -> Result<(), WriteFailed>
-    requires { AreWithinLimit slices.now }
-    ensures ok { OnOk result (Appends (S.contents sink.old) (S.contents sink.new) (entries_text (map (λ b. (tile, b)) (set.items slices.now)))) }
-    ensures err { OnErr result (WritesFront (S.contents sink.old) (S.contents sink.new) (entries_text (map (λ b. (tile, b)) (set.items slices.now)))) }
+/// Writes the entries of one tile.
+fn write_tile<S: Sink>(sink: &mut S, holding: &Holding, tile: usize) -> Result<(), WriteFailed>
+    requires tile { tile < reel_tiles holding.now.reel }
+    requires number { tile < 2 ^ 16 }
+    requires fits { AreWithinLimit (tile_slices holding.now.slices tile) }
+    ensures ok { OnOk result (Appends (S.contents sink.old) (S.contents sink.new) (entries_text (tile_entries holding.now.slices tile))) }
+    ensures err { OnErr result (WritesFront (S.contents sink.old) (S.contents sink.new) (entries_text (tile_entries holding.now.slices tile))) }
     ensures failed { OnErr result (HasFailed (S.failures sink.old) (S.failures sink.new)) }
     ensures counted { S.failures sink.old ≤ S.failures sink.new }
 {
-    for place in 0..slices.len() {
-        let slice = slices.get(place);
-        let head = entry_head(tile, slice.len() as u32);
+    for place in 0..holding.held(tile) {
+        let slice = holding.slice(tile, place);
+        let head = entry_head(tile as u16, slice.len() as u32);
         write_pair(sink, &head, slice)?;
     }
     Ok(())
 }
 
-// What stands before an entry's bytes.
+/// What stands before an entry's bytes.
 #[tactic(auto, unfolding(crate::specs::HoldingText::be2, crate::specs::HoldingText::be4))]
 fn entry_head(tile: u16, length: u32) -> [u8; 7]
     ensures { result ≡ (1 ∷ be2 tile) ++ be4 length }
@@ -114,7 +114,7 @@ fn entry_head(tile: u16, length: u32) -> [u8; 7]
     ]
 }
 
-// What stands before the record.
+/// What stands before the record.
 #[tactic(auto, unfolding(crate::specs::HoldingText::be4))]
 fn reel_head(width: u32, height: u32, length: u32) -> [u8; 20]
     ensures { result ≡ magic ++ (be4 width ++ be4 height ++ be4 length) }
@@ -128,44 +128,45 @@ fn reel_head(width: u32, height: u32, length: u32) -> [u8; 20]
     ]
 }
 
-// Whether record and text are within their limits.
-fn fits_in_file(reel: &Reel, held: &TileSets) -> bool
-    requires { AreWritable held.now }
-    ensures { IsTrue result ↔ ((length reel.now.config ≤ record_limit) × (length (head_text reel.now ++ entries_text (set.items held.now.slices) ++ 0 ∷ []) ≤ file_limit)) }
+/// Whether record and text are within their limits.
+fn fits_in_file(holding: &Holding) -> bool
+    ensures sound { IsHolding holding.now }
+    ensures fits { IsTrue result ↔ ((length holding.now.reel.config ≤ record_limit) × (length (holding_text holding.now) ≤ file_limit)) }
 {
-    let config = reel.config();
+    let config = holding.reel().config();
     if config.len() > RECORD_LIMIT as usize {
         return false;
     }
     let head = 20 + config.len() as u32;
-    match room_behind(held, FILE_LIMIT - head - 1) {
+    match room_behind(holding, FILE_LIMIT - head - 1) {
         Some(_) => true,
         None => false,
     }
 }
 
-// What is left of the room behind the entries of all tiles, or `None` where they pass it.
-fn room_behind(held: &TileSets, room: u32) -> Option<u32>
-    requires { AreWritable held.now }
-    ensures some { IfSome result (λ left. left + length (entries_text (set.items held.now.slices)) ≡ room) }
-    ensures none { IfNone result (room < length (entries_text (set.items held.now.slices))) }
+/// What is left of the room behind the entries of all tiles, or `None` where they pass it.
+fn room_behind(holding: &Holding, room: u32) -> Option<u32>
+    requires { AreWritable holding.now }
+    ensures some { IfSome result (λ left. left + length (entries_text (set.items holding.now.slices)) ≡ room) }
+    ensures none { IfNone result (room < length (entries_text (set.items holding.now.slices))) }
 {
     let mut left = room;
-    for tile in 0..held.tiles() {
-        left = room_behind_tile(held.of_tile(tile), left)?;
+    for tile in 0..holding.reel().tiles() {
+        left = room_behind_tile(holding, tile, left)?;
     }
     Some(left)
 }
 
-// What is left of the room behind the entries of one tile, or `None` where they pass it.
-fn room_behind_tile(slices: &SliceSet, room: u32) -> Option<u32>
-    requires { AreWithinLimit slices.now }
-    ensures some { IfSome result (λ left. left + entries_length (set.items slices.now) ≡ room) }
-    ensures none { IfNone result (room < entries_length (set.items slices.now)) }
+/// What is left of the room behind the entries of one tile, or `None` where they pass it.
+fn room_behind_tile(holding: &Holding, tile: usize, room: u32) -> Option<u32>
+    requires tile { tile < reel_tiles holding.now.reel }
+    requires fits { AreWithinLimit (tile_slices holding.now.slices tile) }
+    ensures some { IfSome result (λ left. left + entries_length (set.items (tile_slices holding.now.slices tile)) ≡ room) }
+    ensures none { IfNone result (room < entries_length (set.items (tile_slices holding.now.slices tile))) }
 {
     let mut left = room;
-    for place in 0..slices.len() {
-        left = left.checked_sub(7 + slices.get(place).len() as u32)?;
+    for place in 0..holding.held(tile) {
+        left = left.checked_sub(7 + holding.slice(tile, place).len() as u32)?;
     }
     Some(left)
 }

@@ -24,9 +24,6 @@ last_is : {X : Type 0} (xs : List X) (x d : X) (n : ℕ) → length xs ≡ n →
 last_is xs x d n long = ap (λ k. get_or (xs ++ x ∷ []) k d) (sym long) ∙ get_or-append_seam xs x [] d
 
 module _ (setup : SetupValue) (links : List Piece) where
-  pub drawn_none : (frame : Frame) → IsFrameOf setup [] frame → IsDrawnOf setup links 0 frame
-  drawn_none frame is = record { pictures = []; count = refl; each = λ tile lt. absurd (omega arith); is_frame = is }
-
   pub drawn_sizes : (n : ℕ) (frame : Frame) → IsDrawnOf setup links n frame → HasSizes (grid_of setup) (planes_of frame)
   drawn_sizes n frame drawn = sizes_of setup (map Some drawn.pictures) frame drawn.is_frame
 
@@ -50,13 +47,11 @@ module _ (setup : SetupValue) (links : List Piece) where
         let P : ℕ → Type 0 = λ t. DrawsOnto (grid_of setup) t more.picture old new in
         let Q : List (Option Planes) → Type 0 = λ ps. IsFrameOf setup ps new in
         subst Q (sym (map-append Some before.pictures (more.picture ∷ [])))
-        (drawn_frame setup (map Some before.pictures) more.picture old new before.is_frame (subst P (sym (length-map before.pictures Some ∙ before.count)) more.drawn));
+        (drawn_frame setup (map Some before.pictures) more.picture old new before.is_frame
+        (subst P (sym (length-map before.pictures Some ∙ before.count)) more.drawn));
   }
 
 module _ (h : Contents) where
-  pub shown_none : (frame : Frame) → IsFrameOf h.reel.setup [] frame → ShowsTiles h 0 [] frame
-  shown_none frame is = record { pictures = []; count = refl; told = refl; each = λ tile lt. absurd (omega arith); is_frame = is }
-
   pub shown_sizes : (n : ℕ) (outcomes : List TileOutcome) (frame : Frame) → ShowsTiles h n outcomes frame → HasSizes (grid_of h.reel.setup) (planes_of frame)
   shown_sizes n outcomes frame shown = sizes_of h.reel.setup shown.pictures frame shown.is_frame
 
@@ -95,7 +90,8 @@ module _ (h : Contents) where
 -- ---- what a call answered
 
 -- the content of a link that was read by its place
-pub same_content : (links : List Piece) (tile : ℕ) (link : Piece) (bytes : List ℕ) → tile < length links → link ≡ get_or links tile link → bytes ≡ link.bytes → content_of bytes ≡ content_at links tile
+pub same_content : (links : List Piece) (tile : ℕ) (link : Piece) (bytes : List ℕ) → tile < length links → link ≡ get_or links tile link → bytes ≡ link.bytes
+    → content_of bytes ≡ content_at links tile
 same_content links tile link bytes lt is same =
     ap content_of (same ∙ ap (λ (l : Piece). l.bytes) (sym (get_or_default links tile no_piece link lt ∙ sym is)))
 
@@ -105,7 +101,8 @@ ok_value (Ok x) P is other = (x, is)
 ok_value (Err e) P is other = absurd (other e refl)
 
 -- the tiles that are drawn have pictures
-pub drawn_pictures : (setup : SetupValue) (links : List Piece) (n : ℕ) (frame : Frame) → IsDrawnOf setup links n frame → (tile : ℕ) → tile < n → HasPicture setup links tile
+pub drawn_pictures : (setup : SetupValue) (links : List Piece) (n : ℕ) (frame : Frame) → IsDrawnOf setup links n frame → (tile : ℕ) → tile < n
+    → HasPicture setup links tile
 drawn_pictures setup links n frame drawn tile lt =
     let picture = drawn.each tile lt in
     (get_or drawn.pictures tile [], picture.0, picture.1)

@@ -26,7 +26,16 @@ module _ (a w : ℕ) (old piece : List ℕ) (fits : a + w ≤ length old) (long 
 
   length-with_piece : length with_piece ≡ length old
   length-with_piece =
-      omega (arith, length-append (take a old) (piece ++ drop w (drop a old)), length-append piece (drop w (drop a old)), length-take-le a old (omega arith), length-drop w (drop a old), length-drop a old, long)
+      omega (
+        arith,
+        length-append (take a old) (piece ++ drop w (drop a old)),
+        length-append piece (drop w (drop a old)),
+        length-take-le a old
+            (omega arith),
+        length-drop w (drop a old),
+        length-drop a old,
+        long,
+      )
 
   before_piece : (k : ℕ) → k < a → get_or with_piece k 0 ≡ get_or old k 0
   before_piece k lt =
@@ -88,7 +97,8 @@ module _ (width : ℕ) (r : TileRect) (n : ℕ) (samples old mid piece : List �
   next = with_piece from r.w mid piece fits long
 
   abbrev Shows : ℕ → ℕ → Type 0
-  Shows x y = get_or next (y * width + x) 0 ≡ cond (covers (first_rows r (n + 1)) x y) (sample_in (first_rows r (n + 1)) samples x y) (get_or old (y * width + x) 0)
+  Shows x y = get_or next (y * width + x) 0 ≡ cond (covers (first_rows r (n + 1)) x y) (sample_in (first_rows r (n + 1)) samples x y)
+      (get_or old (y * width + x) 0)
 
   as_before : (x y : ℕ) → x < width → y * width + x < length old → get_or next (y * width + x) 0 ≡ get_or mid (y * width + x) 0
       → covers (first_rows r n) x y ≡ covers (first_rows r (n + 1)) x y → Shows x y
@@ -107,7 +117,8 @@ module _ (width : ℕ) (r : TileRect) (n : ℕ) (samples old mid piece : List �
           ∙ ap (λ i. get_or piece i 0) {x = y * width + x - from} {y = x - r.x} (rw same (omega arith))
           ∙ is (x - r.x) (omega arith)
           ∙ ap (λ i. get_or samples (i * r.w + (x - r.x)) 0) {x = n} {y = y - r.y} (omega arith)
-          ∙ sym (ap (λ b. cond b (sample_in (first_rows r (n + 1)) samples x y) (get_or old (y * width + x) 0)) (covers_here (first_rows r (n + 1)) x y right here (omega arith) (omega arith)))
+          ∙ sym (ap (λ b. cond b (sample_in (first_rows r (n + 1)) samples x y) (get_or old (y * width + x) 0))
+          (covers_here (first_rows r (n + 1)) x y right here (omega arith) (omega arith)))
       | inr behind ↦
           as_before x y inside within (behind_piece from r.w mid piece fits long (y * width + x) (rw same (omega arith)))
           (right_of (first_rows r n) x y behind ∙ sym (right_of (first_rows r (n + 1)) x y behind))
@@ -120,10 +131,12 @@ module _ (width : ℕ) (r : TileRect) (n : ℕ) (samples old mid piece : List �
     each = λ x y inside within. elim (cases_order y (r.y + n)) [
       | inl same ↦ in_row x y inside within same
       | inr (inl above) ↦
-          as_before x y inside within (before_piece from r.w mid piece fits long (y * width + x) (omega (arith, let up : y + 1 ≤ r.y + n = omega arith in mul-le-mul_right width up)))
+          as_before x y inside within (before_piece from r.w mid piece fits long (y * width + x)
+          (omega (arith, let up : y + 1 ≤ r.y + n = omega arith in mul-le-mul_right width up)))
           (other_row r n x y (inl above))
       | inr (inr below) ↦
-          as_before x y inside within (behind_piece from r.w mid piece fits long (y * width + x) (omega (arith, let up : r.y + n + 1 ≤ y = omega arith in mul-le-mul_right width up)))
+          as_before x y inside within (behind_piece from r.w mid piece fits long (y * width + x)
+          (omega (arith, let up : r.y + n + 1 ≤ y = omega arith in mul-le-mul_right width up)))
           (other_row r n x y (inr below))
     ];
   }
@@ -153,9 +166,6 @@ pub record DrawsPlanes (g : GridValue) (tile planes : ℕ) (picture old new : Pl
   pub each : (plane : ℕ) → plane < planes
       → Draws (frame_rect g plane).w (plane_rect g tile plane) (plane_at picture plane) (plane_at old plane) (plane_at new plane)
   pub others : (plane : ℕ) → planes ≤ plane → plane_at new plane ≡ plane_at old plane
-
-pub none_drawn : (g : GridValue) (tile : ℕ) (picture old : Planes) → DrawsPlanes g tile 0 picture old old
-none_drawn g tile picture old = record { same_count = refl; each = λ plane lt. absurd (omega arith); others = λ plane le. refl }
 
 module _ (g : GridValue) (tile n : ℕ) (picture old mid : Planes) (samples : List ℕ) (before : DrawsPlanes g tile n picture old mid) (lt : n < length mid)
     (drawn : Draws (frame_rect g n).w (plane_rect g tile n) (plane_at picture n) (plane_at mid n) samples) where

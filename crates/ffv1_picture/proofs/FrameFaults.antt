@@ -10,7 +10,8 @@ use Rattle.ffv1_picture.specs.FrameFaults.{IsFirstUnreadable, IsFirstFault, faul
 use Rattle.ffv1_picture.specs.declared.fault.FrameFault.{FrameFault}
 use Rattle.ffv1_picture.specs.declared.fault.FrameFault.TheVariants.{Chain, Slice, Order, Tile, Memory}
 
-pub first_unreadable : (setup : SetupValue) (links : List Piece) (tile : ℕ) (cause : TileFault) → tile < length links → ((t : ℕ) → t < tile → HasPicture setup links t)
+pub first_unreadable : (setup : SetupValue) (links : List Piece) (tile : ℕ) (cause : TileFault) → tile < length links
+    → ((t : ℕ) → t < tile → HasPicture setup links t)
     → (cause ≡ tiles.Memory) ⊎ IsUnreadable setup tile (content_at links tile) cause → IsFirstUnreadable setup links (fault_of_tile tile cause)
 first_unreadable setup links tile (tiles.Head fault) lt before (inl is) = absurd (cc)
 first_unreadable setup links tile (tiles.Head fault) lt before (inr why) = (lt, before, why)
@@ -20,7 +21,8 @@ first_unreadable setup links tile (tiles.Code fault plane y x) lt before (inl is
 first_unreadable setup links tile (tiles.Code fault plane y x) lt before (inr why) = (lt, before, why)
 first_unreadable setup links tile tiles.Memory lt before why = tt
 
-unreadable_is_first : (setup : SetupValue) (payload : List ℕ) → IsOrdered setup payload → (fault : FrameFault) → IsFirstUnreadable setup (links_from_front payload) fault → IsFirstFault setup payload fault
+unreadable_is_first : (setup : SetupValue) (payload : List ℕ) → IsOrdered setup payload → (fault : FrameFault)
+    → IsFirstUnreadable setup (links_from_front payload) fault → IsFirstFault setup payload fault
 unreadable_is_first setup payload ordered Chain first = absurd first
 unreadable_is_first setup payload ordered (Slice place cause) first = absurd first
 unreadable_is_first setup payload ordered (Order place) first = absurd first

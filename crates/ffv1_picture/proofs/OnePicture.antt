@@ -16,7 +16,8 @@ use Rattle.ffv1_picture.specs.declared.partial.Partial.{Partial}
 use Rattle.ffv1_picture.specs.declared.partial.TileOutcome.{TileOutcome}
 use Rattle.ffv1_picture.specs.declared.partial.TileOutcome.TheVariants.{Decoded, Missing, Disputed, Fault}
 
-pub shown_picture : (setup : SetupValue) (tile : ℕ) (state : Standing) (outcome : TileOutcome) (picture : Option Planes) → IsShown setup tile state outcome picture
+pub shown_picture : (setup : SetupValue) (tile : ℕ) (state : Standing) (outcome : TileOutcome) (picture : Option Planes)
+    → IsShown setup tile state outcome picture
     → IsPictureOfTile setup tile state picture
 shown_picture setup tile (settled slice) (Decoded spare) (Some planes) shown = (spare, shown)
 shown_picture setup tile (settled slice) (Fault cause) None shown = shown.no_picture
@@ -37,11 +38,14 @@ module _ (setup : SetupValue) (profile : IsInProfile setup) (tile : ℕ) (lt : t
   one_picture (settled slice) a b one other = same_of_slice slice a b one other
   one_picture (disputed n) a b one other = one ∙ sym other
 
-pub one_partial : (h : Contents) → IsInProfile h.reel.setup → (pictures : List (Option Planes)) → ArePicturesOf h pictures → (partial : Partial) → IsPartialPicture h partial
+pub one_partial : (h : Contents) → IsInProfile h.reel.setup → (pictures : List (Option Planes)) → ArePicturesOf h pictures → (partial : Partial)
+    → IsPartialPicture h partial
     → IsFrameOf h.reel.setup pictures partial.frame
 one_partial h profile pictures are partial shown =
     let same : shown.pictures ≡ pictures =
     ext_get_or None shown.pictures pictures (shown.count ∙ sym are.count) (λ tile lt.
     let inside : tile < tile_count (grid_of h.reel.setup) = omega (arith, lt, shown.count) in
-    one_picture h.reel.setup profile tile inside (tile_state h tile) _ _ (shown_picture h.reel.setup tile (tile_state h tile) (get_or partial.tiles.items tile Missing) (get_or shown.pictures tile None) (shown.each tile inside)) (are.each tile inside)) in
+    one_picture h.reel.setup profile tile inside (tile_state h tile) _ _
+    (shown_picture h.reel.setup tile (tile_state h tile) (get_or partial.tiles.items tile Missing) (get_or shown.pictures tile None)
+    (shown.each tile inside)) (are.each tile inside)) in
     subst (λ (ps : List (Option Planes)). IsFrameOf h.reel.setup ps partial.frame) same shown.is_frame

@@ -4,7 +4,7 @@ use Rattle.std.specs.List.{range_with_len, sum_by}
 use Rattle.std.proofs.lemmas.List.Sums.{sum_by-append}
 use Rattle.ffv1_hold.specs.Contents.{Contents}
 use Rattle.ffv1_hold.specs.Standing.{Standing, status_of, tile_state, IsLeastStatus}
-use Rattle.ffv1_hold.proofs.Lists.{range_more}
+use Rattle.ffv1_holding.proofs.Lists.{range_more}
 use Rattle.ffv1_picture.specs.ReportText.{least_status}
 
 -- ---- the least error_status
@@ -16,7 +16,8 @@ least_below (b ∷ []) (suc i) d lt = absurd (omega arith)
 least_below (b ∷ c ∷ bs) zero d lt = omega arith
 least_below (b ∷ c ∷ bs) (suc i) d lt = omega (arith, least_below (c ∷ bs) i d (omega arith))
 
-least_above : (xs : List (List ℕ)) (least : ℕ) → 0 < length xs → ((i : ℕ) (d : List ℕ) → i < length xs → least ≤ status_of (get_or xs i d)) → least ≤ least_status xs
+least_above : (xs : List (List ℕ)) (least : ℕ) → 0 < length xs → ((i : ℕ) (d : List ℕ) → i < length xs → least ≤ status_of (get_or xs i d))
+    → least ≤ least_status xs
 least_above [] least some low = absurd (omega arith)
 least_above (b ∷ []) least some low = low 0 b (omega arith)
 least_above (b ∷ c ∷ bs) least some low =
@@ -30,12 +31,15 @@ least_is xs (Some least) is =
 -- ---- how many tiles stand in a way
 
 count_by-push : (p : ℕ → Bool) (xs : List ℕ) (x : ℕ) → count_by p (xs ++ x ∷ []) ≡ count_by p xs + cond (p x) 1 0
-count_by-push p xs x = sum_by-append (λ y. cond (p y) 1 0) xs (x ∷ []) ∙ (let e : count_by p xs + sum_by (λ y. cond (p y) 1 0) (x ∷ []) ≡ count_by p xs + cond (p x) 1 0 = omega arith in e)
+count_by-push p xs x = sum_by-append (λ y. cond (p y) 1 0) xs (x ∷ [])
+    ∙ (let e : count_by p xs + sum_by (λ y. cond (p y) 1 0) (x ∷ []) ≡ count_by p xs + cond (p x) 1 0 = omega arith in e)
 
-module _ (h : Contents) (stands : Standing → Bool) (n count : ℕ) (so_far : count ≡ count_by (λ tile. stands (tile_state h tile)) (range_with_len 0 n)) (s : Standing) (is : s ≡ tile_state h n) where
+module _ (h : Contents) (stands : Standing → Bool) (n count : ℕ) (so_far : count ≡ count_by
+    (λ tile. stands (tile_state h tile)) (range_with_len 0 n)) (s : Standing) (is : s ≡ tile_state h n) where
   more : count_by (λ tile. stands (tile_state h tile)) (range_with_len 0 (n + 1)) ≡ count + cond (stands s) 1 0
   more =
-      ap (count_by (λ tile. stands (tile_state h tile))) (range_more 0 n n (omega arith)) ∙ count_by-push (λ tile. stands (tile_state h tile)) (range_with_len 0 n) n
+      ap (count_by (λ tile. stands (tile_state h tile))) (range_more 0 n n (omega arith))
+      ∙ count_by-push (λ tile. stands (tile_state h tile)) (range_with_len 0 n) n
       ∙ (λ i. sym so_far i + cond (stands (sym is i)) 1 0)
 
   pub one_more : stands s ≡ true → count + 1 ≡ count_by (λ tile. stands (tile_state h tile)) (range_with_len 0 (n + 1))
@@ -47,7 +51,8 @@ module _ (h : Contents) (stands : Standing → Bool) (n count : ℕ) (so_far : c
 -- ---- text that is added
 
 -- a piece behind a piece
-pub then_pushed : {E : Type 0} (r : Result (Unit {0}) E) (old mid new first second second' : List ℕ) → mid ≡ old ++ first → OnOk r (new ≡ mid ++ second) → second ≡ second'
+pub then_pushed : {E : Type 0} (r : Result (Unit {0}) E) (old mid new first second second' : List ℕ) → mid ≡ old ++ first → OnOk r (new ≡ mid ++ second)
+    → second ≡ second'
     → OnOk r (new ≡ old ++ (first ++ second'))
 then_pushed (Ok done) old mid new first second second' before added same =
     added ∙ ap (λ text. text ++ second) before ∙ append_assoc old first second ∙ ap (λ piece. old ++ (first ++ piece)) same

@@ -7,12 +7,12 @@ use Rattle.ffv1_hold.specs.Standing.{Standing, settled, IsSettled, IsLeastUnsett
 use Rattle.ffv1_hold.specs.Originals.{AreNear, HoldsExactly}
 use Rattle.ffv1_hold.specs.Plans.{copies_of}
 use Rattle.ffv1_hold.specs.declared.plan.Plan.{Plan}
-use Rattle.ffv1_hold.specs.declared.restore.RestoreFault.{RestoreFault}
-use Rattle.ffv1_hold.specs.declared.restore.RestoreFault.TheVariants as refusals
+use Rattle.ffv1_holding.specs.declared.restore.RestoreFault.{RestoreFault}
+use Rattle.ffv1_holding.specs.declared.restore.RestoreFault.TheVariants as refusals
 use Rattle.ffv1_hold.proofs.PlanSteps.{one_reel}
 use Rattle.ffv1_range.specs.Setup.{SetupValue}
-use Rattle.ffv1_hold.proofs.ExactlyHeld.{exactly_held, near_are_copies}
-use Rattle.ffv1_hold.proofs.Restored.{settled_alone, restored_original}
+use Rattle.ffv1_holding.proofs.ExactlyHeld.{exactly_held, near_are_copies}
+use Rattle.ffv1_holding.proofs.Restored.{settled_alone, restored_original}
 use Rattle.ffv1_picture.specs.PartialPictures.{IsShown, IsPartialPicture}
 use Rattle.ffv1_picture.specs.Headline.{IsHoldingOfPlan, AreEqualInAll, IsRestored, IsPlanFor, ShowsSlices}
 use Rattle.ffv1_picture.specs.declared.partial.Partial.{Partial}
@@ -26,13 +26,15 @@ same_in_all a = record { states = λ tile. refl; held = λ tile. refl; statuses 
 pub equal_holdings : (config : List ℕ) (width height : ℕ) (plan other : Plan) (a b : Contents) → IsHoldingOfPlan config width height plan a
     → IsHoldingOfPlan config width height other b → HasSameCopies (copies_of plan) (copies_of other) → AreEqualInAll a b
 equal_holdings config width height plan other a b is also same =
-    let e : a ≡ b = is.meaning ∙ ap (λ r. holding_of r (copies_of plan)) (one_reel config width height a.reel b.reel is.reel also.reel) ∙ holding_of-same b.reel (copies_of plan) (copies_of other) same ∙ sym also.meaning in
+    let e : a ≡ b = is.meaning ∙ ap (λ r. holding_of r (copies_of plan)) (one_reel config width height a.reel b.reel is.reel also.reel)
+    ∙ holding_of-same b.reel (copies_of plan) (copies_of other) same ∙ sym also.meaning in
     let P : Contents → Type 0 = λ h. AreEqualInAll a h in
     subst P e (same_in_all a)
 
 -- ---- a holding of just an original's slices
 
-module _ (h : Contents) (original : List ℕ) (slices : List (List ℕ)) (is_original : IsOriginal h.reel.setup original slices) (exact : HoldsExactly h slices) where
+module _ (h : Contents) (original : List ℕ) (slices : List (List ℕ)) (is_original : IsOriginal h.reel.setup original slices)
+    (exact : HoldsExactly h slices) where
   pub exact_shows : (partial : Partial) → IsPartialPicture h partial → ShowsSlices h.reel.setup slices partial.frame
   exact_shows partial shown = record {
     pictures = shown.pictures;
@@ -56,7 +58,8 @@ module _ (h : Contents) (original : List ℕ) (slices : List (List ℕ)) (is_ori
 
 -- ---- a plan of copies of an original
 
-module _ (config : List ℕ) (width height : ℕ) (plan : Plan) (h : Contents) (is : IsHoldingOfPlan config width height plan h) (original : List ℕ) (slices : List (List ℕ)) (for : IsPlanFor h.reel.setup plan original slices) where
+module _ (config : List ℕ) (width height : ℕ) (plan : Plan) (h : Contents) (is : IsHoldingOfPlan config width height plan h) (original : List ℕ)
+    (slices : List (List ℕ)) (for : IsPlanFor h.reel.setup plan original slices) where
   held_exactly : HoldsExactly h slices
   held_exactly =
       let P : Contents → Type 0 = λ g. HoldsExactly g slices in
@@ -69,5 +72,6 @@ module _ (config : List ℕ) (width height : ℕ) (plan : Plan) (h : Contents) (
   restores_original = exact_restores h original slices for.is_original held_exactly
 
 -- copies near an original, with each of its slices intact in one of them, are copies of it
-pub near_plan : (setup : SetupValue) (plan : Plan) (original : List ℕ) (slices : List (List ℕ)) → AreNear setup original slices (copies_of plan) → IsPlanFor setup plan original slices
+pub near_plan : (setup : SetupValue) (plan : Plan) (original : List ℕ) (slices : List (List ℕ)) → AreNear setup original slices (copies_of plan)
+    → IsPlanFor setup plan original slices
 near_plan setup plan original slices near = record { is_original = near.is_original; are_copies = near_are_copies setup original slices (copies_of plan) near }

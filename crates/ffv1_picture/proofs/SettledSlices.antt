@@ -8,7 +8,7 @@ use Rattle.ffv1_hold.specs.Sets as set
 use Rattle.ffv1_hold.specs.TileSets.{tile_slices}
 use Rattle.ffv1_hold.specs.Contents.{Contents, IsHolding, IsEntryOf}
 use Rattle.ffv1_hold.specs.Standing.{settled, tile_state, standing_of_best, best_slices}
-use Rattle.ffv1_hold.proofs.Tiles.{contains-tile_slices}
+use Rattle.ffv1_holding.proofs.Tiles.{contains-tile_slices}
 
 only_best : (best : List (List ℕ)) (slice : List ℕ) → standing_of_best best ≡ settled slice → best ≡ slice ∷ []
 only_best [] slice is = absurd (cc)
@@ -40,4 +40,5 @@ module _ (h : Contents) (sound : IsHolding h) (tile : ℕ) (slice : List ℕ) (i
 
   pub settled_entry : IsEntryOf h.reel.setup (tile, slice)
   settled_entry =
-      sound.slices (tile, slice) (sym (contains-tile_slices h.slices tile slice) ∙ set.contains-items (tile_slices h.slices tile) slice ∙ any_filtered _ (eq_by_cmp bytes_cmp slice) held among_best)
+      sound.slices (tile, slice) (sym (contains-tile_slices h.slices tile slice) ∙ set.contains-items (tile_slices h.slices tile) slice
+      ∙ any_filtered _ (eq_by_cmp bytes_cmp slice) held among_best)

@@ -16,7 +16,8 @@ no_memory : (setup : SetupValue) (tile : ℕ) (content : List ℕ) (cause : Tile
 no_memory setup tile content cause is memory = subst (IsRefusedFor setup tile content) memory is
 
 -- want of memory, or why there is no picture
-pub unreadable : (setup : SetupValue) (tile : ℕ) (content : List ℕ) (cause : TileFault) → IsToldOf setup tile content cause → (cause ≡ Memory) ⊎ IsUnreadable setup tile content cause
+pub unreadable : (setup : SetupValue) (tile : ℕ) (content : List ℕ) (cause : TileFault) → IsToldOf setup tile content cause → (cause ≡ Memory)
+    ⊎ IsUnreadable setup tile content cause
 unreadable setup tile content cause told = ⊎_elim
     (λ memory. inl memory)
     (λ is. inr (record {

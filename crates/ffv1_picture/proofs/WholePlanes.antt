@@ -20,7 +20,13 @@ rows_from f width first count = flat_map (λ y. map (λ x. f y x) (range_with_le
 length-rows : (f : ℕ → ℕ → ℕ) (width first count : ℕ) → length (rows_from f width first count) ≡ count * width
 length-rows f width first zero = omega arith
 length-rows f width first (suc count) =
-    omega (arith, length-append (map (λ x. f first x) (range_with_len 0 width)) (rows_from f width (first + 1) count), length-map-range_with_len (λ x. f first x) 0 width, length-rows f width (first + 1) count)
+    omega (
+      arith,
+      length-append (map (λ x. f first x) (range_with_len 0 width)) (rows_from f width (first + 1) count),
+      length-map-range_with_len
+          (λ x. f first x) 0 width,
+      length-rows f width (first + 1) count,
+    )
 
 get_or-rows : (f : ℕ → ℕ → ℕ) (width first count y x : ℕ) → y < count → x < width → get_or (rows_from f width first count) (y * width + x) 0 ≡ f (first + y) x
 get_or-rows f width first zero y x within inside = absurd (omega arith)
@@ -71,7 +77,8 @@ module _ (g : GridValue) (pictures : List (Option Planes)) (plane : ℕ) where
       ∙ ap (λ row. whole_sample g pictures plane x row) {x = 0 + y} {y = y} (omega arith)
 
   pub whole_plane_ext : (samples : List ℕ) → length samples ≡ area (frame_rect g plane)
-      → ((x y : ℕ) → x < (frame_rect g plane).w → y < (frame_rect g plane).h → get_or samples (y * (frame_rect g plane).w + x) 0 ≡ whole_sample g pictures plane x y)
+      → ((x y : ℕ) → x < (frame_rect g plane).w → y < (frame_rect g plane).h
+      → get_or samples (y * (frame_rect g plane).w + x) 0 ≡ whole_sample g pictures plane x y)
       → samples ≡ whole_plane g pictures plane
   unfolding whole_plane
   whole_plane_ext samples long each = rows_ext (λ y x. whole_sample g pictures plane x y) (frame_rect g plane).w (frame_rect g plane).h samples long each
@@ -87,24 +94,29 @@ or_else_none (Some x) = refl
 or_else_none None = refl
 
 greatest-push : (g : GridValue) (plane x y tile : ℕ) (pictures : List (Option Planes)) (last : Option Planes)
-    → greatest_sample g plane x y tile (pictures ++ last ∷ []) ≡ or_else (sample_of_tile g plane x y (tile + length pictures) last) (greatest_sample g plane x y tile pictures)
+    → greatest_sample g plane x y tile (pictures ++ last ∷ []) ≡ or_else (sample_of_tile g plane x y (tile + length pictures) last)
+    (greatest_sample g plane x y tile pictures)
 unfolding greatest_sample
 greatest-push g plane x y tile [] last =
     ap (λ t. sample_of_tile g plane x y t last) {x = tile} {y = tile + length {A = Option Planes} []} (omega arith) ∙ sym (or_else_none _)
 greatest-push g plane x y tile (picture ∷ pictures) last =
     ap (λ o. or_else o (sample_of_tile g plane x y tile picture)) (greatest-push g plane x y (tile + 1) pictures last
-    ∙ ap (λ t. or_else (sample_of_tile g plane x y t last) (greatest_sample g plane x y (tile + 1) pictures)) {x = tile + 1 + length pictures} {y = tile + suc (length pictures)} (omega arith))
-    ∙ or_else_assoc (sample_of_tile g plane x y (tile + suc (length pictures)) last) (greatest_sample g plane x y (tile + 1) pictures) (sample_of_tile g plane x y tile picture)
+    ∙ ap (λ t. or_else (sample_of_tile g plane x y t last) (greatest_sample g plane x y (tile + 1) pictures)) {x = tile + 1 + length pictures} {y =
+    tile + suc (length pictures)} (omega arith))
+    ∙ or_else_assoc (sample_of_tile g plane x y (tile + suc (length pictures)) last) (greatest_sample g plane x y (tile + 1) pictures)
+    (sample_of_tile g plane x y tile picture)
 
 module _ (g : GridValue) (pictures : List (Option Planes)) (plane x y : ℕ) where
   none_greatest : greatest_sample g plane x y 0 (pictures ++ None ∷ []) ≡ greatest_sample g plane x y 0 pictures
   none_greatest = greatest-push g plane x y 0 pictures None
 
   whole_sample-push : (planes : Planes) → whole_sample g (pictures ++ Some planes ∷ []) plane x y
-      ≡ cond (covers (plane_rect g (length pictures) plane) x y) (sample_in (plane_rect g (length pictures) plane) (plane_at planes plane) x y) (whole_sample g pictures plane x y)
+      ≡ cond (covers (plane_rect g (length pictures) plane) x y) (sample_in (plane_rect g (length pictures) plane) (plane_at planes plane) x y)
+      (whole_sample g pictures plane x y)
   whole_sample-push planes =
       ap (λ o. unwrap_or o 128) (greatest-push g plane x y 0 pictures (Some planes)
-      ∙ ap (λ t. or_else (sample_of_tile g plane x y t (Some planes)) (greatest_sample g plane x y 0 pictures)) {x = 0 + length pictures} {y = length pictures} (omega arith))
+      ∙ ap (λ t. or_else (sample_of_tile g plane x y t (Some planes)) (greatest_sample g plane x y 0 pictures)) {x = 0 + length pictures} {y =
+      length pictures} (omega arith))
       ∙ by_cover (covers (plane_rect g (length pictures) plane) x y) _ (greatest_sample g plane x y 0 pictures)
     where
       by_cover : (b : Bool) (s : ℕ) (o : Option ℕ) → unwrap_or (or_else (cond b (Some s) None) o) 128 ≡ cond b s (unwrap_or o 128)
@@ -114,7 +126,8 @@ module _ (g : GridValue) (pictures : List (Option Planes)) (plane x y : ℕ) whe
 whole_plane-none : (g : GridValue) (pictures : List (Option Planes)) (plane : ℕ) → whole_plane g (pictures ++ None ∷ []) plane ≡ whole_plane g pictures plane
 unfolding whole_plane
 whole_plane-none g pictures plane =
-    λ i. flat_map (λ y. map (λ x. unwrap_or (none_greatest g pictures plane x y i) 128) (range_with_len 0 (frame_rect g plane).w)) (range_with_len 0 (frame_rect g plane).h)
+    λ i. flat_map (λ y. map (λ x. unwrap_or (none_greatest g pictures plane x y i) 128) (range_with_len 0 (frame_rect g plane).w))
+    (range_with_len 0 (frame_rect g plane).h)
 
 -- a plane with a tile's samples drawn onto it
 drawn_plane : (g : GridValue) (pictures : List (Option Planes)) (planes : Planes) (plane : ℕ) (old new : List ℕ) → old ≡ whole_plane g pictures plane
@@ -135,9 +148,11 @@ module _ (setup : SetupValue) (pictures : List (Option Planes)) where
   length-planes frame is =
       ap length is.planes ∙ length-map-range_with_len (whole_plane (grid_of setup) pictures) 0 (plane_count (grid_of setup))
 
-  plane_is : (frame : Frame) → IsFrameOf setup pictures frame → (plane : ℕ) → plane < plane_count (grid_of setup) → plane_at (planes_of frame) plane ≡ whole_plane (grid_of setup) pictures plane
+  plane_is : (frame : Frame) → IsFrameOf setup pictures frame → (plane : ℕ) → plane < plane_count (grid_of setup)
+      → plane_at (planes_of frame) plane ≡ whole_plane (grid_of setup) pictures plane
   plane_is frame is plane lt =
-      ap (λ planes. get_or planes plane []) is.planes ∙ get_or-map-range_with_len (whole_plane (grid_of setup) pictures) 0 (plane_count (grid_of setup)) plane plane [] lt (omega arith)
+      ap (λ planes. get_or planes plane []) is.planes ∙ get_or-map-range_with_len (whole_plane (grid_of setup) pictures) 0
+      (plane_count (grid_of setup)) plane plane [] lt (omega arith)
 
   -- the planes of a frame are of its size
   pub sizes_of : (frame : Frame) → IsFrameOf setup pictures frame → HasSizes (grid_of setup) (planes_of frame)
@@ -147,7 +162,8 @@ module _ (setup : SetupValue) (pictures : List (Option Planes)) where
   }
 
   -- a frame with the picture of one tile more drawn onto it
-  pub drawn_frame : (planes : Planes) (old new : Frame) → IsFrameOf setup pictures old → DrawsOnto (grid_of setup) (length pictures) planes old new → IsFrameOf setup (pictures ++ Some planes ∷ []) new
+  pub drawn_frame : (planes : Planes) (old new : Frame) → IsFrameOf setup pictures old → DrawsOnto (grid_of setup) (length pictures) planes old new
+      → IsFrameOf setup (pictures ++ Some planes ∷ []) new
   drawn_frame planes old new is drawn = record {
     width = drawn.width ∙ is.width;
     height = drawn.height ∙ is.height;
@@ -156,7 +172,8 @@ module _ (setup : SetupValue) (pictures : List (Option Planes)) where
     shift_v = drawn.shift_v ∙ is.shift_v;
     planes = fill_by_all (whole_plane (grid_of setup) (pictures ++ Some planes ∷ [])) (planes_of new) (plane_count (grid_of setup)) []
         (drawn.planes.same_count ∙ length-planes old is)
-        (λ plane lt. drawn_plane (grid_of setup) pictures planes plane (plane_at (planes_of old) plane) (plane_at (planes_of new) plane) (plane_is old is plane lt) (drawn.planes.each plane lt));
+        (λ plane lt. drawn_plane (grid_of setup) pictures planes plane (plane_at (planes_of old) plane) (plane_at (planes_of new) plane)
+        (plane_is old is plane lt) (drawn.planes.each plane lt));
   }
 
   -- a frame with one tile more that has no picture
@@ -172,11 +189,13 @@ module _ (setup : SetupValue) (pictures : List (Option Planes)) where
 
 -- ---- nothing drawn yet
 
-pub blank_plane : (g : GridValue) (plane : ℕ) (size : TileRect) (samples : List ℕ) → size ≡ frame_rect g plane → samples ≡ replicate (size.w * size.h) 128 → samples ≡ whole_plane g [] plane
+pub blank_plane : (g : GridValue) (plane : ℕ) (size : TileRect) (samples : List ℕ) → size ≡ frame_rect g plane → samples ≡ replicate (size.w * size.h) 128
+    → samples ≡ whole_plane g [] plane
 unfolding greatest_sample
 blank_plane g plane size samples is all =
     let same : samples ≡ replicate (area (frame_rect g plane)) 128 = all ∙ ap (λ r. replicate (r.w * r.h) 128) is in
     let long : length samples ≡ area (frame_rect g plane) = ap length same ∙ length-replicate (area (frame_rect g plane)) 128 in
     whole_plane_ext g [] plane samples long (λ x y inside within.
     ap (λ xs. get_or xs (y * (frame_rect g plane).w + x) 0) same
-    ∙ get_or-replicate (area (frame_rect g plane)) (y * (frame_rect g plane).w + x) 128 0 (mul-add-lt y (frame_rect g plane).w x (frame_rect g plane).h within inside))
+    ∙ get_or-replicate (area (frame_rect g plane)) (y * (frame_rect g plane).w + x) 128 0
+    (mul-add-lt y (frame_rect g plane).w x (frame_rect g plane).h within inside))

@@ -62,7 +62,8 @@ HasPicture setup links tile = (planes : Planes) × (spare : ℕ) × SpellsPlanes
 pub record SpellsPictures (setup : SetupValue) (payload : List ℕ) (pictures : List Planes) : Type 0 where
   pub ordered : IsOrdered setup payload
   pub count : length pictures ≡ tile_count (grid_of setup)
-  pub each : (tile : ℕ) → tile < tile_count (grid_of setup) → (spare : ℕ) × SpellsPlanes setup tile (content_at (links_from_front payload) tile) (slice_index_or pictures tile []) spare
+  pub each : (tile : ℕ) → tile < tile_count (grid_of setup) → (spare : ℕ)
+      × SpellsPlanes setup tile (content_at (links_from_front payload) tile) (slice_index_or pictures tile []) spare
 
 -- The slices of the tiles below a number spell these pictures, and the frame is that of them.
 pub record IsDrawnOf (setup : SetupValue) (links : List Piece) (tiles : ℕ) (frame : Frame) : Type 0 where

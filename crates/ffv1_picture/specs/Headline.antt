@@ -11,8 +11,8 @@ use Rattle.ffv1_hold.specs.HoldingText.{holding_text}
 use Rattle.ffv1_hold.specs.Headline.{IsReelOf}
 use Rattle.ffv1_hold.specs.Plans.{copies_of, IsCarriedOut, IsPlanFault}
 use Rattle.ffv1_hold.specs.declared.plan.Plan.{Plan}
-use Rattle.ffv1_hold.specs.declared.restore.RestoreFault.{RestoreFault}
-use Rattle.ffv1_hold.specs.declared.restore.RestoreFault.TheVariants as refusals
+use Rattle.ffv1_holding.specs.declared.restore.RestoreFault.{RestoreFault}
+use Rattle.ffv1_holding.specs.declared.restore.RestoreFault.TheVariants as refusals
 use Rattle.ffv1_picture.specs.WholePicture.{Planes}
 use Rattle.ffv1_picture.specs.TilePictures.{IsPictureOfSlice}
 use Rattle.ffv1_picture.specs.Frames.{IsFrameOf}

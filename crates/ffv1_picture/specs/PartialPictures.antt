@@ -4,7 +4,7 @@ use Rattle.ffv1_range.specs.Setup.{SetupValue}
 use Rattle.ffv1_range.specs.Tiles.{grid_of}
 use Rattle.ffv1_slice.specs.Slices.{content_of}
 use Rattle.ffv1_picture.specs.TilePictures.{SpellsPlanes, IsPictureOfSlice, IsUnreadable}
-use Rattle.ffv1_hold.specs.Reels.{tile_count}
+use Rattle.ffv1_hold.specs.Reels.{reel_tiles}
 use Rattle.ffv1_hold.specs.Contents.{Contents}
 use Rattle.ffv1_hold.specs.Standing.{Standing, missing, settled, disputed, tile_state}
 use Rattle.ffv1_picture.specs.WholePicture.{Planes}
@@ -32,8 +32,8 @@ IsPictureOfTile setup tile (disputed n) picture = picture ≡ None
 
 -- These are the pictures of the tiles of a holding.
 pub record ArePicturesOf (h : Contents) (pictures : List (Option Planes)) : Type 0 where
-  pub count : length pictures ≡ tile_count h.reel
-  pub each : (tile : ℕ) → tile < tile_count h.reel → IsPictureOfTile h.reel.setup tile (tile_state h tile) (slice_index_or pictures tile None)
+  pub count : length pictures ≡ reel_tiles h.reel
+  pub each : (tile : ℕ) → tile < reel_tiles h.reel → IsPictureOfTile h.reel.setup tile (tile_state h tile) (slice_index_or pictures tile None)
 
 -- A tile comes out so, and if it has a picture, that was drawn.
 pub record ShowsTile (h : Contents) (tile : ℕ) (outcome : TileOutcome) (old new : Frame) : Type 0 where
@@ -46,9 +46,10 @@ pub record ShowsTiles (h : Contents) (tiles : ℕ) (outcomes : List TileOutcome)
   pub pictures : List (Option Planes)
   pub count : length pictures ≡ tiles
   pub told : length outcomes ≡ tiles
-  pub each : (tile : ℕ) → tile < tiles → IsShown h.reel.setup tile (tile_state h tile) (slice_index_or outcomes tile Missing) (slice_index_or pictures tile None)
+  pub each : (tile : ℕ) → tile < tiles → IsShown h.reel.setup tile (tile_state h tile) (slice_index_or outcomes tile Missing)
+      (slice_index_or pictures tile None)
   pub is_frame : IsFrameOf h.reel.setup pictures frame
 
 -- The partial picture of a holding, with the outcome of each of its tiles.
 abbrev pub IsPartialPicture : Contents → Partial → Type 0
-IsPartialPicture h partial = ShowsTiles h (tile_count h.reel) partial.tiles.items partial.frame
+IsPartialPicture h partial = ShowsTiles h (reel_tiles h.reel) partial.tiles.items partial.frame

@@ -4,7 +4,7 @@ use Rattle.std.specs.List.{flat_map, range_with_len}
 use Rattle.std.specs.Fmt.{decimal, digit_glyph}
 use Rattle.sha2.specs.Sha256.{sha256}
 use Rattle.ffv1_hold.specs.Sets as set
-use Rattle.ffv1_hold.specs.Reels.{tile_count}
+use Rattle.ffv1_hold.specs.Reels.{reel_tiles}
 use Rattle.ffv1_hold.specs.TileSets.{tile_slices}
 use Rattle.ffv1_hold.specs.Contents.{Contents}
 use Rattle.ffv1_hold.specs.Standing.{Standing, missing, settled, disputed, status_of, tile_state, restored_payload}
@@ -19,7 +19,7 @@ digest_text bytes = flat_map hex_byte (sha256 bytes)
 
 abbrev pub reel_line : Contents → List ℕ
 reel_line h =
-    codes "reel " ++ decimal h.reel.setup.width ++ codes "x" ++ decimal h.reel.setup.height ++ codes " tiles " ++ decimal (tile_count h.reel) ++ codes "\n"
+    codes "reel " ++ decimal h.reel.setup.width ++ codes "x" ++ decimal h.reel.setup.height ++ codes " tiles " ++ decimal (reel_tiles h.reel) ++ codes "\n"
 
 -- the least error_status of slices
 abbrev pub least_status : List (List ℕ) → ℕ
@@ -70,7 +70,7 @@ is_disputed (disputed slices) = true
 
 -- how many tiles stand so
 abbrev pub tiles_that : (Standing → Bool) → Contents → ℕ
-tiles_that stands h = count_by (λ tile. stands (tile_state h tile)) (range_with_len 0 (tile_count h.reel))
+tiles_that stands h = count_by (λ tile. stands (tile_state h tile)) (range_with_len 0 (reel_tiles h.reel))
 
 abbrev pub count_words : ℕ → ℕ → ℕ → List ℕ
 count_words sure doubtful absent =
@@ -87,7 +87,7 @@ whole_words payload = length_words (length payload) ++ digest_text payload ++ co
 
 -- the restored payload, where all tiles are settled
 abbrev pub frame_line : Contents → List ℕ
-frame_line h = if tiles_that is_settled h == tile_count h.reel then whole_words (restored_payload h) else codes "frame incomplete\n"
+frame_line h = if tiles_that is_settled h == reel_tiles h.reel then whole_words (restored_payload h) else codes "frame incomplete\n"
 
 unfoldable pub report_text : Contents → List ℕ
-report_text h = reel_line h ++ flat_map (tile_line h) (range_with_len 0 (tile_count h.reel)) ++ count_line h ++ frame_line h
+report_text h = reel_line h ++ flat_map (tile_line h) (range_with_len 0 (reel_tiles h.reel)) ++ count_line h ++ frame_line h

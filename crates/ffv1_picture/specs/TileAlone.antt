@@ -30,5 +30,6 @@ pub record IsShownAlike (g : GridValue) (tile : ℕ) (one other : Partial) : Typ
 -- shown alike, whatever they have of other tiles.
 abbrev pub TileAlone : Type 0
 TileAlone =
-    (h k : Contents) (one other : Partial) (tile : ℕ) → h.reel ≡ k.reel → IsInProfile h.reel.setup → tile < tile_count (grid_of h.reel.setup) → tile_state h tile ≡ tile_state k tile
+    (h k : Contents) (one other : Partial) (tile : ℕ) → h.reel ≡ k.reel → IsInProfile h.reel.setup → tile < tile_count (grid_of h.reel.setup)
+    → tile_state h tile ≡ tile_state k tile
     → IsPartialPicture h one → IsPartialPicture k other → IsShownAlike (grid_of h.reel.setup) tile one other

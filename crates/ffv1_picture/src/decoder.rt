@@ -44,7 +44,8 @@ impl Decoder {
         ensures setup { IfOk result (λ decoder. IsSetupOf config.now width height decoder) }
 
         // A record that has a setup is answered with its decoder, or for want of memory.
-        ensures only { (s : SetupValue) → IsSetupOf config.now width height s → MatchResult result (λ decoder. decoder ≡ s) (λ fault. fault ≡ SetupFault.Memory) }
+        ensures only { (s : SetupValue) → IsSetupOf config.now width height s
+            → MatchResult result (λ decoder. decoder ≡ s) (λ fault. fault ≡ SetupFault.Memory) }
 
         // A refusal is the first that reading meets, or want of memory, which stands behind the fields before the sets.
         ensures fault { IfErr result (λ fault. (fault ≡ SetupFault.Memory) ⊎ FirstSetupFault config.now width height fault) }
@@ -63,7 +64,8 @@ impl Decoder {
         ensures frame { IfOk result (IsDecodedFrame self.now payload.now) }
 
         // Wherever the payload spells pictures, the answer is the frame of them, or want of memory.
-        ensures found { (pictures : List Planes) → SpellsPictures self.now payload.now pictures → MatchResult result (IsFrameOf self.now (map Some pictures)) (λ fault. fault ≡ FrameFault.Memory) }
+        ensures found { (pictures : List Planes) → SpellsPictures self.now payload.now pictures
+            → MatchResult result (IsFrameOf self.now (map Some pictures)) (λ fault. fault ≡ FrameFault.Memory) }
 
         ensures fault { IfErr result (IsFirstFault self.now payload.now) }
     {

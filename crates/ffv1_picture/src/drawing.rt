@@ -1,6 +1,7 @@
 //! Drawing the pictures of tiles onto a frame (RFC 9043, section 4.6), in tile order: a later tile stands over an earlier one
 //! where the chroma of both covers a place (own).
 ghost use Rattle.std.specs.Prelude.{◌≡◌, ◌*◌, ◌+◌, ◌≤◌, ◌<◌, ◌⊎◌, length, map, IfOk, IfErr, OnErr};
+ghost use Rattle.ffv1_bits.specs.Limits.{slice_limit};
 ghost use Rattle.ffv1_range.specs.Tiles.{grid_of, tile_count};
 ghost use Rattle.ffv1_slice.specs.Slices.{content_of};
 ghost use Rattle.ffv1_picture.specs.Drawing.{HasSizes, HasTileSizes, Draws, DrawsPicture, DrawsSlice, FitsIn};
@@ -11,10 +12,8 @@ ghost use Rattle.ffv1_plane.specs.declared.tile.TileFault.TheVariants.{Memory};
 use crate::frame::Frame;
 use ffv1_plane::{TileFault, decode_tile};
 use ffv1_range::{Grid, Setup, TileRect};
+use ffv1_slice::content_of;
 use std::alloc::Global;
-
-/// The number of bytes of a slice's footer.
-const FOOTER_LENGTH: usize = 8;
 
 /// Decodes a slice of a tile, draws its picture onto a frame, and answers how many bits of it are spare. After a refusal the
 /// frame is unchanged.
@@ -27,14 +26,13 @@ pub(crate) fn draw_slice(
 ) -> Result<usize, TileFault>
     requires tile { tile < tile_count (grid_of setup.now) }
     requires footer { 8 ≤ length slice.now }
-    requires short { length slice.now ≤ 16777223 }
+    requires short { length slice.now ≤ slice_limit }
     requires sizes { HasSizes (grid_of setup.now) (planes_of frame.old) }
     ensures ok { IfOk result (DrawsSlice setup.now tile (content_of slice.now) frame.old frame.new) }
     ensures fault { IfErr result (λ cause. (cause ≡ Memory) ⊎ IsUnreadable setup.now tile (content_of slice.now) cause) }
     ensures err { OnErr result (frame.new ≡ frame.old) }
 {
-    let content = &slice[..slice.len() - FOOTER_LENGTH];
-    let picture = decode_tile(alloc, setup, tile, content)?;
+    let picture = decode_tile(alloc, setup, tile, content_of(slice))?;
     draw_picture(&mut frame.planes, &setup.grid(), tile, &picture.planes);
     Ok(picture.spare_bits)
 }
@@ -44,7 +42,8 @@ fn draw_picture(planes: &mut [Vec<u8>], grid: &Grid, tile: usize, picture: &[Vec
     requires tile { tile < tile_count grid.now }
     requires sizes { HasSizes grid.now (map (λ plane. plane.items) planes.old) }
     requires picture { HasTileSizes grid.now tile (map (λ plane. plane.items) picture.now) }
-    ensures { DrawsPicture grid.now tile (map (λ plane. plane.items) picture.now) (map (λ plane. plane.items) planes.old) (map (λ plane. plane.items) planes.new) }
+    ensures { DrawsPicture grid.now tile (map (λ plane. plane.items) picture.now) (map (λ plane. plane.items) planes.old)
+        (map (λ plane. plane.items) planes.new) }
 {
     // A grid is never finer than its frame.
     let _across = grid.across();

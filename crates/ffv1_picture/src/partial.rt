@@ -1,7 +1,7 @@
 //! What can be shown of a holding (own).
 ghost use Rattle.std.specs.Prelude.{◌≡◌, IfOk, ◌<◌, List, Option};
 ghost use Rattle.ffv1_range.specs.Tiles.{grid_of};
-ghost use Rattle.ffv1_hold.specs.Reels.{tile_count};
+ghost use Rattle.ffv1_hold.specs.Reels.{reel_tiles};
 ghost use Rattle.ffv1_picture.specs.Drawing.{HasSizes};
 ghost use Rattle.ffv1_picture.specs.Frames.{planes_of, IsFrameOf};
 ghost use Rattle.ffv1_picture.specs.WholePicture.{Planes};
@@ -47,7 +47,8 @@ pub fn picture(alloc: Global, holding: &Holding) -> Result<Partial, AllocError>
     ensures partial { IfOk result (IsPartialPicture holding.now) }
 
     // The samples are those of the pictures that the settled slices spell, and of no others.
-    ensures whole { (pictures : List (Option Planes)) → ArePicturesOf holding.now pictures → IfOk result (λ partial. IsFrameOf holding.now.reel.setup pictures partial.frame) }
+    ensures whole { (pictures : List (Option Planes)) → ArePicturesOf holding.now pictures
+        → IfOk result (λ partial. IsFrameOf holding.now.reel.setup pictures partial.frame) }
 {
     let setup = holding.setup();
     let mut frame = Frame::blank(alloc, setup)?;
@@ -66,7 +67,7 @@ fn show_tile(
     tile: usize,
     frame: &mut Frame,
 ) -> Result<TileOutcome, AllocError>
-    requires tile { tile < tile_count holding.now.reel }
+    requires tile { tile < reel_tiles holding.now.reel }
     requires sizes { HasSizes (grid_of holding.now.reel.setup) (planes_of frame.old) }
     ensures { IfOk result (λ outcome. ShowsTile holding.now tile outcome frame.old frame.new) }
 {

@@ -2,12 +2,13 @@
 ghost use Rattle.std.specs.Prelude.{◌≡◌, ◌++◌, ◌<◌, ◌≤◌, length, IfOk, OnOk, string_bytes};
 ghost use Rattle.std.specs.List.{flat_map, range_with_len};
 ghost use Rattle.sha2.specs.Sha256.{sha256};
-ghost use Rattle.ffv1_hold.specs.Reels.{tile_count};
+ghost use Rattle.ffv1_hold.specs.Reels.{reel_tiles};
 ghost use Rattle.ffv1_hold.specs.Contents.{IsHolding};
 ghost use Rattle.ffv1_hold.specs.Standing.{status_of, tile_state, restored_payload};
 ghost use Rattle.ffv1_picture.specs.ReportText.{hex_byte, reel_line, slices_held, least_status, settled_numbers, settled_words, disputed_words, state_words, tile_line, is_missing, is_settled, is_disputed, tiles_that, count_words, length_words, whole_words, frame_line, report_text};
 
 use ffv1_hold::{Holding, TileState};
+use ffv1_slice::status_of;
 use sha2::{Digest, Sha256};
 use std::alloc::{AllocError, Global};
 
@@ -39,7 +40,7 @@ fn push_reel(text: &mut String, holding: &Holding) -> Result<(), AllocError>
 
 /// Adds the lines of the tiles.
 fn push_tiles(text: &mut String, holding: &Holding) -> Result<(), AllocError>
-    ensures { OnOk result (string_bytes text.new ≡ string_bytes text.old ++ flat_map (tile_line holding.now) (range_with_len 0 (tile_count holding.now.reel))) }
+    ensures { OnOk result (string_bytes text.new ≡ string_bytes text.old ++ flat_map (tile_line holding.now) (range_with_len 0 (reel_tiles holding.now.reel))) }
 {
     for tile in 0..holding.setup().grid().tiles() {
         push_tile(text, holding, tile)?;
@@ -49,7 +50,7 @@ fn push_tiles(text: &mut String, holding: &Holding) -> Result<(), AllocError>
 
 /// Adds the line of a tile.
 fn push_tile(text: &mut String, holding: &Holding, tile: usize) -> Result<(), AllocError>
-    requires { tile < tile_count holding.now.reel }
+    requires { tile < reel_tiles holding.now.reel }
     ensures { OnOk result (string_bytes text.new ≡ string_bytes text.old ++ tile_line holding.now tile) }
 {
     write!(text, "tile {tile}")?;
@@ -59,7 +60,7 @@ fn push_tile(text: &mut String, holding: &Holding, tile: usize) -> Result<(), Al
 
 /// Adds how a tile stands.
 fn push_state(text: &mut String, holding: &Holding, tile: usize) -> Result<(), AllocError>
-    requires { tile < tile_count holding.now.reel }
+    requires { tile < reel_tiles holding.now.reel }
     ensures { OnOk result (string_bytes text.new ≡ string_bytes text.old ++ state_words (slices_held holding.now tile) (tile_state holding.now tile)) }
 {
     // Each slice that is held has its footer.
@@ -88,20 +89,12 @@ fn push_settled_numbers(text: &mut String, slice: &[u8], held: usize) -> Result<
     requires { 8 ≤ length slice.now }
     ensures { OnOk result (string_bytes text.new ≡ string_bytes text.old ++ settled_numbers slice.now held) }
 {
-    let status = status(slice);
+    let status = status_of(slice);
     let bytes = slice.len();
     write!(
         text,
         " settled status {status} bytes {bytes} held {held} sha256 "
     )
-}
-
-/// The error status of a whole slice: the byte behind the three of its size.
-fn status(slice: &[u8]) -> u8
-    requires { 8 ≤ length slice.now }
-    ensures { result ≡ status_of slice.now }
-{
-    slice[slice.len() - 5]
 }
 
 /// Adds what there is to say of a disputed tile, of which so many slices are held.
@@ -118,7 +111,7 @@ fn push_disputed(
 
 /// The least error status of the slices that are held of a tile.
 fn least_status(holding: &Holding, tile: usize) -> u8
-    requires { tile < tile_count holding.now.reel }
+    requires { tile < reel_tiles holding.now.reel }
     ensures { result ≡ least_status (slices_held holding.now tile) }
 {
     holding.status(tile).unwrap_or(0)

@@ -80,22 +80,28 @@ pub fn restored(
     ensures payload { IfOk result (λ r. IsRestored r.holding r.payload) }
     ensures report { IfOk result (λ r. string_bytes r.report ≡ report_text r.holding) }
     ensures picture { IfOk result (λ r. IsPartialPicture r.holding r.picture) }
-    ensures whole { (pictures : List (Option Planes)) → IfOk result (λ r. ArePicturesOf r.holding pictures → IsFrameOf r.holding.reel.setup pictures r.picture.frame) }
+    ensures whole { (pictures : List (Option Planes)) → IfOk result (λ r. ArePicturesOf r.holding pictures
+        → IsFrameOf r.holding.reel.setup pictures r.picture.frame) }
 
     // However the same copies are ordered, grouped or repeated, the holdings are equal in every tile, file byte and report line.
-    ensures same_copies { (other : Plan) (h : Contents) → IsHoldingOfPlan config.now width height other h → HasSameCopies (copies_of plan.now) (copies_of other) → IfOk result (λ r. AreEqualInAll r.holding h) }
+    ensures same_copies { (other : Plan) (h : Contents) → IsHoldingOfPlan config.now width height other h
+        → HasSameCopies (copies_of plan.now) (copies_of other) → IfOk result (λ r. AreEqualInAll r.holding h) }
 
     // Where every slice found in them is the original's for its tile, and each tile's is found in some copy, the restored payload
     // is the original byte for byte ..
-    ensures original { (original : List ℕ) (slices : List (List ℕ)) → IfOk result (λ r. IsPlanFor r.holding.reel.setup plan.now original slices → IsOkAnd r.payload (λ payload. payload.items ≡ original)) }
+    ensures original { (original : List ℕ) (slices : List (List ℕ)) → IfOk result (λ r. IsPlanFor r.holding.reel.setup plan.now original slices
+        → IsOkAnd r.payload (λ payload. payload.items ≡ original)) }
 
     // .. and each sample is the one that the greatest decoded tile covering it spells.
-    ensures samples { (original : List ℕ) (slices : List (List ℕ)) → IfOk result (λ r. IsPlanFor r.holding.reel.setup plan.now original slices → ShowsSlices r.holding.reel.setup slices r.picture.frame) }
+    ensures samples { (original : List ℕ) (slices : List (List ℕ)) → IfOk result (λ r. IsPlanFor r.holding.reel.setup plan.now original slices
+        → ShowsSlices r.holding.reel.setup slices r.picture.frame) }
 
     // So they are where all copies differ from the original only within 32 bits of each slice, its size field unhurt, and each of
     // its slices is intact in one of them.
-    ensures near { (original : List ℕ) (slices : List (List ℕ)) → IfOk result (λ r. AreNear r.holding.reel.setup original slices (copies_of plan.now) → IsOkAnd r.payload (λ payload. payload.items ≡ original)) }
-    ensures near_samples { (original : List ℕ) (slices : List (List ℕ)) → IfOk result (λ r. AreNear r.holding.reel.setup original slices (copies_of plan.now) → ShowsSlices r.holding.reel.setup slices r.picture.frame) }
+    ensures near { (original : List ℕ) (slices : List (List ℕ)) → IfOk result (λ r. AreNear r.holding.reel.setup original slices (copies_of plan.now)
+        → IsOkAnd r.payload (λ payload. payload.items ≡ original)) }
+    ensures near_samples { (original : List ℕ) (slices : List (List ℕ))
+        → IfOk result (λ r. AreNear r.holding.reel.setup original slices (copies_of plan.now) → ShowsSlices r.holding.reel.setup slices r.picture.frame) }
 
     // The plan was carried out: its copies are short enough, and what goes through a file has one.
     ensures short { OnOk result (AreShort (copies_of plan.now)) }

@@ -44,7 +44,8 @@ module _ (w : ℕ) (c e d f : ℕ → ℤ) where
       let ind : is_in_run (residuals w c d) n ≡ is_in_run (residuals w e f) n = in_run_alike n (λ j h. same j (omega arith)) (λ j h. alike j (omega arith)) in
       rw (here, before, ind) refl
 
-  pub follows_alike : (n : ℕ) → ((j : ℕ) → j ≤ n → c j ≡ e j) → ((j : ℕ) → j < n → d j ≡ f j) → follows_skipped (residuals w c d) n ≡ follows_skipped (residuals w e f) n
+  pub follows_alike : (n : ℕ) → ((j : ℕ) → j ≤ n → c j ≡ e j) → ((j : ℕ) → j < n → d j ≡ f j)
+      → follows_skipped (residuals w c d) n ≡ follows_skipped (residuals w e f) n
   unfolding follows_skipped
   follows_alike zero same alike = refl
   follows_alike (suc n) same alike =
@@ -57,14 +58,17 @@ kept true n g h same = ap (λ x. x ∷ []) same
 kept false n g h same = refl
 
 -- lists of samples on which two tests and two values agree
-values_alike : (n : ℕ) (p q : ℕ → Bool) (g h : ℕ → ℤ) → ((j : ℕ) → j < n → p j ≡ q j) → ((j : ℕ) → j < n → g j ≡ h j) → map g (filter p (samples_before n)) ≡ map h (filter q (samples_before n))
+values_alike : (n : ℕ) (p q : ℕ → Bool) (g h : ℕ → ℤ) → ((j : ℕ) → j < n → p j ≡ q j) → ((j : ℕ) → j < n → g j ≡ h j)
+    → map g (filter p (samples_before n)) ≡ map h (filter q (samples_before n))
 unfolding samples_before
 values_alike zero p q g h tests values = refl
 values_alike (suc n) p q g h tests values =
-    let ind : map g (filter p (samples_before n)) ≡ map h (filter q (samples_before n)) = values_alike n p q g h (λ j k. tests j (omega arith)) (λ j k. values j (omega arith)) in
+    let ind : map g (filter p (samples_before n)) ≡ map h (filter q (samples_before n)) =
+    values_alike n p q g h (λ j k. tests j (omega arith)) (λ j k. values j (omega arith)) in
     let test : p n ≡ q n = tests n (omega arith) in
     let value : g n ≡ h n = values n (omega arith) in
-    rw (filter-append p, filter-append q, map-append g, map-append h, ind) (ap (λ l. map h (filter q (samples_before n)) ++ l) (rw test (kept (q n) n g h value)))
+    rw (filter-append p, filter-append q, map-append g, map-append h, ind)
+    (ap (λ l. map h (filter q (samples_before n)) ++ l) (rw test (kept (q n) n g h value)))
 
 -- a level's difference isn't 0, so its value tells it
 one_difference : (level : Bool) (x y : ℤ) → (level ≡ true → x ≢ pos 0) → (level ≡ true → y ≢ pos 0) → decoded_value level x ≡ decoded_value level y → x ≡ y
@@ -80,7 +84,8 @@ and_true true b h = (refl, h)
 and_true false b h = absurd cc
 
 value_range : (level : Bool) (x : ℤ) → IsDifference x → IsDifference (decoded_value level x)
-value_range level x h = in_either (level && int_lt (pos 0) x) (x -ℤ pos 1) x (λ b. let p = and_true level (int_lt (pos 0) x) b in record { low = grind (arith, ints); high = omega (arith, ints) }) h
+value_range level x h = in_either (level && int_lt (pos 0) x) (x -ℤ pos 1) x
+    (λ b. let p = and_true level (int_lt (pos 0) x) b in record { low = grind (arith, ints); high = omega (arith, ints) }) h
 
 pub zero_of : (x : ℤ) → is_zero x ≡ true → x ≡ pos 0
 zero_of (pos zero) h = refl
@@ -123,7 +128,8 @@ first_skipped r q s count m n is same =
     same_test _ _ _ _ opened
 
 -- .. and how long it is behind it
-length_behind : (r q : Residuals) (s count m : ℕ) → count ≡ suc m → is_skipped r s ≡ true → is_skipped q s ≡ true → skipped_among r count s ≡ skipped_among q count s → skipped_among r m (s + 1) ≡ skipped_among q m (s + 1)
+length_behind : (r q : Residuals) (s count m : ℕ) → count ≡ suc m → is_skipped r s ≡ true → is_skipped q s ≡ true
+    → skipped_among r count s ≡ skipped_among q count s → skipped_among r m (s + 1) ≡ skipped_among q m (s + 1)
 unfolding skipped_among
 length_behind r q s count m is a b same =
     let opened : skipped_among r (suc m) s ≡ skipped_among q (suc m) s = ap (λ k. skipped_among r k s) (sym is) ∙ same ∙ ap (λ k. skipped_among q k s) is in
@@ -139,10 +145,12 @@ module _ (earlier : ℕ → List ℤ) (w : ℕ) (c e d f : ℕ → ℤ) (some : 
 
   pub states_alike : (n k : ℕ) → ((j : ℕ) → j < n → d j ≡ f j) → state_before earlier (residuals w c d) k n ≡ state_before earlier (residuals w e f) k n
   states_alike n k alike =
-      let runs : (j : ℕ) → j < n → is_in_run (residuals w c d) j ≡ is_in_run (residuals w e f) j = λ j h. in_run_alike w c e d f j (contexts_to j (λ i less. alike i (omega arith))) (λ i less. alike i (omega arith)) in
+      let runs : (j : ℕ) → j < n → is_in_run (residuals w c d) j ≡ is_in_run (residuals w e f) j =
+      λ j h. in_run_alike w c e d f j (contexts_to j (λ i less. alike i (omega arith))) (λ i less. alike i (omega arith)) in
       ap (λ l. fold (λ state value. after_value state value) start_state (earlier k ++ l))
       (values_alike n _ _ _ _
-      (λ j h. let r : is_in_run (residuals w c d) j ≡ is_in_run (residuals w e f) j = runs j h in let a : d j ≡ f j = alike j h in let b : c j ≡ e j = determined j (λ i less. alike i (omega arith)) in rw (r, a, b) refl)
+      (λ j h. let r : is_in_run (residuals w c d) j ≡ is_in_run (residuals w e f) j = runs j h in let a : d j ≡ f j = alike j h in
+      let b : c j ≡ e j = determined j (λ i less. alike i (omega arith)) in rw (r, a, b) refl)
       (λ j h. let r : is_in_run (residuals w c d) j ≡ is_in_run (residuals w e f) j = runs j h in let a : d j ≡ f j = alike j h in rw (r, a) refl))
 
   -- sample n, behind what was read alike
@@ -153,12 +161,15 @@ module _ (earlier : ℕ → List ℤ) (w : ℕ) (c e d f : ℕ → ℤ) (some : 
 
   -- runs that stand there are one
   pub runs_alike : (n index then next last : ℕ) (run words rest more : List Bool) → Alike w c e d f n → index ≡ then → run ++ rest ≡ words ++ more
-      → (starts_run (residuals w c d) n ≡ true → SpellsRun (run_length (residuals w c d) n) (left_in_line (residuals w c d) n) index run next) → (starts_run (residuals w c d) n ≡ false → (run ≡ []) × (next ≡ index))
-      → (starts_run (residuals w e f) n ≡ true → SpellsRun (run_length (residuals w e f) n) (left_in_line (residuals w e f) n) then words last) → (starts_run (residuals w e f) n ≡ false → (words ≡ []) × (last ≡ then))
+      → (starts_run (residuals w c d) n ≡ true → SpellsRun (run_length (residuals w c d) n) (left_in_line (residuals w c d) n) index run next)
+      → (starts_run (residuals w c d) n ≡ false → (run ≡ []) × (next ≡ index))
+      → (starts_run (residuals w e f) n ≡ true → SpellsRun (run_length (residuals w e f) n) (left_in_line (residuals w e f) n) then words last)
+      → (starts_run (residuals w e f) n ≡ false → (words ≡ []) × (last ≡ then))
       → AfterRun n next last rest more
   runs_alike n index then next last run words rest more alike same joined a_starts a_none b_starts b_none =
       let runs : is_in_run (residuals w c d) n ≡ is_in_run (residuals w e f) n = in_run_alike w c e d f n (contexts_to n alike.differences) alike.differences in
-      let follows : follows_skipped (residuals w c d) n ≡ follows_skipped (residuals w e f) n = follows_alike w c e d f n (contexts_to n alike.differences) alike.differences in
+      let follows : follows_skipped (residuals w c d) n ≡ follows_skipped (residuals w e f) n =
+      follows_alike w c e d f n (contexts_to n alike.differences) alike.differences in
       let starts : starts_run (residuals w c d) n ≡ starts_run (residuals w e f) n = rw (runs, follows) refl in
       ⊎_elim
       (λ yes.
@@ -176,23 +187,28 @@ module _ (earlier : ℕ → List ℤ) (w : ℕ) (c e d f : ℕ → ℤ) (some : 
       (is_bool (starts_run (residuals w c d) n))
 
   after_run : (n index then next last : ℕ) (piece words rest more : List Bool) → Alike w c e d f n → index ≡ then → piece ++ rest ≡ words ++ more
-      → (a : SampleSpells earlier (residuals w c d) n index piece next) → (b : SampleSpells earlier (residuals w e f) n then words last) → AfterRun n next last (a.code ++ rest) (b.code ++ more)
+      → (a : SampleSpells earlier (residuals w c d) n index piece next) → (b : SampleSpells earlier (residuals w e f) n then words last)
+      → AfterRun n next last (a.code ++ rest) (b.code ++ more)
   after_run n index then next last piece words rest more alike same joined a b =
-      let inner : a.run ++ (a.code ++ rest) ≡ b.run ++ (b.code ++ more) = sym (append_assoc a.run a.code rest) ∙ ap (λ l. l ++ rest) (sym a.joined) ∙ joined ∙ ap (λ l. l ++ more) b.joined ∙ append_assoc b.run b.code more in
+      let inner : a.run ++ (a.code ++ rest) ≡ b.run ++ (b.code ++ more) = sym (append_assoc a.run a.code rest)
+      ∙ ap (λ l. l ++ rest) (sym a.joined) ∙ joined ∙ ap (λ l. l ++ more) b.joined ∙ append_assoc b.run b.code more in
       runs_alike n index then next last a.run b.run (a.code ++ rest) (b.code ++ more) alike same inner a.run_starts a.no_run_starts b.run_starts b.no_run_starts
 
-  pub skipped_alike : (n next then : ℕ) (rest more : List Bool) → Alike w c e d f n → AfterRun n next then rest more → is_skipped (residuals w c d) n ≡ is_skipped (residuals w e f) n
+  pub skipped_alike : (n next then : ℕ) (rest more : List Bool) → Alike w c e d f n → AfterRun n next then rest more
+      → is_skipped (residuals w c d) n ≡ is_skipped (residuals w e f) n
   skipped_alike n next then rest more alike after =
       let runs : is_in_run (residuals w c d) n ≡ is_in_run (residuals w e f) n = in_run_alike w c e d f n (contexts_to n alike.differences) alike.differences in
       let left : 0 < left_in_line (residuals w c d) n = (let small : n % w < w = omega arith in omega arith) in
       ⊎_elim
-      (λ yes. first_skipped (residuals w c d) (residuals w e f) n (left_in_line (residuals w c d) n) (left_in_line (residuals w c d) n - 1) 0 (omega arith) (after.lengths yes))
+      (λ yes. first_skipped (residuals w c d) (residuals w e f) n (left_in_line (residuals w c d) n) (left_in_line (residuals w c d) n - 1) 0 (omega arith)
+      (after.lengths yes))
       (λ no. let other : is_in_run (residuals w e f) n ≡ false = sym runs ∙ no in rw (no, other) refl)
       (is_bool (is_in_run (residuals w c d) n))
 
   -- one sample more
   pub one_sample : (n index then next last : ℕ) (piece words rest more : List Bool) → Alike w c e d f n → index ≡ then → piece ++ rest ≡ words ++ more
-      → SampleSpells earlier (residuals w c d) n index piece next → SampleSpells earlier (residuals w e f) n then words last → (d n ≡ f n) × (next ≡ last) × (rest ≡ more)
+      → SampleSpells earlier (residuals w c d) n index piece next → SampleSpells earlier (residuals w e f) n then words last → (d n ≡ f n) × (next ≡ last)
+      × (rest ≡ more)
   one_sample n index then next last piece words rest more alike same joined a b =
       let after = after_run n index then next last piece words rest more alike same joined a b in
       let skipped : is_skipped (residuals w c d) n ≡ is_skipped (residuals w e f) n = skipped_alike n next last _ _ alike after in
@@ -217,7 +233,8 @@ module _ (earlier : ℕ → List ℤ) (w : ℕ) (c e d f : ℕ → ℤ) (some : 
       sym (states_alike n (nat_abs (e n)) alike.differences) ∙ ap (λ z. state_before earlier (residuals w c d) (nat_abs z) n) (sym here) in
       let second' : SpellsValue (state_before earlier (residuals w c d) (nat_abs (c n)) n) (value_at (residuals w e f) n) b.code = rw (← states) second in
       let one = one_value _ _ _ a.code b.code rest more (value_range _ _ (range n)) (value_range _ _ (also n)) first second' after.behind in
-      let values : decoded_value (is_in_run (residuals w c d) n) (d n) ≡ decoded_value (is_in_run (residuals w c d) n) (f n) = one.0 ∙ ap (λ l. decoded_value l (f n)) (sym runs) in (
+      let values : decoded_value (is_in_run (residuals w c d) n) (d n) ≡ decoded_value (is_in_run (residuals w c d) n) (f n) = one.0
+      ∙ ap (λ l. decoded_value l (f n)) (sym runs) in (
         one_difference (is_in_run (residuals w c d) n) (d n) (f n)
             (λ t. nonzero_of (d n) (not_both (is_in_run (residuals w c d) n) _ t no))
             (λ t. nonzero_of (f n) (not_both (is_in_run (residuals w e f) n) _ (sym runs ∙ t) (sym skipped ∙ no)))
@@ -234,8 +251,10 @@ module _ (earlier : ℕ → List ℤ) (w : ℕ) (c e d f : ℕ → ℤ) (some : 
     contexts = λ j h. determined j (λ i less. alike.differences i (omega arith));
     differences = λ j h. ⊎_elim (λ less. alike.differences j less) (λ most. let j_is : j ≡ n = omega arith in rw j_is here) (cases_lt j n);
     runs = λ follows.
-        let runs : is_in_run (residuals w c d) n ≡ is_in_run (residuals w e f) n = in_run_alike w c e d f n (contexts_to n alike.differences) alike.differences in
-        let opened : (not (begins_line (residuals w c d) (suc n)) && is_skipped (residuals w c d) n) ≡ true = ap (λ k. follows_skipped (residuals w c d) k) (let k : suc n ≡ n + 1 = omega arith in k) ∙ follows in
+        let runs : is_in_run (residuals w c d) n ≡ is_in_run (residuals w e f) n =
+        in_run_alike w c e d f n (contexts_to n alike.differences) alike.differences in
+        let opened : (not (begins_line (residuals w c d) (suc n)) && is_skipped (residuals w c d) n) ≡ true =
+        ap (λ k. follows_skipped (residuals w c d) k) (let k : suc n ≡ n + 1 = omega arith in k) ∙ follows in
         let both = and_true (not (begins_line (residuals w c d) (suc n))) (is_skipped (residuals w c d) n) opened in
         let skip : is_skipped (residuals w c d) n ≡ true = both.1 in
         let skip' : is_skipped (residuals w e f) n ≡ true = rw (← runs, ← here) skip in
@@ -248,7 +267,8 @@ module _ (earlier : ℕ → List ℤ) (w : ℕ) (c e d f : ℕ → ℤ) (some : 
         length_behind (residuals w c d) (residuals w e f) n (left_in_line (residuals w c d) n) (w - (n + 1) % w) left skip skip' length;
   }
 
-  pub one_reading : (n : ℕ) (front words rest more : List Bool) (next last : ℕ) → SamplesSpell earlier (residuals w c d) n front next → SamplesSpell earlier (residuals w e f) n words last
+  pub one_reading : (n : ℕ) (front words rest more : List Bool) (next last : ℕ) → SamplesSpell earlier (residuals w c d) n front next
+      → SamplesSpell earlier (residuals w e f) n words last
       → front ++ rest ≡ words ++ more → Alike w c e d f n × (next ≡ last) × (rest ≡ more)
   unfolding SamplesSpell follows_skipped
   one_reading zero front words rest more next last a b same = (
@@ -257,7 +277,8 @@ module _ (earlier : ℕ → List ℤ) (w : ℕ) (c e d f : ℕ → ℤ) (some : 
     ap (λ l. l ++ rest) (sym a.0) ∙ same ∙ ap (λ l. l ++ more) b.0,
   )
   one_reading (suc n) front words rest more next last (a0, a1, a2, a3, a4, a5) (b0, b1, b2, b3, b4, b5) same =
-      let joined : a0 ++ (a1 ++ rest) ≡ b0 ++ (b1 ++ more) = sym (append_assoc a0 a1 rest) ∙ ap (λ l. l ++ rest) (sym a3) ∙ same ∙ ap (λ l. l ++ more) b3 ∙ append_assoc b0 b1 more in
+      let joined : a0 ++ (a1 ++ rest) ≡ b0 ++ (b1 ++ more) = sym (append_assoc a0 a1 rest)
+      ∙ ap (λ l. l ++ rest) (sym a3) ∙ same ∙ ap (λ l. l ++ more) b3 ∙ append_assoc b0 b1 more in
       let before = one_reading n a0 b0 (a1 ++ rest) (b1 ++ more) a2 b2 a4 b4 joined in
       let after = after_run n a2 b2 next last a1 b1 rest more before.0 before.1 before.2 a5 b5 in
       let sample = one_sample n a2 b2 next last a1 b1 rest more before.0 before.1 before.2 a5 b5 in

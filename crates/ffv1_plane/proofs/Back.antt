@@ -27,7 +27,8 @@ sample_up context p r d change up h c s =
     let t : int_lt context (pos 0) ≡ false = grind (arith, ints) in
     rw t (omega (arith, ints, f.2, f.3, s.sum))
 
-pub sample_down : (context : ℤ) (p r : ℕ) (d change : ℤ) → context <ℤ pos 0 → IsDifference d → change ≡ neg_ℤ d → IsSumModulo p change r → difference_of context p r ≡ d
+pub sample_down : (context : ℤ) (p r : ℕ) (d change : ℤ) → context <ℤ pos 0 → IsDifference d → change ≡ neg_ℤ d → IsSumModulo p change r
+    → difference_of context p r ≡ d
 unfolding difference_of
 sample_down context p r d change down h c s =
     let f = fold_far (pos p -ℤ pos r) in

@@ -1,9 +1,10 @@
 -- What is predicted of a sample depends on the samples before it alone.
-use Rattle.std.proofs.Common.{◌≡◌, ℕ, zero, suc, ◌+◌, ◌-◌, ◌*◌, ◌%◌, ◌/◌, ◌<◌, ◌≤◌, false, eqb, min, List, get_or, refl, ap, arith, inl, inr, ⊎_elim, ◌⊎◌}
+use Rattle.std.proofs.Common.{◌≡◌, ℕ, zero, suc, ◌+◌, ◌-◌, ◌*◌, ◌%◌, ◌/◌, ◌<◌, ◌≤◌, false, eqb, min, List, get_or, refl, ap, arith, inl, inr, ⊎_elim}
 use Rattle.std.proofs.lemmas.Bool.{cases_lt, lt-ltb, le-ltb}
 use Rattle.std.proofs.lemmas.Nat.{div-add-mod'}
 use Rattle.std.proofs.Math.Nat.{mul-le-mul_right}
 use Rattle.ffv1_plane.specs.Samples.{sample_inside, sample_at, neighbours_at}
+use Rattle.ffv1_plane.specs.Progress.{IsBefore}
 
 module _ (w s : ℕ) (some : 0 < w) (xs ys : List ℕ) (same : (j : ℕ) → j < s → get_or xs j 0 ≡ get_or ys j 0) where
   inside_same : (column row : ℕ) → (2 ≤ row → (row - 2) * w + (column - 2) < s) → sample_inside w xs column row ≡ sample_inside w ys column row
@@ -29,7 +30,7 @@ module _ (w s : ℕ) (some : 0 < w) (xs ys : List ℕ) (same : (j : ℕ) → j <
       let rows : (s / w + 2 - 2) * w ≡ s / w * w = ap (λ k. k * w) row in
       omega (arith, whole, rows))
 
-  at_same : (column row : ℕ) → (row ≤ s / w + 1) ⊎ ((row ≡ s / w + 2) × (column ≤ s % w + 1)) → sample_at w xs column row ≡ sample_at w ys column row
+  pub at_same : (column row : ℕ) → IsBefore w s column row → sample_at w xs column row ≡ sample_at w ys column row
   unfolding sample_at
   at_same zero row near = refl
   at_same (suc zero) row near = above_same 2 (row - 1) (⊎_elim (λ a. omega arith) (λ b. omega arith) near) (omega arith)

@@ -16,13 +16,21 @@ use Rattle.ffv1_plane.proofs.Totals.{run_of, length_low, behind_run, spells_on, 
 -- ---- planes below a number, and whole pictures
 
 module _ (setup : SetupValue) (head : SliceHead) (planes : List (List ℕ)) where
-  pub below_on : (count n : ℕ) (front : List Bool) → n ≤ count → PlanesBelow setup head planes n front → (back : List Bool) × PlanesBelow setup head planes count (front ++ back)
+  pub below_on : (count n : ℕ) (front : List Bool) → n ≤ count → PlanesBelow setup head planes n front → (back : List Bool)
+      × PlanesBelow setup head planes count (front ++ back)
   unfolding PlanesBelow
   below_on zero n front low h =
-      let none : n ≡ zero = omega arith in
-      ([], subst (λ (l : List Bool). PlanesBelow setup head planes zero l) (sym (append-nil front)) (subst (λ (k : ℕ). PlanesBelow setup head planes k front) none h))
+      let none : n ≡ zero = omega arith in (
+        [],
+        subst (λ (l : List Bool). PlanesBelow setup head planes zero l) (sym (append-nil front))
+            (subst (λ (k : ℕ). PlanesBelow setup head planes k front) none h),
+      )
   below_on (suc count) n front low h = ⊎_elim
-      (λ same. ([], subst (λ (l : List Bool). PlanesBelow setup head planes (suc count) l) (sym (append-nil front)) (subst (λ (k : ℕ). PlanesBelow setup head planes k front) same h)))
+      (λ same. (
+        [],
+        subst (λ (l : List Bool). PlanesBelow setup head planes (suc count) l) (sym (append-nil front))
+            (subst (λ (k : ℕ). PlanesBelow setup head planes k front) same h),
+      ))
       (λ other.
       let before = below_on count n front (omega arith) h in
       let plane = plane_bits (values_behind setup head planes count) (tile_plane setup head planes count) in
@@ -30,7 +38,8 @@ module _ (setup : SetupValue) (head : SliceHead) (planes : List (List ℕ)) wher
       (cases_eq n (suc count))
 
   -- one plane more
-  pub below_more : (n : ℕ) (front back : List Bool) → PlanesBelow setup head planes n front → PlaneSpells (values_behind setup head planes n) (tile_plane setup head planes n) back → PlanesBelow setup head planes (suc n) (front ++ back)
+  pub below_more : (n : ℕ) (front back : List Bool) → PlanesBelow setup head planes n front
+      → PlaneSpells (values_behind setup head planes n) (tile_plane setup head planes n) back → PlanesBelow setup head planes (suc n) (front ++ back)
   unfolding PlanesBelow
   below_more n front back h k = (front, back, refl, h, k)
 
@@ -51,7 +60,15 @@ module _ (setup : SetupValue) (head : SliceHead) (planes : List (List ℕ)) wher
       let n_is : count ≡ n = omega arith in
       let P : ℕ → Type 0 = λ k. PlanesBelow setup head planes k front in
       let Q : ℕ → Type 0 = λ k. PlaneSpells (values_behind setup head planes k) (tile_plane setup head planes k) back in
-      record { front = front; back = back; tail = []; below = subst P n_is below; plane = subst Q n_is plane; joined = joined ∙ ap (λ l. front ++ l) (sym (append-nil back)) })
+      record {
+        front = front;
+        back = back;
+        tail = [];
+        below = subst P n_is below;
+        plane = subst Q n_is plane;
+        joined = joined
+            ∙ ap (λ l. front ++ l) (sym (append-nil back));
+      })
       (λ other.
       let b = below_front count n front (omega arith) below in
       record {
@@ -60,18 +77,21 @@ module _ (setup : SetupValue) (head : SliceHead) (planes : List (List ℕ)) wher
         tail = b.tail ++ back;
         below = b.below;
         plane = b.plane;
-        joined = joined ∙ ap (λ l. l ++ back) b.joined ∙ append_assoc b.front (b.back ++ b.tail) back ∙ ap (λ l. b.front ++ l) (append_assoc b.back b.tail back);
+        joined = joined ∙ ap (λ l. l ++ back) b.joined ∙ append_assoc b.front (b.back ++ b.tail) back
+            ∙ ap (λ l. b.front ++ l) (append_assoc b.back b.tail back);
       })
       (cases_eq n count)
 
-  gray_of_below : (words : List Bool) → PlanesBelow setup head planes 1 words → GroupsSpell (map (map (tile_plane setup head planes)) (plane_groups false)) words
+  gray_of_below : (words : List Bool) → PlanesBelow setup head planes 1 words
+      → GroupsSpell (map (map (tile_plane setup head planes)) (plane_groups false)) words
   unfolding PlanesBelow
   gray_of_below words (f, y, e, none, luma) =
       let is : words ≡ y = e ∙ ap (λ l. l ++ y) none in
       subst (λ (l : List Bool). GroupsSpell (map (map (tile_plane setup head planes)) (plane_groups false)) l) (sym is)
       (y, [], sym (append-nil y), (y, [], sym (append-nil y), luma, refl), refl)
 
-  colour_of_below : (words : List Bool) → PlanesBelow setup head planes 3 words → GroupsSpell (map (map (tile_plane setup head planes)) (plane_groups true)) words
+  colour_of_below : (words : List Bool) → PlanesBelow setup head planes 3 words
+      → GroupsSpell (map (map (tile_plane setup head planes)) (plane_groups true)) words
   unfolding PlanesBelow
   colour_of_below words (f2, b2, e2, (f1, b1, e1, (f0, b0, e0, none, luma), cb), cr) = (
     b0,
@@ -88,13 +108,15 @@ module _ (setup : SetupValue) (head : SliceHead) (planes : List (List ℕ)) wher
       either true h = colour_of_below words h
       either false h = gray_of_below words h
 
-  below_of_gray : (words : List Bool) → GroupsSpell (map (map (tile_plane setup head planes)) (plane_groups false)) words → PlanesBelow setup head planes 1 words
+  below_of_gray : (words : List Bool) → GroupsSpell (map (map (tile_plane setup head planes)) (plane_groups false)) words
+      → PlanesBelow setup head planes 1 words
   unfolding PlanesBelow
   below_of_gray words (s0, s1, s2, (y, l1, l2, luma, l4), s4) =
       let is : words ≡ y = s2 ∙ ap (λ l. s0 ++ l) s4 ∙ append-nil s0 ∙ l2 ∙ ap (λ l. y ++ l) l4 ∙ append-nil y in
       ([], y, is, refl, luma)
 
-  below_of_colour : (words : List Bool) → GroupsSpell (map (map (tile_plane setup head planes)) (plane_groups true)) words → PlanesBelow setup head planes 3 words
+  below_of_colour : (words : List Bool) → GroupsSpell (map (map (tile_plane setup head planes)) (plane_groups true)) words
+      → PlanesBelow setup head planes 3 words
   unfolding PlanesBelow
   below_of_colour words (s0, s1, s2, (y, l1, l2, luma, l4), (t0, t1, t2, (b0, b1, b2, cb, (r0, r1, r2, cr, r4)), t4)) =
       let front : s0 ≡ y = l2 ∙ ap (λ l. y ++ l) l4 ∙ append-nil y in
@@ -118,7 +140,8 @@ module _ (setup : SetupValue) (head : SliceHead) (planes : List (List ℕ)) wher
 -- ---- the words before a refused one go on
 
 -- the first words of a run, and those of what is left of it
-pub front_on : {n i next : ℕ} {words : List Bool} (m room last : ℕ) (others : List Bool) → SpellsFront n i words next → SpellsRun m room next others last → SpellsRun (n + m) (n + room) i (words ++ others) last
+pub front_on : {n i next : ℕ} {words : List Bool} (m room last : ℕ) (others : List Bool) → SpellsFront n i words next → SpellsRun m room next others last
+    → SpellsRun (n + m) (n + room) i (words ++ others) last
 front_on {n = n} {i = i} {next = next} {words = words} m room last others (no_word a b c) run =
     let m_is : m ≡ n + m = omega (arith, a) in
     let room_is : room ≡ n + room = omega (arith, a) in
@@ -144,13 +167,15 @@ module _ (earlier : ℕ → List ℤ) (r : Residuals) (s count : ℕ) (part : Li
   unfolding SamplesSpell
   code_on due =
       let all = behind_run earlier r s due.index due.next due.run due.run_starts due.no_run_starts in
-      let read : SamplesSpell earlier r (suc s) (due.before ++ (due.run ++ all.0)) due.next = (due.before, due.run ++ all.0, due.index, refl, due.spells, all.1) in
+      let read : SamplesSpell earlier r (suc s) (due.before ++ (due.run ++ all.0)) due.next =
+      (due.before, due.run ++ all.0, due.index, refl, due.spells, all.1) in
       let on = spells_on earlier r count (suc s) (due.before ++ (due.run ++ all.0)) due.next (omega arith) read in
       record {
         bits = (due.before ++ (due.run ++ all.0)) ++ on.0;
         tail = all.0 ++ on.0;
         last = on.1;
-        joined = ap (λ l. l ++ on.0) (sym (append_assoc due.before due.run all.0)) ∙ append_assoc (due.before ++ due.run) all.0 on.0 ∙ ap (λ l. l ++ (all.0 ++ on.0)) (sym due.joined);
+        joined = ap (λ l. l ++ on.0) (sym (append_assoc due.before due.run all.0)) ∙ append_assoc (due.before ++ due.run) all.0 on.0
+            ∙ ap (λ l. l ++ (all.0 ++ on.0)) (sym due.joined);
         spells = on.2;
       }
 
@@ -201,15 +226,19 @@ pub record FrontOf (setup : SetupValue) (head : SliceHead) (planes : List (List 
   pub spells : PictureSpells setup head planes words
   pub begins : words ≡ front ++ behind
 
-pub stuck_on : (setup : SetupValue) (head : SliceHead) (planes : List (List ℕ)) (bits : List Bool) (fault : CodeFault) (plane y x : ℕ) (front : List Bool) → ArePlanesOf setup head.tile planes
+pub stuck_on : (setup : SetupValue) (head : SliceHead) (planes : List (List ℕ)) (bits : List Bool) (fault : CodeFault) (plane y x : ℕ) (front : List Bool)
+    → ArePlanesOf setup head.tile planes
     → AreBitsStuck setup head planes bits fault plane y x front → FrontOf setup head planes front
 stuck_on setup head planes bits fault plane y x front sizes stuck =
     let rect = plane_rect (grid_of setup) head.tile plane in
     let size = (sizes.sizes plane stuck.place.plane_there).count in
-    let inside : scan_place setup head.tile plane y x < length (samples_of planes plane) = (let p = place_below rect.w rect.h y x stuck.place.row_there stuck.place.column_there in omega (arith, p, size)) in
-    let on = refused_on (values_behind setup head planes plane) (residuals_of (tile_plane setup head planes plane)) (scan_place setup head.tile plane y x) (length (samples_of planes plane)) stuck.part inside stuck.others fault stuck.refused in
+    let inside : scan_place setup head.tile plane y x < length (samples_of planes plane) =
+    (let p = place_below rect.w rect.h y x stuck.place.row_there stuck.place.column_there in omega (arith, p, size)) in
+    let on = refused_on (values_behind setup head planes plane) (residuals_of (tile_plane setup head planes plane)) (scan_place setup head.tile plane y x)
+    (length (samples_of planes plane)) stuck.part inside stuck.others fault stuck.refused in
     let more = below_more setup head planes plane stuck.whole on.bits stuck.below (on.last, on.spells) in
-    let all = below_on setup head planes (plane_count (grid_of setup)) (suc plane) (stuck.whole ++ on.bits) (let there = stuck.place.plane_there in omega arith) more in
+    let all = below_on setup head planes (plane_count (grid_of setup)) (suc plane) (stuck.whole ++ on.bits) (let there = stuck.place.plane_there in
+    omega arith) more in
     record {
       words = (stuck.whole ++ on.bits) ++ all.0;
       behind = on.tail ++ all.0;

@@ -44,7 +44,8 @@ at_byte : (w : ℕ) (xs : List ℕ) → ((s : ℕ) → get_or xs s 0 < 256) → 
 unfolding sample_at
 at_byte w xs small column row = either _ _ (inside_byte w xs small 2 (row - 1)) (inside_byte w xs small (min column (w + 1)) row)
   where
-    either : (b c : Bool) → sample_inside w xs 2 (row - 1) < 256 → sample_inside w xs (min column (w + 1)) row < 256 → cond b 0 (cond c (sample_inside w xs 2 (row - 1)) (sample_inside w xs (min column (w + 1)) row)) < 256
+    either : (b c : Bool) → sample_inside w xs 2 (row - 1) < 256 → sample_inside w xs (min column (w + 1)) row < 256
+        → cond b 0 (cond c (sample_inside w xs 2 (row - 1)) (sample_inside w xs (min column (w + 1)) row)) < 256
     either true c h k = omega arith
     either false true h k = h
     either false false h k = k
@@ -62,22 +63,29 @@ other_byte zero = (1, omega arith, λ e. absurd (omega (arith, e)))
 other_byte (suc p) = (0, omega arith, λ e. absurd (omega (arith, e)))
 
 -- the next samples, each as it is predicted
-pub skipping : (w : ℕ) (entry : ℕ → ℕ → ℤ) (old : List ℕ) → 1 ≤ w → ((s : ℕ) → get_or old s 0 < 256) → (n : ℕ) → (mid : List ℕ) × AreSkipped w entry old mid n × ((s : ℕ) → get_or mid s 0 < 256)
+pub skipping : (w : ℕ) (entry : ℕ → ℕ → ℤ) (old : List ℕ) → 1 ≤ w → ((s : ℕ) → get_or old s 0 < 256) → (n : ℕ) → (mid : List ℕ)
+    × AreSkipped w entry old mid n × ((s : ℕ) → get_or mid s 0 < 256)
 skipping w entry old some small zero = (old, none_skipped w entry old, small)
 skipping w entry old some small (suc n) =
     let before = skipping w entry old some small n in
     let mid = before.0 in
     let near = neighbours_at w mid (length mid) in
     let more = skip_more w entry old mid (mid ++ prediction_of near ∷ []) n (prediction_of near) near some before.1 refl refl refl in
-    let n_is : n + 1 ≡ suc n = omega arith in
-    (mid ++ prediction_of near ∷ [], subst (λ (k : ℕ). AreSkipped w entry old (mid ++ prediction_of near ∷ []) k) n_is more, bytes_push mid (prediction_of near) before.2 (prediction_byte w (length mid) mid before.2))
+    let n_is : n + 1 ≡ suc n = omega arith in (
+      mid ++ prediction_of near ∷ [],
+      subst (λ (k : ℕ). AreSkipped w entry old (mid ++ prediction_of near ∷ []) k) n_is more,
+      bytes_push mid
+          (prediction_of near) before.2 (prediction_byte w (length mid) mid before.2),
+    )
 
 -- ---- a scalar
 
-module _ (width : ℕ) (entry : ℕ → ℕ → ℤ) (some : 1 ≤ width) (old : List ℕ) (index : ℕ) (states : List ContextState) (left : List Bool) (near : SamplesAbout) (context : ℤ)
+module _ (width : ℕ) (entry : ℕ → ℕ → ℤ) (some : 1 ≤ width) (old : List ℕ) (index : ℕ) (states : List ContextState) (left : List Bool) (near : SamplesAbout)
+    (context : ℤ)
     (near_is : near ≡ neighbours_at width old (length old)) (context_is : context ≡ context_of entry near) where
   scalar_here : context ≢ pos 0 → (fault : CodeFault) (sample : ℕ) → IsCodeHalted width entry false old states left fault sample
-      → (earlier : ℕ → List ℤ) (bits : List Bool) → IsReadTo earlier width entry bits old index states left → (more : List ℕ) → IsHalted earlier (residuals_of (plane_of width entry (old ++ more))) bits fault sample
+      → (earlier : ℕ → List ℤ) (bits : List Bool) → IsReadTo earlier width entry bits old index states left → (more : List ℕ)
+      → IsHalted earlier (residuals_of (plane_of width entry (old ++ more))) bits fault sample
   unfolding residuals_of
   scalar_here not_zero fault sample halts earlier bits so_far more =
       let r = residuals_of (plane_of width entry (old ++ more)) in
@@ -93,7 +101,8 @@ module _ (width : ℕ) (entry : ℕ → ℕ → ℤ) (some : 1 ≤ width) (old :
       let state : get_or states (next_context width entry old) start_state ≡ state_before earlier r (context_number r s) s =
       so_far.states_are more (next_context width entry old) halts.below ∙ ap (λ k. state_before earlier r k s) (sym number) in
       let told : IsCodeFault (state_before earlier r (context_number r s) s) (is_in_run r s) left fault =
-      subst (λ (l : Bool). IsCodeFault (state_before earlier r (context_number r s) s) l left fault) (sym outside) (subst (λ (z : ContextState). IsCodeFault z false left fault) state halts.told) in
+      subst (λ (l : Bool). IsCodeFault (state_before earlier r (context_number r s) s) l left fault) (sym outside)
+      (subst (λ (z : ContextState). IsCodeFault z false left fault) state halts.told) in
       let here : IsHalted earlier r bits fault s =
       record {
         part = p.front;
@@ -116,7 +125,8 @@ module _ (width : ℕ) (entry : ℕ → ℕ → ℤ) (some : 1 ≤ width) (old :
       } in
       subst (λ (k : ℕ). IsHalted earlier r bits fault k) (sym halts.place) here
 
-  pub scalar_halted : context ≢ pos 0 → (fault : CodeFault) (sample : ℕ) → IsCodeHalted width entry false old states left fault sample → IsNextHalted width entry old index states left (plane_faults.Code fault sample)
+  pub scalar_halted : context ≢ pos 0 → (fault : CodeFault) (sample : ℕ) → IsCodeHalted width entry false old states left fault sample
+      → IsNextHalted width entry old index states left (plane_faults.Code fault sample)
   scalar_halted not_zero fault sample halts earlier bits small so_far =
       let below : length old % width < width = omega arith in
       record {
@@ -124,7 +134,8 @@ module _ (width : ℕ) (entry : ℕ → ℕ → ℤ) (some : 1 ≤ width) (old :
         bytes = bytes_push old 0 small (omega arith);
         inside = omega (arith, halts.place, length_push old 0);
         in_line = omega (arith, length_push old 0);
-        halted = λ more. subst (λ (l : List ℕ). IsHalted earlier (residuals_of (plane_of width entry l)) bits fault sample) (sym (append_assoc old (0 ∷ []) more)) (scalar_here not_zero fault sample halts earlier bits so_far (0 ∷ more));
+        halted = λ more. subst (λ (l : List ℕ). IsHalted earlier (residuals_of (plane_of width entry l)) bits fault sample)
+            (sym (append_assoc old (0 ∷ []) more)) (scalar_here not_zero fault sample halts earlier bits so_far (0 ∷ more));
       }
 
   -- ---- a word of a run, and a level
@@ -139,20 +150,23 @@ module _ (width : ℕ) (entry : ℕ → ℕ → ℤ) (some : 1 ≤ width) (old :
     longer = omega (arith, ap length skips.pushed, length-append old skips.samples, skips.count)
 
     before : Progress earlier (residuals_of (plane_of width entry (mid ++ more))) (length old) bits index left
-    before = let P : List ℕ → Type 0 = λ l. Progress earlier (residuals_of (plane_of width entry l)) (length old) bits index left in subst P lists (so_far.progress (skips.samples ++ more))
+    before = let P : List ℕ → Type 0 = λ l. Progress earlier (residuals_of (plane_of width entry l)) (length old) bits index left in
+        subst P lists (so_far.progress (skips.samples ++ more))
 
     zero_there : is_zero ((residuals_of (plane_of width entry (mid ++ more))).context (length old)) ≡ true
     zero_there =
         let P : List ℕ → Type 0 = λ l. is_zero ((residuals_of (plane_of width entry l)).context (length old)) ≡ true in
         subst P lists (ap is_zero (context_here width entry old (skips.samples ++ more) near some near_is ∙ sym context_is ∙ zero_is))
 
-    word_here : (fault : CodeFault) → fault ≡ Truncated → (cut : IsRunCut (width - length old % width) index left n) → IsHalted earlier (residuals_of (plane_of width entry (mid ++ more))) bits fault (length old + n)
+    word_here : (fault : CodeFault) → fault ≡ Truncated → (cut : IsRunCut (width - length old % width) index left n)
+        → IsHalted earlier (residuals_of (plane_of width entry (mid ++ more))) bits fault (length old + n)
     unfolding residuals_of
     word_here fault is cut =
         let q = residuals_of (plane_of width entry (mid ++ more)) in
         let s = length old in
         let k : s + 0 ≡ s = omega arith in
-        let least : n ≤ run_length q s = subst (λ (i : ℕ). n ≤ skipped_among q (left_in_line q s) i) k (length_least earlier q some s n zero_there before.fresh fits (skips.zero_differences more) n 0 (left_in_line q s) (omega arith) fits) in
+        let least : n ≤ run_length q s = subst (λ (i : ℕ). n ≤ skipped_among q (left_in_line q s) i) k
+        (length_least earlier q some s n zero_there before.fresh fits (skips.zero_differences more) n 0 (left_in_line q s) (omega arith) fits) in
         record {
           part = before.front ++ cut.words;
           others = cut.others;
@@ -181,28 +195,34 @@ module _ (width : ℕ) (entry : ℕ → ℕ → ℤ) (some : 1 ≤ width) (old :
         }
 
     -- the level behind them
-    level_here : (next : ℕ) (tail run : List Bool) → left ≡ run ++ tail → SpellsRun n (width - length old % width) index run next → n < width - length old % width → (fault : CodeFault) (sample : ℕ)
-        → IsCodeHalted width entry true mid states tail fault sample → is_zero ((residuals_of (plane_of width entry (mid ++ more))).difference (length old + n)) ≡ false
+    level_here : (next : ℕ) (tail run : List Bool) → left ≡ run ++ tail → SpellsRun n (width - length old % width) index run next
+        → n < width - length old % width → (fault : CodeFault) (sample : ℕ)
+        → IsCodeHalted width entry true mid states tail fault sample → is_zero
+        ((residuals_of (plane_of width entry (mid ++ more))).difference (length old + n)) ≡ false
         → IsHalted earlier (residuals_of (plane_of width entry (mid ++ more))) bits fault sample
     unfolding residuals_of
     level_here next tail run begins spelled inside fault sample halts nonzero =
         let q = residuals_of (plane_of width entry (mid ++ more)) in
         let s = length old in
         let skipped = skipped_to earlier q some s n zero_there before.fresh fits (skips.zero_differences more) in
-        let in_it : is_in_run q (s + n) ≡ true = in_run_to earlier q some s n zero_there before.fresh fits (skips.zero_differences more) n (omega arith) inside in
+        let in_it : is_in_run q (s + n) ≡ true = in_run_to earlier q some s n zero_there before.fresh fits (skips.zero_differences more) n
+        (omega arith) inside in
         let level : is_skipped q (s + n) ≡ false = rw (in_it, nonzero) refl in
         let coded : is_coded q (s + n) ≡ true = ap not level in
         let end : (left_in_line q s ≡ n) ⊎ (is_skipped q (s + n) ≡ false) = inr level in
-        let around : neighbours_at width (mid ++ more) (length mid) ≡ neighbours_at width mid (length mid) = neighbours_same width (length mid) some (mid ++ more) mid (λ j h. get_or_append_left mid more 0 j h) in
+        let around : neighbours_at width (mid ++ more) (length mid) ≡ neighbours_at width mid (length mid) =
+        neighbours_same width (length mid) some (mid ++ more) mid (λ j h. get_or_append_left mid more 0 j h) in
         let number : context_number q (s + n) ≡ next_context width entry mid =
         ap (λ k. nat_abs (context_of entry (neighbours_at width (mid ++ more) k))) (sym longer) ∙ ap (λ z. nat_abs (context_of entry z)) around in
-        let P : List ℕ → Type 0 = λ l. get_or states (next_context width entry mid) start_state ≡ state_before earlier (residuals_of (plane_of width entry l)) (next_context width entry mid) s in
+        let P : List ℕ → Type 0 = λ l. get_or states (next_context width entry mid) start_state ≡ state_before earlier
+        (residuals_of (plane_of width entry l)) (next_context width entry mid) s in
         let state : get_or states (next_context width entry mid) start_state ≡ state_before earlier q (context_number q (s + n)) (s + n) =
         subst P lists (so_far.states_are (skips.samples ++ more) (next_context width entry mid) halts.below)
         ∙ sym (skipped_states earlier q s (next_context width entry mid) n skipped)
         ∙ ap (λ k. state_before earlier q k (s + n)) (sym number) in
         let told : IsCodeFault (state_before earlier q (context_number q (s + n)) (s + n)) (is_in_run q (s + n)) tail fault =
-        subst (λ (l : Bool). IsCodeFault (state_before earlier q (context_number q (s + n)) (s + n)) l tail fault) (sym in_it) (subst (λ (z : ContextState). IsCodeFault z true tail fault) state halts.told) in
+        subst (λ (l : Bool). IsCodeFault (state_before earlier q (context_number q (s + n)) (s + n)) l tail fault) (sym in_it)
+        (subst (λ (z : ContextState). IsCodeFault z true tail fault) state halts.told) in
         let starts = starts_here earlier q some s n zero_there before.fresh fits (skips.zero_differences more) in
         let due : IsCodeDue earlier q (s + n) (before.front ++ run) = ⊎_elim
         (λ none.
@@ -222,9 +242,11 @@ module _ (width : ℕ) (entry : ℕ → ℕ → ℤ) (some : 1 ≤ width) (old :
         (λ some_skipped.
         let last = n - 1 in
         let k : suc (s + last) ≡ s + n = omega arith in
-        let follows : follows_skipped q (s + n) ≡ true = ap (λ i. follows_skipped q i) (sym k) ∙ follows_to earlier q some s n zero_there before.fresh fits (skips.zero_differences more) last (omega arith) (omega arith) in
+        let follows : follows_skipped q (s + n) ≡ true = ap (λ i. follows_skipped q i) (sym k)
+        ∙ follows_to earlier q some s n zero_there before.fresh fits (skips.zero_differences more) last (omega arith) (omega arith) in
         let no_start : starts_run q (s + n) ≡ false = rw (in_it, follows) refl in
-        let spelled_on : SamplesSpell earlier q (suc (s + last)) (before.front ++ run) next = run_to earlier q some s n zero_there before.fresh fits (skips.zero_differences more) index next run spelled end last (omega arith) before.front before.spells in
+        let spelled_on : SamplesSpell earlier q (suc (s + last)) (before.front ++ run) next = run_to earlier q some s n zero_there before.fresh fits
+        (skips.zero_differences more) index next run spelled end last (omega arith) before.front before.spells in
         record {
           coded = coded;
           before = before.front ++ run;
@@ -247,7 +269,8 @@ module _ (width : ℕ) (entry : ℕ → ℕ → ℤ) (some : 1 ≤ width) (old :
         let place : s + n ≡ sample = sym longer ∙ sym halts.place in
         subst (λ (k : ℕ). IsHalted earlier q bits fault k) place here
 
-  pub word_halted : context ≡ pos 0 → (skipped : ℕ) (fault : CodeFault) (sample : ℕ) → fault ≡ Truncated → sample ≡ length old + skipped → IsRunCut (width - length old % width) index left skipped
+  pub word_halted : context ≡ pos 0 → (skipped : ℕ) (fault : CodeFault) (sample : ℕ) → fault ≡ Truncated → sample ≡ length old + skipped
+      → IsRunCut (width - length old % width) index left skipped
       → IsNextHalted width entry old index states left (plane_faults.Code fault sample)
   word_halted zero_is skipped fault sample is place cut earlier bits small so_far =
       let skips = skipping width entry old some small skipped in
@@ -261,11 +284,14 @@ module _ (width : ℕ) (entry : ℕ → ℕ → ℤ) (some : 1 ≤ width) (old :
         inside = omega (arith, place, size, length_push mid 0);
         in_line = omega (arith, size, inside, length_push mid 0);
         halted = λ more. subst (λ (k : ℕ). P k ((mid ++ 0 ∷ []) ++ more)) (sym place)
-            (subst (P (length old + skipped)) (sym (append_assoc mid (0 ∷ []) more)) (word_here zero_is mid skipped skips.1 (omega (arith, inside)) earlier bits so_far (0 ∷ more) fault is cut));
+            (subst (P (length old + skipped)) (sym (append_assoc mid (0 ∷ []) more))
+            (word_here zero_is mid skipped skips.1 (omega (arith, inside)) earlier bits so_far (0 ∷ more) fault is cut));
       }
 
-  pub level_halted : context ≡ pos 0 → (mid : List ℕ) (n next : ℕ) (tail : List Bool) → IsRunRead (width - length old % width) index left n next tail → AreSkipped width entry old mid n → n < width - length old % width
-      → (fault : CodeFault) (sample : ℕ) → IsCodeHalted width entry true mid states tail fault sample → ((s : ℕ) → get_or mid s 0 < 256) → IsNextHalted width entry old index states left (plane_faults.Code fault sample)
+  pub level_halted : context ≡ pos 0 → (mid : List ℕ) (n next : ℕ) (tail : List Bool) → IsRunRead (width - length old % width) index left n next tail
+      → AreSkipped width entry old mid n → n < width - length old % width
+      → (fault : CodeFault) (sample : ℕ) → IsCodeHalted width entry true mid states tail fault sample → ((s : ℕ) → get_or mid s 0 < 256)
+      → IsNextHalted width entry old index states left (plane_faults.Code fault sample)
   unfolding residuals_of
   level_halted zero_is mid n next tail run skips inside fault sample halts small earlier bits small_old so_far =
       let p = prediction_of (neighbours_at width mid (length mid)) in
@@ -274,12 +300,14 @@ module _ (width : ℕ) (entry : ℕ → ℕ → ℤ) (some : 1 ≤ width) (old :
       let size : length mid ≡ length old + n = omega (arith, ap length skips.pushed, length-append old skips.samples, skips.count) in
       let nonzero = λ (more : List ℕ).
       let z = neighbours_at width ((mid ++ x.0 ∷ []) ++ more) (length mid) in
-      let around : z ≡ neighbours_at width mid (length mid) = neighbours_same width (length mid) some ((mid ++ x.0 ∷ []) ++ more) mid (same_before mid more x.0) in
+      let around : z ≡ neighbours_at width mid (length mid) = neighbours_same width (length mid) some ((mid ++ x.0 ∷ []) ++ more) mid
+      (same_before mid more x.0) in
       let there : is_zero ((residuals_of (plane_of width entry ((mid ++ x.0 ∷ []) ++ more))).difference (length old + n)) ≡ false =
       ap (λ k. is_zero ((residuals_of (plane_of width entry ((mid ++ x.0 ∷ []) ++ more))).difference k)) (sym size)
       ∙ nonzero_is (difference_of (context_of entry z) (prediction_of z) (get_or ((mid ++ x.0 ∷ []) ++ more) (length mid) 0))
       (λ e. x.2 (one_sample_of (context_of entry z) (prediction_of z) x.0 p x.1 p_byte
-      (ap (λ y. difference_of (context_of entry z) (prediction_of z) y) (sym (this_one mid more x.0)) ∙ e ∙ sym (same_zero (context_of entry z) p) ∙ ap (λ k. difference_of (context_of entry z) k p) (sym (ap prediction_of around))))) in
+      (ap (λ y. difference_of (context_of entry z) (prediction_of z) y) (sym (this_one mid more x.0)) ∙ e ∙ sym (same_zero (context_of entry z) p)
+      ∙ ap (λ k. difference_of (context_of entry z) k p) (sym (ap prediction_of around))))) in
       there in
       record {
         samples = mid ++ x.0 ∷ [];
@@ -290,14 +318,19 @@ module _ (width : ℕ) (entry : ℕ → ℕ → ℤ) (some : 1 ≤ width) (old :
             let lists : mid ++ (x.0 ∷ more) ≡ (mid ++ x.0 ∷ []) ++ more = sym (append_assoc mid (x.0 ∷ []) more) in
             let N : List ℕ → Type 0 = λ l. is_zero ((residuals_of (plane_of width entry l)).difference (length old + n)) ≡ false in
             subst (λ (l : List ℕ). IsHalted earlier (residuals_of (plane_of width entry l)) bits fault sample) lists
-            (level_here zero_is mid n skips run.fits earlier bits so_far (x.0 ∷ more) next tail run.run run.begins run.spelled inside fault sample halts (subst N (sym lists) (nonzero more)));
+            (level_here zero_is mid n skips run.fits earlier bits so_far (x.0 ∷ more) next tail run.run run.begins run.spelled inside fault sample halts
+            (subst N (sym lists) (nonzero more)));
       }
 
-  pub scalar_stops : context ≢ pos 0 → (fault : PlaneFault) → IsSampleHalted width entry false old states left fault → IsNextHalted width entry old index states left fault
+  pub scalar_stops : context ≢ pos 0 → (fault : PlaneFault) → IsSampleHalted width entry false old states left fault
+      → IsNextHalted width entry old index states left fault
   scalar_stops not_zero (plane_faults.Code fault sample) halts = scalar_halted not_zero fault sample halts
   scalar_stops not_zero plane_faults.Memory halts = tt
 
-  pub level_stops : context ≡ pos 0 → (mid : List ℕ) (n next : ℕ) (tail : List Bool) → IsRunRead (width - length old % width) index left n next tail → AreSkipped width entry old mid n → n < width - length old % width
-      → ((s : ℕ) → get_or mid s 0 < 256) → (fault : PlaneFault) → IsSampleHalted width entry true mid states tail fault → IsNextHalted width entry old index states left fault
-  level_stops zero_is mid n next tail run skips inside small (plane_faults.Code fault sample) halts = level_halted zero_is mid n next tail run skips inside fault sample halts small
+  pub level_stops : context ≡ pos 0 → (mid : List ℕ) (n next : ℕ) (tail : List Bool) → IsRunRead (width - length old % width) index left n next tail
+      → AreSkipped width entry old mid n → n < width - length old % width
+      → ((s : ℕ) → get_or mid s 0 < 256) → (fault : PlaneFault) → IsSampleHalted width entry true mid states tail fault
+      → IsNextHalted width entry old index states left fault
+  level_stops zero_is mid n next tail run skips inside small (plane_faults.Code fault sample) halts =
+      level_halted zero_is mid n next tail run skips inside fault sample halts small
   level_stops zero_is mid n next tail run skips inside small plane_faults.Memory halts = tt

@@ -28,7 +28,8 @@ pub difference_range : (p : Plane) (s : ℕ) → IsDifference (difference_at p s
 unfolding difference_of
 difference_range p s = either (int_lt (context_at p s) (pos 0))
   where
-    either : (t : Bool) → IsDifference (cond t (fold (pos (prediction_at p s) -ℤ pos (get_or p.samples s 0))) (fold (pos (get_or p.samples s 0) -ℤ pos (prediction_at p s))))
+    either : (t : Bool) → IsDifference (cond t (fold (pos (prediction_at p s) -ℤ pos (get_or p.samples s 0)))
+        (fold (pos (get_or p.samples s 0) -ℤ pos (prediction_at p s))))
     either true = fold_range (pos (prediction_at p s) -ℤ pos (get_or p.samples s 0))
     either false = fold_range (pos (get_or p.samples s 0) -ℤ pos (prediction_at p s))
 
@@ -36,7 +37,8 @@ module _ (w : ℕ) (entry : ℕ → ℕ → ℤ) (some : 0 < w) (xs ys : List �
   pub contexts_same : (n : ℕ) → ((j : ℕ) → j < n → get_or xs j 0 ≡ get_or ys j 0) → context_at (plane_of w entry xs) n ≡ context_at (plane_of w entry ys) n
   contexts_same n same = ap (context_of entry) (neighbours_same w n some xs ys same)
 
-  pub samples_same : (n : ℕ) → ((j : ℕ) → j < n → difference_at (plane_of w entry xs) j ≡ difference_at (plane_of w entry ys) j) → (j : ℕ) → j < n → get_or xs j 0 ≡ get_or ys j 0
+  pub samples_same : (n : ℕ) → ((j : ℕ) → j < n → difference_at (plane_of w entry xs) j ≡ difference_at (plane_of w entry ys) j) → (j : ℕ) → j < n
+      → get_or xs j 0 ≡ get_or ys j 0
   samples_same zero alike j h = absurd (omega arith)
   samples_same (suc n) alike j h =
       let before = samples_same n (λ i less. alike i (omega arith)) in
@@ -51,12 +53,16 @@ module _ (w : ℕ) (entry : ℕ → ℕ → ℤ) (some : 0 < w) (xs ys : List �
       subst (λ (i : ℕ). get_or xs i 0 ≡ get_or ys i 0) j_is same)
       (cases_lt j n)
 
-  pub one_plane : (earlier : ℕ → List ℤ) (front words rest more : List Bool) → length xs ≡ length ys → PlaneSpells earlier (plane_of w entry xs) front → PlaneSpells earlier (plane_of w entry ys) words
+  pub one_plane : (earlier : ℕ → List ℤ) (front words rest more : List Bool) → length xs ≡ length ys → PlaneSpells earlier (plane_of w entry xs) front
+      → PlaneSpells earlier (plane_of w entry ys) words
       → front ++ rest ≡ words ++ more → (xs ≡ ys) × (rest ≡ more)
   unfolding residuals_of
   one_plane earlier front words rest more lengths (next, a) (last, b) same =
       let n = length xs in
-      let b' : SamplesSpell earlier (residuals_of (plane_of w entry ys)) (length xs) words last = subst (λ (k : ℕ). SamplesSpell earlier (residuals_of (plane_of w entry ys)) k words last) (sym lengths) b in
-      let read = one_reading earlier w (context_at (plane_of w entry xs)) (context_at (plane_of w entry ys)) (difference_at (plane_of w entry xs)) (difference_at (plane_of w entry ys)) some
-      (difference_range (plane_of w entry xs)) (difference_range (plane_of w entry ys)) (λ k alike. contexts_same k (samples_same k alike)) (length xs) front words rest more next last a b' same in
+      let b' : SamplesSpell earlier (residuals_of (plane_of w entry ys)) (length xs) words last =
+      subst (λ (k : ℕ). SamplesSpell earlier (residuals_of (plane_of w entry ys)) k words last) (sym lengths) b in
+      let read = one_reading earlier w (context_at (plane_of w entry xs)) (context_at (plane_of w entry ys)) (difference_at (plane_of w entry xs))
+      (difference_at (plane_of w entry ys)) some
+      (difference_range (plane_of w entry xs)) (difference_range (plane_of w entry ys))
+      (λ k alike. contexts_same k (samples_same k alike)) (length xs) front words rest more next last a b' same in
       (ext_get_or 0 xs ys lengths (samples_same (length xs) read.0.differences), read.2)

@@ -25,10 +25,13 @@ this_one old more x =
     let longer : length old < length (old ++ x ∷ []) = omega (arith, length_push old x) in
     get_or_append_left (old ++ x ∷ []) more 0 (length old) longer ∙ get_or_push old x 0 (length old) refl
 
-pub sample_read : (width : ℕ) (entry : ℕ → ℕ → ℤ) (level : Bool) (old new : List ℕ) (states after : List ContextState) (bits rest : Reading) (near : SamplesAbout) (context difference : ℤ) (x : ℕ) → 1 ≤ width
+pub sample_read : (width : ℕ) (entry : ℕ → ℕ → ℤ) (level : Bool) (old new : List ℕ) (states after : List ContextState) (bits rest : Reading)
+    (near : SamplesAbout) (context difference : ℤ) (x : ℕ) → 1 ≤ width
     → near ≡ neighbours_at width old (length old) → context ≡ context_of entry near → difference_of context (prediction_of near) x ≡ difference
-    → new ≡ old ++ x ∷ [] → IsCodedDifference level difference → nat_abs context < length states → IsCoded (get_or states (nat_abs context) start_state) level difference bits rest
-    → after ≡ set states (nat_abs context) (after_value (get_or states (nat_abs context) start_state) (decoded_value level difference)) → IsSampleRead width entry level old states bits.left new after rest.left
+    → new ≡ old ++ x ∷ [] → IsCodedDifference level difference → nat_abs context < length states
+    → IsCoded (get_or states (nat_abs context) start_state) level difference bits rest
+    → after ≡ set states (nat_abs context) (after_value (get_or states (nat_abs context) start_state) (decoded_value level difference))
+    → IsSampleRead width entry level old states bits.left new after rest.left
 unfolding residuals_of
 sample_read width entry level old new states after bits rest near context difference x some near_is context_is difference_is pushed told below coded stepped =
     let around = λ (more : List ℕ). neighbours_same width (length old) some ((old ++ x ∷ []) ++ more) old (same_before old more x) ∙ sym near_is in
@@ -37,9 +40,11 @@ sample_read width entry level old new states after bits rest near context differ
       difference = difference;
       context = nat_abs context;
       pushed = pushed;
-      is_context = λ more. ap (λ l. nat_abs (context_of entry (neighbours_at width (l ++ more) (length old)))) pushed ∙ ap (λ z. nat_abs (context_of entry z)) (around more) ∙ ap nat_abs (sym context_is);
+      is_context = λ more. ap (λ l. nat_abs (context_of entry (neighbours_at width (l ++ more) (length old)))) pushed
+          ∙ ap (λ z. nat_abs (context_of entry z)) (around more) ∙ ap nat_abs (sym context_is);
       is_difference = λ more.
-          ap (λ l. difference_of (context_of entry (neighbours_at width (l ++ more) (length old))) (prediction_of (neighbours_at width (l ++ more) (length old))) (get_or (l ++ more) (length old) 0)) pushed
+          ap (λ l. difference_of (context_of entry (neighbours_at width (l ++ more) (length old)))
+          (prediction_of (neighbours_at width (l ++ more) (length old))) (get_or (l ++ more) (length old) 0)) pushed
           ∙ ap (λ z. difference_of (context_of entry z) (prediction_of z) (get_or ((old ++ x ∷ []) ++ more) (length old) 0)) (around more)
           ∙ ap (λ y. difference_of (context_of entry near) (prediction_of near) y) (this_one old more x)
           ∙ ap (λ z. difference_of z (prediction_of near) x) (sym context_is) ∙ difference_is;
@@ -53,7 +58,8 @@ sample_read width entry level old new states after bits rest near context differ
 
 -- a context that isn't 0
 scalar_context : (r : Residuals) (s : ℕ) → 0 < context_number r s → is_zero (r.context s) ≡ false
-scalar_context r s some = ⊎_elim (λ yes. absurd (let z : context_number r s ≡ 0 = ap nat_abs (zero_of (r.context s) yes) in omega arith)) (λ no_zero. no_zero) (is_bool (is_zero (r.context s)))
+scalar_context r s some = ⊎_elim (λ yes. absurd (let z : context_number r s ≡ 0 = ap nat_abs (zero_of (r.context s) yes) in omega arith))
+    (λ no_zero. no_zero) (is_bool (is_zero (r.context s)))
 
 cleared : (a b : Bool) → a ≡ false → b ≡ false → (a || b) ≡ false
 cleared a b h k = rw (h, k) refl
@@ -67,7 +73,8 @@ not_both_false false b h = refl
 
 -- ---- the states behind a code
 
-states_step : (earlier : ℕ → List ℤ) (r : Residuals) (s k j : ℕ) (states : List ContextState) (value : ℤ) → k < length states → is_coded r s ≡ true → context_number r s ≡ k → value_at r s ≡ value
+states_step : (earlier : ℕ → List ℤ) (r : Residuals) (s k j : ℕ) (states : List ContextState) (value : ℤ) → k < length states → is_coded r s ≡ true
+    → context_number r s ≡ k → value_at r s ≡ value
     → ((i : ℕ) → i < length states → get_or states i start_state ≡ state_before earlier r i s) → j < length states
     → get_or (set states k (after_value (get_or states k start_state) value)) j start_state ≡ state_before earlier r j (suc s)
 states_step earlier r s k j states value below coded is value_is before inside =
@@ -78,31 +85,41 @@ states_step earlier r s k j states value below coded is value_is before inside =
     let new : after_value (get_or states k start_state) value ≡ after_value (state_before earlier r j s) (value_at r s) =
     ap (λ z. after_value z value) (before k below ∙ ap (λ i. state_before earlier r i s) same) ∙ ap (after_value (state_before earlier r j s)) (sym value_is) in
     ap (λ i. get_or (set states k (after_value (get_or states k start_state) value)) i start_state) (sym same)
-    ∙ get_or-set_same states k _ start_state below ∙ new ∙ sym (more ∙ ap (λ t. cond t (after_value (state_before earlier r j s) (value_at r s)) (state_before earlier r j s)) test))
+    ∙ get_or-set_same states k _ start_state below ∙ new ∙ sym (more ∙ ap
+    (λ t. cond t (after_value (state_before earlier r j s) (value_at r s)) (state_before earlier r j s)) test))
     (λ other.
     let apart : j ≢ k = λ e. other (sym e) in
     let test : (is_coded r s && eqb (context_number r s) j) ≡ false = rw (coded, is) (ne_eqb k j other) in
-    get_or-set_other states k j _ start_state apart ∙ before j inside ∙ sym (more ∙ ap (λ t. cond t (after_value (state_before earlier r j s) (value_at r s)) (state_before earlier r j s)) test))
+    get_or-set_other states k j _ start_state apart ∙ before j inside
+    ∙ sym (more ∙ ap (λ t. cond t (after_value (state_before earlier r j s) (value_at r s)) (state_before earlier r j s)) test))
     (cases_eq k j)
 
 -- ---- one scalar further
 
-pub scalar_read : (earlier : ℕ → List ℤ) (width : ℕ) (entry : ℕ → ℕ → ℤ) (bits left rest : List Bool) (old new : List ℕ) (index : ℕ) (states after : List ContextState) → IsReadTo earlier width entry bits old index states left
+pub scalar_read : (earlier : ℕ → List ℤ) (width : ℕ) (entry : ℕ → ℕ → ℤ) (bits left rest : List Bool) (old new : List ℕ) (index : ℕ)
+    (states after : List ContextState) → IsReadTo earlier width entry bits old index states left
     → (read : IsSampleRead width entry false old states left new after rest) → 0 < read.context → IsReadTo earlier width entry bits new index after rest
 scalar_read earlier width entry bits left rest old new index states after so_far read some =
     let s = length old in
-    let lists = λ (more : List ℕ). let e : old ++ (read.sample ∷ more) ≡ new ++ more = sym (append_assoc old (read.sample ∷ []) more) ∙ ap (λ l. l ++ more) (sym read.pushed) in e in
+    let lists = λ (more : List ℕ). let e : old ++ (read.sample ∷ more) ≡ new ++ more = sym (append_assoc old (read.sample ∷ []) more)
+    ∙ ap (λ l. l ++ more) (sym read.pushed) in e in
     let longer : suc (length old) ≡ length new = omega (arith, ap length read.pushed, length_push old read.sample) in
-    let outside = λ (more : List ℕ). scalar_context (residuals_of (plane_of width entry (new ++ more))) s (let h : 0 < context_number (residuals_of (plane_of width entry (new ++ more))) s = omega (arith, read.is_context more) in h) in
-    let before = λ (more : List ℕ). let P : List ℕ → Type 0 = λ l. Progress earlier (residuals_of (plane_of width entry l)) s bits index left in subst P (lists more) (so_far.progress (read.sample ∷ more)) in
-    let states_before = λ (more : List ℕ) (k : ℕ) (h : k < length states). let P : List ℕ → Type 0 = λ l. get_or states k start_state ≡ state_before earlier (residuals_of (plane_of width entry l)) k s in subst P (lists more) (so_far.states_are (read.sample ∷ more) k h) in
+    let outside = λ (more : List ℕ). scalar_context (residuals_of (plane_of width entry (new ++ more))) s
+    (let h : 0 < context_number (residuals_of (plane_of width entry (new ++ more))) s = omega (arith, read.is_context more) in h) in
+    let before = λ (more : List ℕ). let P : List ℕ → Type 0 = λ l. Progress earlier (residuals_of (plane_of width entry l)) s bits index left in
+    subst P (lists more) (so_far.progress (read.sample ∷ more)) in
+    let states_before = λ (more : List ℕ) (k : ℕ) (h : k < length states). let P : List ℕ
+    → Type 0 = λ l. get_or states k start_state ≡ state_before earlier (residuals_of (plane_of width entry l)) k s in
+    subst P (lists more) (so_far.states_are (read.sample ∷ more) k h) in
     record {
       progress = λ more.
           let r = residuals_of (plane_of width entry (new ++ more)) in
-          let state : get_or states read.context start_state ≡ state_before earlier r (context_number r s) s = states_before more read.context read.below ∙ ap (λ k. state_before earlier r k s) (sym (read.is_context more)) in
+          let state : get_or states read.context start_state ≡ state_before earlier r (context_number r s) s = states_before more read.context read.below
+          ∙ ap (λ k. state_before earlier r k s) (sym (read.is_context more)) in
           let spells : SpellsValue (state_before earlier r (context_number r s) s) (r.difference s) read.code =
           (let P : ContextState → Type 0 = λ z. SpellsValue z (r.difference s) read.code in subst P state
-          (let Q : ℤ → Type 0 = λ z. SpellsValue (get_or states read.context start_state) z read.code in subst Q (sym (read.is_difference more)) read.spells)) in
+          (let Q : ℤ → Type 0 = λ z. SpellsValue (get_or states read.context start_state) z read.code in
+          subst Q (sym (read.is_difference more)) read.spells)) in
           let R : ℕ → Type 0 = λ n. Progress earlier r n bits index rest in
           subst R longer (scalar_step earlier r s index bits read.code left rest (before more) (outside more) spells read.begins);
       states_are = λ more k h.
@@ -110,14 +127,22 @@ scalar_read earlier width entry bits left rest old new index states after so_far
           let run : is_in_run r s ≡ false = in_run_is r s ∙ cleared _ _ (outside more) ((before more).fresh) in
           let coded : is_coded r s ≡ true = rw run refl in
           let value : value_at r s ≡ decoded_value false read.difference = ap (λ l. decoded_value l (r.difference s)) run ∙ read.is_difference more in
-          let inside : k < length states = omega (arith, h, ap length read.stepped, length-set states read.context (after_value (get_or states read.context start_state) (decoded_value false read.difference))) in
-          let step = states_step earlier r s read.context k states (decoded_value false read.difference) read.below coded (read.is_context more) value (states_before more) inside in
+          let inside : k < length states = omega (
+            arith,
+            h,
+            ap length read.stepped,
+            length-set states read.context
+                (after_value (get_or states read.context start_state) (decoded_value false read.difference)),
+          ) in
+          let step = states_step earlier r s read.context k states (decoded_value false read.difference) read.below coded (read.is_context more) value
+          (states_before more) inside in
           ap (λ l. get_or l k start_state) read.stepped ∙ step ∙ ap (λ n. state_before earlier r k n) longer;
     }
 
 -- ---- one run further
 
-pub skipped_states : (earlier : ℕ → List ℤ) (r : Residuals) (s k n : ℕ) → ((j : ℕ) → j < n → is_skipped r (s + j) ≡ true) → state_before earlier r k (s + n) ≡ state_before earlier r k s
+pub skipped_states : (earlier : ℕ → List ℤ) (r : Residuals) (s k n : ℕ) → ((j : ℕ) → j < n → is_skipped r (s + j) ≡ true)
+    → state_before earlier r k (s + n) ≡ state_before earlier r k s
 skipped_states earlier r s k zero skipped = ap (λ i. state_before earlier r k i) (let e : s + 0 ≡ s = omega arith in e)
 skipped_states earlier r s k (suc n) skipped =
     let skip : is_skipped r (s + n) ≡ true = skipped n (omega arith) in
@@ -127,7 +152,8 @@ skipped_states earlier r s k (suc n) skipped =
     ∙ ap (λ t. cond t (after_value (state_before earlier r k (s + n)) (value_at r (s + n))) (state_before earlier r k (s + n))) test
     ∙ skipped_states earlier r s k n (λ j h. skipped j (omega arith))
 
-module _ (earlier : ℕ → List ℤ) (width : ℕ) (entry : ℕ → ℕ → ℤ) (some : 0 < width) (bits left : List Bool) (old mid : List ℕ) (index : ℕ) (states : List ContextState) (so_far : IsReadTo earlier width entry bits old index states left)
+module _ (earlier : ℕ → List ℤ) (width : ℕ) (entry : ℕ → ℕ → ℤ) (some : 0 < width) (bits left : List Bool) (old mid : List ℕ) (index : ℕ)
+    (states : List ContextState) (so_far : IsReadTo earlier width entry bits old index states left)
     (zero_context : (more : List ℕ) → is_zero ((residuals_of (plane_of width entry (old ++ more))).context (length old)) ≡ true)
     (n next : ℕ) (tail : List Bool) (run : IsRunRead (width - length old % width) index left n next tail) (skips : AreSkipped width entry old mid n) where
   pub lists_mid : (more : List ℕ) → old ++ (skips.samples ++ more) ≡ mid ++ more
@@ -137,18 +163,22 @@ module _ (earlier : ℕ → List ℤ) (width : ℕ) (entry : ℕ → ℕ → ℤ
   longer_mid = omega (arith, ap length skips.pushed, length-append old skips.samples, skips.count)
 
   pub before_mid : (more : List ℕ) → Progress earlier (residuals_of (plane_of width entry (mid ++ more))) (length old) bits index left
-  before_mid more = let P : List ℕ → Type 0 = λ l. Progress earlier (residuals_of (plane_of width entry l)) (length old) bits index left in subst P (lists_mid more) (so_far.progress (skips.samples ++ more))
+  before_mid more = let P : List ℕ → Type 0 = λ l. Progress earlier (residuals_of (plane_of width entry l)) (length old) bits index left in
+      subst P (lists_mid more) (so_far.progress (skips.samples ++ more))
 
   pub zero_mid : (more : List ℕ) → is_zero ((residuals_of (plane_of width entry (mid ++ more))).context (length old)) ≡ true
-  zero_mid more = let P : List ℕ → Type 0 = λ l. is_zero ((residuals_of (plane_of width entry l)).context (length old)) ≡ true in subst P (lists_mid more) (zero_context (skips.samples ++ more))
+  zero_mid more = let P : List ℕ → Type 0 = λ l. is_zero ((residuals_of (plane_of width entry l)).context (length old)) ≡ true in
+      subst P (lists_mid more) (zero_context (skips.samples ++ more))
 
-  pub states_mid : (more : List ℕ) (k : ℕ) → k < length states → get_or states k start_state ≡ state_before earlier (residuals_of (plane_of width entry (mid ++ more))) k (length old + n)
+  pub states_mid : (more : List ℕ) (k : ℕ) → k < length states → get_or states k start_state ≡ state_before earlier
+      (residuals_of (plane_of width entry (mid ++ more))) k (length old + n)
   unfolding residuals_of
   states_mid more k h =
       let r = residuals_of (plane_of width entry (mid ++ more)) in
       let P : List ℕ → Type 0 = λ l. get_or states k start_state ≡ state_before earlier (residuals_of (plane_of width entry l)) k (length old) in
       subst P (lists_mid more) (so_far.states_are (skips.samples ++ more) k h)
-      ∙ sym (skipped_states earlier r (length old) k n (skipped_to earlier r some (length old) n (zero_mid more) ((before_mid more).fresh) (run.fits) (skips.zero_differences more)))
+      ∙ sym (skipped_states earlier r (length old) k n (skipped_to earlier r some (length old) n (zero_mid more) ((before_mid more).fresh) (run.fits)
+      (skips.zero_differences more)))
 
   pub run_end_read : width - length old % width ≡ n → IsReadTo earlier width entry bits mid next states tail
   unfolding residuals_of
@@ -156,11 +186,13 @@ module _ (earlier : ℕ → List ℤ) (width : ℕ) (entry : ℕ → ℕ → ℤ
     progress = λ more.
         let r = residuals_of (plane_of width entry (mid ++ more)) in
         let P : ℕ → Type 0 = λ i. Progress earlier r i bits next tail in
-        subst P (sym longer_mid) (run_end earlier r some (length old) n (zero_mid more) ((before_mid more).fresh) run.fits (skips.zero_differences more) index next run.run run.spelled (inl whole) bits left tail whole (before_mid more) run.begins);
+        subst P (sym longer_mid) (run_end earlier r some (length old) n (zero_mid more) ((before_mid more).fresh) run.fits
+        (skips.zero_differences more) index next run.run run.spelled (inl whole) bits left tail whole (before_mid more) run.begins);
     states_are = λ more k h. states_mid more k h ∙ ap (λ i. state_before earlier (residuals_of (plane_of width entry (mid ++ more))) k i) (sym longer_mid);
   }
 
-  module _ (new : List ℕ) (after : List ContextState) (rest : List Bool) (inside : n < width - length old % width) (read : IsSampleRead width entry true mid states tail new after rest) where
+  module _ (new : List ℕ) (after : List ContextState) (rest : List Bool) (inside : n < width - length old % width)
+      (read : IsSampleRead width entry true mid states tail new after rest) where
     lists_new : (more : List ℕ) → mid ++ (read.sample ∷ more) ≡ new ++ more
     lists_new more = sym (append_assoc mid (read.sample ∷ []) more) ∙ ap (λ l. l ++ more) (sym read.pushed)
 
@@ -174,16 +206,21 @@ module _ (earlier : ℕ → List ℤ) (width : ℕ) (entry : ℕ → ℕ → ℤ
         ap is_zero here ∙ nonzero_is read.difference (read.told.1 refl)
 
     progress_new : (more : List ℕ) → Progress earlier (residuals_of (plane_of width entry (new ++ more))) (length old) bits index left
-    progress_new more = let P : List ℕ → Type 0 = λ l. Progress earlier (residuals_of (plane_of width entry l)) (length old) bits index left in subst P (lists_new more) (before_mid (read.sample ∷ more))
+    progress_new more = let P : List ℕ → Type 0 = λ l. Progress earlier (residuals_of (plane_of width entry l)) (length old) bits index left in
+        subst P (lists_new more) (before_mid (read.sample ∷ more))
 
     zero_new : (more : List ℕ) → is_zero ((residuals_of (plane_of width entry (new ++ more))).context (length old)) ≡ true
-    zero_new more = let P : List ℕ → Type 0 = λ l. is_zero ((residuals_of (plane_of width entry l)).context (length old)) ≡ true in subst P (lists_new more) (zero_mid (read.sample ∷ more))
+    zero_new more = let P : List ℕ → Type 0 = λ l. is_zero ((residuals_of (plane_of width entry l)).context (length old)) ≡ true in
+        subst P (lists_new more) (zero_mid (read.sample ∷ more))
 
     skipped_new : (more : List ℕ) (j : ℕ) → j < n → is_zero ((residuals_of (plane_of width entry (new ++ more))).difference (length old + j)) ≡ true
-    skipped_new more j h = let P : List ℕ → Type 0 = λ l. is_zero ((residuals_of (plane_of width entry l)).difference (length old + j)) ≡ true in subst P (lists_new more) (skips.zero_differences (read.sample ∷ more) j h)
+    skipped_new more j h = let P : List ℕ → Type 0 = λ l. is_zero ((residuals_of (plane_of width entry l)).difference (length old + j)) ≡ true in
+        subst P (lists_new more) (skips.zero_differences (read.sample ∷ more) j h)
 
-    states_new : (more : List ℕ) (k : ℕ) → k < length states → get_or states k start_state ≡ state_before earlier (residuals_of (plane_of width entry (new ++ more))) k (length old + n)
-    states_new more k h = let P : List ℕ → Type 0 = λ l. get_or states k start_state ≡ state_before earlier (residuals_of (plane_of width entry l)) k (length old + n) in subst P (lists_new more) (states_mid (read.sample ∷ more) k h)
+    states_new : (more : List ℕ) (k : ℕ) → k < length states → get_or states k start_state ≡ state_before earlier
+        (residuals_of (plane_of width entry (new ++ more))) k (length old + n)
+    states_new more k h = let P : List ℕ → Type 0 = λ l. get_or states k start_state ≡ state_before earlier (residuals_of (plane_of width entry l)) k
+        (length old + n) in subst P (lists_new more) (states_mid (read.sample ∷ more) k h)
 
     pub run_level_read : IsReadTo earlier width entry bits new next after rest
     unfolding residuals_of
@@ -193,37 +230,52 @@ module _ (earlier : ℕ → List ℤ) (width : ℕ) (entry : ℕ → ℕ → ℤ
           let s = length old in
           let context : context_number r (s + n) ≡ read.context = ap (context_number r) (sym longer_mid) ∙ read.is_context more in
           let difference : r.difference (s + n) ≡ read.difference = ap r.difference (sym longer_mid) ∙ read.is_difference more in
-          let state : get_or states read.context start_state ≡ state_before earlier r (context_number r (s + n)) (s + n) = states_new more read.context read.below ∙ ap (λ k. state_before earlier r k (s + n)) (sym context) in
+          let state : get_or states read.context start_state ≡ state_before earlier r (context_number r (s + n)) (s + n) =
+          states_new more read.context read.below ∙ ap (λ k. state_before earlier r k (s + n)) (sym context) in
           let P : ContextState → Type 0 = λ z. SpellsValue z (decoded_value true (r.difference (s + n))) read.code in
           let Q : ℤ → Type 0 = λ z. SpellsValue (get_or states read.context start_state) (decoded_value true z) read.code in
           let R : ℕ → Type 0 = λ i. Progress earlier r i bits next rest in
-          subst R longer_new (run_level earlier r some s n (zero_new more) ((progress_new more).fresh) run.fits (skipped_new more) index next run.run run.spelled
-          (inr (not_both_false _ _ (level_new more))) bits left read.code rest inside (level_new more) (subst P state (subst Q (sym difference) read.spells)) (progress_new more)
+          subst R longer_new (run_level earlier r some s n (zero_new more) ((progress_new more).fresh) run.fits
+          (skipped_new more) index next run.run run.spelled
+          (inr (not_both_false _ _ (level_new more))) bits left read.code rest inside (level_new more) (subst P state (subst Q (sym difference) read.spells))
+          (progress_new more)
           (run.begins ∙ ap (λ l. run.run ++ l) read.begins));
       states_are = λ more k h.
           let r = residuals_of (plane_of width entry (new ++ more)) in
           let s = length old in
-          let in_it : is_in_run r (s + n) ≡ true = in_run_to earlier r some s n (zero_new more) ((progress_new more).fresh) run.fits (skipped_new more) n (omega arith) inside in
+          let in_it : is_in_run r (s + n) ≡ true = in_run_to earlier r some s n (zero_new more) ((progress_new more).fresh) run.fits (skipped_new more) n
+          (omega arith) inside in
           let level : is_zero (r.difference (s + n)) ≡ false = level_new more in
           let coded : is_coded r (s + n) ≡ true = rw (in_it, level) refl in
-          let value : value_at r (s + n) ≡ decoded_value true read.difference = ap (λ l. decoded_value l (r.difference (s + n))) in_it ∙ ap (decoded_value true) (ap r.difference (sym longer_mid) ∙ read.is_difference more) in
-          let small : k < length states = omega (arith, h, ap length read.stepped, length-set states read.context (after_value (get_or states read.context start_state) (decoded_value true read.difference))) in
-          let step = states_step earlier r (s + n) read.context k states (decoded_value true read.difference) read.below coded (ap (context_number r) (sym longer_mid) ∙ read.is_context more) value (states_new more) small in
+          let value : value_at r (s + n) ≡ decoded_value true read.difference =
+          ap (λ l. decoded_value l (r.difference (s + n))) in_it ∙ ap (decoded_value true) (ap r.difference (sym longer_mid) ∙ read.is_difference more) in
+          let small : k < length states = omega (
+            arith,
+            h,
+            ap length read.stepped,
+            length-set states read.context
+                (after_value (get_or states read.context start_state) (decoded_value true read.difference)),
+          ) in
+          let step = states_step earlier r (s + n) read.context k states (decoded_value true read.difference) read.below coded
+          (ap (context_number r) (sym longer_mid) ∙ read.is_context more) value (states_new more) small in
           ap (λ l. get_or l k start_state) read.stepped ∙ step ∙ ap (λ i. state_before earlier r k i) longer_new;
     }
 
 -- ---- the whole plane
 
-pub whole_plane : (earlier : ℕ → List ℤ) (width : ℕ) (entry : ℕ → ℕ → ℤ) (bits left : List Bool) (samples : List ℕ) (index : ℕ) (states : List ContextState) → IsReadTo earlier width entry bits samples index states left
+pub whole_plane : (earlier : ℕ → List ℤ) (width : ℕ) (entry : ℕ → ℕ → ℤ) (bits left : List Bool) (samples : List ℕ) (index : ℕ) (states : List ContextState)
+    → IsReadTo earlier width entry bits samples index states left
     → (front : List Bool) × (bits ≡ front ++ left) × PlaneSpells earlier (plane_of width entry samples) front
     × AreStatesAfter (values_after earlier (plane_of width entry samples)) states
 whole_plane earlier width entry bits left samples index states read =
     let P : List ℕ → Type 0 = λ l. Progress earlier (residuals_of (plane_of width entry l)) (length samples) bits index left in
     let p : Progress earlier (residuals_of (plane_of width entry samples)) (length samples) bits index left = subst P (append-nil samples) (read.progress []) in
-    let Q : List ℕ → Type 0 = λ l. (k : ℕ) → k < length states → get_or states k start_state ≡ state_before earlier (residuals_of (plane_of width entry l)) k (length samples) in
+    let Q : List ℕ → Type 0 = λ l. (k : ℕ) → k < length states → get_or states k start_state ≡ state_before earlier (residuals_of (plane_of width entry l)) k
+    (length samples) in
     (p.front, p.begins, (index, p.spells), subst Q (append-nil samples) (read.states_are []))
 
-pub no_samples : (earlier : ℕ → List ℤ) (width : ℕ) (entry : ℕ → ℕ → ℤ) (bits : List Bool) (states : List ContextState) → AreStatesAfter earlier states → IsReadTo earlier width entry bits [] 0 states bits
+pub no_samples : (earlier : ℕ → List ℤ) (width : ℕ) (entry : ℕ → ℕ → ℤ) (bits : List Bool) (states : List ContextState) → AreStatesAfter earlier states
+    → IsReadTo earlier width entry bits [] 0 states bits
 unfolding SamplesSpell follows_skipped samples_before
 no_samples earlier width entry bits states fresh = record {
   progress = λ more. record { front = []; begins = refl; spells = (refl, refl); fresh = refl };
@@ -260,8 +312,10 @@ skip_more width entry old mid new n x near some skips near_is x_is pushed =
           subst P lists (skips.zero_differences (x ∷ more) j less))
           (λ most.
           let place : length mid ≡ length old + j = omega (arith, longer) in
-          let here : difference_of (context_of entry (neighbours_at width (new ++ more) (length mid))) (prediction_of (neighbours_at width (new ++ more) (length mid))) (get_or (new ++ more) (length mid) 0) ≡ pos 0 =
-          ap (λ l. difference_of (context_of entry (neighbours_at width (l ++ more) (length mid))) (prediction_of (neighbours_at width (l ++ more) (length mid))) (get_or (l ++ more) (length mid) 0)) pushed
+          let here : difference_of (context_of entry (neighbours_at width (new ++ more) (length mid)))
+          (prediction_of (neighbours_at width (new ++ more) (length mid))) (get_or (new ++ more) (length mid) 0) ≡ pos 0 =
+          ap (λ l. difference_of (context_of entry (neighbours_at width (l ++ more) (length mid)))
+          (prediction_of (neighbours_at width (l ++ more) (length mid))) (get_or (l ++ more) (length mid) 0)) pushed
           ∙ ap (λ z. difference_of (context_of entry z) (prediction_of z) (get_or ((mid ++ x ∷ []) ++ more) (length mid) 0)) (around more)
           ∙ ap (λ y. difference_of (context_of entry near) (prediction_of near) y) (this_one mid more x ∙ x_is)
           ∙ same_zero _ _ in
@@ -270,13 +324,38 @@ skip_more width entry old mid new n x near some skips near_is x_is pushed =
           (cases_lt j n);
     }
 
+-- some skipped, and then more
+pub skip_on : (width : ℕ) (entry : ℕ → ℕ → ℤ) (old mid new : List ℕ) (n m : ℕ) → AreSkipped width entry old mid n → AreSkipped width entry mid new m
+    → AreSkipped width entry old new (n + m)
+skip_on width entry old mid new n m first second =
+    let longer : length mid ≡ length old + n = omega (arith, ap length first.pushed, length-append old first.samples, first.count) in
+    record {
+      samples = first.samples ++ second.samples;
+      pushed = second.pushed ∙ ap (λ l. l ++ second.samples) first.pushed ∙ append_assoc old first.samples second.samples;
+      count = length-append first.samples second.samples ∙ ap (λ k. k + length second.samples) first.count ∙ ap (λ k. n + k) second.count;
+      zero_differences = λ more j h. ⊎_elim
+          (λ less.
+          let lists : mid ++ (second.samples ++ more) ≡ new ++ more = sym (append_assoc mid second.samples more) ∙ ap (λ l. l ++ more) (sym second.pushed) in
+          let P : List ℕ → Type 0 = λ l. is_zero ((residuals_of (plane_of width entry l)).difference (length old + j)) ≡ true in
+          subst P lists (first.zero_differences (second.samples ++ more) j less))
+          (λ behind.
+          let place : length mid + (j - n) ≡ length old + j = omega (arith, longer) in
+          let P : ℕ → Type 0 = λ i. is_zero ((residuals_of (plane_of width entry (new ++ more))).difference i) ≡ true in
+          subst P place (second.zero_differences more (j - n) (omega arith)))
+          (cases_lt j n);
+    }
+
 -- the same, as the code has it: the number i of the context, the state z that stood there, numbers that were passed
-pub sample_read_at : (width : ℕ) (entry : ℕ → ℕ → ℤ) (level : Bool) (old new : List ℕ) (states : List ContextState) (bits rest : Reading) (near : SamplesAbout) (context passed difference told : ℤ) (x i p : ℕ) (z stepped : ContextState) → 1 ≤ width
+pub sample_read_at : (width : ℕ) (entry : ℕ → ℕ → ℤ) (level : Bool) (old new : List ℕ) (states : List ContextState) (bits rest : Reading)
+    (near : SamplesAbout) (context passed difference told : ℤ) (x i p : ℕ) (z stepped : ContextState) → 1 ≤ width
     → near ≡ neighbours_at width old (length old) → context ≡ context_of entry near → p ≡ prediction_of near → passed ≡ context → told ≡ difference
-    → difference_of passed p x ≡ told → new ≡ old ++ x ∷ [] → IsCodedDifference level difference → i ≡ nat_abs context → i < length states → z ≡ get_or states i z → IsCoded z level difference bits rest
+    → difference_of passed p x ≡ told → new ≡ old ++ x ∷ [] → IsCodedDifference level difference → i ≡ nat_abs context → i < length states
+    → z ≡ get_or states i z → IsCoded z level difference bits rest
     → stepped ≡ after_value z (decoded_value level difference) → IsSampleRead width entry level old states bits.left new (set states i stepped) rest.left
-sample_read_at width entry level old new states bits rest near context passed difference told x i p z stepped some near_is context_is p_is passed_is told_is difference_is pushed range i_is below z_is coded stepped_is =
-    let z_there : z ≡ get_or states (nat_abs context) start_state = get_or_read states i z below z_is start_state ∙ ap (λ k. get_or states k start_state) i_is in
+sample_read_at width entry level old new states bits rest near context passed difference told x i p z stepped some near_is context_is p_is passed_is told_is
+    difference_is pushed range i_is below z_is coded stepped_is =
+    let z_there : z ≡ get_or states (nat_abs context) start_state = get_or_read states i z below z_is start_state
+    ∙ ap (λ k. get_or states k start_state) i_is in
     let P : ContextState → Type 0 = λ s. IsCoded s level difference bits rest in
     sample_read width entry level old new states (set states i stepped) bits rest near context difference x some near_is context_is
     (ap (λ c. difference_of c (prediction_of near) x) (sym passed_is) ∙ ap (λ q. difference_of passed q x) (sym p_is) ∙ difference_is ∙ told_is)
@@ -296,26 +375,32 @@ unfolding residuals_of
 context_here width entry old more near some near_is =
     ap (context_of entry) (neighbours_same width (length old) some (old ++ more) old (λ j h. get_or_append_left old more 0 j h) ∙ sym near_is)
 
-pub zero_here : (width : ℕ) (entry : ℕ → ℕ → ℤ) (old : List ℕ) (near : SamplesAbout) (context : ℤ) → 1 ≤ width → near ≡ neighbours_at width old (length old) → context ≡ context_of entry near → context ≡ pos 0
+pub zero_here : (width : ℕ) (entry : ℕ → ℕ → ℤ) (old : List ℕ) (near : SamplesAbout) (context : ℤ) → 1 ≤ width → near ≡ neighbours_at width old (length old)
+    → context ≡ context_of entry near → context ≡ pos 0
     → (more : List ℕ) → is_zero ((residuals_of (plane_of width entry (old ++ more))).context (length old)) ≡ true
-zero_here width entry old near context some near_is context_is zero_is more = ap is_zero (context_here width entry old more near some near_is ∙ sym context_is ∙ zero_is)
+zero_here width entry old near context some near_is context_is zero_is more =
+    ap is_zero (context_here width entry old more near some near_is ∙ sym context_is ∙ zero_is)
 
-pub scalar_read_at : (earlier : ℕ → List ℤ) (width : ℕ) (entry : ℕ → ℕ → ℤ) (old new : List ℕ) (index : ℕ) (states after : List ContextState) (left rest : List Bool) (near : SamplesAbout) (context : ℤ) → 1 ≤ width → near ≡ neighbours_at width old (length old)
+pub scalar_read_at : (earlier : ℕ → List ℤ) (width : ℕ) (entry : ℕ → ℕ → ℤ) (old new : List ℕ) (index : ℕ) (states after : List ContextState)
+    (left rest : List Bool) (near : SamplesAbout) (context : ℤ) → 1 ≤ width → near ≡ neighbours_at width old (length old)
     → context ≡ context_of entry near → context ≢ pos 0 → IsSampleRead width entry false old states left new after rest
     → (bits : List Bool) → IsReadTo earlier width entry bits old index states left → IsReadTo earlier width entry bits new index after rest
 scalar_read_at earlier width entry old new index states after left rest near context some near_is context_is not_zero read bits so_far =
     let lists : new ++ [] ≡ old ++ (read.sample ∷ []) = append-nil new ∙ read.pushed in
     let told : nat_abs context ≡ read.context =
-    ap nat_abs (context_is ∙ sym (context_here width entry old (read.sample ∷ []) near some near_is)) ∙ ap (λ l. context_number (residuals_of (plane_of width entry l)) (length old)) (sym lists) ∙ read.is_context [] in
+    ap nat_abs (context_is ∙ sym (context_here width entry old (read.sample ∷ []) near some near_is))
+    ∙ ap (λ l. context_number (residuals_of (plane_of width entry l)) (length old)) (sym lists) ∙ read.is_context [] in
     let large : 0 < nat_abs context = some_abs context not_zero in
     scalar_read earlier width entry bits left rest old new index states after so_far read (omega (arith, told, large))
 
 -- where the code can't be read under the state that stood there
-pub code_halted_at : (width : ℕ) (entry : ℕ → ℕ → ℤ) (level : Bool) (samples : List ℕ) (states : List ContextState) (bits : List Bool) (near : SamplesAbout) (context : ℤ) (i sample : ℕ) (z : ContextState) (fault : CodeFault)
+pub code_halted_at : (width : ℕ) (entry : ℕ → ℕ → ℤ) (level : Bool) (samples : List ℕ) (states : List ContextState) (bits : List Bool) (near : SamplesAbout)
+    (context : ℤ) (i sample : ℕ) (z : ContextState) (fault : CodeFault)
     → near ≡ neighbours_at width samples (length samples) → context ≡ context_of entry near → i ≡ nat_abs context → i < length states → z ≡ get_or states i z
     → IsCodeFault z level bits fault → sample ≡ length samples → IsCodeHalted width entry level samples states bits fault sample
 code_halted_at width entry level samples states bits near context i sample z fault near_is context_is i_is below z_is told place =
     let number : i ≡ next_context width entry samples = i_is ∙ ap nat_abs (context_is ∙ ap (context_of entry) near_is) in
-    let z_there : z ≡ get_or states (next_context width entry samples) start_state = get_or_read states i z below z_is start_state ∙ ap (λ k. get_or states k start_state) number in
+    let z_there : z ≡ get_or states (next_context width entry samples) start_state = get_or_read states i z below z_is start_state
+    ∙ ap (λ k. get_or states k start_state) number in
     let P : ContextState → Type 0 = λ s. IsCodeFault s level bits fault in
     record { place = place; below = omega (arith, number, below); told = subst P z_there told }

@@ -20,7 +20,8 @@ some_length : (i : ℕ) → 1 ≤ whole_length i
 some_length i = one-le-pow (run_exponent i) 2 (omega arith)
 
 -- first words with a cut word behind them begin no run
-front_no_run : {skipped i next : ℕ} {words : List Bool} (n left last : ℕ) (others run tail : List Bool) → SpellsFront skipped i words next → skipped < left → IsCutWord next others → SpellsRun n left i run last → words ++ others ≡ run ++ tail → ⊥
+front_no_run : {skipped i next : ℕ} {words : List Bool} (n left last : ℕ) (others run tail : List Bool) → SpellsFront skipped i words next → skipped < left
+    → IsCutWord next others → SpellsRun n left i run last → words ++ others ≡ run ++ tail → ⊥
 front_no_run {i = i} {next = next} n left last others run tail (no_word a b c) inside cut spells same =
     let P : ℕ → Type 0 = λ k. IsCutWord k others in
     no_run_when_cut.no_run n left i last others run tail (omega (arith, inside)) (subst P c cut) spells (ap (λ l. l ++ others) (sym b) ∙ same)
@@ -35,7 +36,8 @@ no_cut_one i (true ∷ bits) others is cut = cut
 no_cut_one i (false ∷ bits) others is cut = cc
 
 -- bits with a cut word behind first words begin with them alone
-front_one : {skipped also i next last : ℕ} {words more : List Bool} (others tail : List Bool) → SpellsFront skipped i words next → SpellsFront also i more last → IsCutWord next others → IsCutWord last tail → words ++ others ≡ more ++ tail → skipped ≡ also
+front_one : {skipped also i next last : ℕ} {words more : List Bool} (others tail : List Bool) → SpellsFront skipped i words next
+    → SpellsFront also i more last → IsCutWord next others → IsCutWord last tail → words ++ others ≡ more ++ tail → skipped ≡ also
 front_one others tail (no_word a b c) (no_word p q r) cut cut_too same = a ∙ sym p
 front_one others tail (no_word a b c) (one_word m rest p q r) cut cut_too same =
     absurd (no_cut_one _ others (rest ++ tail) (ap (λ l. l ++ others) (sym b) ∙ same ∙ ap (λ l. l ++ tail) q) cut)
@@ -69,7 +71,8 @@ pub record IsPastCode (earlier : ℕ → List ℤ) (r : Residuals) (s : ℕ) (bi
   pub joined : past.behind ≡ code ++ tail
 
 -- a longer spelling has been
-pub past_code : (earlier : ℕ → List ℤ) (r : Residuals) (s count last : ℕ) (bits front tail : List Bool) → s < count → SamplesSpell earlier r count front last → bits ≡ front ++ tail → IsPastCode earlier r s bits
+pub past_code : (earlier : ℕ → List ℤ) (r : Residuals) (s count last : ℕ) (bits front tail : List Bool) → s < count → SamplesSpell earlier r count front last
+    → bits ≡ front ++ tail → IsPastCode earlier r s bits
 unfolding SamplesSpell
 past_code earlier r s count last bits front tail inside spells same =
     let p = prefix_spells earlier r (suc s) count front last (omega arith) spells in
@@ -96,7 +99,8 @@ past_code earlier r s count last bits front tail inside spells same =
     }
 
 -- a code that is due stands behind its run
-abbrev pub past_due : (earlier : ℕ → List ℤ) (r : Residuals) (s : ℕ) (part others bits : List Bool) → IsCodeDue earlier r s part → bits ≡ part ++ others → IsPastRun earlier r s bits
+abbrev pub past_due : (earlier : ℕ → List ℤ) (r : Residuals) (s : ℕ) (part others bits : List Bool) → IsCodeDue earlier r s part → bits ≡ part ++ others
+    → IsPastRun earlier r s bits
 past_due earlier r s part others bits due same = record {
   before = due.before;
   index = due.index;
@@ -117,25 +121,31 @@ module _ (earlier : ℕ → List ℤ) (w : ℕ) (c e d f : ℕ → ℤ) (some : 
     alike : Alike w c e d f s
     in_run : is_in_run (residuals w c d) s ≡ is_in_run (residuals w e f) s
     skipped : is_skipped (residuals w c d) s ≡ is_skipped (residuals w e f) s
-    state : state_before earlier (residuals w c d) (context_number (residuals w c d) s) s ≡ state_before earlier (residuals w e f) (context_number (residuals w e f) s) s
+    state : state_before earlier (residuals w c d) (context_number (residuals w c d) s) s ≡ state_before earlier (residuals w e f)
+        (context_number (residuals w e f) s) s
     same : behind ≡ after
 
-  both_past : (s : ℕ) (bits : List Bool) → (a : IsPastRun earlier (residuals w c d) s bits) → (b : IsPastRun earlier (residuals w e f) s bits) → BothPast s a.behind b.behind
+  both_past : (s : ℕ) (bits : List Bool) → (a : IsPastRun earlier (residuals w c d) s bits) → (b : IsPastRun earlier (residuals w e f) s bits)
+      → BothPast s a.behind b.behind
   both_past s bits a b =
-      let read = one_reading earlier w c e d f some range also determined s a.before b.before (a.run ++ a.behind) (b.run ++ b.behind) a.index b.index a.spells b.spells (sym a.joined ∙ b.joined) in
-      let after = runs_alike earlier w c e d f some range also determined s a.index b.index a.next b.next a.run b.run a.behind b.behind read.0 read.1 read.2 a.run_starts a.no_run_starts b.run_starts b.no_run_starts in
+      let read = one_reading earlier w c e d f some range also determined s a.before b.before (a.run ++ a.behind)
+      (b.run ++ b.behind) a.index b.index a.spells b.spells (sym a.joined ∙ b.joined) in
+      let after = runs_alike earlier w c e d f some range also determined s a.index b.index a.next b.next a.run b.run a.behind b.behind read.0 read.1 read.2
+      a.run_starts a.no_run_starts b.run_starts b.no_run_starts in
       let differences = read.0.differences in
       let context : c s ≡ e s = determined s differences in
       record {
         alike = read.0;
         in_run = in_run_alike w c e d f s (contexts_to earlier w c e d f some range also determined s differences) differences;
         skipped = skipped_alike earlier w c e d f some range also determined s a.next b.next a.behind b.behind read.0 after;
-        state = states_alike earlier w c e d f some range also determined s (nat_abs (c s)) differences ∙ ap (λ z. state_before earlier (residuals w e f) (nat_abs z) s) context;
+        state = states_alike earlier w c e d f some range also determined s (nat_abs (c s)) differences
+            ∙ ap (λ z. state_before earlier (residuals w e f) (nat_abs z) s) context;
         same = after.behind;
       }
 
   -- a refused code excludes a spelling that has one there
-  pub code_excludes : (s : ℕ) (part others bits : List Bool) (fault : CodeFault) → IsCodeRefused earlier (residuals w c d) s part others fault → bits ≡ part ++ others → IsPastCode earlier (residuals w e f) s bits → ⊥
+  pub code_excludes : (s : ℕ) (part others bits : List Bool) (fault : CodeFault) → IsCodeRefused earlier (residuals w c d) s part others fault
+      → bits ≡ part ++ others → IsPastCode earlier (residuals w e f) s bits → ⊥
   code_excludes s part others bits fault refused begins past =
       let r = residuals w c d in
       let q = residuals w e f in
@@ -143,7 +153,8 @@ module _ (earlier : ℕ → List ℤ) (w : ℕ) (c e d f : ℕ → ℤ) (some : 
       let coded : is_coded q s ≡ true = ap not (sym both.skipped) ∙ refused.0.coded in
       let no_skip : is_skipped q s ≡ false = sym both.skipped ∙ (let h = refused.0.coded in is_not (is_skipped r s) h) in
       no_code_at_fault (state_before earlier q (context_number q s) s) (is_in_run q s) fault (f s) others past.code past.tail
-      (subst (λ (z : _). IsCodeFault z (is_in_run q s) others fault) both.state (subst (λ (l : Bool). IsCodeFault (state_before earlier r (context_number r s) s) l others fault) both.in_run refused.1))
+      (subst (λ (z : _). IsCodeFault z (is_in_run q s) others fault) both.state
+      (subst (λ (l : Bool). IsCodeFault (state_before earlier r (context_number r s) s) l others fault) both.in_run refused.1))
       (also s, λ t. nonzero_of (f s) (not_both (is_in_run q s) _ t no_skip)) (past.coded coded) (both.same ∙ past.joined)
     where
       is_not : (b : Bool) → not b ≡ true → b ≡ false
@@ -151,40 +162,52 @@ module _ (earlier : ℕ → List ℤ) (w : ℕ) (c e d f : ℕ → ℤ) (some : 
       is_not false h = refl
 
   -- two codes that are refused at one sample are so for one fault
-  pub code_one : (s : ℕ) (part others more tail : List Bool) (fault other : CodeFault) → IsCodeRefused earlier (residuals w c d) s part others fault → IsCodeRefused earlier (residuals w e f) s more tail other → part ++ others ≡ more ++ tail → fault ≡ other
+  pub code_one : (s : ℕ) (part others more tail : List Bool) (fault other : CodeFault) → IsCodeRefused earlier (residuals w c d) s part others fault
+      → IsCodeRefused earlier (residuals w e f) s more tail other → part ++ others ≡ more ++ tail → fault ≡ other
   code_one s part others more tail fault other a b same =
       let r = residuals w c d in
       let q = residuals w e f in
-      let both = both_past s (part ++ others) (past_due earlier r s part others (part ++ others) a.0 refl) (past_due earlier q s more tail (part ++ others) b.0 same) in
+      let both = both_past s (part ++ others) (past_due earlier r s part others (part ++ others) a.0 refl)
+      (past_due earlier q s more tail (part ++ others) b.0 same) in
       one_fault (state_before earlier q (context_number q s) s) (is_in_run q s) tail fault other
       (subst (λ (l : List Bool). IsCodeFault (state_before earlier q (context_number q s) s) (is_in_run q s) l fault) both.same
-      (subst (λ (z : _). IsCodeFault z (is_in_run q s) others fault) both.state (subst (λ (l : Bool). IsCodeFault (state_before earlier r (context_number r s) s) l others fault) both.in_run a.1)))
+      (subst (λ (z : _). IsCodeFault z (is_in_run q s) others fault) both.state
+      (subst (λ (l : Bool). IsCodeFault (state_before earlier r (context_number r s) s) l others fault) both.in_run a.1)))
       b.1
 
   -- a cut word of a run excludes a spelling that is past that run
-  pub run_excludes : (s : ℕ) (part others bits : List Bool) → (cut : IsRunWordCut earlier (residuals w c d) s part others) → bits ≡ part ++ others → IsPastRun earlier (residuals w e f) cut.1.start bits → ⊥
+  pub run_excludes : (s : ℕ) (part others bits : List Bool) → (cut : IsRunWordCut earlier (residuals w c d) s part others) → bits ≡ part ++ others
+      → IsPastRun earlier (residuals w e f) cut.1.start bits → ⊥
   run_excludes s part others bits cut begins past =
       let due = cut.1 in
-      let joined : due.before ++ (due.words ++ others) ≡ past.before ++ (past.run ++ past.behind) = sym (append_assoc due.before due.words others) ∙ ap (λ l. l ++ others) (sym due.joined) ∙ sym begins ∙ past.joined in
-      let read = one_reading earlier w c e d f some range also determined due.start due.before past.before (due.words ++ others) (past.run ++ past.behind) due.begun past.index due.spells past.spells joined in
+      let joined : due.before ++ (due.words ++ others) ≡ past.before ++ (past.run ++ past.behind) = sym (append_assoc due.before due.words others)
+      ∙ ap (λ l. l ++ others) (sym due.joined) ∙ sym begins ∙ past.joined in
+      let read = one_reading earlier w c e d f some range also determined due.start due.before past.before (due.words ++ others)
+      (past.run ++ past.behind) due.begun past.index due.spells past.spells joined in
       let differences = read.0.differences in
       let contexts = contexts_to earlier w c e d f some range also determined due.start differences in
       let runs : is_in_run (residuals w c d) due.start ≡ is_in_run (residuals w e f) due.start = in_run_alike w c e d f due.start contexts differences in
-      let follows : follows_skipped (residuals w c d) due.start ≡ follows_skipped (residuals w e f) due.start = follows_alike w c e d f due.start contexts differences in
+      let follows : follows_skipped (residuals w c d) due.start ≡ follows_skipped (residuals w e f) due.start =
+      follows_alike w c e d f due.start contexts differences in
       let starts : starts_run (residuals w c d) due.start ≡ starts_run (residuals w e f) due.start = rw (runs, follows) refl in
       let spelled = past.run_starts (sym starts ∙ due.starts) in
       let P : ℕ → Type 0 = λ i. SpellsRun (run_length (residuals w e f) due.start) (left_in_line (residuals w e f) due.start) i past.run past.next in
-      front_no_run (run_length (residuals w e f) due.start) (left_in_line (residuals w e f) due.start) past.next others past.run past.behind due.front due.in_line cut.2 (subst P (sym read.1) spelled) read.2
+      front_no_run (run_length (residuals w e f) due.start) (left_in_line (residuals w e f) due.start) past.next others past.run past.behind due.front
+      due.in_line cut.2 (subst P (sym read.1) spelled) read.2
 
   -- two cut words of a run that starts at one sample are one
-  pub run_one : (s t : ℕ) (part others more tail : List Bool) → (a : IsRunWordCut earlier (residuals w c d) s part others) → (b : IsRunWordCut earlier (residuals w e f) t more tail) → a.1.start ≡ b.1.start → part ++ others ≡ more ++ tail → s ≡ t
+  pub run_one : (s t : ℕ) (part others more tail : List Bool) → (a : IsRunWordCut earlier (residuals w c d) s part others)
+      → (b : IsRunWordCut earlier (residuals w e f) t more tail) → a.1.start ≡ b.1.start → part ++ others ≡ more ++ tail → s ≡ t
   run_one s t part others more tail a b start same =
       let p = a.1 in
       let q = b.1 in
       let joined : p.before ++ (p.words ++ others) ≡ q.before ++ (q.words ++ tail) =
-      sym (append_assoc p.before p.words others) ∙ ap (λ l. l ++ others) (sym p.joined) ∙ same ∙ ap (λ l. l ++ tail) q.joined ∙ append_assoc q.before q.words tail in
-      let there : SamplesSpell earlier (residuals w e f) p.start q.before q.begun = subst (λ (k : ℕ). SamplesSpell earlier (residuals w e f) k q.before q.begun) (sym start) q.spells in
-      let read = one_reading earlier w c e d f some range also determined p.start p.before q.before (p.words ++ others) (q.words ++ tail) p.begun q.begun p.spells there joined in
+      sym (append_assoc p.before p.words others) ∙ ap (λ l. l ++ others) (sym p.joined) ∙ same ∙ ap (λ l. l ++ tail) q.joined
+      ∙ append_assoc q.before q.words tail in
+      let there : SamplesSpell earlier (residuals w e f) p.start q.before q.begun =
+      subst (λ (k : ℕ). SamplesSpell earlier (residuals w e f) k q.before q.begun) (sym start) q.spells in
+      let read = one_reading earlier w c e d f some range also determined p.start p.before q.before (p.words ++ others)
+      (q.words ++ tail) p.begun q.begun p.spells there joined in
       let front : SpellsFront p.skipped q.begun p.words a.0 = subst (λ (i : ℕ). SpellsFront p.skipped i p.words a.0) read.1 p.front in
       let one : p.skipped ≡ q.skipped = front_one others tail front q.front a.2 b.2 read.2 in
       p.place ∙ ap (λ k. k + p.skipped) start ∙ ap (λ k. q.start + k) one ∙ sym q.place
@@ -199,30 +222,35 @@ module _ (earlier : ℕ → List ℤ) (w : ℕ) (c e d f : ℕ → ℤ) (some : 
     (range : (j : ℕ) → IsDifference (d j)) (also : (j : ℕ) → IsDifference (f j))
     (determined : (n : ℕ) → ((j : ℕ) → j < n → d j ≡ f j) → c n ≡ e n) where
   -- a refused word excludes a spelling of more samples
-  pub refused_excludes : (s count last : ℕ) (part others front tail : List Bool) (fault : CodeFault) → s < count → IsWordRefused earlier (residuals w c d) s part others fault → SamplesSpell earlier (residuals w e f) count front last
+  pub refused_excludes : (s count last : ℕ) (part others front tail : List Bool) (fault : CodeFault) → s < count
+      → IsWordRefused earlier (residuals w c d) s part others fault → SamplesSpell earlier (residuals w e f) count front last
       → part ++ others ≡ front ++ tail → ⊥
   refused_excludes s count last part others front tail fault inside refused spells same = ⊎_elim
       (λ cut.
       let due = cut.1.1 in
       run_excludes earlier w c e d f some range also determined s part others (part ++ others) cut.1 refl
       ((past_code earlier (residuals w e f) due.start count last (part ++ others) front tail (omega (arith, due.place)) spells same).past))
-      (λ code. code_excludes earlier w c e d f some range also determined s part others (part ++ others) fault code refl (past_code earlier (residuals w e f) s count last (part ++ others) front tail inside spells same))
+      (λ code. code_excludes earlier w c e d f some range also determined s part others (part ++ others) fault code refl
+      (past_code earlier (residuals w e f) s count last (part ++ others) front tail inside spells same))
       refused
 
   back : (n : ℕ) → ((j : ℕ) → j < n → f j ≡ d j) → e n ≡ c n
   back n alike = sym (determined n (λ j h. sym (alike j h)))
 
   -- a cut word of a run and a refused code are not in one content
-  pub run_or_code : (s t : ℕ) (part others more tail : List Bool) (other : CodeFault) → IsRunWordCut earlier (residuals w c d) s part others → IsCodeRefused earlier (residuals w e f) t more tail other → part ++ others ≡ more ++ tail → ⊥
+  pub run_or_code : (s t : ℕ) (part others more tail : List Bool) (other : CodeFault) → IsRunWordCut earlier (residuals w c d) s part others
+      → IsCodeRefused earlier (residuals w e f) t more tail other → part ++ others ≡ more ++ tail → ⊥
   run_or_code s t part others more tail other cut code same =
       let due = cut.1 in
       let q = residuals w e f in
       ⊎_elim
       (λ less. run_excludes earlier w c e d f some range also determined s part others (part ++ others) cut refl
-      ((past_code earlier q due.start t code.0.index (part ++ others) code.0.before (code.0.run ++ tail) less code.0.spells (same ∙ ap (λ l. l ++ tail) code.0.joined ∙ append_assoc code.0.before code.0.run tail)).past))
+      ((past_code earlier q due.start t code.0.index (part ++ others) code.0.before (code.0.run ++ tail) less code.0.spells
+      (same ∙ ap (λ l. l ++ tail) code.0.joined ∙ append_assoc code.0.before code.0.run tail)).past))
       (λ more_or. ⊎_elim
       (λ past. code_excludes earlier w e c f d some also range back t more tail (part ++ others) other code same
-      (past_code earlier (residuals w c d) t due.start due.begun (part ++ others) due.before (due.words ++ others) past due.spells (ap (λ l. l ++ others) due.joined ∙ append_assoc due.before due.words others)))
+      (past_code earlier (residuals w c d) t due.start due.begun (part ++ others) due.before (due.words ++ others) past due.spells
+      (ap (λ l. l ++ others) due.joined ∙ append_assoc due.before due.words others)))
       (λ most.
       let there : t ≡ due.start = omega arith in
       run_excludes earlier w c e d f some range also determined s part others (part ++ others) cut refl
@@ -236,36 +264,44 @@ module _ (earlier : ℕ → List ℤ) (w : ℕ) (c e d f : ℕ → ℤ) (some : 
   turned : (n : ℕ) → ((j : ℕ) → j < n → f j ≡ d j) → e n ≡ c n
   turned n alike = sym (determined n (λ j h. sym (alike j h)))
 
-  run_run : (s t : ℕ) (part others more tail : List Bool) → (a : IsRunWordCut earlier (residuals w c d) s part others) → (b : IsRunWordCut earlier (residuals w e f) t more tail) → part ++ others ≡ more ++ tail → s ≡ t
+  run_run : (s t : ℕ) (part others more tail : List Bool) → (a : IsRunWordCut earlier (residuals w c d) s part others)
+      → (b : IsRunWordCut earlier (residuals w e f) t more tail) → part ++ others ≡ more ++ tail → s ≡ t
   run_run s t part others more tail a b same =
       let p = a.1 in
       let q = b.1 in
       ⊎_elim
       (λ less. absurd (run_excludes earlier w c e d f some range also determined s part others (part ++ others) a refl
-      ((past_code earlier (residuals w e f) p.start q.start q.begun (part ++ others) q.before (q.words ++ tail) less q.spells (same ∙ ap (λ l. l ++ tail) q.joined ∙ append_assoc q.before q.words tail)).past)))
+      ((past_code earlier (residuals w e f) p.start q.start q.begun (part ++ others) q.before (q.words ++ tail) less q.spells
+      (same ∙ ap (λ l. l ++ tail) q.joined ∙ append_assoc q.before q.words tail)).past)))
       (λ more_or. ⊎_elim
       (λ past. absurd (run_excludes earlier w e c f d some also range turned t more tail (part ++ others) b same
-      ((past_code earlier (residuals w c d) q.start p.start p.begun (part ++ others) p.before (p.words ++ others) past p.spells (ap (λ l. l ++ others) p.joined ∙ append_assoc p.before p.words others)).past)))
+      ((past_code earlier (residuals w c d) q.start p.start p.begun (part ++ others) p.before (p.words ++ others) past p.spells
+      (ap (λ l. l ++ others) p.joined ∙ append_assoc p.before p.words others)).past)))
       (λ most. run_one earlier w c e d f some range also determined s t part others more tail a b (omega arith) same)
       (cases_lt q.start p.start))
       (cases_lt p.start q.start)
 
-  code_code : (s t : ℕ) (part others more tail : List Bool) (fault other : CodeFault) → IsCodeRefused earlier (residuals w c d) s part others fault → IsCodeRefused earlier (residuals w e f) t more tail other → part ++ others ≡ more ++ tail → IsOneWord s t fault other
+  code_code : (s t : ℕ) (part others more tail : List Bool) (fault other : CodeFault) → IsCodeRefused earlier (residuals w c d) s part others fault
+      → IsCodeRefused earlier (residuals w e f) t more tail other → part ++ others ≡ more ++ tail → IsOneWord s t fault other
   code_code s t part others more tail fault other a b same = ⊎_elim
       (λ less. absurd (code_excludes earlier w c e d f some range also determined s part others (part ++ others) fault a refl
-      (past_code earlier (residuals w e f) s t b.0.index (part ++ others) b.0.before (b.0.run ++ tail) less b.0.spells (same ∙ ap (λ l. l ++ tail) b.0.joined ∙ append_assoc b.0.before b.0.run tail))))
+      (past_code earlier (residuals w e f) s t b.0.index (part ++ others) b.0.before (b.0.run ++ tail) less b.0.spells
+      (same ∙ ap (λ l. l ++ tail) b.0.joined ∙ append_assoc b.0.before b.0.run tail))))
       (λ more_or. ⊎_elim
       (λ past. absurd (code_excludes earlier w e c f d some also range turned t more tail (part ++ others) other b same
-      (past_code earlier (residuals w c d) t s a.0.index (part ++ others) a.0.before (a.0.run ++ others) past a.0.spells (ap (λ l. l ++ others) a.0.joined ∙ append_assoc a.0.before a.0.run others))))
+      (past_code earlier (residuals w c d) t s a.0.index (part ++ others) a.0.before (a.0.run ++ others) past a.0.spells
+      (ap (λ l. l ++ others) a.0.joined ∙ append_assoc a.0.before a.0.run others))))
       (λ most.
       let there : t ≡ s = omega arith in
-      let b' : IsCodeRefused earlier (residuals w e f) s more tail other = subst (λ (k : ℕ). IsCodeRefused earlier (residuals w e f) k more tail other) there b in
+      let b' : IsCodeRefused earlier (residuals w e f) s more tail other =
+      subst (λ (k : ℕ). IsCodeRefused earlier (residuals w e f) k more tail other) there b in
       record { sample = sym there; fault_same = code_one earlier w c e d f some range also determined s part others more tail fault other a b' same })
       (cases_lt t s))
       (cases_lt s t)
 
   -- one word is refused
-  pub refused_one : (s t : ℕ) (part others more tail : List Bool) (fault other : CodeFault) → IsWordRefused earlier (residuals w c d) s part others fault → IsWordRefused earlier (residuals w e f) t more tail other
+  pub refused_one : (s t : ℕ) (part others more tail : List Bool) (fault other : CodeFault) → IsWordRefused earlier (residuals w c d) s part others fault
+      → IsWordRefused earlier (residuals w e f) t more tail other
       → part ++ others ≡ more ++ tail → IsOneWord s t fault other
   refused_one s t part others more tail fault other a b same = ⊎_elim
       (λ cut. ⊎_elim

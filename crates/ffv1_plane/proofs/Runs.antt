@@ -39,10 +39,13 @@ behind_whole left i m last n run tail bits (long_rest told a b c d e f) is fits 
 
 -- one whole length more
 front_more : {done i next : ℕ} {words : List Bool} → SpellsFront done i words next → SpellsFront (done + whole_length next) i (words ++ (true ∷ [])) (next + 1)
-front_more {next = next} (no_word a b c) = one_word 0 [] (omega (arith, a, ap whole_length c)) (ap (λ l. l ++ (true ∷ [])) b) (no_word refl refl (ap (λ k. k + 1) c))
-front_more {next = next} (one_word m others a b c) = one_word (m + whole_length next) (others ++ (true ∷ [])) (omega (arith, a)) (ap (λ l. l ++ (true ∷ [])) b) (front_more c)
+front_more {next = next} (no_word a b c) = one_word 0 [] (omega (arith, a, ap whole_length c))
+    (ap (λ l. l ++ (true ∷ [])) b) (no_word refl refl (ap (λ k. k + 1) c))
+front_more {next = next} (one_word m others a b c) = one_word (m + whole_length next) (others ++ (true ∷ [])) (omega (arith, a))
+    (ap (λ l. l ++ (true ∷ [])) b) (front_more c)
 
-pub more_run : (left index done i n next : ℕ) (bits : List Bool) (words others : Reading) → IsRunBegun left index bits done i words.left → IsRead (left - done) i (Full n) words next others → IsRunBegun left index bits (done + n) next others.left
+pub more_run : (left index done i n next : ℕ) (bits : List Bool) (words others : Reading) → IsRunBegun left index bits done i words.left
+    → IsRead (left - done) i (Full n) words next others → IsRunBegun left index bits (done + n) next others.left
 more_run left index done i n next bits words others a b =
     let room : left - done - n ≡ left - (done + n) = omega arith in
     let next_is : next ≡ i + 1 = b.is_word.3 in
@@ -57,12 +60,14 @@ more_run left index done i n next bits words others a b =
           subst Q (sym next_is) (subst P (sym b.is_word.0) (front_more a.front));
       completes = λ m last tail h.
           let inner : SpellsRun m (left - done - n) (i + 1) tail last = rw (room, ← next_is) h in
-          let step : SpellsRun (n + m) (left - done) i (true ∷ tail) last = whole m (left - done - n) tail (omega (arith, b.is_word.0)) (omega (arith, b.is_word.0, b.is_word.1, a.fits)) refl inner in
+          let step : SpellsRun (n + m) (left - done) i (true ∷ tail) last = whole m (left - done - n) tail (omega (arith, b.is_word.0))
+          (omega (arith, b.is_word.0, b.is_word.1, a.fits)) refl inner in
           let sum : done + n + m ≡ done + (n + m) = omega arith in
           rw sum (rw (append_assoc a.words (true ∷ []) tail) (a.completes (n + m) last (true ∷ tail) step));
     }
 
-close : (left index done i m last : ℕ) (bits words others tail : List Bool) → (a : IsRunBegun left index bits done i words) → words ≡ others ++ tail → m ≤ left - done → SpellsRun m (left - done) i others last → IsRunRead left index bits (done + m) last tail
+close : (left index done i m last : ℕ) (bits words others tail : List Bool) → (a : IsRunBegun left index bits done i words) → words ≡ others ++ tail
+    → m ≤ left - done → SpellsRun m (left - done) i others last → IsRunRead left index bits (done + m) last tail
 close left index done i m last bits words others tail a same fits h = record {
   run = a.words ++ others;
   spelled = a.completes m last others h;
@@ -70,11 +75,14 @@ close left index done i m last bits words others tail a same fits h = record {
   fits = omega (arith, a.fits, fits);
 }
 
-pub rest_run : (left index done i n next : ℕ) (bits : List Bool) (words others : Reading) → IsRunBegun left index bits done i words.left → IsRead (left - done) i (Rest n) words next others → IsRunRead left index bits (done + n) next others.left
+pub rest_run : (left index done i n next : ℕ) (bits : List Bool) (words others : Reading) → IsRunBegun left index bits done i words.left
+    → IsRead (left - done) i (Rest n) words next others → IsRunRead left index bits (done + n) next others.left
 rest_run left index done i n next bits words others a b =
-    close left index done i n next bits words.left b.spelled others.left a b.reads.begins (omega (arith, b.is_word.1)) (rest b.is_word.0 b.is_word.1 b.is_word.2 b.is_word.3)
+    close left index done i n next bits words.left b.spelled others.left a b.reads.begins (omega (arith, b.is_word.1))
+    (rest b.is_word.0 b.is_word.1 b.is_word.2 b.is_word.3)
 
-pub end_run : (left index done i next : ℕ) (bits : List Bool) (words others : Reading) → done < left → IsRunBegun left index bits done i words.left → IsRead (left - done) i ToEnd words next others → IsRunRead left index bits left next others.left
+pub end_run : (left index done i next : ℕ) (bits : List Bool) (words others : Reading) → done < left → IsRunBegun left index bits done i words.left
+    → IsRead (left - done) i ToEnd words next others → IsRunRead left index bits left next others.left
 end_run left index done i next bits words others before a b =
     let sum : done + (left - done) ≡ left = omega (arith, a.fits) in
     let whole_line : IsRunRead left index bits (done + (left - done)) next others.left =
@@ -85,9 +93,19 @@ end_run left index done i next bits words others before a b =
 pub line_run : (left index done i : ℕ) (bits words : List Bool) → left ≤ done → IsRunBegun left index bits done i words → IsRunRead left index bits done i words
 line_run left index done i bits words all a =
     let sum : done + 0 ≡ done = omega arith in
-    let none : IsRunRead left index bits (done + 0) i words = close left index done i 0 i bits words [] words a refl (omega arith) (line_end refl (omega (arith, all)) refl refl) in
+    let none : IsRunRead left index bits (done + 0) i words = close left index done i 0 i bits words [] words a refl (omega arith)
+    (line_end refl (omega (arith, all)) refl refl) in
     rw sum at none
 
 -- where a word is cut, the run is
-pub cut_run : (left index done i : ℕ) (bits words : List Bool) → done < left → IsRunBegun left index bits done i words → IsCutWord i words → IsRunCut left index bits done
-cut_run left index done i bits words before a cut = record { words = a.words; next = i; others = words; begins = a.begins; front = a.front; inside = before; cut = cut }
+pub cut_run : (left index done i : ℕ) (bits words : List Bool) → done < left → IsRunBegun left index bits done i words → IsCutWord i words
+    → IsRunCut left index bits done
+cut_run left index done i bits words before a cut = record {
+  words = a.words;
+  next = i;
+  others = words;
+  begins = a.begins;
+  front = a.front;
+  inside = before;
+  cut = cut;
+}

@@ -27,7 +27,8 @@ not_skipped_behind r s coded = rw coded (either (not (begins_line r (suc s))))
     either true = refl
     either false = refl
 
-pub scalar_step : (earlier : ℕ → List ℤ) (r : Residuals) (s index : ℕ) (bits code left rest : List Bool) → Progress earlier r s bits index left → is_zero (r.context s) ≡ false
+pub scalar_step : (earlier : ℕ → List ℤ) (r : Residuals) (s index : ℕ) (bits code left rest : List Bool) → Progress earlier r s bits index left
+    → is_zero (r.context s) ≡ false
     → SpellsValue (state_before earlier r (context_number r s) s) (r.difference s) code → left ≡ code ++ rest → Progress earlier r (suc s) bits index rest
 unfolding SamplesSpell
 scalar_step earlier r s index bits code left rest p scalar coded is =
@@ -49,7 +50,8 @@ scalar_step earlier r s index bits code left rest p scalar coded is =
           joined = refl;
           run_starts = λ h. absurd cc;
           no_run_starts = λ h. (refl, refl);
-          coded = λ h. let value : r.difference s ≡ value_at r s = rw outside refl in subst (λ (v : ℤ). SpellsValue (state_before earlier r (context_number r s) s) v code) value coded;
+          coded = λ h. let value : r.difference s ≡ value_at r s = rw outside refl in
+              subst (λ (v : ℤ). SpellsValue (state_before earlier r (context_number r s) s) v code) value coded;
           not_coded = λ h. absurd (let no : is_coded r s ≡ true = ap not skip in cc);
         },
       );
@@ -58,25 +60,31 @@ scalar_step earlier r s index bits code left rest p scalar coded is =
 
 -- ---- the states, one sample further
 
-values_more : (r : Residuals) (k s : ℕ) → values_before r k (suc s) ≡ values_before r k s ++ map (value_at r) (cond (is_coded r s && eqb (context_number r s) k) (s ∷ []) [])
+values_more : (r : Residuals) (k s : ℕ) → values_before r k (suc s) ≡ values_before r k s ++ map (value_at r)
+    (cond (is_coded r s && eqb (context_number r s) k) (s ∷ []) [])
 unfolding samples_before
-values_more r k s = ap (map (value_at r)) (filter-append (λ j. is_coded r j && eqb (context_number r j) k) (samples_before s) (s ∷ [])) ∙ map-append (value_at r) _ _
+values_more r k s = ap (map (value_at r)) (filter-append (λ j. is_coded r j && eqb (context_number r j) k) (samples_before s) (s ∷ []))
+    ∙ map-append (value_at r) _ _
 
 pub state_more : (earlier : ℕ → List ℤ) (r : Residuals) (k s : ℕ) → state_before earlier r k (suc s)
     ≡ cond (is_coded r s && eqb (context_number r s) k) (after_value (state_before earlier r k s) (value_at r s)) (state_before earlier r k s)
 state_more earlier r k s =
-    let apart : earlier k ++ values_before r k (suc s) ≡ (earlier k ++ values_before r k s) ++ map (value_at r) (cond (is_coded r s && eqb (context_number r s) k) (s ∷ []) []) =
+    let apart : earlier k ++ values_before r k (suc s) ≡ (earlier k ++ values_before r k s) ++ map (value_at r)
+    (cond (is_coded r s && eqb (context_number r s) k) (s ∷ []) []) =
     ap (λ l. earlier k ++ l) (values_more r k s) ∙ sym (append_assoc (earlier k) (values_before r k s) _) in
-    ap (fold (λ state value. after_value state value) start_state) apart ∙ fold-append (λ state value. after_value state value) start_state (earlier k ++ values_before r k s) _
+    ap (fold (λ state value. after_value state value) start_state) apart
+    ∙ fold-append (λ state value. after_value state value) start_state (earlier k ++ values_before r k s) _
     ∙ either (is_coded r s && eqb (context_number r s) k)
   where
-    either : (b : Bool) → fold (λ state value. after_value state value) (state_before earlier r k s) (map (value_at r) (cond b (s ∷ []) [])) ≡ cond b (after_value (state_before earlier r k s) (value_at r s)) (state_before earlier r k s)
+    either : (b : Bool) → fold (λ state value. after_value state value) (state_before earlier r k s) (map (value_at r) (cond b (s ∷ []) [])) ≡ cond b
+        (after_value (state_before earlier r k s) (value_at r s)) (state_before earlier r k s)
     either true = refl
     either false = refl
 
 -- ---- a run of n samples from s
 
-module _ (earlier : ℕ → List ℤ) (r : Residuals) (some : 0 < r.width) (s n : ℕ) (zero_here : is_zero (r.context s) ≡ true) (fresh : follows_skipped r s ≡ false) (fits : n ≤ left_in_line r s) (skipped : (j : ℕ) → j < n → is_zero (r.difference (s + j)) ≡ true) where
+module _ (earlier : ℕ → List ℤ) (r : Residuals) (some : 0 < r.width) (s n : ℕ) (zero_here : is_zero (r.context s) ≡ true)
+    (fresh : follows_skipped r s ≡ false) (fits : n ≤ left_in_line r s) (skipped : (j : ℕ) → j < n → is_zero (r.difference (s + j)) ≡ true) where
   column : (j : ℕ) → s % r.width + j < r.width → (s + j) % r.width ≡ s % r.width + j
   column j less =
       let whole : s / r.width * r.width + s % r.width ≡ s = div-add-mod' s r.width in
@@ -106,7 +114,8 @@ module _ (earlier : ℕ → List ℤ) (r : Residuals) (some : 0 < r.width) (s n 
       either false = refl
 
   pub skipped_to : (j : ℕ) → j < n → is_skipped r (s + j) ≡ true
-  skipped_to j h = let run : is_in_run r (s + j) ≡ true = in_run_to j (omega arith) (omega arith) in let z : is_zero (r.difference (s + j)) ≡ true = skipped j h in rw (run, z) refl
+  skipped_to j h = let run : is_in_run r (s + j) ≡ true = in_run_to j (omega arith) (omega arith) in
+      let z : is_zero (r.difference (s + j)) ≡ true = skipped j h in rw (run, z) refl
 
   pub follows_to : (j : ℕ) → suc j ≤ n → suc j < left_in_line r s → follows_skipped r (suc (s + j)) ≡ true
   unfolding follows_skipped
@@ -124,7 +133,8 @@ module _ (earlier : ℕ → List ℤ) (r : Residuals) (some : 0 < r.width) (s n 
   length_from (suc m) j (suc count) sum enough end =
       let here : is_skipped r (s + j) ≡ true = skipped_to j (omega arith) in
       let k : s + j + 1 ≡ s + (j + 1) = omega arith in
-      let ind : skipped_among r count (s + (j + 1)) ≡ m = length_from m (j + 1) count (omega arith) (omega arith) (⊎_elim (λ a. inl (omega arith)) (λ b. inr b) end) in
+      let ind : skipped_among r count (s + (j + 1)) ≡ m = length_from m (j + 1) count (omega arith) (omega arith)
+      (⊎_elim (λ a. inl (omega arith)) (λ b. inr b) end) in
       ap (λ t. cond t (suc (skipped_among r count (s + j + 1))) 0) here ∙ ap suc (ap (λ i. skipped_among r count i) k ∙ ind)
 
   pub length_least : (m j count : ℕ) → j + m ≡ n → m ≤ count → m ≤ skipped_among r count (s + j)
@@ -135,17 +145,20 @@ module _ (earlier : ℕ → List ℤ) (r : Residuals) (some : 0 < r.width) (s n 
       let here : is_skipped r (s + j) ≡ true = skipped_to j (omega arith) in
       let k : s + j + 1 ≡ s + (j + 1) = omega arith in
       let ind : m ≤ skipped_among r count (s + (j + 1)) = length_least m (j + 1) count (omega arith) (omega arith) in
-      let opened : skipped_among r (suc count) (s + j) ≡ suc (skipped_among r count (s + j + 1)) = ap (λ t. cond t (suc (skipped_among r count (s + j + 1))) 0) here in
+      let opened : skipped_among r (suc count) (s + j) ≡ suc (skipped_among r count (s + j + 1)) =
+      ap (λ t. cond t (suc (skipped_among r count (s + j + 1))) 0) here in
       omega (arith, opened, ind, ap (λ i. skipped_among r count i) k)
 
   length_is : (left_in_line r s ≡ n) ⊎ (is_skipped r (s + n) ≡ false) → run_length r s ≡ n
-  length_is end = let k : s + 0 ≡ s = omega arith in ap (λ i. skipped_among r (left_in_line r s) i) (sym k) ∙ length_from n 0 (left_in_line r s) (omega arith) fits end
+  length_is end = let k : s + 0 ≡ s = omega arith in ap (λ i. skipped_among r (left_in_line r s) i) (sym k)
+      ∙ length_from n 0 (left_in_line r s) (omega arith) fits end
 
   pub starts_here : starts_run r s ≡ true
   starts_here = let run : is_in_run r s ≡ true = in_run_is r s ∙ rw zero_here refl in rw (run, fresh) refl
 
   -- the run's bits, and then nothing for the samples that it skips
-  module _ (index next : ℕ) (run : List Bool) (spelled : SpellsRun n (left_in_line r s) index run next) (end : (left_in_line r s ≡ n) ⊎ (is_skipped r (s + n) ≡ false)) where
+  module _ (index next : ℕ) (run : List Bool) (spelled : SpellsRun n (left_in_line r s) index run next) (end : (left_in_line r s ≡ n)
+      ⊎ (is_skipped r (s + n) ≡ false)) where
     pub run_here : SpellsRun (run_length r s) (left_in_line r s) index run next
     run_here = let is : n ≡ run_length r s = sym (length_is end) in subst (λ (k : ℕ). SpellsRun k (left_in_line r s) index run next) is spelled
 
@@ -196,7 +209,8 @@ module _ (earlier : ℕ → List ℤ) (r : Residuals) (some : 0 < r.width) (s n 
         subst (λ (i : ℕ). SamplesSpell earlier r (suc i) (front ++ run) next) (sym k) here
 
     -- the run takes the line to its end
-    pub run_end : (bits left rest : List Bool) → left_in_line r s ≡ n → Progress earlier r s bits index left → left ≡ run ++ rest → Progress earlier r (s + n) bits next rest
+    pub run_end : (bits left rest : List Bool) → left_in_line r s ≡ n → Progress earlier r s bits index left → left ≡ run ++ rest
+        → Progress earlier r (s + n) bits next rest
     unfolding follows_skipped
     run_end bits left rest whole p is =
         let small : s % r.width < r.width = omega arith in
@@ -223,12 +237,14 @@ module _ (earlier : ℕ → List ℤ) (r : Residuals) (some : 0 < r.width) (s n 
         let in_it : is_in_run r (s + n) ≡ true = in_run_to n (omega arith) inside in
         let skip : is_skipped r (s + n) ≡ false = rw (in_it, level) refl in
         let value : decoded_value true (r.difference (s + n)) ≡ value_at r (s + n) = rw in_it refl in
-        let coded' : SpellsValue (state_before earlier r (context_number r (s + n)) (s + n)) (value_at r (s + n)) code = subst (λ (v : ℤ). SpellsValue (state_before earlier r (context_number r (s + n)) (s + n)) v code) value coded in
+        let coded' : SpellsValue (state_before earlier r (context_number r (s + n)) (s + n)) (value_at r (s + n)) code =
+        subst (λ (v : ℤ). SpellsValue (state_before earlier r (context_number r (s + n)) (s + n)) v code) value coded in
         ⊎_elim
         (λ none.
         let k : s ≡ s + n = omega arith in
         let start : starts_run r (s + n) ≡ true = ap (λ i. starts_run r i) (sym k) ∙ starts_here in
-        let run_there : SpellsRun (run_length r (s + n)) (left_in_line r (s + n)) index run next = subst (λ (i : ℕ). SpellsRun (run_length r i) (left_in_line r i) index run next) k run_here in (
+        let run_there : SpellsRun (run_length r (s + n)) (left_in_line r (s + n)) index run next =
+        subst (λ (i : ℕ). SpellsRun (run_length r i) (left_in_line r i) index run next) k run_here in (
           front,
           run ++ code,
           index,

@@ -25,9 +25,12 @@ use Rattle.ffv1_plane.proofs.Pictures.{gray_sizes, colour_sizes, count_of}
 use Rattle.ffv1_plane.proofs.Wholes.{filled}
 
 -- a sample by its row and its column
-pub tile_plane_stops : (setup : SetupValue) (head : SliceHead) (plane : ℕ) (states : List ContextState) (bits : List Bool) (fault : CodeFault) (sample : ℕ) → 1 ≤ (plane_rect (grid_of setup) head.tile plane).w
-    → IsDecodingHalted (plane_rect (grid_of setup) head.tile plane).w (plane_rect (grid_of setup) head.tile plane).h (set_entry setup (plane_set head plane)) states bits (plane_faults.Code fault sample)
-    → IsPlaneOfHalted setup head plane states bits (Code fault plane (sample / (plane_rect (grid_of setup) head.tile plane).w) (sample % (plane_rect (grid_of setup) head.tile plane).w))
+pub tile_plane_stops : (setup : SetupValue) (head : SliceHead) (plane : ℕ) (states : List ContextState) (bits : List Bool) (fault : CodeFault) (sample : ℕ)
+    → 1 ≤ (plane_rect (grid_of setup) head.tile plane).w
+    → IsDecodingHalted (plane_rect (grid_of setup) head.tile plane).w (plane_rect (grid_of setup) head.tile plane).h
+    (set_entry setup (plane_set head plane)) states bits (plane_faults.Code fault sample)
+    → IsPlaneOfHalted setup head plane states bits (Code fault plane (sample / (plane_rect (grid_of setup) head.tile plane).w)
+    (sample % (plane_rect (grid_of setup) head.tile plane).w))
 tile_plane_stops setup head plane states bits fault sample some halts = (
   refl,
   λ earlier after.
@@ -41,24 +44,39 @@ tile_plane_stops setup head plane states bits fault sample some halts = (
       },
 )
 
-pub luma_stops : (setup : SetupValue) (head : SliceHead) (states : List ContextState) (bits : List Bool) → AreStatesAfter no_values states → (fault : TileFault) → IsPlaneOfHalted setup head 0 states bits fault → IsLumaHalted setup head bits fault
+pub luma_stops : (setup : SetupValue) (head : SliceHead) (states : List ContextState) (bits : List Bool) → AreStatesAfter no_values states
+    → (fault : TileFault) → IsPlaneOfHalted setup head 0 states bits fault → IsLumaHalted setup head bits fault
 luma_stops setup head states bits fresh (Code fault level y x) h = (h.0, h.1 no_values fresh)
 luma_stops setup head states bits fresh Memory h = tt
 luma_stops setup head states bits fresh (Head fault) h = absurd h
 luma_stops setup head states bits fresh OtherTile h = absurd h
 
-pub cb_stops : (setup : SetupValue) (head : SliceHead) (states : List ContextState) (bits : List Bool) → AreStatesAfter no_values states → (fault : TileFault) → IsPlaneOfHalted setup head 1 states bits fault → IsChromaHalted setup head bits fault
+pub cb_stops : (setup : SetupValue) (head : SliceHead) (states : List ContextState) (bits : List Bool) → AreStatesAfter no_values states
+    → (fault : TileFault) → IsPlaneOfHalted setup head 1 states bits fault → IsChromaHalted setup head bits fault
 cb_stops setup head states bits fresh (Code fault level y x) h = inl (h.0, h.1 no_values fresh)
 cb_stops setup head states bits fresh Memory h = tt
 cb_stops setup head states bits fresh (Head fault) h = absurd h
 cb_stops setup head states bits fresh OtherTile h = absurd h
 
-pub cr_stops : (setup : SetupValue) (head : SliceHead) (states between : List ContextState) (bits mid : List Bool) (cb : List ℕ) → AreStatesAfter no_values states → IsPlaneIn (plane_rect (grid_of setup) head.tile 1) cb
-    → IsPlaneRead (plane_rect (grid_of setup) head.tile 1).w (plane_rect (grid_of setup) head.tile 1).h (set_entry setup (plane_set head 1)) states bits cb between mid
+pub cr_stops : (setup : SetupValue) (head : SliceHead) (states between : List ContextState) (bits mid : List Bool) (cb : List ℕ)
+    → AreStatesAfter no_values states → IsPlaneIn (plane_rect (grid_of setup) head.tile 1) cb
+    → IsPlaneRead (plane_rect (grid_of setup) head.tile 1).w (plane_rect (grid_of setup) head.tile 1).h
+    (set_entry setup (plane_set head 1)) states bits cb between mid
     → (fault : TileFault) → IsPlaneOfHalted setup head 2 between mid fault → IsChromaHalted setup head bits fault
 cr_stops setup head states between bits mid cb fresh size read (Code fault level y x) h =
     let first = read no_values fresh in
-    inr (h.0, record { cb = cb; size = size; front = first.0; rest = mid; begins = first.1; spells = first.2; halted = h.1 (values_after no_values (shaped_plane setup head 1 cb)) first.3 })
+    inr (
+      h.0,
+      record {
+        cb = cb;
+        size = size;
+        front = first.0;
+        rest = mid;
+        begins = first.1;
+        spells = first.2;
+        halted = h.1 (values_after no_values (shaped_plane setup head 1 cb)) first.3;
+      },
+    )
 cr_stops setup head states between bits mid cb fresh size read Memory h = tt
 cr_stops setup head states between bits mid cb fresh size read (Head fault) h = absurd h
 cr_stops setup head states between bits mid cb fresh size read OtherTile h = absurd h
@@ -72,7 +90,8 @@ unfolding blank
 blank_in rect = filled rect.w rect.h [] (λ s. omega arith) (omega arith)
 
 module _ (setup : SetupValue) (head : SliceHead) (profile : IsInProfile setup) (inside : head.tile < tile_count (grid_of setup)) where
-  luma_stuck : (bits : List Bool) (fault : CodeFault) (y x : ℕ) → IsTilePlaneHalted setup head 0 no_values bits fault y x → ArePlanesStuck setup head bits fault 0 y x
+  luma_stuck : (bits : List Bool) (fault : CodeFault) (y x : ℕ) → IsTilePlaneHalted setup head 0 no_values bits fault y x
+      → ArePlanesStuck setup head bits fault 0 y x
   unfolding PlanesBelow
   luma_stuck bits fault y x h = either setup.has_chroma refl
     where
@@ -178,7 +197,8 @@ module _ (setup : SetupValue) (head : SliceHead) (profile : IsInProfile setup) (
 
 -- ---- the content
 
-pub planes_refused : (setup : SetupValue) (tile : ℕ) (content : List ℕ) (head : SliceHead) (place : ℕ) (bits : List Bool) → IsHeadOf (header_limits setup) content (tile == 0) head place → head.tile ≡ tile → bits ≡ bits_of (drop place content)
+pub planes_refused : (setup : SetupValue) (tile : ℕ) (content : List ℕ) (head : SliceHead) (place : ℕ) (bits : List Bool)
+    → IsHeadOf (header_limits setup) content (tile == 0) head place → head.tile ≡ tile → bits ≡ bits_of (drop place content)
     → (fault : TileFault) → ArePlanesHalted setup head bits fault → (fault ≡ Memory) ⊎ IsRefusedFor setup tile content fault
 planes_refused setup tile content head place bits is_head of_tile behind (Code fault plane y x) h =
     let all = stuck_on setup head h.planes bits fault plane y x h.front h.sizes h.stuck in

@@ -16,15 +16,18 @@ use Rattle.ffv1_plane.proofs.Alike.{is_bool}
 
 below_power : (n : ℕ) → n < 2 ^ n
 below_power zero = omega arith
-below_power (suc n) = let p : n < 2 ^ n = below_power n in let q : 2 ^ n < 2 ^ suc n = pow-lt (let less : n < suc n = omega arith in less) in omega (arith, p, q)
+below_power (suc n) = let p : n < 2 ^ n = below_power n in let q : 2 ^ n < 2 ^ suc n = pow-lt (let less : n < suc n = omega arith in less) in
+    omega (arith, p, q)
 
-least_from : (s : ContextState) (fuel k : ℕ) → ((j : ℕ) → j < k → s.count * 2 ^ j < s.error_sum) → s.error_sum ≤ s.count * 2 ^ (k + fuel) → (least : ℕ) × IsParameter s least
+least_from : (s : ContextState) (fuel k : ℕ) → ((j : ℕ) → j < k → s.count * 2 ^ j < s.error_sum) → s.error_sum ≤ s.count * 2 ^ (k + fuel) → (least : ℕ)
+    × IsParameter s least
 least_from s zero k below top =
     let same : k + zero ≡ k = omega arith in
     (k, record { enough = subst (λ (i : ℕ). s.error_sum ≤ s.count * 2 ^ i) same top; least = below })
 least_from s (suc fuel) k below top = ⊎_elim
     (λ less. least_from s fuel (k + 1)
-    (λ j h. ⊎_elim (λ before. below j before) (λ most. let j_is : k ≡ j = omega arith in subst (λ (i : ℕ). s.count * 2 ^ i < s.error_sum) j_is less) (cases_lt j k))
+    (λ j h. ⊎_elim (λ before. below j before) (λ most. let j_is : k ≡ j = omega arith in subst (λ (i : ℕ). s.count * 2 ^ i < s.error_sum) j_is less)
+    (cases_lt j k))
     (let same : k + suc fuel ≡ k + 1 + fuel = omega arith in subst (λ (i : ℕ). s.error_sum ≤ s.count * 2 ^ i) same top))
     (λ more. (k, record { enough = more; least = below }))
     (cases_lt (s.count * 2 ^ k) s.error_sum)
@@ -46,7 +49,8 @@ counted_some s = grind arith
 
 some_on : (values : List ℤ) (s : ContextState) → 1 ≤ s.count → 1 ≤ (fold (λ state value. after_value state value) s values).count
 some_on [] s h = h
-some_on (v ∷ values) s h = some_on values (after_value s v) (corrected_some (counted (with_value s (coded_value s v))) (counted_some (with_value s (coded_value s v))))
+some_on (v ∷ values) s h = some_on values (after_value s v) (corrected_some (counted (with_value s (coded_value s v)))
+    (counted_some (with_value s (coded_value s v))))
 
 pub some_counted : (values : List ℤ) → 1 ≤ (state_after values).count
 some_counted values = some_on values start_state (omega arith)
@@ -110,7 +114,8 @@ code_part earlier r s = ⊎_elim
     (is_bool (is_coded r s))
 
 -- what follows the run of a sample
-pub behind_run : (earlier : ℕ → List ℤ) (r : Residuals) (s index next : ℕ) (run : List Bool) → (starts_run r s ≡ true → SpellsRun (run_length r s) (left_in_line r s) index run next) → (starts_run r s ≡ false → (run ≡ []) × (next ≡ index))
+pub behind_run : (earlier : ℕ → List ℤ) (r : Residuals) (s index next : ℕ) (run : List Bool)
+    → (starts_run r s ≡ true → SpellsRun (run_length r s) (left_in_line r s) index run next) → (starts_run r s ≡ false → (run ≡ []) × (next ≡ index))
     → (code : List Bool) × SampleSpells earlier r s index (run ++ code) next
 behind_run earlier r s index next run starts none =
     let c = code_part earlier r s in
@@ -125,13 +130,23 @@ sample_of earlier r s index = ⊎_elim
     (λ no. let all = behind_run earlier r s index index [] (λ h. absurd (differ h no)) (λ h. (refl, refl)) in ([] ++ all.0, index, all.1))
     (is_bool (starts_run r s))
 
-pub spells_on : (earlier : ℕ → List ℤ) (r : Residuals) (count n : ℕ) (front : List Bool) (index : ℕ) → n ≤ count → SamplesSpell earlier r n front index → (back : List Bool) × (last : ℕ) × SamplesSpell earlier r count (front ++ back) last
+pub spells_on : (earlier : ℕ → List ℤ) (r : Residuals) (count n : ℕ) (front : List Bool) (index : ℕ) → n ≤ count → SamplesSpell earlier r n front index
+    → (back : List Bool) × (last : ℕ) × SamplesSpell earlier r count (front ++ back) last
 unfolding SamplesSpell
 spells_on earlier r zero n front index low h =
-    let none : n ≡ zero = omega arith in
-    ([], index, subst (λ (l : List Bool). SamplesSpell earlier r zero l index) (sym (append-nil front)) (subst (λ (k : ℕ). SamplesSpell earlier r k front index) none h))
+    let none : n ≡ zero = omega arith in (
+      [],
+      index,
+      subst (λ (l : List Bool). SamplesSpell earlier r zero l index) (sym (append-nil front))
+          (subst (λ (k : ℕ). SamplesSpell earlier r k front index) none h),
+    )
 spells_on earlier r (suc count) n front index low h = ⊎_elim
-    (λ same. ([], index, subst (λ (l : List Bool). SamplesSpell earlier r (suc count) l index) (sym (append-nil front)) (subst (λ (k : ℕ). SamplesSpell earlier r k front index) same h)))
+    (λ same. (
+      [],
+      index,
+      subst (λ (l : List Bool). SamplesSpell earlier r (suc count) l index) (sym (append-nil front))
+          (subst (λ (k : ℕ). SamplesSpell earlier r k front index) same h),
+    ))
     (λ other.
     let before = spells_on earlier r count n front index (omega arith) h in
     let piece = sample_of earlier r count before.1 in

@@ -14,7 +14,14 @@ unfolding neighbours_at sample_at sample_inside
 column_around = refl
 
 -- the second row of 1 2 3 above 4 5 6: behind the last column its last sample stands again
-behind_last_column : neighbours_at 3 (1 ∷ 2 ∷ 3 ∷ 4 ∷ 5 ∷ 6 ∷ []) 5 ≡ record { left = 5; top = 3; top_left = 2; top_right = 3; left_of_left = 4; top_of_top = 0 }
+behind_last_column : neighbours_at 3 (1 ∷ 2 ∷ 3 ∷ 4 ∷ 5 ∷ 6 ∷ []) 5 ≡ record {
+  left = 5;
+  top = 3;
+  top_left = 2;
+  top_right = 3;
+  left_of_left = 4;
+  top_of_top = 0;
+}
 unfolding neighbours_at sample_at sample_inside
 behind_last_column = refl
 

@@ -17,10 +17,6 @@ past_end [] i h = refl
 past_end (x ∷ xs) zero h = absurd (omega arith)
 past_end (x ∷ xs) (suc i) h = past_end xs i (omega arith)
 
--- bytes, also past their end
-pub all_bytes : (xs : List ℕ) → ((k d : ℕ) → k < length xs → get_or xs k d < 256) → (s : ℕ) → get_or xs s 0 < 256
-all_bytes xs h s = ⊎_elim (λ inside. h s 0 inside) (λ past. let none = past_end xs s past in omega arith) (cases_lt s (length xs))
-
 -- the line of a sample ends within the plane
 pub line_fits : (n w h : ℕ) → 1 ≤ w → n < w * h → n + w ≤ w * h + n % w
 line_fits n w h some less =
@@ -30,12 +26,14 @@ line_fits n w h some less =
     omega arith
 
 -- a plane that begins with these samples
-pub filled : (width height : ℕ) (samples : List ℕ) → ((s : ℕ) → get_or samples s 0 < 256) → length samples ≤ width * height → IsPlaneOfSize width height (samples ++ replicate (width * height - length samples) 0)
+pub filled : (width height : ℕ) (samples : List ℕ) → ((s : ℕ) → get_or samples s 0 < 256) → length samples ≤ width * height
+    → IsPlaneOfSize width height (samples ++ replicate (width * height - length samples) 0)
 filled width height samples small fits = record {
   count = omega (arith, length-append samples (replicate (width * height - length samples) 0), length-replicate {A = ℕ} (width * height - length samples) 0);
   bytes = λ s. ⊎_elim
       (λ inside. let e = get_or_append_left samples (replicate (width * height - length samples) 0) 0 s inside in let h = small s in omega (arith, e, h))
-      (λ behind. let e = get_or-append_right samples (replicate (width * height - length samples) 0) s 0 behind in let z = none_there (width * height - length samples) (s - length samples) in omega (arith, e, z))
+      (λ behind. let e = get_or-append_right samples (replicate (width * height - length samples) 0) s 0 behind in
+      let z = none_there (width * height - length samples) (s - length samples) in omega (arith, e, z))
       (cases_lt s (length samples));
 }
   where
@@ -45,9 +43,11 @@ filled width height samples small fits = record {
     none_there (suc n) (suc i) = none_there n i
 
 -- where a line halts, so does a plane that begins with it
-pub plane_halted : (width height : ℕ) (entry : ℕ → ℕ → ℤ) (before states : List ContextState) (bits left : List Bool) (samples : List ℕ) (index : ℕ) (fault : PlaneFault) → 1 ≤ width
+pub plane_halted : (width height : ℕ) (entry : ℕ → ℕ → ℤ) (before states : List ContextState) (bits left : List Bool) (samples : List ℕ) (index : ℕ)
+    (fault : PlaneFault) → 1 ≤ width
     → ((earlier : ℕ → List ℤ) → AreStatesAfter earlier before → IsReadTo earlier width entry bits samples index states left)
-    → ((j : ℕ) → get_or samples j 0 < 256) → length samples < width * height → IsNextHalted width entry samples index states left fault → IsDecodingHalted width height entry before bits fault
+    → ((j : ℕ) → get_or samples j 0 < 256) → length samples < width * height → IsNextHalted width entry samples index states left fault
+    → IsDecodingHalted width height entry before bits fault
 plane_halted width height entry before states bits left samples index (plane_faults.Code fault sample) some read small less halts = λ earlier after.
     let line = line_fits (length samples) width height some less in
     let column : length samples % width < width = omega arith in

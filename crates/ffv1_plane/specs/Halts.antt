@@ -34,7 +34,8 @@ abbrev pub next_context : ℕ → (ℕ → ℕ → ℤ) → List ℕ → ℕ
 next_context width entry samples = nat_abs (context_of entry (neighbours_at width samples (length samples)))
 
 -- The code of the next sample can't be read.
-pub record IsCodeHalted (width : ℕ) (entry : ℕ → ℕ → ℤ) (level : Bool) (samples : List ℕ) (states : List ContextState) (bits : List Bool) (fault : CodeFault) (sample : ℕ) : Type 0 where
+pub record IsCodeHalted (width : ℕ) (entry : ℕ → ℕ → ℤ) (level : Bool) (samples : List ℕ) (states : List ContextState) (bits : List Bool) (fault : CodeFault)
+    (sample : ℕ) : Type 0 where
   pub place : sample ≡ length samples
   pub below : next_context width entry samples < length states
   pub told : IsCodeFault (get_or states (next_context width entry samples) start_state) level bits fault
@@ -62,7 +63,8 @@ pub record IsLineHalted (earlier : ℕ → List ℤ) (width : ℕ) (entry : ℕ 
 
 abbrev pub IsNextHalted : ℕ → (ℕ → ℕ → ℤ) → List ℕ → ℕ → List ContextState → List Bool → PlaneFault → Type 0
 IsNextHalted width entry old index states left (plane_faults.Code fault sample) =
-    (earlier : ℕ → List ℤ) (bits : List Bool) → ((s : ℕ) → get_or old s 0 < 256) → IsReadTo earlier width entry bits old index states left → IsLineHalted earlier width entry old bits fault sample
+    (earlier : ℕ → List ℤ) (bits : List Bool) → ((s : ℕ) → get_or old s 0 < 256) → IsReadTo earlier width entry bits old index states left
+    → IsLineHalted earlier width entry old bits fault sample
 IsNextHalted width entry old index states left plane_faults.Memory = Unit {0}
 
 -- For some plane of this size no word of a sample can be read.
@@ -80,13 +82,16 @@ IsDecodingHalted width height entry states bits plane_faults.Memory = Unit {0}
 -- ---- the planes of a tile
 
 -- The place of a sample of a plane of a tile, behind earlier values.
-pub record IsTilePlaneHalted (setup : SetupValue) (head : SliceHead) (plane : ℕ) (earlier : ℕ → List ℤ) (bits : List Bool) (fault : CodeFault) (y x : ℕ) : Type 0 where
+pub record IsTilePlaneHalted (setup : SetupValue) (head : SliceHead) (plane : ℕ) (earlier : ℕ → List ℤ) (bits : List Bool) (fault : CodeFault)
+    (y x : ℕ) : Type 0 where
   pub row_there : y < (plane_rect (grid_of setup) head.tile plane).h
   pub column_there : x < (plane_rect (grid_of setup) head.tile plane).w
-  pub halted : IsPlaneHalted earlier (plane_rect (grid_of setup) head.tile plane).w (plane_rect (grid_of setup) head.tile plane).h (set_entry setup (plane_set head plane)) bits fault (y * (plane_rect (grid_of setup) head.tile plane).w + x)
+  pub halted : IsPlaneHalted earlier (plane_rect (grid_of setup) head.tile plane).w (plane_rect (grid_of setup) head.tile plane).h
+      (set_entry setup (plane_set head plane)) bits fault (y * (plane_rect (grid_of setup) head.tile plane).w + x)
 
 abbrev pub IsPlaneOfHalted : SetupValue → SliceHead → ℕ → List ContextState → List Bool → TileFault → Type 0
-IsPlaneOfHalted setup head plane states bits (Code fault level y x) = (level ≡ plane) × ((earlier : ℕ → List ℤ) → AreStatesAfter earlier states → IsTilePlaneHalted setup head plane earlier bits fault y x)
+IsPlaneOfHalted setup head plane states bits (Code fault level y x) = (level ≡ plane)
+    × ((earlier : ℕ → List ℤ) → AreStatesAfter earlier states → IsTilePlaneHalted setup head plane earlier bits fault y x)
 IsPlaneOfHalted setup head plane states bits Memory = Unit {0}
 IsPlaneOfHalted setup head plane states bits other = ⊥
 

@@ -1,5 +1,7 @@
 pub mod Samples
 pub mod Sums
+pub mod Rows
+pub mod SetTables
 pub mod Spelling
 pub mod Progress
 pub mod Picture
@@ -8,3 +10,4 @@ pub mod Views
 pub mod Stuck
 pub mod StuckLaws
 pub mod Halts
+pub mod Readers

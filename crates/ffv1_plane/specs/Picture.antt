@@ -85,7 +85,8 @@ pub record IsPictureOf (setup : SetupValue) (tile : ℕ) (content : List ℕ) (p
 -- No bits begin with the spellings of two pictures of a tile, nor with two spellings of one; so a content has one picture.
 pub record OneReading : Type 0 where
   pub planes :
-      (setup : SetupValue) (head : SliceHead) (planes others : List (List ℕ)) (words more rest tail : List Bool) → IsInProfile setup → head.tile < tile_count (grid_of setup)
+      (setup : SetupValue) (head : SliceHead) (planes others : List (List ℕ)) (words more rest tail : List Bool) → IsInProfile setup
+      → head.tile < tile_count (grid_of setup)
       → ArePlanesOf setup head.tile planes → ArePlanesOf setup head.tile others → PictureSpells setup head planes words → PictureSpells setup head others more
       → words ++ rest ≡ more ++ tail → (planes ≡ others) × (rest ≡ tail)
   pub pictures :

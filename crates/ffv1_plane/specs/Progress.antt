@@ -25,9 +25,11 @@ abbrev pub AreStatesAfter : (ℕ → List ℤ) → List ContextState → Type 0
 AreStatesAfter earlier states = (context : ℕ) → context < length states → get_or states context start_state ≡ state_after (earlier context)
 
 -- the samples are read from bits, up to left
-pub record IsReadTo (earlier : ℕ → List ℤ) (width : ℕ) (entry : ℕ → ℕ → ℤ) (bits : List Bool) (samples : List ℕ) (index : ℕ) (states : List ContextState) (left : List Bool) : Type 0 where
+pub record IsReadTo (earlier : ℕ → List ℤ) (width : ℕ) (entry : ℕ → ℕ → ℤ) (bits : List Bool) (samples : List ℕ) (index : ℕ) (states : List ContextState)
+    (left : List Bool) : Type 0 where
   pub progress : (more : List ℕ) → Progress earlier (residuals_of (plane_of width entry (samples ++ more))) (length samples) bits index left
-  pub states_are : (more : List ℕ) (k : ℕ) → k < length states → get_or states k start_state ≡ state_before earlier (residuals_of (plane_of width entry (samples ++ more))) k (length samples)
+  pub states_are : (more : List ℕ) (k : ℕ) → k < length states → get_or states k start_state ≡ state_before earlier
+      (residuals_of (plane_of width entry (samples ++ more))) k (length samples)
 
 -- a whole run of n samples, in a line with left samples to come
 pub record IsRunRead (left index : ℕ) (bits : List Bool) (n next : ℕ) (rest : List Bool) : Type 0 where
@@ -45,7 +47,8 @@ pub record IsRunBegun (left index : ℕ) (bits : List Bool) (done next : ℕ) (r
   pub completes : (m last : ℕ) (others : List Bool) → SpellsRun m (left - done) next others last → SpellsRun (done + m) left index (words ++ others) last
 
 -- The next sample x is read by one code. All is told of every plane that begins with the samples and x.
-pub record IsSampleRead (width : ℕ) (entry : ℕ → ℕ → ℤ) (level : Bool) (old : List ℕ) (states : List ContextState) (bits : List Bool) (new : List ℕ) (after : List ContextState) (rest : List Bool) : Type 0 where
+pub record IsSampleRead (width : ℕ) (entry : ℕ → ℕ → ℤ) (level : Bool) (old : List ℕ) (states : List ContextState) (bits : List Bool) (new : List ℕ)
+    (after : List ContextState) (rest : List Bool) : Type 0 where
   pub sample : ℕ
   pub difference : ℤ
   pub context : ℕ

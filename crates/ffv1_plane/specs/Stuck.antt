@@ -21,7 +21,8 @@ pub data SpellsFront : ℕ → ℕ → List Bool → ℕ → Type 0 where
   -- no word yet
   no_word : {n i next : ℕ} {bits : List Bool} → n ≡ 0 → bits ≡ [] → next ≡ i → SpellsFront n i bits next
   -- a one stands for a whole length, and the index rises
-  one_word : {n i next : ℕ} {bits : List Bool} (m : ℕ) (others : List Bool) → n ≡ whole_length i + m → bits ≡ true ∷ others → SpellsFront m (i + 1) others next → SpellsFront n i bits next
+  one_word : {n i next : ℕ} {bits : List Bool} (m : ℕ) (others : List Bool) → n ≡ whole_length i + m → bits ≡ true ∷ others
+      → SpellsFront m (i + 1) others next → SpellsFront n i bits next
 
 -- A word of a run is due at sample s, at a run index. Each word starts at the first sample not yet skipped: words of the
 -- run have skipped those from its start up to s, which lies in its line. The bits are those of the words before s.
@@ -94,7 +95,8 @@ scan_place setup tile plane y x = y * (plane_rect (grid_of setup) tile plane).w 
 
 -- The bits begin with the planes below a number and with those words of the next plane that start before a sample, and
 -- then no word of that sample can be read, for this fault. `front` is what stands before it.
-pub record AreBitsStuck (setup : SetupValue) (head : SliceHead) (planes : List (List ℕ)) (bits : List Bool) (fault : CodeFault) (plane y x : ℕ) (front : List Bool) : Type 0 where
+pub record AreBitsStuck (setup : SetupValue) (head : SliceHead) (planes : List (List ℕ)) (bits : List Bool) (fault : CodeFault) (plane y x : ℕ)
+    (front : List Bool) : Type 0 where
   pub place : IsPlaceIn setup head.tile plane y x
   pub whole : List Bool
   pub below : PlanesBelow setup head planes plane whole
@@ -102,7 +104,8 @@ pub record AreBitsStuck (setup : SetupValue) (head : SliceHead) (planes : List (
   pub joined : front ≡ whole ++ part
   pub others : List Bool
   pub begins : bits ≡ front ++ others
-  pub refused : IsWordRefused (values_behind setup head planes plane) (residuals_of (tile_plane setup head planes plane)) (scan_place setup head.tile plane y x) part others fault
+  pub refused : IsWordRefused (values_behind setup head planes plane) (residuals_of (tile_plane setup head planes plane))
+      (scan_place setup head.tile plane y x) part others fault
 
 -- The content of a slice is stuck at a sample of a tile: it has a header of the tile, and for some picture of the tile and
 -- the bits of that picture, those of them before the sample's word begin the bits behind the header, and what follows

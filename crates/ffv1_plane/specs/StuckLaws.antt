@@ -14,19 +14,23 @@ use Rattle.ffv1_plane.specs.declared.tile.TileFault.TheVariants.{Head, OtherTile
 -- Every picture of a tile has a spelling.
 abbrev pub EachPictureIsSpelled : Type 0
 EachPictureIsSpelled =
-    (setup : SetupValue) (head : SliceHead) (planes : List (List ℕ)) → ArePlanesOf setup head.tile planes → (words : List Bool) × PictureSpells setup head planes words
+    (setup : SetupValue) (head : SliceHead) (planes : List (List ℕ)) → ArePlanesOf setup head.tile planes → (words : List Bool)
+    × PictureSpells setup head planes words
 
 -- What was read before a sample goes on to a spelling of the whole picture, so a content is stuck there by it alone.
 abbrev pub FrontsGoOn : Type 0
 FrontsGoOn =
-    (setup : SetupValue) (tile : ℕ) (content : List ℕ) (head : SliceHead) (place : ℕ) (planes : List (List ℕ)) (fault : CodeFault) (plane y x : ℕ) (front : List Bool)
-    → IsInProfile setup → tile < tile_count (grid_of setup) → IsHeadOf (header_limits setup) content (tile == 0) head place → head.tile ≡ tile → ArePlanesOf setup tile planes
+    (setup : SetupValue) (tile : ℕ) (content : List ℕ) (head : SliceHead) (place : ℕ) (planes : List (List ℕ)) (fault : CodeFault) (plane y x : ℕ)
+    (front : List Bool)
+    → IsInProfile setup → tile < tile_count (grid_of setup) → IsHeadOf (header_limits setup) content (tile == 0) head place → head.tile ≡ tile
+    → ArePlanesOf setup tile planes
     → AreBitsStuck setup head planes (bits_of (drop place content)) fault plane y x front → IsStuckAt setup tile content fault plane y x
 
 -- A content that is stuck spells no picture ..
 abbrev pub StuckSpellsNothing : Type 0
 StuckSpellsNothing =
-    (setup : SetupValue) (tile : ℕ) (content : List ℕ) (fault : CodeFault) (plane y x : ℕ) (picture : PictureValue) → IsInProfile setup → tile < tile_count (grid_of setup)
+    (setup : SetupValue) (tile : ℕ) (content : List ℕ) (fault : CodeFault) (plane y x : ℕ) (picture : PictureValue) → IsInProfile setup
+    → tile < tile_count (grid_of setup)
     → IsStuckAt setup tile content fault plane y x → IsPictureOf setup tile content picture → ⊥
 
 -- .. and is so with one fault and at one sample.
@@ -38,7 +42,8 @@ pub record IsOnePlace (fault other : CodeFault) (plane level y v x u : ℕ) : Ty
 
 abbrev pub StuckIsOne : Type 0
 StuckIsOne =
-    (setup : SetupValue) (tile : ℕ) (content : List ℕ) (fault other : CodeFault) (plane level y v x u : ℕ) → IsInProfile setup → tile < tile_count (grid_of setup)
+    (setup : SetupValue) (tile : ℕ) (content : List ℕ) (fault other : CodeFault) (plane level y v x u : ℕ) → IsInProfile setup
+    → tile < tile_count (grid_of setup)
     → IsStuckAt setup tile content fault plane y x → IsStuckAt setup tile content other level v u → IsOnePlace fault other plane level y v x u
 
 -- ---- the answers of a tile
@@ -46,13 +51,15 @@ StuckIsOne =
 -- A content is refused so: its header can't be read, or is that of another tile, or a word behind it can't be read.
 abbrev pub IsRefusedFor : SetupValue → ℕ → List ℕ → TileFault → Type 0
 IsRefusedFor setup tile content (Head fault) = head_read (header_limits setup) content (tile == 0) ≡ Err fault
-IsRefusedFor setup tile content OtherTile = (head : SliceHead) × (place : ℕ) × IsHeadOf (header_limits setup) content (tile == 0) head place × (head.tile ≢ tile)
+IsRefusedFor setup tile content OtherTile = (head : SliceHead) × (place : ℕ) × IsHeadOf (header_limits setup) content (tile == 0) head place
+    × (head.tile ≢ tile)
 IsRefusedFor setup tile content (Code fault plane y x) = IsStuckAt setup tile content fault plane y x
 IsRefusedFor setup tile content Memory = ⊥
 
 -- A content that is refused has no picture, and is refused for one fault.
 pub record OneAnswer : Type 0 where
-  pub no_picture : (setup : SetupValue) (tile : ℕ) (content : List ℕ) (fault : TileFault) (picture : PictureValue) → IsInProfile setup → tile < tile_count (grid_of setup)
+  pub no_picture : (setup : SetupValue) (tile : ℕ) (content : List ℕ) (fault : TileFault) (picture : PictureValue) → IsInProfile setup
+      → tile < tile_count (grid_of setup)
       → IsRefusedFor setup tile content fault → IsPictureOf setup tile content picture → ⊥
   pub one_fault : (setup : SetupValue) (tile : ℕ) (content : List ℕ) (fault other : TileFault) → IsInProfile setup → tile < tile_count (grid_of setup)
       → IsRefusedFor setup tile content fault → IsRefusedFor setup tile content other → fault ≡ other

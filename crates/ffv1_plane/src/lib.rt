@@ -1,12 +1,18 @@
 //! The picture of a tile, from the content of its slice (RFC 9043, sections 3.1 to 3.5, 3.8.2 and 4.7).
 #![tactic(auto)]
 
+mod lines;
 mod neighbours;
 mod plane;
 mod run;
+mod tables;
 mod tile;
 
-pub use tile::{TileFault, TilePicture, decode_tile, each_is_spelled, one_fault, one_reading};
+pub use neighbours::Neighbours;
+pub use tables::Tables;
+pub use tile::{
+    TileFault, TilePicture, decode_tile, each_is_spelled, one_fault, one_reading, start_states,
+};
 
 #[cfg(test)]
 mod recorded;

@@ -1,15 +1,19 @@
 //! A plane, sample by sample and run by run (RFC 9043, sections 3.8.2 and 4.8).
-ghost use Rattle.std.specs.Prelude.{◌≡◌, ℕ, ◌<◌, ◌≤◌, ◌+◌, ◌*◌, ◌%◌, ◌-◌, length, slice_index, List, Bool, OnOk, IfOk, IfErr, OnErr, Err, ℤ};
-ghost use Rattle.ffv1_range.specs.Setup.{IsInProfile, set_contexts, set_entry};
-ghost use Rattle.ffv1_plane.specs.Samples.{IsPlaneOfSize};
-ghost use Rattle.ffv1_plane.specs.Progress.{IsReadTo, IsSampleRead, AreSkipped, IsPlaneRead};
-ghost use Rattle.ffv1_plane.specs.Halts.{IsSampleHalted, IsNextHalted, IsDecodingHalted};
-ghost use Rattle.ffv1_plane.specs.declared.plane.PlaneFault.TheVariants as PlaneFault;
+//!
+//! A `PlaneReader` has a state for each context of its tables.
+ghost use Rattle.std.specs.Prelude.{◌≡◌, ℕ, ◌<◌, ◌≤◌, ◌+◌, ◌*◌, ◌%◌, length, slice_index, List, Bool, OnOk, IfOk, IfErr, nat_abs, ℤ, true};
+ghost use Rattle.ffv1_bits.specs.Limits.{greatest_side};
+ghost use Rattle.ffv1_range.specs.Setup.{set_contexts, set_entry};
+ghost use Rattle.ffv1_plane.specs.Samples.{IsPlaneOfSize, neighbours_at, context_of};
+ghost use Rattle.ffv1_plane.specs.Progress.{IsSampleRead, IsPlaneRead};
+ghost use Rattle.ffv1_plane.specs.Halts.{IsSampleHalted, IsDecodingHalted};
+ghost use Rattle.ffv1_plane.specs.Readers.{entry_of, HasStates, IsSamePlane, HasRead, IsHaltedAt};
 
+use crate::lines::Lines;
 use crate::neighbours::{Neighbours, sample_of};
 use crate::run::read_run;
+use crate::tables::Tables;
 use ffv1_bits::Bits;
-use ffv1_range::Setup;
 use ffv1_rice::{CodeFault, RunIndex, VlcState};
 use std::alloc::{AllocError, AllocFailed, Global};
 
@@ -33,142 +37,154 @@ impl From<AllocError> for PlaneFault {
     }
 }
 
-impl<T: Drop> From<AllocFailed<T>> for PlaneFault {
-    ghost use Rattle.std.specs.Prelude.{◌≡◌};
-    ghost use Rattle.ffv1_plane.specs.declared.plane.PlaneFault.TheVariants.{Memory};
-
-    ghost from_gives = { λ error result. result ≡ Memory };
-
-    fn from(_error: AllocFailed<T>) -> PlaneFault {
-        PlaneFault::Memory
-    }
+/// A plane that is read: its lines, the tables and the states of its contexts, the run index, and the bits that are left.
+#[derive(Drop)]
+pub(crate) struct PlaneReader<'t, 's, 'b> {
+    lines: Lines,
+    tables: &'t Tables<'s>,
+    states: Vec<VlcState>,
+    index: RunIndex,
+    bits: Bits<'b>,
 }
 
-/// Skips the next samples: each is what is predicted of it.
-#[tactic(auto, using(crate::proofs::Reading::none_skipped, crate::proofs::Reading::skip_more))]
-fn push_skipped(samples: &mut Vec<u8>, width: usize, count: u32) -> Result<(), PlaneFault>
-    requires some { 1 ≤ width }
-    requires width { width ≤ 16384 }
-    requires rows { length samples.old.items + count ≤ 16384 * width }
-    ensures len { OnOk result (length samples.new.items ≡ length samples.old.items + count) }
-    ensures skipped { OnOk result ((entry : ℕ → ℕ → ℤ) → AreSkipped width entry samples.old.items samples.new.items count) }
-    ensures bytes { OnOk result ((s : ℕ) → slice_index samples.new.items s < 256) }
-    ensures err { OnErr result (result ≡ Err PlaneFault.Memory) }
-{
-    for _ in 0..count {
-        let near = Neighbours::of_next(samples.as_slice(), width);
-        samples.push(near.prediction())?;
+impl PlaneReader<'_, '_, '_> {
+    /// Reads the next sample, a run's level or a scalar, by one code.
+    #[inline(always)]
+    fn read_code(&mut self, near: &Neighbours, context: i32, level: bool) -> Result<(), PlaneFault>
+        requires inside { self.old.lines.x < self.old.lines.width }
+        requires near { near.now ≡ neighbours_at self.old.lines.width self.old.lines.samples (length self.old.lines.samples) }
+        requires context { context ≡ context_of (entry_of self.old) near.now }
+        requires below { nat_abs context < length self.old.states.items }
+        ensures same { IsSamePlane self.old self.new }
+        ensures index { self.new.index ≡ self.old.index }
+        ensures moved { OnOk result (self.new.lines.x ≡ self.old.lines.x + 1) }
+        ensures read { OnOk result (IsSampleRead self.old.lines.width
+            (entry_of self.old) level self.old.lines.samples self.old.states.items self.old.bits.left
+            self.new.lines.samples self.new.states.items self.new.bits.left) }
+        ensures err { IfErr result (IsSampleHalted self.old.lines.width
+            (entry_of self.old) level self.old.lines.samples self.old.states.items self.old.bits.left) }
+    {
+        let state = &mut self.states[context.unsigned_abs() as usize];
+        let difference = match state.decode(&mut self.bits, level) {
+            Ok(difference) => difference,
+            Err(fault) => {
+                let sample = self.lines.place();
+                return Err(PlaneFault::Code { fault, sample });
+            }
+        };
+        self.lines
+            .push(sample_of(context, near.prediction(), difference));
+        Ok(())
     }
-    Ok(())
-}
 
-/// Reads the next sample, a run's level or a scalar, by one code.
-fn read_sample(
-    samples: &mut Vec<u8>,
-    width: usize,
-    setup: &Setup,
-    set: usize,
-    states: &mut Vec<VlcState>,
-    bits: &mut Bits,
-    level: bool,
-) -> Result<(), PlaneFault>
-    requires some { 1 ≤ width }
-    requires width { width ≤ 16384 }
-    requires rows { length samples.old.items < 16384 * width }
-    requires profile { IsInProfile setup.now }
-    requires set { set < length setup.now.sets }
-    requires contexts { length states.old.items ≡ set_contexts setup.now set }
-    ensures read { OnOk result (IsSampleRead width (set_entry setup.now set) level samples.old.items states.old.items bits.old.left samples.new.items states.new.items bits.new.left) }
-    ensures len { length states.new.items ≡ length states.old.items }
-    ensures one { OnOk result (length samples.new.items ≡ length samples.old.items + 1) }
-    ensures bytes { OnOk result ((s : ℕ) → slice_index samples.new.items s < 256) }
-    ensures err { IfErr result (IsSampleHalted width (set_entry setup.now set) level samples.old.items states.old.items bits.old.left) }
-{
-    let near = Neighbours::of_next(samples.as_slice(), width);
-    let context = near.context(setup, set);
-    let state = &mut states[context.unsigned_abs() as usize];
-    let difference = match state.decode(bits, level) {
-        Ok(difference) => difference,
-        Err(fault) => {
-            let sample = samples.len();
-            return Err(PlaneFault::Code { fault, sample });
+    /// Reads the level behind a run.
+    fn read_level(&mut self) -> Result<(), PlaneFault>
+        requires states { HasStates self.old }
+        requires inside { self.old.lines.x < self.old.lines.width }
+        ensures same { IsSamePlane self.old self.new }
+        ensures index { self.new.index ≡ self.old.index }
+        ensures moved { OnOk result (self.new.lines.x ≡ self.old.lines.x + 1) }
+        ensures read { OnOk result (IsSampleRead self.old.lines.width
+            (entry_of self.old) true self.old.lines.samples self.old.states.items self.old.bits.left
+            self.new.lines.samples self.new.states.items self.new.bits.left) }
+        ensures err { IfErr result (IsSampleHalted self.old.lines.width
+            (entry_of self.old) true self.old.lines.samples self.old.states.items self.old.bits.left) }
+    {
+        let near = self.lines.neighbours();
+        let context = self.tables.context(&near);
+        self.read_code(&near, context, true)
+    }
+
+    /// Reads a scalar, or a run with the level that ends it.
+    fn read_next(&mut self) -> Result<(), PlaneFault>
+        requires states { HasStates self.old }
+        requires inside { self.old.lines.x < self.old.lines.width }
+        ensures same { IsSamePlane self.old self.new }
+        ensures read { OnOk result ((earlier : ℕ → List ℤ) (whole : List Bool) → HasRead earlier whole self.old → HasRead earlier whole self.new) }
+        ensures more { OnOk result (self.old.lines.x < self.new.lines.x) }
+        ensures count { OnOk result (length self.new.lines.samples + self.old.lines.x ≡ length self.old.lines.samples + self.new.lines.x) }
+        ensures err { IfErr result (IsHaltedAt self.old) }
+    {
+        let near = self.lines.neighbours();
+        let context = self.tables.context(&near);
+        if context != 0 {
+            return self.read_code(&near, context, false);
         }
-    };
-    samples.push(sample_of(context, near.prediction(), difference))?;
-    Ok(())
-}
-
-/// Reads a scalar, or a run with the level that ends it.
-fn read_next(
-    samples: &mut Vec<u8>,
-    width: usize,
-    setup: &Setup,
-    set: usize,
-    states: &mut Vec<VlcState>,
-    index: &mut RunIndex,
-    bits: &mut Bits,
-) -> Result<(), PlaneFault>
-    requires some { 1 ≤ width }
-    requires width { width ≤ 16384 }
-    requires rows { length samples.old.items + width ≤ 16384 * width + length samples.old.items % width }
-    requires profile { IsInProfile setup.now }
-    requires set { set < length setup.now.sets }
-    requires contexts { length states.old.items ≡ set_contexts setup.now set }
-    ensures read { OnOk result ((earlier : ℕ → List ℤ) (whole : List Bool) → IsReadTo earlier width (set_entry setup.now set) whole samples.old.items index.old states.old.items bits.old.left → IsReadTo earlier width (set_entry setup.now set) whole samples.new.items index.new states.new.items bits.new.left) }
-    ensures len { length states.new.items ≡ length states.old.items }
-    ensures bytes { OnOk result ((s : ℕ) → slice_index samples.new.items s < 256) }
-    ensures more { OnOk result (length samples.old.items < length samples.new.items) }
-    ensures line { OnOk result (length samples.new.items + length samples.old.items % width ≤ length samples.old.items + width) }
-    ensures err { IfErr result (IsNextHalted width (set_entry setup.now set) samples.old.items index.old states.old.items bits.old.left) }
-{
-    let near = Neighbours::of_next(samples.as_slice(), width);
-    if near.context(setup, set) != 0 {
-        return read_sample(samples, width, setup, set, states, bits, false);
-    }
-    let left = width - samples.len() % width;
-    let count = match read_run(index, bits, left as u32) {
-        Ok(count) => count,
-        Err(cut) => {
-            let sample = samples.len() + cut.skipped as usize;
-            let fault = cut.fault;
-            return Err(PlaneFault::Code { fault, sample });
+        let left = self.lines.width() - self.lines.column();
+        let count = match read_run(&mut self.index, &mut self.bits, left as u32) {
+            Ok(count) => count as usize,
+            Err(cut) => {
+                let sample = self.lines.place() + cut.skipped as usize;
+                let fault = cut.fault;
+                return Err(PlaneFault::Code { fault, sample });
+            }
+        };
+        self.lines.skip(count);
+        if count < left {
+            self.read_level()
+        } else {
+            Ok(())
         }
-    };
-    push_skipped(samples, width, count)?;
-    if (count as usize) < left {
-        read_sample(samples, width, setup, set, states, bits, true)
-    } else {
+    }
+
+    /// Reads a row, from its first sample.
+    fn read_row(&mut self) -> Result<(), PlaneFault>
+        requires states { HasStates self.old }
+        requires start { self.old.lines.x ≡ 0 }
+        requires whole { length self.old.lines.samples % self.old.lines.width ≡ 0 }
+        ensures same { IsSamePlane self.old self.new }
+        ensures read { OnOk result ((earlier : ℕ → List ℤ) (whole : List Bool) → HasRead earlier whole self.old → HasRead earlier whole self.new) }
+        ensures full { OnOk result (self.new.lines.x ≡ self.new.lines.width) }
+        ensures count { OnOk result (length self.new.lines.samples ≡ length self.old.lines.samples + self.old.lines.width) }
+        ensures bytes { OnOk result ((s : ℕ) → slice_index self.new.lines.samples s < 256) }
+        ensures err { IfErr result (IsHaltedAt self.old) }
+    {
+        while self.lines.column() < self.lines.width() {
+            self.read_next()?;
+        }
         Ok(())
     }
 }
 
-/// Reads a plane of this size by a set of quantization tables. The states are those that planes before it have left;
-/// bits after its last sample are left.
-#[tactic(auto, using(crate::proofs::Reading::no_samples))]
+/// Reads a plane of this size. The states are those that planes before it have left, and come back as this one leaves
+/// them; bits after its last sample are left.
 pub(crate) fn decode_plane(
     alloc: Global,
     width: usize,
     height: usize,
-    setup: &Setup,
-    set: usize,
-    states: &mut Vec<VlcState>,
+    tables: &Tables,
+    states: Vec<VlcState>,
     bits: &mut Bits,
-) -> Result<Vec<u8>, PlaneFault>
+) -> Result<(Vec<u8>, Vec<VlcState>), PlaneFault>
     requires some { 1 ≤ width }
-    requires width { width ≤ 16384 }
-    requires height { height ≤ 16384 }
-    requires profile { IsInProfile setup.now }
-    requires set { set < length setup.now.sets }
-    requires contexts { length states.old.items ≡ set_contexts setup.now set }
-    ensures len { length states.new.items ≡ length states.old.items }
-    ensures size { IfOk result (λ samples. IsPlaneOfSize width height samples.items) }
-    ensures read { IfOk result (λ samples. IsPlaneRead width height (set_entry setup.now set) states.old.items bits.old.left samples.items states.new.items bits.new.left) }
-    ensures err { IfErr result (IsDecodingHalted width height (set_entry setup.now set) states.old.items bits.old.left) }
+    requires width { width ≤ greatest_side }
+    requires height { height ≤ greatest_side }
+    requires contexts { length states.items ≡ set_contexts tables.now.setup tables.now.set }
+    ensures len { IfOk result (λ read. length read.1.items ≡ length states.items) }
+    ensures size { IfOk result (λ read. IsPlaneOfSize width height read.0.items) }
+    ensures read { IfOk result (λ read. IsPlaneRead width height (set_entry tables.now.setup tables.now.set) states.items bits.old.left read.0.items
+        read.1.items bits.new.left) }
+    ensures err { IfErr result (IsDecodingHalted width height (set_entry tables.now.setup tables.now.set) states.items bits.old.left) }
 {
-    let mut index = RunIndex::start();
-    let mut samples = Vec::with_capacity(alloc, width * height)?;
-    while samples.len() < width * height {
-        read_next(&mut samples, width, setup, set, states, &mut index, bits)?;
+    let lines = Lines::new(alloc, width, height)?;
+    let mut reader = PlaneReader {
+        lines,
+        tables,
+        states,
+        index: RunIndex::start(),
+        bits: bits.fork(),
+    };
+    for _ in 0..height {
+        reader.read_row()?;
+        reader.lines.end_row()?;
     }
-    Ok(samples)
+    let PlaneReader {
+        lines,
+        tables: _,
+        states,
+        index: _,
+        bits: behind,
+    } = reader;
+    *bits = behind;
+    Ok((lines.into_rows(), states))
 }

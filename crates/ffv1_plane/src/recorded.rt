@@ -1,5 +1,5 @@
 //! Frames that FFmpeg 5.1 wrote: the content of each slice, in tile order, and for each plane of its tile the remainder
-//! of the samples that FFmpeg decodes, followed by four bytes of 0.
+//! of the samples that FFmpeg decodes, followed by four bytes of 0. `tests/recorded` makes this file from `tests/real`.
 
 /// A gray frame of 48x32 in 2x2 tiles.
 pub(super) const GRAY: [(&[u8], &[u32]); 4] = [

@@ -1,5 +1,6 @@
 //! A whole run of samples that are what is predicted of them (RFC 9043, section 3.8.2.2.1).
 ghost use Rattle.std.specs.Prelude.{◌≡◌, ◌≤◌, IfOk, IfErr};
+ghost use Rattle.ffv1_bits.specs.Limits.{greatest_side};
 ghost use Rattle.ffv1_rice.specs.declared.code.CodeFault.TheVariants as CodeFault;
 ghost use Rattle.ffv1_plane.specs.Progress.{IsRunRead};
 ghost use Rattle.ffv1_plane.specs.Halts.{IsRunCut};
@@ -19,7 +20,7 @@ pub(crate) struct CutRun {
 #[tactic(auto, using(crate::proofs::Runs::begin_run, crate::proofs::Runs::full_length, crate::proofs::Runs::more_run, crate::proofs::Runs::rest_run, crate::proofs::Runs::end_run, crate::proofs::Runs::line_run, crate::proofs::Runs::cut_run))]
 pub(crate) fn read_run(index: &mut RunIndex, bits: &mut Bits, left: u32) -> Result<u32, CutRun>
     requires some_left { 1 ≤ left }
-    requires few_left { left ≤ 16384 }
+    requires few_left { left ≤ greatest_side }
     ensures ok { IfOk result (λ n. IsRunRead left index.old bits.old.left n index.new bits.new.left) }
     ensures truncated { IfErr result (λ cut. cut.fault ≡ CodeFault.Truncated) }
     ensures err { IfErr result (λ cut. IsRunCut left index.old bits.old.left cut.skipped) }

@@ -3,6 +3,7 @@
 //! Planes stand in the order Y, Cb, Cr, and a gray tile has Y alone. The adaptive states start anew in each slice: there
 //! are some for Y, and some for Cb and Cr together. Bits after the last sample are counted and ignored.
 ghost use Rattle.std.specs.Prelude.{◌≡◌, ◌≢◌, ◌<◌, ◌≤◌, ◌^◌, ◌==◌, ℕ, Err, length, map, IfOk, IfErr, MatchResult, ◌⊎◌};
+ghost use Rattle.ffv1_bits.specs.Limits.{payload_limit};
 ghost use Rattle.ffv1_range.specs.Setup.{IsInProfile, set_contexts, set_entry};
 ghost use Rattle.ffv1_range.specs.Tiles.{grid_of, tile_count, plane_count, plane_rect};
 ghost use Rattle.ffv1_plane.specs.Progress.{AreStatesAfter, IsPlaneRead};
@@ -19,6 +20,7 @@ ghost use Rattle.ffv1_range.specs.declared.head.SliceHead.{SliceHead};
 ghost use Rattle.ffv1_plane.specs.declared.tile.TileFault.TheVariants as TileFault;
 
 use crate::plane::{PlaneFault, decode_plane};
+use crate::tables::Tables;
 use ffv1_bits::Bits;
 use ffv1_range::{HeadFault, Setup, SliceHead, read_head};
 use ffv1_rice::{CodeFault, VlcState};
@@ -99,26 +101,29 @@ pub fn decode_tile(
     content: &[u8],
 ) -> Result<TilePicture, TileFault>
     requires tile { index < tile_count (grid_of setup.now) }
-    requires content { length content.now ≤ 2 ^ 30 }
+    requires content { length content.now ≤ payload_limit }
 
     // The answer is the picture that the content spells.
     ensures ok { IfOk result (λ picture. IsPictureOf setup.now index content.now (picture_value picture)) }
 
     // Wherever the content spells a picture, that is the answer, or want of memory.
-    ensures found { (picture : PictureValue) → IsPictureOf setup.now index content.now picture → MatchResult result (λ read. picture_value read ≡ picture) (λ fault. fault ≡ TileFault.Memory) }
+    ensures found { (picture : PictureValue) → IsPictureOf setup.now index content.now picture
+        → MatchResult result (λ read. picture_value read ≡ picture) (λ fault. fault ≡ TileFault.Memory) }
 
     // A content without a header of the profile is refused for the header's first fault ..
     ensures head { (fault : HeadFault) → head_read (header_limits setup.now) content.now (index == 0) ≡ Err fault → result ≡ Err (TileFault.Head fault) }
 
     // .. one with a header of another tile for that ..
-    ensures other { (head : SliceHead) (place : ℕ) → IsHeadOf (header_limits setup.now) content.now (index == 0) head place → head.tile ≢ index → result ≡ Err TileFault.OtherTile }
+    ensures other { (head : SliceHead) (place : ℕ) → IsHeadOf (header_limits setup.now) content.now (index == 0) head place → head.tile ≢ index
+        → result ≡ Err TileFault.OtherTile }
 
     // .. and each refusal but want of memory is the one that the content gives: with a header of this tile, a fault of a run
     // word or a code, which tells where the content is stuck ..
     ensures refused { IfErr result (λ fault. (fault ≡ TileFault.Memory) ⊎ IsRefusedFor setup.now index content.now fault) }
 
     // .. and wherever it is stuck, that is the answer, or want of memory.
-    ensures stuck { (fault : CodeFault) (plane y x : ℕ) → IsStuckAt setup.now index content.now fault plane y x → MatchResult result (λ read. ⊥) (λ told. (told ≡ TileFault.Memory) ⊎ (told ≡ TileFault.Code fault plane y x)) }
+    ensures stuck { (fault : CodeFault) (plane y x : ℕ) → IsStuckAt setup.now index content.now fault plane y x
+        → MatchResult result (λ read. ⊥) (λ told. (told ≡ TileFault.Memory) ⊎ (told ≡ TileFault.Code fault plane y x)) }
 {
     setup.keeps_profile();
     let (head, place) = read_head(setup, content, index == 0)?;
@@ -168,8 +173,10 @@ fn decode_luma(
     ensures ok { IfOk result (λ samples. IsLumaRead setup.now head.now bits.old.left samples.items bits.new.left) }
     ensures err { IfErr result (IsLumaHalted setup.now head.now bits.old.left) }
 {
-    let mut states = start_states(alloc, setup, head.table_y)?;
-    decode_plane_of(alloc, setup, head, 0, &mut states, bits)
+    let tables = Tables::of(setup, head.table_y);
+    let states = start_states(alloc, setup, head.table_y)?;
+    let (samples, _) = decode_plane_of(alloc, setup, head, 0, &tables, states, bits)?;
+    Ok(samples)
 }
 
 /// Decodes the planes Cb and Cr. Their states start anew before Cb, and Cr goes on with them.
@@ -187,14 +194,15 @@ fn decode_chroma(
     ensures ok { IfOk result (λ planes. IsChromaRead setup.now head.now bits.old.left planes.0.items planes.1.items bits.new.left) }
     ensures err { IfErr result (IsChromaHalted setup.now head.now bits.old.left) }
 {
-    let mut states = start_states(alloc, setup, head.table_c)?;
-    let cb = decode_plane_of(alloc, setup, head, 1, &mut states, bits)?;
-    let cr = decode_plane_of(alloc, setup, head, 2, &mut states, bits)?;
+    let tables = Tables::of(setup, head.table_c);
+    let states = start_states(alloc, setup, head.table_c)?;
+    let (cb, states) = decode_plane_of(alloc, setup, head, 1, &tables, states, bits)?;
+    let (cr, _) = decode_plane_of(alloc, setup, head, 2, &tables, states, bits)?;
     Ok((cb, cr))
 }
 
-/// The start state for each context of a set.
-fn start_states(alloc: Global, setup: &Setup, set: usize) -> Result<Vec<VlcState>, AllocError>
+/// The start state for each context of a set of a setup (RFC 9043, section 3.8.2.4). A growth of memory can be refused.
+pub fn start_states(alloc: Global, setup: &Setup, set: usize) -> Result<Vec<VlcState>, AllocError>
     requires { set < length setup.now.sets }
     ensures len { IfOk result (λ states. length states.items ≡ set_contexts setup.now set) }
     ensures fresh { IfOk result (λ states. AreStatesAfter no_values states.items) }
@@ -202,31 +210,35 @@ fn start_states(alloc: Global, setup: &Setup, set: usize) -> Result<Vec<VlcState
     vec![in alloc; VlcState::start(); setup.contexts(set) as usize]
 }
 
-/// Decodes one plane of a tile, with the states that those before it have left.
+/// Decodes one plane of a tile by its tables, with the states that those before it have left, and gives those that it
+/// leaves.
 fn decode_plane_of(
     alloc: Global,
     setup: &Setup,
     head: &SliceHead,
     plane: usize,
-    states: &mut Vec<VlcState>,
+    tables: &Tables,
+    states: Vec<VlcState>,
     bits: &mut Bits,
-) -> Result<Vec<u8>, TileFault>
+) -> Result<(Vec<u8>, Vec<VlcState>), TileFault>
     requires profile { IsInProfile setup.now }
     requires tile { head.now.tile < tile_count (grid_of setup.now) }
     requires plane { plane < plane_count (grid_of setup.now) }
     requires luma_table { head.now.table_y < length setup.now.sets }
     requires chroma_table { head.now.table_c < length setup.now.sets }
-    requires contexts { length states.old.items ≡ set_contexts setup.now (plane_set head.now plane) }
-    ensures len { length states.new.items ≡ length states.old.items }
-    ensures size { IfOk result (λ samples. IsPlaneIn (plane_rect (grid_of setup.now) head.now.tile plane) samples.items) }
-    ensures read { IfOk result (λ samples. IsPlaneRead (plane_rect (grid_of setup.now) head.now.tile plane).w (plane_rect (grid_of setup.now) head.now.tile plane).h (set_entry setup.now (plane_set head.now plane)) states.old.items bits.old.left samples.items states.new.items bits.new.left) }
-    ensures err { IfErr result (IsPlaneOfHalted setup.now head.now plane states.old.items bits.old.left) }
+    requires tables { tables.now ≡ record { setup = setup.now; set = plane_set head.now plane } }
+    requires contexts { length states.items ≡ set_contexts setup.now (plane_set head.now plane) }
+    ensures len { IfOk result (λ read. length read.1.items ≡ length states.items) }
+    ensures size { IfOk result (λ read. IsPlaneIn (plane_rect (grid_of setup.now) head.now.tile plane) read.0.items) }
+    ensures read { IfOk result (λ read. IsPlaneRead (plane_rect (grid_of setup.now) head.now.tile plane).w
+        (plane_rect (grid_of setup.now) head.now.tile plane).h (set_entry setup.now
+        (plane_set head.now plane)) states.items bits.old.left read.0.items read.1.items bits.new.left) }
+    ensures err { IfErr result (IsPlaneOfHalted setup.now head.now plane states.items bits.old.left) }
 {
     let rect = setup.grid().plane_rect(head.tile, plane);
     let (width, height) = (rect.w as usize, rect.h as usize);
-    let set = table_set(head, plane);
-    match decode_plane(alloc, width, height, setup, set, states, bits) {
-        Ok(samples) => Ok(samples),
+    match decode_plane(alloc, width, height, tables, states, bits) {
+        Ok(read) => Ok(read),
         Err(PlaneFault::Memory) => Err(TileFault::Memory),
         Err(PlaneFault::Code { fault, sample }) => Err(TileFault::Code {
             fault,
@@ -234,17 +246,6 @@ fn decode_plane_of(
             y: sample / width,
             x: sample % width,
         }),
-    }
-}
-
-/// The set of tables of a plane: Y has the header's first, Cb and Cr have its second.
-fn table_set(head: &SliceHead, plane: usize) -> usize
-    ensures { result ≡ plane_set head.now plane }
-{
-    if plane == 0 {
-        head.table_y
-    } else {
-        head.table_c
     }
 }
 

@@ -1,14 +1,12 @@
 -- The entries of a set's tables come to less than the number of its contexts.
-use Rattle.std.proofs.Common.{◌≡◌, ℕ, zero, suc, ◌+◌, ◌-◌, ◌*◌, ◌<◌, ◌≤◌, Bool, true, false, cond, List, [], ◌∷◌, length, map, refl, sym, ap, ◌∙◌, subst, arith, inl, inr, ⊎_elim, ℤ, pos, neg_ℤ, nat_abs, get_or, eqb, ltb}
+use Rattle.std.proofs.Common.{◌≡◌, ℕ, zero, suc, ◌+◌, ◌-◌, ◌*◌, ◌<◌, ◌≤◌, Bool, true, false, cond, List, [], ◌∷◌, length, map, refl, ap, ◌∙◌, arith, ⊎_elim, pos, neg_ℤ, nat_abs, get_or, eqb, ltb}
 use Rattle.std.specs.Prelude.{nat_le, sum, slice_index}
-use Rattle.std.specs.List.{All, range_with_len}
+use Rattle.std.specs.List.{All}
 use Rattle.std.proofs.Math.Nat.{mul-le-mul_left}
-use Rattle.std.proofs.lemmas.Bool.{le-leb, lt-leb, cases_lt}
-use Rattle.std.proofs.lemmas.Int.{ints}
-use Rattle.std.proofs.lemmas.List.{get_or-map, length-map}
+use Rattle.std.proofs.lemmas.Bool.{lt-leb, cases_lt}
 use Rattle.std.proofs.lemmas.List.FromFn.{get_or-map-range_with_len, length-map-range_with_len}
 use Rattle.std.proofs.lemmas.List.Sums.{sum_by-cons}
-use Rattle.ffv1_range.specs.Tables.{SetValue, IsTable, IsTableSet, HasContexts, HaveContexts, AreScalesSmall, runs_ended, half_of, halves_of, table_entry, scale_after, scale_after_all, set_of}
+use Rattle.ffv1_range.specs.Tables.{IsTable, IsTableSet, HasContexts, HaveContexts, AreScalesSmall, runs_ended, half_of, halves_of, table_entry, scale_after, scale_after_all, set_of}
 use Rattle.ffv1_range.specs.Setup.{SetFields, IsSetFields}
 
 past_end : {X : Type 0} (xs : List X) (i : ℕ) (d : X) → length xs ≤ i → get_or xs i d ≡ d
@@ -21,10 +19,6 @@ past_end (x ∷ xs) (suc i) d h = past_end xs i d (omega arith)
 ended_or : (b : Bool) (n m : ℕ) → n ≤ m → cond b 1 0 + n ≤ suc m
 ended_or true n m h = omega arith
 ended_or false n m h = omega arith
-
-all_ended : (from : ℕ) (runs : List ℕ) (k : ℕ) → runs_ended from runs k ≤ length runs
-all_ended from [] k = omega arith
-all_ended from (len ∷ runs) k = ended_or (nat_le (from + len) k) (runs_ended (from + len) runs k) (length runs) (all_ended (from + len) runs k)
 
 -- the last run ends behind the entries
 last_not_ended : (from : ℕ) (runs : List ℕ) (k : ℕ) → k < from + sum runs → 0 < length runs → runs_ended from runs k ≤ length runs - 1
@@ -46,7 +40,8 @@ some_runs (len ∷ runs) h = omega arith
 half_low : (scale : ℕ) (runs : List ℕ) (k : ℕ) → IsTable runs → slice_index (half_of scale runs) k ≤ scale * (length runs - 1)
 half_low scale runs k h = ⊎_elim
     (λ inside.
-    let is : slice_index (half_of scale runs) k ≡ scale * runs_ended 0 runs k = get_or-map-range_with_len (λ j. scale * runs_ended 0 runs j) 0 128 k k 0 inside (omega arith) in
+    let is : slice_index (half_of scale runs) k ≡ scale * runs_ended 0 runs k =
+    get_or-map-range_with_len (λ j. scale * runs_ended 0 runs j) 0 128 k k 0 inside (omega arith) in
     let few : runs_ended 0 runs k ≤ length runs - 1 = last_not_ended 0 runs k (let whole : sum runs ≡ 128 = h.whole in omega arith) (some_runs runs h) in
     let scaled : scale * runs_ended 0 runs k ≤ scale * (length runs - 1) = mul-le-mul_left scale few in
     omega (arith, is, scaled))
@@ -76,9 +71,11 @@ greatest_of scale (runs ∷ tables) (suc table) = greatest_of (scale_after scale
 rest_are : (runs : List ℕ) (tables : List (List ℕ)) → All IsTable (runs ∷ tables) → All IsTable tables
 rest_are runs tables h k d less = h (suc k) d (omega arith)
 
-within_greatest : (scale : ℕ) (tables : List (List ℕ)) (table k : ℕ) → All IsTable tables → nat_abs (table_entry (get_or (halves_of scale tables) table []) k) ≤ greatest_of scale tables table
+within_greatest : (scale : ℕ) (tables : List (List ℕ)) (table k : ℕ) → All IsTable tables
+    → nat_abs (table_entry (get_or (halves_of scale tables) table []) k) ≤ greatest_of scale tables table
 within_greatest scale [] table k h = entry_of_bound [] 0 k (λ j. omega arith)
-within_greatest scale (runs ∷ tables) zero k h = entry_of_bound (half_of scale runs) (scale * (length runs - 1)) k (λ j. half_low scale runs j (h 0 [] (omega arith)))
+within_greatest scale (runs ∷ tables) zero k h = entry_of_bound (half_of scale runs) (scale * (length runs - 1)) k
+    (λ j. half_low scale runs j (h 0 [] (omega arith)))
 within_greatest scale (runs ∷ tables) (suc table) k h = within_greatest (scale_after scale runs) tables table k (rest_are runs tables h)
 
 -- ---- the scale
@@ -96,7 +93,8 @@ small_scale scale [] low h = low
 small_scale scale (runs ∷ tables) low h = small_scale (scale_after scale runs) tables h.0 h.1
 
 five_come_to : (tables : List (List ℕ)) → length tables ≡ 5 → All IsTable tables
-    → scale_after_all 1 tables ≡ 1 + 2 * (greatest_of 1 tables 0 + greatest_of 1 tables 1 + greatest_of 1 tables 2 + greatest_of 1 tables 3 + greatest_of 1 tables 4)
+    → scale_after_all 1 tables ≡ 1 + 2 * (greatest_of 1 tables 0 + greatest_of 1 tables 1 + greatest_of 1 tables 2 + greatest_of 1 tables 3
+    + greatest_of 1 tables 4)
 five_come_to (a ∷ b ∷ c ∷ d ∷ e ∷ []) five h =
     let s1 = scale_after 1 a in
     let s2 = scale_after s1 b in

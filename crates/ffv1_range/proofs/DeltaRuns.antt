@@ -32,7 +32,8 @@ pub record AreRowsOf (rows : Rows) (two : TwoRows) : Type 0 where
 -- From p to q these pieces are coded, whatever the other rows are.
 abbrev pub AreCoded : Bool → List Piece → PlaceOf TwoRows → PlaceOf TwoRows → Type 0
 AreCoded closed pieces p q =
-    (rows : Rows) → AreRowsOf rows p.states → (after : Rows) × IsRowsRun closed (place_of p.coder rows) pieces (place_of q.coder after) × AreRowsOf after q.states
+    (rows : Rows) → AreRowsOf rows p.states → (after : Rows) × IsRowsRun closed (place_of p.coder rows) pieces (place_of q.coder after)
+    × AreRowsOf after q.states
 
 nothing_coded : (closed : Bool) (p : PlaceOf TwoRows) → AreCoded closed [] p p
 unfolding IsRowsRun
@@ -78,7 +79,8 @@ pub record DeltaAt (closed : Bool) (k : ℕ) (c : Coder) (deltas : List (List �
   pub small : IsSymbol (unsigned_abs y.0)
   pub coded : (main : List ℕ) → AreCoded closed ((1 + k, signed_symbol_bits y.0) ∷ []) (place_of c (main, deltas)) (place_of y.1.coder (main, y.1.states))
 
-delta-found : (closed : Bool) (k : ℕ) (c : Coder) (deltas : List (List ℕ)) (y : ℤ × PlaceOf (List (List ℕ))) → k < 32 → delta_form k closed (place_of c deltas) ≡ Ok y
+delta-found : (closed : Bool) (k : ℕ) (c : Coder) (deltas : List (List ℕ)) (y : ℤ × PlaceOf (List (List ℕ))) → k < 32
+    → delta_form k closed (place_of c deltas) ≡ Ok y
     → DeltaAt closed k c deltas y
 delta-found closed k c deltas y h g =
     let row : List ℕ = slice_index_or deltas k [] in
@@ -123,7 +125,8 @@ context-found closed zero k c deltas y e h =
       values = [];
       size = refl;
       small = All-nil IsDelta;
-      coded = λ main. subst (λ z. AreCoded closed [] (place_of c (main, deltas)) (place_of z.coder (main, z.states))) (ap (λ z. z.1) pair) (nothing_coded closed (place_of c (main, deltas)));
+      coded = λ main. subst (λ z. AreCoded closed [] (place_of c (main, deltas)) (place_of z.coder (main, z.states))) (ap (λ z. z.1) pair)
+          (nothing_coded closed (place_of c (main, deltas)));
     }
 context-found closed (suc n) k c deltas y e h =
     let x = bind_is_ok (delta_form k closed (place_of c deltas)) (λ x. context_rest n k x.0 closed x.1) y h in
@@ -134,17 +137,20 @@ context-found closed (suc n) k c deltas y e h =
       size = ap suc r.size;
       small = All-cons IsDelta x.0.0 r.values d.small r.small;
       coded = λ main.
-          both_coded closed ((1 + k, signed_symbol_bits x.0.0) ∷ []) (context_pieces (k + 1) r.values) (place_of c (main, deltas)) (place_of x.0.1.coder (main, x.0.1.states))
+          both_coded closed ((1 + k, signed_symbol_bits x.0.0) ∷ []) (context_pieces (k + 1) r.values) (place_of c (main, deltas))
+          (place_of x.0.1.coder (main, x.0.1.states))
           (place_of y.1.coder (main, y.1.states)) (d.coded main) (r.coded main);
     }
 
 -- What is read up to z, where its pieces are coded.
-pub record DeltasRead (closed : Bool) (form : Form (List (List ℕ)) (Unit {0}) SetupFault) (c : Coder) (main : List ℕ) (deltas : List (List ℕ)) (z : PlaceOf Rows) : Type 0 where
+pub record DeltasRead (closed : Bool) (form : Form (List (List ℕ)) (Unit {0}) SetupFault) (c : Coder) (main : List ℕ) (deltas : List (List ℕ))
+    (z : PlaceOf Rows) : Type 0 where
   pub after : List (List ℕ)
   pub read : form closed (place_of c deltas) ≡ Ok (tt, place_of z.coder after)
   pub matches : AreRowsOf z.states (main, after)
 
-context-run : (closed : Bool) (n k : ℕ) (values : List ℤ) (c : Coder) (main : List ℕ) (deltas : List (List ℕ)) (rows : Rows) (z : PlaceOf Rows) → length values ≡ n → k + n ≡ 32
+context-run : (closed : Bool) (n k : ℕ) (values : List ℤ) (c : Coder) (main : List ℕ) (deltas : List (List ℕ)) (rows : Rows) (z : PlaceOf Rows)
+    → length values ≡ n → k + n ≡ 32
     → All (λ delta. IsSymbol (unsigned_abs delta)) values → AreRowsOf rows (main, deltas) → IsRowsRun closed (place_of c rows) (context_pieces k values) z
     → DeltasRead closed (context_deltas n k) c main deltas z
 unfolding context_deltas context_rest context_pieces IsRowsRun
@@ -159,7 +165,8 @@ context-run closed zero k (delta ∷ values) c main deltas rows z size e small r
 context-run closed (suc n) k (delta ∷ values) c main deltas rows z size e small r run =
     let within : k < 32 = omega arith in
     let here = subst (λ w. IsRangeRun closed (place_of c w) (signed_symbol_bits delta) run.0) (r.deltas k within) run.1 in
-    let rest = context-run closed n (k + 1) values run.0.coder main (set deltas k run.0.states) (with_row rows (1 + k) run.0.states) z (omega (arith, size)) (omega arith)
+    let rest = context-run closed n (k + 1) values run.0.coder main (set deltas k run.0.states) (with_row rows (1 + k) run.0.states) z (omega (arith, size))
+    (omega arith)
     (All-tail IsDelta delta values small) (with_delta_row rows main run.0.states deltas k within r) run.2 in
     record {
       after = rest.after;
@@ -190,7 +197,8 @@ contexts-found closed zero c deltas y h =
       values = [];
       size = refl;
       each = All-nil IsContext;
-      coded = λ main. subst (λ z. AreCoded closed [] (place_of c (main, deltas)) (place_of z.coder (main, z.states))) (ap (λ z. z.1) pair) (nothing_coded closed (place_of c (main, deltas)));
+      coded = λ main. subst (λ z. AreCoded closed [] (place_of c (main, deltas)) (place_of z.coder (main, z.states))) (ap (λ z. z.1) pair)
+          (nothing_coded closed (place_of c (main, deltas)));
     }
 contexts-found closed (suc n) c deltas y h =
     let x = bind_is_ok (context_deltas 32 0 closed (place_of c deltas)) (λ x. contexts_rest n x.0 closed x.1) y h in
@@ -201,11 +209,13 @@ contexts-found closed (suc n) c deltas y h =
       size = ap suc r.size;
       each = All-cons IsContext d.values r.values (d.size, d.small) r.each;
       coded = λ main.
-          both_coded closed (context_pieces 0 d.values) (flat_map (context_pieces 0) r.values) (place_of c (main, deltas)) (place_of x.0.1.coder (main, x.0.1.states))
+          both_coded closed (context_pieces 0 d.values) (flat_map (context_pieces 0) r.values) (place_of c (main, deltas))
+          (place_of x.0.1.coder (main, x.0.1.states))
           (place_of y.1.coder (main, y.1.states)) (d.coded main) (r.coded main);
     }
 
-contexts-run : (closed : Bool) (n : ℕ) (values : List (List ℤ)) (c : Coder) (main : List ℕ) (deltas : List (List ℕ)) (rows : Rows) (z : PlaceOf Rows) → length values ≡ n
+contexts-run : (closed : Bool) (n : ℕ) (values : List (List ℤ)) (c : Coder) (main : List ℕ) (deltas : List (List ℕ)) (rows : Rows) (z : PlaceOf Rows)
+    → length values ≡ n
     → All IsContext values → AreRowsOf rows (main, deltas) → IsRowsRun closed (place_of c rows) (flat_map (context_pieces 0) values) z
     → DeltasRead closed (contexts_deltas n) c main deltas z
 unfolding contexts_deltas contexts_rest IsRowsRun
@@ -221,10 +231,12 @@ contexts-run closed (suc n) (values ∷ others) c main deltas rows z size each r
     let s = rows_split closed (context_pieces 0 values) (flat_map (context_pieces 0) others) (place_of c rows) z run in
     let head : IsContext values = All-head IsContext values others each in
     let first = context-run closed 32 0 values c main deltas rows s.0 head.0 refl head.1 r s.1 in
-    let rest = contexts-run closed n others s.0.coder main first.after s.0.states z (omega (arith, size)) (All-tail IsContext values others each) first.matches s.2 in
+    let rest = contexts-run closed n others s.0.coder main first.after s.0.states z (omega (arith, size))
+    (All-tail IsContext values others each) first.matches s.2 in
     record {
       after = rest.after;
-      read = bind_ok (context_deltas 32 0 closed (place_of c deltas)) (λ x. contexts_rest n x.0 closed x.1) (tt, place_of s.0.coder first.after) first.read ∙ rest.read;
+      read = bind_ok (context_deltas 32 0 closed (place_of c deltas))
+          (λ x. contexts_rest n x.0 closed x.1) (tt, place_of s.0.coder first.after) first.read ∙ rest.read;
       matches = rest.matches;
     }
 
@@ -257,8 +269,12 @@ set_rest_found : (closed : Bool) (contexts : ℕ) (c : Coder) (main : List ℕ) 
     → SetDeltasAt closed contexts (place_of c (main, deltas)) y.1
 unfolding coded_rest SetDeltasAt
 set_rest_found closed contexts c main deltas false q y run h =
-    let pair = same_ok (tt, place_of q.coder (q.states, deltas)) y h in
-    (None, tt, subst (λ z. AreCoded closed (deltas_pieces None) (place_of c (main, deltas)) z) (ap (λ z. z.1) pair) (flag_coded closed c main deltas false q run))
+    let pair = same_ok (tt, place_of q.coder (q.states, deltas)) y h in (
+      None,
+      tt,
+      subst (λ z. AreCoded closed (deltas_pieces None) (place_of c (main, deltas)) z) (ap (λ z. z.1) pair)
+          (flag_coded closed c main deltas false q run),
+    )
 set_rest_found closed contexts c main deltas true q y run h =
     let x = bind_is_ok (contexts_deltas contexts closed (place_of q.coder deltas)) (λ x. Ok (x.0, place_of x.1.coder (q.states, x.1.states))) y h in
     let r = contexts-found closed contexts q.coder deltas x.0 x.1 in
@@ -266,11 +282,13 @@ set_rest_found closed contexts c main deltas true q y run h =
       Some r.values,
       (r.size, r.each),
       subst (λ z. AreCoded closed (deltas_pieces (Some r.values)) (place_of c (main, deltas)) z) (ap (λ z. z.1) pair)
-          (both_coded closed ((0, fields_bits (bit true ∷ [])) ∷ []) (flat_map (context_pieces 0) r.values) (place_of c (main, deltas)) (place_of q.coder (q.states, deltas))
+          (both_coded closed ((0, fields_bits (bit true ∷ [])) ∷ []) (flat_map (context_pieces 0) r.values) (place_of c (main, deltas))
+          (place_of q.coder (q.states, deltas))
           (place_of x.0.1.coder (q.states, x.0.1.states)) (flag_coded closed c main deltas true q run) (r.coded q.states)),
     )
 
-set-deltas-found : (closed : Bool) (contexts : ℕ) (p : PlaceOf TwoRows) (y : Unit {0} × PlaceOf TwoRows) → set_deltas contexts closed p ≡ Ok y → SetDeltasAt closed contexts p y.1
+set-deltas-found : (closed : Bool) (contexts : ℕ) (p : PlaceOf TwoRows) (y : Unit {0} × PlaceOf TwoRows) → set_deltas contexts closed p ≡ Ok y
+    → SetDeltasAt closed contexts p y.1
 unfolding coded_rest
 set-deltas-found closed contexts p y h =
     let row : Place = place_of p.coder p.states.0 in
@@ -286,7 +304,8 @@ pub record TwoRead (closed : Bool) (form : Form TwoRows (Unit {0}) SetupFault) (
   pub read : form closed p ≡ Ok (tt, place_of z.coder after)
   pub matches : AreRowsOf z.states after
 
-set_rest_run : (closed : Bool) (contexts : ℕ) (deltas : Option (List (List ℤ))) (p : PlaceOf TwoRows) (rows : Rows) (z : PlaceOf Rows) → AreDeltas contexts deltas
+set_rest_run : (closed : Bool) (contexts : ℕ) (deltas : Option (List (List ℤ))) (p : PlaceOf TwoRows) (rows : Rows) (z : PlaceOf Rows)
+    → AreDeltas contexts deltas
     → AreRowsOf rows p.states → IsRowsRun closed (place_of p.coder rows) (deltas_pieces deltas) z → TwoRead closed (set_deltas contexts) p z
 unfolding coded_rest IsRowsRun
 set_rest_run closed contexts None p rows z are r run =
@@ -315,7 +334,8 @@ set_rest_run closed contexts (Some values) p rows z are r run =
           bind_ok (coded_flag_at closed p) (λ x. coded_rest contexts x.0 closed x.1) (true, place_of run.0.coder (run.0.states, p.states.1))
           (bind_ok (flag closed (place_of p.coder p.states.0)) (λ x. Ok (x.0, place_of x.1.coder (x.1.states, p.states.1))) (true, run.0)
           (f.read ∙ ap (λ w. Ok (true, w)) end))
-          ∙ bind_ok (contexts_deltas contexts closed (place_of run.0.coder p.states.1)) (λ x. Ok (x.0, place_of x.1.coder (run.0.states, x.1.states))) (tt, place_of z.coder d.after) d.read;
+          ∙ bind_ok (contexts_deltas contexts closed (place_of run.0.coder p.states.1))
+          (λ x. Ok (x.0, place_of x.1.coder (run.0.states, x.1.states))) (tt, place_of z.coder d.after) d.read;
       matches = d.matches;
     }
 
@@ -346,7 +366,8 @@ sets-deltas-found closed (set ∷ tables) p y each h =
       coded = both_coded closed (deltas_pieces d.0) (flat_map (λ set. deltas_pieces set.deltas) r.sets) p x.0.1 y.1 d.2 r.coded;
     }
 
-pub sets-deltas-run : (closed : Bool) (sets : List SetFields) (p : PlaceOf TwoRows) (rows : Rows) (z : PlaceOf Rows) → All IsSetFields sets → AreRowsOf rows p.states
+pub sets-deltas-run : (closed : Bool) (sets : List SetFields) (p : PlaceOf TwoRows) (rows : Rows) (z : PlaceOf Rows) → All IsSetFields sets
+    → AreRowsOf rows p.states
     → IsRowsRun closed (place_of p.coder rows) (flat_map (λ set. deltas_pieces set.deltas) sets) z
     → TwoRead closed (sets_deltas (map (λ set. set.contexts) (map (λ set. set_of set.tables) sets))) p z
 unfolding sets_deltas sets_rest IsRowsRun
@@ -361,7 +382,8 @@ sets-deltas-run closed (set ∷ sets) p rows z each r run =
     record {
       after = rest.after;
       read =
-          bind_ok (set_deltas (set_of set.tables).contexts closed p) (λ x. sets_rest (map (λ set. set.contexts) (map (λ set. set_of set.tables) sets)) x.0 closed x.1)
+          bind_ok (set_deltas (set_of set.tables).contexts closed p) (λ x.
+          sets_rest (map (λ set. set.contexts) (map (λ set. set_of set.tables) sets)) x.0 closed x.1)
           (tt, place_of s.0.coder first.after) first.read
           ∙ rest.read;
       matches = rest.matches;

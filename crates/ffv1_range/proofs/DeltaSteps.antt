@@ -82,14 +82,16 @@ sets_deltas-cons : (all sets : List ℕ) (contexts : ℕ) → all ≡ contexts �
 unfolding sets_deltas sets_rest
 sets_deltas-cons all sets contexts l = ap sets_deltas l
 
-pub sets_turn : (form : Form TwoRows (Unit {0}) SetupFault) (all sets : List ℕ) (contexts : ℕ) (q r s : Reader) (start rows after : TwoRows) → all ≡ contexts ∷ sets
+pub sets_turn : (form : Form TwoRows (Unit {0}) SetupFault) (all sets : List ℕ) (contexts : ℕ) (q r s : Reader) (start rows after : TwoRows)
+    → all ≡ contexts ∷ sets
     → Continues Range form q start (sets_deltas all) r rows → Reads Range (set_deltas contexts) r rows (Ok tt) s after
     → Continues Range form q start (sets_deltas sets) s after
 unfolding sets_rest
 sets_turn form all sets contexts q r s start rows after l so h =
     next_of Range form (sets_deltas all) (set_deltas contexts) (sets_rest sets) q r s start rows after tt (sets_deltas-cons all sets contexts l) so h
 
-pub sets_fails : (form : Form TwoRows (Unit {0}) SetupFault) (all sets : List ℕ) (contexts : ℕ) (e : SetupFault) (q r s : Reader) (start rows after : TwoRows) → all ≡ contexts ∷ sets
+pub sets_fails : (form : Form TwoRows (Unit {0}) SetupFault) (all sets : List ℕ) (contexts : ℕ) (e : SetupFault) (q r s : Reader)
+    (start rows after : TwoRows) → all ≡ contexts ∷ sets
     → Continues Range form q start (sets_deltas all) r rows → Reads Range (set_deltas contexts) r rows (Err e) s after → form_at Range form q start ≡ Err e
 sets_fails form all sets contexts e q r s start rows after l so h =
     stop_of Range form (sets_deltas all) (set_deltas contexts) (sets_rest sets) q r s start rows after e (sets_deltas-cons all sets contexts l) so h
@@ -103,6 +105,7 @@ pub deltas_fail : (contexts : List ℕ) (e : SetupFault) (r s : Reader) (row : L
     → form_at Range (deltas_form contexts) r row ≡ Err e
 deltas_fail contexts e r s row h = read_on Range beside_fresh_rows record_row_after (sets_deltas contexts) r s row (row, fresh_rows) (Err e) h
 
-pub deltas_read : (contexts : List ℕ) (r s : Reader) (row after : List ℕ) (rows : Rows) → Reads Range (sets_deltas contexts) r (row, fresh_rows) (Ok tt) s (after, rows)
+pub deltas_read : (contexts : List ℕ) (r s : Reader) (row after : List ℕ) (rows : Rows)
+    → Reads Range (sets_deltas contexts) r (row, fresh_rows) (Ok tt) s (after, rows)
     → Reads Range (deltas_form contexts) r row (Ok tt) s after
 deltas_read contexts r s row after rows h = read_on Range beside_fresh_rows record_row_after (sets_deltas contexts) r s row (after, rows) (Ok tt) h

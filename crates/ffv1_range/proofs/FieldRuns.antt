@@ -1,6 +1,7 @@
 -- The fields of a record are read where they are coded, and nowhere else.
 use Rattle.std.proofs.Common.{◌≡◌, ℕ, ◌+◌, ◌*◌, Bool, true, false, List, [], ◌∷◌, ◌++◌, Result, Ok, Err, refl, sym, ap, ◌∙◌, subst}
 use Rattle.std.specs.Prelude.{nat_le, ◌==◌, ◌||◌, ◌&&◌, not, if◌then◌else◌}
+use Rattle.ffv1_bits.specs.Limits.{most_tiles}
 use Rattle.ffv1_range.specs.Coding.{Place, IsRangeRun}
 use Rattle.ffv1_range.specs.Forms.{Form, ◌>>=◌, giving, accepted, lifted_result, slot_form}
 use Rattle.ffv1_range.specs.Reading.{symbol_form}
@@ -16,7 +17,8 @@ use Rattle.ffv1_range.proofs.Forms.{bind_ok}
 
 -- From p to q these fields are coded, whatever follows them.
 abbrev pub Extends : Bool → Place → Place → List FieldValue → Type 0
-Extends closed p q fields = (rest : List FieldValue) (z : Place) → IsRangeRun closed q (fields_bits rest) z → IsRangeRun closed p (fields_bits (fields ++ rest)) z
+Extends closed p q fields = (rest : List FieldValue) (z : Place) → IsRangeRun closed q (fields_bits rest) z
+    → IsRangeRun closed p (fields_bits (fields ++ rest)) z
 
 pub lifted_ok : {A : Type 0} (r : Result A RangeFault) (x : A) → lifted_result Range r ≡ Ok x → r ≡ Ok x
 lifted_ok (Ok y) x h = ap (λ z. Ok z) (same_ok y x h)
@@ -31,12 +33,20 @@ pub record NumberStep {A : Type 0} (closed : Bool) (p : Place) (k : ℕ → Form
   pub coded : Extends closed p place (symbol value ∷ [])
   pub rest : k value closed place ≡ Ok y
 
-pub number_step : {A : Type 0} (closed : Bool) (p : Place) (k : ℕ → Form (List ℕ) A SetupFault) (y : A × Place) → (number >>= k) closed p ≡ Ok y → NumberStep closed p k y
+pub number_step : {A : Type 0} (closed : Bool) (p : Place) (k : ℕ → Form (List ℕ) A SetupFault) (y : A × Place) → (number >>= k) closed p ≡ Ok y
+    → NumberStep closed p k y
 unfolding fields_bits
 number_step closed p k y h =
     let x = bind_is_ok (number closed p) (λ x. k x.0 closed x.1) y h in
     let spelled = (symbol_is_spelled closed p x.0.1 x.0.0).0 (lifted_ok (symbol_form closed p) x.0 x.1) in
-    record { value = x.0.0; place = x.0.1; small = spelled.0; coded = λ rest z run. run_append closed (symbol_bits x.0.0) (fields_bits rest) p x.0.1 z spelled.1 run; rest = x.2 }
+    record {
+      value = x.0.0;
+      place = x.0.1;
+      small = spelled.0;
+      coded =
+          λ rest z run. run_append closed (symbol_bits x.0.0) (fields_bits rest) p x.0.1 z spelled.1 run;
+      rest = x.2;
+    }
 
 pub record FlagStep {A : Type 0} (closed : Bool) (p : Place) (k : Bool → Form (List ℕ) A SetupFault) (y : A × Place) : Type 0 where
   pub value : Bool
@@ -44,13 +54,15 @@ pub record FlagStep {A : Type 0} (closed : Bool) (p : Place) (k : Bool → Form 
   pub coded : Extends closed p place (bit value ∷ [])
   pub rest : k value closed place ≡ Ok y
 
-pub flag_step : {A : Type 0} (closed : Bool) (p : Place) (k : Bool → Form (List ℕ) A SetupFault) (y : A × Place) → (flag >>= k) closed p ≡ Ok y → FlagStep closed p k y
+pub flag_step : {A : Type 0} (closed : Bool) (p : Place) (k : Bool → Form (List ℕ) A SetupFault) (y : A × Place) → (flag >>= k) closed p ≡ Ok y
+    → FlagStep closed p k y
 unfolding fields_bits IsRangeRun
 flag_step closed p k y h =
     let x = bind_is_ok (flag closed p) (λ x. k x.0 closed x.1) y h in
     record { value = x.0.0; place = x.0.1; coded = λ rest z run. (x.0.1, lifted_ok (slot_form 0 closed p) x.0 x.1, run); rest = x.2 }
 
-pub accepted_step : {A : Type 0} (closed : Bool) (p : Place) (t : Bool) (f : SetupFault) (k : Bool → Form (List ℕ) A SetupFault) (y : A × Place) → (accepted t f >>= k) closed p ≡ Ok y
+pub accepted_step : {A : Type 0} (closed : Bool) (p : Place) (t : Bool) (f : SetupFault) (k : Bool → Form (List ℕ) A SetupFault) (y : A × Place)
+    → (accepted t f >>= k) closed p ≡ Ok y
     → (t ≡ true) × (k true closed p ≡ Ok y)
 accepted_step closed p true f k y h = (refl, h)
 accepted_step closed p false f k y h = absurd cc
@@ -66,23 +78,28 @@ pub record FormRun {A : Type 0} (closed : Bool) (form : Form (List ℕ) A SetupF
   pub read : form closed p ≡ Ok (a, place)
   pub left : IsRangeRun closed place (fields_bits rest) z
 
-pub number_run : (closed : Bool) (p : Place) (a : ℕ) (rest : List FieldValue) (z : Place) → IsSymbol a → IsRangeRun closed p (fields_bits (symbol a ∷ rest)) z → FormRun closed number p a rest z
+pub number_run : (closed : Bool) (p : Place) (a : ℕ) (rest : List FieldValue) (z : Place) → IsSymbol a
+    → IsRangeRun closed p (fields_bits (symbol a ∷ rest)) z → FormRun closed number p a rest z
 unfolding fields_bits
 number_run closed p a rest z small run =
     let s = run_split closed (symbol_bits a) (fields_bits rest) p z run in
     record { place = s.0; read = ap (lifted_result Range) ((symbol_is_spelled closed p s.0 a).1 (small, s.1)); left = s.2 }
 
-pub flag_run : (closed : Bool) (p : Place) (b : Bool) (rest : List FieldValue) (z : Place) → IsRangeRun closed p (fields_bits (bit b ∷ rest)) z → FormRun closed flag p b rest z
+pub flag_run : (closed : Bool) (p : Place) (b : Bool) (rest : List FieldValue) (z : Place) → IsRangeRun closed p (fields_bits (bit b ∷ rest)) z
+    → FormRun closed flag p b rest z
 unfolding fields_bits IsRangeRun
 flag_run closed p b rest z run = record { place = run.0; read = ap (lifted_result Range) run.1; left = run.2 }
 
-pub number_then : {A : Type 0} (closed : Bool) (p q : Place) (a : ℕ) (k : ℕ → Form (List ℕ) A SetupFault) → number closed p ≡ Ok (a, q) → (number >>= k) closed p ≡ k a closed q
+pub number_then : {A : Type 0} (closed : Bool) (p q : Place) (a : ℕ) (k : ℕ → Form (List ℕ) A SetupFault) → number closed p ≡ Ok (a, q)
+    → (number >>= k) closed p ≡ k a closed q
 number_then closed p q a k h = bind_ok (number closed p) (λ x. k x.0 closed x.1) (a, q) h
 
-pub flag_then : {A : Type 0} (closed : Bool) (p q : Place) (b : Bool) (k : Bool → Form (List ℕ) A SetupFault) → flag closed p ≡ Ok (b, q) → (flag >>= k) closed p ≡ k b closed q
+pub flag_then : {A : Type 0} (closed : Bool) (p q : Place) (b : Bool) (k : Bool → Form (List ℕ) A SetupFault) → flag closed p ≡ Ok (b, q)
+    → (flag >>= k) closed p ≡ k b closed q
 flag_then closed p q b k h = bind_ok (flag closed p) (λ x. k x.0 closed x.1) (b, q) h
 
-pub accepted_then : {A : Type 0} (closed : Bool) (p : Place) (t : Bool) (f : SetupFault) (k : Bool → Form (List ℕ) A SetupFault) → t ≡ true → (accepted t f >>= k) closed p ≡ k true closed p
+pub accepted_then : {A : Type 0} (closed : Bool) (p : Place) (t : Bool) (f : SetupFault) (k : Bool → Form (List ℕ) A SetupFault) → t ≡ true
+    → (accepted t f >>= k) closed p ≡ k true closed p
 accepted_then closed p t f k e = ap (λ b. (accepted b f >>= k) closed p) e
 
 -- ---- versions
@@ -128,7 +145,8 @@ versions-found closed p y h =
       coded = λ rest z run. s0.coded (symbol s2.value ∷ rest) z (s2.coded rest z (subst (λ w. IsRangeRun closed w (fields_bits rest) z) (sym given.1) run));
     }
 
-pub versions-run : (closed : Bool) (version : ℕ) (micro : ℕ) (p : Place) (rest : List FieldValue) (z : Place) → (version == 3) ≡ true → (nat_le 4 micro) ≡ true → IsSymbol version → IsSymbol micro
+pub versions-run : (closed : Bool) (version : ℕ) (micro : ℕ) (p : Place) (rest : List FieldValue) (z : Place) → (version == 3) ≡ true
+    → (nat_le 4 micro) ≡ true → IsSymbol version → IsSymbol micro
     → IsRangeRun closed p (fields_bits (symbol version ∷ symbol micro ∷ rest)) z → FormRun closed versions p micro rest z
 unfolding version_rest_0 version_rest_1 version_rest_2 version_rest_3
 versions-run closed version micro p rest z t0 t1 k_version k_micro run =
@@ -146,7 +164,8 @@ versions-run closed version micro p rest z t0 t1 k_version k_micro run =
 -- ---- planes
 
 plane_rest_12 : ℕ → ℕ → ℕ → Bool → ℕ → ℕ → Bool → Bool → Form (List ℕ) PlanesValue SetupFault
-plane_rest_12 coder space depth chroma shift_h shift_v extra fits = giving (record { has_chroma = chroma; shift_h = if chroma then shift_h else 0; shift_v = if chroma then shift_v else 0 })
+plane_rest_12 coder space depth chroma shift_h shift_v extra fits = giving
+    (record { has_chroma = chroma; shift_h = if chroma then shift_h else 0; shift_v = if chroma then shift_v else 0 })
 
 plane_rest_11 : ℕ → ℕ → ℕ → Bool → ℕ → ℕ → Bool → Form (List ℕ) PlanesValue SetupFault
 plane_rest_11 coder space depth chroma shift_h shift_v extra = accepted (not extra) ExtraPlane >>= plane_rest_12 coder space depth chroma shift_h shift_v extra
@@ -155,7 +174,8 @@ plane_rest_10 : ℕ → ℕ → ℕ → Bool → ℕ → ℕ → Bool → Form (
 plane_rest_10 coder space depth chroma shift_h shift_v fits = flag >>= plane_rest_11 coder space depth chroma shift_h shift_v
 
 plane_rest_9 : ℕ → ℕ → ℕ → Bool → ℕ → ℕ → Form (List ℕ) PlanesValue SetupFault
-plane_rest_9 coder space depth chroma shift_h shift_v = accepted (not chroma || nat_le shift_v 2) Subsampling >>= plane_rest_10 coder space depth chroma shift_h shift_v
+plane_rest_9 coder space depth chroma shift_h shift_v = accepted (not chroma || nat_le shift_v 2) Subsampling >>= plane_rest_10 coder space depth chroma
+    shift_h shift_v
 
 plane_rest_8 : ℕ → ℕ → ℕ → Bool → ℕ → Bool → Form (List ℕ) PlanesValue SetupFault
 plane_rest_8 coder space depth chroma shift_h fits = number >>= plane_rest_9 coder space depth chroma shift_h
@@ -217,12 +237,19 @@ planes-found closed p y h =
     let s5 = accepted_step closed s4.place (s4.value == 0 || s4.value == 8) Depth (plane_rest_5 s0.value s2.value s4.value) y s4.rest in
     let s6 = flag_step closed s4.place (plane_rest_6 s0.value s2.value s4.value) y s5.1 in
     let s7 = number_step closed s6.place (plane_rest_7 s0.value s2.value s4.value s6.value) y s6.rest in
-    let s8 = accepted_step closed s7.place (not s6.value || nat_le s7.value 2) Subsampling (plane_rest_8 s0.value s2.value s4.value s6.value s7.value) y s7.rest in
+    let s8 = accepted_step closed s7.place (not s6.value || nat_le s7.value 2) Subsampling
+    (plane_rest_8 s0.value s2.value s4.value s6.value s7.value) y s7.rest in
     let s9 = number_step closed s7.place (plane_rest_9 s0.value s2.value s4.value s6.value s7.value) y s8.1 in
-    let s10 = accepted_step closed s9.place (not s6.value || nat_le s9.value 2) Subsampling (plane_rest_10 s0.value s2.value s4.value s6.value s7.value s9.value) y s9.rest in
+    let s10 = accepted_step closed s9.place (not s6.value || nat_le s9.value 2) Subsampling
+    (plane_rest_10 s0.value s2.value s4.value s6.value s7.value s9.value) y s9.rest in
     let s11 = flag_step closed s9.place (plane_rest_11 s0.value s2.value s4.value s6.value s7.value s9.value) y s10.1 in
-    let s12 = accepted_step closed s11.place (not s11.value) ExtraPlane (plane_rest_12 s0.value s2.value s4.value s6.value s7.value s9.value s11.value) y s11.rest in
-    let given = given_step (record { has_chroma = s6.value; shift_h = if s6.value then s7.value else 0; shift_v = if s6.value then s9.value else 0 }) s11.place y s12.1 in
+    let s12 = accepted_step closed s11.place (not s11.value) ExtraPlane
+    (plane_rest_12 s0.value s2.value s4.value s6.value s7.value s9.value s11.value) y s11.rest in
+    let given = given_step (record {
+      has_chroma = s6.value;
+      shift_h = if s6.value then s7.value else 0;
+      shift_v = if s6.value then s9.value else 0;
+    }) s11.place y s12.1 in
     record {
       coder = s0.value;
       space = s2.value;
@@ -243,11 +270,20 @@ planes-found closed p y h =
       small_shift_h = s7.small;
       small_shift_v = s9.small;
       is = given.0;
-      coded = λ rest z run. s0.coded (symbol s2.value ∷ symbol s4.value ∷ bit s6.value ∷ symbol s7.value ∷ symbol s9.value ∷ bit s11.value ∷ rest) z (s2.coded (symbol s4.value ∷ bit s6.value ∷ symbol s7.value ∷ symbol s9.value ∷ bit s11.value ∷ rest) z (s4.coded (bit s6.value ∷ symbol s7.value ∷ symbol s9.value ∷ bit s11.value ∷ rest) z (s6.coded (symbol s7.value ∷ symbol s9.value ∷ bit s11.value ∷ rest) z (s7.coded (symbol s9.value ∷ bit s11.value ∷ rest) z (s9.coded (bit s11.value ∷ rest) z (s11.coded rest z (subst (λ w. IsRangeRun closed w (fields_bits rest) z) (sym given.1) run)))))));
+      coded = λ rest z run. s0.coded (symbol s2.value ∷ symbol s4.value ∷ bit s6.value ∷ symbol s7.value ∷ symbol s9.value ∷ bit s11.value ∷ rest) z
+          (s2.coded (symbol s4.value ∷ bit s6.value ∷ symbol s7.value ∷ symbol s9.value ∷ bit s11.value ∷ rest) z
+          (s4.coded (bit s6.value ∷ symbol s7.value ∷ symbol s9.value ∷ bit s11.value ∷ rest) z
+          (s6.coded (symbol s7.value ∷ symbol s9.value ∷ bit s11.value ∷ rest) z
+          (s7.coded (symbol s9.value ∷ bit s11.value ∷ rest) z (s9.coded (bit s11.value ∷ rest) z
+          (s11.coded rest z (subst (λ w. IsRangeRun closed w (fields_bits rest) z) (sym given.1) run)))))));
     }
 
-pub planes-run : (closed : Bool) (coder : ℕ) (space : ℕ) (depth : ℕ) (chroma : Bool) (shift_h : ℕ) (shift_v : ℕ) (extra : Bool) (p : Place) (rest : List FieldValue) (z : Place) → (coder == 0) ≡ true → (space == 0) ≡ true → (depth == 0 || depth == 8) ≡ true → (not chroma || nat_le shift_h 2) ≡ true → (not chroma || nat_le shift_v 2) ≡ true → (not extra) ≡ true → IsSymbol coder → IsSymbol space → IsSymbol depth → IsSymbol shift_h → IsSymbol shift_v
-    → IsRangeRun closed p (fields_bits (symbol coder ∷ symbol space ∷ symbol depth ∷ bit chroma ∷ symbol shift_h ∷ symbol shift_v ∷ bit extra ∷ rest)) z → FormRun closed planes p (record { has_chroma = chroma; shift_h = if chroma then shift_h else 0; shift_v = if chroma then shift_v else 0 }) rest z
+pub planes-run : (closed : Bool) (coder : ℕ) (space : ℕ) (depth : ℕ) (chroma : Bool) (shift_h : ℕ) (shift_v : ℕ) (extra : Bool) (p : Place)
+    (rest : List FieldValue) (z : Place) → (coder == 0) ≡ true → (space == 0) ≡ true → (depth == 0 || depth == 8) ≡ true
+    → (not chroma || nat_le shift_h 2) ≡ true → (not chroma || nat_le shift_v 2) ≡ true → (not extra) ≡ true → IsSymbol coder → IsSymbol space
+    → IsSymbol depth → IsSymbol shift_h → IsSymbol shift_v
+    → IsRangeRun closed p (fields_bits (symbol coder ∷ symbol space ∷ symbol depth ∷ bit chroma ∷ symbol shift_h ∷ symbol shift_v ∷ bit extra ∷ rest)) z
+    → FormRun closed planes p (record { has_chroma = chroma; shift_h = if chroma then shift_h else 0; shift_v = if chroma then shift_v else 0 }) rest z
 unfolding plane_rest_0 plane_rest_1 plane_rest_2 plane_rest_3 plane_rest_4 plane_rest_5 plane_rest_6 plane_rest_7 plane_rest_8 plane_rest_9 plane_rest_10 plane_rest_11 plane_rest_12
 planes-run closed coder space depth chroma shift_h shift_v extra p rest z t0 t1 t2 t3 t4 t5 k_coder k_space k_depth k_shift_h k_shift_v run =
     let s0 = number_run closed p coder (symbol space ∷ symbol depth ∷ bit chroma ∷ symbol shift_h ∷ symbol shift_v ∷ bit extra ∷ rest) z k_coder run in
@@ -281,7 +317,7 @@ tile_rest_3 : ℕ → ℕ → ℕ → ℕ → Bool → Form (List ℕ) TileCount
 tile_rest_3 width height across down fits = giving (record { across = across + 1; down = down + 1 })
 
 tile_rest_2 : ℕ → ℕ → ℕ → ℕ → Bool → Form (List ℕ) TileCounts SetupFault
-tile_rest_2 width height across down fits = accepted (nat_le ((across + 1) * (down + 1)) 1024) TooManyTiles >>= tile_rest_3 width height across down
+tile_rest_2 width height across down fits = accepted (nat_le ((across + 1) * (down + 1)) most_tiles) TooManyTiles >>= tile_rest_3 width height across down
 
 tile_rest_1 : ℕ → ℕ → ℕ → ℕ → Form (List ℕ) TileCounts SetupFault
 tile_rest_1 width height across down = accepted (nat_le (across + 1) width && nat_le (down + 1) height) GridTooFine >>= tile_rest_2 width height across down
@@ -293,18 +329,20 @@ pub record TileCountsAt (closed : Bool) (width : ℕ) (height : ℕ) (p : Place)
   pub across : ℕ
   pub down : ℕ
   pub test_0 : (nat_le (across + 1) width && nat_le (down + 1) height) ≡ true
-  pub test_1 : (nat_le ((across + 1) * (down + 1)) 1024) ≡ true
+  pub test_1 : (nat_le ((across + 1) * (down + 1)) most_tiles) ≡ true
   pub small_across : IsSymbol across
   pub small_down : IsSymbol down
   pub is : (record { across = across + 1; down = down + 1 }) ≡ y.0
   pub coded : Extends closed p y.1 (symbol across ∷ symbol down ∷ [])
 
-pub tile_counts-found : (closed : Bool) (width : ℕ) (height : ℕ) (p : Place) (y : TileCounts × Place) → (tile_counts width height) closed p ≡ Ok y → TileCountsAt closed width height p y
+pub tile_counts-found : (closed : Bool) (width : ℕ) (height : ℕ) (p : Place) (y : TileCounts × Place) → (tile_counts width height) closed p ≡ Ok y
+    → TileCountsAt closed width height p y
 unfolding tile_rest_0 tile_rest_1 tile_rest_2 tile_rest_3
 tile_counts-found closed width height p y h =
     let s0 = number_step closed p (tile_rest_0 width height) y h in
     let s1 = number_step closed s0.place (tile_rest_1 width height s0.value) y s0.rest in
-    let s2 = accepted_step closed s1.place (nat_le (s0.value + 1) width && nat_le (s1.value + 1) height) GridTooFine (tile_rest_2 width height s0.value s1.value) y s1.rest in
+    let s2 = accepted_step closed s1.place (nat_le (s0.value + 1) width && nat_le (s1.value + 1) height) GridTooFine
+    (tile_rest_2 width height s0.value s1.value) y s1.rest in
     let s3 = accepted_step closed s1.place (nat_le ((s0.value + 1) * (s1.value + 1)) 1024) TooManyTiles (tile_rest_3 width height s0.value s1.value) y s2.1 in
     let given = given_step (record { across = s0.value + 1; down = s1.value + 1 }) s1.place y s3.1 in
     record {
@@ -318,8 +356,10 @@ tile_counts-found closed width height p y h =
       coded = λ rest z run. s0.coded (symbol s1.value ∷ rest) z (s1.coded rest z (subst (λ w. IsRangeRun closed w (fields_bits rest) z) (sym given.1) run));
     }
 
-pub tile_counts-run : (closed : Bool) (width : ℕ) (height : ℕ) (across : ℕ) (down : ℕ) (p : Place) (rest : List FieldValue) (z : Place) → (nat_le (across + 1) width && nat_le (down + 1) height) ≡ true → (nat_le ((across + 1) * (down + 1)) 1024) ≡ true → IsSymbol across → IsSymbol down
-    → IsRangeRun closed p (fields_bits (symbol across ∷ symbol down ∷ rest)) z → FormRun closed (tile_counts width height) p (record { across = across + 1; down = down + 1 }) rest z
+pub tile_counts-run : (closed : Bool) (width : ℕ) (height : ℕ) (across : ℕ) (down : ℕ) (p : Place) (rest : List FieldValue) (z : Place)
+    → (nat_le (across + 1) width && nat_le (down + 1) height) ≡ true → (nat_le ((across + 1) * (down + 1)) most_tiles) ≡ true → IsSymbol across → IsSymbol down
+    → IsRangeRun closed p (fields_bits (symbol across ∷ symbol down ∷ rest)) z
+    → FormRun closed (tile_counts width height) p (record { across = across + 1; down = down + 1 }) rest z
 unfolding tile_rest_0 tile_rest_1 tile_rest_2 tile_rest_3
 tile_counts-run closed width height across down p rest z t0 t1 k_across k_down run =
     let s0 = number_run closed p across (symbol down ∷ rest) z k_across run in
@@ -329,7 +369,7 @@ tile_counts-run closed width height across down p rest z t0 t1 k_across k_down r
       read = number_then closed p s0.place across (tile_rest_0 width height) s0.read
           ∙ number_then closed s0.place s1.place down (tile_rest_1 width height across) s1.read
           ∙ accepted_then closed s1.place (nat_le (across + 1) width && nat_le (down + 1) height) GridTooFine (tile_rest_2 width height across down) t0
-          ∙ accepted_then closed s1.place (nat_le ((across + 1) * (down + 1)) 1024) TooManyTiles (tile_rest_3 width height across down) t1;
+          ∙ accepted_then closed s1.place (nat_le ((across + 1) * (down + 1)) most_tiles) TooManyTiles (tile_rest_3 width height across down) t1;
       left = s1.left;
     }
 
@@ -368,7 +408,8 @@ set_count-found closed p y h =
       coded = λ rest z run. s0.coded rest z (subst (λ w. IsRangeRun closed w (fields_bits rest) z) (sym given.1) run);
     }
 
-pub set_count-run : (closed : Bool) (count : ℕ) (p : Place) (rest : List FieldValue) (z : Place) → (nat_le 1 count) ≡ true → (nat_le count 8) ≡ true → IsSymbol count
+pub set_count-run : (closed : Bool) (count : ℕ) (p : Place) (rest : List FieldValue) (z : Place) → (nat_le 1 count) ≡ true → (nat_le count 8) ≡ true
+    → IsSymbol count
     → IsRangeRun closed p (fields_bits (symbol count ∷ rest)) z → FormRun closed set_count p count rest z
 unfolding count_rest_0 count_rest_1 count_rest_2
 set_count-run closed count p rest z t0 t1 k_count run =

@@ -19,10 +19,12 @@ bind_first : {A B : Type 0} (r : Result A SetupFault) (without granted : A → R
 bind_first (Ok x) without granted f refused h = inl (let both = sym (refused x) ∙ h in cc)
 bind_first (Err e) without granted f refused h = inr h
 
-form_first : (width height : ℕ) (p : PlaceOf (List ℕ)) (f : SetupFault) → setup_form false width height true p ≡ Err f → (f ≡ Memory) ⊎ (setup_form true width height true p ≡ Err f)
+form_first : (width height : ℕ) (p : PlaceOf (List ℕ)) (f : SetupFault) → setup_form false width height true p ≡ Err f → (f ≡ Memory)
+    ⊎ (setup_form true width height true p ≡ Err f)
 unfolding front_rest memory_rest sets_rest deltas_rest last_rest
 form_first width height p f h =
-    bind_first (front_form width height true p) (λ x. front_rest false width height x.0 true x.1) (λ x. front_rest true width height x.0 true x.1) f (λ x. refl) h
+    bind_first (front_form width height true p) (λ x. front_rest false width height x.0 true x.1) (λ x. front_rest true width height x.0 true x.1) f
+    (λ x. refl) h
 
 -- the setup of what was read
 abbrev value_of : Result (SetupValue × PlaceOf (List ℕ)) SetupFault → Result SetupValue SetupFault
@@ -39,25 +41,30 @@ either_value r f (inr h) = inr (ap value_of h)
 abbrev at_start : Bool → ℕ → ℕ → Result Coder RangeFault → Result SetupValue SetupFault
 at_start granted width height at = value_of (from_place Range at (λ c. setup_form granted width height true (record { coder = c; states = fresh_row })))
 
-start_first : (width height : ℕ) (at : Result Coder RangeFault) (f : SetupFault) → at_start false width height at ≡ Err f → (f ≡ Memory) ⊎ (at_start true width height at ≡ Err f)
+start_first : (width height : ℕ) (at : Result Coder RangeFault) (f : SetupFault) → at_start false width height at ≡ Err f → (f ≡ Memory)
+    ⊎ (at_start true width height at ≡ Err f)
 start_first width height (Ok c) f h =
     let p : PlaceOf (List ℕ) = record { coder = c; states = fresh_row } in
     either_value (setup_form true width height true (record { coder = c; states = fresh_row })) f
-    (form_first width height (record { coder = c; states = fresh_row }) f (value_err (setup_form false width height true (record { coder = c; states = fresh_row })) f h))
+    (form_first width height (record { coder = c; states = fresh_row }) f
+    (value_err (setup_form false width height true (record { coder = c; states = fresh_row })) f h))
 start_first width height (Err e) f h = inr h
 
 abbrev sized : Bool → ℕ → ℕ → Bool → List ℕ → Result SetupValue SetupFault
 sized granted width height fits content = if fits then at_start granted width height (start_of true content) else Err Size
 
-size_first : (width height : ℕ) (fits : Bool) (content : List ℕ) (f : SetupFault) → sized false width height fits content ≡ Err f → (f ≡ Memory) ⊎ (sized true width height fits content ≡ Err f)
+size_first : (width height : ℕ) (fits : Bool) (content : List ℕ) (f : SetupFault) → sized false width height fits content ≡ Err f → (f ≡ Memory)
+    ⊎ (sized true width height fits content ≡ Err f)
 size_first width height true content f h = start_first width height (start_of true content) f h
 size_first width height false content f h = inr h
 
-content_first : (width height : ℕ) (r : Result (List ℕ) SetupFault) (f : SetupFault) → (r >>> sized false width height (is_size width && is_size height)) ≡ Err f
+content_first : (width height : ℕ) (r : Result (List ℕ) SetupFault) (f : SetupFault)
+    → (r >>> sized false width height (is_size width && is_size height)) ≡ Err f
     → (f ≡ Memory) ⊎ ((r >>> sized true width height (is_size width && is_size height)) ≡ Err f)
 content_first width height (Ok content) f h = size_first width height (is_size width && is_size height) content f h
 content_first width height (Err e) f h = inr h
 
-pub first_fault : (config : List ℕ) (width height : ℕ) (granted : Bool) (f : SetupFault) → setup_read granted config width height ≡ Err f → (f ≡ Memory) ⊎ FirstSetupFault config width height f
+pub first_fault : (config : List ℕ) (width height : ℕ) (granted : Bool) (f : SetupFault) → setup_read granted config width height ≡ Err f → (f ≡ Memory)
+    ⊎ FirstSetupFault config width height f
 first_fault config width height true f h = inr h
 first_fault config width height false f h = content_first width height (checked_content config) f h

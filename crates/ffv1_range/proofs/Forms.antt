@@ -127,21 +127,28 @@ put_back : {X Y A E : Type 0} → (X → Y → X) → X → Result (A × PlaceOf
 put_back put x (Ok y) = Ok (y.0, place_of y.1.coder (put x y.1.states))
 put_back put x (Err e) = Err e
 
-form_at-on : {X Y A E : Type 0} (lift : RangeFault → E) (get : X → Y) (put : X → Y → X) (form : Form Y A E) (closed : Bool) (at : Result Coder RangeFault) (x : X)
+form_at-on : {X Y A E : Type 0} (lift : RangeFault → E) (get : X → Y) (put : X → Y → X) (form : Form Y A E) (closed : Bool) (at : Result Coder RangeFault)
+    (x : X)
     → from_place lift at (λ c. on get put form closed (place_of c x)) ≡ put_back put x (from_place lift at (λ c. form closed (place_of c (get x))))
 unfolding put_back
 form_at-on lift get put form closed (Ok c) x =
-    elim (form closed (place_of c (get x))) as (λ r. (r >>> λ y. Ok (y.0, place_of y.1.coder (put x y.1.states))) ≡ put_back put x r) [ Ok y ↦ refl | Err e ↦ refl ]
+    elim (form closed (place_of c (get x))) as (λ r. (r >>> λ y. Ok (y.0, place_of y.1.coder (put x y.1.states))) ≡ put_back put x r) [
+      | Ok y ↦ refl
+      | Err e ↦
+          refl
+    ]
 form_at-on lift get put form closed (Err e) x = refl
 
-pub read_on : {X Y A E : Type 0} (lift : RangeFault → E) (get : X → Y) (put : X → Y → X) (form : Form Y A E) (r s : Reader) (x : X) (y : Y) (result : Result A E)
+pub read_on : {X Y A E : Type 0} (lift : RangeFault → E) (get : X → Y) (put : X → Y → X) (form : Form Y A E) (r s : Reader) (x : X) (y : Y)
+    (result : Result A E)
     → Reads lift form r (get x) result s y → Reads lift (on get put form) r x result s (put x y)
 unfolding put_back
 read_on lift get put form r s x y (Ok a) h = (h.0, form_at-on lift get put form r.closed r.at x ∙ ap (put_back put x) h.1, h.2)
 read_on lift get put form r s x y (Err e) h = form_at-on lift get put form r.closed r.at x ∙ ap (put_back put x) h
 
 -- what was accepted changes nothing, and what was not is the fault
-pub continue_accepted : {X B E : Type 0} (lift : RangeFault → E) (form : Form X B E) (test : Bool) (fault : E) (rest : Bool → Form X B E) (r s : Reader) (x y : X)
+pub continue_accepted : {X B E : Type 0} (lift : RangeFault → E) (form : Form X B E) (test : Bool) (fault : E) (rest : Bool → Form X B E) (r s : Reader)
+    (x y : X)
     → test ≡ true → Continues lift form r x (accepted test fault >>= rest) s y → Continues lift form r x (rest true) s y
 continue_accepted lift form test fault rest r s x y t k = subst (λ z. Continues lift form r x (accepted z fault >>= rest) s y) t k
 

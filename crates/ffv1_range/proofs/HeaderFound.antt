@@ -7,9 +7,9 @@ use Rattle.std.proofs.lemmas.List.{append-nil}
 use Rattle.std.proofs.lemmas.List.Elements.{All-cons, All-nil, All-head, All-tail}
 use Rattle.std.proofs.lemmas.Bool.{and_parts, and_from, ltb-true, lt-ltb, eqb-true, eq-eqb}
 use Rattle.ffv1_range.specs.Results.{◌>>=◌ as ◌>>>◌}
-use Rattle.ffv1_range.specs.Coding.{Coder, Place, PlaceOf, bit_at, slot_at, start_of, started, refilled, with_byte, state_after, IsRangeRun}
+use Rattle.ffv1_range.specs.Coding.{Coder, Place, PlaceOf, bit_at, slot_at, start_of, refilled, with_byte, state_after, IsRangeRun}
 use Rattle.ffv1_range.specs.Symbols.{symbol_bits}
-use Rattle.ffv1_range.specs.Forms.{lifted_result, apart, on}
+use Rattle.ffv1_range.specs.Forms.{lifted_result}
 use Rattle.ffv1_range.specs.Reading.{symbol_form}
 use Rattle.ffv1_range.specs.TableForms.{fresh_row}
 use Rattle.ffv1_range.specs.HeaderForms.{symbols_onto, fields_form, key_coder}
@@ -49,7 +49,8 @@ symbols_found closed (suc n) done fields p q h =
       },
     )
 
-symbols_run : (closed : Bool) (done fields : List ℕ) (p q : Place) → All (λ symbol. symbol < 2 ^ 32) fields → IsRangeRun closed p (flat_map symbol_bits fields) q
+symbols_run : (closed : Bool) (done fields : List ℕ) (p q : Place) → All
+    (λ symbol. symbol < 2 ^ 32) fields → IsRangeRun closed p (flat_map symbol_bits fields) q
     → symbols_onto (length fields) done closed p ≡ Ok (done ++ fields, q)
 unfolding symbols_onto IsRangeRun
 symbols_run closed done [] p q fit run = ap (λ z. Ok (done, z)) run ∙ ap (λ z. Ok (z, q)) (sym (append-nil done))
@@ -79,20 +80,26 @@ fields_run c fields end nine fit run =
 
 refilled_shrinks : (closed : Bool) (range low : ℕ) (rest : List ℕ) (d : Coder) → refilled closed range low rest ≡ Ok d → length d.rest ≤ length rest
 refilled_shrinks closed range low rest d h =
-    elim (nat_lt range 256) as (λ b. (if b then with_byte closed range low rest else Ok (record { range = range; low = low; rest = rest })) ≡ Ok d → length d.rest ≤ length rest) [
+    elim (nat_lt range 256) as (λ b. (if b then with_byte closed range low rest else Ok (record { range = range; low = low; rest = rest })) ≡ Ok d
+    → length d.rest ≤ length rest) [
       | true ↦ λ e. byte_shrinks closed range low rest d e
       | false ↦ λ e. let same = same_ok (record { range = range; low = low; rest = rest }) d e in omega (arith, ap (λ z. length z.rest) same)
     ] h
   where
     byte_shrinks : (closed : Bool) (range low : ℕ) (rest : List ℕ) (d : Coder) → with_byte closed range low rest ≡ Ok d → length d.rest ≤ length rest
-    byte_shrinks closed range low (byte ∷ rest) d h = omega (arith, ap (λ z. length z.rest) (same_ok (record { range = 256 * range; low = 256 * low + byte; rest = rest }) d h))
+    byte_shrinks closed range low (byte ∷ rest) d h = omega (
+      arith,
+      ap
+          (λ z. length z.rest) (same_ok (record { range = 256 * range; low = 256 * low + byte; rest = rest }) d h),
+    )
     byte_shrinks true range low [] d h = omega (arith, ap (λ z. length z.rest) (same_ok (record { range = 256 * range; low = 256 * low; rest = [] }) d h))
     byte_shrinks false range low [] d h = absurd cc
 
 abbrev with_bit : Bool → Coder → Result (Bool × Coder) RangeFault
 with_bit bit d = Ok (bit, d)
 
-cut_shrinks : (closed : Bool) (range low : ℕ) (rest : List ℕ) (told bit : Bool) (d : Coder) → (refilled closed range low rest >>> with_bit told) ≡ Ok (bit, d) → length d.rest ≤ length rest
+cut_shrinks : (closed : Bool) (range low : ℕ) (rest : List ℕ) (told bit : Bool) (d : Coder)
+    → (refilled closed range low rest >>> with_bit told) ≡ Ok (bit, d) → length d.rest ≤ length rest
 cut_shrinks closed range low rest told bit d h =
     let x = bind_is_ok (refilled closed range low rest) (with_bit told) (bit, d) h in
     let same = same_ok (told, x.0) (bit, d) x.2 in
@@ -102,7 +109,9 @@ bit_shrinks : (closed : Bool) (c d : Coder) (state : ℕ) (bit : Bool) → bit_a
 unfolding bit_at
 bit_shrinks closed c d state bit h =
     elim (nat_lt c.low (c.range - c.range * state / 256)) as
-    (λ b. (if b then (refilled closed (c.range - c.range * state / 256) c.low c.rest >>> with_bit false) else (refilled closed (c.range * state / 256) (c.low - (c.range - c.range * state / 256)) c.rest >>> with_bit true)) ≡ Ok (bit, d) → length d.rest ≤ length c.rest) [
+    (λ b. (if b then (refilled closed (c.range - c.range * state / 256) c.low c.rest >>> with_bit false) else
+    (refilled closed (c.range * state / 256) (c.low - (c.range - c.range * state / 256)) c.rest >>> with_bit true)) ≡ Ok (bit, d)
+    → length d.rest ≤ length c.rest) [
       | true ↦ λ e. cut_shrinks closed (c.range - c.range * state / 256) c.low c.rest false bit d e
       | false ↦ λ e. cut_shrinks closed (c.range * state / 256) (c.low - (c.range - c.range * state / 256)) c.rest true bit d e
     ] h
@@ -110,7 +119,8 @@ bit_shrinks closed c d state bit h =
 slot_shrinks : (closed : Bool) (p q : Place) (slot : ℕ) (bit : Bool) → slot_at closed p slot ≡ Ok (bit, q) → length q.coder.rest ≤ length p.coder.rest
 unfolding slot_at
 slot_shrinks closed p q slot bit h =
-    let x = bind_is_ok (bit_at closed p.coder (slice_index p.states slot)) (λ x. Ok (x.0, place_of x.1 (slice_set p.states slot (state_after (slice_index p.states slot) x.0)))) (bit, q) h in
+    let x = bind_is_ok (bit_at closed p.coder (slice_index p.states slot))
+    (λ x. Ok (x.0, place_of x.1 (slice_set p.states slot (state_after (slice_index p.states slot) x.0)))) (bit, q) h in
     let same = same_ok (x.0.0, place_of x.0.1 (slice_set p.states slot (state_after (slice_index p.states slot) x.0.0))) (bit, q) x.2 in
     omega (arith, bit_shrinks closed p.coder x.0.1 (slice_index p.states slot) x.0.0 x.1, ap (λ z. length z.1.coder.rest) same)
 
@@ -124,7 +134,8 @@ unfolding start_of
 start_leaves [] c h = absurd cc
 start_leaves (a ∷ []) c h = absurd cc
 start_leaves (a ∷ b ∷ rest) c h =
-    elim (nat_lt (256 * a + b) 65280) as (λ t. (if t then Ok (record { range = 65280; low = 256 * a + b; rest = rest }) else Err Start) ≡ Ok c → length c.rest + 2 ≤ length (a ∷ b ∷ rest))
+    elim (nat_lt (256 * a + b) 65280) as (λ t. (if t then Ok (record { range = 65280; low = 256 * a + b; rest = rest }) else Err Start) ≡ Ok c
+    → length c.rest + 2 ≤ length (a ∷ b ∷ rest))
     [ true ↦ λ e. omega (arith, ap (λ z. length z.rest) (same_ok (record { range = 65280; low = 256 * a + b; rest = rest }) c e)) | false ↦ λ e. absurd cc ] h
 
 -- ---- the keyframe bit
@@ -163,20 +174,23 @@ after_key content coder = lifted_result Range (fields_form false (place_of coder
 after_start : List ℕ → Bool → Coder → Result (List ℕ × ℕ) HeadFault
 after_start content first start = key_coder first start >>> after_key content
 
-header_found : (content : List ℕ) (first : Bool) (fields : List ℕ) (place : ℕ) → header_read content first ≡ Ok (fields, place) → IsHeaderOf content first fields place
+header_found : (content : List ℕ) (first : Bool) (fields : List ℕ) (place : ℕ) → header_read content first ≡ Ok (fields, place)
+    → IsHeaderOf content first fields place
 unfolding after_start after_key after_fields
 header_found content first fields place h =
     let start = bind_is_ok (lifted_result Range (start_of false content)) (after_start content first) (fields, place) h in
     let key = bind_is_ok (key_coder first start.0) (after_key content) (fields, place) start.2 in
     let read = bind_is_ok (lifted_result Range (fields_form false (place_of key.0 tt))) (after_fields content) (fields, place) key.2 in
-    let last = bind_is_ok (lifted_result Range (bit_at false read.0.1.coder 129)) (λ last. Ok (read.0.0, length content - (length last.1.rest + 1))) (fields, place) read.2 in
+    let last = bind_is_ok (lifted_result Range (bit_at false read.0.1.coder 129))
+    (λ last. Ok (read.0.0, length content - (length last.1.rest + 1))) (fields, place) read.2 in
     let end = same_ok (read.0.0, length content - (length last.0.1.rest + 1)) (fields, place) last.2 in
     let got = fields_found key.0 read.0.0 read.0.1 (lifted_ok (fields_form false (place_of key.0 tt)) read.0 read.1) in
     let same : read.0.0 ≡ fields = ap (λ z. z.0) end in
     let symbols = subst (λ z. AreSymbols false 9 (place_of key.0 fresh_row) got.0 z) same got.2 in
     let started = lifted_ok (start_of false content) start.0 start.1 in
     let keyed = key_found first start.0 key.0 key.1 in
-    let ended : bit_at false got.0.coder 129 ≡ Ok last.0 = ap (λ z. bit_at false z 129) (sym got.1) ∙ lifted_ok (bit_at false read.0.1.coder 129) last.0 last.1 in
+    let ended : bit_at false got.0.coder 129 ≡ Ok last.0 = ap (λ z. bit_at false z 129) (sym got.1)
+    ∙ lifted_ok (bit_at false read.0.1.coder 129) last.0 last.1 in
     record {
       before_key = start.0;
       start = started;
@@ -188,16 +202,27 @@ header_found content first fields place h =
       coded = symbols.coded;
       last = last.0;
       ended = ended;
-      at = omega (arith, start_leaves content start.0 started, key_shrinks first start.0 key.0 keyed, run_shrinks false (place_of key.0 fresh_row) got.0 (flat_map symbol_bits fields) symbols.coded, bit_shrinks false got.0.coder last.0.1 129 last.0.0 ended, ap (λ z. z.1) end);
+      at = omega (
+        arith,
+        start_leaves content start.0 started,
+        key_shrinks first start.0 key.0 keyed,
+        run_shrinks false (place_of key.0 fresh_row) got.0
+            (flat_map symbol_bits fields) symbols.coded,
+        bit_shrinks false got.0.coder last.0.1 129 last.0.0 ended,
+        ap (λ z. z.1) end,
+      );
     }
 
-header_run : (content : List ℕ) (first : Bool) (fields : List ℕ) (place : ℕ) → IsHeaderOf content first fields place → header_read content first ≡ Ok (fields, place)
+header_run : (content : List ℕ) (first : Bool) (fields : List ℕ) (place : ℕ) → IsHeaderOf content first fields place
+    → header_read content first ≡ Ok (fields, place)
 unfolding after_start after_key after_fields
 header_run content first fields place h =
     bind_ok (lifted_result Range (start_of false content)) (after_start content first) h.before_key (ap (lifted_result Range) h.start)
     ∙ bind_ok (key_coder first h.before_key) (after_key content) h.after_key (key_read first h.before_key h.after_key h.key)
-    ∙ bind_ok (lifted_result Range (fields_form false (place_of h.after_key tt))) (after_fields content) (fields, place_of h.end.coder tt) (ap (lifted_result Range) (fields_run h.after_key fields h.end h.nine h.fit h.coded))
-    ∙ bind_ok (lifted_result Range (bit_at false h.end.coder 129)) (λ last. Ok (fields, length content - (length last.1.rest + 1))) h.last (ap (lifted_result Range) h.ended)
+    ∙ bind_ok (lifted_result Range (fields_form false (place_of h.after_key tt))) (after_fields content) (fields, place_of h.end.coder tt)
+    (ap (lifted_result Range) (fields_run h.after_key fields h.end h.nine h.fit h.coded))
+    ∙ bind_ok (lifted_result Range (bit_at false h.end.coder 129)) (λ last. Ok (fields, length content - (length last.1.rest + 1))) h.last
+    (ap (lifted_result Range) h.ended)
     ∙ (let at : length content - (length h.last.1.rest + 1) ≡ place = omega (arith, h.at) in ap (λ z. Ok (fields, z)) at)
 
 -- ---- the fields of one tile
@@ -247,11 +272,13 @@ judged_run : (limits : HeadLimits) (first : Bool) (fields : List ℕ) (head : Sl
     → IsTrue first ↔ (head.tile ≡ 0) → head_judged limits first fields ≡ Ok head
 judged_run limits first fields head h same is_first =
     if_true (nat_lt (slice_index fields 0) limits.across && nat_lt (slice_index fields 1) limits.down) _ _
-    (and_from (nat_lt (slice_index fields 0) limits.across) (nat_lt (slice_index fields 1) limits.down) (lt-ltb (slice_index fields 0) limits.across h.column) (lt-ltb (slice_index fields 1) limits.down h.row))
+    (and_from (nat_lt (slice_index fields 0) limits.across) (nat_lt (slice_index fields 1) limits.down)
+    (lt-ltb (slice_index fields 0) limits.across h.column) (lt-ltb (slice_index fields 1) limits.down h.row))
     ∙ if_true (slice_index fields 2 == 0 && slice_index fields 3 == 0) _ _
     (and_from (slice_index fields 2 == 0) (slice_index fields 3 == 0) (eq-eqb (slice_index fields 2) 0 h.width) (eq-eqb (slice_index fields 3) 0 h.height))
     ∙ if_true (nat_lt (slice_index fields 4) limits.sets && nat_lt (slice_index fields 5) limits.sets) _ _
-    (and_from (nat_lt (slice_index fields 4) limits.sets) (nat_lt (slice_index fields 5) limits.sets) (lt-ltb (slice_index fields 4) limits.sets h.luma_table) (lt-ltb (slice_index fields 5) limits.sets h.chroma_table))
+    (and_from (nat_lt (slice_index fields 4) limits.sets) (nat_lt (slice_index fields 5) limits.sets)
+    (lt-ltb (slice_index fields 4) limits.sets h.luma_table) (lt-ltb (slice_index fields 5) limits.sets h.chroma_table))
     ∙ if_true (is_in_place first (slice_index fields 1 * limits.across + slice_index fields 0)) _ _
     (placed first (slice_index fields 1 * limits.across + slice_index fields 0) (subst (λ z. IsTrue first ↔ (z.tile ≡ 0)) same is_first))
     ∙ ap Ok (sym same)

@@ -1,5 +1,5 @@
 -- The fields of a header, read one by one.
-use Rattle.std.proofs.Common.{◌≡◌, ℕ, suc, ◌+◌, ◌-◌, ◌*◌, ◌^◌, ◌<◌, ◌≤◌, List, [], ◌∷◌, ◌++◌, Result, Ok, Err, sym, ap, ◌∙◌, subst, arith, refl}
+use Rattle.std.proofs.Common.{◌≡◌, ℕ, suc, ◌+◌, ◌-◌, ◌*◌, ◌^◌, ◌<◌, ◌≤◌, List, [], ◌∷◌, ◌++◌, Ok, Err, ap, ◌∙◌, subst, arith, refl}
 use Rattle.std.proofs.Math.Nat.{mul-le-mul}
 use Rattle.ffv1_range.specs.Decoder.{Reader}
 use Rattle.ffv1_range.specs.Forms.{Form, ◌>>=◌, giving, Reads, same_fault, form_at}
@@ -48,7 +48,5 @@ fields_end k done q r row l place so =
 -- a tile's number fits the code's numbers
 pub tile_fits : (row across column : ℕ) → row < 2 ^ 32 → across < 2 ^ 32 → column < 2 ^ 32 → row * across + column < 2 ^ 64
 tile_fits row across column h k l =
-    let most : row * across ≤ (2 ^ 32 - 1) * (2 ^ 32 - 1) = mul-le-mul {n₁ = row} {m₁ = across} {n₂ = 2 ^ 32 - 1} {m₂ = 2 ^ 32 - 1} (omega arith) (omega arith) in omega arith
-
-pub product_fits : (row across : ℕ) → row < 2 ^ 32 → across < 2 ^ 32 → row * across < 2 ^ 64
-product_fits row across h k = omega (arith, tile_fits row across 0 h k (omega arith))
+    let most : row * across ≤ (2 ^ 32 - 1) * (2 ^ 32 - 1) = mul-le-mul {n₁ = row} {m₁ = across} {n₂ = 2 ^ 32 - 1} {m₂ = 2 ^ 32 - 1} (omega arith)
+    (omega arith) in omega arith

@@ -7,12 +7,19 @@ use Rattle.ffv1_range.specs.Rows.{Rows, with_row, Piece, IsRowsRun}
 use Rattle.ffv1_range.specs.Setup.{table_pieces, fields_bits, run_fields}
 use Rattle.ffv1_range.proofs.Forms.{place_of}
 
-pub rows_append : (closed : Bool) (xs ys : List Piece) (p m q : PlaceOf Rows) → IsRowsRun closed p xs m → IsRowsRun closed m ys q → IsRowsRun closed p (xs ++ ys) q
+pub rows_append : (closed : Bool) (xs ys : List Piece) (p m q : PlaceOf Rows) → IsRowsRun closed p xs m → IsRowsRun closed m ys q
+    → IsRowsRun closed p (xs ++ ys) q
 unfolding IsRowsRun
 rows_append closed [] ys p m q h k = subst (λ z. IsRowsRun closed z ys q) (sym h) k
-rows_append closed (x ∷ xs) ys p m q h k = (h.0, h.1, rows_append closed xs ys (record { coder = h.0.coder; states = with_row p.states x.0 h.0.states }) m q h.2 k)
+rows_append closed (x ∷ xs) ys p m q h k = (
+  h.0,
+  h.1,
+  rows_append closed xs ys
+      (record { coder = h.0.coder; states = with_row p.states x.0 h.0.states }) m q h.2 k,
+)
 
-pub rows_split : (closed : Bool) (xs ys : List Piece) (p q : PlaceOf Rows) → IsRowsRun closed p (xs ++ ys) q → (m : PlaceOf Rows) × IsRowsRun closed p xs m × IsRowsRun closed m ys q
+pub rows_split : (closed : Bool) (xs ys : List Piece) (p q : PlaceOf Rows) → IsRowsRun closed p (xs ++ ys) q → (m : PlaceOf Rows) × IsRowsRun closed p xs m
+    × IsRowsRun closed m ys q
 unfolding IsRowsRun
 rows_split closed [] ys p q h = (p, refl, h)
 rows_split closed (x ∷ xs) ys p q h =

@@ -1,5 +1,6 @@
 -- What the crates above use of a setup: it is one, its size and its tiles have bounds, and it has no fault.
 use Rattle.std.proofs.Common.{◌≡◌, ℕ, ◌*◌, ◌<◌, ◌≤◌, ◌^◌, List, sym, ap, ◌∙◌, arith}
+use Rattle.ffv1_bits.specs.Limits.{most_tiles}
 use Rattle.ffv1_range.specs.Setup.{SetupValue, IsSetupOf}
 use Rattle.ffv1_range.specs.SetupFaults.{FirstSetupFault}
 use Rattle.ffv1_range.specs.declared.fault.SetupFault.{SetupFault}
@@ -12,16 +13,18 @@ one_setup config width height s t is also = setup_is_one config width height s t
 pub setup_size : (config : List ℕ) (width height : ℕ) (s : SetupValue) → IsSetupOf config width height s → (s.width ≡ width) × (s.height ≡ height)
 setup_size config width height s h = (ap (λ z. z.width) h.is, ap (λ z. z.height) h.is)
 
-pub setup_tiles : (config : List ℕ) (width height : ℕ) (s : SetupValue) → IsSetupOf config width height s → s.across * s.down ≤ 1024
+pub setup_tiles : (config : List ℕ) (width height : ℕ) (s : SetupValue) → IsSetupOf config width height s → s.across * s.down ≤ most_tiles
 setup_tiles config width height s h = let same = ap (λ z. z.across * z.down) h.is in omega (arith, h.accepted.tiles, same)
 
 pub setup_small : (config : List ℕ) (width height : ℕ) (s : SetupValue) → IsSetupOf config width height s → (width < 2 ^ 32) × (height < 2 ^ 32)
 setup_small config width height s h = (omega (arith, h.is_width.1), omega (arith, h.is_height.1))
 
 -- where there is a setup there is no fault
-pub no_setup_fault : (config : List ℕ) (width height : ℕ) (s : SetupValue) (f : SetupFault) → IsSetupOf config width height s → FirstSetupFault config width height f → ⊥
+pub no_setup_fault : (config : List ℕ) (width height : ℕ) (s : SetupValue) (f : SetupFault) → IsSetupOf config width height s
+    → FirstSetupFault config width height f → ⊥
 no_setup_fault config width height s f is fault = let both = sym (setup-run config width height s is) ∙ fault in cc
 
 -- a record has one first fault
-pub one_setup_fault : (config : List ℕ) (width height : ℕ) (f g : SetupFault) → FirstSetupFault config width height f → FirstSetupFault config width height g → f ≡ g
+pub one_setup_fault : (config : List ℕ) (width height : ℕ) (f g : SetupFault) → FirstSetupFault config width height f → FirstSetupFault config width height g
+    → f ≡ g
 one_setup_fault config width height f g is also = let both = sym is ∙ also in cc

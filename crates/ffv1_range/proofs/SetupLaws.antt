@@ -2,12 +2,13 @@
 use Rattle.std.proofs.Common.{◌≡◌, ℕ, Bool, true, false, List, length, Result, Ok, Err, refl, sym, ap, ◌∙◌, subst, map, suc, [], ◌∷◌, ◌≤◌, arith}
 use Rattle.std.specs.Prelude.{◌⊎◌, nat_le, nat_lt, ◌==◌, if◌then◌else◌, IfOk, IfErr, MatchResult}
 use Rattle.std.proofs.lemmas.Bool.{eqb-true, eq-eqb, leb-true, le-leb, and_parts, and_from, ltb-false, le-ltb}
+use Rattle.ffv1_bits.specs.Limits.{greatest_side}
 use Rattle.ffv1_bits.specs.Bits.{bits_of}
 use Rattle.ffv1_bits.specs.Parity.{RecordPassesParity, remainder_of}
 use Rattle.ffv1_range.specs.Coding.{Coder, Place, start_of}
 use Rattle.ffv1_range.specs.Forms.{from_place}
 use Rattle.ffv1_range.specs.TableForms.{fresh_row}
-use Rattle.ffv1_range.specs.Setup.{SetupValue, SetFields, RecordFields, IsSize, content_of, IsSetupOf, IsInProfile, SetupIsOne, SetupIsInProfile}
+use Rattle.ffv1_range.specs.Setup.{SetupValue, SetFields, RecordFields, IsSize, record_content, IsSetupOf, IsInProfile, SetupIsOne, SetupIsInProfile}
 use Rattle.ffv1_range.specs.Tables.{set_of}
 use Rattle.ffv1_range.specs.SetupForms.{front_form, setup_form, checked_content, is_size, setup_read}
 use Rattle.ffv1_range.specs.declared.coding.RangeFault.{RangeFault}
@@ -32,27 +33,28 @@ checked_by-ok true passes content read h = absurd cc
 checked_by-ok false true content read h = (refl, refl, same_ok content read h)
 checked_by-ok false false content read h = absurd cc
 
-checked-found : (config content : List ℕ) → checked_content config ≡ Ok content → RecordPassesParity config × (content ≡ content_of config)
+checked-found : (config content : List ℕ) → checked_content config ≡ Ok content → RecordPassesParity config × (content ≡ record_content config)
 unfolding checked_by
 checked-found config content h =
-    let r = checked_by-ok (nat_lt (length config) 6) (remainder_of (bits_of config) == 0) (content_of config) content h in
+    let r = checked_by-ok (nat_lt (length config) 6) (remainder_of (bits_of config) == 0) (record_content config) content h in
     ((ltb-false (length config) 6 r.0, eqb-true (remainder_of (bits_of config)) 0 r.1), sym r.2)
 
-checked-run : (config : List ℕ) → RecordPassesParity config → checked_content config ≡ Ok (content_of config)
+checked-run : (config : List ℕ) → RecordPassesParity config → checked_content config ≡ Ok (record_content config)
 unfolding checked_by
 checked-run config h =
-    ap (λ b. checked_by b (remainder_of (bits_of config) == 0) (content_of config)) (le-ltb (length config) 6 h.0)
-    ∙ ap (λ b. checked_by false b (content_of config)) (eq-eqb (remainder_of (bits_of config)) 0 h.1)
+    ap (λ b. checked_by b (remainder_of (bits_of config) == 0) (record_content config)) (le-ltb (length config) 6 h.0)
+    ∙ ap (λ b. checked_by false b (record_content config)) (eq-eqb (remainder_of (bits_of config)) 0 h.1)
 
 size_found : (n : ℕ) → is_size n ≡ true → IsSize n
-size_found n h = let parts = and_parts (nat_le 1 n) (nat_le n 16384) h in (leb-true 1 n parts.0, leb-true n 16384 parts.1)
+size_found n h = let parts = and_parts (nat_le 1 n) (nat_le n greatest_side) h in (leb-true 1 n parts.0, leb-true n greatest_side parts.1)
 
 size_test : (n : ℕ) → IsSize n → is_size n ≡ true
-size_test n h = and_from (nat_le 1 n) (nat_le n 16384) (le-leb 1 n h.0) (le-leb n 16384 h.1)
+size_test n h = and_from (nat_le 1 n) (nat_le n greatest_side) (le-leb 1 n h.0) (le-leb n greatest_side h.1)
 
 -- ---- what is read is the record's setup
 
-sized_ok : (granted is_width is_height : Bool) (width height : ℕ) (content : List ℕ) (value : SetupValue) → sized granted is_width is_height width height content ≡ Ok value
+sized_ok : (granted is_width is_height : Bool) (width height : ℕ) (content : List ℕ) (value : SetupValue)
+    → sized granted is_width is_height width height content ≡ Ok value
     → (is_width ≡ true) × (is_height ≡ true) × (fields_read granted width height content ≡ Ok value)
 unfolding sized
 sized_ok granted true true width height content value h = (refl, refl, h)
@@ -81,7 +83,8 @@ record Opening (granted : Bool) (config : List ℕ) (width height : ℕ) (value 
   read : setup_form granted width height true (place_of start fresh_row) ≡ Ok outcome
   is : outcome.0 ≡ value
 
-opening : (granted : Bool) (config : List ℕ) (width height : ℕ) (value : SetupValue) → setup_read granted config width height ≡ Ok value → Opening granted config width height value
+opening : (granted : Bool) (config : List ℕ) (width height : ℕ) (value : SetupValue) → setup_read granted config width height ≡ Ok value
+    → Opening granted config width height value
 unfolding sized fields_read value_of
 opening granted config width height value h =
     let a = bind_is_ok (checked_content config) (sized granted (is_size width) (is_size height) width height) value h in
@@ -89,7 +92,8 @@ opening granted config width height value h =
     let c = started_ok granted width height (start_of true a.0) value b.2 in
     record { content = a.0; checked = a.1; is_width = b.0; is_height = b.1; start = c.0; started = c.1; outcome = c.2.0; read = c.2.1; is = c.2.2 }
 
-pub setup-found : (config : List ℕ) (width height : ℕ) (value : SetupValue) → setup_read true config width height ≡ Ok value → IsSetupOf config width height value
+pub setup-found : (config : List ℕ) (width height : ℕ) (value : SetupValue) → setup_read true config width height ≡ Ok value
+    → IsSetupOf config width height value
 setup-found config width height value h =
     let o = opening true config width height value h in
     let checked = checked-found config o.content o.checked in
@@ -113,7 +117,7 @@ pub setup-run : (config : List ℕ) (width height : ℕ) (value : SetupValue) �
 unfolding fields_read value_of
 setup-run config width height value s =
     let r = setup_form-run width height s.start s.fields s.end s.accepted s.is_width.1 s.is_height.1 s.coded in
-    sized_read true config (content_of config) width height (checked-run config s.passes) (size_test width s.is_width) (size_test height s.is_height)
+    sized_read true config (record_content config) width height (checked-run config s.passes) (size_test width s.is_width) (size_test height s.is_height)
     ∙ ap (λ z. value_of (from_place Range z (λ c. setup_form true width height true (place_of c fresh_row)))) s.started
     ∙ ap value_of r.1
     ∙ ap (λ z. Ok z) (sym s.is)
@@ -156,7 +160,8 @@ pub read_in_profile : (config : List ℕ) (width height : ℕ) (value : SetupVal
 read_in_profile config width height value h = setup_is_in_profile config width height value (setup-found config width height value h)
 
 -- with no memory for the sets, a record that has a setup is refused for that
-without_memory : (config : List ℕ) (width height : ℕ) (value : SetupValue) → setup_read true config width height ≡ Ok value → setup_read false config width height ≡ Err Memory
+without_memory : (config : List ℕ) (width height : ℕ) (value : SetupValue) → setup_read true config width height ≡ Ok value
+    → setup_read false config width height ≡ Err Memory
 unfolding fields_read value_of front_rest memory_rest sets_rest deltas_rest last_rest
 without_memory config width height value h =
     let o = opening true config width height value h in
@@ -167,7 +172,8 @@ without_memory config width height value h =
 
 -- ---- an answer that reading gives
 
-only_of : (config : List ℕ) (width height : ℕ) (granted : Bool) (e : SetupFault) (setup : SetupValue) → setup_read granted config width height ≡ Err e → IsSetupOf config width height setup → e ≡ Memory
+only_of : (config : List ℕ) (width height : ℕ) (granted : Bool) (e : SetupFault) (setup : SetupValue) → setup_read granted config width height ≡ Err e
+    → IsSetupOf config width height setup → e ≡ Memory
 only_of config width height true e setup h s = absurd (apart_results (sym h ∙ setup-run config width height setup s))
   where
     apart_results : ◌≡◌ {A = Result SetupValue SetupFault} (Err e) (Ok setup) → ⊥
@@ -187,7 +193,8 @@ Answered config width height result =
       fault : IfErr result (λ fault. (granted : Bool) × (setup_read granted config width height ≡ Err fault));
     }
 
-pub answered : (config : List ℕ) (width height : ℕ) (value : SetupValue) → setup_read true config width height ≡ Ok value → Answered config width height (Ok value)
+pub answered : (config : List ℕ) (width height : ℕ) (value : SetupValue) → setup_read true config width height ≡ Ok value
+    → Answered config width height (Ok value)
 answered config width height value h =
     record {
       found = setup-found config width height value h;
@@ -196,6 +203,12 @@ answered config width height value h =
       fault = tt;
     }
 
-pub refused_by : (config : List ℕ) (width height : ℕ) (granted : Bool) (e : SetupFault) → setup_read granted config width height ≡ Err e → Answered config width height (Err e)
+pub refused_by : (config : List ℕ) (width height : ℕ) (granted : Bool) (e : SetupFault) → setup_read granted config width height ≡ Err e
+    → Answered config width height (Err e)
 refused_by config width height granted e h =
-    record { found = tt; only = λ setup s. only_of config width height granted e setup h s; first = first_fault config width height granted e h; fault = (granted, h) }
+    record {
+      found = tt;
+      only = λ setup s. only_of config width height granted e setup h s;
+      first = first_fault config width height granted e h;
+      fault = (granted, h);
+    }

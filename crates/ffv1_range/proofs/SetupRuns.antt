@@ -5,6 +5,7 @@ use Rattle.std.specs.List.{All, flat_map}
 use Rattle.std.proofs.lemmas.Bool.{eqb-true, eq-eqb, leb-true, le-leb, and_parts, and_from, or_cases, not-true, not_from_false}
 use Rattle.std.proofs.lemmas.List.Elements.{All-map}
 use Rattle.std.proofs.lemmas.List.{length-replicate, get_or-replicate}
+use Rattle.ffv1_bits.specs.Limits.{greatest_side, most_tiles}
 use Rattle.ffv1_range.specs.Coding.{Coder, PlaceOf, Place, IsRangeRun}
 use Rattle.ffv1_range.specs.Rows.{Rows, with_row, Piece, IsRowsRun}
 use Rattle.ffv1_range.specs.Forms.{Form, ◌>>=◌, giving, apart}
@@ -51,7 +52,8 @@ record FrontAt (closed : Bool) (width height : ℕ) (p : Place) (y : FrontValue 
   set : SetCountAt closed after_tiles (sets, y.1)
   is : y.0 ≡ record { micro = micro; planes = planes; tiles = tiles; sets = sets }
 
-front-found : (closed : Bool) (width height : ℕ) (p : Place) (y : FrontValue × Place) → front_form width height closed p ≡ Ok y → FrontAt closed width height p y
+front-found : (closed : Bool) (width height : ℕ) (p : Place) (y : FrontValue × Place) → front_form width height closed p ≡ Ok y
+    → FrontAt closed width height p y
 unfolding front_after_versions front_after_planes front_after_tiles front_after_count
 front-found closed width height p y h =
     let a = bind_is_ok (versions closed p) (λ x. front_after_versions width height x.0 closed x.1) y h in
@@ -99,7 +101,8 @@ depth_small depth h = elim h [ inl e ↦ omega arith | inr e ↦ omega arith ]
 
 -- ---- the rows before the deltas
 
-before_deltas : (rows after : Rows) (row : List ℕ) → rows 0 ≡ row → ((k : ℕ) → 0 < k → rows k ≡ fresh_row) → ((k : ℕ) → k < 33 → after k ≡ rows k) → AreRowsOf after (row, fresh_rows)
+before_deltas : (rows after : Rows) (row : List ℕ) → rows 0 ≡ row → ((k : ℕ) → 0 < k → rows k ≡ fresh_row) → ((k : ℕ) → k < 33 → after k ≡ rows k)
+    → AreRowsOf after (row, fresh_rows)
 before_deltas rows after row main fresh kept =
     record {
       size = length-replicate 32 fresh_row;
@@ -127,7 +130,8 @@ values_of (set ∷ sets) = ap (λ z. set_of set.tables ∷ z) (values_of sets)
 -- ---- what is read is coded
 
 -- the fields of a record, from what was read of its parts
-abbrev fields_of : (closed : Bool) (width height : ℕ) (p r : Place) (y : FrontValue × Place) (z : ℕ × Place) → FrontAt closed width height p y → LastFieldsAt closed r z → List SetFields → RecordFields
+abbrev fields_of : (closed : Bool) (width height : ℕ) (p r : Place) (y : FrontValue × Place) (z : ℕ × Place) → FrontAt closed width height p y
+    → LastFieldsAt closed r z → List SetFields → RecordFields
 fields_of closed width height p r y z f l sets =
     record {
       version = f.version.version;
@@ -146,7 +150,8 @@ fields_of closed width height p r y z f l sets =
       intra = l.intra;
     }
 
-fields_accepted : (closed : Bool) (width height : ℕ) (p r : Place) (y : FrontValue × Place) (z : ℕ × Place) (f : FrontAt closed width height p y) (l : LastFieldsAt closed r z) (sets : List SetFields)
+fields_accepted : (closed : Bool) (width height : ℕ) (p r : Place) (y : FrontValue × Place) (z : ℕ × Place) (f : FrontAt closed width height p y)
+    (l : LastFieldsAt closed r z) (sets : List SetFields)
     → length sets ≡ f.sets → All IsSetFields sets → IsAccepted width height (fields_of closed width height p r y z f l sets)
 fields_accepted closed width height p r y z f l sets count each =
     let grid = and_parts (nat_le (f.tile.across + 1) width) (nat_le (f.tile.down + 1) height) f.tile.test_0 in
@@ -163,7 +168,7 @@ fields_accepted closed width height p r y z f l sets count each =
       extra_plane = not-true f.plane.extra f.plane.test_5;
       across = leb-true (f.tile.across + 1) width grid.0;
       down = leb-true (f.tile.down + 1) height grid.1;
-      tiles = leb-true ((f.tile.across + 1) * (f.tile.down + 1)) 1024 f.tile.test_1;
+      tiles = leb-true ((f.tile.across + 1) * (f.tile.down + 1)) most_tiles f.tile.test_1;
       some_set = omega (arith, f.set.is);
       few_sets = omega (arith, f.set.is);
       sets = each;
@@ -172,7 +177,8 @@ fields_accepted closed width height p r y z f l sets count each =
     }
 
 -- the first fields, as their bits
-front_coded : (closed : Bool) (width height : ℕ) (p r : Place) (y : FrontValue × Place) (z : ℕ × Place) (f : FrontAt closed width height p y) (l : LastFieldsAt closed r z) (sets : List SetFields)
+front_coded : (closed : Bool) (width height : ℕ) (p r : Place) (y : FrontValue × Place) (z : ℕ × Place) (f : FrontAt closed width height p y)
+    (l : LastFieldsAt closed r z) (sets : List SetFields)
     → length sets ≡ f.sets → IsRangeRun closed p (fields_bits (front_fields (fields_of closed width height p r y z f l sets))) y.1
 unfolding fields_bits IsRangeRun
 front_coded closed width height p r y z f l sets count =
@@ -180,10 +186,13 @@ front_coded closed width height p r y z f l sets count =
     let same : f.set.count ≡ length sets = f.set.is ∙ sym count in
     let tiles : List FieldValue = symbol f.tile.across ∷ symbol f.tile.down ∷ symbol (length sets) ∷ [] in
     let planes : List FieldValue =
-    symbol f.plane.coder ∷ symbol f.plane.space ∷ symbol f.plane.depth ∷ bit f.plane.chroma ∷ symbol f.plane.shift_h ∷ symbol f.plane.shift_v ∷ bit f.plane.extra ∷ tiles in
-    f.version.coded planes y.1 (f.plane.coded tiles y.1 (f.tile.coded (symbol (length sets) ∷ []) y.1 (subst (λ n. IsRangeRun closed f.after_tiles (fields_bits (symbol n ∷ [])) y.1) same last)))
+    symbol f.plane.coder ∷ symbol f.plane.space ∷ symbol f.plane.depth ∷ bit f.plane.chroma ∷ symbol f.plane.shift_h ∷ symbol f.plane.shift_v
+    ∷ bit f.plane.extra ∷ tiles in
+    f.version.coded planes y.1 (f.plane.coded tiles y.1 (f.tile.coded (symbol (length sets) ∷ []) y.1
+    (subst (λ n. IsRangeRun closed f.after_tiles (fields_bits (symbol n ∷ [])) y.1) same last)))
 
-back_coded : (closed : Bool) (width height : ℕ) (p r : Place) (y : FrontValue × Place) (z : ℕ × Place) (f : FrontAt closed width height p y) (l : LastFieldsAt closed r z) (sets : List SetFields)
+back_coded : (closed : Bool) (width height : ℕ) (p r : Place) (y : FrontValue × Place) (z : ℕ × Place) (f : FrontAt closed width height p y)
+    (l : LastFieldsAt closed r z) (sets : List SetFields)
     → IsRangeRun closed r (fields_bits (back_fields (fields_of closed width height p r y z f l sets))) z.1
 unfolding fields_bits IsRangeRun
 back_coded closed width height p r y z f l sets = l.coded [] z.1 refl
@@ -217,7 +226,8 @@ setup_from front sets ec intra width height =
 abbrev sets_apart : ℕ → Place → Result (List SetValue × Place) SetupFault
 sets_apart n p = apart tt (sets_from n []) true p
 
-same_setup : (f g : FrontValue) (a b : List SetValue) (e i j width height : ℕ) → f ≡ g → a ≡ b → 1 ≡ e → i ≡ j → setup_from f a 1 i width height ≡ setup_from g b e j width height
+same_setup : (f g : FrontValue) (a b : List SetValue) (e i j width height : ℕ) → f ≡ g → a ≡ b → 1 ≡ e → i ≡ j
+    → setup_from f a 1 i width height ≡ setup_from g b e j width height
 same_setup f g a b e i j width height p q r s =
     ap (λ x. setup_from x a 1 i width height) p
     ∙ ap (λ x. setup_from g x 1 i width height) q
@@ -232,11 +242,16 @@ same_front m n a b s t sets p q r =
     ap (λ x. front_from x a s sets) p ∙ ap (λ x. front_from n x s sets) q ∙ ap (λ x. front_from n b x sets) r
 
 -- what the fields say is what was read
-value_read : (closed : Bool) (width height : ℕ) (p r : Place) (y : FrontValue × Place) (z : ℕ × Place) (f : FrontAt closed width height p y) (l : LastFieldsAt closed r z) (sets : List SetFields) (read : List SetValue)
+value_read : (closed : Bool) (width height : ℕ) (p r : Place) (y : FrontValue × Place) (z : ℕ × Place) (f : FrontAt closed width height p y)
+    (l : LastFieldsAt closed r z) (sets : List SetFields) (read : List SetValue)
     → read ≡ map (λ set. set_of set.tables) sets
     → setup_from y.0 read 1 z.0 width height ≡ setup_value width height (fields_of closed width height p r y z f l sets)
 value_read closed width height p r y z f l sets read same =
-    let shape : PlanesValue = record { has_chroma = f.plane.chroma; shift_h = if f.plane.chroma then f.plane.shift_h else 0; shift_v = if f.plane.chroma then f.plane.shift_v else 0 } in
+    let shape : PlanesValue = record {
+      has_chroma = f.plane.chroma;
+      shift_h = if f.plane.chroma then f.plane.shift_h else 0;
+      shift_v = if f.plane.chroma then f.plane.shift_v else 0;
+    } in
     let tiles : TileCounts = record { across = f.tile.across + 1; down = f.tile.down + 1 } in
     same_setup y.0 (front_from f.version.micro shape tiles f.sets) read (map (λ set. set_of set.tables) sets) l.ec z.0 l.intra width height
     (f.is ∙ same_front f.micro f.version.micro f.planes shape f.tiles tiles f.sets (sym f.version.is) (sym f.plane.is) (sym f.tile.is))
@@ -250,7 +265,8 @@ record LastAt (width height : ℕ) (front : FrontValue) (sets : List SetValue) (
   fields : LastFieldsAt true p read
   is : y.0 ≡ setup_from front sets 1 read.0 width height
 
-last-found : (width height : ℕ) (front : FrontValue) (sets : List SetValue) (p : Place) (y : SetupValue × Place) → deltas_rest width height front sets tt true p ≡ Ok y
+last-found : (width height : ℕ) (front : FrontValue) (sets : List SetValue) (p : Place) (y : SetupValue × Place)
+    → deltas_rest width height front sets tt true p ≡ Ok y
     → LastAt width height front sets p y
 unfolding deltas_rest last_rest
 last-found width height front sets p y h =
@@ -264,12 +280,14 @@ record DeltasAt (width height : ℕ) (front : FrontValue) (sets : List SetValue)
   read : sets_deltas contexts true (place_of p.coder (p.states, fresh_rows)) ≡ Ok (tt, after)
   rest : deltas_rest width height front sets tt true (place_of after.coder after.states.0) ≡ Ok y
 
-deltas-found : (width height : ℕ) (front : FrontValue) (sets : List SetValue) (p : Place) (y : SetupValue × Place) → sets_rest width height front sets true p ≡ Ok y
+deltas-found : (width height : ℕ) (front : FrontValue) (sets : List SetValue) (p : Place) (y : SetupValue × Place)
+    → sets_rest width height front sets true p ≡ Ok y
     → DeltasAt width height front sets (map (λ set. set.contexts) sets) p y
 unfolding sets_rest
 deltas-found width height front sets p y h =
     let x = bind_is_ok (deltas_form (map (λ set. set.contexts) sets) true p) (λ x. deltas_rest width height front sets x.0 true x.1) y h in
-    let d = bind_is_ok (sets_deltas (map (λ set. set.contexts) sets) true (place_of p.coder (p.states, fresh_rows))) (λ x. Ok (x.0, place_of x.1.coder x.1.states.0)) x.0 x.1 in
+    let d = bind_is_ok (sets_deltas (map (λ set. set.contexts) sets) true (place_of p.coder (p.states, fresh_rows)))
+    (λ x. Ok (x.0, place_of x.1.coder x.1.states.0)) x.0 x.1 in
     let pair = same_ok (d.0.0, place_of d.0.1.coder d.0.1.states.0) x.0 d.2 in
     record {
       after = d.0.1;
@@ -284,7 +302,8 @@ record TablesAt (width height : ℕ) (front : FrontValue) (p : Place) (y : Setup
   read : sets_from front.sets [] true (place_of p.coder tt) ≡ Ok (sets, after)
   rest : sets_rest width height front sets true (place_of after.coder p.states) ≡ Ok y
 
-tables-found : (width height : ℕ) (front : FrontValue) (p : Place) (y : SetupValue × Place) → front_rest true width height front true p ≡ Ok y → TablesAt width height front p y
+tables-found : (width height : ℕ) (front : FrontValue) (p : Place) (y : SetupValue × Place) → front_rest true width height front true p ≡ Ok y
+    → TablesAt width height front p y
 unfolding front_rest memory_rest
 tables-found width height front p y h =
     let x = bind_is_ok (sets_apart front.sets p) (λ x. sets_rest width height front x.0 true x.1) y h in
@@ -293,7 +312,8 @@ tables-found width height front p y h =
     record { sets = d.0.0; after = d.0.1; read = d.1; rest = ap (λ z. sets_rest width height front z.0 true z.1) pair ∙ x.2 }
 
 -- the pieces of a record, one part after the other
-pieces_coded : (r : RecordFields) (c : Coder) (front last : Place) (tables deltas : Coder) (middle behind : Rows) → IsRangeRun true (place_of c fresh_row) (fields_bits (front_fields r)) front
+pieces_coded : (r : RecordFields) (c : Coder) (front last : Place) (tables deltas : Coder) (middle behind : Rows)
+    → IsRangeRun true (place_of c fresh_row) (fields_bits (front_fields r)) front
     → IsRowsRun true (place_of front.coder (first_rows front.states)) (table_pieces 0 (flat_map (λ set. set.tables) r.sets)) (place_of tables middle)
     → IsRowsRun true (place_of tables middle) (flat_map (λ set. deltas_pieces set.deltas) r.sets) (place_of deltas behind)
     → IsRangeRun true (place_of deltas (behind 0)) (fields_bits (back_fields r)) last
@@ -303,7 +323,8 @@ pieces_coded r c front last tables deltas middle behind h k l m =
     rows_append true ((0, fields_bits (front_fields r)) ∷ []) _ (place_of c fresh_states) (place_of front.coder (first_rows front.states)) _
     (one_piece true c fresh_states 0 fresh_row (fields_bits (front_fields r)) front refl h)
     (rows_append true (table_pieces 0 (flat_map (λ set. set.tables) r.sets)) _ (place_of front.coder (first_rows front.states)) (place_of tables middle) _ k
-    (rows_append true (flat_map (λ set. deltas_pieces set.deltas) r.sets) ((0, fields_bits (back_fields r)) ∷ []) (place_of tables middle) (place_of deltas behind) _ l
+    (rows_append true (flat_map (λ set. deltas_pieces set.deltas) r.sets) ((0, fields_bits (back_fields r)) ∷ []) (place_of tables middle)
+    (place_of deltas behind) _ l
     (one_piece true deltas behind 0 (behind 0) (fields_bits (back_fields r)) last refl m)))
 
 tables_count : (sets : List SetFields) → length (map (λ set. set.tables) sets) ≡ length sets
@@ -311,7 +332,8 @@ tables_count [] = refl
 tables_count (set ∷ sets) = ap suc (tables_count sets)
 
 -- the parts that were read, as the fields of a record
-parts_found : (width height : ℕ) (c : Coder) (y : SetupValue × Place) (front : FrontValue) (p : Place) → FrontAt true width height (place_of c fresh_row) (front, p)
+parts_found : (width height : ℕ) (c : Coder) (y : SetupValue × Place) (front : FrontValue) (p : Place)
+    → FrontAt true width height (place_of c fresh_row) (front, p)
     → TablesAt width height front p y → SetupAt width height c y.0
 unfolding first_rows
 parts_found width height c y front p f t =
@@ -322,21 +344,25 @@ parts_found width height c y front p f t =
     let l = last-found width height front t.sets (place_of d.after.coder d.after.states.0) y d.rest in
     parts_coded width height c y front p f t s d e l
   where
-    parts_coded : (width height : ℕ) (c : Coder) (y : SetupValue × Place) (front : FrontValue) (p : Place) (f : FrontAt true width height (place_of c fresh_row) (front, p))
+    parts_coded : (width height : ℕ) (c : Coder) (y : SetupValue × Place) (front : FrontValue) (p : Place)
+        (f : FrontAt true width height (place_of c fresh_row) (front, p))
         (t : TablesAt width height front p y) (s : SetsAt true front.sets [] p.coder (t.sets, t.after))
         (d : DeltasAt width height front t.sets (map (λ set. set.contexts) t.sets) (place_of t.after.coder p.states) y)
         (e : SetsDeltasAt true s.sets (place_of t.after.coder (p.states, fresh_rows)) d.after)
         (l : LastAt width height front t.sets (place_of d.after.coder d.after.states.0) y) → SetupAt width height c y.0
     parts_coded width height c y front p f t s d e l =
-        let r : RecordFields = fields_of true width height (place_of c fresh_row) (place_of d.after.coder d.after.states.0) (front, p) l.read f l.fields e.sets in
+        let r : RecordFields = fields_of true width height (place_of c fresh_row) (place_of d.after.coder d.after.states.0)
+        (front, p) l.read f l.fields e.sets in
         let count : length e.sets ≡ f.sets = sym (tables_count e.sets) ∙ ap length e.same ∙ s.size ∙ ap (λ z. z.sets) f.is in
         let tables : flat_map (λ set. set) s.sets ≡ flat_map (λ set. set.tables) e.sets = ap (flat_map (λ set. set)) (sym e.same) ∙ flat_tables e.sets in
         let values : t.sets ≡ map (λ set. set_of set.tables) e.sets = s.is ∙ ap (map set_of) (sym e.same) ∙ values_of e.sets in
         let k = s.coded 0 (first_rows p.states) (λ j h. first_rows-fresh p.states (33 + j) (omega arith)) in
-        let m = e.coded k.after (before_deltas (first_rows p.states) k.after p.states (with_row-same fresh_states 0 p.states) (first_rows-fresh p.states) k.kept) in
+        let m = e.coded k.after (before_deltas (first_rows p.states) k.after p.states (with_row-same fresh_states 0 p.states)
+        (first_rows-fresh p.states) k.kept) in
         record {
           fields = r;
-          accepted = fields_accepted true width height (place_of c fresh_row) (place_of d.after.coder d.after.states.0) (front, p) l.read f l.fields e.sets count e.each;
+          accepted = fields_accepted true width height (place_of c fresh_row) (place_of d.after.coder d.after.states.0)
+              (front, p) l.read f l.fields e.sets count e.each;
           end = place_of l.read.1.coder (with_row m.0 0 l.read.1.states);
           coded =
               pieces_coded r c p l.read.1 t.after.coder d.after.coder k.after m.0
@@ -346,10 +372,12 @@ parts_found width height c y front p f t =
               (subst (λ z. IsRangeRun true (place_of d.after.coder z) (fields_bits (back_fields r)) l.read.1) (sym m.2.main)
               (back_coded true width height (place_of c fresh_row) (place_of d.after.coder d.after.states.0) (front, p) l.read f l.fields e.sets));
           is =
-              l.is ∙ value_read true width height (place_of c fresh_row) (place_of d.after.coder d.after.states.0) (front, p) l.read f l.fields e.sets t.sets values;
+              l.is ∙ value_read true width height (place_of c fresh_row) (place_of d.after.coder d.after.states.0)
+              (front, p) l.read f l.fields e.sets t.sets values;
         }
 
-pub setup_form-found : (width height : ℕ) (c : Coder) (y : SetupValue × Place) → setup_form true width height true (place_of c fresh_row) ≡ Ok y → SetupAt width height c y.0
+pub setup_form-found : (width height : ℕ) (c : Coder) (y : SetupValue × Place) → setup_form true width height true (place_of c fresh_row) ≡ Ok y
+    → SetupAt width height c y.0
 unfolding front_rest memory_rest sets_rest deltas_rest last_rest
 setup_form-found width height c y h =
     let a = bind_is_ok (front_form width height true (place_of c fresh_row)) (λ x. front_rest true width height x.0 true x.1) y h in
@@ -361,7 +389,11 @@ setup_form-found width height c y h =
 abbrev front_value : RecordFields → FrontValue
 front_value r =
     front_from r.micro_version
-    (record { has_chroma = r.chroma_planes; shift_h = if r.chroma_planes then r.log2_h_chroma_subsample else 0; shift_v = if r.chroma_planes then r.log2_v_chroma_subsample else 0 })
+    (record {
+      has_chroma = r.chroma_planes;
+      shift_h = if r.chroma_planes then r.log2_h_chroma_subsample else 0;
+      shift_v = if r.chroma_planes then r.log2_v_chroma_subsample else 0;
+    })
     (record { across = r.num_h_slices_less_1 + 1; down = r.num_v_slices_less_1 + 1 })
     (length r.sets)
 
@@ -370,7 +402,7 @@ unfolding IsRangeRun fields_bits
 nothing_left p q h = h
 
 -- the fields before the tables, where they are coded
-front-run : (width height : ℕ) (p : Place) (r : RecordFields) (z : Place) → IsAccepted width height r → width ≤ 16384 → height ≤ 16384
+front-run : (width height : ℕ) (p : Place) (r : RecordFields) (z : Place) → IsAccepted width height r → width ≤ greatest_side → height ≤ greatest_side
     → IsRangeRun true p (fields_bits (front_fields r)) z → front_form width height true p ≡ Ok (front_value r, z)
 unfolding front_after_versions front_after_planes front_after_tiles front_after_count
 front-run width height p r z ok wide high run =
@@ -383,18 +415,24 @@ front-run width height p r z ok wide high run =
     (le-leb (r.num_h_slices_less_1 + 1) width ok.across) (le-leb (r.num_v_slices_less_1 + 1) height ok.down) in
     let a = versions-run true r.version r.micro_version p shape z (eq-eqb r.version 3 ok.version) (le-leb 4 r.micro_version ok.micro_version)
     (omega (arith, ok.version)) ok.symbols.0 run in
-    let b = planes-run true r.coder_type r.colorspace_type r.bits_per_raw_sample r.chroma_planes r.log2_h_chroma_subsample r.log2_v_chroma_subsample r.extra_plane a.place tiles z
+    let b = planes-run true r.coder_type r.colorspace_type r.bits_per_raw_sample r.chroma_planes r.log2_h_chroma_subsample r.log2_v_chroma_subsample
+    r.extra_plane a.place tiles z
     (eq-eqb r.coder_type 0 ok.coder_type) (eq-eqb r.colorspace_type 0 ok.colorspace_type) (depth_test r.bits_per_raw_sample ok.bits_per_raw_sample)
-    (shift_test r.chroma_planes r.log2_h_chroma_subsample ok.log2_h_chroma_subsample) (shift_test r.chroma_planes r.log2_v_chroma_subsample ok.log2_v_chroma_subsample)
-    (not_from_false r.extra_plane ok.extra_plane) (omega (arith, ok.coder_type)) (omega (arith, ok.colorspace_type)) (depth_small r.bits_per_raw_sample ok.bits_per_raw_sample)
+    (shift_test r.chroma_planes r.log2_h_chroma_subsample ok.log2_h_chroma_subsample)
+    (shift_test r.chroma_planes r.log2_v_chroma_subsample ok.log2_v_chroma_subsample)
+    (not_from_false r.extra_plane ok.extra_plane) (omega (arith, ok.coder_type)) (omega (arith, ok.colorspace_type))
+    (depth_small r.bits_per_raw_sample ok.bits_per_raw_sample)
     ok.symbols.1 ok.symbols.2 a.left in
     let c = tile_counts-run true width height r.num_h_slices_less_1 r.num_v_slices_less_1 b.place count z grid
-    (le-leb ((r.num_h_slices_less_1 + 1) * (r.num_v_slices_less_1 + 1)) 1024 ok.tiles) (omega (arith, ok.across)) (omega (arith, ok.down)) b.left in
-    let d = set_count-run true (length r.sets) c.place [] z (le-leb 1 (length r.sets) ok.some_set) (le-leb (length r.sets) 8 ok.few_sets) (omega (arith, ok.few_sets)) c.left in
+    (le-leb ((r.num_h_slices_less_1 + 1) * (r.num_v_slices_less_1 + 1)) most_tiles ok.tiles) (omega (arith, ok.across)) (omega (arith, ok.down)) b.left in
+    let d = set_count-run true (length r.sets) c.place [] z (le-leb 1 (length r.sets) ok.some_set) (le-leb (length r.sets) 8 ok.few_sets)
+    (omega (arith, ok.few_sets)) c.left in
     bind_ok (versions true p) (λ x. front_after_versions width height x.0 true x.1) (r.micro_version, a.place) a.read
     ∙ bind_ok (planes true a.place) (λ x. front_after_planes width height r.micro_version x.0 true x.1) ((front_value r).planes, b.place) b.read
-    ∙ bind_ok (tile_counts width height true b.place) (λ x. front_after_tiles r.micro_version (front_value r).planes x.0 true x.1) ((front_value r).tiles, c.place) c.read
-    ∙ bind_ok (set_count true c.place) (λ x. front_after_count r.micro_version (front_value r).planes (front_value r).tiles x.0 true x.1) (length r.sets, d.place) d.read
+    ∙ bind_ok (tile_counts width height true b.place) (λ x. front_after_tiles r.micro_version (front_value r).planes x.0 true x.1)
+    ((front_value r).tiles, c.place) c.read
+    ∙ bind_ok (set_count true c.place) (λ x. front_after_count r.micro_version (front_value r).planes (front_value r).tiles x.0 true x.1)
+    (length r.sets, d.place) d.read
     ∙ ap (λ w. Ok (front_value r, w)) (nothing_left d.place z d.left)
 
 -- the parts of a setup, where each is read
@@ -411,12 +449,15 @@ parts_read width height c r p q two d last h k l m one =
     bind_ok (front_form width height true (place_of c fresh_row)) (λ x. front_rest true width height x.0 true x.1) (front, p) h
     ∙ bind_ok (sets_apart (length r.sets) p) (λ x. sets_rest width height front x.0 true x.1) (values, place_of q p.states)
     (bind_ok (sets_from (length r.sets) [] true (place_of p.coder tt)) (λ x. Ok (x.0, place_of x.1.coder p.states)) (values, place_of q tt) k)
-    ∙ bind_ok (deltas_form (map (λ set. set.contexts) values) true (place_of q p.states)) (λ x. deltas_rest width height front values x.0 true x.1) (tt, place_of d two.0)
-    (bind_ok (sets_deltas (map (λ set. set.contexts) values) true (place_of q (p.states, fresh_rows))) (λ x. Ok (x.0, place_of x.1.coder x.1.states.0)) (tt, place_of d two) l)
+    ∙ bind_ok (deltas_form (map (λ set. set.contexts) values) true (place_of q p.states)) (λ x. deltas_rest width height front values x.0 true x.1)
+    (tt, place_of d two.0)
+    (bind_ok (sets_deltas (map (λ set. set.contexts) values) true (place_of q (p.states, fresh_rows))) (λ x. Ok (x.0, place_of x.1.coder x.1.states.0))
+    (tt, place_of d two) l)
     ∙ bind_ok (last_fields true (place_of d two.0)) (λ x. last_rest width height front values x.0 true x.1) (r.intra, last) m
     ∙ ap (λ e. Ok (setup_from front values e r.intra width height, last)) one
 
-pub setup_form-run : (width height : ℕ) (c : Coder) (r : RecordFields) (z : PlaceOf Rows) → IsAccepted width height r → width ≤ 16384 → height ≤ 16384
+pub setup_form-run : (width height : ℕ) (c : Coder) (r : RecordFields) (z : PlaceOf Rows) → IsAccepted width height r → width ≤ greatest_side
+    → height ≤ greatest_side
     → IsRowsRun true (place_of c fresh_states) (record_pieces r) z
     → (last : Place) × (setup_form true width height true (place_of c fresh_row) ≡ Ok (setup_value width height r, last))
 unfolding IsRowsRun first_rows

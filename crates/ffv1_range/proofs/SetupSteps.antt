@@ -9,7 +9,7 @@ use Rattle.ffv1_range.specs.Fields.{last_fields}
 use Rattle.ffv1_range.specs.Tables.{SetValue}
 use Rattle.ffv1_range.specs.TableForms.{fresh_row, sets_from, deltas_form}
 use Rattle.ffv1_range.specs.Setup.{SetupValue}
-use Rattle.ffv1_range.specs.TableViews.{set_values, contexts_of}
+use Rattle.ffv1_range.specs.Views.{set_values, contexts_of}
 use Rattle.ffv1_range.specs.declared.tables.TableSet.{TableSet}
 use Rattle.ffv1_range.specs.SetupForms.{FrontValue, front_form, setup_form, checked_content, is_size, setup_read}
 use Rattle.ffv1_range.specs.declared.coding.RangeFault.{RangeFault}
@@ -34,12 +34,14 @@ value_of outcome = outcome >>> λ x. Ok x.0
 
 -- what the record gives once it is opened
 unfoldable pub fields_read : Bool → ℕ → ℕ → List ℕ → Result SetupValue SetupFault
-fields_read granted width height content = value_of (from_place Range (start_of true content) (λ c. setup_form granted width height true (place_of c fresh_row)))
+fields_read granted width height content = value_of (from_place Range (start_of true content)
+    (λ c. setup_form granted width height true (place_of c fresh_row)))
 
 unfoldable pub sized : Bool → Bool → Bool → ℕ → ℕ → List ℕ → Result SetupValue SetupFault
 sized granted is_width is_height width height content = if is_width && is_height then fields_read granted width height content else Err Size
 
-pub not_checked : (granted : Bool) (config : List ℕ) (width height : ℕ) (e : SetupFault) → checked_content config ≡ Err e → setup_read granted config width height ≡ Err e
+pub not_checked : (granted : Bool) (config : List ℕ) (width height : ℕ) (e : SetupFault) → checked_content config ≡ Err e
+    → setup_read granted config width height ≡ Err e
 unfolding sized fields_read value_of
 not_checked granted config width height e h = bind_err (checked_content config) (sized granted (is_size width) (is_size height) width height) e h
 
@@ -50,7 +52,8 @@ width_refused granted config content width height h w =
     bind_ok (checked_content config) (sized granted (is_size width) (is_size height) width height) content h
     ∙ ap (λ z. sized granted z (is_size height) width height content) w
 
-pub height_refused : (granted : Bool) (config content : List ℕ) (width height : ℕ) → checked_content config ≡ Ok content → is_size width ≡ true → is_size height ≡ false
+pub height_refused : (granted : Bool) (config content : List ℕ) (width height : ℕ) → checked_content config ≡ Ok content → is_size width ≡ true
+    → is_size height ≡ false
     → setup_read granted config width height ≡ Err Size
 unfolding sized fields_read value_of
 height_refused granted config content width height h w v =
@@ -58,7 +61,8 @@ height_refused granted config content width height h w v =
     ∙ ap (λ z. sized granted z (is_size height) width height content) w
     ∙ ap (λ z. sized granted true z width height content) v
 
-pub sized_read : (granted : Bool) (config content : List ℕ) (width height : ℕ) → checked_content config ≡ Ok content → is_size width ≡ true → is_size height ≡ true
+pub sized_read : (granted : Bool) (config content : List ℕ) (width height : ℕ) → checked_content config ≡ Ok content → is_size width ≡ true
+    → is_size height ≡ true
     → setup_read granted config width height ≡ fields_read granted width height content
 unfolding sized fields_read value_of
 sized_read granted config content width height h w v =
@@ -66,14 +70,16 @@ sized_read granted config content width height h w v =
     ∙ ap (λ z. sized granted z (is_size height) width height content) w
     ∙ ap (λ z. sized granted true z width height content) v
 
-pub start_refused : (granted : Bool) (config content : List ℕ) (width height : ℕ) (f : RangeFault) → checked_content config ≡ Ok content → is_size width ≡ true → is_size height ≡ true
+pub start_refused : (granted : Bool) (config content : List ℕ) (width height : ℕ) (f : RangeFault) → checked_content config ≡ Ok content
+    → is_size width ≡ true → is_size height ≡ true
     → start_of true content ≡ Err f → setup_read granted config width height ≡ Err (Range f)
 unfolding fields_read value_of
 start_refused granted config content width height f h w v s =
     sized_read granted config content width height h w v
     ∙ ap (λ z. value_of (from_place Range z (λ c. setup_form granted width height true (place_of c fresh_row)))) s
 
-pub opened_read : (granted : Bool) (config : List ℕ) (width height : ℕ) (r : Reader) (outcome : Result (SetupValue × Place) SetupFault) → IsOpened config width height r
+pub opened_read : (granted : Bool) (config : List ℕ) (width height : ℕ) (r : Reader) (outcome : Result (SetupValue × Place) SetupFault)
+    → IsOpened config width height r
     → form_at Range (setup_form granted width height) r fresh_row ≡ outcome → setup_read granted config width height ≡ (outcome >>> λ x. Ok x.0)
 unfolding fields_read value_of
 opened_read granted config width height r outcome o h =
@@ -151,7 +157,8 @@ sets_fail width height f e r s t row a h k =
     (memory_granted width height f r s row a h)
     (read_on Range (λ at_hand. tt) (λ at_hand used. at_hand) (sets_from f.sets []) s t a tt (Err e) k)
 
-sets_read : (width height : ℕ) (f : FrontValue) (sets : List SetValue) (r s t : Reader) (row a : List ℕ) → Reads Range (front_form width height) r row (Ok f) s a
+sets_read : (width height : ℕ) (f : FrontValue) (sets : List SetValue) (r s t : Reader) (row a : List ℕ)
+    → Reads Range (front_form width height) r row (Ok f) s a
     → Reads Range (sets_from f.sets []) s tt (Ok sets) t tt
     → Continues Range (setup_form true width height) r row (deltas_form (map (λ set. set.contexts) sets) >>= deltas_rest width height f sets) t a
 unfolding sets_rest
@@ -194,11 +201,35 @@ pub all_read : (width height : ℕ) (f : FrontValue) (sets : List SetValue) (con
     → Reads Range (front_form width height) r row (Ok f) s a → Reads Range (sets_from f.sets []) s tt (Ok sets) t tt
     → Reads Range (deltas_form contexts) t a (Ok tt) u b → Reads Range last_fields u b (Ok intra) v d
     → Reads Range (setup_form true width height) r row
-    (Ok (record { micro = f.micro; has_chroma = f.planes.has_chroma; shift_h = f.planes.shift_h; shift_v = f.planes.shift_v; across = f.tiles.across; down = f.tiles.down; sets = sets; ec = 1; intra = intra; width = width; height = height })) v d
+    (Ok (record {
+      micro = f.micro;
+      has_chroma = f.planes.has_chroma;
+      shift_h = f.planes.shift_h;
+      shift_v = f.planes.shift_v;
+      across = f.tiles.across;
+      down = f.tiles.down;
+      sets = sets;
+      ec = 1;
+      intra = intra;
+      width = width;
+      height = height;
+    })) v d
 unfolding last_rest
 all_read width height f sets contexts intra r s t u v row a b d same h k l m =
     continue_end Range (setup_form true width height) (last_rest width height f sets intra) r v v row d d
-    (Ok (record { micro = f.micro; has_chroma = f.planes.has_chroma; shift_h = f.planes.shift_h; shift_v = f.planes.shift_v; across = f.tiles.across; down = f.tiles.down; sets = sets; ec = 1; intra = intra; width = width; height = height }))
+    (Ok (record {
+      micro = f.micro;
+      has_chroma = f.planes.has_chroma;
+      shift_h = f.planes.shift_h;
+      shift_v = f.planes.shift_v;
+      across = f.tiles.across;
+      down = f.tiles.down;
+      sets = sets;
+      ec = 1;
+      intra = intra;
+      width = width;
+      height = height;
+    }))
     (continue_next Range (setup_form true width height) last_fields (last_rest width height f sets) r u v row b d intra
     (deltas_read width height f sets contexts r s t u row a b same h k l) m)
     (continue_give Range v m.0 d _ (last_rest width height f sets intra) (at_ok u v m.0 m.2) refl)

@@ -25,9 +25,12 @@ slot_outcome slot row (Err e) = Err e
 
 -- a bit at a slot is a bit at its state
 slot_bit : (at : Result Coder RangeFault) (closed : Bool) (slot : ℕ) (row : List ℕ)
-    → from_place same_fault at (λ c. slot_at closed (place_of c row) slot) ≡ slot_outcome slot row (reads_bit (record { closed = closed; total = 0; at = at }) (slice_index row slot))
+    → from_place same_fault at (λ c. slot_at closed (place_of c row) slot) ≡ slot_outcome slot row
+    (reads_bit (record { closed = closed; total = 0; at = at }) (slice_index row slot))
 unfolding slot_at slot_outcome
-slot_bit (Ok c) closed slot row = elim (bit_at closed c (slice_index row slot)) as (λ r. (r >>= λ x. Ok (x.0, record { coder = x.1; states = slice_set row slot (state_after (slice_index row slot) x.0) })) ≡ slot_outcome slot row r) [ Ok x ↦ refl | Err e ↦ refl ]
+slot_bit (Ok c) closed slot row = elim (bit_at closed c (slice_index row slot)) as
+    (λ r. (r >>= λ x. Ok (x.0, record { coder = x.1; states = slice_set row slot (state_after (slice_index row slot) x.0) })) ≡ slot_outcome slot row r)
+    [ Ok x ↦ refl | Err e ↦ refl ]
 slot_bit (Err e) closed slot row = refl
 
 pub slot_read : (r s : Reader) (row : List ℕ) (slot after : ℕ) (result : Result Bool RangeFault)

@@ -98,12 +98,14 @@ symbol_run closed (suc a) p q l h =
     ∙ bind_ok (exponent_form 32 0 closed r.first) (λ e. low_form e.0 1 closed e.1) (exponent_of (suc a), r.counted) r.exponent
     ∙ r.magnitude
 
-pub run_append : (closed : Bool) (xs ys : List (ℕ × Bool)) (p m q : Place) → IsRangeRun closed p xs m → IsRangeRun closed m ys q → IsRangeRun closed p (xs ++ ys) q
+pub run_append : (closed : Bool) (xs ys : List (ℕ × Bool)) (p m q : Place) → IsRangeRun closed p xs m → IsRangeRun closed m ys q
+    → IsRangeRun closed p (xs ++ ys) q
 unfolding IsRangeRun
 run_append closed [] ys p m q h k = subst (λ z. IsRangeRun closed z ys q) (sym h) k
 run_append closed (x ∷ xs) ys p m q h k = (h.0, h.1, run_append closed xs ys h.0 m q h.2 k)
 
-pub run_split : (closed : Bool) (xs ys : List (ℕ × Bool)) (p q : Place) → IsRangeRun closed p (xs ++ ys) q → (m : Place) × IsRangeRun closed p xs m × IsRangeRun closed m ys q
+pub run_split : (closed : Bool) (xs ys : List (ℕ × Bool)) (p q : Place) → IsRangeRun closed p (xs ++ ys) q → (m : Place) × IsRangeRun closed p xs m
+    × IsRangeRun closed m ys q
 unfolding IsRangeRun
 run_split closed [] ys p q h = (p, refl, h)
 run_split closed (x ∷ xs) ys p q h = let r = run_split closed xs ys h.0 q h.2 in (r.0, (h.0, h.1, r.1), r.2)
@@ -136,7 +138,8 @@ signed_large_run closed n is_negative p q l h =
     ∙ ap (λ z. sign_rest (suc n) is_negative closed z) sign.2
 
 -- Where a signed symbol's bits are coded, it is read.
-signed_run : (closed : Bool) (z : ℤ) (p q : Place) → unsigned_abs z < 2 ^ 32 → IsRangeRun closed p (signed_symbol_bits z) q → signed_symbol_form closed p ≡ Ok (z, q)
+signed_run : (closed : Bool) (z : ℤ) (p q : Place) → unsigned_abs z < 2 ^ 32 → IsRangeRun closed p (signed_symbol_bits z) q
+    → signed_symbol_form closed p ≡ Ok (z, q)
 unfolding IsRangeRun symbol_bits signed_symbol_bits signed_symbol_form sign_rest signed_rest exponent_rest magnitude_rest
 signed_run closed (pos zero) p q l h =
     bind_ok (slot_at closed p 0) (λ x. signed_rest x.0 closed x.1) (true, h.0) h.1
@@ -173,10 +176,12 @@ low_found closed (suc n) m a p q h =
 
 abbrev Counted : Bool → ℕ → ℕ → ℕ → Place → Place → Type 0
 Counted closed k e t p m =
-    (n : ℕ) × (t ≡ e + n) × (n < k) × ((rest : List (ℕ × Bool)) (q : Place) → IsRangeRun closed m rest q → IsRangeRun closed p (counting_ones n e ++ (1 + min t 9, false) ∷ rest) q)
+    (n : ℕ) × (t ≡ e + n) × (n < k) × ((rest : List (ℕ × Bool)) (q : Place) → IsRangeRun closed m rest q
+    → IsRangeRun closed p (counting_ones n e ++ (1 + min t 9, false) ∷ rest) q)
 
 counted_step : (closed : Bool) (k e t : ℕ) (p m : Place) → ((o : Place) → exponent_form k (e + 1) closed o ≡ Ok (t, m) → Counted closed k (e + 1) t o m)
-    → (bit : Bool) (o : Place) → slot_at closed p (1 + min e 9) ≡ Ok (bit, o) → cond bit (exponent_form k (e + 1)) (giving e) closed o ≡ Ok (t, m) → Counted closed (suc k) e t p m
+    → (bit : Bool) (o : Place) → slot_at closed p (1 + min e 9) ≡ Ok (bit, o) → cond bit (exponent_form k (e + 1)) (giving e) closed o ≡ Ok (t, m)
+    → Counted closed (suc k) e t p m
 unfolding IsRangeRun
 counted_step closed k e t p m again true o s g =
     let r = again o g in
@@ -184,8 +189,17 @@ counted_step closed k e t p m again true o s g =
 counted_step closed k e t p m again false o s g =
     let pair : ◌≡◌ {A = ℕ × Place} (e, o) (t, m) = same_ok (e, o) (t, m) g in
     let value : e ≡ t = ap (λ z. z.0) pair in
-    let place : o ≡ m = ap (λ z. z.1) pair in
-    (0, omega arith, omega arith, λ rest q run. (o, subst (λ z. slot_at closed p (1 + min z 9) ≡ Ok (false, o)) value s, subst (λ z. IsRangeRun closed z rest q) (sym place) run))
+    let place : o ≡ m = ap (λ z. z.1) pair in (
+      0,
+      omega arith,
+      omega arith,
+      λ rest q run. (
+        o,
+        subst (λ z. slot_at closed p (1 + min z 9) ≡ Ok (false, o)) value s,
+        subst
+            (λ z. IsRangeRun closed z rest q) (sym place) run,
+      ),
+    )
 
 ones_found : (closed : Bool) (k e t : ℕ) (p m : Place) → exponent_form k e closed p ≡ Ok (t, m) → Counted closed k e t p m
 unfolding exponent_form
@@ -238,7 +252,8 @@ large_found closed (suc a) e n p o q s l same one run =
       ),
     )
 
-large_read : (closed : Bool) (a e : ℕ) (p o m q : Place) → slot_at closed p 0 ≡ Ok (false, o) → exponent_form 32 0 closed o ≡ Ok (e, m) → low_form e 1 closed m ≡ Ok (a, q)
+large_read : (closed : Bool) (a e : ℕ) (p o m q : Place) → slot_at closed p 0 ≡ Ok (false, o) → exponent_form 32 0 closed o ≡ Ok (e, m)
+    → low_form e 1 closed m ≡ Ok (a, q)
     → (a < 2 ^ 32) × (0 < a) × (exponent_of a ≡ e) × IsRangeRun closed p (symbol_bits a) q
 large_read closed a e p o m q s f g =
     let ones = ones_found closed 32 0 e o m f in
@@ -287,7 +302,8 @@ sign_found closed (suc n) e true p m o q z l positive x run s g =
           (o, subst (λ y. slot_at closed m (11 + min y 10) ≡ Ok (true, o)) (sym x) s, ap (λ y. y.1) pair),
     )
 
-signed_first_found : (closed : Bool) (z : ℤ) (p q : Place) (bit : Bool) (o : Place) → slot_at closed p 0 ≡ Ok (bit, o) → signed_rest bit closed o ≡ Ok (z, q) → IsSpelled closed z p q
+signed_first_found : (closed : Bool) (z : ℤ) (p q : Place) (bit : Bool) (o : Place) → slot_at closed p 0 ≡ Ok (bit, o) → signed_rest bit closed o ≡ Ok (z, q)
+    → IsSpelled closed z p q
 unfolding IsRangeRun symbol_bits signed_symbol_bits signed_rest exponent_rest magnitude_rest
 signed_first_found closed z p q true o s g =
     let pair : ◌≡◌ {A = ℤ × Place} (pos 0, o) (z, q) = same_ok (pos 0, o) (z, q) g in

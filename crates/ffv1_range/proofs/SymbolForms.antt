@@ -91,7 +91,8 @@ low_fails e k n a slot f q r s start row states l m so h =
     (stop same_fault (slot_form (22 + min n 9)) (low_rest n a) r s row states f
     (subst (λ z. Reads same_fault (slot_form z) r row (Err f) s states) m h)))
 
-pub low_end : (e k a : ℕ) (q r : Reader) (start row : List ℕ) (c : Coder) → k ≡ 0 → r.at ≡ Ok c → Continues same_fault (low_form e 1) q start (low_form k a) r row
+pub low_end : (e k a : ℕ) (q r : Reader) (start row : List ℕ) (c : Coder) → k ≡ 0 → r.at ≡ Ok c
+    → Continues same_fault (low_form e 1) q start (low_form k a) r row
     → Reads same_fault (low_form e 1) q start (Ok a) r row
 unfolding low_form
 low_end e k a q r start row c l h so =
@@ -125,7 +126,8 @@ large_form = exponent_form 32 0 >>= λ e. low_form e 1
 symbol_rest : Bool → Form (List ℕ) ℕ RangeFault
 symbol_rest is_zero = if is_zero then giving 0 else large_form
 
-pub symbol_fails : (f : RangeFault) (r s : Reader) (row states : List ℕ) → Reads same_fault (slot_form 0) r row (Err f) s states → Reads same_fault symbol_form r row (Err f) s states
+pub symbol_fails : (f : RangeFault) (r s : Reader) (row states : List ℕ) → Reads same_fault (slot_form 0) r row (Err f) s states
+    → Reads same_fault symbol_form r row (Err f) s states
 unfolding symbol_form symbol_rest large_form
 symbol_fails f r s row states h = stop same_fault (slot_form 0) symbol_rest r s row states f h
 
@@ -143,7 +145,8 @@ unfolding symbol_form symbol_rest large_form
 symbol_large bit r s row states b h =
     continue_step same_fault (slot_form 0) symbol_rest r s row states false (subst (λ z. Reads same_fault (slot_form 0) r row (Ok z) s states) b h)
 
-pub symbol_too_long : (bit : Bool) (f : RangeFault) (r s t : Reader) (row states after : List ℕ) → bit ≡ false → Reads same_fault (slot_form 0) r row (Ok bit) s states
+pub symbol_too_long : (bit : Bool) (f : RangeFault) (r s t : Reader) (row states after : List ℕ) → bit ≡ false
+    → Reads same_fault (slot_form 0) r row (Ok bit) s states
     → Reads same_fault (exponent_form 32 0) s states (Err f) t after → Reads same_fault symbol_form r row (Err f) t after
 unfolding large_form
 symbol_too_long bit f r s t row states after b h k =
@@ -151,7 +154,8 @@ symbol_too_long bit f r s t row states after b h k =
     (stop same_fault (exponent_form 32 0) (λ e. low_form e 1) s t states after f k)
 
 pub symbol_read : (bit : Bool) (e : ℕ) (r s t u : Reader) (row states mid after : List ℕ) (result : Result ℕ RangeFault) → bit ≡ false
-    → Reads same_fault (slot_form 0) r row (Ok bit) s states → Reads same_fault (exponent_form 32 0) s states (Ok e) t mid → Reads same_fault (low_form e 1) t mid result u after
+    → Reads same_fault (slot_form 0) r row (Ok bit) s states → Reads same_fault (exponent_form 32 0) s states (Ok e) t mid
+    → Reads same_fault (low_form e 1) t mid result u after
     → Reads same_fault symbol_form r row result u after
 unfolding large_form
 symbol_read bit e r s t u row states mid after result b h k l =
@@ -172,7 +176,8 @@ signed_exponent_rest e = low_form e 1 >>= magnitude_rest e
 signed_rest : Bool → Form (List ℕ) ℤ RangeFault
 signed_rest is_zero = if is_zero then giving (pos 0) else (exponent_form 32 0 >>= signed_exponent_rest)
 
-pub signed_fails : (f : RangeFault) (r s : Reader) (row states : List ℕ) → Reads same_fault (slot_form 0) r row (Err f) s states → Reads same_fault signed_symbol_form r row (Err f) s states
+pub signed_fails : (f : RangeFault) (r s : Reader) (row states : List ℕ) → Reads same_fault (slot_form 0) r row (Err f) s states
+    → Reads same_fault signed_symbol_form r row (Err f) s states
 unfolding signed_symbol_form signed_rest signed_exponent_rest magnitude_rest sign_rest
 signed_fails f r s row states h = stop same_fault (slot_form 0) signed_rest r s row states f h
 

@@ -18,7 +18,8 @@ runs_ended-before from (len ∷ runs) k h =
     runs_ended-cons from len runs k false (lt-leb (from + len) k (omega arith)) ∙ omega arith
 
 -- in run i, i runs have ended
-pub runs_ended-within : (from : ℕ) (runs : List ℕ) (i k : ℕ) → i < length runs → from + sum (take i runs) ≤ k → k < from + sum (take (suc i) runs) → runs_ended from runs k ≡ i
+pub runs_ended-within : (from : ℕ) (runs : List ℕ) (i k : ℕ) → i < length runs → from + sum (take i runs) ≤ k → k < from + sum (take (suc i) runs)
+    → runs_ended from runs k ≡ i
 runs_ended-within from [] i k h l m = absurd (omega arith)
 runs_ended-within from (len ∷ runs) zero k h l m =
     let one : sum (len ∷ []) ≡ len + 0 = sum_by-cons (λ x. x) len [] in
@@ -31,7 +32,8 @@ runs_ended-within from (len ∷ runs) (suc i) k h l m =
     runs_ended-cons from len runs k true (le-leb (from + len) k (omega arith)) ∙ omega arith
 
 -- the entries of one more run
-pub half_more : (scale : ℕ) (runs items old new : List ℕ) (i begin len : ℕ) → items ≡ runs → i < length items → begin ≡ sum (take i runs) → len ≡ get_or items i 0
+pub half_more : (scale : ℕ) (runs items old new : List ℕ) (i begin len : ℕ) → items ≡ runs → i < length items → begin ≡ sum (take i runs)
+    → len ≡ get_or items i 0
     → ((k : ℕ) → k < begin → slice_index old k ≡ scale * runs_ended 0 runs k)
     → ((k : ℕ) → begin ≤ k → k < begin + len → slice_index new k ≡ scale * i)
     → ((k : ℕ) → k < begin → slice_index new k ≡ slice_index old k)

@@ -22,12 +22,14 @@ use Rattle.ffv1_range.proofs.TableSteps.{run_rest, fit_rest, runs_from-open, run
 small_symbol : (n : ℕ) → n ≤ 128 → IsSymbol n
 small_symbol n h = omega arith
 
-pub accepted_is : {X A : Type 0} (closed : Bool) (p : PlaceOf X) (t : Bool) (f : SetupFault) (k : Bool → Form X A SetupFault) (y : A × PlaceOf X) → (accepted t f >>= k) closed p ≡ Ok y
+pub accepted_is : {X A : Type 0} (closed : Bool) (p : PlaceOf X) (t : Bool) (f : SetupFault) (k : Bool → Form X A SetupFault) (y : A × PlaceOf X)
+    → (accepted t f >>= k) closed p ≡ Ok y
     → (t ≡ true) × (k true closed p ≡ Ok y)
 accepted_is closed p true f k y h = (refl, h)
 accepted_is closed p false f k y h = absurd cc
 
-pub accepted_as : {X A : Type 0} (closed : Bool) (p : PlaceOf X) (t : Bool) (f : SetupFault) (k : Bool → Form X A SetupFault) → t ≡ true → (accepted t f >>= k) closed p ≡ k true closed p
+pub accepted_as : {X A : Type 0} (closed : Bool) (p : PlaceOf X) (t : Bool) (f : SetupFault) (k : Bool → Form X A SetupFault) → t ≡ true
+    → (accepted t f >>= k) closed p ≡ k true closed p
 accepted_as closed p t f k e = ap (λ b. (accepted b f >>= k) closed p) e
 
 -- ---- the runs of a table
@@ -45,7 +47,13 @@ no_runs : (closed : Bool) (filled : ℕ) (got : List ℕ) (p : Place) (y : List 
 unfolding IsRangeRun fields_bits
 no_runs closed filled got p y e h =
     let pair = same_ok (got, p) y h in
-    record { runs = []; is = sym (ap (λ z. z.0) pair) ∙ sym (append-nil got); not_empty = All-nil (λ len. 1 ≤ len); whole = omega arith; coded = ap (λ z. z.1) pair }
+    record {
+      runs = [];
+      is = sym (ap (λ z. z.0) pair) ∙ sym (append-nil got);
+      not_empty = All-nil (λ len. 1 ≤ len);
+      whole = omega arith;
+      coded = ap (λ z. z.1) pair;
+    }
 
 one_run : (closed : Bool) (filled less : ℕ) (got : List ℕ) (p q : Place) (y : List ℕ × Place) → Extends closed p q (symbol less ∷ [])
     → RunsAt closed (filled + (less + 1)) (got ++ (less + 1) ∷ []) q y → RunsAt closed filled got p y
@@ -63,7 +71,8 @@ one_run closed filled less got p q y coded r =
 
 -- a run that is read, and then those behind it
 more_runs : (closed : Bool) (n filled : ℕ) (got : List ℕ) (p : Place) (y : List ℕ × Place) → filled < 128 → runs_from (suc n) filled got closed p ≡ Ok y
-    → ((less : ℕ) (q : Place) → filled + (less + 1) ≤ 128 → runs_from n (filled + (less + 1)) (got ++ (less + 1) ∷ []) closed q ≡ Ok y → RunsAt closed (filled + (less + 1)) (got ++ (less + 1) ∷ []) q y)
+    → ((less : ℕ) (q : Place) → filled + (less + 1) ≤ 128 → runs_from n (filled + (less + 1)) (got ++ (less + 1) ∷ []) closed q ≡ Ok y
+    → RunsAt closed (filled + (less + 1)) (got ++ (less + 1) ∷ []) q y)
     → RunsAt closed filled got p y
 unfolding run_rest fit_rest
 more_runs closed n filled got p y room h behind =
@@ -71,13 +80,15 @@ more_runs closed n filled got p y room h behind =
     let t = accepted_step closed s.place (nat_le (filled + (s.value + 1)) 128) TableRun (fit_rest n filled got s.value) y s.rest in
     one_run closed filled s.value got p s.place y s.coded (behind s.value s.place (leb-true (filled + (s.value + 1)) 128 t.0) t.1)
 
-runs-found : (closed : Bool) (n filled : ℕ) (got : List ℕ) (p : Place) (y : List ℕ × Place) → 128 ≤ filled + n → filled ≤ 128 → runs_from n filled got closed p ≡ Ok y
+runs-found : (closed : Bool) (n filled : ℕ) (got : List ℕ) (p : Place) (y : List ℕ × Place) → 128 ≤ filled + n → filled ≤ 128
+    → runs_from n filled got closed p ≡ Ok y
     → RunsAt closed filled got p y
 runs-found closed zero filled got p y enough within h =
     no_runs closed filled got p y (omega arith) (sym (ap (λ f. f closed p) (runs_from-filled zero filled got (omega arith))) ∙ h)
 runs-found closed (suc n) filled got p y enough within h =
     elim (cases_lt filled 128) [
-      | inl room ↦ more_runs closed n filled got p y room h (λ less q fits g. runs-found closed n (filled + (less + 1)) (got ++ (less + 1) ∷ []) q y (omega arith) fits g)
+      | inl room ↦ more_runs closed n filled got p y room h (λ less q fits g. runs-found closed n (filled + (less + 1)) (got ++ (less + 1) ∷ []) q y
+          (omega arith) fits g)
       | inr full ↦ no_runs closed filled got p y (omega arith) (sym (ap (λ f. f closed p) (runs_from-filled (suc n) filled got full)) ∙ h)
     ]
 
@@ -98,8 +109,10 @@ runs-run closed (suc n) filled got (len ∷ runs) p q enough some whole run =
     let s = number_run closed p (len - 1) (run_fields runs) q (small_symbol (len - 1) small) run in
     ap (λ f. f closed p) (runs_from-open n filled got (omega arith))
     ∙ number_then closed p s.place (len - 1) (run_rest n filled got) s.read
-    ∙ accepted_then closed s.place (nat_le (filled + (len - 1 + 1)) 128) TableRun (fit_rest n filled got (len - 1)) (le-leb (filled + (len - 1 + 1)) 128 (omega arith))
-    ∙ runs-run closed n (filled + (len - 1 + 1)) (got ++ (len - 1 + 1) ∷ []) runs s.place q (omega arith) (All-tail (λ z. 1 ≤ z) len runs some) (omega arith) s.left
+    ∙ accepted_then closed s.place (nat_le (filled + (len - 1 + 1)) 128) TableRun (fit_rest n filled got (len - 1))
+    (le-leb (filled + (len - 1 + 1)) 128 (omega arith))
+    ∙ runs-run closed n (filled + (len - 1 + 1)) (got ++ (len - 1 + 1) ∷ []) runs s.place q (omega arith)
+    (All-tail (λ z. 1 ≤ z) len runs some) (omega arith) s.left
     ∙ ap (λ z. Ok (z, q)) (append_assoc got ((len - 1 + 1) ∷ []) runs ∙ ap (λ z. got ++ z ∷ runs) same)
 
 -- ---- a table, at a row of its own
@@ -108,7 +121,8 @@ runs-run closed (suc n) filled got (len ∷ runs) p q enough some whole run =
 abbrev IsTableRun : Bool → Coder → List ℕ → Coder → Type 0
 IsTableRun closed c runs d = (row : List ℕ) × IsRangeRun closed (place_of c fresh_row) (fields_bits (run_fields runs)) (place_of d row)
 
-table-found : (closed : Bool) (c : Coder) (runs : List ℕ) (q : PlaceOf (Unit {0})) → table_form closed (place_of c tt) ≡ Ok (runs, q) → IsTable runs × IsTableRun closed c runs q.coder
+table-found : (closed : Bool) (c : Coder) (runs : List ℕ) (q : PlaceOf (Unit {0})) → table_form closed (place_of c tt) ≡ Ok (runs, q) → IsTable runs
+    × IsTableRun closed c runs q.coder
 table-found closed c runs q h =
     let x = bind_is_ok (runs_from 128 0 [] closed (place_of c fresh_row)) (λ x. Ok (x.0, place_of x.1.coder tt)) (runs, q) h in
     let pair = same_ok (x.0.0, place_of x.0.1.coder tt) (runs, q) x.2 in
@@ -123,7 +137,8 @@ table-found closed c runs q h =
       ),
     )
 
-table-run : (closed : Bool) (c d : Coder) (runs : List ℕ) → IsTable runs → IsTableRun closed c runs d → table_form closed (place_of c tt) ≡ Ok (runs, place_of d tt)
+table-run : (closed : Bool) (c d : Coder) (runs : List ℕ) → IsTable runs → IsTableRun closed c runs d
+    → table_form closed (place_of c tt) ≡ Ok (runs, place_of d tt)
 table-run closed c d runs t h =
     bind_ok (runs_from 128 0 [] closed (place_of c fresh_row)) (λ x. Ok (x.0, place_of x.1.coder tt)) (runs, place_of d h.0)
     (runs-run closed 128 0 [] runs (place_of c fresh_row) (place_of d h.0) (omega arith) t.not_empty (omega (arith, t.whole)) h.1)
@@ -153,7 +168,8 @@ no_tables : (closed : Bool) (c : Coder) → AreTablesCoded closed [] c c
 unfolding IsRowsRun table_pieces
 no_tables closed c m rows fresh = record { after = rows; coded = refl; fresh = λ j h. fresh j (omega arith); kept = λ k h. refl }
 
-more_tables : (closed : Bool) (runs : List ℕ) (tables : List (List ℕ)) (c d e : Coder) → IsTableRun closed c runs d → AreTablesCoded closed tables d e → AreTablesCoded closed (runs ∷ tables) c e
+more_tables : (closed : Bool) (runs : List ℕ) (tables : List (List ℕ)) (c d e : Coder) → IsTableRun closed c runs d → AreTablesCoded closed tables d e
+    → AreTablesCoded closed (runs ∷ tables) c e
 unfolding table_pieces
 more_tables closed runs tables c d e h behind m rows fresh =
     let next : Rows = with_row rows (33 + m) h.0 in
@@ -162,7 +178,8 @@ more_tables closed runs tables c d e h behind m rows fresh =
     record {
       after = r.after;
       coded =
-          rows_append closed ((33 + m, fields_bits (run_fields runs)) ∷ []) (table_pieces (m + 1) tables) (place_of c rows) (place_of d next) (place_of e r.after)
+          rows_append closed ((33 + m, fields_bits (run_fields runs)) ∷ []) (table_pieces (m + 1) tables) (place_of c rows) (place_of d next)
+          (place_of e r.after)
           (one_piece closed c rows (33 + m) fresh_row (fields_bits (run_fields runs)) (place_of d h.0) (fresh m (omega arith)) h.1) r.coded;
       fresh = λ j l. r.fresh j (omega arith);
       kept = λ k l. let apart : k ≢ 33 + m = omega arith in r.kept k l ∙ with_row-other rows (33 + m) k h.0 apart;
@@ -179,7 +196,8 @@ record TablesAt (closed : Bool) (n scale : ℕ) (halves : List (List ℕ)) (c : 
   is : y.0 ≡ record { halves = halves ++ halves_of scale tables; contexts = (scale_after_all scale tables + 1) / 2 }
   coded : AreTablesCoded closed tables c y.1.coder
 
-tables-found : (closed : Bool) (n scale : ℕ) (halves : List (List ℕ)) (c : Coder) (y : SetValue × PlaceOf (Unit {0})) → tables_from n scale halves closed (place_of c tt) ≡ Ok y
+tables-found : (closed : Bool) (n scale : ℕ) (halves : List (List ℕ)) (c : Coder) (y : SetValue × PlaceOf (Unit {0}))
+    → tables_from n scale halves closed (place_of c tt) ≡ Ok y
     → TablesAt closed n scale halves c y
 unfolding tables_from set_rest set_fit_rest
 tables-found closed zero scale halves c y h =
@@ -203,19 +221,25 @@ tables-found closed (suc n) scale halves c y h =
       size = ap suc r.size;
       each = All-cons IsTable x.0.0 r.tables t.0 r.each;
       small = (leb-true (scale_after scale x.0.0) 65535 fits.0, r.small);
-      is = r.is ∙ ap (λ z. record { halves = z; contexts = (scale_after_all (scale_after scale x.0.0) r.tables + 1) / 2 }) (append_assoc halves (half_of scale x.0.0 ∷ []) (halves_of (scale_after scale x.0.0) r.tables));
+      is = r.is ∙ ap (λ z. record { halves = z; contexts = (scale_after_all (scale_after scale x.0.0) r.tables + 1) / 2 })
+          (append_assoc halves (half_of scale x.0.0 ∷ []) (halves_of (scale_after scale x.0.0) r.tables));
       coded = more_tables closed x.0.0 r.tables c x.0.1.coder y.1.coder t.1 r.coded;
     }
 
 -- What reading tables gives where they are coded up to q.
-pub record TablesRead {A : Type 0} (closed : Bool) (form : Form (Unit {0}) A SetupFault) (a : A) (m : ℕ) (c : Coder) (rows : Rows) (q : PlaceOf Rows) : Type 0 where
+pub record TablesRead {A : Type 0} (closed : Bool) (form : Form (Unit {0}) A SetupFault) (a : A) (m : ℕ) (c : Coder) (rows : Rows)
+    (q : PlaceOf Rows) : Type 0 where
   pub read : form closed (place_of c tt) ≡ Ok (a, place_of q.coder tt)
   pub fresh : AreFreshFrom m q.states
   pub kept : KeepsFront rows q.states
 
-tables-run : (closed : Bool) (n scale : ℕ) (halves tables : List (List ℕ)) (m : ℕ) (c : Coder) (rows : Rows) (q : PlaceOf Rows) → length tables ≡ n → All IsTable tables
+tables-run : (closed : Bool) (n scale : ℕ) (halves tables : List (List ℕ)) (m : ℕ) (c : Coder) (rows : Rows) (q : PlaceOf Rows) → length tables ≡ n
+    → All IsTable tables
     → AreScalesSmall scale tables → AreFreshFrom m rows → IsRowsRun closed (place_of c rows) (table_pieces m tables) q
-    → TablesRead closed (tables_from n scale halves) (record { halves = halves ++ halves_of scale tables; contexts = (scale_after_all scale tables + 1) / 2 }) (m + length tables) c rows q
+    → TablesRead closed (tables_from n scale halves) (record {
+      halves = halves ++ halves_of scale tables;
+      contexts = (scale_after_all scale tables + 1) / 2;
+    }) (m + length tables) c rows q
 unfolding tables_from IsRowsRun table_pieces set_rest set_fit_rest
 tables-run closed n scale halves [] m c rows q size each small fresh run =
     let same : place_of c rows ≡ q = run in
@@ -240,7 +264,8 @@ tables-run closed (suc n) scale halves (runs ∷ tables) m c rows q size each sm
       read =
           bind_ok (table_form closed (place_of c tt)) (λ x. set_rest n scale halves x.0 closed x.1) (runs, place_of run.0.coder tt)
           (table-run closed c run.0.coder runs (All-head IsTable runs tables each) here)
-          ∙ accepted_as closed (place_of run.0.coder tt) (nat_le (scale_after scale runs) 65535) Contexts (set_fit_rest n scale halves runs) (le-leb (scale_after scale runs) 65535 small.0)
+          ∙ accepted_as closed (place_of run.0.coder tt) (nat_le (scale_after scale runs) 65535) Contexts (set_fit_rest n scale halves runs)
+          (le-leb (scale_after scale runs) 65535 small.0)
           ∙ r.read
           ∙ ap (λ z. Ok (record { halves = z; contexts = (scale_after_all (scale_after scale runs) tables + 1) / 2 }, place_of q.coder tt))
           (append_assoc halves (half_of scale runs ∷ []) (halves_of (scale_after scale runs) tables));
@@ -258,7 +283,8 @@ pub record SetsAt (closed : Bool) (n : ℕ) (got : List SetValue) (c : Coder) (y
   pub is : y.0 ≡ got ++ map set_of sets
   pub coded : AreTablesCoded closed (flat_map (λ set. set) sets) c y.1.coder
 
-both_tables : (closed : Bool) (xs ys : List (List ℕ)) (c d e : Coder) → AreTablesCoded closed xs c d → AreTablesCoded closed ys d e → AreTablesCoded closed (xs ++ ys) c e
+both_tables : (closed : Bool) (xs ys : List (List ℕ)) (c d e : Coder) → AreTablesCoded closed xs c d → AreTablesCoded closed ys d e
+    → AreTablesCoded closed (xs ++ ys) c e
 both_tables closed xs ys c d e h k m rows fresh =
     let a = h m rows fresh in
     let b = k (m + length xs) a.after a.fresh in
@@ -267,7 +293,8 @@ both_tables closed xs ys c d e h k m rows fresh =
       after = b.after;
       coded =
           subst (λ z. IsRowsRun closed (place_of c rows) z (place_of e b.after)) (sym (table_pieces-append m xs ys))
-          (rows_append closed (table_pieces m xs) (table_pieces (m + length xs) ys) (place_of c rows) (place_of d a.after) (place_of e b.after) a.coded b.coded);
+          (rows_append closed (table_pieces m xs) (table_pieces (m + length xs) ys) (place_of c rows) (place_of d a.after)
+          (place_of e b.after) a.coded b.coded);
       fresh = λ j l. b.fresh j (omega arith);
       kept = λ i l. b.kept i l ∙ a.kept i l;
     }
@@ -278,7 +305,8 @@ set-found closed c y h =
     let r = tables-found closed 5 1 [] c y h in
     (r.tables, record { five = r.size; tables = r.each; small = r.small }, r.is, r.coded)
 
-pub sets-found : (closed : Bool) (n : ℕ) (got : List SetValue) (c : Coder) (y : List SetValue × PlaceOf (Unit {0})) → sets_from n got closed (place_of c tt) ≡ Ok y → SetsAt closed n got c y
+pub sets-found : (closed : Bool) (n : ℕ) (got : List SetValue) (c : Coder) (y : List SetValue × PlaceOf (Unit {0}))
+    → sets_from n got closed (place_of c tt) ≡ Ok y → SetsAt closed n got c y
 unfolding sets_from sets_rest
 sets-found closed zero got c y h =
     let pair = same_ok (got, place_of c tt) y h in
@@ -305,7 +333,8 @@ set-run : (closed : Bool) (tables : List (List ℕ)) (m : ℕ) (c : Coder) (rows
     → IsRowsRun closed (place_of c rows) (table_pieces m tables) q → TablesRead closed (tables_from 5 1 []) (set_of tables) (m + length tables) c rows q
 set-run closed tables m c rows q h fresh run = tables-run closed 5 1 [] tables m c rows q h.five h.tables h.small fresh run
 
-pub sets-run : (closed : Bool) (n : ℕ) (got : List SetValue) (sets : List (List (List ℕ))) (m : ℕ) (c : Coder) (rows : Rows) (q : PlaceOf Rows) → length sets ≡ n → All IsTableSet sets
+pub sets-run : (closed : Bool) (n : ℕ) (got : List SetValue) (sets : List (List (List ℕ))) (m : ℕ) (c : Coder) (rows : Rows) (q : PlaceOf Rows)
+    → length sets ≡ n → All IsTableSet sets
     → AreFreshFrom m rows → IsRowsRun closed (place_of c rows) (table_pieces m (flat_map (λ set. set) sets)) q
     → TablesRead closed (sets_from n got) (got ++ map set_of sets) (m + length (flat_map (λ set. set) sets)) c rows q
 unfolding sets_from IsRowsRun table_pieces sets_rest
@@ -325,7 +354,8 @@ sets-run closed (suc n) got (tables ∷ sets) m c rows q size each fresh run =
     let s = rows_split closed (table_pieces m tables) (table_pieces (m + length tables) all) (place_of c rows) q
     (subst (λ z. IsRowsRun closed (place_of c rows) z q) (table_pieces-append m tables all) run) in
     let first = set-run closed tables m c rows s.0 (All-head IsTableSet tables sets each) fresh s.1 in
-    let r = sets-run closed n (got ++ set_of tables ∷ []) sets (m + length tables) s.0.coder s.0.states q (omega (arith, size)) (All-tail IsTableSet tables sets each) first.fresh s.2 in
+    let r = sets-run closed n (got ++ set_of tables ∷ []) sets (m + length tables) s.0.coder s.0.states q (omega (arith, size))
+    (All-tail IsTableSet tables sets each) first.fresh s.2 in
     let count : length (tables ++ all) ≡ length tables + length all = length-append tables all in
     record {
       read =

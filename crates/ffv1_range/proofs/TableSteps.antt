@@ -36,7 +36,8 @@ unfolding runs_from run_rest fit_rest
 runs_from-filled zero filled got h = refl
 runs_from-filled (suc n) filled got h = ap (λ b. if b then giving got else (number >>= run_rest n filled got)) (le-leb 128 filled h)
 
-run_read : (form : Form (List ℕ) (List ℕ) SetupFault) (k n filled less : ℕ) (got : List ℕ) (q r s : Reader) (start row states : List ℕ) → k ≡ suc n → filled < 128
+run_read : (form : Form (List ℕ) (List ℕ) SetupFault) (k n filled less : ℕ) (got : List ℕ) (q r s : Reader) (start row states : List ℕ) → k ≡ suc n
+    → filled < 128
     → Continues Range form q start (runs_from k filled got) r row → Reads same_fault symbol_form r row (Ok less) s states
     → Continues Range form q start (run_rest n filled got less) s states
 run_read form k n filled less got q r s start row states l room so h =
@@ -44,15 +45,18 @@ run_read form k n filled less got q r s start row states l room so h =
     (subst (λ z. Continues Range form q start z r row) (ap (λ z. runs_from z filled got) l ∙ runs_from-open n filled got room) so)
     (read_lifted Range symbol_form r s row states less h)
 
-pub run_turn : (form : Form (List ℕ) (List ℕ) SetupFault) (k n filled less : ℕ) (got : List ℕ) (q r s : Reader) (start row states : List ℕ) → k ≡ suc n → filled < 128
+pub run_turn : (form : Form (List ℕ) (List ℕ) SetupFault) (k n filled less : ℕ) (got : List ℕ) (q r s : Reader) (start row states : List ℕ) → k ≡ suc n
+    → filled < 128
     → filled + (less + 1) ≤ 128 → Continues Range form q start (runs_from k filled got) r row → Reads same_fault symbol_form r row (Ok less) s states
     → Continues Range form q start (runs_from n (filled + (less + 1)) (got ++ (less + 1) ∷ [])) s states
 unfolding run_rest fit_rest
 run_turn form k n filled less got q r s start row states l room fits so h =
-    continue_accepted Range form (nat_le (filled + (less + 1)) 128) TableRun (fit_rest n filled got less) q s start states (le-leb (filled + (less + 1)) 128 fits)
+    continue_accepted Range form (nat_le (filled + (less + 1)) 128) TableRun (fit_rest n filled got less) q s start states
+    (le-leb (filled + (less + 1)) 128 fits)
     (run_read form k n filled less got q r s start row states l room so h)
 
-pub run_fails : (form : Form (List ℕ) (List ℕ) SetupFault) (k n filled : ℕ) (got : List ℕ) (f : RangeFault) (q r s : Reader) (start row states : List ℕ) → k ≡ suc n → filled < 128
+pub run_fails : (form : Form (List ℕ) (List ℕ) SetupFault) (k n filled : ℕ) (got : List ℕ) (f : RangeFault) (q r s : Reader) (start row states : List ℕ)
+    → k ≡ suc n → filled < 128
     → Continues Range form q start (runs_from k filled got) r row → Reads same_fault symbol_form r row (Err f) s states
     → form_at Range form q start ≡ Err (Range f)
 run_fails form k n filled got f q r s start row states l room so h =
@@ -60,7 +64,8 @@ run_fails form k n filled got f q r s start row states l room so h =
     (subst (λ z. Continues Range form q start z r row) (ap (λ z. runs_from z filled got) l ∙ runs_from-open n filled got room) so)
     (fault_lifted Range symbol_form r s row states f h)
 
-pub run_too_long : (form : Form (List ℕ) (List ℕ) SetupFault) (k n filled less : ℕ) (got : List ℕ) (q r s : Reader) (start row states : List ℕ) → k ≡ suc n → filled < 128
+pub run_too_long : (form : Form (List ℕ) (List ℕ) SetupFault) (k n filled less : ℕ) (got : List ℕ) (q r s : Reader) (start row states : List ℕ) → k ≡ suc n
+    → filled < 128
     → 128 < filled + (less + 1) → Continues Range form q start (runs_from k filled got) r row → Reads same_fault symbol_form r row (Ok less) s states
     → form_at Range form q start ≡ Err TableRun
 unfolding run_rest
@@ -81,7 +86,8 @@ runs_end form k filled got q r start row h at so =
 pub table_fails : (e : SetupFault) (r s : Reader) → form_at Range (runs_from 128 0 []) r fresh_row ≡ Err e → form_at Range table_form r tt ≡ Err e
 table_fails e r s h = read_on Range (λ at_hand. fresh_row) (λ at_hand used. at_hand) (runs_from 128 0 []) r s tt fresh_row (Err e) h
 
-pub table_read : (r s : Reader) (row : List ℕ) (runs : List ℕ) → Reads Range (runs_from 128 0 []) r fresh_row (Ok runs) s row → Reads Range table_form r tt (Ok runs) s tt
+pub table_read : (r s : Reader) (row : List ℕ) (runs : List ℕ) → Reads Range (runs_from 128 0 []) r fresh_row (Ok runs) s row
+    → Reads Range table_form r tt (Ok runs) s tt
 table_read r s row runs h = read_on Range (λ at_hand. fresh_row) (λ at_hand used. at_hand) (runs_from 128 0 []) r s tt row (Ok runs) h
 
 -- ---- the tables of a set
@@ -106,7 +112,8 @@ pub set_turn : (form : Form (Unit {0}) SetValue SetupFault) (k n scale : ℕ) (h
     → Continues Range form q tt (tables_from n (scale_after scale runs) (halves ++ half_of scale runs ∷ [])) s tt
 unfolding set_rest set_fit_rest
 set_turn form k n scale halves runs q r s l small so h =
-    continue_accepted Range form (nat_le (scale_after scale runs) 65535) Contexts (set_fit_rest n scale halves runs) q s tt tt (le-leb (scale_after scale runs) 65535 small)
+    continue_accepted Range form (nat_le (scale_after scale runs) 65535) Contexts (set_fit_rest n scale halves runs) q s tt tt
+    (le-leb (scale_after scale runs) 65535 small)
     (next_of Range form (tables_from k scale halves) table_form (set_rest n scale halves) q r s tt tt tt runs (tables_from-suc k n scale halves l) so h)
 
 pub set_too_fine : (form : Form (Unit {0}) SetValue SetupFault) (k n scale : ℕ) (halves : List (List ℕ)) (runs : List ℕ) (q r s : Reader) → k ≡ suc n
@@ -114,7 +121,8 @@ pub set_too_fine : (form : Form (Unit {0}) SetValue SetupFault) (k n scale : ℕ
     → form_at Range form q tt ≡ Err Contexts
 unfolding set_rest
 set_too_fine form k n scale halves runs q r s l over so h =
-    refused Range form (nat_le (scale_after scale runs) 65535) Contexts (set_fit_rest n scale halves runs) q s tt tt (lt-leb (scale_after scale runs) 65535 over)
+    refused Range form (nat_le (scale_after scale runs) 65535) Contexts (set_fit_rest n scale halves runs) q s tt tt
+    (lt-leb (scale_after scale runs) 65535 over)
     (h.0, at_ok r s h.0 h.2)
     (next_of Range form (tables_from k scale halves) table_form (set_rest n scale halves) q r s tt tt tt runs (tables_from-suc k n scale halves l) so h)
 
@@ -122,7 +130,8 @@ pub set_end : (form : Form (Unit {0}) SetValue SetupFault) (k scale : ℕ) (halv
     → Continues Range form q tt (tables_from k scale halves) r tt → Reads Range form q tt (Ok (record { halves = halves; contexts = (scale + 1) / 2 })) r tt
 unfolding tables_from
 set_end form k scale halves q r l at so =
-    end_of Range form (tables_from k scale halves) q r tt tt (record { halves = halves; contexts = (scale + 1) / 2 }) (ap (λ z. tables_from z scale halves) l) at so
+    end_of Range form (tables_from k scale halves) q r tt tt (record { halves = halves; contexts = (scale + 1) / 2 })
+    (ap (λ z. tables_from z scale halves) l) at so
 
 -- ---- the sets of a record
 
@@ -151,7 +160,8 @@ unfolding sets_from
 sets_end form k got q r l at so = end_of Range form (sets_from k got) q r tt tt got (ap (λ z. sets_from z got) l) at so
 
 -- a turn of the loop over a set's tables, which writes the half of table t
-pub set_more : (all : List (List ℕ)) (half items runs : List ℕ) (t scale : ℕ) (q r s : Reader) → items ≡ runs → half ≡ half_of scale runs → t < 5 → length all ≡ 5
+pub set_more : (all : List (List ℕ)) (half items runs : List ℕ) (t scale : ℕ) (q r s : Reader) → items ≡ runs → half ≡ half_of scale runs → t < 5
+    → length all ≡ 5
     → scale * (2 * length items - 1) ≤ 65535 → Continues Range (tables_from 5 1 []) q tt (tables_from (5 - t) scale (take t all)) r tt
     → Reads Range table_form r tt (Ok runs) s tt
     → Continues Range (tables_from 5 1 []) q tt (tables_from (5 - (t + 1)) (scale * (2 * length items - 1)) (take (t + 1) (set all t half))) s tt

@@ -1,12 +1,7 @@
 -- A length cut into parts: where each part begins, that each place lies in one part, and so in one tile.
-use Rattle.std.proofs.Common.{◌≡◌, ℕ, ◌+◌, ◌-◌, ◌*◌, ◌/◌, ◌%◌, ◌^◌, ◌<◌, ◌≤◌, sym, ap, subst, arith}
-use Rattle.std.proofs.Math.Nat.{div-lt_iff_lt-mul, le-div_iff_mul-le, div-mul-le_self, lt-div-mul-add, mul-le-mul, mul-le-mul_right, lt_of_mul-lt-mul_left, div-eq_of_lt-le, mod-add-div', mod-lt}
-use Rattle.ffv1_range.specs.Tiles.{GridValue, IsGrid, tile_count, part_start, tile_rect, IsInside, EachPlaceInOneTile, IsTileOfFrame, EachTileInFrame}
-
--- a part's number and a length are small enough for the code's numbers
-pub part_fits : (len parts index : ℕ) → parts ≤ 1024 → index ≤ parts → len ≤ 16384 → index * len < 2 ^ 32
-part_fits len parts index few among short =
-    let most : index * len ≤ 1024 * 16384 = mul-le-mul {n₁ = index} {m₁ = len} {n₂ = 1024} {m₂ = 16384} (omega arith) short in omega arith
+use Rattle.std.proofs.Common.{◌≡◌, ℕ, ◌+◌, ◌-◌, ◌*◌, ◌/◌, ◌%◌, ◌<◌, ◌≤◌, sym, ap, subst, arith}
+use Rattle.std.proofs.Math.Nat.{div-lt_iff_lt-mul, le-div_iff_mul-le, div-mul-le_self, lt-div-mul-add, mul-le-mul_right, lt_of_mul-lt-mul_left, div-eq_of_lt-le, mod-add-div', mod-lt}
+use Rattle.ffv1_range.specs.Tiles.{GridValue, IsGrid, part_start, tile_rect, IsInside, EachPlaceInOneTile, EachTileInFrame}
 
 -- ---- one direction: part i begins at x or before exactly where i * len < (x + 1) * n
 
@@ -42,8 +37,13 @@ has_part len n x some fits inside =
     let high : (x + 1) * n - 1 < (((x + 1) * n - 1) / len) * len + len = lt-div-mul-add {a = (x + 1) * n - 1} {b = len} (omega arith) in
     let most : (x + 1) * n ≤ len * n = mul-le-mul_right {m = x + 1} {n = len} n (omega arith) in
     let few : ((x + 1) * n - 1) / len < n =
-    lt_of_mul-lt-mul_left len {m = ((x + 1) * n - 1) / len} {n = n} (omega arith) in
-    (few, record { starts = starts_by len n (((x + 1) * n - 1) / len) x some (omega arith); ends = starts_after len n (((x + 1) * n - 1) / len + 1) x some (omega arith) })
+    lt_of_mul-lt-mul_left len {m = ((x + 1) * n - 1) / len} {n = n} (omega arith) in (
+      few,
+      record {
+        starts = starts_by len n (((x + 1) * n - 1) / len) x some (omega arith);
+        ends = starts_after len n (((x + 1) * n - 1) / len + 1) x some (omega arith);
+      },
+    )
 
 one_part : (len n x i : ℕ) → 0 < n → n ≤ len → LiesInPart len n i x → part_at len n x ≡ i
 unfolding part_at
@@ -84,20 +84,25 @@ number_below across down i j h k =
 
 -- ---- the laws
 
-inside_of : (g : GridValue) (t x y : ℕ) → IsGrid g → LiesInPart g.width g.across (t % g.across) x → LiesInPart g.height g.down (t / g.across) y → IsInside (tile_rect g t) x y
+inside_of : (g : GridValue) (t x y : ℕ) → IsGrid g → LiesInPart g.width g.across (t % g.across) x → LiesInPart g.height g.down (t / g.across) y
+    → IsInside (tile_rect g t) x y
 inside_of g t x y is_grid column row =
-    let wide : part_start g.width g.across (t % g.across) < part_start g.width g.across (t % g.across + 1) = parts_rise g.width g.across (t % g.across) is_grid.some_across is_grid.not_finer_across in
-    let high : part_start g.height g.down (t / g.across) < part_start g.height g.down (t / g.across + 1) = parts_rise g.height g.down (t / g.across) is_grid.some_down is_grid.not_finer_down in
+    let wide : part_start g.width g.across (t % g.across) < part_start g.width g.across (t % g.across + 1) =
+    parts_rise g.width g.across (t % g.across) is_grid.some_across is_grid.not_finer_across in
+    let high : part_start g.height g.down (t / g.across) < part_start g.height g.down (t / g.across + 1) =
+    parts_rise g.height g.down (t / g.across) is_grid.some_down is_grid.not_finer_down in
     record { right_of = column.starts; left_of = omega (arith, column.ends); below = row.starts; above = omega (arith, row.ends) }
 
 column_inside : (g : GridValue) (t x y : ℕ) → IsGrid g → IsInside (tile_rect g t) x y → LiesInPart g.width g.across (t % g.across) x
 column_inside g t x y is_grid inside =
-    let wide : part_start g.width g.across (t % g.across) < part_start g.width g.across (t % g.across + 1) = parts_rise g.width g.across (t % g.across) is_grid.some_across is_grid.not_finer_across in
+    let wide : part_start g.width g.across (t % g.across) < part_start g.width g.across (t % g.across + 1) =
+    parts_rise g.width g.across (t % g.across) is_grid.some_across is_grid.not_finer_across in
     record { starts = inside.right_of; ends = omega (arith, inside.left_of) }
 
 row_inside : (g : GridValue) (t x y : ℕ) → IsGrid g → IsInside (tile_rect g t) x y → LiesInPart g.height g.down (t / g.across) y
 row_inside g t x y is_grid inside =
-    let high : part_start g.height g.down (t / g.across) < part_start g.height g.down (t / g.across + 1) = parts_rise g.height g.down (t / g.across) is_grid.some_down is_grid.not_finer_down in
+    let high : part_start g.height g.down (t / g.across) < part_start g.height g.down (t / g.across + 1) =
+    parts_rise g.height g.down (t / g.across) is_grid.some_down is_grid.not_finer_down in
     record { starts = inside.below; ends = omega (arith, inside.above) }
 
 pub each_place : EachPlaceInOneTile
@@ -110,10 +115,13 @@ each_place g is_grid x y in_width in_height =
     let at_row = row_of g.across i j column.0 in (
       j * g.across + i,
       number_below g.across g.down i j column.0 row.0,
-      inside_of g (j * g.across + i) x y is_grid (subst (λ q. LiesInPart g.width g.across q x) (sym at_column) column.1) (subst (λ q. LiesInPart g.height g.down q y) (sym at_row) row.1),
+      inside_of g (j * g.across + i) x y is_grid (subst (λ q. LiesInPart g.width g.across q x) (sym at_column) column.1)
+          (subst (λ q. LiesInPart g.height g.down q y) (sym at_row) row.1),
       λ other below inside.
-          let same_column : part_at g.width g.across x ≡ other % g.across = one_part g.width g.across x (other % g.across) is_grid.some_across is_grid.not_finer_across (column_inside g other x y is_grid inside) in
-          let same_row : part_at g.height g.down y ≡ other / g.across = one_part g.height g.down y (other / g.across) is_grid.some_down is_grid.not_finer_down (row_inside g other x y is_grid inside) in
+          let same_column : part_at g.width g.across x ≡ other % g.across =
+          one_part g.width g.across x (other % g.across) is_grid.some_across is_grid.not_finer_across (column_inside g other x y is_grid inside) in
+          let same_row : part_at g.height g.down y ≡ other / g.across =
+          one_part g.height g.down y (other / g.across) is_grid.some_down is_grid.not_finer_down (row_inside g other x y is_grid inside) in
           let whole : other % g.across + other / g.across * g.across ≡ other = mod-add-div' other g.across in
           let product : part_at g.height g.down y * g.across ≡ other / g.across * g.across = ap (λ q. q * g.across) same_row in
           omega arith,
@@ -123,8 +131,11 @@ pub each_tile : EachTileInFrame
 each_tile g is_grid t below =
     let column : t % g.across < g.across = mod-lt t is_grid.some_across in
     let row : t / g.across < g.down = row_below g.across g.down t is_grid.some_across below in
-    let wide : part_start g.width g.across (t % g.across) < part_start g.width g.across (t % g.across + 1) = parts_rise g.width g.across (t % g.across) is_grid.some_across is_grid.not_finer_across in
-    let high : part_start g.height g.down (t / g.across) < part_start g.height g.down (t / g.across + 1) = parts_rise g.height g.down (t / g.across) is_grid.some_down is_grid.not_finer_down in
-    let in_width : part_start g.width g.across (t % g.across + 1) ≤ g.width = part_within g.width g.across (t % g.across + 1) is_grid.some_across (omega arith) in
+    let wide : part_start g.width g.across (t % g.across) < part_start g.width g.across (t % g.across + 1) =
+    parts_rise g.width g.across (t % g.across) is_grid.some_across is_grid.not_finer_across in
+    let high : part_start g.height g.down (t / g.across) < part_start g.height g.down (t / g.across + 1) =
+    parts_rise g.height g.down (t / g.across) is_grid.some_down is_grid.not_finer_down in
+    let in_width : part_start g.width g.across (t % g.across + 1) ≤ g.width = part_within g.width g.across (t % g.across + 1) is_grid.some_across
+    (omega arith) in
     let in_height : part_start g.height g.down (t / g.across + 1) ≤ g.height = part_within g.height g.down (t / g.across + 1) is_grid.some_down (omega arith) in
     record { some_columns = omega arith; some_rows = omega arith; in_width = omega arith; in_height = omega arith }

@@ -1,6 +1,7 @@
 -- The fields of a configuration record but for its tables (RFC 9043, sections 4.2 and 4.3), read one by one, each judged as
 -- soon as it was read.
 use Rattle.std.specs.Prelude.{ℕ, ◌+◌, ◌*◌, Bool, List, nat_le, ◌==◌, ◌||◌, ◌&&◌, not, if◌then◌else◌}
+use Rattle.ffv1_bits.specs.Limits.{most_tiles}
 use Rattle.ffv1_range.specs.Forms.{Form, ◌>>=◌, giving, accepted, lifted, slot_form}
 use Rattle.ffv1_range.specs.Reading.{symbol_form}
 use Rattle.ffv1_range.specs.declared.fault.SetupFault.{SetupFault}
@@ -58,7 +59,7 @@ tile_counts width height = do
   across_less ← number
   down_less ← number
   is_coarse ← accepted (nat_le (across_less + 1) width && nat_le (down_less + 1) height) GridTooFine
-  are_few ← accepted (nat_le ((across_less + 1) * (down_less + 1)) 1024) TooManyTiles
+  are_few ← accepted (nat_le ((across_less + 1) * (down_less + 1)) most_tiles) TooManyTiles
   giving (record { across = across_less + 1; down = down_less + 1 })
 
 -- ec and intra

@@ -1,4 +1,5 @@
--- What a reader gives from a place on, with the first fault: the form in which refusals are stated.
+-- What a form is: what reading gives from a place on, with the first fault. Refusals are stated in these words, and so is what a call
+-- that reads has answered.
 use Rattle.std.specs.Prelude.{◌≡◌, Bool, true, false, List, ℕ, Result, Ok, Err}
 use Rattle.ffv1_range.specs.Results.{◌>>=◌ as ◌>>>◌}
 use Rattle.ffv1_range.specs.Coding.{Coder, PlaceOf, slot_at}
@@ -67,3 +68,20 @@ abbrev pub Reads : {X A E : Type 0} → (RangeFault → E) → Form X A E → Re
 Reads lift form r states (Ok a) s after =
     (c : Coder) × (form_at lift form r states ≡ Ok (a, record { coder = c; states = after })) × (s ≡ reader_at r (Ok c))
 Reads lift form r states (Err e) s after = form_at lift form r states ≡ Err e
+
+-- `Reads` through a view of what was answered
+abbrev pub ReadsAs : {X Y A E : Type 0} → (RangeFault → E) → (Y → A) → Form X A E → Reader → X → Result Y E → Reader → X → Type 0
+ReadsAs lift view form r states (Ok a) s after =
+    (c : Coder) × (form_at lift form r states ≡ Ok (view a, record { coder = c; states = after })) × (s ≡ reader_at r (Ok c))
+ReadsAs lift view form r states (Err e) s after = form_at lift form r states ≡ Err e
+
+-- `Reads` where what was read is put somewhere else than in the answer, and seen there through a view
+abbrev pub ReadsTo : {X Y A E : Type 0} → (RangeFault → E) → (Y → A) → Form X A E → Reader → X → Result (Unit {0}) E → Reader → X → Y → Type 0
+ReadsTo lift view form r states (Ok done) s after put =
+    (c : Coder) × (form_at lift form r states ≡ Ok (view put, record { coder = c; states = after })) × (s ≡ reader_at r (Ok c))
+ReadsTo lift view form r states (Err e) s after put = form_at lift form r states ≡ Err e
+
+-- What a function returned, seen by a view, is what reading gives.
+abbrev pub Gives : {X Y E : Type 0} → (X → Y) → Result X E → Result Y E → Type 0
+Gives view (Ok x) read = read ≡ Ok (view x)
+Gives view (Err e) read = read ≡ Err e

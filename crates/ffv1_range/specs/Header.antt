@@ -1,6 +1,6 @@
 -- A slice header at the front of a slice's content (RFC 9043, sections 4.5 and 4.6), and the bit that ends range coding
 -- before Golomb-Rice codes (section 3.8.1.1.1).
-use Rattle.std.specs.Prelude.{◌≡◌, ◌↔◌, ℕ, ◌+◌, ◌-◌, ◌*◌, ◌^◌, ◌<◌, Bool, true, false, IsTrue, List, [], length, replicate, Result, Ok, Err, slice_index, nat_lt, ◌==◌, ◌&&◌, if◌then◌else◌}
+use Rattle.std.specs.Prelude.{◌≡◌, ◌↔◌, ℕ, ◌+◌, ◌-◌, ◌*◌, ◌^◌, ◌<◌, Bool, true, false, IsTrue, List, length, replicate, Result, Ok, Err, slice_index, nat_lt, ◌==◌, ◌&&◌, if◌then◌else◌}
 use Rattle.std.specs.Bool.{MatchBool}
 use Rattle.std.specs.List.{All, flat_map}
 use Rattle.ffv1_range.specs.Results.{◌>>=◌}

@@ -6,16 +6,12 @@ pub mod Forms
 pub mod Decoder
 pub mod Views
 pub mod Fields
-pub mod FieldViews
 pub mod Tables
 pub mod TableForms
-pub mod TableViews
 pub mod Rows
 pub mod Setup
 pub mod SetupForms
-pub mod SetupViews
 pub mod SetupFaults
 pub mod Tiles
 pub mod HeaderForms
 pub mod Header
-pub mod HeaderViews

@@ -2,6 +2,7 @@
 use Rattle.std.specs.Prelude.{◌≡◌, ℕ, ◌+◌, ◌-◌, ◌*◌, ◌^◌, ◌<◌, ◌≤◌, ◌⊎◌, Bool, true, false, List, [], ◌∷◌, ◌++◌, Ok, Option, Some, None, length, map, take, ℤ, unsigned_abs, slice_index_or, if◌then◌else◌, refl}
 use Rattle.std.specs.Coded.{Coded, code_by, coded×, coded_ℕ, coded_bool, coded_list}
 use Rattle.std.specs.List.{All, flat_map}
+use Rattle.ffv1_bits.specs.Limits.{greatest_side, most_tiles}
 use Rattle.ffv1_bits.specs.Parity.{RecordPassesParity}
 use Rattle.ffv1_range.specs.Coding.{Coder, PlaceOf, start_of}
 use Rattle.ffv1_range.specs.Rows.{Rows, Piece, IsRowsRun}
@@ -25,14 +26,28 @@ pub record SetupValue : Type 0 where
 -- a setup as one of the coded types, of which sets and lists can be made
 abbrev pub coded_set : Coded SetValue
 coded_set =
-    code_by (List (List ℕ) × ℕ) (coded× (coded_list (coded_list coded_ℕ)) coded_ℕ) (λ s. (s.halves, s.contexts)) (λ p. record { halves = p.0; contexts = p.1 }) (λ _. refl)
+    code_by (List (List ℕ) × ℕ) (coded× (coded_list (coded_list coded_ℕ)) coded_ℕ)
+    (λ s. (s.halves, s.contexts)) (λ p. record { halves = p.0; contexts = p.1 }) (λ _. refl)
 
 abbrev pub coded_setup : Coded SetupValue
 coded_setup =
     code_by (Bool × (List SetValue × (ℕ × (ℕ × (ℕ × (ℕ × (ℕ × (ℕ × (ℕ × (ℕ × ℕ))))))))))
-    (coded× coded_bool (coded× (coded_list coded_set) (coded× coded_ℕ (coded× coded_ℕ (coded× coded_ℕ (coded× coded_ℕ (coded× coded_ℕ (coded× coded_ℕ (coded× coded_ℕ (coded× coded_ℕ coded_ℕ))))))))))
+    (coded× coded_bool (coded× (coded_list coded_set) (coded× coded_ℕ
+    (coded× coded_ℕ (coded× coded_ℕ (coded× coded_ℕ (coded× coded_ℕ (coded× coded_ℕ (coded× coded_ℕ (coded× coded_ℕ coded_ℕ))))))))))
     (λ s. (s.has_chroma, (s.sets, (s.micro, (s.shift_h, (s.shift_v, (s.across, (s.down, (s.ec, (s.intra, (s.width, s.height)))))))))))
-    (λ p. record { has_chroma = p.0; sets = p.1.0; micro = p.1.1.0; shift_h = p.1.1.1.0; shift_v = p.1.1.1.1.0; across = p.1.1.1.1.1.0; down = p.1.1.1.1.1.1.0; ec = p.1.1.1.1.1.1.1.0; intra = p.1.1.1.1.1.1.1.1.0; width = p.1.1.1.1.1.1.1.1.1.0; height = p.1.1.1.1.1.1.1.1.1.1 })
+    (λ p. record {
+      has_chroma = p.0;
+      sets = p.1.0;
+      micro = p.1.1.0;
+      shift_h = p.1.1.1.0;
+      shift_v = p.1.1.1.1.0;
+      across = p.1.1.1.1.1.0;
+      down = p.1.1.1.1.1.1.0;
+      ec = p.1.1.1.1.1.1.1.0;
+      intra = p.1.1.1.1.1.1.1.1.0;
+      width = p.1.1.1.1.1.1.1.1.1.0;
+      height = p.1.1.1.1.1.1.1.1.1.1;
+    })
     (λ _. refl)
 
 -- a set of no tables
@@ -153,7 +168,7 @@ pub record IsAccepted (width height : ℕ) (r : RecordFields) : Type 0 where
   pub extra_plane : r.extra_plane ≡ false
   pub across : r.num_h_slices_less_1 + 1 ≤ width
   pub down : r.num_v_slices_less_1 + 1 ≤ height
-  pub tiles : (r.num_h_slices_less_1 + 1) * (r.num_v_slices_less_1 + 1) ≤ 1024
+  pub tiles : (r.num_h_slices_less_1 + 1) * (r.num_v_slices_less_1 + 1) ≤ most_tiles
   pub some_set : 1 ≤ length r.sets
   pub few_sets : length r.sets ≤ 8
   pub sets : All IsSetFields r.sets
@@ -179,11 +194,11 @@ setup_value width height r =
 
 -- a width or a height of the profile, in samples
 abbrev pub IsSize : ℕ → Type 0
-IsSize n = (1 ≤ n) × (n ≤ 16384)
+IsSize n = (1 ≤ n) × (n ≤ greatest_side)
 
 -- what stands before the parity
-abbrev pub content_of : List ℕ → List ℕ
-content_of config = take (length config - 4) config
+abbrev pub record_content : List ℕ → List ℕ
+record_content config = take (length config - 4) config
 
 -- The setup of a configuration record, for frames of this width and height: the record passes its parity, and some
 -- fields that are accepted are range-coded in what stands before it.
@@ -194,7 +209,7 @@ pub record IsSetupOf (config : List ℕ) (width height : ℕ) (value : SetupValu
   pub fields : RecordFields
   pub accepted : IsAccepted width height fields
   pub start : Coder
-  pub started : start_of true (content_of config) ≡ Ok start
+  pub started : start_of true (record_content config) ≡ Ok start
   pub end : PlaceOf Rows
   pub coded : IsRowsRun true (record { coder = start; states = fresh_states }) (record_pieces fields) end
   pub is : value ≡ setup_value width height fields
@@ -208,9 +223,9 @@ pub record IsInProfile (setup : SetupValue) : Type 0 where
   pub coarse_across : setup.across ≤ setup.width
   pub some_down : 1 ≤ setup.down
   pub coarse_down : setup.down ≤ setup.height
-  pub few_tiles : setup.across * setup.down ≤ 1024
-  pub narrow : setup.width ≤ 16384
-  pub low : setup.height ≤ 16384
+  pub few_tiles : setup.across * setup.down ≤ most_tiles
+  pub narrow : setup.width ≤ greatest_side
+  pub low : setup.height ≤ greatest_side
   pub some_set : 1 ≤ length setup.sets
   pub few_sets : length setup.sets ≤ 8
   pub contexts : HaveContexts setup.sets

@@ -1,5 +1,7 @@
--- A whole configuration record as it is read, with the first fault.
+-- The form of a whole configuration record (RFC 9043, section 4.2): size and parity, then the groups of `Fields` and `TableForms`, with
+-- the first fault.
 use Rattle.std.specs.Prelude.{ℕ, Bool, true, List, [], map, length, Result, Ok, Err, nat_lt, nat_le, ◌==◌, ◌&&◌, if◌then◌else◌}
+use Rattle.ffv1_bits.specs.Limits.{greatest_side}
 use Rattle.ffv1_bits.specs.Bits.{bits_of}
 use Rattle.ffv1_bits.specs.Parity.{remainder_of}
 use Rattle.ffv1_range.specs.Results.{◌>>=◌ as ◌>>>◌}
@@ -7,7 +9,7 @@ use Rattle.ffv1_range.specs.Coding.{start_of}
 use Rattle.ffv1_range.specs.Forms.{Form, ◌>>=◌, giving, accepted, apart, from_place}
 use Rattle.ffv1_range.specs.Fields.{PlanesValue, TileCounts, versions, planes, tile_counts, last_fields}
 use Rattle.ffv1_range.specs.TableForms.{fresh_row, set_count, sets_from, deltas_form}
-use Rattle.ffv1_range.specs.Setup.{SetupValue, content_of}
+use Rattle.ffv1_range.specs.Setup.{SetupValue, record_content}
 use Rattle.ffv1_range.specs.declared.fault.SetupFault.{SetupFault}
 use Rattle.ffv1_range.specs.declared.fault.SetupFault.TheVariants.{TooShort, Parity, Range, Size, Memory}
 
@@ -52,10 +54,10 @@ setup_form granted width height = do
 abbrev pub checked_content : List ℕ → Result (List ℕ) SetupFault
 checked_content config =
     if nat_lt (length config) 6 then Err TooShort
-    else (if remainder_of (bits_of config) == 0 then Ok (content_of config) else Err Parity)
+    else (if remainder_of (bits_of config) == 0 then Ok (record_content config) else Err Parity)
 
 abbrev pub is_size : ℕ → Bool
-is_size n = nat_le 1 n && nat_le n 16384
+is_size n = nat_le 1 n && nat_le n greatest_side
 
 -- the setup of a record, or the first fault
 abbrev pub setup_read : Bool → List ℕ → ℕ → ℕ → Result SetupValue SetupFault

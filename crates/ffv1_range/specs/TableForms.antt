@@ -1,4 +1,4 @@
--- The tables of a configuration record and the deltas of its states as they are read, with the first fault.
+-- Forms of the sets of quantization tables and of the deltas of states in a configuration record (RFC 9043, sections 4.2 and 4.3).
 use Rattle.std.specs.Prelude.{ℕ, zero, suc, ◌+◌, ◌/◌, ◌<◌, List, [], ◌∷◌, ◌++◌, length, replicate, nat_le, ℤ, slice_index_or, slice_set, if◌then◌else◌}
 use Rattle.ffv1_range.specs.Forms.{Form, ◌>>=◌, giving, accepted, lifted, on, apart}
 use Rattle.ffv1_range.specs.Decoder.{AreStates}

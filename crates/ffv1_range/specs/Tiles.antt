@@ -2,6 +2,7 @@
 -- frame have, one slice a tile). The place of a tile in a subsampled plane is own, as FFmpeg has it: rounded down.
 use Rattle.std.specs.Prelude.{ℕ, zero, suc, ◌≡◌, ◌+◌, ◌-◌, ◌*◌, ◌/◌, ◌%◌, ◌^◌, ◌<◌, ◌≤◌, Bool, if◌then◌else◌}
 use Rattle.std.specs.Int.{div_ceil}
+use Rattle.ffv1_bits.specs.Limits.{greatest_side, most_tiles}
 use Rattle.ffv1_range.specs.Setup.{SetupValue}
 use Rattle.ffv1_range.specs.declared.grid.TileRect.{TileRect}
 
@@ -27,9 +28,9 @@ pub record IsGrid (g : GridValue) : Type 0 where
   pub some_down : 1 ≤ g.down
   pub not_finer_across : g.across ≤ g.width
   pub not_finer_down : g.down ≤ g.height
-  pub few_tiles : tile_count g ≤ 1024
-  pub width_limit : g.width ≤ 16384
-  pub height_limit : g.height ≤ 16384
+  pub few_tiles : tile_count g ≤ most_tiles
+  pub width_limit : g.width ≤ greatest_side
+  pub height_limit : g.height ≤ greatest_side
   pub shift_h_limit : g.shift_h ≤ 2
   pub shift_v_limit : g.shift_v ≤ 2
 

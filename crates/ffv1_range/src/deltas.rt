@@ -6,7 +6,7 @@ ghost use Rattle.std.specs.Prelude.{◌≡◌, ◌≤◌, ◌<◌, ℕ, [], IsOk
 ghost use Rattle.ffv1_range.specs.Forms.{Reads};
 ghost use Rattle.ffv1_range.specs.Decoder.{AreStates};
 ghost use Rattle.ffv1_range.specs.TableForms.{delta_form, context_deltas, contexts_deltas, set_deltas, sets_deltas, deltas_form, AreRows};
-ghost use Rattle.ffv1_range.specs.TableViews.{contexts_of};
+ghost use Rattle.ffv1_range.specs.Views.{contexts_of};
 ghost use Rattle.ffv1_range.specs.declared.fault.SetupFault.TheVariants.{Range};
 
 use crate::coding::RangeDecoder;

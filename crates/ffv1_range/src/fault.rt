@@ -28,7 +28,7 @@ pub enum SetupFault {
     Subsampling,
     /// There are more tiles across than the width, or more down than the height.
     GridTooFine,
-    /// There are more than 1024 tiles.
+    /// There are more tiles than `MOST_TILES`.
     TooManyTiles,
     /// The number of quantization table sets is not in 1..=8.
     TableCount,
@@ -38,7 +38,7 @@ pub enum SetupFault {
     Contexts,
     /// The slices' parity mode, ec, is not 1.
     ParityMode,
-    /// The width or the height is not in 1..=16384.
+    /// The width or the height is not in 1..=`GREATEST_SIDE`.
     Size,
     /// A growth of memory was refused.
     Memory,

@@ -3,17 +3,21 @@
 //!
 //! All of them are coded at one row of 32 states.
 ghost use Rattle.std.specs.Prelude.{◌≡◌, ◌≤◌, IfOk};
+ghost use Rattle.ffv1_bits.specs.Limits.{greatest_side};
 ghost use Rattle.ffv1_range.specs.SetupForms.{front_form};
-ghost use Rattle.ffv1_range.specs.SetupViews.{front_of};
+ghost use Rattle.ffv1_range.specs.Views.{front_of, planes_of, counts_of};
 ghost use Rattle.ffv1_range.specs.TableForms.{set_count};
-ghost use Rattle.ffv1_range.specs.Forms.{Reads};
+ghost use Rattle.ffv1_range.specs.Forms.{Reads, ReadsAs};
 ghost use Rattle.ffv1_range.specs.Decoder.{AreStates};
 ghost use Rattle.ffv1_range.specs.Fields.{versions, planes, tile_counts, last_fields};
-ghost use Rattle.ffv1_range.specs.FieldViews.{ReadsAs, planes_of, counts_of};
 ghost use Rattle.ffv1_range.specs.declared.fault.SetupFault.TheVariants.{Range};
 
 use crate::coding::RangeDecoder;
 use crate::fault::SetupFault;
+use ffv1_bits::MOST_TILES;
+
+/// ec of the profile: each slice has its parity.
+pub(crate) const EC: u32 = 1;
 
 /// The planes of a frame.
 #[derive(Clone, Copy)]
@@ -116,8 +120,8 @@ pub(crate) fn read_counts(
     height: u32,
 ) -> Result<Counts, SetupFault>
     requires states { AreStates states.old }
-    requires wide { width ≤ 16384 }
-    requires high { height ≤ 16384 }
+    requires wide { width ≤ greatest_side }
+    requires high { height ≤ greatest_side }
     ensures read { ReadsAs Range counts_of (tile_counts width height) decoder.old states.old result decoder.new states.new }
     ensures in_range { AreStates states.new }
 {
@@ -130,7 +134,7 @@ pub(crate) fn read_counts(
         across: across_less + 1,
         down: down_less + 1,
     };
-    if counts.across * counts.down > 1024 {
+    if counts.across * counts.down > MOST_TILES {
         return Err(SetupFault::TooManyTiles);
     }
     Ok(counts)
@@ -163,7 +167,7 @@ pub(crate) fn read_last_fields(
     ensures read { Reads Range last_fields decoder.old states.old result decoder.new states.new }
     ensures in_range { AreStates states.new }
 {
-    if decoder.unsigned(states)? != 1 {
+    if decoder.unsigned(states)? != EC {
         return Err(SetupFault::ParityMode);
     }
     let intra = decoder.unsigned(states)?;
@@ -178,8 +182,8 @@ pub(crate) fn read_front(
     height: u32,
 ) -> Result<Front, SetupFault>
     requires states { AreStates states.old }
-    requires wide { width ≤ 16384 }
-    requires high { height ≤ 16384 }
+    requires wide { width ≤ greatest_side }
+    requires high { height ≤ greatest_side }
     ensures read { ReadsAs Range front_of (front_form width height) decoder.old states.old result decoder.new states.new }
     ensures in_range { AreStates states.new }
     ensures some { IfOk result (λ front. 1 ≤ front.sets) }

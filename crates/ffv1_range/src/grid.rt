@@ -2,6 +2,7 @@
 //! 4.7). A grid is never finer than its frame, so each tile has at least one sample, and in luma the tiles cover the
 //! frame, each place once.
 ghost use Rattle.std.specs.Prelude.{◌≡◌, ◌+◌, ◌*◌, ◌≤◌, ◌<◌, ℕ};
+ghost use Rattle.ffv1_bits.specs.Limits.{greatest_side, most_tiles};
 ghost use Rattle.ffv1_range.specs.Tiles.{part_start, EachPlaceInOneTile, EachTileInFrame};
 
 use crate::setup::Setup;
@@ -38,11 +39,35 @@ impl Model for Grid {
 
     ghost Value = { GridValue };
 
-    ghost view = { λ g. record { width = g.width; height = g.height; across = g.across; down = g.down; has_chroma = g.has_chroma; shift_h = g.shift_h; shift_v = g.shift_v } };
+    ghost view = { λ g. record {
+      width = g.width;
+      height = g.height;
+      across = g.across;
+      down = g.down;
+      has_chroma = g.has_chroma;
+      shift_h = g.shift_h;
+      shift_v = g.shift_v;
+    } };
 
-    ghost inverse = { λ g. record { width = g.width; height = g.height; across = g.across; down = g.down; has_chroma = g.has_chroma; shift_h = g.shift_h; shift_v = g.shift_v } };
+    ghost inverse = { λ g. record {
+      width = g.width;
+      height = g.height;
+      across = g.across;
+      down = g.down;
+      has_chroma = g.has_chroma;
+      shift_h = g.shift_h;
+      shift_v = g.shift_v;
+    } };
 
-    ghost invariant = { λ g. IsGrid (record { width = g.width; height = g.height; across = g.across; down = g.down; has_chroma = g.has_chroma; shift_h = g.shift_h; shift_v = g.shift_v }) };
+    ghost invariant = { λ g. IsGrid (record {
+      width = g.width;
+      height = g.height;
+      across = g.across;
+      down = g.down;
+      has_chroma = g.has_chroma;
+      shift_h = g.shift_h;
+      shift_v = g.shift_v;
+    }) };
 }
 
 impl Grid {
@@ -71,8 +96,24 @@ impl Grid {
         has_chroma: bool,
         shifts: (u32, u32),
     ) -> Grid
-        requires { IsGrid (record { width = size.0; height = size.1; across = across; down = down; has_chroma = has_chroma; shift_h = shifts.0; shift_v = shifts.1 }) }
-        ensures { result ≡ record { width = size.0; height = size.1; across = across; down = down; has_chroma = has_chroma; shift_h = shifts.0; shift_v = shifts.1 } }
+        requires { IsGrid (record {
+          width = size.0;
+          height = size.1;
+          across = across;
+          down = down;
+          has_chroma = has_chroma;
+          shift_h = shifts.0;
+          shift_v = shifts.1;
+        }) }
+        ensures { result ≡ record {
+          width = size.0;
+          height = size.1;
+          across = across;
+          down = down;
+          has_chroma = has_chroma;
+          shift_h = shifts.0;
+          shift_v = shifts.1;
+        } }
     {
         Grid {
             width: size.0,
@@ -100,11 +141,11 @@ impl Grid {
         self.down
     }
 
-    /// All tiles: from 1 to 1024.
+    /// All tiles: from 1 to `MOST_TILES`.
     pub fn tiles(&self) -> usize
         ensures value { result ≡ tile_count self.now }
         ensures some { 1 ≤ result }
-        ensures few { result ≤ 1024 }
+        ensures few { result ≤ most_tiles }
     {
         (self.across * self.down) as usize
     }
@@ -169,9 +210,9 @@ impl Grid {
 /// Where a part begins of a length that is cut into so many parts.
 fn part_start(len: u32, parts: u32, index: u32) -> u32
     requires some { 1 ≤ parts }
-    requires few { parts ≤ 1024 }
+    requires few { parts ≤ most_tiles }
     requires among { index ≤ parts }
-    requires short { len ≤ 16384 }
+    requires short { len ≤ greatest_side }
     ensures { result ≡ part_start len parts index }
 {
     index * len / parts

@@ -7,7 +7,7 @@ ghost use Rattle.ffv1_range.specs.Forms.{Reads, same_fault};
 ghost use Rattle.ffv1_range.specs.declared.head.SliceHead.{SliceHead};
 ghost use Rattle.ffv1_range.specs.Header.{header_limits, head_read, head_judged, IsHeadOf};
 ghost use Rattle.ffv1_range.specs.HeaderForms.{fields_form, ReadsKey, IsAtPlace};
-ghost use Rattle.ffv1_range.specs.HeaderViews.{limits_of};
+ghost use Rattle.ffv1_range.specs.Views.{limits_of};
 
 use crate::coding::{RangeDecoder, RangeFault};
 use crate::setup::Setup;
@@ -42,7 +42,7 @@ impl From<RangeFault> for HeadFault {
 }
 
 /// How many fields a header has.
-const FIELDS: usize = 9;
+pub const HEAD_FIELDS: usize = 9;
 
 /// What a slice's header says.
 #[derive(Clone, Copy, Debug, PartialEq, Eq)]
@@ -109,7 +109,7 @@ fn read_head_within(
 {
     let mut decoder = RangeDecoder::sentinel(content)?;
     read_key(&mut decoder, first)?;
-    let fields = read_fields(&mut decoder)?;
+    let fields = read_head_fields(&mut decoder)?;
     let place = decoder.finish()?;
     let head = judged(limits, first, &fields)?;
     Ok((head, place))
@@ -131,13 +131,16 @@ fn read_key(decoder: &mut RangeDecoder<'_>, first: bool) -> Result<(), HeadFault
     Ok(())
 }
 
-/// Reads the nine fields.
-fn read_fields(decoder: &mut RangeDecoder<'_>) -> Result<[u32; FIELDS], RangeFault>
+/// The nine fields of a header, as they stand behind the keyframe bit (RFC 9043, section 4.6): slice_x, slice_y, slice_width - 1,
+/// slice_height - 1, the two table sets, picture_structure, sar_num and sar_den. None of them is judged.
+///
+/// A fault is that of the first symbol that can't be read.
+pub fn read_head_fields(decoder: &mut RangeDecoder<'_>) -> Result<[u32; HEAD_FIELDS], RangeFault>
     ensures { Reads same_fault fields_form decoder.old tt result decoder.new tt }
 {
     let mut states = [128; 32];
-    let mut fields = [0; FIELDS];
-    for index in 0..FIELDS {
+    let mut fields = [0; HEAD_FIELDS];
+    for index in 0..HEAD_FIELDS {
         let symbol = decoder.unsigned(&mut states)?;
         fields[index] = symbol;
     }
@@ -146,7 +149,7 @@ fn read_fields(decoder: &mut RangeDecoder<'_>) -> Result<[u32; FIELDS], RangeFau
 
 /// The fields as a head, or the first fault of them.
 #[tactic(auto, using(crate::proofs::HeaderSteps::tile_fits))]
-fn judged(limits: Limits, first: bool, fields: &[u32; FIELDS]) -> Result<SliceHead, HeadFault>
+fn judged(limits: Limits, first: bool, fields: &[u32; HEAD_FIELDS]) -> Result<SliceHead, HeadFault>
     ensures { result ≡ head_judged (limits_of limits) first fields.now }
 {
     let [

@@ -7,16 +7,16 @@ ghost use Rattle.ffv1_range.specs.Setup.{SetupValue, set_contexts, set_entry, Is
 ghost use Rattle.ffv1_range.specs.SetupFaults.{FirstSetupFault};
 ghost use Rattle.ffv1_range.specs.SetupForms.{checked_content, is_size, setup_read};
 ghost use Rattle.ffv1_range.specs.Tiles.{grid_of};
-ghost use Rattle.ffv1_range.specs.Views.{Gives};
+ghost use Rattle.ffv1_range.specs.Forms.{Gives};
 ghost use Rattle.ffv1_range.specs.declared.fault.SetupFault.TheVariants.{Memory};
 
 use crate::coding::RangeDecoder;
 use crate::deltas::read_deltas;
 use crate::fault::SetupFault;
-use crate::fields::{Counts, Planes, read_front, read_last_fields};
+use crate::fields::{Counts, EC, Planes, read_front, read_last_fields};
 use crate::grid::Grid;
 use crate::tables::{TableSet, read_sets};
-use ffv1_bits::remainder;
+use ffv1_bits::{GREATEST_SIDE, remainder};
 use std::alloc::Global;
 use std::marker::Model;
 
@@ -27,7 +27,6 @@ pub struct Setup {
     pub(crate) planes: Planes,
     pub(crate) counts: Counts,
     pub(crate) sets: Vec<TableSet>,
-    pub(crate) ec: u32,
     pub(crate) intra: u32,
     pub(crate) width: u32,
     pub(crate) height: u32,
@@ -35,13 +34,37 @@ pub struct Setup {
 
 impl Model for Setup {
     ghost use Rattle.ffv1_range.specs.Setup.{SetupValue, IsInProfile};
-    ghost use Rattle.ffv1_range.specs.TableViews.{set_values};
+    ghost use Rattle.ffv1_range.specs.Views.{set_values};
 
     ghost Value = { SetupValue };
 
-    ghost view = { λ x. record { micro = x.micro; has_chroma = x.planes.has_chroma; shift_h = x.planes.shift_h; shift_v = x.planes.shift_v; across = x.counts.across; down = x.counts.down; sets = set_values x.sets.items; ec = x.ec; intra = x.intra; width = x.width; height = x.height } };
+    ghost view = { λ x. record {
+      micro = x.micro;
+      has_chroma = x.planes.has_chroma;
+      shift_h = x.planes.shift_h;
+      shift_v = x.planes.shift_v;
+      across = x.counts.across;
+      down = x.counts.down;
+      sets = set_values x.sets.items;
+      ec = 1;
+      intra = x.intra;
+      width = x.width;
+      height = x.height;
+    } };
 
-    ghost invariant = { λ x. IsInProfile (record { micro = x.micro; has_chroma = x.planes.has_chroma; shift_h = x.planes.shift_h; shift_v = x.planes.shift_v; across = x.counts.across; down = x.counts.down; sets = set_values x.sets.items; ec = x.ec; intra = x.intra; width = x.width; height = x.height }) };
+    ghost invariant = { λ x. IsInProfile (record {
+      micro = x.micro;
+      has_chroma = x.planes.has_chroma;
+      shift_h = x.planes.shift_h;
+      shift_v = x.planes.shift_v;
+      across = x.counts.across;
+      down = x.counts.down;
+      sets = set_values x.sets.items;
+      ec = 1;
+      intra = x.intra;
+      width = x.width;
+      height = x.height;
+    }) };
 }
 
 impl Setup {
@@ -80,7 +103,6 @@ impl Setup {
             planes: front.planes,
             counts: front.counts,
             sets,
-            ec: 1,
             intra,
             width,
             height,
@@ -145,7 +167,9 @@ impl Setup {
     pub fn ec(&self) -> u32
         ensures { result ≡ self.now.ec }
     {
-        self.ec
+        // A setup is known as what it means where a field of it is read.
+        let _counts = self.counts;
+        EC
     }
 
     /// intra, as the record has it.
@@ -169,14 +193,14 @@ impl Setup {
         Grid::of(self)
     }
 
-    /// The width of the frames, in samples, 1 to 16384.
+    /// The width of the frames, in samples, 1 to `GREATEST_SIDE`.
     pub fn width(&self) -> u32
         ensures { result ≡ self.now.width }
     {
         self.width
     }
 
-    /// The height of the frames, in samples, 1 to 16384.
+    /// The height of the frames, in samples, 1 to `GREATEST_SIDE`.
     pub fn height(&self) -> u32
         ensures { result ≡ self.now.height }
     {
@@ -197,11 +221,11 @@ fn checked_content(config: &[u8]) -> Result<&[u8], SetupFault>
     Ok(&config[..config.len() - 4])
 }
 
-/// Whether a width or a height is in 1..=16384.
+/// Whether a width or a height is in 1..=`GREATEST_SIDE`.
 fn is_size(size: u32) -> bool
     ensures { result ≡ is_size size }
 {
-    1 <= size && size <= 16384
+    1 <= size && size <= GREATEST_SIDE
 }
 
 /// One record and size have one setup.

@@ -23,7 +23,8 @@ no_shape_cut k ones low bits rest few is cut =
     let behind : List Bool = rest ++ (cut.missing ∷ cut.rest) in
     let whole : shape_bits k cut.zeros cut.suffix ≡ shape_bits k ones low ++ behind =
     cut.cut ∙ ap (λ l. l ++ (cut.missing ∷ cut.rest)) is ∙ append_assoc (shape_bits k ones low) rest (cut.missing ∷ cut.rest) in
-    let joined : prefix_bits cut.zeros ++ number_bits (suffix_length k cut.zeros) cut.suffix ≡ prefix_bits ones ++ (number_bits (suffix_length k ones) low ++ behind) =
+    let joined : prefix_bits cut.zeros ++ number_bits (suffix_length k cut.zeros) cut.suffix ≡ prefix_bits ones ++
+    (number_bits (suffix_length k ones) low ++ behind) =
     whole ∙ append_assoc (prefix_bits ones) (number_bits (suffix_length k ones) low) behind in
     let one = one_prefix cut.zeros ones _ _ cut.few few joined in
     let lengths : length (number_bits (suffix_length k cut.zeros) cut.suffix) ≡ length (number_bits (suffix_length k ones) low ++ behind) = ap length one.1 in
@@ -83,14 +84,16 @@ one_number_fault k bits faults.EscapeNotNeeded faults.LevelTooLarge a b = absurd
 one_number_fault k bits faults.CodeTooLarge faults.LevelTooLarge a b = absurd b
 
 -- a fault is either that of the number ..
-number_told : (s : ContextState) (level : Bool) (bits : List Bool) (fault : CodeFault) → IsCodeFault s level bits fault → ((k : ℕ) × IsParameter s k × IsNumberFault k bits fault) ⊎ ((fault ≡ faults.LevelTooLarge) × IsLargeLevel s level bits)
+number_told : (s : ContextState) (level : Bool) (bits : List Bool) (fault : CodeFault) → IsCodeFault s level bits fault
+    → ((k : ℕ) × IsParameter s k × IsNumberFault k bits fault) ⊎ ((fault ≡ faults.LevelTooLarge) × IsLargeLevel s level bits)
 number_told s level bits faults.Truncated told = inl told
 number_told s level bits faults.EscapeNotNeeded told = inl told
 number_told s level bits faults.CodeTooLarge told = inl told
 number_told s level bits faults.LevelTooLarge told = inr (refl, told)
 
 -- .. which excludes the code of each value
-no_value_at_fault : (s : ContextState) (v : ℤ) (k : ℕ) (bits code rest : List Bool) (fault : CodeFault) → IsParameter s k → IsNumberFault k bits fault → SpellsValue s v code → bits ≡ code ++ rest → ⊥
+no_value_at_fault : (s : ContextState) (v : ℤ) (k : ℕ) (bits code rest : List Bool) (fault : CodeFault) → IsParameter s k → IsNumberFault k bits fault
+    → SpellsValue s v code → bits ≡ code ++ rest → ⊥
 no_value_at_fault s v k bits code rest fault parameter told spells is =
     no_number_at_fault k (code_number s v) bits rest fault (small_code s v)
     (is ∙ ap (λ l. l ++ rest) (spells.same ∙ ap (code_bits (code_number s v)) (one_parameter s spells.parameter k spells.is_parameter parameter))) told
@@ -126,6 +129,7 @@ pub no_level_above : (s : ContextState) (level : Bool) (value difference : ℤ) 
 no_level_above s level value difference old new after read levels top told spelled =
     decoded_low level difference told levels (decoded_alike s level value difference old new after read told spelled ∙ top)
 
-pub no_difference_at_fault : (s : ContextState) (level : Bool) (fault : CodeFault) (k : ℕ) (difference : ℤ) (old after : Reading) → IsParameter s k → IsNumberFault k old.left fault → IsCoded s level difference old after → ⊥
+pub no_difference_at_fault : (s : ContextState) (level : Bool) (fault : CodeFault) (k : ℕ) (difference : ℤ) (old after : Reading) → IsParameter s k
+    → IsNumberFault k old.left fault → IsCoded s level difference old after → ⊥
 no_difference_at_fault s level fault k difference old after parameter told spelled =
     no_value_at_fault s (decoded_value level difference) k old.left spelled.code after.left fault parameter told spelled.spells spelled.reads.begins

@@ -8,8 +8,13 @@ pub fold_far : (d : ℤ) → (m : ℕ) × (k : ℕ) × ((d +ℤ pos 128) +ℤ po
 fold_far (pos n) = (n + 128, 0, omega (arith, ints), refl)
 fold_far (negsuc n) =
     let below : 0 < 256 = omega arith in
-    let joined : (negsuc n +ℤ pos 128) +ℤ pos ((n + 1) * 256) ≡ pos (128 + 255 * (n + 1)) = omega (arith, ints) in
-    (128 + 255 * (n + 1), n + 1, omega (arith, ints), ap (λ z. z -ℤ pos 128) (int_rem_euclid_is (negsuc n +ℤ pos 128) (pos 256) 256 (n + 1) _ below refl joined))
+    let joined : (negsuc n +ℤ pos 128) +ℤ pos ((n + 1) * 256) ≡ pos (128 + 255 * (n + 1)) = omega (arith, ints) in (
+      128 + 255 * (n + 1),
+      n + 1,
+      omega (arith, ints),
+      ap (λ z. z -ℤ pos 128)
+          (int_rem_euclid_is (negsuc n +ℤ pos 128) (pos 256) 256 (n + 1) _ below refl joined),
+    )
 
 pub fold_range : (d : ℤ) → IsDifference (fold d)
 fold_range d = let f = fold_far d in let small : f.0 % 256 < 256 = omega arith in record { low = omega (arith, ints, f.3); high = omega (arith, ints, f.3) }

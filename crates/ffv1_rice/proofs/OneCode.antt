@@ -11,7 +11,8 @@ use Rattle.ffv1_rice.specs.Codes.{code_bits, SpellsValue, decoded_value, IsCoded
 -- ---- codes of values
 
 pub one_parameter : (s : ContextState) (k j : ℕ) → IsParameter s k → IsParameter s j → k ≡ j
-one_parameter s k j a b = ⊎_elim (λ less. absurd (omega (arith, b.least k less, a.enough))) (λ more. ⊎_elim (λ less. absurd (omega (arith, a.least j less, b.enough))) (λ most. omega arith) (cases_lt j k)) (cases_lt k j)
+one_parameter s k j a b = ⊎_elim (λ less. absurd (omega (arith, b.least k less, a.enough)))
+    (λ more. ⊎_elim (λ less. absurd (omega (arith, a.least j less, b.enough))) (λ most. omega arith) (cases_lt j k)) (cases_lt k j)
 
 one_error : (v w b : ℤ) → IsDifference v → IsDifference w → fold (v -ℤ b) ≡ fold (w -ℤ b) → v ≡ w
 one_error v w b hv hw same =
@@ -42,8 +43,10 @@ small_sign (negsuc n) h = omega (arith, ints)
 pub one_value : CodesAreOne
 one_value s v w code codes rest more hv hw a b same =
     let k : a.parameter ≡ b.parameter = one_parameter s a.parameter b.parameter a.is_parameter b.is_parameter in
-    let joined : code_bits (code_number s v) a.parameter ++ rest ≡ code_bits (code_number s w) a.parameter ++ more = ap (λ l. l ++ rest) (sym a.same) ∙ same ∙ ap (λ l. l ++ more) b.same ∙ ap (λ k. code_bits (code_number s w) k ++ more) (sym k) in
-    let one = one_number_code a.parameter (code_number s v) (code_number s w) rest more (small_sign _ (flipped_range s _ (fold_range (v -ℤ s.bias)))) (small_sign _ (flipped_range s _ (fold_range (w -ℤ s.bias)))) joined in
+    let joined : code_bits (code_number s v) a.parameter ++ rest ≡ code_bits (code_number s w) a.parameter ++ more =
+    ap (λ l. l ++ rest) (sym a.same) ∙ same ∙ ap (λ l. l ++ more) b.same ∙ ap (λ k. code_bits (code_number s w) k ++ more) (sym k) in
+    let one = one_number_code a.parameter (code_number s v) (code_number s w) rest more (small_sign _ (flipped_range s _ (fold_range (v -ℤ s.bias))))
+    (small_sign _ (flipped_range s _ (fold_range (w -ℤ s.bias)))) joined in
     (one_error v w s.bias hv hw (one_flipped s _ _ (one_sign _ _ one.0)), one.1)
 
 pub small_code : (s : ContextState) (v : ℤ) → code_number s v ≤ 255
@@ -51,7 +54,8 @@ small_code s v = small_sign _ (flipped_range s _ (fold_range (v -ℤ s.bias)))
 
 -- ---- differences
 
-low_decoded : (difference : ℤ) → IsCodedDifference true difference → (neg_ℤ (pos 128) ≤ℤ decoded_value true difference) × (decoded_value true difference ≤ℤ pos 126)
+low_decoded : (difference : ℤ) → IsCodedDifference true difference → (neg_ℤ (pos 128) ≤ℤ decoded_value true difference)
+    × (decoded_value true difference ≤ℤ pos 126)
 low_decoded difference coded =
     let other : difference ≢ pos 0 = coded.1 refl in
     (grind (arith, ints, coded.0.low), grind (arith, ints, coded.0.high))
@@ -100,6 +104,7 @@ decoded_alike s level value difference old new after read told spelled =
     one.0
 
 pub same_difference : (s : ContextState) (level : Bool) (value answer difference : ℤ) (old new after : Reading) → IsValueRead s value old new
-    → IsCodedDifference level answer → decoded_value level answer ≡ value → IsCodedDifference level difference → IsCoded s level difference old after → answer ≡ difference
+    → IsCodedDifference level answer → decoded_value level answer ≡ value → IsCodedDifference level difference → IsCoded s level difference old after
+    → answer ≡ difference
 same_difference s level value answer difference old new after read answered decoded told spelled =
     one_decoded level answer difference answered told (decoded ∙ sym (decoded_alike s level value difference old new after read told spelled))

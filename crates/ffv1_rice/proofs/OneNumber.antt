@@ -74,28 +74,43 @@ parts_of k u small =
       number = rw (lt-ltb _ 12 short) (shr_split u k);
       escaped = λ h. h;
     })
-    (λ long. record { ones = 12; low = u - 11; few = omega arith; fits = ⊎_elim (λ a. absurd (omega arith)) (λ b. omega arith) small; is_code = rw (le-ltb _ 12 long) refl; number = omega arith; escaped = λ h. long })
+    (λ long. record {
+      ones = 12;
+      low = u - 11;
+      few = omega arith;
+      fits = ⊎_elim (λ a. absurd (omega arith)) (λ b. omega arith) small;
+      is_code = rw (le-ltb _ 12 long) refl;
+      number = omega arith;
+      escaped = λ h. long;
+    })
     (cases_lt (u / 2 ^ k) 12)
 
 pub byte_parts : (k u : ℕ) → u ≤ 255 → Parts k u
 byte_parts k u small = parts_of k u (inr (omega arith))
 
-pub one_shape : (k m n low less : ℕ) (rest more : List Bool) → m ≤ 12 → n ≤ 12 → low < 2 ^ suffix_length k m → less < 2 ^ suffix_length k n → shape_bits k m low ++ rest ≡ shape_bits k n less ++ more → (m ≡ n) × (low ≡ less) × (rest ≡ more)
+pub one_shape : (k m n low less : ℕ) (rest more : List Bool) → m ≤ 12 → n ≤ 12 → low < 2 ^ suffix_length k m → less < 2 ^ suffix_length k n
+    → shape_bits k m low ++ rest ≡ shape_bits k n less ++ more → (m ≡ n) × (low ≡ less) × (rest ≡ more)
 unfolding shape_bits
 one_shape k m n low less rest more below also fits fit same =
     let joined : prefix_bits m ++ (number_bits (suffix_length k m) low ++ rest) ≡ prefix_bits n ++ (number_bits (suffix_length k n) less ++ more) =
-    sym (append_assoc (prefix_bits m) (number_bits (suffix_length k m) low) rest) ∙ same ∙ append_assoc (prefix_bits n) (number_bits (suffix_length k n) less) more in
+    sym (append_assoc (prefix_bits m) (number_bits (suffix_length k m) low) rest) ∙ same
+    ∙ append_assoc (prefix_bits n) (number_bits (suffix_length k n) less) more in
     let first = one_prefix m n _ _ below also joined in
-    let behind : number_bits (suffix_length k m) low ++ rest ≡ number_bits (suffix_length k m) less ++ more = first.1 ∙ ap (λ z. number_bits (suffix_length k z) less ++ more) (sym first.0) in
+    let behind : number_bits (suffix_length k m) low ++ rest ≡ number_bits (suffix_length k m) less ++ more = first.1
+    ∙ ap (λ z. number_bits (suffix_length k z) less ++ more) (sym first.0) in
     let fit' : less < 2 ^ suffix_length k m = rw first.0 fit in
     let second = one_number (suffix_length k m) low less rest more fits fit' behind in
     (first.0, second.0, second.1)
 
 pub one_number_code_of : (k m n : ℕ) (rest more : List Bool) → Parts k m → Parts k n → code_bits m k ++ rest ≡ code_bits n k ++ more → (m ≡ n) × (rest ≡ more)
 one_number_code_of k m n rest more a b same =
-    let shapes : shape_bits k a.ones a.low ++ rest ≡ shape_bits k b.ones b.low ++ more = ap (λ l. l ++ rest) (sym a.is_code) ∙ same ∙ ap (λ l. l ++ more) b.is_code in
-    let one = one_shape k a.ones b.ones a.low b.low rest more a.few b.few a.fits b.fits shapes in
-    (sym a.number ∙ ap (λ z. cond (ltb z 12) (z * 2 ^ k + a.low) (a.low + 11)) one.0 ∙ ap (λ z. cond (ltb b.ones 12) (b.ones * 2 ^ k + z) (z + 11)) one.1 ∙ b.number, one.2)
+    let shapes : shape_bits k a.ones a.low ++ rest ≡ shape_bits k b.ones b.low ++ more =
+    ap (λ l. l ++ rest) (sym a.is_code) ∙ same ∙ ap (λ l. l ++ more) b.is_code in
+    let one = one_shape k a.ones b.ones a.low b.low rest more a.few b.few a.fits b.fits shapes in (
+      sym a.number ∙ ap (λ z. cond (ltb z 12) (z * 2 ^ k + a.low) (a.low + 11)) one.0 ∙ ap (λ z. cond (ltb b.ones 12) (b.ones * 2 ^ k + z) (z + 11)) one.1
+          ∙ b.number,
+      one.2,
+    )
 
 pub one_number_code : (k m n : ℕ) (rest more : List Bool) → m ≤ 255 → n ≤ 255 → code_bits m k ++ rest ≡ code_bits n k ++ more → (m ≡ n) × (rest ≡ more)
 one_number_code k m n rest more below also same = one_number_code_of k m n rest more (byte_parts k m below) (byte_parts k n also) same

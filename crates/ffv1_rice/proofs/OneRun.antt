@@ -11,7 +11,8 @@ use Rattle.ffv1_rice.specs.Runs.{SpellsRun, line_end, whole, rest, over_end, lon
 some_length : (i : ℕ) → 0 < whole_length i
 some_length i = one-le-pow (run_exponent i) 2 (omega arith)
 
-run_alike : {m n left room i next then : ℕ} {bits words : List Bool} (others more : List Bool) → left ≡ room → SpellsRun m left i bits next → SpellsRun n room i words then → bits ++ others ≡ words ++ more → (m ≡ n) × (next ≡ then) × (others ≡ more)
+run_alike : {m n left room i next then : ℕ} {bits words : List Bool} (others more : List Bool) → left ≡ room → SpellsRun m left i bits next
+    → SpellsRun n room i words then → bits ++ others ≡ words ++ more → (m ≡ n) × (next ≡ then) × (others ≡ more)
 run_alike others more e (line_end a b c d) (line_end p q r s) same = (omega arith, omega arith, cc)
 run_alike {i = i} others more e (line_end a b c d) (whole m room tail p q r s) same = absurd (omega (arith, some_length i))
 run_alike others more e (line_end a b c d) (rest p q r s) same = absurd (omega arith)
@@ -53,7 +54,8 @@ run_alike {i = i} others more e (long_rest told a b c d f g) (long_rest most p q
     let one = one_number (run_exponent i) told most others more b q behind in
     (omega arith, omega arith, one.1)
 
-cut_no_run : {n left i next : ℕ} {run : List Bool} (bits others : List Bool) → 0 < left → SpellsRun n left i run next → bits ≡ run ++ others → IsCutWord i bits → ⊥
+cut_no_run : {n left i next : ℕ} {run : List Bool} (bits others : List Bool) → 0 < left → SpellsRun n left i run next → bits ≡ run ++ others
+    → IsCutWord i bits → ⊥
 cut_no_run [] others some (line_end a b c d) is cut = omega arith
 cut_no_run [] others some (whole m room tail a b c d) is cut = cc
 cut_no_run [] others some (rest a b c d) is cut = cc
@@ -77,10 +79,13 @@ one_run m n left i next last bits other after more run also same = run_alike aft
 
 -- the four ways to spell a word
 data IsFormOf (left i : ℕ) : RunWord → List Bool → ℕ → Type 0 where
-  full_one : {word : RunWord} {bits : List Bool} {next : ℕ} → whole_length i ≤ left → word ≡ Full (whole_length i) → bits ≡ true ∷ [] → next ≡ i + 1 → IsFormOf left i word bits next
+  full_one : {word : RunWord} {bits : List Bool} {next : ℕ} → whole_length i ≤ left → word ≡ Full (whole_length i) → bits ≡ true ∷ [] → next ≡ i + 1
+      → IsFormOf left i word bits next
   end_one : {word : RunWord} {bits : List Bool} {next : ℕ} → left < whole_length i → word ≡ ToEnd → bits ≡ true ∷ [] → next ≡ i → IsFormOf left i word bits next
-  rest_told : {word : RunWord} {bits : List Bool} {next : ℕ} (told : ℕ) → told < whole_length i → told < left → word ≡ Rest told → bits ≡ false ∷ number_bits (run_exponent i) told → next ≡ i - 1 → IsFormOf left i word bits next
-  end_told : {word : RunWord} {bits : List Bool} {next : ℕ} (told : ℕ) → told < whole_length i → left ≤ told → word ≡ ToEnd → bits ≡ false ∷ number_bits (run_exponent i) told → next ≡ i - 1 → IsFormOf left i word bits next
+  rest_told : {word : RunWord} {bits : List Bool} {next : ℕ} (told : ℕ) → told < whole_length i → told < left → word ≡ Rest told
+      → bits ≡ false ∷ number_bits (run_exponent i) told → next ≡ i - 1 → IsFormOf left i word bits next
+  end_told : {word : RunWord} {bits : List Bool} {next : ℕ} (told : ℕ) → told < whole_length i → left ≤ told → word ≡ ToEnd
+      → bits ≡ false ∷ number_bits (run_exponent i) told → next ≡ i - 1 → IsFormOf left i word bits next
 
 form_of : (left i next : ℕ) (word : RunWord) (bits : List Bool) → IsRunWord left i word bits next → IsFormOf left i word bits next
 form_of left i next (Full n) bits is = full_one (omega (arith, is.0, is.1)) (ap Full is.0) is.2 is.3
@@ -88,7 +93,8 @@ form_of left i next (Rest n) bits is = rest_told n is.0 is.1 refl is.2 is.3
 form_of left i next ToEnd bits is =
     ⊎_elim (λ one. end_one one.0 refl one.1 one.2) (λ told. end_told told.0 told.2 told.1 refl told.3 told.4) is
 
-one_form : (left i next last : ℕ) (word another : RunWord) (bits other after more : List Bool) → IsFormOf left i word bits next → IsFormOf left i another other last → bits ++ after ≡ other ++ more → (word ≡ another) × (next ≡ last) × (after ≡ more)
+one_form : (left i next last : ℕ) (word another : RunWord) (bits other after more : List Bool) → IsFormOf left i word bits next
+    → IsFormOf left i another other last → bits ++ after ≡ other ++ more → (word ≡ another) × (next ≡ last) × (after ≡ more)
 one_form left i next last word another bits other after more (full_one a b c d) (full_one p q r s) same = (cc, omega arith, cc)
 one_form left i next last word another bits other after more (full_one a b c d) (end_one p q r s) same = absurd (omega arith)
 one_form left i next last word another bits other after more (full_one a b c d) (rest_told n p q r s t) same = absurd cc
@@ -128,7 +134,8 @@ too_few : (i told : ℕ) (bits after : List Bool) → bits ≡ number_bits (run_
 too_few i told bits after behind cut =
     omega (arith, cut, ap length behind, length-append (number_bits (run_exponent i) told) after, length-number_bits (run_exponent i) told)
 
-no_form_when_cut : (left i next : ℕ) (word : RunWord) (bits spelled after : List Bool) → IsCutWord i bits → IsFormOf left i word spelled next → bits ≡ spelled ++ after → ⊥
+no_form_when_cut : (left i next : ℕ) (word : RunWord) (bits spelled after : List Bool) → IsCutWord i bits → IsFormOf left i word spelled next
+    → bits ≡ spelled ++ after → ⊥
 no_form_when_cut left i next word [] spelled after cut (full_one a b c d) is = cc
 no_form_when_cut left i next word [] spelled after cut (end_one a b c d) is = cc
 no_form_when_cut left i next word [] spelled after cut (rest_told n a b c d e) is = cc
@@ -143,13 +150,15 @@ no_form_when_cut left i next word (false ∷ bits) spelled after cut (end_told n
 
 pub no_run_when_cut : CutsExcludeRuns
 no_run_when_cut = record {
-  no_word = λ left i next word bits spelled after cut is same. no_form_when_cut left i next word bits spelled after cut (form_of left i next word spelled is) same;
+  no_word = λ left i next word bits spelled after cut is same. no_form_when_cut left i next word bits spelled after cut
+      (form_of left i next word spelled is) same;
   no_run = λ n left i next bits run after some cut spells same. cut_no_run bits after some spells same cut;
 }
 
 -- ---- readings
 
-pub same_word : (left i next last : ℕ) (word another : RunWord) (old new after : Reading) → IsRead left i word old next new → IsRead left i another old last after → word ≡ another
+pub same_word : (left i next last : ℕ) (word another : RunWord) (old new after : Reading) → IsRead left i word old next new
+    → IsRead left i another old last after → word ≡ another
 same_word left i next last word another old new after a b =
     let one = one_word left i next last word another a.spelled b.spelled new.left after.left a.is_word b.is_word (sym a.reads.begins ∙ b.reads.begins) in
     one.0

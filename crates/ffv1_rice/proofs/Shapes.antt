@@ -39,11 +39,13 @@ long_form k low long =
     let same : low + 11 - 11 ≡ low = omega arith in
     rw (le-ltb _ 12 long, same) refl
 
-pub short_code : (k ones low number : ℕ) (old rest : List Bool) → ones < 12 → low < 2 ^ k → number ≡ ones * 2 ^ k + low → old ≡ number_bits k low ++ rest → prefix_bits ones ++ old ≡ code_bits number k ++ rest
+pub short_code : (k ones low number : ℕ) (old rest : List Bool) → ones < 12 → low < 2 ^ k → number ≡ ones * 2 ^ k + low → old ≡ number_bits k low ++ rest
+    → prefix_bits ones ++ old ≡ code_bits number k ++ rest
 short_code k ones low number old rest few below is spelled =
     rw (is, spelled, short_form k ones low few below) (sym (append_assoc (prefix_bits ones) (number_bits k low) rest))
 
-pub escape_code : (k low number : ℕ) (old rest : List Bool) → number ≡ low + 11 → 12 ≤ number / 2 ^ k → old ≡ number_bits 8 low ++ rest → prefix_bits 12 ++ old ≡ code_bits number k ++ rest
+pub escape_code : (k low number : ℕ) (old rest : List Bool) → number ≡ low + 11 → 12 ≤ number / 2 ^ k → old ≡ number_bits 8 low ++ rest
+    → prefix_bits 12 ++ old ≡ code_bits number k ++ rest
 escape_code k low number old rest is long spelled =
     let long' : 12 ≤ (low + 11) / 2 ^ k = rw is at long in
     rw (is, spelled, long_form k low long') (sym (append_assoc (prefix_bits 12) (number_bits 8 low) rest))
@@ -52,7 +54,14 @@ cut_suffix : (k ones : ℕ) (bits : List Bool) → ones ≤ 12 → length bits <
 unfolding shape_bits
 cut_suffix k ones bits few short =
     let more = goes_on (suffix_length k ones) bits short in
-    record { zeros = ones; suffix = more.0; missing = more.1; rest = more.2; few = few; cut = ap (λ l. prefix_bits ones ++ l) more.3 ∙ sym (append_assoc (prefix_bits ones) bits (more.1 ∷ more.2)) }
+    record {
+      zeros = ones;
+      suffix = more.0;
+      missing = more.1;
+      rest = more.2;
+      few = few;
+      cut = ap (λ l. prefix_bits ones ++ l) more.3 ∙ sym (append_assoc (prefix_bits ones) bits (more.1 ∷ more.2));
+    }
 
 pub cut_short : (k ones : ℕ) (bits : List Bool) → ones < 12 → length bits < k → IsCutCode k (prefix_bits ones ++ bits)
 unfolding suffix_length
@@ -74,31 +83,43 @@ cut_prefix k ones bits few same =
       missing = false;
       rest = left ++ number_bits (suffix_length k 12) 0;
       few = omega arith;
-      cut = ap (λ l. l ++ number_bits (suffix_length k 12) 0) whole ∙ append_assoc (replicate ones false) (false ∷ left) (number_bits (suffix_length k 12) 0) ∙ ap (λ l. l ++ (false ∷ (left ++ number_bits (suffix_length k 12) 0))) (sym same);
+      cut = ap (λ l. l ++ number_bits (suffix_length k 12) 0) whole ∙ append_assoc (replicate ones false) (false ∷ left) (number_bits (suffix_length k 12) 0)
+          ∙ ap (λ l. l ++ (false ∷ (left ++ number_bits (suffix_length k 12) 0))) (sym same);
     }
 
-pub needless : (k low : ℕ) (old rest : List Bool) → low < 2 ^ 8 → (low + 11) / 2 ^ k < 12 → old ≡ number_bits 8 low ++ rest → IsNeedlessEscape k (prefix_bits 12 ++ old)
+pub needless : (k low : ℕ) (old rest : List Bool) → low < 2 ^ 8 → (low + 11) / 2 ^ k < 12 → old ≡ number_bits 8 low ++ rest
+    → IsNeedlessEscape k (prefix_bits 12 ++ old)
 unfolding shape_bits suffix_length
-needless k low old rest below short spelled = record { suffix = low; rest = rest; fits = below; begins = ap (λ l. prefix_bits 12 ++ l) spelled ∙ sym (append_assoc (prefix_bits 12) (number_bits 8 low) rest); short = short }
+needless k low old rest below short spelled = record {
+  suffix = low;
+  rest = rest;
+  fits = below;
+  begins = ap (λ l. prefix_bits 12 ++ l) spelled ∙ sym (append_assoc (prefix_bits 12) (number_bits 8 low) rest);
+  short = short;
+}
 
-pub large_short : (k ones low number : ℕ) (old rest : List Bool) → ones < 12 → low < 2 ^ k → number ≡ ones * 2 ^ k + low → 255 < number → old ≡ number_bits k low ++ rest → IsLargeCode k (prefix_bits ones ++ old)
+pub large_short : (k ones low number : ℕ) (old rest : List Bool) → ones < 12 → low < 2 ^ k → number ≡ ones * 2 ^ k + low → 255 < number
+    → old ≡ number_bits k low ++ rest → IsLargeCode k (prefix_bits ones ++ old)
 large_short k ones low number old rest few below is large spelled =
     let high : number / 2 ^ k ≡ ones = ap (λ n. n / 2 ^ k) is ∙ shr_high ones k low below in
     record { number = number; rest = rest; large = large; fits = inl (omega arith); begins = short_code k ones low number old rest few below is spelled }
 
-pub large_escape : (k low number : ℕ) (old rest : List Bool) → low < 2 ^ 8 → number ≡ low + 11 → 12 ≤ number / 2 ^ k → 255 < number → old ≡ number_bits 8 low ++ rest → IsLargeCode k (prefix_bits 12 ++ old)
+pub large_escape : (k low number : ℕ) (old rest : List Bool) → low < 2 ^ 8 → number ≡ low + 11 → 12 ≤ number / 2 ^ k → 255 < number
+    → old ≡ number_bits 8 low ++ rest → IsLargeCode k (prefix_bits 12 ++ old)
 large_escape k low number old rest below is long large spelled =
     record { number = number; rest = rest; large = large; fits = inr (omega arith); begins = escape_code k low number old rest is long spelled }
 
 -- ---- codes from their parts
 
-short_read : (k ones u : ℕ) (old mid new : Reading) → ones < 12 → u / 2 ^ k ≡ ones → Reads old (prefix_bits ones) mid → Reads mid (number_bits k (u % 2 ^ k)) new → Reads old (code_bits u k) new
+short_read : (k ones u : ℕ) (old mid new : Reading) → ones < 12 → u / 2 ^ k ≡ ones → Reads old (prefix_bits ones) mid
+    → Reads mid (number_bits k (u % 2 ^ k)) new → Reads old (code_bits u k) new
 unfolding code_bits shape_bits suffix_length
 short_read k ones u old mid new few is first second =
     let less : u / 2 ^ k < 12 = omega arith in
     rw (lt-ltb _ 12 less, is) (Reads-append old mid new (prefix_bits ones) (number_bits k (u % 2 ^ k)) first second)
 
-escape_read : (k u : ℕ) (old mid new : Reading) → 12 ≤ u / 2 ^ k → Reads old (prefix_bits 12) mid → Reads mid (number_bits 8 (u - 11)) new → Reads old (code_bits u k) new
+escape_read : (k u : ℕ) (old mid new : Reading) → 12 ≤ u / 2 ^ k → Reads old (prefix_bits 12) mid → Reads mid (number_bits 8 (u - 11)) new
+    → Reads old (code_bits u k) new
 unfolding code_bits shape_bits suffix_length
 escape_read k u old mid new long first second =
     rw (le-ltb _ 12 long) (Reads-append old mid new (prefix_bits 12) (number_bits 8 (u - 11)) first second)

@@ -3,6 +3,7 @@ use Rattle.std.proofs.Common.{⊎_elim, ◌++◌, ◌≡◌, ℕ, zero, suc, ◌
 use Rattle.std.proofs.lemmas.List.{get_or-take}
 use Rattle.std.proofs.Math.Nat.{mod-eq_of_lt}
 use Rattle.std.proofs.Math.Pow.{pow_mono}
+use Rattle.ffv1_bits.specs.Limits.{greatest_run_index}
 use Rattle.ffv1_bits.specs.Bits.{number_bits}
 use Rattle.ffv1_bits.specs.Reader.{Reading, Reads}
 use Rattle.ffv1_bits.proofs.Places.{Reads-append}
@@ -22,7 +23,7 @@ low_at m [] i h = omega arith
 low_at m (x ∷ xs) zero h = grind arith
 low_at m (x ∷ xs) (suc i) h = low_at m xs i (grind arith)
 
-pub exponent_low : (i : ℕ) → i ≤ 31 → run_exponent i ≤ 15
+pub exponent_low : (i : ℕ) → i ≤ greatest_run_index → run_exponent i ≤ 15
 unfolding run_exponent are_low
 exponent_low i h =
     let below : i < 32 = omega arith in
@@ -35,27 +36,40 @@ shifted e h = let p : 2 ^ e ≤ 2 ^ 15 = pow_mono h in let q : 1 * 2 ^ e ≡ 2 ^
 
 -- ---- what the four ends of a reading give
 
-pub full_word : (left i e length : ℕ) (old new : Reading) → e ≡ run_exponent i → e ≤ 15 → length ≡ (1 * 2 ^ e) % 4294967296 → length ≤ left → Reads old (true ∷ []) new → IsRead left i (Full length) old (i + 1) new
-full_word left i e length old new is low same fits reads = record { spelled = true ∷ []; is_word = (same ∙ shifted e low ∙ ap (λ k. 2 ^ k) is, fits, refl, refl); reads = reads }
+pub full_word : (left i e length : ℕ) (old new : Reading) → e ≡ run_exponent i → e ≤ 15 → length ≡ (1 * 2 ^ e) % 4294967296 → length ≤ left
+    → Reads old (true ∷ []) new → IsRead left i (Full length) old (i + 1) new
+full_word left i e length old new is low same fits reads = record {
+  spelled = true ∷ [];
+  is_word = (same ∙ shifted e low ∙ ap (λ k. 2 ^ k) is, fits, refl, refl);
+  reads = reads;
+}
 
-pub end_word : (left i e : ℕ) (old new : Reading) → e ≡ run_exponent i → e ≤ 15 → left < (1 * 2 ^ e) % 4294967296 → Reads old (true ∷ []) new → IsRead left i ToEnd old i new
+pub end_word : (left i e : ℕ) (old new : Reading) → e ≡ run_exponent i → e ≤ 15 → left < (1 * 2 ^ e) % 4294967296 → Reads old (true ∷ []) new
+    → IsRead left i ToEnd old i new
 end_word left i e old new is low past reads =
     let length : (1 * 2 ^ e) % 4294967296 ≡ whole_length i = shifted e low ∙ ap (λ k. 2 ^ k) is in
     record { spelled = true ∷ []; is_word = inl (rw length at past, refl, refl); reads = reads }
 
-zero_and_number : (i e n : ℕ) (old mid new : Reading) → e ≡ run_exponent i → Reads old (false ∷ []) mid → Reads mid (number_bits e n) new → Reads old (false ∷ number_bits (run_exponent i) n) new
+zero_and_number : (i e n : ℕ) (old mid new : Reading) → e ≡ run_exponent i → Reads old (false ∷ []) mid → Reads mid (number_bits e n) new
+    → Reads old (false ∷ number_bits (run_exponent i) n) new
 zero_and_number i e n old mid new is first number =
     rw (← is) (Reads-append old mid new (false ∷ []) (number_bits e n) first number)
 
-pub rest_word : (left i e n : ℕ) (old mid new : Reading) → e ≡ run_exponent i → n < 2 ^ e → n < left → Reads old (false ∷ []) mid → Reads mid (number_bits e n) new → IsRead left i (Rest n) old (i - 1) new
+pub rest_word : (left i e n : ℕ) (old mid new : Reading) → e ≡ run_exponent i → n < 2 ^ e → n < left → Reads old (false ∷ []) mid
+    → Reads mid (number_bits e n) new → IsRead left i (Rest n) old (i - 1) new
 rest_word left i e n old mid new is fits less first number =
     let fits' : n < whole_length i = rw is at fits in
     record { spelled = false ∷ number_bits (run_exponent i) n; is_word = (fits', less, refl, refl); reads = zero_and_number i e n old mid new is first number }
 
-pub long_word : (left i e n : ℕ) (old mid new : Reading) → e ≡ run_exponent i → n < 2 ^ e → left ≤ n → Reads old (false ∷ []) mid → Reads mid (number_bits e n) new → IsRead left i ToEnd old (i - 1) new
+pub long_word : (left i e n : ℕ) (old mid new : Reading) → e ≡ run_exponent i → n < 2 ^ e → left ≤ n → Reads old (false ∷ []) mid
+    → Reads mid (number_bits e n) new → IsRead left i ToEnd old (i - 1) new
 long_word left i e n old mid new is fits more first number =
     let fits' : n < whole_length i = rw is at fits in
-    record { spelled = false ∷ number_bits (run_exponent i) n; is_word = inr (n, more, fits', refl, refl); reads = zero_and_number i e n old mid new is first number }
+    record {
+      spelled = false ∷ number_bits (run_exponent i) n;
+      is_word = inr (n, more, fits', refl, refl);
+      reads = zero_and_number i e n old mid new is first number;
+    }
 
 -- ---- what a zero with too few bits behind it is
 
@@ -66,7 +80,8 @@ cut_number i e old mid is first short =
 
 -- ---- the words of a run
 
-full_first : (m n left i mid next : ℕ) (bits more : List Bool) → IsRunWord left i (Full m) bits mid → SpellsRun n (left - m) mid more next → SpellsRun (m + n) left i (bits ++ more) next
+full_first : (m n left i mid next : ℕ) (bits more : List Bool) → IsRunWord left i (Full m) bits mid → SpellsRun n (left - m) mid more next
+    → SpellsRun (m + n) left i (bits ++ more) next
 full_first m n left i mid next bits more is run =
     let behind : SpellsRun n (left - m) (i + 1) more next = rw is.3 at run in
     whole n (left - m) more (ap (λ k. k + n) is.0) (omega (arith, is.0, is.1)) (ap (λ l. l ++ more) is.2) behind

@@ -26,13 +26,16 @@ pub data SpellsRun : ℕ → ℕ → ℕ → List Bool → ℕ → Type 0 where
   -- the line has ended
   line_end : {n left i next : ℕ} {bits : List Bool} → n ≡ 0 → left ≡ 0 → bits ≡ [] → next ≡ i → SpellsRun n left i bits next
   -- a one stands for a whole length, and the index rises
-  whole : {n left i next : ℕ} {bits : List Bool} (m room : ℕ) (others : List Bool) → n ≡ whole_length i + m → left ≡ whole_length i + room → bits ≡ true ∷ others → SpellsRun m room (i + 1) others next → SpellsRun n left i bits next
+  whole : {n left i next : ℕ} {bits : List Bool} (m room : ℕ) (others : List Bool) → n ≡ whole_length i + m → left ≡ whole_length i + room
+      → bits ≡ true ∷ others → SpellsRun m room (i + 1) others next → SpellsRun n left i bits next
   -- a zero and the number of samples, where the line goes on; the index falls
-  rest : {n left i next : ℕ} {bits : List Bool} → n < whole_length i → n < left → bits ≡ false ∷ number_bits (run_exponent i) n → next ≡ i - 1 → SpellsRun n left i bits next
+  rest : {n left i next : ℕ} {bits : List Bool} → n < whole_length i → n < left → bits ≡ false ∷ number_bits (run_exponent i) n → next ≡ i - 1
+      → SpellsRun n left i bits next
   -- up to the line's end: a one that stands for more than is left, and the index stays ..
   over_end : {n left i next : ℕ} {bits : List Bool} → n < whole_length i → 0 < n → n ≡ left → bits ≡ true ∷ [] → next ≡ i → SpellsRun n left i bits next
   -- .. or a zero and any number from there up, and the index falls
-  long_rest : {n left i next : ℕ} {bits : List Bool} (told : ℕ) → left ≤ told → told < whole_length i → 0 < n → n ≡ left → bits ≡ false ∷ number_bits (run_exponent i) told → next ≡ i - 1 → SpellsRun n left i bits next
+  long_rest : {n left i next : ℕ} {bits : List Bool} (told : ℕ) → left ≤ told → told < whole_length i → 0 < n → n ≡ left
+      → bits ≡ false ∷ number_bits (run_exponent i) told → next ≡ i - 1 → SpellsRun n left i bits next
 
 -- ---- the words of a run
 
@@ -74,11 +77,13 @@ WordsAreOne =
 
 -- A whole length and a run behind it are a run, and so is a word that ends one.
 pub record WordsSpellRuns : Type 0 where
-  pub full : (m n left i mid next : ℕ) (bits more : List Bool) → IsRunWord left i (Full m) bits mid → SpellsRun n (left - m) mid more next → SpellsRun (m + n) left i (bits ++ more) next
+  pub full : (m n left i mid next : ℕ) (bits more : List Bool) → IsRunWord left i (Full m) bits mid → SpellsRun n (left - m) mid more next
+      → SpellsRun (m + n) left i (bits ++ more) next
   pub rest : (n left i next : ℕ) (bits : List Bool) → IsRunWord left i (Rest n) bits next → SpellsRun n left i bits next
   pub to_end : (left i next : ℕ) (bits : List Bool) → 0 < left → IsRunWord left i ToEnd bits next → SpellsRun left left i bits next
 
 -- Where the bits end within a word, no word is there and no run.
 pub record CutsExcludeRuns : Type 0 where
-  pub no_word : (left i next : ℕ) (word : RunWord) (bits spelled rest : List Bool) → IsCutWord i bits → IsRunWord left i word spelled next → bits ≡ spelled ++ rest → ⊥
+  pub no_word : (left i next : ℕ) (word : RunWord) (bits spelled rest : List Bool) → IsCutWord i bits → IsRunWord left i word spelled next
+      → bits ≡ spelled ++ rest → ⊥
   pub no_run : (n left i next : ℕ) (bits run rest : List Bool) → 0 < left → IsCutWord i bits → SpellsRun n left i run next → bits ≡ run ++ rest → ⊥

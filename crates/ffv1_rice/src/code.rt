@@ -22,14 +22,14 @@ pub enum CodeFault {
     LevelTooLarge,
 }
 
-/// The zeros of an escape. No bit 1 ends them.
-const ESCAPE_ZEROS: u32 = 12;
+/// The zeros of an escape (RFC 9043, section 3.8.2.1). No bit 1 ends them.
+pub const ESCAPE_ZEROS: u32 = 12;
 
 /// The bits of an escape's suffix.
-const ESCAPE_BITS: u32 = 8;
+pub const ESCAPE_BITS: u32 = 8;
 
 /// An escape's number is its suffix plus this.
-const ESCAPE_OFFSET: u32 = 11;
+pub const ESCAPE_OFFSET: u32 = 11;
 
 /// The largest number of a code.
 const LARGEST_NUMBER: u32 = 255;
@@ -126,13 +126,15 @@ impl VlcState {
     ///
     /// The faults are judged in the order in which `CodeFault` has them; `LevelTooLarge` comes
     /// with `level` alone. On a fault state and bits are unchanged.
+    #[inline(always)]
     pub fn decode(&mut self, bits: &mut Bits, level: bool) -> Result<i32, CodeFault>
         ensures range { IfOk result (IsCodedDifference level) }
         ensures ok { IfOk result (λ difference. IsCoded self.old level difference bits.old bits.new) }
         ensures state { IfOk result (λ difference. self.new ≡ after_value self.old (decoded_value level difference)) }
 
         // Wherever a difference has its code next, it is answered.
-        ensures found { (difference : ℤ) (after : Reading) → IsCodedDifference level difference → IsCoded self.old level difference bits.old after → result ≡ Ok difference }
+        ensures found { (difference : ℤ) (after : Reading) → IsCodedDifference level difference → IsCoded self.old level difference bits.old after
+            → result ≡ Ok difference }
 
         ensures err { IfErr result (IsCodeFault self.old level bits.old.left) }
         ensures unchanged { OnErr result ((self.new ≡ self.old) × (bits.new ≡ bits.old)) }

@@ -1,7 +1,8 @@
 //! Runs of samples with difference 0, word by word (RFC 9043, section 3.8.2.2.1).
 //!
-//! A run index is at most 31, since a line has at most 16384 samples.
+//! A run index is at most `greatest_run_index`, since a line has at most `greatest_side` samples.
 ghost use Rattle.std.specs.Prelude.{◌≡◌, ℕ, ◌≤◌, IfOk, OnErr};
+ghost use Rattle.ffv1_bits.specs.Limits.{greatest_side, greatest_run_index};
 ghost use Rattle.ffv1_bits.specs.Reader.{Reading};
 ghost use Rattle.ffv1_rice.specs.Runs.{run_exponent, IsRead, IsCutWord, RunsAreOne, WordsAreOne, WordsSpellRuns, CutsExcludeRuns};
 ghost use Rattle.ffv1_rice.specs.declared.code.CodeFault.TheVariants as CodeFault;
@@ -27,7 +28,7 @@ const LOG2_RUN: [u8; 41] = [
     14, 15, 16, 17, 18, 19, 20, 21, 22, 23, 24,
 ];
 
-/// The run index of a plane, from 0 to 31.
+/// The run index of a plane, from 0 to `greatest_run_index`.
 #[derive(Drop)]
 pub struct RunIndex {
     index: usize,
@@ -35,21 +36,22 @@ pub struct RunIndex {
 
 impl Model for RunIndex {
     ghost use Rattle.std.specs.Prelude.{ℕ, ◌≤◌};
+    ghost use Rattle.ffv1_bits.specs.Limits.{greatest_run_index};
 
     ghost Value = { ℕ };
 
     ghost view = { λ i. i.index };
 
-    ghost invariant = { λ i. i.index ≤ 31 };
+    ghost invariant = { λ i. i.index ≤ greatest_run_index };
 }
 
-/// The exponent at a run index.
+/// The exponent of a run's whole length at an index.
 #[tactic(auto, unfolding(crate::specs::Runs::run_exponent), using(crate::proofs::Words::exponent_low))]
 fn exponent(index: usize) -> u32
-    requires { index ≤ 31 }
+    requires { index ≤ greatest_run_index }
     ensures value { result ≡ run_exponent index }
     ensures low { result ≤ 15 }
-    ensures last { index ≡ 31 → result ≡ 15 }
+    ensures last { index ≡ greatest_run_index → result ≡ 15 }
 {
     u32::from(LOG2_RUN[index])
 }
@@ -62,15 +64,24 @@ impl RunIndex {
         RunIndex { index: 0 }
     }
 
-    /// The index, at most 31.
+    /// The index, at most `greatest_run_index`.
     pub fn index(&self) -> usize
         ensures value { result ≡ self.now }
-        ensures bound { result ≤ 31 }
+        ensures bound { result ≤ greatest_run_index }
     {
         self.index
     }
 
-    /// The next word of a run, in a line with `left` samples to come, from 1 to 16384; the index
+    /// The exponent of a run's whole length at the index: a word of one bit 1 is of 2^exponent samples, and else as many bits
+    /// tell the rest.
+    pub fn exponent(&self) -> u32
+        ensures value { result ≡ run_exponent self.now }
+        ensures low { result ≤ 15 }
+    {
+        exponent(self.index)
+    }
+
+    /// The next word of a run, in a line with `left` samples to come, from 1 to `greatest_side`; the index
     /// becomes that after it. A rest of `left` samples or more ends the line.
     ///
     /// The one fault is `Truncated`, where the bits end within the word; then index and bits are
@@ -78,7 +89,7 @@ impl RunIndex {
     #[tactic(auto, using(crate::proofs::Words::full_word, crate::proofs::Words::end_word, crate::proofs::Words::rest_word, crate::proofs::Words::long_word))]
     pub fn read(&mut self, bits: &mut Bits, left: u32) -> Result<RunWord, CodeFault>
         requires some_left { 1 ≤ left }
-        requires few_left { left ≤ 16384 }
+        requires few_left { left ≤ greatest_side }
         ensures ok { IfOk result (λ word. IsRead left self.old word bits.old self.new bits.new) }
 
         // Wherever a word comes next, it is answered.

@@ -21,7 +21,8 @@ Contains-head x xs = (0, omega arith, refl)
 Contains-cons : {X : Type 0} (y x : X) (xs : List X) → Contains xs x → Contains (y ∷ xs) x
 Contains-cons y x xs h = (suc h.0, (let l : h.0 < length xs = h.1 in omega arith), h.2)
 
-kept_at : {X Y : Type 0} (h : X → Option Y) (xs : List X) (k : ℕ) (x : X) (y : Y) → k < length xs → get_or xs k x ≡ x → h x ≡ Some y → Contains (filter_map h xs) y
+kept_at : {X Y : Type 0} (h : X → Option Y) (xs : List X) (k : ℕ) (x : X) (y : Y) → k < length xs → get_or xs k x ≡ x → h x ≡ Some y
+    → Contains (filter_map h xs) y
 kept_at h [] k x y l s e = absurd (omega arith)
 kept_at h (a ∷ xs) zero x y l s e =
     subst (λ o. Contains (cons_option o (filter_map h xs)) y) (sym (ap h s ∙ e)) (Contains-head y (filter_map h xs))
@@ -38,7 +39,8 @@ record IsKeptFrom {X Y : Type 0} (h : X → Option Y) (xs : List X) (y : Y) : Ty
   there : Contains xs from
   gives : h from ≡ Some y
 
-kept_from : {X Y : Type 0} (h : X → Option Y) (xs : List X) (k : ℕ) (y : Y) → k < length (filter_map h xs) → get_or (filter_map h xs) k y ≡ y → IsKeptFrom h xs y
+kept_from : {X Y : Type 0} (h : X → Option Y) (xs : List X) (k : ℕ) (y : Y) → k < length (filter_map h xs) → get_or (filter_map h xs) k y ≡ y
+    → IsKeptFrom h xs y
 kept_from h [] k y l s = absurd (omega arith)
 kept_from h (a ∷ xs) k y l s =
     elim (h a) as (λ o. h a ≡ o → k < length (cons_option o (filter_map h xs)) → get_or (cons_option o (filter_map h xs)) k y ≡ y → IsKeptFrom h (a ∷ xs) y) [
@@ -46,7 +48,8 @@ kept_from h (a ∷ xs) k y l s =
       | Some z ↦ λ e l s. first_or h a xs z k y e l s (λ j l s. kept_from h xs j y l s)
     ] refl l s
   where
-    first_or : {X Y : Type 0} (h : X → Option Y) (a : X) (xs : List X) (z : Y) (k : ℕ) (y : Y) → h a ≡ Some z → k < length (z ∷ filter_map h xs) → get_or (z ∷ filter_map h xs) k y ≡ y
+    first_or : {X Y : Type 0} (h : X → Option Y) (a : X) (xs : List X) (z : Y) (k : ℕ) (y : Y) → h a ≡ Some z → k < length (z ∷ filter_map h xs)
+        → get_or (z ∷ filter_map h xs) k y ≡ y
         → ((j : ℕ) → j < length (filter_map h xs) → get_or (filter_map h xs) j y ≡ y → IsKeptFrom h xs y) → IsKeptFrom h (a ∷ xs) y
     first_or h a xs z zero y e l s more = record { from = a; there = Contains-head a xs; gives = e ∙ ap Some s }
     first_or h a xs z (suc k) y e l s more =
@@ -66,26 +69,32 @@ with_tile_is bytes (Err e) tile slice h = absurd cc
 IsLinkPiece : List ℕ → Piece → Type 0
 IsLinkPiece payload piece = (q : ℕ) × IsLinkOf payload piece.start q × (piece ≡ piece_of payload piece.start q)
 
-found_from : (setup : SetupValue) (payload : List ℕ) (tile : ℕ) (slice : List ℕ) → Contains (found_slices setup payload) (tile, slice) → IsFoundIn setup payload tile slice
+found_from : (setup : SetupValue) (payload : List ℕ) (tile : ℕ) (slice : List ℕ) → Contains (found_slices setup payload) (tile, slice)
+    → IsFoundIn setup payload tile slice
 unfolding found_slices IsLinkPiece
 found_from setup payload tile slice h =
     let kept = kept_from (slice_at setup) (links_of payload) h.0 (tile, slice) h.1 h.2 in
-    let link : IsLinkPiece payload kept.from = all_of (λ piece. (q : ℕ) × IsLinkOf payload piece.start q × (piece ≡ piece_of payload piece.start q)) (links_of payload) kept.there.0 kept.from (are_links payload).only kept.there.1 kept.there.2 in
+    let link : IsLinkPiece payload kept.from = all_of (λ piece. (q : ℕ) × IsLinkOf payload piece.start q × (piece ≡ piece_of payload piece.start q))
+    (links_of payload) kept.there.0 kept.from (are_links payload).only kept.there.1 kept.there.2 in
     let parts = with_tile_is kept.from.bytes (slice_read setup kept.from.bytes (kept.from.start == 0)) tile slice kept.gives in
     record {
       start = kept.from.start;
       end = link.0;
       link = link.1;
       bytes = parts.1 ∙ ap (λ z. z.bytes) link.2;
-      is_slice = subst (λ z. IsSliceOf setup z (kept.from.start == 0) tile) (sym parts.1) (slice_found setup kept.from.bytes (kept.from.start == 0) tile parts.0);
+      is_slice = subst (λ z. IsSliceOf setup z (kept.from.start == 0) tile) (sym parts.1)
+          (slice_found setup kept.from.bytes (kept.from.start == 0) tile parts.0);
     }
 
-found_to : (setup : SetupValue) (payload : List ℕ) (tile : ℕ) (slice : List ℕ) → IsFoundIn setup payload tile slice → Contains (found_slices setup payload) (tile, slice)
+found_to : (setup : SetupValue) (payload : List ℕ) (tile : ℕ) (slice : List ℕ) → IsFoundIn setup payload tile slice
+    → Contains (found_slices setup payload) (tile, slice)
 unfolding found_slices
 found_to setup payload tile slice h =
-    let whole : IsSliceOf setup (slice_range payload h.start h.end) (h.start == 0) tile = subst (λ z. IsSliceOf setup z (h.start == 0) tile) h.bytes h.is_slice in
+    let whole : IsSliceOf setup (slice_range payload h.start h.end) (h.start == 0) tile =
+    subst (λ z. IsSliceOf setup z (h.start == 0) tile) h.bytes h.is_slice in
     Contains-filter_map (slice_at setup) (links_of payload) (piece_of payload h.start h.end) (tile, slice) ((are_links payload).all h.start h.end h.link)
-    (ap (with_tile (slice_range payload h.start h.end)) (slice_run setup (slice_range payload h.start h.end) (h.start == 0) tile whole) ∙ ap (λ z. Some (tile, z)) (sym h.bytes))
+    (ap (with_tile (slice_range payload h.start h.end)) (slice_run setup (slice_range payload h.start h.end) (h.start == 0) tile whole)
+    ∙ ap (λ z. Some (tile, z)) (sym h.bytes))
 
 pub found_slices_are_found : FoundSlicesAreFound
 found_slices_are_found setup payload tile slice = (found_from setup payload tile slice, found_to setup payload tile slice)
@@ -151,14 +160,16 @@ module _ (setup : SetupValue) (original copy : List ℕ) (slices : List (List �
         subst (λ z. IsSliceOf setup slice z tile) is_first h.is_slice,
       )
 
-  pub own_tile : (k tile : ℕ) (slice : List ℕ) → k < length slices → slice ≡ get_or slices k [] → IsSliceOf setup slice (k == 0) tile → (tile ≡ k) × (slice ≡ get_or slices tile slice)
+  pub own_tile : (k tile : ℕ) (slice : List ℕ) → k < length slices → slice ≡ get_or slices k [] → IsSliceOf setup slice (k == 0) tile → (tile ≡ k)
+      × (slice ≡ get_or slices tile slice)
   own_tile k tile slice lt same is_slice =
       let own : IsSliceOf setup (get_or slices k []) (k == 0) tile = subst (λ z. IsSliceOf setup z (k == 0) tile) same is_slice in
       let tiles : tile ≡ k = one_tile setup (get_or slices k []) (k == 0) tile k own (is.each k [] lt) in
       (tiles, same ∙ get_or_default slices k [] slice lt ∙ ap (λ z. get_or slices z slice) (sym tiles))
 
   -- and where the original's slice stands at its places, it is found
-  pub found_there : (tile : ℕ) (slice : List ℕ) → tile < length slices → slice ≡ get_or slices tile slice → slice_range copy (starts_at slices tile) (starts_at slices (tile + 1)) ≡ slice → IsFoundIn setup copy tile slice
+  pub found_there : (tile : ℕ) (slice : List ℕ) → tile < length slices → slice ≡ get_or slices tile slice
+      → slice_range copy (starts_at slices tile) (starts_at slices (tile + 1)) ≡ slice → IsFoundIn setup copy tile slice
   found_there tile slice lt same intact =
       record {
         start = starts_at slices tile;
@@ -173,7 +184,8 @@ module _ (setup : SetupValue) (payload : List ℕ) (slices : List (List ℕ)) (o
   original_from : (tile : ℕ) (slice : List ℕ) → IsFoundIn setup payload tile slice → (tile < length slices) × (slice ≡ get_or slices tile slice)
   original_from tile slice h =
       let at = found_at setup payload payload slices original (original_cut setup payload slices original) tile slice h in
-      let own = own_tile setup payload payload slices original (original_cut setup payload slices original) at.0 tile slice at.1 (at.2 ∙ bytes_of_tile setup payload slices original at.0 at.1) at.3 in
+      let own = own_tile setup payload payload slices original (original_cut setup payload slices original) at.0 tile slice at.1
+      (at.2 ∙ bytes_of_tile setup payload slices original at.0 at.1) at.3 in
       (subst (λ z. z < length slices) (sym own.0) at.1, own.1)
 
   original_to : (tile : ℕ) (slice : List ℕ) → (tile < length slices) × (slice ≡ get_or slices tile slice) → IsFoundIn setup payload tile slice
@@ -182,4 +194,8 @@ module _ (setup : SetupValue) (payload : List ℕ) (slices : List (List ℕ)) (o
       (bytes_of_tile setup payload slices original tile h.0 ∙ get_or_default slices tile [] slice h.0 ∙ sym h.1)
 
 pub original_is_found : OriginalIsFound
-original_is_found setup payload slices original tile slice = (original_from setup payload slices original tile slice, original_to setup payload slices original tile slice)
+original_is_found setup payload slices original tile slice = (
+  original_from setup payload slices original tile slice,
+  original_to setup payload slices
+      original tile slice,
+)

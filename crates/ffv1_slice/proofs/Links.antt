@@ -36,7 +36,8 @@ pub walked-more : (c : List ℕ) (n t q : ℕ) → IsCut c t q → walked (suc n
 unfolding walked
 walked-more c n t q cut =
     let start : q - (size_before c q + 8) ≡ t = omega arith in
-    cond-true (leb (size_before c q + 8) q) (piece_of c (q - (size_before c q + 8)) q ∷ walked n c (q - (size_before c q + 8))) [] (le-leb (size_before c q + 8) q (omega arith))
+    cond-true (leb (size_before c q + 8) q) (piece_of c (q - (size_before c q + 8)) q ∷ walked n c (q - (size_before c q + 8))) []
+    (le-leb (size_before c q + 8) q (omega arith))
     ∙ ap (λ x. piece_of c x q ∷ walked n c x) start
 
 pub walked-none : (c : List ℕ) (n q : ℕ) → ((p : ℕ) → IsCut c p q → ⊥) → walked n c q ≡ []
@@ -79,7 +80,8 @@ found c zero top p q h r cut =
     elim (front c top q r) [ inl same ↦ absurd (omega arith) | inr w ↦ absurd (let step : IsCut c w.0 top = w.1 in omega arith) ]
 found c (suc n) top p q h r cut =
     elim (front c top q r) [
-      | inl same ↦ subst (λ x. Contains (walked (suc n) c x) (piece_of c p q)) same (subst (λ xs. Contains xs (piece_of c p q)) (sym (walked-more c n p q cut)) (Contains-head (piece_of c p q) (walked n c p)))
+      | inl same ↦ subst (λ x. Contains (walked (suc n) c x) (piece_of c p q)) same
+          (subst (λ xs. Contains xs (piece_of c p q)) (sym (walked-more c n p q cut)) (Contains-head (piece_of c p q) (walked n c p)))
       | inr w ↦ subst (λ xs. Contains xs (piece_of c p q)) (sym (walked-more c n w.0 top w.1))
           (Contains-cons (piece_of c w.0 top) (piece_of c p q) (walked n c w.0) (found c n w.0 p q (let step : IsCut c w.0 top = w.1 in omega arith) w.2 cut))
     ]
@@ -89,14 +91,16 @@ found c (suc n) top p q h r cut =
 IsLinkPiece : List ℕ → Piece → Type 0
 IsLinkPiece c piece = (q : ℕ) × IsLinkOf c piece.start q × (piece ≡ piece_of c piece.start q)
 
-only_links : (c : List ℕ) (n top : ℕ) → IsEnd c top → AllByRecursion (λ piece. (q : ℕ) × IsLinkOf c piece.start q × (piece ≡ piece_of c piece.start q)) (walked n c top)
+only_links : (c : List ℕ) (n top : ℕ) → IsEnd c top → AllByRecursion (λ piece. (q : ℕ) × IsLinkOf c piece.start q × (piece ≡ piece_of c piece.start q))
+    (walked n c top)
 unfolding walked
 only_links c zero top h = tt
 only_links c (suc n) top h =
     elim (cut_or_none c top) [
       | inl w ↦ subst (AllByRecursion (λ piece. (q : ℕ) × IsLinkOf c piece.start q × (piece ≡ piece_of c piece.start q))) (sym (walked-more c n w.0 top w.1))
           ((top, record { is_end = h; cut = w.1 }, refl), only_links c n w.0 (before h w.1))
-      | inr none ↦ subst (AllByRecursion (λ piece. (q : ℕ) × IsLinkOf c piece.start q × (piece ≡ piece_of c piece.start q))) (sym (walked-none c (suc n) top none)) tt
+      | inr none ↦ subst (AllByRecursion (λ piece. (q : ℕ) × IsLinkOf c piece.start q × (piece ≡ piece_of c piece.start q)))
+          (sym (walked-none c (suc n) top none)) tt
     ]
 
 -- ---- the starts fall
@@ -184,9 +188,6 @@ pub ends : (w : Walk) (c : List ℕ) (at q : ℕ) → walk_at c at ≡ w → IsE
 ends w c at q view h none positive =
     subst (λ x. (IsEnd x 0 → ⊥) × IsEnd x q × ((p : ℕ) → IsEnd x p → q ≤ p)) (ap (λ x. x.payload) view)
     ((λ zero_end. omega (arith, least_end c q h none 0 zero_end)), h, λ p e. least_end c q h none p e)
-
-pub ends_whole : (w : Walk) (c : List ℕ) (at q : ℕ) → walk_at c at ≡ w → IsEnd c q → q ≡ 0 → IsEnd w.payload 0
-ends_whole w c at q view h e = subst (λ x. IsEnd x 0) (ap (λ x. x.payload) view) (subst (IsEnd c) e h)
 
 pub turn_fewer : (w : Walk) (c : List ℕ) (t q : ℕ) → walk_at c q ≡ w → IsCut c t q → length (walked t c t) < length w.left
 turn_fewer w c t q view cut = omega (arith, ap length (turn_some w c t q view cut))

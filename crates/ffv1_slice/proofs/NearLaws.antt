@@ -28,13 +28,6 @@ AreBytes-range xs p q h = AreBytes-take (q - p) (drop p xs) (AreBytes-drop p xs 
 
 -- ---- the size field
 
--- a number of three bytes is that of the first three
-big_number-three : (xs : List ℕ) → big_number 3 (take 3 xs) ≡ big_number 3 xs
-big_number-three [] = refl
-big_number-three (a ∷ []) = refl
-big_number-three (a ∷ b ∷ []) = refl
-big_number-three (a ∷ b ∷ c ∷ xs) = refl
-
 size_field-size : (slice : List ℕ) → 8 ≤ length slice → size_before slice (length slice) ≡ big_number 3 (size_field slice)
 size_field-size slice long =
     let eight : length slice - (length slice - 8) ≡ 8 = omega arith in
@@ -90,9 +83,12 @@ module _ (setup : SetupValue) (original : List ℕ) (slices : List (List ℕ)) (
   inside k lt =
       let long : 8 ≤ length (get_or slices k []) = cut.long k lt in
       let ends : starts_at slices (k + 1) ≡ starts_at slices k + length (get_or slices k []) = next k lt in
-      let here : length (slice_range original (starts_at slices k) (starts_at slices (k + 1))) ≡ length (get_or slices k []) = ap length (bytes_of_tile setup original slices near.is_original k lt) in
-      let room : length (slice_range original (starts_at slices k) (starts_at slices (k + 1))) ≡ min (starts_at slices (k + 1) - starts_at slices k) (length original - starts_at slices k) =
-      length-take (starts_at slices (k + 1) - starts_at slices k) (drop (starts_at slices k) original) ∙ ap (min (starts_at slices (k + 1) - starts_at slices k)) (length-drop (starts_at slices k) original) in
+      let here : length (slice_range original (starts_at slices k) (starts_at slices (k + 1))) ≡ length (get_or slices k []) =
+      ap length (bytes_of_tile setup original slices near.is_original k lt) in
+      let room : length (slice_range original (starts_at slices k) (starts_at slices (k + 1))) ≡ min (starts_at slices (k + 1) - starts_at slices k)
+      (length original - starts_at slices k) =
+      length-take (starts_at slices (k + 1) - starts_at slices k) (drop (starts_at slices k) original)
+      ∙ ap (min (starts_at slices (k + 1) - starts_at slices k)) (length-drop (starts_at slices k) original) in
       let same : length copy ≡ length original = near.same_length in
       omega arith
 
@@ -128,19 +124,27 @@ module _ (setup : SetupValue) (original : List ℕ) (slices : List (List ℕ)) (
       elim (near.each k [] lt) [
         | inl same ↦ same
         | inr hurt ↦
-            let slice_bytes : AreBytes (get_or slices k []) = subst AreBytes (bytes_of_tile setup original slices near.is_original k lt) (AreBytes-range original (starts_at slices k) (starts_at slices (k + 1)) near.original_bytes) in
-            sym (burst (get_or slices k []) (piece_at slices copy k) hurt.at slice_bytes (AreBytes-range copy (starts_at slices k) (starts_at slices (k + 1)) near.copy_bytes) hurt.differ (own k lt).passes passes)
+            let slice_bytes : AreBytes (get_or slices k []) = subst AreBytes (bytes_of_tile setup original slices near.is_original k lt)
+            (AreBytes-range original (starts_at slices k) (starts_at slices (k + 1)) near.original_bytes) in
+            sym (burst (get_or slices k []) (piece_at slices copy k) hurt.at slice_bytes
+            (AreBytes-range copy (starts_at slices k) (starts_at slices (k + 1)) near.copy_bytes) hurt.differ (own k lt).passes passes)
       ]
 
-  near_from : (tile : ℕ) (slice : List ℕ) → IsFoundIn setup copy tile slice → (tile < length slices) × (slice ≡ get_or slices tile slice) × IsIntactIn slices copy tile slice
+  near_from : (tile : ℕ) (slice : List ℕ) → IsFoundIn setup copy tile slice → (tile < length slices) × (slice ≡ get_or slices tile slice)
+      × IsIntactIn slices copy tile slice
   near_from tile slice h =
       let at = found_at setup original copy slices near.is_original copy_cut tile slice h in
       let whole = intact at.0 at.1 (subst PassesParity at.2 at.3.passes) in
       let mine = own_tile setup original copy slices near.is_original copy_cut at.0 tile slice at.1 (at.2 ∙ whole) at.3 in
       (subst (λ z. z < length slices) (sym mine.0) at.1, mine.1, ap (piece_at slices copy) mine.0 ∙ sym at.2)
 
-  near_to : (tile : ℕ) (slice : List ℕ) → (tile < length slices) × (slice ≡ get_or slices tile slice) × IsIntactIn slices copy tile slice → IsFoundIn setup copy tile slice
+  near_to : (tile : ℕ) (slice : List ℕ) → (tile < length slices) × (slice ≡ get_or slices tile slice) × IsIntactIn slices copy tile slice
+      → IsFoundIn setup copy tile slice
   near_to tile slice h = found_there setup original copy slices near.is_original copy_cut tile slice h.0 h.1 h.2
 
 pub near_found : NearFound
-near_found setup original slices copy near tile slice = (near_from setup original slices copy near tile slice, near_to setup original slices copy near tile slice)
+near_found setup original slices copy near tile slice = (
+  near_from setup original slices copy near tile slice,
+  near_to setup original slices copy near tile
+      slice,
+)

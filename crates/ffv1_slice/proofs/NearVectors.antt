@@ -69,14 +69,27 @@ marked_passes = (omega arith, refl)
 
 not_within_32 : (at : ℕ) → DifferWithin32 first_slice marked_slice at → ⊥
 not_within_32 at differ =
-    let same : first_slice ≡ marked_slice = burst first_slice marked_slice at (bytes_from first_slice refl) (bytes_from marked_slice refl) differ first_passes marked_passes in
+    let same : first_slice ≡ marked_slice = burst first_slice marked_slice at (bytes_from first_slice refl)
+    (bytes_from marked_slice refl) differ first_passes marked_passes in
     let status : get_or first_slice 6 0 ≡ get_or marked_slice 6 0 = ap (λ (s : List ℕ). get_or s 6 0) same in
     absurd (omega arith)
 
 -- ---- a setup of two tiles
 
 abbrev pub setup : SetupValue
-setup = record { micro = 4; has_chroma = false; shift_h = 0; shift_v = 0; across = 2; down = 1; sets = record { halves = []; contexts = 1 } ∷ []; ec = 1; intra = 1; width = 2; height = 1 }
+setup = record {
+  micro = 4;
+  has_chroma = false;
+  shift_h = 0;
+  shift_v = 0;
+  across = 2;
+  down = 1;
+  sets = record { halves = []; contexts = 1 } ∷ [];
+  ec = 1;
+  intra = 1;
+  width = 2;
+  height = 1;
+}
 
 first_read : slice_read setup first_slice true ≡ Ok 0
 unfolding slice_read number_bits bits_of polynomial_of reduced_at divided remainder_of start_of bit_at slot_at symbol_form exponent_form low_form symbols_onto
@@ -98,16 +111,24 @@ pub near : IsNear setup frame slices hurt_frame
 unfolding starts_at
 near = record { is_original = is_original; original_bytes = bytes_from frame refl; copy_bytes = bytes_from hurt_frame refl; same_length = refl; each = each }
   where
-    each : (tile : ℕ) (d : List ℕ) → tile < 2 → (piece_at slices hurt_frame tile ≡ get_or slices tile d) ⊎ IsHurtWithin32 (get_or slices tile d) (piece_at slices hurt_frame tile)
+    each : (tile : ℕ) (d : List ℕ) → tile < 2 → (piece_at slices hurt_frame tile ≡ get_or slices tile d)
+        ⊎ IsHurtWithin32 (get_or slices tile d) (piece_at slices hurt_frame tile)
     each zero d lt = inr hurt
     each (suc zero) d lt = inl refl
     each (suc (suc tile)) d lt = absurd (omega arith)
 
 pub other_near : IsNear setup frame slices other_frame
 unfolding starts_at
-other_near = record { is_original = is_original; original_bytes = bytes_from frame refl; copy_bytes = bytes_from other_frame refl; same_length = refl; each = each }
+other_near = record {
+  is_original = is_original;
+  original_bytes = bytes_from frame refl;
+  copy_bytes = bytes_from other_frame refl;
+  same_length = refl;
+  each = each;
+}
   where
-    each : (tile : ℕ) (d : List ℕ) → tile < 2 → (piece_at slices other_frame tile ≡ get_or slices tile d) ⊎ IsHurtWithin32 (get_or slices tile d) (piece_at slices other_frame tile)
+    each : (tile : ℕ) (d : List ℕ) → tile < 2 → (piece_at slices other_frame tile ≡ get_or slices tile d)
+        ⊎ IsHurtWithin32 (get_or slices tile d) (piece_at slices other_frame tile)
     each zero d lt = inl refl
     each (suc zero) d lt = inr other_hurt
     each (suc (suc tile)) d lt = absurd (omega arith)

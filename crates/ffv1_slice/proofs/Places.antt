@@ -17,7 +17,8 @@ unfoldable pub joined : List (List ℕ) → List ℕ
 joined slices = flat_map (λ slice. slice) slices
 
 -- the footer of a slice in the middle is its own
-pub size_in : (front slice back : List ℕ) → 8 ≤ length slice → size_before (front ++ (slice ++ back)) (length front + length slice) ≡ size_before slice (length slice)
+pub size_in : (front slice back : List ℕ) → 8 ≤ length slice → size_before (front ++ (slice ++ back)) (length front + length slice) ≡ size_before slice
+    (length slice)
 size_in front slice back long =
     let n = length slice in
     let low : length front + length slice - 8 ≡ length front + (length slice - 8) = omega arith in
@@ -36,10 +37,12 @@ size_in front slice back long =
 pub range_in : (front slice back : List ℕ) → slice_range (front ++ (slice ++ back)) (length front) (length front + length slice) ≡ slice
 range_in front slice back =
     let size : length front + length slice - length front ≡ length slice = omega arith in
-    ap (λ z. take z (drop (length front) (front ++ (slice ++ back)))) size ∙ ap (take (length slice)) (drop-append_seam front (slice ++ back)) ∙ take-append_seam slice back
+    ap (λ z. take z (drop (length front) (front ++ (slice ++ back)))) size ∙ ap (take (length slice)) (drop-append_seam front (slice ++ back))
+    ∙ take-append_seam slice back
 
 -- the payload around the slice of number k
-pub around : (slices : List (List ℕ)) (k : ℕ) (d : List ℕ) → k < length slices → joined slices ≡ joined (take k slices) ++ (get_or slices k d ++ joined (drop (suc k) slices))
+pub around : (slices : List (List ℕ)) (k : ℕ) (d : List ℕ) → k < length slices
+    → joined slices ≡ joined (take k slices) ++ (get_or slices k d ++ joined (drop (suc k) slices))
 unfolding joined
 around slices k d h =
     ap (flat_map (λ slice. slice)) (sym (take-append-drop k slices) ∙ ap (λ z. take k slices ++ z) (drop-cons slices k d h))
@@ -49,7 +52,8 @@ pub starts_next : (slices : List (List ℕ)) (k : ℕ) (d : List ℕ) → k < le
 unfolding starts_at joined
 starts_next slices k d h =
     ap (λ z. length (flat_map (λ slice. slice) z)) (take_more slices k d h)
-    ∙ ap length (flat_map-append (λ slice. slice) (take k slices) (get_or slices k d ∷ []) ∙ ap (λ z. flat_map (λ slice. slice) (take k slices) ++ z) (append-nil (get_or slices k d)))
+    ∙ ap length (flat_map-append (λ slice. slice) (take k slices) (get_or slices k d ∷ [])
+    ∙ ap (λ z. flat_map (λ slice. slice) (take k slices) ++ z) (append-nil (get_or slices k d)))
     ∙ length-append (flat_map (λ slice. slice) (take k slices)) (get_or slices k d)
 
 -- nothing stands before the first
@@ -92,7 +96,12 @@ module _ (payload : List ℕ) (slices : List (List ℕ)) (is : IsCutAt payload s
     where
       below : (q r k : ℕ) → k ≤ length slices → r ≡ starts_at slices k → IsCut payload q r → (j : ℕ) × (j ≤ length slices) × (q ≡ starts_at slices j)
       below q r zero h e cut = absurd (let none : starts_at slices 0 ≡ 0 = starts_none slices in omega arith)
-      below q r (suc k) h e cut = (k, omega arith, same_start q k r (omega arith) (let next : suc k ≡ k + 1 = omega arith in e ∙ ap (starts_at slices) next) cut)
+      below q r (suc k) h e cut = (
+        k,
+        omega arith,
+        same_start q k r (omega arith) (let next : suc k ≡ k + 1 = omega arith in e
+            ∙ ap (starts_at slices) next) cut,
+      )
 
   -- so each cut is that of a tile
   pub tile_of_cut : (p q : ℕ) → IsEnd payload q → IsCut payload p q → (k : ℕ) × (k < length slices) × (p ≡ starts_at slices k) × (q ≡ starts_at slices (k + 1))

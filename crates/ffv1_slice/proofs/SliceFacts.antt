@@ -1,5 +1,5 @@
 -- What the crates above use of slices: their footer, their tile, and what is found of a link.
-use Rattle.std.proofs.Common.{◌≡◌, ℕ, suc, zero, ◌*◌, ◌<◌, ◌≤◌, Bool, true, false, List, length, Contains, Result, Ok, Err, Some, None, refl, sym, ap, ◌∙◌, subst, arith}
+use Rattle.std.proofs.Common.{◌≡◌, ℕ, ◌*◌, ◌<◌, ◌≤◌, Bool, true, false, List, length, Contains, Ok, Err, Some, None, refl, sym, ap, ◌∙◌, subst}
 use Rattle.std.specs.Prelude.{◌==◌}
 use Rattle.std.specs.List.{filter_map}
 use Rattle.std.proofs.lemmas.Bool.{eq-eqb, ne_eqb}
@@ -8,7 +8,6 @@ use Rattle.ffv1_range.proofs.TileLaws.{number_below}
 use Rattle.ffv1_slice.specs.Chain.{Piece}
 use Rattle.ffv1_slice.specs.Walk.{links_of}
 use Rattle.ffv1_slice.specs.Slices.{IsSliceOf, IsFoundIn, slice_read, with_tile, slice_at, found_slices}
-use Rattle.ffv1_slice.specs.declared.slice.LinkFault.{LinkFault}
 use Rattle.ffv1_slice.proofs.SliceLaws.{slice_found, slice_run}
 use Rattle.ffv1_slice.proofs.FoundLaws.{found_slices_are_found}
 
@@ -28,7 +27,8 @@ slice_first setup bytes false tile is =
     sym (ne_eqb tile 0 (λ zero. let e : false ≡ true = is.is_head.first_tile.1 (is.of_tile ∙ zero) in cc))
 
 -- what is a slice is found
-pub slice_at-found : (setup : SetupValue) (piece : Piece) (tile : ℕ) → IsSliceOf setup piece.bytes (piece.start == 0) tile → slice_at setup piece ≡ Some (tile, piece.bytes)
+pub slice_at-found : (setup : SetupValue) (piece : Piece) (tile : ℕ) → IsSliceOf setup piece.bytes (piece.start == 0) tile
+    → slice_at setup piece ≡ Some (tile, piece.bytes)
 slice_at-found setup piece tile is = ap (with_tile piece.bytes) (slice_run setup piece.bytes (piece.start == 0) tile is)
 
 -- what is none is not found
@@ -43,8 +43,10 @@ unfolding found_slices
 found_slices-links setup payload = refl
 
 -- they are exactly what is found
-pub is_found : (setup : SetupValue) (payload : List ℕ) (tile : ℕ) (bytes : List ℕ) → Contains (found_slices setup payload) (tile, bytes) → IsFoundIn setup payload tile bytes
+pub is_found : (setup : SetupValue) (payload : List ℕ) (tile : ℕ) (bytes : List ℕ) → Contains (found_slices setup payload) (tile, bytes)
+    → IsFoundIn setup payload tile bytes
 is_found setup payload tile bytes h = (found_slices_are_found setup payload tile bytes).0 h
 
-pub found_is : (setup : SetupValue) (payload : List ℕ) (tile : ℕ) (bytes : List ℕ) → IsFoundIn setup payload tile bytes → Contains (found_slices setup payload) (tile, bytes)
+pub found_is : (setup : SetupValue) (payload : List ℕ) (tile : ℕ) (bytes : List ℕ) → IsFoundIn setup payload tile bytes
+    → Contains (found_slices setup payload) (tile, bytes)
 found_is setup payload tile bytes h = (found_slices_are_found setup payload tile bytes).1 h

@@ -1,18 +1,18 @@
 -- A slice is read where it is one, and nowhere else.
-use Rattle.std.proofs.Common.{◌≡◌, ℕ, suc, zero, ◌+◌, ◌-◌, ◌*◌, ◌<◌, ◌≤◌, Bool, true, false, List, [], ◌∷◌, ◌++◌, Result, Ok, Err, Option, Some, None, refl, sym, ap, ◌∙◌, subst, arith, length, take}
-use Rattle.std.specs.Prelude.{◌↔◌, IfOk, IsTrue, nat_le, ◌==◌, ◌&&◌, Contains, if◌then◌else◌}
+use Rattle.std.proofs.Common.{◌≡◌, ℕ, ◌-◌, ◌≤◌, Bool, true, false, List, Result, Ok, Err, refl, sym, ap, ◌∙◌, length}
+use Rattle.std.specs.Prelude.{IfOk, nat_le, ◌==◌, ◌&&◌, if◌then◌else◌}
 use Rattle.std.proofs.lemmas.Bool.{and_parts, and_from, leb-true, le-leb, eqb-true, eq-eqb}
 use Rattle.ffv1_bits.specs.Bits.{bits_of}
 use Rattle.ffv1_bits.specs.Parity.{remainder_of, PassesParity}
 use Rattle.ffv1_range.specs.Setup.{SetupValue}
-use Rattle.ffv1_range.specs.Header.{IsHeadOf, header_limits, head_read}
+use Rattle.ffv1_range.specs.Header.{header_limits, head_read}
 use Rattle.ffv1_range.specs.declared.head.SliceHead.{SliceHead}
 use Rattle.ffv1_range.specs.declared.head.HeadFault.{HeadFault}
 use Rattle.ffv1_range.proofs.HeaderFound.{head_found, head_run}
-use Rattle.ffv1_slice.specs.Chain.{size_before, IsFramed, Piece}
-use Rattle.ffv1_slice.specs.Slices.{IsSliceOf, content_of, tile_of_head, is_whole, slice_read, with_tile, slice_at}
+use Rattle.ffv1_slice.specs.Chain.{size_before, IsFramed}
+use Rattle.ffv1_slice.specs.Slices.{IsSliceOf, content_of, tile_of_head, is_whole, slice_read}
 use Rattle.ffv1_slice.specs.declared.slice.LinkFault.{LinkFault}
-use Rattle.ffv1_slice.specs.declared.slice.LinkFault.TheVariants.{Parity, Head}
+use Rattle.ffv1_slice.specs.declared.slice.LinkFault.TheVariants.{Parity}
 
 -- ---- framed, with a right parity
 
@@ -20,13 +20,17 @@ whole_parts : (slice : List ℕ) → is_whole slice ≡ true → IsFramed slice 
 whole_parts slice h =
     let long = and_parts (nat_le 8 (length slice)) ((size_before slice (length slice) == length slice - 8) && (remainder_of (bits_of slice) == 0)) h in
     let sized = and_parts (size_before slice (length slice) == length slice - 8) (remainder_of (bits_of slice) == 0) long.1 in
-    let room : 8 ≤ length slice = leb-true 8 (length slice) long.0 in
-    (record { footer = room; size = eqb-true (size_before slice (length slice)) (length slice - 8) sized.0 }, (room, eqb-true (remainder_of (bits_of slice)) 0 sized.1))
+    let room : 8 ≤ length slice = leb-true 8 (length slice) long.0 in (
+      record { footer = room; size = eqb-true (size_before slice (length slice)) (length slice - 8) sized.0 },
+      (room, eqb-true (remainder_of (bits_of slice)) 0 sized.1),
+    )
 
 whole_from : (slice : List ℕ) → IsFramed slice → PassesParity slice → is_whole slice ≡ true
 whole_from slice framed passes =
-    and_from (nat_le 8 (length slice)) ((size_before slice (length slice) == length slice - 8) && (remainder_of (bits_of slice) == 0)) (le-leb 8 (length slice) framed.footer)
-    (and_from (size_before slice (length slice) == length slice - 8) (remainder_of (bits_of slice) == 0) (eq-eqb (size_before slice (length slice)) (length slice - 8) framed.size) (eq-eqb (remainder_of (bits_of slice)) 0 passes.1))
+    and_from (nat_le 8 (length slice)) ((size_before slice (length slice) == length slice - 8) && (remainder_of (bits_of slice) == 0))
+    (le-leb 8 (length slice) framed.footer)
+    (and_from (size_before slice (length slice) == length slice - 8) (remainder_of (bits_of slice) == 0)
+    (eq-eqb (size_before slice (length slice)) (length slice - 8) framed.size) (eq-eqb (remainder_of (bits_of slice)) 0 passes.1))
 
 if_whole : (b : Bool) (r : Result ℕ LinkFault) (tile : ℕ) → (if b then r else Err Parity) ≡ Ok tile → (b ≡ true) × (r ≡ Ok tile)
 if_whole true r tile h = (refl, h)
@@ -36,7 +40,8 @@ pub if_true : {A : Type 0} (b : Bool) (r s : A) → b ≡ true → (if b then r 
 if_true true r s h = refl
 if_true false r s h = absurd cc
 
-tile_head : (r : Result (SliceHead × ℕ) HeadFault) (tile : ℕ) → tile_of_head r ≡ Ok tile → (head : SliceHead) × (place : ℕ) × (r ≡ Ok (head, place)) × (head.tile ≡ tile)
+tile_head : (r : Result (SliceHead × ℕ) HeadFault) (tile : ℕ) → tile_of_head r ≡ Ok tile → (head : SliceHead) × (place : ℕ) × (r ≡ Ok (head, place))
+    × (head.tile ≡ tile)
 tile_head (Ok read) tile h = (read.0, read.1, refl, same)
   where
     same : read.0.tile ≡ tile
@@ -71,7 +76,8 @@ slice_read-whole setup slice first framed passes =
 pub slice_read-fails : (setup : SetupValue) (slice : List ℕ) (first : Bool) → (PassesParity slice → ⊥) → slice_read setup slice first ≡ Err Parity
 unfolding slice_read
 slice_read-fails setup slice first fails =
-    elim (is_whole slice) as (λ b. is_whole slice ≡ b → (if b then tile_of_head (head_read (header_limits setup) (content_of slice) first) else Err Parity) ≡ Err Parity)
+    elim (is_whole slice) as (λ b. is_whole slice ≡ b → (if b then tile_of_head (head_read (header_limits setup) (content_of slice) first) else Err Parity)
+    ≡ Err Parity)
     [ true ↦ λ e. absurd (fails (whole_parts slice e).1) | false ↦ λ e. refl ] refl
 
 pub slice_run : (setup : SetupValue) (slice : List ℕ) (first : Bool) (tile : ℕ) → IsSliceOf setup slice first tile → slice_read setup slice first ≡ Ok tile
@@ -79,7 +85,8 @@ slice_run setup slice first tile h =
     slice_read-whole setup slice first h.framed h.passes
     ∙ ap tile_of_head (head_run (header_limits setup) (content_of slice) first h.head h.place h.is_head) ∙ ap Ok h.of_tile
 
-pub slice_is_found : (setup : SetupValue) (slice : List ℕ) (first : Bool) (r : Result ℕ LinkFault) → r ≡ slice_read setup slice first → IfOk r (IsSliceOf setup slice first)
+pub slice_is_found : (setup : SetupValue) (slice : List ℕ) (first : Bool) (r : Result ℕ LinkFault) → r ≡ slice_read setup slice first
+    → IfOk r (IsSliceOf setup slice first)
 slice_is_found setup slice first (Ok tile) h = slice_found setup slice first tile (sym h)
 slice_is_found setup slice first (Err fault) h = tt
 

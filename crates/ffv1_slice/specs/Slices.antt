@@ -1,6 +1,7 @@
 -- Slices: what a link has to be beyond its place in the chain (RFC 9043, sections 4.5, 4.6 and 4.9).
-use Rattle.std.specs.Prelude.{ℕ, ◌-◌, ◌*◌, ◌<◌, ◌≤◌, ◌^◌, ◌≡◌, ◌==◌, ◌&&◌, nat_le, ◌↔◌, Bool, List, length, take, slice_range, slice_index_or, Result, Ok, Err, Option, Some, None, Contains, if◌then◌else◌}
+use Rattle.std.specs.Prelude.{ℕ, ◌-◌, ◌*◌, ◌<◌, ◌≤◌, ◌≡◌, ◌==◌, ◌&&◌, nat_le, ◌↔◌, Bool, List, length, take, slice_range, slice_index_or, Result, Ok, Err, Option, Some, None, Contains, if◌then◌else◌}
 use Rattle.std.specs.List.{filter_map, flat_map}
+use Rattle.ffv1_bits.specs.Limits.{payload_limit}
 use Rattle.ffv1_bits.specs.Bits.{bits_of}
 use Rattle.ffv1_bits.specs.Parity.{remainder_of, PassesParity}
 use Rattle.ffv1_range.specs.Setup.{SetupValue}
@@ -38,7 +39,7 @@ pub record IsFoundIn (setup : SetupValue) (payload : List ℕ) (tile : ℕ) (sli
 pub record IsOriginal (setup : SetupValue) (payload : List ℕ) (slices : List (List ℕ)) : Type 0 where
   pub count : length slices ≡ setup.across * setup.down
   pub joined : payload ≡ flat_map (λ slice. slice) slices
-  pub short : length payload ≤ 2 ^ 30
+  pub short : length payload ≤ payload_limit
   pub each : (tile : ℕ) (d : List ℕ) → tile < length slices → IsSliceOf setup (slice_index_or slices tile d) (tile == 0) tile
 
 -- ---- the same as functions

@@ -2,11 +2,13 @@
 //! and its size is still followed.
 ghost use Rattle.std.specs.Prelude.{◌≡◌, ◌+◌, ◌-◌, ◌*◌, ◌≤◌, ℕ, length, MatchOption, IfSome, ⊤};
 ghost use Rattle.std.specs.Iterator.{YieldsFirst, item_count, MakesProgress};
+ghost use Rattle.ffv1_bits.specs.Limits.{slice_limit};
 ghost use Rattle.ffv1_slice.specs.Chain.{IsCut, AreLinksOf, IsEnd};
 ghost use Rattle.ffv1_slice.specs.Ending.{EndsAs};
 ghost use Rattle.ffv1_slice.specs.Walk.{links_of};
 
-use crate::link::{FOOTER_LENGTH, Link};
+use crate::footer::FOOTER_LENGTH;
+use crate::link::Link;
 use byteorder::{BigEndian, ByteOrder};
 use std::marker::Model;
 
@@ -91,7 +93,7 @@ impl<'a> Iterator for Chain<'a> {
 fn slice_start(payload: &[u8], place: usize) -> Option<usize>
     requires { place ≤ length payload.now }
     ensures cut { MatchOption result ((p : ℕ) → IsCut payload.now p place → ⊥) (λ p. IsCut payload.now p place) }
-    ensures short { IfSome result (λ p. place ≤ p + 16777223) }
+    ensures short { IfSome result (λ p. place ≤ p + slice_limit) }
 {
     if place < FOOTER_LENGTH {
         return None;

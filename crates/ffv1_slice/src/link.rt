@@ -1,14 +1,13 @@
-//! A link: one slice where it stands in a payload. Its footer (RFC 9043, section 4.9) has 3 bytes of size, 1 of error
-//! status and 4 of parity. Each link has room for its footer, and its size field is the number of its bytes less 8.
+//! A link: one slice where it stands in a payload (RFC 9043, section 4.9). Each link has room for its footer, and its size
+//! field is the number of its bytes less 8.
 ghost use Rattle.std.specs.Prelude.{◌≡◌, ◌+◌, ◌≤◌, ◌↔◌, ℕ, IsTrue, length};
+ghost use Rattle.ffv1_bits.specs.Limits.{slice_limit};
 ghost use Rattle.ffv1_bits.specs.Parity.{PassesParity};
 ghost use Rattle.ffv1_slice.specs.Chain.{IsCut, IsFramed, status_before, piece_of};
 
+use crate::footer::status_of;
 use ffv1_bits::passes;
 use std::marker::Model;
-
-/// The number of bytes of a footer.
-pub(crate) const FOOTER_LENGTH: usize = 8;
 
 /// A slice where it stands in a payload, with its footer. Its parity can be wrong.
 #[derive(Drop)]
@@ -16,13 +15,12 @@ pub struct Link<'a> {
     start: usize,
     bytes: &'a [u8],
     status: u8,
-    passes: bool,
 }
 
 impl<'a> Model for Link<'a> {
     ghost use Rattle.std.specs.Prelude.{ℕ, List, ◌≡◌, ◌+◌, ◌^◌, ◌<◌, ◌≤◌, ◌↔◌, IsTrue, length};
     ghost use Rattle.ffv1_slice.specs.Chain.{Piece, piece_code, IsFramed, status_before};
-    ghost use Rattle.ffv1_bits.specs.Parity.{PassesParity};
+    ghost use Rattle.ffv1_bits.specs.Limits.{slice_limit};
 
     ghost Value = { Piece };
 
@@ -30,7 +28,8 @@ impl<'a> Model for Link<'a> {
 
     ghost view = { λ a. record { start = a.start; bytes = a.bytes.now } };
 
-    ghost invariant = { λ a. IsFramed a.bytes.now × (a.status ≡ status_before a.bytes.now (length a.bytes.now)) × (IsTrue a.passes ↔ PassesParity a.bytes.now) × (a.start + length a.bytes.now < 2 ^ 64) × (length a.bytes.now ≤ 16777223) };
+    ghost invariant = { λ a. IsFramed a.bytes.now × (a.status ≡ status_before a.bytes.now (length a.bytes.now)) × (a.start + length a.bytes.now < 2 ^ 64)
+        × (length a.bytes.now ≤ slice_limit) };
 }
 
 impl<'a> Link<'a> {
@@ -38,15 +37,14 @@ impl<'a> Link<'a> {
     pub(crate) fn cut(payload: &'a [u8], start: usize, end: usize) -> Link<'a>
         requires within { end ≤ length payload.now }
         requires cut { IsCut payload.now start end }
-        requires short { end ≤ start + 16777223 }
+        requires short { end ≤ start + slice_limit }
         ensures { result ≡ piece_of payload.now start end }
     {
         let bytes = &payload[start..end];
         Link {
             start,
             bytes,
-            status: bytes[bytes.len() - 5],
-            passes: passes(bytes),
+            status: status_of(bytes),
         }
     }
 
@@ -64,11 +62,11 @@ impl<'a> Link<'a> {
         self.start + self.bytes.len()
     }
 
-    /// The whole slice, with its footer: from 8 to 16777223 bytes, and the footer's size field is their number less 8.
+    /// The whole slice, with its footer: from 8 to `slice_limit` bytes, and the footer's size field is their number less 8.
     pub fn bytes(&self) -> &'a [u8]
         ensures value { result.now ≡ self.now.bytes }
         ensures framed { IsFramed result.now }
-        ensures short { length result.now ≤ 16777223 }
+        ensures short { length result.now ≤ slice_limit }
     {
         self.bytes
     }
@@ -81,10 +79,11 @@ impl<'a> Link<'a> {
         self.status
     }
 
-    /// Whether the slice passes its parity (RFC 9043, section 4.9.3): nothing is left of the whole slice.
+    /// Whether the slice passes its parity (RFC 9043, section 4.9.3): nothing is left of the whole slice, which is divided
+    /// at each call.
     pub fn passes(&self) -> bool
         ensures { IsTrue result ↔ PassesParity self.now.bytes }
     {
-        self.passes
+        passes(self.bytes)
     }
 }

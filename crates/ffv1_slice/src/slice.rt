@@ -5,8 +5,8 @@ ghost use Rattle.ffv1_bits.specs.Parity.{PassesParity};
 ghost use Rattle.ffv1_range.specs.Header.{header_limits, head_read};
 ghost use Rattle.ffv1_slice.specs.Slices.{IsSliceOf, content_of, tile_of_head, is_whole, slice_read, SliceReadIsSlice};
 
-use crate::link::{FOOTER_LENGTH, Link};
-use byteorder::{BigEndian, ByteOrder};
+use crate::footer::{content_of, is_framed};
+use crate::link::Link;
 use ffv1_bits::passes;
 use ffv1_range::{HeadFault, Setup, read_head};
 
@@ -55,8 +55,7 @@ fn tile_read(setup: &Setup, slice: &[u8], first: bool) -> Result<usize, LinkFaul
     if !is_whole(slice) {
         return Err(LinkFault::Parity);
     }
-    let content = &slice[..slice.len() - FOOTER_LENGTH];
-    match read_head(setup, content, first) {
+    match read_head(setup, content_of(slice), first) {
         Ok((head, _place)) => Ok(head.tile),
         Err(fault) => Err(LinkFault::Head(fault)),
     }
@@ -67,11 +66,7 @@ fn is_whole(slice: &[u8]) -> bool
     ensures value { result ≡ is_whole slice.now }
     ensures long { result ≡ true → 8 ≤ length slice.now }
 {
-    if slice.len() < FOOTER_LENGTH {
-        return false;
-    }
-    let size = slice.len() - FOOTER_LENGTH;
-    BigEndian::read_u24(&slice[size..]) as usize == size && passes(slice)
+    is_framed(slice) && passes(slice)
 }
 
 /// Bytes are read as a slice of a tile exactly where they are one: what the found slices of a payload are told by is what a

@@ -6,6 +6,7 @@ use Rattle.std.proofs.lemmas.Bool.{lt-ltb}
 use Rattle.std.proofs.lemmas.List.{length-map}
 use Rattle.std.proofs.lemmas.List.FromFn.{fill_by_all, length-map-range_with_len}
 use Rattle.std.proofs.lemmas.List.Elements.{All-head, All-tail}
+use Rattle.ffv1_bits.specs.Limits.{greatest_side}
 use Rattle.ffv1_range.specs.Setup.{SetupValue, SetFields, IsSetFields, IsSetupOf, no_set}
 use Rattle.ffv1_range.specs.Tables.{half_of, halves_of, runs_ended, scale_after, scale_after_all, set_of, SetValue, table_entry}
 use Rattle.ffv1_vectors.specs.Asked.{HasAskedFields, HasTables, HasSet, HasSets, asked_sets, asked_setup}
@@ -52,7 +53,8 @@ same_halves setup set i s t halves (r ∷ tables) (a ∷ asked) of e size h =
 set_with : List (List ℕ) → ℕ → SetValue
 set_with halves contexts = record { halves = halves; contexts = contexts }
 
-same_set : (setup : SetupValue) (set : ℕ) (tables asked : List (List ℕ)) → length tables ≡ 5 → get_or setup.sets set no_set ≡ set_of tables → HasSet setup set asked
+same_set : (setup : SetupValue) (set : ℕ) (tables asked : List (List ℕ)) → length tables ≡ 5 → get_or setup.sets set no_set ≡ set_of tables
+    → HasSet setup set asked
     → set_of tables ≡ set_of asked
 unfolding set_with
 same_set setup set tables asked five e h =
@@ -97,8 +99,8 @@ same_setup : (m n : ℕ) (c d : Bool) (h i v w a b e f : ℕ) (s t : List SetVal
 same_setup m n c d h i v w a b e f s t p q x y g k l o e0 e1 e2 e3 e4 e5 e6 e7 e8 e9 e10 = cc
 
 -- The setup of a record is the one asked for, where its getters answer what was asked.
-pub asked_is_read : (config : List ℕ) (setup : SetupValue) (spec : RecordSpec) → IsSetupOf config 16384 16384 setup → HasAskedFields setup spec
-    → length setup.sets ≡ length spec.sets.items → HasSets setup 0 (asked_sets spec) → IsSetupOf config 16384 16384 (asked_setup spec)
+pub asked_is_read : (config : List ℕ) (setup : SetupValue) (spec : RecordSpec) → IsSetupOf config greatest_side greatest_side setup → HasAskedFields setup spec
+    → length setup.sets ≡ length spec.sets.items → HasSets setup 0 (asked_sets spec) → IsSetupOf config greatest_side greatest_side (asked_setup spec)
 unfolding setup_with
 asked_is_read config setup spec read fields count sets =
     let read_sets : setup.sets ≡ map (λ set. set_of set.tables) read.fields.sets = ap (λ z. z.sets) read.is in
@@ -107,6 +109,6 @@ asked_is_read config setup spec read fields count sets =
     let size : length read.fields.sets ≡ length (asked_sets spec) = sym many ∙ sym (ap length read_sets) ∙ count ∙ sym few in
     let all : setup.sets ≡ map set_of (asked_sets spec) =
     read_sets ∙ same_sets setup 0 read.fields.sets (asked_sets spec) read_sets read.accepted.sets size sets in
-    subst (IsSetupOf config 16384 16384)
+    subst (IsSetupOf config greatest_side greatest_side)
     (same_setup _ _ _ _ _ _ _ _ _ _ _ _ _ _ _ _ _ _ _ _ _ _ fields.micro fields.has_chroma fields.shift_h fields.shift_v fields.across fields.down all
     fields.ec fields.intra (ap (λ z. z.width) read.is) (ap (λ z. z.height) read.is)) read

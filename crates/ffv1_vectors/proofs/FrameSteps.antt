@@ -6,6 +6,7 @@ use Rattle.std.proofs.lemmas.Bool.{cases_order}
 use Rattle.std.proofs.lemmas.Grind.{flat_map-append}
 use Rattle.std.proofs.lemmas.List.{length-append, get_or_append_left, append-nil, get_or-map}
 use Rattle.std.proofs.Math.Seq.{get_or-append_seam}
+use Rattle.ffv1_bits.specs.Limits.{payload_limit}
 use Rattle.ffv1_range.specs.Setup.{SetupValue}
 use Rattle.ffv1_range.specs.Tiles.{grid_of, tile_count}
 use Rattle.ffv1_range.specs.Header.{IsHeadOf, header_limits}
@@ -21,7 +22,7 @@ pub record IsMadeTo (setup : SetupValue) (spec : FrameSpec) (tiles : ℕ) (paylo
   pub slices : List (List ℕ)
   pub count : length slices ≡ tiles
   pub joined : payload ≡ flat_map (λ slice. slice) slices
-  pub short : length payload ≤ 2 ^ 30
+  pub short : length payload ≤ payload_limit
   pub are_slices : (tile : ℕ) (e : List ℕ) → tile < tiles → IsSliceOf setup (get_or slices tile e) (eqb tile 0) tile
   pub each : (tile : ℕ) (d : TileSpec) (e : List ℕ) → tile < tiles → IsMadeSlice setup tile (get_or spec.tiles.items tile d) (get_or slices tile e)
 
@@ -99,5 +100,6 @@ made_slice setup tile spec read slice same is t status is_slice head picture =
     subst (IsMadeSlice setup tile spec) is whole
 
 -- a plane that was read by its place
-pub plane_is : (planes : List (Vec ℕ Global)) (k : ℕ) (plane : Vec ℕ Global) → k < length planes → plane ≡ get_or planes k plane → get_or (map (λ p. p.items) planes) k [] ≡ plane.items
+pub plane_is : (planes : List (Vec ℕ Global)) (k : ℕ) (plane : Vec ℕ Global) → k < length planes → plane ≡ get_or planes k plane
+    → get_or (map (λ p. p.items) planes) k [] ≡ plane.items
 plane_is planes k plane lt is = get_or-map (λ (p : Vec ℕ Global). p.items) planes k plane [] lt ∙ ap (λ (p : Vec ℕ Global). p.items) (sym is)

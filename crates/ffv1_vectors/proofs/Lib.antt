@@ -1,7 +1,6 @@
 pub mod SuiteCases
 pub mod SuiteSteps
 pub mod FrameSteps
-pub mod NearContexts
 pub mod Bursts
 pub mod OneBit
 pub mod AskedSetup

@@ -33,7 +33,8 @@ bits_below (suc count) n k below =
     ∙ ap (λ bits. has_bit n count ∷ bits) (bits_below count n k (omega arith))
 
 -- bit j of a number, counted from its highest
-number_flipped : (count n j k : ℕ) → j + 1 + k ≡ count → number_bits count (bit_xor n (2 ^ k)) ≡ set (number_bits count n) j (not (get_or (number_bits count n) j false))
+number_flipped : (count n j k : ℕ) → j + 1 + k ≡ count → number_bits count (bit_xor n (2 ^ k)) ≡ set (number_bits count n) j
+    (not (get_or (number_bits count n) j false))
 unfolding number_bits
 number_flipped zero n j k at = absurd (omega arith)
 number_flipped (suc count) n zero k at =
@@ -65,7 +66,8 @@ byte_flipped (x ∷ xs) (suc i) j within small =
     ap (λ bits. number_bits 8 x ++ bits) (byte_flipped xs i j (omega arith) small)
     ∙ ap (λ n. number_bits 8 x ++ set (bits_of xs) n bit) (sym back)
     ∙ sym (set-append_right (number_bits 8 x) (bits_of xs) 8 (8 * suc i + j) bit eight (omega arith))
-    ∙ ap (λ b. set (bits_of (x ∷ xs)) (8 * suc i + j) (not b)) (sym (get_or-append-add (number_bits 8 x) (bits_of xs) (8 * i + j) false) ∙ ap (λ n. get_or (bits_of (x ∷ xs)) n false) (sym place))
+    ∙ ap (λ b. set (bits_of (x ∷ xs)) (8 * suc i + j) (not b)) (sym (get_or-append-add (number_bits 8 x) (bits_of xs) (8 * i + j) false)
+    ∙ ap (λ n. get_or (bits_of (x ∷ xs)) n false) (sym place))
 
 mask_is : (k : ℕ) → k < 8 → 1 * 2 ^ k % 256 ≡ 2 ^ k
 mask_is k small =
@@ -75,6 +77,7 @@ mask_is k small =
 
 -- a bit of a byte, as the code turns it
 pub bit_flipped : (bytes : List ℕ) (i j : ℕ) → i < length bytes → j < 8
-    → bits_of (set bytes i (bit_xor (get_or bytes i 0) (1 * 2 ^ (7 - j) % 256))) ≡ set (bits_of bytes) (8 * i + j) (not (get_or (bits_of bytes) (8 * i + j) false))
+    → bits_of (set bytes i (bit_xor (get_or bytes i 0) (1 * 2 ^ (7 - j) % 256))) ≡ set (bits_of bytes) (8 * i + j)
+    (not (get_or (bits_of bytes) (8 * i + j) false))
 bit_flipped bytes i j within small =
     ap (λ m. bits_of (set bytes i (bit_xor (get_or bytes i 0) m))) (mask_is (7 - j) (omega arith)) ∙ byte_flipped bytes i j within small

@@ -1,5 +1,5 @@
 -- A number has one case, and the tables of a case are made one by one.
-use Rattle.std.proofs.Common.{◌≡◌, ℕ, zero, suc, ◌+◌, List, [], ◌∷◌, ◌++◌, take, Option, Some, refl, sym, ap, ◌∙◌, add-one}
+use Rattle.std.proofs.Common.{◌≡◌, ℕ, zero, suc, List, [], ◌∷◌, ◌++◌, take, Option, Some, refl, sym, ap, ◌∙◌}
 use Rattle.std.specs.Prelude.{slice_get}
 use Rattle.ffv1_vectors.specs.declared.suite.SuiteTables.TheVariants.{OneRun, SixRuns, TwoRuns}
 use Rattle.ffv1_vectors.specs.declared.suite.SuiteCase.{SuiteCase}
@@ -21,7 +21,8 @@ pub one_case : (tables : SuiteTables) (number : ℕ) (a b : SuiteCase) → IsNum
 unfolding case_with
 one_case tables number a b is also =
     same_parts a.tables b.tables a.chroma b.chroma a.grid b.grid a.content b.content a.size.0 b.size.0 a.size.1 b.size.1 (is.by_tables ∙ sym also.by_tables)
-    (same_some _ a.chroma b.chroma is.chroma also.chroma) (same_some _ a.grid b.grid is.grid also.grid) (same_some _ a.content b.content is.content also.content)
+    (same_some _ a.chroma b.chroma is.chroma also.chroma) (same_some _ a.grid b.grid is.grid also.grid)
+    (same_some _ a.content b.content is.content also.content)
     (same_some _ a.size.0 b.size.0 is.width also.width) (same_some _ a.size.1 b.size.1 is.height also.height)
 
 -- one more element
@@ -29,11 +30,6 @@ take_got : (xs : List (List ℕ)) (k : ℕ) (x : List ℕ) → slice_get xs k �
 take_got [] k x e = cc
 take_got (y ∷ xs) zero x e = let same : y ≡ x = cc in ap (λ z. z ∷ []) same
 take_got (y ∷ xs) (suc k) x e = ap (λ zs. y ∷ zs) (take_got xs k x e)
-
-pub one_table : (tables : SuiteTables) (table : ℕ) (old new : List (List ℕ)) (runs : List ℕ) → old ≡ take table (suite_tables tables) → new ≡ old ++ runs ∷ []
-    → slice_get (suite_tables tables) table ≡ Some runs → new ≡ take (table + 1) (suite_tables tables)
-one_table tables table old new runs before more got =
-    more ∙ ap (λ zs. zs ++ runs ∷ []) before ∙ sym (take_got (suite_tables tables) table runs got) ∙ ap (λ n. take n (suite_tables tables)) (sym (add-one table))
 
 pub all_tables : (tables : SuiteTables) → take 5 (suite_tables tables) ≡ suite_tables tables
 all_tables OneRun = refl

@@ -1,5 +1,6 @@
 -- What a record is asked to say (RFC 9043, sections 4.2 and 4.3), as the setup that its reader is to have.
 use Rattle.std.specs.Prelude.{◌≡◌, ◌⊎◌, ℕ, ◌+◌, ◌*◌, ◌<◌, ◌/◌, List, [], ◌∷◌, length, map, false, pos, if◌then◌else◌}
+use Rattle.ffv1_bits.specs.Limits.{greatest_side}
 use Rattle.ffv1_range.specs.Setup.{SetupValue, set_contexts, set_entry}
 use Rattle.ffv1_range.specs.Tables.{set_of, runs_ended, scale_after, scale_after_all}
 use Rattle.ffv1_vectors.specs.declared.record.RecordSpec.{RecordSpec}
@@ -8,7 +9,7 @@ use Rattle.ffv1_vectors.specs.declared.record.RecordSpec.{RecordSpec}
 abbrev pub asked_sets : RecordSpec → List (List (List ℕ))
 asked_sets spec = map (λ tables. map (λ runs. runs.items) tables.items) spec.sets.items
 
--- the setup that is asked for, for frames of 16384 x 16384 samples; the shifts of a gray record count as 0
+-- the setup that is asked for, for frames whose sides are the greatest; the shifts of a gray record count as 0
 abbrev pub asked_setup : RecordSpec → SetupValue
 asked_setup spec =
     record {
@@ -21,8 +22,8 @@ asked_setup spec =
       sets = map set_of (asked_sets spec);
       ec = spec.ec;
       intra = spec.intra;
-      width = 16384;
-      height = 16384;
+      width = greatest_side;
+      height = greatest_side;
     }
 
 -- What is asked of the fields that a setup leaves out is of the profile.

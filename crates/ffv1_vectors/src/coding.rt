@@ -2,6 +2,7 @@
 //!
 //! Each code is read back as soon as it is written, which brings its state up to date.
 ghost use Rattle.std.specs.Prelude.{◌≡◌, ◌<◌, ◌≤◌, ◌+◌, ◌-◌, length, nat_abs, IfOk};
+ghost use Rattle.ffv1_bits.specs.Limits.{greatest_side};
 ghost use Rattle.ffv1_range.specs.Setup.{set_contexts};
 ghost use Rattle.ffv1_rice.specs.States.{IsDifference};
 ghost use Rattle.ffv1_vectors.specs.Words.{TakesUpTo};
@@ -10,22 +11,10 @@ use crate::fault::MakeFault;
 use crate::plane::{Plane, Residual};
 use crate::writer::{BitWriter, Word};
 use ffv1_bits::Bits;
-use ffv1_rice::{RunIndex, RunWord, VlcState, fold};
-
-/// The zeros of an escape.
-const ESCAPE_ZEROS: u32 = 12;
-
-/// An escape's suffix is the number less this.
-const ESCAPE_OFFSET: u32 = 11;
+use ffv1_rice::{ESCAPE_BITS, ESCAPE_OFFSET, ESCAPE_ZEROS, RunIndex, RunWord, VlcState, fold};
 
 /// The bits of an escape with its suffix.
-const ESCAPE_LENGTH: u32 = 20;
-
-/// The exponent of a whole length of a run at each run index.
-const LOG2_RUN: [u8; 41] = [
-    0, 0, 0, 0, 1, 1, 1, 1, 2, 2, 2, 2, 3, 3, 3, 3, 4, 4, 5, 5, 6, 6, 7, 7, 8, 9, 10, 11, 12, 13,
-    14, 15, 16, 17, 18, 19, 20, 21, 22, 23, 24,
-];
+const ESCAPE_LENGTH: u32 = ESCAPE_ZEROS + ESCAPE_BITS;
 
 /// Writes a plane, with the states that those before it have left.
 pub(crate) fn write_plane(
@@ -33,7 +22,7 @@ pub(crate) fn write_plane(
     states: &mut Vec<VlcState>,
     plane: &Plane<'_>,
 ) -> Result<(), MakeFault>
-    requires { length states.old.items ≡ set_contexts plane.now.setup.now plane.now.set }
+    requires { length states.old.items ≡ set_contexts plane.now.tables.now.setup plane.now.tables.now.set }
     ensures { length states.new.items ≡ length states.old.items }
 {
     let mut index = RunIndex::start();
@@ -51,7 +40,7 @@ fn write_line(
     plane: &Plane<'_>,
     y: usize,
 ) -> Result<(), MakeFault>
-    requires contexts { length states.old.items ≡ set_contexts plane.now.setup.now plane.now.set }
+    requires contexts { length states.old.items ≡ set_contexts plane.now.tables.now.setup plane.now.tables.now.set }
     requires row { y < plane.now.height }
     ensures len { length states.new.items ≡ length states.old.items }
 {
@@ -71,7 +60,7 @@ fn write_next(
     x: usize,
     y: usize,
 ) -> Result<usize, MakeFault>
-    requires contexts { length states.old.items ≡ set_contexts plane.now.setup.now plane.now.set }
+    requires contexts { length states.old.items ≡ set_contexts plane.now.tables.now.setup plane.now.tables.now.set }
     requires column { x < plane.now.width }
     requires row { y < plane.now.height }
     ensures next { IfOk result (λ next. x < next) }
@@ -114,7 +103,7 @@ fn write_run(
     left: u32,
 ) -> Result<(), MakeFault>
     requires within { skipped ≤ left }
-    requires few { left ≤ 16384 }
+    requires few { left ≤ greatest_side }
 {
     let mut done = 0;
     while done < left {
@@ -135,10 +124,10 @@ fn write_word(
 ) -> Result<RunWord, MakeFault>
     requires within { skipped ≤ left }
     requires some { 1 ≤ left }
-    requires few { left ≤ 16384 }
+    requires few { left ≤ greatest_side }
     ensures { IfOk result (TakesUpTo skipped) }
 {
-    let exponent = exponent(index.index());
+    let exponent = index.exponent();
     let run = run_word(exponent, skipped, left);
     let word = match run {
         RunWord::Full(_) | RunWord::ToEnd => Word::new(1, 1),
@@ -150,14 +139,6 @@ fn write_word(
     }
     writer.word(word)?;
     Ok(run)
-}
-
-/// The exponent at a run index.
-fn exponent(index: usize) -> u32
-    requires { index ≤ 31 }
-    ensures { result ≤ 15 }
-{
-    u32::from(LOG2_RUN[index])
 }
 
 /// The next word of a run of so many samples, where a whole length has this exponent.

@@ -1,5 +1,6 @@
 //! Frames (RFC 9043, sections 4.4 to 4.9), made to measure tile by tile.
 ghost use Rattle.std.specs.Prelude.{◌≡◌, ◌<◌, ◌≤◌, ◌^◌, ◌*◌, ◌==◌, ◌↔◌, ℕ, IsTrue, IfOk, Err, length, map, slice_index_or};
+ghost use Rattle.ffv1_bits.specs.Limits.{payload_limit};
 ghost use Rattle.ffv1_range.specs.Setup.{set_contexts};
 ghost use Rattle.ffv1_range.specs.Tiles.{grid_of, tile_count, plane_count, plane_rect};
 ghost use Rattle.ffv1_range.specs.Header.{IsHeadOf, header_limits};
@@ -14,11 +15,12 @@ use crate::fault::MakeFault;
 use crate::plane::Plane;
 use crate::slice::spell_slice;
 use crate::writer::BitWriter;
-use ffv1_plane::{TileFault, decode_tile};
+use ffv1_bits::PAYLOAD_LIMIT;
+use ffv1_plane::{Tables, TileFault, decode_tile, start_states};
 use ffv1_range::{Grid, Setup, SliceHead, read_head};
 use ffv1_rice::VlcState;
-use ffv1_slice::read_slice;
-use std::alloc::{AllocError, Global};
+use ffv1_slice::{content_of, read_slice};
+use std::alloc::Global;
 
 /// What a frame is to be.
 #[derive(Drop)]
@@ -46,12 +48,6 @@ pub struct TileSpec {
     pub sar_den: u32,
 }
 
-/// The number of bytes of a slice's footer.
-const FOOTER_LENGTH: usize = 8;
-
-/// The most bytes of a frame.
-const MOST_BYTES: usize = 1 << 30;
-
 /// A frame's payload: one slice a tile in tile order, each with its header, its planes in Golomb-Rice codes and runs, and
 /// its footer; the first begins with a keyframe bit 1. It is answered only where each slice was read back: as one of its
 /// tile, with the header, the error status and the planes asked for.
@@ -71,7 +67,7 @@ pub fn make_frame(alloc: Global, setup: &Setup, spec: &FrameSpec) -> Result<Vec<
     let mut payload = Vec::new(alloc);
     for (tile, tile_spec) in spec.tiles.iter().enumerate() {
         let slice = make_slice(alloc, setup, tile, tile_spec)?;
-        if slice.len() > MOST_BYTES - payload.len() {
+        if slice.len() > PAYLOAD_LIMIT - payload.len() {
             return Err(MakeFault::NotSelf);
         }
         payload.extend_from_slice(&slice)?;
@@ -115,7 +111,8 @@ fn fits_tile(setup: &Setup, tile: usize, spec: &TileSpec) -> bool
 fn fit_planes(grid: &Grid, tile: usize, planes: &[Vec<u8>]) -> bool
     requires tile { tile < tile_count grid.now }
     requires planes { length planes.now ≡ plane_count grid.now }
-    ensures { IsTrue result ↔ ((plane : ℕ) → plane < length planes.now → length (samples_of (map (λ samples. samples.items) planes.now) plane) ≡ (plane_rect grid.now tile plane).w * (plane_rect grid.now tile plane).h) }
+    ensures { IsTrue result ↔ ((plane : ℕ) → plane < length planes.now
+        → length (samples_of (map (λ samples. samples.items) planes.now) plane) ≡ (plane_rect grid.now tile plane).w * (plane_rect grid.now tile plane).h) }
 {
     for (plane, samples) in planes.iter().enumerate() {
         let rect = grid.plane_rect(tile, plane);
@@ -175,47 +172,40 @@ fn spell_planes(
     requires fits { FitsTile setup.now tile spec.now }
 {
     let mut writer = BitWriter::new(alloc);
-    let luma_set = spec.table_y as usize;
-    let mut states = start_states(alloc, setup, luma_set)?;
-    write_tile_plane(
-        &mut writer,
-        &mut states,
-        setup,
-        tile,
-        0,
-        luma_set,
-        &spec.planes[0],
-    )?;
-    let chroma_set = spec.table_c as usize;
-    let mut states = start_states(alloc, setup, chroma_set)?;
+    let luma = Tables::of(setup, spec.table_y as usize);
+    let mut states = start_states(alloc, setup, spec.table_y as usize)?;
+    let samples = &spec.planes[0];
+    write_tile_plane(&mut writer, &mut states, setup, tile, 0, &luma, samples)?;
+    let chroma = Tables::of(setup, spec.table_c as usize);
+    let mut states = start_states(alloc, setup, spec.table_c as usize)?;
     for plane in 1..spec.planes.len() {
+        let samples = &spec.planes[plane];
         write_tile_plane(
             &mut writer,
             &mut states,
             setup,
             tile,
             plane,
-            chroma_set,
-            &spec.planes[plane],
+            &chroma,
+            samples,
         )?;
     }
     Ok(writer.into_bytes())
 }
 
-/// Writes a plane of a tile by a set of tables, with the states that those before it have left.
+/// Writes a plane of a tile by its tables, with the states that those before it have left.
 fn write_tile_plane(
     writer: &mut BitWriter,
     states: &mut Vec<VlcState>,
     setup: &Setup,
     tile: usize,
     plane: usize,
-    set: usize,
+    tables: &Tables<'_>,
     samples: &[u8],
 ) -> Result<(), MakeFault>
     requires tile { tile < tile_count (grid_of setup.now) }
     requires plane { plane < plane_count (grid_of setup.now) }
-    requires set { set < length setup.now.sets }
-    requires contexts { length states.old.items ≡ set_contexts setup.now set }
+    requires contexts { length states.old.items ≡ set_contexts tables.now.setup tables.now.set }
     ensures { length states.new.items ≡ length states.old.items }
 {
     setup.keeps_profile();
@@ -224,18 +214,9 @@ fn write_tile_plane(
         samples,
         width: rect.w as usize,
         height: rect.h as usize,
-        setup,
-        set,
+        tables,
     };
     write_plane(writer, states, &plane)
-}
-
-/// The start state for each context of a set.
-fn start_states(alloc: Global, setup: &Setup, set: usize) -> Result<Vec<VlcState>, AllocError>
-    requires { set < length setup.now.sets }
-    ensures { IfOk result (λ states. length states.items ≡ set_contexts setup.now set) }
-{
-    vec![in alloc; VlcState::start(); setup.contexts(set) as usize]
 }
 
 /// Whether a slice reads as that of a tile, with the header and the planes asked for.
@@ -247,15 +228,17 @@ fn reads_back(
     slice: &[u8],
 ) -> Result<bool, MakeFault>
     requires tile { tile < tile_count (grid_of setup.now) }
-    requires short { length slice.now ≤ 2 ^ 30 }
+    requires short { length slice.now ≤ payload_limit }
     ensures is_slice { IfOk result (λ same. IsTrue same → IsSliceOf setup.now slice.now (tile == 0) tile) }
-    ensures head { IfOk result (λ same. IsTrue same → (place : ℕ) × IsHeadOf (header_limits setup.now) (content_of slice.now) (tile == 0) (asked_head tile spec.now) place) }
-    ensures picture { IfOk result (λ same. IsTrue same → (spare_bits : ℕ) × IsPictureOf setup.now tile (content_of slice.now) (record { planes = asked_planes spec.now; spare_bits = spare_bits })) }
+    ensures head { IfOk result (λ same. IsTrue same → (place : ℕ) × IsHeadOf (header_limits setup.now) (content_of slice.now) (tile == 0)
+        (asked_head tile spec.now) place) }
+    ensures picture { IfOk result (λ same. IsTrue same → (spare_bits : ℕ)
+        × IsPictureOf setup.now tile (content_of slice.now) (record { planes = asked_planes spec.now; spare_bits = spare_bits })) }
 {
     if read_slice(setup, slice, tile == 0) != Ok(tile) {
         return Ok(false);
     }
-    let content = &slice[..slice.len() - FOOTER_LENGTH];
+    let content = content_of(slice);
     if !has_head(setup, tile, spec, content) {
         return Ok(false);
     }
@@ -295,8 +278,9 @@ fn has_picture(
     content: &[u8],
 ) -> Result<bool, MakeFault>
     requires tile { tile < tile_count (grid_of setup.now) }
-    requires short { length content.now ≤ 2 ^ 30 }
-    ensures { IfOk result (λ same. IsTrue same → (spare_bits : ℕ) × IsPictureOf setup.now tile content.now (record { planes = asked_planes spec.now; spare_bits = spare_bits })) }
+    requires short { length content.now ≤ payload_limit }
+    ensures { IfOk result (λ same. IsTrue same → (spare_bits : ℕ) × IsPictureOf setup.now tile content.now
+        (record { planes = asked_planes spec.now; spare_bits = spare_bits })) }
 {
     match decode_tile(alloc, setup, tile, content) {
         Ok(picture) => Ok(same_planes(&picture.planes, &spec.planes)),

@@ -1,23 +1,21 @@
 //! A plane of samples, and what is left to code of each (RFC 9043, sections 3.1 to 3.5 and 3.8).
-ghost use Rattle.std.specs.Prelude.{◌≡◌, ◌<◌, ◌≤◌, ◌+◌, length, pos, neg_ℤ, nat_abs, ◌≤ℤ◌, ◌+ℤ◌};
-ghost use Rattle.ffv1_range.specs.Setup.{IsInProfile, set_contexts, set_entry};
+ghost use Rattle.std.specs.Prelude.{◌≡◌, ◌<◌, ◌≤◌, ◌+◌, nat_abs};
+ghost use Rattle.ffv1_bits.specs.Limits.{greatest_side};
+ghost use Rattle.ffv1_range.specs.Setup.{set_contexts};
 ghost use Rattle.ffv1_rice.specs.States.{IsDifference};
-ghost use Rattle.ffv1_plane.specs.Samples.{modular_difference};
 
-use ffv1_range::Setup;
+use ffv1_plane::{Neighbours, Tables};
 use ffv1_rice::fold;
 
-/// The samples of a plane, row by row, and the set of quantization tables by which they are coded.
+/// The samples of a plane, row by row, and the quantization tables by which they are coded.
 #[derive(Clone, Copy)]
 pub(crate) struct Plane<'a> {
     pub(crate) samples: &'a [u8],
     pub(crate) width: usize,
     pub(crate) height: usize,
-    pub(crate) setup: &'a Setup,
-    pub(crate) set: usize,
-    ghost narrow: { width ≤ 16384 },
-    ghost low: { height ≤ 16384 },
-    ghost of_setup: { set < length setup.now.sets },
+    pub(crate) tables: &'a Tables<'a>,
+    ghost narrow: { width ≤ greatest_side },
+    ghost low: { height ≤ greatest_side },
 }
 
 /// What is left to code of a sample: its context, and its difference from what is predicted, whose sign is turned where
@@ -28,27 +26,16 @@ pub(crate) struct Residual {
     pub(crate) difference: i32,
 }
 
-/// The samples about a place (section 3.2).
-#[derive(Clone, Copy)]
-struct Near {
-    left: u8,
-    top: u8,
-    top_left: u8,
-    top_right: u8,
-    left_of_left: u8,
-    top_of_top: u8,
-}
-
 impl Plane<'_> {
     /// What is left to code of the sample in a column and a row.
     pub(crate) fn residual(&self, x: usize, y: usize) -> Residual
         requires column { x < self.now.width }
         requires row { y < self.now.height }
-        ensures context { nat_abs result.context < set_contexts self.now.setup.now self.now.set }
+        ensures context { nat_abs result.context < set_contexts self.now.tables.now.setup self.now.tables.now.set }
         ensures difference { IsDifference result.difference }
     {
         let near = self.near(x, y);
-        let context = self.context(near);
+        let context = self.tables.context(&near);
         let difference = i32::from(self.at(x + 2, y + 2)) - i32::from(near.prediction());
         Residual {
             context,
@@ -57,11 +44,11 @@ impl Plane<'_> {
     }
 
     /// The samples about a column and a row.
-    fn near(&self, x: usize, y: usize) -> Near
+    fn near(&self, x: usize, y: usize) -> Neighbours
         requires column { x < self.now.width }
         requires row { y < self.now.height }
     {
-        Near {
+        Neighbours {
             left: self.at(x + 1, y + 2),
             top: self.at(x + 2, y + 1),
             top_left: self.at(x + 1, y + 1),
@@ -94,64 +81,5 @@ impl Plane<'_> {
             return 0;
         };
         self.samples.get(y * self.width + x).copied().unwrap_or(0)
-    }
-
-    /// The context of a sample, from those about it (section 3.5).
-    fn context(&self, near: Near) -> i32
-        ensures { nat_abs result < set_contexts self.now.setup.now self.now.set }
-    {
-        self.setup.keeps_profile();
-        self.entry_sum(near)
-    }
-
-    /// The sum of an entry of each table.
-    fn entry_sum(&self, near: Near) -> i32
-        requires { IsInProfile self.now.setup.now }
-        ensures { result ≡ set_entry self.now.setup.now self.now.set 0 (modular_difference near.left near.top_left)
-            +ℤ set_entry self.now.setup.now self.now.set 1 (modular_difference near.top_left near.top)
-            +ℤ set_entry self.now.setup.now self.now.set 2 (modular_difference near.top near.top_right)
-            +ℤ set_entry self.now.setup.now self.now.set 3 (modular_difference near.left_of_left near.left)
-            +ℤ set_entry self.now.setup.now self.now.set 4 (modular_difference near.top_of_top near.top) }
-    {
-        let sum = self.entry(0, near.left, near.top_left) + self.entry(1, near.top_left, near.top);
-        self.add_far(near, sum)
-    }
-
-    /// A sum with the entries of the tables 2 to 4.
-    fn add_far(&self, near: Near, sum: i32) -> i32
-        requires profile { IsInProfile self.now.setup.now }
-        requires low { neg_ℤ (pos 65536) ≤ℤ sum }
-        requires high { sum ≤ℤ pos 65536 }
-        ensures { result ≡ sum
-            +ℤ set_entry self.now.setup.now self.now.set 2 (modular_difference near.top near.top_right)
-            +ℤ set_entry self.now.setup.now self.now.set 3 (modular_difference near.left_of_left near.left)
-            +ℤ set_entry self.now.setup.now self.now.set 4 (modular_difference near.top_of_top near.top) }
-    {
-        sum + self.entry(2, near.top, near.top_right)
-            + self.entry(3, near.left_of_left, near.left)
-            + self.entry(4, near.top_of_top, near.top)
-    }
-
-    /// The entry of a table at the difference of two samples, modulo 256.
-    fn entry(&self, table: usize, high: u8, low: u8) -> i32
-        requires profile { IsInProfile self.now.setup.now }
-        requires table { table < 5 }
-        ensures low { neg_ℤ (pos 32768) ≤ℤ result }
-        ensures high { result ≤ℤ pos 32768 }
-        ensures entry { result ≡ set_entry self.now.setup.now self.now.set table (modular_difference high low) }
-    {
-        self.setup
-            .entry(self.set, table, usize::from(high.wrapping_sub(low)))
-    }
-}
-
-impl Near {
-    /// The median of the sample to the left, the one above, and their sum less the one between them (section 3.3).
-    fn prediction(self) -> u8 {
-        let low = self.left.min(self.top);
-        let high = self.left.max(self.top);
-        let sum = u16::from(self.left) + u16::from(self.top);
-        let slope = sum.saturating_sub(u16::from(self.top_left));
-        slope.clamp(u16::from(low), u16::from(high)) as u8
     }
 }

@@ -1,5 +1,6 @@
 //! Configuration records (RFC 9043, sections 4.2 and 4.3), spelled from what they are to say.
 ghost use Rattle.std.specs.Prelude.{◌≡◌, ◌<◌, IfOk, IfErr};
+ghost use Rattle.ffv1_bits.specs.Limits.{greatest_side};
 ghost use Rattle.ffv1_range.specs.Setup.{IsSetupOf};
 ghost use Rattle.ffv1_vectors.specs.Asked.{IsProfile, asked_setup};
 ghost use Rattle.ffv1_range.specs.Decoder.{AreStates};
@@ -10,6 +11,7 @@ use crate::asked::is_asked;
 use crate::encoder::RangeEncoder;
 use crate::fault::MakeFault;
 use crate::parity::with_parity;
+use ffv1_bits::GREATEST_SIDE;
 use ffv1_range::{Setup, SetupFault};
 use std::alloc::Global;
 
@@ -71,20 +73,17 @@ pub fn spell_record(alloc: Global, spec: &RecordSpec) -> Result<Vec<u8>, MakeFau
     with_parity(encoder.finish_closed()?)
 }
 
-/// The side of the frames, in samples, for which a made record is read back: the greatest of the profile.
-const SIDE: u32 = 16384;
-
-/// The record with its parity, answered only where it reads back as what was asked: `Setup::read` at 16384 x 16384
-/// samples gives the setup asked for, all tables included. The shifts of a gray record count as 0.
+/// The record with its parity, answered only where it reads back as what was asked: `Setup::read` for frames whose
+/// sides have `GREATEST_SIDE` samples gives the setup asked for, all tables included. The shifts of a gray record count as 0.
 ///
 /// `NotSelf` comes where the record does not read back so, as where what is asked is not of the profile; `Memory` where a
 /// growth of memory was refused.
 pub fn make_record(alloc: Global, spec: &RecordSpec) -> Result<Vec<u8>, MakeFault>
-    ensures asked { IfOk result (λ bytes. IsSetupOf bytes.items 16384 16384 (asked_setup spec.now)) }
+    ensures asked { IfOk result (λ bytes. IsSetupOf bytes.items greatest_side greatest_side (asked_setup spec.now)) }
     ensures profile { IfOk result (λ bytes. IsProfile spec.now) }
 {
     let bytes = spell_record(alloc, spec)?;
-    let setup = match Setup::read(alloc, &bytes, SIDE, SIDE) {
+    let setup = match Setup::read(alloc, &bytes, GREATEST_SIDE, GREATEST_SIDE) {
         Ok(setup) => setup,
         Err(SetupFault::Memory) => return Err(MakeFault::Memory),
         Err(_) => return Err(MakeFault::NotSelf),

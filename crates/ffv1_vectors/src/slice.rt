@@ -1,9 +1,7 @@
 //! Slices (RFC 9043, sections 4.5, 4.6 and 4.9), spelled from their header's fields, their codes and their status.
 ghost use Rattle.std.specs.Prelude.{◌≡◌, ◌<◌, ◌≤◌, ◌^◌, ◌++◌, ℕ, List, IsTrue, IfOk, IfErr, OnOk, false, length};
+ghost use Rattle.ffv1_bits.specs.Limits.{slice_limit};
 ghost use Rattle.ffv1_bits.specs.Parity.{PassesParity};
-ghost use Rattle.ffv1_range.specs.Decoder.{AreStates};
-ghost use Rattle.ffv1_range.specs.Forms.{Reads, same_fault};
-ghost use Rattle.ffv1_range.specs.HeaderForms.{fields_form};
 ghost use Rattle.ffv1_slice.specs.Chain.{IsFramed, status_before};
 ghost use Rattle.ffv1_vectors.specs.Spelled.{ReadsAs, IsSpelled, ReadsKeyAs};
 ghost use Rattle.ffv1_vectors.specs.declared.fault.MakeFault.TheVariants.{Memory};
@@ -11,19 +9,13 @@ ghost use Rattle.ffv1_vectors.specs.declared.fault.MakeFault.TheVariants.{Memory
 use crate::encoder::RangeEncoder;
 use crate::fault::MakeFault;
 use crate::parity::with_parity;
-use byteorder::{BigEndian, ByteOrder};
 use ffv1_bits::passes;
-use ffv1_range::{RangeDecoder, RangeFault};
+use ffv1_range::{HEAD_FIELDS, RangeDecoder, RangeFault, read_head_fields};
+use ffv1_slice::{is_framed, status_of};
 use std::alloc::Global;
-
-/// How many fields a header has.
-const FIELDS: usize = 9;
 
 /// The most bytes that a slice can have before its footer.
 const MOST_CONTENT: usize = 0xFF_FFFF;
-
-/// The number of bytes of a footer.
-const FOOTER_LENGTH: usize = 8;
 
 /// A slice: its header, with the keyframe bit `key` before it where it is the payload's `first`, its codes, and its
 /// footer of size, error status and parity. The fields are slice_x, slice_y, slice_width - 1, slice_height - 1, the two
@@ -35,12 +27,12 @@ pub fn spell_slice(
     alloc: Global,
     first: bool,
     key: bool,
-    fields: &[u32; FIELDS],
+    fields: &[u32; HEAD_FIELDS],
     codes: &[u8],
     status: u8,
 ) -> Result<Vec<u8>, MakeFault>
     ensures spelled { IfOk result (λ bytes. IsSpelled bytes.items first key fields.now codes.now status) }
-    ensures short { IfOk result (λ bytes. length bytes.items ≤ 16777223) }
+    ensures short { IfOk result (λ bytes. length bytes.items ≤ slice_limit) }
 {
     let head = spell_header(alloc, first, key, fields)?;
     let place = head.len();
@@ -64,7 +56,7 @@ fn spell_header(
     alloc: Global,
     first: bool,
     key: bool,
-    fields: &[u32; FIELDS],
+    fields: &[u32; HEAD_FIELDS],
 ) -> Result<Vec<u8>, MakeFault>
     ensures { IfErr result (λ fault. fault ≡ Memory) }
 {
@@ -77,7 +69,7 @@ fn spell_header(
 }
 
 /// Writes the nine fields, at a row of states of their own.
-fn spell_fields(encoder: &mut RangeEncoder, fields: &[u32; FIELDS]) -> Result<(), MakeFault>
+fn spell_fields(encoder: &mut RangeEncoder, fields: &[u32; HEAD_FIELDS]) -> Result<(), MakeFault>
     ensures { IfErr result (λ fault. fault ≡ Memory) }
 {
     let mut states = [128; 32];
@@ -104,12 +96,7 @@ fn has_footer(slice: &[u8], status: u8) -> bool
     ensures framed { IsTrue result → IsFramed slice.now }
     ensures status { IsTrue result → status_before slice.now (length slice.now) ≡ status }
 {
-    if slice.len() < FOOTER_LENGTH {
-        return false;
-    }
-    let size = slice.len() - FOOTER_LENGTH;
-    let footer = &slice[size..];
-    BigEndian::read_u24(footer) as usize == size && footer[3] == status && passes(slice)
+    is_framed(slice) && status_of(slice) == status && passes(slice)
 }
 
 /// Whether a content reads as this keyframe bit and these fields, with codes from this place on.
@@ -117,7 +104,7 @@ fn reads_back(
     content: &[u8],
     first: bool,
     key: bool,
-    fields: &[u32; FIELDS],
+    fields: &[u32; HEAD_FIELDS],
     place: usize,
 ) -> Result<bool, RangeFault>
     ensures { IfOk result (λ same. IsTrue same → ReadsAs content.now first key fields.now place) }
@@ -126,7 +113,7 @@ fn reads_back(
     if !reads_key(&mut decoder, first, key)? {
         return Ok(false);
     }
-    let read = read_fields(&mut decoder)?;
+    let read = read_head_fields(&mut decoder)?;
     if read != *fields {
         return Ok(false);
     }
@@ -142,17 +129,4 @@ fn reads_key(decoder: &mut RangeDecoder<'_>, first: bool, key: bool) -> Result<b
     }
     let mut state = 128;
     Ok(decoder.bit(&mut state)? == key)
-}
-
-/// Reads the nine fields of a header.
-fn read_fields(decoder: &mut RangeDecoder<'_>) -> Result<[u32; FIELDS], RangeFault>
-    ensures { Reads same_fault fields_form decoder.old tt result decoder.new tt }
-{
-    let mut states = [128; 32];
-    let mut fields = [0; FIELDS];
-    for index in 0..FIELDS {
-        let symbol = decoder.unsigned(&mut states)?;
-        fields[index] = symbol;
-    }
-    Ok(fields)
 }

@@ -161,7 +161,8 @@ fn suite_runs(tables: SuiteTables, table: usize) -> &'static [u32]
 /// ratio. It fails only where a growth of memory was refused.
 pub fn suite_frame(alloc: Global, case: &SuiteCase, setup: &Setup) -> Result<FrameSpec, AllocError>
     ensures fits { IfOk result (FitsSetup setup.now) }
-    ensures tiles { IfOk result (λ spec. (tile : ℕ) (d : TileSpec) → tile < length spec.tiles.items → IsSuiteTile case.now tile (slice_index_or spec.tiles.items tile d)) }
+    ensures tiles { IfOk result (λ spec. (tile : ℕ) (d : TileSpec) → tile < length spec.tiles.items
+        → IsSuiteTile case.now tile (slice_index_or spec.tiles.items tile d)) }
 {
     let mut tiles = Vec::new(alloc);
     for tile in 0..setup.grid().tiles() {

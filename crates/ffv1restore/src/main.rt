@@ -2,76 +2,23 @@
 //! line on standard error.
 #![tactic(auto)]
 
-ghost use Rattle.std.specs.Prelude.{◌≡◌, ◌+◌, ◌<◌, ◌^◌, length, vec_len, IfOk};
-ghost use Rattle.ffv1restore.specs.Fault.{NamesPathBelow};
+ghost use Rattle.std.specs.Prelude.{◌≡◌, ◌+◌, length, vec_len, IfOk, IfErr};
+ghost use Rattle.ffv1_commands.specs.Fault.{NamesPath, NamesNoPath};
+ghost use Rattle.ffv1_commands.specs.Paths.{IsTakePath, IsJoinPath, IsDecodePath};
+ghost use Rattle.ffv1restore.specs.WordPaths.{IsPathOf};
 
-mod chain;
-mod decode;
-mod devices;
-mod fault;
 mod files;
-mod holdings;
-mod join;
-mod laws;
-#[cfg(test)]
-mod made_tests;
-mod picture;
-mod report;
-mod restore;
-mod samples;
-mod show;
-#[cfg(test)]
-mod suite_tests;
-mod take;
-#[cfg(test)]
-mod tests;
 mod words;
 
-use chain::run_chain;
-use decode::run_decode;
-use fault::CliFault;
+pub use ffv1_commands::{
+    CliFault, CommandPath, commands_restore_the_original, run_chain, run_decode, run_join,
+    run_picture, run_report, run_restore, run_show, run_take, same_copies_make_one_file,
+};
 use files::{InputFile, OutputFile};
-use join::run_join;
-use picture::run_picture;
-use report::run_report;
-use restore::run_restore;
-use show::run_show;
 use std::alloc::{AllocError, Global};
 use std::process::ExitCode;
 use std::{env, io};
-use take::run_take;
-use words::{Words, read_words};
-
-/// Tells a fault of a command that has these paths, and answers its exit status.
-fn tell(rt: &(impl Eprint + AllocGlobal), fault: &CliFault, paths: &[&str]) -> ExitCode
-    requires { NamesPathBelow (length paths.now) fault.now }
-{
-    let told = match fault.line(rt.alloc(), paths) {
-        Ok(line) => eprintln!(rt; "ffv1restore: {line}"),
-        Err(_) => eprintln!(rt; "ffv1restore: memory"),
-    };
-    // Nothing is left to tell where standard error fails too.
-    let _ = told;
-    ExitCode::from(fault.status())
-}
-
-fn chain_of_file(rt: &HostRuntime, frame: &str) -> ExitCode {
-    let mut input = InputFile::new(rt, frame);
-    let mut output = io::writer(rt);
-    match run_chain(rt.alloc(), &mut input, &mut output) {
-        Ok(()) => ExitCode::SUCCESS,
-        Err(fault) => tell(rt, &fault, &[frame, "standard output"]),
-    }
-}
-
-fn show_of_file(rt: &HostRuntime, record: &str, width: u32, height: u32) -> ExitCode {
-    let mut input = InputFile::new(rt, record);
-    let mut output = io::writer(rt);
-    match run_show(rt.alloc(), &mut input, width, height, &mut output) {
-        Ok(()) => ExitCode::SUCCESS,
-        Err(fault) => tell(rt, &fault, &[record, "standard output"]),
-    }
-}
+use words::{Recording, Words, read_words};
 
 /// The files of paths, none of which is opened yet.
 fn input_files<'a>(
@@ -87,175 +34,156 @@ fn input_files<'a>(
     Ok(files)
 }
 
-/// All paths of a command, in the order of its words, and then standard output.
-fn all_paths<'a>(
-    alloc: Global,
-    first: &[&'a str],
-    others: &[&'a str],
-) -> Result<Vec<&'a str>, AllocError>
-    ensures { IfOk result (λ paths. vec_len paths ≡ length first.now + length others.now + 1) }
-{
-    let mut paths = Vec::from_slice(alloc, first)?;
-    paths.extend_from_slice(others)?;
-    paths.push("standard output")?;
-    Ok(paths)
-}
-
-fn take_of_files(
+/// Takes the copies of these paths.
+fn take_files(
     rt: &HostRuntime,
-    (record, width, height): (&str, u32, u32),
+    recording: &Recording<'_>,
     out: &str,
     copies: &[&str],
-) -> ExitCode {
-    let (Ok(mut inputs), Ok(paths)) = (
-        input_files(rt, copies),
-        all_paths(rt.alloc(), &[record, out], copies),
-    ) else {
-        return tell(rt, &CliFault::Memory, &[]);
-    };
-    let mut record = InputFile::new(rt, record);
-    let mut out = OutputFile::new(rt, out);
-    let mut output = io::writer(rt);
-    match run_take(
+) -> Result<(), CliFault>
+    ensures { IfErr result (NamesPath (IsTakePath (length copies.now))) }
+{
+    let mut copies = input_files(rt, copies)?;
+    run_take(
         rt.alloc(),
-        &mut record,
-        width,
-        height,
-        inputs.as_mut_slice(),
-        &mut out,
-        &mut output,
-    ) {
-        Ok(()) => ExitCode::SUCCESS,
-        Err(fault) => tell(rt, &fault, paths.as_slice()),
-    }
+        &mut InputFile::new(rt, recording.record),
+        recording.width,
+        recording.height,
+        copies.as_mut_slice(),
+        &mut OutputFile::new(rt, out),
+        &mut io::writer(rt),
+    )
 }
 
-fn join_of_files<'a>(
+/// Joins the holding files of these paths.
+fn join_files<'a>(
     rt: &'a HostRuntime,
-    out: &'a str,
+    out: &str,
     first: &'a str,
     others: &[&'a str],
-) -> ExitCode {
-    let (Ok(mut inputs), Ok(paths)) = (
-        input_files(rt, others),
-        all_paths(rt.alloc(), &[out, first], others),
-    ) else {
-        return tell(rt, &CliFault::Memory, &[]);
-    };
-    let mut input = InputFile::new(rt, first);
-    let mut out = OutputFile::new(rt, out);
-    let mut output = io::writer(rt);
-    match run_join(
+) -> Result<(), CliFault>
+    ensures { IfErr result (NamesPath (IsJoinPath (length others.now + 1))) }
+{
+    let mut others = input_files(rt, others)?;
+    run_join(
         rt.alloc(),
-        &mut input,
-        inputs.as_mut_slice(),
-        &mut out,
-        &mut output,
-    ) {
-        Ok(()) => ExitCode::SUCCESS,
-        Err(fault) => tell(rt, &fault, paths.as_slice()),
-    }
+        &mut InputFile::new(rt, first),
+        others.as_mut_slice(),
+        &mut OutputFile::new(rt, out),
+        &mut io::writer(rt),
+    )
 }
 
-fn restore_of_file(rt: &HostRuntime, file: &str, out: &str) -> ExitCode {
-    let mut input = InputFile::new(rt, file);
-    let mut payload = OutputFile::new(rt, out);
-    let mut output = io::writer(rt);
-    match run_restore(rt.alloc(), &mut input, &mut payload, &mut output) {
-        Ok(()) => ExitCode::SUCCESS,
-        Err(fault) => tell(rt, &fault, &[file, out, "standard output"]),
-    }
-}
-
-fn report_of_file(rt: &HostRuntime, file: &str) -> ExitCode {
-    let mut input = InputFile::new(rt, file);
-    let mut output = io::writer(rt);
-    match run_report(rt.alloc(), &mut input, &mut output) {
-        Ok(()) => ExitCode::SUCCESS,
-        Err(fault) => tell(rt, &fault, &[file, "standard output"]),
-    }
-}
-
-/// The exit status 3 says that some tile has no samples.
-fn picture_of_file(rt: &HostRuntime, file: &str, out: &str) -> ExitCode {
-    let mut input = InputFile::new(rt, file);
-    let mut samples = OutputFile::new(rt, out);
-    let mut output = io::writer(rt);
-    match run_picture(rt.alloc(), &mut input, &mut samples, &mut output) {
-        Ok(true) => ExitCode::SUCCESS,
-        Ok(false) => ExitCode::from(3),
-        Err(fault) => tell(rt, &fault, &[file, out, "standard output"]),
-    }
-}
-
-fn decode_of_file(
+/// Decodes the frame of these paths.
+fn decode_files(
     rt: &HostRuntime,
-    (record, width, height): (&str, u32, u32),
+    recording: &Recording<'_>,
     frame: &str,
     out: &str,
-) -> ExitCode {
-    let mut configuration = InputFile::new(rt, record);
-    let mut input = InputFile::new(rt, frame);
-    let mut samples = OutputFile::new(rt, out);
-    let mut output = io::writer(rt);
-    match run_decode(
+) -> Result<(), CliFault>
+    ensures { IfErr result (NamesPath IsDecodePath) }
+{
+    run_decode(
         rt.alloc(),
-        &mut configuration,
-        width,
-        height,
-        &mut input,
-        &mut samples,
-        &mut output,
-    ) {
-        Ok(()) => ExitCode::SUCCESS,
-        Err(fault) => tell(rt, &fault, &[record, frame, out, "standard output"]),
+        &mut InputFile::new(rt, recording.record),
+        recording.width,
+        recording.height,
+        &mut InputFile::new(rt, frame),
+        &mut OutputFile::new(rt, out),
+        &mut io::writer(rt),
+    )
+}
+
+/// Runs a command on the files that its words name. Answers `false` where `picture` wrote its file and some tile has no
+/// samples, else `true`.
+fn run(rt: &HostRuntime, words: &Words<'_>) -> Result<bool, CliFault>
+    ensures { IfErr result (NamesPath (IsPathOf words.now)) }
+{
+    let alloc = rt.alloc();
+    let mut output = io::writer(rt);
+    match words {
+        Words::Chain { frame } => run_chain(alloc, &mut InputFile::new(rt, frame), &mut output)?,
+        Words::Show { recording } => {
+            let (width, height) = (recording.width, recording.height);
+            let mut record = InputFile::new(rt, recording.record);
+            run_show(alloc, &mut record, width, height, &mut output)?
+        }
+        Words::Take {
+            recording,
+            out,
+            copies,
+        } => take_files(rt, recording, out, copies.as_slice())?,
+        Words::Join { out, first, others } => join_files(rt, out, first, others.as_slice())?,
+        Words::Report { file } => run_report(alloc, &mut InputFile::new(rt, file), &mut output)?,
+        Words::Restore { file, out } => {
+            let (mut file, mut out) = (InputFile::new(rt, file), OutputFile::new(rt, out));
+            run_restore(alloc, &mut file, &mut out, &mut output)?
+        }
+        Words::Picture { file, out } => {
+            let (mut file, mut out) = (InputFile::new(rt, file), OutputFile::new(rt, out));
+            return run_picture(alloc, &mut file, &mut out, &mut output);
+        }
+        Words::Decode {
+            recording,
+            frame,
+            out,
+        } => decode_files(rt, recording, frame, out)?,
+    }
+    Ok(true)
+}
+
+/// Tells a fault in one line on standard error, and answers its exit status. The path is the text of the one that the fault
+/// names.
+fn tell(rt: &(impl Eprint + AllocGlobal), fault: &CliFault, path: &str) -> ExitCode {
+    let told = match fault.line(rt.alloc(), path) {
+        Ok(line) => eprintln!(rt; "ffv1restore: {line}"),
+        Err(_) => eprintln!(rt; "ffv1restore: memory"),
+    };
+    // Nothing is left to tell where standard error fails too.
+    let _ = told;
+    ExitCode::from(fault.status())
+}
+
+/// Tells a fault that comes before there is a command, whose paths it could name.
+fn tell_early(rt: &(impl Eprint + AllocGlobal), fault: &CliFault) -> ExitCode
+    requires { NamesNoPath fault.now }
+{
+    tell(rt, fault, "")
+}
+
+/// Tells a fault of the command of these words.
+fn tell_of(rt: &(impl Eprint + AllocGlobal), fault: &CliFault, words: &Words<'_>) -> ExitCode
+    requires { NamesPath (IsPathOf words.now) fault.now }
+{
+    match fault.path() {
+        Some(path) => tell(rt, fault, words.path(path)),
+        None => tell(rt, fault, ""),
     }
 }
 
-/// Runs a command on the files that its words name.
-fn run(rt: &HostRuntime, words: &Words<'_>) -> ExitCode {
-    match words {
-        Words::Chain { frame } => chain_of_file(rt, frame),
-        Words::Show {
-            record,
-            width,
-            height,
-        } => show_of_file(rt, record, *width, *height),
-        Words::Take {
-            record,
-            width,
-            height,
-            out,
-            copies,
-        } => take_of_files(rt, (record, *width, *height), out, copies.as_slice()),
-        Words::Join { out, first, others } => join_of_files(rt, out, first, others.as_slice()),
-        Words::Report { file } => report_of_file(rt, file),
-        Words::Restore { file, out } => restore_of_file(rt, file, out),
-        Words::Picture { file, out } => picture_of_file(rt, file, out),
-        Words::Decode {
-            record,
-            width,
-            height,
-            frame,
-            out,
-        } => decode_of_file(rt, (record, *width, *height), frame, out),
+/// The words that the program was given, the first of which is its own name.
+fn given_words(rt: &HostRuntime) -> Result<Vec<String>, CliFault>
+    ensures { IfErr result NamesNoPath }
+{
+    match env::args(rt) {
+        Ok(words) => Ok(words.collect::<Vec<String>>(rt.alloc())?),
+        Err(error) if error.kind() == io::ErrorKind::OutOfMemory => Err(CliFault::Memory),
+        Err(_) => Err(CliFault::Words),
     }
 }
 
 fn main(rt: HostRuntime) -> ExitCode {
-    let alloc: Global = rt.alloc();
-    let words = match env::args(&rt) {
-        Ok(words) => words.collect::<Vec<String>>(alloc),
-        Err(error) if error.kind() == io::ErrorKind::OutOfMemory => {
-            return tell(&rt, &CliFault::Memory, &[]);
-        }
-        Err(_) => return tell(&rt, &CliFault::Words, &[]),
+    let given = match given_words(&rt) {
+        Ok(given) => given,
+        Err(fault) => return tell_early(&rt, &fault),
     };
-    let Ok(words) = words else {
-        return tell(&rt, &CliFault::Memory, &[]);
+    let words = match read_words(rt.alloc(), given.as_slice()) {
+        Ok(words) => words,
+        Err(fault) => return tell_early(&rt, &fault),
     };
-    match read_words(alloc, words.as_slice()) {
-        Ok(words) => run(&rt, &words),
-        Err(fault) => tell(&rt, &fault, &[]),
+    match run(&rt, &words) {
+        Ok(true) => ExitCode::SUCCESS,
+        Ok(false) => ExitCode::from(3),
+        Err(fault) => tell_of(&rt, &fault, &words),
     }
 }

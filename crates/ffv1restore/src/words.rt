@@ -1,11 +1,20 @@
 //! The words of a command: the first names it, then come exactly its own.
 ghost use Rattle.std.specs.Prelude.{IfErr};
-ghost use Rattle.ffv1restore.specs.Fault.{NamesPathBelow};
+ghost use Rattle.ffv1_commands.specs.Fault.{NamesNoPath};
+ghost use Rattle.ffv1restore.specs.WordPaths.{IsPathOf};
 
-use crate::fault::CliFault;
 use clap::error::ErrorKind;
 use clap::{Arg, ArgAction, ArgMatches, Command};
+use ffv1_commands::{CliFault, CommandPath};
 use std::alloc::{AllocError, Global};
+
+/// A configuration record, and the size in samples of the frames that are recorded with it.
+#[derive(Drop)]
+pub struct Recording<'a> {
+    pub record: &'a str,
+    pub width: u32,
+    pub height: u32,
+}
 
 /// A command and its words.
 #[derive(Drop)]
@@ -14,17 +23,13 @@ pub enum Words<'a> {
     Chain {
         frame: &'a str,
     },
-    /// Tells the setup of a configuration record, for frames of this size in samples.
+    /// Tells the setup of a configuration record, for frames of its size.
     Show {
-        record: &'a str,
-        width: u32,
-        height: u32,
+        recording: Recording<'a>,
     },
-    /// Makes the holding file of copies, for a configuration record and the size of the frame in samples.
+    /// Makes the holding file of copies.
     Take {
-        record: &'a str,
-        width: u32,
-        height: u32,
+        recording: Recording<'a>,
         out: &'a str,
         copies: Vec<&'a str>,
     },
@@ -48,14 +53,40 @@ pub enum Words<'a> {
         file: &'a str,
         out: &'a str,
     },
-    /// Writes the samples of a frame payload, for a configuration record and the size of the frame in samples.
+    /// Writes the samples of a frame payload.
     Decode {
-        record: &'a str,
-        width: u32,
-        height: u32,
+        recording: Recording<'a>,
         frame: &'a str,
         out: &'a str,
     },
+}
+
+impl<'a> Words<'a> {
+    /// The word that names a path of the command, which has to be one of its own.
+    pub fn path(&self, path: CommandPath) -> &'a str
+        requires { IsPathOf self.now path }
+    {
+        match (self, path) {
+            (Words::Chain { frame }, CommandPath::Frame) => frame,
+            (Words::Show { recording }, CommandPath::Record) => recording.record,
+            (Words::Take { recording, .. }, CommandPath::Record) => recording.record,
+            (Words::Take { copies, .. }, CommandPath::Copy(place)) => copies[place],
+            (Words::Take { out, .. }, CommandPath::Out) => out,
+            (Words::Join { first, .. }, CommandPath::Hold(0)) => first,
+            (Words::Join { others, .. }, CommandPath::Hold(place)) => others[place - 1],
+            (Words::Join { out, .. }, CommandPath::Out) => out,
+            (Words::Report { file }, CommandPath::Hold(_)) => file,
+            (Words::Restore { file, .. }, CommandPath::Hold(_)) => file,
+            (Words::Restore { out, .. }, CommandPath::Out) => out,
+            (Words::Picture { file, .. }, CommandPath::Hold(_)) => file,
+            (Words::Picture { out, .. }, CommandPath::Out) => out,
+            (Words::Decode { recording, .. }, CommandPath::Record) => recording.record,
+            (Words::Decode { frame, .. }, CommandPath::Frame) => frame,
+            (Words::Decode { out, .. }, CommandPath::Out) => out,
+            // No command has another path.
+            _ => "standard output",
+        }
+    }
 }
 
 /// The commands: the name of each, its words, and behind them the word of which there has to be one at least.
@@ -107,14 +138,14 @@ fn program<'a>(alloc: Global) -> Result<Command<'a>, AllocError> {
 
 /// The word of this name.
 fn word<'a>(matches: &ArgMatches<'a>, name: &str) -> Result<&'a str, CliFault>
-    ensures { IfErr result (NamesPathBelow 0) }
+    ensures { IfErr result NamesNoPath }
 {
     matches.get_str(name).ok_or(CliFault::Words)
 }
 
 /// The word of this name, as a number.
 fn number(matches: &ArgMatches, name: &str) -> Result<u32, CliFault>
-    ensures { IfErr result (NamesPathBelow 0) }
+    ensures { IfErr result NamesNoPath }
 {
     match word(matches, name)?.parse::<u32>() {
         Ok(number) => Ok(number),
@@ -124,26 +155,35 @@ fn number(matches: &ArgMatches, name: &str) -> Result<u32, CliFault>
 
 /// The words of this name.
 fn several<'m, 'a>(matches: &'m ArgMatches<'a>, name: &str) -> Result<&'m [&'a str], CliFault>
-    ensures { IfErr result (NamesPathBelow 0) }
+    ensures { IfErr result NamesNoPath }
 {
     matches.get_strs(name).ok_or(CliFault::Words)
 }
 
 /// A list of words in memory of its own.
 fn list<'a>(alloc: Global, words: &[&'a str]) -> Result<Vec<&'a str>, CliFault>
-    ensures { IfErr result (NamesPathBelow 0) }
+    ensures { IfErr result NamesNoPath }
 {
     Ok(words.to_vec(alloc)?)
 }
 
-/// The words of `take`.
-fn take_words<'a>(alloc: Global, matches: &ArgMatches<'a>) -> Result<Words<'a>, CliFault>
-    ensures { IfErr result (NamesPathBelow 0) }
+/// The words of a recording: RECORD, WIDTH and HEIGHT.
+fn recording_words<'a>(matches: &ArgMatches<'a>) -> Result<Recording<'a>, CliFault>
+    ensures { IfErr result NamesNoPath }
 {
-    Ok(Words::Take {
+    Ok(Recording {
         record: word(matches, "RECORD")?,
         width: number(matches, "WIDTH")?,
         height: number(matches, "HEIGHT")?,
+    })
+}
+
+/// The words of `take`.
+fn take_words<'a>(alloc: Global, matches: &ArgMatches<'a>) -> Result<Words<'a>, CliFault>
+    ensures { IfErr result NamesNoPath }
+{
+    Ok(Words::Take {
+        recording: recording_words(matches)?,
         out: word(matches, "OUT")?,
         copies: list(alloc, several(matches, "COPY")?)?,
     })
@@ -151,7 +191,7 @@ fn take_words<'a>(alloc: Global, matches: &ArgMatches<'a>) -> Result<Words<'a>, 
 
 /// The words of `join`.
 fn join_words<'a>(alloc: Global, matches: &ArgMatches<'a>) -> Result<Words<'a>, CliFault>
-    ensures { IfErr result (NamesPathBelow 0) }
+    ensures { IfErr result NamesNoPath }
 {
     let [first, others @ ..] = several(matches, "HOLD")? else {
         return Err(CliFault::Words);
@@ -165,12 +205,10 @@ fn join_words<'a>(alloc: Global, matches: &ArgMatches<'a>) -> Result<Words<'a>, 
 
 /// The words of `decode`.
 fn decode_words<'a>(matches: &ArgMatches<'a>) -> Result<Words<'a>, CliFault>
-    ensures { IfErr result (NamesPathBelow 0) }
+    ensures { IfErr result NamesNoPath }
 {
     Ok(Words::Decode {
-        record: word(matches, "RECORD")?,
-        width: number(matches, "WIDTH")?,
-        height: number(matches, "HEIGHT")?,
+        recording: recording_words(matches)?,
         frame: word(matches, "FRAME")?,
         out: word(matches, "OUT")?,
     })
@@ -178,16 +216,14 @@ fn decode_words<'a>(matches: &ArgMatches<'a>) -> Result<Words<'a>, CliFault>
 
 /// The command of this name, with its words.
 fn words_of<'a>(alloc: Global, name: &str, matches: &ArgMatches<'a>) -> Result<Words<'a>, CliFault>
-    ensures { IfErr result (NamesPathBelow 0) }
+    ensures { IfErr result NamesNoPath }
 {
     match name {
         "chain" => Ok(Words::Chain {
             frame: word(matches, "FRAME")?,
         }),
         "show" => Ok(Words::Show {
-            record: word(matches, "RECORD")?,
-            width: number(matches, "WIDTH")?,
-            height: number(matches, "HEIGHT")?,
+            recording: recording_words(matches)?,
         }),
         "take" => take_words(alloc, matches),
         "join" => join_words(alloc, matches),
@@ -210,7 +246,7 @@ fn words_of<'a>(alloc: Global, name: &str, matches: &ArgMatches<'a>) -> Result<W
 /// The command that the program's words name, the first of which is the program's own. All other words are refused with
 /// `Words`, those that ask for help among them; `Memory` comes where a growth is refused.
 pub fn read_words<'a>(alloc: Global, words: &'a [String]) -> Result<Words<'a>, CliFault>
-    ensures { IfErr result (NamesPathBelow 0) }
+    ensures { IfErr result NamesNoPath }
 {
     let Ok(program) = program(alloc) else {
         return Err(CliFault::Memory);

@@ -1,12 +1,8 @@
-use Rattle.std.proofs.Common.{rules}
-use Rattle.ffv1_bits.proofs.Register.{bit_turn, byte_end}
+use Rattle.std.proofs.Common.{rules, ap, get_or}
+use Rattle.ffv1_bits.proofs.Remainders.{table_turn}
 use Rattle.ffv1_bits.proofs.parity.with_byte.Goals as goal
-
-pub loop-place-preserved : goal.loop-place-preserved
-loop-place-preserved c =
-    bit_turn c.args.register c.args.byte c.loop-place.place c.loop-place.longer c.with_bit-longer.result c.loop-place-test.true c.loop-place.invariant
-    c.with_bit-longer.ensures
 
 pub returns : goal.returns
 returns c =
-    byte_end c.args.register c.args.byte c.loop-place.place c.loop-place.longer (search rules) c.loop-place-test.false c.loop-place.invariant
+    table_turn c.args.register c.args.byte (get_or c.to_be_bytes.result 0 0) c.byte_remainder.result c.from.result (search rules) (search rules)
+    (ap (λ bytes. get_or bytes 0 0) c.to_be_bytes.ensures) c.byte_remainder.ensures c.from.ensures

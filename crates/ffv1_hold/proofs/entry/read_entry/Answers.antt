@@ -20,4 +20,5 @@ returns-in_err-judge-in-1-clause-err g c =
     let p = err_from_is_err_and c.from_residual-in_err-judge-in-1.result c.from_residual-in_err-judge-in-1.ensures.1 in
     let tag = subst (Takes _ _ _ _) (single c.read_field.new.buf 1 (search rules) c.in-1.is) c.in_ok-read_field.ensures.ok in
     let whole = Takes-trans _ _ _ _ _ _ _ _ tag c.in_ok-slice-in-1.ensures.ok in
-    rw (p.1, p.2) (wrong_refuses IsPartOfEntry Never c.args.setup.now c.args.last.now c.in_ok-slice-in-1.slice _ _ _ _ _ whole c.in_ok-slice-in-1.ensures.tile c.in_ok-slice-in-1.ensures.fits c.in_err-judge-in-1.ensures.err)
+    rw (p.1, p.2) (wrong_refuses IsPartOfEntry Never c.args.setup.now c.args.last.now c.in_ok-slice-in-1.slice _ _ _ _ _ whole
+    c.in_ok-slice-in-1.ensures.tile c.in_ok-slice-in-1.ensures.fits c.in_err-judge-in-1.ensures.err)

@@ -75,7 +75,17 @@ returns-in_default-clause-err g c =
     let whole = subst (Takes _ _ _ _) spelled all in
     record {
       seen = sized_record config w h;
-      is = (config, w, h, refl, omega (arith, c.in_ok-config.ensures.count), omega arith, omega arith, first_fault config w h c.in-Err.fault c.in-Err.ensures.fault c.in_default.not-Memory);
+      is = (
+        config,
+        w,
+        h,
+        refl,
+        omega (arith, c.in_ok-config.ensures.count),
+        omega arith,
+        omega arith,
+        first_fault config w h c.in-Err.fault
+            c.in-Err.ensures.fault c.in_default.not-Memory,
+      );
       taken = whole.taken;
       within = omega (arith, whole.moved, whole.within);
     }

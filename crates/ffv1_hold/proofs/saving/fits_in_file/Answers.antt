@@ -1,17 +1,33 @@
-use Rattle.std.proofs.Common.{length, rules, arith, ap}
-use Rattle.ffv1_hold.specs.Sets as set
+use Rattle.std.proofs.Common.{length, rules, arith, ap, ◌∙◌}
+use Rattle.ffv1_holding.specs.Sets as set
+use Rattle.ffv1_holding.specs.Reels.{Reel}
 use Rattle.ffv1_hold.specs.HoldingText.{entries_text}
 use Rattle.ffv1_hold.proofs.Slots.{length-text}
 use Rattle.ffv1_hold.proofs.saving.fits_in_file.Goals as goal
 
-pub returns-in-Some : goal.returns-in-Some
-returns-in-Some c =
-    let long = length-text c.args.reel.now (entries_text (set.items c.args.held.now.slices)) in
-    let some = c.in-Some.ensures.some in
-    (λ _. (omega (arith, ap length c.config-config.ensures), omega (arith, long, some, ap length c.config-config.ensures)), λ _. search rules)
+pub returns-in-Some-clause-fits : goal.returns-in-Some-clause-fits
+returns-in-Some-clause-fits c =
+    let long = length-text c.args.holding.now.reel (entries_text (set.items c.args.holding.now.slices)) in
+    let some = c.in-Some.ensures.some in (
+      λ _. (
+        omega (arith, ap length (c.config-config.ensures ∙ ap (λ (r : Reel). r.config) c.reel.ensures.value)),
+        omega
+            (arith, long, some, ap length (c.config-config.ensures ∙ ap (λ (r : Reel). r.config) c.reel.ensures.value)),
+      ),
+      λ _. search rules,
+    )
 
-pub returns-in-None : goal.returns-in-None
-returns-in-None c =
-    let long = length-text c.args.reel.now (entries_text (set.items c.args.held.now.slices)) in
-    let none = c.in-None.ensures.none in
-    (λ no. absurd (search rules), λ fits. absurd (omega (arith, long, none, fits.1, ap length c.config-config.ensures)))
+pub returns-in-None-clause-fits : goal.returns-in-None-clause-fits
+returns-in-None-clause-fits c =
+    let long = length-text c.args.holding.now.reel (entries_text (set.items c.args.holding.now.slices)) in
+    let none = c.in-None.ensures.none in (
+      λ no. absurd (search rules),
+      λ fits. absurd (omega (
+        arith,
+        long,
+        none,
+        fits.1,
+        ap length (c.config-config.ensures
+            ∙ ap (λ (r : Reel). r.config) c.reel.ensures.value),
+      )),
+    )

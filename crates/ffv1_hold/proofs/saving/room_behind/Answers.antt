@@ -1,8 +1,8 @@
 use Rattle.std.proofs.Common.{◌≡◌, ◌<◌, ◌++◌, ◌+◌, length, arith, sym, ap, ◌∙◌, length-append}
-use Rattle.ffv1_hold.specs.Sets as set
-use Rattle.ffv1_hold.specs.TileSets.{tile_entries, tile_slices, entries_below}
+use Rattle.ffv1_holding.specs.Sets as set
+use Rattle.ffv1_holding.specs.Reels.{reel_tiles}
+use Rattle.ffv1_holding.specs.TileSets.{tile_entries, tile_slices, entries_below}
 use Rattle.ffv1_hold.specs.HoldingText.{entries_text}
-use Rattle.ffv1_hold.specs.Saving.{entries_length}
 use Rattle.ffv1_hold.proofs.Slots.{entries_text-none}
 use Rattle.ffv1_hold.proofs.TileTexts.{text_below-more, text_behind, length-entries_text}
 use Rattle.ffv1_hold.proofs.TileOrder.{entries_below-all}
@@ -12,33 +12,43 @@ use Rattle.ffv1_hold.proofs.saving.room_behind.Goals as goal
 pub loop-tile-init : goal.loop-tile-init
 loop-tile-init c = omega (arith, ap length entries_text-none)
 
-pub room_behind_tile-requires : goal.room_behind_tile-requires
-room_behind_tile-requires c = tile_within_limit c.args.held.now c.requires c.loop-tile.tile c.of_tile.result.now c.of_tile.ensures
+pub room_behind_tile-requires-clause-tile : goal.room_behind_tile-requires-clause-tile
+room_behind_tile-requires-clause-tile c = omega (arith, c.loop-tile-test.true, c.tiles-tile-end.ensures.count, ap reel_tiles c.reel.ensures.value)
+
+pub room_behind_tile-requires-clause-fits : goal.room_behind_tile-requires-clause-fits
+room_behind_tile-requires-clause-fits c = tile_within_limit c.args.holding.now c.requires c.loop-tile.tile
 
 pub loop-tile-preserved : goal.loop-tile-preserved
 loop-tile-preserved c =
-    let slices = c.args.held.now.slices in
+    let slices = c.args.holding.now.slices in
     let t = c.loop-tile.tile in
     let block = length-entries_text t (set.items (tile_slices slices t)) in
-    let same = ap (λ s. entries_length (set.items s)) c.of_tile.ensures in
     let more = ap length (text_below-more slices t) ∙ length-append (entries_text (entries_below slices t)) (entries_text (tile_entries slices t)) in
-    omega (arith, block, same, more, c.loop-tile.invariant, c.in_ok-left.ensures.some)
+    omega (arith, block, more, c.loop-tile.invariant, c.in_ok-left.ensures.some)
 
 pub returns-in_err-left-clause-none : goal.returns-in_err-left-clause-none
 returns-in_err-left-clause-none c =
-    let held = c.args.held.now in
+    let h = c.args.holding.now in
+    let n = reel_tiles h.reel in
     let t = c.loop-tile.tile in
-    let lt : t < held.tiles = omega (arith, c.loop-tile-test.true, c.tiles-tile-end.ensures) in
-    let block = length-entries_text t (set.items (tile_slices held.slices t)) in
-    let same = ap (λ s. entries_length (set.items s)) c.of_tile.ensures in
-    let behind = text_behind held.slices t held.tiles lt in
-    let whole = ap length (sym (ap entries_text (entries_below-all held.slices held.tiles c.requires.tile)) ∙ behind.1)
-    ∙ length-append (entries_text (entries_below held.slices t)) (entries_text (tile_entries held.slices t) ++ behind.0)
-    ∙ ap (λ n. length (entries_text (entries_below held.slices t)) + n) (length-append (entries_text (tile_entries held.slices t)) behind.0) in
-    rw c.from_residual.ensures (omega (arith, block, same, whole, c.loop-tile.invariant, c.in_err-left.ensures.none))
+    let lt : t < n = omega (arith, c.loop-tile-test.true, c.tiles-tile-end.ensures.count, ap reel_tiles c.reel.ensures.value) in
+    let block = length-entries_text t (set.items (tile_slices h.slices t)) in
+    let behind = text_behind h.slices t n lt in
+    let whole = ap length (sym (ap entries_text (entries_below-all h.slices n c.requires.tile)) ∙ behind.1)
+    ∙ length-append (entries_text (entries_below h.slices t)) (entries_text (tile_entries h.slices t) ++ behind.0)
+    ∙ ap (λ n. length (entries_text (entries_below h.slices t)) + n) (length-append (entries_text (tile_entries h.slices t)) behind.0) in
+    rw c.from_residual.ensures (omega (arith, block, whole, c.loop-tile.invariant, c.in_err-left.ensures.none))
 
 pub returns-clause-some : goal.returns-clause-some
 returns-clause-some c =
-    let held = c.args.held.now in
-    let end : c.loop-tile.tile ≡ held.tiles = omega (arith, c.loop-tile-test.false, c.loop-tile.auto.tile-end, c.tiles-tile-end.ensures) in
-    omega (arith, c.loop-tile.invariant, ap (λ xs. length (entries_text xs)) (ap (entries_below held.slices) end ∙ entries_below-all held.slices held.tiles c.requires.tile))
+    let h = c.args.holding.now in
+    let n = reel_tiles h.reel in
+    let end : c.loop-tile.tile ≡ n = omega (
+      arith,
+      c.loop-tile-test.false,
+      c.loop-tile.auto.tile-end,
+      c.tiles-tile-end.ensures.count,
+      ap reel_tiles
+          c.reel.ensures.value,
+    ) in
+    omega (arith, c.loop-tile.invariant, ap (λ xs. length (entries_text xs)) (ap (entries_below h.slices) end ∙ entries_below-all h.slices n c.requires.tile))

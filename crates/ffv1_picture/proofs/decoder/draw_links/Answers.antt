@@ -16,7 +16,9 @@ returns-in-Err-clause-err c =
     let tile = c.loop-tile.tile in
     let P : List ℕ → Type 0 = λ content. (c.in-Err.cause ≡ Memory) ⊎ IsUnreadable setup tile content c.in-Err.cause in
     rw c.fault_of_tile.ensures
-    (first_unreadable setup links tile c.in-Err.cause (omega arith) (drawn_pictures setup links tile c.loop-tile.frame c.loop-tile.invariant) (subst P (same_content links tile c.index-links-tile.result c.bytes.result.now (omega arith) c.index-links-tile.is c.bytes.ensures.value) c.in-Err.ensures.fault))
+    (first_unreadable setup links tile c.in-Err.cause (omega arith) (drawn_pictures setup links tile c.loop-tile.frame c.loop-tile.invariant)
+    (subst P (same_content links tile c.index-links-tile.result c.bytes.result.now
+    (omega arith) c.index-links-tile.is c.bytes.ensures.value) c.in-Err.ensures.fault))
 
 pub loop-tile-preserved : goal.loop-tile-preserved
 loop-tile-preserved c =

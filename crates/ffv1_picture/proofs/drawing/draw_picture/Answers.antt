@@ -23,8 +23,10 @@ draw_plane-requires-clause-inside c =
     let lt : n < length mid = omega (arith, c.loop-plane-test.true, c.loop-plane.auto.planes) in
     let few : n < plane_count g = omega (arith, lt, c.loop-plane.auto.planes, length-map c.args.planes.now items_of, c.requires.sizes.count) in
     let here = read_plane mid n c.index-planes-plane.result lt c.index-planes-plane.is in
-    let long = ap length c.deref_mut.ensures.value ∙ ap (λ v. length (items_of v)) (sym c.index-planes-plane.is) ∙ ap length (sym here) ∙ ap length (c.loop-plane.invariant.others n (omega arith)) ∙ c.requires.sizes.each n few in
-    fits_same _ _ _ _ _ _ (sym (ap (λ r. r.w) c.plane_size-width.ensures)) (sym long) (sym c.plane_rect-rect.ensures) (rect_fits g c.across-across.ensures.grid c.args.tile c.requires.tile n)
+    let long = ap length c.deref_mut.ensures.value ∙ ap (λ v. length (items_of v)) (sym c.index-planes-plane.is) ∙ ap length (sym here)
+    ∙ ap length (c.loop-plane.invariant.others n (omega arith)) ∙ c.requires.sizes.each n few in
+    fits_same _ _ _ _ _ _ (sym (ap (λ r. r.w) c.plane_size-width.ensures)) (sym long) (sym c.plane_rect-rect.ensures)
+    (rect_fits g c.across-across.ensures.grid c.args.tile c.requires.tile n)
 
 pub loop-plane-preserved : goal.loop-plane-preserved
 loop-plane-preserved c =
@@ -35,10 +37,19 @@ loop-plane-preserved c =
     let picture = map items_of c.args.picture.now in
     let samples = c.draw_plane.new.plane in
     let lt : n < length mid = omega (arith, c.loop-plane-test.true, c.loop-plane.auto.planes) in
-    let among : n < length c.args.picture.now = omega (arith, lt, c.loop-plane.auto.planes, length-map c.args.planes.now items_of, c.requires.sizes.count, length-map c.args.picture.now items_of, c.requires.picture.count) in
+    let among : n < length c.args.picture.now = omega (
+      arith,
+      lt,
+      c.loop-plane.auto.planes,
+      length-map c.args.planes.now items_of,
+      c.requires.sizes.count,
+      length-map c.args.picture.now items_of,
+      c.requires.picture.count,
+    ) in
     let v = get_or mid n c.index-planes-plane.result in
     let P : Planes → Type 0 = λ planes. DrawsPlanes g c.args.tile (n + 1) picture old planes in
-    subst P (sym (map-set items_of mid n (with_items v samples) ∙ ap (set (map items_of mid) n) (with_items_is v samples (c.draw_plane.ensures.same_length ∙ c.deref_mut.ensures.len))))
+    subst P (sym (map-set items_of mid n (with_items v samples) ∙ ap (set (map items_of mid) n)
+    (with_items_is v samples (c.draw_plane.ensures.same_length ∙ c.deref_mut.ensures.len))))
     (plane_drawn g c.args.tile n picture old (map items_of mid) samples c.loop-plane.invariant (omega (arith, lt, length-map mid items_of))
     (draws_same _ _ _ _ _ _ _ _ samples (ap (λ r. r.w) c.plane_size-width.ensures) c.plane_rect-rect.ensures
     (c.deref.ensures.value ∙ sym (read_plane c.args.picture.now n c.index-picture-plane.result among c.index-picture-plane.is))

@@ -4,4 +4,5 @@ use Rattle.ffv1_picture.proofs.drawing.draw_picture.Given as goal
 
 -- the planes so far are drawn onto
 abbrev pub invariant-loop-plane : goal.invariant-loop-plane
-invariant-loop-plane l = DrawsPlanes l.grid l.tile l.plane (map (λ plane. plane.items) l.picture) (map (λ plane. plane.items) l.initial.planes) (map (λ plane. plane.items) l.planes)
+invariant-loop-plane l = DrawsPlanes l.grid l.tile l.plane (map (λ plane. plane.items) l.picture) (map (λ plane. plane.items) l.initial.planes)
+    (map (λ plane. plane.items) l.planes)

@@ -20,7 +20,8 @@ loop-row-preserved c =
     let last_of_tile : n + 1 ≤ r.h = omega arith in
     let read : from + r.w ≤ length samples = omega (arith, mul-le-mul_right r.w last_of_tile) in
     let of_samples = c.copy_from_slice.ensures.after in
-    let long : length piece ≡ r.w = ap length of_samples ∙ length-take-le (from + r.w - from) (drop from samples) (omega (arith, length-drop from samples)) ∙ (let e : from + r.w - from ≡ r.w = omega arith in e) in
+    let long : length piece ≡ r.w = ap length of_samples ∙ length-take-le (from + r.w - from) (drop from samples) (omega (arith, length-drop from samples))
+    ∙ (let e : from + r.w - from ≡ r.w = omega arith in e) in
     let P : ℕ → Type 0 = λ k. Draws width (first_rows r (n + 1)) samples c.args.plane.now (put_mid to k mid piece) in
     subst P {x = r.w} {y = to + r.w - to} (omega arith)
     (row_drawn width r n samples c.args.plane.now mid piece c.requires.inside.in_width

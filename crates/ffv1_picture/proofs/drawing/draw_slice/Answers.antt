@@ -1,3 +1,4 @@
+use Rattle.std.proofs.Common.{sym}
 use Rattle.std.proofs.lemmas.Result.{err_from_is_err_and}
 use Rattle.ffv1_picture.proofs.TileFaults.{unreadable}
 use Rattle.ffv1_picture.proofs.drawing.draw_slice.Goals as goal
@@ -6,7 +7,7 @@ pub returns-in_err-picture-clause-fault : goal.returns-in_err-picture-clause-fau
 returns-in_err-picture-clause-fault c =
     let p = err_from_is_err_and c.from_residual.result c.from_residual.ensures.1 in
     let told = c.in_err-picture.ensures in
-    rw (p.1, p.2)
+    rw (p.1, p.2, sym c.content_of.ensures)
     (unreadable c.args.setup.now c.args.tile _ c.in_err-picture.field-0.0 (record { found = λ picture is. told.found picture is; refused = told.refused }))
 
 pub draw_picture-requires-clause-picture : goal.draw_picture-requires-clause-picture

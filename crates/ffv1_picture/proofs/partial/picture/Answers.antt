@@ -1,6 +1,6 @@
 use Rattle.std.proofs.Common.{◌≡◌, ◌∙◌, ◌+◌, List, sym, ap, subst, arith}
 use Rattle.ffv1_range.specs.Tiles.{grid_of, tile_count}
-use Rattle.ffv1_hold.specs.Reels.{tile_count as reel_tiles}
+use Rattle.ffv1_hold.specs.Reels.{reel_tiles}
 use Rattle.ffv1_picture.specs.declared.partial.Partial.{Partial}
 use Rattle.ffv1_picture.specs.PartialPictures.{ShowsTiles, IsPartialPicture}
 use Rattle.ffv1_picture.specs.declared.partial.TileOutcome.{TileOutcome}

@@ -12,7 +12,8 @@ use Rattle.ffv1_picture.proofs.SettledSlices.{settled_entry}
 use Rattle.ffv1_picture.proofs.partial.show_tile.Goals as goal
 
 pub draw_slice-requires-clause-footer : goal.draw_slice-requires-clause-footer
-draw_slice-requires-clause-footer c = slice_footer c.args.holding.now.reel.setup c.in-Settled.slice.now _ c.args.tile (settled_entry c.args.holding.now c.setup.ensures.sound c.args.tile c.in-Settled.slice.now (sym c.in-Settled.ensures)).slice
+draw_slice-requires-clause-footer c = slice_footer c.args.holding.now.reel.setup c.in-Settled.slice.now _ c.args.tile
+    (settled_entry c.args.holding.now c.setup.ensures.sound c.args.tile c.in-Settled.slice.now (sym c.in-Settled.ensures)).slice
 
 pub draw_slice-requires-clause-short : goal.draw_slice-requires-clause-short
 draw_slice-requires-clause-short c = (settled_entry c.args.holding.now c.setup.ensures.sound c.args.tile c.in-Settled.slice.now (sym c.in-Settled.ensures)).fits
@@ -33,6 +34,7 @@ returns-in-Err c =
     let cause = c.in-Err.cause in
     let not_memory : cause ≡ Memory → ⊥ = search rules in
     let P : SetupValue → Type 0 = λ setup. (cause ≡ Memory) ⊎ IsUnreadable setup c.args.tile (content_of slice) cause in
-    let why : IsUnreadable h.reel.setup c.args.tile (content_of slice) cause = ⊎_elim (λ memory. absurd (not_memory memory)) (λ why. why) (subst P c.setup.ensures.value c.in-Err.ensures.fault) in
+    let why : IsUnreadable h.reel.setup c.args.tile (content_of slice) cause =
+    ⊎_elim (λ memory. absurd (not_memory memory)) (λ why. why) (subst P c.setup.ensures.value c.in-Err.ensures.fault) in
     let Q : Standing → Type 0 = λ state. IsShown h.reel.setup c.args.tile state (Fault cause) None in
     record { picture = None; shown = subst Q c.in-Settled.ensures why; drawn = c.in-Err.ensures.err }

@@ -2,14 +2,15 @@ use Rattle.std.proofs.Common.{◌≡◌, ℕ, zero, suc, ◌+◌, ◌<◌, List,
 use Rattle.std.specs.List.{flat_map}
 use Rattle.std.proofs.lemmas.Result.{err_from_is_err_and}
 use Rattle.ffv1_hold.specs.Writing.{WritesFront}
-use Rattle.ffv1_hold.proofs.Fronts.{front-append, front-after}
+use Rattle.ffv1_devices.proofs.Fronts.{front-append, front-after}
 use Rattle.ffv1_picture.proofs.raw.write_raw.Goals as goal
 
 abbrev items_of : Vec ℕ Global → List ℕ
 items_of v = v.items
 
 -- the pieces before a place, the one there, and those behind it
-flat_map-at : {X : Type 0} (f : X → List ℕ) (xs : List X) (i : ℕ) (d : X) → i < length xs → flat_map f (take i xs) ++ (f (get_or xs i d) ++ flat_map f (drop (i + 1) xs)) ≡ flat_map f xs
+flat_map-at : {X : Type 0} (f : X → List ℕ) (xs : List X) (i : ℕ) (d : X) → i < length xs
+    → flat_map f (take i xs) ++ (f (get_or xs i d) ++ flat_map f (drop (i + 1) xs)) ≡ flat_map f xs
 flat_map-at f [] i d lt = absurd (omega arith)
 flat_map-at f (x ∷ xs) zero d lt = refl
 flat_map-at f (x ∷ xs) (suc i) d lt =

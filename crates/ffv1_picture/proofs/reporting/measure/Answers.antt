@@ -5,9 +5,9 @@ use Rattle.sha2.specs.Hashers.{Holds256}
 use Rattle.sha2.specs.declared.Sha256.{Sha256}
 use Rattle.ffv1_hold.specs.Standing.{settled_bytes, tile_state}
 use Rattle.ffv1_hold.specs.TileStates.{standing_shown}
-use Rattle.ffv1_hold.specs.declared.tile_state.TileState.{TileState}
-use Rattle.ffv1_hold.specs.declared.tile_state.TileState.TheVariants.{Missing, Settled, Disputed}
-use Rattle.ffv1_hold.proofs.Lists.{flat_map-range_more}
+use Rattle.ffv1_holding.specs.declared.standing.TileState.{TileState}
+use Rattle.ffv1_holding.specs.declared.standing.TileState.TheVariants.{Missing, Settled, Disputed}
+use Rattle.ffv1_holding.proofs.Lists.{flat_map-range_more}
 use Rattle.ffv1_picture.proofs.SettledSlices.{settled_entry}
 use Rattle.ffv1_picture.proofs.reporting.measure.Goals as goal
 use Rattle.ffv1_picture.proofs.reporting.measure.Goals.{in-Settled, in_default}
@@ -29,7 +29,8 @@ loop-tile-preserved c =
       | in-Settled w ↦
           let slice = w.in-Settled.slice.now in
           let is = ap standing_shown (sym w.in-Settled.is) ∙ c.state.ensures in
-          let all : before ++ slice ≡ flat_map bytes (range_with_len 0 (n + 1)) = ap (λ xs. before ++ xs) (ap settled_bytes is) ∙ sym (flat_map-range_more bytes n) in
+          let all : before ++ slice ≡ flat_map bytes (range_with_len 0 (n + 1)) =
+          ap (λ xs. before ++ xs) (ap settled_bytes is) ∙ sym (flat_map-range_more bytes n) in
           let P : Sha256 → Type 0 = λ hasher. Holds256 hasher (before ++ slice) in
           record {
             hashed = subst Q all (subst P (sym w.hasher-is) (w.update.ensures before so_far.hashed));
@@ -38,7 +39,8 @@ loop-tile-preserved c =
           }
       | in_default w ↦
           let none = sym (no_bytes c.state.result w.in_default.not-Settled) ∙ ap settled_bytes c.state.ensures in
-          let all : before ≡ flat_map bytes (range_with_len 0 (n + 1)) = sym (append-nil before) ∙ ap (λ xs. before ++ xs) none ∙ sym (flat_map-range_more bytes n) in
+          let all : before ≡ flat_map bytes (range_with_len 0 (n + 1)) = sym (append-nil before)
+          ∙ ap (λ xs. before ++ xs) none ∙ sym (flat_map-range_more bytes n) in
           let P : Sha256 → Type 0 = λ hasher. Holds256 hasher before in
           record {
             hashed = subst Q all (subst P (sym w.hasher-is) so_far.hashed);

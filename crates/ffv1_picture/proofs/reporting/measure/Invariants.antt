@@ -1,5 +1,6 @@
 use Rattle.std.proofs.Common.{◌≡◌, ◌*◌, ◌≤◌, length}
 use Rattle.std.specs.List.{flat_map, range_with_len}
+use Rattle.ffv1_bits.specs.Limits.{slice_limit}
 use Rattle.sha2.specs.Hashers.{Holds256}
 use Rattle.ffv1_hold.specs.Standing.{settled_bytes, tile_state}
 use Rattle.ffv1_picture.proofs.reporting.measure.Given as goal
@@ -9,5 +10,5 @@ abbrev pub invariant-loop-tile : goal.invariant-loop-tile
 invariant-loop-tile l = record {
   hashed : Holds256 l.hasher (flat_map (λ tile. settled_bytes (tile_state l.holding tile)) (range_with_len 0 l.tile));
   counted : l.bytes ≡ length (flat_map (λ tile. settled_bytes (tile_state l.holding tile)) (range_with_len 0 l.tile));
-  few : l.bytes ≤ l.tile * 16777223;
+  few : l.bytes ≤ l.tile * slice_limit;
 }

@@ -7,4 +7,5 @@ use Rattle.ffv1_picture.proofs.reporting.push_settled.Goals as goal
 pub returns : goal.returns
 returns c =
     then_pushed c.push_digest.result (string_bytes c.args.text.now) _ (string_bytes c.push_digest.new.text) (settled_numbers c.args.slice.now c.args.held)
-    (flat_map hex_byte c.digest.result) (digest_text c.args.slice.now) c.in_ok-push_settled_numbers.ensures c.push_digest.ensures (ap (flat_map hex_byte) c.digest.ensures)
+    (flat_map hex_byte c.digest.result) (digest_text c.args.slice.now) c.in_ok-push_settled_numbers.ensures c.push_digest.ensures
+    (ap (flat_map hex_byte) c.digest.ensures)

@@ -2,7 +2,7 @@ use Rattle.std.proofs.Common.{◌≡◌, ◌++◌, ℕ, List, OnOk, string_bytes
 use Rattle.ffv1_slice.proofs.SliceFacts.{slice_footer}
 use Rattle.ffv1_hold.specs.TileSets.{tile_slices}
 use Rattle.ffv1_hold.specs.Standing.{settled, disputed}
-use Rattle.ffv1_hold.proofs.RisingSets.{size-items}
+use Rattle.ffv1_holding.proofs.RisingSets.{size-items}
 use Rattle.ffv1_picture.specs.ReportText.{slices_held, settled_words, disputed_words, state_words, least_status}
 use Rattle.ffv1_picture.proofs.SettledSlices.{settled_entry}
 use Rattle.ffv1_picture.proofs.reporting.push_state.Goals as goal
@@ -19,7 +19,8 @@ returns-in-Settled c =
     let slice = c.in-Settled.slice.now in
     let held = slices_held h c.args.tile in
     let P : List ℕ → Type 0 = λ words. OnOk c.push_settled.result (string_bytes c.push_settled.new.text ≡ string_bytes c.args.text.now ++ words) in
-    subst P (ap (settled_words slice) (c.held-held.ensures ∙ size-items (tile_slices h.slices c.args.tile)) ∙ ap (state_words held) {x = settled slice} c.in-Settled.ensures) c.push_settled.ensures
+    subst P (ap (settled_words slice) (c.held-held.ensures ∙ size-items (tile_slices h.slices c.args.tile))
+    ∙ ap (state_words held) {x = settled slice} c.in-Settled.ensures) c.push_settled.ensures
 
 pub returns-in-Disputed : goal.returns-in-Disputed
 returns-in-Disputed c =

@@ -17,11 +17,13 @@ returns-clause-same_copies c other h also same =
 
 pub returns-clause-original : goal.returns-clause-original
 returns-clause-original c original slices for =
-    restores_original c.args.config.now c.args.width c.args.height c.args.plan.now c.in_ok-holding.holding (held c) original slices for c.restore-payload.result (returns-clause-payload c)
+    restores_original c.args.config.now c.args.width c.args.height c.args.plan.now c.in_ok-holding.holding
+    (held c) original slices for c.restore-payload.result (returns-clause-payload c)
 
 pub returns-clause-samples : goal.returns-clause-samples
 returns-clause-samples c original slices for =
-    shows_slices c.args.config.now c.args.width c.args.height c.args.plan.now c.in_ok-holding.holding (held c) original slices for c.in_ok-picture.picture c.in_ok-picture.ensures.partial
+    shows_slices c.args.config.now c.args.width c.args.height c.args.plan.now c.in_ok-holding.holding
+    (held c) original slices for c.in_ok-picture.picture c.in_ok-picture.ensures.partial
 
 pub returns-clause-near : goal.returns-clause-near
 returns-clause-near c original slices near =

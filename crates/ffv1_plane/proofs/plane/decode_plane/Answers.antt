@@ -1,33 +1,84 @@
-use Rattle.std.proofs.Common.{◌≤◌, ◌*◌, length, arith, rules, ◌∙◌}
+use Rattle.std.proofs.Common.{◌≡◌, ◌≤◌, ◌+◌, ◌*◌, ◌%◌, length, slice_index, arith, ap, sym, refl, ◌∙◌}
+use Rattle.std.proofs.Math.Nat.{mul-le-mul_right, mul-mod_left}
 use Rattle.std.proofs.lemmas.Result.{err_from_is_err_and}
-use Rattle.ffv1_range.specs.Setup.{set_entry}
-use Rattle.ffv1_plane.proofs.Reading.{whole_plane}
-use Rattle.ffv1_plane.proofs.Wholes.{line_fits, plane_halted}
+use Rattle.ffv1_range.specs.Setup.{set_entry, set_contexts}
+use Rattle.ffv1_plane.proofs.Reading.{whole_plane, no_samples}
+use Rattle.ffv1_plane.proofs.Wholes.{plane_halted}
+use Rattle.ffv1_plane.proofs.Readers.{same_read, same_halted}
 use Rattle.ffv1_plane.proofs.plane.decode_plane.Goals as goal
 
-pub loop-index-preserved : goal.loop-index-preserved
-loop-index-preserved c =
-    let line = c.in_ok-read_next.ensures.line in
-    let fits = line_fits (length c.loop-index.samples.items) c.args.width c.args.height c.requires.some (search rules) in
+pub read_row-requires-clause-states : goal.read_row-requires-clause-states
+read_row-requires-clause-states c =
+    c.loop.invariant.states ∙ c.requires.contexts ∙ ap (λ t. set_contexts t.setup t.set) (sym c.loop.invariant.tables)
+
+pub read_row-requires-clause-whole : goal.read_row-requires-clause-whole
+read_row-requires-clause-whole c =
+    ap (λ n. n % c.loop.reader.lines.width) c.loop.invariant.size ∙ ap (λ w. (c.loop.counter * c.args.width) % w) c.loop.invariant.width
+    ∙ mul-mod_left c.loop.counter c.args.width
+
+pub loop-init : goal.loop-init
+loop-init c =
+    let samples = ap (λ r. r.samples) c.in_ok-lines.ensures in
     record {
-      read = λ earlier after. c.in_ok-read_next.ensures.read earlier c.args.bits.now.left (c.loop-index.invariant.read earlier after);
-      states = c.in_ok-read_next.ensures.len ∙ c.loop-index.invariant.states;
-      bytes = c.in_ok-read_next.ensures.bytes;
-      size = omega (arith, line, fits);
+      read = λ earlier after.
+          rw (samples, c.start.ensures, c.fork.ensures) (no_samples earlier c.args.width
+          (set_entry c.args.tables.now.setup c.args.tables.now.set) c.args.bits.now.left c.args.states.items after);
+      width = ap (λ r. r.width) c.in_ok-lines.ensures;
+      tables = refl;
+      states = refl;
+      start = ap (λ r. r.x) c.in_ok-lines.ensures;
+      size = omega (arith, ap length samples);
+      bytes = λ s. let e = ap (λ l. slice_index l s) samples in omega (arith, e);
     }
 
-pub returns-in_err-read_next-clause-err : goal.returns-in_err-read_next-clause-err
-returns-in_err-read_next-clause-err c =
-    let p = err_from_is_err_and c.from_residual-in_err-read_next.result c.from_residual-in_err-read_next.ensures.1 in
+pub loop-preserved : goal.loop-preserved
+loop-preserved c =
+    let same = c.in_ok-read_row.ensures.same in
+    let ended = c.in_ok-end_row.ensures in
+    let width = ap (λ r. r.width) ended ∙ same.width ∙ c.loop.invariant.width in
+    let samples = ap (λ r. r.samples) ended in
+    record {
+      read = λ earlier after.
+          same_read earlier c.read_row.new.self.lines.width c.args.width c.read_row.new.self.tables.now c.args.tables.now c.read_row.new.self.index
+          c.read_row.new.self.index c.args.bits.now.left c.read_row.new.self.bits.left
+          c.read_row.new.self.lines.samples c.end_row.new.self.samples c.read_row.new.self.states.items (sym (same.width ∙ c.loop.invariant.width))
+          (sym (same.tables ∙ c.loop.invariant.tables)) refl samples
+          (c.in_ok-read_row.ensures.read earlier c.args.bits.now.left
+          (same_read earlier c.args.width c.loop.reader.lines.width c.args.tables.now c.loop.reader.tables.now c.loop.reader.index c.loop.reader.index
+          c.args.bits.now.left c.loop.reader.bits.left
+          c.loop.reader.lines.samples c.loop.reader.lines.samples c.loop.reader.states.items c.loop.invariant.width c.loop.invariant.tables refl refl
+          (c.loop.invariant.read earlier after)));
+      width = width;
+      tables = same.tables ∙ c.loop.invariant.tables;
+      states = same.states ∙ c.loop.invariant.states;
+      start = ap (λ r. r.x) ended;
+      size = omega (arith, ap length samples, c.in_ok-read_row.ensures.count, c.loop.invariant.size, c.loop.invariant.width);
+      bytes = λ s. let e = ap (λ l. slice_index l s) samples in let small = c.in_ok-read_row.ensures.bytes s in omega (arith, e, small);
+    }
+
+pub returns-in_err-read_row-clause-err : goal.returns-in_err-read_row-clause-err
+returns-in_err-read_row-clause-err c =
+    let p = err_from_is_err_and c.from_residual-in_err-read_row.result c.from_residual-in_err-read_row.ensures.1 in
+    let rows : (c.loop.counter + 1) * c.args.width ≤ c.args.height * c.args.width = mul-le-mul_right c.args.width (omega arith) in
     rw (p.1, p.2)
-    (plane_halted c.args.width c.args.height (set_entry c.args.setup.now c.args.set) c.args.states.now.items c.loop-index.states.items c.args.bits.now.left c.loop-index.bits.left c.loop-index.samples.items c.loop-index.index _
-    c.requires.some c.loop-index.invariant.read c.loop-index.invariant.bytes (search rules) c.in_err-read_next.ensures.err)
+    (plane_halted c.args.width c.args.height (set_entry c.args.tables.now.setup c.args.tables.now.set) c.args.states.items c.loop.reader.states.items
+    c.args.bits.now.left c.loop.reader.bits.left c.loop.reader.lines.samples c.loop.reader.index _
+    c.requires.some c.loop.invariant.read c.loop.invariant.bytes (omega (arith, rows, c.loop.invariant.size, c.requires.some))
+    (same_halted c.loop.reader.lines.width c.args.width c.loop.reader.tables.now c.args.tables.now c.loop.reader.lines.samples c.loop.reader.index
+    c.loop.reader.states.items c.loop.reader.bits.left _
+    (sym c.loop.invariant.width) (sym c.loop.invariant.tables) c.in_err-read_row.ensures.err))
 
 pub returns-clause-size : goal.returns-clause-size
 returns-clause-size c =
-    let over : c.args.width * c.args.height ≤ length c.loop-index.samples.items = search rules in
-    record { count = omega (arith, over, c.loop-index.invariant.size); bytes = c.loop-index.invariant.bytes }
+    let all : c.loop.counter ≡ c.args.height = omega arith in
+    record {
+      count = ap length c.into_rows.ensures ∙ c.loop.invariant.size ∙ ap
+          (λ n. n * c.args.width) all ∙ (let turned : c.args.height * c.args.width ≡ c.args.width * c.args.height = omega arith in turned);
+      bytes = λ s. let e = ap (λ l. slice_index l s) c.into_rows.ensures in let small = c.loop.invariant.bytes s in omega (arith, e, small);
+    }
 
 pub returns-clause-read : goal.returns-clause-read
 returns-clause-read c = λ earlier after.
-    whole_plane earlier c.args.width (set_entry c.args.setup.now c.args.set) c.args.bits.now.left c.loop-index.bits.left c.loop-index.samples.items c.loop-index.index c.loop-index.states.items (c.loop-index.invariant.read earlier after)
+    rw c.into_rows.ensures
+    (whole_plane earlier c.args.width (set_entry c.args.tables.now.setup c.args.tables.now.set) c.args.bits.now.left c.loop.reader.bits.left
+    c.loop.reader.lines.samples c.loop.reader.index c.loop.reader.states.items (c.loop.invariant.read earlier after))

@@ -6,17 +6,20 @@ use Rattle.ffv1_plane.proofs.tile.decode_chroma.Goals as goal
 pub returns-in_err-cb-clause-err : goal.returns-in_err-cb-clause-err
 returns-in_err-cb-clause-err c =
     let p = err_from_is_err_and c.from_residual-in_err-cb.result c.from_residual-in_err-cb.ensures.1 in
-    rw (p.1, p.2) (cb_stops c.args.setup.now c.args.head.now c.in_ok-states.states.items c.args.bits.now.left c.in_ok-states.ensures.fresh _ c.in_err-cb.ensures.err)
+    rw (p.1, p.2) (cb_stops c.args.setup.now c.args.head.now c.in_ok-states.states.items c.args.bits.now.left c.in_ok-states.ensures.fresh _
+    c.in_err-cb.ensures.err)
 
 pub returns-in_err-cr-clause-err : goal.returns-in_err-cr-clause-err
 returns-in_err-cr-clause-err c =
     let p = err_from_is_err_and c.from_residual-in_err-cr.result c.from_residual-in_err-cr.ensures.1 in
     rw (p.1, p.2)
-    (cr_stops c.args.setup.now c.args.head.now c.in_ok-states.states.items c.decode_plane_of.new.states.items c.args.bits.now.left c.decode_plane_of.new.bits.left c.in_ok-cb.cb.items
+    (cr_stops c.args.setup.now c.args.head.now c.in_ok-states.states.items c.in_ok-cb.states.items c.args.bits.now.left c.decode_plane_of.new.bits.left
+    c.in_ok-cb.cb.items
     c.in_ok-states.ensures.fresh c.in_ok-cb.ensures.size c.in_ok-cb.ensures.read _ c.in_err-cr.ensures.err)
 
 pub returns-clause-ok : goal.returns-clause-ok
 returns-clause-ok c =
-    chroma_read c.args.setup.now c.args.head.now c.requires.profile c.requires.tile c.args.bits.now.left c.decode_plane_of.new.bits.left c.decode_plane_of-2.new.bits.left
-    c.in_ok-states.states.items c.decode_plane_of.new.states.items c.decode_plane_of-2.new.states.items c.in_ok-cb.cb.items c.in_ok-cr.cr.items c.in_ok-states.ensures.fresh
+    chroma_read c.args.setup.now c.args.head.now c.requires.profile c.requires.tile c.args.bits.now.left c.decode_plane_of.new.bits.left
+    c.decode_plane_of-2.new.bits.left
+    c.in_ok-states.states.items c.in_ok-cb.states.items c.in_ok-cr.field-0-1.items c.in_ok-cb.cb.items c.in_ok-cr.cr.items c.in_ok-states.ensures.fresh
     c.in_ok-cb.ensures.size c.in_ok-cr.ensures.size c.in_ok-cb.ensures.read c.in_ok-cr.ensures.read

@@ -1,10 +1,11 @@
-use Rattle.std.proofs.Common.{◌≡◌, ◌≤◌, ◌<◌, ◌/◌, ◌%◌, ℕ, sym, subst, rules}
+use Rattle.std.proofs.Common.{◌≡◌, ◌≤◌, ◌<◌, ◌/◌, ◌%◌, sym, subst, rules}
+use Rattle.ffv1_bits.specs.Limits.{greatest_side}
 use Rattle.ffv1_range.specs.Setup.{set_entry}
 use Rattle.ffv1_range.specs.Tiles.{grid_of, plane_rect}
 use Rattle.ffv1_range.specs.declared.grid.TileRect.{TileRect}
 use Rattle.ffv1_plane.specs.Progress.{IsPlaneRead}
 use Rattle.ffv1_plane.specs.Halts.{IsDecodingHalted, IsPlaneOfHalted}
-use Rattle.ffv1_plane.specs.Picture.{plane_set}
+use Rattle.ffv1_plane.specs.SetTables.{SetTables}
 use Rattle.ffv1_plane.specs.declared.plane.PlaneFault.{PlaneFault}
 use Rattle.ffv1_plane.specs.declared.plane.PlaneFault.TheVariants as plane_faults
 use Rattle.ffv1_plane.specs.declared.tile.TileFault.TheVariants.{Code}
@@ -23,14 +24,14 @@ pub decode_plane-requires-clause-width : goal.decode_plane-requires-clause-width
 decode_plane-requires-clause-width c =
     let within = plane_within c.args.setup.now c.args.head.now.tile c.args.plane c.requires.profile c.requires.tile in
     let rect : c.plane_rect-rect.result ≡ plane_rect (grid_of c.args.setup.now) c.args.head.now.tile c.args.plane = search rules in
-    let P : TileRect → Type 0 = λ r. r.w ≤ 16384 in
+    let P : TileRect → Type 0 = λ r. r.w ≤ greatest_side in
     subst P (sym rect) within.few_columns
 
 pub decode_plane-requires-clause-height : goal.decode_plane-requires-clause-height
 decode_plane-requires-clause-height c =
     let within = plane_within c.args.setup.now c.args.head.now.tile c.args.plane c.requires.profile c.requires.tile in
     let rect : c.plane_rect-rect.result ≡ plane_rect (grid_of c.args.setup.now) c.args.head.now.tile c.args.plane = search rules in
-    let P : TileRect → Type 0 = λ r. r.h ≤ 16384 in
+    let P : TileRect → Type 0 = λ r. r.h ≤ greatest_side in
     subst P (sym rect) within.few_rows
 
 pub nonzero_div-result : goal.nonzero_div-result
@@ -50,19 +51,25 @@ nonzero_rem-result c =
 pub returns-in-Ok-clause-read : goal.returns-in-Ok-clause-read
 returns-in-Ok-clause-read c =
     let rect : c.plane_rect-rect.result ≡ plane_rect (grid_of c.args.setup.now) c.args.head.now.tile c.args.plane = search rules in
-    let R : TileRect → ℕ → Type 0 = λ r set. IsPlaneRead r.w r.h (set_entry c.args.setup.now set) c.args.states.now.items c.args.bits.now.left c.in-Ok.samples.items c.decode_plane.new.states.items c.decode_plane.new.bits.left in
-    let there : R (plane_rect (grid_of c.args.setup.now) c.args.head.now.tile c.args.plane) c.table_set-set.result = subst (λ (r : TileRect). R r c.table_set-set.result) rect c.in-Ok.ensures.read in
-    subst (λ (set : ℕ). R (plane_rect (grid_of c.args.setup.now) c.args.head.now.tile c.args.plane) set) c.table_set-set.ensures there
+    let R : TileRect → SetTables → Type 0 = λ r t. IsPlaneRead r.w r.h
+    (set_entry t.setup t.set) c.args.states.items c.args.bits.now.left c.in-Ok.read.0.items c.in-Ok.read.1.items c.decode_plane.new.bits.left in
+    let there : R (plane_rect (grid_of c.args.setup.now) c.args.head.now.tile c.args.plane) c.args.tables.now =
+    subst (λ (r : TileRect). R r c.args.tables.now) rect c.in-Ok.ensures.read in
+    subst (R (plane_rect (grid_of c.args.setup.now) c.args.head.now.tile c.args.plane)) c.requires.tables there
 
 pub returns-in-Err-Code-clause-err : goal.returns-in-Err-Code-clause-err
 returns-in-Err-Code-clause-err c =
     let within = plane_within c.args.setup.now c.args.head.now.tile c.args.plane c.requires.profile c.requires.tile in
     let rect : c.plane_rect-rect.result ≡ plane_rect (grid_of c.args.setup.now) c.args.head.now.tile c.args.plane = search rules in
-    let R : TileRect → ℕ → PlaneFault → Type 0 = λ r set fault. IsDecodingHalted r.w r.h (set_entry c.args.setup.now set) c.args.states.now.items c.args.bits.now.left fault in
-    let told : R c.plane_rect-rect.result c.table_set-set.result (plane_faults.Code c.in-Err-Code.fault c.in-Err-Code.sample) = subst (R c.plane_rect-rect.result c.table_set-set.result) c.in-Err-Code.field-0-is c.in-Err-Code.ensures.err in
-    let there : R (plane_rect (grid_of c.args.setup.now) c.args.head.now.tile c.args.plane) (plane_set c.args.head.now c.args.plane) (plane_faults.Code c.in-Err-Code.fault c.in-Err-Code.sample) =
-    subst (λ (set : ℕ). R (plane_rect (grid_of c.args.setup.now) c.args.head.now.tile c.args.plane) set (plane_faults.Code c.in-Err-Code.fault c.in-Err-Code.sample)) c.table_set-set.ensures
-    (subst (λ (r : TileRect). R r c.table_set-set.result (plane_faults.Code c.in-Err-Code.fault c.in-Err-Code.sample)) rect told) in
-    let all = tile_plane_stops c.args.setup.now c.args.head.now c.args.plane c.args.states.now.items c.args.bits.now.left c.in-Err-Code.fault c.in-Err-Code.sample within.some_columns there in
-    let S : TileRect → Type 0 = λ r. IsPlaneOfHalted c.args.setup.now c.args.head.now c.args.plane c.args.states.now.items c.args.bits.now.left (Code c.in-Err-Code.fault c.args.plane (c.in-Err-Code.sample / r.w) (c.in-Err-Code.sample % r.w)) in
+    let R : TileRect → SetTables → PlaneFault → Type 0 = λ r t fault.
+    IsDecodingHalted r.w r.h (set_entry t.setup t.set) c.args.states.items c.args.bits.now.left fault in
+    let told : R c.plane_rect-rect.result c.args.tables.now (plane_faults.Code c.in-Err-Code.fault c.in-Err-Code.sample) =
+    subst (R c.plane_rect-rect.result c.args.tables.now) c.in-Err-Code.field-0-is c.in-Err-Code.ensures.err in
+    let there = subst (λ (t : SetTables). R (plane_rect (grid_of c.args.setup.now) c.args.head.now.tile c.args.plane) t
+    (plane_faults.Code c.in-Err-Code.fault c.in-Err-Code.sample)) c.requires.tables
+    (subst (λ (r : TileRect). R r c.args.tables.now (plane_faults.Code c.in-Err-Code.fault c.in-Err-Code.sample)) rect told) in
+    let all = tile_plane_stops c.args.setup.now c.args.head.now c.args.plane c.args.states.items c.args.bits.now.left c.in-Err-Code.fault
+    c.in-Err-Code.sample within.some_columns there in
+    let S : TileRect → Type 0 = λ r. IsPlaneOfHalted c.args.setup.now c.args.head.now c.args.plane c.args.states.items c.args.bits.now.left
+    (Code c.in-Err-Code.fault c.args.plane (c.in-Err-Code.sample / r.w) (c.in-Err-Code.sample % r.w)) in
     subst S (sym rect) all

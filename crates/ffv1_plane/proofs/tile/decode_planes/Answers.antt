@@ -14,17 +14,20 @@ returns-in_err-cb-clause-err c =
     let p = err_from_is_err_and c.from_residual-in_err-cb.result c.from_residual-in_err-cb.ensures.1 in
     let colour : c.args.setup.now.has_chroma ≡ true = sym c.if-has_chroma.ensures in
     rw (p.1, p.2)
-    (chroma_planes c.args.setup.now c.args.head.now c.requires.profile c.requires.tile c.args.bits.now.left c.decode_luma.new.bits.left c.in_ok-luma.luma.items colour c.in_ok-luma.ensures.ok _ c.in_err-cb.ensures.err)
+    (chroma_planes c.args.setup.now c.args.head.now c.requires.profile c.requires.tile c.args.bits.now.left c.decode_luma.new.bits.left
+    c.in_ok-luma.luma.items colour c.in_ok-luma.ensures.ok _ c.in_err-cb.ensures.err)
 
 pub returns-in_ok-vec-clause-ok : goal.returns-in_ok-vec-clause-ok
 returns-in_ok-vec-clause-ok c =
     let colour : c.args.setup.now.has_chroma ≡ true = sym c.if-has_chroma.ensures in
     rw c.in_ok-vec.ensures.items
-    (colour_read c.args.setup.now c.args.head.now c.requires.profile c.requires.tile c.args.bits.now.left c.decode_luma.new.bits.left c.decode_chroma.new.bits.left
+    (colour_read c.args.setup.now c.args.head.now c.requires.profile c.requires.tile c.args.bits.now.left c.decode_luma.new.bits.left
+    c.decode_chroma.new.bits.left
     c.in_ok-luma.luma.items c.in_ok-cb.cb.items c.in_ok-cb.cr.items colour c.in_ok-luma.ensures.ok c.in_ok-cb.ensures.ok)
 
 pub returns-in_ok-vec-2-clause-ok : goal.returns-in_ok-vec-2-clause-ok
 returns-in_ok-vec-2-clause-ok c =
     let gray : c.args.setup.now.has_chroma ≡ false = sym c.if-has_chroma.ensures in
     rw c.in_ok-vec-2.ensures.items
-    (gray_read c.args.setup.now c.args.head.now c.requires.profile c.requires.tile c.args.bits.now.left c.decode_luma.new.bits.left c.in_ok-luma.luma.items gray c.in_ok-luma.ensures.ok)
+    (gray_read c.args.setup.now c.args.head.now c.requires.profile c.requires.tile c.args.bits.now.left c.decode_luma.new.bits.left c.in_ok-luma.luma.items
+    gray c.in_ok-luma.ensures.ok)

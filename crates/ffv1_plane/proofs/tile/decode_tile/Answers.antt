@@ -20,23 +20,30 @@ pub returns-in_err-planes-clause-refused : goal.returns-in_err-planes-clause-ref
 returns-in_err-planes-clause-refused c =
     let p = err_from_is_err_and c.from_residual-in_err-planes.result c.from_residual-in_err-planes.ensures.1 in
     let tile : c.in_ok-head.head.tile ≡ c.args.index = omega arith in
-    let left : c.new-bits.result.left ≡ bits_of (drop c.in_ok-head.place c.args.content.now) = c.new-bits.ensures.left ∙ ap bits_of (behind_place c.in_ok-head.place c.args.content.now) in
+    let left : c.new-bits.result.left ≡ bits_of (drop c.in_ok-head.place c.args.content.now) = c.new-bits.ensures.left
+    ∙ ap bits_of (behind_place c.in_ok-head.place c.args.content.now) in
     rw (p.1, p.2)
-    (planes_refused c.args.setup.now c.args.index c.args.content.now c.in_ok-head.head c.in_ok-head.place c.new-bits.result.left c.in_ok-head.ensures.found tile left _ c.in_err-planes.ensures.err)
+    (planes_refused c.args.setup.now c.args.index c.args.content.now c.in_ok-head.head c.in_ok-head.place c.new-bits.result.left c.in_ok-head.ensures.found
+    tile left _ c.in_err-planes.ensures.err)
 
 pub returns-in_err-planes-clause-found : goal.returns-in_err-planes-clause-found
 returns-in_err-planes-clause-found c = λ picture is.
     let p = err_from_is_err_and c.from_residual-in_err-planes.result c.from_residual-in_err-planes.ensures.1 in
     let tile : c.in_ok-head.head.tile ≡ c.args.index = omega arith in
-    let left : c.new-bits.result.left ≡ bits_of (drop c.in_ok-head.place c.args.content.now) = c.new-bits.ensures.left ∙ ap bits_of (behind_place c.in_ok-head.place c.args.content.now) in
-    let told = planes_refused c.args.setup.now c.args.index c.args.content.now c.in_ok-head.head c.in_ok-head.place c.new-bits.result.left c.in_ok-head.ensures.found tile left _ c.in_err-planes.ensures.err in
-    rw (p.1, p.2) (⊎_elim (λ memory. memory) (λ refused. absurd (one_answer.no_picture c.args.setup.now c.args.index c.args.content.now _ picture c.keeps_profile.ensures c.requires.tile refused is)) told)
+    let left : c.new-bits.result.left ≡ bits_of (drop c.in_ok-head.place c.args.content.now) = c.new-bits.ensures.left
+    ∙ ap bits_of (behind_place c.in_ok-head.place c.args.content.now) in
+    let told = planes_refused c.args.setup.now c.args.index c.args.content.now c.in_ok-head.head c.in_ok-head.place c.new-bits.result.left
+    c.in_ok-head.ensures.found tile left _ c.in_err-planes.ensures.err in
+    rw (p.1, p.2) (⊎_elim (λ memory. memory) (λ refused. absurd (one_answer.no_picture c.args.setup.now c.args.index c.args.content.now _ picture
+    c.keeps_profile.ensures c.requires.tile refused is)) told)
 
 pub returns-clause-ok : goal.returns-clause-ok
 returns-clause-ok c =
     let tile : c.in_ok-head.head.tile ≡ c.args.index = omega arith in
-    let left : c.new-bits.result.left ≡ bits_of (drop c.in_ok-head.place c.args.content.now) = c.new-bits.ensures.left ∙ ap bits_of (behind_place c.in_ok-head.place c.args.content.now) in
-    picture_is c.args.setup.now c.args.index c.args.content.now c.in_ok-head.head c.in_ok-head.place c.new-bits.result.left c.decode_planes.new.bits.left _ c.left-spare_bits.result
+    let left : c.new-bits.result.left ≡ bits_of (drop c.in_ok-head.place c.args.content.now) = c.new-bits.ensures.left
+    ∙ ap bits_of (behind_place c.in_ok-head.place c.args.content.now) in
+    picture_is c.args.setup.now c.args.index c.args.content.now c.in_ok-head.head c.in_ok-head.place c.new-bits.result.left c.decode_planes.new.bits.left _
+    c.left-spare_bits.result
     c.in_ok-head.ensures.found tile left c.in_ok-planes.ensures.ok c.left-spare_bits.ensures.value
 
 pub returns-clause-found : goal.returns-clause-found
@@ -70,11 +77,15 @@ pub returns-in_err-planes-clause-stuck : goal.returns-in_err-planes-clause-stuck
 returns-in_err-planes-clause-stuck c = λ fault plane y x is.
     let p = err_from_is_err_and c.from_residual-in_err-planes.result c.from_residual-in_err-planes.ensures.1 in
     let tile : c.in_ok-head.head.tile ≡ c.args.index = omega arith in
-    let left : c.new-bits.result.left ≡ bits_of (drop c.in_ok-head.place c.args.content.now) = c.new-bits.ensures.left ∙ ap bits_of (behind_place c.in_ok-head.place c.args.content.now) in
-    let told = planes_refused c.args.setup.now c.args.index c.args.content.now c.in_ok-head.head c.in_ok-head.place c.new-bits.result.left c.in_ok-head.ensures.found tile left _ c.in_err-planes.ensures.err in
+    let left : c.new-bits.result.left ≡ bits_of (drop c.in_ok-head.place c.args.content.now) = c.new-bits.ensures.left
+    ∙ ap bits_of (behind_place c.in_ok-head.place c.args.content.now) in
+    let told = planes_refused c.args.setup.now c.args.index c.args.content.now c.in_ok-head.head c.in_ok-head.place c.new-bits.result.left
+    c.in_ok-head.ensures.found tile left _ c.in_err-planes.ensures.err in
     rw (p.1, p.2)
-    (⊎_elim (λ memory. inl memory) (λ refused. inr (one_answer.one_fault c.args.setup.now c.args.index c.args.content.now _ (Code fault plane y x) c.keeps_profile.ensures c.requires.tile refused is)) told)
+    (⊎_elim (λ memory. inl memory) (λ refused. inr (one_answer.one_fault c.args.setup.now c.args.index c.args.content.now _
+    (Code fault plane y x) c.keeps_profile.ensures c.requires.tile refused is)) told)
 
 pub returns-clause-stuck : goal.returns-clause-stuck
 returns-clause-stuck c = λ fault plane y x is.
-    absurd (one_answer.no_picture c.args.setup.now c.args.index c.args.content.now (Code fault plane y x) _ c.keeps_profile.ensures c.requires.tile is (returns-clause-ok c))
+    absurd (one_answer.no_picture c.args.setup.now c.args.index c.args.content.now (Code fault plane y x) _ c.keeps_profile.ensures c.requires.tile is
+    (returns-clause-ok c))

@@ -18,11 +18,16 @@ loop-k-preserved c =
     let left : 31 - c.loop-k.k ≡ 32 - (c.loop-k.k + 1) = omega arith in
     record {
       going =
-          subst (λ n. Continues Range (context_deltas 32 0) c.args.decoder.now c.args.rows.now (context_deltas n (c.loop-k.k + 1)) c.read_delta.new.decoder c.read_delta.new.rows) left
+          subst (λ n. Continues Range (context_deltas 32 0) c.args.decoder.now c.args.rows.now
+          (context_deltas n (c.loop-k.k + 1)) c.read_delta.new.decoder c.read_delta.new.rows) left
           (context_turn (context_deltas 32 0) (32 - c.loop-k.k) (31 - c.loop-k.k) c.loop-k.k c.in_ok-read_delta.field-0 c.args.decoder.now c.loop-k.decoder
           c.read_delta.new.decoder c.args.rows.now c.loop-k.rows c.read_delta.new.rows (omega arith) c.loop-k.invariant.going c.in_ok-read_delta.ensures.read);
       rows = c.in_ok-read_delta.ensures.in_range;
-      alive = λ h. (c.in_ok-read_delta.ensures.read.0, at_ok c.loop-k.decoder c.read_delta.new.decoder c.in_ok-read_delta.ensures.read.0 c.in_ok-read_delta.ensures.read.2);
+      alive = λ h. (
+        c.in_ok-read_delta.ensures.read.0,
+        at_ok c.loop-k.decoder c.read_delta.new.decoder c.in_ok-read_delta.ensures.read.0
+            c.in_ok-read_delta.ensures.read.2,
+      );
     }
 
 pub returns-clause-read : goal.returns-clause-read

@@ -9,7 +9,8 @@ pub returns-in_err-read_context_deltas-clause-read : goal.returns-in_err-read_co
 returns-in_err-read_context_deltas-clause-read c =
     let p = err_from_is_err_and c.from_residual.result c.from_residual.ensures.1 in
     rw (p.1, p.2)
-    (contexts_fails (contexts_deltas c.args.contexts) (c.args.contexts - c.loop.counter) (c.args.contexts - (c.loop.counter + 1)) c.in_err-read_context_deltas.field-0.0
+    (contexts_fails (contexts_deltas c.args.contexts) (c.args.contexts - c.loop.counter)
+    (c.args.contexts - (c.loop.counter + 1)) c.in_err-read_context_deltas.field-0.0
     c.args.decoder.now c.loop.decoder c.read_context_deltas.new.decoder c.args.rows.now c.loop.rows c.read_context_deltas.new.rows (omega arith)
     c.loop.invariant.going c.in_err-read_context_deltas.ensures.read)
 
@@ -29,5 +30,6 @@ loop-preserved c =
 
 pub returns-clause-read : goal.returns-clause-read
 returns-clause-read c =
-    contexts_end (contexts_deltas c.args.contexts) (c.args.contexts - c.loop.counter) c.args.decoder.now c.loop.decoder c.args.rows.now c.loop.rows (omega arith)
+    contexts_end (contexts_deltas c.args.contexts) (c.args.contexts - c.loop.counter) c.args.decoder.now c.loop.decoder c.args.rows.now c.loop.rows
+    (omega arith)
     c.loop.invariant.alive c.loop.invariant.going

@@ -1,7 +1,7 @@
 use Rattle.std.proofs.Common.{drop}
 use Rattle.ffv1_range.specs.Decoder.{AreStates}
 use Rattle.ffv1_range.specs.TableForms.{AreRows, fresh_rows, sets_deltas}
-use Rattle.ffv1_range.specs.TableViews.{contexts_of}
+use Rattle.ffv1_range.specs.Views.{contexts_of}
 use Rattle.ffv1_range.specs.declared.fault.SetupFault.TheVariants.{Range}
 use Rattle.ffv1_range.proofs.Forms.{Continues, IsAtPlace}
 use Rattle.ffv1_range.proofs.deltas.read_deltas.Given as goal
@@ -9,7 +9,8 @@ use Rattle.ffv1_range.proofs.deltas.read_deltas.Given as goal
 abbrev pub invariant-loop-set : goal.invariant-loop-set
 invariant-loop-set l =
     record {
-      going : Continues Range (sets_deltas (contexts_of l.sets)) l.fn.decoder (l.fn.states, fresh_rows) (sets_deltas (contexts_of (drop l.set-index l.sets))) l.decoder (l.states, l.rows);
+      going : Continues Range (sets_deltas (contexts_of l.sets)) l.fn.decoder (l.fn.states, fresh_rows)
+          (sets_deltas (contexts_of (drop l.set-index l.sets))) l.decoder (l.states, l.rows);
       states : AreStates l.states;
       rows : AreRows l.rows;
       alive : IsAtPlace l.decoder;

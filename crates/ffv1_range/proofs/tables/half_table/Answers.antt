@@ -4,7 +4,8 @@ use Rattle.ffv1_range.proofs.tables.half_table.Goals as goal
 
 pub loop-index-preserved : goal.loop-index-preserved
 loop-index-preserved c =
-    let more = half_more c.args.scale c.args.runs.now c.lengths-length-items.result.now c.loop-index.half c.fill.new.half c.loop-index.index c.loop-index.from c.from.result
+    let more = half_more c.args.scale c.args.runs.now c.lengths-length-items.result.now c.loop-index.half c.fill.new.half c.loop-index.index
+    c.loop-index.from c.from.result
     c.lengths-length-items.ensures.value c.loop-index-test.true c.loop-index.invariant.from c.from.ensures c.loop-index.invariant.filled c.fill.ensures.filled
     c.fill.ensures.before in
     record { from = more.from; room = c.fill.array_long; filled = more.filled }

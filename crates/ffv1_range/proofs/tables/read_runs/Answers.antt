@@ -11,14 +11,23 @@ use Rattle.ffv1_range.proofs.tables.read_runs.Goals as goal
 
 pub loop-filled-init : goal.loop-filled-init
 loop-filled-init c =
-    record { going = continue_start Range (runs_from 128 0 []) c.args.decoder.now fresh_row; states = fresh_row-states; alive = λ h. absurd (omega arith); runs = omega arith; whole = omega arith; room = search rules; sum = search rules }
+    record {
+      going = continue_start Range (runs_from 128 0 []) c.args.decoder.now fresh_row;
+      states = fresh_row-states;
+      alive = λ h. absurd (omega arith);
+      runs = omega arith;
+      whole = omega arith;
+      room = search rules;
+      sum = search rules;
+    }
 
 pub returns-in_err-less : goal.returns-in_err-less
 returns-in_err-less c =
     let p = err_from_is_err_and c.from_residual.result c.from_residual.ensures.1 in
     rw (p.1, p.2)
     (table_fails (Range c.in_err-less.field-0.0) c.args.decoder.now c.unsigned.new.self
-    (run_fails (runs_from 128 0 []) (128 - c.loop-filled.count) (127 - c.loop-filled.count) c.loop-filled.filled (take c.loop-filled.count c.loop-filled.lengths)
+    (run_fails (runs_from 128 0 []) (128 - c.loop-filled.count) (127 - c.loop-filled.count) c.loop-filled.filled
+    (take c.loop-filled.count c.loop-filled.lengths)
     c.in_err-less.field-0.0 c.args.decoder.now c.loop-filled.decoder c.unsigned.new.self fresh_row c.loop-filled.states c.unsigned.new.states
     (omega (arith, c.loop-filled.invariant.runs)) c.loop-filled-test.true c.loop-filled.invariant.going c.in_err-less.ensures.read))
 
@@ -32,13 +41,18 @@ returns-then-less-filled c =
 
 pub loop-filled-preserved : goal.loop-filled-preserved
 loop-filled-preserved c =
-    let more : take (c.loop-filled.count + 1) (set c.loop-filled.lengths c.loop-filled.count (c.in_ok-less.less + 1)) ≡ take c.loop-filled.count c.loop-filled.lengths ++ (c.in_ok-less.less + 1) ∷ [] =
-    take_more_set c.loop-filled.lengths c.loop-filled.count (c.in_ok-less.less + 1) (omega (arith, c.loop-filled.invariant.runs, c.loop-filled.invariant.room)) in
+    let more : take (c.loop-filled.count + 1) (set c.loop-filled.lengths c.loop-filled.count (c.in_ok-less.less + 1))
+    ≡ take c.loop-filled.count c.loop-filled.lengths ++ (c.in_ok-less.less + 1) ∷ [] =
+    take_more_set c.loop-filled.lengths c.loop-filled.count (c.in_ok-less.less + 1)
+    (omega (arith, c.loop-filled.invariant.runs, c.loop-filled.invariant.room)) in
     let left : 127 - c.loop-filled.count ≡ 128 - (c.loop-filled.count + 1) = omega arith in
     record {
       going =
-          subst (λ z. Continues Range (runs_from 128 0 []) c.args.decoder.now fresh_row (runs_from (128 - (c.loop-filled.count + 1)) (c.loop-filled.filled + (c.in_ok-less.less + 1)) z) c.unsigned.new.self c.unsigned.new.states) (sym more)
-          (subst (λ n. Continues Range (runs_from 128 0 []) c.args.decoder.now fresh_row (runs_from n (c.loop-filled.filled + (c.in_ok-less.less + 1)) (take c.loop-filled.count c.loop-filled.lengths ++ (c.in_ok-less.less + 1) ∷ [])) c.unsigned.new.self c.unsigned.new.states) left
+          subst (λ z. Continues Range (runs_from 128 0 []) c.args.decoder.now fresh_row
+          (runs_from (128 - (c.loop-filled.count + 1)) (c.loop-filled.filled + (c.in_ok-less.less + 1)) z) c.unsigned.new.self c.unsigned.new.states) (sym more)
+          (subst (λ n. Continues Range (runs_from 128 0 []) c.args.decoder.now fresh_row
+          (runs_from n (c.loop-filled.filled + (c.in_ok-less.less + 1)) (take c.loop-filled.count c.loop-filled.lengths ++ (c.in_ok-less.less + 1) ∷ []))
+          c.unsigned.new.self c.unsigned.new.states) left
           (run_turn (runs_from 128 0 []) (128 - c.loop-filled.count) (127 - c.loop-filled.count) c.loop-filled.filled c.in_ok-less.less
           (take c.loop-filled.count c.loop-filled.lengths) c.args.decoder.now c.loop-filled.decoder c.unsigned.new.self fresh_row c.loop-filled.states
           c.unsigned.new.states (omega (arith, c.loop-filled.invariant.runs)) c.loop-filled-test.true (omega arith) c.loop-filled.invariant.going
@@ -48,7 +62,8 @@ loop-filled-preserved c =
       runs = omega (arith, c.loop-filled.invariant.runs);
       whole = omega arith;
       room = search (rules, c.loop-filled.invariant.room);
-      sum = ap sum more ∙ sum_by_push (λ x. x) (take c.loop-filled.count c.loop-filled.lengths) (c.in_ok-less.less + 1) ∙ omega (arith, c.loop-filled.invariant.sum);
+      sum = ap sum more ∙ sum_by_push (λ x. x) (take c.loop-filled.count c.loop-filled.lengths) (c.in_ok-less.less + 1)
+          ∙ omega (arith, c.loop-filled.invariant.sum);
     }
 
 pub returns : goal.returns

@@ -36,7 +36,9 @@ loop-table-preserved c =
 
 pub returns : goal.returns
 returns c =
-    subst (λ z. Reads Range (tables_from 5 1 []) c.args.decoder.now tt (Ok (record { halves = z; contexts = (c.loop-table.scale + 1) / 2 })) c.loop-table.decoder tt)
+    subst (λ z. Reads Range (tables_from 5 1 []) c.args.decoder.now tt
+    (Ok (record { halves = z; contexts = (c.loop-table.scale + 1) / 2 })) c.loop-table.decoder tt)
     (take_all c.loop-table.table c.loop-table.halves (omega (arith, c.loop-table.invariant.five)))
-    (set_end (tables_from 5 1 []) (5 - c.loop-table.table) c.loop-table.scale (take c.loop-table.table c.loop-table.halves) c.args.decoder.now c.loop-table.decoder
+    (set_end (tables_from 5 1 []) (5 - c.loop-table.table) c.loop-table.scale
+    (take c.loop-table.table c.loop-table.halves) c.args.decoder.now c.loop-table.decoder
     (omega arith) (c.loop-table.invariant.alive (omega arith)) c.loop-table.invariant.going)

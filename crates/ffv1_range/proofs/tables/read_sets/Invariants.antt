@@ -1,7 +1,7 @@
 use Rattle.std.proofs.Common.{◌≡◌, ◌-◌, ◌<◌, []}
 use Rattle.std.specs.Prelude.{vec_capacity, vec_len}
 use Rattle.ffv1_range.specs.TableForms.{sets_from}
-use Rattle.ffv1_range.specs.TableViews.{set_values}
+use Rattle.ffv1_range.specs.Views.{set_values}
 use Rattle.ffv1_range.specs.declared.fault.SetupFault.TheVariants.{Range}
 use Rattle.ffv1_range.proofs.Forms.{Continues, IsAtPlace}
 use Rattle.ffv1_range.proofs.tables.read_sets.Given as goal

@@ -7,8 +7,10 @@ returns-in_default-clause-err c = cut_escape c.args.k c.args.bits.now.left c.in_
 
 pub returns-then-number-k-lt-ESCAPE_ZEROS-clause-err : goal.returns-then-number-k-lt-ESCAPE_ZEROS-clause-err
 returns-then-number-k-lt-ESCAPE_ZEROS-clause-err c =
-    needless c.args.k c.in-Some.low c.args.bits.now.left c.take.new.self.left c.in-Some.ensures.fits c.if-number-k-lt-ESCAPE_ZEROS.true c.in-Some.ensures.some.begins
+    needless c.args.k c.in-Some.low c.args.bits.now.left c.take.new.self.left c.in-Some.ensures.fits c.if-number-k-lt-ESCAPE_ZEROS.true
+    c.in-Some.ensures.some.begins
 
 pub returns-then-number-gt-LARGEST_NUMBER-clause-err : goal.returns-then-number-gt-LARGEST_NUMBER-clause-err
 returns-then-number-gt-LARGEST_NUMBER-clause-err c =
-    large_escape c.args.k c.in-Some.low _ c.args.bits.now.left c.take.new.self.left c.in-Some.ensures.fits refl c.if-number-k-lt-ESCAPE_ZEROS.false c.if-number-gt-LARGEST_NUMBER.true c.in-Some.ensures.some.begins
+    large_escape c.args.k c.in-Some.low _ c.args.bits.now.left c.take.new.self.left c.in-Some.ensures.fits refl c.if-number-k-lt-ESCAPE_ZEROS.false
+    c.if-number-gt-LARGEST_NUMBER.true c.in-Some.ensures.some.begins

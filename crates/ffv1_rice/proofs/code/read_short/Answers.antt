@@ -11,5 +11,9 @@ returns-then-number-gt-LARGEST_NUMBER-clause-err c =
 
 pub returns-clause-suffix : goal.returns-clause-suffix
 returns-clause-suffix c =
-    rw (shifted_low c.args.k c.args.zeros c.in-Some.low c.requires.zeros c.requires.parameter, short_suffix c.args.k c.args.zeros c.in-Some.low c.in-Some.ensures.fits)
+    rw (
+      shifted_low c.args.k c.args.zeros c.in-Some.low c.requires.zeros c.requires.parameter,
+      short_suffix c.args.k c.args.zeros c.in-Some.low
+          c.in-Some.ensures.fits,
+    )
     c.in-Some.ensures.some

@@ -1,6 +1,5 @@
 use Rattle.std.proofs.Common.{◌≡◌, ◌++◌, length}
 use Rattle.std.specs.List.{filter_map}
-use Rattle.ffv1_slice.specs.Walk.{Walk}
 use Rattle.ffv1_slice.specs.Slices.{slice_at}
 use Rattle.ffv1_slice.proofs.found.find_slices.Given as goal
 

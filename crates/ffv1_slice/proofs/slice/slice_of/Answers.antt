@@ -1,4 +1,4 @@
-use Rattle.std.proofs.Common.{◌≡◌, Result, ap, ◌∙◌, subst, ℕ}
+use Rattle.std.proofs.Common.{◌≡◌, ap, ◌∙◌, subst}
 use Rattle.std.specs.Prelude.{◌==◌}
 use Rattle.ffv1_slice.specs.Chain.{IsFramed}
 use Rattle.ffv1_slice.specs.Slices.{slice_read}

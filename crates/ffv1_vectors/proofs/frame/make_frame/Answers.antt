@@ -13,7 +13,8 @@ loop-tile-preserved c =
     let tiles = c.deref-tile_spec-items.ensures.value in
     let grown : c.extend_from_slice.new.self.items ≡ c.loop-tile.payload.items ++ c.in_ok-slice.slice.items =
     c.in_ok-extend_from_slice.ensures.items ∙ ap (λ bytes. c.loop-tile.payload.items ++ bytes) c.deref.ensures.value in
-    made_more c.args.setup.now c.args.spec.now c.loop-tile.tile c.loop-tile.payload.items c.extend_from_slice.new.self.items c.in_ok-slice.slice.items c.tile_spec-item.result
+    made_more c.args.setup.now c.args.spec.now c.loop-tile.tile c.loop-tile.payload.items c.extend_from_slice.new.self.items c.in_ok-slice.slice.items
+    c.tile_spec-item.result
     c.loop-tile.invariant grown (omega (arith, c.in_ok-slice.slice.ok.0, c.loop-tile.payload.ok.0))
     (λ (d : TileSpec).
     c.tile_spec-item.is ∙ get_or_default c.deref-tile_spec-items.result.now c.loop-tile.tile c.tile_spec-item.result d c.loop-tile-test.true

@@ -26,15 +26,18 @@ returns-clause-frame c =
     let payload = c.args.payload.now in
     let P : List Piece → Type 0 = λ links. IfOk c.draw_links.result (IsDrawnOf c.self.inside.setup links (length links)) in
     let Q : SetupValue → Type 0 = λ s. IfOk c.draw_links.result (IsDecodedFrame s payload) in
-    subst Q c.self.view_is (decoded c.self.inside.setup payload (is_ordered c) c.draw_links.result (subst P (c.deref-2.ensures.value ∙ c.in_ok-links.ensures) c.draw_links.ensures.ok))
+    subst Q c.self.view_is (decoded c.self.inside.setup payload (is_ordered c) c.draw_links.result
+    (subst P (c.deref-2.ensures.value ∙ c.in_ok-links.ensures) c.draw_links.ensures.ok))
 
 pub returns-clause-fault : goal.returns-clause-fault
 returns-clause-fault c =
     let payload = c.args.payload.now in
     let P : List Piece → Type 0 = λ links. IfErr c.draw_links.result (IsFirstUnreadable c.self.inside.setup links) in
     let Q : SetupValue → Type 0 = λ s. IfErr c.draw_links.result (IsFirstFault s payload) in
-    subst Q c.self.view_is (first_fault c.self.inside.setup payload (is_ordered c) c.draw_links.result (subst P (c.deref-2.ensures.value ∙ c.in_ok-links.ensures) c.draw_links.ensures.err))
+    subst Q c.self.view_is (first_fault c.self.inside.setup payload (is_ordered c) c.draw_links.result
+    (subst P (c.deref-2.ensures.value ∙ c.in_ok-links.ensures) c.draw_links.ensures.err))
 
 pub returns-clause-found : goal.returns-clause-found
 returns-clause-found c pictures spells =
-    found c.args.self.now c.args.payload.now pictures spells (subst IsInProfile c.self.view_is c.keeps_profile.ensures) c.draw_links.result (returns-clause-frame c) (returns-clause-fault c)
+    found c.args.self.now c.args.payload.now pictures spells (subst IsInProfile c.self.view_is c.keeps_profile.ensures) c.draw_links.result
+    (returns-clause-frame c) (returns-clause-fault c)

@@ -16,5 +16,6 @@ loop-plane-preserved c =
     let all : vec.items ≡ replicate (size.w * size.h) 128 = search rules in
     ap (map (λ plane. plane.items)) c.in_ok-push.ensures.items ∙ map-append (λ plane. plane.items) c.loop-plane.planes.items (vec ∷ [])
     ∙ ap (λ xs. xs ++ vec.items ∷ []) c.loop-plane.invariant
-    ∙ ap (λ xs. map (whole_plane g []) (range_with_len 0 n) ++ xs ∷ []) (blank_plane g n size vec.items (c.plane_size-size.ensures ∙ ap (λ v. frame_rect v n) c.grid-grid.ensures) all)
+    ∙ ap (λ xs. map (whole_plane g []) (range_with_len 0 n) ++ xs ∷ [])
+    (blank_plane g n size vec.items (c.plane_size-size.ensures ∙ ap (λ v. frame_rect v n) c.grid-grid.ensures) all)
     ∙ sym (map-range_with_len_more (whole_plane g []) 0 n n (omega arith))

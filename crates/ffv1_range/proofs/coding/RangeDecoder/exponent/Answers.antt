@@ -32,7 +32,8 @@ loop-exponent-preserved c =
     record {
       going =
           let left : 31 - c.loop-exponent.exponent ≡ 32 - (c.loop-exponent.exponent + 1) = omega arith in
-          subst (λ n. Continues same_fault (exponent_form 32 0) c.args.self.now c.args.states.now (exponent_form n (c.loop-exponent.exponent + 1)) c.slot.new.self c.slot.new.states) left
+          subst (λ n. Continues same_fault (exponent_form 32 0) c.args.self.now c.args.states.now
+          (exponent_form n (c.loop-exponent.exponent + 1)) c.slot.new.self c.slot.new.states) left
           (exponent_turn (32 - c.loop-exponent.exponent) (31 - c.loop-exponent.exponent) c.loop-exponent.exponent (1 + c.min.result) c.in_ok-slot.field-0
           c.args.self.now c.loop-exponent.self c.slot.new.self c.args.states.now c.loop-exponent.states c.slot.new.states
           (omega arith) (ap (λ x. 1 + x) c.min.ensures) c.if-not-branch.false c.loop-exponent.invariant.going c.in_ok-slot.ensures.read);

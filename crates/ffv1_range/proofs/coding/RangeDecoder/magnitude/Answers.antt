@@ -15,7 +15,8 @@ returns-in_err-bit-clause-read c =
 
 fits : (c : After-from) → (2 * c.loop-place.magnitude + c.from.result + 1) * 2 ^ (c.loop-place.place - 1) ≤ 2 ^ 32
 fits c =
-    fits_more c.loop-place.place (c.loop-place.place - 1) c.loop-place.magnitude c.from.result c.in_ok-bit.bit (omega arith) c.from.ensures c.loop-place.invariant.fits
+    fits_more c.loop-place.place (c.loop-place.place - 1) c.loop-place.magnitude c.from.result c.in_ok-bit.bit
+    (omega arith) c.from.ensures c.loop-place.invariant.fits
 
 pub overflow_mul-magnitude : goal.overflow_mul-magnitude
 overflow_mul-magnitude c =

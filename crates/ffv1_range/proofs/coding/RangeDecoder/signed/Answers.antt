@@ -17,7 +17,8 @@ pub returns-in_err-exponent-clause-read : goal.returns-in_err-exponent-clause-re
 returns-in_err-exponent-clause-read c =
     let p = err_from_is_err_and c.from_residual-in_err-exponent.result c.from_residual-in_err-exponent.ensures.1 in
     rw (p.1, p.2)
-    (signed_exponent_fails c.in_ok-slot.field-0 c.in_err-exponent.field-0.0 c.args.self.now c.slot.new.self c.exponent.new.self c.args.states.now c.slot.new.states
+    (signed_exponent_fails c.in_ok-slot.field-0 c.in_err-exponent.field-0.0 c.args.self.now c.slot.new.self c.exponent.new.self c.args.states.now
+    c.slot.new.states
     c.exponent.new.states c.if-branch.false c.in_ok-slot.ensures.read c.in_err-exponent.ensures.read)
 
 pub returns-in_err-magnitude-clause-read : goal.returns-in_err-magnitude-clause-read

@@ -1,8 +1,7 @@
 use Rattle.std.proofs.Common.{true, false, Err, sym, ap, ◌∙◌}
 use Rattle.std.proofs.lemmas.Result.{err_from_is_err_and}
-use Rattle.ffv1_range.specs.TableViews.{set_values, contexts_of}
+use Rattle.ffv1_range.specs.Views.{set_values, contexts_of, front_of}
 use Rattle.ffv1_range.specs.TableForms.{fresh_row}
-use Rattle.ffv1_range.specs.SetupViews.{front_of}
 use Rattle.ffv1_range.specs.declared.fault.SetupFault.TheVariants.{Range, Memory, Size}
 use Rattle.ffv1_range.proofs.TableSteps.{fresh_row-states}
 use Rattle.ffv1_range.proofs.SetupSteps.{not_checked, width_refused, height_refused, start_refused, opened, opened_read, front_fails, memory_refused, sets_fail, deltas_fail, last_fails, all_read, contexts_of-values}
@@ -47,7 +46,8 @@ returns-in_err-front c =
     (opened_read true c.args.config.now c.args.width c.args.height c.in_ok-decoder.decoder (Err c.in_err-front.field-0.0)
     (opened c.args.config.now c.in_ok-content.content.now c.args.width c.args.height c.in_ok-decoder.decoder c.in_ok-content.ensures
     (sym c.if-not-is_size.ensures) (sym c.if-not-is_size-2.ensures) c.in_ok-decoder.ensures)
-    (front_fails true c.args.width c.args.height c.in_err-front.field-0.0 c.in_ok-decoder.decoder c.read_front.new.decoder fresh_row c.read_front.new.states c.in_err-front.ensures.read)))
+    (front_fails true c.args.width c.args.height c.in_err-front.field-0.0 c.in_ok-decoder.decoder c.read_front.new.decoder fresh_row c.read_front.new.states
+    c.in_err-front.ensures.read)))
 
 pub returns-in_err-sets : goal.returns-in_err-sets
 returns-in_err-sets c =
@@ -57,7 +57,8 @@ returns-in_err-sets c =
     (opened_read false c.args.config.now c.args.width c.args.height c.in_ok-decoder.decoder (Err Memory)
     (opened c.args.config.now c.in_ok-content.content.now c.args.width c.args.height c.in_ok-decoder.decoder c.in_ok-content.ensures
     (sym c.if-not-is_size.ensures) (sym c.if-not-is_size-2.ensures) c.in_ok-decoder.ensures)
-    (memory_refused c.args.width c.args.height (front_of c.in_ok-front.front) c.in_ok-decoder.decoder c.read_front.new.decoder fresh_row c.read_front.new.states c.in_ok-front.ensures.read)))
+    (memory_refused c.args.width c.args.height (front_of c.in_ok-front.front) c.in_ok-decoder.decoder c.read_front.new.decoder fresh_row
+    c.read_front.new.states c.in_ok-front.ensures.read)))
 
 pub returns-in_err-read_sets : goal.returns-in_err-read_sets
 returns-in_err-read_sets c =
@@ -67,7 +68,8 @@ returns-in_err-read_sets c =
     (opened_read true c.args.config.now c.args.width c.args.height c.in_ok-decoder.decoder (Err c.in_err-read_sets.field-0.0)
     (opened c.args.config.now c.in_ok-content.content.now c.args.width c.args.height c.in_ok-decoder.decoder c.in_ok-content.ensures
     (sym c.if-not-is_size.ensures) (sym c.if-not-is_size-2.ensures) c.in_ok-decoder.ensures)
-    (sets_fail c.args.width c.args.height (front_of c.in_ok-front.front) c.in_err-read_sets.field-0.0 c.in_ok-decoder.decoder c.read_front.new.decoder c.read_sets.new.decoder fresh_row c.read_front.new.states c.in_ok-front.ensures.read c.in_err-read_sets.ensures.read)))
+    (sets_fail c.args.width c.args.height (front_of c.in_ok-front.front) c.in_err-read_sets.field-0.0 c.in_ok-decoder.decoder c.read_front.new.decoder
+    c.read_sets.new.decoder fresh_row c.read_front.new.states c.in_ok-front.ensures.read c.in_err-read_sets.ensures.read)))
 
 pub returns-in_err-read_deltas : goal.returns-in_err-read_deltas
 returns-in_err-read_deltas c =
@@ -77,7 +79,10 @@ returns-in_err-read_deltas c =
     (opened_read true c.args.config.now c.args.width c.args.height c.in_ok-decoder.decoder (Err c.in_err-read_deltas.field-0.0)
     (opened c.args.config.now c.in_ok-content.content.now c.args.width c.args.height c.in_ok-decoder.decoder c.in_ok-content.ensures
     (sym c.if-not-is_size.ensures) (sym c.if-not-is_size-2.ensures) c.in_ok-decoder.ensures)
-    (deltas_fail c.args.width c.args.height (front_of c.in_ok-front.front) (set_values c.read_sets.new.sets.items) (contexts_of c.deref.result.now) c.in_err-read_deltas.field-0.0 c.in_ok-decoder.decoder c.read_front.new.decoder c.read_sets.new.decoder c.read_deltas.new.decoder fresh_row c.read_front.new.states c.read_deltas.new.states (ap contexts_of c.deref.ensures.value ∙ contexts_of-values c.read_sets.new.sets.items) c.in_ok-front.ensures.read c.in_ok-read_sets.ensures.read c.in_err-read_deltas.ensures.read)))
+    (deltas_fail c.args.width c.args.height (front_of c.in_ok-front.front) (set_values c.read_sets.new.sets.items)
+    (contexts_of c.deref.result.now) c.in_err-read_deltas.field-0.0 c.in_ok-decoder.decoder c.read_front.new.decoder c.read_sets.new.decoder
+    c.read_deltas.new.decoder fresh_row c.read_front.new.states c.read_deltas.new.states (ap contexts_of c.deref.ensures.value
+    ∙ contexts_of-values c.read_sets.new.sets.items) c.in_ok-front.ensures.read c.in_ok-read_sets.ensures.read c.in_err-read_deltas.ensures.read)))
 
 pub returns-in_err-intra : goal.returns-in_err-intra
 returns-in_err-intra c =
@@ -87,11 +92,19 @@ returns-in_err-intra c =
     (opened_read true c.args.config.now c.args.width c.args.height c.in_ok-decoder.decoder (Err c.in_err-intra.field-0.0)
     (opened c.args.config.now c.in_ok-content.content.now c.args.width c.args.height c.in_ok-decoder.decoder c.in_ok-content.ensures
     (sym c.if-not-is_size.ensures) (sym c.if-not-is_size-2.ensures) c.in_ok-decoder.ensures)
-    (last_fails c.args.width c.args.height (front_of c.in_ok-front.front) (set_values c.read_sets.new.sets.items) (contexts_of c.deref.result.now) c.in_err-intra.field-0.0 c.in_ok-decoder.decoder c.read_front.new.decoder c.read_sets.new.decoder c.read_deltas.new.decoder c.read_last_fields.new.decoder fresh_row c.read_front.new.states c.read_deltas.new.states c.read_last_fields.new.states (ap contexts_of c.deref.ensures.value ∙ contexts_of-values c.read_sets.new.sets.items) c.in_ok-front.ensures.read c.in_ok-read_sets.ensures.read c.in_ok-read_deltas.ensures.read c.in_err-intra.ensures.read)))
+    (last_fails c.args.width c.args.height (front_of c.in_ok-front.front) (set_values c.read_sets.new.sets.items)
+    (contexts_of c.deref.result.now) c.in_err-intra.field-0.0 c.in_ok-decoder.decoder c.read_front.new.decoder c.read_sets.new.decoder
+    c.read_deltas.new.decoder c.read_last_fields.new.decoder fresh_row c.read_front.new.states c.read_deltas.new.states c.read_last_fields.new.states
+    (ap contexts_of c.deref.ensures.value ∙ contexts_of-values c.read_sets.new.sets.items) c.in_ok-front.ensures.read c.in_ok-read_sets.ensures.read
+    c.in_ok-read_deltas.ensures.read c.in_err-intra.ensures.read)))
 
 pub invariant_of-result : goal.invariant_of-result
 invariant_of-result c =
-    let read = all_read c.args.width c.args.height (front_of c.in_ok-front.front) (set_values c.read_sets.new.sets.items) (contexts_of c.deref.result.now) c.in_ok-intra.intra c.in_ok-decoder.decoder c.read_front.new.decoder c.read_sets.new.decoder c.read_deltas.new.decoder c.read_last_fields.new.decoder fresh_row c.read_front.new.states c.read_deltas.new.states c.read_last_fields.new.states (ap contexts_of c.deref.ensures.value ∙ contexts_of-values c.read_sets.new.sets.items) c.in_ok-front.ensures.read c.in_ok-read_sets.ensures.read c.in_ok-read_deltas.ensures.read c.in_ok-intra.ensures.read in
+    let read = all_read c.args.width c.args.height (front_of c.in_ok-front.front) (set_values c.read_sets.new.sets.items)
+    (contexts_of c.deref.result.now) c.in_ok-intra.intra c.in_ok-decoder.decoder c.read_front.new.decoder c.read_sets.new.decoder c.read_deltas.new.decoder
+    c.read_last_fields.new.decoder fresh_row c.read_front.new.states c.read_deltas.new.states c.read_last_fields.new.states
+    (ap contexts_of c.deref.ensures.value ∙ contexts_of-values c.read_sets.new.sets.items) c.in_ok-front.ensures.read c.in_ok-read_sets.ensures.read
+    c.in_ok-read_deltas.ensures.read c.in_ok-intra.ensures.read in
     read_in_profile c.args.config.now c.args.width c.args.height _
     (opened_read true c.args.config.now c.args.width c.args.height c.in_ok-decoder.decoder _
     (opened c.args.config.now c.in_ok-content.content.now c.args.width c.args.height c.in_ok-decoder.decoder c.in_ok-content.ensures
@@ -100,7 +113,11 @@ invariant_of-result c =
 
 pub returns : goal.returns
 returns c =
-    let read = all_read c.args.width c.args.height (front_of c.in_ok-front.front) (set_values c.read_sets.new.sets.items) (contexts_of c.deref.result.now) c.in_ok-intra.intra c.in_ok-decoder.decoder c.read_front.new.decoder c.read_sets.new.decoder c.read_deltas.new.decoder c.read_last_fields.new.decoder fresh_row c.read_front.new.states c.read_deltas.new.states c.read_last_fields.new.states (ap contexts_of c.deref.ensures.value ∙ contexts_of-values c.read_sets.new.sets.items) c.in_ok-front.ensures.read c.in_ok-read_sets.ensures.read c.in_ok-read_deltas.ensures.read c.in_ok-intra.ensures.read in
+    let read = all_read c.args.width c.args.height (front_of c.in_ok-front.front) (set_values c.read_sets.new.sets.items)
+    (contexts_of c.deref.result.now) c.in_ok-intra.intra c.in_ok-decoder.decoder c.read_front.new.decoder c.read_sets.new.decoder c.read_deltas.new.decoder
+    c.read_last_fields.new.decoder fresh_row c.read_front.new.states c.read_deltas.new.states c.read_last_fields.new.states
+    (ap contexts_of c.deref.ensures.value ∙ contexts_of-values c.read_sets.new.sets.items) c.in_ok-front.ensures.read c.in_ok-read_sets.ensures.read
+    c.in_ok-read_deltas.ensures.read c.in_ok-intra.ensures.read in
     answered c.args.config.now c.args.width c.args.height _
     (opened_read true c.args.config.now c.args.width c.args.height c.in_ok-decoder.decoder _
     (opened c.args.config.now c.in_ok-content.content.now c.args.width c.args.height c.in_ok-decoder.decoder c.in_ok-content.ensures

@@ -4,10 +4,14 @@ use Rattle.std.proofs.lemmas.Int.{ints, clamps}
 use Rattle.ffv1_rice.specs.States.{ContextState, IsUncorrected, corrected}
 use Rattle.ffv1_rice.proofs.state.Sums.corrected.Goals as goal
 
-fallen : (s : ContextState) (d b : ℤ) → s.drift ≤ℤ neg_ℤ (pos s.count) → d ≡ int_max (s.drift +ℤ pos s.count) (pos 1 -ℤ pos s.count) → b ≡ int_max (s.bias -ℤ pos 1) (neg_ℤ (pos 128)) → let r : ContextState = record { drift = d; error_sum = s.error_sum; bias = b; count = s.count } in r ≡ corrected s
+fallen : (s : ContextState) (d b : ℤ) → s.drift ≤ℤ neg_ℤ (pos s.count) → d ≡ int_max (s.drift +ℤ pos s.count) (pos 1 -ℤ pos s.count)
+    → b ≡ int_max (s.bias -ℤ pos 1) (neg_ℤ (pos 128)) → let r : ContextState = record { drift = d; error_sum = s.error_sum; bias = b; count = s.count } in
+    r ≡ corrected s
 fallen s d b h e f = grind (arith, ints)
 
-risen : (s : ContextState) (d b : ℤ) → neg_ℤ (pos s.count) <ℤ s.drift → pos 0 <ℤ s.drift → d ≡ int_min (s.drift -ℤ pos s.count) (pos 0) → b ≡ int_min (s.bias +ℤ pos 1) (pos 127) → let r : ContextState = record { drift = d; error_sum = s.error_sum; bias = b; count = s.count } in r ≡ corrected s
+risen : (s : ContextState) (d b : ℤ) → neg_ℤ (pos s.count) <ℤ s.drift → pos 0 <ℤ s.drift → d ≡ int_min (s.drift -ℤ pos s.count) (pos 0)
+    → b ≡ int_min (s.bias +ℤ pos 1) (pos 127) → let r : ContextState = record { drift = d; error_sum = s.error_sum; bias = b; count = s.count } in
+    r ≡ corrected s
 risen s d b h i e f = grind (arith, ints)
 
 pub returns-then-self-count-clause-value : goal.returns-then-self-count-clause-value
@@ -15,7 +19,8 @@ returns-then-self-count-clause-value c =
     let bounds : IsUncorrected _ = subst IsUncorrected (sym c.self.view_is) c.requires in
     rw (← c.self.view_is)
     (fallen (record { drift = c.self.inside.drift; error_sum = c.self.inside.error_sum; bias = c.self.inside.bias; count = c.self.inside.count })
-    (to_z w32 (of_z w32 c.max.result)) (to_z w32 (of_z w32 c.max-then-self-count.result)) (omega (arith, ints)) (omega (arith, ints, clamps, c.max.ensures.value)) (omega (arith, ints, clamps, c.max-then-self-count.ensures.value)))
+    (to_z w32 (of_z w32 c.max.result)) (to_z w32 (of_z w32 c.max-then-self-count.result)) (omega (arith, ints))
+    (omega (arith, ints, clamps, c.max.ensures.value)) (omega (arith, ints, clamps, c.max-then-self-count.ensures.value)))
 
 pub returns-then-self-count-clause-range : goal.returns-then-self-count-clause-range
 returns-then-self-count-clause-range c =

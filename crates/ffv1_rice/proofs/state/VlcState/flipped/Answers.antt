@@ -13,4 +13,5 @@ returns-then-self-clause-again c =
     let count : c.self-inside.inside.0.0.count ≡ c.self.inside.sums.count = ap (λ (s : Inside). s.sums.count) c.self-inside.view_is in
     let low : (pos 2 *ℤ c.self.inside.sums.drift) <ℤ neg_ℤ (pos c.self.inside.sums.count) = omega (arith, ints) in
     let P : ContextState → Type 0 = (λ s. (pos 2 *ℤ s.drift) <ℤ neg_ℤ (pos s.count)) in
-    flipped_again c.args.self.now c.args.coded (to_z w32 (of_z w32 (neg_ℤ (pos 1) -ℤ to_z w32 (of_z w32 c.args.coded)))) (subst P c.self.view_is low) (omega (arith, ints))
+    flipped_again c.args.self.now c.args.coded (to_z w32 (of_z w32 (neg_ℤ (pos 1) -ℤ to_z w32 (of_z w32 c.args.coded)))) (subst P c.self.view_is low)
+    (omega (arith, ints))

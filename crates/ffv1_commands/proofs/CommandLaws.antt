@@ -1,0 +1,288 @@
+-- What commands make of copies is the file of their holding, whatever tree of commands leads there.
+use Rattle.std.proofs.Common.{◌≡◌, ℕ, suc, ◌<◌, ◌≤◌, List, [], ◌∷◌, ◌++◌, length, map, get_or, Option, Some, None, refl, sym, ap, ◌∙◌, subst, arith, append_assoc, append-nil}
+use Rattle.std.specs.List.{flat_map}
+use Rattle.std.specs.Io.KnownBytes.{Appends}
+use Rattle.ffv1_bits.specs.Limits.{payload_limit}
+use Rattle.ffv1_range.specs.Setup.{SetupValue, IsSetupOf}
+use Rattle.ffv1_range.proofs.SetupFacts.{one_setup}
+use Rattle.ffv1_slice.specs.Slices.{IsOriginal}
+use Rattle.ffv1_hold.specs.Reels.{Reel}
+use Rattle.ffv1_hold.specs.Contents.{Contents, holding_of, joined, HasSameCopies}
+use Rattle.ffv1_hold.specs.ContentsLaws.{joined-holding_of, holding_of-same}
+use Rattle.ffv1_hold.specs.FileFaults.{IsFaultOf}
+use Rattle.ffv1_hold.specs.Headline.{IsReelOf}
+use Rattle.ffv1_hold.specs.HoldingText.{holding_text}
+use Rattle.ffv1_hold.specs.Joins.{joined_all}
+use Rattle.ffv1_hold.specs.Originals.{AreCopiesOf, HoldsExactly}
+use Rattle.ffv1_hold.specs.Standing.{restored_payload, IsLeastUnsettled}
+use Rattle.ffv1_hold.proofs.Answered.{refused_outside}
+use Rattle.ffv1_holding.proofs.ExactlyHeld.{exactly_held, near_are_copies}
+use Rattle.ffv1_hold.proofs.PlanSteps.{one_reel}
+use Rattle.ffv1_holding.proofs.Restored.{restored_original}
+use Rattle.ffv1_hold.proofs.TextLaws.{one_text}
+use Rattle.ffv1_picture.specs.Headline.{AreEqualInAll, ShowsSlices}
+use Rattle.ffv1_picture.specs.PartialPictures.{IsPartialPicture}
+use Rattle.ffv1_picture.specs.ReportText.{report_text}
+use Rattle.ffv1_picture.proofs.Restorations.{same_in_all, exact_settles, exact_shows}
+use Rattle.ffv1_commands.specs.Devices.{AreWholeInputs}
+use Rattle.ffv1_commands.specs.Holdings.{IsHoldingFile, HasFile, IsHoldingFault}
+use Rattle.ffv1_commands.specs.TakeText.{TakesCopies}
+use Rattle.ffv1_commands.specs.JoinText.{AreHoldingFiles, JoinsFiles}
+use Rattle.ffv1_commands.specs.RestoreText.{RestoreStops}
+use Rattle.ffv1_commands.specs.PictureText.{PictureStops}
+use Rattle.ffv1_commands.specs.ReportedText.{ReportsFile}
+use Rattle.ffv1_commands.specs.Commands.{IsMadeOf, IsOfDevices, RestoresOnly, ShowsOnly, MadeOfCopies, SameCopiesMakeOneHolding, SameCopiesMakeOneFile, SameCopiesMakeOneReport, CommandsRestoreTheOriginal, CommandsRestoreNearCopies}
+use Rattle.ffv1_commands.specs.Commands.IsMadeOf.{by_take, by_join}
+use Rattle.ffv1_hold.specs.declared.file_fault.HoldFileFault.{HoldFileFault}
+use Rattle.ffv1_commands.specs.declared.fault.CliFault.{CliFault}
+use Rattle.ffv1_commands.specs.declared.fault.CliFault.TheVariants as faults
+use Rattle.ffv1_commands.specs.declared.path.CommandPath.TheVariants as paths
+
+-- The file is that of the holding of the copies, under the reel of the record and the size.
+record IsFileOf (config : List ℕ) (width height : ℕ) (copies : List (List ℕ)) (file : List ℕ) : Type 0 where
+  reel : Reel
+  of_record : IsReelOf config width height reel
+  text : file ≡ holding_text (holding_of reel copies)
+  has : HasFile (holding_of reel copies)
+
+-- ---- what is read
+
+whole_inputs : (copies all : List (List ℕ)) → AreWholeInputs (map Some copies) all → copies ≡ all
+whole_inputs [] [] each = refl
+whole_inputs [] (b ∷ bs) each = absurd each
+whole_inputs (c ∷ cs) [] each = absurd each
+whole_inputs (c ∷ cs) (b ∷ bs) each =
+    let first : c ≡ b = each.0.told in
+    let rest : cs ≡ bs = whole_inputs cs bs each.1 in
+    cc
+
+-- a file is that of one holding
+one_holding : (g h : Contents) (file : List ℕ) → IsHoldingFile (Some file) g → file ≡ holding_text h → HasFile h → g ≡ h
+one_holding g h file is text has = one_text g h is.sound has.sound is.fits.record' has.fits.record' (sym is.text ∙ text)
+
+-- ---- a tree of commands
+
+module _ (config : List ℕ) (width height : ℕ) where
+  of_take : (copies : List (List ℕ)) (file : List ℕ) (before after : Option (List ℕ))
+      → TakesCopies (Some config) width height (map Some copies) (Some []) (Some file) before after → IsFileOf config width height copies file
+  of_take copies file before after takes =
+      let same : copies ≡ takes.copies = whole_inputs copies takes.copies takes.read in
+      let told : config ≡ takes.reel.config = takes.of_record.read.told in
+      record {
+        reel = takes.reel;
+        of_record = (sym told, subst (λ (c : List ℕ). IsSetupOf c width height takes.reel.setup) (sym told) takes.of_record.is_setup);
+        text = takes.file ∙ ap (λ cs. holding_text (holding_of takes.reel cs)) (sym same);
+        has = subst (λ (cs : List (List ℕ)). HasFile (holding_of takes.reel cs)) (sym same) takes.has_file;
+      }
+
+  -- the files of parts are those of the parts' holdings
+  held_of_parts : (reel : Reel) → IsReelOf config width height reel → (parts : List (List (List ℕ))) (files : List (List ℕ)) (hs : List Contents)
+      → length parts ≡ length files
+      → ((i : ℕ) → i < length files → IsFileOf config width height (get_or parts i []) (get_or files i [])) → AreHoldingFiles (map Some files) hs
+      → hs ≡ map (holding_of reel) parts
+  held_of_parts reel is [] [] [] l each are = refl
+  held_of_parts reel is [] [] (h ∷ hs) l each are = absurd are
+  held_of_parts reel is [] (f ∷ fs) hs l each are = absurd (omega arith)
+  held_of_parts reel is (p ∷ ps) [] hs l each are = absurd (omega arith)
+  held_of_parts reel is (p ∷ ps) (f ∷ fs) [] l each are = absurd are
+  held_of_parts reel is (p ∷ ps) (f ∷ fs) (h ∷ hs) l each are =
+      let own : IsFileOf config width height p f = each 0 (omega arith) in
+      let same : own.reel ≡ reel = one_reel config width height own.reel reel own.of_record is in
+      let first : h ≡ holding_of reel p =
+      one_holding h (holding_of reel p) f are.0 (own.text ∙ ap (λ r. holding_text (holding_of r p)) same)
+      (subst (λ (r : Reel). HasFile (holding_of r p)) same own.has) in
+      let rest : hs ≡ map (holding_of reel) ps = held_of_parts reel is ps fs hs (omega arith) (λ i lt. each (suc i) (omega arith)) are.1 in
+      λ i. first i ∷ rest i
+
+  -- their union is the holding of all of them
+  joined_parts : (reel : Reel) (before : List (List ℕ)) (parts : List (List (List ℕ)))
+      → joined_all joined (holding_of reel before) (map (holding_of reel) parts) ≡ holding_of reel (before ++ flat_map (λ part. part) parts)
+  joined_parts reel before [] = ap (holding_of reel) (sym (append-nil before))
+  joined_parts reel before (p ∷ ps) =
+      ap (λ h. joined_all joined h (map (holding_of reel) ps)) (joined-holding_of reel before p)
+      ∙ joined_parts reel (before ++ p) ps ∙ ap (holding_of reel) (append_assoc before p (flat_map (λ part. part) ps))
+
+  of_join : (parts : List (List (List ℕ))) (files : List (List ℕ)) (file : List ℕ) (before after : Option (List ℕ)) → length parts ≡ length files
+      → ((i : ℕ) → i < length files → IsFileOf config width height (get_or parts i []) (get_or files i []))
+      → JoinsFiles (map Some files) (Some []) (Some file) before after
+      → IsFileOf config width height (flat_map (λ part. part) parts) file
+  of_join [] [] file before after l each joins = absurd joins.each.files
+  of_join [] (f ∷ fs) file before after l each joins = absurd (omega arith)
+  of_join (p ∷ ps) [] file before after l each joins = absurd (omega arith)
+  of_join (p ∷ ps) (f ∷ fs) file before after l each joins =
+      let own : IsFileOf config width height p f = each 0 (omega arith) in
+      let reel : Reel = own.reel in
+      let held : joins.each.first ∷ joins.each.others ≡ map (holding_of own.reel) (p ∷ ps) = held_of_parts own.reel own.of_record (p ∷ ps) (f ∷ fs)
+      (joins.each.first ∷ joins.each.others) l each joins.each.files in
+      let first : joins.each.first ≡ holding_of own.reel p = cc in
+      let others : joins.each.others ≡ map (holding_of own.reel) ps = cc in
+      let whole : joins.whole ≡ holding_of own.reel (p ++ flat_map (λ part. part) ps) =
+      joins.each.held ∙ (λ i. joined_all joined (first i) (others i)) ∙ joined_parts own.reel p ps in
+      record {
+        reel = own.reel;
+        of_record = own.of_record;
+        text = joins.file ∙ ap holding_text whole;
+        has = subst HasFile whole joins.has_file;
+      }
+
+  made : (copies : List (List ℕ)) (file : List ℕ) → IsMadeOf config width height copies file → IsFileOf config width height copies file
+  made _ _ (by_take copies file before after takes) = of_take copies file before after takes
+  made _ _ (by_join parts files file before after l each joins) =
+      of_join parts files file before after l (λ i lt. made (get_or parts i []) (get_or files i []) (each i lt)) joins
+
+-- ---- the same copies
+
+module _ (config : List ℕ) (width height : ℕ) (copies others : List (List ℕ)) (file other : List ℕ) (is : IsFileOf config width height copies file)
+    (also : IsFileOf config width height others other) (same : HasSameCopies copies others) where
+  one_of_copies : holding_of is.reel copies ≡ holding_of also.reel others
+  one_of_copies = ap (λ r. holding_of r copies) (one_reel config width height is.reel also.reel is.of_record also.of_record)
+      ∙ holding_of-same also.reel copies others same
+
+  one_file : file ≡ other
+  one_file = is.text ∙ ap holding_text one_of_copies ∙ sym also.text
+
+  one_report : (report other_report : List ℕ) → ReportsFile (Some file) (Some []) (Some report) → ReportsFile (Some other) (Some []) (Some other_report)
+      → report ≡ other_report
+  one_report report other_report told other_told =
+      told.printed
+      ∙ ap report_text (one_holding told.held (holding_of is.reel copies) file told.file is.text is.has ∙ one_of_copies
+      ∙ sym (one_holding other_told.held (holding_of also.reel others) other other_told.file also.text also.has))
+      ∙ sym other_told.printed
+
+  one_holding_read : (h g : Contents) → IsHoldingFile (Some file) h → IsHoldingFile (Some other) g → AreEqualInAll h g
+  one_holding_read h g h_is g_is =
+      let e : h ≡ g = one_holding h (holding_of is.reel copies) file h_is is.text is.has ∙ one_of_copies
+      ∙ sym (one_holding g (holding_of also.reel others) other g_is also.text also.has) in
+      let P : Contents → Type 0 = λ x. AreEqualInAll h x in
+      subst P e (same_in_all h)
+
+pub made_of_copies : MadeOfCopies
+made_of_copies config width height copies file is =
+    let of : IsFileOf config width height copies file = made config width height copies file is in
+    (of.reel, of.of_record, record { text = of.text; sound = of.has.sound; fits = of.has.fits })
+
+pub same_copies_make_one_holding : SameCopiesMakeOneHolding
+same_copies_make_one_holding config width height copies others file other h g is also same h_is g_is =
+    one_holding_read config width height copies others file other (made config width height copies file is)
+    (made config width height others other also) same h g h_is g_is
+
+pub same_copies_make_one_file : SameCopiesMakeOneFile
+same_copies_make_one_file config width height copies others file other is also same =
+    one_file config width height copies others file other (made config width height copies file is) (made config width height others other also) same
+
+pub same_copies_make_one_report : SameCopiesMakeOneReport
+same_copies_make_one_report config width height copies others file other report other_report is also same told other_told =
+    one_report config width height copies others file other (made config width height copies file is)
+    (made config width height others other also) same report other_report told other_told
+
+-- ---- copies of an original
+
+-- a holding's own file shows no fault
+no_fault : (h : Contents) (file : List ℕ) → file ≡ holding_text h → HasFile h → (fault : HoldFileFault)
+    → IsHoldingFault (paths.Hold 0) (Some file) (faults.HoldFile fault) → ⊥
+no_fault h file text has fault stops =
+    let own : IsFaultOf (holding_text h) fault = subst (λ (t : List ℕ). IsFaultOf t fault) text stops in
+    own.0 (refused_outside h has.sound has.fits fault own.1.0 own.1.1)
+
+module _ (config : List ℕ) (width height : ℕ) (setup : SetupValue) (copies : List (List ℕ)) (file original : List ℕ) (slices : List (List ℕ))
+    (is_setup : IsSetupOf config width height setup) (is : IsFileOf config width height copies file)
+    (is_original : IsOriginal setup original slices) (are : AreCopiesOf setup slices copies) where
+  same_setup : setup ≡ is.reel.setup
+  same_setup = one_setup config width height setup is.reel.setup is_setup is.of_record.1
+
+  exact : HoldsExactly (holding_of is.reel copies) slices
+  exact = exactly_held is.reel slices copies (subst (λ (s : SetupValue). AreCopiesOf s slices copies) same_setup are)
+
+  own : IsOriginal is.reel.setup original slices
+  own = subst (λ (s : SetupValue). IsOriginal s original slices) same_setup is_original
+
+  read : (h : Contents) → IsHoldingFile (Some file) h → h ≡ holding_of is.reel copies
+  read h file_is = one_holding h (holding_of is.reel copies) file file_is is.text is.has
+
+  settled : (h : Contents) → IsHoldingFile (Some file) h → (tile : ℕ) → IsLeastUnsettled h tile → ⊥
+  settled h file_is tile least =
+      exact_settles (holding_of is.reel copies) original slices own exact tile (subst (λ (g : Contents). IsLeastUnsettled g tile) (read h file_is) least)
+
+  refused : (ob oa pb pa : Option (List ℕ)) (fault : CliFault) → RestoreStops (Some file) ob oa pb pa fault → IsOfDevices fault
+  refused ob oa pb pa (faults.Read path) stops = tt
+  refused ob oa pb pa (faults.Write path) stops = tt
+  refused ob oa pb pa (faults.Setup fault) stops = stops
+  refused ob oa pb pa (faults.Hold fault) stops = stops
+  refused ob oa pb pa (faults.HoldFile fault) stops = no_fault (holding_of is.reel copies) file is.text is.has fault stops
+  refused ob oa pb pa (faults.Frame fault) stops = stops
+  refused ob oa pb pa (faults.Missing tile) (h, file_is, refusal) = settled h file_is tile refusal.0
+  refused ob oa pb pa (faults.Disputed tile) (h, file_is, refusal) = settled h file_is tile refusal.0
+  refused ob oa pb pa faults.Memory stops = tt
+  refused ob oa pb pa faults.Words stops = stops
+
+  restores : RestoresOnly file original
+  restores = record {
+    written = λ ob oa pb pa does.
+        let payload : restored_payload does.held ≡ original = ap restored_payload (read does.held does.file)
+        ∙ restored_original (holding_of is.reel copies) slices exact original own in
+        subst (Appends ob oa) payload does.payload;
+    refused = refused;
+  }
+
+  not_shown : (ob oa pb pa : Option (List ℕ)) (fault : CliFault) → PictureStops (Some file) ob oa pb pa fault → IsOfDevices fault
+  not_shown ob oa pb pa (faults.Read path) stops = tt
+  not_shown ob oa pb pa (faults.Write path) stops = tt
+  not_shown ob oa pb pa (faults.Setup fault) stops = stops
+  not_shown ob oa pb pa (faults.Hold fault) stops = stops
+  not_shown ob oa pb pa (faults.HoldFile fault) stops = no_fault (holding_of is.reel copies) file is.text is.has fault stops
+  not_shown ob oa pb pa (faults.Frame fault) stops = stops
+  not_shown ob oa pb pa (faults.Missing tile) stops = stops
+  not_shown ob oa pb pa (faults.Disputed tile) stops = stops
+  not_shown ob oa pb pa faults.Memory stops = tt
+  not_shown ob oa pb pa faults.Words stops = stops
+
+  shows : ShowsOnly setup file slices
+  shows = record {
+    written = λ ob oa pb pa whole does.
+        let picture = subst (λ (h : Contents). IsPartialPicture h does.partial) (read does.held does.file) does.picture in (
+          does.partial.frame,
+          subst (λ (s : SetupValue). ShowsSlices s slices does.partial.frame) (sym same_setup)
+              (exact_shows (holding_of is.reel copies) original slices own exact does.partial picture),
+          does.samples,
+        );
+    refused = not_shown;
+  }
+
+pub commands_restore_the_original : CommandsRestoreTheOriginal
+commands_restore_the_original config width height setup copies file original slices is_setup is is_original are =
+    let of : IsFileOf config width height copies file = made config width height copies file is in (
+      restores config width height setup copies file original slices is_setup of is_original are,
+      shows config width height setup copies file original slices
+          is_setup of is_original are,
+    )
+
+pub commands_restore_near_copies : CommandsRestoreNearCopies
+commands_restore_near_copies config width height setup copies file original slices is_setup is near =
+    commands_restore_the_original config width height setup copies file original slices is_setup is near.is_original
+    (near_are_copies setup original slices copies near)
+
+-- ---- the family has members
+
+whole_inputs-all : (copies : List (List ℕ)) → ((i : ℕ) → i < length copies → length (get_or copies i []) ≤ payload_limit)
+    → AreWholeInputs (map Some copies) copies
+whole_inputs-all [] few = tt
+whole_inputs-all (c ∷ cs) few = (record { told = refl; few = few 0 (omega arith) }, whole_inputs-all cs (λ i lt. few (suc i) (omega arith)))
+
+-- where a record has a setup, copies and record are short enough, and their holding has a file, that file is made of them
+taken : (config : List ℕ) (width height : ℕ) (reel : Reel) (copies : List (List ℕ)) → IsReelOf config width height reel → length config ≤ payload_limit
+    → ((i : ℕ) → i < length copies → length (get_or copies i []) ≤ payload_limit) → HasFile (holding_of reel copies)
+    → IsMadeOf config width height copies (holding_text (holding_of reel copies))
+taken config width height reel copies is short few has =
+    let same : config ≡ reel.config = sym is.0 in
+    by_take copies (holding_text (holding_of reel copies)) None None (record {
+      reel = reel;
+      of_record = record {
+        read = record { told = same; few = omega (arith, ap length same) };
+        is_setup = subst (λ (c : List ℕ). IsSetupOf c width height reel.setup) same is.1;
+      };
+      copies = copies;
+      read = whole_inputs-all copies few;
+      has_file = has;
+      file = refl;
+      printed = tt;
+    })

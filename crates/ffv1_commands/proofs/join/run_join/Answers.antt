@@ -1,0 +1,8 @@
+use Rattle.std.proofs.Common.{rules, ap}
+use Rattle.ffv1_hold.specs.Streams.{writer_of}
+use Rattle.ffv1_commands.proofs.Wrapped.{unless_writing}
+use Rattle.ffv1_commands.proofs.join.run_join.Goals as goal
+
+pub returns-clause-untouched : goal.returns-clause-untouched
+returns-clause-untouched g c = unless_writing _ _ c.join_of.result (λ same. (search (rules, ap writer_of same.0), search (rules, ap writer_of same.1)))
+    c.join_of.ensures.untouched

@@ -1,0 +1,54 @@
+-- The text that tells the chain of a payload: a line for each link, from the payload's end, and a line for its end.
+use Rattle.std.specs.Prelude.{ℕ, ◌+◌, ◌-◌, ◌≡◌, ◌==◌, ◌++◌, List, length, Option, IfSome, codes, if◌then◌else◌}
+use Rattle.std.specs.List.{flat_map}
+use Rattle.std.specs.Fmt.{decimal}
+use Rattle.std.specs.Io.KnownBytes.{Appends, Keeps}
+use Rattle.ffv1_slice.specs.Bits.{bits_of}
+use Rattle.ffv1_slice.specs.Parity.{remainder_of}
+use Rattle.ffv1_slice.specs.Chain.{Piece, AreLinksOf, status_before}
+use Rattle.ffv1_slice.specs.Ending.{EndsAs}
+use Rattle.ffv1_slice.specs.declared.chain.ChainEnd.{ChainEnd}
+use Rattle.ffv1_slice.specs.declared.chain.ChainEnd.TheVariants.{Whole, Broken}
+use Rattle.ffv1_commands.specs.Devices.{WritesFront}
+use Rattle.ffv1_commands.specs.declared.fault.CliFault.{CliFault}
+use Rattle.ffv1_commands.specs.declared.fault.CliFault.TheVariants as faults
+use Rattle.ffv1_commands.specs.declared.path.CommandPath.TheVariants as paths
+
+-- whether nothing is left of a slice after division by the parity's polynomial
+abbrev pub parity_word : List ℕ → List ℕ
+parity_word slice = if remainder_of (bits_of slice) == 0 then codes "pass" else codes "fail"
+
+-- where the slice lies, and how many of its bytes stand before its footer
+abbrev pub link_place : Piece → List ℕ
+link_place link = decimal link.start ++ codes ".." ++ decimal (link.start + length link.bytes) ++ codes " size " ++ decimal (length link.bytes - 8)
+
+-- its error status, and whether its parity passes
+abbrev pub link_state : Piece → List ℕ
+link_state link = codes " status " ++ decimal (status_before link.bytes (length link.bytes)) ++ codes " " ++ parity_word link.bytes ++ codes "\n"
+
+abbrev pub link_line : Piece → List ℕ
+link_line link = link_place link ++ link_state link
+
+abbrev pub end_line : ChainEnd → List ℕ
+end_line Whole = codes "end whole\n"
+end_line (Broken place) = codes "end broken at " ++ decimal place ++ codes "\n"
+
+-- The text tells all links of the payload, only links, from its end, and how its chain ends.
+pub record IsChainText (payload text : List ℕ) : Type 0 where
+  pub links : List Piece
+  pub are_links : AreLinksOf payload links
+  pub end : ChainEnd
+  pub ends : EndsAs payload end
+  pub told : text ≡ flat_map link_line links ++ end_line end
+
+-- The text of the payload was written.
+abbrev pub PrintsChain : List ℕ → Option (List ℕ) → Option (List ℕ) → Type 0
+PrintsChain payload before after = (text : List ℕ) × IsChainText payload text × Appends before after text
+
+-- What a fault left in the output: nothing, but for a front of the text where writing failed.
+abbrev pub ChainStops : Option (List ℕ) → Option (List ℕ) → Option (List ℕ) → CliFault → Type 0
+ChainStops frame before after (faults.Read path) = (path ≡ paths.Frame) × Keeps before after
+ChainStops frame before after (faults.Write path) =
+    (path ≡ paths.StandardOutput) × IfSome frame (λ payload. (text : List ℕ) × IsChainText payload text × WritesFront before after text)
+ChainStops frame before after faults.Memory = Keeps before after
+ChainStops frame before after _ = ⊥

@@ -1,0 +1,108 @@
+-- The commands from copies to a frame: whatever trees of `take` and `join` lead from copies to a holding file, the same copies give
+-- one file and one report, and where the copies are an original's, what `restore` writes of the file is the original.
+use Rattle.std.specs.Prelude.{ℕ, ◌≡◌, ◌<◌, Bool, List, [], map, length, Option, Some, slice_index_or}
+use Rattle.std.specs.List.{flat_map}
+use Rattle.std.specs.Io.KnownBytes.{Appends}
+use Rattle.ffv1_range.specs.Setup.{SetupValue, IsSetupOf}
+use Rattle.ffv1_slice.specs.Slices.{IsOriginal}
+use Rattle.ffv1_hold.specs.Reels.{Reel}
+use Rattle.ffv1_hold.specs.Contents.{Contents, holding_of, HasSameCopies}
+use Rattle.ffv1_hold.specs.Headline.{IsReelOf}
+use Rattle.ffv1_hold.specs.Originals.{AreCopiesOf, AreNear}
+use Rattle.ffv1_picture.specs.Headline.{AreEqualInAll, ShowsSlices}
+use Rattle.ffv1_picture.specs.declared.frame.Frame.{Frame}
+use Rattle.ffv1_commands.specs.Holdings.{IsHoldingFile}
+use Rattle.ffv1_commands.specs.TakeText.{TakesCopies}
+use Rattle.ffv1_commands.specs.JoinText.{JoinsFiles}
+use Rattle.ffv1_commands.specs.RestoreText.{RestoresFile, RestoreStops}
+use Rattle.ffv1_commands.specs.ReportedText.{ReportsFile}
+use Rattle.ffv1_commands.specs.PictureText.{ShowsFile, PictureStops}
+use Rattle.ffv1_commands.specs.SamplesText.{raw_bytes}
+use Rattle.ffv1_commands.specs.declared.fault.CliFault.{CliFault}
+use Rattle.ffv1_commands.specs.declared.fault.CliFault.TheVariants as faults
+
+-- The file is what commands make of the copies, for one record and size: `take` made it of the copies themselves, or `join` of files
+-- that are each made of a part of them. The readers tell their bytes, and what is written is told, into a file that was empty.
+pub data IsMadeOf (config : List ℕ) (width height : ℕ) : List (List ℕ) → List ℕ → Type 0 where
+  by_take : (copies : List (List ℕ)) (file : List ℕ) (printed_before printed_after : Option (List ℕ))
+      → TakesCopies (Some config) width height (map Some copies) (Some []) (Some file) printed_before printed_after
+      → IsMadeOf config width height copies file
+  by_join : (parts : List (List (List ℕ))) (files : List (List ℕ)) (file : List ℕ) (printed_before printed_after : Option (List ℕ))
+      → length parts ≡ length files
+      → ((i : ℕ) → i < length files → IsMadeOf config width height (slice_index_or parts i []) (slice_index_or files i []))
+      → JoinsFiles (map Some files) (Some []) (Some file) printed_before printed_after
+      → IsMadeOf config width height (flat_map (λ part. part) parts) file
+
+-- a fault that a device or want of memory gave
+abbrev pub IsOfDevices : CliFault → Type 0
+IsOfDevices (faults.Read path) = Unit {0}
+IsOfDevices (faults.Write path) = Unit {0}
+IsOfDevices faults.Memory = Unit {0}
+IsOfDevices _ = ⊥
+
+-- What is restored of a file is these bytes: where `restore` answers Ok, it wrote them and nothing else, and where it is refused, a device
+-- failed or memory was refused.
+pub record RestoresOnly (file original : List ℕ) : Type 0 where
+  pub written : (out_before out_after printed_before printed_after : Option (List ℕ))
+      → RestoresFile (Some file) out_before out_after printed_before printed_after → Appends out_before out_after original
+  pub refused : (out_before out_after printed_before printed_after : Option (List ℕ)) (fault : CliFault)
+      → RestoreStops (Some file) out_before out_after printed_before printed_after fault → IsOfDevices fault
+
+-- What is shown of a file is what the slices spell: where `picture` answers, it wrote the samples of a frame, each of which is the one that
+-- the greatest decoded tile covering it spells, by these slices of the tiles; where it is refused, a device failed or memory was refused.
+pub record ShowsOnly (setup : SetupValue) (file : List ℕ) (slices : List (List ℕ)) : Type 0 where
+  pub written : (out_before out_after printed_before printed_after : Option (List ℕ)) (whole : Bool)
+      → ShowsFile (Some file) out_before out_after printed_before printed_after whole
+      → (frame : Frame) × ShowsSlices setup slices frame × Appends out_before out_after (raw_bytes frame)
+  pub refused : (out_before out_after printed_before printed_after : Option (List ℕ)) (fault : CliFault)
+      → PictureStops (Some file) out_before out_after printed_before printed_after fault → IsOfDevices fault
+
+-- ---- laws
+
+-- What commands make of copies is the file of the one holding that has just what is found in them, whatever tree of commands leads
+-- there.
+abbrev pub MadeOfCopies : Type 0
+MadeOfCopies =
+    (config : List ℕ) (width height : ℕ) (copies : List (List ℕ)) (file : List ℕ)
+    → IsMadeOf config width height copies file
+    → (reel : Reel) × IsReelOf config width height reel × IsHoldingFile (Some file) (holding_of reel copies)
+
+-- However the same copies are ordered, grouped or repeated, the files made of them are equal byte for byte, ..
+abbrev pub SameCopiesMakeOneFile : Type 0
+SameCopiesMakeOneFile =
+    (config : List ℕ) (width height : ℕ) (copies others : List (List ℕ)) (file other : List ℕ)
+    → IsMadeOf config width height copies file → IsMadeOf config width height others other → HasSameCopies copies others
+    → file ≡ other
+
+-- .. what is read of them is equal in every tile, ..
+abbrev pub SameCopiesMakeOneHolding : Type 0
+SameCopiesMakeOneHolding =
+    (config : List ℕ) (width height : ℕ) (copies others : List (List ℕ)) (file other : List ℕ) (h g : Contents)
+    → IsMadeOf config width height copies file → IsMadeOf config width height others other → HasSameCopies copies others
+    → IsHoldingFile (Some file) h → IsHoldingFile (Some other) g
+    → AreEqualInAll h g
+
+-- .. and so are their reports.
+abbrev pub SameCopiesMakeOneReport : Type 0
+SameCopiesMakeOneReport =
+    (config : List ℕ) (width height : ℕ) (copies others : List (List ℕ)) (file other report other_report : List ℕ)
+    → IsMadeOf config width height copies file → IsMadeOf config width height others other → HasSameCopies copies others
+    → ReportsFile (Some file) (Some []) (Some report) → ReportsFile (Some other) (Some []) (Some other_report)
+    → report ≡ other_report
+
+-- Where every slice found in the copies is the original's for its tile, and each tile's is found in some copy, what is restored of a
+-- file made of them is the original byte for byte, and each sample shown is the one that the greatest decoded tile covering it spells.
+abbrev pub CommandsRestoreTheOriginal : Type 0
+CommandsRestoreTheOriginal =
+    (config : List ℕ) (width height : ℕ) (setup : SetupValue) (copies : List (List ℕ)) (file original : List ℕ) (slices : List (List ℕ))
+    → IsSetupOf config width height setup → IsMadeOf config width height copies file
+    → IsOriginal setup original slices → AreCopiesOf setup slices copies
+    → RestoresOnly file original × ShowsOnly setup file slices
+
+-- So it is where each copy is near the original, and each of its slices is intact in one of them.
+abbrev pub CommandsRestoreNearCopies : Type 0
+CommandsRestoreNearCopies =
+    (config : List ℕ) (width height : ℕ) (setup : SetupValue) (copies : List (List ℕ)) (file original : List ℕ) (slices : List (List ℕ))
+    → IsSetupOf config width height setup → IsMadeOf config width height copies file
+    → AreNear setup original slices copies
+    → RestoresOnly file original × ShowsOnly setup file slices

@@ -1,0 +1,90 @@
+-- What a command takes from a file and leaves in one.
+use Rattle.std.specs.Prelude.{ℕ, ◌≡◌, ◌+◌, ◌<◌, ◌≤◌, List, [], ◌∷◌, length, Option, IfSome, ◌⊎◌}
+use Rattle.std.specs.Io.KnownBytes.{Appends, Consumes, IsAtEnd, Keeps}
+use Rattle.ffv1_bits.specs.Limits.{payload_limit}
+use Rattle.ffv1_hold.specs.Streams.{HasCounted, HasGivenUp}
+pub use Rattle.ffv1_hold.specs.Writing.{WritesFront}
+use Rattle.ffv1_holding.specs.declared.fault.HoldFault.TheVariants as holds
+use Rattle.ffv1_commands.specs.declared.fault.CliFault.{CliFault}
+use Rattle.ffv1_commands.specs.declared.fault.CliFault.TheVariants as faults
+use Rattle.ffv1_commands.specs.declared.path.CommandPath.{CommandPath}
+use Rattle.ffv1_commands.specs.declared.path.CommandPath.TheVariants as paths
+
+-- A reader's bytes were taken to their end, and are not too many.
+pub record ReadsWhole (before after : Option (List ℕ)) (bytes : List ℕ) : Type 0 where
+  pub taken : Consumes before after bytes
+  pub end : IsAtEnd after
+  pub few : length bytes ≤ payload_limit
+
+-- An input has these bytes, where it tells its bytes.
+abbrev pub Tells : Option (List ℕ) → List ℕ → Type 0
+Tells input bytes = IfSome input (λ told. told ≡ bytes)
+
+-- An input is read whole as these bytes: it has them, where it tells its bytes, and they are not too many.
+pub record IsWholeInput (input : Option (List ℕ)) (bytes : List ℕ) : Type 0 where
+  pub told : Tells input bytes
+  pub few : length bytes ≤ payload_limit
+
+-- Each of the inputs is read whole as its bytes.
+abbrev pub AreWholeInputs : List (Option (List ℕ)) → List (List ℕ) → Type 0
+AreWholeInputs [] [] = Unit {0}
+AreWholeInputs [] (bytes ∷ rest) = ⊥
+AreWholeInputs (input ∷ inputs) [] = ⊥
+AreWholeInputs (input ∷ inputs) (bytes ∷ rest) = IsWholeInput input bytes × AreWholeInputs inputs rest
+
+-- An input is longer than a payload may be, where it tells its bytes.
+abbrev pub IsPayloadTooLong : Option (List ℕ) → Type 0
+IsPayloadTooLong input = IfSome input (λ bytes. payload_limit < length bytes)
+
+-- the faults of reading this path of the command
+abbrev pub IsInputFault : CommandPath → CliFault → Type 0
+IsInputFault path (faults.Read named) = named ≡ path
+IsInputFault path faults.Memory = Unit {0}
+IsInputFault path _ = ⊥
+
+-- the faults of reading the copy that is this path of the command
+abbrev pub IsCopyFault : CommandPath → Option (List ℕ) → CliFault → Type 0
+IsCopyFault path copy (faults.Read named) = named ≡ path
+IsCopyFault path copy (faults.Hold fault) = (fault ≡ holds.PayloadTooLong) × IsPayloadTooLong copy
+IsCopyFault path copy faults.Memory = Unit {0}
+IsCopyFault path copy _ = ⊥
+
+-- What holds of a fault that comes before anything is written.
+abbrev pub UnlessWriting : CliFault → Type 0 → Type 0
+UnlessWriting (faults.Write path) P = Unit {0}
+UnlessWriting _ P = P
+
+-- What holds of a fault of the record, which is judged before any other input is read.
+abbrev pub IfOfRecord : CliFault → Type 0 → Type 0
+IfOfRecord (faults.Read path) P = path ≡ paths.Record → P
+IfOfRecord (faults.Setup fault) P = P
+IfOfRecord _ P = Unit {0}
+
+-- What a fault of writing the file OUT and then printing a text left in them: a front of the file, or the whole file and a front of the
+-- text.
+abbrev pub WriteStops : (file text : List ℕ) (file_before file_after text_before text_after : Option (List ℕ)) → CliFault → Type 0
+WriteStops file text file_before file_after text_before text_after (faults.Write named) =
+    ((named ≡ paths.Out) × WritesFront file_before file_after file × Keeps text_before text_after)
+    ⊎ ((named ≡ paths.StandardOutput) × Appends file_before file_after file × WritesFront text_before text_after text)
+WriteStops file text file_before file_after text_before text_after _ = ⊥
+
+-- What a fault of printing a text left in standard output: a front of the text, or nothing.
+abbrev pub PrintStops : List ℕ → Option (List ℕ) → Option (List ℕ) → CliFault → Type 0
+PrintStops text before after (faults.Write named) = (named ≡ paths.StandardOutput) × WritesFront before after text
+PrintStops text before after faults.Memory = Keeps before after
+PrintStops text before after _ = ⊥
+
+-- How a device is told, by the counts of its failures and of those that were no interruption: it gave up where it is told, and else
+-- no failure but interruptions came.
+pub record TellsFailure (told : Type 0) (failures_old failures_new broken_old broken_new : ℕ) : Type 0 where
+  pub gave_up : told → HasGivenUp failures_old failures_new broken_old broken_new
+  pub unbroken : (¬ told) → broken_new ≡ broken_old
+  pub broken_once : broken_new ≤ broken_old + 1
+
+-- How an input with a limit is told, by the same counts and that of its bytes: it gave up or passed the limit where it is told, and
+-- else did neither.
+pub record TellsFile (told : Type 0) (failures_old failures_new broken_old broken_new taken_old taken_new : ℕ) : Type 0 where
+  pub stopped : told → HasGivenUp failures_old failures_new broken_old broken_new ⊎ HasCounted (payload_limit + 1) taken_old taken_new
+  pub unbroken : (¬ told) → broken_new ≡ broken_old
+  pub broken_once : broken_new ≤ broken_old + 1
+  pub within : (¬ told) → taken_new ≤ taken_old + payload_limit

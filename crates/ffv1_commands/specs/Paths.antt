@@ -1,0 +1,46 @@
+-- The paths that each command has: its words that name files, and standard output.
+use Rattle.std.specs.Prelude.{ℕ, ◌<◌}
+use Rattle.ffv1_commands.specs.declared.path.CommandPath.{CommandPath}
+use Rattle.ffv1_commands.specs.declared.path.CommandPath.TheVariants.{Record, Frame, Copy, Hold, Out, StandardOutput}
+
+abbrev pub IsChainPath : CommandPath → Type 0
+IsChainPath Frame = Unit {0}
+IsChainPath StandardOutput = Unit {0}
+IsChainPath _ = ⊥
+
+abbrev pub IsShowPath : CommandPath → Type 0
+IsShowPath Record = Unit {0}
+IsShowPath StandardOutput = Unit {0}
+IsShowPath _ = ⊥
+
+-- `take` of so many copies
+abbrev pub IsTakePath : ℕ → CommandPath → Type 0
+IsTakePath copies Record = Unit {0}
+IsTakePath copies (Copy place) = place < copies
+IsTakePath copies Out = Unit {0}
+IsTakePath copies StandardOutput = Unit {0}
+IsTakePath copies _ = ⊥
+
+-- `join` of so many holding files
+abbrev pub IsJoinPath : ℕ → CommandPath → Type 0
+IsJoinPath files (Hold place) = place < files
+IsJoinPath files Out = Unit {0}
+IsJoinPath files StandardOutput = Unit {0}
+IsJoinPath files _ = ⊥
+
+-- `report`, of one holding file
+abbrev pub IsReportPath : CommandPath → Type 0
+IsReportPath (Hold place) = place < 1
+IsReportPath StandardOutput = Unit {0}
+IsReportPath _ = ⊥
+
+-- `restore` and `picture`, of one holding file
+abbrev pub IsHoldPath : CommandPath → Type 0
+IsHoldPath path = IsJoinPath 1 path
+
+abbrev pub IsDecodePath : CommandPath → Type 0
+IsDecodePath Record = Unit {0}
+IsDecodePath Frame = Unit {0}
+IsDecodePath Out = Unit {0}
+IsDecodePath StandardOutput = Unit {0}
+IsDecodePath _ = ⊥

@@ -1,0 +1,97 @@
+//! The command `decode`: writes the samples of a frame (RFC 9043, sections 4.4 to 4.9).
+ghost use Rattle.std.specs.Prelude.{◌≡◌, IfOk, IfErr, IsErrOf, OnOk, string_bytes};
+ghost use Rattle.ffv1_commands.specs.Fault.{NamesPath};
+ghost use Rattle.ffv1_commands.specs.Paths.{IsDecodePath};
+ghost use Rattle.ffv1_commands.specs.Devices.{UnlessWriting, IfOfRecord, TellsFailure, TellsFile};
+ghost use Rattle.ffv1_commands.specs.SamplesText.{decoded_line};
+ghost use Rattle.ffv1_commands.specs.DecodeText.{DecodesFile, DecodeStops};
+
+use crate::devices::{read_file, write_both};
+use crate::fault::CliFault;
+use crate::path::CommandPath;
+use crate::samples::samples_of;
+use ffv1_hold::{FromRead, Sink, Source, ThroughWrite};
+use ffv1_picture::Decoder;
+use std::alloc::{AllocError, Global};
+use std::io::{Read, Write};
+
+/// Decodes a frame's payload, for a configuration record and the size of the frame in samples; writes its planes Y, Cb and
+/// Cr to `out`, row by row, a byte a sample, and then prints its size, as `decoded 720 x 576 planes 3`.
+///
+/// The record is judged before the payload is
+/// read. `Read` comes where one of them can't be read, or is longer than 2^30 bytes; `Setup` with the record's first fault;
+/// `Frame` with the payload's; `Memory` where a growth is refused: then nothing was written, and `out` was not touched.
+/// `Write` comes where `out` or the output fails: a front of the samples was written, or all samples and a front of the
+/// line.
+pub fn run_decode<R: Read, F: Read, O: Write, W: Write>(
+    alloc: Global,
+    configuration: &mut R,
+    width: u32,
+    height: u32,
+    input: &mut F,
+    out: &mut O,
+    output: &mut W,
+) -> Result<(), CliFault>
+    ensures ok { OnOk result (DecodesFile (R.remaining configuration.old) width height (F.remaining input.old)
+        (O.contents out.old) (O.contents out.new) (W.contents output.old) (W.contents output.new)) }
+    ensures err { IfErr result (DecodeStops (R.remaining configuration.old) width height (F.remaining input.old)
+        (O.contents out.old) (O.contents out.new) (W.contents output.old) (W.contents output.new)) }
+    ensures untouched { IfErr result (λ fault. UnlessWriting fault ((out.new ≡ out.old) × (output.new ≡ output.old))) }
+    ensures in_turn { IfErr result (λ fault. IfOfRecord fault (input.new ≡ input.old)) }
+    ensures names { IfErr result (NamesPath IsDecodePath) }
+{
+    decode_of(
+        alloc,
+        &mut FromRead::new(configuration),
+        width,
+        height,
+        &mut FromRead::new(input),
+        &mut ThroughWrite::new(out),
+        &mut ThroughWrite::new(output),
+    )
+}
+
+/// The command over sources and sinks.
+fn decode_of<R: Source, F: Source, O: Sink, W: Sink>(
+    alloc: Global,
+    configuration: &mut R,
+    width: u32,
+    height: u32,
+    input: &mut F,
+    out: &mut O,
+    output: &mut W,
+) -> Result<(), CliFault>
+    ensures ok { OnOk result (DecodesFile (R.remaining configuration.old) width height (F.remaining input.old)
+        (O.contents out.old) (O.contents out.new) (W.contents output.old) (W.contents output.new)) }
+    ensures err { IfErr result (DecodeStops (R.remaining configuration.old) width height (F.remaining input.old)
+        (O.contents out.old) (O.contents out.new) (W.contents output.old) (W.contents output.new)) }
+    ensures untouched { IfErr result (λ fault. UnlessWriting fault ((out.new ≡ out.old) × (output.new ≡ output.old))) }
+    ensures in_turn { IfErr result (λ fault. IfOfRecord fault (input.new ≡ input.old)) }
+    ensures names { IfErr result (NamesPath IsDecodePath) }
+
+    ensures record_told { TellsFile (IsErrOf result (CliFault.Read CommandPath.Record)) (R.failures configuration.old) (R.failures configuration.new)
+        (R.broken configuration.old) (R.broken configuration.new) (R.taken configuration.old) (R.taken configuration.new) }
+    ensures input_told { TellsFile (IsErrOf result (CliFault.Read CommandPath.Frame)) (F.failures input.old) (F.failures input.new)
+        (F.broken input.old) (F.broken input.new) (F.taken input.old) (F.taken input.new) }
+    ensures out_told { TellsFailure (IsErrOf result (CliFault.Write CommandPath.Out)) (O.failures out.old) (O.failures out.new)
+        (O.broken out.old) (O.broken out.new) }
+    ensures output_told { TellsFailure (IsErrOf result (CliFault.Write CommandPath.StandardOutput)) (W.failures output.old) (W.failures output.new)
+        (W.broken output.old) (W.broken output.new) }
+    ensures same_out { O.reference out.new ≡ O.reference out.old }
+    ensures same_output { W.reference output.new ≡ W.reference output.old }
+{
+    let config = read_file(alloc, configuration, CommandPath::Record)?;
+    let decoder = Decoder::new(alloc, config.as_slice(), width, height)?;
+    let payload = read_file(alloc, input, CommandPath::Frame)?;
+    let frame = decoder.decode_frame(payload.as_slice())?;
+    let samples = samples_of(alloc, &frame)?;
+    let line = decoded_text(alloc, frame.width, frame.height, frame.planes.len())?;
+    write_both(out, samples.as_slice(), output, line.as_str())
+}
+
+/// The line that tells a frame's size in luma samples, and how many planes it has.
+fn decoded_text(alloc: Global, width: u32, height: u32, planes: usize) -> Result<String, AllocError>
+    ensures { IfOk result (λ line. string_bytes line ≡ decoded_line width height planes) }
+{
+    format!(in alloc; "decoded {width} x {height} planes {planes}\n")
+}

@@ -1,0 +1,250 @@
+//! Why a command stopped, and how that is told.
+ghost use Rattle.std.specs.Prelude.{◌≡◌, IfOk, string_bytes};
+ghost use Rattle.ffv1_commands.specs.Fault.{named_path, fault_line, setup_fault_number, hold_fault_number, hold_file_fault_number, frame_fault_line, of_hold_file, status_of};
+
+use crate::path::CommandPath;
+use ffv1_hold::{HoldFault, HoldFileFault, RestoreFault};
+use ffv1_picture::FrameFault;
+use ffv1_range::SetupFault;
+use std::alloc::{AllocError, Global};
+use thiserror::Error;
+
+/// A fault of a command. That of a device says which path of the command it is.
+#[derive(Debug, Drop, Error)]
+pub enum CliFault {
+    /// The file could not be opened or read, or is longer than 2^30 bytes.
+    #[error("{0:?} was not read")]
+    Read(CommandPath),
+    /// The file could not be made or written.
+    #[error("{0:?} was not written")]
+    Write(CommandPath),
+    /// The configuration record, with its width and height, gives no setup of the profile.
+    #[error("setup fault")]
+    Setup(SetupFault),
+    /// A copy is too long, or a holding file is of another record or size than the first. `Memory` is never this fault's
+    /// cause.
+    #[error("hold fault")]
+    Hold(HoldFault),
+    /// A holding file is none, or a holding has no file. `Read`, `Write` and `Memory` are never this fault's cause.
+    #[error("holding file fault")]
+    HoldFile(HoldFileFault),
+    /// A payload is no frame. `Memory` is never this fault's cause.
+    #[error("frame fault")]
+    Frame(FrameFault),
+    /// No slice of this tile is held, and every earlier tile is settled.
+    #[error("missing tile {0}")]
+    Missing(usize),
+    /// Several slices of this tile have the least error_status, and every earlier tile is settled.
+    #[error("disputed tile {0}")]
+    Disputed(usize),
+    /// A growth of memory was refused.
+    #[error("no memory")]
+    Memory,
+    /// The program's words name no command, or not exactly its words.
+    #[error("words refused")]
+    Words,
+}
+
+impl CliFault {
+    /// The path of the command that the fault names, if it names one.
+    pub fn path(&self) -> Option<CommandPath>
+        ensures { result ≡ named_path self.now }
+    {
+        match self {
+            CliFault::Read(path) | CliFault::Write(path) => Some(*path),
+            _ => None,
+        }
+    }
+
+    /// The line that tells the fault, without the program's name and the line feed, where this is the text of the path that
+    /// it names. It fails where memory is refused.
+    pub fn line(&self, alloc: Global, path: &str) -> Result<String, AllocError>
+        ensures { IfOk result (λ line. string_bytes line ≡ fault_line path.now self.now) }
+    {
+        match self {
+            CliFault::Read(_) => format!(in alloc; "cannot read {path}"),
+            CliFault::Write(_) => format!(in alloc; "cannot write {path}"),
+            CliFault::Setup(fault) => {
+                let number = setup_fault_number(*fault);
+                format!(in alloc; "setup fault {number}")
+            }
+            CliFault::Hold(fault) => {
+                let number = hold_fault_number(*fault);
+                format!(in alloc; "hold fault {number}")
+            }
+            CliFault::HoldFile(fault) => {
+                let number = hold_file_fault_number(*fault);
+                format!(in alloc; "holding file fault {number}")
+            }
+            CliFault::Frame(fault) => frame_fault_line(alloc, *fault),
+            CliFault::Missing(tile) => format!(in alloc; "missing tile {tile}"),
+            CliFault::Disputed(tile) => format!(in alloc; "disputed tile {tile}"),
+            CliFault::Memory => String::from_str(alloc, "memory"),
+            CliFault::Words => String::from_str(alloc, "words refused"),
+        }
+    }
+
+    /// The program's exit status for the fault: 2 where the words were refused, else 1.
+    pub fn status(&self) -> u8
+        ensures { result ≡ status_of self.now }
+    {
+        match self {
+            CliFault::Words => 2,
+            _ => 1,
+        }
+    }
+}
+
+impl From<SetupFault> for CliFault {
+    ghost use Rattle.std.specs.Prelude.{◌≡◌};
+    ghost use Rattle.ffv1_commands.specs.Fault.{of_setup};
+
+    ghost from_gives = { λ fault result. result ≡ of_setup fault };
+
+    /// Want of memory is told as such.
+    fn from(fault: SetupFault) -> CliFault {
+        match fault {
+            SetupFault::Memory => CliFault::Memory,
+            fault => CliFault::Setup(fault),
+        }
+    }
+}
+
+impl From<HoldFault> for CliFault {
+    ghost use Rattle.std.specs.Prelude.{◌≡◌};
+    ghost use Rattle.ffv1_commands.specs.Fault.{of_hold};
+
+    ghost from_gives = { λ fault result. result ≡ of_hold fault };
+
+    /// Want of memory is told as such.
+    fn from(fault: HoldFault) -> CliFault {
+        match fault {
+            HoldFault::Memory => CliFault::Memory,
+            fault => CliFault::Hold(fault),
+        }
+    }
+}
+
+impl From<FrameFault> for CliFault {
+    ghost use Rattle.std.specs.Prelude.{◌≡◌};
+    ghost use Rattle.ffv1_commands.specs.Fault.{of_frame};
+
+    ghost from_gives = { λ fault result. result ≡ of_frame fault };
+
+    /// Want of memory is told as such.
+    fn from(fault: FrameFault) -> CliFault {
+        match fault {
+            FrameFault::Memory => CliFault::Memory,
+            fault => CliFault::Frame(fault),
+        }
+    }
+}
+
+impl From<RestoreFault> for CliFault {
+    ghost use Rattle.std.specs.Prelude.{◌≡◌};
+    ghost use Rattle.ffv1_commands.specs.Fault.{of_restore};
+
+    ghost from_gives = { λ fault result. result ≡ of_restore fault };
+
+    /// Want of memory is told as such.
+    fn from(fault: RestoreFault) -> CliFault {
+        match fault {
+            RestoreFault::Missing(tile) => CliFault::Missing(tile),
+            RestoreFault::Disputed(tile) => CliFault::Disputed(tile),
+            RestoreFault::Memory => CliFault::Memory,
+        }
+    }
+}
+
+impl From<AllocError> for CliFault {
+    ghost use Rattle.std.specs.Prelude.{◌≡◌};
+    ghost use Rattle.ffv1_commands.specs.declared.fault.CliFault.TheVariants.{Memory};
+
+    ghost from_gives = { λ _ result. result ≡ Memory };
+
+    fn from(_refusal: AllocError) -> CliFault {
+        CliFault::Memory
+    }
+}
+
+/// The fault of the holding file that is this path of the command: those of its device and want of memory are told as such.
+pub(crate) fn of_hold_file(path: CommandPath, fault: HoldFileFault) -> CliFault
+    ensures { result ≡ of_hold_file path fault }
+{
+    match fault {
+        HoldFileFault::Read => CliFault::Read(path),
+        HoldFileFault::Write => CliFault::Write(path),
+        HoldFileFault::Memory => CliFault::Memory,
+        fault => CliFault::HoldFile(fault),
+    }
+}
+
+/// The number of a holding's fault.
+fn hold_fault_number(fault: HoldFault) -> u32
+    ensures { result ≡ hold_fault_number fault }
+{
+    match fault {
+        HoldFault::OtherReel => 1,
+        HoldFault::PayloadTooLong => 2,
+        HoldFault::Memory => 3,
+    }
+}
+
+/// The number of a holding file's fault.
+fn hold_file_fault_number(fault: HoldFileFault) -> u32
+    ensures { result ≡ hold_file_fault_number fault }
+{
+    match fault {
+        HoldFileFault::Magic => 1,
+        HoldFileFault::Setup(_) => 2,
+        HoldFileFault::Truncated => 3,
+        HoldFileFault::Tag => 4,
+        HoldFileFault::Order => 5,
+        HoldFileFault::NotASlice => 6,
+        HoldFileFault::Trailing => 7,
+        HoldFileFault::Read => 8,
+        HoldFileFault::Write => 9,
+        HoldFileFault::Memory => 10,
+        HoldFileFault::TooLong => 11,
+        HoldFileFault::OtherReel => 12,
+    }
+}
+
+/// The number of a setup's fault.
+fn setup_fault_number(fault: SetupFault) -> u32
+    ensures { result ≡ setup_fault_number fault }
+{
+    match fault {
+        SetupFault::TooShort => 1,
+        SetupFault::Parity => 2,
+        SetupFault::Range(_) => 3,
+        SetupFault::Version => 4,
+        SetupFault::Micro => 5,
+        SetupFault::Coder => 6,
+        SetupFault::ColorSpace => 7,
+        SetupFault::Depth => 8,
+        SetupFault::ExtraPlane => 9,
+        SetupFault::Subsampling => 10,
+        SetupFault::GridTooFine => 11,
+        SetupFault::TooManyTiles => 12,
+        SetupFault::TableCount => 13,
+        SetupFault::TableRun => 14,
+        SetupFault::Contexts => 15,
+        SetupFault::ParityMode => 16,
+        SetupFault::Size => 17,
+        SetupFault::Memory => 18,
+    }
+}
+
+/// The line that tells a frame's fault: its number, and its place in slices from the payload's front, or its tile.
+fn frame_fault_line(alloc: Global, fault: FrameFault) -> Result<String, AllocError>
+    ensures { IfOk result (λ line. string_bytes line ≡ frame_fault_line fault) }
+{
+    match fault {
+        FrameFault::Chain => String::from_str(alloc, "frame fault 1"),
+        FrameFault::Slice { place, .. } => format!(in alloc; "frame fault 2 at {place}"),
+        FrameFault::Order { place } => format!(in alloc; "frame fault 3 at {place}"),
+        FrameFault::Tile { tile, .. } => format!(in alloc; "frame fault 4 at {tile}"),
+        FrameFault::Memory => String::from_str(alloc, "frame fault 5"),
+    }
+}

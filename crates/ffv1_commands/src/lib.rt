@@ -1,0 +1,37 @@
+//! The commands over readers and writers: what each reads and makes, what it prints, and why it stops. Who calls them reads the
+//! words and opens the files.
+#![tactic(auto)]
+
+mod chain;
+mod decode;
+mod devices;
+mod fault;
+mod holdings;
+mod join;
+mod laws;
+mod path;
+mod picture;
+mod report;
+mod restore;
+mod samples;
+mod show;
+mod take;
+
+pub use chain::run_chain;
+pub use decode::run_decode;
+pub use fault::CliFault;
+pub use join::run_join;
+pub use laws::{commands_restore_the_original, same_copies_make_one_file};
+pub use path::CommandPath;
+pub use picture::run_picture;
+pub use report::run_report;
+pub use restore::run_restore;
+pub use show::run_show;
+pub use take::run_take;
+
+#[cfg(test)]
+mod made_tests;
+#[cfg(test)]
+mod suite_tests;
+#[cfg(test)]
+mod tests;

@@ -1,0 +1,18 @@
+//! The paths of a command: its words that name files, and standard output.
+
+/// A path of a command, by the word that names it.
+#[derive(Clone, Copy, Debug, PartialEq, Eq)]
+pub enum CommandPath {
+    /// The configuration record.
+    Record,
+    /// The payload of a frame.
+    Frame,
+    /// The copy of a payload before which stand so many others.
+    Copy(usize),
+    /// The holding file before which stand so many others.
+    Hold(usize),
+    /// The file that is made.
+    Out,
+    /// What is printed.
+    StandardOutput,
+}

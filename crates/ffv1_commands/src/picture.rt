@@ -1,0 +1,135 @@
+//! The command `picture`: writes what can be shown of a holding file (own).
+ghost use Rattle.std.specs.Prelude.{◌≡◌, ◌++◌, ◌<◌, ◌^◌, ◌↔◌, All, IsTrue, IfOk, IfErr, IsErrOf, OnOk, length, string_bytes};
+ghost use Rattle.ffv1_hold.specs.Streams.{HasFailed};
+ghost use Rattle.ffv1_commands.specs.Fault.{NamesPath};
+ghost use Rattle.ffv1_commands.specs.Paths.{IsHoldPath};
+ghost use Rattle.ffv1_commands.specs.Devices.{UnlessWriting, TellsFailure};
+ghost use Rattle.ffv1_commands.specs.PictureText.{place_line, header_line, unreadable_line, outcome_line, picture_text, IsDecoded, ShowsFile, PictureStops};
+
+use crate::devices::write_both;
+use crate::fault::CliFault;
+use crate::holdings::read_holding;
+use crate::path::CommandPath;
+use crate::samples::samples_of;
+use ffv1_hold::{FromRead, Sink, Source, ThroughWrite};
+use ffv1_picture::{TileOutcome, picture};
+use ffv1_plane::TileFault;
+use std::alloc::{AllocError, Global};
+use std::io::{Read, Write};
+
+/// Reads a holding file to its end; writes its partial picture to `out`, planes Y, Cb and Cr row by row, a byte a sample,
+/// 128 where there is none; and then prints a line for each tile without samples, as `tile 0 missing`. Answers whether each
+/// tile has samples.
+///
+/// `Read` comes where the file can't be read; `HoldFile` with its
+/// first fault in the order of its bytes; `Memory` where a growth is refused: then nothing was written, and `out` was not
+/// touched. `Write` comes where `out` or the output fails: a front of the samples was written, or all samples and a front
+/// of the lines.
+pub fn run_picture<R: Read, O: Write, W: Write>(
+    alloc: Global,
+    file: &mut R,
+    out: &mut O,
+    output: &mut W,
+) -> Result<bool, CliFault>
+    ensures ok { IfOk result (ShowsFile (R.remaining file.old) (O.contents out.old) (O.contents out.new) (W.contents output.old) (W.contents output.new)) }
+    ensures err { IfErr result (PictureStops (R.remaining file.old) (O.contents out.old) (O.contents out.new) (W.contents output.old) (W.contents output.new)) }
+    ensures untouched { IfErr result (λ fault. UnlessWriting fault ((out.new ≡ out.old) × (output.new ≡ output.old))) }
+    ensures names { IfErr result (NamesPath IsHoldPath) }
+{
+    picture_of(
+        alloc,
+        &mut FromRead::new(file),
+        &mut ThroughWrite::new(out),
+        &mut ThroughWrite::new(output),
+    )
+}
+
+/// The command over a source and sinks.
+fn picture_of<R: Source, O: Sink, W: Sink>(
+    alloc: Global,
+    file: &mut R,
+    out: &mut O,
+    output: &mut W,
+) -> Result<bool, CliFault>
+    ensures ok { IfOk result (ShowsFile (R.remaining file.old) (O.contents out.old) (O.contents out.new) (W.contents output.old) (W.contents output.new)) }
+    ensures err { IfErr result (PictureStops (R.remaining file.old) (O.contents out.old) (O.contents out.new) (W.contents output.old) (W.contents output.new)) }
+    ensures untouched { IfErr result (λ fault. UnlessWriting fault ((out.new ≡ out.old) × (output.new ≡ output.old))) }
+    ensures names { IfErr result (NamesPath IsHoldPath) }
+
+    ensures file_failed { IsErrOf result (CliFault.Read (CommandPath.Hold 0)) → HasFailed (R.failures file.old) (R.failures file.new) }
+    ensures out_told { TellsFailure (IsErrOf result (CliFault.Write CommandPath.Out)) (O.failures out.old) (O.failures out.new)
+        (O.broken out.old) (O.broken out.new) }
+    ensures output_told { TellsFailure (IsErrOf result (CliFault.Write CommandPath.StandardOutput)) (W.failures output.old) (W.failures output.new)
+        (W.broken output.old) (W.broken output.new) }
+    ensures same_out { O.reference out.new ≡ O.reference out.old }
+    ensures same_output { W.reference output.new ≡ W.reference output.old }
+{
+    let holding = read_holding(alloc, file, CommandPath::Hold(0))?;
+    let partial = picture(alloc, &holding)?;
+    let samples = samples_of(alloc, &partial.frame)?;
+    let lines = outcomes_text(alloc, partial.tiles.as_slice())?;
+    write_both(out, samples.as_slice(), output, lines.as_str())?;
+    Ok(are_decoded(partial.tiles.as_slice()))
+}
+
+/// Whether each tile has samples.
+fn are_decoded(outcomes: &[TileOutcome]) -> bool
+    ensures { IsTrue result ↔ All IsDecoded outcomes.now }
+{
+    outcomes
+        .iter()
+        .all(|outcome| matches!(outcome, TileOutcome::Decoded { .. }))
+}
+
+/// The lines of the tiles without samples.
+fn outcomes_text(alloc: Global, outcomes: &[TileOutcome]) -> Result<String, AllocError>
+    ensures { IfOk result (λ text. string_bytes text ≡ picture_text outcomes.now) }
+{
+    let mut text = String::new(alloc);
+    for tile in 0..outcomes.len() {
+        push_outcome(&mut text, tile, outcomes[tile])?;
+    }
+    Ok(text)
+}
+
+/// Adds the line of a tile, if it has no samples.
+fn push_outcome(text: &mut String, tile: usize, outcome: TileOutcome) -> Result<(), AllocError>
+    ensures { OnOk result (string_bytes text.new ≡ string_bytes text.old ++ outcome_line tile outcome) }
+{
+    match outcome {
+        TileOutcome::Decoded { .. } => Ok(()),
+        TileOutcome::Missing => writeln!(text, "tile {tile} missing"),
+        TileOutcome::Disputed(slices) => writeln!(text, "tile {tile} disputed {slices}"),
+        TileOutcome::Fault(cause) => push_unreadable(text, tile, cause),
+    }
+}
+
+/// Adds the line of a tile whose settled slice spells no picture.
+fn push_unreadable(text: &mut String, tile: usize, cause: TileFault) -> Result<(), AllocError>
+    ensures { OnOk result (string_bytes text.new ≡ string_bytes text.old ++ unreadable_line tile cause) }
+{
+    match cause {
+        TileFault::Code { plane, y, x, .. } => push_code_place(text, tile, plane, y, x),
+        _ => push_header(text, tile),
+    }
+}
+
+/// Adds the line of a tile with the sample at which its slice can't be read.
+fn push_code_place(
+    text: &mut String,
+    tile: usize,
+    plane: usize,
+    y: usize,
+    x: usize,
+) -> Result<(), AllocError>
+    ensures { OnOk result (string_bytes text.new ≡ string_bytes text.old ++ place_line tile plane y x) }
+{
+    writeln!(text, "tile {tile} fault plane {plane} y {y} x {x}")
+}
+
+/// Adds the line of a tile whose header can't be read.
+fn push_header(text: &mut String, tile: usize) -> Result<(), AllocError>
+    ensures { OnOk result (string_bytes text.new ≡ string_bytes text.old ++ header_line tile) }
+{
+    writeln!(text, "tile {tile} fault header")
+}

@@ -1,0 +1,162 @@
+//! The command `take`: makes the holding file of all slices that are found in copies of one frame (own;
+//! slices are those of RFC 9043, sections 4.5 and 4.9).
+ghost use Rattle.std.specs.Prelude.{◌≡◌, ◌≢◌, ◌+◌, ◌<◌, ◌≤◌, ◌^◌, ◌++◌, length, map, IfOk, IfErr, IsErrOf, OnOk, string_bytes};
+ghost use Rattle.ffv1_bits.specs.Limits.{payload_limit};
+ghost use Rattle.ffv1_hold.specs.Contents.{no_slices};
+ghost use Rattle.ffv1_hold.specs.Streams.{HasCounted};
+ghost use Rattle.ffv1_commands.specs.Fault.{NamesPath};
+ghost use Rattle.ffv1_commands.specs.Paths.{IsTakePath};
+ghost use Rattle.ffv1_commands.specs.Devices.{IfOfRecord, IsCopyFault, UnlessWriting, TellsFailure, TellsFile};
+ghost use Rattle.ffv1_commands.specs.TakeText.{copy_line, TakesEach, TakesOne, TakesCopies, IsFaultOfInputs, TakeStops};
+
+use crate::devices::{read_copy, read_file, write_both};
+use crate::fault::CliFault;
+use crate::holdings::file_of;
+use crate::path::CommandPath;
+use ffv1_hold::{FromRead, HoldFault, Holding, Sink, Source, Taken, ThroughWrite};
+use std::alloc::{AllocError, Global};
+use std::io::{Read, Write};
+
+/// Takes copies of a frame, one after the other, into an empty holding for a configuration record and the size of the
+/// frame in samples; writes the holding's file to `out`, and then prints a line for each copy, as
+/// `copy 1 links 2 slices 1 new 1`: its links, those that are slices, and the slices that no earlier copy gave.
+///
+/// The record is judged before the first copy is read, and each copy is taken before the next is read. `Read` comes where the
+/// record or a copy can't be read, or the record is longer than 2^30 bytes; `Setup` with the record's first fault; `Hold`
+/// where a copy is longer than 2^30 bytes; `HoldFile` where the holding's file would pass its limit; `Memory` where a
+/// growth is refused: then nothing was written, and `out` was not touched. `Write` comes where `out` or the output fails:
+/// a front of the file was written, or the whole file and a front of the lines.
+///
+/// The copies are fewer than 2^63, as those of a `Vec` always are, so that each has a number.
+pub fn run_take<R: Read, C: Read, O: Write, W: Write>(
+    alloc: Global,
+    configuration: &mut R,
+    width: u32,
+    height: u32,
+    copies: &mut [C],
+    out: &mut O,
+    output: &mut W,
+) -> Result<(), CliFault>
+    requires { length copies.old < 2 ^ 63 }
+    ensures ok { OnOk result (TakesCopies (R.remaining configuration.old) width height (map C.remaining copies.old)
+        (O.contents out.old) (O.contents out.new) (W.contents output.old) (W.contents output.new)) }
+    ensures err { IfErr result (TakeStops (R.remaining configuration.old) width height (map C.remaining copies.old)
+        (O.contents out.old) (O.contents out.new) (W.contents output.old) (W.contents output.new)) }
+    ensures untouched { IfErr result (λ fault. UnlessWriting fault ((out.new ≡ out.old) × (output.new ≡ output.old))) }
+    ensures in_turn { IfErr result (λ fault. IfOfRecord fault (copies.new ≡ copies.old)) }
+    ensures names { IfErr result (NamesPath (IsTakePath (length copies.old))) }
+{
+    take_of(
+        alloc,
+        &mut FromRead::new(configuration),
+        width,
+        height,
+        copies,
+        &mut ThroughWrite::new(out),
+        &mut ThroughWrite::new(output),
+    )
+}
+
+/// The command over a source, readers of copies, and sinks.
+fn take_of<R: Source, C: Read, O: Sink, W: Sink>(
+    alloc: Global,
+    configuration: &mut R,
+    width: u32,
+    height: u32,
+    copies: &mut [C],
+    out: &mut O,
+    output: &mut W,
+) -> Result<(), CliFault>
+    requires { length copies.old < 2 ^ 63 }
+    ensures ok { OnOk result (TakesCopies (R.remaining configuration.old) width height (map C.remaining copies.old)
+        (O.contents out.old) (O.contents out.new) (W.contents output.old) (W.contents output.new)) }
+    ensures err { IfErr result (TakeStops (R.remaining configuration.old) width height (map C.remaining copies.old)
+        (O.contents out.old) (O.contents out.new) (W.contents output.old) (W.contents output.new)) }
+    ensures untouched { IfErr result (λ fault. UnlessWriting fault ((out.new ≡ out.old) × (output.new ≡ output.old))) }
+    ensures in_turn { IfErr result (λ fault. IfOfRecord fault (copies.new ≡ copies.old)) }
+    ensures names { IfErr result (NamesPath (IsTakePath (length copies.old))) }
+
+    ensures record_told { TellsFile (IsErrOf result (CliFault.Read CommandPath.Record)) (R.failures configuration.old) (R.failures configuration.new)
+        (R.broken configuration.old) (R.broken configuration.new) (R.taken configuration.old) (R.taken configuration.new) }
+    ensures out_told { TellsFailure (IsErrOf result (CliFault.Write CommandPath.Out)) (O.failures out.old) (O.failures out.new)
+        (O.broken out.old) (O.broken out.new) }
+    ensures output_told { TellsFailure (IsErrOf result (CliFault.Write CommandPath.StandardOutput)) (W.failures output.old) (W.failures output.new)
+        (W.broken output.old) (W.broken output.new) }
+    ensures same_out { O.reference out.new ≡ O.reference out.old }
+    ensures same_output { W.reference output.new ≡ W.reference output.old }
+{
+    let config = read_file(alloc, configuration, CommandPath::Record)?;
+    let mut holding = Holding::new(alloc, config.as_slice(), width, height)?;
+    let lines = take_copies(alloc, &mut holding, copies)?;
+    let file = file_of(alloc, &holding)?;
+    write_both(out, file.as_slice(), output, lines.as_str())
+}
+
+/// Takes copies into an empty holding, and tells each in a line.
+fn take_copies<C: Read>(
+    alloc: Global,
+    holding: &mut Holding,
+    copies: &mut [C],
+) -> Result<String, CliFault>
+    requires empty { holding.old ≡ no_slices holding.old.reel }
+    requires few { length copies.old < 2 ^ 63 }
+    ensures ok { IfOk result (λ lines. TakesEach (map C.remaining copies.old) holding.old.reel holding.new (string_bytes lines)) }
+    ensures reel { holding.new.reel ≡ holding.old.reel }
+    ensures err { IfErr result (IsFaultOfInputs (map C.remaining copies.old)) }
+{
+    let mut lines = String::new(alloc);
+    for index in 0..copies.len() {
+        take_copy(alloc, holding, &mut copies[index], index, &mut lines)?;
+    }
+    Ok(lines)
+}
+
+/// Takes a copy, before which stand so many others, and tells it in a line.
+fn take_copy<C: Read>(
+    alloc: Global,
+    holding: &mut Holding,
+    copy: &mut C,
+    before: usize,
+    lines: &mut String,
+) -> Result<(), CliFault>
+    requires { before < 2 ^ 63 }
+    ensures ok { OnOk result (TakesOne (C.remaining copy.old) (before + 1) holding.old holding.new (string_bytes lines.old) (string_bytes lines.new)) }
+    ensures reel { holding.new.reel ≡ holding.old.reel }
+    ensures err { IfErr result (IsCopyFault (CommandPath.Copy before) (C.remaining copy.old)) }
+{
+    take_copy_of(alloc, holding, &mut FromRead::new(copy), before, lines)
+}
+
+/// The same over a source.
+fn take_copy_of<C: Source>(
+    alloc: Global,
+    holding: &mut Holding,
+    copy: &mut C,
+    before: usize,
+    lines: &mut String,
+) -> Result<(), CliFault>
+    requires { before < 2 ^ 63 }
+    ensures ok { OnOk result (TakesOne (C.remaining copy.old) (before + 1) holding.old holding.new (string_bytes lines.old) (string_bytes lines.new)) }
+    ensures reel { holding.new.reel ≡ holding.old.reel }
+    ensures err { IfErr result (IsCopyFault (CommandPath.Copy before) (C.remaining copy.old)) }
+    ensures copy_told { TellsFailure (IsErrOf result (CliFault.Read (CommandPath.Copy before))) (C.failures copy.old) (C.failures copy.new)
+        (C.broken copy.old) (C.broken copy.new) }
+    ensures too_long { IsErrOf result (CliFault.Hold HoldFault.PayloadTooLong) → HasCounted (payload_limit + 1) (C.taken copy.old) (C.taken copy.new) }
+    ensures within { (¬ IsErrOf result (CliFault.Hold HoldFault.PayloadTooLong)) → C.taken copy.new ≤ C.taken copy.old + payload_limit }
+{
+    let payload = read_copy(alloc, copy, CommandPath::Copy(before))?;
+    let taken = holding.take(payload.as_slice())?;
+    push_taken(lines, before + 1, taken)?;
+    Ok(())
+}
+
+/// Adds the line of a copy.
+fn push_taken(text: &mut String, number: usize, taken: Taken) -> Result<(), AllocError>
+    ensures { OnOk result (string_bytes text.new ≡ string_bytes text.old ++ copy_line number taken.links taken.slices taken.new) }
+{
+    let (links, slices, new) = (taken.links, taken.slices, taken.new);
+    writeln!(
+        text,
+        "copy {number} links {links} slices {slices} new {new}"
+    )
+}

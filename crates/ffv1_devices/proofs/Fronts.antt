@@ -1,0 +1,16 @@
+-- A write that failed, as a part of a longer one.
+use Rattle.std.proofs.Common.{ℕ, List, ◌++◌, Option, sym, ap, ◌∙◌, append_assoc}
+use Rattle.std.specs.Io.KnownBytes.{Appends}
+use Rattle.std.proofs.KnownBytes.{Appends-trans}
+use Rattle.ffv1_devices.specs.Writing.{WritesFront}
+
+pub front-append : (a b : Option (List ℕ)) (xs ys : List ℕ) → WritesFront a b xs → WritesFront a b (xs ++ ys)
+front-append a b xs ys w = record { done = w.done; rest = w.rest ++ ys; split = ap (λ l. l ++ ys) w.split ∙ append_assoc w.done w.rest ys; written = w.written }
+
+pub front-after : (a b c : Option (List ℕ)) (xs ys : List ℕ) → Appends a b xs → WritesFront b c ys → WritesFront a c (xs ++ ys)
+front-after a b c xs ys h w = record {
+  done = xs ++ w.done;
+  rest = w.rest;
+  split = ap (λ l. xs ++ l) w.split ∙ sym (append_assoc xs w.done w.rest);
+  written = Appends-trans a b c xs w.done h w.written;
+}

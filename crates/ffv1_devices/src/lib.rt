@@ -1,0 +1,16 @@
+//! Devices (own): what is read and what is written, byte by byte or whole, how often a device failed, and when it is given up.
+#![tactic(auto)]
+
+mod failures;
+mod reads;
+mod streams;
+mod whole;
+mod writes;
+
+pub use reads::{ReadFailed, next_byte, read_full, read_some};
+pub use streams::{FromRead, FromWrite, Sink, Source, ThroughWrite};
+pub use whole::{WholeFault, read_whole};
+pub use writes::{WriteFailed, write_field, write_pair};
+
+#[cfg(test)]
+mod tests;

@@ -1,0 +1,81 @@
+//! Whole fields to a sink (own): writes that go on behind interrupted tries, until the sink has failed.
+
+ghost use Rattle.std.specs.Prelude.{◌≡◌, ◌+◌, ◌<◌, ◌≤◌, ◌++◌, length, take, IfOk, OnOk, OnErr};
+ghost use Rattle.std.specs.Io.{WritesAtMost};
+ghost use Rattle.std.specs.Io.KnownBytes.{Appends, Keeps};
+ghost use Rattle.ffv1_devices.specs.Streams.{HasFailed, HasGivenUp, most_tries};
+ghost use Rattle.ffv1_devices.specs.Writing.{WritesFront};
+
+use crate::reads::TRIES;
+use crate::streams::Sink;
+use std::io::ErrorKind;
+
+/// A sink failed: a try failed and was not interrupted, took none of some bytes, or was the 65th interrupted one in a row.
+#[derive(Clone, Copy, Debug, PartialEq, Eq)]
+pub struct WriteFailed;
+
+/// One write, made again where it is interrupted.
+fn write_some<S: Sink>(sink: &mut S, bytes: &[u8]) -> Result<usize, WriteFailed>
+    requires { 0 < length bytes.now }
+    ensures bound { WritesAtMost result bytes.now }
+    ensures some { IfOk result (λ n. 0 < n) }
+    ensures ok { IfOk result (λ n. Appends (S.contents sink.old) (S.contents sink.new) (take n bytes.now)) }
+    ensures err { OnErr result (Keeps (S.contents sink.old) (S.contents sink.new)) }
+    ensures failed { OnErr result (HasFailed (S.failures sink.old) (S.failures sink.new)) }
+    ensures gave_up { OnErr result (HasGivenUp (S.failures sink.old) (S.failures sink.new) (S.broken sink.old) (S.broken sink.new)) }
+    ensures unbroken { OnOk result (S.broken sink.new ≡ S.broken sink.old) }
+    ensures broken_once { S.broken sink.new ≤ S.broken sink.old + 1 }
+    ensures counted { S.failures sink.old ≤ S.failures sink.new }
+    ensures same_reference { S.reference sink.new ≡ S.reference sink.old }
+    ensures tries { S.failures sink.new ≤ S.failures sink.old + most_tries }
+{
+    for _ in 0..TRIES {
+        match sink.write(bytes) {
+            Ok(0) => return Err(WriteFailed),
+            Ok(count) => return Ok(count),
+            Err(error) => {
+                if error.kind() != ErrorKind::Interrupted {
+                    return Err(WriteFailed);
+                }
+            }
+        }
+    }
+    Err(WriteFailed)
+}
+
+/// Writes all of the bytes.
+///
+/// It is refused only where the sink counted a failure: an interrupted try is made again, and 65 in a row are a failure; the
+/// first failure that is no interruption is told. Then a front of the bytes was written, none or all of them among it.
+pub fn write_field<S: Sink>(sink: &mut S, bytes: &[u8]) -> Result<(), WriteFailed>
+    ensures ok { OnOk result (Appends (S.contents sink.old) (S.contents sink.new) bytes.now) }
+    ensures err { OnErr result (WritesFront (S.contents sink.old) (S.contents sink.new) bytes.now) }
+    ensures failed { OnErr result (HasFailed (S.failures sink.old) (S.failures sink.new)) }
+    ensures gave_up { OnErr result (HasGivenUp (S.failures sink.old) (S.failures sink.new) (S.broken sink.old) (S.broken sink.new)) }
+    ensures unbroken { OnOk result (S.broken sink.new ≡ S.broken sink.old) }
+    ensures broken_once { S.broken sink.new ≤ S.broken sink.old + 1 }
+    ensures counted { S.failures sink.old ≤ S.failures sink.new }
+    ensures same_reference { S.reference sink.new ≡ S.reference sink.old }
+{
+    let mut rest = bytes;
+    while !rest.is_empty() {
+        let count = write_some(sink, rest)?;
+        rest = &rest[count..];
+    }
+    Ok(())
+}
+
+/// Writes one field, and then another.
+pub fn write_pair<S: Sink>(sink: &mut S, first: &[u8], second: &[u8]) -> Result<(), WriteFailed>
+    ensures ok { OnOk result (Appends (S.contents sink.old) (S.contents sink.new) (first.now ++ second.now)) }
+    ensures err { OnErr result (WritesFront (S.contents sink.old) (S.contents sink.new) (first.now ++ second.now)) }
+    ensures failed { OnErr result (HasFailed (S.failures sink.old) (S.failures sink.new)) }
+    ensures gave_up { OnErr result (HasGivenUp (S.failures sink.old) (S.failures sink.new) (S.broken sink.old) (S.broken sink.new)) }
+    ensures unbroken { OnOk result (S.broken sink.new ≡ S.broken sink.old) }
+    ensures broken_once { S.broken sink.new ≤ S.broken sink.old + 1 }
+    ensures counted { S.failures sink.old ≤ S.failures sink.new }
+{
+    write_field(sink, first)?;
+    write_field(sink, second)?;
+    Ok(())
+}

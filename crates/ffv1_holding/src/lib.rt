@@ -1,0 +1,27 @@
+//! Holdings (own): the union of the slices that were found in copies of one frame, and what they restore. A slice is held with
+//! its footer (RFC 9043, section 4.9), and only as its parity and its header find it.
+#![tactic(auto)]
+
+mod fault;
+mod holding;
+mod joins;
+mod laws;
+mod reel;
+mod restore;
+mod slice_set;
+mod standing;
+mod take;
+mod tile_sets;
+
+pub use fault::HoldFault;
+pub use holding::Holding;
+pub use joins::{Join, JoinAllFault, join_all};
+pub use laws::{copies_hold_the_original, held_is_found, near_copies_hold_the_original};
+pub use reel::Reel;
+pub use restore::RestoreFault;
+pub use slice_set::SliceSet;
+pub use standing::TileState;
+pub use take::{TakeAllFault, Taken};
+
+#[cfg(test)]
+mod tests;

@@ -1,0 +1,57 @@
+//! How a tile stands (own): by its best slices, those of the least error_status (RFC 9043, section 4.9.2).
+ghost use Rattle.std.specs.Prelude.{◌≡◌, ℕ, ◌+◌, ◌<◌, ◌≤◌, List, length, slice_index_or};
+ghost use Rattle.ffv1_holding.specs.Sets as set;
+ghost use Rattle.ffv1_holding.specs.Standing.{standing_of, IsLeastStatus};
+ghost use Rattle.ffv1_holding.specs.TileStates.{standing_shown};
+
+use crate::slice_set::SliceSet;
+use ffv1_slice::status_of;
+
+/// Which slices of a tile count: those of the least error_status.
+#[derive(Clone, Copy, Debug)]
+pub enum TileState<'a> {
+    /// No slice is held.
+    Missing,
+    /// One slice has the least error_status.
+    Settled(&'a [u8]),
+    /// So many slices have it.
+    Disputed(usize),
+}
+
+/// The least error_status of slices.
+pub(crate) fn least_status(slices: &SliceSet) -> Option<u8>
+    requires { (i : ℕ) (d : List ℕ) → i < set.size slices.now → 8 ≤ length (slice_index_or (set.items slices.now) i d) }
+    ensures { IsLeastStatus (set.items slices.now) result }
+{
+    let mut least = None;
+    for place in 0..slices.len() {
+        let here = status_of(slices.get(place));
+        least = match least {
+            Some(before) if before <= here => Some(before),
+            _ => Some(here),
+        };
+    }
+    least
+}
+
+/// How the tile of these slices stands.
+pub(crate) fn state(slices: &SliceSet) -> TileState<'_>
+    requires { (i : ℕ) (d : List ℕ) → i < set.size slices.now → 8 ≤ length (slice_index_or (set.items slices.now) i d) }
+    ensures { standing_shown result ≡ standing_of (set.items slices.now) }
+{
+    let Some(least) = least_status(slices) else {
+        return TileState::Missing;
+    };
+    let mut found = TileState::Missing;
+    for place in 0..slices.len() {
+        let slice = slices.get(place);
+        if status_of(slice) == least {
+            found = match found {
+                TileState::Missing => TileState::Settled(slice),
+                TileState::Settled(_) => TileState::Disputed(2),
+                TileState::Disputed(slices) => TileState::Disputed(slices + 1),
+            };
+        }
+    }
+    found
+}

@@ -1,0 +1,38 @@
+-- A reader of a plane, a step further.
+use Rattle.std.proofs.Common.{◌≡◌, ℕ, ◌+◌, ◌%◌, ◌<◌, Bool, List, length, get_or, arith, ℤ}
+use Rattle.ffv1_range.specs.Setup.{set_entry}
+use Rattle.ffv1_rice.specs.States.{ContextState}
+use Rattle.ffv1_plane.specs.SetTables.{SetTables}
+use Rattle.ffv1_plane.specs.Progress.{IsReadTo}
+use Rattle.ffv1_plane.specs.Halts.{IsNextHalted}
+use Rattle.ffv1_plane.specs.declared.plane.PlaneFault.{PlaneFault}
+use Rattle.ffv1_plane.specs.declared.plane.PlaneFault.TheVariants as plane_faults
+
+-- the same was read, and the same halts, where the width, the tables, the index and the samples are the same
+pub same_read : (earlier : ℕ → List ℤ) (w v : ℕ) (t u : SetTables) (i j : ℕ) (bits left : List Bool) (samples others : List ℕ) (states : List ContextState)
+    → v ≡ w → u ≡ t → j ≡ i → others ≡ samples
+    → IsReadTo earlier w (set_entry t.setup t.set) bits samples i states left → IsReadTo earlier v (set_entry u.setup u.set) bits others j states left
+same_read earlier w v t u i j bits left samples others states width tables index same read = rw (width, tables, index, same) read
+
+pub same_halted : (w v : ℕ) (t u : SetTables) (samples : List ℕ) (index : ℕ) (states : List ContextState) (left : List Bool) (fault : PlaneFault) → v ≡ w
+    → u ≡ t
+    → IsNextHalted w (set_entry t.setup t.set) samples index states left fault → IsNextHalted v (set_entry u.setup u.set) samples index states left fault
+same_halted w v t u samples index states left fault width tables halted = rw (width, tables) halted
+
+-- where a part of a row halts, so does the row
+pub row_halted : (w : ℕ) (entry : ℕ → ℕ → ℤ) (start samples : List ℕ) (i j x : ℕ) (before states : List ContextState) (first left : List Bool)
+    (fault : PlaneFault) → length start % w ≡ 0 → x < w → length samples % w ≡ x
+    → length samples ≡ length start + x → ((s : ℕ) → get_or samples s 0 < 256)
+    → ((earlier : ℕ → List ℤ) (bits : List Bool) → IsReadTo earlier w entry bits start i before first → IsReadTo earlier w entry bits samples j states left)
+    → IsNextHalted w entry samples j states left fault → IsNextHalted w entry start i before first fault
+row_halted w entry start samples i j x before states first left (plane_faults.Code fault sample) whole inside column longer bytes read halts =
+    λ earlier bits small so_far.
+    let there = halts earlier bits bytes (read earlier bits so_far) in
+    record {
+      samples = there.samples;
+      bytes = there.bytes;
+      inside = there.inside;
+      in_line = (let in_line = there.in_line in omega arith);
+      halted = there.halted;
+    }
+row_halted w entry start samples i j x before states first left plane_faults.Memory whole inside column longer bytes read halts = tt

@@ -1,0 +1,30 @@
+use Rattle.std.proofs.Common.{◌≡◌, ◌≤◌, ◌+◌, ◌-◌, arith, length, ap, subst, ◌∙◌, ℕ}
+use Rattle.std.proofs.lemmas.List.{length_push}
+use Rattle.ffv1_plane.specs.Samples.{neighbours_at}
+use Rattle.ffv1_plane.specs.Progress.{AreSkipped}
+use Rattle.ffv1_plane.proofs.Reading.{skip_more, skip_on}
+use Rattle.ffv1_plane.proofs.lines.Lines.skip.Goals as goal
+
+pub loop-done-preserved : goal.loop-done-preserved
+loop-done-preserved c =
+    let near : c.neighbours-near.result ≡ neighbours_at c.args.self.now.width c.loop-done.self.samples (length c.loop-done.self.samples) =
+    c.neighbours-near.ensures ∙ ap (λ w. neighbours_at w c.loop-done.self.samples (length c.loop-done.self.samples)) c.loop-done.invariant.width in
+    let some : 1 ≤ c.args.self.now.width = omega (arith, c.requires, c.loop-done.invariant.x) in
+    record {
+      skipped = λ entry. skip_more c.args.self.now.width entry c.args.self.now.samples c.loop-done.self.samples c.push.new.self.samples c.loop-done.done
+          c.prediction.result c.neighbours-near.result some (c.loop-done.invariant.skipped entry)
+          near c.prediction.ensures (ap (λ r. r.samples) c.push.ensures);
+      width = ap (λ r. r.width) c.push.ensures ∙ c.loop-done.invariant.width;
+      count = omega (arith, ap (λ r. length r.samples) c.push.ensures, length_push c.loop-done.self.samples c.prediction.result, c.loop-done.invariant.count);
+      x = omega (arith, ap (λ r. r.x) c.push.ensures, c.loop-done.invariant.x);
+    }
+
+-- the samples so far, and behind them the copies
+pub returns-then-near-clause-skipped : goal.returns-then-near-clause-skipped
+returns-then-near-clause-skipped c = λ entry.
+    let all : c.loop-done.done + (c.args.count - c.loop-done.done) ≡ c.args.count = omega arith in
+    let copied = subst (λ (w : ℕ). AreSkipped w entry c.loop-done.self.samples c.copy_above.new.self.samples
+    (c.args.count - c.loop-done.done)) c.loop-done.invariant.width (c.copy_above.ensures.skipped entry) in
+    subst (λ (k : ℕ). AreSkipped c.args.self.now.width entry c.args.self.now.samples c.copy_above.new.self.samples k) all
+    (skip_on c.args.self.now.width entry c.args.self.now.samples c.loop-done.self.samples c.copy_above.new.self.samples c.loop-done.done
+    (c.args.count - c.loop-done.done) (c.loop-done.invariant.skipped entry) copied)

@@ -1,0 +1,30 @@
+use Rattle.std.proofs.Common.{◌≡◌, ◌≤◌, nat_abs, arith, rules, ap, w32}
+use mir.Val.{SFits}
+use Rattle.std.proofs.lemmas.Int.{to_z-of_z}
+use Rattle.ffv1_plane.specs.Readers.{entry_of}
+use Rattle.ffv1_plane.proofs.Reading.{sample_read_at, code_halted_at}
+use Rattle.ffv1_plane.proofs.plane.PlaneReader.read_code.Goals as goal
+
+pub returns-clause-read : goal.returns-clause-read
+returns-clause-read c =
+    let f : SFits w32 c.args.context = search rules in
+    let g : SFits w32 c.in-Ok.difference = search rules in
+    let some : 1 ≤ c.args.self.now.lines.width = omega (arith, c.requires.inside) in
+    let i_is : c.unsigned_abs.result ≡ nat_abs c.args.context = (simp to_z-of_z at c.unsigned_abs.ensures.value) in
+    sample_read_at c.args.self.now.lines.width (entry_of c.args.self.now) c.args.level c.args.self.now.lines.samples c.push.new.self.samples
+    c.args.self.now.states.items c.args.self.now.bits c.decode.new.bits
+    c.args.near.now c.args.context _ c.in-Ok.difference _ c.sample_of.result c.unsigned_abs.result c.prediction.result c.index_mut-state.result.now
+    c.decode.new.self
+    some c.requires.near c.requires.context c.prediction.ensures (to_z-of_z w32 c.args.context f) (to_z-of_z w32 c.in-Ok.difference g) c.sample_of.ensures
+    (ap (λ r. r.samples) c.push.ensures) c.in-Ok.ensures.range
+    i_is (omega (arith, i_is, c.requires.below)) c.index_mut-state.ensures.value c.in-Ok.ensures.ok c.in-Ok.ensures.state
+
+pub returns-in-Err-clause-err : goal.returns-in-Err-clause-err
+returns-in-Err-clause-err c =
+    let f : SFits w32 c.args.context = search rules in
+    let i_is : c.unsigned_abs.result ≡ nat_abs c.args.context = (simp to_z-of_z at c.unsigned_abs.ensures.value) in
+    code_halted_at c.args.self.now.lines.width (entry_of c.args.self.now) c.args.level c.args.self.now.lines.samples c.args.self.now.states.items
+    c.args.self.now.bits.left
+    c.args.near.now c.args.context c.unsigned_abs.result _ c.index_mut-state.result.now _
+    c.requires.near c.requires.context i_is (omega (arith, i_is, c.requires.below)) c.index_mut-state.ensures.value
+    c.in-Err.ensures.err (search rules)

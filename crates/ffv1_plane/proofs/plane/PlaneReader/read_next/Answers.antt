@@ -1,0 +1,117 @@
+use Rattle.std.proofs.Common.{◌≡◌, ◌≤◌, ◌<◌, ◌-◌, ◌%◌, ℕ, true, pos, length, arith, rules, subst, refl, ◌∙◌}
+use Rattle.std.proofs.lemmas.Int.{ints}
+use Rattle.std.proofs.lemmas.Result.{on_ok_weaker, IfErr-weaker}
+use Rattle.ffv1_plane.specs.Progress.{IsRunRead, IsSampleRead}
+use Rattle.ffv1_plane.specs.Readers.{entry_of}
+use Rattle.ffv1_plane.proofs.Reading.{scalar_read_at, zero_here, run_end_read, run_level_read}
+use Rattle.ffv1_plane.proofs.Halting.{scalar_stops, word_halted, level_stops}
+use Rattle.ffv1_plane.proofs.Readers.{same_read}
+use Rattle.ffv1_plane.proofs.plane.PlaneReader.read_next.Goals as goal
+
+pub returns-then-context-ne0-clause-read : goal.returns-then-context-ne0-clause-read
+returns-then-context-ne0-clause-read c =
+    let some : 1 ≤ c.args.self.now.lines.width = omega (arith, c.requires.inside) in
+    let same = c.read_code.ensures.same in
+    on_ok_weaker c.read_code.result
+    (λ read earlier whole so_far. same_read earlier c.args.self.now.lines.width c.read_code.new.self.lines.width c.args.self.now.tables.now
+    c.read_code.new.self.tables.now c.args.self.now.index c.read_code.new.self.index whole c.read_code.new.self.bits.left
+    c.read_code.new.self.lines.samples c.read_code.new.self.lines.samples c.read_code.new.self.states.items same.width same.tables c.read_code.ensures.index
+    refl
+    (scalar_read_at earlier c.args.self.now.lines.width (entry_of c.args.self.now) _ _ _ _ _ _ _ c.neighbours-near.result c.context-context.result some
+    c.neighbours-near.ensures c.context-context.ensures.value
+    (λ e. absurd (omega (arith, ints, e))) read whole so_far))
+    c.read_code.ensures.read
+
+pub returns-then-context-ne0-clause-err : goal.returns-then-context-ne0-clause-err
+returns-then-context-ne0-clause-err c =
+    let some : 1 ≤ c.args.self.now.lines.width = omega (arith, c.requires.inside) in
+    IfErr-weaker c.read_code.result _ _
+    (scalar_stops c.args.self.now.lines.width (entry_of c.args.self.now) some c.args.self.now.lines.samples c.args.self.now.index
+    c.args.self.now.states.items c.args.self.now.bits.left
+    c.neighbours-near.result c.context-context.result c.neighbours-near.ensures c.context-context.ensures.value (λ e. absurd (omega (arith, ints, e))))
+    c.read_code.ensures.err
+
+pub returns-in-Err-clause-err : goal.returns-in-Err-clause-err
+returns-in-Err-clause-err c =
+    let some : 1 ≤ c.args.self.now.lines.width = omega (arith, c.requires.inside) in
+    let zero_is : c.context-context.result ≡ pos 0 = omega (arith, ints) in
+    let place = c.column.ensures.place (omega (arith, c.requires.inside, c.column.ensures.value)) in
+    let left_is : c.width.result - c.column.result ≡ c.args.self.now.lines.width - length c.args.self.now.lines.samples % c.args.self.now.lines.width =
+    omega (arith, place, c.width.ensures.value) in
+    let cut = rw left_is at c.in-Err.ensures.err in
+    word_halted c.args.self.now.lines.width (entry_of c.args.self.now) some c.args.self.now.lines.samples c.args.self.now.index c.args.self.now.states.items
+    c.args.self.now.bits.left
+    c.neighbours-near.result c.context-context.result c.neighbours-near.ensures c.context-context.ensures.value zero_is _ _ _ c.in-Err.ensures.truncated
+    (search rules) cut
+
+pub returns-then-count-left-clause-read : goal.returns-then-count-left-clause-read
+returns-then-count-left-clause-read c =
+    let some : 1 ≤ c.args.self.now.lines.width = omega (arith, c.requires.inside) in
+    let zero_is : c.context-context.result ≡ pos 0 = omega (arith, ints) in
+    let place = c.column.ensures.place (omega (arith, c.requires.inside, c.column.ensures.value)) in
+    let left_is : c.width.result - c.column.result ≡ c.args.self.now.lines.width - length c.args.self.now.lines.samples % c.args.self.now.lines.width =
+    omega (arith, place, c.width.ensures.value) in
+    let run : IsRunRead (c.args.self.now.lines.width - length c.args.self.now.lines.samples % c.args.self.now.lines.width) c.args.self.now.index
+    c.args.self.now.bits.left c.in-Ok.count c.read_run.new.index c.read_run.new.bits.left =
+    subst (λ (n : ℕ). IsRunRead n c.args.self.now.index c.args.self.now.bits.left c.in-Ok.count c.read_run.new.index c.read_run.new.bits.left) left_is
+    c.in-Ok.ensures.ok in
+    let less : c.in-Ok.count < c.args.self.now.lines.width - length c.args.self.now.lines.samples % c.args.self.now.lines.width =
+    omega (arith, left_is, c.if-count-left.true) in
+    let same = c.read_level.ensures.same in
+    on_ok_weaker c.read_level.result
+    (λ read earlier whole so_far. same_read earlier c.args.self.now.lines.width c.read_level.new.self.lines.width c.args.self.now.tables.now
+    c.read_level.new.self.tables.now c.read_run.new.index c.read_level.new.self.index whole c.read_level.new.self.bits.left
+    c.read_level.new.self.lines.samples c.read_level.new.self.lines.samples c.read_level.new.self.states.items
+    (same.width ∙ c.skip.ensures.width) same.tables c.read_level.ensures.index refl
+    (run_level_read earlier c.args.self.now.lines.width (entry_of c.args.self.now) some whole c.args.self.now.bits.left c.args.self.now.lines.samples
+    c.skip.new.self.samples c.args.self.now.index c.args.self.now.states.items so_far
+    (zero_here c.args.self.now.lines.width (entry_of c.args.self.now) c.args.self.now.lines.samples c.neighbours-near.result c.context-context.result some
+    c.neighbours-near.ensures c.context-context.ensures.value zero_is)
+    c.in-Ok.count c.read_run.new.index c.read_run.new.bits.left run (c.skip.ensures.skipped (entry_of c.args.self.now))
+    _ _ _ less
+    (subst (λ (w : ℕ). IsSampleRead w (entry_of c.args.self.now) true c.skip.new.self.samples c.args.self.now.states.items c.read_run.new.bits.left
+    c.read_level.new.self.lines.samples c.read_level.new.self.states.items c.read_level.new.self.bits.left) c.skip.ensures.width read)))
+    c.read_level.ensures.read
+
+pub returns-then-count-left-clause-err : goal.returns-then-count-left-clause-err
+returns-then-count-left-clause-err c =
+    let some : 1 ≤ c.args.self.now.lines.width = omega (arith, c.requires.inside) in
+    let zero_is : c.context-context.result ≡ pos 0 = omega (arith, ints) in
+    let place = c.column.ensures.place (omega (arith, c.requires.inside, c.column.ensures.value)) in
+    let left_is : c.width.result - c.column.result ≡ c.args.self.now.lines.width - length c.args.self.now.lines.samples % c.args.self.now.lines.width =
+    omega (arith, place, c.width.ensures.value) in
+    let run : IsRunRead (c.args.self.now.lines.width - length c.args.self.now.lines.samples % c.args.self.now.lines.width) c.args.self.now.index
+    c.args.self.now.bits.left c.in-Ok.count c.read_run.new.index c.read_run.new.bits.left =
+    subst (λ (n : ℕ). IsRunRead n c.args.self.now.index c.args.self.now.bits.left c.in-Ok.count c.read_run.new.index c.read_run.new.bits.left) left_is
+    c.in-Ok.ensures.ok in
+    let less : c.in-Ok.count < c.args.self.now.lines.width - length c.args.self.now.lines.samples % c.args.self.now.lines.width =
+    omega (arith, left_is, c.if-count-left.true) in
+    IfErr-weaker c.read_level.result _ _
+    (level_stops c.args.self.now.lines.width (entry_of c.args.self.now) some c.args.self.now.lines.samples c.args.self.now.index c.args.self.now.states.items
+    c.args.self.now.bits.left
+    c.neighbours-near.result c.context-context.result c.neighbours-near.ensures c.context-context.ensures.value zero_is c.skip.new.self.samples c.in-Ok.count
+    c.read_run.new.index c.read_run.new.bits.left run
+    (c.skip.ensures.skipped (entry_of c.args.self.now)) less c.skip.ensures.bytes)
+    (rw c.skip.ensures.width at c.read_level.ensures.err)
+
+pub returns-else-count-left-clause-read : goal.returns-else-count-left-clause-read
+returns-else-count-left-clause-read c =
+    let some : 1 ≤ c.args.self.now.lines.width = omega (arith, c.requires.inside) in
+    let zero_is : c.context-context.result ≡ pos 0 = omega (arith, ints) in
+    let place = c.column.ensures.place (omega (arith, c.requires.inside, c.column.ensures.value)) in
+    let left_is : c.width.result - c.column.result ≡ c.args.self.now.lines.width - length c.args.self.now.lines.samples % c.args.self.now.lines.width =
+    omega (arith, place, c.width.ensures.value) in
+    let run : IsRunRead (c.args.self.now.lines.width - length c.args.self.now.lines.samples % c.args.self.now.lines.width) c.args.self.now.index
+    c.args.self.now.bits.left c.in-Ok.count c.read_run.new.index c.read_run.new.bits.left =
+    subst (λ (n : ℕ). IsRunRead n c.args.self.now.index c.args.self.now.bits.left c.in-Ok.count c.read_run.new.index c.read_run.new.bits.left) left_is
+    c.in-Ok.ensures.ok in
+    let whole_row : c.args.self.now.lines.width - length c.args.self.now.lines.samples % c.args.self.now.lines.width ≡ c.in-Ok.count =
+    (let enough = c.if-count-left.false in omega (arith, left_is, enough, run.fits)) in
+    λ earlier whole so_far. same_read earlier c.args.self.now.lines.width c.skip.new.self.width c.args.self.now.tables.now c.args.self.now.tables.now
+    c.read_run.new.index c.read_run.new.index whole c.read_run.new.bits.left
+    c.skip.new.self.samples c.skip.new.self.samples c.args.self.now.states.items c.skip.ensures.width refl refl refl
+    (run_end_read earlier c.args.self.now.lines.width (entry_of c.args.self.now) some whole c.args.self.now.bits.left c.args.self.now.lines.samples
+    c.skip.new.self.samples c.args.self.now.index c.args.self.now.states.items so_far
+    (zero_here c.args.self.now.lines.width (entry_of c.args.self.now) c.args.self.now.lines.samples c.neighbours-near.result c.context-context.result some
+    c.neighbours-near.ensures c.context-context.ensures.value zero_is)
+    c.in-Ok.count c.read_run.new.index c.read_run.new.bits.left run (c.skip.ensures.skipped (entry_of c.args.self.now)) whole_row)

@@ -1,0 +1,14 @@
+-- The tables of a set, with all of their entries.
+use Rattle.std.specs.Prelude.{◌≡◌, ℕ, ◌<◌, List, [], length, ℤ, pos, get_or}
+use Rattle.ffv1_range.specs.Setup.{SetupValue, IsInProfile, set_entry}
+
+-- a set of a setup
+pub record SetTables : Type 0 where
+  pub setup : SetupValue
+  pub set : ℕ
+
+-- The setup has the set, and these are the 256 entries of each of its tables.
+pub record AreSetTables (setup : SetupValue) (set : ℕ) (entries : List (List ℤ)) : Type 0 where
+  pub profile : IsInProfile setup
+  pub there : set < length setup.sets
+  pub are_entries : (table k : ℕ) → table < 5 → k < 256 → get_or (get_or entries table []) k (pos 0) ≡ set_entry setup set table k

@@ -1,0 +1,183 @@
+//! The rows about the next sample of a plane (RFC 9043, sections 3.1 and 3.2).
+//!
+//! Three lines roll over the plane: the row that is read, the one above it and the one above that. A line has two cells
+//! before its row and one behind it, for the borders, which are written once a row.
+ghost use Rattle.std.specs.Prelude.{◌≡◌, ℕ, ◌<◌, ◌≤◌, ◌+◌, ◌^◌, ◌%◌, [], ◌∷◌, ◌++◌, length, slice_index, IfOk, OnOk, ℤ};
+ghost use Rattle.ffv1_bits.specs.Limits.{greatest_side};
+ghost use Rattle.ffv1_plane.specs.Samples.{neighbours_at};
+ghost use Rattle.ffv1_plane.specs.Progress.{AreSkipped};
+ghost use Rattle.ffv1_plane.specs.Rows.{IsLeftAsAbove};
+
+use crate::neighbours::Neighbours;
+use std::alloc::{AllocError, Global};
+use std::marker::Model;
+use std::mem;
+
+/// The samples of a plane that were read, and the lines about the next one.
+#[derive(Drop)]
+pub(crate) struct Lines {
+    width: usize,
+    /// How many samples of the row were read.
+    x: usize,
+    /// The rows that are ended.
+    rows: Vec<u8>,
+    line: Vec<u8>,
+    above: Vec<u8>,
+    far_above: Vec<u8>,
+}
+
+impl Model for Lines {
+    ghost use Rattle.ffv1_plane.specs.Rows.{RowsRead, samples_so_far, AreLines};
+
+    ghost Value = { RowsRead };
+
+    ghost view = { λ l. record { width = l.width; x = l.x; samples = samples_so_far l.x l.rows.items l.line.items } };
+
+    ghost invariant = { λ l. AreLines l.width l.x l.rows.items l.line.items l.above.items l.far_above.items };
+}
+
+impl Lines {
+    /// The lines about the first sample of a plane.
+    pub(crate) fn new(alloc: Global, width: usize, height: usize) -> Result<Lines, AllocError>
+        requires some { 1 ≤ width }
+        requires width { width ≤ greatest_side }
+        requires height { height ≤ greatest_side }
+        ensures { IfOk result (λ lines. lines ≡ record { width = width; x = 0; samples = [] }) }
+    {
+        let rows = Vec::with_capacity(alloc, width * height)?;
+        let line = vec![in alloc; 0; width + 3]?;
+        let above = vec![in alloc; 0; width + 3]?;
+        let far_above = vec![in alloc; 0; width + 3]?;
+        Ok(Lines {
+            width,
+            x: 0,
+            rows,
+            line,
+            above,
+            far_above,
+        })
+    }
+
+    /// The width of the plane.
+    pub(crate) fn width(&self) -> usize
+        ensures value { result ≡ self.now.width }
+        ensures some { 1 ≤ result }
+        ensures wide { result ≤ greatest_side }
+    {
+        self.width
+    }
+
+    /// The column of the next sample; the width where the row's samples were all read.
+    #[inline(always)]
+    pub(crate) fn column(&self) -> usize
+        ensures value { result ≡ self.now.x }
+        ensures within { result ≤ self.now.width }
+        ensures place { result < self.now.width → length self.now.samples % self.now.width ≡ result }
+        ensures bytes { (s : ℕ) → slice_index self.now.samples s < 256 }
+    {
+        self.x
+    }
+
+    /// The number of the next sample, in scan order.
+    pub(crate) fn place(&self) -> usize
+        ensures value { result ≡ length self.now.samples }
+        ensures bound { result < 2 ^ 63 + 2 ^ 32 }
+    {
+        self.rows.len() + self.x
+    }
+
+    /// The samples about the next one.
+    #[inline(always)]
+    pub(crate) fn neighbours(&self) -> Neighbours
+        requires { self.now.x < self.now.width }
+        ensures { result ≡ neighbours_at self.now.width self.now.samples (length self.now.samples) }
+    {
+        Neighbours {
+            left: self.line[self.x + 1],
+            top: self.above[self.x + 2],
+            top_left: self.above[self.x + 1],
+            top_right: self.above[self.x + 3],
+            left_of_left: self.line[self.x],
+            top_of_top: self.far_above[self.x + 2],
+        }
+    }
+
+    /// The next sample of the row is this one.
+    #[inline(always)]
+    pub(crate) fn push(&mut self, sample: u8)
+        requires { self.old.x < self.old.width }
+        ensures { self.new ≡ record { width = self.old.width; x = self.old.x + 1; samples = self.old.samples ++ sample ∷ [] } }
+    {
+        self.line[self.x + 2] = sample;
+        self.x += 1;
+    }
+
+    /// Skips the next samples of the row: each is what is predicted of it.
+    pub(crate) fn skip(&mut self, count: usize)
+        requires { self.old.x + count ≤ self.old.width }
+        ensures width { self.new.width ≡ self.old.width }
+        ensures x { self.new.x ≡ self.old.x + count }
+        ensures count { length self.new.samples ≡ length self.old.samples + count }
+        ensures bytes { (s : ℕ) → slice_index self.new.samples s < 256 }
+        ensures skipped { (entry : ℕ → ℕ → ℤ) → AreSkipped self.old.width entry self.old.samples self.new.samples count }
+    {
+        for done in 0..count {
+            let near = self.neighbours();
+            if near.left == near.top_left {
+                self.copy_above(count - done);
+                return;
+            }
+            self.push(near.prediction());
+        }
+        // Its contract says that the samples are bytes.
+        let _column = self.column();
+    }
+
+    /// Skips the next samples of the row where the sample to the left is the one above it to the left: the one above is then
+    /// predicted of each.
+    fn copy_above(&mut self, count: usize)
+        requires some { 1 ≤ count }
+        requires count { self.old.x + count ≤ self.old.width }
+        requires same { IsLeftAsAbove self.old }
+        ensures width { self.new.width ≡ self.old.width }
+        ensures x { self.new.x ≡ self.old.x + count }
+        ensures count { length self.new.samples ≡ length self.old.samples + count }
+        ensures bytes { (s : ℕ) → slice_index self.new.samples s < 256 }
+        ensures skipped { (entry : ℕ → ℕ → ℤ) → AreSkipped self.old.width entry self.old.samples self.new.samples count }
+    {
+        let from = self.x + 2;
+        let end = from + count;
+        self.line[from..end].copy_from_slice(&self.above[from..end]);
+        self.x += count;
+    }
+
+    /// Ends the row, of which all samples were read: the lines move up by one, and the next row has its left border.
+    pub(crate) fn end_row(&mut self) -> Result<(), AllocError>
+        requires { self.old.x ≡ self.old.width }
+        ensures { OnOk result (self.new ≡ record { width = self.old.width; x = 0; samples = self.old.samples }) }
+    {
+        self.rows.extend_from_slice(&self.line[2..self.width + 2])?;
+        self.line[self.width + 2] = self.line[self.width + 1];
+        mem::swap(&mut self.far_above, &mut self.above);
+        mem::swap(&mut self.above, &mut self.line);
+        self.line[1] = self.above[2];
+        self.x = 0;
+        Ok(())
+    }
+
+    /// The samples of a plane whose rows are ended.
+    pub(crate) fn into_rows(self) -> Vec<u8>
+        requires { self.x ≡ 0 }
+        ensures { result.items ≡ self.samples }
+    {
+        let Lines {
+            width: _,
+            x: _,
+            rows,
+            line: _,
+            above: _,
+            far_above: _,
+        } = self;
+        rows
+    }
+}

@@ -1,0 +1,108 @@
+//! The quantization tables of a set, with all of their entries (RFC 9043, section 3.5).
+ghost use Rattle.std.specs.Prelude.{◌≡◌, ℕ, ◌<◌, ◌≤ℤ◌, ◌+ℤ◌, length, pos, neg_ℤ, nat_abs, slice_index_or};
+ghost use Rattle.ffv1_range.specs.Setup.{set_contexts, set_entry};
+ghost use Rattle.ffv1_plane.specs.Samples.{context_of, modular_difference};
+
+use crate::neighbours::Neighbours;
+use ffv1_range::Setup;
+use std::marker::Model;
+
+/// The tables of one set of a setup. Each has an entry for each difference of two samples modulo 256.
+#[derive(Drop)]
+pub struct Tables<'s> {
+    setup: &'s Setup,
+    set: usize,
+    entries: [[i16; 256]; 5],
+}
+
+impl<'s> Model for Tables<'s> {
+    ghost use Rattle.ffv1_plane.specs.SetTables.{SetTables, AreSetTables};
+
+    ghost Value = { SetTables };
+
+    ghost view = { λ t. record { setup = t.setup.now; set = t.set } };
+
+    ghost invariant = { λ t. AreSetTables t.setup.now t.set t.entries };
+}
+
+impl<'s> Tables<'s> {
+    /// The tables of a set.
+    pub fn of(setup: &'s Setup, set: usize) -> Tables<'s>
+        requires { set < length setup.now.sets }
+        ensures { result ≡ record { setup = setup.now; set = set } }
+    {
+        setup.keeps_profile();
+        let mut entries = [[0; 256]; 5];
+        for table in 0..5usize {
+            entries[table] = table_of(setup, set, table);
+        }
+        Tables {
+            setup,
+            set,
+            entries,
+        }
+    }
+
+    /// The context of a sample with these neighbours (section 3.5).
+    #[inline(always)]
+    pub fn context(&self, near: &Neighbours) -> i32
+        ensures value { result ≡ context_of (set_entry self.now.setup self.now.set) near.now }
+        ensures bound { nat_abs result < set_contexts self.now.setup self.now.set }
+    {
+        // The invariant, which bounds the sum, is known where a field is used.
+        let _entries = &self.entries;
+        self.sum(near)
+    }
+
+    /// The sum of an entry of each table.
+    #[inline(always)]
+    #[tactic(auto, unfolding(crate::specs::Samples::context_of))]
+    fn sum(&self, near: &Neighbours) -> i32
+        ensures { result ≡ context_of (set_entry self.now.setup self.now.set) near.now }
+    {
+        let first = self.entry(0, near.left, near.top_left)
+            + self.entry(1, near.top_left, near.top);
+        self.add_far(near, first)
+    }
+
+    /// A sum with the entries of the tables 2 to 4.
+    #[inline(always)]
+    fn add_far(&self, near: &Neighbours, first: i32) -> i32
+        requires low { neg_ℤ (pos 65536) ≤ℤ first }
+        requires high { first ≤ℤ pos 65536 }
+        ensures { result ≡ first
+            +ℤ set_entry self.now.setup self.now.set 2 (modular_difference near.now.top near.now.top_right)
+            +ℤ set_entry self.now.setup self.now.set 3 (modular_difference near.now.left_of_left near.now.left)
+            +ℤ set_entry self.now.setup self.now.set 4 (modular_difference near.now.top_of_top near.now.top) }
+    {
+        first
+            + self.entry(2, near.top, near.top_right)
+            + self.entry(3, near.left_of_left, near.left)
+            + self.entry(4, near.top_of_top, near.top)
+    }
+
+    /// The entry of a table at the difference of two samples, modulo 256.
+    #[inline(always)]
+    fn entry(&self, table: usize, high: u8, low: u8) -> i32
+        requires table { table < 5 }
+        ensures low { neg_ℤ (pos 32767) ≤ℤ result }
+        ensures high { result ≤ℤ pos 32767 }
+        ensures entry { result ≡ set_entry self.now.setup self.now.set table (modular_difference high low) }
+    {
+        i32::from(self.entries[table][usize::from(high.wrapping_sub(low))])
+    }
+}
+
+/// All entries of one table. They fit 16 bits.
+fn table_of(setup: &Setup, set: usize, table: usize) -> [i16; 256]
+    requires set { set < length setup.now.sets }
+    requires table { table < 5 }
+    ensures { (k : ℕ) → k < 256 → slice_index_or result k (pos 0) ≡ set_entry setup.now set table k }
+{
+    setup.keeps_profile();
+    let mut entries = [0; 256];
+    for index in 0..256usize {
+        entries[index] = setup.entry(set, table, index) as i16;
+    }
+    entries
+}
