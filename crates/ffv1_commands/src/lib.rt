@@ -28,10 +28,3 @@ pub use report::run_report;
 pub use restore::run_restore;
 pub use show::run_show;
 pub use take::run_take;
-
-#[cfg(test)]
-mod made_tests;
-#[cfg(test)]
-mod suite_tests;
-#[cfg(test)]
-mod tests;

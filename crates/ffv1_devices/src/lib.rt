@@ -11,6 +11,3 @@ pub use reads::{ReadFailed, next_byte, read_full, read_some};
 pub use streams::{FromRead, FromWrite, Sink, Source, ThroughWrite};
 pub use whole::{WholeFault, read_whole};
 pub use writes::{WriteFailed, write_field, write_pair};
-
-#[cfg(test)]
-mod tests;

@@ -1,10 +1,11 @@
 -- One step of a plan.
-use Rattle.std.proofs.Common.{◌≡◌, ◌≢◌, ℕ, Result, Err, refl, List, [], ◌∷◌, ◌++◌, sym, ap, ◌∙◌}
+use Rattle.std.proofs.Common.{◌≡◌, ℕ, Result, IfOk, List, [], ◌∷◌, ◌++◌, sym, ap, ◌∙◌}
+use Rattle.std.proofs.lemmas.Result.{IfOk-weaker}
 use Rattle.ffv1_range.proofs.SetupFacts.{one_setup}
-use Rattle.ffv1_holding.specs.declared.fault.HoldFault.{HoldFault}
-use Rattle.ffv1_holding.specs.declared.fault.HoldFault.TheVariants.{OtherReel, PayloadTooLong, Memory}
 use Rattle.ffv1_holding.specs.Reels.{Reel}
 use Rattle.ffv1_hold.specs.Headline.{IsReelOf}
+use Rattle.ffv1_holding.specs.Originals.{AreNear, HoldsExactly}
+use Rattle.ffv1_holding.proofs.ExactlyHeld.{near_exact}
 use Rattle.ffv1_holding.specs.TakeFaults.{AreShort}
 use Rattle.ffv1_holding.specs.Contents.{Contents, IsSameReel, with_found, with_copies, joined, holding_of}
 use Rattle.ffv1_holding.specs.ContentsLaws.{with_found-holding_of, with_copies-holding_of, joined-holding_of}
@@ -44,9 +45,9 @@ one_reel config width height r s is also =
     let setup = one_setup config width height r.setup s.setup is.1 also.1 in
     λ i. record { config = (is.0 ∙ sym also.0) i; setup = setup i }
 
--- what can be joined meets only want of memory
-pub joins_or_memory : {T : Type 0} (J : Type 0) (r : Result T HoldFault) (f : HoldFault) → r ≡ Err f → (r ≡ Err OtherReel → ¬ J) → J → r ≢ Err PayloadTooLong
-    → f ≡ Memory
-joins_or_memory J r OtherReel was other same long = absurd (other was same)
-joins_or_memory J r PayloadTooLong was other same long = absurd (long was)
-joins_or_memory J r Memory was other same long = refl
+-- what is held of near copies is the original's slices, where a holding is answered that is exactly what the copies give
+pub near_of_meaning : {E : Type 0} (r : Result Contents E) (original : List ℕ) (slices copies : List (List ℕ))
+    → IfOk r (λ h. h ≡ holding_of h.reel copies) → IfOk r (λ h. AreNear h.reel.setup original slices copies → HoldsExactly h slices)
+near_of_meaning r original slices copies meaning =
+    IfOk-weaker r (λ h. h ≡ holding_of h.reel copies) (λ h. AreNear h.reel.setup original slices copies → HoldsExactly h slices)
+    (λ h is near. near_exact h original slices copies near is) meaning

@@ -26,6 +26,3 @@ pub use laws::{one_fault, one_text, text_shows_no_fault};
 pub use plan::{Plan, PlanFault, run, same_copies};
 pub use reading::read_hold;
 pub use saving::write_hold;
-
-#[cfg(test)]
-mod tests;

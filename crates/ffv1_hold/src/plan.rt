@@ -1,11 +1,13 @@
 //! Plans (own): which copies are taken, in which order and grouping, which holdings are joined, and which go through a file.
-ghost use Rattle.std.specs.Prelude.{◌≡◌, ℕ, List, IfOk, IfErr, OnOk};
+ghost use Rattle.std.specs.Prelude.{◌≡◌, ℕ, List, [], ◌∷◌, map, IfOk, IfErr, OnOk};
 ghost use Rattle.ffv1_range.specs.Setup.{IsSetupOf};
 ghost use Rattle.ffv1_holding.specs.TakeFaults.{AreShort};
-ghost use Rattle.ffv1_holding.specs.Contents.{holding_of, IsHolding};
+ghost use Rattle.ffv1_holding.specs.Contents.{holding_of, with_found, with_copies, joined, IsHolding, IsSameReel};
+ghost use Rattle.ffv1_holding.specs.declared.fault.HoldFault.TheVariants.{Memory};
+ghost use Rattle.ffv1_hold.specs.declared.plan.PlanFault.TheVariants.{Hold};
 ghost use Rattle.ffv1_hold.specs.Saving.{IsTooLong};
 ghost use Rattle.ffv1_holding.specs.Originals.{AreNear, HoldsExactly};
-ghost use Rattle.ffv1_hold.specs.Plans.{copies_of, IsPlanFault, IsRereadFault, RereadsFit};
+ghost use Rattle.ffv1_hold.specs.Plans.{copies_of, IsPlanFault, IsFaultOfCopy, IsFaultOfCopies, IsRereadFault, RereadsFit};
 ghost use Rattle.ffv1_hold.specs.Headline.{SameCopiesAreEqual};
 
 use crate::file_fault::HoldFileFault;
@@ -114,27 +116,56 @@ pub fn run(
 {
     match plan {
         Plan::New => Ok(Holding::new(alloc, config, width, height)?),
-        Plan::Take(before, copy) => {
-            let mut holding = run(alloc, before, config, width, height)?;
-            holding.take(copy)?;
-            Ok(holding)
-        }
+        Plan::Take(before, copy) => with_copy(run(alloc, before, config, width, height)?, copy),
         Plan::TakeAll(before, copies) => {
-            let mut holding = run(alloc, before, config, width, height)?;
-            holding.take_all(copies)?;
-            Ok(holding)
+            with_all_copies(run(alloc, before, config, width, height)?, copies)
         }
         Plan::Join(left, right) => {
-            let mut holding = run(alloc, left, config, width, height)?;
+            let holding = run(alloc, left, config, width, height)?;
             let other = run(alloc, right, config, width, height)?;
-            holding.join_with(&other)?;
-            Ok(holding)
+            union_of(holding, &other)
         }
         Plan::Reread(before) => {
             let holding = run(alloc, before, config, width, height)?;
             Ok(reread(alloc, &holding)?)
         }
     }
+}
+
+/// Takes a copy into a holding.
+fn with_copy(holding: Holding, copy: &[u8]) -> Result<Holding, PlanFault>
+    ensures ok { IfOk result (λ h. h ≡ with_found holding copy.now) }
+    ensures sound { IfOk result IsHolding }
+    ensures short { OnOk result (AreShort (copy.now ∷ [])) }
+    ensures fault { IfErr result (IsFaultOfCopy copy.now) }
+{
+    let mut holding = holding;
+    holding.take(copy)?;
+    Ok(holding)
+}
+
+/// Takes many copies into a holding, one after the other.
+fn with_all_copies(holding: Holding, copies: &[&[u8]]) -> Result<Holding, PlanFault>
+    ensures ok { IfOk result (λ h. h ≡ with_copies holding (map (λ copy. copy.now) copies.now)) }
+    ensures sound { IfOk result IsHolding }
+    ensures short { OnOk result (AreShort (map (λ copy. copy.now) copies.now)) }
+    ensures fault { IfErr result (IsFaultOfCopies (map (λ copy. copy.now) copies.now)) }
+{
+    let mut holding = holding;
+    holding.take_all(copies)?;
+    Ok(holding)
+}
+
+/// Joins a holding of the same reel into a holding.
+fn union_of(holding: Holding, other: &Holding) -> Result<Holding, PlanFault>
+    requires { IsSameReel holding other.now }
+    ensures ok { IfOk result (λ h. h ≡ joined holding other.now) }
+    ensures sound { IfOk result IsHolding }
+    ensures memory { IfErr result (λ fault. fault ≡ Hold Memory) }
+{
+    let mut holding = holding;
+    holding.join_with(other)?;
+    Ok(holding)
 }
 
 /// Writes a holding file to memory, and reads it again. `TooLong` comes exactly where the holding has none; the only other

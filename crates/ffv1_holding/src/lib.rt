@@ -22,6 +22,3 @@ pub use restore::RestoreFault;
 pub use slice_set::SliceSet;
 pub use standing::TileState;
 pub use take::{TakeAllFault, Taken};
-
-#[cfg(test)]
-mod tests;

@@ -18,8 +18,3 @@ pub use partial::{Partial, TileOutcome, picture, tile_alone};
 pub use raw::{WriteFault, write_raw};
 pub use reporting::report;
 pub use restoring::{Restoration, RestorationFault, restored};
-
-#[cfg(test)]
-mod tests;
-#[cfg(test)]
-mod uses;

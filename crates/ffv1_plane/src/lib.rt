@@ -13,8 +13,3 @@ pub use tables::Tables;
 pub use tile::{
     TileFault, TilePicture, decode_tile, each_is_spelled, one_fault, one_reading, start_states,
 };
-
-#[cfg(test)]
-mod recorded;
-#[cfg(test)]
-mod tests;

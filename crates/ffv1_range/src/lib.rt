@@ -18,6 +18,3 @@ pub use grid::{Grid, TileRect, each_place_in_one_tile, each_tile_in_frame};
 pub use head::{HEAD_FIELDS, HeadFault, SliceHead, read_head, read_head_fields};
 pub use setup::{Setup, setup_is_in_profile, setup_is_one};
 pub use symbols::{signed_symbol_is_spelled, symbol_is_spelled};
-
-#[cfg(test)]
-mod tests;

@@ -13,6 +13,3 @@ pub use run::{
     RunIndex, RunWord, cuts_exclude_runs, runs_are_one, words_are_one, words_spell_runs,
 };
 pub use state::{VlcState, fold};
-
-#[cfg(test)]
-mod tests;

@@ -24,8 +24,3 @@ pub use slice::spell_slice;
 pub use suite::{
     SUITE_NUMBERS, SuiteCase, SuiteContent, SuiteTables, suite_case, suite_frame, suite_record,
 };
-
-#[cfg(test)]
-mod frame_tests;
-#[cfg(test)]
-mod tests;

@@ -1,111 +1,107 @@
-use Rattle.std.proofs.Common.{◌<◌, sym, ap, ◌∙◌, subst, map, length, inr, arith, [], ◌∷◌}
-use Rattle.std.proofs.lemmas.List.{length-map, take-map}
-use Rattle.std.proofs.lemmas.Result.{err_from_is_err_and}
-use Rattle.ffv1_holding.specs.Contents.{IsSameReel, holding_of, IsHolding}
+use Rattle.std.proofs.Common.{◌≡◌, sym, ap, ◌∙◌, subst, map, inr, [], ◌∷◌}
+use Rattle.std.proofs.lemmas.Result.{IfOk-weaker, IfErr-weaker, on_ok_weaker}
+use Rattle.ffv1_holding.specs.Contents.{Contents, holding_of, IsHolding, with_found, with_copies, joined}
 use Rattle.ffv1_holding.specs.TakeFaults.{AreShort}
-use Rattle.ffv1_hold.specs.Plans.{copies_of, IsCarriedOut}
+use Rattle.ffv1_hold.specs.Plans.{copies_of, IsCarriedOut, IsPlanFault, RereadsFit}
 use Rattle.ffv1_hold.specs.declared.plan.Plan.{Plan}
 use Rattle.ffv1_hold.specs.declared.plan.PlanFault.TheVariants.{Hold}
+use Rattle.ffv1_holding.specs.declared.fault.HoldFault.TheVariants.{Memory}
 use Rattle.ffv1_holding.proofs.ExactlyHeld.{near_exact}
-use Rattle.ffv1_hold.proofs.PlanSteps.{after_same, after_found, after_copies, after_joined, AreShort-both, one_reel, joins_or_memory}
+use Rattle.ffv1_hold.proofs.PlanSteps.{after_same, after_found, after_copies, after_joined, AreShort-both, one_reel, near_of_meaning}
 use Rattle.ffv1_hold.proofs.plan.+run.Goals as goal
 
-pub returns-in_err-take_all-in-TakeAll-clause-fault : goal.returns-in_err-take_all-in-TakeAll-clause-fault
-returns-in_err-take_all-in-TakeAll-clause-fault t c =
-    let p = err_from_is_err_and c.from_residual-in_err-take_all-in-TakeAll.result c.from_residual-in_err-take_all-in-TakeAll.ensures.1 in
-    let fault = c.in_err-take_all-in-TakeAll.field-0.0 in
-    let copies = c.in-TakeAll.copies.now in
-    let lt : fault.taken < length (map (λ copy. copy.now) copies) = omega
-    (arith, c.in_err-take_all-in-TakeAll.ensures.some.0, length-map copies (λ copy. copy.now)) in
-    let before = c.in_ok-holding-in-TakeAll in
-    let done = subst (IsCarriedOut c.args.config.now c.args.width c.args.height) c.deref-in-TakeAll.ensures
-    (before.holding.reel, (before.ensures.config, before.ensures.setup), before.ensures.short, before.ensures.fits) in
-    let short = subst AreShort (sym (take-map (λ copy. copy.now) fault.taken copies)) c.in_err-take_all-in-TakeAll.ensures.some_short in
-    rw (p.1, p.2, c.in-TakeAll.is) (inr (done, (fault.taken, lt, short, c.in_err-take_all-in-TakeAll.ensures.cause)))
+pub returns-in_ok-run-in-Take-clause-meaning : goal.returns-in_ok-run-in-Take-clause-meaning
+returns-in_ok-run-in-Take-clause-meaning t c =
+    let before = c.in_ok-run-in-Take.field-0 in
+    let copies = copies_of c.in-Take.before.value in
+    let meaning = c.in_ok-run-in-Take.ensures.meaning ∙ ap (λ p. holding_of before.reel (copies_of p)) c.deref.ensures in
+    IfOk-weaker c.with_copy.result (λ h. h ≡ with_found before c.in-Take.copy.now) (λ h. h ≡ holding_of h.reel (copies_of c.args.plan.now))
+    (λ h took. after_found before h copies meaning c.in-Take.copy.now took ∙ ap (λ p. holding_of h.reel (copies_of p)) (sym c.in-Take.is))
+    c.with_copy.ensures.ok
 
-pub returns-in_err-join_with-in-Join-clause-fault : goal.returns-in_err-join_with-in-Join-clause-fault
-returns-in_err-join_with-in-Join-clause-fault t c =
-    let p = err_from_is_err_and c.from_residual-in_err-join_with-in-Join.result c.from_residual-in_err-join_with-in-Join.ensures.1 in
-    let before = c.in_ok-holding-in-Join in
-    let other = c.in_ok-other-in-Join in
-    let same = one_reel c.args.config.now c.args.width c.args.height before.holding.reel other.other.reel (before.ensures.config, before.ensures.setup)
-    (other.ensures.config, other.ensures.setup) in
-    let memory = joins_or_memory (IsSameReel before.holding other.other) c.join_with.result c.in_err-join_with-in-Join.field-0.0
-    c.in_err-join_with-in-Join.was c.join_with.ensures.other_reel same c.join_with.ensures.too_long in
-    let carried = IsCarriedOut c.args.config.now c.args.width c.args.height in
-    let left = subst carried c.deref-in-Join.ensures (
-      before.holding.reel,
-      (before.ensures.config, before.ensures.setup),
-      before.ensures.short,
-      before.ensures.fits,
-    ) in
-    let right = subst carried c.deref-in-Join-2.ensures (
-      other.other.reel,
-      (other.ensures.config, other.ensures.setup),
-      other.ensures.short,
-      other.ensures.fits,
-    ) in
-    rw (p.1, p.2, c.in-Join.is) (inr (left, inr (right, ap Hold memory)))
+pub returns-in_ok-run-in-Take-clause-short : goal.returns-in_ok-run-in-Take-clause-short
+returns-in_ok-run-in-Take-clause-short t c =
+    let before = subst (λ (p : Plan). AreShort (copies_of p)) c.deref.ensures c.in_ok-run-in-Take.ensures.short in
+    on_ok_weaker c.with_copy.result (λ short. subst (λ (p : Plan). AreShort (copies_of p)) (sym c.in-Take.is)
+    (AreShort-both (copies_of c.in-Take.before.value) (c.in-Take.copy.now ∷ []) before short))
+    c.with_copy.ensures.short
 
-pub returns-in_ok-take-in-Take-clause-meaning : goal.returns-in_ok-take-in-Take-clause-meaning
-returns-in_ok-take-in-Take-clause-meaning t c =
-    let before = c.in_ok-holding-in-Take.holding in
-    after_found before c.take.new.self (copies_of c.in-Take.before.value)
-    (c.in_ok-holding-in-Take.ensures.meaning ∙ ap (λ p. holding_of before.reel (copies_of p)) c.deref.ensures) c.in-Take.copy.now
-    c.in_ok-take-in-Take.ensures.ok
-    ∙ ap (λ p. holding_of c.take.new.self.reel (copies_of p)) (sym c.in-Take.is)
+pub returns-in_ok-run-in-TakeAll-clause-meaning : goal.returns-in_ok-run-in-TakeAll-clause-meaning
+returns-in_ok-run-in-TakeAll-clause-meaning t c =
+    let before = c.in_ok-run-in-TakeAll.field-0 in
+    let copies = copies_of c.in-TakeAll.before.value in
+    let more = map (λ copy. copy.now) c.in-TakeAll.copies.now in
+    let meaning = c.in_ok-run-in-TakeAll.ensures.meaning ∙ ap (λ p. holding_of before.reel (copies_of p)) c.deref-in-TakeAll.ensures in
+    IfOk-weaker c.with_all_copies.result (λ h. h ≡ with_copies before more) (λ h. h ≡ holding_of h.reel (copies_of c.args.plan.now))
+    (λ h took. after_copies before h copies meaning more took ∙ ap (λ p. holding_of h.reel (copies_of p)) (sym c.in-TakeAll.is))
+    c.with_all_copies.ensures.ok
 
-pub returns-in_ok-take-in-Take-clause-short : goal.returns-in_ok-take-in-Take-clause-short
-returns-in_ok-take-in-Take-clause-short t c =
-    subst (λ (p : Plan). AreShort (copies_of p)) (sym c.in-Take.is)
-    (AreShort-both (copies_of c.in-Take.before.value) (c.in-Take.copy.now ∷ [])
-    (subst (λ (p : Plan). AreShort (copies_of p)) c.deref.ensures c.in_ok-holding-in-Take.ensures.short) (c.in_ok-take-in-Take.ensures.short, tt))
+pub returns-in_ok-run-in-TakeAll-clause-short : goal.returns-in_ok-run-in-TakeAll-clause-short
+returns-in_ok-run-in-TakeAll-clause-short t c =
+    let before = subst (λ (p : Plan). AreShort (copies_of p)) c.deref-in-TakeAll.ensures c.in_ok-run-in-TakeAll.ensures.short in
+    on_ok_weaker c.with_all_copies.result (λ short. subst (λ (p : Plan). AreShort (copies_of p)) (sym c.in-TakeAll.is)
+    (AreShort-both (copies_of c.in-TakeAll.before.value) (map (λ copy. copy.now) c.in-TakeAll.copies.now) before short))
+    c.with_all_copies.ensures.short
 
-pub returns-in_ok-take_all-in-TakeAll-clause-meaning : goal.returns-in_ok-take_all-in-TakeAll-clause-meaning
-returns-in_ok-take_all-in-TakeAll-clause-meaning t c =
-    let before = c.in_ok-holding-in-TakeAll.holding in
-    after_copies before c.take_all.new.self (copies_of c.in-TakeAll.before.value)
-    (c.in_ok-holding-in-TakeAll.ensures.meaning ∙ ap (λ p. holding_of before.reel (copies_of p)) c.deref-in-TakeAll.ensures)
-    (map (λ copy. copy.now) c.in-TakeAll.copies.now) c.in_ok-take_all-in-TakeAll.ensures.ok
-    ∙ ap (λ p. holding_of c.take_all.new.self.reel (copies_of p)) (sym c.in-TakeAll.is)
+-- both are of the record and the size asked for
+pub union_of-requires : goal.union_of-requires
+union_of-requires t c =
+    let left = c.in_ok-holding-in-Join in
+    let right = c.in_ok-other-in-Join in
+    one_reel c.args.config.now c.args.width c.args.height left.holding.reel right.other.reel (left.ensures.config, left.ensures.setup)
+    (right.ensures.config, right.ensures.setup)
 
-pub returns-in_ok-take_all-in-TakeAll-clause-short : goal.returns-in_ok-take_all-in-TakeAll-clause-short
-returns-in_ok-take_all-in-TakeAll-clause-short t c =
-    subst (λ (p : Plan). AreShort (copies_of p)) (sym c.in-TakeAll.is)
-    (AreShort-both (copies_of c.in-TakeAll.before.value) (map (λ copy. copy.now) c.in-TakeAll.copies.now)
-    (subst (λ (p : Plan). AreShort (copies_of p)) c.deref-in-TakeAll.ensures c.in_ok-holding-in-TakeAll.ensures.short)
-    c.in_ok-take_all-in-TakeAll.ensures.short)
-
-pub returns-in_ok-join_with-in-Join-clause-meaning : goal.returns-in_ok-join_with-in-Join-clause-meaning
-returns-in_ok-join_with-in-Join-clause-meaning t c =
+pub returns-in_ok-other-in-Join-clause-meaning : goal.returns-in_ok-other-in-Join-clause-meaning
+returns-in_ok-other-in-Join-clause-meaning t c =
     let before = c.in_ok-holding-in-Join.holding in
     let other = c.in_ok-other-in-Join.other in
-    after_joined before c.join_with.new.self (copies_of c.in-Join.left.value)
-    (c.in_ok-holding-in-Join.ensures.meaning ∙ ap (λ p. holding_of before.reel (copies_of p)) c.deref-in-Join.ensures)
-    other (copies_of c.in-Join.right.value)
-    (c.in_ok-other-in-Join.ensures.meaning ∙ ap (λ p. holding_of other.reel (copies_of p)) c.deref-in-Join-2.ensures)
-    c.in_ok-join_with-in-Join.ensures.joinable c.in_ok-join_with-in-Join.ensures.joined
-    ∙ ap (λ p. holding_of c.join_with.new.self.reel (copies_of p)) (sym c.in-Join.is)
+    let same = one_reel c.args.config.now c.args.width c.args.height before.reel other.reel
+    (c.in_ok-holding-in-Join.ensures.config, c.in_ok-holding-in-Join.ensures.setup)
+    (c.in_ok-other-in-Join.ensures.config, c.in_ok-other-in-Join.ensures.setup) in
+    let meaning = c.in_ok-holding-in-Join.ensures.meaning ∙ ap (λ p. holding_of before.reel (copies_of p)) c.deref-in-Join.ensures in
+    let other_meaning = c.in_ok-other-in-Join.ensures.meaning ∙ ap (λ p. holding_of other.reel (copies_of p)) c.deref-in-Join-2.ensures in
+    IfOk-weaker c.union_of.result (λ h. h ≡ joined before other) (λ h. h ≡ holding_of h.reel (copies_of c.args.plan.now))
+    (λ h took. after_joined before h (copies_of c.in-Join.left.value) meaning other (copies_of c.in-Join.right.value) other_meaning same took
+    ∙ ap (λ p. holding_of h.reel (copies_of p)) (sym c.in-Join.is))
+    c.union_of.ensures.ok
 
-pub returns-in_ok-join_with-in-Join-clause-short : goal.returns-in_ok-join_with-in-Join-clause-short
-returns-in_ok-join_with-in-Join-clause-short t c =
-    subst (λ (p : Plan). AreShort (copies_of p)) (sym c.in-Join.is)
-    (AreShort-both (copies_of c.in-Join.left.value) (copies_of c.in-Join.right.value)
-    (subst (λ (p : Plan). AreShort (copies_of p)) c.deref-in-Join.ensures c.in_ok-holding-in-Join.ensures.short)
-    (subst (λ (p : Plan). AreShort (copies_of p)) c.deref-in-Join-2.ensures c.in_ok-other-in-Join.ensures.short))
+pub returns-in_ok-other-in-Join-clause-short : goal.returns-in_ok-other-in-Join-clause-short
+returns-in_ok-other-in-Join-clause-short t c =
+    let left = subst (λ (p : Plan). AreShort (copies_of p)) c.deref-in-Join.ensures c.in_ok-holding-in-Join.ensures.short in
+    let right = subst (λ (p : Plan). AreShort (copies_of p)) c.deref-in-Join-2.ensures c.in_ok-other-in-Join.ensures.short in
+    let both = subst (λ (p : Plan). AreShort (copies_of p)) (sym c.in-Join.is)
+    (AreShort-both (copies_of c.in-Join.left.value) (copies_of c.in-Join.right.value) left right) in
+    IfOk-weaker c.union_of.result IsHolding (λ _. AreShort (copies_of c.args.plan.now)) (λ _ _. both) c.union_of.ensures.sound
 
--- what a holding keeps true is kept by the union
-pub returns-in_ok-join_with-in-Join-clause-sound : goal.returns-in_ok-join_with-in-Join-clause-sound
-returns-in_ok-join_with-in-Join-clause-sound t c = subst IsHolding c.holding-in-Join-2.view_is
-    (record { reel = c.holding-in-Join-2.invariant.reel; slices = c.holding-in-Join-2.invariant.slices })
+-- both were reread in the one reel
+pub returns-in_ok-other-in-Join-clause-fits : goal.returns-in_ok-other-in-Join-clause-fits
+returns-in_ok-other-in-Join-clause-fits t c =
+    let before = c.in_ok-holding-in-Join.holding in
+    let other = c.in_ok-other-in-Join.other in
+    let left = subst (RereadsFit before.reel) c.deref-in-Join.ensures c.in_ok-holding-in-Join.ensures.fits in
+    let same = one_reel c.args.config.now c.args.width c.args.height before.reel other.reel
+    (c.in_ok-holding-in-Join.ensures.config, c.in_ok-holding-in-Join.ensures.setup)
+    (c.in_ok-other-in-Join.ensures.config, c.in_ok-other-in-Join.ensures.setup) in
+    let right = subst (λ r. RereadsFit r c.in-Join.right.value) (sym same)
+    (subst (RereadsFit other.reel) c.deref-in-Join-2.ensures c.in_ok-other-in-Join.ensures.fits) in
+    let both = subst (RereadsFit before.reel) (sym c.in-Join.is) (left, right) in
+    IfOk-weaker c.union_of.result (λ h. h ≡ joined before other) (λ h. RereadsFit h.reel c.args.plan.now)
+    (λ h took. subst (λ r. RereadsFit r c.args.plan.now) (sym (ap (λ (k : Contents). k.reel) took)) both)
+    c.union_of.ensures.ok
 
-pub returns-in_ok-take-in-Take-clause-sound : goal.returns-in_ok-take-in-Take-clause-sound
-returns-in_ok-take-in-Take-clause-sound t c = subst IsHolding c.holding.view_is
-    (record { reel = c.holding.invariant.reel; slices = c.holding.invariant.slices })
-
-pub returns-in_ok-take_all-in-TakeAll-clause-sound : goal.returns-in_ok-take_all-in-TakeAll-clause-sound
-returns-in_ok-take_all-in-TakeAll-clause-sound t c = subst IsHolding c.holding-in-TakeAll.view_is
-    (record { reel = c.holding-in-TakeAll.invariant.reel; slices = c.holding-in-TakeAll.invariant.slices })
+pub returns-in_ok-other-in-Join-clause-fault : goal.returns-in_ok-other-in-Join-clause-fault
+returns-in_ok-other-in-Join-clause-fault t c =
+    let left = c.in_ok-holding-in-Join in
+    let right = c.in_ok-other-in-Join in
+    let carried = IsCarriedOut c.args.config.now c.args.width c.args.height in
+    let left_done = subst carried c.deref-in-Join.ensures
+    (left.holding.reel, (left.ensures.config, left.ensures.setup), left.ensures.short, left.ensures.fits) in
+    let right_done = subst carried c.deref-in-Join-2.ensures
+    (right.other.reel, (right.ensures.config, right.ensures.setup), right.ensures.short, right.ensures.fits) in
+    IfErr-weaker c.union_of.result (λ fault. fault ≡ Hold Memory) (IsPlanFault c.args.config.now c.args.width c.args.height c.args.plan.now)
+    (λ fault is. subst (λ p. IsPlanFault c.args.config.now c.args.width c.args.height p fault) (sym c.in-Join.is)
+    (inr (left_done, inr (right_done, is))))
+    c.union_of.ensures.memory
 
 -- what is held of near copies is the original's slices, by what is held
 pub returns-in_ok-new-in-New-clause-near : goal.returns-in_ok-new-in-New-clause-near
@@ -114,17 +110,17 @@ returns-in_ok-new-in-New-clause-near t c original slices near =
     near_exact h original slices (copies_of c.args.plan.now) near (c.in_ok-new-in-New.ensures.empty
     ∙ ap (λ p. holding_of h.reel (copies_of p)) (sym c.in-New.is))
 
-pub returns-in_ok-take-in-Take-clause-near : goal.returns-in_ok-take-in-Take-clause-near
-returns-in_ok-take-in-Take-clause-near t c original slices near =
-    near_exact c.take.new.self original slices (copies_of c.args.plan.now) near (returns-in_ok-take-in-Take-clause-meaning t c)
+pub returns-in_ok-run-in-Take-clause-near : goal.returns-in_ok-run-in-Take-clause-near
+returns-in_ok-run-in-Take-clause-near t c original slices =
+    near_of_meaning c.with_copy.result original slices (copies_of c.args.plan.now) (returns-in_ok-run-in-Take-clause-meaning t c)
 
-pub returns-in_ok-take_all-in-TakeAll-clause-near : goal.returns-in_ok-take_all-in-TakeAll-clause-near
-returns-in_ok-take_all-in-TakeAll-clause-near t c original slices near =
-    near_exact c.take_all.new.self original slices (copies_of c.args.plan.now) near (returns-in_ok-take_all-in-TakeAll-clause-meaning t c)
+pub returns-in_ok-run-in-TakeAll-clause-near : goal.returns-in_ok-run-in-TakeAll-clause-near
+returns-in_ok-run-in-TakeAll-clause-near t c original slices =
+    near_of_meaning c.with_all_copies.result original slices (copies_of c.args.plan.now) (returns-in_ok-run-in-TakeAll-clause-meaning t c)
 
-pub returns-in_ok-join_with-in-Join-clause-near : goal.returns-in_ok-join_with-in-Join-clause-near
-returns-in_ok-join_with-in-Join-clause-near t c original slices near =
-    near_exact c.join_with.new.self original slices (copies_of c.args.plan.now) near (returns-in_ok-join_with-in-Join-clause-meaning t c)
+pub returns-in_ok-other-in-Join-clause-near : goal.returns-in_ok-other-in-Join-clause-near
+returns-in_ok-other-in-Join-clause-near t c original slices =
+    near_of_meaning c.union_of.result original slices (copies_of c.args.plan.now) (returns-in_ok-other-in-Join-clause-meaning t c)
 
 pub returns-in_ok-reread-in-Reread-clause-near : goal.returns-in_ok-reread-in-Reread-clause-near
 returns-in_ok-reread-in-Reread-clause-near t c original slices near =

@@ -1,0 +1,296 @@
+//! The commands over readers and writers that are interrupted, fail, or hold much.
+use ffv1_commands::{CliFault, CommandPath, run_chain, run_join, run_restore, run_take};
+use std::alloc::Global;
+use std::io;
+use std::io::{ErrorKind, Read, Write};
+use std::test::Fail;
+
+/// A gray frame of 2 x 1 samples in two tiles.
+const FRAME: [u8; 22] = [
+    0xFD, 0xF6, 0x80, 0, 0, 3, 0, 0x1C, 0x3E, 0xA0, 0x9B, 0x3F, 0x2B, 0x80, 0, 0, 3, 0, 0x56, 0x0F,
+    0xD7, 0x3B,
+];
+
+const FRAME_TEXT: &str = "11..22 size 3 status 0 pass\n0..11 size 3 status 0 pass\nend whole\n";
+
+/// Gives an interruption before each of its bytes, or so many in a row.
+#[derive(Drop)]
+struct Interrupted<'a> {
+    bytes: &'a [u8],
+    before_each: u32,
+    left: u32,
+}
+
+impl Read for Interrupted<'_> {
+    fn read(&mut self, buf: &mut [u8]) -> io::Result<usize> {
+        if self.left > 0 {
+            self.left -= 1;
+            return Err(io::Error::from(ErrorKind::Interrupted));
+        }
+        self.left = self.before_each;
+        match (self.bytes, buf) {
+            ([first, rest @ ..], [place, ..]) => {
+                *place = *first;
+                self.bytes = rest;
+                Ok(1)
+            }
+            _ => Ok(0),
+        }
+    }
+}
+
+/// Takes so many bytes, one with each call, and then fails.
+#[derive(Drop)]
+struct Full {
+    taken: Vec<u8>,
+    room: usize,
+}
+
+impl Write for Full {
+    fn write(&mut self, buf: &[u8]) -> io::Result<usize> {
+        match buf {
+            [first, ..] if self.taken.len() < self.room => match self.taken.push(*first) {
+                Ok(()) => Ok(1),
+                Err(_) => Err(io::Error::from(ErrorKind::OutOfMemory)),
+            },
+            [] => Ok(0),
+            _ => Err(io::Error::from(ErrorKind::StorageFull)),
+        }
+    }
+
+    fn flush(&mut self) -> io::Result<()> {
+        Ok(())
+    }
+}
+
+#[test]
+fn interrupted_reads_are_tried_again(rt: HostRuntime) {
+    for (before_each, whole) in [(64, true), (65, false)] {
+        let mut frame = Interrupted {
+            bytes: &FRAME,
+            before_each,
+            left: before_each,
+        };
+        let mut output: Vec<u8> = Vec::new(rt.alloc());
+        match run_chain(rt.alloc(), &mut frame, &mut output) {
+            Ok(()) => assert!(rt; whole && output.as_slice() == FRAME_TEXT.as_bytes()),
+            Err(fault) => assert!(rt;
+                !whole && matches!(fault, CliFault::Read(CommandPath::Frame)) && output.is_empty()
+            ),
+        }
+    }
+}
+
+/// Takes bytes after so many interruptions in a row.
+#[derive(Drop)]
+struct Interrupting {
+    taken: Vec<u8>,
+    times: u32,
+}
+
+impl Write for Interrupting {
+    fn write(&mut self, buf: &[u8]) -> io::Result<usize> {
+        if self.times > 0 {
+            self.times -= 1;
+            return Err(io::Error::from(ErrorKind::Interrupted));
+        }
+        self.taken.extend_from_slice(buf)?;
+        Ok(buf.len())
+    }
+
+    fn flush(&mut self) -> io::Result<()> {
+        Ok(())
+    }
+}
+
+/// What `chain` writes after so many interruptions in a row, if it does not fail.
+fn written_after(alloc: Global, times: u32) -> Option<Vec<u8>> {
+    let mut frame: &[u8] = &FRAME;
+    let mut output = Interrupting {
+        taken: Vec::new(alloc),
+        times,
+    };
+    run_chain(alloc, &mut frame, &mut output).ok()?;
+    Some(output.taken)
+}
+
+#[test]
+fn interrupted_writes_are_tried_again(rt: HostRuntime) -> Result<(), Fail> {
+    let text = written_after(rt.alloc(), 64).ok_or("64 tries are made again")?;
+    assert!(rt; text.as_slice() == FRAME_TEXT.as_bytes());
+    assert!(rt; written_after(rt.alloc(), 65).is_none());
+    Ok(())
+}
+
+#[test]
+fn failed_writes_leave_a_front_of_the_text(rt: HostRuntime) {
+    for room in 0..FRAME_TEXT.len() {
+        let mut frame: &[u8] = &FRAME;
+        let mut output = Full {
+            taken: Vec::new(rt.alloc()),
+            room,
+        };
+        let fault = run_chain(rt.alloc(), &mut frame, &mut output).err();
+        assert!(rt; matches!(fault, Some(CliFault::Write(CommandPath::StandardOutput))));
+        assert!(rt; output.taken.as_slice() == &FRAME_TEXT.as_bytes()[..room]);
+    }
+}
+
+/// A gray record of two tiles beside each other, of micro version 4, its five tables of one run each.
+const RECORD: [u8; 17] = [
+    0x56, 0x2B, 0x83, 0x32, 0x5C, 0xCD, 0x9B, 0x36, 0x6C, 0xD9, 0xB3, 0x66, 0xC4, 0x90, 0xE4, 0xD4,
+    0x86,
+];
+
+/// The frame with a damaged tile 0.
+fn left_damaged() -> [u8; 22] {
+    let mut copy = FRAME;
+    copy[2] = 0;
+    copy
+}
+
+/// The frame with a damaged tile 1.
+fn right_damaged() -> [u8; 22] {
+    let mut copy = FRAME;
+    copy[13] = 0;
+    copy
+}
+
+/// The holding file of copies, and what was printed of them.
+fn taken(alloc: Global, mut copies: [&[u8]; 2]) -> Result<(Vec<u8>, Vec<u8>), Fail> {
+    let mut record = RECORD.as_slice();
+    let mut out = Vec::new(alloc);
+    let mut output = Vec::new(alloc);
+    run_take(alloc, &mut record, 2, 1, &mut copies, &mut out, &mut output)
+        .ok()
+        .ok_or("ample memory")?;
+    Ok((out, output))
+}
+
+#[test]
+fn commands_restore_what_two_copies_have(rt: HostRuntime) -> Result<(), Fail> {
+    let (a, b) = (left_damaged(), right_damaged());
+    let (both, lines) = taken(rt.alloc(), [&b, &a])?;
+    let expected = "copy 1 links 2 slices 1 new 1\ncopy 2 links 2 slices 1 new 1\n";
+    assert!(rt; lines.as_slice() == expected.as_bytes());
+    let (left, _) = taken(rt.alloc(), [&b, &b])?;
+    let mut first = left.as_slice();
+    let mut others = [both.as_slice()];
+    let mut union: Vec<u8> = Vec::new(rt.alloc());
+    let mut output: Vec<u8> = Vec::new(rt.alloc());
+    let joined = run_join(rt.alloc(), &mut first, &mut others, &mut union, &mut output);
+    assert!(rt; joined.is_ok());
+    assert!(rt; output.as_slice() == "file 1 new 1\nfile 2 new 1\n".as_bytes());
+    assert!(rt; union.as_slice() == both.as_slice());
+    let mut file = union.as_slice();
+    let mut payload: Vec<u8> = Vec::new(rt.alloc());
+    let mut printed: Vec<u8> = Vec::new(rt.alloc());
+    let restored = run_restore(rt.alloc(), &mut file, &mut payload, &mut printed);
+    assert!(rt; restored.is_ok());
+    assert!(rt; printed.as_slice() == "restored 22 bytes\n".as_bytes());
+    assert!(rt; payload.as_slice() == FRAME.as_slice());
+    Ok(())
+}
+
+#[test]
+fn failed_outputs_hold_a_front_of_the_payload(rt: HostRuntime) -> Result<(), Fail> {
+    let (a, b) = (left_damaged(), right_damaged());
+    let (both, _) = taken(rt.alloc(), [&a, &b])?;
+    for room in 0..FRAME.len() {
+        let mut file = both.as_slice();
+        let mut out = Full {
+            taken: Vec::new(rt.alloc()),
+            room,
+        };
+        let mut printed: Vec<u8> = Vec::new(rt.alloc());
+        let fault = run_restore(rt.alloc(), &mut file, &mut out, &mut printed).err();
+        assert!(rt; matches!(fault, Some(CliFault::Write(CommandPath::Out))));
+        assert!(rt; out.taken.as_slice() == &FRAME[..room]);
+        assert!(rt; printed.is_empty());
+    }
+    Ok(())
+}
+
+/// The numbers of the faults of the holding file of both tiles where the lowest bit of one byte is turned, by the byte's
+/// place; 0 where it is then the file of another size.
+const BIT_TURNED: [u8; 74] = [
+    1, 1, 1, 1, 1, 1, 1, 1, 2, 2, 0, 0, 2, 2, 0, 2, 11, 3, 3, 2, 2, 2, 2, 2, 2, 2, 2, 2, 2, 2, 2,
+    2, 2, 2, 2, 2, 2, 7, 6, 6, 11, 3, 3, 6, 6, 6, 6, 6, 6, 6, 6, 6, 6, 6, 6, 7, 6, 6, 11, 3, 3, 6,
+    6, 6, 6, 6, 6, 6, 6, 6, 6, 6, 6, 3,
+];
+
+/// The same where all bits of the byte are turned.
+const BYTE_TURNED: [u8; 74] = [
+    1, 1, 1, 1, 1, 1, 1, 1, 2, 2, 2, 0, 2, 2, 2, 0, 11, 3, 3, 3, 2, 2, 2, 2, 2, 2, 2, 2, 2, 2, 2,
+    2, 2, 2, 2, 2, 2, 4, 6, 6, 11, 3, 3, 3, 6, 6, 6, 6, 6, 6, 6, 6, 6, 6, 6, 4, 6, 6, 11, 3, 3, 3,
+    6, 6, 6, 6, 6, 6, 6, 6, 6, 6, 6, 4,
+];
+
+/// Whether `restore` tells this fault of a holding file and leaves the outputs alone; for 0, whether it restores the frame.
+fn is_told(alloc: Global, mut file: &[u8], number: u8) -> Result<bool, Fail> {
+    let mut payload: Vec<u8> = Vec::new(alloc);
+    let mut printed: Vec<u8> = Vec::new(alloc);
+    match run_restore(alloc, &mut file, &mut payload, &mut printed) {
+        Ok(()) => Ok(number == 0 && payload.as_slice() == FRAME.as_slice()),
+        Err(fault) => {
+            let expected = format!(in alloc; "holding file fault {number}")?;
+            let line = fault.line(alloc, "HOLD");
+            Ok(line?.as_str() == expected.as_str() && payload.is_empty() && printed.is_empty())
+        }
+    }
+}
+
+/// Whether each of these faults is told where the byte at its place is changed by the mask.
+fn are_told(alloc: Global, file: &[u8], mask: u8, numbers: &[u8]) -> Result<bool, Fail> {
+    for (place, number) in numbers.iter().enumerate() {
+        let mut changed = file.to_vec(alloc)?;
+        if let Some(byte) = changed.get_mut(place) {
+            *byte ^= mask;
+        }
+        if !is_told(alloc, &changed, *number)? {
+            return Ok(false);
+        }
+    }
+    Ok(true)
+}
+
+#[test]
+fn each_changed_byte_of_a_holding_file_is_told(rt: HostRuntime) -> Result<(), Fail> {
+    let (both, _) = taken(rt.alloc(), [&left_damaged(), &right_damaged()])?;
+    assert_eq!(rt; both.len(), 74);
+    assert!(rt; are_told(rt.alloc(), &both, 1, &BIT_TURNED)?);
+    assert!(rt; are_told(rt.alloc(), &both, 0xFF, &BYTE_TURNED)?);
+    Ok(())
+}
+
+/// Says that it gave so many bytes, and leaves the buffer as it is: what is read is the zeros that stand there.
+#[derive(Drop)]
+struct Zeros {
+    left: usize,
+}
+
+impl Read for Zeros {
+    fn read(&mut self, buf: &mut [u8]) -> io::Result<usize> {
+        let count = self.left.min(buf.len());
+        self.left -= count;
+        Ok(count)
+    }
+}
+
+#[test]
+fn inputs_and_outputs_of_over_a_mebibyte_are_whole(rt: HostRuntime) -> Result<(), Fail> {
+    let size = (1 << 20) + 8;
+    let mut expected = String::new(rt.alloc());
+    for link in 0..size / 8 {
+        let end = size - link * 8;
+        let start = end - 8;
+        writeln!(expected, "{start}..{end} size 0 status 0 pass")?;
+    }
+    expected.push_str("end whole\n")?;
+    let mut frame = Zeros { left: size };
+    let mut output: Vec<u8> = Vec::new(rt.alloc());
+    let done = run_chain(rt.alloc(), &mut frame, &mut output);
+    assert!(rt; done.is_ok());
+    assert!(rt; output.as_slice() == expected.as_bytes());
+    Ok(())
+}

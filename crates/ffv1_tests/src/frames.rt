@@ -1,0 +1,285 @@
+//! Frames and damage made to measure.
+use ffv1_bits::passes;
+use ffv1_range::Setup;
+use ffv1_slice::{Chain, ChainEnd, find_slices};
+use ffv1_vectors::{
+    FrameSpec, MakeFault, SuiteCase, SuiteContent, SuiteTables, TileSpec, burst, cut, flip,
+    make_frame, make_record, put_front, suite_case, suite_frame, suite_record, zero,
+};
+use std::alloc::Global;
+use std::test::Fail;
+
+/// A tile with these planes, whose other fields are 0.
+fn plain_tile(alloc: Global, planes: &[&[u8]]) -> Result<TileSpec, Fail> {
+    let mut copies = Vec::new(alloc);
+    for samples in planes {
+        copies.push(Vec::from_slice(alloc, samples)?)?;
+    }
+    Ok(TileSpec {
+        planes: copies,
+        status: 0,
+        table_y: 0,
+        table_c: 0,
+        picture_structure: 0,
+        sar_num: 0,
+        sar_den: 0,
+    })
+}
+
+/// The setup of a case, without its content.
+pub(crate) fn setup_of(
+    alloc: Global,
+    tables: SuiteTables,
+    chroma: Option<(u32, u32)>,
+    grid: (u32, u32),
+    size: (u32, u32),
+) -> Result<Setup, Fail> {
+    let case = SuiteCase {
+        tables,
+        chroma,
+        grid,
+        content: SuiteContent::Flat,
+        size,
+    };
+    let record = make_record(alloc, &suite_record(alloc, &case)?)?;
+    Ok(Setup::read(alloc, &record, size.0, size.1)?)
+}
+
+/// The codes of the one tile of a frame: its bytes behind the header's two and before the footer.
+fn codes_of(alloc: Global, setup: &Setup, planes: &[&[u8]]) -> Result<Vec<u8>, Fail> {
+    let mut tiles = Vec::new(alloc);
+    tiles.push(plain_tile(alloc, planes)?)?;
+    let frame = make_frame(alloc, setup, &FrameSpec { tiles })?;
+    if frame.len() < 10 {
+        return Err("no slice".into());
+    }
+    Ok(Vec::from_slice(alloc, &frame[2..frame.len() - 8])?)
+}
+
+/// The codes of a gray tile.
+fn gray_codes(
+    alloc: Global,
+    tables: SuiteTables,
+    size: (u32, u32),
+    samples: &[u8],
+) -> Result<Vec<u8>, Fail> {
+    let setup = setup_of(alloc, tables, None, (1, 1), size)?;
+    codes_of(alloc, &setup, &[samples])
+}
+
+#[test]
+fn tiles_are_coded_byte_for_byte(rt: HostRuntime) -> Result<(), Fail> {
+    let alloc = rt.alloc();
+    let square = gray_codes(alloc, SuiteTables::OneRun, (2, 2), &[5, 5, 5, 6])?;
+    assert_eq!(rt; square.as_slice(), [0x13, 0x50].as_slice());
+    let row = gray_codes(alloc, SuiteTables::TwoRuns, (2, 1), &[250, 249])?;
+    assert_eq!(rt; row.as_slice(), [0x1F, 0x00].as_slice());
+    let column = gray_codes(alloc, SuiteTables::TwoRuns, (1, 2), &[5, 5])?;
+    assert_eq!(rt; column.as_slice(), [0x12, 0x00].as_slice());
+    Ok(())
+}
+
+#[test]
+fn planes_follow_each_other(rt: HostRuntime) -> Result<(), Fail> {
+    let alloc = rt.alloc();
+    let setup = setup_of(alloc, SuiteTables::OneRun, Some((0, 0)), (1, 1), (1, 1))?;
+    let codes = codes_of(alloc, &setup, &[&[0], &[5], &[5]])?;
+    assert_eq!(rt; codes.as_slice(), [0x88, 0x60].as_slice());
+    Ok(())
+}
+
+/// A frame of 2 x 2 tiles of one sample each, with an error status of its own for each tile.
+fn four_tiles(alloc: Global) -> Result<FrameSpec, Fail> {
+    let mut tiles = Vec::new(alloc);
+    for number in 0..4u8 {
+        let mut tile = plain_tile(alloc, &[&[number * 60]])?;
+        tile.status = number;
+        tiles.push(tile)?;
+    }
+    Ok(FrameSpec { tiles })
+}
+
+/// The tiles whose slices are found in a payload, from its end, each with the status before its parity.
+fn found_tiles(alloc: Global, setup: &Setup, payload: &[u8]) -> Result<Vec<(usize, u8)>, Fail> {
+    let mut tiles = Vec::new(alloc);
+    for slice in find_slices(alloc, setup, payload)? {
+        let bytes = slice.bytes();
+        let status = bytes
+            .len()
+            .checked_sub(5)
+            .and_then(|place| bytes.get(place));
+        tiles.push((slice.tile(), status.copied().unwrap_or(255)))?;
+    }
+    Ok(tiles)
+}
+
+#[test]
+fn made_frames_are_found_tile_by_tile(rt: HostRuntime) -> Result<(), Fail> {
+    let alloc = rt.alloc();
+    let setup = setup_of(alloc, SuiteTables::OneRun, None, (2, 2), (2, 2))?;
+    let frame = make_frame(alloc, &setup, &four_tiles(alloc)?)?;
+    let found = found_tiles(alloc, &setup, &frame)?;
+    assert_eq!(rt;
+        found.as_slice(),
+        [(3, 3), (2, 2), (1, 1), (0, 0)].as_slice()
+    );
+    let front = put_front(alloc, &[0xFF], &frame)?;
+    let found = found_tiles(alloc, &setup, &front)?;
+    assert_eq!(rt; found.as_slice(), [(3, 3), (2, 2), (1, 1)].as_slice());
+    Ok(())
+}
+
+#[test]
+fn slices_of_1024_tiles_are_found(rt: HostRuntime) -> Result<(), Fail> {
+    let alloc = rt.alloc();
+    let setup = setup_of(alloc, SuiteTables::OneRun, None, (32, 32), (32, 32))?;
+    let mut tiles = Vec::new(alloc);
+    for _ in 0..1024 {
+        tiles.push(plain_tile(alloc, &[&[0]])?)?;
+    }
+    let frame = make_frame(alloc, &setup, &FrameSpec { tiles })?;
+    let found = found_tiles(alloc, &setup, &frame)?;
+    assert_eq!(rt; found.len(), 1024);
+    for (place, (tile, status)) in found.iter().enumerate() {
+        assert_eq!(rt; (tile.wrapping_add(place), *status), (1023, 0));
+    }
+    Ok(())
+}
+
+/// The end of the second slice from the end of a payload.
+fn second_end(payload: &[u8]) -> Option<usize> {
+    Chain::new(payload).nth(1).map(|link| link.end())
+}
+
+#[test]
+fn chain_breaks_at_a_damaged_size(rt: HostRuntime) -> Result<(), Fail> {
+    let alloc = rt.alloc();
+    let setup = setup_of(alloc, SuiteTables::OneRun, None, (2, 2), (2, 2))?;
+    let mut frame = make_frame(alloc, &setup, &four_tiles(alloc)?)?;
+    let end = second_end(&frame).ok_or("two slices")?;
+    let place = end.checked_sub(8).ok_or("a footer")?;
+    *frame.get_mut(place).ok_or("a footer")? = 0xFF;
+    let found = found_tiles(alloc, &setup, &frame)?;
+    assert_eq!(rt; found.as_slice(), [(3, 3)].as_slice());
+    assert_eq!(rt; Chain::new(&frame).end(), ChainEnd::Broken(end));
+    Ok(())
+}
+
+/// Why no frame is made of these tiles of a gray recording of one tile of one sample.
+fn refusal(alloc: Global, tiles: Vec<TileSpec>) -> Result<Option<MakeFault>, Fail> {
+    let setup = setup_of(alloc, SuiteTables::OneRun, None, (1, 1), (1, 1))?;
+    Ok(make_frame(alloc, &setup, &FrameSpec { tiles }).err())
+}
+
+/// The tile of the sample 0, with these tables.
+fn tile_by(alloc: Global, table_y: u32, table_c: u32) -> Result<Vec<TileSpec>, Fail> {
+    let mut tile = plain_tile(alloc, &[&[0]])?;
+    tile.table_y = table_y;
+    tile.table_c = table_c;
+    let mut tiles = Vec::new(alloc);
+    tiles.push(tile)?;
+    Ok(tiles)
+}
+
+#[test]
+fn frames_that_do_not_fit_are_refused(rt: HostRuntime) -> Result<(), Fail> {
+    let alloc = rt.alloc();
+    assert_eq!(rt; refusal(alloc, tile_by(alloc, 0, 0)?)?, None);
+    assert_eq!(rt;
+        refusal(alloc, tile_by(alloc, 1, 0)?)?,
+        Some(MakeFault::NotSelf)
+    );
+    assert_eq!(rt;
+        refusal(alloc, tile_by(alloc, 0, 1)?)?,
+        Some(MakeFault::NotSelf)
+    );
+    assert_eq!(rt; refusal(alloc, Vec::new(alloc))?, Some(MakeFault::NotSelf));
+    Ok(())
+}
+
+#[test]
+fn damage_is_as_stated(rt: HostRuntime) -> Result<(), Fail> {
+    let alloc = rt.alloc();
+    let bytes = [1, 2, 3];
+    assert_eq!(rt; flip(alloc, &bytes, 8)?.as_slice(), [1, 0x82, 3].as_slice());
+    assert_eq!(rt;
+        burst(alloc, &[1, 2, 3, 4, 5], 4, 0xF000_0001)?.as_slice(),
+        [0x0E, 2, 3, 4, 0x15].as_slice()
+    );
+    assert_eq!(rt;
+        burst(alloc, &SLICES[0], 0, 0xFFFF_FFFF)?.as_slice(),
+        [0x02, 0x09, 0x7F, 0xFF, 0, 3, 0, 0x1C, 0x3E, 0xA0, 0x9B].as_slice()
+    );
+    assert_eq!(rt; zero(alloc, &bytes, 1, 3)?.as_slice(), [1, 0, 0].as_slice());
+    assert_eq!(rt; cut(alloc, &bytes, 2)?.as_slice(), [1, 2].as_slice());
+    assert_eq!(rt;
+        put_front(alloc, &[9], &bytes)?.as_slice(),
+        [9, 1, 2, 3].as_slice()
+    );
+    Ok(())
+}
+
+/// Three slices: that of tile 0 with sample 0, that with sample 1, and that of tile 1 in a grid two wide.
+const SLICES: [[u8; 11]; 3] = [
+    [0xFD, 0xF6, 0x80, 0, 0, 3, 0, 0x1C, 0x3E, 0xA0, 0x9B],
+    [0xFD, 0xF6, 0x40, 0, 0, 3, 0, 0x17, 0x60, 0xA5, 0x79],
+    [0x3F, 0x2B, 0x80, 0, 0, 3, 0, 0x56, 0x0F, 0xD7, 0x3B],
+];
+
+#[test]
+fn bursts_never_pass(rt: HostRuntime) -> Result<(), Fail> {
+    let alloc = rt.alloc();
+    for slice in SLICES {
+        for mask in [0xFFFF_FFFF, 0x8000_0001] {
+            for bit in 0..=56usize {
+                let damaged = burst(alloc, &slice, bit, mask)?;
+                assert!(rt; !passes(&damaged), "at {bit}");
+            }
+        }
+    }
+    Ok(())
+}
+
+#[test]
+fn wider_damage_can_pass(rt: HostRuntime) {
+    // The first slice with the error status 1 and its parity: what differs lies within 33 bits.
+    assert!(rt; passes(&[0xFD, 0xF6, 0x80, 0, 0, 3, 1, 0x18, 0xFF, 0xBD, 0x2C]));
+}
+
+/// Makes the frames of all cases with these tables, and answers how many there are.
+fn count_made(alloc: Global, tables: SuiteTables) -> Result<usize, Fail> {
+    let mut made = 0usize;
+    for number in 0..SUITE_NUMBERS {
+        if let Some(case) = suite_case(tables, number) {
+            make_case(alloc, &case)?;
+            made = made.saturating_add(1);
+        }
+    }
+    Ok(made)
+}
+
+/// Makes the frame of a case.
+fn make_case(alloc: Global, case: &SuiteCase) -> Result<(), Fail> {
+    let record = make_record(alloc, &suite_record(alloc, case)?)?;
+    let setup = Setup::read(alloc, &record, case.size.0, case.size.1)?;
+    make_frame(alloc, &setup, &suite_frame(alloc, case, &setup)?)?;
+    Ok(())
+}
+
+#[test]
+fn frames_of_one_run_are_made(rt: HostRuntime) -> Result<(), Fail> {
+    assert_eq!(rt; count_made(rt.alloc(), SuiteTables::OneRun)?, 465);
+    Ok(())
+}
+
+#[test]
+fn frames_of_six_runs_are_made(rt: HostRuntime) -> Result<(), Fail> {
+    assert_eq!(rt; count_made(rt.alloc(), SuiteTables::SixRuns)?, 465);
+    Ok(())
+}
+
+#[test]
+fn frames_of_two_runs_are_made(rt: HostRuntime) -> Result<(), Fail> {
+    assert_eq!(rt; count_made(rt.alloc(), SuiteTables::TwoRuns)?, 465);
+    Ok(())
+}

@@ -1,0 +1,223 @@
+//! A holding file byte for byte, devices that fail behind any part of it, and plans.
+use ffv1_hold::{
+    FromRead, FromWrite, HoldFileFault, Holding, Join, Plan, read_hold, run, write_hold,
+};
+use ffv1_range::SetupFault;
+use std::alloc::Global;
+use std::io;
+use std::io::{ErrorKind, Read, Write};
+use std::test::Fail;
+
+/// A gray record of micro version 4 with one tile, its five tables of one run each.
+const ONE_TILE: [u8; 17] = [
+    0x56, 0x2B, 0x83, 0xBD, 0xC5, 0x3A, 0x74, 0xE9, 0xD3, 0xA7, 0x4E, 0x9D, 0x26, 0x60, 0x98, 0x8D,
+    0xE6,
+];
+
+/// Tile 0 of one sample 0, first in its payload.
+const BLACK: [u8; 11] = [0xFD, 0xF6, 0x80, 0, 0, 3, 0, 0x1C, 0x3E, 0xA0, 0x9B];
+
+/// The same of one sample 1.
+const DARK: [u8; 11] = [0xFD, 0xF6, 0x40, 0, 0, 3, 0, 0x17, 0x60, 0xA5, 0x79];
+
+/// The holding file of both: the name and the version, the size 1 x 1 and the record, an entry for each, which rise, and the end.
+const FILE: [u8; 74] = [
+    0x46, 0x46, 0x56, 0x31, 0x48, 0x4C, 0x44, 1, 0, 0, 0, 1, 0, 0, 0, 1, 0, 0, 0, 17, 0x56, 0x2B,
+    0x83, 0xBD, 0xC5, 0x3A, 0x74, 0xE9, 0xD3, 0xA7, 0x4E, 0x9D, 0x26, 0x60, 0x98, 0x8D, 0xE6, 1, 0,
+    0, 0, 0, 0, 11, 0xFD, 0xF6, 0x40, 0, 0, 3, 0, 0x17, 0x60, 0xA5, 0x79, 1, 0, 0, 0, 0, 0, 11,
+    0xFD, 0xF6, 0x80, 0, 0, 3, 0, 0x1C, 0x3E, 0xA0, 0x9B, 0,
+];
+
+/// A reader of bytes that fails once they are read, with an error of this kind, so many times.
+#[derive(Drop)]
+struct Failing<'a> {
+    bytes: &'a [u8],
+    kind: ErrorKind,
+    times: u32,
+}
+
+impl<'a> Read for Failing<'a> {
+    fn read(&mut self, buf: &mut [u8]) -> io::Result<usize> {
+        let mut left = self.bytes;
+        let count = left.read(buf)?;
+        self.bytes = left;
+        if count == 0 && self.times > 0 {
+            self.times -= 1;
+            return Err(io::Error::from(self.kind));
+        }
+        Ok(count)
+    }
+}
+
+/// A reader of bytes that goes on with zeros and never ends.
+#[derive(Drop)]
+struct Endless<'a> {
+    bytes: &'a [u8],
+}
+
+impl<'a> Read for Endless<'a> {
+    fn read(&mut self, buf: &mut [u8]) -> io::Result<usize> {
+        let mut left = self.bytes;
+        let count = left.read(buf)?;
+        self.bytes = left;
+        if count > 0 {
+            return Ok(count);
+        }
+        for byte in buf.iter_mut() {
+            *byte = 0;
+        }
+        Ok(buf.len())
+    }
+}
+
+/// A writer that takes one byte at a time, so many in all, and then fails.
+#[derive(Drop)]
+struct Narrow {
+    room: usize,
+    bytes: Vec<u8>,
+}
+
+impl Write for Narrow {
+    fn write(&mut self, buf: &[u8]) -> io::Result<usize> {
+        if self.room == 0 {
+            return Err(io::Error::from(ErrorKind::Other));
+        }
+        let Some(first) = buf.first() else {
+            return Ok(0);
+        };
+        self.bytes.push(*first)?;
+        self.room -= 1;
+        Ok(1)
+    }
+
+    fn flush(&mut self) -> io::Result<()> {
+        Ok(())
+    }
+}
+
+/// The file of the holding that a plan makes of frames of one sample.
+fn file_of(alloc: Global, plan: &Plan<'_>) -> Result<Vec<u8>, Fail> {
+    let holding = run(alloc, plan, &ONE_TILE, 1, 1)?;
+    let mut sink = FromWrite::new(Vec::new(alloc));
+    write_hold(&holding, &mut sink)?;
+    Ok(sink.into_inner())
+}
+
+/// Why these bytes are refused where the device behind them fails so many times with an error of this kind.
+fn fault_behind(alloc: Global, bytes: &[u8], kind: ErrorKind, times: u32) -> Option<HoldFileFault> {
+    let mut source = FromRead::new(Failing { bytes, kind, times });
+    read_hold(alloc, &mut source).err()
+}
+
+#[test]
+fn a_cut_file_is_truncated(rt: HostRuntime) {
+    for length in 0..FILE.len() {
+        let fault = read_hold(rt.alloc(), &mut FromRead::new(&FILE[..length])).err();
+        assert_eq!(rt; fault, Some(HoldFileFault::Truncated), "at {length}");
+    }
+}
+
+#[test]
+fn a_failing_source_is_told_as_that(rt: HostRuntime) {
+    for length in 0..FILE.len() {
+        let fault = fault_behind(rt.alloc(), &FILE[..length], ErrorKind::Other, 1);
+        assert_eq!(rt; fault, Some(HoldFileFault::Read), "at {length}");
+    }
+}
+
+#[test]
+fn a_failing_sink_is_told_as_that(rt: HostRuntime) -> Result<(), Fail> {
+    let holding = read_hold(rt.alloc(), &mut FromRead::new(FILE.as_slice()))?;
+    for room in 0..FILE.len() {
+        let bytes = Vec::new(rt.alloc());
+        let mut sink = FromWrite::new(Narrow { room, bytes });
+        let fault = write_hold(&holding, &mut sink).err();
+        assert_eq!(rt; (fault, sink.failures()), (Some(HoldFileFault::Write), 1));
+        assert_eq!(rt; sink.into_inner().bytes.as_slice(), &FILE[..room]);
+    }
+    Ok(())
+}
+
+#[test]
+fn sixty_five_interrupted_tries_are_a_failure(rt: HostRuntime) {
+    for (times, wanted) in [(64, HoldFileFault::Truncated), (65, HoldFileFault::Read)] {
+        let fault = fault_behind(rt.alloc(), &[], ErrorKind::Interrupted, times);
+        assert_eq!(rt; fault, Some(wanted), "at {times}");
+    }
+}
+
+#[test]
+fn a_fault_that_was_read_comes_before_the_device(rt: HostRuntime) {
+    let cases = [
+        (0, 0x45, 1, HoldFileFault::Magic),
+        (3, 0, 4, HoldFileFault::Magic),
+        (7, 2, 8, HoldFileFault::Magic),
+        (16, 2, 20, HoldFileFault::TooLong),
+        (11, 0, 37, HoldFileFault::Setup(SetupFault::Size)),
+        (37, 5, 38, HoldFileFault::Tag),
+        (40, 2, 44, HoldFileFault::TooLong),
+        (39, 1, 55, HoldFileFault::NotASlice),
+        (44, 0, 55, HoldFileFault::NotASlice),
+        (64, 0x40, 73, HoldFileFault::NotASlice),
+    ];
+    for (place, value, end, fault) in cases {
+        assert!(rt; place < end && end <= FILE.len());
+        let mut changed = FILE;
+        changed[place] = value;
+        let shown = fault_behind(rt.alloc(), &changed[..end], ErrorKind::Other, 1);
+        assert_eq!(rt; shown, Some(fault), "at {place}");
+        let before = fault_behind(rt.alloc(), &changed[..end - 1], ErrorKind::Other, 1);
+        assert_eq!(rt; before, Some(HoldFileFault::Read), "before {end}");
+    }
+}
+
+#[test]
+fn an_entry_out_of_order_comes_before_the_device(rt: HostRuntime) {
+    for (second, first) in [(37, 55), (55, 55)] {
+        let mut changed = FILE;
+        changed[37..55].copy_from_slice(&FILE[first..first + 18]);
+        changed[55..73].copy_from_slice(&FILE[second..second + 18]);
+        let shown = fault_behind(rt.alloc(), &changed[..73], ErrorKind::Other, 1);
+        assert_eq!(rt; shown, Some(HoldFileFault::Order), "at {second}");
+        let before = fault_behind(rt.alloc(), &changed[..72], ErrorKind::Other, 1);
+        assert_eq!(rt; before, Some(HoldFileFault::Read), "at {second}");
+    }
+}
+
+#[test]
+fn a_reader_that_never_ends_shows_its_first_fault(rt: HostRuntime) {
+    let cases = [
+        (0, HoldFileFault::Magic, 1),
+        (74, HoldFileFault::Trailing, 75),
+    ];
+    for (length, fault, taken) in cases {
+        let mut endless = FromRead::new(Endless {
+            bytes: &FILE[..length],
+        });
+        let shown = read_hold(rt.alloc(), &mut endless).err();
+        assert_eq!(rt; (shown, endless.taken()), (Some(fault), taken));
+    }
+}
+
+/// Two copies, one after the other.
+fn one_by_one<'a>(alloc: Global, first: &'a [u8], second: &'a [u8]) -> Result<Plan<'a>, Fail> {
+    let only_first = Plan::Take(Box::new(alloc, Plan::New)?, first);
+    Ok(Plan::Take(Box::new(alloc, only_first)?, second))
+}
+
+/// A list of copies, through a file, joined with nothing.
+fn through_a_file<'a>(alloc: Global, copies: &'a [&'a [u8]]) -> Result<Plan<'a>, Fail> {
+    let all = Plan::TakeAll(Box::new(alloc, Plan::New)?, copies);
+    let read = Plan::Reread(Box::new(alloc, all)?);
+    Ok(Plan::Join(Box::new(alloc, read)?, Box::new(alloc, Plan::New)?))
+}
+
+#[test]
+fn plans_of_the_same_copies_give_one_file(rt: HostRuntime) -> Result<(), Fail> {
+    let copies: [&[u8]; 3] = [&DARK, &BLACK, &DARK];
+    let one = file_of(rt.alloc(), &one_by_one(rt.alloc(), &BLACK, &DARK)?)?;
+    let other = file_of(rt.alloc(), &through_a_file(rt.alloc(), &copies)?)?;
+    assert_eq!(rt; one.as_slice(), FILE.as_slice());
+    assert_eq!(rt; other.as_slice(), FILE.as_slice());
+    Ok(())
+}

@@ -1,0 +1,165 @@
+//! Real slices, and the sets and holdings that they make.
+use ffv1_holding::{HoldFault, Holding, Join, RestoreFault, SliceSet, Taken, TileState, join_all};
+use ffv1_range::SetupFault;
+use std::alloc::Global;
+use std::test::Fail;
+
+/// A gray record of micro version 4 with one tile, its five tables of one run each.
+const ONE_TILE: [u8; 17] = [
+    0x56, 0x2B, 0x83, 0xBD, 0xC5, 0x3A, 0x74, 0xE9, 0xD3, 0xA7, 0x4E, 0x9D, 0x26, 0x60, 0x98, 0x8D,
+    0xE6,
+];
+
+/// The same with two tiles beside each other.
+const TWO_TILES: [u8; 17] = [
+    0x56, 0x2B, 0x83, 0x32, 0x5C, 0xCD, 0x9B, 0x36, 0x6C, 0xD9, 0xB3, 0x66, 0xC4, 0x90, 0xE4, 0xD4,
+    0x86,
+];
+
+/// Tile 0 of one sample 0, first in its payload.
+const BLACK: [u8; 11] = [0xFD, 0xF6, 0x80, 0, 0, 3, 0, 0x1C, 0x3E, 0xA0, 0x9B];
+
+/// The same of one sample 1.
+const DARK: [u8; 11] = [0xFD, 0xF6, 0x40, 0, 0, 3, 0, 0x17, 0x60, 0xA5, 0x79];
+
+/// The same of one sample 1, told as uncorrectable.
+const DARK_DAMAGED: [u8; 11] = [0xFD, 0xF6, 0x40, 0, 0, 3, 2, 0x1E, 0xE2, 0x9E, 0x17];
+
+/// Tile 1 of one sample 0.
+const RIGHT: [u8; 11] = [0x3F, 0x2B, 0x80, 0, 0, 3, 0, 0x56, 0x0F, 0xD7, 0x3B];
+
+/// A frame of two tiles.
+const FRAME: [u8; 22] = [
+    0xFD, 0xF6, 0x80, 0, 0, 3, 0, 0x1C, 0x3E, 0xA0, 0x9B, 0x3F, 0x2B, 0x80, 0, 0, 3, 0, 0x56, 0x0F,
+    0xD7, 0x3B,
+];
+
+/// The frame with a damaged tile 0.
+const LEFT_DAMAGED: [u8; 22] = [
+    0xFD, 0xF6, 0, 0, 0, 3, 0, 0x1C, 0x3E, 0xA0, 0x9B, 0x3F, 0x2B, 0x80, 0, 0, 3, 0, 0x56, 0x0F,
+    0xD7, 0x3B,
+];
+
+/// The frame with a damaged tile 1.
+const RIGHT_DAMAGED: [u8; 22] = [
+    0xFD, 0xF6, 0x80, 0, 0, 3, 0, 0x1C, 0x3E, 0xA0, 0x9B, 0x3F, 0x2B, 0, 0, 0, 3, 0, 0x56, 0x0F,
+    0xD7, 0x3B,
+];
+
+/// The frame behind five bytes that are none of it.
+const BEHIND_JUNK: [u8; 27] = [
+    0xAA, 0xAA, 0xAA, 0xAA, 0xAA, 0xFD, 0xF6, 0x80, 0, 0, 3, 0, 0x1C, 0x3E, 0xA0, 0x9B, 0x3F, 0x2B,
+    0x80, 0, 0, 3, 0, 0x56, 0x0F, 0xD7, 0x3B,
+];
+
+/// What is held of two copies of a frame of so many tiles beside each other, one sample each.
+fn held_of(alloc: Global, tiles: u32, copies: [&[u8]; 2]) -> Result<Holding, Fail> {
+    let record = if tiles == 1 { ONE_TILE } else { TWO_TILES };
+    let mut holding = Holding::new(alloc, &record, tiles, 1)?;
+    holding.take_all(&copies)?;
+    Ok(holding)
+}
+
+#[test]
+fn slices_are_kept_once_in_rising_order(rt: HostRuntime) -> Result<(), Fail> {
+    let mut set = SliceSet::new(rt.alloc());
+    for (slice, new) in [(BLACK, true), (DARK, true), (BLACK, false)] {
+        assert_eq!(rt; set.insert(&slice), Ok(new));
+    }
+    assert_eq!(rt; set.len(), 2);
+    assert_eq!(rt; set.get(0), DARK.as_slice());
+    let mut all = SliceSet::new(rt.alloc());
+    let copy = set.copied()?;
+    assert_eq!(rt; join_all(&mut all, &[set, copy]), Ok(2));
+    Ok(())
+}
+
+#[test]
+fn a_copy_tells_what_was_taken(rt: HostRuntime) -> Result<(), Fail> {
+    let mut holding = Holding::new(rt.alloc(), &TWO_TILES, 2, 1)?;
+    let copies: [(&[u8], usize, usize, usize); 6] = [
+        (&[0; 8], 1, 0, 0),
+        (&RIGHT, 1, 0, 0),
+        (&BEHIND_JUNK, 2, 1, 1),
+        (&LEFT_DAMAGED, 2, 1, 0),
+        (&RIGHT_DAMAGED, 2, 1, 1),
+        (&FRAME, 2, 2, 0),
+    ];
+    for (copy, links, slices, new) in copies {
+        let taken = Taken { links, slices, new };
+        assert_eq!(rt; holding.take(copy), Ok(taken), "of {links} links");
+    }
+    Ok(())
+}
+
+#[test]
+fn settled_tiles_are_restored(rt: HostRuntime) -> Result<(), Fail> {
+    let cases: [(u32, [&[u8]; 2], &[u8]); 4] = [
+        (2, [&LEFT_DAMAGED, &RIGHT_DAMAGED], &FRAME),
+        (2, [&RIGHT_DAMAGED, &LEFT_DAMAGED], &FRAME),
+        (2, [&LEFT_DAMAGED, &FRAME], &FRAME),
+        (1, [&DARK_DAMAGED, &BLACK], &BLACK),
+    ];
+    for (tiles, copies, wanted) in cases {
+        let payload = held_of(rt.alloc(), tiles, copies)?.restore()?;
+        assert_eq!(rt; payload.as_slice(), wanted);
+    }
+    Ok(())
+}
+
+#[test]
+fn the_first_unsettled_tile_is_told(rt: HostRuntime) -> Result<(), Fail> {
+    let cases: [(u32, [&[u8]; 2], RestoreFault); 4] = [
+        (2, [&LEFT_DAMAGED, &LEFT_DAMAGED], RestoreFault::Missing(0)),
+        (
+            2,
+            [&RIGHT_DAMAGED, &RIGHT_DAMAGED],
+            RestoreFault::Missing(1),
+        ),
+        (2, [&BEHIND_JUNK, &RIGHT], RestoreFault::Missing(0)),
+        (1, [&BLACK, &DARK], RestoreFault::Disputed(0)),
+    ];
+    for (tiles, copies, fault) in cases {
+        let held = held_of(rt.alloc(), tiles, copies)?;
+        assert_eq!(rt; held.restore().err(), Some(fault));
+    }
+    Ok(())
+}
+
+/// How many slices of a tile have the least error_status.
+fn best(state: TileState<'_>) -> usize {
+    match state {
+        TileState::Missing => 0,
+        TileState::Settled(_) => 1,
+        TileState::Disputed(slices) => slices,
+    }
+}
+
+#[test]
+fn tiles_tell_what_is_held_of_them(rt: HostRuntime) -> Result<(), Fail> {
+    let cases: [(u32, [&[u8]; 2], usize, usize, Option<u8>, usize); 5] = [
+        (2, [&LEFT_DAMAGED, &LEFT_DAMAGED], 0, 0, None, 0),
+        (2, [&LEFT_DAMAGED, &LEFT_DAMAGED], 1, 1, Some(0), 1),
+        (1, [&BLACK, &DARK], 0, 2, Some(0), 2),
+        (1, [&BLACK, &DARK_DAMAGED], 0, 2, Some(0), 1),
+        (1, [&DARK_DAMAGED, &DARK_DAMAGED], 0, 1, Some(2), 1),
+    ];
+    for (tiles, copies, tile, slices, status, bests) in cases {
+        let held = held_of(rt.alloc(), tiles, copies)?;
+        assert!(rt; tile < held.reel().tiles());
+        assert_eq!(rt; (held.held(tile), held.status(tile)), (slices, status));
+        assert_eq!(rt; best(held.state(tile)), bests);
+        assert_eq!(rt; held.size(), slices.max(1));
+    }
+    Ok(())
+}
+
+#[test]
+fn other_sizes_do_not_join(rt: HostRuntime) -> Result<(), Fail> {
+    let mut frame = held_of(rt.alloc(), 2, [&FRAME, &FRAME])?;
+    let sample = held_of(rt.alloc(), 1, [&BLACK, &DARK])?;
+    assert_eq!(rt; frame.join_with(&sample), Err(HoldFault::OtherReel));
+    let short = Holding::new(rt.alloc(), &[0; 5], 1, 1).err();
+    assert_eq!(rt; short, Some(SetupFault::TooShort));
+    Ok(())
+}

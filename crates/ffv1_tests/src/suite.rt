@@ -1,0 +1,259 @@
+//! The suite of made frames, through the commands: each comes back byte for byte, and sample by sample.
+use ffv1_commands::{run_decode, run_restore, run_take};
+use ffv1_range::Setup;
+use ffv1_slice::{Chain, ChainEnd, Link};
+use ffv1_vectors::{
+    FrameSpec, SUITE_NUMBERS, SuiteCase, SuiteContent, SuiteTables, burst, make_frame, make_record,
+    suite_case, suite_frame, suite_record,
+};
+use std::alloc::Global;
+use std::test::Fail;
+
+/// A frame that was made, and what it was made of.
+#[derive(Drop)]
+pub(crate) struct Made {
+    pub(crate) record: Vec<u8>,
+    size: (u32, u32),
+    setup: Setup,
+    spec: FrameSpec,
+    pub(crate) payload: Vec<u8>,
+}
+
+/// The frame of a case.
+pub(crate) fn frame_of(alloc: Global, case: &SuiteCase) -> Result<Made, Fail> {
+    let record = make_record(alloc, &suite_record(alloc, case)?)?;
+    let setup = Setup::read(alloc, &record, case.size.0, case.size.1)?;
+    let spec = suite_frame(alloc, case, &setup)?;
+    let payload = make_frame(alloc, &setup, &spec)?;
+    Ok(Made {
+        record,
+        size: case.size,
+        setup,
+        spec,
+        payload,
+    })
+}
+
+/// The holding file of two copies, and what was printed of them.
+fn taken(alloc: Global, made: &Made, mut copies: [&[u8]; 2]) -> Result<(Vec<u8>, Vec<u8>), Fail> {
+    let mut record = made.record.as_slice();
+    let mut file = Vec::new(alloc);
+    let mut printed = Vec::new(alloc);
+    let (width, height) = made.size;
+    run_take(
+        alloc,
+        &mut record,
+        width,
+        height,
+        &mut copies,
+        &mut file,
+        &mut printed,
+    )
+    .ok()
+    .ok_or("ample memory")?;
+    Ok((file, printed))
+}
+
+/// What is restored of two copies.
+fn restored(alloc: Global, made: &Made, copies: [&[u8]; 2]) -> Result<Vec<u8>, Fail> {
+    let (file, _printed) = taken(alloc, made, copies)?;
+    let mut input = file.as_slice();
+    let mut payload = Vec::new(alloc);
+    let mut printed: Vec<u8> = Vec::new(alloc);
+    run_restore(alloc, &mut input, &mut payload, &mut printed)
+        .ok()
+        .ok_or("every tile is settled")?;
+    Ok(payload)
+}
+
+/// The samples that are decoded of a frame.
+fn decoded(alloc: Global, made: &Made) -> Result<Vec<u8>, Fail> {
+    let mut record = made.record.as_slice();
+    let mut input = made.payload.as_slice();
+    let mut samples = Vec::new(alloc);
+    let mut printed: Vec<u8> = Vec::new(alloc);
+    let (width, height) = made.size;
+    run_decode(
+        alloc,
+        &mut record,
+        width,
+        height,
+        &mut input,
+        &mut samples,
+        &mut printed,
+    )
+    .ok()
+    .ok_or("a frame")?;
+    Ok(samples)
+}
+
+/// The sample of a tile at a place of a plane, where it covers the place.
+fn sample_of_tile(made: &Made, tile: usize, plane: usize, x: u32, y: u32) -> Option<u8> {
+    let grid = made.setup.grid();
+    let planes = if made.setup.has_chroma() { 3 } else { 1 };
+    if tile >= grid.tiles() || plane >= planes {
+        return None;
+    }
+    let rect = grid.plane_rect(tile, plane);
+    let right = x.checked_sub(rect.x)?;
+    let below = y.checked_sub(rect.y)?;
+    if right >= rect.w || below >= rect.h {
+        return None;
+    }
+    let place = (below as usize)
+        .wrapping_mul(rect.w as usize)
+        .wrapping_add(right as usize);
+    let samples = made.spec.tiles.get(tile)?.planes.get(plane)?;
+    samples.get(place).copied()
+}
+
+/// The sample that was asked for at a place of a plane: that of the greatest tile that covers it, else 128.
+fn asked_sample(made: &Made, plane: usize, x: u32, y: u32) -> u8 {
+    let mut sample = 128;
+    for tile in 0..made.spec.tiles.len() {
+        sample = sample_of_tile(made, tile, plane, x, y).unwrap_or(sample);
+    }
+    sample
+}
+
+/// Adds a row that was asked for.
+fn push_row(
+    made: &Made,
+    plane: usize,
+    width: u32,
+    y: u32,
+    samples: &mut Vec<u8>,
+) -> Result<(), Fail> {
+    for x in 0..width {
+        samples.push(asked_sample(made, plane, x, y))?;
+    }
+    Ok(())
+}
+
+/// Adds a plane that was asked for.
+fn push_plane(made: &Made, plane: usize, samples: &mut Vec<u8>) -> Result<(), Fail> {
+    let planes = if made.setup.has_chroma() { 3 } else { 1 };
+    if plane >= planes {
+        return Ok(());
+    }
+    let size = made.setup.grid().plane_size(plane);
+    for y in 0..size.h {
+        push_row(made, plane, size.w, y, samples)?;
+    }
+    Ok(())
+}
+
+/// All samples that were asked for, plane by plane.
+pub(crate) fn asked_samples(alloc: Global, made: &Made) -> Result<Vec<u8>, Fail> {
+    let mut samples = Vec::new(alloc);
+    for plane in 0..3 {
+        push_plane(made, plane, &mut samples)?;
+    }
+    Ok(samples)
+}
+
+/// Whether a case comes back from `take` and `restore` byte for byte, and from `decode` sample by sample.
+fn comes_back(alloc: Global, case: &SuiteCase) -> Result<bool, Fail> {
+    let made = frame_of(alloc, case)?;
+    let payload = made.payload.as_slice();
+    let restored = restored(alloc, &made, [payload, payload])?;
+    let samples = decoded(alloc, &made)?;
+    let asked = asked_samples(alloc, &made)?;
+    Ok(restored.as_slice() == payload && samples.as_slice() == asked.as_slice())
+}
+
+/// How many cases with these tables come back.
+fn count_back(alloc: Global, tables: SuiteTables) -> Result<usize, Fail> {
+    let mut back = 0usize;
+    for number in 0..SUITE_NUMBERS {
+        if let Some(case) = suite_case(tables, number) {
+            if comes_back(alloc, &case)? {
+                back = back.saturating_add(1);
+            }
+        }
+    }
+    Ok(back)
+}
+
+#[test]
+fn frames_of_one_run_come_back(rt: HostRuntime) -> Result<(), Fail> {
+    assert_eq!(rt; count_back(rt.alloc(), SuiteTables::OneRun)?, 465);
+    Ok(())
+}
+
+#[test]
+fn frames_of_six_runs_come_back(rt: HostRuntime) -> Result<(), Fail> {
+    assert_eq!(rt; count_back(rt.alloc(), SuiteTables::SixRuns)?, 465);
+    Ok(())
+}
+
+#[test]
+fn frames_of_two_runs_come_back(rt: HostRuntime) -> Result<(), Fail> {
+    assert_eq!(rt; count_back(rt.alloc(), SuiteTables::TwoRuns)?, 465);
+    Ok(())
+}
+
+/// A frame of 2 x 2 tiles, in 4:2:0.
+fn four_tiles(alloc: Global) -> Result<Made, Fail> {
+    let case = SuiteCase {
+        tables: SuiteTables::SixRuns,
+        chroma: Some((1, 1)),
+        grid: (2, 2),
+        content: SuiteContent::Rising,
+        size: (64, 64),
+    };
+    frame_of(alloc, &case)
+}
+
+/// Where the slice of a tile stands in a payload: its first byte, and that behind its last.
+fn place_of(alloc: Global, payload: &[u8], tile: usize) -> Result<(usize, usize), Fail> {
+    let mut links: Vec<Link<'_>> = Chain::new(payload).collect(alloc)?;
+    links.reverse();
+    let link = links.get(tile).ok_or("a slice of the tile")?;
+    Ok((link.start(), link.end()))
+}
+
+/// The payload with 32 bits flipped, from the fourth bit of a byte on.
+fn burst_at(alloc: Global, payload: &[u8], byte: usize) -> Result<Vec<u8>, Fail> {
+    if payload.len() < 5 || payload.len() > 1 << 30 || byte > payload.len() - 5 {
+        return Err("bytes of the payload".into());
+    }
+    Ok(burst(alloc, payload, byte * 8 + 3, 0xFFFF_FFFF)?)
+}
+
+#[test]
+fn bursts_in_each_tile_are_restored_from_two_copies(rt: HostRuntime) -> Result<(), Fail> {
+    let frame = four_tiles(rt.alloc())?;
+    let payload = frame.payload.as_slice();
+    let mut first = payload.to_vec(rt.alloc())?;
+    for tile in 1..4 {
+        let (start, _end) = place_of(rt.alloc(), payload, tile)?;
+        first = burst_at(rt.alloc(), &first, start.wrapping_add(4))?;
+    }
+    // The error status and the parity of tile 0.
+    let (_start, end) = place_of(rt.alloc(), payload, 0)?;
+    let second = burst_at(rt.alloc(), payload, end.wrapping_sub(5))?;
+    let one = restored(rt.alloc(), &frame, [&first, &second])?;
+    assert!(rt; one.as_slice() == payload);
+    let other = restored(rt.alloc(), &frame, [&second, &first])?;
+    assert!(rt; other.as_slice() == payload);
+    let (_file, printed) = taken(rt.alloc(), &frame, [&first, &second])?;
+    let lines = "copy 1 links 4 slices 1 new 1\ncopy 2 links 4 slices 3 new 3\n";
+    assert!(rt; printed.as_slice() == lines.as_bytes());
+    Ok(())
+}
+
+#[test]
+fn a_size_too_great_hides_what_lies_before(rt: HostRuntime) -> Result<(), Fail> {
+    let frame = four_tiles(rt.alloc())?;
+    let (_start, end) = place_of(rt.alloc(), &frame.payload, 2)?;
+    let mut copy = frame.payload.to_vec(rt.alloc())?;
+    if let Some(size) = copy.get_mut(end.wrapping_sub(8)) {
+        *size = 0xFF;
+    }
+    assert!(rt; Chain::new(&copy).end() == ChainEnd::Broken(end));
+    let (_file, printed) = taken(rt.alloc(), &frame, [&copy, &copy])?;
+    let lines = "copy 1 links 1 slices 1 new 1\ncopy 2 links 1 slices 1 new 0\n";
+    assert!(rt; printed.as_slice() == lines.as_bytes());
+    Ok(())
+}

@@ -1,0 +1,65 @@
+//! The two uses that README.md shows, in its words, on a frame of two tiles.
+use ffv1_hold::{FromWrite, Holding, Sink};
+use ffv1_picture::{Decoder, write_raw};
+use std::alloc::Global;
+use std::test::Fail;
+
+/// A gray record of two tiles beside each other.
+const RECORD: [u8; 18] = [
+    0x56, 0x2B, 0x83, 0x32, 0x5C, 0xCD, 0x9B, 0x36, 0x6C, 0xD9, 0xB3, 0x66, 0xC3, 0x60, 0x5A, 0xA3,
+    0x05, 0x73,
+];
+
+/// A frame of two tiles of one sample each.
+const FRAME: [u8; 22] = [
+    0xFD, 0xF6, 0x80, 0, 0, 3, 0, 0x1C, 0x3E, 0xA0, 0x9B, 0x3F, 0x2B, 0x80, 0, 0, 3, 0, 0x56, 0x0F,
+    0xD7, 0x3B,
+];
+
+/// Writes the samples of frames of one recording.
+fn decode_frames<S: Sink>(
+    alloc: Global,
+    record: &[u8],
+    (width, height): (u32, u32),
+    frames: &[&[u8]],
+    samples: &mut S,
+) -> Result<(), Fail> {
+    let decoder = Decoder::new(alloc, record, width, height)?;
+    for payload in frames {
+        let frame = decoder.decode_frame(payload)?;
+        write_raw(&frame, samples)?;
+    }
+    Ok(())
+}
+
+/// The frame of which these are damaged copies.
+fn restore_frame(
+    alloc: Global,
+    record: &[u8],
+    (width, height): (u32, u32),
+    copies: &[&[u8]],
+) -> Result<Vec<u8>, Fail> {
+    let mut holding = Holding::new(alloc, record, width, height)?;
+    for copy in copies {
+        holding.take(copy)?;
+    }
+    Ok(holding.restore()?)
+}
+
+#[test]
+fn frames_are_decoded(rt: HostRuntime) -> Result<(), Fail> {
+    let mut samples = FromWrite::new(Vec::new(rt.alloc()));
+    decode_frames(rt.alloc(), &RECORD, (2, 1), &[&FRAME, &FRAME], &mut samples)?;
+    assert_eq!(rt; samples.into_inner().as_slice(), [0, 0, 0, 0].as_slice());
+    Ok(())
+}
+
+#[test]
+fn a_frame_is_restored(rt: HostRuntime) -> Result<(), Fail> {
+    let (mut left, mut right) = (FRAME, FRAME);
+    left[2] = 0;
+    right[13] = 0;
+    let frame = restore_frame(rt.alloc(), &RECORD, (2, 1), &[&left, &right])?;
+    assert_eq!(rt; frame.as_slice(), FRAME.as_slice());
+    Ok(())
+}

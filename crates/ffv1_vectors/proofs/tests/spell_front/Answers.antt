@@ -1,5 +1,0 @@
-use Rattle.ffv1_range.proofs.TableSteps.{fresh_row-states}
-use Rattle.ffv1_vectors.proofs.tests.spell_front.Goals as goal
-
-pub flag-requires : goal.flag-requires
-flag-requires c = fresh_row-states

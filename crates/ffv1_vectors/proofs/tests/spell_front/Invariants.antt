@@ -1,5 +1,0 @@
-use Rattle.ffv1_range.specs.Decoder.{AreStates}
-use Rattle.ffv1_vectors.proofs.tests.spell_front.Given as goal
-
-abbrev pub invariant-loop-place : goal.invariant-loop-place
-invariant-loop-place l = AreStates l.states

@@ -1,5 +1,0 @@
-use Rattle.ffv1_range.proofs.TableSteps.{fresh_row-states}
-use Rattle.ffv1_vectors.proofs.tests.spell_unsigned.Goals as goal
-
-pub loop-value-init : goal.loop-value-init
-loop-value-init c = fresh_row-states
