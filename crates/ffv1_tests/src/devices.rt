@@ -1,7 +1,7 @@
 //! Devices that are interrupted, fail, or take one byte at a time.
 use ffv1_devices::{
-    FromRead, FromWrite, ThroughWrite, WholeFault, WriteFailed, next_byte, read_full, read_whole,
-    write_field, write_pair,
+    FromRead, FromWrite, Sink, Source, ThroughWrite, WholeFault, WriteFailed, next_byte, read_full,
+    read_whole, write_field, write_pair,
 };
 use std::alloc::Global;
 use std::io;

@@ -3,8 +3,8 @@ use ffv1_bits::passes;
 use ffv1_range::Setup;
 use ffv1_slice::{Chain, ChainEnd, find_slices};
 use ffv1_vectors::{
-    FrameSpec, MakeFault, SuiteCase, SuiteContent, SuiteTables, TileSpec, burst, cut, flip,
-    make_frame, make_record, put_front, suite_case, suite_frame, suite_record, zero,
+    FrameSpec, MakeFault, SUITE_NUMBERS, SuiteCase, SuiteContent, SuiteTables, TileSpec, burst,
+    cut, flip, make_frame, make_record, put_front, suite_case, suite_frame, suite_record, zero,
 };
 use std::alloc::Global;
 use std::test::Fail;

@@ -1,6 +1,7 @@
 //! A holding file byte for byte, devices that fail behind any part of it, and plans.
 use ffv1_hold::{
-    FromRead, FromWrite, HoldFileFault, Holding, Join, Plan, read_hold, run, write_hold,
+    FromRead, FromWrite, HoldFileFault, Holding, Join, Plan, Sink, Source, read_hold, run,
+    write_hold,
 };
 use ffv1_range::SetupFault;
 use std::alloc::Global;

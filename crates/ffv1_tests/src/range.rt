@@ -43,8 +43,7 @@ fn refused(alloc: Global, record: &[u8]) -> Option<SetupFault> {
 
 /// Whether the setup has this grid and these planes, and the tables that FFmpeg writes.
 fn is_recorded(setup: &Setup, across: u32, down: u32, planes: (bool, u32, u32)) -> bool {
-    setup.counts.across == across
-        && setup.counts.down == down
+    (setup.grid().across(), setup.grid().down()) == (across, down)
         && (setup.has_chroma(), setup.shift_h(), setup.shift_v()) == planes
         && (setup.micro(), setup.ec(), setup.intra()) == (4, 1, 1)
         && setup.sets() == 2

@@ -1,4 +1,7 @@
 //! Records and slices made to measure, and what reading them answers.
+ghost use Rattle.std.specs.Prelude.{◌<◌};
+ghost use Rattle.ffv1_range.specs.Decoder.{AreStates};
+
 use crate::parity::with_parity;
 use ffv1_range::{HeadFault, RangeFault, Setup, SetupFault};
 use ffv1_slice::{LinkFault, read_slice};
@@ -321,12 +324,26 @@ fn shifts_of_gray_records_count_as_none(rt: HostRuntime) -> Result<(), Fail> {
     Ok(())
 }
 
+/// Writes one bit at a slot of a row of states.
+fn write_slot(
+    encoder: &mut RangeEncoder,
+    states: &mut [u8; 32],
+    slot: usize,
+    bit: bool,
+) -> Result<(), MakeFault>
+    requires slot { slot < 32 }
+    requires states { AreStates states.old }
+    ensures { AreStates states.new }
+{
+    encoder.bit(&mut states[slot], bit)
+}
+
 /// Writes the front of a symbol that is not 0 and has so many bits below its highest, as far as they are counted.
 fn spell_front(encoder: &mut RangeEncoder, count: usize) -> Result<(), MakeFault> {
     let mut states = [128; 32];
-    encoder.flag(&mut states, false)?;
+    write_slot(encoder, &mut states, 0, false)?;
     for place in 0..count {
-        encoder.slot(&mut states, 1 + place.min(9), true)?;
+        write_slot(encoder, &mut states, 1 + place.min(9), true)?;
     }
     Ok(())
 }
