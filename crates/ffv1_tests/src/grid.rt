@@ -1,8 +1,52 @@
 //! Tiles whose chroma overlaps, or leaves a column to no tile.
+ghost use Rattle.std.specs.Prelude.{◌≡◌};
+ghost use Rattle.ffv1_range.specs.Tiles.{plane_count, grid_of};
+
 use crate::frames::setup_of;
-use ffv1_range::TileRect;
+use ffv1_range::{Setup, TileRect};
 use ffv1_vectors::SuiteTables;
 use std::test::Fail;
+
+/// A rectangle of these columns and rows.
+fn rect(x: u32, y: u32, w: u32, h: u32) -> Option<TileRect> {
+    Some(TileRect { x, y, w, h })
+}
+
+/// How many planes the frames have.
+fn planes(setup: &Setup) -> usize
+    ensures { result ≡ plane_count (grid_of setup.now) }
+{
+    if setup.has_chroma() { 3 } else { 1 }
+}
+
+/// Where a tile lies in luma, if the frames have it.
+fn tile_of(setup: &Setup, tile: usize) -> Option<TileRect> {
+    let grid = setup.grid();
+    if tile < grid.tiles() {
+        Some(grid.tile(tile))
+    } else {
+        None
+    }
+}
+
+/// Where a tile lies in a plane, if the frames have both.
+fn plane_rect_of(setup: &Setup, tile: usize, plane: usize) -> Option<TileRect> {
+    let grid = setup.grid();
+    if tile < grid.tiles() && plane < planes(setup) {
+        Some(grid.plane_rect(tile, plane))
+    } else {
+        None
+    }
+}
+
+/// The size of a plane, if the frames have it.
+fn plane_size_of(setup: &Setup, plane: usize) -> Option<TileRect> {
+    if plane < planes(setup) {
+        Some(setup.grid().plane_size(plane))
+    } else {
+        None
+    }
+}
 
 #[test]
 fn chroma_rectangles_overlap(rt: HostRuntime) -> Result<(), Fail> {
@@ -10,51 +54,11 @@ fn chroma_rectangles_overlap(rt: HostRuntime) -> Result<(), Fail> {
     let setup = setup_of(alloc, SuiteTables::OneRun, Some((1, 1)), (2, 1), (6, 2))?;
     let grid = setup.grid();
     assert_eq!(rt; (grid.across(), grid.down(), grid.tiles()), (2, 1, 2));
-    assert_eq!(rt;
-        grid.tile(0),
-        TileRect {
-            x: 0,
-            y: 0,
-            w: 3,
-            h: 2
-        }
-    );
-    assert_eq!(rt;
-        grid.tile(1),
-        TileRect {
-            x: 3,
-            y: 0,
-            w: 3,
-            h: 2
-        }
-    );
-    assert_eq!(rt;
-        grid.plane_rect(0, 1),
-        TileRect {
-            x: 0,
-            y: 0,
-            w: 2,
-            h: 1
-        }
-    );
-    assert_eq!(rt;
-        grid.plane_rect(1, 2),
-        TileRect {
-            x: 1,
-            y: 0,
-            w: 2,
-            h: 1
-        }
-    );
-    assert_eq!(rt;
-        grid.plane_size(1),
-        TileRect {
-            x: 0,
-            y: 0,
-            w: 3,
-            h: 1
-        }
-    );
+    assert_eq!(rt; tile_of(&setup, 0), rect(0, 0, 3, 2));
+    assert_eq!(rt; tile_of(&setup, 1), rect(3, 0, 3, 2));
+    assert_eq!(rt; plane_rect_of(&setup, 0, 1), rect(0, 0, 2, 1));
+    assert_eq!(rt; plane_rect_of(&setup, 1, 2), rect(1, 0, 2, 1));
+    assert_eq!(rt; plane_size_of(&setup, 1), rect(0, 0, 3, 1));
     Ok(())
 }
 
@@ -62,33 +66,8 @@ fn chroma_rectangles_overlap(rt: HostRuntime) -> Result<(), Fail> {
 fn chroma_column_in_no_tile(rt: HostRuntime) -> Result<(), Fail> {
     let alloc = rt.alloc();
     let setup = setup_of(alloc, SuiteTables::OneRun, Some((1, 1)), (2, 1), (3, 2))?;
-    let grid = setup.grid();
-    assert_eq!(rt;
-        grid.plane_rect(0, 1),
-        TileRect {
-            x: 0,
-            y: 0,
-            w: 1,
-            h: 1
-        }
-    );
-    assert_eq!(rt;
-        grid.plane_rect(1, 1),
-        TileRect {
-            x: 0,
-            y: 0,
-            w: 1,
-            h: 1
-        }
-    );
-    assert_eq!(rt;
-        grid.plane_size(2),
-        TileRect {
-            x: 0,
-            y: 0,
-            w: 2,
-            h: 1
-        }
-    );
+    assert_eq!(rt; plane_rect_of(&setup, 0, 1), rect(0, 0, 1, 1));
+    assert_eq!(rt; plane_rect_of(&setup, 1, 1), rect(0, 0, 1, 1));
+    assert_eq!(rt; plane_size_of(&setup, 2), rect(0, 0, 2, 1));
     Ok(())
 }
