@@ -6,6 +6,8 @@ pub mod JoinSteps
 pub mod JoinLaws
 pub mod Tiles
 pub mod EntrySteps
+pub mod TileParts
+pub mod Pools
 pub mod ContentsSteps
 pub mod Reels
 pub mod Leasts

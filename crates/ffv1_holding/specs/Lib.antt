@@ -4,6 +4,7 @@ pub mod Rising
 pub mod Joins
 pub mod Reels
 pub mod TileSets
+pub mod PoolEntries
 pub mod Contents
 pub mod ContentsLaws
 pub mod HoldingParts

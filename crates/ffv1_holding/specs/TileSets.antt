@@ -1,5 +1,5 @@
 -- Slices kept apart by their tiles.
-use Rattle.std.specs.Prelude.{ℕ, ◌+◌, ◌==◌, List, [], ◌∷◌, ◌++◌, map, filter}
+use Rattle.std.specs.Prelude.{ℕ, ◌==◌, List, map, filter}
 use Rattle.std.specs.List.{flat_map, range_with_len}
 use Rattle.std.proofs.Common.{refl}
 use Rattle.std.specs.Coded.{Coded, code_by, coded×, coded_ℕ}
@@ -26,15 +26,6 @@ tile_entries slices tile = map (λ b. (tile, b)) (set.items (tile_slices slices 
 -- the entries of the tiles below a number
 abbrev pub entries_below : set.SetOf entry_cmp → ℕ → List Entry
 entries_below slices n = flat_map (tile_entries slices) (range_with_len 0 n)
-
--- the entries of the slices of tiles, the first of which is the tile `first`
-abbrev pub entries_from : ℕ → List (set.SetOf bytes_cmp) → List Entry
-entries_from first [] = []
-entries_from first (slices ∷ rest) = map (λ b. (first, b)) (set.items slices) ++ entries_from (first + 1) rest
-
--- all slices of the tiles from tile 0 on
-abbrev pub entries_set : List (set.SetOf bytes_cmp) → set.SetOf entry_cmp
-entries_set tiles = set.from_list (entries_from 0 tiles)
 
 abbrev pub coded_tile_slices : Coded TileSlices
 coded_tile_slices = code_by (ℕ × set.SetOf entry_cmp) (coded× coded_ℕ (set.code coded_entry))

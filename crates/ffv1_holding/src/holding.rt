@@ -6,8 +6,8 @@ ghost use Rattle.ffv1_holding.specs.Contents.{no_slices, IsHolding};
 
 use crate::fault::HoldFault;
 use crate::joins::Join;
+use crate::pool::Pool;
 use crate::reel::Reel;
-use crate::tile_sets::TileSets;
 use ffv1_range::{Setup, SetupFault};
 use std::alloc::{AllocError, Global};
 use std::marker::Model;
@@ -18,7 +18,7 @@ use std::marker::Model;
 #[derive(Drop)]
 pub struct Holding {
     pub(crate) reel: Reel,
-    pub(crate) held: TileSets,
+    pub(crate) held: Pool,
 }
 
 impl Model for Holding {
@@ -61,7 +61,7 @@ impl Holding {
     pub fn of_reel(alloc: Global, reel: Reel) -> Result<Holding, AllocError>
         ensures { IfOk result (λ h. h ≡ no_slices reel) }
     {
-        let held = TileSets::new(alloc, reel.tiles())?;
+        let held = Pool::new(alloc, reel.tiles())?;
         Ok(Holding { reel, held })
     }
 

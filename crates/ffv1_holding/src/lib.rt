@@ -6,12 +6,14 @@ mod fault;
 mod holding;
 mod joins;
 mod laws;
+mod pool;
+mod pool_entry;
 mod reel;
 mod restore;
+mod shelf;
 mod slice_set;
 mod standing;
 mod take;
-mod tile_sets;
 
 pub use fault::HoldFault;
 pub use holding::Holding;

@@ -69,7 +69,7 @@ impl Holding {
         requires { tile < reel_tiles self.now.reel }
         ensures { IsLeastStatus (set.items (tile_slices self.now.slices tile)) result }
     {
-        least_status(self.held.of_tile(tile))
+        least_status(&self.held.of_tile(tile))
     }
 
     /// How a tile stands, by its slices of the least error_status. `tile` must be less than the number of tiles.
@@ -77,7 +77,7 @@ impl Holding {
         requires { tile < reel_tiles self.now.reel }
         ensures { standing_shown result ≡ tile_state self.now tile }
     {
-        state(self.held.of_tile(tile))
+        state(&self.held.of_tile(tile))
     }
 
     /// The settled slices, joined in tile order: the frame's payload.

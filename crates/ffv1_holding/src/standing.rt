@@ -1,11 +1,10 @@
 //! How a tile stands (own): by its best slices, those of the least error_status (RFC 9043, section 4.9.2).
-ghost use Rattle.std.specs.Prelude.{◌≡◌, ℕ, ◌+◌, ◌<◌, ◌≤◌, List, length, slice_index_or};
+ghost use Rattle.std.specs.Prelude.{◌≡◌};
 ghost use Rattle.ffv1_holding.specs.Sets as set;
 ghost use Rattle.ffv1_holding.specs.Standing.{standing_of, IsLeastStatus};
 ghost use Rattle.ffv1_holding.specs.TileStates.{standing_shown};
 
-use crate::slice_set::SliceSet;
-use ffv1_slice::status_of;
+use crate::shelf::Shelf;
 
 /// Which slices of a tile count: those of the least error_status.
 #[derive(Clone, Copy, Debug)]
@@ -19,13 +18,12 @@ pub enum TileState<'a> {
 }
 
 /// The least error_status of slices.
-pub(crate) fn least_status(slices: &SliceSet) -> Option<u8>
-    requires { (i : ℕ) (d : List ℕ) → i < set.size slices.now → 8 ≤ length (slice_index_or (set.items slices.now) i d) }
+pub(crate) fn least_status(slices: &Shelf<'_>) -> Option<u8>
     ensures { IsLeastStatus (set.items slices.now) result }
 {
     let mut least = None;
     for place in 0..slices.len() {
-        let here = status_of(slices.get(place));
+        let here = slices.status(place);
         least = match least {
             Some(before) if before <= here => Some(before),
             _ => Some(here),
@@ -35,8 +33,7 @@ pub(crate) fn least_status(slices: &SliceSet) -> Option<u8>
 }
 
 /// How the tile of these slices stands.
-pub(crate) fn state(slices: &SliceSet) -> TileState<'_>
-    requires { (i : ℕ) (d : List ℕ) → i < set.size slices.now → 8 ≤ length (slice_index_or (set.items slices.now) i d) }
+pub(crate) fn state<'a>(slices: &Shelf<'a>) -> TileState<'a>
     ensures { standing_shown result ≡ standing_of (set.items slices.now) }
 {
     let Some(least) = least_status(slices) else {
@@ -45,7 +42,7 @@ pub(crate) fn state(slices: &SliceSet) -> TileState<'_>
     let mut found = TileState::Missing;
     for place in 0..slices.len() {
         let slice = slices.get(place);
-        if status_of(slice) == least {
+        if slices.status(place) == least {
             found = match found {
                 TileState::Missing => TileState::Settled(slice),
                 TileState::Settled(_) => TileState::Disputed(2),

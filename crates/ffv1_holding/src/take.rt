@@ -10,7 +10,7 @@ ghost use Rattle.ffv1_holding.specs.TakeFaults.{IsTakeFault, AreShort};
 
 use crate::fault::HoldFault;
 use crate::holding::Holding;
-use crate::tile_sets::TileSets;
+use crate::pool::Pool;
 use ffv1_bits::PAYLOAD_LIMIT;
 use ffv1_range::Setup;
 use ffv1_slice::{Chain, Link, slice_of};
@@ -96,11 +96,7 @@ impl Holding {
 
 /// Adds the slices that are found in a copy, and answers how many links it has, and how many of them are slices. After a
 /// refusal some of the slices were added.
-fn insert_found(
-    setup: &Setup,
-    payload: &[u8],
-    held: &mut TileSets,
-) -> Result<(usize, usize), HoldFault>
+fn insert_found(setup: &Setup, payload: &[u8], held: &mut Pool) -> Result<(usize, usize), HoldFault>
     requires short { length payload.now ≤ payload_limit }
     requires tiles { held.old.tiles ≡ setup.now.across * setup.now.down }
     requires slices { AreEntriesOf setup.now held.old.slices }

@@ -1,6 +1,5 @@
-use Rattle.std.proofs.Common.{◌<◌, ◌+◌, length, sym, ap, ◌∙◌, subst, arith}
+use Rattle.std.proofs.Common.{ℕ, List, [], ◌<◌, ◌+◌, length, sym, subst, arith}
 use Rattle.ffv1_holding.specs.Sets as set
-use Rattle.ffv1_holding.specs.Standing.{status_of}
 use Rattle.ffv1_holding.proofs.RisingSets.{size-items}
 use Rattle.ffv1_holding.proofs.Leasts.{LeastOf, least_kept, least_replaced, least_first, ended}
 use Rattle.ffv1_holding.proofs.standing.least_status.Goals as goal
@@ -10,17 +9,17 @@ pub loop-place-preserved : goal.loop-place-preserved
 loop-place-preserved c =
     let slices = set.items c.args.slices.now in
     let i = c.loop-place.place in
-    let slice = c.get.result.now in
+    let slice : List ℕ = [] in
     let lt : i < length slices = omega (arith, c.loop-place-test.true, c.len-place-end.ensures, size-items c.args.slices.now) in
-    let here = c.status_of-here.ensures ∙ ap status_of c.get.ensures in
+    let here = c.status-here.ensures [] in
     elim c.match-least.branch [
       | in-Some w ↦ subst (LeastOf slices (i + 1)) (sym w.least-is) (least_kept slices i slice lt w.in-Some.before
           (subst (LeastOf slices i) w.in-Some.is c.loop-place.invariant) (omega (arith, here, w.if-before-here.true)))
       | in_default-2 w ↦ subst (LeastOf slices (i + 1)) (sym w.least-is)
-          (least_replaced slices i slice lt w.in-Some.before c.status_of-here.result
+          (least_replaced slices i slice lt w.in-Some.before c.status-here.result
           (subst (LeastOf slices i) w.in-Some.is c.loop-place.invariant) w.if-before-here.false here)
       | in_default w ↦ subst (LeastOf slices (i + 1)) (sym w.least-is)
-          (least_first slices i slice lt c.status_of-here.result (subst (LeastOf slices i) w.in_default.is c.loop-place.invariant) here)
+          (least_first slices i slice lt c.status-here.result (subst (LeastOf slices i) w.in_default.is c.loop-place.invariant) here)
     ]
 
 pub returns : goal.returns

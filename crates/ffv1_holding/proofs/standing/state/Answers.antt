@@ -9,7 +9,7 @@ use Rattle.ffv1_holding.specs.declared.standing.TileState.{TileState}
 use Rattle.ffv1_holding.proofs.RisingSets.{size-items}
 use Rattle.ffv1_holding.proofs.Standings.{standing_none, passed_best, passed_other, few_disputed, filter-best, one_more}
 use Rattle.ffv1_holding.proofs.standing.state.Goals as goal
-use Rattle.ffv1_holding.proofs.standing.state.Goals.{then-status_of-least+in-Missing, then-status_of-least+in-Settled, then-status_of-least+in-Disputed, else-status_of-least}
+use Rattle.ffv1_holding.proofs.standing.state.Goals.{then-status-least+in-Missing, then-status-least+in-Settled, then-status-least+in-Disputed, else-status-least}
 
 pub returns-in_default : goal.returns-in_default
 returns-in_default c = standing_none (set.items c.args.slices.now) (ap length c.in_default.ensures)
@@ -28,17 +28,17 @@ loop-place-preserved c =
     let i = c.loop-place.place in
     let slice = c.get-slice.result.now in
     let lt : i < length slices = omega (arith, c.loop-place-test.true, c.len-place-end.ensures, size-items c.args.slices.now) in
-    let here = c.status_of.ensures ∙ ap status_of c.get-slice.ensures in
+    let here = c.status.ensures slice in
     let next = λ (f : TileState). one_more (standing_shown f) (get_or slices i slice) in
-    elim c.if-status_of-least.branch [
-      | then-status_of-least+in-Missing w ↦ passed_best c.in-Some.least slices i slice lt _ _ c.loop-place.invariant (sym here ∙ w.if-status_of-least.true)
+    elim c.if-status-least.branch [
+      | then-status-least+in-Missing w ↦ passed_best c.in-Some.least slices i slice lt _ _ c.loop-place.invariant (sym here ∙ w.if-status-least.true)
           (ap standing_shown w.found-is ∙ ap settled c.get-slice.ensures ∙ ap next (sym w.in-Missing.is))
-      | then-status_of-least+in-Settled w ↦ passed_best c.in-Some.least slices i slice lt _ _ c.loop-place.invariant (sym here ∙ w.if-status_of-least.true)
+      | then-status-least+in-Settled w ↦ passed_best c.in-Some.least slices i slice lt _ _ c.loop-place.invariant (sym here ∙ w.if-status-least.true)
           (ap standing_shown w.found-is ∙ ap next (sym w.in-Settled.is))
-      | then-status_of-least+in-Disputed w ↦ passed_best c.in-Some.least slices i slice lt _ _ c.loop-place.invariant (sym here ∙ w.if-status_of-least.true)
+      | then-status-least+in-Disputed w ↦ passed_best c.in-Some.least slices i slice lt _ _ c.loop-place.invariant (sym here ∙ w.if-status-least.true)
           (ap standing_shown w.found-is ∙ ap next (sym w.in-Disputed.is))
-      | else-status_of-least w ↦ ap standing_shown w.found-is ∙ passed_other c.in-Some.least slices i slice lt _ c.loop-place.invariant
-          (ne_eqb _ _ (λ e. w.if-status_of-least.false (here ∙ e)))
+      | else-status-least w ↦ ap standing_shown w.found-is ∙ passed_other c.in-Some.least slices i slice lt _ c.loop-place.invariant
+          (ne_eqb _ _ (λ e. w.if-status-least.false (here ∙ e)))
     ]
 
 pub returns : goal.returns

@@ -1,15 +1,15 @@
-use Rattle.std.proofs.Common.{◌*◌, ◌≤◌, ◌==◌, ◌++◌, ◌∷◌, [], ℕ, List, length, refl, sym, ap, ◌∙◌, subst}
+use Rattle.std.proofs.Common.{◌*◌, ◌≤◌, ◌++◌, ◌∷◌, [], ℕ, List, length, refl, sym, ap, ◌∙◌, subst}
 use Rattle.std.specs.List.{filter_map}
 use Rattle.ffv1_bits.specs.Limits.{slice_limit}
 use Rattle.ffv1_slice.specs.Slices.{slice_at}
 use Rattle.ffv1_slice.specs.Walk.{links_of}
-use Rattle.ffv1_slice.proofs.SliceFacts.{slice_in_grid, found_slices-links}
+use Rattle.ffv1_slice.proofs.SliceFacts.{found_slices-links}
 use Rattle.ffv1_holding.specs.Sets as set
 use Rattle.ffv1_holding.specs.SliceOrder.{entries_total, entries_antisymmetric}
 use Rattle.ffv1_holding.specs.TileSets.{TileSlices}
 use Rattle.ffv1_holding.specs.Contents.{IsEntryOf, AreEntriesOf}
 use Rattle.ffv1_holding.proofs.EntrySteps.{all-insert}
-use Rattle.ffv1_holding.proofs.Found.{passed_more, found_more, none_more, entry_of_link, union_more, links_fit, slices_fit, length-more, tile_in_range, all_passed}
+use Rattle.ffv1_holding.proofs.Found.{passed_more, found_more, none_more, entry_of_link, union_more, links_fit, slices_fit, length-more, all_passed}
 use Rattle.ffv1_holding.proofs.take.insert_found.Goals as goal
 
 pub loop-link-init : goal.loop-link-init
@@ -31,9 +31,7 @@ overflow_add-links c =
     (subst (λ xs. 8 * length xs ≤ length c.args.payload.now) c.new-chain.ensures.value c.new-chain.ensures.few) c.requires.short inv.links
 
 pub insert-requires : goal.insert-requires
-insert-requires c = tile_in_range c.in-Ok.tile (c.args.setup.now.across * c.args.setup.now.down) c.loop-link.held.tiles c.args.held.now.tiles
-    (slice_in_grid c.args.setup.now c.in-Some.link.bytes (c.in-Some.link.start == 0) c.in-Ok.tile c.in-Ok.ensures.found) c.loop-link.invariant.tiles
-    c.requires.tiles
+insert-requires c = c.bytes.ensures.framed
 
 pub overflow_add-slices : goal.overflow_add-slices
 overflow_add-slices c =

@@ -1,0 +1,35 @@
+//! Where a held slice lies (own).
+ghost use Rattle.std.specs.Prelude.{◌≡◌};
+ghost use Rattle.ffv1_holding.specs.SliceOrder.{entry_cmp};
+ghost use Rattle.ffv1_holding.specs.PoolEntries.{slice_in, entry_in};
+
+use std::cmp::Ordering;
+
+/// A slice of a tile by its place in the bytes that it lies in, with its error_status (RFC 9043, section 4.9.2).
+#[derive(Clone, Copy, Debug)]
+pub(crate) struct PoolEntry {
+    pub(crate) tile: usize,
+    pub(crate) start: usize,
+    pub(crate) length: usize,
+    pub(crate) status: u8,
+}
+
+impl PoolEntry {
+    /// The slice, of the bytes that it lies in.
+    pub(crate) fn slice<'a>(&self, bytes: &'a [u8]) -> &'a [u8]
+        ensures { result.now ≡ slice_in bytes.now self.now }
+    {
+        let rest = &bytes[self.start.min(bytes.len())..];
+        &rest[..self.length.min(rest.len())]
+    }
+
+    /// How it stands to a slice of a tile: by tile, then by bytes.
+    pub(crate) fn compare(&self, bytes: &[u8], tile: usize, slice: &[u8]) -> Ordering
+        ensures { result ≡ entry_cmp (entry_in bytes.now self.now) (tile, slice.now) }
+    {
+        match self.tile.cmp(&tile) {
+            Ordering::Equal => self.slice(bytes).cmp(slice),
+            apart => apart,
+        }
+    }
+}
