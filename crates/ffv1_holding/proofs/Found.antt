@@ -1,5 +1,5 @@
 -- One link more is looked at.
-use Rattle.std.proofs.Common.{◌≡◌, ℕ, ◌+◌, ◌*◌, ◌<◌, ◌≤◌, ◌==◌, List, [], ◌∷◌, ◌++◌, length, Option, Some, None, Fits, w64, sym, ap, ◌∙◌, subst, arith, append_assoc, length-append}
+use Rattle.std.proofs.Common.{◌≡◌, ℕ, ◌+◌, ◌*◌, ◌<◌, ◌≤◌, ◌==◌, List, [], ◌∷◌, ◌++◌, length, Fits, w64, sym, ap, ◌∙◌, subst, arith, append_assoc, length-append}
 use Rattle.std.specs.List.{filter_map, cons_option}
 use Rattle.std.proofs.lemmas.List.Elements.{filter_map-append}
 use Rattle.std.proofs.lemmas.List.{append-nil}
@@ -9,15 +9,7 @@ use Rattle.ffv1_slice.specs.Chain.{Piece}
 use Rattle.ffv1_slice.specs.Slices.{IsSliceOf}
 use Rattle.ffv1_slice.specs.Slices.{slice_at}
 use Rattle.ffv1_slice.proofs.SliceFacts.{slice_at-found, slice_at-none, slice_first}
-use Rattle.ffv1_holding.specs.Sets as set
-use Rattle.ffv1_holding.specs.SliceOrder.{Entry, entry_cmp, entries_total, entries_antisymmetric}
 use Rattle.ffv1_holding.specs.Contents.{IsEntryOf}
-
-length-filter_map-le : {X Y : Type 0} (f : X → Option Y) (xs : List X) → length (filter_map f xs) ≤ length xs
-length-filter_map-le f [] = omega arith
-length-filter_map-le f (x ∷ xs) =
-    let rest = length-filter_map-le f xs in
-    elim (f x) as (λ o. length (cons_option o (filter_map f xs)) ≤ length (x ∷ xs)) [ None ↦ omega arith | Some y ↦ omega arith ]
 
 module _ (setup : SetupValue) (passed : List Piece) (link : Piece) (rest all : List Piece) (whole : passed ++ link ∷ rest ≡ all) where
   -- it is passed
@@ -27,9 +19,6 @@ module _ (setup : SetupValue) (passed : List Piece) (link : Piece) (rest all : L
   -- and was not counted before
   pub few_passed : length passed < length all
   few_passed = omega (arith, ap length whole, length-append passed (link ∷ rest))
-
-  pub few_slices : length (filter_map (slice_at setup) passed) < length all
-  few_slices = let few = length-filter_map-le (slice_at setup) passed in omega (arith, few_passed)
 
 module _ (setup : SetupValue) (passed : List Piece) (link : Piece) where
   one_more : filter_map (slice_at setup) (passed ++ link ∷ []) ≡ filter_map (slice_at setup) passed ++ cons_option (slice_at setup link) []
@@ -53,27 +42,14 @@ entry_of_link setup link tile is short = record {
   fits = short;
 }
 
--- the entries with one more among them
-pub union_more : (old now next : set.SetOf entry_cmp) (es more : List Entry) (e : Entry) → now ≡ set.union old (set.from_list es) → next ≡ set.insert now e
-    → more ≡ es ++ e ∷ [] → next ≡ set.union old (set.from_list more)
-union_more old now next es more e is step longer =
-    step ∙ ap (λ s. set.insert s e) is ∙ sym (set.union-push entries_total entries_antisymmetric old es e)
-    ∙ ap (λ xs. set.union old (set.from_list xs)) (sym longer)
-
 -- counts of links fit in a `usize`, since a payload's length does
 module _ (setup : SetupValue) (passed : List Piece) (link : Piece) (rest all : List Piece) (payload : List ℕ) (count : ℕ)
     (whole : passed ++ link ∷ rest ≡ all) (few : 8 * length all ≤ length payload) (short : length payload ≤ payload_limit) where
   pub links_fit : count ≡ length passed → Fits w64 (count + 1)
   links_fit is = omega (arith, few_passed setup passed link rest all whole)
 
-  pub slices_fit : count ≡ length (filter_map (slice_at setup) passed) → Fits w64 (count + 1)
-  slices_fit is = omega (arith, few_slices setup passed link rest all whole)
-
 pub length-more : {X : Type 0} (n : ℕ) (xs more : List X) (x : X) → n ≡ length xs → more ≡ xs ++ x ∷ [] → n + 1 ≡ length more
 length-more n xs more x is longer = omega (arith, ap length longer, length-append xs (x ∷ []))
-
-pub tile_in_range : (tile tiles now held : ℕ) → tile < tiles → now ≡ held → held ≡ tiles → tile < now
-tile_in_range tile tiles now held lt same is = omega arith
 
 -- in the end each link was passed
 pub all_passed : (yielded left all : List Piece) → left ≡ [] → yielded ++ left ≡ all → yielded ≡ all

@@ -8,6 +8,13 @@ pub mod Tiles
 pub mod EntrySteps
 pub mod TileParts
 pub mod Pools
+pub mod Insertions
+pub mod FreshSteps
+pub mod Merges
+pub mod Moves
+pub mod PoolGrowth
+pub mod Staging
+pub mod Listing
 pub mod ContentsSteps
 pub mod Reels
 pub mod Leasts

@@ -26,12 +26,12 @@ each-insert P xs place x le each here i d lt =
     ]
 
 module _ (bytes more : List ℕ) where
-  part_kept : (start long : ℕ) → start + long ≤ length bytes → take long (drop start (bytes ++ more)) ≡ take long (drop start bytes)
+  pub part_kept : (start long : ℕ) → start + long ≤ length bytes → take long (drop start (bytes ++ more)) ≡ take long (drop start bytes)
   part_kept start long le =
       ap (take long) (drop-append-le start bytes more (omega arith))
       ∙ take-append-le long (drop start bytes) more (omega (arith, length-drop start bytes))
 
-  entry_kept : (e : PoolEntry) → IsEntryIn bytes e → IsEntryIn (bytes ++ more) e
+  pub entry_kept : (e : PoolEntry) → IsEntryIn bytes e → IsEntryIn (bytes ++ more) e
   entry_kept e is =
       let same = part_kept e.start e.length is.within in
       record {

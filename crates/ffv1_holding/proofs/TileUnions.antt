@@ -1,5 +1,5 @@
--- A copy of what is held, with other slices added.
-use Rattle.std.proofs.Common.{◌≡◌, ◌≤◌, ap, ◌∙◌}
+-- What is held, with other slices added.
+use Rattle.std.proofs.Common.{◌≡◌, ◌≤◌, ap}
 use Rattle.ffv1_holding.specs.Sets as set
 use Rattle.ffv1_holding.specs.SliceOrder.{entry_cmp, entries_total, entries_antisymmetric}
 use Rattle.ffv1_holding.specs.TileSets.{TileSlices}
@@ -9,12 +9,12 @@ use Rattle.ffv1_holding.proofs.RisingSets.{size_union}
 abbrev pub with_more : TileSlices → set.SetOf entry_cmp → TileSlices
 with_more h s = record { tiles = h.tiles; slices = set.union h.slices s }
 
-module _ (old copy new : TileSlices) (s : set.SetOf entry_cmp) (copied : copy ≡ old) (added : new ≡ with_more copy s) where
+module _ (old new : TileSlices) (s : set.SetOf entry_cmp) (added : new ≡ with_more old s) where
   pub tiles-grown : new.tiles ≡ old.tiles
-  tiles-grown = ap (λ (h : TileSlices). h.tiles) added ∙ ap (λ (h : TileSlices). h.tiles) copied
+  tiles-grown = ap (λ (h : TileSlices). h.tiles) added
 
   pub slices-grown : new.slices ≡ set.union old.slices s
-  slices-grown = ap (λ (h : TileSlices). h.slices) added ∙ ap (λ (h : TileSlices). set.union h.slices s) copied
+  slices-grown = ap (λ (h : TileSlices). h.slices) added
 
   pub size_grown : set.size old.slices ≤ set.size new.slices
   size_grown = rw (ap set.size slices-grown) (size_union entries_total entries_antisymmetric old.slices s)

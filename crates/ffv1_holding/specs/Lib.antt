@@ -5,6 +5,7 @@ pub mod Joins
 pub mod Reels
 pub mod TileSets
 pub mod PoolEntries
+pub mod Fresh
 pub mod Contents
 pub mod ContentsLaws
 pub mod HoldingParts

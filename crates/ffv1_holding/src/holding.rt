@@ -97,11 +97,9 @@ impl Join for Holding {
         if !self.reel.is_same(&other.reel) {
             return Err(HoldFault::OtherReel);
         }
-        let mut held = self.held.copied()?;
-        held.insert_all(&other.held)?;
-        let new = held.size() - self.held.size();
-        self.held = held;
-        Ok(new)
+        let before = self.held.size();
+        self.held.join(&other.held)?;
+        Ok(self.held.size() - before)
     }
 
     ghost commutes = { joined_comm };

@@ -3,6 +3,7 @@
 #![tactic(auto)]
 
 mod fault;
+mod fresh;
 mod holding;
 mod joins;
 mod laws;

@@ -6,9 +6,10 @@ ghost use Rattle.ffv1_holding.specs.Sets as set;
 ghost use Rattle.ffv1_holding.specs.SliceOrder.{entry_cmp};
 ghost use Rattle.ffv1_holding.specs.Rising.{IsRising, IsPlaceOf, IsGapFor};
 ghost use Rattle.ffv1_holding.specs.TileSets.{with_entry, tile_slices};
-ghost use Rattle.ffv1_holding.specs.PoolEntries.{entry_in, IsTilePart};
+ghost use Rattle.ffv1_holding.specs.PoolEntries.{entry_in, IsPool, IsTilePart};
 
 use crate::fault::HoldFault;
+use crate::fresh::{fresh_among, move_slices, place_of, room_of, spread};
 use crate::pool_entry::PoolEntry;
 use crate::shelf::Shelf;
 use ffv1_slice::status_of;
@@ -80,19 +81,6 @@ impl Pool {
         Shelf::new(&self.bytes, &self.entries[start..end])
     }
 
-    /// The same slices in memory of their own.
-    pub(crate) fn copied(&self) -> Result<Pool, HoldFault>
-        ensures ok { IfOk result (λ copy. copy ≡ self.now) }
-        ensures memory { OnErr result (result ≡ Err HoldFault.Memory) }
-    {
-        Ok(Pool {
-            tiles: self.tiles,
-            bytes: Vec::from_slice(self.alloc, &self.bytes)?,
-            entries: Vec::from_slice(self.alloc, &self.entries)?,
-            alloc: self.alloc,
-        })
-    }
-
     /// Adds a slice of a tile.
     pub(crate) fn insert(&mut self, tile: usize, slice: &[u8]) -> Result<(), HoldFault>
         requires { IsFramed slice.now }
@@ -116,15 +104,36 @@ impl Pool {
         Ok(())
     }
 
-    /// Adds the slices of another. After a refusal it has added some of them.
-    pub(crate) fn insert_all(&mut self, other: &Pool) -> Result<(), HoldFault>
+    /// Adds the slices of entries that lie in other bytes. What is new is found first, then room is made for it, and then
+    /// its slices are put behind the others and its entries among the others.
+    pub(crate) fn insert_all(
+        &mut self,
+        bytes: &[u8],
+        entries: &[PoolEntry],
+    ) -> Result<(), HoldFault>
+        requires { IsPool bytes.now entries.now }
+        ensures ok { OnOk result (self.new ≡ record self.old { slices = set.union self.old.slices (set.from_list (map (entry_in bytes.now) entries.now)) }) }
+        ensures memory { OnErr result (result ≡ Err HoldFault.Memory) }
+        ensures err { OnErr result (self.new ≡ self.old) }
+    {
+        let mut fresh = fresh_among(self.alloc, &self.bytes, &self.entries, bytes, entries)?;
+        let Some(room) = room_of(&fresh) else {
+            return Err(HoldFault::Memory);
+        };
+        self.bytes.reserve(room)?;
+        self.entries.reserve(fresh.len())?;
+        move_slices(bytes, &mut self.bytes, &mut fresh);
+        spread(&mut self.entries, &fresh);
+        Ok(())
+    }
+
+    /// Adds the slices of another.
+    pub(crate) fn join(&mut self, other: &Pool) -> Result<(), HoldFault>
         ensures ok { OnOk result (self.new ≡ record self.old { slices = set.union self.old.slices other.now.slices }) }
         ensures memory { OnErr result (result ≡ Err HoldFault.Memory) }
+        ensures err { OnErr result (self.new ≡ self.old) }
     {
-        for entry in &other.entries {
-            self.insert(entry.tile, entry.slice(&other.bytes))?;
-        }
-        Ok(())
+        self.insert_all(&other.bytes, &other.entries)
     }
 }
 
@@ -136,13 +145,4 @@ fn tile_part(entries: &[PoolEntry], tile: usize) -> (usize, usize)
     let start = entries.partition_point(|entry| entry.tile < tile);
     let end = entries.partition_point(|entry| entry.tile <= tile);
     (start, end)
-}
-
-/// Where the entry of a slice is, or where it would go.
-fn place_of(bytes: &[u8], entries: &[PoolEntry], tile: usize, slice: &[u8]) -> Result<usize, usize>
-    requires { IsRising entry_cmp (map (entry_in bytes.now) entries.now) }
-    ensures found { IfOk result (IsPlaceOf (map (entry_in bytes.now) entries.now) (tile, slice.now)) }
-    ensures absent { IfErr result (IsGapFor entry_cmp (map (entry_in bytes.now) entries.now) (tile, slice.now)) }
-{
-    entries.binary_search_by(|held| held.compare(bytes, tile, slice))
 }

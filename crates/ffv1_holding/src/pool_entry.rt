@@ -6,7 +6,7 @@ ghost use Rattle.ffv1_holding.specs.PoolEntries.{slice_in, entry_in};
 use std::cmp::Ordering;
 
 /// A slice of a tile by its place in the bytes that it lies in, with its error_status (RFC 9043, section 4.9.2).
-#[derive(Clone, Copy, Debug)]
+#[derive(Clone, Copy, Debug, Default)]
 pub(crate) struct PoolEntry {
     pub(crate) tile: usize,
     pub(crate) start: usize,

@@ -6,14 +6,17 @@ ghost use Rattle.ffv1_slice.specs.Walk.{links_of};
 ghost use Rattle.ffv1_slice.specs.Slices.{found_slices};
 ghost use Rattle.ffv1_holding.specs.Sets as set;
 ghost use Rattle.ffv1_holding.specs.Contents.{with_found, with_copies, IsEntryOf, AreEntriesOf};
+ghost use Rattle.ffv1_holding.specs.SliceOrder.{entry_cmp};
+ghost use Rattle.ffv1_holding.specs.PoolEntries.{entry_in, AreEntriesIn, IsPool};
 ghost use Rattle.ffv1_holding.specs.TakeFaults.{IsTakeFault, AreShort};
 
 use crate::fault::HoldFault;
 use crate::holding::Holding;
-use crate::pool::Pool;
+use crate::pool_entry::PoolEntry;
 use ffv1_bits::PAYLOAD_LIMIT;
 use ffv1_range::Setup;
 use ffv1_slice::{Chain, Link, slice_of};
+use std::alloc::AllocError;
 
 /// What taking one copy came to.
 #[derive(Clone, Copy, Debug, PartialEq, Eq)]
@@ -53,10 +56,13 @@ impl Holding {
         if payload.len() > PAYLOAD_LIMIT {
             return Err(HoldFault::PayloadTooLong);
         }
-        let mut held = self.held.copied()?;
-        let (links, slices) = insert_found(self.reel.setup(), payload, &mut held)?;
-        let new = held.size() - self.held.size();
-        self.held = held;
+        let mut found = Vec::new(self.held.alloc());
+        let links = list_found(self.reel.setup(), payload, &mut found)?;
+        let slices = found.len();
+        put_in_order(payload, &mut found)?;
+        let before = self.held.size();
+        self.held.insert_all(payload, &found)?;
+        let new = self.held.size() - before;
         Ok(Taken { links, slices, new })
     }
 
@@ -94,29 +100,41 @@ impl Holding {
     }
 }
 
-/// Adds the slices that are found in a copy, and answers how many links it has, and how many of them are slices. After a
-/// refusal some of the slices were added.
-fn insert_found(setup: &Setup, payload: &[u8], held: &mut Pool) -> Result<(usize, usize), HoldFault>
+/// Lists the slices that are found in a copy, from its end, behind no others, and answers how many links it has.
+fn list_found(setup: &Setup, payload: &[u8], found: &mut Vec<PoolEntry>) -> Result<usize, HoldFault>
     requires short { length payload.now ≤ payload_limit }
-    requires tiles { held.old.tiles ≡ setup.now.across * setup.now.down }
-    requires slices { AreEntriesOf setup.now held.old.slices }
-    ensures ok { OnOk result (held.new ≡ record held.old { slices = set.union held.old.slices (set.from_list (found_slices setup.now payload.now)) }) }
-    ensures kept { OnOk result (AreEntriesOf setup.now held.new.slices) }
-    ensures links { IfOk result (λ counts. counts.0 ≡ length (links_of payload.now)) }
-    ensures slices { IfOk result (λ counts. counts.1 ≡ length (found_slices setup.now payload.now)) }
+    requires none { found.old.items ≡ [] }
+    ensures found { OnOk result (map (entry_in payload.now) found.new.items ≡ found_slices setup.now payload.now) }
+    ensures lie { OnOk result (AreEntriesIn payload.now found.new.items) }
+    ensures sound { OnOk result (AreEntriesOf setup.now (set.from_list (found_slices setup.now payload.now))) }
+    ensures links { IfOk result (λ links. links ≡ length (links_of payload.now)) }
     ensures memory { OnErr result (result ≡ Err HoldFault.Memory) }
 {
     let mut links = 0;
-    let mut slices = 0;
     let mut chain = Chain::new(payload);
     while let Some(link) = next_link(&mut chain) {
         links += 1;
         if let Ok(tile) = slice_of(setup, &link) {
-            held.insert(tile, link.bytes())?;
-            slices += 1;
+            found.push(PoolEntry {
+                tile,
+                start: link.start(),
+                length: link.bytes().len(),
+                status: link.status(),
+            })?;
         }
     }
-    Ok((links, slices))
+    Ok(links)
+}
+
+/// Puts entries that lie in `bytes` into their order, each slice once. After a refusal they stand as they stood.
+fn put_in_order(bytes: &[u8], entries: &mut Vec<PoolEntry>) -> Result<(), AllocError>
+    requires { AreEntriesIn bytes.now entries.old.items }
+    ensures ok { OnOk result (IsPool bytes.now entries.new.items) }
+    ensures same { OnOk result (set.from_list {R = entry_cmp} (map (entry_in bytes.now) entries.new.items) ≡ set.from_list (map (entry_in bytes.now) entries.old.items)) }
+{
+    entries.sort_by(|one, other| one.compare(bytes, other.tile, other.slice(bytes)))?;
+    entries.dedup_by(|next, last| { next.compare(bytes, last.tile, last.slice(bytes)).is_eq() });
+    Ok(())
 }
 
 /// The next link of a chain, from the payload's end.

@@ -1,50 +1,69 @@
-use Rattle.std.proofs.Common.{◌≡◌, ◌<◌, ℕ, List, length, map, take, get_or, refl, sym, ap, ◌∙◌, arith, ◌++◌, ◌∷◌, []}
-use Rattle.std.proofs.lemmas.List.{take_all}
+use Rattle.std.proofs.Common.{◌≡◌, ℕ, List, map, ap, ◌∙◌, subst, arith}
 use Rattle.ffv1_holding.specs.Sets as set
-use Rattle.ffv1_holding.specs.SliceOrder.{Entry, entry_cmp, entries_total, entries_antisymmetric}
+use Rattle.ffv1_holding.specs.SliceOrder.{Entry, entry_cmp}
 use Rattle.ffv1_holding.specs.TileSets.{TileSlices}
-use Rattle.ffv1_holding.specs.PoolEntries.{slice_in, entry_in}
-use Rattle.ffv1_holding.proofs.Lists.{map-take_more}
+use Rattle.ffv1_holding.specs.PoolEntries.{entry_in}
+use Rattle.ffv1_holding.specs.Fresh.{fresh_in, AreFresh, AreMoved, AreAllFresh, with_fresh}
+use Rattle.ffv1_holding.specs.declared.fresh.Fresh.{Fresh}
+use Rattle.ffv1_holding.proofs.PoolGrowth.{take-written, places_within, places_in_order, pool_grown, view_grown}
 use Rattle.ffv1_holding.proofs.pool.Pool.insert_all.Goals as goal
 
-pub loop-entry-init : goal.loop-entry-init
-loop-entry-init c = record { tiles = refl; added = sym (set.union_empty entries_total entries_antisymmetric c.args.self.now.slices) }
+fresh_before : (c : goal.After-deref-4) → AreFresh (map (entry_in c.self.inside.bytes.items) c.self.inside.entries.items) c.args.bytes.now c.in_ok-fresh.fresh.items
+fresh_before c = subst (λ (held : List Entry). AreFresh held c.args.bytes.now c.in_ok-fresh.fresh.items)
+    (λ i. map (entry_in (c.deref.ensures.value i)) (c.deref-2.ensures.value i)) c.in_ok-fresh.ensures.fresh
 
-pub insert-requires : goal.insert-requires
-insert-requires c =
-    let es = c.other.inside.entries.items in
-    let lt : c.loop-entry.entry-index < length es = omega (arith, c.loop-entry-test.true, ap length c.deref-entry-items.ensures.value) in
-    rw (c.slice.ensures, c.deref.ensures.value, c.deref-entry-items.ensures.value)
-    (c.other.invariant.each c.loop-entry.entry-index (record { tile = 0; start = 0; length = 0; status = 0 }) lt).framed
+moved_before : (c : goal.After-deref-4) → AreMoved c.args.bytes.now c.self.inside.bytes.items c.move_slices.new.bytes.items c.in_ok-fresh.fresh.items c.move_slices.new.fresh
+moved_before c = subst (λ (b : List ℕ). AreMoved c.args.bytes.now b c.move_slices.new.bytes.items c.in_ok-fresh.fresh.items c.move_slices.new.fresh)
+    c.reserve.ensures.items
+    (subst (λ (old : List Fresh). AreMoved c.args.bytes.now c.reserve.new.self.items c.move_slices.new.bytes.items old c.move_slices.new.fresh)
+    c.deref_mut.ensures.value c.move_slices.ensures)
 
-pub loop-entry-preserved : goal.loop-entry-preserved
-loop-entry-preserved c =
-    let es = c.deref-entry-items.result.now in
-    let view = entry_in c.other.inside.bytes.items in
-    let i = c.loop-entry.entry-index in
-    let old = c.args.self.now.slices in
-    let grown = c.in_ok-insert.ensures.ok in
-    let e = get_or es i (record { tile = 0; start = 0; length = 0; status = 0 }) in
-    let passed = map view (take i es) in
-    let key : c.slice.result.now ≡ slice_in c.other.inside.bytes.items e = c.slice.ensures ∙ ap (λ b. slice_in b e) c.deref.ensures.value in
-    let entry = λ (b : List ℕ). let x : Entry = (e.tile, b) in x in
-    record {
-      tiles = ap (λ (h : TileSlices). h.tiles) grown ∙ c.loop-entry.invariant.tiles;
-      added =
-          ap (λ (h : TileSlices). h.slices) grown ∙ ap (λ s. set.insert s (entry c.slice.result.now)) c.loop-entry.invariant.added
-          ∙ sym (set.union-push entries_total entries_antisymmetric old passed (entry c.slice.result.now))
-          ∙ ap (λ b. set.union old (set.from_list (passed ++ entry b ∷ []))) key
-          ∙ ap (λ xs. set.union old (set.from_list xs)) (sym (map-take_more view es i (record { tile = 0; start = 0; length = 0; status = 0 }) c.loop-entry-test.true));
-    }
+written_before : (c : goal.After-deref-4) → c.deref-4.result.now ≡ c.move_slices.new.fresh
+written_before c =
+    c.deref-4.ensures.value
+    ∙ take-written c.move_slices.new.fresh c.in_ok-fresh.fresh.items c.in_ok-fresh.fresh.len (omega (arith, (moved_before c).long))
+
+pub spread-requires-clause-places : goal.spread-requires-clause-places
+spread-requires-clause-places c = rw (written_before c, c.reserve-2.ensures.items)
+    (places_within c.self.inside.bytes.items c.self.inside.entries.items c.self.invariant c.args.bytes.now c.move_slices.new.bytes.items
+    c.in_ok-fresh.fresh.items c.move_slices.new.fresh (fresh_before c) (moved_before c))
+
+pub spread-requires-clause-rising : goal.spread-requires-clause-rising
+spread-requires-clause-rising c = rw (written_before c)
+    (places_in_order c.self.inside.bytes.items c.self.inside.entries.items c.self.invariant c.args.bytes.now c.move_slices.new.bytes.items
+    c.in_ok-fresh.fresh.items c.move_slices.new.fresh (fresh_before c) (moved_before c))
+
+fresh_after : (c : goal.After-drop-fresh-2) → AreFresh (map (entry_in c.self.inside.bytes.items) c.self.inside.entries.items) c.args.bytes.now c.in_ok-fresh.fresh.items
+fresh_after c = subst (λ (held : List Entry). AreFresh held c.args.bytes.now c.in_ok-fresh.fresh.items)
+    (λ i. map (entry_in (c.deref.ensures.value i)) (c.deref-2.ensures.value i)) c.in_ok-fresh.ensures.fresh
+
+moved_after : (c : goal.After-drop-fresh-2) → AreMoved c.args.bytes.now c.self.inside.bytes.items c.move_slices.new.bytes.items c.in_ok-fresh.fresh.items c.move_slices.new.fresh
+moved_after c = subst (λ (b : List ℕ). AreMoved c.args.bytes.now b c.move_slices.new.bytes.items c.in_ok-fresh.fresh.items c.move_slices.new.fresh)
+    c.reserve.ensures.items
+    (subst (λ (old : List Fresh). AreMoved c.args.bytes.now c.reserve.new.self.items c.move_slices.new.bytes.items old c.move_slices.new.fresh)
+    c.deref_mut.ensures.value c.move_slices.ensures)
+
+written_after : (c : goal.After-drop-fresh-2) → c.deref-4.result.now ≡ c.move_slices.new.fresh
+written_after c =
+    c.deref-4.ensures.value
+    ∙ take-written c.move_slices.new.fresh c.in_ok-fresh.fresh.items c.in_ok-fresh.fresh.len (omega (arith, (moved_after c).long))
+
+entries_after : (c : goal.After-drop-fresh-2) → c.spread.new.entries.items ≡ with_fresh c.move_slices.new.fresh c.self.inside.entries.items
+entries_after c = c.spread.ensures ∙ (λ i. with_fresh (written_after c i) (c.reserve-2.ensures.items i))
+
+pub invariant_of-self-2 : goal.invariant_of-self-2
+invariant_of-self-2 c = rw (entries_after c)
+    (pool_grown c.self.inside.bytes.items c.self.inside.entries.items c.self.invariant c.args.bytes.now c.move_slices.new.bytes.items
+    c.in_ok-fresh.fresh.items c.move_slices.new.fresh (fresh_after c) (moved_after c))
 
 pub returns-clause-ok : goal.returns-clause-ok
 returns-clause-ok c =
-    let es = c.deref-entry-items.result.now in
-    let all = take_all c.loop-entry.entry-index es c.loop-entry-test.false in
-    (λ i. record {
-      tiles = c.loop-entry.invariant.tiles i;
-      slices = (c.loop-entry.invariant.added
-          ∙ (λ j. set.union c.args.self.now.slices (set.from_list {R = entry_cmp} (map (entry_in c.other.inside.bytes.items) (all j))))
-          ∙ (λ j. set.union c.args.self.now.slices (set.from_list {R = entry_cmp} (map (entry_in c.other.inside.bytes.items) (c.deref-entry-items.ensures.value j))))
-          ∙ ap (λ (h : TileSlices). set.union c.args.self.now.slices h.slices) c.other.view_is) i;
-    })
+    let held = λ (s : set.SetOf entry_cmp). let h : TileSlices = record { tiles = c.self.inside.tiles; slices = s } in h in
+    let coming = map (entry_in c.args.bytes.now) c.args.entries.now in
+    let all = subst (λ (xs : List Entry). AreAllFresh xs coming (map (fresh_in c.args.bytes.now) c.in_ok-fresh.fresh.items))
+    (λ i. map (entry_in (c.deref.ensures.value i)) (c.deref-2.ensures.value i)) c.in_ok-fresh.ensures.all in
+    (λ i. held (set.from_list (map (entry_in c.move_slices.new.bytes.items) (entries_after c i))))
+    ∙ ap held (view_grown c.self.inside.bytes.items c.self.inside.entries.items c.self.invariant c.args.bytes.now c.move_slices.new.bytes.items
+    c.in_ok-fresh.fresh.items c.move_slices.new.fresh (fresh_after c) (moved_after c))
+    ∙ ap held all
+    ∙ ap (λ (h : TileSlices). let g : TileSlices = record { tiles = h.tiles; slices = set.union h.slices (set.from_list coming) } in g) c.self.view_is

@@ -3,7 +3,7 @@ use Rattle.std.proofs.lemmas.Fn.{always_returns_same}
 use Rattle.ffv1_holding.specs.SliceOrder.{Entry, entry_cmp, entries_total, entries_antisymmetric}
 use Rattle.ffv1_holding.specs.PoolEntries.{entry_in}
 use Rattle.ffv1_holding.proofs.Searches.{searched}
-use Rattle.ffv1_holding.proofs.pool.place_of.Goals as goal
+use Rattle.ffv1_holding.proofs.fresh.place_of.Goals as goal
 
 -- the closure compares an entry's tile and slice
 pub returns : goal.returns

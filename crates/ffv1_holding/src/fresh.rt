@@ -1,0 +1,121 @@
+//! Slices that come into a pool (own): which of them it does not hold, and how their entries go among its own.
+ghost use Rattle.std.specs.Prelude.{◌≡◌, ℕ, ◌+◌, ◌<◌, ◌≤◌, List, length, map, take, sum_by, slice_index_or, vec_len, vec_capacity, IfSome, IfOk, IfErr, OnOk, OnErr};
+ghost use Rattle.std.specs.List.Sorted.{IsNonDecreasingBy};
+ghost use Rattle.ffv1_holding.specs.SliceOrder.{entry_cmp};
+ghost use Rattle.ffv1_holding.specs.Rising.{IsRising, IsPlaceOf, IsGapFor};
+ghost use Rattle.ffv1_holding.specs.PoolEntries.{entry_in, IsPool, IsEntryIn};
+ghost use Rattle.ffv1_holding.specs.Fresh.{fresh_in, AreFresh, AreAllFresh, AreMoved, with_fresh};
+
+use crate::fault::HoldFault;
+use crate::pool_entry::PoolEntry;
+use std::alloc::Global;
+
+/// An entry that is not held, and the place of the entry before which it goes, among those that are held.
+#[derive(Clone, Copy, Debug)]
+pub(crate) struct Fresh {
+    pub(crate) place: usize,
+    pub(crate) entry: PoolEntry,
+}
+
+/// Of entries in `bytes`, those whose slices are not among the held ones. Both rise.
+pub(crate) fn fresh_among(
+    alloc: Global,
+    held_bytes: &[u8],
+    held: &[PoolEntry],
+    bytes: &[u8],
+    entries: &[PoolEntry],
+) -> Result<Vec<Fresh>, HoldFault>
+    requires held { IsRising entry_cmp (map (entry_in held_bytes.now) held.now) }
+    requires coming { IsPool bytes.now entries.now }
+    ensures fresh { IfOk result (λ fresh. AreFresh (map (entry_in held_bytes.now) held.now) bytes.now fresh.items) }
+    ensures all { IfOk result (λ fresh. AreAllFresh (map (entry_in held_bytes.now) held.now) (map (entry_in bytes.now) entries.now) (map (fresh_in bytes.now) fresh.items)) }
+    ensures memory { OnErr result (result ≡ Err HoldFault.Memory) }
+{
+    let mut fresh = Vec::new(alloc);
+    for entry in entries {
+        let found = place_of(held_bytes, held, entry.tile, entry.slice(bytes));
+        if let Err(place) = found {
+            fresh.push(Fresh {
+                place,
+                entry: *entry,
+            })?;
+        }
+    }
+    Ok(fresh)
+}
+
+/// How many bytes the slices of new entries have, or `None` where no memory has room for so many.
+pub(crate) fn room_of(fresh: &[Fresh]) -> Option<usize>
+    ensures { IfSome result (λ room. room ≡ sum_by (λ new. new.entry.length) fresh.now) }
+{
+    let mut room = 0usize;
+    for new in fresh {
+        room = room.checked_add(new.entry.length)?;
+    }
+    Some(room)
+}
+
+/// Puts the slices of new entries, which lie in `from`, behind the other bytes, and tells the entries so. There has to be room.
+pub(crate) fn move_slices(from: &[u8], bytes: &mut Vec<u8>, fresh: &mut [Fresh])
+    requires room { vec_len bytes.old + sum_by (λ new. new.entry.length) fresh.old ≤ vec_capacity bytes.old }
+    requires coming { (i : ℕ) (d : Fresh) → i < length fresh.old → IsEntryIn from.now (slice_index_or fresh.old i d).entry }
+    ensures { AreMoved from.now bytes.old.items bytes.new.items fresh.old fresh.new }
+{
+    for index in 0..fresh.len() {
+        let Fresh { place, entry } = fresh[index];
+        let start = bytes.len();
+        bytes.extend_from_slice(entry.slice(from)).unwrap();
+        fresh[index] = Fresh {
+            place,
+            entry: PoolEntry { start, ..entry },
+        };
+    }
+}
+
+/// Puts new entries among others. There has to be room.
+pub(crate) fn spread(entries: &mut Vec<PoolEntry>, fresh: &[Fresh])
+    requires room { vec_len entries.old + length fresh.now ≤ vec_capacity entries.old }
+    requires places { (i : ℕ) (d : Fresh) → i < length fresh.now → (slice_index_or fresh.now i d).place ≤ length entries.old.items }
+    requires rising { IsNonDecreasingBy (λ new. new.place) fresh.now }
+    ensures { entries.new.items ≡ with_fresh fresh.now entries.old.items }
+{
+    let held = entries.len();
+    entries
+        .resize(held + fresh.len(), PoolEntry::default())
+        .unwrap();
+    merge(entries, held, fresh);
+}
+
+/// Puts new entries among the first `held` of entries, behind which there is room for just them. Each place is passed once,
+/// from behind.
+fn merge(entries: &mut [PoolEntry], held: usize, fresh: &[Fresh])
+    requires room { length entries.old ≡ held + length fresh.now }
+    requires places { (i : ℕ) (d : Fresh) → i < length fresh.now → (slice_index_or fresh.now i d).place ≤ held }
+    requires rising { IsNonDecreasingBy (λ new. new.place) fresh.now }
+    ensures { entries.new ≡ with_fresh fresh.now (take held entries.old) }
+{
+    // The entries before `left` stand where they stood, those from there on `before` places further up.
+    let mut left = held;
+    let mut before = fresh.len();
+    while before > 0 {
+        before -= 1;
+        let Fresh { place, entry } = fresh[before];
+        entries.copy_within(place..left, place + before + 1);
+        entries[place + before] = entry;
+        left = place;
+    }
+}
+
+/// Where the entry of a slice is, or where it would go.
+pub(crate) fn place_of(
+    bytes: &[u8],
+    entries: &[PoolEntry],
+    tile: usize,
+    slice: &[u8],
+) -> Result<usize, usize>
+    requires { IsRising entry_cmp (map (entry_in bytes.now) entries.now) }
+    ensures found { IfOk result (IsPlaceOf (map (entry_in bytes.now) entries.now) (tile, slice.now)) }
+    ensures absent { IfErr result (IsGapFor entry_cmp (map (entry_in bytes.now) entries.now) (tile, slice.now)) }
+{
+    entries.binary_search_by(|held| held.compare(bytes, tile, slice))
+}
