@@ -1,8 +1,9 @@
 # ffv1restore. 'rt' is the command of the Rattle kit.
 PROGRAM := crates/ffv1restore/out/ffv1restore
+CALLS := crates/ffv1_refusals/out/ffv1_refusals
 PREFIX ?= $(HOME)/.local
 
-.PHONY: run test cases ffmpeg reel bench install
+.PHONY: run test cases rot fuzz ffmpeg reel bench install
 
 # Proves and builds what is needed, runs the stored example, and restores a recorded frame from two damaged copies.
 run: $(PROGRAM)
@@ -12,17 +13,33 @@ run: $(PROGRAM)
 $(PROGRAM): crates.txt $(shell find crates -path '*/out' -prune -o -type f -print)
 	cd crates/ffv1restore && rt run -- chain data/f22.bin > /dev/null
 
-# The gate, and then the cases of the program that the gate has built.
+# The gate, and then the cases of the program that the gate has built, growths that are refused, and rotten files.
 test:
-	rm -f $(PROGRAM)
+	rm -f $(PROGRAM) $(CALLS)
 	tests/manual
 	tests/recorded
 	rt ci
 	tests/run $(PROGRAM)
+	tests/memory $(CALLS) $(PROGRAM)
+	$(MAKE) rot
 
 # The cases alone.
 cases:
 	tests/run $(PROGRAM)
+
+# Small recordings, cut and zeroed at every place.
+ROTTEN := gray-48x32-4-slices gray-64x64-1x1-tiles-one-run-flat gray-64x7-3x2-tiles-six-runs-alternating \
+	gray-7x2-3x2-tiles-two-runs-rising yuv410p-64x64-2x2-tiles-one-run-alternating yuv420p-64x64-1x1-tiles-two-runs-flat \
+	yuv420p-7x64-3x2-tiles-one-run-alternating yuv420p-7x7-1x1-tiles-six-runs-rising yuv422p-64x7-1x1-tiles-one-run-alternating
+rot:
+	tests/fuzz $(PROGRAM) 0 --bursts 200 --every $(ROTTEN)
+
+# Rotten files for so many SECONDS, by so many WORKERS at a time, and then damage within 32 bits: other ones for each SEED.
+SECONDS ?= 60
+WORKERS ?= 1
+SEED ?= 0
+fuzz: $(PROGRAM)
+	tests/fuzz $(PROGRAM) $(SECONDS) --workers $(WORKERS) --seed $(SEED)
 
 # FFmpeg's samples of the stored frames, where it is installed.
 ffmpeg:

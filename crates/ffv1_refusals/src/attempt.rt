@@ -1,0 +1,22 @@
+//! A call that can be made again.
+use std::alloc::Global;
+
+/// What a call came to.
+#[derive(Clone, Copy, Debug, PartialEq, Eq)]
+pub enum Outcome {
+    /// It answered, and this is the remainder of the answer's bytes.
+    Answer(u32),
+    /// It answered that a growth was refused.
+    Memory,
+    /// It answered anything else.
+    Wrong,
+}
+
+/// A call, with what it is made on.
+pub trait Attempt {
+    /// Makes the call.
+    fn attempt(&mut self, alloc: Global) -> Outcome;
+
+    /// Whether what the call is made on is as it was before the first call.
+    fn is_kept(&self) -> bool;
+}

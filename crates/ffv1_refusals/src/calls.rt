@@ -1,0 +1,361 @@
+//! The calls of the libraries, each on a recorded frame.
+use crate::attempt::{Attempt, Outcome};
+use crate::buffer::Buffer;
+use crate::stock::{FRAME, RECORD, SIZE, Stock, file_of, first_copy, holding_of, second_copy};
+use ffv1_bits::remainder;
+use ffv1_hold::{
+    FromRead, FromWrite, HoldFault, HoldFileFault, Holding, Join, RestoreFault, TakeAllFault,
+    read_hold, write_hold,
+};
+use ffv1_picture::{Decoder, Frame, FrameFault, Partial, TileOutcome, picture, report, write_raw};
+use ffv1_plane::{TileFault, decode_tile};
+use ffv1_range::{Setup, SetupFault};
+use ffv1_slice::content_of;
+use std::alloc::Global;
+use std::io;
+
+/// Where the last slice of the frame begins.
+const LAST_SLICE: usize = 227;
+
+/// The remainder of the samples of a frame.
+fn samples_of(frame: &Frame) -> Outcome {
+    let mut sink = FromWrite::new(Buffer::new());
+    match write_raw(frame, &mut sink) {
+        Ok(()) => Outcome::Answer(sink.into_inner().remainder()),
+        Err(_) => Outcome::Wrong,
+    }
+}
+
+/// What a setup says, entry by entry.
+fn setup_told(setup: &Setup) -> Outcome {
+    let mut told = setup.grid().tiles() as u32 ^ setup.micro();
+    for set in 0..setup.sets() {
+        told = told
+            .wrapping_mul(31)
+            .wrapping_add(setup.contexts(set) as u32);
+    }
+    Outcome::Answer(told)
+}
+
+/// `Setup::read`.
+#[derive(Drop)]
+pub struct ReadSetup;
+
+impl Attempt for ReadSetup {
+    fn attempt(&mut self, alloc: Global) -> Outcome {
+        match Setup::read(alloc, &RECORD, SIZE.0, SIZE.1) {
+            Ok(setup) => setup_told(&setup),
+            Err(SetupFault::Memory) => Outcome::Memory,
+            Err(_) => Outcome::Wrong,
+        }
+    }
+
+    fn is_kept(&self) -> bool {
+        true
+    }
+}
+
+/// `Holding::new`.
+#[derive(Drop)]
+pub struct MakeHolding;
+
+impl Attempt for MakeHolding {
+    fn attempt(&mut self, alloc: Global) -> Outcome {
+        match Holding::new(alloc, &RECORD, SIZE.0, SIZE.1) {
+            Ok(holding) => Outcome::Answer(file_of(&holding).remainder()),
+            Err(SetupFault::Memory) => Outcome::Memory,
+            Err(_) => Outcome::Wrong,
+        }
+    }
+
+    fn is_kept(&self) -> bool {
+        true
+    }
+}
+
+/// `take` of the second copy, where the first is held.
+#[derive(Drop)]
+pub struct Take {
+    held: Holding,
+    before: u32,
+}
+
+impl Take {
+    /// Holds the first copy. It fails where memory is refused.
+    pub fn new(alloc: Global) -> io::Result<Take> {
+        let held = holding_of(alloc, &[&first_copy()])?;
+        let before = file_of(&held).remainder();
+        Ok(Take { held, before })
+    }
+}
+
+impl Attempt for Take {
+    fn attempt(&mut self, _alloc: Global) -> Outcome {
+        match self.held.take(&second_copy()) {
+            Ok(taken) if (taken.links, taken.slices, taken.new) == (4, 2, 2) => {
+                Outcome::Answer(file_of(&self.held).remainder())
+            }
+            Err(HoldFault::Memory) => Outcome::Memory,
+            Ok(_) | Err(_) => Outcome::Wrong,
+        }
+    }
+
+    fn is_kept(&self) -> bool {
+        file_of(&self.held).remainder() == self.before
+    }
+}
+
+/// `take_all` of both copies, where none is held.
+#[derive(Drop)]
+pub struct TakeAll {
+    held: Holding,
+    /// The remainders of the files of the holdings of no copy and of the first.
+    fronts: [u32; 2],
+    taken: usize,
+}
+
+impl TakeAll {
+    /// Holds none. It fails where memory is refused.
+    pub fn new(alloc: Global) -> io::Result<TakeAll> {
+        let held = holding_of(alloc, &[])?;
+        let one = holding_of(alloc, &[&first_copy()])?;
+        let fronts = [file_of(&held).remainder(), file_of(&one).remainder()];
+        Ok(TakeAll {
+            held,
+            fronts,
+            taken: 0,
+        })
+    }
+}
+
+impl Attempt for TakeAll {
+    fn attempt(&mut self, _alloc: Global) -> Outcome {
+        match self.held.take_all(&[&first_copy(), &second_copy()]) {
+            Ok(()) => Outcome::Answer(file_of(&self.held).remainder()),
+            Err(TakeAllFault { taken, cause }) if cause == HoldFault::Memory => {
+                self.taken = taken;
+                Outcome::Memory
+            }
+            Err(_) => Outcome::Wrong,
+        }
+    }
+
+    /// Whether the copies before the refused one are held.
+    fn is_kept(&self) -> bool {
+        self.fronts.get(self.taken) == Some(&file_of(&self.held).remainder())
+    }
+}
+
+/// `join_with` of the second copy's holding, where the first is held.
+#[derive(Drop)]
+pub struct JoinWith<'a> {
+    held: Holding,
+    other: &'a Holding,
+    before: u32,
+}
+
+impl<'a> JoinWith<'a> {
+    /// Holds the first copy. It fails where memory is refused.
+    pub fn new(alloc: Global, stock: &'a Stock) -> io::Result<JoinWith<'a>> {
+        let Take { held, before } = Take::new(alloc)?;
+        Ok(JoinWith {
+            held,
+            other: &stock.second,
+            before,
+        })
+    }
+}
+
+impl Attempt for JoinWith<'_> {
+    fn attempt(&mut self, _alloc: Global) -> Outcome {
+        match self.held.join_with(self.other) {
+            Ok(2) => Outcome::Answer(file_of(&self.held).remainder()),
+            Err(HoldFault::Memory) => Outcome::Memory,
+            Ok(_) | Err(_) => Outcome::Wrong,
+        }
+    }
+
+    fn is_kept(&self) -> bool {
+        file_of(&self.held).remainder() == self.before
+    }
+}
+
+/// `restore` of both copies.
+#[derive(Drop)]
+pub struct Restore<'a> {
+    /// The holding.
+    pub held: &'a Holding,
+}
+
+impl Attempt for Restore<'_> {
+    fn attempt(&mut self, _alloc: Global) -> Outcome {
+        match self.held.restore() {
+            Ok(payload) if payload.as_slice() == FRAME.as_slice() => {
+                Outcome::Answer(remainder(&payload))
+            }
+            Err(RestoreFault::Memory) => Outcome::Memory,
+            Ok(_) | Err(_) => Outcome::Wrong,
+        }
+    }
+
+    fn is_kept(&self) -> bool {
+        true
+    }
+}
+
+/// `write_hold` of both copies, which takes no memory.
+#[derive(Drop)]
+pub struct WriteHold<'a> {
+    /// The holding.
+    pub held: &'a Holding,
+}
+
+impl Attempt for WriteHold<'_> {
+    fn attempt(&mut self, _alloc: Global) -> Outcome {
+        let mut sink = FromWrite::new(Buffer::new());
+        match write_hold(self.held, &mut sink) {
+            Ok(()) => Outcome::Answer(sink.into_inner().remainder()),
+            Err(HoldFileFault::Memory) => Outcome::Memory,
+            Err(_) => Outcome::Wrong,
+        }
+    }
+
+    fn is_kept(&self) -> bool {
+        true
+    }
+}
+
+/// `read_hold` of the file of both copies.
+#[derive(Drop)]
+pub struct ReadHold<'a> {
+    /// The file.
+    pub file: &'a [u8],
+}
+
+impl Attempt for ReadHold<'_> {
+    fn attempt(&mut self, alloc: Global) -> Outcome {
+        match read_hold(alloc, &mut FromRead::new(self.file)) {
+            Ok(holding) => Outcome::Answer(file_of(&holding).remainder()),
+            Err(HoldFileFault::Memory) => Outcome::Memory,
+            Err(_) => Outcome::Wrong,
+        }
+    }
+
+    fn is_kept(&self) -> bool {
+        true
+    }
+}
+
+/// `decode_tile` of the last tile.
+#[derive(Drop)]
+pub struct DecodeTile<'a> {
+    /// The setup.
+    pub setup: &'a Setup,
+}
+
+impl Attempt for DecodeTile<'_> {
+    fn attempt(&mut self, alloc: Global) -> Outcome {
+        if self.setup.grid().tiles() < 4 {
+            return Outcome::Wrong;
+        }
+        match decode_tile(alloc, self.setup, 3, content_of(&FRAME[LAST_SLICE..])) {
+            Ok(tile) => match tile.planes.first() {
+                Some(plane) => Outcome::Answer(remainder(plane) ^ (tile.spare_bits % 256) as u32),
+                None => Outcome::Wrong,
+            },
+            Err(TileFault::Memory) => Outcome::Memory,
+            Err(_) => Outcome::Wrong,
+        }
+    }
+
+    fn is_kept(&self) -> bool {
+        true
+    }
+}
+
+/// `Decoder::new`.
+#[derive(Drop)]
+pub struct MakeDecoder;
+
+impl Attempt for MakeDecoder {
+    fn attempt(&mut self, alloc: Global) -> Outcome {
+        match Decoder::new(alloc, &RECORD, SIZE.0, SIZE.1) {
+            Ok(_) => Outcome::Answer(0),
+            Err(SetupFault::Memory) => Outcome::Memory,
+            Err(_) => Outcome::Wrong,
+        }
+    }
+
+    fn is_kept(&self) -> bool {
+        true
+    }
+}
+
+/// `decode_frame` of the frame.
+#[derive(Drop)]
+pub struct DecodeFrame<'a> {
+    /// The decoder.
+    pub decoder: &'a Decoder,
+}
+
+impl Attempt for DecodeFrame<'_> {
+    fn attempt(&mut self, _alloc: Global) -> Outcome {
+        match self.decoder.decode_frame(&FRAME) {
+            Ok(frame) => samples_of(&frame),
+            Err(FrameFault::Memory) => Outcome::Memory,
+            Err(_) => Outcome::Wrong,
+        }
+    }
+
+    fn is_kept(&self) -> bool {
+        true
+    }
+}
+
+/// `picture` of the first copy.
+#[derive(Drop)]
+pub struct Picture<'a> {
+    /// The holding.
+    pub held: &'a Holding,
+}
+
+impl Attempt for Picture<'_> {
+    fn attempt(&mut self, alloc: Global) -> Outcome {
+        let Ok(Partial { frame, tiles }) = picture(alloc, self.held) else {
+            return Outcome::Memory;
+        };
+        match tiles.as_slice() {
+            [
+                TileOutcome::Missing,
+                TileOutcome::Decoded { .. },
+                TileOutcome::Missing,
+                TileOutcome::Decoded { .. },
+            ] => samples_of(&frame),
+            _ => Outcome::Wrong,
+        }
+    }
+
+    fn is_kept(&self) -> bool {
+        true
+    }
+}
+
+/// `report` of both copies.
+#[derive(Drop)]
+pub struct Report<'a> {
+    /// The holding.
+    pub held: &'a Holding,
+}
+
+impl Attempt for Report<'_> {
+    fn attempt(&mut self, alloc: Global) -> Outcome {
+        match report(alloc, self.held) {
+            Ok(text) => Outcome::Answer(remainder(text.as_bytes())),
+            Err(_) => Outcome::Memory,
+        }
+    }
+
+    fn is_kept(&self) -> bool {
+        true
+    }
+}

@@ -1,0 +1,311 @@
+"""Frames and holding files read by their definitions (docs/FORMAT.md), apart from the program: what tests compare with it."""
+import collections
+import hashlib
+import zlib
+
+REVERSED = bytes(int(f"{byte:08b}"[::-1], 2) for byte in range(256))
+PAYLOAD_LIMIT, SLICE_LIMIT, RECORD_LIMIT = 1 << 30, 16777223, 1 << 24
+MAGIC = b"FFV1HLD\x01"
+
+
+Setup = collections.namedtuple("Setup", "micro chroma shifts grid contexts intra")
+
+
+class Fault(Exception):
+    """A number that can't be read, or a holding file's fault with its number."""
+
+
+def parity(piece):
+    """The remainder of some bytes with four bytes of 0 behind them: zlib's, whose bits are the other way round, from 0 and without
+    its inversions. It is 0 exactly where that of the bytes alone is."""
+    register = zlib.crc32(piece.translate(REVERSED), 0xFFFFFFFF) ^ 0xFFFFFFFF
+    return int(f"{register:032b}"[::-1], 2)
+
+
+def with_parity(content):
+    return content + parity(content).to_bytes(4, "big")
+
+
+def sliced(content, status):
+    """A slice of this content, whose footer fits it."""
+    return with_parity(content + (len(content) & 0xFFFFFF).to_bytes(3, "big") + bytes([status]))
+
+
+def links(payload):
+    """The links of a payload from its end, each as its first byte's place and its bytes, and where the chain breaks, or None."""
+    found, end = [], len(payload)
+    while end >= 8:
+        start = end - 8 - int.from_bytes(payload[end - 8 : end - 5], "big")
+        if start < 0:
+            break
+        found.append((start, payload[start:end]))
+        end = start
+    return found, end or None
+
+
+def passes(piece):
+    return len(piece) >= 8 and parity(piece) == 0
+
+
+def transitions():
+    """The state after a 1, by the recipe that the default table was made with: a step towards 1 of a twentieth."""
+    one, factor, table = 1 << 32, int(0.05 * 2**32), [0] * 256
+    last, chance = 0, one // 2
+    for _ in range(128):
+        state = max((256 * chance + one // 2) >> 32, last + 1)
+        if 0 < last < 256 and state <= 248:
+            table[last] = state
+        chance += ((one - chance) * factor + one // 2) >> 32
+        last = state
+    for place in range(8, 249):
+        if not table[place]:
+            chance = (place * one + 128) >> 8
+            chance += ((one - chance) * factor + one // 2) >> 32
+            table[place] = min(max((256 * chance + one // 2) >> 32, place + 1), 248)
+    return table
+
+
+AFTER_ONE = transitions()
+
+
+class Coder:
+    """A range decoder. Behind a record's content it reads zeros, behind a slice's header nothing: then it is not closed."""
+
+    def __init__(self, content, closed=False):
+        if len(content) < 2 or content[0] == 0xFF:
+            raise Fault
+        self.content, self.range, self.low, self.used = content, 65280, content[0] << 8 | content[1], 2
+        self.closed = closed
+
+    def next(self):
+        if self.used < len(self.content):
+            return self.content[self.used]
+        if self.closed:
+            return 0
+        raise Fault
+
+    def bit(self, row, slot):
+        state = row[slot]
+        part = self.range * state // 256
+        self.range -= part
+        bit = self.low >= self.range
+        if bit:
+            self.low, self.range = self.low - self.range, part
+        row[slot] = AFTER_ONE[state] if bit else 256 - AFTER_ONE[256 - state]
+        if self.range < 256:
+            self.range, self.low = self.range * 256, self.low * 256 + self.next()
+            self.used += 1
+        return bit
+
+    def number(self, row, signed=False):
+        if self.bit(row, 0):
+            return 0
+        highest = 0
+        while self.bit(row, 1 + min(highest, 9)):
+            highest += 1
+            if highest == 32:
+                raise Fault
+        value = 1
+        for place in range(highest - 1, -1, -1):
+            value = value * 2 + self.bit(row, 22 + min(place, 9))
+        return -value if signed and self.bit(row, 11 + min(highest, 10)) else value
+
+
+def table_runs(coder, scale):
+    """Reads a table of a set, and answers the scale behind it."""
+    row, filled, runs = [128] * 32, 0, 0
+    while filled < 128:
+        filled += coder.number(row) + 1
+        runs += 1
+        if filled > 128:
+            raise Fault(14)
+    scale *= 2 * runs - 1
+    if scale > 65535:
+        raise Fault(15)
+    return scale
+
+
+def judge(holds, number):
+    if not holds:
+        raise Fault(number)
+
+
+def read_front(coder, row, size):
+    """What a record has before its tables: micro_version, planes and shifts, and the grid."""
+    judge(coder.number(row) == 3, 4)
+    micro = coder.number(row)
+    judge(micro >= 4, 5)
+    for accepted, fault in (([0], 6), ([0], 7), ([0, 8], 8)):
+        judge(coder.number(row) in accepted, fault)
+    chroma = coder.bit(row, 0)
+    shifts = []
+    for _ in range(2):
+        shifts.append(coder.number(row))
+        judge(not chroma or shifts[-1] <= 2, 10)
+    judge(not coder.bit(row, 0), 9)
+    grid = (coder.number(row) + 1, coder.number(row) + 1)
+    judge(grid[0] <= size[0] and grid[1] <= size[1], 11)
+    judge(grid[0] * grid[1] <= 1024, 12)
+    return micro, chroma, shifts if chroma else [0, 0], grid
+
+
+def read_deltas(coder, row, contexts):
+    """Passes over the deltas of all sets. Answers whether they are few enough to be read here."""
+    rows = [[128] * 32 for _ in range(32)]
+    for count in contexts:
+        if coder.bit(row, 0):
+            if count > 1000:
+                return False
+            for number in range(32 * count):
+                coder.number(rows[number % 32], True)
+    return True
+
+
+def read_tables(coder, row):
+    """The contexts of each set of tables."""
+    sets = coder.number(row)
+    judge(1 <= sets <= 8, 13)
+    contexts = []
+    for _ in range(sets):
+        scale = 1
+        for _ in range(5):
+            scale = table_runs(coder, scale)
+        contexts.append((scale + 1) // 2)
+    return contexts
+
+
+def setup_of(record, size):
+    """The setup of a record, or Fault with the number of its first fault; None where its deltas are too many to be read here."""
+    judge(len(record) >= 6, 1)
+    judge(parity(record) == 0, 2)
+    judge(all(1 <= side <= 16384 for side in size), 17)
+    try:
+        coder, row = Coder(record[:-4], True), [128] * 32
+        front = read_front(coder, row, size)
+        contexts = read_tables(coder, row)
+        if not read_deltas(coder, row, contexts):
+            return None
+        judge(coder.number(row) == 1, 16)
+        return Setup(*front, contexts, coder.number(row))
+    except Fault as fault:
+        raise Fault(*(fault.args or [3])) from None
+
+
+def tiles_of(setup):
+    return setup.grid[0] * setup.grid[1]
+
+
+def setup_text(setup):
+    """What `show` prints."""
+    lines = [
+        f"version 3.{setup.micro}",
+        "coder 0 colorspace 0 depth 8",
+        f"planes {3 if setup.chroma else 1} shift {setup.shifts[0]} {setup.shifts[1]}",
+        f"grid {setup.grid[0]}x{setup.grid[1]} tiles {tiles_of(setup)}",
+        f"tables {len(setup.contexts)} contexts {' '.join(map(str, setup.contexts))}",
+        f"ec 1 intra {setup.intra}",
+    ]
+    return "".join(line + "\n" for line in lines).encode()
+
+
+def tile_of(setup, piece, first):
+    """The tile of which some bytes are a slice, or None."""
+    if not passes(piece) or int.from_bytes(piece[-8:-5], "big") != len(piece) - 8:
+        return None
+    try:
+        coder = Coder(piece[:-8])
+        if first and not coder.bit([128], 0):
+            return None
+        row = [128] * 32
+        fields = [coder.number(row) for _ in range(9)]
+        coder.bit([129], 0)
+    except Fault:
+        return None
+    column, line, width, height, table_y, table_c = fields[:6]
+    tile = line * setup.grid[0] + column
+    if column >= setup.grid[0] or line >= setup.grid[1] or width or height or max(table_y, table_c) >= len(setup.contexts):
+        return None
+    return tile if first == (tile == 0) else None
+
+
+def found_slices(setup, payload):
+    """The slices found in a payload, each with its tile, in the chain's order."""
+    found = [(tile_of(setup, piece, start == 0), piece) for start, piece in links(payload)[0]]
+    return [each for each in found if each[0] is not None]
+
+
+def best(held, tile):
+    """The slices of a tile that have its least error status."""
+    pieces = [piece for of, piece in held if of == tile]
+    least = min((piece[-5] for piece in pieces), default=None)
+    return [piece for piece in pieces if piece[-5] == least]
+
+
+def standing(held, tiles):
+    """How each tile stands: its slices of the least status."""
+    return [best(held, tile) for tile in range(tiles)]
+
+
+def holding_text(record, size, held):
+    """The file of a holding."""
+    entries = (b"\x01" + tile.to_bytes(2, "big") + len(piece).to_bytes(4, "big") + piece for tile, piece in sorted(held))
+    head = b"".join(number.to_bytes(4, "big") for number in (*size, len(record)))
+    return MAGIC + head + record + b"".join(entries) + b"\x00"
+
+
+def report_text(size, held, tiles):
+    """The report of a holding."""
+    lines, count = [f"reel {size[0]}x{size[1]} tiles {tiles}"], [0, 0, 0]
+    stand = standing(held, tiles)
+    for tile, pieces in enumerate(stand):
+        many = sum(of == tile for of, _ in held)
+        if not pieces:
+            lines.append(f"tile {tile} missing")
+        elif len(pieces) == 1:
+            digest = hashlib.sha256(pieces[0]).hexdigest()
+            lines.append(f"tile {tile} settled status {pieces[0][-5]} bytes {len(pieces[0])} held {many} sha256 {digest}")
+        else:
+            lines.append(f"tile {tile} disputed {len(pieces)} status {pieces[0][-5]} held {many}")
+        count[2 if not pieces else min(len(pieces), 2) - 1] += 1
+    lines.append(f"settled {count[0]} disputed {count[1]} missing {count[2]}")
+    payload = b"".join(pieces[0] for pieces in stand if len(pieces) == 1)
+    whole = f"frame bytes {len(payload)} sha256 {hashlib.sha256(payload).hexdigest()}"
+    lines.append(whole if count[0] == tiles else "frame incomplete")
+    return "".join(line + "\n" for line in lines).encode()
+
+
+def read_holding(text):
+    """The record, size, setup and slices of a holding file, or Fault with the first fault's number; None where the record's deltas
+    are too many to be read here."""
+    for place in range(8):
+        if text[place : place + 1] != MAGIC[place : place + 1]:
+            raise Fault(1 if place < len(text) else 3)
+    length = int.from_bytes(text[16:20], "big")
+    judge(len(text) < 20 or length <= RECORD_LIMIT, 11)
+    judge(len(text) >= 20 + length, 3)
+    record, size = text[20 : 20 + length], (int.from_bytes(text[8:12], "big"), int.from_bytes(text[12:16], "big"))
+    try:
+        setup = setup_of(record, size)
+    except Fault:
+        raise Fault(2) from None
+    return setup and (record, size, setup, read_entries(setup, text, 20 + length))
+
+
+def read_entries(setup, text, place):
+    """The entries of a holding file from a place on."""
+    held = []
+    while text[place : place + 1] == b"\x01":
+        head = text[place + 1 : place + 7]
+        length = int.from_bytes(head[2:6], "big")
+        judge(len(head) < 6 or length <= SLICE_LIMIT, 11)
+        piece = text[place + 7 : place + 7 + length]
+        judge(len(head) == 6 and len(piece) == length, 3)
+        tile = int.from_bytes(head[:2], "big")
+        judge(tile_of(setup, piece, tile == 0) == tile, 6)
+        judge(not held or held[-1] < (tile, piece), 5)
+        held.append((tile, piece))
+        place += 7 + length
+    judge(place < len(text), 3)
+    judge(text[place] == 0, 4)
+    judge(place + 1 == len(text), 7)
+    return held
