@@ -9,6 +9,8 @@ mod commands;
 #[cfg(test)]
 mod devices;
 #[cfg(test)]
+mod failing;
+#[cfg(test)]
 mod frames;
 #[cfg(test)]
 mod grid;
@@ -32,6 +34,8 @@ mod recorded;
 mod records;
 #[cfg(test)]
 mod rice;
+#[cfg(test)]
+mod rot;
 #[cfg(test)]
 mod slice;
 #[cfg(test)]

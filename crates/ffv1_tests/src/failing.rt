@@ -1,0 +1,414 @@
+//! The commands on devices that fail behind any number of bytes: which path is told, and what is left in the outputs.
+use ffv1_commands::{
+    CliFault, CommandPath, run_chain, run_decode, run_join, run_picture, run_report, run_restore,
+    run_show, run_take,
+};
+use ffv1_hold::HoldFileFault;
+use std::alloc::Global;
+use std::io;
+use std::io::{ErrorKind, Read, Write};
+use std::test::Fail;
+
+/// A gray record of two tiles beside each other, of micro version 4, its five tables of one run each.
+const RECORD: [u8; 17] = [
+    0x56, 0x2B, 0x83, 0x32, 0x5C, 0xCD, 0x9B, 0x36, 0x6C, 0xD9, 0xB3, 0x66, 0xC4, 0x90, 0xE4, 0xD4,
+    0x86,
+];
+
+/// A frame of it, of 2 x 1 samples.
+const FRAME: [u8; 22] = [
+    0xFD, 0xF6, 0x80, 0, 0, 3, 0, 0x1C, 0x3E, 0xA0, 0x9B, 0x3F, 0x2B, 0x80, 0, 0, 3, 0, 0x56, 0x0F,
+    0xD7, 0x3B,
+];
+
+/// What an input does behind its bytes.
+#[derive(Clone, Copy, Debug, PartialEq, Eq)]
+enum Behind {
+    /// It ends.
+    End,
+    /// It fails.
+    Failure,
+    /// It gives zeros, and never ends.
+    Zeros,
+}
+
+/// A reader of bytes, after so many interruptions in a row.
+#[derive(Drop)]
+struct Input<'a> {
+    bytes: &'a [u8],
+    interruptions: u32,
+    behind: Behind,
+}
+
+impl<'a> Input<'a> {
+    fn new(bytes: &'a [u8]) -> Input<'a> {
+        Input {
+            bytes,
+            interruptions: 0,
+            behind: Behind::End,
+        }
+    }
+
+    /// Has it fail behind so many bytes.
+    fn fail_behind(&mut self, room: usize) {
+        self.bytes = self.bytes.get(..room).unwrap_or(&[]);
+        self.behind = Behind::Failure;
+    }
+}
+
+impl Read for Input<'_> {
+    fn read(&mut self, buf: &mut [u8]) -> io::Result<usize> {
+        if self.interruptions > 0 {
+            self.interruptions -= 1;
+            return Err(io::Error::from(ErrorKind::Interrupted));
+        }
+        let mut left = self.bytes;
+        let count = left.read(buf)?;
+        self.bytes = left;
+        match self.behind {
+            Behind::Failure if count == 0 => Err(io::Error::from(ErrorKind::Other)),
+            Behind::Zeros if count == 0 => {
+                buf.fill(0);
+                Ok(buf.len())
+            }
+            _ => Ok(count),
+        }
+    }
+}
+
+/// A writer that takes one byte at a time, so many in all, after so many interruptions in a row, and then fails.
+#[derive(Drop)]
+struct Output {
+    bytes: Vec<u8>,
+    room: usize,
+    interruptions: u32,
+}
+
+impl Output {
+    fn new(alloc: Global) -> Output {
+        Output {
+            bytes: Vec::new(alloc),
+            room: usize::MAX,
+            interruptions: 0,
+        }
+    }
+}
+
+impl Write for Output {
+    fn write(&mut self, buf: &[u8]) -> io::Result<usize> {
+        if self.interruptions > 0 {
+            self.interruptions -= 1;
+            return Err(io::Error::from(ErrorKind::Interrupted));
+        }
+        if self.room == 0 {
+            return Err(io::Error::from(ErrorKind::StorageFull));
+        }
+        let Some(first) = buf.first() else {
+            return Ok(0);
+        };
+        self.bytes.push(*first)?;
+        self.room -= 1;
+        Ok(1)
+    }
+
+    fn flush(&mut self) -> io::Result<()> {
+        Ok(())
+    }
+}
+
+/// A command.
+#[derive(Clone, Copy, Debug, PartialEq, Eq)]
+enum Command {
+    Chain,
+    Show,
+    Take,
+    Join,
+    Report,
+    Restore,
+    Picture,
+    Decode,
+}
+
+const COMMANDS: [Command; 8] = [
+    Command::Chain,
+    Command::Show,
+    Command::Take,
+    Command::Join,
+    Command::Report,
+    Command::Restore,
+    Command::Picture,
+    Command::Decode,
+];
+
+impl Command {
+    /// The paths of its inputs.
+    fn paths(self) -> (CommandPath, Option<CommandPath>) {
+        match self {
+            Command::Chain => (CommandPath::Frame, None),
+            Command::Show => (CommandPath::Record, None),
+            Command::Take => (CommandPath::Record, Some(CommandPath::Copy(0))),
+            Command::Decode => (CommandPath::Record, Some(CommandPath::Frame)),
+            Command::Join => (CommandPath::Hold(0), Some(CommandPath::Hold(1))),
+            Command::Report | Command::Restore | Command::Picture => (CommandPath::Hold(0), None),
+        }
+    }
+
+    /// What its inputs have: nothing where it has one alone.
+    fn inputs<'a>(self, files: &'a Files) -> (&'a [u8], &'a [u8]) {
+        match self {
+            Command::Chain => (&FRAME, &[]),
+            Command::Show => (&RECORD, &[]),
+            Command::Take | Command::Decode => (&RECORD, &FRAME),
+            Command::Join => (&files.part, &files.whole),
+            Command::Report | Command::Restore => (&files.whole, &[]),
+            Command::Picture => (&files.part, &[]),
+        }
+    }
+}
+
+/// The holding files of the second tile, and of both.
+#[derive(Drop)]
+struct Files {
+    part: Vec<u8>,
+    whole: Vec<u8>,
+}
+
+/// Runs a command; the second input is left alone where it has one alone.
+fn run<'a>(
+    alloc: Global,
+    command: Command,
+    mut first: Input<'a>,
+    mut second: Input<'a>,
+    out: &mut Output,
+    printed: &mut Output,
+) -> Result<(), CliFault> {
+    match command {
+        Command::Chain => run_chain(alloc, &mut first, printed),
+        Command::Show => run_show(alloc, &mut first, 2, 1, printed),
+        Command::Take => run_take(alloc, &mut first, 2, 1, &mut [second], out, printed),
+        Command::Join => run_join(alloc, &mut first, &mut [second], out, printed),
+        Command::Report => run_report(alloc, &mut first, printed),
+        Command::Restore => run_restore(alloc, &mut first, out, printed),
+        Command::Picture => match run_picture(alloc, &mut first, out, printed) {
+            Ok(_) => Ok(()),
+            Err(fault) => Err(fault),
+        },
+        Command::Decode => run_decode(alloc, &mut first, 2, 1, &mut second, out, printed),
+    }
+}
+
+/// The holding file of a copy.
+fn held(alloc: Global, copy: &[u8]) -> Result<Vec<u8>, Fail> {
+    let mut record = RECORD.as_slice();
+    let mut file = Vec::new(alloc);
+    let mut printed: Vec<u8> = Vec::new(alloc);
+    run_take(
+        alloc,
+        &mut record,
+        2,
+        1,
+        &mut [copy],
+        &mut file,
+        &mut printed,
+    )
+    .ok()
+    .ok_or("ample memory")?;
+    Ok(file)
+}
+
+/// The files of the frame: of a copy with a damaged tile 0, and of the frame as it is.
+fn holding_files(alloc: Global) -> Result<Files, Fail> {
+    let mut copy = FRAME;
+    copy[2] = 0;
+    Ok(Files {
+        part: held(alloc, &copy)?,
+        whole: held(alloc, &FRAME)?,
+    })
+}
+
+/// Whether a command's answer is that this path was not read.
+fn is_unread(answer: &Result<(), CliFault>, path: Option<CommandPath>) -> bool {
+    matches!(answer, Err(CliFault::Read(told)) if Some(*told) == path)
+}
+
+/// Whether a command's answer is that this path was not written.
+fn is_unwritten(answer: &Result<(), CliFault>, path: CommandPath) -> bool {
+    matches!(answer, Err(CliFault::Write(told)) if *told == path)
+}
+
+/// Whether a failure behind so many bytes of the first or the second input is told as that, and nothing is written.
+fn input_is_told(
+    alloc: Global,
+    command: Command,
+    files: &Files,
+    is_second: bool,
+    room: usize,
+) -> bool {
+    let (first_bytes, second_bytes) = command.inputs(files);
+    let (first_path, second_path) = command.paths();
+    let (mut first, mut second) = (Input::new(first_bytes), Input::new(second_bytes));
+    let path = if is_second {
+        second.fail_behind(room);
+        second_path
+    } else {
+        first.fail_behind(room);
+        Some(first_path)
+    };
+    let (mut out, mut printed) = (Output::new(alloc), Output::new(alloc));
+    let answer = run(alloc, command, first, second, &mut out, &mut printed);
+    is_unread(&answer, path) && out.bytes.is_empty() && printed.bytes.is_empty()
+}
+
+#[test]
+fn inputs_that_fail_are_told(rt: HostRuntime) -> Result<(), Fail> {
+    let files = holding_files(rt.alloc())?;
+    for command in COMMANDS {
+        let (first, second) = command.inputs(&files);
+        for room in 0..=first.len() {
+            assert!(rt;
+                input_is_told(rt.alloc(), command, &files, false, room),
+                "{command:?} {room}"
+            );
+        }
+        if command.paths().1.is_some() {
+            for room in 0..=second.len() {
+                assert!(rt;
+                    input_is_told(rt.alloc(), command, &files, true, room),
+                    "{command:?} {room}"
+                );
+            }
+        }
+    }
+    Ok(())
+}
+
+/// What a command answers, makes and prints where there is so much room for what it makes and for what it prints.
+fn ran_with_room(
+    alloc: Global,
+    command: Command,
+    files: &Files,
+    made: usize,
+    printed: usize,
+) -> (Result<(), CliFault>, Vec<u8>, Vec<u8>) {
+    let (first, second) = command.inputs(files);
+    let (mut out, mut output) = (Output::new(alloc), Output::new(alloc));
+    out.room = made;
+    output.room = printed;
+    let (first, second) = (Input::new(first), Input::new(second));
+    let answer = run(alloc, command, first, second, &mut out, &mut output);
+    (answer, out.bytes, output.bytes)
+}
+
+/// Whether an OUT that fails behind so many bytes has just these, and nothing is printed.
+fn out_has_front(alloc: Global, command: Command, files: &Files, made: &[u8], room: usize) -> bool {
+    let (answer, front, printed) = ran_with_room(alloc, command, files, room, usize::MAX);
+    is_unwritten(&answer, CommandPath::Out)
+        && Some(front.as_slice()) == made.get(..room)
+        && printed.is_empty()
+}
+
+/// Whether a standard output that fails behind so many bytes has just these, and the file was made.
+fn output_has_front(
+    alloc: Global,
+    command: Command,
+    files: &Files,
+    (made, printed): (&[u8], &[u8]),
+    room: usize,
+) -> bool {
+    let (answer, file, front) = ran_with_room(alloc, command, files, usize::MAX, room);
+    is_unwritten(&answer, CommandPath::StandardOutput)
+        && file.as_slice() == made
+        && Some(front.as_slice()) == printed.get(..room)
+}
+
+#[test]
+fn outputs_that_fail_have_a_front(rt: HostRuntime) -> Result<(), Fail> {
+    let files = holding_files(rt.alloc())?;
+    for command in COMMANDS {
+        let (answer, made, printed) = ran_with_room(
+            rt.alloc(),
+            command,
+            &files,
+            usize::MAX,
+            usize::MAX,
+        );
+        assert!(rt; answer.is_ok(), "{command:?}");
+        for room in 0..made.len() {
+            assert!(rt;
+                out_has_front(rt.alloc(), command, &files, &made, room),
+                "{command:?} {room}"
+            );
+        }
+        for room in 0..printed.len() {
+            let front = output_has_front(rt.alloc(), command, &files, (&made, &printed), room);
+            assert!(rt; front, "{command:?} {room}");
+        }
+    }
+    Ok(())
+}
+
+/// What a command answers where one of its devices, its inputs and then its outputs, is interrupted so often in a row.
+fn interrupted(
+    alloc: Global,
+    command: Command,
+    files: &Files,
+    device: usize,
+    times: u32,
+) -> Result<(), CliFault> {
+    let (first, second) = command.inputs(files);
+    let (mut first, mut second) = (Input::new(first), Input::new(second));
+    let (mut out, mut printed) = (Output::new(alloc), Output::new(alloc));
+    match device {
+        0 => first.interruptions = times,
+        1 => second.interruptions = times,
+        2 => out.interruptions = times,
+        _ => printed.interruptions = times,
+    }
+    run(alloc, command, first, second, &mut out, &mut printed)
+}
+
+/// Whether 64 interruptions of a device are passed over, and 65 told; or a device that the command has not is left alone.
+fn interruptions_are_told(alloc: Global, command: Command, files: &Files, device: usize) -> bool {
+    let passed = interrupted(alloc, command, files, device, 64);
+    let told = interrupted(alloc, command, files, device, 65);
+    let (first, second) = command.paths();
+    let makes = !matches!(command, Command::Chain | Command::Show | Command::Report);
+    passed.is_ok()
+        && match device {
+            0 => is_unread(&told, Some(first)),
+            1 if second.is_some() => is_unread(&told, second),
+            2 if makes => is_unwritten(&told, CommandPath::Out),
+            3 => is_unwritten(&told, CommandPath::StandardOutput),
+            _ => true,
+        }
+}
+
+#[test]
+fn sixty_five_interruptions_in_a_row_are_told(rt: HostRuntime) -> Result<(), Fail> {
+    let files = holding_files(rt.alloc())?;
+    for command in COMMANDS {
+        for device in 0..4 {
+            let told = interruptions_are_told(rt.alloc(), command, &files, device);
+            assert!(rt; told, "{command:?} {device}");
+        }
+    }
+    Ok(())
+}
+
+/// The fault of a holding file that never ends, as `restore` tells it.
+fn fault_of_endless(alloc: Global, file: &[u8]) -> Option<CliFault> {
+    let mut input = Input::new(file);
+    input.behind = Behind::Zeros;
+    let (mut out, mut printed) = (Output::new(alloc), Output::new(alloc));
+    run_restore(alloc, &mut input, &mut out, &mut printed).err()
+}
+
+#[test]
+fn files_that_never_end_show_their_first_fault(rt: HostRuntime) -> Result<(), Fail> {
+    let files = holding_files(rt.alloc())?;
+    let zeros = fault_of_endless(rt.alloc(), &[]);
+    assert!(rt; matches!(zeros, Some(CliFault::HoldFile(HoldFileFault::Magic))));
+    let behind = fault_of_endless(rt.alloc(), &files.whole);
+    assert!(rt; matches!(behind, Some(CliFault::HoldFile(HoldFileFault::Trailing))));
+    Ok(())
+}
