@@ -18,5 +18,7 @@ pub trait Attempt {
     fn attempt(&mut self, alloc: Global) -> Outcome;
 
     /// Whether what the call is made on is as it was before the first call.
-    fn is_kept(&self) -> bool;
+    fn is_kept(&self) -> bool {
+        true
+    }
 }

@@ -49,10 +49,6 @@ impl Attempt for ReadSetup {
             Err(_) => Outcome::Wrong,
         }
     }
-
-    fn is_kept(&self) -> bool {
-        true
-    }
 }
 
 /// `Holding::new`.
@@ -66,10 +62,6 @@ impl Attempt for MakeHolding {
             Err(SetupFault::Memory) => Outcome::Memory,
             Err(_) => Outcome::Wrong,
         }
-    }
-
-    fn is_kept(&self) -> bool {
-        true
     }
 }
 
@@ -197,10 +189,6 @@ impl Attempt for Restore<'_> {
             Ok(_) | Err(_) => Outcome::Wrong,
         }
     }
-
-    fn is_kept(&self) -> bool {
-        true
-    }
 }
 
 /// `write_hold` of both copies, which takes no memory.
@@ -219,10 +207,6 @@ impl Attempt for WriteHold<'_> {
             Err(_) => Outcome::Wrong,
         }
     }
-
-    fn is_kept(&self) -> bool {
-        true
-    }
 }
 
 /// `read_hold` of the file of both copies.
@@ -239,10 +223,6 @@ impl Attempt for ReadHold<'_> {
             Err(HoldFileFault::Memory) => Outcome::Memory,
             Err(_) => Outcome::Wrong,
         }
-    }
-
-    fn is_kept(&self) -> bool {
-        true
     }
 }
 
@@ -267,10 +247,6 @@ impl Attempt for DecodeTile<'_> {
             Err(_) => Outcome::Wrong,
         }
     }
-
-    fn is_kept(&self) -> bool {
-        true
-    }
 }
 
 /// `Decoder::new`.
@@ -284,10 +260,6 @@ impl Attempt for MakeDecoder {
             Err(SetupFault::Memory) => Outcome::Memory,
             Err(_) => Outcome::Wrong,
         }
-    }
-
-    fn is_kept(&self) -> bool {
-        true
     }
 }
 
@@ -305,10 +277,6 @@ impl Attempt for DecodeFrame<'_> {
             Err(FrameFault::Memory) => Outcome::Memory,
             Err(_) => Outcome::Wrong,
         }
-    }
-
-    fn is_kept(&self) -> bool {
-        true
     }
 }
 
@@ -334,10 +302,6 @@ impl Attempt for Picture<'_> {
             _ => Outcome::Wrong,
         }
     }
-
-    fn is_kept(&self) -> bool {
-        true
-    }
 }
 
 /// `report` of both copies.
@@ -353,9 +317,5 @@ impl Attempt for Report<'_> {
             Ok(text) => Outcome::Answer(remainder(text.as_bytes())),
             Err(_) => Outcome::Memory,
         }
-    }
-
-    fn is_kept(&self) -> bool {
-        true
     }
 }

@@ -42,251 +42,87 @@ impl Outputs {
     }
 }
 
-/// `run_chain` of the frame.
+/// A command's function, and what it is made on.
+#[derive(Clone, Copy, Debug, PartialEq, Eq)]
+pub enum Command {
+    /// `run_chain` of the frame.
+    Chain,
+    /// `run_show` of the record.
+    Show,
+    /// `run_take` of both copies.
+    Take,
+    /// `run_join` of the files of the first copy and of both.
+    Join,
+    /// `run_report` of the file of both copies.
+    Report,
+    /// `run_restore` of the file of both copies.
+    Restore,
+    /// `run_picture` of the file of both copies.
+    Picture,
+    /// `run_decode` of the frame.
+    Decode,
+}
+
+/// A command's function, with what it has made and printed.
 #[derive(Drop)]
-pub struct ChainOf {
+pub struct Run<'a> {
+    command: Command,
+    first_file: &'a [u8],
+    both_file: &'a [u8],
     outputs: Outputs,
 }
 
-impl ChainOf {
+impl<'a> Run<'a> {
     /// The command, which has written nothing.
-    pub fn new() -> ChainOf {
-        ChainOf {
+    pub fn new(command: Command, stock: &'a Stock) -> Run<'a> {
+        Run {
+            command,
+            first_file: stock.first_file.bytes(),
+            both_file: stock.both_file.bytes(),
             outputs: Outputs::new(),
         }
     }
-}
 
-impl Attempt for ChainOf {
-    fn attempt(&mut self, alloc: Global) -> Outcome {
-        let Outputs { printed, .. } = &mut self.outputs;
-        let mut frame = FRAME.as_slice();
-        let answer = run_chain(alloc, &mut frame, printed);
-        self.outputs.outcome(answer)
-    }
-
-    fn is_kept(&self) -> bool {
-        self.outputs.are_empty()
-    }
-}
-
-/// `run_show` of the record.
-#[derive(Drop)]
-pub struct ShowOf {
-    outputs: Outputs,
-}
-
-impl ShowOf {
-    /// The command, which has written nothing.
-    pub fn new() -> ShowOf {
-        ShowOf {
-            outputs: Outputs::new(),
-        }
-    }
-}
-
-impl Attempt for ShowOf {
-    fn attempt(&mut self, alloc: Global) -> Outcome {
-        let Outputs { printed, .. } = &mut self.outputs;
-        let mut record = RECORD.as_slice();
-        let answer = run_show(alloc, &mut record, SIZE.0, SIZE.1, printed);
-        self.outputs.outcome(answer)
-    }
-
-    fn is_kept(&self) -> bool {
-        self.outputs.are_empty()
-    }
-}
-
-/// `run_take` of both copies.
-#[derive(Drop)]
-pub struct TakeOf {
-    outputs: Outputs,
-}
-
-impl TakeOf {
-    /// The command, which has written nothing.
-    pub fn new() -> TakeOf {
-        TakeOf {
-            outputs: Outputs::new(),
-        }
-    }
-}
-
-impl Attempt for TakeOf {
-    fn attempt(&mut self, alloc: Global) -> Outcome {
-        let Outputs { made, printed } = &mut self.outputs;
-        let (first, second) = (first_copy(), second_copy());
-        let mut record = RECORD.as_slice();
-        let mut copies = [first.as_slice(), second.as_slice()];
-        let answer = run_take(
-            alloc,
-            &mut record,
-            SIZE.0,
-            SIZE.1,
-            &mut copies,
-            made,
-            printed,
-        );
-        self.outputs.outcome(answer)
-    }
-
-    fn is_kept(&self) -> bool {
-        self.outputs.are_empty()
-    }
-}
-
-/// `run_join` of the files of the first copy and of both.
-#[derive(Drop)]
-pub struct JoinOf<'a> {
-    files: [&'a [u8]; 2],
-    outputs: Outputs,
-}
-
-impl<'a> JoinOf<'a> {
-    /// The command, which has written nothing.
-    pub fn new(stock: &'a Stock) -> JoinOf<'a> {
-        JoinOf {
-            files: [stock.first_file.bytes(), stock.both_file.bytes()],
-            outputs: Outputs::new(),
-        }
-    }
-}
-
-impl Attempt for JoinOf<'_> {
-    fn attempt(&mut self, alloc: Global) -> Outcome {
-        let [mut first, second] = self.files;
-        let Outputs { made, printed } = &mut self.outputs;
-        let answer = run_join(alloc, &mut first, &mut [second], made, printed);
-        self.outputs.outcome(answer)
-    }
-
-    fn is_kept(&self) -> bool {
-        self.outputs.are_empty()
-    }
-}
-
-/// `run_report` of the file of both copies.
-#[derive(Drop)]
-pub struct ReportOf<'a> {
-    file: &'a [u8],
-    outputs: Outputs,
-}
-
-impl<'a> ReportOf<'a> {
-    /// The command, which has written nothing.
-    pub fn new(stock: &'a Stock) -> ReportOf<'a> {
-        ReportOf {
-            file: stock.both_file.bytes(),
-            outputs: Outputs::new(),
-        }
-    }
-}
-
-impl Attempt for ReportOf<'_> {
-    fn attempt(&mut self, alloc: Global) -> Outcome {
-        let mut file = self.file;
-        let Outputs { printed, .. } = &mut self.outputs;
-        let answer = run_report(alloc, &mut file, printed);
-        self.outputs.outcome(answer)
-    }
-
-    fn is_kept(&self) -> bool {
-        self.outputs.are_empty()
-    }
-}
-
-/// `run_restore` of the file of both copies.
-#[derive(Drop)]
-pub struct RestoreOf<'a> {
-    file: &'a [u8],
-    outputs: Outputs,
-}
-
-impl<'a> RestoreOf<'a> {
-    /// The command, which has written nothing.
-    pub fn new(stock: &'a Stock) -> RestoreOf<'a> {
-        RestoreOf {
-            file: stock.both_file.bytes(),
-            outputs: Outputs::new(),
-        }
-    }
-}
-
-impl Attempt for RestoreOf<'_> {
-    fn attempt(&mut self, alloc: Global) -> Outcome {
-        let mut file = self.file;
-        let Outputs { made, printed } = &mut self.outputs;
-        let answer = run_restore(alloc, &mut file, made, printed);
-        self.outputs.outcome(answer)
-    }
-
-    fn is_kept(&self) -> bool {
-        self.outputs.are_empty()
-    }
-}
-
-/// `run_picture` of the file of both copies.
-#[derive(Drop)]
-pub struct PictureOf<'a> {
-    file: &'a [u8],
-    outputs: Outputs,
-}
-
-impl<'a> PictureOf<'a> {
-    /// The command, which has written nothing.
-    pub fn new(stock: &'a Stock) -> PictureOf<'a> {
-        PictureOf {
-            file: stock.both_file.bytes(),
-            outputs: Outputs::new(),
-        }
-    }
-}
-
-impl Attempt for PictureOf<'_> {
-    fn attempt(&mut self, alloc: Global) -> Outcome {
-        let mut file = self.file;
-        let Outputs { made, printed } = &mut self.outputs;
-        let answer = match run_picture(alloc, &mut file, made, printed) {
-            Ok(_) => Ok(()),
-            Err(fault) => Err(fault),
-        };
-        self.outputs.outcome(answer)
-    }
-
-    fn is_kept(&self) -> bool {
-        self.outputs.are_empty()
-    }
-}
-
-/// `run_decode` of the frame.
-#[derive(Drop)]
-pub struct DecodeOf {
-    outputs: Outputs,
-}
-
-impl DecodeOf {
-    /// The command, which has written nothing.
-    pub fn new() -> DecodeOf {
-        DecodeOf {
-            outputs: Outputs::new(),
-        }
-    }
-}
-
-impl Attempt for DecodeOf {
-    fn attempt(&mut self, alloc: Global) -> Outcome {
-        let Outputs { made, printed } = &mut self.outputs;
+    /// Runs the command.
+    fn run(&mut self, alloc: Global) -> Result<(), CliFault> {
+        let (width, height) = SIZE;
+        let (one, other) = (first_copy(), second_copy());
+        let mut copies = [one.as_slice(), other.as_slice()];
         let (mut record, mut frame) = (RECORD.as_slice(), FRAME.as_slice());
-        let answer = run_decode(
-            alloc,
-            &mut record,
-            SIZE.0,
-            SIZE.1,
-            &mut frame,
-            made,
-            printed,
-        );
+        let (mut first, mut both) = (self.first_file, self.both_file);
+        let command = self.command;
+        let Outputs { made, printed } = &mut self.outputs;
+        match command {
+            Command::Chain => run_chain(alloc, &mut frame, printed),
+            Command::Show => run_show(alloc, &mut record, width, height, printed),
+            Command::Take => {
+                run_take(
+                    alloc,
+                    &mut record,
+                    width,
+                    height,
+                    &mut copies,
+                    made,
+                    printed,
+                )
+            }
+            Command::Join => run_join(alloc, &mut first, &mut [both], made, printed),
+            Command::Report => run_report(alloc, &mut both, printed),
+            Command::Restore => run_restore(alloc, &mut both, made, printed),
+            Command::Picture => match run_picture(alloc, &mut both, made, printed) {
+                Ok(_) => Ok(()),
+                Err(fault) => Err(fault),
+            },
+            Command::Decode => {
+                run_decode(alloc, &mut record, width, height, &mut frame, made, printed)
+            }
+        }
+    }
+}
+
+impl Attempt for Run<'_> {
+    fn attempt(&mut self, alloc: Global) -> Outcome {
+        let answer = self.run(alloc);
         self.outputs.outcome(answer)
     }
 

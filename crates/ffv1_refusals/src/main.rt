@@ -17,7 +17,7 @@ use calls::{
     DecodeFrame, DecodeTile, JoinWith, MakeDecoder, MakeHolding, Picture, ReadHold, ReadSetup,
     Report, Restore, Take, TakeAll, WriteHold,
 };
-use commands::{ChainOf, DecodeOf, JoinOf, PictureOf, ReportOf, RestoreOf, ShowOf, TakeOf};
+use commands::{Command, Run};
 use std::io;
 use std::process::ExitCode;
 use stock::Stock;
@@ -76,14 +76,14 @@ fn tell_calls(rt: &HostRuntime, stock: &Stock) -> io::Result<()> {
 
 /// The functions of the commands.
 fn tell_commands(rt: &HostRuntime, stock: &Stock) -> io::Result<()> {
-    tell(rt, "run_chain", &mut ChainOf::new())?;
-    tell(rt, "run_show", &mut ShowOf::new())?;
-    tell(rt, "run_take", &mut TakeOf::new())?;
-    tell(rt, "run_join", &mut JoinOf::new(stock))?;
-    tell(rt, "run_report", &mut ReportOf::new(stock))?;
-    tell(rt, "run_restore", &mut RestoreOf::new(stock))?;
-    tell(rt, "run_picture", &mut PictureOf::new(stock))?;
-    tell(rt, "run_decode", &mut DecodeOf::new())
+    tell(rt, "run_chain", &mut Run::new(Command::Chain, stock))?;
+    tell(rt, "run_show", &mut Run::new(Command::Show, stock))?;
+    tell(rt, "run_take", &mut Run::new(Command::Take, stock))?;
+    tell(rt, "run_join", &mut Run::new(Command::Join, stock))?;
+    tell(rt, "run_report", &mut Run::new(Command::Report, stock))?;
+    tell(rt, "run_restore", &mut Run::new(Command::Restore, stock))?;
+    tell(rt, "run_picture", &mut Run::new(Command::Picture, stock))?;
+    tell(rt, "run_decode", &mut Run::new(Command::Decode, stock))
 }
 
 /// All of it.
