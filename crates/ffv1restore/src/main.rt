@@ -16,6 +16,7 @@ pub use ffv1_commands::{
 };
 use files::{InputFile, OutputFile};
 use std::alloc::{AllocError, Global};
+use std::fs::File;
 use std::process::ExitCode;
 use std::{env, io};
 use words::{Recording, Words, read_words};
@@ -172,7 +173,19 @@ fn given_words(rt: &HostRuntime) -> Result<Vec<String>, CliFault>
     }
 }
 
+/// Holds the three lowest numbers of files that are free, by the root folder, to which nothing can be written. Where the program
+/// was started without a standard stream, the file that is made could else come to stand for it, and what is printed be
+/// written into that file.
+fn hold_streams(rt: &HostRuntime) -> [Option<File>; 3] {
+    [
+        File::open(rt, "/").ok(),
+        File::open(rt, "/").ok(),
+        File::open(rt, "/").ok(),
+    ]
+}
+
 fn main(rt: HostRuntime) -> ExitCode {
+    let _held = hold_streams(&rt);
     let given = match given_words(&rt) {
         Ok(given) => given,
         Err(fault) => return tell_early(&rt, &fault),
