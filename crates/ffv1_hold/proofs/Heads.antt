@@ -14,9 +14,9 @@ use Rattle.ffv1_holding.specs.SliceOrder.{entry_cmp}
 use Rattle.ffv1_holding.specs.Sets as set
 use Rattle.ffv1_hold.specs.Reading.{Takes, Refuses}
 use Rattle.ffv1_hold.specs.FileEntries.{AreEntries}
-use Rattle.ffv1_hold.specs.FileFaults.{IsFileReel, IsPartOfReel, ReelIsWhole, FileIsWhole, ReelShows, EntriesAreWhole, IsPartOfEntries, EntriesShow, IsPartOfFile, MagicShows, FileShows}
+use Rattle.ffv1_hold.specs.FileFaults.{IsFileReel, IsPartOfReel, ReelIsWhole, FileIsWhole, ReelShows, EntriesAreWhole, IsPartOfEntries, EntriesShow, IsPartOfHead, HeadIsWhole, HeadShows, IsPartOfFile, MagicShows, FileShows}
 use Rattle.ffv1_hold.proofs.Bodies.{length-be4}
-use Rattle.ffv1_hold.proofs.ReadRefusals.{Takes-trans, Refuses-after}
+use Rattle.ffv1_hold.proofs.ReadRefusals.{Takes-nil, Takes-trans, Refuses-after}
 use Rattle.ffv1_hold.proofs.TextLaws.{same_back}
 
 pub part_of_height : (w : ℕ) (s : List ℕ) → length s < 4 → IsPartOfReel (be4 w ++ s)
@@ -47,24 +47,45 @@ head_text-of : (r : Reel) → magic ++ sized_record r.config r.setup.width r.set
 unfolding head_text
 head_text-of r = refl
 
--- ---- the parts of a file
+-- ---- the parts of a head, and of a file
 
-file_from_reel_part : (s : List ℕ) → IsPartOfReel s → IsPartOfFile (magic ++ s)
-file_from_reel_part s h = inr (inl (s, refl, h))
+head_from_reel_part : (s : List ℕ) → IsPartOfReel s → IsPartOfHead (magic ++ s)
+head_from_reel_part s h = inr (s, refl, h)
 
-file_from_whole_reel : (f : HoldFileFault) (s : List ℕ) → ReelIsWhole f s → FileIsWhole f (magic ++ s)
-file_from_whole_reel faults.Memory s h = (s, refl, h)
-file_from_whole_reel faults.Magic s h = absurd h
-file_from_whole_reel (faults.Setup f) s h = absurd h
-file_from_whole_reel faults.Truncated s h = absurd h
-file_from_whole_reel faults.Tag s h = absurd h
-file_from_whole_reel faults.Order s h = absurd h
-file_from_whole_reel faults.NotASlice s h = absurd h
-file_from_whole_reel faults.Trailing s h = absurd h
-file_from_whole_reel faults.Read s h = absurd h
-file_from_whole_reel faults.Write s h = absurd h
-file_from_whole_reel faults.TooLong s h = absurd h
-file_from_whole_reel faults.OtherReel s h = absurd h
+head_from_whole_reel : (f : HoldFileFault) (s : List ℕ) → ReelIsWhole f s → HeadIsWhole f (magic ++ s)
+head_from_whole_reel f s h = (s, refl, h)
+
+head_from_reel_fault : (f : HoldFileFault) (s : List ℕ) → ReelShows f s → HeadShows f (magic ++ s)
+head_from_reel_fault f s h = inr (s, refl, h)
+
+pub file_from_head_part : (s : List ℕ) → IsPartOfHead s → IsPartOfFile s
+file_from_head_part s (inl h) = inl h
+file_from_head_part s (inr h) = inr (inl h)
+
+pub file_from_head_fault : (f : HoldFileFault) (s : List ℕ) → HeadShows f s → FileShows f s
+file_from_head_fault f s (inl h) = inl h
+file_from_head_fault f s (inr h) = inr (inl h)
+
+pub file_from_whole_head : (f : HoldFileFault) (s : List ℕ) → HeadIsWhole f s → FileIsWhole f s
+file_from_whole_head faults.Memory s h = h
+file_from_whole_head faults.Magic s (reel, is, h) = absurd h
+file_from_whole_head (faults.Setup f) s (reel, is, h) = absurd h
+file_from_whole_head faults.Truncated s (reel, is, h) = absurd h
+file_from_whole_head faults.Tag s (reel, is, h) = absurd h
+file_from_whole_head faults.Order s (reel, is, h) = absurd h
+file_from_whole_head faults.NotASlice s (reel, is, h) = absurd h
+file_from_whole_head faults.Trailing s (reel, is, h) = absurd h
+file_from_whole_head faults.Read s (reel, is, h) = absurd h
+file_from_whole_head faults.Write s (reel, is, h) = absurd h
+file_from_whole_head faults.TooLong s (reel, is, h) = absurd h
+file_from_whole_head faults.OtherReel s (reel, is, h) = absurd h
+
+-- a head that is refused is a fault of the file
+pub head_file : (old new : Option (List ℕ)) (f : HoldFileFault) → Refuses IsPartOfHead HeadIsWhole HeadShows old new 0 f
+    → Refuses IsPartOfFile FileIsWhole FileShows old new 0 f
+head_file old new f r =
+    Refuses-after IsPartOfHead IsPartOfFile HeadIsWhole FileIsWhole HeadShows FileShows old old new 0 0 [] f (Takes-nil old 0 (omega arith)) r
+    file_from_head_part file_from_whole_head file_from_head_fault
 
 text_of : (r : Reel) (slices : set.SetOf entry_cmp) (s tag : List ℕ) → s ≡ entries_text (set.items slices) ++ tag → tag ≡ 0 ∷ []
     → head_text r ++ s ≡ holding_text (record { reel = r; slices = slices })
@@ -98,9 +119,6 @@ head_is_part r is =
     let none : AreEntries r.setup [] = record { each = tt; rising = λ i j d lt short. absurd (omega arith) } in
     inr (inr (r, [], is, sym (append-nil (head_text r)), ([], [], none, refl, inl refl)))
 
-file_from_reel_fault : (f : HoldFileFault) (s : List ℕ) → ReelShows f s → FileShows f (magic ++ s)
-file_from_reel_fault f s h = inr (inl (s, refl, h))
-
 -- a size and a record that were read, or refused, behind the magic
 module _ (a b c : Option (List ℕ)) (i j k : ℕ) (t : Takes a b i j magic) where
   pub head_taken : (r : Result Reel HoldFileFault) → IfOk r (λ r. Takes b c j k (sized_record r.config r.setup.width r.setup.height))
@@ -109,10 +127,10 @@ module _ (a b c : Option (List ℕ)) (i j k : ℕ) (t : Takes a b i j magic) whe
   head_taken (Err f) more = tt
 
   pub head_refused : (r : Result Reel HoldFileFault) → IfErr r (Refuses IsPartOfReel ReelIsWhole ReelShows b c j)
-      → IfErr r (Refuses IsPartOfFile FileIsWhole FileShows a c i)
+      → IfErr r (Refuses IsPartOfHead HeadIsWhole HeadShows a c i)
   head_refused (Ok r) refused = tt
-  head_refused (Err f) refused = Refuses-after IsPartOfReel IsPartOfFile ReelIsWhole FileIsWhole ReelShows FileShows a b c i j magic f t refused
-      file_from_reel_part file_from_whole_reel file_from_reel_fault
+  head_refused (Err f) refused = Refuses-after IsPartOfReel IsPartOfHead ReelIsWhole HeadIsWhole ReelShows HeadShows a b c i j magic f t refused
+      head_from_reel_part head_from_whole_reel head_from_reel_fault
 
 pub file_from_entries_fault : (r : Reel) → IsFileReel r → (f : HoldFileFault) (s : List ℕ) → EntriesShow r.setup f s → FileShows f (head_text r ++ s)
 file_from_entries_fault r i f s h = inr (inr (r, s, i, refl, h))

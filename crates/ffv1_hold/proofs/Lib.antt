@@ -17,3 +17,8 @@ pub mod PlanSteps
 pub mod OneFault
 pub mod Unfinished
 pub mod OneInput
+pub mod MergeSets
+pub mod MergeLeads
+pub mod MergeSteps
+pub mod MergeStarts
+pub mod MergeAnswers

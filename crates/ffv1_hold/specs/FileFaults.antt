@@ -95,6 +95,19 @@ abbrev pub MagicShows : HoldFileFault → List ℕ → Type 0
 MagicShows faults.Magic s = (length s ≤ 8) × (s ≢ take (length s) magic)
 MagicShows _ s = ⊥
 
+-- ---- the magic, the size and the record
+
+-- a beginning of them that shows no fault yet
+abbrev pub IsPartOfHead : List ℕ → Type 0
+IsPartOfHead s = IsPartOfMagic s ⊎ ((part : List ℕ) × (s ≡ magic ++ part) × IsPartOfReel part)
+
+abbrev pub HeadShows : HoldFileFault → List ℕ → Type 0
+HeadShows f s = MagicShows f s ⊎ ((seen : List ℕ) × (s ≡ magic ++ seen) × ReelShows f seen)
+
+-- they are whole, behind which memory for the setup is wanted
+abbrev pub HeadIsWhole : HoldFileFault → List ℕ → Type 0
+HeadIsWhole f s = (reel : List ℕ) × (s ≡ magic ++ reel) × ReelIsWhole f reel
+
 -- ---- the whole file
 
 -- a beginning of a file that shows no fault yet: of its magic, of its size and record, or of its entries and the end

@@ -3,6 +3,9 @@ pub mod Reading
 pub mod Saving
 pub mod FileEntries
 pub mod FileFaults
+pub mod Leads
+pub mod JoinedStreams
+pub mod Merging
 pub mod Laws
 pub mod Headline
 pub mod Plans

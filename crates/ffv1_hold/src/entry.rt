@@ -41,7 +41,7 @@ impl HeldSlice {
     ghost use Rattle.ffv1_holding.specs.SliceOrder.{entry_cmp};
 
     /// The order in a holding file: by tile, and then as byte slices compare.
-    fn compare(&self, other: &HeldSlice) -> Ordering
+    pub(crate) fn compare(&self, other: &HeldSlice) -> Ordering
         ensures { result ≡ entry_cmp self.now other.now }
     {
         let by_tile = self.tile.cmp(&other.tile);

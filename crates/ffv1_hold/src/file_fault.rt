@@ -31,8 +31,7 @@ pub enum HoldFileFault {
     Memory,
     /// The record has more than 2^24 bytes, an entry more than 16777223, or the file more than 2^31.
     TooLong,
-    /// The other file is of another record, width or height. No call answers it: joining tells that as
-    /// `HoldFault::OtherReel`.
+    /// The two files that are joined as streams are of another record, width or height.
     OtherReel,
 }
 

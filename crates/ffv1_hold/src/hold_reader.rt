@@ -6,7 +6,7 @@ ghost use Rattle.ffv1_hold.specs.Reading.{Takes, Refuses, CountsRead};
 ghost use Rattle.ffv1_holding.specs.Contents.{IsEntryOf};
 ghost use Rattle.ffv1_hold.specs.HoldingText.{head_text};
 ghost use Rattle.ffv1_hold.specs.FileEntries.{Follows, next_text};
-ghost use Rattle.ffv1_hold.specs.FileFaults.{IsFileReel, IsPartOfFile, FileIsWhole, FileShows, IsPartOfEntry, EndIsWhole, EntryShows};
+ghost use Rattle.ffv1_hold.specs.FileFaults.{IsFileReel, IsPartOfHead, HeadIsWhole, HeadShows, IsPartOfEntry, EndIsWhole, EntryShows};
 
 use crate::entry::{HeldSlice, read_entry};
 use crate::file_fault::HoldFileFault;
@@ -45,7 +45,7 @@ impl HoldReader {
         ensures ok { IfOk result (λ r. Takes (S.remaining source.old) (S.remaining source.new) 0 self.new.place (head_text r)) }
         ensures reel { IfOk result IsFileReel }
         ensures held { self.new.held ≡ self.old.held }
-        ensures err { IfErr result (Refuses IsPartOfFile FileIsWhole FileShows
+        ensures err { IfErr result (Refuses IsPartOfHead HeadIsWhole HeadShows
             (S.remaining source.old) (S.remaining source.new) 0) }
         ensures failed { IfErr result (λ f. CountsRead f (S.failures source.old) (S.failures source.new)) }
         ensures counted { S.failures source.old ≤ S.failures source.new }

@@ -8,6 +8,7 @@ mod file_fault;
 mod head;
 mod hold_reader;
 mod laws;
+mod merging;
 mod number;
 mod plan;
 mod reading;
@@ -23,6 +24,7 @@ pub use ffv1_holding::{
 };
 pub use file_fault::HoldFileFault;
 pub use laws::{one_fault, one_text, text_shows_no_fault};
+pub use merging::join_streams;
 pub use plan::{Plan, PlanFault, run, same_copies};
 pub use reading::read_hold;
 pub use saving::write_hold;

@@ -14,7 +14,7 @@ ghost use Rattle.ffv1_hold.specs.Saving.{AreWithinLimit, AreWritable, IsTooLong,
 use crate::file_fault::HoldFileFault;
 use ffv1_bits::{FILE_LIMIT, RECORD_LIMIT};
 use ffv1_devices::{Sink, WriteFailed, write_field, write_pair};
-use ffv1_holding::Holding;
+use ffv1_holding::{Holding, Reel};
 
 /// Writes the holding file of a holding.
 ///
@@ -49,21 +49,20 @@ fn write_text<S: Sink>(holding: &Holding, sink: &mut S) -> Result<(), WriteFaile
     ensures err { OnErr result (WritesFront (S.contents sink.old) (S.contents sink.new) (holding_text holding.now)) }
     ensures failed { OnErr result (HasFailed (S.failures sink.old) (S.failures sink.new)) }
 {
-    write_head(sink, holding)?;
+    write_head(sink, holding.reel())?;
     write_entries(sink, holding)?;
     write_field(sink, &[0])?;
     Ok(())
 }
 
 /// Writes what stands before the entries.
-fn write_head<S: Sink>(sink: &mut S, holding: &Holding) -> Result<(), WriteFailed>
-    requires { length holding.now.reel.config ≤ record_limit }
-    ensures ok { OnOk result (Appends (S.contents sink.old) (S.contents sink.new) (head_text holding.now.reel)) }
-    ensures err { OnErr result (WritesFront (S.contents sink.old) (S.contents sink.new) (head_text holding.now.reel)) }
+pub(crate) fn write_head<S: Sink>(sink: &mut S, reel: &Reel) -> Result<(), WriteFailed>
+    requires { length reel.now.config ≤ record_limit }
+    ensures ok { OnOk result (Appends (S.contents sink.old) (S.contents sink.new) (head_text reel.now)) }
+    ensures err { OnErr result (WritesFront (S.contents sink.old) (S.contents sink.new) (head_text reel.now)) }
     ensures failed { OnErr result (HasFailed (S.failures sink.old) (S.failures sink.new)) }
     ensures counted { S.failures sink.old ≤ S.failures sink.new }
 {
-    let reel = holding.reel();
     let config = reel.config();
     let setup = reel.setup();
     let head = reel_head(setup.width(), setup.height(), config.len() as u32);
@@ -104,7 +103,7 @@ fn write_tile<S: Sink>(sink: &mut S, holding: &Holding, tile: usize) -> Result<(
 
 /// What stands before an entry's bytes.
 #[tactic(auto, unfolding(crate::specs::HoldingText::be2, crate::specs::HoldingText::be4))]
-fn entry_head(tile: u16, length: u32) -> [u8; 7]
+pub(crate) fn entry_head(tile: u16, length: u32) -> [u8; 7]
     ensures { result ≡ (1 ∷ be2 tile) ++ be4 length }
 {
     let tile = tile.to_be_bytes();

@@ -10,8 +10,13 @@ use Rattle.ffv1_hold.specs.HoldingText.{head_text, entries_text}
 use Rattle.ffv1_hold.specs.Reading.{Takes}
 use Rattle.ffv1_hold.specs.FileFaults.{IsPartOfEntries, IsPartOfFile, EntriesAreWhole, FileIsWhole, EntriesShow, FileShows}
 use Rattle.ffv1_hold.proofs.ReadRefusals.{Takes-trans, Refuses-after, memory_stops}
-use Rattle.ffv1_hold.proofs.Heads.{head_is_part, file_from_entries_part, file_from_whole_entries, file_from_entries_fault}
+use Rattle.ffv1_hold.proofs.Heads.{head_is_part, head_file, file_from_entries_part, file_from_whole_entries, file_from_entries_fault}
 use Rattle.ffv1_hold.proofs.reading.read_parts.Goals as goal
+
+pub returns-in_err-reel-clause-fault : goal.returns-in_err-reel-clause-fault
+returns-in_err-reel-clause-fault g c =
+    let p = err_from_is_err_and c.from_residual.result c.from_residual.ensures.1 in
+    rw (p.1, p.2) (head_file _ _ _ c.in_err-reel.ensures.err)
 
 -- the head was right, and memory for its tiles was refused
 pub returns-in_err-holding-clause-fault : goal.returns-in_err-holding-clause-fault

@@ -1,0 +1,308 @@
+-- What joining two files answers to texts of one reel, and to heads of two.
+use Rattle.std.proofs.Common.{◌≡◌, ℕ, ◌<◌, true, List, [], ◌∷◌, ◌++◌, length, Option, Some, None, Result, Ok, Err, IfErr, OnOk, IsErrOf, rules, refl, sym, ap, ◌∙◌, subst, inl, inr, arith, append_assoc, append-nil, length-append}
+use Rattle.std.specs.Prelude.{◌⊎◌}
+use Rattle.std.specs.Io.KnownBytes.{Consumes, Appends}
+use Rattle.std.proofs.KnownBytes.{Consumes-nil, Appends-nil}
+use Rattle.ffv1_bits.specs.Limits.{file_limit}
+use Rattle.ffv1_holding.specs.SliceOrder.{Entry}
+use Rattle.ffv1_holding.specs.Sets as set
+use Rattle.ffv1_holding.specs.Reels.{Reel}
+use Rattle.ffv1_holding.specs.Contents.{Contents, IsSameReel, joined}
+use Rattle.ffv1_hold.specs.declared.file_fault.HoldFileFault.{HoldFileFault}
+use Rattle.ffv1_hold.specs.declared.file_fault.HoldFileFault.TheVariants as faults
+use Rattle.ffv1_hold.specs.HoldingText.{be4, magic, sized_record, head_text, entries_text, holding_text}
+use Rattle.ffv1_hold.specs.Reading.{Refuses, StopsIn}
+use Rattle.ffv1_hold.specs.FileFaults.{IsFileReel, IsPartOfReel, IsPartOfHead, HeadIsWhole, HeadShows, IsOutside}
+use Rattle.ffv1_hold.specs.JoinedStreams.{Inputs, IsFileOf, BeginsWith, BeginsWithHead, InputRefuses, ShowsNoFault, BothRefuse, JoinRefuses, EntriesPass, UnionPasses, ReadsPart, ReadsAll, ReadsOtherHeads, WritesUnion, AnswersUnion, AnswersOther, WritesAtMost, WritesNoEnd, StaysInLead, begun_text}
+use Rattle.ffv1_hold.specs.Merging.{HeadsRefuse, WriteStops, Stops, JoinStops, part}
+use Rattle.ffv1_hold.proofs.Bodies.{length-be4}
+use Rattle.ffv1_hold.proofs.TextLaws.{same_head, head_parts, behind_magic, text_parts, one_text, fitting_items}
+use Rattle.ffv1_hold.proofs.FaultLaws.{magic_none, reel_none, sized_cut}
+use Rattle.ffv1_hold.proofs.Answered.{taken_front, taken_all, refused_outside}
+use Rattle.ffv1_hold.proofs.Heads.{head_is_part, head_file}
+use Rattle.ffv1_hold.proofs.MergeSets.{contains-left, contains-right, shorter, union_in, front_contained}
+use Rattle.ffv1_hold.proofs.MergeLeads.{front_entries, stays_in_lead}
+
+-- ---- a head that is there is not refused
+
+-- no beginning of what goes on behind a head shows a fault of a head
+head_none : (r : Reel) → IsFileReel r → (x seen y : List ℕ) (f : HoldFileFault) → head_text r ++ x ≡ seen ++ y → HeadShows f seen → ⊥
+head_none r is x seen y f same (inl shown) = magic_none _ y seen f (sym (head_parts r x) ∙ same) shown
+head_none r is x seen y f same (inr (s, split, shown)) =
+    reel_none r is x y f s (behind_magic _ _ (sym (head_parts r x) ∙ same ∙ ap (λ t. t ++ y) split ∙ append_assoc magic s y)) shown
+
+-- what has a head is no part of one
+head_whole : (r : Reel) → IsFileReel r → (x : List ℕ) → IsPartOfHead (head_text r ++ x) → ⊥
+head_whole r is x (inl part) =
+    omega (arith, part.0, ap length (head_parts r x), length-append magic (sized_record r.config r.setup.width r.setup.height ++ x))
+head_whole r is x (inr (s, split, part)) =
+    sized_cut r.config r.setup.width r.setup.height x is.fits (subst IsPartOfReel (sym (behind_magic _ _ (sym (head_parts r x) ∙ split))) part)
+
+-- a part of a head is short
+part_short : (s : List ℕ) → IsPartOfHead s → length s < file_limit
+part_short s (inl part) = omega (arith, part.0)
+part_short s (inr (p, split, inl short)) = omega (arith, short, ap length split, length-append magic p)
+part_short s (inr (p, split, inr (w, h, n, config, parts, fits, cut))) =
+    omega (
+      arith,
+      fits,
+      cut,
+      ap length split,
+      length-append magic p,
+      ap length parts,
+      length-append (be4 w ++ be4 h ++ be4 n) config,
+      length-append (be4 w ++ be4 h) (be4 n),
+      length-append (be4 w) (be4 h),
+      length-be4 w,
+      length-be4 h,
+      length-be4 n,
+    )
+
+module _ (r : Reel) (is : IsFileReel r) (x : List ℕ) where
+  head_shown : (f : HoldFileFault) (new : Option (List ℕ)) → StopsIn (HeadShows f) (Some (head_text r ++ x)) new 0 → ⊥
+  head_shown f new s = let front = taken_front (head_text r ++ x) s.seen new s.taken in head_none r is x s.seen front.0 f front.1 s.is
+
+  -- a refusal of it is the device's or memory's
+  head_outside : (f : HoldFileFault) (new : Option (List ℕ)) → Refuses IsPartOfHead HeadIsWhole HeadShows (Some (head_text r ++ x)) new 0 f → IsOutside f
+  head_outside faults.Read new s = tt
+  head_outside faults.Memory new s = tt
+  head_outside faults.Write new s = s
+  head_outside faults.OtherReel new s = s
+  head_outside faults.Truncated new s =
+      head_whole r is x (subst IsPartOfHead (sym (taken_all (head_text r ++ x) s.seen new s.taken s.at_end)) s.unfinished)
+  head_outside faults.TooLong new (inl s) = head_shown faults.TooLong new s
+  head_outside faults.TooLong new (inr s) = let short = part_short s.seen s.unfinished in absurd (omega (arith, short, s.at_limit))
+  head_outside faults.Trailing new s = absurd s.whole.2
+  head_outside faults.Magic new s = head_shown faults.Magic new s
+  head_outside (faults.Setup f) new s = head_shown (faults.Setup f) new s
+  head_outside faults.Tag new s = head_shown faults.Tag new s
+  head_outside faults.Order new s = head_shown faults.Order new s
+  head_outside faults.NotASlice new s = head_shown faults.NotASlice new s
+
+-- ---- heads of two reels
+
+-- an input that begins with two heads has one
+one_head : (input : Option (List ℕ)) (r q : Reel) → IsFileReel r → BeginsWith input (head_text r) → BeginsWithHead input q → r ≡ q
+one_head None r q is begins head = absurd (cc)
+one_head (Some xs) r q is begins head =
+    let same : xs ≡ head_text q ++ head.rest = cc in
+    (same_head r q begins.0 head.rest is head.is (sym begins.1 ∙ same)).0
+
+taken_begins : (old new : Option (List ℕ)) (bytes more : List ℕ) → Consumes old new (bytes ++ more) → BeginsWith old bytes
+taken_begins None new bytes more t = tt
+taken_begins (Some xs) None bytes more t = absurd t
+taken_begins (Some xs) (Some ys) bytes more t = (more ++ ys, t ∙ append_assoc bytes more ys)
+
+head_refused : (old new : Option (List ℕ)) (g : Reel) (f : HoldFileFault) → BeginsWithHead old g → Refuses IsPartOfHead HeadIsWhole HeadShows old new 0 f → IsOutside f
+head_refused old new g f head refused =
+    head_outside g head.is head.rest f new (subst (λ (o : Option (List ℕ)). Refuses IsPartOfHead HeadIsWhole HeadShows o new 0 f) head.split refused)
+
+module _ (i : Inputs) (w v : Option (List ℕ)) (g h : Reel) (left : BeginsWithHead i.left_old g) (right : BeginsWithHead i.right_old h) (other : ¬ (g ≡ h)) where
+  other_refused : (f : HoldFileFault) → JoinStops i w v f → IsOutside f ⊎ (f ≡ faults.OtherReel)
+  other_refused f (inl (inl (refused, same), untouched)) = inl (head_refused _ _ g f left refused)
+  other_refused f (inl (inr (inl (head, refused)), untouched)) = inl (head_refused _ _ h f right refused)
+  other_refused f (inl (inr (inr (is, heads)), untouched)) = inr is
+  other_refused f (inr s) = absurd (other (sym (one_head _ s.reel g s.is s.left_head left) ∙ one_head _ s.reel h s.is s.right_head right))
+
+  whole_head : (old new : Option (List ℕ)) (x : Contents) → ReadsAll old new x → BeginsWith old (head_text x.reel)
+  whole_head old new x a =
+      taken_begins old new (head_text x.reel) (entries_text (set.items x.slices) ++ 0 ∷ []) (subst (Consumes old new) (text_parts x) a.taken)
+
+  file_reel : (old new : Option (List ℕ)) (x : Contents) → ReadsAll old new x → IsFileReel x.reel
+  file_reel old new x a = record { reel = a.sound.reel; fits = a.fits.record' }
+
+  other_written : WritesUnion i w v → ⊥
+  other_written u =
+      let one = one_head _ u.left.reel g (file_reel _ _ u.left u.read.left_read) (whole_head _ _ u.left u.read.left_read) left in
+      let two = one_head _ u.right.reel h (file_reel _ _ u.right u.read.right_read) (whole_head _ _ u.right u.read.right_read) right in
+      other (sym one ∙ u.read.same ∙ two)
+
+  pub answers_other : (r : Result (Unit {0}) HoldFileFault) → OnOk r (WritesUnion i w v) → IfErr r (JoinStops i w v) → AnswersOther r
+  answers_other (Ok x) ok err = other_written ok
+  answers_other (Err f) ok err = other_refused f err
+
+-- ---- texts of one reel
+
+-- what was read of a text has entries of it alone
+part_of_text : (old new : Option (List ℕ)) (h part' : Contents) → IsFileOf old h → ReadsPart old new part' → (e : Entry)
+    → set.contains part'.slices e ≡ true → set.contains h.slices e ≡ true
+part_of_text old new h q file p e held =
+    let es = entries_text (set.items q.slices) in
+    let front = taken_front (holding_text h) (begun_text q ++ p.more) new
+    (subst (λ (o : Option (List ℕ)). Consumes o new (begun_text q ++ p.more)) file.text p.taken) in
+    let heads = same_head h.reel q.reel _ _ (record { reel = file.sound.reel; fits = file.fits.record' }) (record { reel = p.sound.reel; fits = p.record' })
+    (sym (text_parts h) ∙ front.1 ∙ append_assoc (begun_text q) p.more front.0 ∙ append_assoc (head_text q.reel) es (p.more ++ front.0)) in
+    let more = front_entries (set.items h.slices) (set.items q.slices) [] (p.more ++ front.0) (fitting_items h.reel file.sound.reel h.slices file.sound.slices)
+    (fitting_items q.reel p.sound.reel q.slices p.sound.slices) heads.1 in
+    front_contained q.slices h.slices more.0 more.1 e held
+
+part_reel : (old new : Option (List ℕ)) (h part' : Contents) → IsFileOf old h → ReadsPart old new part' → part'.reel ≡ h.reel
+part_reel old new h q file p =
+    one_head old q.reel h.reel (record { reel = p.sound.reel; fits = p.record' })
+    (taken_begins old new (head_text q.reel) (entries_text (set.items q.slices) ++ p.more)
+    (subst (Consumes old new) (append_assoc (head_text q.reel) (entries_text (set.items q.slices)) p.more) p.taken))
+    (record {
+      is = record { reel = file.sound.reel; fits = file.fits.record' };
+      rest = entries_text (set.items h.slices) ++ 0 ∷ [];
+      split = file.text ∙ ap Some (text_parts h);
+    })
+
+whole_is : (old new : Option (List ℕ)) (h q : Contents) → IsFileOf old h → ReadsAll old new q → q ≡ h
+whole_is old new h q file a =
+    let all = taken_all (holding_text h) (holding_text q) new (subst (λ (o : Option (List ℕ)). Consumes o new (holding_text q)) file.text a.taken) a.at_end in
+    one_text q h a.sound file.sound a.fits.record' file.fits.record' (sym all)
+
+file_refused : (old new : Option (List ℕ)) (h : Contents) (f : HoldFileFault) → IsFileOf old h → InputRefuses old new f → IsOutside f
+file_refused old new h f file refused =
+    refused_outside h file.sound file.fits f new (subst (λ (o : Option (List ℕ)). InputRefuses o new f) file.text refused)
+
+module _ (i : Inputs) (w v : Option (List ℕ)) (g h : Contents) (same : IsSameReel g h) (left : IsFileOf i.left_old g) (right : IsFileOf i.right_old h) where
+  -- the entries so far are no more than those of both
+  entries_within : EntriesPass i → file_limit < length (holding_text (joined g h))
+  entries_within p =
+      let few = shorter (set.union p.left.slices p.right.slices) (set.union g.slices h.slices)
+      (union_in p.left.slices p.right.slices (set.union g.slices h.slices)
+      (λ e held. contains-left g.slices h.slices e (part_of_text _ _ g p.left left p.read.left_read e held))
+      (λ e held. contains-right g.slices h.slices e (part_of_text _ _ h p.right right p.read.right_read e held))) in
+      omega (
+        arith,
+        p.over,
+        few,
+        ap (λ (q : Reel). length (head_text q)) (part_reel _ _ g p.left left p.read.left_read),
+        length-append (head_text p.left.reel) (entries_text (set.items (set.union p.left.slices p.right.slices))),
+        length-append (head_text g.reel) (entries_text (set.items (set.union g.slices h.slices))),
+        length-append (begun_text (joined g h)) (0 ∷ []),
+      )
+
+  union_passes : UnionPasses i → file_limit < length (holding_text (joined g h))
+  union_passes u =
+      let l = whole_is _ _ g u.left left u.read.left_read in
+      let r = whole_is _ _ h u.right right u.read.right_read in
+      subst (λ (x : Contents). file_limit < length (holding_text (joined x h))) l
+      (subst (λ (x : Contents). file_limit < length (holding_text (joined u.left x))) r u.over)
+
+  heads_same : ReadsOtherHeads i → ⊥
+  heads_same o =
+      let begins : (old new : Option (List ℕ)) (r : Reel) → Consumes old new (head_text r) → BeginsWith old (head_text r) =
+      λ old new r t. taken_begins old new (head_text r) [] (subst (Consumes old new) (sym (append-nil (head_text r))) t) in
+      let head : (old : Option (List ℕ)) (x : Contents) → IsFileOf old x → BeginsWithHead old x.reel = λ old x file. record {
+        is = record { reel = file.sound.reel; fits = file.fits.record' };
+        rest = entries_text (set.items x.slices) ++ 0 ∷ [];
+        split = file.text ∙ ap Some (text_parts x);
+      } in
+      let one = one_head _ o.left g.reel o.left_is (begins _ _ o.left o.left_taken) (head _ g left) in
+      let two = one_head _ o.right h.reel o.right_is (begins _ _ o.right o.right_taken) (head _ h right) in
+      o.other (one ∙ same ∙ sym two)
+
+  abbrev Outcome : HoldFileFault → Type 0
+  Outcome f = IsOutside f ⊎ ((f ≡ faults.Write) ⊎ ((f ≡ faults.TooLong) × (file_limit < length (holding_text (joined g h)))))
+
+  both_refused : (f : HoldFileFault) → BothRefuse i f → Outcome f
+  both_refused faults.Write b = inr (inl refl)
+  both_refused faults.OtherReel b = absurd (heads_same b)
+  both_refused faults.TooLong (inl b) = inr (inr (refl, entries_within b.0))
+  both_refused faults.TooLong (inr b) = inr (inr (refl, union_passes b))
+  both_refused faults.Magic b = absurd b
+  both_refused (faults.Setup f) b = absurd b
+  both_refused faults.Truncated b = absurd b
+  both_refused faults.Tag b = absurd b
+  both_refused faults.Order b = absurd b
+  both_refused faults.NotASlice b = absurd b
+  both_refused faults.Trailing b = absurd b
+  both_refused faults.Read b = absurd b
+  both_refused faults.Memory b = absurd b
+
+  refused : (f : HoldFileFault) → JoinStops i w v f → Outcome f
+  refused f (inl (inl (r, untaken), untouched)) = inl (file_refused _ _ g f left (head_file _ _ f r))
+  refused f (inl (inr (inl (head, r)), untouched)) = inl (file_refused _ _ h f right (head_file _ _ f r))
+  refused f (inl (inr (inr (is, heads)), untouched)) = absurd (heads_same heads)
+  refused f (inr s) = elim s.fault [
+    | inl (inl r) ↦ inl (file_refused _ _ g f left r.0)
+    | inl (inr r) ↦ inl (file_refused _ _ h f right r.0)
+    | inr b ↦ both_refused f b
+  ]
+
+  pub answers_union : (r : Result (Unit {0}) HoldFileFault) → IfErr r (JoinStops i w v) → AnswersUnion (joined g h) r
+  answers_union (Ok x) err = tt
+  answers_union (Err f) err = refused f err
+
+-- ---- what a refusal says, one fact at a time
+
+-- of an input of which nothing was read
+nothing_shown : (old new : Option (List ℕ)) → new ≡ old → ShowsNoFault old new
+nothing_shown old new same = record {
+  seen = [];
+  taken = subst (λ (n : Option (List ℕ)). Consumes old n []) (sym same) (Consumes-nil old);
+  sound = inl (inl (omega arith, refl));
+}
+
+module _ (i : Inputs) (w v : Option (List ℕ)) where
+  pub join_refuses : (f : HoldFileFault) → JoinStops i w v f → JoinRefuses i f
+  join_refuses f (inl (inl (r, untaken), untouched)) = inl (inl (head_file _ _ f r, nothing_shown _ _ untaken))
+  join_refuses f (inl (inr (inl ((q, is, taken), r)), untouched)) = inl (inr (
+    head_file _ _ f r,
+    record {
+      seen = head_text q;
+      taken = taken;
+      sound = inl (head_is_part q is);
+    },
+  ))
+  join_refuses f (inl (inr (inr (is, heads)), untouched)) = inr (subst (BothRefuse i) (sym is) heads)
+  join_refuses f (inr s) = s.fault
+
+  pub writes_no_end : (f : HoldFileFault) → JoinStops i w v f → (f ≡ faults.Write → ⊥) → WritesNoEnd i w v
+  writes_no_end f (inl (heads, untouched)) other = inl (subst (λ (o : Option (List ℕ)). Appends w o []) (sym untouched) (Appends-nil w))
+  writes_no_end f (inr s) other = s.no_end other
+
+  writes_at_most : (f : HoldFileFault) → JoinStops i w v f → WritesAtMost w v file_limit
+  writes_at_most f (inl (heads, untouched)) = record {
+    done = [];
+    written = subst (λ (o : Option (List ℕ)). Appends w o []) (sym untouched) (Appends-nil w);
+    few = omega arith;
+  }
+  writes_at_most f (inr s) = s.most
+
+  heads_write : HeadsRefuse i faults.Write → ⊥
+  heads_write (inl (r, untaken)) = r
+  heads_write (inr (inl (head, r))) = r
+  heads_write (inr (inr (is, heads))) = absurd (cc)
+
+  -- after a failed write both heads are of one reel
+  pub write_stops : JoinStops i w v faults.Write → (q : Reel) × IsFileReel q × WriteStops i q w v
+  write_stops (inl (heads, untouched)) = absurd (heads_write heads)
+  write_stops (inr s) = (s.reel, s.is, s.write refl)
+
+  pub left_stays : (h : Contents) → IsFileOf i.left_old h → JoinStops i w v faults.Write → StaysInLead h i.left_old i.left_new w v
+  left_stays h file stops = let s = write_stops stops in
+      stays_in_lead h s.0 s.1 i.left_old i.left_new w v s.2.done file s.2.left s.2.written
+
+  pub right_stays : (h : Contents) → IsFileOf i.right_old h → JoinStops i w v faults.Write → StaysInLead h i.right_old i.right_new w v
+  right_stays h file stops = let s = write_stops stops in
+      stays_in_lead h s.0 s.1 i.right_old i.right_new w v s.2.done file s.2.right s.2.written
+
+  pub says : (Q : HoldFileFault → Type 0) → ((f : HoldFileFault) → JoinStops i w v f → Q f) → (r : Result (Unit {0}) HoldFileFault)
+      → IfErr r (JoinStops i w v) → IfErr r Q
+  says Q each (Ok x) err = tt
+  says Q each (Err f) err = each f err
+
+  pub says_write : (Q : Type 0) → (JoinStops i w v faults.Write → Q) → (r : Result (Unit {0}) HoldFileFault) → IfErr r (JoinStops i w v)
+      → IsErrOf r faults.Write → Q
+  says_write Q each (Ok x) err is = absurd (search rules)
+  says_write Q each (Err f) err is =
+      let same : f ≡ faults.Write = search rules in
+      each (subst (JoinStops i w v) same err)
+
+  pub at_most : (r : Result (Unit {0}) HoldFileFault) → OnOk r (WritesAtMost w v file_limit) → IfErr r (JoinStops i w v) → WritesAtMost w v file_limit
+  at_most (Ok x) ok err = ok
+  at_most (Err f) ok err = writes_at_most f err
+
+  -- a refusal behind the heads
+  pub behind_heads : (r : Result (Unit {0}) HoldFileFault) → IfErr r (Stops i w v) → IfErr r (JoinStops i w v)
+  behind_heads (Ok x) err = tt
+  behind_heads (Err f) err = inr err
+
+  pub never_other : (Q : Type 0) (r : Result (Unit {0}) HoldFileFault) → IfErr r (Stops i w v) → IsErrOf r faults.OtherReel → Q
+  never_other Q (Ok x) err is = absurd (search rules)
+  never_other Q (Err f) err is =
+      let same : f ≡ faults.OtherReel = search rules in
+      absurd (err.inside same)

@@ -1,0 +1,323 @@
+//! Joining two holding files as streams (own).
+ghost use Rattle.std.specs.Prelude.{◌≡◌, ◌≢◌, ◌+◌, ◌≤◌, ◌⊎◌, None, length, OnOk, IfOk, IfErr, IsErrOf, IfSome, IfNone};
+ghost use Rattle.std.specs.Io.KnownBytes.{Appends};
+ghost use Rattle.ffv1_bits.specs.Limits.{slice_limit, record_limit, file_limit};
+ghost use Rattle.ffv1_devices.specs.Streams.{HasFailed};
+ghost use Rattle.ffv1_holding.specs.Reels.{Reel};
+ghost use Rattle.ffv1_holding.specs.Contents.{Contents, IsSameReel, joined};
+ghost use Rattle.ffv1_hold.specs.HoldingText.{head_text, entry_text};
+ghost use Rattle.ffv1_hold.specs.Reading.{Takes};
+ghost use Rattle.ffv1_hold.specs.FileFaults.{IsFileReel};
+ghost use Rattle.ffv1_hold.specs.JoinedStreams.{IsFileOf, WritesUnion, AnswersUnion, BeginsWithHead, AnswersOther, JoinRefuses, WritesNoEnd, WritesFrontSoFar, WritesAtMost, StaysInLead};
+ghost use Rattle.ffv1_hold.specs.Merging.{Start, inputs_from, IsOpened, Stands, Stops, JoinStops, HeadsRefuse, Ends, IsTurn, EntryStops};
+
+use crate::entry::HeldSlice;
+use crate::file_fault::HoldFileFault;
+use crate::hold_reader::HoldReader;
+use crate::saving::{entry_head, write_head};
+use ffv1_bits::FILE_LIMIT;
+use ffv1_devices::{Sink, Source, write_field, write_pair};
+use ffv1_holding::Reel;
+use ffv1_range::Setup;
+use std::alloc::Global;
+use std::cmp::Ordering;
+
+/// Joins two holding files as streams: reads both, and writes the holding file of the union.
+///
+/// Both heads are read and judged before anything is written. Then the smaller of the inputs' next entries is written, once
+/// where both have it, and its input is read on: one entry of each is held, and one more of an input while it is compared with
+/// the one before it. `OtherReel` comes exactly where both heads were read and their record, width or height differ, before
+/// anything is written. `TooLong` comes where an input passes its limits, or where what is written would pass 2^31 bytes; each
+/// other fault is the one that `read_hold` tells of that input. The end tag is written only where both inputs were read to
+/// their ends and show no fault. `Read` and `Write` come only where a source or the sink counted a failure: an interrupted try
+/// is made again, and 65 in a row are a failure. After `Write` each input that is a text was read at most to the end of its
+/// first entry that is not whole in what was written. `Memory` comes where a growth is refused.
+pub fn join_streams<R: Source, Q: Source, W: Sink>(
+    alloc: Global,
+    left: &mut R,
+    right: &mut Q,
+    sink: &mut W,
+) -> Result<(), HoldFileFault>
+    // Both inputs are the texts of holdings of one reel, and the text of their union was written.
+    ensures joined { OnOk result (WritesUnion (record {
+      left_old = R.remaining left.old;
+      left_new = R.remaining left.new;
+      right_old = Q.remaining right.old;
+      right_new = Q.remaining right.new;
+    }) (W.contents sink.old) (W.contents sink.new)) }
+
+    // Such inputs are answered by that, by `Read`, `Write` or `Memory`, or by `TooLong` where the union has no text.
+    ensures only { (g h : Contents) → IsSameReel g h → IsFileOf (R.remaining left.old) g → IsFileOf (Q.remaining right.old) h
+        → AnswersUnion (joined g h) result }
+
+    // Inputs that begin with heads of two reels are answered by `OtherReel`, or by `Read` or `Memory`.
+    ensures other { (g h : Reel) → BeginsWithHead (R.remaining left.old) g → BeginsWithHead (Q.remaining right.old) h → ¬ (g ≡ h)
+        → AnswersOther result }
+    ensures untouched { IsErrOf result HoldFileFault.OtherReel → sink.new ≡ sink.old }
+
+    // The bytes that were read show the fault, and it is the first: what was taken of the other input shows none.
+    ensures fault { IfErr result (JoinRefuses (record {
+      left_old = R.remaining left.old;
+      left_new = R.remaining left.new;
+      right_old = Q.remaining right.old;
+      right_new = Q.remaining right.new;
+    })) }
+
+    // After `Write` no more was taken of an input that is a text than up to its lead.
+    ensures left_lead { (h : Contents) → IsFileOf (R.remaining left.old) h → IsErrOf result HoldFileFault.Write
+        → StaysInLead h (R.remaining left.old) (R.remaining left.new) (W.contents sink.old) (W.contents sink.new) }
+    ensures right_lead { (h : Contents) → IsFileOf (Q.remaining right.old) h → IsErrOf result HoldFileFault.Write
+        → StaysInLead h (Q.remaining right.old) (Q.remaining right.new) (W.contents sink.old) (W.contents sink.new) }
+
+    // What was written: after `Write` a front of a text, after another refusal no end tag.
+    ensures write { IsErrOf result HoldFileFault.Write → WritesFrontSoFar (record {
+      left_old = R.remaining left.old;
+      left_new = R.remaining left.new;
+      right_old = Q.remaining right.old;
+      right_new = Q.remaining right.new;
+    }) (W.contents sink.old) (W.contents sink.new) }
+    ensures no_end { IfErr result (λ f. f ≢ HoldFileFault.Write → WritesNoEnd (record {
+      left_old = R.remaining left.old;
+      left_new = R.remaining left.new;
+      right_old = Q.remaining right.old;
+      right_new = Q.remaining right.new;
+    }) (W.contents sink.old) (W.contents sink.new)) }
+    ensures most { WritesAtMost (W.contents sink.old) (W.contents sink.new) file_limit }
+
+    ensures read_failed { IsErrOf result HoldFileFault.Read
+        → HasFailed (R.failures left.old) (R.failures left.new) ⊎ HasFailed (Q.failures right.old) (Q.failures right.new) }
+    ensures write_failed { IsErrOf result HoldFileFault.Write → HasFailed (W.failures sink.old) (W.failures sink.new) }
+
+    ensures left_taken { R.taken left.new ≤ R.taken left.old + file_limit + 1 }
+    ensures right_taken { Q.taken right.new ≤ Q.taken right.old + file_limit + 1 }
+{
+    merge_files(alloc, left, right, sink)
+}
+
+/// Reads both heads, and then joins what is behind them.
+fn merge_files<R: Source, Q: Source, W: Sink>(
+    alloc: Global,
+    left: &mut R,
+    right: &mut Q,
+    sink: &mut W,
+) -> Result<(), HoldFileFault>
+    ensures ok { OnOk result (WritesUnion (record {
+      left_old = R.remaining left.old;
+      left_new = R.remaining left.new;
+      right_old = Q.remaining right.old;
+      right_new = Q.remaining right.new;
+    }) (W.contents sink.old) (W.contents sink.new)) }
+    ensures most { OnOk result (WritesAtMost (W.contents sink.old) (W.contents sink.new) file_limit) }
+    ensures err { IfErr result (JoinStops (record {
+      left_old = R.remaining left.old;
+      left_new = R.remaining left.new;
+      right_old = Q.remaining right.old;
+      right_new = Q.remaining right.new;
+    }) (W.contents sink.old) (W.contents sink.new)) }
+    ensures untouched { IsErrOf result HoldFileFault.OtherReel → sink.new ≡ sink.old }
+    ensures read_failed { IsErrOf result HoldFileFault.Read
+        → HasFailed (R.failures left.old) (R.failures left.new) ⊎ HasFailed (Q.failures right.old) (Q.failures right.new) }
+    ensures write_failed { IsErrOf result HoldFileFault.Write → HasFailed (W.failures sink.old) (W.failures sink.new) }
+    ensures left_taken { R.taken left.new ≤ R.taken left.old + file_limit + 1 }
+    ensures right_taken { Q.taken right.new ≤ Q.taken right.old + file_limit + 1 }
+{
+    let mut merge = Merge::new();
+    let reel = merge.read_heads(alloc, left, right)?;
+    merge.join_behind(alloc, &reel, left, right, sink)
+}
+
+/// How far both inputs were read, the next entry of each, and how many bytes the file still has room for.
+#[derive(Drop)]
+struct Merge {
+    lefts: HoldReader,
+    rights: HoldReader,
+    room: u32,
+}
+
+impl Merge {
+    /// Nothing was read or written yet.
+    fn new() -> Merge
+        ensures left_start { result.lefts.place ≡ 0 }
+        ensures right_start { result.rights.place ≡ 0 }
+        ensures left_held { result.lefts.held ≡ None }
+        ensures right_held { result.rights.held ≡ None }
+        ensures room { result.room ≡ file_limit }
+    {
+        Merge {
+            lefts: HoldReader::new(),
+            rights: HoldReader::new(),
+            room: FILE_LIMIT,
+        }
+    }
+
+    /// Reads both heads, the left one first, which are of one reel.
+    fn read_heads<R: Source, Q: Source>(
+        &mut self,
+        alloc: Global,
+        left: &mut R,
+        right: &mut Q,
+    ) -> Result<Reel, HoldFileFault>
+        requires left_start { self.old.lefts.place ≡ 0 }
+        requires right_start { self.old.rights.place ≡ 0 }
+        ensures left { IfOk result (λ r. Takes (R.remaining left.old) (R.remaining left.new) 0 self.new.lefts.place (head_text r)) }
+        ensures right { IfOk result (λ r. Takes (Q.remaining right.old) (Q.remaining right.new) 0 self.new.rights.place (head_text r)) }
+        ensures reel { IfOk result IsFileReel }
+        ensures left_held { self.new.lefts.held ≡ self.old.lefts.held }
+        ensures right_held { self.new.rights.held ≡ self.old.rights.held }
+        ensures room { self.new.room ≡ self.old.room }
+        ensures err { IfErr result (HeadsRefuse (record {
+          left_old = R.remaining left.old;
+          left_new = R.remaining left.new;
+          right_old = Q.remaining right.old;
+          right_new = Q.remaining right.new;
+        })) }
+        ensures read_failed { IsErrOf result HoldFileFault.Read
+            → HasFailed (R.failures left.old) (R.failures left.new) ⊎ HasFailed (Q.failures right.old) (Q.failures right.new) }
+        ensures left_counted { R.failures left.old ≤ R.failures left.new }
+        ensures right_counted { Q.failures right.old ≤ Q.failures right.new }
+        ensures left_taken { OnOk result (R.taken left.new ≤ R.taken left.old + self.new.lefts.place) }
+        ensures right_taken { OnOk result (Q.taken right.new ≤ Q.taken right.old + self.new.rights.place) }
+        ensures left_most { R.taken left.new ≤ R.taken left.old + file_limit + 1 }
+        ensures right_most { Q.taken right.new ≤ Q.taken right.old + file_limit + 1 }
+    {
+        let reel = self.lefts.read_head(alloc, left)?;
+        let other = self.rights.read_head(alloc, right)?;
+        if !reel.is_same(&other) {
+            return Err(HoldFileFault::OtherReel);
+        }
+        Ok(reel)
+    }
+
+    /// Writes the head of the reel, the entries of both inputs in their order, each once, and then the end tag.
+    fn join_behind<R: Source, Q: Source, W: Sink>(
+        &mut self,
+        alloc: Global,
+        reel: &Reel,
+        left: &mut R,
+        right: &mut Q,
+        sink: &mut W,
+    ) -> Result<(), HoldFileFault>
+        requires left_place { self.old.lefts.place ≤ file_limit }
+        requires right_place { self.old.rights.place ≤ file_limit }
+        requires left_held { self.old.lefts.held ≡ None }
+        requires right_held { self.old.rights.held ≡ None }
+        requires room { self.old.room ≡ file_limit }
+        requires reel { length reel.now.config ≤ record_limit }
+        ensures ok { (s : Start) → IsOpened s reel.now (R.remaining left.old) (Q.remaining right.old) (W.contents sink.old)
+            self.old.lefts.place self.old.rights.place
+            → OnOk result (WritesUnion (inputs_from s (R.remaining left.new) (Q.remaining right.new)) s.sink (W.contents sink.new)) }
+        ensures most { (s : Start) → IsOpened s reel.now (R.remaining left.old) (Q.remaining right.old) (W.contents sink.old)
+            self.old.lefts.place self.old.rights.place
+            → OnOk result (WritesAtMost s.sink (W.contents sink.new) file_limit) }
+        ensures err { (s : Start) → IsOpened s reel.now (R.remaining left.old) (Q.remaining right.old) (W.contents sink.old)
+            self.old.lefts.place self.old.rights.place
+            → IfErr result (Stops (inputs_from s (R.remaining left.new) (Q.remaining right.new)) s.sink (W.contents sink.new)) }
+        ensures read_failed { IsErrOf result HoldFileFault.Read
+            → HasFailed (R.failures left.old) (R.failures left.new) ⊎ HasFailed (Q.failures right.old) (Q.failures right.new) }
+        ensures write_failed { IsErrOf result HoldFileFault.Write → HasFailed (W.failures sink.old) (W.failures sink.new) }
+        ensures left_taken { R.taken left.new + self.old.lefts.place ≤ R.taken left.old + file_limit + 1 }
+        ensures right_taken { Q.taken right.new + self.old.rights.place ≤ Q.taken right.old + file_limit + 1 }
+    {
+        write_head(sink, reel)?;
+        self.room -= 20 + reel.config().len() as u32;
+        let setup = reel.setup();
+        self.lefts.advance(alloc, left, setup)?;
+        self.rights.advance(alloc, right, setup)?;
+        self.join_entries(alloc, setup, left, right, sink)?;
+        if self.room == 0 {
+            return Err(HoldFileFault::TooLong);
+        }
+        write_field(sink, &[0])?;
+        Ok(())
+    }
+
+    /// Writes the entries of both inputs in their order, each once, and reads both to their ends. The tag behind an entry is
+    /// read only after that entry was written.
+    fn join_entries<R: Source, Q: Source, W: Sink>(
+        &mut self,
+        alloc: Global,
+        setup: &Setup,
+        left: &mut R,
+        right: &mut Q,
+        sink: &mut W,
+    ) -> Result<(), HoldFileFault>
+        requires left_place { self.old.lefts.place ≤ file_limit }
+        requires right_place { self.old.rights.place ≤ file_limit }
+        requires left_fits { IfSome self.old.lefts.held (λ e. length e.1 ≤ slice_limit) }
+        requires right_fits { IfSome self.old.rights.held (λ e. length e.1 ≤ slice_limit) }
+        ensures ok { (s : Start) → setup.now ≡ s.reel.setup
+            → Stands s (R.remaining left.old) (Q.remaining right.old) (W.contents sink.old)
+            self.old.lefts.place self.old.rights.place self.old.room self.old.lefts.held self.old.rights.held
+            → OnOk result (Ends s (R.remaining left.new) (Q.remaining right.new) (W.contents sink.new) self.new.room) }
+        ensures err { (s : Start) → setup.now ≡ s.reel.setup
+            → Stands s (R.remaining left.old) (Q.remaining right.old) (W.contents sink.old)
+            self.old.lefts.place self.old.rights.place self.old.room self.old.lefts.held self.old.rights.held
+            → IfErr result (Stops (inputs_from s (R.remaining left.new) (Q.remaining right.new)) s.sink (W.contents sink.new)) }
+        ensures read_failed { IsErrOf result HoldFileFault.Read
+            → HasFailed (R.failures left.old) (R.failures left.new) ⊎ HasFailed (Q.failures right.old) (Q.failures right.new) }
+        ensures write_failed { IsErrOf result HoldFileFault.Write → HasFailed (W.failures sink.old) (W.failures sink.new) }
+        ensures counted { W.failures sink.old ≤ W.failures sink.new }
+        ensures left_taken { R.taken left.new + self.old.lefts.place ≤ R.taken left.old + file_limit + 1 }
+        ensures right_taken { Q.taken right.new + self.old.rights.place ≤ Q.taken right.old + file_limit + 1 }
+    {
+        while let Some((slice, order)) = next_slice(&self.lefts.held, &self.rights.held) {
+            write_entry(sink, &mut self.room, slice)?;
+            match order {
+                Ordering::Less => self.lefts.advance(alloc, left, setup)?,
+                Ordering::Greater => self.rights.advance(alloc, right, setup)?,
+                Ordering::Equal => {
+                    self.lefts.advance(alloc, left, setup)?;
+                    self.rights.advance(alloc, right, setup)?;
+                }
+            }
+        }
+        Ok(())
+    }
+}
+
+/// The smaller of the next entries of both inputs, and how the left one's stands to the right one's, where an end is behind all.
+fn next_slice<'a>(
+    left: &'a Option<HeldSlice>,
+    right: &'a Option<HeldSlice>,
+) -> Option<(&'a HeldSlice, Ordering)>
+    ensures some { IfSome result (λ t. IsTurn left.now right.now t.0.now t.1) }
+    ensures none { IfNone result ((left.now ≡ None) × (right.now ≡ None)) }
+{
+    match left {
+        Some(a) => match right {
+            Some(b) => match a.compare(b) {
+                Ordering::Less => Some((a, Ordering::Less)),
+                Ordering::Equal => Some((a, Ordering::Equal)),
+                Ordering::Greater => Some((b, Ordering::Greater)),
+            },
+            None => Some((a, Ordering::Less)),
+        },
+        None => match right {
+            Some(b) => Some((b, Ordering::Greater)),
+            None => None,
+        },
+    }
+}
+
+/// Writes an entry where there is room for it.
+fn write_entry<W: Sink>(
+    sink: &mut W,
+    room: &mut u32,
+    slice: &HeldSlice,
+) -> Result<(), HoldFileFault>
+    requires { length slice.now.1 ≤ slice_limit }
+    ensures ok { OnOk result (Appends (W.contents sink.old) (W.contents sink.new) (entry_text slice.now)) }
+    ensures room { OnOk result (room.new + length (entry_text slice.now) ≡ room.old) }
+    ensures err { IfErr result (EntryStops (W.contents sink.old) (W.contents sink.new) room.old slice.now) }
+    ensures failed { IsErrOf result HoldFileFault.Write → HasFailed (W.failures sink.old) (W.failures sink.new) }
+    ensures counted { W.failures sink.old ≤ W.failures sink.new }
+{
+    let length = slice.bytes.len() as u32;
+    let Some(left) = room.checked_sub(7 + length) else {
+        return Err(HoldFileFault::TooLong);
+    };
+    let head = entry_head(slice.tile, length);
+    write_pair(sink, &head, &slice.bytes)?;
+    *room = left;
+    Ok(())
+}
