@@ -74,6 +74,7 @@ pub fn write_pair<S: Sink>(sink: &mut S, first: &[u8], second: &[u8]) -> Result<
     ensures unbroken { OnOk result (S.broken sink.new ≡ S.broken sink.old) }
     ensures broken_once { S.broken sink.new ≤ S.broken sink.old + 1 }
     ensures counted { S.failures sink.old ≤ S.failures sink.new }
+    ensures same_reference { S.reference sink.new ≡ S.reference sink.old }
 {
     write_field(sink, first)?;
     write_field(sink, second)?;

@@ -90,6 +90,7 @@ pub fn join_streams<R: Source, Q: Source, W: Sink>(
 
     ensures left_taken { R.taken left.new ≤ R.taken left.old + file_limit + 1 }
     ensures right_taken { Q.taken right.new ≤ Q.taken right.old + file_limit + 1 }
+    ensures same_reference { W.reference sink.new ≡ W.reference sink.old }
 {
     merge_files(alloc, left, right, sink)
 }
@@ -120,6 +121,7 @@ fn merge_files<R: Source, Q: Source, W: Sink>(
     ensures write_failed { IsErrOf result HoldFileFault.Write → HasFailed (W.failures sink.old) (W.failures sink.new) }
     ensures left_taken { R.taken left.new ≤ R.taken left.old + file_limit + 1 }
     ensures right_taken { Q.taken right.new ≤ Q.taken right.old + file_limit + 1 }
+    ensures same_reference { W.reference sink.new ≡ W.reference sink.old }
 {
     let mut merge = Merge::new();
     let reel = merge.read_heads(alloc, left, right)?;
@@ -217,6 +219,7 @@ impl Merge {
         ensures write_failed { IsErrOf result HoldFileFault.Write → HasFailed (W.failures sink.old) (W.failures sink.new) }
         ensures left_taken { R.taken left.new + self.old.lefts.place ≤ R.taken left.old + file_limit + 1 }
         ensures right_taken { Q.taken right.new + self.old.rights.place ≤ Q.taken right.old + file_limit + 1 }
+        ensures same_reference { W.reference sink.new ≡ W.reference sink.old }
     {
         write_head(sink, reel)?;
         self.room -= 20 + reel.config().len() as u32;
@@ -259,6 +262,7 @@ impl Merge {
         ensures counted { W.failures sink.old ≤ W.failures sink.new }
         ensures left_taken { R.taken left.new + self.old.lefts.place ≤ R.taken left.old + file_limit + 1 }
         ensures right_taken { Q.taken right.new + self.old.rights.place ≤ Q.taken right.old + file_limit + 1 }
+        ensures same_reference { W.reference sink.new ≡ W.reference sink.old }
     {
         while let Some((slice, order)) = next_slice(&self.lefts.held, &self.rights.held) {
             write_entry(sink, &mut self.room, slice)?;
@@ -311,6 +315,7 @@ fn write_entry<W: Sink>(
     ensures err { IfErr result (EntryStops (W.contents sink.old) (W.contents sink.new) room.old slice.now) }
     ensures failed { IsErrOf result HoldFileFault.Write → HasFailed (W.failures sink.old) (W.failures sink.new) }
     ensures counted { W.failures sink.old ≤ W.failures sink.new }
+    ensures same_reference { W.reference sink.new ≡ W.reference sink.old }
 {
     let length = slice.bytes.len() as u32;
     let Some(left) = room.checked_sub(7 + length) else {

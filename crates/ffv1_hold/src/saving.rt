@@ -62,6 +62,7 @@ pub(crate) fn write_head<S: Sink>(sink: &mut S, reel: &Reel) -> Result<(), Write
     ensures err { OnErr result (WritesFront (S.contents sink.old) (S.contents sink.new) (head_text reel.now)) }
     ensures failed { OnErr result (HasFailed (S.failures sink.old) (S.failures sink.new)) }
     ensures counted { S.failures sink.old ≤ S.failures sink.new }
+    ensures same_reference { S.reference sink.new ≡ S.reference sink.old }
 {
     let config = reel.config();
     let setup = reel.setup();

@@ -1,4 +1,4 @@
-use Rattle.std.proofs.Common.{Option, IfSome, subst, arith}
+use Rattle.std.proofs.Common.{Option, IfSome, subst, arith, ◌∙◌}
 use Rattle.std.specs.declared.cmp.Ordering.TheVariants.{Less, Equal, Greater}
 use Rattle.std.proofs.lemmas.Result.{err_from_is_err_and}
 use Rattle.ffv1_holding.specs.SliceOrder.{Entry}
@@ -33,6 +33,7 @@ loop-slice-preserved-in-Continue-branch-2 g c =
       right_counted = c.loop-slice.invariant.right_counted;
       left_taken = omega (arith, c.loop-slice.invariant.left_taken, read.taken);
       right_taken = c.loop-slice.invariant.right_taken;
+      same_reference = wrote.same_reference ∙ c.loop-slice.invariant.same_reference;
       sink_counted = omega (arith, c.loop-slice.invariant.sink_counted, wrote.counted);
     }
 
@@ -67,6 +68,7 @@ loop-slice-preserved-in-Continue-branch-3 g c =
       right_counted = omega (arith, c.loop-slice.invariant.right_counted, read.counted);
       left_taken = c.loop-slice.invariant.left_taken;
       right_taken = omega (arith, c.loop-slice.invariant.right_taken, read.taken);
+      same_reference = wrote.same_reference ∙ c.loop-slice.invariant.same_reference;
       sink_counted = omega (arith, c.loop-slice.invariant.sink_counted, wrote.counted);
     }
 
@@ -128,6 +130,7 @@ loop-slice-preserved g c =
       right_counted = omega (arith, c.loop-slice.invariant.right_counted, also.counted);
       left_taken = omega (arith, c.loop-slice.invariant.left_taken, read.taken);
       right_taken = omega (arith, c.loop-slice.invariant.right_taken, also.taken);
+      same_reference = wrote.same_reference ∙ c.loop-slice.invariant.same_reference;
       sink_counted = omega (arith, c.loop-slice.invariant.sink_counted, wrote.counted);
     }
 

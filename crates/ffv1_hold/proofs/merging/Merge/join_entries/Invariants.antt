@@ -17,6 +17,7 @@ invariant-loop-slice g l = record {
   right_counted : g.Q.Source.failures l.initial.right ≤ g.Q.Source.failures l.right;
   left_taken : g.R.Source.taken l.left + l.initial.self.lefts.place ≤ g.R.Source.taken l.initial.left + l.self.lefts.place;
   right_taken : g.Q.Source.taken l.right + l.initial.self.rights.place ≤ g.Q.Source.taken l.initial.right + l.self.rights.place;
+  same_reference : g.W.Sink.reference l.sink ≡ g.W.Sink.reference l.initial.sink;
   sink_counted : g.W.Sink.failures l.initial.sink ≤ g.W.Sink.failures l.sink;
 }
 
