@@ -28,11 +28,12 @@ use Rattle.ffv1_commands.specs.Devices.{AreWholeInputs}
 use Rattle.ffv1_commands.specs.Holdings.{IsHoldingFile, HasFile, IsHoldingFault}
 use Rattle.ffv1_commands.specs.TakeText.{TakesCopies}
 use Rattle.ffv1_commands.specs.JoinText.{AreHoldingFiles, JoinsFiles}
+use Rattle.ffv1_commands.specs.MergeText.{MergesFiles}
 use Rattle.ffv1_commands.specs.RestoreText.{RestoreStops}
 use Rattle.ffv1_commands.specs.PictureText.{PictureStops}
 use Rattle.ffv1_commands.specs.ReportedText.{ReportsFile}
 use Rattle.ffv1_commands.specs.Commands.{IsMadeOf, IsOfDevices, RestoresOnly, ShowsOnly, MadeOfCopies, SameCopiesMakeOneHolding, SameCopiesMakeOneFile, SameCopiesMakeOneReport, CommandsRestoreTheOriginal, CommandsRestoreNearCopies}
-use Rattle.ffv1_commands.specs.Commands.IsMadeOf.{by_take, by_join}
+use Rattle.ffv1_commands.specs.Commands.IsMadeOf.{by_take, by_join, by_merge}
 use Rattle.ffv1_hold.specs.declared.file_fault.HoldFileFault.{HoldFileFault}
 use Rattle.ffv1_commands.specs.declared.fault.CliFault.{CliFault}
 use Rattle.ffv1_commands.specs.declared.fault.CliFault.TheVariants as faults
@@ -125,10 +126,29 @@ module _ (config : List ℕ) (width height : ℕ) where
         has = subst HasFile whole joins.has_file;
       }
 
+  of_merge : (lefts rights : List (List ℕ)) (left right file : List ℕ) → IsFileOf config width height lefts left → IsFileOf config width height rights right
+      → MergesFiles (Some left) (Some right) (Some []) (Some file) → IsFileOf config width height (lefts ++ rights) file
+  of_merge lefts rights left right file own also merges =
+      let same : also.reel ≡ own.reel = one_reel config width height also.reel own.reel also.of_record own.of_record in
+      let one : merges.one ≡ holding_of own.reel lefts = one_holding merges.one (holding_of own.reel lefts) left merges.left_file own.text own.has in
+      let other : merges.other ≡ holding_of own.reel rights =
+      one_holding merges.other (holding_of own.reel rights) right merges.right_file (also.text ∙ ap (λ r. holding_text (holding_of r rights)) same)
+      (subst (λ (r : Reel). HasFile (holding_of r rights)) same also.has) in
+      let whole : joined merges.one merges.other ≡ holding_of own.reel (lefts ++ rights) =
+      (λ i. joined (one i) (other i)) ∙ joined-holding_of own.reel lefts rights in
+      record {
+        reel = own.reel;
+        of_record = own.of_record;
+        text = merges.written ∙ ap holding_text whole;
+        has = subst HasFile whole merges.has_file;
+      }
+
   made : (copies : List (List ℕ)) (file : List ℕ) → IsMadeOf config width height copies file → IsFileOf config width height copies file
   made _ _ (by_take copies file before after takes) = of_take copies file before after takes
   made _ _ (by_join parts files file before after l each joins) =
       of_join parts files file before after l (λ i lt. made (get_or parts i []) (get_or files i []) (each i lt)) joins
+  made _ _ (by_merge lefts rights left right file one other merges) =
+      of_merge lefts rights left right file (made lefts left one) (made rights right other) merges
 
 -- ---- the same copies
 

@@ -10,3 +10,4 @@ pub mod DecodeSteps
 pub mod PictureSteps
 pub mod CommandLaws
 pub mod Wrapped
+pub mod MergedFiles

@@ -1,6 +1,6 @@
--- The commands from copies to a frame: whatever trees of `take` and `join` lead from copies to a holding file, the same copies give
+-- The commands from copies to a frame: whatever trees of `take`, `join` and `merge` lead from copies to a holding file, the same copies give
 -- one file and one report, and where the copies are an original's, what `restore` writes of the file is the original.
-use Rattle.std.specs.Prelude.{ℕ, ◌≡◌, ◌<◌, Bool, List, [], map, length, Option, Some, slice_index_or}
+use Rattle.std.specs.Prelude.{ℕ, ◌≡◌, ◌<◌, Bool, List, [], ◌++◌, map, length, Option, Some, slice_index_or}
 use Rattle.std.specs.List.{flat_map}
 use Rattle.std.specs.Io.KnownBytes.{Appends}
 use Rattle.ffv1_range.specs.Setup.{SetupValue, IsSetupOf}
@@ -14,6 +14,7 @@ use Rattle.ffv1_picture.specs.declared.frame.Frame.{Frame}
 use Rattle.ffv1_commands.specs.Holdings.{IsHoldingFile}
 use Rattle.ffv1_commands.specs.TakeText.{TakesCopies}
 use Rattle.ffv1_commands.specs.JoinText.{JoinsFiles}
+use Rattle.ffv1_commands.specs.MergeText.{MergesFiles}
 use Rattle.ffv1_commands.specs.RestoreText.{RestoresFile, RestoreStops}
 use Rattle.ffv1_commands.specs.ReportedText.{ReportsFile}
 use Rattle.ffv1_commands.specs.PictureText.{ShowsFile, PictureStops}
@@ -21,8 +22,8 @@ use Rattle.ffv1_commands.specs.SamplesText.{raw_bytes}
 use Rattle.ffv1_commands.specs.declared.fault.CliFault.{CliFault}
 use Rattle.ffv1_commands.specs.declared.fault.CliFault.TheVariants as faults
 
--- The file is what commands make of the copies, for one record and size: `take` made it of the copies themselves, or `join` of files
--- that are each made of a part of them. The readers tell their bytes, and what is written is told, into a file that was empty.
+-- The file is what commands make of the copies, for one record and size: `take` made it of the copies themselves, or `join` or `merge` of
+-- files that are each made of a part of them. The readers tell their bytes, and what is written is told, into a file that was empty.
 pub data IsMadeOf (config : List ℕ) (width height : ℕ) : List (List ℕ) → List ℕ → Type 0 where
   by_take : (copies : List (List ℕ)) (file : List ℕ) (printed_before printed_after : Option (List ℕ))
       → TakesCopies (Some config) width height (map Some copies) (Some []) (Some file) printed_before printed_after
@@ -32,6 +33,10 @@ pub data IsMadeOf (config : List ℕ) (width height : ℕ) : List (List ℕ) →
       → ((i : ℕ) → i < length files → IsMadeOf config width height (slice_index_or parts i []) (slice_index_or files i []))
       → JoinsFiles (map Some files) (Some []) (Some file) printed_before printed_after
       → IsMadeOf config width height (flat_map (λ part. part) parts) file
+  by_merge : (lefts rights : List (List ℕ)) (left right file : List ℕ)
+      → IsMadeOf config width height lefts left → IsMadeOf config width height rights right
+      → MergesFiles (Some left) (Some right) (Some []) (Some file)
+      → IsMadeOf config width height (lefts ++ rights) file
 
 -- a fault that a device or want of memory gave
 abbrev pub IsOfDevices : CliFault → Type 0

@@ -14,6 +14,7 @@ use Rattle.ffv1_picture.specs.declared.fault.FrameFault.TheVariants as frame
 use Rattle.ffv1_commands.specs.declared.fault.CliFault.{CliFault}
 use Rattle.ffv1_commands.specs.declared.fault.CliFault.TheVariants as faults
 use Rattle.ffv1_commands.specs.declared.path.CommandPath.{CommandPath}
+use Rattle.ffv1_commands.specs.declared.path.CommandPath.TheVariants as paths
 
 -- the path that it names, if it names one
 abbrev pub named_path : CliFault → Option CommandPath
@@ -109,6 +110,13 @@ of_hold_file path file.Read = faults.Read path
 of_hold_file path file.Write = faults.Write path
 of_hold_file path file.Memory = faults.Memory
 of_hold_file path fault = faults.HoldFile fault
+
+-- the fault of two holding files that are joined as streams as one of a command
+abbrev pub of_merge : HoldFileFault → CliFault
+of_merge file.Read = faults.Read paths.Inputs
+of_merge file.Write = faults.Write paths.Out
+of_merge file.Memory = faults.Memory
+of_merge fault = faults.HoldFile fault
 
 -- a frame's fault as one of a command
 abbrev pub of_frame : FrameFault → CliFault

@@ -7,6 +7,7 @@ pub mod Holdings
 pub mod RecordInputs
 pub mod TakeText
 pub mod JoinText
+pub mod MergeText
 pub mod RestoreText
 pub mod SamplesText
 pub mod DecodeText

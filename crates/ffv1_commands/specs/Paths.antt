@@ -1,7 +1,7 @@
 -- The paths that each command has: its words that name files, and standard output.
 use Rattle.std.specs.Prelude.{ℕ, ◌<◌}
 use Rattle.ffv1_commands.specs.declared.path.CommandPath.{CommandPath}
-use Rattle.ffv1_commands.specs.declared.path.CommandPath.TheVariants.{Record, Frame, Copy, Hold, Out, StandardOutput}
+use Rattle.ffv1_commands.specs.declared.path.CommandPath.TheVariants.{Record, Frame, Copy, Hold, Inputs, Out, StandardOutput}
 
 abbrev pub IsChainPath : CommandPath → Type 0
 IsChainPath Frame = Unit {0}
@@ -27,6 +27,13 @@ IsJoinPath files (Hold place) = place < files
 IsJoinPath files Out = Unit {0}
 IsJoinPath files StandardOutput = Unit {0}
 IsJoinPath files _ = ⊥
+
+-- `merge` of two holding files, each of which is opened by itself, and which are then read together
+abbrev pub IsMergePath : CommandPath → Type 0
+IsMergePath (Hold place) = place < 2
+IsMergePath Inputs = Unit {0}
+IsMergePath Out = Unit {0}
+IsMergePath _ = ⊥
 
 -- `report`, of one holding file
 abbrev pub IsReportPath : CommandPath → Type 0

@@ -1,6 +1,6 @@
 //! Why a command stopped, and how that is told.
 ghost use Rattle.std.specs.Prelude.{◌≡◌, IfOk, string_bytes};
-ghost use Rattle.ffv1_commands.specs.Fault.{named_path, fault_line, setup_fault_number, hold_fault_number, hold_file_fault_number, frame_fault_line, of_hold_file, status_of};
+ghost use Rattle.ffv1_commands.specs.Fault.{named_path, fault_line, setup_fault_number, hold_fault_number, hold_file_fault_number, frame_fault_line, of_hold_file, of_merge, status_of};
 
 use crate::path::CommandPath;
 use ffv1_hold::{HoldFault, HoldFileFault, RestoreFault};
@@ -174,6 +174,18 @@ pub(crate) fn of_hold_file(path: CommandPath, fault: HoldFileFault) -> CliFault
     match fault {
         HoldFileFault::Read => CliFault::Read(path),
         HoldFileFault::Write => CliFault::Write(path),
+        HoldFileFault::Memory => CliFault::Memory,
+        fault => CliFault::HoldFile(fault),
+    }
+}
+
+/// The fault of two holding files that are joined as streams: those of the devices and want of memory are told as such.
+pub(crate) fn of_merge(fault: HoldFileFault) -> CliFault
+    ensures { result ≡ of_merge fault }
+{
+    match fault {
+        HoldFileFault::Read => CliFault::Read(CommandPath::Inputs),
+        HoldFileFault::Write => CliFault::Write(CommandPath::Out),
         HoldFileFault::Memory => CliFault::Memory,
         fault => CliFault::HoldFile(fault),
     }

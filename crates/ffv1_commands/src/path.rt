@@ -11,6 +11,8 @@ pub enum CommandPath {
     Copy(usize),
     /// The holding file before which stand so many others.
     Hold(usize),
+    /// Both holding files of `merge`, which are read together.
+    Inputs,
     /// The file that is made.
     Out,
     /// What is printed.

@@ -9,6 +9,7 @@ pub use Rattle.ffv1_commands.specs.Holdings
 pub use Rattle.ffv1_commands.specs.RecordInputs
 pub use Rattle.ffv1_commands.specs.TakeText
 pub use Rattle.ffv1_commands.specs.JoinText
+pub use Rattle.ffv1_commands.specs.MergeText
 pub use Rattle.ffv1_commands.specs.RestoreText
 pub use Rattle.ffv1_commands.specs.SamplesText
 pub use Rattle.ffv1_commands.specs.DecodeText

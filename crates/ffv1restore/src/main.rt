@@ -4,7 +4,7 @@
 
 ghost use Rattle.std.specs.Prelude.{◌≡◌, ◌+◌, length, vec_len, IfOk, IfErr};
 ghost use Rattle.ffv1_commands.specs.Fault.{NamesPath, NamesNoPath};
-ghost use Rattle.ffv1_commands.specs.Paths.{IsTakePath, IsJoinPath, IsDecodePath};
+ghost use Rattle.ffv1_commands.specs.Paths.{IsTakePath, IsJoinPath, IsMergePath, IsDecodePath};
 ghost use Rattle.ffv1restore.specs.WordPaths.{IsPathOf};
 
 mod files;
@@ -12,7 +12,7 @@ mod words;
 
 pub use ffv1_commands::{
     CliFault, CommandPath, commands_restore_the_original, run_chain, run_decode, run_join,
-    run_picture, run_report, run_restore, run_show, run_take, same_copies_make_one_file,
+    run_merge, run_picture, run_report, run_restore, run_show, run_take, same_copies_make_one_file,
 };
 use files::{InputFile, OutputFile};
 use std::alloc::{AllocError, Global};
@@ -75,6 +75,24 @@ fn join_files<'a>(
     )
 }
 
+/// Joins the holding files of these two paths as streams. Both are opened before the file that is made, and none is where that
+/// is one of them: it would be emptied before it is read.
+fn merge_files(rt: &HostRuntime, out: &str, left: &str, right: &str) -> Result<(), CliFault>
+    ensures { IfErr result (NamesPath IsMergePath) }
+{
+    if out == left || out == right {
+        return Err(CliFault::Write(CommandPath::Out));
+    }
+    let Ok(mut left) = File::open(rt, left) else {
+        return Err(CliFault::Read(CommandPath::Hold(0)));
+    };
+    let Ok(mut right) = File::open(rt, right) else {
+        return Err(CliFault::Read(CommandPath::Hold(1)));
+    };
+    let mut out = OutputFile::new(rt, out);
+    run_merge(rt.alloc(), &mut left, &mut right, &mut out)
+}
+
 /// Decodes the frame of these paths.
 fn decode_files(
     rt: &HostRuntime,
@@ -115,6 +133,7 @@ fn run(rt: &HostRuntime, words: &Words<'_>) -> Result<bool, CliFault>
             copies,
         } => take_files(rt, recording, out, copies.as_slice())?,
         Words::Join { out, first, others } => join_files(rt, out, first, others.as_slice())?,
+        Words::Merge { out, left, right } => merge_files(rt, out, left, right)?,
         Words::Report { file } => run_report(alloc, &mut InputFile::new(rt, file), &mut output)?,
         Words::Restore { file, out } => {
             let (mut file, mut out) = (InputFile::new(rt, file), OutputFile::new(rt, out));

@@ -39,6 +39,12 @@ pub enum Words<'a> {
         first: &'a str,
         others: Vec<&'a str>,
     },
+    /// Makes the holding file of the union of two holding files, which are read as streams.
+    Merge {
+        out: &'a str,
+        left: &'a str,
+        right: &'a str,
+    },
     /// Tells the damage report of a holding file.
     Report {
         file: &'a str,
@@ -75,6 +81,10 @@ impl<'a> Words<'a> {
             (Words::Join { first, .. }, CommandPath::Hold(0)) => first,
             (Words::Join { others, .. }, CommandPath::Hold(place)) => others[place - 1],
             (Words::Join { out, .. }, CommandPath::Out) => out,
+            (Words::Merge { left, .. }, CommandPath::Hold(0)) => left,
+            (Words::Merge { right, .. }, CommandPath::Hold(_)) => right,
+            (Words::Merge { .. }, CommandPath::Inputs) => "inputs",
+            (Words::Merge { out, .. }, CommandPath::Out) => out,
             (Words::Report { file }, CommandPath::Hold(_)) => file,
             (Words::Restore { file, .. }, CommandPath::Hold(_)) => file,
             (Words::Restore { out, .. }, CommandPath::Out) => out,
@@ -90,11 +100,12 @@ impl<'a> Words<'a> {
 }
 
 /// The commands: the name of each, its words, and behind them the word of which there has to be one at least.
-const COMMANDS: [(&str, &[&str], Option<&str>); 8] = [
+const COMMANDS: [(&str, &[&str], Option<&str>); 9] = [
     ("chain", &["FRAME"], None),
     ("show", &["RECORD", "WIDTH", "HEIGHT"], None),
     ("take", &["RECORD", "WIDTH", "HEIGHT", "OUT"], Some("COPY")),
     ("join", &["OUT"], Some("HOLD")),
+    ("merge", &["OUT", "A", "B"], None),
     ("report", &["HOLD"], None),
     ("restore", &["HOLD", "OUT"], None),
     ("picture", &["HOLD", "OUT"], None),
@@ -203,6 +214,17 @@ fn join_words<'a>(alloc: Global, matches: &ArgMatches<'a>) -> Result<Words<'a>, 
     })
 }
 
+/// The words of `merge`.
+fn merge_words<'a>(matches: &ArgMatches<'a>) -> Result<Words<'a>, CliFault>
+    ensures { IfErr result NamesNoPath }
+{
+    Ok(Words::Merge {
+        out: word(matches, "OUT")?,
+        left: word(matches, "A")?,
+        right: word(matches, "B")?,
+    })
+}
+
 /// The words of `decode`.
 fn decode_words<'a>(matches: &ArgMatches<'a>) -> Result<Words<'a>, CliFault>
     ensures { IfErr result NamesNoPath }
@@ -227,6 +249,7 @@ fn words_of<'a>(alloc: Global, name: &str, matches: &ArgMatches<'a>) -> Result<W
         }),
         "take" => take_words(alloc, matches),
         "join" => join_words(alloc, matches),
+        "merge" => merge_words(matches),
         "report" => Ok(Words::Report {
             file: word(matches, "HOLD")?,
         }),

@@ -1,0 +1,197 @@
+-- What two files that are joined as streams say of the command that joins them.
+use Rattle.std.proofs.Common.{◌≡◌, ℕ, ◌<◌, List, [], ◌∷◌, length, Option, Some, None, IfSome, Err, refl, sym, subst, inl, inr, arith, length-append}
+use Rattle.std.specs.Prelude.{◌≢◌}
+use Rattle.std.specs.Io.KnownBytes.{Consumes}
+use Rattle.std.proofs.KnownBytes.{Consumes-whole}
+use Rattle.ffv1_bits.specs.Limits.{file_limit}
+use Rattle.ffv1_hold.specs.Reels.{Reel}
+use Rattle.ffv1_hold.specs.Contents.{Contents, IsSameReel, IsHolding, IsEntryOf, AreEntriesOf, joined}
+use Rattle.ffv1_holding.proofs.EntrySteps.{all-union}
+use Rattle.ffv1_hold.specs.HoldingText.{head_text, holding_text}
+use Rattle.ffv1_hold.specs.FileFaults.{IsOutside, IsFaultOf}
+use Rattle.ffv1_hold.specs.JoinedStreams.{Inputs, InputRefuses, OneRefuses, JoinRefuses, EntriesPass, UnionPasses, ReadsPart, ReadsAll, ReadsSoFar, ReadsOtherHeads, WritesUnion, WritesNoEnd, WritesFrontSoFar, AnswersUnion, AnswersOther, BeginsWith, begun_text}
+use Rattle.ffv1_hold.specs.declared.file_fault.HoldFileFault.{HoldFileFault}
+use Rattle.ffv1_hold.specs.declared.file_fault.HoldFileFault.TheVariants as files
+use Rattle.ffv1_hold.proofs.MergeSteps.{part_begins}
+use Rattle.ffv1_commands.specs.Fault.{of_merge}
+use Rattle.ffv1_commands.specs.Holdings.{IsHoldingFile}
+use Rattle.ffv1_commands.specs.MergeText.{MergesFiles, BeginsUnion, HeadsDiffer, IsFaultOfEither, IsMergeFault, LeavesEntries, MergeLeaves, AnswersFiles, AnswersOtherHeads}
+
+holding_file : (old new : Option (List ℕ)) (h : Contents) → ReadsAll old new h → IsHoldingFile old h
+holding_file old new h a = record {
+  text = Consumes-whole old new (holding_text h) (λ told. told ≡ holding_text h) a.taken a.at_end refl;
+  sound = a.sound;
+  fits = a.fits;
+}
+
+-- the union of holdings of one reel is one
+sound_union : (one other : Contents) → IsHolding one → IsHolding other → IsSameReel one other → IsHolding (joined one other)
+sound_union one other is also same = record {
+  reel = is.reel;
+  slices = all-union (IsEntryOf one.reel.setup) one.slices other.slices is.slices
+      (subst (λ (r : Reel). AreEntriesOf r.setup other.slices) (sym same) also.slices);
+}
+
+all_part : (old new : Option (List ℕ)) (h : Contents) → ReadsAll old new h → ReadsPart old new h
+all_part old new h a = record { sound = a.sound; record' = a.fits.record'; more = 0 ∷ []; taken = a.taken }
+
+taken_begins : (old new : Option (List ℕ)) (bytes : List ℕ) → Consumes old new bytes → BeginsWith old bytes
+taken_begins None new bytes t = tt
+taken_begins (Some xs) None bytes t = absurd t
+taken_begins (Some xs) (Some ys) bytes t = (ys, t)
+
+module _ (i : Inputs) (w v : Option (List ℕ)) where
+  -- ---- the file was made
+
+  pub merges : WritesUnion i w v → MergesFiles i.left_old i.right_old w v
+  merges u = record {
+    one = u.left;
+    other = u.right;
+    left_file = holding_file _ _ u.left u.read.left_read;
+    right_file = holding_file _ _ u.right u.read.right_read;
+    same = u.read.same;
+    has_file = record { sound = sound_union u.left u.right u.read.left_read.sound u.read.right_read.sound u.read.same; fits = u.fits };
+    written = u.written;
+  }
+
+  -- ---- why it was not
+
+  input_fault : (old new : Option (List ℕ)) (f : HoldFileFault) → (IsOutside f → ⊥) → InputRefuses old new f → IfSome old (λ bytes. IsFaultOf bytes f)
+  input_fault None new f inside refused = tt
+  input_fault (Some bytes) new f inside refused = (inside, (new, refused))
+
+  either_fault : (f : HoldFileFault) → (IsOutside f → ⊥) → OneRefuses i f → IsFaultOfEither i.left_old i.right_old f
+  either_fault f inside (inl r) = inl (input_fault _ _ f inside r.0)
+  either_fault f inside (inr r) = inr (input_fault _ _ f inside r.0)
+
+  so_far : (left right : Contents) → ReadsSoFar i left right → BeginsUnion i.left_old i.right_old (joined left right)
+  so_far left right r = record {
+    one = left;
+    other = right;
+    left_begins = part_begins _ _ left r.left_read;
+    right_begins = part_begins _ _ right r.right_read;
+    same = r.same;
+    is = refl;
+  }
+
+  entries_pass : EntriesPass i → (union : Contents) × BeginsUnion i.left_old i.right_old union × (file_limit < length (holding_text union))
+  entries_pass p = (
+    joined p.left p.right,
+    so_far p.left p.right p.read,
+    omega (arith, p.over, length-append (begun_text (joined p.left p.right)) (0 ∷ [])),
+  )
+
+  union_passes : UnionPasses i → (union : Contents) × BeginsUnion i.left_old i.right_old union × (file_limit < length (holding_text union))
+  union_passes u = (
+    joined u.left u.right,
+    so_far u.left u.right (record { left_read = all_part _ _ u.left u.read.left_read; right_read = all_part _ _ u.right u.read.right_read; same = u.read.same }),
+    u.over,
+  )
+
+  heads_differ : ReadsOtherHeads i → HeadsDiffer i.left_old i.right_old
+  heads_differ o = record {
+    one = o.left;
+    other = o.right;
+    one_is = o.left_is;
+    other_is = o.right_is;
+    left_begins = taken_begins _ _ (head_text o.left) o.left_taken;
+    right_begins = taken_begins _ _ (head_text o.right) o.right_taken;
+    differ = o.other;
+  }
+
+  pub merge_fault : (f : HoldFileFault) → JoinRefuses i f → IsMergeFault i.left_old i.right_old (of_merge f)
+  merge_fault files.Read r = refl
+  merge_fault files.Write r = refl
+  merge_fault files.Memory r = tt
+  merge_fault files.OtherReel (inl (inl r)) = absurd r.0
+  merge_fault files.OtherReel (inl (inr r)) = absurd r.0
+  merge_fault files.OtherReel (inr heads) = inr (heads_differ heads)
+  merge_fault files.TooLong (inl r) = inl (either_fault files.TooLong (λ out. out) r)
+  merge_fault files.TooLong (inr (inl b)) = inr (entries_pass b.0)
+  merge_fault files.TooLong (inr (inr u)) = inr (union_passes u)
+  merge_fault files.Magic (inl r) = inl (either_fault files.Magic (λ out. out) r)
+  merge_fault files.Magic (inr b) = absurd b
+  merge_fault (files.Setup f) (inl r) = inl (either_fault (files.Setup f) (λ out. out) r)
+  merge_fault (files.Setup f) (inr b) = absurd b
+  merge_fault files.Truncated (inl r) = inl (either_fault files.Truncated (λ out. out) r)
+  merge_fault files.Truncated (inr b) = absurd b
+  merge_fault files.Tag (inl r) = inl (either_fault files.Tag (λ out. out) r)
+  merge_fault files.Tag (inr b) = absurd b
+  merge_fault files.Order (inl r) = inl (either_fault files.Order (λ out. out) r)
+  merge_fault files.Order (inr b) = absurd b
+  merge_fault files.NotASlice (inl r) = inl (either_fault files.NotASlice (λ out. out) r)
+  merge_fault files.NotASlice (inr b) = absurd b
+  merge_fault files.Trailing (inl r) = inl (either_fault files.Trailing (λ out. out) r)
+  merge_fault files.Trailing (inr b) = absurd b
+
+  -- ---- what it left
+
+  entries_left : WritesNoEnd i w v → LeavesEntries i.left_old i.right_old w v
+  entries_left (inl none) = inl none
+  entries_left (inr e) = inr (
+    joined e.left e.right,
+    record {
+      one = e.left;
+      other = e.right;
+      left_begins = e.left_begins;
+      right_begins = e.right_begins;
+      same = e.same;
+      is = refl;
+    },
+    e.written,
+  )
+
+  pub merge_leaves : (f : HoldFileFault) → (f ≢ files.Write → WritesNoEnd i w v) → (f ≡ files.Write → WritesFrontSoFar i w v)
+      → MergeLeaves i.left_old i.right_old w v (of_merge f)
+  merge_leaves files.Write none front = let r = front refl in (joined r.left r.right, so_far r.left r.right r.read, r.front)
+  merge_leaves files.Read none front = entries_left (none (λ is. absurd (cc)))
+  merge_leaves files.Memory none front = entries_left (none (λ is. absurd (cc)))
+  merge_leaves files.OtherReel none front = entries_left (none (λ is. absurd (cc)))
+  merge_leaves files.TooLong none front = entries_left (none (λ is. absurd (cc)))
+  merge_leaves files.Magic none front = entries_left (none (λ is. absurd (cc)))
+  merge_leaves (files.Setup f) none front = entries_left (none (λ is. absurd (cc)))
+  merge_leaves files.Truncated none front = entries_left (none (λ is. absurd (cc)))
+  merge_leaves files.Tag none front = entries_left (none (λ is. absurd (cc)))
+  merge_leaves files.Order none front = entries_left (none (λ is. absurd (cc)))
+  merge_leaves files.NotASlice none front = entries_left (none (λ is. absurd (cc)))
+  merge_leaves files.Trailing none front = entries_left (none (λ is. absurd (cc)))
+
+-- ---- answers
+
+module _ (union : Contents) where
+  outside_answers : (f : HoldFileFault) → IsOutside f → AnswersFiles union (Err (of_merge f))
+  outside_answers files.Read out = tt
+  outside_answers files.Memory out = tt
+  outside_answers files.Write out = absurd out
+  outside_answers files.OtherReel out = absurd out
+  outside_answers files.TooLong out = absurd out
+  outside_answers files.Magic out = absurd out
+  outside_answers (files.Setup f) out = absurd out
+  outside_answers files.Truncated out = absurd out
+  outside_answers files.Tag out = absurd out
+  outside_answers files.Order out = absurd out
+  outside_answers files.NotASlice out = absurd out
+  outside_answers files.Trailing out = absurd out
+
+  pub answers_files : (f : HoldFileFault) → AnswersUnion union (Err f) → AnswersFiles union (Err (of_merge f))
+  answers_files f (inl out) = outside_answers f out
+  answers_files f (inr (inl is)) = subst (λ (g : HoldFileFault). AnswersFiles union (Err (of_merge g))) (sym is) tt
+  answers_files f (inr (inr (is, over))) = subst (λ (g : HoldFileFault). AnswersFiles union (Err (of_merge g))) (sym is) (refl, over)
+
+outside_other : (f : HoldFileFault) → IsOutside f → AnswersOtherHeads (Err (of_merge f))
+outside_other files.Read out = tt
+outside_other files.Memory out = tt
+outside_other files.Write out = absurd out
+outside_other files.OtherReel out = absurd out
+outside_other files.TooLong out = absurd out
+outside_other files.Magic out = absurd out
+outside_other (files.Setup f) out = absurd out
+outside_other files.Truncated out = absurd out
+outside_other files.Tag out = absurd out
+outside_other files.Order out = absurd out
+outside_other files.NotASlice out = absurd out
+outside_other files.Trailing out = absurd out
+
+pub answers_other_heads : (f : HoldFileFault) → AnswersOther (Err f) → AnswersOtherHeads (Err (of_merge f))
+answers_other_heads f (inl out) = outside_other f out
+answers_other_heads f (inr is) = subst (λ (g : HoldFileFault). AnswersOtherHeads (Err (of_merge g))) (sym is) refl

@@ -1,0 +1,95 @@
+-- What the command `merge` makes: the holding file of the union of two holding files, which are read as streams.
+use Rattle.std.specs.Prelude.{ℕ, ◌≡◌, ◌<◌, ◌⊎◌, List, [], length, Option, IfSome, Result, Ok, Err}
+use Rattle.std.specs.Io.KnownBytes.{Appends}
+use Rattle.ffv1_bits.specs.Limits.{file_limit}
+use Rattle.ffv1_hold.specs.Writing.{WritesFront}
+use Rattle.ffv1_hold.specs.Reels.{Reel}
+use Rattle.ffv1_hold.specs.Contents.{Contents, IsSameReel, joined}
+use Rattle.ffv1_hold.specs.HoldingText.{head_text, holding_text}
+use Rattle.ffv1_hold.specs.FileFaults.{IsFileReel, IsFaultOf}
+use Rattle.ffv1_hold.specs.JoinedStreams.{BeginsWith, BeginsWithPart, begun_text}
+use Rattle.ffv1_hold.specs.declared.file_fault.HoldFileFault.{HoldFileFault}
+use Rattle.ffv1_hold.specs.declared.file_fault.HoldFileFault.TheVariants as files
+use Rattle.ffv1_commands.specs.Holdings.{IsHoldingFile, HasFile}
+use Rattle.ffv1_commands.specs.declared.fault.CliFault.{CliFault}
+use Rattle.ffv1_commands.specs.declared.fault.CliFault.TheVariants as faults
+use Rattle.ffv1_commands.specs.declared.path.CommandPath.TheVariants as paths
+
+-- Both inputs are the files of holdings of one reel, and the file of their union was written.
+pub record MergesFiles (left right out_before out_after : Option (List ℕ)) : Type 0 where
+  pub one : Contents
+  pub other : Contents
+  pub left_file : IsHoldingFile left one
+  pub right_file : IsHoldingFile right other
+  pub same : IsSameReel one other
+  pub has_file : HasFile (joined one other)
+  pub written : Appends out_before out_after (holding_text (joined one other))
+
+-- The inputs, where they tell their bytes, begin with the heads and the entries of two holdings of one reel, and this is their union.
+pub record BeginsUnion (left right : Option (List ℕ)) (union : Contents) : Type 0 where
+  pub one : Contents
+  pub other : Contents
+  pub left_begins : BeginsWithPart left one
+  pub right_begins : BeginsWithPart right other
+  pub same : IsSameReel one other
+  pub is : union ≡ joined one other
+
+-- The inputs, where they tell their bytes, begin with heads of two reels.
+pub record HeadsDiffer (left right : Option (List ℕ)) : Type 0 where
+  pub one : Reel
+  pub other : Reel
+  pub one_is : IsFileReel one
+  pub other_is : IsFileReel other
+  pub left_begins : BeginsWith left (head_text one)
+  pub right_begins : BeginsWith right (head_text other)
+  pub differ : ¬ (one ≡ other)
+
+-- ---- why two files were not merged
+
+-- the fault of one of the inputs
+abbrev pub IsFaultOfEither : Option (List ℕ) → Option (List ℕ) → HoldFileFault → Type 0
+IsFaultOfEither left right fault = IfSome left (λ bytes. IsFaultOf bytes fault) ⊎ IfSome right (λ bytes. IsFaultOf bytes fault)
+
+-- the fault of both together: their heads are of two reels, or the file of what both begin with would pass its limit
+abbrev pub IsFaultOfBoth : Option (List ℕ) → Option (List ℕ) → HoldFileFault → Type 0
+IsFaultOfBoth left right files.OtherReel = HeadsDiffer left right
+IsFaultOfBoth left right files.TooLong = (union : Contents) × BeginsUnion left right union × (file_limit < length (holding_text union))
+IsFaultOfBoth left right _ = ⊥
+
+abbrev pub IsMergeFault : Option (List ℕ) → Option (List ℕ) → CliFault → Type 0
+IsMergeFault left right (faults.HoldFile fault) = IsFaultOfEither left right fault ⊎ IsFaultOfBoth left right fault
+IsMergeFault left right (faults.Read path) = path ≡ paths.Inputs
+IsMergeFault left right (faults.Write path) = path ≡ paths.Out
+IsMergeFault left right faults.Memory = Unit {0}
+IsMergeFault left right _ = ⊥
+
+-- ---- what a fault left in OUT
+
+-- the head and whole entries of what both begin with, each once, and no end tag
+abbrev pub LeavesEntries : (left right out_before out_after : Option (List ℕ)) → Type 0
+LeavesEntries left right out_before out_after = Appends out_before out_after []
+    ⊎ ((union : Contents) × BeginsUnion left right union × Appends out_before out_after (begun_text union))
+
+-- after a failed write a front of the file of what both begin with, and after another fault no end tag
+abbrev pub MergeLeaves : (left right out_before out_after : Option (List ℕ)) → CliFault → Type 0
+MergeLeaves left right out_before out_after (faults.Write path) = (union : Contents) × BeginsUnion left right union
+    × WritesFront out_before out_after (holding_text union)
+MergeLeaves left right out_before out_after _ = LeavesEntries left right out_before out_after
+
+-- ---- answers
+
+-- the answer to the files of two holdings of one reel whose union is this
+abbrev pub AnswersFiles : Contents → Result (Unit {0}) CliFault → Type 0
+AnswersFiles union (Ok _) = Unit {0}
+AnswersFiles union (Err (faults.Read path)) = Unit {0}
+AnswersFiles union (Err (faults.Write path)) = Unit {0}
+AnswersFiles union (Err faults.Memory) = Unit {0}
+AnswersFiles union (Err (faults.HoldFile fault)) = (fault ≡ files.TooLong) × (file_limit < length (holding_text union))
+AnswersFiles union (Err _) = ⊥
+
+-- the answer to inputs that begin with heads of two reels
+abbrev pub AnswersOtherHeads : Result (Unit {0}) CliFault → Type 0
+AnswersOtherHeads (Err (faults.HoldFile fault)) = fault ≡ files.OtherReel
+AnswersOtherHeads (Err (faults.Read path)) = Unit {0}
+AnswersOtherHeads (Err faults.Memory) = Unit {0}
+AnswersOtherHeads _ = ⊥

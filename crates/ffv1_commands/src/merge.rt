@@ -1,0 +1,80 @@
+//! The command `merge`: makes the holding file of the union of two holding files, which are read as streams (own).
+ghost use Rattle.std.specs.Prelude.{◌≡◌, ◌⊎◌, IfErr, IsErrOf, OnOk};
+ghost use Rattle.ffv1_bits.specs.Limits.{file_limit};
+ghost use Rattle.ffv1_hold.specs.Streams.{HasFailed};
+ghost use Rattle.ffv1_hold.specs.Reels.{Reel};
+ghost use Rattle.ffv1_hold.specs.Contents.{Contents, IsSameReel, joined};
+ghost use Rattle.ffv1_hold.specs.JoinedStreams.{IsFileOf, BeginsWithHead, WritesAtMost};
+ghost use Rattle.ffv1_commands.specs.Fault.{NamesPath, of_merge};
+ghost use Rattle.ffv1_commands.specs.Paths.{IsMergePath};
+ghost use Rattle.ffv1_commands.specs.MergeText.{MergesFiles, IsMergeFault, MergeLeaves, AnswersFiles, AnswersOtherHeads};
+
+use crate::fault::{CliFault, of_merge};
+use crate::path::CommandPath;
+use ffv1_hold::{FromRead, HoldFileFault, Sink, Source, ThroughWrite, join_streams};
+use std::alloc::Global;
+use std::io::{Read, Write};
+
+/// Joins two holding files as streams, and writes the file of their union to `out`: an entry of each is held, however long
+/// the files are. Nothing is printed.
+///
+/// The file is the one that `join` writes of both. `Read` of the inputs comes where one of them fails; `HoldFile` with the
+/// first fault of one of them, with `OtherReel` where their heads are of another record, width or height, before `out` is
+/// touched, or with `TooLong` where the file would pass its limit; `Memory` where a growth is refused; `Write` where `out`
+/// fails. After `Write` a front of the file was written; after another fault nothing, or its head and whole entries: no end
+/// tag, so that what is there is no holding file.
+pub fn run_merge<R: Read, Q: Read, O: Write>(
+    alloc: Global,
+    left: &mut R,
+    right: &mut Q,
+    out: &mut O,
+) -> Result<(), CliFault>
+    ensures ok { OnOk result (MergesFiles (R.remaining left.old) (Q.remaining right.old) (O.contents out.old) (O.contents out.new)) }
+    ensures err { IfErr result (IsMergeFault (R.remaining left.old) (Q.remaining right.old)) }
+    ensures leaves { IfErr result (MergeLeaves (R.remaining left.old) (Q.remaining right.old) (O.contents out.old) (O.contents out.new)) }
+    ensures most { WritesAtMost (O.contents out.old) (O.contents out.new) file_limit }
+
+    ensures only { (g h : Contents) → IsSameReel g h → IsFileOf (R.remaining left.old) g → IsFileOf (Q.remaining right.old) h
+        → AnswersFiles (joined g h) result }
+    ensures other { (g h : Reel) → BeginsWithHead (R.remaining left.old) g → BeginsWithHead (Q.remaining right.old) h → ¬ (g ≡ h)
+        → AnswersOtherHeads result }
+    ensures untouched { IsErrOf result (CliFault.HoldFile HoldFileFault.OtherReel) → out.new ≡ out.old }
+    ensures names { IfErr result (NamesPath IsMergePath) }
+{
+    merge_of(
+        alloc,
+        &mut FromRead::new(left),
+        &mut FromRead::new(right),
+        &mut ThroughWrite::new(out),
+    )
+}
+
+/// The command over sources and a sink.
+fn merge_of<R: Source, Q: Source, O: Sink>(
+    alloc: Global,
+    left: &mut R,
+    right: &mut Q,
+    out: &mut O,
+) -> Result<(), CliFault>
+    ensures ok { OnOk result (MergesFiles (R.remaining left.old) (Q.remaining right.old) (O.contents out.old) (O.contents out.new)) }
+    ensures err { IfErr result (IsMergeFault (R.remaining left.old) (Q.remaining right.old)) }
+    ensures leaves { IfErr result (MergeLeaves (R.remaining left.old) (Q.remaining right.old) (O.contents out.old) (O.contents out.new)) }
+    ensures most { WritesAtMost (O.contents out.old) (O.contents out.new) file_limit }
+
+    ensures only { (g h : Contents) → IsSameReel g h → IsFileOf (R.remaining left.old) g → IsFileOf (Q.remaining right.old) h
+        → AnswersFiles (joined g h) result }
+    ensures other { (g h : Reel) → BeginsWithHead (R.remaining left.old) g → BeginsWithHead (Q.remaining right.old) h → ¬ (g ≡ h)
+        → AnswersOtherHeads result }
+    ensures untouched { IsErrOf result (CliFault.HoldFile HoldFileFault.OtherReel) → out.new ≡ out.old }
+    ensures names { IfErr result (NamesPath IsMergePath) }
+
+    ensures inputs_failed { IsErrOf result (CliFault.Read CommandPath.Inputs)
+        → HasFailed (R.failures left.old) (R.failures left.new) ⊎ HasFailed (Q.failures right.old) (Q.failures right.new) }
+    ensures out_failed { IsErrOf result (CliFault.Write CommandPath.Out) → HasFailed (O.failures out.old) (O.failures out.new) }
+    ensures same_out { O.reference out.new ≡ O.reference out.old }
+{
+    match join_streams(alloc, left, right, out) {
+        Ok(()) => Ok(()),
+        Err(fault) => Err(of_merge(fault)),
+    }
+}
