@@ -22,3 +22,4 @@ pub mod MergeLeads
 pub mod MergeSteps
 pub mod MergeStarts
 pub mod MergeAnswers
+pub mod OneLead

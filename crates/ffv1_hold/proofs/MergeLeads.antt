@@ -24,7 +24,7 @@ use Rattle.ffv1_hold.proofs.MergeSets.{any_split}
 -- ---- lists that are split in two ways
 
 -- what holds of all of a front, and not of an item, puts the item behind it
-behind_all : (P : Entry → Type 0) (fs rs before : List Entry) (first : Entry) (after : List Entry) → fs ++ rs ≡ before ++ first ∷ after
+pub behind_all : (P : Entry → Type 0) (fs rs before : List Entry) (first : Entry) (after : List Entry) → fs ++ rs ≡ before ++ first ∷ after
     → AllByRecursion P fs → ¬ P first → (middle : List Entry) × (before ≡ fs ++ middle) × (rs ≡ middle ++ first ∷ after)
 behind_all P [] rs before first after same all none = (before, refl, same)
 behind_all P (f ∷ fs) rs [] first after same all none = absurd (none (subst P (ap (λ xs. get_or xs 0 f) same) all.0))

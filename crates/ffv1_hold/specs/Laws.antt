@@ -4,6 +4,7 @@ use Rattle.ffv1_bits.specs.Limits.{record_limit}
 use Rattle.ffv1_holding.specs.Contents.{Contents, IsHolding}
 use Rattle.ffv1_hold.specs.declared.file_fault.HoldFileFault.{HoldFileFault}
 use Rattle.ffv1_hold.specs.HoldingText.{holding_text, FitsInFile}
+use Rattle.ffv1_hold.specs.Leads.{IsLeadOf}
 use Rattle.ffv1_hold.specs.FileFaults.{IsPartOfFile, IsHoldingText, FileShows, IsFaultOf}
 pub use Rattle.ffv1_holding.specs.Laws.{CopiesHoldTheOriginal, NearCopiesHoldTheOriginal, HeldIsFound}
 
@@ -24,6 +25,10 @@ PartShowsNoFault = (part seen rest : List ℕ) (fault : HoldFileFault) → IsPar
 -- The text of a holding has no fault, where it and its record are within their limits.
 abbrev pub TextHasNoFault : Type 0
 TextHasNoFault = (h : Contents) → IsHolding h → FitsInFile h → (fault : HoldFileFault) → ¬ IsFaultOf (holding_text h) fault
+
+-- Each text and each bytes that were written have exactly one lead.
+abbrev pub OneLead : Type 0
+OneLead = (h : Contents) (bytes : List ℕ) → (lead : ℕ) × IsLeadOf h bytes lead × ((other : ℕ) → IsLeadOf h bytes other → other ≡ lead)
 
 -- An input has one fault at most.
 abbrev pub OneFault : Type 0

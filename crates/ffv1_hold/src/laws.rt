@@ -1,5 +1,5 @@
 //! Laws of holding files (own), as contracts of functions that do nothing.
-ghost use Rattle.ffv1_hold.specs.Laws.{OneText, OneFault, OneShownFault, TextHasNoFault, TextShowsNoFault, PartShowsNoFault};
+ghost use Rattle.ffv1_hold.specs.Laws.{OneText, OneLead, OneFault, OneShownFault, TextHasNoFault, TextShowsNoFault, PartShowsNoFault};
 
 /// Two holdings with one text are equal.
 pub fn one_text()
@@ -18,4 +18,10 @@ pub fn text_shows_no_fault()
 pub fn one_fault()
     ensures input { OneFault }
     ensures beginnings { OneShownFault }
+{}
+
+/// However far the text of a holding may be read where a write fails, that is one place: each text and each bytes that were
+/// written have exactly one lead.
+pub fn one_lead()
+    ensures { OneLead }
 {}

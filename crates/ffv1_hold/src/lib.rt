@@ -23,7 +23,7 @@ pub use ffv1_holding::{
     copies_hold_the_original, held_is_found, join_all, near_copies_hold_the_original,
 };
 pub use file_fault::HoldFileFault;
-pub use laws::{one_fault, one_text, text_shows_no_fault};
+pub use laws::{one_fault, one_lead, one_text, text_shows_no_fault};
 pub use merging::join_streams;
 pub use plan::{Plan, PlanFault, run, same_copies};
 pub use reading::read_hold;
