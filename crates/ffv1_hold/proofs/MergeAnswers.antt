@@ -93,7 +93,8 @@ taken_begins None new bytes more t = tt
 taken_begins (Some xs) None bytes more t = absurd t
 taken_begins (Some xs) (Some ys) bytes more t = (more ++ ys, t ∙ append_assoc bytes more ys)
 
-head_refused : (old new : Option (List ℕ)) (g : Reel) (f : HoldFileFault) → BeginsWithHead old g → Refuses IsPartOfHead HeadIsWhole HeadShows old new 0 f → IsOutside f
+head_refused : (old new : Option (List ℕ)) (g : Reel) (f : HoldFileFault) → BeginsWithHead old g
+    → Refuses IsPartOfHead HeadIsWhole HeadShows old new 0 f → IsOutside f
 head_refused old new g f head refused =
     head_outside g head.is head.rest f new (subst (λ (o : Option (List ℕ)). Refuses IsPartOfHead HeadIsWhole HeadShows o new 0 f) head.split refused)
 

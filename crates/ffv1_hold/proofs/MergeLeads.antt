@@ -94,7 +94,8 @@ end_before (g ∷ gs) rest middle first after split same =
     no_tag (body_text g ++ (entries_text gs ++ 0 ∷ [])) rest 1 0 (sym (entries_behind g gs (0 ∷ [])) ∙ same) (λ e. omega arith)
 
 -- what was read behind whole entries ends with the first that is open
-ends_before : (r : Reel) → IsReel r → (rs : List Entry) → AreFitting rs → (middle : List Entry) (first : Entry) (after : List Entry) → rs ≡ middle ++ first ∷ after
+ends_before : (r : Reel) → IsReel r → (rs : List Entry) → AreFitting rs → (middle : List Entry) (first : Entry) (after : List Entry)
+    → rs ≡ middle ++ first ∷ after
     → (more rest : List ℕ) → entries_text rs ++ 0 ∷ [] ≡ more ++ rest → (more ≡ []) ⊎ ((next : Option Entry) × (more ≡ next_text next)
     × IfSome next (IsEntryOf r.setup))
     → length more ≤ length (entries_text (middle ++ first ∷ []))

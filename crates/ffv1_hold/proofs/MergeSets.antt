@@ -113,7 +113,8 @@ weight-put e [] = omega (arith, ap length entries_text-none)
 weight-put e (p ∷ ps) = weight-order (entry_cmp e p.0) e p ps (put entry_cmp e tt ps) (weight-put e ps)
 
 weight-insert : (s : set.SetOf entry_cmp) (e : Entry) → weight (set.items s) ≤ weight (set.items (set.insert s e))
-weight-insert s e = subst (λ ps. weight (set.items s) ≤ weight (keys_of ps)) (sym (finite.entries-insert entries_total s e tt)) (weight-put e (finite.entries s))
+weight-insert s e = subst (λ ps. weight (set.items s) ≤ weight (keys_of ps)) (sym (finite.entries-insert entries_total s e tt)) (weight-put e
+    (finite.entries s))
 
 weight-list : (s : set.SetOf entry_cmp) (es : List Entry) → weight (set.items s) ≤ weight (set.items (set.union s (set.from_list es)))
 weight-list s [] = subst (λ t. weight (set.items s) ≤ weight (set.items t)) (sym (set.union_empty entries_total entries_antisymmetric s)) (omega arith)

@@ -140,7 +140,8 @@ module _ (s : Start) (q : Reel) (l0 r0 w0 : Option (List ℕ)) (lp rp : ℕ) (o 
   -- the head could not be written
   pub head_stops : (new : Option (List ℕ)) → WritesFront w0 new (head_text q) → Stops (inputs_from s l0 r0) s.sink new faults.Write
   head_stops new front =
-      let w = subst (λ (x : Reel). WritesFront s.sink new (head_text x)) o.same (subst (λ (a : Option (List ℕ)). WritesFront a new (head_text q)) o.unwritten front) in
+      let w = subst (λ (x : Reel). WritesFront s.sink new (head_text x)) o.same (subst (λ (a : Option (List ℕ)). WritesFront a new
+      (head_text q)) o.unwritten front) in
       record {
         reel = s.reel;
         is = o.reel;

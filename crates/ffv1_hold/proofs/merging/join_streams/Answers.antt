@@ -5,7 +5,8 @@ pub returns-clause-only : goal.returns-clause-only
 returns-clause-only g c one two same left right = answers_union _ _ _ one two same left right c.merge_files.result c.merge_files.ensures.err
 
 pub returns-clause-other : goal.returns-clause-other
-returns-clause-other g c one two left right other = answers_other _ _ _ one two left right other c.merge_files.result c.merge_files.ensures.ok c.merge_files.ensures.err
+returns-clause-other g c one two left right other = answers_other _ _ _ one two left right other c.merge_files.result c.merge_files.ensures.ok
+    c.merge_files.ensures.err
 
 pub returns-clause-fault : goal.returns-clause-fault
 returns-clause-fault g c = says _ _ _ _ (join_refuses _ _ _) c.merge_files.result c.merge_files.ensures.err

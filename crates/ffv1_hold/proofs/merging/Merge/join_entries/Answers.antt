@@ -23,7 +23,8 @@ loop-slice-preserved-in-Continue-branch-2 g c =
     record {
       stands = λ start same first.
           let st = c.loop-slice.invariant.stands start same first in
-          let held = advanced _ _ _ start.reel _ _ _ _ _ c.args.setup.now same (left_passed start _ _ _ _ _ _ _ _ st e turn.0) read.next read.entry read.follows read.end in
+          let held = advanced _ _ _ start.reel _ _ _ _ _ c.args.setup.now same
+          (left_passed start _ _ _ _ _ _ _ _ st e turn.0) read.next read.entry read.follows read.end in
           stands_behind start _ _ _ _ _ _ _ _ st e Less turn _ _ wrote.ok wrote.room _ _ _ _ _ _ held st.right_held follows turn.1;
       left_place = read.next.within;
       right_place = c.loop-slice.invariant.right_place;
@@ -58,7 +59,8 @@ loop-slice-preserved-in-Continue-branch-3 g c =
     record {
       stands = λ start same first.
           let st = c.loop-slice.invariant.stands start same first in
-          let held = advanced _ _ _ start.reel _ _ _ _ _ c.args.setup.now same (right_passed start _ _ _ _ _ _ _ _ st e turn.0) read.next read.entry read.follows read.end in
+          let held = advanced _ _ _ start.reel _ _ _ _ _ c.args.setup.now same
+          (right_passed start _ _ _ _ _ _ _ _ st e turn.0) read.next read.entry read.follows read.end in
           stands_behind start _ _ _ _ _ _ _ _ st e Greater turn _ _ wrote.ok wrote.room _ _ _ _ _ _ st.left_held held turn.1 follows;
       left_place = c.loop-slice.invariant.left_place;
       right_place = read.next.within;
@@ -104,7 +106,8 @@ returns-in_err-advance-in-Equal-2-clause-err g c start same first =
     let refused = c.in_err-advance-in-Equal-2.ensures.err in
     let input = input_refuses _ _ _ start.reel _ _ _ c.args.setup.now _ same st.reel (right_passed start _ _ _ _ _ _ _ _ st e turn.1) refused in
     let read = c.in_ok-advance-in-Equal.ensures in
-    let held = advanced _ _ _ start.reel _ _ _ _ _ c.args.setup.now same (left_passed start _ _ _ _ _ _ _ _ st e turn.0) read.next read.entry read.follows read.end in
+    let held = advanced _ _ _ start.reel _ _ _ _ _ c.args.setup.now same
+    (left_passed start _ _ _ _ _ _ _ _ st e turn.0) read.next read.entry read.follows read.end in
     rw (p.1, p.2) (stops_at_right start _ _ _ _ _ _ _ _ st e Equal turn _ _ wrote.ok wrote.room _ _ _ input (held_shows_none _ _ _ _ _ _ st.reel held))
 
 pub loop-slice-preserved : goal.loop-slice-preserved
@@ -119,8 +122,10 @@ loop-slice-preserved g c =
     record {
       stands = λ start same first.
           let st = c.loop-slice.invariant.stands start same first in
-          let held = advanced _ _ _ start.reel _ _ _ _ _ c.args.setup.now same (left_passed start _ _ _ _ _ _ _ _ st e turn.0) read.next read.entry read.follows read.end in
-          let other = advanced _ _ _ start.reel _ _ _ _ _ c.args.setup.now same (right_passed start _ _ _ _ _ _ _ _ st e turn.1) also.next also.entry also.follows also.end in
+          let held = advanced _ _ _ start.reel _ _ _ _ _ c.args.setup.now same
+          (left_passed start _ _ _ _ _ _ _ _ st e turn.0) read.next read.entry read.follows read.end in
+          let other = advanced _ _ _ start.reel _ _ _ _ _ c.args.setup.now same
+          (right_passed start _ _ _ _ _ _ _ _ st e turn.1) also.next also.entry also.follows also.end in
           stands_behind start _ _ _ _ _ _ _ _ st e Equal turn _ _ wrote.ok wrote.room _ _ _ _ _ _ held other follows behind;
       left_place = read.next.within;
       right_place = also.next.within;
@@ -140,4 +145,5 @@ returns-clause-ok g c start same first =
     ends start _ _ _ _ _ _ _ _ none.0 none.1 (c.loop-slice.invariant.stands start same first)
 
 pub write_entry-requires : goal.write_entry-requires
-write_entry-requires g c = turn_fits c.loop-slice.self.lefts.held c.loop-slice.self.rights.held c.in-Some.slice.now c.in-Some.order c.in-Some.ensures.some c.loop-slice.invariant.left_fits c.loop-slice.invariant.right_fits
+write_entry-requires g c = turn_fits c.loop-slice.self.lefts.held c.loop-slice.self.rights.held c.in-Some.slice.now c.in-Some.order
+    c.in-Some.ensures.some c.loop-slice.invariant.left_fits c.loop-slice.invariant.right_fits

@@ -7,8 +7,11 @@ use Rattle.ffv1_hold.proofs.merging.Merge.join_entries.Given as goal
 abbrev pub invariant-loop-slice : goal.invariant-loop-slice
 invariant-loop-slice g l = record {
   stands : (start : Start) → l.setup ≡ start.reel.setup
-      → Stands start (g.R.Source.remaining l.initial.left) (g.Q.Source.remaining l.initial.right) (g.W.Sink.contents l.initial.sink) l.initial.self.lefts.place l.initial.self.rights.place l.initial.self.room l.initial.self.lefts.held l.initial.self.rights.held
-      → Stands start (g.R.Source.remaining l.left) (g.Q.Source.remaining l.right) (g.W.Sink.contents l.sink) l.self.lefts.place l.self.rights.place l.self.room l.self.lefts.held l.self.rights.held;
+      → Stands start (g.R.Source.remaining l.initial.left) (g.Q.Source.remaining l.initial.right)
+      (g.W.Sink.contents l.initial.sink) l.initial.self.lefts.place l.initial.self.rights.place l.initial.self.room l.initial.self.lefts.held
+      l.initial.self.rights.held
+      → Stands start (g.R.Source.remaining l.left) (g.Q.Source.remaining l.right)
+      (g.W.Sink.contents l.sink) l.self.lefts.place l.self.rights.place l.self.room l.self.lefts.held l.self.rights.held;
   left_place : l.self.lefts.place ≤ file_limit;
   right_place : l.self.rights.place ≤ file_limit;
   left_fits : IfSome l.self.lefts.held (λ e. length e.1 ≤ slice_limit);
