@@ -195,6 +195,12 @@ def tiles_of(setup):
     return setup.grid[0] * setup.grid[1]
 
 
+def samples_of(setup, size):
+    """How many samples a frame has, in all its planes."""
+    chroma = [-(-side >> shift) for side, shift in zip(size, setup.shifts)]
+    return size[0] * size[1] + 2 * bool(setup.chroma) * chroma[0] * chroma[1]
+
+
 def setup_text(setup):
     """What `show` prints."""
     lines = [
