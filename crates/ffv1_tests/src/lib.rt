@@ -21,6 +21,8 @@ mod holding;
 #[cfg(test)]
 mod made;
 #[cfg(test)]
+mod merge;
+#[cfg(test)]
 mod parity;
 #[cfg(test)]
 mod picture;
