@@ -84,7 +84,8 @@ module _ (i : Inputs) (w v : Option (List ℕ)) where
   union_passes : UnionPasses i → (union : Contents) × BeginsUnion i.left_old i.right_old union × (file_limit < length (holding_text union))
   union_passes u = (
     joined u.left u.right,
-    so_far u.left u.right (record { left_read = all_part _ _ u.left u.read.left_read; right_read = all_part _ _ u.right u.read.right_read; same = u.read.same }),
+    so_far u.left u.right
+        (record { left_read = all_part _ _ u.left u.read.left_read; right_read = all_part _ _ u.right u.read.right_read; same = u.read.same }),
     u.over,
   )
 

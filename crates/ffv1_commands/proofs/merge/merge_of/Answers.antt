@@ -8,7 +8,8 @@ pub returns-in-Ok-clause-ok : goal.returns-in-Ok-clause-ok
 returns-in-Ok-clause-ok g c = merges _ _ _ c.in-Ok.ensures.joined
 
 pub returns-in-Err-clause-err : goal.returns-in-Err-clause-err
-returns-in-Err-clause-err g c = rw c.of_merge.ensures (merge_fault _ (g.O.Sink.contents c.args.out.now) (g.O.Sink.contents c.join_streams.new.sink) c.in-Err.fault c.in-Err.ensures.fault)
+returns-in-Err-clause-err g c = rw c.of_merge.ensures (merge_fault _ (g.O.Sink.contents c.args.out.now) (g.O.Sink.contents c.join_streams.new.sink)
+    c.in-Err.fault c.in-Err.ensures.fault)
 
 pub returns-in-Err-clause-leaves : goal.returns-in-Err-clause-leaves
 returns-in-Err-clause-leaves g c =
