@@ -1,5 +1,5 @@
 //! The suite of made frames, through the commands: each comes back byte for byte, and sample by sample.
-use ffv1_commands::{run_decode, run_restore, run_take};
+use ffv1_commands::{run_decode, run_join, run_merge, run_restore, run_take};
 use ffv1_range::Setup;
 use ffv1_slice::{Chain, ChainEnd, Link};
 use ffv1_vectors::{
@@ -255,5 +255,65 @@ fn a_size_too_great_hides_what_lies_before(rt: HostRuntime) -> Result<(), Fail> 
     let (_file, printed) = taken(rt.alloc(), &frame, [&copy, &copy])?;
     let lines = "copy 1 links 1 slices 1 new 1\ncopy 2 links 1 slices 1 new 0\n";
     assert!(rt; printed.as_slice() == lines.as_bytes());
+    Ok(())
+}
+
+/// The file that `join` writes of two holding files.
+fn joined<'a>(alloc: Global, left: &'a [u8], right: &'a [u8]) -> Result<Vec<u8>, Fail> {
+    let mut first = left;
+    let mut others = [right];
+    let mut file = Vec::new(alloc);
+    let mut printed: Vec<u8> = Vec::new(alloc);
+    run_join(alloc, &mut first, &mut others, &mut file, &mut printed)
+        .ok()
+        .ok_or("ample memory")?;
+    Ok(file)
+}
+
+/// The file that `merge` writes of them.
+fn merged(alloc: Global, left: &[u8], right: &[u8]) -> Result<Vec<u8>, Fail> {
+    let (mut left, mut right) = (left, right);
+    let mut file = Vec::new(alloc);
+    run_merge(alloc, &mut left, &mut right, &mut file)
+        .ok()
+        .ok_or("ample memory")?;
+    Ok(file)
+}
+
+/// A copy of a frame with a burst in the contents of two tiles.
+fn hurt_in(alloc: Global, payload: &[u8], tiles: [usize; 2]) -> Result<Vec<u8>, Fail> {
+    let mut copy = payload.to_vec(alloc)?;
+    for tile in tiles {
+        let (start, _end) = place_of(alloc, payload, tile)?;
+        copy = burst_at(alloc, &copy, start.wrapping_add(4))?;
+    }
+    Ok(copy)
+}
+
+#[test]
+fn merge_writes_what_join_writes(rt: HostRuntime) -> Result<(), Fail> {
+    let frame = four_tiles(rt.alloc())?;
+    let whole = frame.payload.as_slice();
+    let a = hurt_in(rt.alloc(), whole, [0, 3])?;
+    let b = hurt_in(rt.alloc(), whole, [1, 2])?;
+    let (of_a, _) = taken(rt.alloc(), &frame, [&a, &a])?;
+    let (of_b, _) = taken(rt.alloc(), &frame, [&b, &b])?;
+    let (of_both, _) = taken(rt.alloc(), &frame, [&a, &b])?;
+    let (a, b, both) = (of_a.as_slice(), of_b.as_slice(), of_both.as_slice());
+    for (left, right) in [
+        (a, a),
+        (a, b),
+        (b, a),
+        (b, b),
+        (a, both),
+        (both, a),
+        (b, both),
+        (both, b),
+    ] {
+        let file = merged(rt.alloc(), left, right)?;
+        assert!(rt; file.as_slice() == joined(rt.alloc(), left, right)?.as_slice());
+    }
+    let file = merged(rt.alloc(), a, b)?;
+    assert!(rt; file.as_slice() == both);
     Ok(())
 }
