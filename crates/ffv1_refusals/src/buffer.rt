@@ -29,6 +29,11 @@ impl Buffer {
         self.length == 0
     }
 
+    /// Whether the bytes are a front of these, and not all of them.
+    pub fn begins(&self, whole: &[u8]) -> bool {
+        self.length < whole.len() && whole.get(..self.length) == Some(self.bytes())
+    }
+
     /// The remainder of the bytes, by which they are compared.
     pub fn remainder(&self) -> u32 {
         remainder(self.bytes())

@@ -5,7 +5,7 @@ use crate::stock::{FRAME, RECORD, SIZE, Stock, file_of, first_copy, holding_of, 
 use ffv1_bits::remainder;
 use ffv1_hold::{
     FromRead, FromWrite, HoldFault, HoldFileFault, Holding, Join, RestoreFault, TakeAllFault,
-    read_hold, write_hold,
+    join_streams, read_hold, write_hold,
 };
 use ffv1_picture::{Decoder, Frame, FrameFault, Partial, TileOutcome, picture, report, write_raw};
 use ffv1_plane::{TileFault, decode_tile};
@@ -223,6 +223,46 @@ impl Attempt for ReadHold<'_> {
             Err(HoldFileFault::Memory) => Outcome::Memory,
             Err(_) => Outcome::Wrong,
         }
+    }
+}
+
+/// `join_streams` of the files of the first copy and of the second.
+#[derive(Drop)]
+pub struct JoinStreams<'a> {
+    first: &'a [u8],
+    second: &'a [u8],
+    both: &'a [u8],
+    written: Buffer,
+}
+
+impl<'a> JoinStreams<'a> {
+    /// The files, of which nothing was written.
+    pub fn new(stock: &'a Stock) -> JoinStreams<'a> {
+        JoinStreams {
+            first: stock.first_file.bytes(),
+            second: stock.second_file.bytes(),
+            both: stock.both_file.bytes(),
+            written: Buffer::new(),
+        }
+    }
+}
+
+impl Attempt for JoinStreams<'_> {
+    fn attempt(&mut self, alloc: Global) -> Outcome {
+        let (mut first, mut second) = (FromRead::new(self.first), FromRead::new(self.second));
+        let mut sink = FromWrite::new(Buffer::new());
+        let answer = join_streams(alloc, &mut first, &mut second, &mut sink);
+        self.written = sink.into_inner();
+        match answer {
+            Ok(()) => Outcome::Answer(self.written.remainder()),
+            Err(HoldFileFault::Memory) => Outcome::Memory,
+            Err(_) => Outcome::Wrong,
+        }
+    }
+
+    /// Whether what was written is a front of the file of both, and not all of it.
+    fn is_kept(&self) -> bool {
+        self.written.begins(self.both)
     }
 }
 

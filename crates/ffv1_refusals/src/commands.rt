@@ -1,10 +1,11 @@
-//! The functions of the commands, each on a recorded frame. After a refusal nothing was written.
+//! The functions of the commands, each on a recorded frame. After a refusal nothing was written, but by `run_merge` a front of its
+//! file.
 use crate::attempt::{Attempt, Outcome};
 use crate::buffer::Buffer;
 use crate::stock::{FRAME, RECORD, SIZE, Stock, first_copy, second_copy};
 use ffv1_commands::{
-    CliFault, run_chain, run_decode, run_join, run_picture, run_report, run_restore, run_show,
-    run_take,
+    CliFault, run_chain, run_decode, run_join, run_merge, run_picture, run_report, run_restore,
+    run_show, run_take,
 };
 use std::alloc::Global;
 
@@ -53,6 +54,8 @@ pub enum Command {
     Take,
     /// `run_join` of the files of the first copy and of both.
     Join,
+    /// `run_merge` of the files of the first copy and of both.
+    Merge,
     /// `run_report` of the file of both copies.
     Report,
     /// `run_restore` of the file of both copies.
@@ -107,6 +110,7 @@ impl<'a> Run<'a> {
                 )
             }
             Command::Join => run_join(alloc, &mut first, &mut [both], made, printed),
+            Command::Merge => run_merge(alloc, &mut first, &mut both, made),
             Command::Report => run_report(alloc, &mut both, printed),
             Command::Restore => run_restore(alloc, &mut both, made, printed),
             Command::Picture => match run_picture(alloc, &mut both, made, printed) {
@@ -122,11 +126,16 @@ impl<'a> Run<'a> {
 
 impl Attempt for Run<'_> {
     fn attempt(&mut self, alloc: Global) -> Outcome {
+        self.outputs = Outputs::new();
         let answer = self.run(alloc);
         self.outputs.outcome(answer)
     }
 
     fn is_kept(&self) -> bool {
-        self.outputs.are_empty()
+        match self.command {
+            Command::Merge => self.outputs.made.begins(self.both_file)
+                && self.outputs.printed.is_empty(),
+            _ => self.outputs.are_empty(),
+        }
     }
 }

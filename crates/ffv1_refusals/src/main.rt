@@ -14,8 +14,8 @@ mod stock;
 
 use attempt::{Attempt, Outcome};
 use calls::{
-    DecodeFrame, DecodeTile, JoinWith, MakeDecoder, MakeHolding, Picture, ReadHold, ReadSetup,
-    Report, Restore, Take, TakeAll, WriteHold,
+    DecodeFrame, DecodeTile, JoinStreams, JoinWith, MakeDecoder, MakeHolding, Picture, ReadHold,
+    ReadSetup, Report, Restore, Take, TakeAll, WriteHold,
 };
 use commands::{Command, Run};
 use std::io;
@@ -55,6 +55,7 @@ fn tell_calls(rt: &HostRuntime, stock: &Stock) -> io::Result<()> {
             file: stock.both_file.bytes(),
         },
     )?;
+    tell(rt, "join_streams", &mut JoinStreams::new(stock))?;
     tell(
         rt,
         "decode_tile",
@@ -80,6 +81,7 @@ fn tell_commands(rt: &HostRuntime, stock: &Stock) -> io::Result<()> {
     tell(rt, "run_show", &mut Run::new(Command::Show, stock))?;
     tell(rt, "run_take", &mut Run::new(Command::Take, stock))?;
     tell(rt, "run_join", &mut Run::new(Command::Join, stock))?;
+    tell(rt, "run_merge", &mut Run::new(Command::Merge, stock))?;
     tell(rt, "run_report", &mut Run::new(Command::Report, stock))?;
     tell(rt, "run_restore", &mut Run::new(Command::Restore, stock))?;
     tell(rt, "run_picture", &mut Run::new(Command::Picture, stock))?;

@@ -79,7 +79,7 @@ pub fn file_of(holding: &Holding) -> Buffer {
     }
 }
 
-/// Holdings of the first copy, of the second and of both, with the files of the first and of both, and a decoder.
+/// Holdings of the first copy, of the second and of both, with their files, and a decoder.
 #[derive(Drop)]
 pub struct Stock {
     /// The holding of the first copy.
@@ -90,6 +90,8 @@ pub struct Stock {
     pub both: Holding,
     /// The file of the first.
     pub first_file: Buffer,
+    /// The file of the second.
+    pub second_file: Buffer,
     /// The file of both.
     pub both_file: Buffer,
     /// A decoder of the recording.
@@ -107,6 +109,7 @@ impl Stock {
         };
         Ok(Stock {
             first_file: file_of(&first),
+            second_file: file_of(&second),
             both_file: file_of(&both),
             first,
             second,
