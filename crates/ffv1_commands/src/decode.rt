@@ -15,14 +15,13 @@ use ffv1_picture::Decoder;
 use std::alloc::{AllocError, Global};
 use std::io::{Read, Write};
 
-/// Decodes a frame's payload, for a configuration record and the size of the frame in samples; writes its planes Y, Cb and
-/// Cr to `out`, row by row, a byte a sample, and then prints its size, as `decoded 720 x 576 planes 3`.
+/// Decodes a frame's payload, for a configuration record and the size of the frame in samples; writes its planes Y,
+/// Cb and Cr to `out`, row by row, a byte a sample, and then prints its size, as `decoded 720 x 576 planes 3`.
 ///
-/// The record is judged before the payload is
-/// read. `Read` comes where one of them can't be read, or is longer than 2^30 bytes; `Setup` with the record's first fault;
-/// `Frame` with the payload's; `Memory` where a growth is refused: then nothing was written, and `out` was not touched.
-/// `Write` comes where `out` or the output fails: a front of the samples was written, or all samples and a front of the
-/// line.
+/// The record is judged before the payload is read. `Read` comes where one of them can't be read, or is longer than
+/// 2^30 bytes; `Setup` with the record's first fault; `Frame` with the payload's; `Memory` where a growth is refused:
+/// then nothing was written, and `out` was not touched. `Write` comes where `out` or the output fails: a front of the
+/// samples was written, or all samples and a front of the line.
 pub fn run_decode<R: Read, F: Read, O: Write, W: Write>(
     alloc: Global,
     configuration: &mut R,

@@ -12,20 +12,22 @@ use thiserror::Error;
 /// A fault of a command. That of a device says which path of the command it is.
 #[derive(Debug, Drop, Error)]
 pub enum CliFault {
-    /// The file could not be opened or read, or is longer than 2^30 bytes.
+    /// The file could not be opened or read; or it is a record or the payload of `chain` or `decode`, and longer than
+    /// 2^30 bytes.
     #[error("{0:?} was not read")]
     Read(CommandPath),
-    /// The file could not be made or written.
+    /// The file could not be made or written; or it is the one that `merge` makes, and an input by the same word.
     #[error("{0:?} was not written")]
     Write(CommandPath),
     /// The configuration record, with its width and height, gives no setup of the profile.
     #[error("setup fault")]
     Setup(SetupFault),
-    /// A copy is too long, or a holding file is of another record or size than the first. `Memory` is never this fault's
-    /// cause.
+    /// A copy is too long, or a holding file is of another record or size than the first. `Memory` is never this
+    /// fault's cause.
     #[error("hold fault")]
     Hold(HoldFault),
-    /// A holding file is none, or a holding has no file. `Read`, `Write` and `Memory` are never this fault's cause.
+    /// A holding file is none, or a holding has no file, or both files of `merge` are of another record or size.
+    /// `Read`, `Write` and `Memory` are never this fault's cause.
     #[error("holding file fault")]
     HoldFile(HoldFileFault),
     /// A payload is no frame. `Memory` is never this fault's cause.
@@ -56,8 +58,8 @@ impl CliFault {
         }
     }
 
-    /// The line that tells the fault, without the program's name and the line feed, where this is the text of the path that
-    /// it names. It fails where memory is refused.
+    /// The line that tells the fault, without the program's name and the line feed, where this is the text of the
+    /// path that it names. It fails where memory is refused.
     pub fn line(&self, alloc: Global, path: &str) -> Result<String, AllocError>
         ensures { IfOk result (λ line. string_bytes line ≡ fault_line path.now self.now) }
     {
@@ -167,7 +169,8 @@ impl From<AllocError> for CliFault {
     }
 }
 
-/// The fault of the holding file that is this path of the command: those of its device and want of memory are told as such.
+/// The fault of the holding file that is this path of the command: those of its device and want of memory are told as
+/// such.
 pub(crate) fn of_hold_file(path: CommandPath, fault: HoldFileFault) -> CliFault
     ensures { result ≡ of_hold_file path fault }
 {

@@ -14,13 +14,14 @@ use ffv1_hold::{FromRead, Holding, Join, Sink, Source, ThroughWrite};
 use std::alloc::{AllocError, Global};
 use std::io::{Read, Write};
 
-/// Joins the holdings of files, one after the other; writes the file of their union to `out`, and then prints a line for
-/// each file, as `file 1 new 1`: how many of its slices no earlier file had.
+/// Joins the holdings of files, one after the other; writes the file of their union to `out`, and then prints a line
+/// for each file, as `file 1 new 1`: how many of its slices no earlier file had.
 ///
-/// Each file is joined before the next is read. `Read` comes where a file can't be read; `HoldFile` with the first fault of a file in the order of its
-/// bytes, or where the union's file would pass its limit; `Hold` where a file is of another record or size than the first;
-/// `Memory` where a growth is refused: then nothing was written, and `out` was not touched. `Write` comes where `out` or
-/// the output fails: a front of the file was written, or the whole file and a front of the lines.
+/// Each file is joined before the next is read. `Read` comes where a file can't be read; `HoldFile` with the first
+/// fault of a file in the order of its bytes, or where the union's file would pass its limit; `Hold` where a file is
+/// of another record or size than the first; `Memory` where a growth is refused: then nothing was written, and `out`
+/// was not touched. `Write` comes where `out` or the output fails: a front of the file was written, or the whole file
+/// and a front of the lines.
 ///
 /// The other files are fewer than 2^63, as those of a `Vec` always are, so that each has a number.
 pub fn run_join<R: Read, O: Write, W: Write>(

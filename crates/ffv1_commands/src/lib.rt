@@ -1,5 +1,5 @@
-//! The commands over readers and writers: what each reads and makes, what it prints, and why it stops. Who calls them reads the
-//! words and opens the files.
+//! The commands over readers and writers: what each reads and makes, what it prints, and why it stops. Who calls them
+//! reads the words and opens the files.
 #![tactic(auto)]
 
 mod chain;

@@ -15,14 +15,14 @@ use ffv1_hold::{FromRead, HoldFileFault, Sink, Source, ThroughWrite, join_stream
 use std::alloc::Global;
 use std::io::{Read, Write};
 
-/// Joins two holding files as streams, and writes the file of their union to `out`: an entry of each is held, however long
-/// the files are. Nothing is printed.
+/// Joins two holding files as streams, and writes the file of their union to `out`: an entry of each is held, and one
+/// more while it is compared with the one before it, however long the files are. Nothing is printed.
 ///
-/// The file is the one that `join` writes of both. `Read` of the inputs comes where one of them fails; `HoldFile` with the
-/// first fault of one of them, with `OtherReel` where their heads are of another record, width or height, before `out` is
-/// touched, or with `TooLong` where the file would pass its limit; `Memory` where a growth is refused; `Write` where `out`
-/// fails. After `Write` a front of the file was written; after another fault nothing, or its head and whole entries: no end
-/// tag, so that what is there is no holding file.
+/// The file is the one that `join` writes of both. `Read` of the inputs comes where one of them fails; `HoldFile`
+/// with the first fault of one of them, with `OtherReel` where their heads are of another record, width or height,
+/// before `out` is touched, or with `TooLong` where the file would pass its limit; `Memory` where a growth is
+/// refused; `Write` where `out` fails. After `Write` a front of the file was written; after another fault nothing, or
+/// its head and whole entries: no end tag, so that what is there is no holding file.
 pub fn run_merge<R: Read, Q: Read, O: Write>(
     alloc: Global,
     left: &mut R,

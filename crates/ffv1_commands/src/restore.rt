@@ -14,13 +14,13 @@ use ffv1_hold::{FromRead, Sink, Source, ThroughWrite};
 use std::alloc::{AllocError, Global};
 use std::io::{Read, Write};
 
-/// Reads a holding file to its end, writes the settled slices, joined in tile order, to `out`, and then prints how many
-/// bytes they are, as `restored 22 bytes`.
+/// Reads a holding file to its end, writes the settled slices, joined in tile order, to `out`, and then prints how
+/// many bytes they are, as `restored 22 bytes`.
 ///
-/// `Read` comes where the file can't be read; `HoldFile` with its
-/// first fault in the order of its bytes; `Missing` or `Disputed` for the first tile that isn't settled; `Memory` where a
-/// growth is refused: then nothing was written, and `out` was not touched. `Write` comes where `out` or the output fails: a
-/// front of the payload was written, or the whole payload and a front of the line.
+/// `Read` comes where the file can't be read; `HoldFile` with its first fault in the order of its bytes; `Missing` or
+/// `Disputed` for the first tile that isn't settled; `Memory` where a growth is refused: then nothing was written,
+/// and `out` was not touched. `Write` comes where `out` or the output fails: a front of the payload was written, or
+/// the whole payload and a front of the line.
 pub fn run_restore<R: Read, O: Write, W: Write>(
     alloc: Global,
     file: &mut R,

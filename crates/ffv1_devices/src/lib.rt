@@ -1,4 +1,5 @@
-//! Devices (own): what is read and what is written, byte by byte or whole, how often a device failed, and when it is given up.
+//! Devices (own): what is read and what is written, byte by byte or whole, how often a device failed, and when it is
+//! given up.
 #![tactic(auto)]
 
 mod failures;

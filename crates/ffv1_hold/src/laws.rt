@@ -6,8 +6,8 @@ pub fn one_text()
     ensures { OneText }
 {}
 
-/// The text of a holding has no fault: no beginning of it shows one, and the whole text is no unfinished one. Nor does a beginning
-/// of an unfinished file show one.
+/// The text of a holding has no fault: no beginning of it shows one, and the whole text is no unfinished one. Nor
+/// does a beginning of an unfinished file show one.
 pub fn text_shows_no_fault()
     ensures text { TextHasNoFault }
     ensures beginnings { TextShowsNoFault }
@@ -20,8 +20,8 @@ pub fn one_fault()
     ensures beginnings { OneShownFault }
 {}
 
-/// However far the text of a holding may be read where a write fails, that is one place: each text and each bytes that were
-/// written have exactly one lead.
+/// However far the text of a holding may be read where a write fails, that is one place: each text and each bytes
+/// that were written have exactly one lead.
 pub fn one_lead()
     ensures { OneLead }
 {}

@@ -1,5 +1,6 @@
-//! Holding files (own), which keep a holding's slices and their recording, and plans: how a holding comes to be, of copies, of
-//! other holdings and through files. Devices and holdings are those of the crates below, whose names are passed on.
+//! Holding files (own), which keep a holding's slices and their recording, and plans: how a holding comes to be, of
+//! copies, of other holdings and through files. Devices and holdings are those of the crates below, whose names are
+//! passed on.
 #![tactic(auto)]
 
 mod entry;

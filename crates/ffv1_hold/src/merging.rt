@@ -24,14 +24,15 @@ use std::cmp::Ordering;
 
 /// Joins two holding files as streams: reads both, and writes the holding file of the union.
 ///
-/// Both heads are read and judged before anything is written. Then the smaller of the inputs' next entries is written, once
-/// where both have it, and its input is read on: one entry of each is held, and one more of an input while it is compared with
-/// the one before it. `OtherReel` comes exactly where both heads were read and their record, width or height differ, before
-/// anything is written. `TooLong` comes where an input passes its limits, or where what is written would pass 2^31 bytes; each
-/// other fault is the one that `read_hold` tells of that input. The end tag is written only where both inputs were read to
-/// their ends and show no fault. `Read` and `Write` come only where a source or the sink counted a failure: an interrupted try
-/// is made again, and 65 in a row are a failure. After `Write` each input that is a text was read at most to the end of its
-/// first entry that is not whole in what was written. `Memory` comes where a growth is refused.
+/// Both heads are read and judged before anything is written. Then the smaller of the inputs' next entries is
+/// written, once where both have it, and its input is read on: one entry of each is held, and one more of an input
+/// while it is compared with the one before it. `OtherReel` comes exactly where both heads were read and their
+/// record, width or height differ, before anything is written. `TooLong` comes where an input passes its limits, or
+/// where what is written would pass 2^31 bytes; each other fault is the one that `read_hold` tells of that input. The
+/// end tag is written only where both inputs were read to their ends and show no fault. `Read` and `Write` come only
+/// where a source or the sink counted a failure: an interrupted try is made again, and 65 in a row are a failure.
+/// After `Write` each input that is a text was read at most to the end of its first entry that is not whole in what
+/// was written, or to its own end where all are whole. `Memory` comes where a growth is refused.
 pub fn join_streams<R: Source, Q: Source, W: Sink>(
     alloc: Global,
     left: &mut R,
@@ -234,8 +235,8 @@ impl Merge {
         Ok(())
     }
 
-    /// Writes the entries of both inputs in their order, each once, and reads both to their ends. The tag behind an entry is
-    /// read only after that entry was written.
+    /// Writes the entries of both inputs in their order, each once, and reads both to their ends. The tag behind an
+    /// entry is read only after that entry was written.
     fn join_entries<R: Source, Q: Source, W: Sink>(
         &mut self,
         alloc: Global,
@@ -279,7 +280,8 @@ impl Merge {
     }
 }
 
-/// The smaller of the next entries of both inputs, and how the left one's stands to the right one's, where an end is behind all.
+/// The smaller of the next entries of both inputs, and how the left one's stands to the right one's, where an end is
+/// behind all.
 fn next_slice<'a>(
     left: &'a Option<HeldSlice>,
     right: &'a Option<HeldSlice>,

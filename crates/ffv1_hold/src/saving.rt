@@ -18,9 +18,9 @@ use ffv1_holding::{Holding, Reel};
 
 /// Writes the holding file of a holding.
 ///
-/// `TooLong` comes exactly where the record has more than 2^24 bytes or the file would have more than 2^31, before anything is
-/// written. After `Write`, which comes only where the sink counted a failure, a front of the file was written. No other fault
-/// comes: nothing is allocated.
+/// `TooLong` comes exactly where the record has more than 2^24 bytes or the file would have more than 2^31, before
+/// anything is written. After `Write`, which comes only where the sink counted a failure, a front of the file was
+/// written. No other fault comes: nothing is allocated.
 pub fn write_hold<W: Sink>(holding: &Holding, sink: &mut W) -> Result<(), HoldFileFault>
     ensures text { OnOk result (Appends (W.contents sink.old) (W.contents sink.new) (holding_text holding.now)) }
     ensures sound { IsHolding holding.now }

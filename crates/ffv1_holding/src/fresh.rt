@@ -55,7 +55,8 @@ pub(crate) fn room_of(fresh: &[Fresh]) -> Option<usize>
     Some(room)
 }
 
-/// Puts the slices of new entries, which lie in `from`, behind the other bytes, and tells the entries so. There has to be room.
+/// Puts the slices of new entries, which lie in `from`, behind the other bytes, and tells the entries so. There has
+/// to be room.
 pub(crate) fn move_slices(from: &[u8], bytes: &mut Vec<u8>, fresh: &mut [Fresh])
     requires room { vec_len bytes.old + sum_by (λ new. new.entry.length) fresh.old ≤ vec_capacity bytes.old }
     requires coming { (i : ℕ) (d : Fresh) → i < length fresh.old → IsEntryIn from.now (slice_index_or fresh.old i d).entry }
@@ -86,8 +87,8 @@ pub(crate) fn spread(entries: &mut Vec<PoolEntry>, fresh: &[Fresh])
     merge(entries, held, fresh);
 }
 
-/// Puts new entries among the first `held` of entries, behind which there is room for just them. Each place is passed once,
-/// from behind.
+/// Puts new entries among the first `held` of entries, behind which there is room for just them. Each place is passed
+/// once, from behind.
 fn merge(entries: &mut [PoolEntry], held: usize, fresh: &[Fresh])
     requires room { length entries.old ≡ held + length fresh.now }
     requires places { (i : ℕ) (d : Fresh) → i < length fresh.now → (slice_index_or fresh.now i d).place ≤ held }

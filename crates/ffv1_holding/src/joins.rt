@@ -6,8 +6,8 @@ use crate::fault::HoldFault;
 
 /// A value whose meaning is a set, which grows by the meaning of another.
 ///
-/// The laws are part of the trait: each implementation proves that joining commutes, groups, and repeats without effect,
-/// and that a union can be joined with what its first part could be joined with.
+/// The laws are part of the trait: each implementation proves that joining commutes, groups, and repeats without
+/// effect, and that a union can be joined with what its first part could be joined with.
 pub trait Join {
     /// Whether the two can be joined.
     ghost joinable: { Self → Self → Type 0 };
@@ -51,12 +51,12 @@ pub struct JoinAllFault {
     pub cause: HoldFault,
 }
 
-/// Joins each of `others` into `whole`, and answers how many members are new. Where any two of them can be joined, their order
-/// and their repetition do not matter.
+/// Joins each of `others` into `whole`, and answers how many members are new. Where any two of them can be joined,
+/// their order and their repetition do not matter.
 ///
-/// It stops at the first that is refused: `whole` is then joined with just those before it, and the fault says how many they
-/// are. The cause is `OtherReel` exactly where what `whole` came to cannot be joined with the next one; the only other cause
-/// is `Memory`.
+/// It stops at the first that is refused: `whole` is then joined with just those before it, and the fault says how
+/// many they are. The cause is `OtherReel` exactly where what `whole` came to cannot be joined with the next one; the
+/// only other cause is `Memory`.
 pub fn join_all<T: Join>(whole: &mut T, others: &[T]) -> Result<usize, JoinAllFault>
     ensures joined { OnOk result (whole.new ≡ joined_all T.union whole.old others.now) }
     // Others of the same members come to the same, in whatever order and however often.

@@ -1,19 +1,21 @@
 //! Laws of holdings (own), as contracts of functions that do nothing.
 ghost use Rattle.ffv1_holding.specs.Laws.{CopiesHoldTheOriginal, NearCopiesHoldTheOriginal, HeldIsFound};
 
-/// Where every slice that is found in the copies is the original's for its tile, and each of the original's is found in some
-/// copy, the holding of the copies holds exactly the original's slices. With `restore`, it then answers the original.
+/// Where every slice that is found in the copies is the original's for its tile, and each of the original's is found
+/// in some copy, the holding of the copies holds exactly the original's slices. With `restore`, it then answers the
+/// original.
 pub fn copies_hold_the_original()
     ensures { CopiesHoldTheOriginal }
 {}
 
-/// Where all copies differ from an original only within 32 bits of each slice, its size field unhurt, and each of its slices is
-/// intact in one of them, the holding of the copies holds exactly the original's slices.
+/// Where all copies differ from an original only within 32 bits of each slice, its size field unhurt, and each of its
+/// slices is intact in one of them, the holding of the copies holds exactly the original's slices.
 pub fn near_copies_hold_the_original()
     ensures { NearCopiesHoldTheOriginal }
 {}
 
-/// What is held of copies is what is found in one of them: a slice of a tile is held exactly where it is found in some copy.
+/// What is held of copies is what is found in one of them: a slice of a tile is held exactly where it is found in
+/// some copy.
 pub fn held_is_found()
     ensures { HeldIsFound }
 {}

@@ -1,5 +1,5 @@
-//! Holdings (own): the union of the slices that were found in copies of one frame, and what they restore. A slice is held with
-//! its footer (RFC 9043, section 4.9), and only as its parity and its header find it.
+//! Holdings (own): the union of the slices that were found in copies of one frame, and what they restore. A slice is
+//! held with its footer (RFC 9043, section 4.9), and only as its parity and its header find it.
 #![tactic(auto)]
 
 mod fault;

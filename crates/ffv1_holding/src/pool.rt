@@ -81,7 +81,7 @@ impl Pool {
         Shelf::new(&self.bytes, &self.entries[start..end])
     }
 
-    /// Adds a slice of a tile.
+    /// Adds a slice of a tile, where it is not held already.
     pub(crate) fn insert(&mut self, tile: usize, slice: &[u8]) -> Result<(), HoldFault>
         requires { IsFramed slice.now }
         ensures ok { OnOk result (self.new ≡ with_entry self.old (tile, slice.now)) }

@@ -1,5 +1,5 @@
-//! What a holding says of its tiles, and the payload that it restores (own). A slice's error_status is the byte of its footer
-//! behind the three of its size (RFC 9043, sections 4.9.1 and 4.9.2).
+//! What a holding says of its tiles, and the payload that it restores (own). A slice's error_status is the byte of
+//! its footer behind the three of its size (RFC 9043, sections 4.9.1 and 4.9.2).
 ghost use Rattle.std.specs.Prelude.{◌≡◌, ◌<◌, ℕ, List, slice_index_or, IfOk, IfErr, OnOk, OnErr};
 ghost use Rattle.ffv1_slice.specs.Slices.{IsOriginal};
 ghost use Rattle.ffv1_holding.specs.Sets as set;
@@ -45,7 +45,8 @@ impl Holding {
         self.held.size()
     }
 
-    /// How many slices of a tile are held. Tiles count from 0, row by row of the grid; `tile` must be less than their number.
+    /// How many slices of a tile are held. Tiles count from 0, row by row of the grid; `tile` must be less than their
+    /// number.
     pub fn held(&self, tile: usize) -> usize
         requires { tile < reel_tiles self.now.reel }
         ensures { result ≡ set.size (tile_slices self.now.slices tile) }
@@ -53,8 +54,8 @@ impl Holding {
         self.held.of_tile(tile).len()
     }
 
-    /// A slice that is held of a tile, by its place in the rising order of their bytes. Both count from 0; `tile` must be less
-    /// than the number of tiles, and `place` less than `held(tile)`.
+    /// A slice that is held of a tile, by its place in the rising order of their bytes. Both count from 0; `tile`
+    /// must be less than the number of tiles, and `place` less than `held(tile)`.
     pub fn slice(&self, tile: usize, place: usize) -> &[u8]
         requires tile { tile < reel_tiles self.now.reel }
         requires place { place < set.size (tile_slices self.now.slices tile) }
@@ -63,8 +64,8 @@ impl Holding {
         self.held.of_tile(tile).get(place)
     }
 
-    /// The least error_status (RFC 9043, section 4.9.2) of the slices that are held of a tile, or `None` where none is held.
-    /// `tile` must be less than the number of tiles.
+    /// The least error_status (RFC 9043, section 4.9.2) of the slices that are held of a tile, or `None` where none
+    /// is held. `tile` must be less than the number of tiles.
     pub fn status(&self, tile: usize) -> Option<u8>
         requires { tile < reel_tiles self.now.reel }
         ensures { IsLeastStatus (set.items (tile_slices self.now.slices tile)) result }
@@ -82,8 +83,8 @@ impl Holding {
 
     /// The settled slices, joined in tile order: the frame's payload.
     ///
-    /// `Missing` or `Disputed` comes exactly where a tile is not settled, for the first such tile, before any growth. `Memory`
-    /// comes only where every tile is settled. The holding is unchanged in any case.
+    /// `Missing` or `Disputed` comes exactly where a tile is not settled, for the first such tile, before any growth.
+    /// `Memory` comes only where every tile is settled. The holding is unchanged in any case.
     pub fn restore(&self) -> Result<Vec<u8>, RestoreFault>
         ensures ok { IfOk result (λ payload. payload.items ≡ restored_payload self.now) }
         ensures settled { OnOk result (AreSettled self.now) }

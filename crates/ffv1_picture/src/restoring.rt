@@ -60,12 +60,13 @@ impl From<AllocError> for RestorationFault {
     }
 }
 
-/// Carries a plan out, for a configuration record and the size of its frames in samples, and answers the restored payload,
-/// the report and the picture of what is held then.
+/// Carries a plan out, for a configuration record and the size of its frames in samples, and answers the restored
+/// payload, the report and the picture of what is held then.
 ///
-/// However the same copies are ordered, grouped or repeated, the holdings are equal in every tile, file byte and report line.
-/// Where every slice found in them is the original's for its tile, and each tile's is found in some copy, the restored payload
-/// is the original byte for byte, and each sample is the one that the greatest decoded tile covering it spells.
+/// However the same copies are ordered, grouped or repeated, the holdings are equal in every tile, file byte and
+/// report line. Where every slice found in them is the original's for its tile, and each tile's is found in some
+/// copy, the restored payload is the original byte for byte, and each sample is the one that the greatest decoded
+/// tile covering it spells.
 ///
 /// `Plan` comes with a refusal of one of the plan's steps, `Memory` where a growth is refused behind them.
 pub fn restored(

@@ -12,8 +12,8 @@ ghost use Rattle.ffv1_range.specs.Views.{limits_of};
 use crate::coding::{RangeDecoder, RangeFault};
 use crate::setup::Setup;
 
-/// Why a slice's content has no header of the profile. `Range` and `NotKey` come where they are met; the others come, in
-/// this order, after all of the header was read.
+/// Why a slice's content has no header of the profile. `Range` and `NotKey` come where they are met; the others come,
+/// in this order, after all of the header was read.
 #[derive(Clone, Copy, Debug, PartialEq, Eq)]
 pub enum HeadFault {
     /// A range-coded value can't be read.
@@ -131,8 +131,9 @@ fn read_key(decoder: &mut RangeDecoder<'_>, first: bool) -> Result<(), HeadFault
     Ok(())
 }
 
-/// The nine fields of a header, as they stand behind the keyframe bit (RFC 9043, section 4.6): slice_x, slice_y, slice_width - 1,
-/// slice_height - 1, the two table sets, picture_structure, sar_num and sar_den. None of them is judged.
+/// The nine fields of a header, as they stand behind the keyframe bit (RFC 9043, section 4.6): slice_x, slice_y,
+/// slice_width - 1, slice_height - 1, the two table sets, picture_structure, sar_num and sar_den. None of them is
+/// judged.
 ///
 /// A fault is that of the first symbol that can't be read.
 pub fn read_head_fields(decoder: &mut RangeDecoder<'_>) -> Result<[u32; HEAD_FIELDS], RangeFault>

@@ -1,5 +1,5 @@
-//! The functions of the commands, each on a recorded frame. After a refusal nothing was written, but by `run_merge` a front of its
-//! file.
+//! The functions of the commands, each on a recorded frame. After a refusal nothing was written, but by `run_merge` a
+//! front of its file.
 use crate::attempt::{Attempt, Outcome};
 use crate::buffer::Buffer;
 use crate::stock::{FRAME, RECORD, SIZE, Stock, first_copy, second_copy};

@@ -1,9 +1,9 @@
-//! Makes each call that takes memory, and makes it again where it answers that a growth was refused.
+//! Makes calls that take memory, and makes each again where it answers that a growth was refused.
 //!
-//! `tests/memory` runs this program while one growth after the other is refused, and compares what it prints: a line for each
-//! call with the remainder of its answer's bytes, before which stands a line with `memory` where the call answered that, and in
-//! whose place stands `wrong` where the answer is another or what the call was made on has changed. The exit status is 2 where
-//! the growth was refused to what the calls are made on.
+//! `tests/memory` runs this program while one growth after the other is refused, and compares what it prints: a line
+//! for each call with the remainder of its answer's bytes, before which stands a line with `memory` where the call
+//! answered that, and in whose place stands `wrong` where the answer is another or what the call was made on has
+//! changed. The exit status is 2 where the growth was refused to what the calls are made on.
 #![tactic(auto)]
 
 mod attempt;

@@ -1,5 +1,5 @@
-//! What the calls are made on: a recorded frame of 48 x 32 gray samples in four tiles, and two copies of it in each of which the
-//! slices of two tiles are damaged.
+//! What the calls are made on: a recorded frame of 48 x 32 gray samples in four tiles, and two copies of it in each
+//! of which the slices of two tiles are damaged.
 use crate::buffer::Buffer;
 use ffv1_hold::{FromWrite, Holding, write_hold};
 use ffv1_picture::Decoder;

@@ -43,8 +43,8 @@ impl<'a> FoundSlice<'a> {
     }
 }
 
-/// The slices of a payload, from its end. A link that fails its parity, or whose content has no header of the profile, is
-/// passed over. It fails where memory is refused.
+/// The slices of a payload, from its end. A link that fails its parity, or whose content has no header of the
+/// profile, is passed over. It fails where memory is refused.
 #[tactic(auto, unfolding(crate::specs::Slices::found_slices))]
 pub fn find_slices<'a>(
     alloc: Global,
@@ -75,8 +75,8 @@ pub fn original_is_found()
     ensures { OriginalIsFound }
 {}
 
-/// Damage within 32 bits of a slice, its size field unhurt, is always seen: of a copy in which no slice of an original is hurt
-/// otherwise, exactly the slices that stand there intact are found, each of its tile.
+/// Damage within 32 bits of a slice, its size field unhurt, is always seen: of a copy in which no slice of an
+/// original is hurt otherwise, exactly the slices that stand there intact are found, each of its tile.
 pub fn near_found()
     ensures { NearFound }
 {}

@@ -1,5 +1,5 @@
-//! Frames, records and holding files of the suite, cut at every place and with every eight bytes zeroed, through the calls that
-//! take them.
+//! Frames, records and holding files of the suite, cut at every place and with every eight bytes zeroed, through the
+//! calls that take them.
 use ffv1_hold::{FromRead, FromWrite, HoldFileFault, Holding, TileState, read_hold, write_hold};
 use ffv1_picture::{Decoder, Partial, TileOutcome, picture};
 use ffv1_range::{Setup, SetupFault};

@@ -75,8 +75,8 @@ fn join_files<'a>(
     )
 }
 
-/// Joins the holding files of these two paths as streams. Both are opened before the file that is made, and none is where that
-/// is one of them: it would be emptied before it is read.
+/// Joins the holding files of these two paths as streams. Both are opened before the file that is made, and none is
+/// where the word of that is one of theirs: it would be emptied before it is read.
 fn merge_files(rt: &HostRuntime, out: &str, left: &str, right: &str) -> Result<(), CliFault>
     ensures { IfErr result (NamesPath IsMergePath) }
 {
@@ -152,8 +152,8 @@ fn run(rt: &HostRuntime, words: &Words<'_>) -> Result<bool, CliFault>
     Ok(true)
 }
 
-/// Tells a fault in one line on standard error, and answers its exit status. The path is the text of the one that the fault
-/// names.
+/// Tells a fault in one line on standard error, and answers its exit status. The path is the text of the one that the
+/// fault names.
 fn tell(rt: &(impl Eprint + AllocGlobal), fault: &CliFault, path: &str) -> ExitCode {
     let told = match fault.line(rt.alloc(), path) {
         Ok(line) => eprintln!(rt; "ffv1restore: {line}"),
@@ -192,9 +192,9 @@ fn given_words(rt: &HostRuntime) -> Result<Vec<String>, CliFault>
     }
 }
 
-/// Holds the three lowest numbers of files that are free, by the root folder, to which nothing can be written. Where the program
-/// was started without a standard stream, the file that is made could else come to stand for it, and what is printed be
-/// written into that file.
+/// Holds the three lowest numbers of files that are free, by the root folder, to which nothing can be written. Where
+/// the program was started without a standard stream, the file that is made could else come to stand for it, and what
+/// is printed be written into that file.
 fn hold_streams(rt: &HostRuntime) -> [Option<File>; 3] {
     [
         File::open(rt, "/").ok(),
