@@ -1,8 +1,8 @@
-//! The commands over readers and writers that are interrupted, fail, or hold much.
+//! The commands over readers that are interrupted or hold much, and over changed holding files.
 use ffv1_commands::{CliFault, CommandPath, run_chain, run_join, run_restore, run_take};
 use std::alloc::Global;
 use std::io;
-use std::io::{ErrorKind, Read, Write};
+use std::io::{ErrorKind, Read};
 use std::test::Fail;
 
 /// A gray frame of 2 x 1 samples in two tiles.
@@ -39,30 +39,6 @@ impl Read for Interrupted<'_> {
     }
 }
 
-/// Takes so many bytes, one with each call, and then fails.
-#[derive(Drop)]
-struct Full {
-    taken: Vec<u8>,
-    room: usize,
-}
-
-impl Write for Full {
-    fn write(&mut self, buf: &[u8]) -> io::Result<usize> {
-        match buf {
-            [first, ..] if self.taken.len() < self.room => match self.taken.push(*first) {
-                Ok(()) => Ok(1),
-                Err(_) => Err(io::Error::from(ErrorKind::OutOfMemory)),
-            },
-            [] => Ok(0),
-            _ => Err(io::Error::from(ErrorKind::StorageFull)),
-        }
-    }
-
-    fn flush(&mut self) -> io::Result<()> {
-        Ok(())
-    }
-}
-
 #[test]
 fn interrupted_reads_are_tried_again(rt: HostRuntime) {
     for (before_each, whole) in [(64, true), (65, false)] {
@@ -78,61 +54,6 @@ fn interrupted_reads_are_tried_again(rt: HostRuntime) {
                 !whole && matches!(fault, CliFault::Read(CommandPath::Frame)) && output.is_empty()
             ),
         }
-    }
-}
-
-/// Takes bytes after so many interruptions in a row.
-#[derive(Drop)]
-struct Interrupting {
-    taken: Vec<u8>,
-    times: u32,
-}
-
-impl Write for Interrupting {
-    fn write(&mut self, buf: &[u8]) -> io::Result<usize> {
-        if self.times > 0 {
-            self.times -= 1;
-            return Err(io::Error::from(ErrorKind::Interrupted));
-        }
-        self.taken.extend_from_slice(buf)?;
-        Ok(buf.len())
-    }
-
-    fn flush(&mut self) -> io::Result<()> {
-        Ok(())
-    }
-}
-
-/// What `chain` writes after so many interruptions in a row, if it does not fail.
-fn written_after(alloc: Global, times: u32) -> Option<Vec<u8>> {
-    let mut frame: &[u8] = &FRAME;
-    let mut output = Interrupting {
-        taken: Vec::new(alloc),
-        times,
-    };
-    run_chain(alloc, &mut frame, &mut output).ok()?;
-    Some(output.taken)
-}
-
-#[test]
-fn interrupted_writes_are_tried_again(rt: HostRuntime) -> Result<(), Fail> {
-    let text = written_after(rt.alloc(), 64).ok_or("64 tries are made again")?;
-    assert!(rt; text.as_slice() == FRAME_TEXT.as_bytes());
-    assert!(rt; written_after(rt.alloc(), 65).is_none());
-    Ok(())
-}
-
-#[test]
-fn failed_writes_leave_a_front_of_the_text(rt: HostRuntime) {
-    for room in 0..FRAME_TEXT.len() {
-        let mut frame: &[u8] = &FRAME;
-        let mut output = Full {
-            taken: Vec::new(rt.alloc()),
-            room,
-        };
-        let fault = run_chain(rt.alloc(), &mut frame, &mut output).err();
-        assert!(rt; matches!(fault, Some(CliFault::Write(CommandPath::StandardOutput))));
-        assert!(rt; output.taken.as_slice() == &FRAME_TEXT.as_bytes()[..room]);
     }
 }
 
@@ -167,47 +88,32 @@ fn taken(alloc: Global, mut copies: [&[u8]; 2]) -> Result<(Vec<u8>, Vec<u8>), Fa
     Ok((out, output))
 }
 
-#[test]
-fn commands_restore_what_two_copies_have(rt: HostRuntime) -> Result<(), Fail> {
-    let (a, b) = (left_damaged(), right_damaged());
-    let (both, lines) = taken(rt.alloc(), [&b, &a])?;
-    let expected = "copy 1 links 2 slices 1 new 1\ncopy 2 links 2 slices 1 new 1\n";
-    assert!(rt; lines.as_slice() == expected.as_bytes());
-    let (left, _) = taken(rt.alloc(), [&b, &b])?;
-    let mut first = left.as_slice();
-    let mut others = [both.as_slice()];
-    let mut union: Vec<u8> = Vec::new(rt.alloc());
-    let mut output: Vec<u8> = Vec::new(rt.alloc());
-    let joined = run_join(rt.alloc(), &mut first, &mut others, &mut union, &mut output);
-    assert!(rt; joined.is_ok());
-    assert!(rt; output.as_slice() == "file 1 new 1\nfile 2 new 1\n".as_bytes());
-    assert!(rt; union.as_slice() == both.as_slice());
-    let mut file = union.as_slice();
-    let mut payload: Vec<u8> = Vec::new(rt.alloc());
-    let mut printed: Vec<u8> = Vec::new(rt.alloc());
-    let restored = run_restore(rt.alloc(), &mut file, &mut payload, &mut printed);
-    assert!(rt; restored.is_ok());
-    assert!(rt; printed.as_slice() == "restored 22 bytes\n".as_bytes());
-    assert!(rt; payload.as_slice() == FRAME.as_slice());
-    Ok(())
+/// What `join` makes of two files, and what it prints.
+fn joined<'a>(
+    alloc: Global,
+    mut first: &'a [u8],
+    second: &'a [u8],
+) -> Result<(Vec<u8>, Vec<u8>), Fail> {
+    let mut others = [second];
+    let mut union = Vec::new(alloc);
+    let mut output = Vec::new(alloc);
+    run_join(alloc, &mut first, &mut others, &mut union, &mut output)
+        .ok()
+        .ok_or("files of one recording")?;
+    Ok((union, output))
 }
 
 #[test]
-fn failed_outputs_hold_a_front_of_the_payload(rt: HostRuntime) -> Result<(), Fail> {
+fn commands_restore_what_two_copies_have(rt: HostRuntime) -> Result<(), Fail> {
     let (a, b) = (left_damaged(), right_damaged());
-    let (both, _) = taken(rt.alloc(), [&a, &b])?;
-    for room in 0..FRAME.len() {
-        let mut file = both.as_slice();
-        let mut out = Full {
-            taken: Vec::new(rt.alloc()),
-            room,
-        };
-        let mut printed: Vec<u8> = Vec::new(rt.alloc());
-        let fault = run_restore(rt.alloc(), &mut file, &mut out, &mut printed).err();
-        assert!(rt; matches!(fault, Some(CliFault::Write(CommandPath::Out))));
-        assert!(rt; out.taken.as_slice() == &FRAME[..room]);
-        assert!(rt; printed.is_empty());
-    }
+    let (both, taken_lines) = taken(rt.alloc(), [&b, &a])?;
+    let (left, _) = taken(rt.alloc(), [&b, &b])?;
+    let (union, joined_lines) = joined(rt.alloc(), &left, &both)?;
+    assert!(rt; union == both);
+    let wanted = "copy 1 links 2 slices 1 new 1\ncopy 2 links 2 slices 1 new 1\n";
+    assert!(rt; taken_lines.as_slice() == wanted.as_bytes());
+    assert!(rt; joined_lines.as_slice() == b"file 1 new 1\nfile 2 new 1\n".as_slice());
+    assert!(rt; is_told(rt.alloc(), &union, 0)?);
     Ok(())
 }
 
@@ -231,7 +137,11 @@ fn is_told(alloc: Global, mut file: &[u8], number: u8) -> Result<bool, Fail> {
     let mut payload: Vec<u8> = Vec::new(alloc);
     let mut printed: Vec<u8> = Vec::new(alloc);
     match run_restore(alloc, &mut file, &mut payload, &mut printed) {
-        Ok(()) => Ok(number == 0 && payload.as_slice() == FRAME.as_slice()),
+        Ok(()) => Ok(
+            number == 0
+                && payload.as_slice() == FRAME.as_slice()
+                && printed.as_slice() == b"restored 22 bytes\n".as_slice(),
+        ),
         Err(fault) => {
             let expected = format!(in alloc; "holding file fault {number}")?;
             let line = fault.line(alloc, "HOLD");

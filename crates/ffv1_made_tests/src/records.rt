@@ -89,38 +89,70 @@ fn records_of_few_bytes_are_refused(rt: HostRuntime) -> Result<(), Fail> {
     Ok(())
 }
 
+/// The fields of a record before its tables, in reading order: the version, its micro number, coder, colour space, depth,
+/// chroma planes, their shift across, an extra plane, tiles across and down, sets of tables; and, behind these, the parity.
+const FRONT: [u32; 12] = [3, 4, 0, 0, 8, 0, 0, 0, 1, 1, 1, 1];
+
+/// The same, each beyond the profile.
+const BEYOND_FRONT: [u32; 12] = [4, 3, 1, 1, 10, 1, 3, 1, 33, 33, 9, 2];
+
+/// A record whose first `right` of these fields are of the profile, and no others.
+fn beyond_from(alloc: Global, right: usize) -> Result<RecordSpec, Fail> {
+    let mut front = FRONT;
+    let right = right.min(front.len());
+    front[right..].copy_from_slice(&BEYOND_FRONT[right..]);
+    Ok(RecordSpec {
+        version: front[0],
+        micro: front[1],
+        coder: front[2],
+        colorspace: front[3],
+        raw_depth: front[4],
+        has_chroma: front[5] != 0,
+        shift_h: front[6],
+        extra_plane: front[7] != 0,
+        across: front[8],
+        down: front[9],
+        set_count: front[10],
+        ec: front[11],
+        ..gray(alloc, &PLAIN)?
+    })
+}
+
 #[test]
 fn fronts_beyond_the_profile_are_refused(rt: HostRuntime) -> Result<(), Fail> {
-    let alloc = rt.alloc();
-    let mut spec = gray(alloc, &PLAIN)?;
-    assert_eq!(rt; fault_of(alloc, &spec, 1)?, None);
-    assert_eq!(rt; fault_of(alloc, &spec, 16385)?, Some(SetupFault::Size));
-    for ec in [0, 2] {
-        spec.ec = ec;
-        assert_eq!(rt; fault_of(alloc, &spec, 1)?, Some(SetupFault::ParityMode));
+    for (right, side, fault) in [
+        (12, 1, None),
+        (12, 16385, Some(SetupFault::Size)),
+        (11, 1, Some(SetupFault::ParityMode)),
+        (10, 1, Some(SetupFault::TableCount)),
+        (8, 33, Some(SetupFault::TooManyTiles)),
+        (8, 32, Some(SetupFault::GridTooFine)),
+        (7, 1, Some(SetupFault::ExtraPlane)),
+        (5, 1, Some(SetupFault::Subsampling)),
+        (4, 1, Some(SetupFault::Depth)),
+        (3, 1, Some(SetupFault::ColorSpace)),
+        (2, 1, Some(SetupFault::Coder)),
+        (1, 1, Some(SetupFault::Micro)),
+        (0, 1, Some(SetupFault::Version)),
+    ] {
+        let spec = beyond_from(rt.alloc(), right)?;
+        assert_eq!(rt; fault_of(rt.alloc(), &spec, side)?, fault);
     }
-    spec.set_count = 9;
-    assert_eq!(rt; fault_of(alloc, &spec, 1)?, Some(SetupFault::TableCount));
-    spec.across = 33;
-    spec.down = 33;
-    assert_eq!(rt; fault_of(alloc, &spec, 33)?, Some(SetupFault::TooManyTiles));
-    assert_eq!(rt; fault_of(alloc, &spec, 32)?, Some(SetupFault::GridTooFine));
-    spec.extra_plane = true;
-    assert_eq!(rt; fault_of(alloc, &spec, 1)?, Some(SetupFault::ExtraPlane));
-    spec.has_chroma = true;
-    spec.shift_h = 3;
-    assert_eq!(rt; fault_of(alloc, &spec, 1)?, Some(SetupFault::Subsampling));
-    spec.raw_depth = 10;
-    assert_eq!(rt; fault_of(alloc, &spec, 1)?, Some(SetupFault::Depth));
-    spec.colorspace = 1;
-    assert_eq!(rt; fault_of(alloc, &spec, 1)?, Some(SetupFault::ColorSpace));
-    spec.coder = 1;
-    assert_eq!(rt; fault_of(alloc, &spec, 1)?, Some(SetupFault::Coder));
-    spec.micro = 3;
-    assert_eq!(rt; fault_of(alloc, &spec, 1)?, Some(SetupFault::Micro));
-    spec.version = 4;
-    assert_eq!(rt; fault_of(alloc, &spec, 1)?, Some(SetupFault::Version));
-    assert_eq!(rt; make_record(alloc, &spec).err(), Some(MakeFault::NotSelf));
+    Ok(())
+}
+
+#[test]
+fn records_without_a_parity_are_refused(rt: HostRuntime) -> Result<(), Fail> {
+    let mut spec = gray(rt.alloc(), &PLAIN)?;
+    spec.ec = 0;
+    assert_eq!(rt;
+        fault_of(rt.alloc(), &spec, 1)?,
+        Some(SetupFault::ParityMode)
+    );
+    assert_eq!(rt;
+        make_record(rt.alloc(), &spec).err(),
+        Some(MakeFault::NotSelf)
+    );
     Ok(())
 }
 
@@ -165,10 +197,11 @@ fn entries_follow_their_runs(rt: HostRuntime) -> Result<(), Fail> {
         (127, 2),
         (128, -2),
         (253, -2),
+        (254, -1),
+        (255, -1),
     ] {
         assert_eq!(rt; setup.entry(0, 0, index), entry, "at {index}");
     }
-    assert_eq!(rt; (setup.entry(0, 0, 254), setup.entry(0, 0, 255)), (-1, -1));
     Ok(())
 }
 
@@ -274,12 +307,17 @@ fn deltas_are_written_for_each_context(rt: HostRuntime) -> Result<(), Fail> {
     let record = make_record(alloc, &with_deltas(alloc)?)?;
     assert_eq!(rt; record.as_slice(), WITH_DELTAS.as_slice());
     let setup = Setup::read(alloc, &record, 3, 2)?;
-    assert_eq!(rt;
-        (setup.micro(), setup.ec(), setup.intra()),
-        (0x10_0003, 1, 0)
-    );
     assert!(rt; setup.sets() == 2);
-    assert_eq!(rt; (setup.contexts(0), setup.contexts(1)), (5, 2));
+    assert_eq!(rt;
+        (
+            setup.micro(),
+            setup.ec(),
+            setup.intra(),
+            setup.contexts(0),
+            setup.contexts(1)
+        ),
+        (0x10_0003, 1, 0, 5, 2)
+    );
     Ok(())
 }
 
@@ -402,12 +440,17 @@ fn slices_are_spelled_byte_for_byte(rt: HostRuntime) -> Result<(), Fail> {
     Ok(())
 }
 
+/// The setup of a gray recording of so many tiles beside each other, of one sample each.
+fn tiles_beside(alloc: Global, across: u32) -> Result<Setup, Fail> {
+    let mut spec = gray(alloc, &PLAIN)?;
+    spec.across = across;
+    Ok(Setup::read(alloc, &make_record(alloc, &spec)?, across, 1)?)
+}
+
 #[test]
 fn slices_are_read_by_their_fields(rt: HostRuntime) -> Result<(), Fail> {
     let alloc = rt.alloc();
-    let mut spec = gray(alloc, &PLAIN)?;
-    spec.across = 2;
-    let setup = Setup::read(alloc, &make_record(alloc, &spec)?, 2, 1)?;
+    let setup = tiles_beside(alloc, 2)?;
     for (first, key, fields, wanted) in [
         (true, true, fields_of(0), Ok(0)),
         (false, true, fields_of(1), Ok(1)),
@@ -448,21 +491,18 @@ const SECOND: [u8; 11] = [0x3F, 0x2B, 0x80, 0, 0, 3, 0, 0x56, 0x0F, 0xD7, 0x3B];
 
 #[test]
 fn slices_elsewhere_are_refused(rt: HostRuntime) -> Result<(), Fail> {
-    let alloc = rt.alloc();
-    let mut spec = gray(alloc, &PLAIN)?;
-    let narrow = Setup::read(alloc, &make_record(alloc, &spec)?, 1, 1)?;
-    assert_eq!(rt;
-        read_slice(&narrow, &SECOND, false),
-        Err(LinkFault::Head(HeadFault::OutsideGrid))
-    );
-    spec.across = 2;
-    let wide = Setup::read(alloc, &make_record(alloc, &spec)?, 2, 1)?;
-    assert_eq!(rt; read_slice(&wide, &FIRST, true), Ok(0));
-    assert_eq!(rt; read_slice(&wide, &SECOND, false), Ok(1));
-    assert_eq!(rt;
-        read_slice(&wide, &FIRST, false),
-        Err(LinkFault::Head(HeadFault::FirstElsewhere))
-    );
+    for (across, slice, first, tile) in [
+        (1, SECOND, false, Err(HeadFault::OutsideGrid)),
+        (2, FIRST, true, Ok(0)),
+        (2, SECOND, false, Ok(1)),
+        (2, FIRST, false, Err(HeadFault::FirstElsewhere)),
+    ] {
+        let setup = tiles_beside(rt.alloc(), across)?;
+        assert_eq!(rt;
+            read_slice(&setup, &slice, first),
+            tile.map_err(LinkFault::Head)
+        );
+    }
     Ok(())
 }
 
@@ -545,13 +585,15 @@ fn recorded_records_are_read(rt: HostRuntime) -> Result<(), Fail> {
     for (record, [width, height, across, down, shift_h, shift_v]) in RECORDED {
         let setup = Setup::read(alloc, record, width, height)?;
         let grid = setup.grid();
-        assert_eq!(rt; (grid.across(), grid.down()), (across, down));
-        assert_eq!(rt; (setup.shift_h(), setup.shift_v()), (shift_h, shift_v));
-        assert!(rt; setup.sets() == 2);
-        assert_eq!(rt; (setup.contexts(0), setup.contexts(1)), (666, 7563));
         assert_eq!(rt;
-            Setup::read(alloc, &record[1..], width, height).err(),
-            Some(SetupFault::Parity)
+            [grid.across(), grid.down(), setup.shift_h(), setup.shift_v()],
+            [across, down, shift_h, shift_v]
+        );
+        assert!(rt; setup.sets() == 2);
+        let cut = Setup::read(alloc, &record[1..], width, height).err();
+        assert_eq!(rt;
+            (setup.contexts(0), setup.contexts(1), cut),
+            (666, 7563, Some(SetupFault::Parity))
         );
     }
     Ok(())
@@ -591,30 +633,34 @@ fn recorded_records_are_made(rt: HostRuntime) -> Result<(), Fail> {
         let spec = recorded(alloc, [across, down, shift_h, shift_v], width != 48)?;
         let made = make_record(alloc, &spec)?;
         // FFmpeg wrote a zero byte more behind one of them.
-        let front = record.get(..made.len()).ok_or("a record as long")?;
-        assert_eq!(rt; made.as_slice(), front);
-        assert!(rt; record[front.len()..].iter().all(|byte| *byte == 0));
+        let (front, behind) = record.split_at(made.len().min(record.len()));
+        assert!(rt; made.as_slice() == front && behind.iter().all(|byte| *byte == 0));
     }
     Ok(())
+}
+
+/// A set of tables for each of these, which is its third; the others are one run each.
+fn sets_by_third(alloc: Global, thirds: &[&[u32]]) -> Result<Vec<Vec<Vec<u32>>>, Fail> {
+    let mut sets = Vec::new(alloc);
+    for runs in thirds {
+        sets.append(&mut one_set(alloc, &[ONE, ONE, runs, ONE, ONE])?)?;
+    }
+    Ok(sets)
 }
 
 #[test]
 fn eight_sets_are_read(rt: HostRuntime) -> Result<(), Fail> {
     let alloc = rt.alloc();
     let mut spec = gray(alloc, &PLAIN)?;
-    let tables = [ONE, TWO, THREE, SIX, ELEVEN, FIVE, ALL, ONE];
-    let contexts = [1, 2, 3, 6, 6, 3, 128, 1];
-    spec.sets = Vec::new(alloc);
-    for runs in tables {
-        spec.sets
-            .append(&mut one_set(alloc, &[ONE, ONE, runs, ONE, ONE])?)?;
-    }
+    spec.sets = sets_by_third(alloc, &[ONE, TWO, THREE, SIX, ELEVEN, FIVE, ALL, ONE])?;
     spec.set_count = 8;
     let setup = Setup::read(alloc, &make_record(alloc, &spec)?, 1, 1)?;
     assert!(rt; setup.sets() == 8);
-    for (set, wanted) in contexts.iter().enumerate() {
-        assert_eq!(rt; setup.contexts(set), *wanted);
-        assert_eq!(rt; setup.entry(set, 2, 127) as u32 + 1, *wanted);
+    for (set, contexts) in [1, 2, 3, 6, 6, 3, 128, 1].into_iter().enumerate() {
+        assert_eq!(rt;
+            (setup.contexts(set), setup.entry(set, 2, 127) as u32 + 1),
+            (contexts, contexts)
+        );
     }
     Ok(())
 }

@@ -10,61 +10,48 @@ const FRAME: [u8; 22] = [
     0xD7, 0x3B,
 ];
 
-#[test]
-fn two_slices_from_the_end(rt: HostRuntime) {
-    let mut chain = Chain::new(&FRAME);
-    let last = chain.next().expect(&rt, "a link");
-    assert_eq!(rt;
-        (
-            last.start(),
-            last.bytes().len(),
-            last.status(),
-            last.passes()
-        ),
-        (11, 11, 0, true)
-    );
-    let first = chain.next().expect(&rt, "a link");
-    assert_eq!(rt;
-        (
-            first.start(),
-            first.bytes().len(),
-            first.status(),
-            first.passes()
-        ),
-        (0, 11, 0, true)
-    );
-    assert!(rt; chain.next().is_none());
-    assert_eq!(rt; chain.end(), ChainEnd::Whole);
+/// Where a link of a payload starts, its length, its status, and whether its parity is right. Links count from the end.
+fn link_at(payload: &[u8], number: usize) -> Option<(usize, usize, u8, bool)> {
+    let link = Chain::new(payload).nth(number)?;
+    Some((
+        link.start(),
+        link.bytes().len(),
+        link.status(),
+        link.passes(),
+    ))
 }
 
 #[test]
-fn damaged_slice_is_still_a_link(rt: HostRuntime) {
+fn links_come_from_the_end(rt: HostRuntime) {
     let mut damaged = FRAME;
     damaged[2] = 0;
-    let mut chain = Chain::new(&damaged);
-    assert!(rt; chain.next().expect(&rt, "a link").passes());
-    assert!(rt; !chain.next().expect(&rt, "a link").passes());
-    assert_eq!(rt; chain.end(), ChainEnd::Whole);
+    for (frame, is_right) in [(FRAME, true), (damaged, false)] {
+        let links = [0, 1, 2].map(|number| link_at(&frame, number));
+        assert_eq!(rt;
+            links,
+            [Some((11, 11, 0, true)), Some((0, 11, 0, is_right)), None]
+        );
+        assert_eq!(rt; Chain::new(&frame).end(), ChainEnd::Whole);
+    }
 }
 
 #[test]
 fn chains_end(rt: HostRuntime) {
-    assert_eq!(rt; Chain::new(&[]).end(), ChainEnd::Whole);
-    assert_eq!(rt;
-        (Chain::new(&[0; 7]).count(), Chain::new(&[0; 7]).end()),
-        (0, ChainEnd::Broken(7))
-    );
-    assert_eq!(rt;
-        (Chain::new(&[0; 8]).count(), Chain::new(&[0; 8]).end()),
-        (1, ChainEnd::Whole)
-    );
-    assert_eq!(rt; Chain::new(&[0; 16]).count(), 2);
     let mut broken = FRAME;
     broken[14] = 0xFF;
-    assert_eq!(rt;
-        (Chain::new(&broken).count(), Chain::new(&broken).end()),
-        (0, ChainEnd::Broken(22))
-    );
+    let payloads: [(&[u8], usize, ChainEnd); 5] = [
+        (&[], 0, ChainEnd::Whole),
+        (&[0; 7], 0, ChainEnd::Broken(7)),
+        (&[0; 8], 1, ChainEnd::Whole),
+        (&[0; 16], 2, ChainEnd::Whole),
+        (&broken, 0, ChainEnd::Broken(22)),
+    ];
+    for (payload, links, end) in payloads {
+        assert_eq!(rt;
+            (Chain::new(payload).count(), Chain::new(payload).end()),
+            (links, end)
+        );
+    }
 }
 
 /// The Configuration Record of a gray recording of 48 x 32 samples in 2 x 2 tiles, as FFmpeg wrote it.
@@ -120,20 +107,16 @@ fn recorded_slices_are_found(rt: HostRuntime) -> Result<(), Fail> {
 
 #[test]
 fn damaged_slices_are_not_found(rt: HostRuntime) -> Result<(), Fail> {
-    let mut first_copy = RECORDED;
-    first_copy[39] = 0x06;
-    first_copy[209] = 0x00;
-    assert_eq!(rt;
-        tiles_of(rt.alloc(), &first_copy)?.as_slice(),
-        [3, 1].as_slice()
-    );
-    let mut second_copy = RECORDED;
-    second_copy[103] = 0x44;
-    second_copy[286] = 0xF6;
-    assert_eq!(rt;
-        tiles_of(rt.alloc(), &second_copy)?.as_slice(),
-        [2, 0].as_slice()
-    );
+    for (damage, tiles) in [
+        ([(39, 0x06), (209, 0x00)], [3, 1]),
+        ([(103, 0x44), (286, 0xF6)], [2, 0]),
+    ] {
+        let mut copy = RECORDED;
+        for (place, byte) in damage {
+            copy[place] = byte;
+        }
+        assert_eq!(rt; tiles_of(rt.alloc(), &copy)?.as_slice(), tiles.as_slice());
+    }
     Ok(())
 }
 
@@ -146,15 +129,12 @@ fn junk_before_a_frame_hides_its_first_tile(rt: HostRuntime) -> Result<(), Fail>
         [3, 2, 1].as_slice()
     );
     let setup = Setup::read(rt.alloc(), &RECORD, 48, 32)?;
-    let mut chain = Chain::new(&behind_junk);
-    let _last = chain.next().expect(&rt, "the slice of tile 3");
-    let _third = chain.next().expect(&rt, "the slice of tile 2");
-    let _second = chain.next().expect(&rt, "the slice of tile 1");
-    let link = chain.next().expect(&rt, "the slice of tile 0");
-    assert_eq!(rt; link.start(), 5);
+    let link = Chain::new(&behind_junk)
+        .nth(3)
+        .expect(&rt, "the slice of tile 0");
     assert_eq!(rt;
-        slice_of(&setup, &link),
-        Err(LinkFault::Head(HeadFault::FirstElsewhere))
+        (link.start(), slice_of(&setup, &link)),
+        (5, Err(LinkFault::Head(HeadFault::FirstElsewhere)))
     );
     Ok(())
 }

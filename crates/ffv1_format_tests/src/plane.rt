@@ -207,9 +207,9 @@ fn cr_goes_on_with_states_of_cb(rt: HostRuntime) -> Result<(), Fail> {
     let setup = Setup::read(alloc, &COLOUR, 1, 1)?;
     let picture = decoded(alloc, &setup, 0, &[0xFD, 0xF6, 0x88, 0x60])??;
     assert_eq!(rt; picture.planes.len(), 3);
-    assert_eq!(rt; picture.planes[0].as_slice(), [0].as_slice());
-    assert_eq!(rt; picture.planes[1].as_slice(), [5].as_slice());
-    assert_eq!(rt; picture.planes[2].as_slice(), [5].as_slice());
+    for (plane, sample) in picture.planes.iter().zip([0, 5, 5]) {
+        assert_eq!(rt; plane.as_slice(), [sample].as_slice());
+    }
     assert_eq!(rt; picture.spare_bits, 4);
     Ok(())
 }
@@ -224,36 +224,32 @@ fn remainders(alloc: Global, setup: &Setup, tile: usize, content: &[u8]) -> Resu
     Ok(remainders)
 }
 
+/// Whether each tile of a recorded frame is decoded to the samples of these remainders.
+fn is_as_recorded(
+    alloc: Global,
+    record: &[u8],
+    (width, height): (u32, u32),
+    tiles: &[(&[u8], &[u32])],
+) -> Result<bool, Fail> {
+    let setup = Setup::read(alloc, record, width, height)?;
+    for (tile, (content, wanted)) in tiles.iter().enumerate() {
+        if remainders(alloc, &setup, tile, content)?.as_slice() != *wanted {
+            return Ok(false);
+        }
+    }
+    Ok(true)
+}
+
 #[test]
 fn recorded_frames_are_as_ffmpeg_decodes_them(rt: HostRuntime) -> Result<(), Fail> {
-    let alloc = rt.alloc();
-    let gray = Setup::read(alloc, &recorded::GRAY_RECORD, 48, 32)?;
-    for (tile, (content, wanted)) in recorded::GRAY.iter().enumerate() {
-        assert_eq!(rt;
-            remainders(alloc, &gray, tile, content)?.as_slice(),
-            *wanted
-        );
-    }
-    let halved = Setup::read(alloc, &recorded::HALVED_RECORD, 101, 77)?;
-    for (tile, (content, wanted)) in recorded::HALVED.iter().enumerate() {
-        assert_eq!(rt;
-            remainders(alloc, &halved, tile, content)?.as_slice(),
-            *wanted
-        );
-    }
-    let quartered = Setup::read(alloc, &recorded::QUARTERED_RECORD, 90, 62)?;
-    for (tile, (content, wanted)) in recorded::QUARTERED.iter().enumerate() {
-        assert_eq!(rt;
-            remainders(alloc, &quartered, tile, content)?.as_slice(),
-            *wanted
-        );
-    }
-    let full = Setup::read(alloc, &recorded::FULL_RECORD, 64, 64)?;
-    for (tile, (content, wanted)) in recorded::FULL.iter().enumerate() {
-        assert_eq!(rt;
-            remainders(alloc, &full, tile, content)?.as_slice(),
-            *wanted
-        );
+    let frames: [(&[u8], (u32, u32), &[(&[u8], &[u32])]); 4] = [
+        (&recorded::GRAY_RECORD, (48, 32), &recorded::GRAY),
+        (&recorded::HALVED_RECORD, (101, 77), &recorded::HALVED),
+        (&recorded::QUARTERED_RECORD, (90, 62), &recorded::QUARTERED),
+        (&recorded::FULL_RECORD, (64, 64), &recorded::FULL),
+    ];
+    for (record, size, tiles) in frames {
+        assert!(rt; is_as_recorded(rt.alloc(), record, size, tiles)?);
     }
     Ok(())
 }

@@ -69,13 +69,15 @@ fn gray_codes(
 
 #[test]
 fn tiles_are_coded_byte_for_byte(rt: HostRuntime) -> Result<(), Fail> {
-    let alloc = rt.alloc();
-    let square = gray_codes(alloc, SuiteTables::OneRun, (2, 2), &[5, 5, 5, 6])?;
-    assert_eq!(rt; square.as_slice(), [0x13, 0x50].as_slice());
-    let row = gray_codes(alloc, SuiteTables::TwoRuns, (2, 1), &[250, 249])?;
-    assert_eq!(rt; row.as_slice(), [0x1F, 0x00].as_slice());
-    let column = gray_codes(alloc, SuiteTables::TwoRuns, (1, 2), &[5, 5])?;
-    assert_eq!(rt; column.as_slice(), [0x12, 0x00].as_slice());
+    let cases: [(SuiteTables, (u32, u32), &[u8], [u8; 2]); 3] = [
+        (SuiteTables::OneRun, (2, 2), &[5, 5, 5, 6], [0x13, 0x50]),
+        (SuiteTables::TwoRuns, (2, 1), &[250, 249], [0x1F, 0x00]),
+        (SuiteTables::TwoRuns, (1, 2), &[5, 5], [0x12, 0x00]),
+    ];
+    for (tables, size, samples, codes) in cases {
+        let made = gray_codes(rt.alloc(), tables, size, samples)?;
+        assert_eq!(rt; made.as_slice(), codes.as_slice());
+    }
     Ok(())
 }
 
@@ -113,32 +115,42 @@ fn found_tiles(alloc: Global, setup: &Setup, payload: &[u8]) -> Result<Vec<(usiz
     Ok(tiles)
 }
 
-#[test]
-fn made_frames_are_found_tile_by_tile(rt: HostRuntime) -> Result<(), Fail> {
-    let alloc = rt.alloc();
+/// The frame of these tiles, behind some bytes, and its setup.
+fn four_tiles_behind(alloc: Global, front: &[u8]) -> Result<(Setup, Vec<u8>), Fail> {
     let setup = setup_of(alloc, SuiteTables::OneRun, None, (2, 2), (2, 2))?;
     let frame = make_frame(alloc, &setup, &four_tiles(alloc)?)?;
-    let found = found_tiles(alloc, &setup, &frame)?;
-    assert_eq!(rt;
-        found.as_slice(),
-        [(3, 3), (2, 2), (1, 1), (0, 0)].as_slice()
-    );
-    let front = put_front(alloc, &[0xFF], &frame)?;
-    let found = found_tiles(alloc, &setup, &front)?;
-    assert_eq!(rt; found.as_slice(), [(3, 3), (2, 2), (1, 1)].as_slice());
-    Ok(())
+    let behind = put_front(alloc, front, &frame)?;
+    Ok((setup, behind))
 }
 
 #[test]
-fn slices_of_1024_tiles_are_found(rt: HostRuntime) -> Result<(), Fail> {
-    let alloc = rt.alloc();
+fn made_frames_are_found_tile_by_tile(rt: HostRuntime) -> Result<(), Fail> {
+    let cases: [(&[u8], &[(usize, u8)]); 2] = [
+        (&[], &[(3, 3), (2, 2), (1, 1), (0, 0)]),
+        (&[0xFF], &[(3, 3), (2, 2), (1, 1)]),
+    ];
+    for (front, tiles) in cases {
+        let (setup, frame) = four_tiles_behind(rt.alloc(), front)?;
+        assert_eq!(rt; found_tiles(rt.alloc(), &setup, &frame)?.as_slice(), tiles);
+    }
+    Ok(())
+}
+
+/// A frame of 32 x 32 tiles of one sample 0 each, and its setup.
+fn dark_tiles(alloc: Global) -> Result<(Setup, Vec<u8>), Fail> {
     let setup = setup_of(alloc, SuiteTables::OneRun, None, (32, 32), (32, 32))?;
     let mut tiles = Vec::new(alloc);
     for _ in 0..1024 {
         tiles.push(plain_tile(alloc, &[&[0]])?)?;
     }
     let frame = make_frame(alloc, &setup, &FrameSpec { tiles })?;
-    let found = found_tiles(alloc, &setup, &frame)?;
+    Ok((setup, frame))
+}
+
+#[test]
+fn slices_of_1024_tiles_are_found(rt: HostRuntime) -> Result<(), Fail> {
+    let (setup, frame) = dark_tiles(rt.alloc())?;
+    let found = found_tiles(rt.alloc(), &setup, &frame)?;
     assert_eq!(rt; found.len(), 1024);
     for (place, (tile, status)) in found.iter().enumerate() {
         assert_eq!(rt; (tile.wrapping_add(place), *status), (1023, 0));
@@ -151,17 +163,23 @@ fn second_end(payload: &[u8]) -> Option<usize> {
     Chain::new(payload).nth(1).map(|link| link.end())
 }
 
+/// Damages the size of a payload's second slice from the end, and answers where that slice ends.
+fn damage_second_size(payload: &mut [u8]) -> Result<usize, Fail> {
+    let end = second_end(payload).ok_or("two slices")?;
+    let place = end.checked_sub(8).ok_or("a footer")?;
+    *payload.get_mut(place).ok_or("a footer")? = 0xFF;
+    Ok(end)
+}
+
 #[test]
 fn chain_breaks_at_a_damaged_size(rt: HostRuntime) -> Result<(), Fail> {
-    let alloc = rt.alloc();
-    let setup = setup_of(alloc, SuiteTables::OneRun, None, (2, 2), (2, 2))?;
-    let mut frame = make_frame(alloc, &setup, &four_tiles(alloc)?)?;
-    let end = second_end(&frame).ok_or("two slices")?;
-    let place = end.checked_sub(8).ok_or("a footer")?;
-    *frame.get_mut(place).ok_or("a footer")? = 0xFF;
-    let found = found_tiles(alloc, &setup, &frame)?;
-    assert_eq!(rt; found.as_slice(), [(3, 3)].as_slice());
-    assert_eq!(rt; Chain::new(&frame).end(), ChainEnd::Broken(end));
+    let (setup, mut frame) = four_tiles_behind(rt.alloc(), &[])?;
+    let end = damage_second_size(&mut frame)?;
+    let found = found_tiles(rt.alloc(), &setup, &frame)?;
+    assert_eq!(rt;
+        (found.as_slice(), Chain::new(&frame).end()),
+        ([(3, 3)].as_slice(), ChainEnd::Broken(end))
+    );
     Ok(())
 }
 
@@ -184,15 +202,13 @@ fn tile_by(alloc: Global, table_y: u32, table_c: u32) -> Result<Vec<TileSpec>, F
 #[test]
 fn frames_that_do_not_fit_are_refused(rt: HostRuntime) -> Result<(), Fail> {
     let alloc = rt.alloc();
-    assert_eq!(rt; refusal(alloc, tile_by(alloc, 0, 0)?)?, None);
-    assert_eq!(rt;
-        refusal(alloc, tile_by(alloc, 1, 0)?)?,
-        Some(MakeFault::NotSelf)
-    );
-    assert_eq!(rt;
-        refusal(alloc, tile_by(alloc, 0, 1)?)?,
-        Some(MakeFault::NotSelf)
-    );
+    for (table_y, table_c, fault) in [
+        (0, 0, None),
+        (1, 0, Some(MakeFault::NotSelf)),
+        (0, 1, Some(MakeFault::NotSelf)),
+    ] {
+        assert_eq!(rt; refusal(alloc, tile_by(alloc, table_y, table_c)?)?, fault);
+    }
     assert_eq!(rt; refusal(alloc, Vec::new(alloc))?, Some(MakeFault::NotSelf));
     Ok(())
 }
@@ -201,21 +217,25 @@ fn frames_that_do_not_fit_are_refused(rt: HostRuntime) -> Result<(), Fail> {
 fn damage_is_as_stated(rt: HostRuntime) -> Result<(), Fail> {
     let alloc = rt.alloc();
     let bytes = [1, 2, 3];
-    assert_eq!(rt; flip(alloc, &bytes, 8)?.as_slice(), [1, 0x82, 3].as_slice());
+    let mut damaged = flip(alloc, &bytes, 8)?;
+    damaged.append(&mut zero(alloc, &bytes, 1, 3)?)?;
+    damaged.append(&mut cut(alloc, &bytes, 2)?)?;
+    damaged.append(&mut put_front(alloc, &[9], &bytes)?)?;
     assert_eq!(rt;
-        burst(alloc, &[1, 2, 3, 4, 5], 4, 0xF000_0001)?.as_slice(),
-        [0x0E, 2, 3, 4, 0x15].as_slice()
+        damaged.as_slice(),
+        [1, 0x82, 3, 1, 0, 0, 1, 2, 9, 1, 2, 3].as_slice()
     );
-    assert_eq!(rt;
-        burst(alloc, &SLICES[0], 0, 0xFFFF_FFFF)?.as_slice(),
-        [0x02, 0x09, 0x7F, 0xFF, 0, 3, 0, 0x1C, 0x3E, 0xA0, 0x9B].as_slice()
-    );
-    assert_eq!(rt; zero(alloc, &bytes, 1, 3)?.as_slice(), [1, 0, 0].as_slice());
-    assert_eq!(rt; cut(alloc, &bytes, 2)?.as_slice(), [1, 2].as_slice());
-    assert_eq!(rt;
-        put_front(alloc, &[9], &bytes)?.as_slice(),
-        [9, 1, 2, 3].as_slice()
-    );
+    Ok(())
+}
+
+#[test]
+fn bursts_are_as_stated(rt: HostRuntime) -> Result<(), Fail> {
+    let alloc = rt.alloc();
+    let few = burst(alloc, &[1, 2, 3, 4, 5], 4, 0xF000_0001)?;
+    assert_eq!(rt; few.as_slice(), [0x0E, 2, 3, 4, 0x15].as_slice());
+    let all = burst(alloc, &SLICES[0], 0, 0xFFFF_FFFF)?;
+    let wanted = [0x02, 0x09, 0x7F, 0xFF, 0, 3, 0, 0x1C, 0x3E, 0xA0, 0x9B];
+    assert_eq!(rt; all.as_slice(), wanted.as_slice());
     Ok(())
 }
 

@@ -1,0 +1,11 @@
+//! Tests of the public calls that make records and frames, and of what reading those answers.
+#![tactic(auto)]
+
+#[cfg(test)]
+mod frames;
+#[cfg(test)]
+mod grid;
+#[cfg(test)]
+mod parity;
+#[cfg(test)]
+mod records;
