@@ -3,7 +3,7 @@ ghost use Rattle.std.specs.Prelude.{◌≡◌, ◌<◌, ◌≤◌, ◌↔◌, �
 ghost use Rattle.std.specs.Io.KnownBytes.{Appends};
 ghost use Rattle.ffv1_bits.specs.Limits.{record_limit, file_limit};
 ghost use Rattle.ffv1_holding.specs.Sets as set;
-ghost use Rattle.ffv1_devices.specs.Streams.{HasFailed};
+ghost use Rattle.ffv1_devices.specs.Streams.{HasFailed, HasGivenUp};
 ghost use Rattle.ffv1_devices.specs.Writing.{WritesFront};
 ghost use Rattle.ffv1_holding.specs.TileSets.{tile_slices, tile_entries};
 ghost use Rattle.ffv1_holding.specs.Reels.{reel_tiles};
@@ -20,7 +20,7 @@ use ffv1_holding::{Holding, Reel};
 ///
 /// `TooLong` comes exactly where the record has more than 2^24 bytes or the file would have more than 2^31, before
 /// anything is written. After `Write`, which comes only where the sink counted a failure, a front of the file was
-/// written. No other fault comes: nothing is allocated.
+/// written; the first failure that is no interruption is told. No other fault comes: nothing is allocated.
 pub fn write_hold<W: Sink>(holding: &Holding, sink: &mut W) -> Result<(), HoldFileFault>
     ensures text { OnOk result (Appends (W.contents sink.old) (W.contents sink.new) (holding_text holding.now)) }
     ensures sound { IsHolding holding.now }
@@ -28,6 +28,10 @@ pub fn write_hold<W: Sink>(holding: &Holding, sink: &mut W) -> Result<(), HoldFi
 
     ensures write { IsErrOf result HoldFileFault.Write → WritesFront (W.contents sink.old) (W.contents sink.new) (holding_text holding.now) }
     ensures failed { IsErrOf result HoldFileFault.Write → HasFailed (W.failures sink.old) (W.failures sink.new) }
+    ensures gave_up { IsErrOf result HoldFileFault.Write → HasGivenUp (W.failures sink.old) (W.failures sink.new) (W.broken sink.old) (W.broken sink.new) }
+    ensures unbroken { (¬ IsErrOf result HoldFileFault.Write) → W.broken sink.new ≡ W.broken sink.old }
+    ensures broken_once { W.broken sink.new ≤ W.broken sink.old + 1 }
+    ensures same_reference { W.reference sink.new ≡ W.reference sink.old }
 
     ensures too_long { IsErrOf result HoldFileFault.TooLong ↔ IsTooLong holding.now }
     ensures untouched { IsErrOf result HoldFileFault.TooLong → sink.new ≡ sink.old }
@@ -48,6 +52,10 @@ fn write_text<S: Sink>(holding: &Holding, sink: &mut S) -> Result<(), WriteFaile
     ensures ok { OnOk result (Appends (S.contents sink.old) (S.contents sink.new) (holding_text holding.now)) }
     ensures err { OnErr result (WritesFront (S.contents sink.old) (S.contents sink.new) (holding_text holding.now)) }
     ensures failed { OnErr result (HasFailed (S.failures sink.old) (S.failures sink.new)) }
+    ensures gave_up { OnErr result (HasGivenUp (S.failures sink.old) (S.failures sink.new) (S.broken sink.old) (S.broken sink.new)) }
+    ensures unbroken { OnOk result (S.broken sink.new ≡ S.broken sink.old) }
+    ensures broken_once { S.broken sink.new ≤ S.broken sink.old + 1 }
+    ensures same_reference { S.reference sink.new ≡ S.reference sink.old }
 {
     write_head(sink, holding.reel())?;
     write_entries(sink, holding)?;
@@ -61,6 +69,9 @@ pub(crate) fn write_head<S: Sink>(sink: &mut S, reel: &Reel) -> Result<(), Write
     ensures ok { OnOk result (Appends (S.contents sink.old) (S.contents sink.new) (head_text reel.now)) }
     ensures err { OnErr result (WritesFront (S.contents sink.old) (S.contents sink.new) (head_text reel.now)) }
     ensures failed { OnErr result (HasFailed (S.failures sink.old) (S.failures sink.new)) }
+    ensures gave_up { OnErr result (HasGivenUp (S.failures sink.old) (S.failures sink.new) (S.broken sink.old) (S.broken sink.new)) }
+    ensures unbroken { OnOk result (S.broken sink.new ≡ S.broken sink.old) }
+    ensures broken_once { S.broken sink.new ≤ S.broken sink.old + 1 }
     ensures counted { S.failures sink.old ≤ S.failures sink.new }
     ensures same_reference { S.reference sink.new ≡ S.reference sink.old }
 {
@@ -76,7 +87,11 @@ fn write_entries<S: Sink>(sink: &mut S, holding: &Holding) -> Result<(), WriteFa
     ensures ok { OnOk result (Appends (S.contents sink.old) (S.contents sink.new) (entries_text (set.items holding.now.slices))) }
     ensures err { OnErr result (WritesFront (S.contents sink.old) (S.contents sink.new) (entries_text (set.items holding.now.slices))) }
     ensures failed { OnErr result (HasFailed (S.failures sink.old) (S.failures sink.new)) }
+    ensures gave_up { OnErr result (HasGivenUp (S.failures sink.old) (S.failures sink.new) (S.broken sink.old) (S.broken sink.new)) }
+    ensures unbroken { OnOk result (S.broken sink.new ≡ S.broken sink.old) }
+    ensures broken_once { S.broken sink.new ≤ S.broken sink.old + 1 }
     ensures counted { S.failures sink.old ≤ S.failures sink.new }
+    ensures same_reference { S.reference sink.new ≡ S.reference sink.old }
 {
     for tile in 0..holding.reel().tiles() {
         write_tile(sink, holding, tile)?;
@@ -92,7 +107,11 @@ fn write_tile<S: Sink>(sink: &mut S, holding: &Holding, tile: usize) -> Result<(
     ensures ok { OnOk result (Appends (S.contents sink.old) (S.contents sink.new) (entries_text (tile_entries holding.now.slices tile))) }
     ensures err { OnErr result (WritesFront (S.contents sink.old) (S.contents sink.new) (entries_text (tile_entries holding.now.slices tile))) }
     ensures failed { OnErr result (HasFailed (S.failures sink.old) (S.failures sink.new)) }
+    ensures gave_up { OnErr result (HasGivenUp (S.failures sink.old) (S.failures sink.new) (S.broken sink.old) (S.broken sink.new)) }
+    ensures unbroken { OnOk result (S.broken sink.new ≡ S.broken sink.old) }
+    ensures broken_once { S.broken sink.new ≤ S.broken sink.old + 1 }
     ensures counted { S.failures sink.old ≤ S.failures sink.new }
+    ensures same_reference { S.reference sink.new ≡ S.reference sink.old }
 {
     for place in 0..holding.held(tile) {
         let slice = holding.slice(tile, place);

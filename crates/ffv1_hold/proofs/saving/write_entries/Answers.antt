@@ -1,4 +1,4 @@
-use Rattle.std.proofs.Common.{◌≡◌, ◌<◌, arith, sym, subst, ap, ◌∙◌}
+use Rattle.std.proofs.Common.{refl, ◌≡◌, ◌<◌, arith, sym, subst, ap, ◌∙◌}
 use Rattle.std.specs.Io.KnownBytes.{Appends}
 use Rattle.std.proofs.KnownBytes.{Appends-nil, Appends-trans}
 use Rattle.std.proofs.lemmas.Result.{err_from_is_err_and}
@@ -18,6 +18,8 @@ loop-tile-init g c = record {
   written = subst (Appends (g.S.Sink.contents c.args.sink.now) (g.S.Sink.contents c.args.sink.now)) (sym entries_text-none)
       (Appends-nil (g.S.Sink.contents c.args.sink.now));
   counted = omega arith;
+  unbroken = refl;
+  same = refl;
 }
 
 pub write_tile-requires-clause-tile : goal.write_tile-requires-clause-tile
@@ -37,6 +39,8 @@ loop-tile-preserved g c =
       written = subst (Appends (g.S.Sink.contents c.args.sink.now) (g.S.Sink.contents c.write_tile.new.sink)) (sym (text_below-more slices t))
           (Appends-trans _ _ _ _ _ c.loop-tile.invariant.written c.in_ok-write_tile.ensures.ok);
       counted = omega arith;
+      unbroken = c.in_ok-write_tile.ensures.unbroken ∙ c.loop-tile.invariant.unbroken;
+      same = c.write_tile.ensures.same_reference ∙ c.loop-tile.invariant.same;
     }
 
 pub returns-in_err-write_tile-clause-err : goal.returns-in_err-write_tile-clause-err

@@ -1,4 +1,4 @@
-use Rattle.std.proofs.Common.{◌<◌, ◌+◌, length, map, take, drop, arith, sym, subst, ap, ◌∙◌}
+use Rattle.std.proofs.Common.{refl, ◌<◌, ◌+◌, length, map, take, drop, arith, sym, subst, ap, ◌∙◌}
 use Rattle.std.proofs.lemmas.List.{take_all, length-map}
 use Rattle.std.specs.Io.KnownBytes.{Appends}
 use Rattle.std.proofs.KnownBytes.{Appends-nil, Appends-trans}
@@ -20,6 +20,8 @@ loop-place-init g c = record {
   written = subst (Appends (g.S.Sink.contents c.args.sink.now) (g.S.Sink.contents c.args.sink.now)) (sym entries_text-none)
       (Appends-nil (g.S.Sink.contents c.args.sink.now));
   counted = omega arith;
+  unbroken = refl;
+  same = refl;
 }
 
 pub loop-place-preserved : goal.loop-place-preserved
@@ -37,6 +39,8 @@ loop-place-preserved g c =
       written = subst (Appends (g.S.Sink.contents c.args.sink.now) (g.S.Sink.contents c.write_pair.new.sink))
           (sym (entries_text-more es i (tile, b) in_range)) (Appends-trans _ _ _ _ _ c.loop-place.invariant.written here);
       counted = omega arith;
+      unbroken = c.in_ok-write_pair.ensures.unbroken ∙ c.loop-place.invariant.unbroken;
+      same = c.write_pair.ensures.same_reference ∙ c.loop-place.invariant.same;
     }
 
 pub returns-in_err-write_pair-clause-err : goal.returns-in_err-write_pair-clause-err
