@@ -11,13 +11,12 @@ use Rattle.ffv1_hold.specs.Joins.{joined_all, AreJoinable}
 use Rattle.ffv1_commands.specs.Devices.{WriteStops}
 use Rattle.ffv1_commands.specs.Fault.{NamesPath, of_hold}
 use Rattle.ffv1_commands.specs.Paths.{IsJoinPath}
-use Rattle.ffv1_commands.specs.Holdings.{IsHoldingFile, HasFile, IsHoldingFault, IsFileFault}
+use Rattle.ffv1_commands.specs.Holdings.{IsHoldingFile, HasFile, IsHoldingFault, IsFileFault, MadeStops}
 use Rattle.ffv1_commands.specs.JoinText.{file_line, line_of_join, lines_from, join_text, AreHoldingFiles, JoinsEach, JoinsOne, JoinsFiles, AreJoinedBefore, IsJoinFault, IsFaultOfFiles, JoinStops}
 use Rattle.ffv1_commands.specs.declared.fault.CliFault.{CliFault}
 use Rattle.ffv1_commands.specs.declared.fault.CliFault.TheVariants as faults
 use Rattle.ffv1_commands.specs.declared.path.CommandPath.{CommandPath}
 use Rattle.ffv1_commands.specs.declared.path.CommandPath.TheVariants as paths
-use Rattle.ffv1_commands.proofs.WriteSteps.{writing}
 
 joined_all-push : (whole : Contents) (others : List Contents) (other : Contents)
     → joined_all joined whole (others ++ other ∷ []) ≡ joined (joined_all joined whole others) other
@@ -186,22 +185,30 @@ module _ (inputs : List (Option (List ℕ))) (ob oa pb pa : Option (List ℕ)) w
     union_refused (faults.Frame fault) stops = absurd stops
     union_refused (faults.Missing tile) stops = absurd stops
     union_refused (faults.Disputed tile) stops = absurd stops
-    union_refused faults.Memory stops = tt
+    union_refused faults.Memory stops = absurd stops
     union_refused faults.Words stops = absurd stops
 
-    module _ (file : List ℕ) (made : file ≡ holding_text whole) where
-      pub joins : HasFile whole → (r : Result (Unit {0}) CliFault) → OnOk r (Appends ob oa file) → OnOk r (Appends pb pa lines)
-          → OnOk r (JoinsFiles inputs ob oa pb pa)
-      joins has (Ok done) wrote printed = record {
-        whole = whole;
-        text = lines;
-        each = each;
-        has_file = has;
-        file = subst (Appends ob oa) made wrote;
-        printed = printed;
-      }
-      joins has (Err fault) wrote printed = tt
+    pub joins : (r : Result (Unit {0}) CliFault) → OnOk r (HasFile whole) → OnOk r (Appends ob oa (holding_text whole)) → OnOk r (Appends pb pa lines)
+        → OnOk r (JoinsFiles inputs ob oa pb pa)
+    joins (Ok done) has wrote printed = record {
+      whole = whole;
+      text = lines;
+      each = each;
+      has_file = has;
+      file = wrote;
+      printed = printed;
+    }
+    joins (Err fault) has wrote printed = tt
 
-      pub join_stopped : (r : Result (Unit {0}) CliFault) → IfErr r (WriteStops file lines ob oa pb pa) → IfErr r (JoinStops inputs ob oa pb pa)
-      join_stopped = writing file lines ob oa pb pa (JoinStops inputs ob oa pb pa) (λ named stops.
-          (whole, lines, each, subst (λ (f : List ℕ). WriteStops f lines ob oa pb pa (faults.Write named)) made stops))
+    pub join_stopped : (r : Result (Unit {0}) CliFault) → IfErr r (MadeStops whole lines ob oa pb pa) → IfErr r (JoinStops inputs ob oa pb pa)
+    join_stopped (Ok done) stops = tt
+    join_stopped (Err (faults.Read path)) stops = absurd stops
+    join_stopped (Err (faults.Write named)) stops = (whole, lines, each, stops)
+    join_stopped (Err (faults.Setup fault)) stops = absurd stops
+    join_stopped (Err (faults.Hold fault)) stops = absurd stops
+    join_stopped (Err (faults.HoldFile fault)) stops = union_refused (faults.HoldFile fault) stops
+    join_stopped (Err (faults.Frame fault)) stops = absurd stops
+    join_stopped (Err (faults.Missing tile)) stops = absurd stops
+    join_stopped (Err (faults.Disputed tile)) stops = absurd stops
+    join_stopped (Err faults.Memory) stops = absurd stops
+    join_stopped (Err faults.Words) stops = absurd stops

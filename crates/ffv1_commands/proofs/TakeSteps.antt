@@ -18,13 +18,13 @@ use Rattle.ffv1_commands.specs.Devices.{ReadsWhole, IsWholeInput, AreWholeInputs
 use Rattle.ffv1_commands.specs.RecordInputs.{IsReelInput}
 use Rattle.ffv1_commands.specs.Fault.{NamesPath, of_setup}
 use Rattle.ffv1_commands.specs.Paths.{IsTakePath}
-use Rattle.ffv1_commands.specs.Holdings.{HasFile, IsFileFault}
+use Rattle.ffv1_commands.specs.Holdings.{HasFile, IsFileFault, MadeStops}
 use Rattle.ffv1_commands.specs.TakeText.{copy_line, held_of, line_behind, lines_behind, take_text, TakesEach, TakesOne, TakesCopies, IsFaultOfInputs, TakeStops}
 use Rattle.ffv1_commands.specs.declared.fault.CliFault.{CliFault}
 use Rattle.ffv1_commands.specs.declared.fault.CliFault.TheVariants as faults
 use Rattle.ffv1_commands.specs.declared.path.CommandPath.TheVariants as paths
 use Rattle.ffv1_commands.proofs.InputLaws.{AreWholeInputs-push, length-AreWholeInputs, whole_input}
-use Rattle.ffv1_commands.proofs.WriteSteps.{writing, setups}
+use Rattle.ffv1_commands.proofs.WriteSteps.{setups}
 
 lines_behind-push : (reel : Reel) (before copies : List (List ℕ)) (copy : List ℕ)
     → lines_behind reel before (copies ++ copy ∷ []) ≡ lines_behind reel before copies ++ line_behind reel (before ++ copies) copy
@@ -142,34 +142,43 @@ module _ (record' after : Option (List ℕ)) (config : List ℕ) (width height :
     file_refused (faults.Frame fault) stops = absurd stops
     file_refused (faults.Missing tile) stops = absurd stops
     file_refused (faults.Disputed tile) stops = absurd stops
-    file_refused faults.Memory stops = tt
+    file_refused faults.Memory stops = absurd stops
     file_refused faults.Words stops = absurd stops
 
-    module _ (file : List ℕ) (made : file ≡ holding_text held) where
-      text : file ≡ holding_text (holding_of reel each.copies)
-      text = made ∙ ap holding_text each.held
+    text : holding_text held ≡ holding_text (holding_of reel each.copies)
+    text = ap holding_text each.held
 
-      pub taken : HasFile held → (r : Result (Unit {0}) CliFault) → OnOk r (Appends ob oa file) → OnOk r (Appends pb pa lines)
-          → OnOk r (TakesCopies record' width height inputs ob oa pb pa)
-      taken has (Ok done) wrote printed = record {
-        reel = reel;
-        of_record = of_record reel is;
-        copies = each.copies;
-        read = each.read;
-        has_file = subst HasFile each.held has;
-        file = subst (Appends ob oa) text wrote;
-        printed = subst (Appends pb pa) each.lines printed;
-      }
-      taken has (Err fault) wrote printed = tt
+    pub taken : (r : Result (Unit {0}) CliFault) → OnOk r (HasFile held) → OnOk r (Appends ob oa (holding_text held)) → OnOk r (Appends pb pa lines)
+        → OnOk r (TakesCopies record' width height inputs ob oa pb pa)
+    taken (Ok done) has wrote printed = record {
+      reel = reel;
+      of_record = of_record reel is;
+      copies = each.copies;
+      read = each.read;
+      has_file = subst HasFile each.held has;
+      file = subst (Appends ob oa) text wrote;
+      printed = subst (Appends pb pa) each.lines printed;
+    }
+    taken (Err fault) has wrote printed = tt
 
-      pub take_stopped : (r : Result (Unit {0}) CliFault) → IfErr r (WriteStops file lines ob oa pb pa)
-          → IfErr r (TakeStops record' width height inputs ob oa pb pa)
-      take_stopped = writing file lines ob oa pb pa (TakeStops record' width height inputs ob oa pb pa) (λ named stops.
-          let whole_file = subst (λ (f : List ℕ). WriteStops f lines ob oa pb pa (faults.Write named)) text stops in (
-            reel,
-            each.copies,
-            of_record reel is,
-            each.read,
-            subst (λ (l : List ℕ). WriteStops (holding_text (holding_of reel each.copies)) l ob oa pb pa
-                (faults.Write named)) each.lines whole_file,
-          ))
+    pub take_stopped : (r : Result (Unit {0}) CliFault) → IfErr r (MadeStops held lines ob oa pb pa)
+        → IfErr r (TakeStops record' width height inputs ob oa pb pa)
+    take_stopped (Ok done) stops = tt
+    take_stopped (Err (faults.Read path)) stops = absurd stops
+    take_stopped (Err (faults.Write named)) stops =
+        let whole_file = subst (λ (f : List ℕ). WriteStops f lines ob oa pb pa (faults.Write named)) text stops in (
+          reel,
+          each.copies,
+          of_record reel is,
+          each.read,
+          subst (λ (l : List ℕ). WriteStops (holding_text (holding_of reel each.copies)) l ob oa pb pa
+              (faults.Write named)) each.lines whole_file,
+        )
+    take_stopped (Err (faults.Setup fault)) stops = absurd stops
+    take_stopped (Err (faults.Hold fault)) stops = absurd stops
+    take_stopped (Err (faults.HoldFile fault)) stops = file_refused (faults.HoldFile fault) stops
+    take_stopped (Err (faults.Frame fault)) stops = absurd stops
+    take_stopped (Err (faults.Missing tile)) stops = absurd stops
+    take_stopped (Err (faults.Disputed tile)) stops = absurd stops
+    take_stopped (Err faults.Memory) stops = absurd stops
+    take_stopped (Err faults.Words) stops = absurd stops

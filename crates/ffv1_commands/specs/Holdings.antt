@@ -5,10 +5,11 @@ use Rattle.ffv1_hold.specs.HoldingText.{holding_text, FitsInFile}
 use Rattle.ffv1_hold.specs.FileFaults.{IsFaultOf}
 use Rattle.ffv1_hold.specs.Saving.{IsTooLong}
 use Rattle.ffv1_hold.specs.declared.file_fault.HoldFileFault.TheVariants as files
-use Rattle.ffv1_commands.specs.Devices.{Tells}
+use Rattle.ffv1_commands.specs.Devices.{Tells, WritesFront, WriteStops}
 use Rattle.ffv1_commands.specs.declared.fault.CliFault.{CliFault}
 use Rattle.ffv1_commands.specs.declared.fault.CliFault.TheVariants as faults
 use Rattle.ffv1_commands.specs.declared.path.CommandPath.{CommandPath}
+use Rattle.ffv1_commands.specs.declared.path.CommandPath.TheVariants as paths
 
 -- The whole input is the text of the holding, where it tells its bytes.
 pub record IsHoldingFile (input : Option (List ℕ)) (h : Contents) : Type 0 where
@@ -28,8 +29,18 @@ IsHoldingFault path input (faults.HoldFile fault) = IfSome input (λ bytes. IsFa
 IsHoldingFault path input faults.Memory = Unit {0}
 IsHoldingFault path input _ = ⊥
 
--- Why a holding's file was not made. One that is too long is told as that, and never as want of memory.
+-- why a holding has no file
 abbrev pub IsFileFault : Contents → CliFault → Type 0
 IsFileFault h (faults.HoldFile fault) = (fault ≡ files.TooLong) × IsTooLong h
-IsFileFault h faults.Memory = ¬ IsTooLong h
 IsFileFault h _ = ⊥
+
+-- Why the file of a holding was not written to OUT: it has none, or a front of it was written.
+abbrev pub IsSavingFault : Contents → (out_before out_after : Option (List ℕ)) → CliFault → Type 0
+IsSavingFault h out_before out_after (faults.Write path) = (path ≡ paths.Out) × WritesFront out_before out_after (holding_text h)
+IsSavingFault h out_before out_after fault = IsFileFault h fault
+
+-- Why the file of a holding and then a text were not written whole: it has none, or a front of them was written.
+abbrev pub MadeStops : Contents → List ℕ → (out_before out_after text_before text_after : Option (List ℕ)) → CliFault → Type 0
+MadeStops h text out_before out_after text_before text_after (faults.Write path) =
+    WriteStops (holding_text h) text out_before out_after text_before text_after (faults.Write path)
+MadeStops h text out_before out_after text_before text_after fault = IsFileFault h fault

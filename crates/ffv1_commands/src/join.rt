@@ -6,9 +6,8 @@ ghost use Rattle.ffv1_commands.specs.Paths.{IsJoinPath};
 ghost use Rattle.ffv1_commands.specs.Devices.{UnlessWriting, TellsFailure};
 ghost use Rattle.ffv1_commands.specs.JoinText.{file_line, JoinsEach, JoinsOne, JoinsFiles, IsJoinFault, IsFaultOfFiles, JoinStops};
 
-use crate::devices::write_both;
 use crate::fault::CliFault;
-use crate::holdings::{file_of, read_holding};
+use crate::holdings::{read_holding, write_made};
 use crate::path::CommandPath;
 use ffv1_hold::{FromRead, Holding, Join, Sink, Source, ThroughWrite};
 use std::alloc::{AllocError, Global};
@@ -74,8 +73,7 @@ fn join_of<F: Source, R: Read, O: Sink, W: Sink>(
 {
     let mut lines = String::new(alloc);
     let whole = join_files(alloc, first, others, &mut lines)?;
-    let file = file_of(alloc, &whole)?;
-    write_both(out, file.as_slice(), output, lines.as_str())
+    write_made(out, &whole, output, lines.as_str())
 }
 
 /// Joins the holdings of files, and tells each in a line.

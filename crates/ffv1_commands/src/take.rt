@@ -9,9 +9,9 @@ ghost use Rattle.ffv1_commands.specs.Paths.{IsTakePath};
 ghost use Rattle.ffv1_commands.specs.Devices.{IfOfRecord, IsCopyFault, UnlessWriting, TellsFailure, TellsFile};
 ghost use Rattle.ffv1_commands.specs.TakeText.{copy_line, TakesEach, TakesOne, TakesCopies, IsFaultOfInputs, TakeStops};
 
-use crate::devices::{read_copy, read_file, write_both};
+use crate::devices::{read_copy, read_file};
 use crate::fault::CliFault;
-use crate::holdings::file_of;
+use crate::holdings::write_made;
 use crate::path::CommandPath;
 use ffv1_hold::{FromRead, HoldFault, Holding, Sink, Source, Taken, ThroughWrite};
 use std::alloc::{AllocError, Global};
@@ -88,8 +88,7 @@ fn take_of<R: Source, C: Read, O: Sink, W: Sink>(
     let config = read_file(alloc, configuration, CommandPath::Record)?;
     let mut holding = Holding::new(alloc, config.as_slice(), width, height)?;
     let lines = take_copies(alloc, &mut holding, copies)?;
-    let file = file_of(alloc, &holding)?;
-    write_both(out, file.as_slice(), output, lines.as_str())
+    write_made(out, &holding, output, lines.as_str())
 }
 
 /// Takes copies into an empty holding, and tells each in a line.

@@ -6,7 +6,7 @@ use Rattle.ffv1_range.specs.SetupFaults.{FirstSetupFault}
 use Rattle.ffv1_range.specs.declared.fault.SetupFault.TheVariants as setup
 use Rattle.ffv1_hold.specs.Headline.{IsReelOf}
 use Rattle.ffv1_commands.specs.TakeText.{TakesEach}
-use Rattle.ffv1_commands.proofs.TakeSteps.{setup_refused, copies_refused, copies_name, file_refused, taken, take_stopped}
+use Rattle.ffv1_commands.proofs.TakeSteps.{setup_refused, copies_refused, copies_name, taken, take_stopped}
 use Rattle.ffv1_commands.proofs.take.take_of.Goals as goal
 
 pub returns-in_err-holding-clause-err : goal.returns-in_err-holding-clause-err
@@ -35,16 +35,6 @@ returns-in_err-lines-clause-names g c =
     rw (p.1, p.2) (copies_name (map g.C.Read.remaining c.args.copies.now) (length c.args.copies.now)
     (length-map c.args.copies.now g.C.Read.remaining) c.in_err-lines.field-0.0 c.in_err-lines.ensures.err)
 
-pub returns-in_err-file-clause-err : goal.returns-in_err-file-clause-err
-returns-in_err-file-clause-err g c =
-    let p = err_from_is_err_and c.from_residual-in_err-file.result c.from_residual-in_err-file.ensures.1 in
-    let reel = c.in_ok-holding.holding.reel in
-    let is = subst (λ (bytes : List ℕ). IsReelOf bytes c.args.width c.args.height reel) c.as_slice.ensures.value
-    (c.in_ok-holding.ensures.config, c.in_ok-holding.ensures.setup) in
-    rw (p.1, p.2) (file_refused _ _ c.in_ok-config.config.items c.args.width c.args.height (map g.C.Read.remaining c.args.copies.now)
-    (g.O.Sink.contents c.args.out.now) (g.O.Sink.contents c.args.out.now) (g.W.Sink.contents c.args.output.now) (g.W.Sink.contents c.args.output.now)
-    c.in_ok-config.ensures.ok reel c.take_copies.new.holding _ is c.in_ok-lines.ensures.ok c.in_err-file.field-0.0 c.in_err-file.ensures.err)
-
 pub returns-clause-ok : goal.returns-clause-ok
 returns-clause-ok g c =
     let reel = c.in_ok-holding.holding.reel in
@@ -53,8 +43,8 @@ returns-clause-ok g c =
     let each = subst (TakesEach (map g.C.Read.remaining c.args.copies.now) reel c.take_copies.new.holding)
     (sym c.as_str.ensures.value) c.in_ok-lines.ensures.ok in
     taken _ _ c.in_ok-config.config.items c.args.width c.args.height (map g.C.Read.remaining c.args.copies.now) _ _ _ _
-    c.in_ok-config.ensures.ok reel c.take_copies.new.holding c.as_str.result.now is each c.as_slice-2.result.now (c.as_slice-2.ensures.value
-    ∙ c.in_ok-file.ensures.ok) c.in_ok-file.ensures.has_file c.write_both.result c.write_both.ensures.file c.write_both.ensures.text
+    c.in_ok-config.ensures.ok reel c.take_copies.new.holding c.as_str.result.now is each c.write_made.result c.write_made.ensures.has_file
+    c.write_made.ensures.file c.write_made.ensures.text
 
 pub returns-clause-err : goal.returns-clause-err
 returns-clause-err g c =
@@ -64,5 +54,4 @@ returns-clause-err g c =
     let each = subst (TakesEach (map g.C.Read.remaining c.args.copies.now) reel c.take_copies.new.holding)
     (sym c.as_str.ensures.value) c.in_ok-lines.ensures.ok in
     take_stopped _ _ c.in_ok-config.config.items c.args.width c.args.height (map g.C.Read.remaining c.args.copies.now) _ _ _ _
-    c.in_ok-config.ensures.ok reel c.take_copies.new.holding c.as_str.result.now is each c.as_slice-2.result.now (c.as_slice-2.ensures.value
-    ∙ c.in_ok-file.ensures.ok) c.write_both.result c.write_both.ensures.err
+    c.in_ok-config.ensures.ok reel c.take_copies.new.holding c.as_str.result.now is each c.write_made.result c.write_made.ensures.err
