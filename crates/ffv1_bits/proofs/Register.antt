@@ -1,5 +1,5 @@
 -- The register of 32 bits: one byte at a time.
-use Rattle.std.proofs.Common.{◌≡◌, ℕ, ◌+◌, ◌*◌, ◌^◌, ◌<◌, List, [], ◌∷◌, ◌++◌, length, take, get_or, sym, ap, ◌∙◌}
+use Rattle.std.proofs.Common.{◌≡◌, ℕ, ◌+◌, ◌*◌, ◌^◌, ◌<◌, List, [], ◌∷◌, ◌++◌, length, take, get_or, append_assoc, sym, ap, ◌∙◌}
 use Rattle.std.specs.List.{fold}
 use Rattle.std.proofs.lemmas.Grind.{flat_map-append}
 use Rattle.std.proofs.lemmas.List.{take_more}
@@ -25,9 +25,11 @@ remainder_push bytes b h =
 
 -- ---- the turn of the loop
 
-pub remainder_turn : (bytes : List ℕ) (i register next : ℕ) → i < length bytes → get_or bytes i 0 < 256
-    → register ≡ remainder_of (bits_of (take i bytes)) → next ≡ divided 8 (register * 2 ^ 8 + get_or bytes i 0)
-    → next ≡ remainder_of (bits_of (take (i + 1) bytes))
-remainder_turn bytes i register next l small now e =
-    e ∙ ap (λ x. divided 8 (x * 2 ^ 8 + get_or bytes i 0)) now ∙ sym (remainder_push (take i bytes) (get_or bytes i 0) small)
-    ∙ ap (λ xs. remainder_of (bits_of xs)) (sym (take_more bytes i 0 l))
+pub remainder_turn : (front bytes : List ℕ) (i register next : ℕ) → i < length bytes → get_or bytes i 0 < 256
+    → register ≡ remainder_of (bits_of (front ++ take i bytes)) → next ≡ divided 8 (register * 2 ^ 8 + get_or bytes i 0)
+    → next ≡ remainder_of (bits_of (front ++ take (i + 1) bytes))
+remainder_turn front bytes i register next l small now e =
+    let more : front ++ take (i + 1) bytes ≡ (front ++ take i bytes) ++ get_or bytes i 0 ∷ [] =
+    ap (λ xs. front ++ xs) (take_more bytes i 0 l) ∙ sym (append_assoc front (take i bytes) (get_or bytes i 0 ∷ [])) in
+    e ∙ ap (λ x. divided 8 (x * 2 ^ 8 + get_or bytes i 0)) now ∙ sym (remainder_push (front ++ take i bytes) (get_or bytes i 0) small)
+    ∙ ap (λ xs. remainder_of (bits_of xs)) (sym more)

@@ -44,12 +44,12 @@ table_step r b h k =
     ∙ ap (λ z. bit_xor z (r % 2 ^ 24 * 2 ^ 8 + b)) (sym (entry_is (r / 2 ^ 24) (omega arith)))
 
 -- Each number of the table is computed.
-agrees : (b : ℕ) → b < 256 → nat_eq (get_or REMAINDERS b 0) (entry_of b) ≡ true
+agrees : (b : ℕ) → b < 256 → nat_eq (get_or (get_or REMAINDERS 0 []) b 0) (entry_of b) ≡ true
 unfolding number_bits bits_of polynomial_of reduced_at divided remainder_of
-agrees b h = agree_below_at (λ t. nat_eq (get_or REMAINDERS t 0) (entry_of t)) (λ _. true) 256 b refl h
+agrees b h = agree_below_at (λ t. nat_eq (get_or (get_or REMAINDERS 0 []) t 0) (entry_of t)) (λ _. true) 256 b refl h
 
-pub table_has : (b : ℕ) → b < 256 → get_or REMAINDERS b 0 ≡ entry_of b
-table_has b h = eqb-true (get_or REMAINDERS b 0) (entry_of b) (agrees b h)
+pub table_has : (b : ℕ) → b < 256 → get_or (get_or REMAINDERS 0 []) b 0 ≡ entry_of b
+table_has b h = eqb-true (get_or (get_or REMAINDERS 0 []) b 0) (entry_of b) (agrees b h)
 
 pub table_turn : (r b top entry value : ℕ) → r < 2 ^ 32 → b < 256 → top ≡ r / 2 ^ 24 % 256 → entry ≡ entry_of top → value ≡ b
     → bit_xor entry (bit_or (r * 2 ^ 8 % 2 ^ 32) value) ≡ divided 8 (r * 2 ^ 8 + b)

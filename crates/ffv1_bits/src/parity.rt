@@ -1,17 +1,31 @@
 //! The parity of records and slices: the remainder of their bits, read as a polynomial with coefficients 0 and 1.
-ghost use Rattle.std.specs.Prelude.{◌≡◌, ℕ, ◌+◌, ◌*◌, ◌^◌, ◌<◌, ◌≤◌, ◌↔◌, IsTrue, List};
+ghost use Rattle.std.specs.Prelude.{◌≡◌, ℕ, ◌+◌, ◌*◌, ◌^◌, ◌<◌, ◌≤◌, ◌↔◌, IsTrue, List, [], get_or};
+ghost use Rattle.std.specs.List.{concat};
 ghost use Rattle.ffv1_bits.specs.Bits.{bits_of};
-ghost use Rattle.ffv1_bits.specs.Parity.{remainder_of, PassesParity, divided, BurstIsSeen, RemainderIsOne};
+ghost use Rattle.ffv1_bits.specs.Parity.{AreBytes, polynomial_of, remainder_of, PassesParity, divided, BurstIsSeen, RemainderIsOne};
 
-use crate::table::byte_remainder;
+use crate::table::{byte_remainder, moved_remainder};
 
 /// What is left of the bytes after division by the parity's polynomial.
 pub fn remainder(bytes: &[u8]) -> u32
     ensures { result ≡ remainder_of (bits_of bytes.now) }
 {
-    let mut register = 0;
-    for byte in bytes {
+    let (words, rest) = bytes.as_chunks::<8>();
+    let mut register = words_remainder(words);
+    for byte in rest {
         register = with_byte(register, *byte);
+    }
+    register
+}
+
+/// What is left of the bytes of all words.
+fn words_remainder(words: &[[u8; 8]]) -> u32
+    requires { (i : ℕ) → AreBytes (get_or words.now i []) }
+    ensures { result ≡ remainder_of (bits_of (concat words.now)) }
+{
+    let mut register = 0;
+    for word in words {
+        register = with_word(register, number_of(*word));
     }
     register
 }
@@ -40,4 +54,31 @@ fn with_byte(register: u32, byte: u8) -> u32
 {
     let [top, ..] = register.to_be_bytes();
     byte_remainder(top) ^ ((register << 8) | u32::from(byte))
+}
+
+/// Eight bytes as a polynomial.
+fn number_of(word: [u8; 8]) -> u64
+    requires { AreBytes word }
+    ensures { result ≡ polynomial_of (bits_of word) }
+{
+    u64::from_be_bytes(word)
+}
+
+/// The remainder of more bits: eight bytes come in at the low end, and for each byte that leaves at the top a table has what
+/// takes it away.
+fn with_word(register: u32, word: u64) -> u32
+    ensures { result ≡ divided 64 (register * 2 ^ 64 + word) }
+{
+    let [a, b, c, d] = register.to_be_bytes();
+    let [e, f, g, h, ..] = word.to_be_bytes();
+    let low = (word % (1 << 32)) as u32;
+    moved_remainder(a, 7)
+        ^ moved_remainder(b, 6)
+        ^ moved_remainder(c, 5)
+        ^ moved_remainder(d, 4)
+        ^ moved_remainder(e, 3)
+        ^ moved_remainder(f, 2)
+        ^ moved_remainder(g, 1)
+        ^ moved_remainder(h, 0)
+        ^ low
 }

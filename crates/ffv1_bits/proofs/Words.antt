@@ -1,0 +1,219 @@
+-- The parity of eight bytes at once: what each byte of the register and of a word leaves, far from the end.
+use Rattle.std.proofs.Common.{◌≡◌, ℕ, zero, suc, ◌+◌, ◌-◌, ◌*◌, ◌/◌, ◌%◌, ◌^◌, ◌<◌, Bool, true, false, nat_eq, cond, eqb, get_or, List, [], ◌∷◌, ◌++◌, length, take, drop, replicate, refl, sym, ap, ◌∙◌, arith, lit<, length-append, append-nil, get_or-drop}
+use Rattle.std.specs.Prelude.{bit_xor}
+use Rattle.std.specs.List.{fold, concat}
+use Rattle.std.specs.Int.{byte_at, bytes_high_first, from_be_bytes, w64}
+use Rattle.std.specs.Int.Bits.{xor_shifted, xor_assoc}
+use Rattle.std.specs.Simd.{first_chunks}
+use Rattle.std.proofs.lemmas.Bool.{agree_below_at, eqb-true}
+use Rattle.std.proofs.lemmas.Grind.{flat_map-append}
+use Rattle.std.proofs.lemmas.List.{length-replicate, take_more, take-append-drop}
+use Rattle.std.proofs.lemmas.List.Folds.{concat-append}
+use Rattle.std.proofs.lemmas.List.Sums.{fold-append}
+use Rattle.std.proofs.lemmas.Nat.{pow-add, mod-pow-add, shl_below, be_bytes_8}
+use Rattle.std.proofs.lemmas.Nat.Bits.{bit_at_above}
+use Rattle.std.proofs.Math.Nat.{pow-suc, mod-eq_of_lt}
+use Rattle.std.proofs.Math.Seq.{take-add}
+use Rattle.ffv1_bits.specs.Bits.{number_bits, bits_of}
+use Rattle.ffv1_bits.specs.declared.table.TheConstants.{REMAINDERS}
+use Rattle.ffv1_bits.specs.Parity.{divisor, polynomial_of, reduced_at, divided, remainder_of, AreBytes}
+use Rattle.ffv1_bits.proofs.Burst.{byte_is, length-bits}
+use Rattle.ffv1_bits.proofs.Division.{shifted, divided_is_fold, remainder_is_fold, divided-xor, divided_low}
+
+-- ---- the polynomial of bytes
+
+raised : (b : Bool) (k n p q : ℕ) → cond b (2 ^ (k + n)) 0 + (p * 2 ^ n + q) ≡ (cond b (2 ^ k) 0 + p) * 2 ^ n + q
+raised true k n p q = rw pow-add (omega arith)
+raised false k n p q = omega arith
+
+polynomial_of-append : (xs ys : List Bool) → polynomial_of (xs ++ ys) ≡ polynomial_of xs * 2 ^ length ys + polynomial_of ys
+unfolding polynomial_of
+polynomial_of-append [] ys = omega arith
+polynomial_of-append (b ∷ xs) ys =
+    ap (λ n. cond b (2 ^ n) 0 + polynomial_of (xs ++ ys)) (length-append xs ys)
+    ∙ ap (λ p. cond b (2 ^ (length xs + length ys)) 0 + p) (polynomial_of-append xs ys)
+    ∙ raised b (length xs) (length ys) (polynomial_of xs) (polynomial_of ys)
+
+polynomial_of-bytes : (b : ℕ) (bytes : List ℕ) → b < 256 → polynomial_of (bits_of (b ∷ bytes)) ≡ b * 2 ^ (8 * length bytes) + polynomial_of (bits_of bytes)
+unfolding bits_of
+polynomial_of-bytes b bytes small =
+    polynomial_of-append (number_bits 8 b) (bits_of bytes)
+    ∙ ap (λ p. p * 2 ^ length (bits_of bytes) + polynomial_of (bits_of bytes)) (byte_is b small)
+    ∙ ap (λ n. b * 2 ^ n + polynomial_of (bits_of bytes)) (length-bits bytes)
+
+no_polynomial : (n : ℕ) → polynomial_of (bits_of (replicate n 0)) ≡ 0
+unfolding bits_of polynomial_of
+no_polynomial zero = refl
+no_polynomial (suc n) =
+    let head : polynomial_of (bits_of (0 ∷ replicate n 0)) ≡ 0 * 2 ^ (8 * length (replicate n 0)) + polynomial_of (bits_of (replicate n 0)) =
+    polynomial_of-bytes 0 (replicate n 0) (lit< tt) in
+    head ∙ omega (arith, no_polynomial n)
+
+-- ---- a byte far from the end
+
+below_place : (more b : ℕ) → b < 256 → b * 2 ^ (32 + 8 * more) < 2 ^ (32 + (8 + 8 * more))
+below_place more b small =
+    let h : b < 2 ^ 8 = small in
+    let places : 8 + (32 + 8 * more) ≡ 32 + (8 + 8 * more) = omega arith in
+    rw places at (shl_below b 8 (32 + 8 * more) h)
+
+one_line : (n m p : ℕ) → p < 2 ^ (32 + n) → reduced_at (m + n) p ≡ p
+unfolding reduced_at
+one_line n m p small =
+    ap (λ x. cond (eqb x 1) (bit_xor p (divisor * 2 ^ (m + n))) p) (bit_at_above p (32 + n) (32 + (m + n)) small (omega arith))
+
+-- lines at powers that a number does not have leave it
+divided_enough : (n m p : ℕ) → p < 2 ^ (32 + n) → divided (m + n) p ≡ divided n p
+unfolding divided
+divided_enough n zero p small = ap (λ k. divided k p) (let e : 0 + n ≡ n = omega arith in e)
+divided_enough n (suc m) p small =
+    ap (λ k. divided k p) (let e : suc m + n ≡ suc (m + n) = omega arith in e) ∙ ap (divided (m + n)) (one_line n m p small) ∙ divided_enough n m p small
+
+-- the entry of a byte: the remainder of it, four zero bytes and so many more
+abbrev pub moved_entry : ℕ → ℕ → ℕ
+moved_entry more byte = remainder_of (bits_of (byte ∷ replicate (4 + more) 0))
+
+moved_entry_is : (more b : ℕ) → b < 256 → moved_entry more b ≡ divided (8 + 8 * more) (b * 2 ^ (32 + 8 * more))
+unfolding remainder_of
+moved_entry_is more b small =
+    let bytes : List ℕ = b ∷ replicate (4 + more) 0 in
+    let zeros : length {A = ℕ} (replicate (4 + more) 0) ≡ 4 + more = length-replicate (4 + more) 0 in
+    let long : length (bits_of bytes) ≡ 32 + (8 + 8 * more) = length-bits bytes ∙ ap (λ n. 8 * suc n) zeros ∙ omega arith in
+    let power : 8 * length {A = ℕ} (replicate (4 + more) 0) ≡ 32 + 8 * more = omega arith in
+    let whole : polynomial_of (bits_of bytes) ≡ b * 2 ^ (32 + 8 * more) =
+    polynomial_of-bytes b (replicate (4 + more) 0) small ∙ ap (λ n. b * 2 ^ n + polynomial_of (bits_of (replicate (4 + more) 0))) power
+    ∙ ap (λ p. b * 2 ^ (32 + 8 * more) + p) (no_polynomial (4 + more)) ∙ omega arith in
+    ap (λ n. divided n (polynomial_of (bits_of bytes))) long ∙ ap (divided (32 + (8 + 8 * more))) whole
+    ∙ divided_enough (8 + 8 * more) 32 (b * 2 ^ (32 + 8 * more)) (below_place more b small)
+
+-- it is what the byte leaves at its place in twelve bytes
+moved_entry_in_twelve : (more b : ℕ) → more < 8 → b < 256 → divided 64 (b * 2 ^ (32 + 8 * more)) ≡ moved_entry more b
+moved_entry_in_twelve more b few small =
+    ap (λ n. divided n (b * 2 ^ (32 + 8 * more))) (let e : 64 ≡ 56 - 8 * more + (8 + 8 * more) = omega arith in e)
+    ∙ divided_enough (8 + 8 * more) (56 - 8 * more) (b * 2 ^ (32 + 8 * more)) (below_place more b small)
+    ∙ sym (moved_entry_is more b small)
+
+-- ---- the tables
+
+agrees : (n : ℕ) → n < 2048
+    → nat_eq (get_or (get_or REMAINDERS (n / 256) []) (n % 256) 0) (divided (8 + 8 * (n / 256)) (n % 256 * 2 ^ (32 + 8 * (n / 256)))) ≡ true
+unfolding reduced_at divided
+agrees n h =
+    agree_below_at (λ m. nat_eq (get_or (get_or REMAINDERS (m / 256) []) (m % 256) 0) (divided (8 + 8 * (m / 256)) (m % 256 * 2 ^ (32 + 8 * (m / 256)))))
+    (λ _. true) 2048 n refl h
+
+pub tables_have : (more b : ℕ) → more < 8 → b < 256 → get_or (get_or REMAINDERS more []) b 0 ≡ moved_entry more b
+tables_have more b few small =
+    let place : ℕ = 256 * more + b in
+    let which : place / 256 ≡ more = omega arith in
+    let entry : place % 256 ≡ b = omega arith in
+    eqb-true (get_or (get_or REMAINDERS more []) b 0) (divided (8 + 8 * more) (b * 2 ^ (32 + 8 * more)))
+    (rw (which, entry) at (agrees place (omega arith))) ∙ sym (moved_entry_is more b small)
+
+-- ---- a word
+
+-- the first of the bytes that are left goes into the sum
+peeled : (sum more b rest : ℕ) → more < 8 → b < 256 → rest < 2 ^ (32 + 8 * more)
+    → bit_xor sum (divided 64 (b * 2 ^ (32 + 8 * more) + rest)) ≡ bit_xor (bit_xor sum (moved_entry more b)) (divided 64 rest)
+peeled sum more b rest few small below =
+    ap (λ p. bit_xor sum (divided 64 p)) (sym (xor_shifted b (32 + 8 * more) rest below))
+    ∙ ap (bit_xor sum) (divided-xor 64 (b * 2 ^ (32 + 8 * more)) rest)
+    ∙ ap (λ p. bit_xor sum (bit_xor p (divided 64 rest))) (moved_entry_in_twelve more b few small)
+    ∙ sym (xor_assoc sum (moved_entry more b) (divided 64 rest))
+
+pub word_sum : (a b c d e f g h low : ℕ) → a < 256 → b < 256 → c < 256 → d < 256 → e < 256 → f < 256 → g < 256 → h < 256 → low < 2 ^ 32
+    → divided 64 (a * 2 ^ 88 + (b * 2 ^ 80 + (c * 2 ^ 72 + (d * 2 ^ 64 + (e * 2 ^ 56 + (f * 2 ^ 48 + (g * 2 ^ 40 + (h * 2 ^ 32 + low))))))))
+    ≡ bit_xor (bit_xor (bit_xor (bit_xor (bit_xor (bit_xor (bit_xor (bit_xor (moved_entry 7 a) (moved_entry 6 b)) (moved_entry 5 c)) (moved_entry 4 d))
+    (moved_entry 3 e)) (moved_entry 2 f)) (moved_entry 1 g)) (moved_entry 0 h)) low
+word_sum a b c d e f g h low ha hb hc hd he hf hg hh hl =
+    peeled 0 7 a _ (lit< tt) ha (omega arith) ∙ peeled _ 6 b _ (lit< tt) hb (omega arith) ∙ peeled _ 5 c _ (lit< tt) hc (omega arith)
+    ∙ peeled _ 4 d _ (lit< tt) hd (omega arith) ∙ peeled _ 3 e _ (lit< tt) he (omega arith) ∙ peeled _ 2 f _ (lit< tt) hf (omega arith)
+    ∙ peeled _ 1 g _ (lit< tt) hg (omega arith) ∙ peeled _ 0 h low (lit< tt) hh hl ∙ ap (bit_xor _) (divided_low 64 low hl)
+
+-- the register and the word, byte by byte
+pub word_taken : (r w : ℕ) → r < 2 ^ 32 → w < 2 ^ 64
+    → bit_xor (bit_xor (bit_xor (bit_xor (bit_xor (bit_xor (bit_xor (bit_xor (moved_entry 7 (r / 2 ^ 24 % 256)) (moved_entry 6 (r / 2 ^ 16 % 256)))
+    (moved_entry 5 (r / 2 ^ 8 % 256))) (moved_entry 4 (r % 256))) (moved_entry 3 (w / 2 ^ 56 % 256))) (moved_entry 2 (w / 2 ^ 48 % 256)))
+    (moved_entry 1 (w / 2 ^ 40 % 256))) (moved_entry 0 (w / 2 ^ 32 % 256))) (w % 2 ^ 32) ≡ divided 64 (r * 2 ^ 64 + w)
+word_taken r w h k =
+    sym (word_sum (r / 2 ^ 24 % 256) (r / 2 ^ 16 % 256) (r / 2 ^ 8 % 256) (r % 256) (w / 2 ^ 56 % 256) (w / 2 ^ 48 % 256) (w / 2 ^ 40 % 256)
+    (w / 2 ^ 32 % 256) (w % 2 ^ 32) (omega arith) (omega arith) (omega arith) (omega arith) (omega arith) (omega arith) (omega arith) (omega arith)
+    (omega arith))
+    ∙ ap (divided 64) (omega arith)
+
+-- ---- a word behind other bytes
+
+pow_of_256 : (k : ℕ) → 256 ^ k ≡ 2 ^ (8 * k)
+pow_of_256 zero = refl
+pow_of_256 (suc k) =
+    pow-suc 256 k ∙ ap (λ p. p * 256) (pow_of_256 k) ∙ omega (arith, pow-add 2 8 (8 * k))
+    ∙ ap (λ m. 2 ^ m) (let e : 8 + 8 * k ≡ 8 * suc k = omega arith in e)
+
+byte_at_is : (k n : ℕ) → byte_at k n ≡ n / 2 ^ (8 * k) % 2 ^ 8
+byte_at_is zero n = omega arith
+byte_at_is (suc k) n = ap (λ p. n / p % 256) (pow_of_256 (suc k))
+
+length-high_first : (k n : ℕ) → length (bytes_high_first k n) ≡ k
+length-high_first zero n = refl
+length-high_first (suc k) n = ap suc (length-high_first k n)
+
+polynomial_of-high_first : (k n : ℕ) → polynomial_of (bits_of (bytes_high_first k n)) ≡ n % 2 ^ (8 * k)
+unfolding bits_of polynomial_of
+polynomial_of-high_first zero n = omega arith
+polynomial_of-high_first (suc k) n =
+    let small : byte_at k n < 256 = rw byte_at_is (omega arith) in
+    polynomial_of-bytes (byte_at k n) (bytes_high_first k n) small
+    ∙ ap (λ m. byte_at k n * 2 ^ (8 * m) + polynomial_of (bits_of (bytes_high_first k n))) (length-high_first k n)
+    ∙ ap (λ p. byte_at k n * 2 ^ (8 * k) + p) (polynomial_of-high_first k n)
+    ∙ ap (λ b. b * 2 ^ (8 * k) + n % 2 ^ (8 * k)) (byte_at_is k n)
+    ∙ sym (mod-pow-add n 8 (8 * k)) ∙ ap (λ m. n % 2 ^ m) (let e : 8 + 8 * k ≡ 8 * suc k = omega arith in e)
+
+pub polynomial_of-word : (word : List ℕ) (n : ℕ) → length word ≡ 8 → AreBytes word → n < 2 ^ 64 → n ≡ from_be_bytes w64 word
+    → n ≡ polynomial_of (bits_of word)
+polynomial_of-word word n long small fits is =
+    sym (mod-eq_of_lt fits) ∙ sym (polynomial_of-high_first 8 n) ∙ ap (λ bytes. polynomial_of (bits_of bytes)) (be_bytes_8 word n long small is)
+
+remainder_word : (bytes word : List ℕ) → length word ≡ 8
+    → remainder_of (bits_of (bytes ++ word)) ≡ divided 64 (remainder_of (bits_of bytes) * 2 ^ 64 + polynomial_of (bits_of word))
+unfolding bits_of
+remainder_word bytes word long =
+    let register : ℕ = fold shifted 0 (bits_of bytes) in
+    let bits : length (bits_of word) ≡ 64 = length-bits word ∙ ap (λ m. 8 * m) long in
+    remainder_is_fold (bits_of (bytes ++ word)) ∙ ap (fold shifted 0) (flat_map-append (number_bits 8) bytes word)
+    ∙ fold-append shifted 0 (bits_of bytes) (bits_of word) ∙ sym (divided_is_fold register (bits_of word))
+    ∙ ap (λ m. divided m (register * 2 ^ m + polynomial_of (bits_of word))) bits
+    ∙ ap (λ r. divided 64 (r * 2 ^ 64 + polynomial_of (bits_of word))) (sym (remainder_is_fold (bits_of bytes)))
+
+-- ---- words in order
+
+concat_chunks : (n k : ℕ) (xs : List ℕ) → concat (first_chunks n k xs) ≡ take (k * n) xs
+concat_chunks n zero xs = ap (λ m. take m xs) (let e : 0 ≡ 0 * n = omega arith in e)
+concat_chunks n (suc k) xs =
+    ap (λ more. take n xs ++ more) (concat_chunks n k (drop n xs)) ∙ sym (take-add n (k * n) xs)
+    ∙ ap (λ m. take m xs) (let e : n + k * n ≡ suc k * n = omega arith in e)
+
+pub word_turn : (words : List (List ℕ)) (i register n next : ℕ) → i < length words → length (get_or words i []) ≡ 8
+    → n ≡ polynomial_of (bits_of (get_or words i [])) → register ≡ remainder_of (bits_of (concat (take i words)))
+    → next ≡ divided 64 (register * 2 ^ 64 + n) → next ≡ remainder_of (bits_of (concat (take (i + 1) words)))
+word_turn words i register n next within long is now e =
+    let word : List ℕ = get_or words i [] in
+    let more : concat (take (i + 1) words) ≡ concat (take i words) ++ word =
+    ap concat (take_more words i [] within) ∙ concat-append (take i words) (word ∷ [])
+    ∙ ap (λ last. concat (take i words) ++ last) (append-nil word) in
+    e ∙ ap (λ r. divided 64 (r * 2 ^ 64 + n)) now ∙ ap (λ m. divided 64 (remainder_of (bits_of (concat (take i words))) * 2 ^ 64 + m)) is
+    ∙ sym (remainder_word (concat (take i words)) word long) ∙ ap (λ bytes. remainder_of (bits_of bytes)) (sym more)
+
+AreBytes-take : (n : ℕ) (xs : List ℕ) → AreBytes xs → AreBytes (take n xs)
+AreBytes-take zero xs small i = lit< tt
+AreBytes-take (suc n) [] small i = lit< tt
+AreBytes-take (suc n) (x ∷ xs) small zero = small 0
+AreBytes-take (suc n) (x ∷ xs) small (suc i) = AreBytes-take n xs (λ j. small (suc j)) i
+
+pub AreBytes-chunks : (n k : ℕ) (xs : List ℕ) → AreBytes xs → (i : ℕ) → AreBytes (get_or (first_chunks n k xs) i [])
+AreBytes-chunks n zero xs small i j = lit< tt
+AreBytes-chunks n (suc k) xs small zero j = AreBytes-take n xs small j
+AreBytes-chunks n (suc k) xs small (suc i) j = AreBytes-chunks n k (drop n xs) (λ m. rw get_or-drop (small (n + m))) i j
+
+pub words_and_rest : (bytes : List ℕ) → concat (first_chunks 8 (length bytes / 8) bytes) ++ drop (length bytes / 8 * 8) bytes ≡ bytes
+words_and_rest bytes =
+    ap (λ front. front ++ drop (length bytes / 8 * 8) bytes) (concat_chunks 8 (length bytes / 8) bytes) ∙ take-append-drop (length bytes / 8 * 8) bytes
