@@ -2,7 +2,7 @@
 use Rattle.std.proofs.Common.{◌≡◌, ℕ, zero, suc, ◌+◌, ◌-◌, ◌*◌, ◌/◌, ◌%◌, ◌^◌, ◌<◌, Bool, true, false, cond, eqb, List, [], ◌∷◌, ◌++◌, length, take, drop, replicate, refl, sym, ap, ◌∙◌, arith, length-append}
 use Rattle.std.specs.Int.{bit_at}
 use Rattle.std.proofs.Math.Nat.{mod-eq_of_lt}
-use Rattle.std.proofs.lemmas.Nat.{mod-pow-add}
+use Rattle.std.proofs.lemmas.Nat.{mod-pow-add, shr-shr}
 use Rattle.std.proofs.lemmas.Nat.Bits.{bit_at-lt, bit_at-suc, bit_at_lowest}
 use Rattle.std.proofs.lemmas.List.{take_at, drop_at, length-replicate}
 use Rattle.ffv1_bits.specs.Bits.{has_bit, bit_value, number_bits}
@@ -62,6 +62,27 @@ number_bits-push count n bit =
     halved count (2 * n + bit_value bit)
     ∙ ap (λ m. number_bits count m ++ (has_bit (2 * n + bit_value bit) 0 ∷ [])) (without_last n bit)
     ∙ ap (λ b. number_bits count n ++ (b ∷ [])) (last_bit n bit)
+
+-- ---- parts of a number
+
+has_bit-shr : (n k i : ℕ) → has_bit (n / 2 ^ k) i ≡ has_bit n (i + k)
+has_bit-shr n k i = ap (λ m. eqb (m % 2) 1) (shr-shr n k i ∙ ap (λ j. n / 2 ^ j) (let e : k + i ≡ i + k = omega arith in e))
+
+-- its high bits, and then its low ones
+pub number_bits-split : (high low n : ℕ) → number_bits (high + low) n ≡ number_bits high (n / 2 ^ low) ++ number_bits low n
+unfolding number_bits
+number_bits-split zero low n = ap (λ c. number_bits c n) (let e : 0 + low ≡ low = omega arith in e)
+number_bits-split (suc high) low n =
+    ap (λ c. number_bits c n) (let e : suc high + low ≡ suc (high + low) = omega arith in e)
+    ∙ ap (λ bits. has_bit n (high + low) ∷ bits) (number_bits-split high low n)
+    ∙ ap (λ b. b ∷ (number_bits high (n / 2 ^ low) ++ number_bits low n)) (sym (has_bit-shr n low high))
+
+-- what lies above the bits counts for nothing
+pub number_bits-low : (count n : ℕ) → number_bits count (n % 2 ^ count) ≡ number_bits count n
+number_bits-low count n =
+    let bits : List Bool = number_bits count n in
+    ap (number_bits count) (sym (low_part count n)) ∙ ap (λ c. number_bits c (polynomial_of bits)) (sym (length-number_bits count n))
+    ∙ number_bits-polynomial_of bits
 
 -- ---- bits in front of others
 

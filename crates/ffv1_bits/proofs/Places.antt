@@ -1,9 +1,9 @@
 -- Places among the bits of bytes.
-use Rattle.std.proofs.Common.{◌≡◌, ℕ, zero, suc, ◌+◌, ◌-◌, ◌*◌, ◌/◌, ◌%◌, ◌^◌, ◌<◌, ◌≤◌, Bool, true, false, eqb, List, [], ◌∷◌, ◌++◌, length, drop, get_or, refl, sym, ap, ◌∙◌, arith, length-drop, length-append, append_assoc, add-one}
+use Rattle.std.proofs.Common.{◌≡◌, ℕ, zero, suc, ◌+◌, ◌-◌, ◌*◌, ◌/◌, ◌%◌, ◌^◌, ◌<◌, ◌≤◌, Bool, true, false, eqb, List, [], ◌∷◌, ◌++◌, length, take, drop, get_or, refl, sym, ap, ◌∙◌, arith, length-drop, length-take, length-append, append_assoc, add-one}
 use Rattle.std.proofs.Math.Nat.{pow-suc}
 use mir.Val.{bool_byte}
 use Rattle.std.specs.Prelude.{bit_and}
-use Rattle.std.proofs.lemmas.List.{get_or_append_left, get_or-append-add, drop_more, drop_all}
+use Rattle.std.proofs.lemmas.List.{get_or_append_left, get_or-append-add, drop_more, drop_all, drop-drop, take-append-drop}
 use Rattle.std.proofs.lemmas.Nat.Bits.{shr_and_one}
 use Rattle.ffv1_bits.specs.Bits.{has_bit, bit_value, number_bits, bits_of}
 use Rattle.ffv1_bits.specs.Reader.{Reading, Reads, PlaceAndLeftAddUp}
@@ -58,6 +58,14 @@ pub Reads-append : (old mid new : Reading) (bits more : List Bool) → Reads old
 Reads-append old mid new bits more first second = record {
   begins = first.begins ∙ ap (λ l. bits ++ l) second.begins ∙ sym (append_assoc bits more new.left);
   moves = omega (arith, first.moves, second.moves, length-append bits more);
+}
+
+-- bits that are passed over
+pub skipped : (old : Reading) (whole : List Bool) (count place : ℕ) → old.left ≡ drop place whole → old.place ≡ place → count ≤ length old.left
+    → Reads old (take count old.left) (record { place = place + count; left = drop (place + count) whole })
+skipped old whole count place left at enough = record {
+  begins = sym (take-append-drop count old.left) ∙ ap (λ l. take count old.left ++ l) (ap (drop count) left ∙ drop-drop count place whole);
+  moves = omega (arith, at, length-take count old.left);
 }
 
 pub none_read : (reading : Reading) → Reads reading (number_bits 0 0) reading

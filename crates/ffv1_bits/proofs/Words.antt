@@ -1,13 +1,14 @@
 -- The parity of eight bytes at once: what each byte of the register and of a word leaves, far from the end.
-use Rattle.std.proofs.Common.{◌≡◌, ℕ, zero, suc, ◌+◌, ◌-◌, ◌*◌, ◌/◌, ◌%◌, ◌^◌, ◌<◌, Bool, true, false, nat_eq, cond, eqb, get_or, List, [], ◌∷◌, ◌++◌, length, take, drop, replicate, refl, sym, ap, ◌∙◌, arith, lit<, length-append, append-nil, get_or-drop}
+use Rattle.std.proofs.Common.{◌≡◌, ℕ, zero, suc, ◌+◌, ◌-◌, ◌*◌, ◌/◌, ◌%◌, ◌^◌, ◌<◌, Bool, true, false, nat_eq, cond, eqb, get_or, List, [], ◌∷◌, ◌++◌, length, take, drop, replicate, refl, sym, ap, subst, ◌∙◌, arith, lit<, length-append, length-take, append-nil, append_assoc, get_or-drop}
 use Rattle.std.specs.Prelude.{bit_xor}
-use Rattle.std.specs.List.{fold, concat}
+use Rattle.std.specs.List.{fold, concat, slice_range}
+use Rattle.std.specs.Array.{IsFirstChunk}
 use Rattle.std.specs.Int.{byte_at, bytes_high_first, from_be_bytes, w64}
 use Rattle.std.specs.Int.Bits.{xor_shifted, xor_assoc}
 use Rattle.std.specs.Simd.{first_chunks}
 use Rattle.std.proofs.lemmas.Bool.{agree_below_at, eqb-true}
 use Rattle.std.proofs.lemmas.Grind.{flat_map-append}
-use Rattle.std.proofs.lemmas.List.{length-replicate, take_more, take-append-drop}
+use Rattle.std.proofs.lemmas.List.{length-replicate, take_more, take_rest, drop_all, drop_at, drop-drop, take-append-drop}
 use Rattle.std.proofs.lemmas.List.Folds.{concat-append}
 use Rattle.std.proofs.lemmas.List.Sums.{fold-append}
 use Rattle.std.proofs.lemmas.Nat.{pow-add, mod-pow-add, shl_below, be_bytes_8}
@@ -18,6 +19,7 @@ use Rattle.ffv1_bits.specs.Bits.{number_bits, bits_of}
 use Rattle.ffv1_bits.specs.declared.table.TheConstants.{REMAINDERS}
 use Rattle.ffv1_bits.specs.Parity.{divisor, polynomial_of, reduced_at, divided, remainder_of, AreBytes}
 use Rattle.ffv1_bits.proofs.Burst.{byte_is, length-bits}
+use Rattle.ffv1_bits.proofs.Numbers.{length-number_bits, number_bits-polynomial_of, number_bits-split, number_bits-low}
 use Rattle.ffv1_bits.proofs.Division.{shifted, divided_is_fold, remainder_is_fold, divided-xor, divided_low}
 
 -- ---- the polynomial of bytes
@@ -217,3 +219,69 @@ AreBytes-chunks n (suc k) xs small (suc i) j = AreBytes-chunks n k (drop n xs) (
 pub words_and_rest : (bytes : List ℕ) → concat (first_chunks 8 (length bytes / 8) bytes) ++ drop (length bytes / 8 * 8) bytes ≡ bytes
 words_and_rest bytes =
     ap (λ front. front ++ drop (length bytes / 8 * 8) bytes) (concat_chunks 8 (length bytes / 8) bytes) ∙ take-append-drop (length bytes / 8 * 8) bytes
+
+-- ---- a word read as bits
+
+-- the 56 bits from one of the first eight on
+window_of : (n j : ℕ) → j < 8 → n * 2 ^ j % 2 ^ 64 / 2 ^ 8 ≡ n / 2 ^ (8 - j) % 2 ^ 56
+window_of n zero h = omega arith
+window_of n (suc zero) h = omega arith
+window_of n (suc (suc zero)) h = omega arith
+window_of n (suc (suc (suc zero))) h = omega arith
+window_of n (suc (suc (suc (suc zero)))) h = omega arith
+window_of n (suc (suc (suc (suc (suc zero))))) h = omega arith
+window_of n (suc (suc (suc (suc (suc (suc zero)))))) h = omega arith
+window_of n (suc (suc (suc (suc (suc (suc (suc zero))))))) h = omega arith
+window_of n (suc (suc (suc (suc (suc (suc (suc (suc j)))))))) h = absurd (omega arith)
+
+bits_of-word : (word : List ℕ) (n : ℕ) → length word ≡ 8 → AreBytes word → n < 2 ^ 64 → n ≡ from_be_bytes w64 word → bits_of word ≡ number_bits 64 n
+bits_of-word word n long small fits is =
+    sym (number_bits-polynomial_of (bits_of word))
+    ∙ ap (λ c. number_bits c (polynomial_of (bits_of word))) (length-bits word ∙ ap (λ m. 8 * m) long)
+    ∙ ap (number_bits 64) (sym (polynomial_of-word word n long small fits is))
+
+peeked : (n j : ℕ) (more : List Bool) → j < 8
+    → drop j (number_bits 64 n ++ more) ≡ number_bits 56 (n * 2 ^ j % 2 ^ 64 / 2 ^ 8) ++ (number_bits (8 - j) n ++ more)
+peeked n j more h =
+    let before : number_bits 64 n ≡ number_bits j (n / 2 ^ (64 - j)) ++ number_bits (64 - j) n =
+    ap (λ c. number_bits c n) (let e : 64 ≡ j + (64 - j) = omega arith in e) ∙ number_bits-split j (64 - j) n in
+    let behind : number_bits (64 - j) n ≡ number_bits 56 (n / 2 ^ (8 - j)) ++ number_bits (8 - j) n =
+    ap (λ c. number_bits c n) (let e : 64 - j ≡ 56 + (8 - j) = omega arith in e) ∙ number_bits-split 56 (8 - j) n in
+    let window : number_bits 56 (n / 2 ^ (8 - j)) ≡ number_bits 56 (n * 2 ^ j % 2 ^ 64 / 2 ^ 8) =
+    sym (number_bits-low 56 (n / 2 ^ (8 - j))) ∙ ap (number_bits 56) (sym (window_of n j h)) in
+    ap (λ bits. drop j (bits ++ more)) before
+    ∙ ap (drop j) (append_assoc (number_bits j (n / 2 ^ (64 - j))) (number_bits (64 - j) n) more)
+    ∙ drop_at (number_bits j (n / 2 ^ (64 - j))) (number_bits (64 - j) n ++ more) j (length-number_bits j (n / 2 ^ (64 - j)))
+    ∙ ap (λ bits. bits ++ more) behind
+    ∙ append_assoc (number_bits 56 (n / 2 ^ (8 - j))) (number_bits (8 - j) n) more
+    ∙ ap (λ bits. bits ++ (number_bits (8 - j) n ++ more)) window
+
+bits_behind : (i : ℕ) (bytes : List ℕ) → drop (8 * i) (bits_of bytes) ≡ bits_of (drop i bytes)
+unfolding bits_of number_bits
+bits_behind zero bytes = refl
+bits_behind (suc i) [] = drop_all (8 * suc i) [] (omega arith)
+bits_behind (suc i) (b ∷ bytes) =
+    ap (λ n. drop n (bits_of (b ∷ bytes))) (let e : 8 * suc i ≡ 8 + 8 * i = omega arith in e)
+    ∙ sym (drop-drop (8 * i) 8 (bits_of (b ∷ bytes))) ∙ bits_behind i bytes
+
+pub word_there : (bytes rest word : List ℕ) (place n : ℕ) → AreBytes bytes → rest ≡ slice_range bytes place (length bytes) → IsFirstChunk rest word 8
+    → n < 2 ^ 64 → n ≡ from_be_bytes w64 word → bits_of (take 8 (drop place bytes)) ≡ number_bits 64 n
+word_there bytes rest word place n small is front fits value =
+    let behind : rest ≡ drop place bytes = is ∙ take_rest bytes place in
+    let whole : take 8 (drop place bytes) ≡ word = ap (take 8) (sym behind) ∙ sym front.same in
+    let long : length word ≡ 8 = ap length front.same ∙ length-take 8 rest ∙ omega (arith, front.enough) in
+    let each : AreBytes word = subst AreBytes whole (AreBytes-take 8 (drop place bytes) (λ j. rw get_or-drop (small (place + j)))) in
+    ap bits_of whole ∙ bits_of-word word n long each fits value
+
+pub peek_some : (bytes : List ℕ) (place n : ℕ) → bits_of (take 8 (drop (place / 8) bytes)) ≡ number_bits 64 n
+    → (rest : List Bool) × (drop place (bits_of bytes) ≡ number_bits 56 (n * 2 ^ (place % 8) % 2 ^ 64 / 2 ^ 8) ++ rest)
+unfolding bits_of
+peek_some bytes place n is =
+    let behind : List ℕ = drop 8 (drop (place / 8) bytes) in (
+      number_bits (8 - place % 8) n ++ bits_of behind,
+      ap (λ m. drop m (bits_of bytes)) (let e : place ≡ 8 * (place / 8) + place % 8 = omega arith in e)
+          ∙ sym (drop-drop (place % 8) (8 * (place / 8)) (bits_of bytes))
+          ∙ ap (drop (place % 8)) (bits_behind (place / 8) bytes ∙ ap bits_of (sym (take-append-drop 8 (drop (place / 8) bytes)))
+          ∙ flat_map-append (number_bits 8) (take 8 (drop (place / 8) bytes)) behind ∙ ap (λ bits. bits ++ bits_of behind) is)
+          ∙ peeked n (place % 8) (bits_of behind) (omega arith),
+    )

@@ -64,8 +64,7 @@ fn number_of(word: [u8; 8]) -> u64
     u64::from_be_bytes(word)
 }
 
-/// The remainder of more bits: eight bytes come in at the low end, and for each byte that leaves at the top a table has what
-/// takes it away.
+/// The remainder of more bits: eight bytes come in at the low end, and a table takes away each byte that leaves at the top.
 fn with_word(register: u32, word: u64) -> u32
     ensures { result ≡ divided 64 (register * 2 ^ 64 + word) }
 {

@@ -1,7 +1,7 @@
 //! The bits of bytes, read one after the other, most significant first (RFC 9043, section 4).
 //!
 //! A reader never stands past its last bit.
-ghost use Rattle.std.specs.Prelude.{◌≡◌, ℕ, ◌+◌, ◌*◌, ◌^◌, ◌<◌, ◌≤◌, [], ◌∷◌, length, IfSome, IfNone};
+ghost use Rattle.std.specs.Prelude.{◌≡◌, ℕ, ◌+◌, ◌*◌, ◌^◌, ◌<◌, ◌≤◌, List, Bool, [], ◌∷◌, ◌++◌, length, take, drop, IfSome, IfNone};
 ghost use Rattle.ffv1_bits.specs.Limits.{payload_limit};
 ghost use Rattle.ffv1_bits.specs.Bits.{bits_of, number_bits};
 ghost use Rattle.ffv1_bits.specs.Reader.{Reading, Reads, PlaceAndLeftAddUp};
@@ -76,6 +76,27 @@ impl<'a> Bits<'a> {
         Some(bit)
     }
 
+    /// The next 56 bits as a number, the first of them highest; None where fewer than eight bytes are left, that of the
+    /// next bit counted whole. Nothing is read.
+    #[inline(always)]
+    pub fn peek(&self) -> Option<u64>
+        ensures some { IfSome result (λ number. (rest : List Bool) × (self.now.left ≡ number_bits 56 number ++ rest)) }
+        ensures fits { IfSome result (λ number. number < 2 ^ 56) }
+        ensures none { IfNone result (length self.now.left < 64) }
+    {
+        let word = word_at(self.bytes, self.place / 8)?;
+        Some((word << (self.place % 8)) >> 8)
+    }
+
+    /// Passes over this many of the bits that are left.
+    #[inline(always)]
+    pub fn skip(&mut self, count: usize)
+        requires { count ≤ length self.old.left }
+        ensures { Reads self.old (take count self.old.left) self.new }
+    {
+        self.place += count;
+    }
+
     /// The next `count` bits as a number, the first of them highest; None where fewer are left,
     /// and then nothing changes.
     pub fn take(&mut self, count: u32) -> Option<u32>
@@ -93,6 +114,16 @@ impl<'a> Bits<'a> {
         *self = ahead;
         Some(number)
     }
+}
+
+/// The bits of eight bytes from a place on as a number, the first of them highest; None where fewer bytes are there.
+#[inline(always)]
+fn word_at(bytes: &[u8], place: usize) -> Option<u64>
+    ensures some { IfSome result (λ word. bits_of (take 8 (drop place bytes.now)) ≡ number_bits 64 word) }
+    ensures none { IfNone result (length bytes.now < place + 8) }
+{
+    let front = bytes.get(place..)?.first_chunk::<8>()?;
+    Some(u64::from_be_bytes(*front))
 }
 
 /// The bits read and those left of some bytes are together eight for each byte.

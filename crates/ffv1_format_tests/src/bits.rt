@@ -27,3 +27,16 @@ fn too_few_bits_leave_the_place(rt: HostRuntime) {
         assert_eq!(rt; (bits_taken, bits.place()), (taken, place));
     }
 }
+
+#[test]
+fn a_look_ahead_reads_nothing(rt: HostRuntime) {
+    let bytes = [0xB6, 0x0F, 0x12, 0x34, 0x56, 0x78, 0x9A, 0xBC, 0xDE];
+    let mut bits = Bits::new(&bytes);
+    assert_eq!(rt; bits.peek(), Some(0xB6_0F12_3456_789A));
+    bits.skip(4);
+    assert_eq!(rt; bits.peek(), Some(0x60_F123_4567_89AB));
+    assert_eq!(rt; (bits.place(), bits.left()), (4, 68));
+    bits.skip(12);
+    assert_eq!(rt; bits.peek(), None);
+    assert_eq!(rt; bits.take(12), Some(0x123));
+}

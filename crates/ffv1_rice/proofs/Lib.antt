@@ -6,3 +6,4 @@ pub mod OneRun
 pub mod Shapes
 pub mod Words
 pub mod Vectors
+pub mod Windows

@@ -1,5 +1,5 @@
 -- Golomb-Rice codes of sample differences, from a value to its bits (RFC 9043, section 3.8.2.1).
-use Rattle.std.specs.Prelude.{◌≡◌, ◌≢◌, ℕ, ◌+◌, ◌-◌, ◌/◌, ◌%◌, ◌^◌, ◌<◌, ◌≤◌, nat_lt, Bool, true, false, ◌&&◌, List, [], ◌∷◌, ◌++◌, replicate, ℤ, pos, ◌-ℤ◌, int_lt, if◌then◌else◌, ◌⊎◌}
+use Rattle.std.specs.Prelude.{◌≡◌, ◌≢◌, ℕ, ◌+◌, ◌-◌, ◌/◌, ◌%◌, ◌^◌, ◌<◌, ◌≤◌, nat_lt, Bool, true, false, ◌&&◌, List, [], ◌∷◌, ◌++◌, length, replicate, ℤ, pos, ◌-ℤ◌, int_lt, if◌then◌else◌, ◌⊎◌}
 use Rattle.ffv1_bits.specs.Bits.{number_bits}
 use Rattle.ffv1_bits.specs.Reader.{Reading, Reads}
 use Rattle.ffv1_rice.specs.States.{ContextState, IsDifference, IsParameter, code_number}
@@ -26,6 +26,12 @@ code_bits u k =
     if nat_lt (u / 2 ^ k) 12
     then shape_bits k (u / 2 ^ k) (u % 2 ^ k)
     else shape_bits k 12 (u - 11)
+
+-- The bits begin with these, of which there are so many.
+pub record BeginsWith (bits front : List Bool) (count : ℕ) : Type 0 where
+  pub rest : List Bool
+  pub same : bits ≡ front ++ rest
+  pub long : length front ≡ count
 
 -- ---- the codes of values and differences
 

@@ -1,9 +1,12 @@
 //! Golomb-Rice codes: a prefix of zeros, and a suffix of bits (RFC 9043, section 3.8.2.1).
-ghost use Rattle.std.specs.Prelude.{◌≡◌, ℕ, ◌/◌, ◌%◌, ◌-◌, ◌^◌, ◌≤◌, ◌<◌, ◌++◌, ℤ, false, true, pos, replicate, IfOk, IfErr, IfSome, IfNone, OnErr};
+//!
+//! A code that stands whole in the next 56 bits is read from them at once. Near the end, and where there is a fault, it is
+//! read bit by bit.
+ghost use Rattle.std.specs.Prelude.{◌≡◌, ℕ, ◌+◌, ◌/◌, ◌%◌, ◌-◌, ◌^◌, ◌≤◌, ◌<◌, ◌++◌, ℤ, false, true, pos, replicate, IfOk, IfErr, IfSome, IfNone, OnErr};
 ghost use Rattle.ffv1_bits.specs.Bits.{number_bits};
 ghost use Rattle.ffv1_bits.specs.Reader.{Reading, Reads};
 ghost use Rattle.ffv1_rice.specs.States.{IsDifference, after_value};
-ghost use Rattle.ffv1_rice.specs.Codes.{prefix_bits, code_bits, decoded_value, IsCoded, IsCodedDifference, IsNumberFault, IsCodeFault, CodesAreOne, FaultsExcludeCodes, FaultsAreOne};
+ghost use Rattle.ffv1_rice.specs.Codes.{prefix_bits, code_bits, decoded_value, IsCoded, IsCodedDifference, IsNumberFault, IsCodeFault, BeginsWith, CodesAreOne, FaultsExcludeCodes, FaultsAreOne};
 ghost use Rattle.ffv1_rice.specs.declared.code.CodeFault.TheVariants as CodeFault;
 
 use crate::state::VlcState;
@@ -50,7 +53,87 @@ fn read_prefix(bits: &mut Bits) -> Option<u32>
 }
 
 /// The number whose code at the parameter `k` comes next. After a fault the bits stand at any place.
+#[inline(always)]
 fn read_number(bits: &mut Bits, k: u32) -> Result<u32, CodeFault>
+    requires { k ≤ 7 }
+    ensures byte { IfOk result (λ u. u ≤ 255) }
+    ensures ok { IfOk result (λ u. Reads bits.old (code_bits u k) bits.new) }
+    ensures err { IfErr result (λ fault. IsNumberFault k bits.old.left fault) }
+{
+    match read_at_once(bits, k) {
+        Some(number) => Ok(number),
+        None => read_bit_by_bit(bits, k),
+    }
+}
+
+/// The number whose code comes next, where it stands whole in the next 56 bits and has no fault; else nothing is read.
+#[inline(always)]
+fn read_at_once(bits: &mut Bits, k: u32) -> Option<u32>
+    requires { k ≤ 7 }
+    ensures byte { IfSome result (λ u. u ≤ 255) }
+    ensures some { IfSome result (λ u. Reads bits.old (code_bits u k) bits.new) }
+    ensures none { IfNone result (bits.new ≡ bits.old) }
+{
+    let window = bits.peek()?;
+    let (number, length) = number_in(window, k)?;
+    bits.skip(length as usize);
+    Some(number)
+}
+
+/// The number whose code these 56 bits begin with, and the code's length. None where it has a fault.
+#[inline(always)]
+fn number_in(window: u64, k: u32) -> Option<(u32, u32)>
+    requires parameter { k ≤ 7 }
+    requires window { window < 2 ^ 56 }
+    ensures byte { IfSome result (λ found. found.0 ≤ 255) }
+    ensures some { IfSome result (λ found. BeginsWith (number_bits 56 window) (code_bits found.0 k) found.1) }
+{
+    let zeros = window.leading_zeros() - 8;
+    if zeros < ESCAPE_ZEROS {
+        short_in(window, k, zeros)
+    } else {
+        escaped_in(window, k)
+    }
+}
+
+/// The number, where the prefix has fewer than 12 zeros.
+#[inline(always)]
+fn short_in(window: u64, k: u32, zeros: u32) -> Option<(u32, u32)>
+    requires parameter { k ≤ 7 }
+    requires zeros { zeros < 12 }
+    requires low { 2 ^ (55 - zeros) ≤ window }
+    requires high { window < 2 ^ (56 - zeros) }
+    ensures byte { IfSome result (λ found. found.0 ≤ 255) }
+    ensures some { IfSome result (λ found. BeginsWith (number_bits 56 window) (code_bits found.0 k) found.1) }
+{
+    // The one that ends the prefix stands before the suffix.
+    let suffix = (window >> (55 - zeros - k)) - (1 << k);
+    let number = (zeros << k) + suffix as u32;
+    if number > LARGEST_NUMBER {
+        return None;
+    }
+    Some((number, zeros + 1 + k))
+}
+
+/// The number, where the prefix is an escape.
+#[inline(always)]
+fn escaped_in(window: u64, k: u32) -> Option<(u32, u32)>
+    requires parameter { k ≤ 7 }
+    requires window { window < 2 ^ 44 }
+    ensures byte { IfSome result (λ found. found.0 ≤ 255) }
+    ensures some { IfSome result (λ found. BeginsWith (number_bits 56 window) (code_bits found.0 k) found.1) }
+{
+    let number = (window >> 36) as u32 + ESCAPE_OFFSET;
+    if number >> k < ESCAPE_ZEROS || number > LARGEST_NUMBER {
+        return None;
+    }
+    Some((number, ESCAPE_ZEROS + ESCAPE_BITS))
+}
+
+/// The number whose code comes next, bit by bit. After a fault the bits stand at any place.
+#[cold]
+#[inline(never)]
+fn read_bit_by_bit(bits: &mut Bits, k: u32) -> Result<u32, CodeFault>
     requires { k ≤ 7 }
     ensures byte { IfOk result (λ u. u ≤ 255) }
     ensures ok { IfOk result (λ u. Reads bits.old (code_bits u k) bits.new) }

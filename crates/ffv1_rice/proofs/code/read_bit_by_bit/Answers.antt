@@ -1,6 +1,6 @@
 use Rattle.std.proofs.Common.{arith}
 use Rattle.ffv1_rice.proofs.Shapes.{cut_prefix, short_ok, escape_ok}
-use Rattle.ffv1_rice.proofs.code.read_number.Goals as goal
+use Rattle.ffv1_rice.proofs.code.read_bit_by_bit.Goals as goal
 
 pub returns-in-None-clause-err : goal.returns-in-None-clause-err
 returns-in-None-clause-err c = let n = c.in-None.ensures.none in cut_prefix c.args.k n.0 c.args.bits.now.left n.1 n.2

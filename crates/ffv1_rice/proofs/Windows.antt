@@ -1,0 +1,141 @@
+-- Codes in a window of 56 bits.
+use Rattle.std.proofs.Common.{◌≡◌, ℕ, zero, suc, ◌+◌, ◌-◌, ◌*◌, ◌/◌, ◌%◌, ◌^◌, ◌<◌, ◌≤◌, true, false, eqb, [], ◌∷◌, ◌++◌, length, replicate, refl, sym, ap, subst, ◌∙◌, arith, lit<, length-append, ⊎_elim}
+use Rattle.std.specs.Int.Count.{count_leading_zeros}
+use Rattle.std.proofs.lemmas.Bool.{lt-ltb, cases_lt}
+use Rattle.std.proofs.lemmas.Nat.{leading_length, le-div, pow-add, pow_pos, one_shl, shr_below}
+use Rattle.std.proofs.lemmas.Nat.Bits.{bit_at_above}
+use Rattle.std.proofs.Math.Nat.{pow-suc, mul-le-mul}
+use Rattle.std.proofs.Math.Pow.{pow_mono}
+use Rattle.ffv1_bits.specs.Bits.{number_bits}
+use Rattle.ffv1_bits.proofs.Numbers.{length-number_bits, number_bits-split, number_bits-low}
+use Rattle.ffv1_rice.specs.Codes.{prefix_bits, code_bits, BeginsWith}
+use Rattle.ffv1_rice.proofs.Shapes.{short_code, escape_code, short_suffix}
+
+-- ---- leading zeros
+
+-- a number below 2 ^ 56 has at least 8 in 64 bits
+pub some_leading : (n : ℕ) → n < 2 ^ 56 → 8 ≤ count_leading_zeros 64 n
+some_leading n small =
+    let lead = leading_length 64 n (omega arith) in
+    ⊎_elim
+    (λ long. let e : 57 ≤ lead.0 = omega arith in let p : 2 ^ 57 ≤ 2 ^ lead.0 = pow_mono e in omega (arith, p, lead.3))
+    (λ short. omega (arith, lead.1, short))
+    (cases_lt 56 lead.0)
+
+-- behind fewer than 56 more stands a one
+pub leading_one : (n z : ℕ) → n < 2 ^ 56 → z ≡ count_leading_zeros 64 n - 8 → z < 56 → (2 ^ (55 - z) ≤ n) × (n < 2 ^ (56 - z))
+leading_one n z small is few =
+    let lead = leading_length 64 n (omega arith) in
+    let width : lead.0 ≡ suc (55 - z) = omega (arith, lead.1, some_leading n small) in
+    let power : 2 ^ lead.0 ≡ 2 ^ (55 - z) * 2 = ap (λ m. 2 ^ m) width ∙ pow-suc 2 (55 - z) in
+    let same : 2 ^ lead.0 ≡ 2 ^ (56 - z) = ap (λ m. 2 ^ m) (width ∙ omega arith) in
+    (omega (arith, power, lead.3), omega (arith, same, lead.2))
+
+-- twelve of them
+pub leading_escape : (n z : ℕ) → n < 2 ^ 56 → z ≡ count_leading_zeros 64 n - 8 → 12 ≤ z → n < 2 ^ 44
+leading_escape n z small is many =
+    let lead = leading_length 64 n (omega arith) in
+    let narrow : lead.0 ≤ 44 = omega (arith, lead.1, some_leading n small) in
+    let power : 2 ^ lead.0 ≤ 2 ^ 44 = pow_mono narrow in
+    omega (arith, power, lead.2)
+
+-- ---- the parts of a window
+
+no_ones : (n : ℕ) → number_bits n 0 ≡ replicate n false
+unfolding number_bits
+no_ones zero = refl
+no_ones (suc n) = ap (λ b. eqb b 1 ∷ number_bits n 0) (bit_at_above 0 0 n (lit< tt) (omega arith)) ∙ ap (λ bits. false ∷ bits) (no_ones n)
+
+zeros_and_one : (z : ℕ) → z < 12 → number_bits (z + 1) 1 ≡ prefix_bits z
+unfolding number_bits prefix_bits
+zeros_and_one z few = number_bits-split z 1 1 ∙ ap (λ bits. bits ++ (true ∷ [])) (no_ones z) ∙ rw (lt-ltb z 12 few) refl
+
+-- the bits behind the prefix's zeros: a one and the suffix
+pub suffix_at : (window z k : ℕ) → z < 12 → k ≤ 7 → 2 ^ (55 - z) ≤ window → window < 2 ^ (56 - z)
+    → (2 ^ k ≤ window / 2 ^ (55 - z - k)) × (window / 2 ^ (55 - z - k) < 2 ^ k * 2)
+suffix_at window z k few small low high =
+    let behind : ℕ = 55 - z - k in
+    let whole : 2 ^ k * 2 ^ behind ≤ window =
+    rw (← pow-add 2 k behind) (subst (λ m. 2 ^ m ≤ window) (let e : 55 - z ≡ k + behind = omega arith in e) low) in
+    let below : window < 2 ^ (suc k + behind) = subst (λ m. window < 2 ^ m) (let e : 56 - z ≡ suc k + behind = omega arith in e) high in
+    let narrow : window / 2 ^ behind < 2 ^ suc k = shr_below window (suc k) behind below in
+    (le-div (2 ^ k) window (2 ^ behind) (pow_pos behind) whole, omega (arith, narrow, pow-suc 2 k))
+
+-- the suffix as the code has it
+pub suffix_left : (window z k : ℕ) → z < 12 → k ≤ 7 → 2 ^ (55 - z) ≤ window → window < 2 ^ (56 - z)
+    → let place : ℕ = window / 2 ^ (55 - z - k) in
+    (1 * 2 ^ k % 2 ^ 64 ≤ place) × (place - 1 * 2 ^ k % 2 ^ 64 < 2 ^ 7) × (place - 1 * 2 ^ k % 2 ^ 64 ≡ place - 2 ^ k)
+suffix_left window z k few small low high =
+    let bounds = suffix_at window z k few small low high in
+    let one : 1 * 2 ^ k % 2 ^ 64 ≡ 2 ^ k = one_shl k 64 (omega arith) in
+    let power : 2 ^ k ≤ 2 ^ 7 = pow_mono small in
+    (omega (arith, one, bounds.0), omega (arith, one, bounds.1, power), omega (arith, one))
+
+pub shifted_bound : (k z : ℕ) → z < 12 → k ≤ 7 → z * 2 ^ k % 2 ^ 32 < 2 ^ 11
+shifted_bound k z few small =
+    let power : 2 ^ k ≤ 2 ^ 7 = pow_mono small in
+    let most : z ≤ 11 = omega arith in
+    let product : z * 2 ^ k ≤ 11 * 2 ^ 7 = mul-le-mul most power in
+    omega (arith, product)
+
+window_one : (window width : ℕ) → 2 ^ width ≤ window → window < 2 ^ (1 + width) → window / 2 ^ width ≡ 1
+window_one window width low high =
+    let some : 1 ≤ window / 2 ^ width = le-div 1 window (2 ^ width) (pow_pos width) (omega arith) in
+    let few : window / 2 ^ width < 2 ^ 1 = shr_below window 1 width high in
+    omega arith
+
+pub short_begins : (window z k suffix number : ℕ) → z < 12 → k ≤ 7 → 2 ^ (55 - z) ≤ window → window < 2 ^ (56 - z)
+    → suffix ≡ window / 2 ^ (55 - z - k) - 2 ^ k → number ≡ z * 2 ^ k + suffix
+    → BeginsWith (number_bits 56 window) (code_bits number k) (z + 1 + k)
+short_begins window z k suffix number few small low high is value =
+    let r : ℕ = 55 - z - k in
+    let bounds = suffix_at window z k few small low high in
+    let fits : suffix < 2 ^ k = omega (arith, bounds.0, bounds.1) in
+    let one : window / 2 ^ (k + r) ≡ 1 =
+    window_one window (k + r) (subst (λ m. 2 ^ m ≤ window) (let e : 55 - z ≡ k + r = omega arith in e) low)
+    (subst (λ m. window < 2 ^ m) (let e : 56 - z ≡ 1 + (k + r) = omega arith in e) high) in
+    let high_bits : number_bits (z + 1) (window / 2 ^ (k + r)) ≡ prefix_bits z = ap (number_bits (z + 1)) one ∙ zeros_and_one z few in
+    let whole : window / 2 ^ r ≡ 1 * 2 ^ k + suffix = omega (arith, bounds.0) in
+    let low_bits : number_bits k (window / 2 ^ r) ≡ number_bits k suffix =
+    ap (number_bits k) whole ∙ sym (number_bits-low k (1 * 2 ^ k + suffix)) ∙ ap (number_bits k) (short_suffix k 1 suffix fits) in
+    let behind : number_bits (k + r) window ≡ number_bits k suffix ++ number_bits r window =
+    number_bits-split k r window ∙ ap (λ bits. bits ++ number_bits r window) low_bits in
+    let parts : number_bits 56 window ≡ prefix_bits z ++ (number_bits k suffix ++ number_bits r window) =
+    ap (λ n. number_bits n window) (let e : 56 ≡ z + 1 + (k + r) = omega arith in e) ∙ number_bits-split (z + 1) (k + r) window
+    ∙ ap (λ bits. bits ++ number_bits (k + r) window) high_bits ∙ ap (λ bits. prefix_bits z ++ bits) behind in
+    let same : number_bits 56 window ≡ code_bits number k ++ number_bits r window =
+    parts ∙ short_code k z suffix number (number_bits k suffix ++ number_bits r window) (number_bits r window) few fits value refl in
+    record {
+      rest = number_bits r window;
+      same = same;
+      long = omega (
+        arith,
+        ap length same,
+        length-number_bits 56 window,
+        length-append (code_bits number k) (number_bits r window),
+        length-number_bits r window,
+      );
+    }
+
+pub escape_begins : (window k number : ℕ) → window < 2 ^ 44 → number ≡ window / 2 ^ 36 + 11 → 12 ≤ number / 2 ^ k
+    → BeginsWith (number_bits 56 window) (code_bits number k) 20
+unfolding prefix_bits
+escape_begins window k number small is long =
+    let none : window / 2 ^ 44 ≡ 0 = omega arith in
+    let high_bits : number_bits 12 (window / 2 ^ 44) ≡ prefix_bits 12 = ap (number_bits 12) none ∙ no_ones 12 in
+    let parts : number_bits 56 window ≡ prefix_bits 12 ++ (number_bits 8 (window / 2 ^ 36) ++ number_bits 36 window) =
+    number_bits-split 12 44 window ∙ ap (λ bits. bits ++ number_bits 44 window) high_bits
+    ∙ ap (λ bits. prefix_bits 12 ++ bits) (number_bits-split 8 36 window) in
+    let same : number_bits 56 window ≡ code_bits number k ++ number_bits 36 window =
+    parts ∙ escape_code k (window / 2 ^ 36) number (number_bits 8 (window / 2 ^ 36) ++ number_bits 36 window) (number_bits 36 window) is long refl in
+    record {
+      rest = number_bits 36 window;
+      same = same;
+      long = omega (
+        arith,
+        ap length same,
+        length-number_bits 56 window,
+        length-append (code_bits number k) (number_bits 36 window),
+        length-number_bits 36 window,
+      );
+    }
