@@ -1,5 +1,5 @@
 -- The tables of a set, with all of their entries.
-use Rattle.std.specs.Prelude.{◌≡◌, ℕ, ◌<◌, List, [], length, ℤ, pos, get_or}
+use Rattle.std.specs.Prelude.{◌≡◌, ℕ, ◌<◌, Bool, true, List, [], length, ℤ, pos, get_or}
 use Rattle.ffv1_range.specs.Setup.{SetupValue, IsInProfile, set_entry}
 
 -- a set of a setup
@@ -7,8 +7,9 @@ pub record SetTables : Type 0 where
   pub setup : SetupValue
   pub set : ℕ
 
--- The setup has the set, and these are the 256 entries of each of its tables.
-pub record AreSetTables (setup : SetupValue) (set : ℕ) (entries : List (List ℤ)) : Type 0 where
+-- The setup has the set, and these are the 256 entries of each of its tables, all 0 in the tables 3 and 4 where it is near.
+pub record AreSetTables (setup : SetupValue) (set : ℕ) (entries : List (List ℤ)) (is_near : Bool) : Type 0 where
   pub profile : IsInProfile setup
   pub there : set < length setup.sets
   pub are_entries : (table k : ℕ) → table < 5 → k < 256 → get_or (get_or entries table []) k (pos 0) ≡ set_entry setup set table k
+  pub near : is_near ≡ true → (k : ℕ) → k < 256 → (set_entry setup set 3 k ≡ pos 0) × (set_entry setup set 4 k ≡ pos 0)

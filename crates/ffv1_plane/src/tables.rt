@@ -1,5 +1,5 @@
 //! The quantization tables of a set, with all of their entries (RFC 9043, section 3.5).
-ghost use Rattle.std.specs.Prelude.{◌≡◌, ℕ, ◌<◌, ◌≤ℤ◌, ◌+ℤ◌, length, pos, neg_ℤ, nat_abs, slice_index_or};
+ghost use Rattle.std.specs.Prelude.{◌≡◌, ℕ, ◌<◌, ◌≤ℤ◌, ◌+ℤ◌, length, pos, neg_ℤ, nat_abs, slice_index_or, IsTrue};
 ghost use Rattle.ffv1_range.specs.Setup.{set_contexts, set_entry};
 ghost use Rattle.ffv1_plane.specs.Samples.{context_of, modular_difference};
 
@@ -13,6 +13,8 @@ pub struct Tables<'s> {
     setup: &'s Setup,
     set: usize,
     entries: [[i16; 256]; 5],
+    /// Whether all entries of the tables 3 and 4 are 0.
+    is_near: bool,
 }
 
 impl<'s> Model for Tables<'s> {
@@ -22,7 +24,7 @@ impl<'s> Model for Tables<'s> {
 
     ghost view = { λ t. record { setup = t.setup.now; set = t.set } };
 
-    ghost invariant = { λ t. AreSetTables t.setup.now t.set t.entries };
+    ghost invariant = { λ t. AreSetTables t.setup.now t.set t.entries t.is_near };
 }
 
 impl<'s> Tables<'s> {
@@ -36,10 +38,12 @@ impl<'s> Tables<'s> {
         for table in 0..5usize {
             entries[table] = table_of(setup, set, table);
         }
+        let is_near = is_zero(&entries[3]) && is_zero(&entries[4]);
         Tables {
             setup,
             set,
             entries,
+            is_near,
         }
     }
 
@@ -65,7 +69,7 @@ impl<'s> Tables<'s> {
         self.add_far(near, first)
     }
 
-    /// A sum with the entries of the tables 2 to 4.
+    /// A sum with the entries of the tables 2 to 4, of which the last two are left out where they are all 0.
     #[inline(always)]
     fn add_far(&self, near: &Neighbours, first: i32) -> i32
         requires low { neg_ℤ (pos 65536) ≤ℤ first }
@@ -75,10 +79,11 @@ impl<'s> Tables<'s> {
             +ℤ set_entry self.now.setup self.now.set 3 (modular_difference near.now.left_of_left near.now.left)
             +ℤ set_entry self.now.setup self.now.set 4 (modular_difference near.now.top_of_top near.now.top) }
     {
-        first
-            + self.entry(2, near.top, near.top_right)
-            + self.entry(3, near.left_of_left, near.left)
-            + self.entry(4, near.top_of_top, near.top)
+        let sum = first + self.entry(2, near.top, near.top_right);
+        if self.is_near {
+            return sum;
+        }
+        sum + self.entry(3, near.left_of_left, near.left) + self.entry(4, near.top_of_top, near.top)
     }
 
     /// The entry of a table at the difference of two samples, modulo 256.
@@ -105,4 +110,11 @@ fn table_of(setup: &Setup, set: usize, table: usize) -> [i16; 256]
         entries[index] = setup.entry(set, table, index) as i16;
     }
     entries
+}
+
+/// Whether all entries of a table are 0.
+fn is_zero(table: &[i16; 256]) -> bool
+    ensures { IsTrue result → (k : ℕ) → slice_index_or table.now k (pos 0) ≡ pos 0 }
+{
+    table.iter().all(|entry| *entry == 0)
 }

@@ -1,8 +1,9 @@
-use Rattle.std.proofs.Common.{◌≡◌, ◌<◌, ◌≢◌, [], pos, length, ap, ◌∙◌, sym, arith, ⊎_elim, get_or, set, get_or-set_other, get_or-set_same}
+use Rattle.std.proofs.Common.{◌≡◌, ◌<◌, ◌≢◌, true, [], pos, length, ap, ◌∙◌, sym, arith, ⊎_elim, get_or, set, get_or-set_other, get_or-set_same}
 use Rattle.std.proofs.lemmas.Bool.{cases_lt}
 use Rattle.std.proofs.lemmas.List.{length-set}
 use Rattle.ffv1_range.specs.Setup.{set_entry}
 use Rattle.ffv1_plane.proofs.tables.Tables.of.Goals as goal
+use Rattle.ffv1_plane.proofs.tables.Tables.of.Goals.{then-is_zero, else-is_zero}
 
 pub loop-table-preserved : goal.loop-table-preserved
 loop-table-preserved c = record {
@@ -27,4 +28,12 @@ invariant_of-result c = record {
   profile = c.keeps_profile.ensures;
   there = c.requires;
   are_entries = λ table k few less. c.loop-table.invariant.kept table (omega arith) k less;
+  near = λ is k inside. elim c.if-is_zero.branch [
+    | then-is_zero w ↦
+        let fourth : w.is_zero-is_near.result ≡ true = sym w.is_near-is ∙ is in (
+          sym (c.loop-table.invariant.kept 3 (omega arith) k inside) ∙ c.is_zero.ensures w.if-is_zero.true k,
+          sym (c.loop-table.invariant.kept 4 (omega arith) k inside) ∙ w.is_zero-is_near.ensures fourth k,
+        )
+    | else-is_zero w ↦ absurd (cc (sym w.is_near-is ∙ is))
+  ];
 }
