@@ -62,7 +62,13 @@ fn read_number(bits: &mut Bits, k: u32) -> Result<u32, CodeFault>
 {
     match read_at_once(bits, k) {
         Some(number) => Ok(number),
-        None => read_bit_by_bit(bits, k),
+        None => {
+            // A reader of its own, so that the other one can stay in registers.
+            let mut slow = bits.fork();
+            let number = read_bit_by_bit(&mut slow, k);
+            *bits = slow;
+            number
+        }
     }
 }
 
