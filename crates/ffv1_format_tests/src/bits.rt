@@ -33,9 +33,11 @@ fn a_look_ahead_reads_nothing(rt: HostRuntime) {
     let bytes = [0xB6, 0x0F, 0x12, 0x34, 0x56, 0x78, 0x9A, 0xBC, 0xDE];
     let mut bits = Bits::new(&bytes);
     assert_eq!(rt; bits.peek(), Some(0xB6_0F12_3456_789A));
+    assert!(rt; bits.left() >= 4);
     bits.skip(4);
     assert_eq!(rt; bits.peek(), Some(0x60_F123_4567_89AB));
     assert_eq!(rt; (bits.place(), bits.left()), (4, 68));
+    assert!(rt; bits.left() >= 12);
     bits.skip(12);
     assert_eq!(rt; bits.peek(), None);
     assert_eq!(rt; bits.take(12), Some(0x123));
