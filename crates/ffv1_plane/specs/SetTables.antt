@@ -7,7 +7,8 @@ pub record SetTables : Type 0 where
   pub setup : SetupValue
   pub set : ℕ
 
--- The setup has the set, and these are the 256 entries of each of its tables, all 0 in the tables 3 and 4 where it is near.
+-- The setup has the set, and these are the 256 entries of each of its tables. Where the set is near, those of the
+-- tables 3 and 4 are all 0.
 pub record AreSetTables (setup : SetupValue) (set : ℕ) (entries : List (List ℤ)) (is_near : Bool) : Type 0 where
   pub profile : IsInProfile setup
   pub there : set < length setup.sets
