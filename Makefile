@@ -20,6 +20,7 @@ test:
 	tests/recorded
 	rt ci
 	tests/run $(PROGRAM)
+	tests/larger $(PROGRAM)
 	tests/memory $(CALLS) $(PROGRAM)
 	$(MAKE) rot
 
@@ -41,9 +42,9 @@ SEED ?= 0
 fuzz: $(PROGRAM)
 	tests/fuzz $(PROGRAM) $(SECONDS) --workers $(WORKERS) --seed $(SEED)
 
-# FFmpeg's samples of the stored frames, where it is installed.
-ffmpeg:
-	tests/ffmpeg
+# FFmpeg's samples of the stored frames, and large frames that it makes, where it is installed.
+ffmpeg: $(PROGRAM)
+	tests/ffmpeg $(PROGRAM)
 
 # Damaged reels, made and read by FFmpeg, mended: REELS of them, from the number FIRST on.
 REELS ?= 20

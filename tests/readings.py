@@ -4,6 +4,7 @@ import hashlib
 import zlib
 
 REVERSED = bytes(int(f"{byte:08b}"[::-1], 2) for byte in range(256))
+GREATEST_SIDE, MOST_TILES = 65535, 4096
 PAYLOAD_LIMIT, SLICE_LIMIT, RECORD_LIMIT = 1 << 30, 16777223, 1 << 24
 MAGIC = b"FFV1HLD\x01"
 
@@ -145,7 +146,7 @@ def read_front(coder, row, size):
     judge(not coder.bit(row, 0), 9)
     grid = (coder.number(row) + 1, coder.number(row) + 1)
     judge(grid[0] <= size[0] and grid[1] <= size[1], 11)
-    judge(grid[0] * grid[1] <= 1024, 12)
+    judge(grid[0] * grid[1] <= MOST_TILES, 12)
     return micro, chroma, shifts if chroma else [0, 0], grid
 
 
@@ -178,7 +179,7 @@ def setup_of(record, size):
     """The setup of a record, or Fault with the number of its first fault; None where its deltas are too many to be read here."""
     judge(len(record) >= 6, 1)
     judge(parity(record) == 0, 2)
-    judge(all(1 <= side <= 16384 for side in size), 17)
+    judge(all(1 <= side <= GREATEST_SIDE for side in size), 17)
     try:
         coder, row = Coder(record[:-4], True), [128] * 32
         front = read_front(coder, row, size)
@@ -240,16 +241,23 @@ def found_slices(setup, payload):
     return [each for each in found if each[0] is not None]
 
 
-def best(held, tile):
-    """The slices of a tile that have its least error status."""
-    pieces = [piece for of, piece in held if of == tile]
+def best(pieces):
+    """Of some slices those that have the least error status."""
     least = min((piece[-5] for piece in pieces), default=None)
     return [piece for piece in pieces if piece[-5] == least]
 
 
+def by_tile(held, tiles):
+    """The slices of each tile."""
+    found = [[] for _ in range(tiles)]
+    for tile, piece in held:
+        found[tile].append(piece)
+    return found
+
+
 def standing(held, tiles):
     """How each tile stands: its slices of the least status."""
-    return [best(held, tile) for tile in range(tiles)]
+    return [best(pieces) for pieces in by_tile(held, tiles)]
 
 
 def holding_text(record, size, held):
@@ -263,8 +271,7 @@ def report_text(size, held, tiles):
     """The report of a holding."""
     lines, count = [f"reel {size[0]}x{size[1]} tiles {tiles}"], [0, 0, 0]
     stand = standing(held, tiles)
-    for tile, pieces in enumerate(stand):
-        many = sum(of == tile for of, _ in held)
+    for tile, (pieces, many) in enumerate(zip(stand, map(len, by_tile(held, tiles)))):
         if not pieces:
             lines.append(f"tile {tile} missing")
         elif len(pieces) == 1:

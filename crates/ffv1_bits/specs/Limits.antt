@@ -3,15 +3,15 @@ use Rattle.std.specs.Prelude.{ℕ}
 
 -- the greatest width and height of a frame, in samples
 abbrev pub greatest_side : ℕ
-greatest_side = 16384
+greatest_side = 65535
 
 -- the greatest number of a frame's tiles
 abbrev pub most_tiles : ℕ
-most_tiles = 1024
+most_tiles = 4096
 
 -- the greatest run index: a line of `greatest_side` samples does not pass it (RFC 9043, section 3.8.2.2.1)
 abbrev pub greatest_run_index : ℕ
-greatest_run_index = 31
+greatest_run_index = 32
 
 -- the greatest length of a frame's payload, in bytes: 2^30
 abbrev pub payload_limit : ℕ

@@ -1,10 +1,10 @@
 //! The limits of this reader, each in one place: they are not of the format, but for that of a slice.
 
 /// The greatest width and height of a frame, in samples.
-pub const GREATEST_SIDE: u32 = 16384;
+pub const GREATEST_SIDE: u32 = 65535;
 
 /// The greatest number of a frame's tiles.
-pub const MOST_TILES: u32 = 1024;
+pub const MOST_TILES: u32 = 4096;
 
 /// The greatest length of a frame's payload, in bytes.
 pub const PAYLOAD_LIMIT: usize = 1 << 30;

@@ -38,7 +38,7 @@ fn reads_signed(decoder: &mut RangeDecoder<'_>, values: &[i64]) -> bool {
 
 /// Why a record is refused for frames of the greatest size.
 fn refused(alloc: Global, record: &[u8]) -> Option<SetupFault> {
-    Setup::read(alloc, record, 16384, 16384).err()
+    Setup::read(alloc, record, 65535, 65535).err()
 }
 
 /// Whether the setup has this grid and these planes, and the tables that FFmpeg writes.
@@ -103,7 +103,7 @@ fn length_parity_and_size_are_judged_first(rt: HostRuntime) {
     assert!(rt; refused(rt.alloc(), &[0, 0, 0, 0, 0, 1]) == Some(SetupFault::Parity));
     assert!(rt; refused(rt.alloc(), &[0; 6]) == Some(SetupFault::Version));
     assert!(rt; Setup::read(rt.alloc(), &[0; 6], 0, 1).err() == Some(SetupFault::Size));
-    assert!(rt; Setup::read(rt.alloc(), &[0; 6], 1, 16385).err() == Some(SetupFault::Size));
+    assert!(rt; Setup::read(rt.alloc(), &[0; 6], 1, 65536).err() == Some(SetupFault::Size));
 }
 
 #[test]
@@ -200,8 +200,8 @@ fn other_planes_and_grids_are_refused(rt: HostRuntime) {
         refused(
             rt.alloc(),
             &[
-                0x56, 0x2B, 0x83, 0x81, 0x65, 0x01, 0xE9, 0xFB, 0xF7, 0xEF, 0xDF, 0xBF, 0x7E, 0xFD,
-                0xFA, 0xD2, 0x20, 0xC1, 0xBA
+                0x56, 0x2B, 0x83, 0x83, 0x57, 0xD4, 0x1D, 0xEE, 0xEF, 0xDF, 0xBF, 0x7E, 0xFD, 0xFB,
+                0xF7, 0xD1, 0xA1, 0x57, 0x95, 0x50
             ]
         ) == Some(SetupFault::TooManyTiles)
     );

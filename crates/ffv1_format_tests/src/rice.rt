@@ -23,13 +23,13 @@ fn word_behind(
 ) -> (Result<RunWord, CodeFault>, usize, usize)
     requires bytes { length bytes.now ≤ 8 }
     requires skipped { skipped ≤ 8 }
-    requires left { (1 ≤ left) × (left ≤ 16384) }
+    requires left { (1 ≤ left) × (left ≤ 65535) }
 {
     let mut index = RunIndex::start();
     let mut bits = Bits::new(bytes);
     let _ = bits.take(skipped);
     for _ in 0..words {
-        let _ = index.read(&mut bits, 16384);
+        let _ = index.read(&mut bits, 65535);
     }
     let word = index.read(&mut bits, left);
     (word, index.index(), bits.place())
@@ -186,9 +186,9 @@ fn cut_word_leaves_index_and_place(rt: HostRuntime) {
 }
 
 #[test]
-fn index_stays_at_most_31(rt: HostRuntime) {
-    let last = word_behind(&[0xFF; 5], 0, 31, 16384);
-    assert_eq!(rt; last, (Ok(RunWord::ToEnd), 31, 32));
+fn index_stays_at_most_32(rt: HostRuntime) {
+    let last = word_behind(&[0xFF; 5], 0, 32, 65535);
+    assert_eq!(rt; last, (Ok(RunWord::ToEnd), 32, 33));
 }
 
 #[test]

@@ -10,7 +10,7 @@ use std::alloc::Global;
 use std::test::Fail;
 
 /// A tile with these planes, whose other fields are 0.
-fn plain_tile(alloc: Global, planes: &[&[u8]]) -> Result<TileSpec, Fail> {
+pub(crate) fn plain_tile(alloc: Global, planes: &[&[u8]]) -> Result<TileSpec, Fail> {
     let mut copies = Vec::new(alloc);
     for samples in planes {
         copies.push(Vec::from_slice(alloc, samples)?)?;
@@ -136,11 +136,11 @@ fn made_frames_are_found_tile_by_tile(rt: HostRuntime) -> Result<(), Fail> {
     Ok(())
 }
 
-/// A frame of 32 x 32 tiles of one sample 0 each, and its setup.
+/// A frame of 64 x 64 tiles of one sample 0 each, and its setup.
 fn dark_tiles(alloc: Global) -> Result<(Setup, Vec<u8>), Fail> {
-    let setup = setup_of(alloc, SuiteTables::OneRun, None, (32, 32), (32, 32))?;
+    let setup = setup_of(alloc, SuiteTables::OneRun, None, (64, 64), (64, 64))?;
     let mut tiles = Vec::new(alloc);
-    for _ in 0..1024 {
+    for _ in 0..4096 {
         tiles.push(plain_tile(alloc, &[&[0]])?)?;
     }
     let frame = make_frame(alloc, &setup, &FrameSpec { tiles })?;
@@ -148,12 +148,12 @@ fn dark_tiles(alloc: Global) -> Result<(Setup, Vec<u8>), Fail> {
 }
 
 #[test]
-fn slices_of_1024_tiles_are_found(rt: HostRuntime) -> Result<(), Fail> {
+fn slices_of_4096_tiles_are_found(rt: HostRuntime) -> Result<(), Fail> {
     let (setup, frame) = dark_tiles(rt.alloc())?;
     let found = found_tiles(rt.alloc(), &setup, &frame)?;
-    assert_eq!(rt; found.len(), 1024);
+    assert_eq!(rt; found.len(), 4096);
     for (place, (tile, status)) in found.iter().enumerate() {
-        assert_eq!(rt; (tile.wrapping_add(place), *status), (1023, 0));
+        assert_eq!(rt; (tile.wrapping_add(place), *status), (4095, 0));
     }
     Ok(())
 }

@@ -94,7 +94,7 @@ fn records_of_few_bytes_are_refused(rt: HostRuntime) -> Result<(), Fail> {
 const FRONT: [u32; 12] = [3, 4, 0, 0, 8, 0, 0, 0, 1, 1, 1, 1];
 
 /// The same, each beyond the profile.
-const BEYOND_FRONT: [u32; 12] = [4, 3, 1, 1, 10, 1, 3, 1, 33, 33, 9, 2];
+const BEYOND_FRONT: [u32; 12] = [4, 3, 1, 1, 10, 1, 3, 1, 65, 65, 9, 2];
 
 /// A record whose first `right` of these fields are of the profile, and no others.
 fn beyond_from(alloc: Global, right: usize) -> Result<RecordSpec, Fail> {
@@ -122,11 +122,11 @@ fn beyond_from(alloc: Global, right: usize) -> Result<RecordSpec, Fail> {
 fn fronts_beyond_the_profile_are_refused(rt: HostRuntime) -> Result<(), Fail> {
     for (right, side, fault) in [
         (12, 1, None),
-        (12, 16385, Some(SetupFault::Size)),
+        (12, 65536, Some(SetupFault::Size)),
         (11, 1, Some(SetupFault::ParityMode)),
         (10, 1, Some(SetupFault::TableCount)),
-        (8, 33, Some(SetupFault::TooManyTiles)),
-        (8, 32, Some(SetupFault::GridTooFine)),
+        (8, 65, Some(SetupFault::TooManyTiles)),
+        (8, 64, Some(SetupFault::GridTooFine)),
         (7, 1, Some(SetupFault::ExtraPlane)),
         (5, 1, Some(SetupFault::Subsampling)),
         (4, 1, Some(SetupFault::Depth)),

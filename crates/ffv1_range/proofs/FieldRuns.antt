@@ -343,7 +343,7 @@ tile_counts-found closed width height p y h =
     let s1 = number_step closed s0.place (tile_rest_1 width height s0.value) y s0.rest in
     let s2 = accepted_step closed s1.place (nat_le (s0.value + 1) width && nat_le (s1.value + 1) height) GridTooFine
     (tile_rest_2 width height s0.value s1.value) y s1.rest in
-    let s3 = accepted_step closed s1.place (nat_le ((s0.value + 1) * (s1.value + 1)) 1024) TooManyTiles (tile_rest_3 width height s0.value s1.value) y s2.1 in
+    let s3 = accepted_step closed s1.place (nat_le ((s0.value + 1) * (s1.value + 1)) most_tiles) TooManyTiles (tile_rest_3 width height s0.value s1.value) y s2.1 in
     let given = given_step (record { across = s0.value + 1; down = s1.value + 1 }) s1.place y s3.1 in
     record {
       across = s0.value;

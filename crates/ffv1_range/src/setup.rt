@@ -1,7 +1,7 @@
 //! The configuration record (RFC 9043, sections 4.2 and 4.3), and the setup that it gives for frames of one size.
 //!
 //! A `Setup` is of the profile: version 3 with micro_version 4 or greater, Golomb-Rice codes, 8 bits a sample, gray or
-//! Y Cb Cr with chroma shifts of at most 2, at most 1024 tiles, and 1 to 8 sets of quantization tables.
+//! Y Cb Cr with chroma shifts of at most 2, at most `MOST_TILES` tiles, and 1 to 8 sets of quantization tables.
 ghost use Rattle.std.specs.Prelude.{◌≡◌, ◌<◌, ◌⊎◌, Bool, length, MatchResult, IfOk, IfErr};
 ghost use Rattle.ffv1_range.specs.Setup.{SetupValue, set_contexts, set_entry, IsSetupOf, IsInProfile, SetupIsOne, SetupIsInProfile};
 ghost use Rattle.ffv1_range.specs.SetupFaults.{FirstSetupFault};

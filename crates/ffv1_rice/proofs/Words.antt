@@ -23,20 +23,20 @@ low_at m [] i h = omega arith
 low_at m (x ∷ xs) zero h = grind arith
 low_at m (x ∷ xs) (suc i) h = low_at m xs i (grind arith)
 
-pub exponent_low : (i : ℕ) → i ≤ greatest_run_index → run_exponent i ≤ 15
+pub exponent_low : (i : ℕ) → i ≤ greatest_run_index → run_exponent i ≤ 16
 unfolding run_exponent are_low
 exponent_low i h =
-    let below : i < 32 = omega arith in
-    let low : get_or (take 32 log2_run) i 0 ≤ 15 = low_at 15 (take 32 log2_run) i refl in
+    let below : i < 33 = omega arith in
+    let low : get_or (take 33 log2_run) i 0 ≤ 16 = low_at 16 (take 33 log2_run) i refl in
     rw get_or-take at low
 
 -- 1 << e
-shifted : (e : ℕ) → e ≤ 15 → (1 * 2 ^ e) % 4294967296 ≡ 2 ^ e
-shifted e h = let p : 2 ^ e ≤ 2 ^ 15 = pow_mono h in let q : 1 * 2 ^ e ≡ 2 ^ e = omega arith in rw q (mod-eq_of_lt (omega arith))
+shifted : (e : ℕ) → e ≤ 16 → (1 * 2 ^ e) % 4294967296 ≡ 2 ^ e
+shifted e h = let p : 2 ^ e ≤ 2 ^ 16 = pow_mono h in let q : 1 * 2 ^ e ≡ 2 ^ e = omega arith in rw q (mod-eq_of_lt (omega arith))
 
 -- ---- what the four ends of a reading give
 
-pub full_word : (left i e length : ℕ) (old new : Reading) → e ≡ run_exponent i → e ≤ 15 → length ≡ (1 * 2 ^ e) % 4294967296 → length ≤ left
+pub full_word : (left i e length : ℕ) (old new : Reading) → e ≡ run_exponent i → e ≤ 16 → length ≡ (1 * 2 ^ e) % 4294967296 → length ≤ left
     → Reads old (true ∷ []) new → IsRead left i (Full length) old (i + 1) new
 full_word left i e length old new is low same fits reads = record {
   spelled = true ∷ [];
@@ -44,7 +44,7 @@ full_word left i e length old new is low same fits reads = record {
   reads = reads;
 }
 
-pub end_word : (left i e : ℕ) (old new : Reading) → e ≡ run_exponent i → e ≤ 15 → left < (1 * 2 ^ e) % 4294967296 → Reads old (true ∷ []) new
+pub end_word : (left i e : ℕ) (old new : Reading) → e ≡ run_exponent i → e ≤ 16 → left < (1 * 2 ^ e) % 4294967296 → Reads old (true ∷ []) new
     → IsRead left i ToEnd old i new
 end_word left i e old new is low past reads =
     let length : (1 * 2 ^ e) % 4294967296 ≡ whole_length i = shifted e low ∙ ap (λ k. 2 ^ k) is in

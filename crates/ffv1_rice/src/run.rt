@@ -50,8 +50,8 @@ impl Model for RunIndex {
 fn exponent(index: usize) -> u32
     requires { index ≤ greatest_run_index }
     ensures value { result ≡ run_exponent index }
-    ensures low { result ≤ 15 }
-    ensures last { index ≡ greatest_run_index → result ≡ 15 }
+    ensures low { result ≤ 16 }
+    ensures last { index ≡ greatest_run_index → result ≡ 16 }
 {
     u32::from(LOG2_RUN[index])
 }
@@ -76,7 +76,7 @@ impl RunIndex {
     /// tell the rest.
     pub fn exponent(&self) -> u32
         ensures value { result ≡ run_exponent self.now }
-        ensures low { result ≤ 15 }
+        ensures low { result ≤ 16 }
     {
         exponent(self.index)
     }

@@ -143,7 +143,7 @@ fn write_word(
 
 /// The next word of a run of so many samples, where a whole length has this exponent.
 fn run_word(exponent: u32, skipped: u32, left: u32) -> RunWord
-    requires { exponent ≤ 15 }
+    requires { exponent ≤ 16 }
     ensures { TakesUpTo skipped result }
 {
     let whole = 1 << exponent;

@@ -7,5 +7,5 @@ pub returns-clause-low : goal.returns-clause-low
 unfolding run_exponent
 returns-clause-low c =
     let e : c.from.result ≡ run_exponent c.args.index = search rules in
-    let h : run_exponent c.args.index ≤ 15 = exponent_low c.args.index c.requires in
+    let h : run_exponent c.args.index ≤ 16 = exponent_low c.args.index c.requires in
     omega (arith, e, h)

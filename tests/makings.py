@@ -1,0 +1,130 @@
+"""Records and frames written by their definitions (docs/FORMAT.md), apart from the program's own makers."""
+import readings
+
+ONE_RUN = [[128]] * 5
+
+
+class Encoder:
+    """A range encoder: all that it has coded lies between `low` and `low + range`, numbers of `used` bytes."""
+
+    def __init__(self):
+        self.low, self.range, self.used = 0, 65280, 2
+
+    def bit(self, row, slot, bit):
+        state = row[slot]
+        part = self.range * state // 256
+        self.low, self.range = (self.low + self.range - part, part) if bit else (self.low, self.range - part)
+        row[slot] = readings.AFTER_ONE[state] if bit else 256 - readings.AFTER_ONE[256 - state]
+        if self.range < 256:
+            self.low, self.range, self.used = self.low * 256, self.range * 256, self.used + 1
+
+    def number(self, row, value, signed=False):
+        self.bit(row, 0, value == 0)
+        if not value:
+            return
+        magnitude = abs(value)
+        highest = magnitude.bit_length() - 1
+        for place in range(highest + 1):
+            self.bit(row, 1 + min(place, 9), place < highest)
+        for place in reversed(range(highest)):
+            self.bit(row, 22 + min(place, 9), magnitude >> place & 1)
+        if signed:
+            self.bit(row, 11 + min(highest, 10), value < 0)
+
+    def closed(self):
+        """The bytes of a record's content, which zeros follow."""
+        unit = 256
+        while -(-self.low // unit) * unit < self.low + self.range:
+            unit *= 256
+        unit //= 256
+        return (-(-self.low // unit) * unit).to_bytes(self.used, "big").rstrip(b"\0").ljust(2, b"\0")
+
+    def header(self):
+        """The bytes of a slice's header: any byte may stand behind them."""
+        if self.range - self.range * 129 // 256 < 256:
+            # 0 brings a byte; else neither bit does, and which one it is depends on the byte behind
+            self.bit([129], 0, 0)
+        front = -(-self.low // 256)
+        assert front * 256 + 255 < self.low + self.range
+        return front.to_bytes(self.used - 1, "big")
+
+
+def record_of(grid, shifts=None, tables=ONE_RUN):
+    """A record of this grid, gray or with these chroma shifts, with one set of tables given by their runs."""
+    encoder, row = Encoder(), [128] * 32
+    for number in (3, 4, 0, 0, 8):
+        encoder.number(row, number)
+    encoder.bit(row, 0, shifts is not None)
+    for number in shifts or (0, 0):
+        encoder.number(row, number)
+    encoder.bit(row, 0, 0)
+    for number in (grid[0] - 1, grid[1] - 1, 1):
+        encoder.number(row, number)
+    for runs in tables:
+        own = [128] * 32
+        for length in runs:
+            encoder.number(own, length - 1)
+    encoder.bit(row, 0, 0)
+    for number in (1, 1):
+        encoder.number(row, number)
+    return readings.with_parity(encoder.closed())
+
+
+class Copier(readings.Coder):
+    """Reads a record's content, and writes it anew with other numbers in some places."""
+
+    def __init__(self, content, others):
+        super().__init__(content, True)
+        self.others, self.made, self.rows, self.inside, self.count = others, Encoder(), {}, False, 0
+
+    def row_of(self, row):
+        """The row of states that is written where this one is read."""
+        return self.rows.setdefault(id(row), (row, [128] * 32))[1]
+
+    def bit(self, row, slot):
+        bit = super().bit(row, slot)
+        if not self.inside:
+            self.made.bit(self.row_of(row), slot, bit)
+        return bit
+
+    def number(self, row, signed=False):
+        self.inside = True
+        value = super().number(row, signed)
+        self.inside = False
+        self.made.number(self.row_of(row), self.others.get(self.count, value), signed)
+        self.count += 1
+        return value
+
+
+def with_grid(record, grid):
+    """A record with another grid."""
+    copier, row = Copier(record[:-4], {7: grid[0] - 1, 8: grid[1] - 1}), [128] * 32
+    readings.read_front(copier, row, (readings.GREATEST_SIDE,) * 2)
+    assert readings.read_deltas(copier, row, readings.read_tables(copier, row))
+    copier.number(row)
+    copier.number(row)
+    return readings.with_parity(copier.made.closed())
+
+
+def frame_of(grid, codes):
+    """A frame of tiles with these codes, each in one slice."""
+    slices = []
+    for tile, code in enumerate(codes):
+        encoder, row = Encoder(), [128] * 32
+        if tile == 0:
+            encoder.bit([128], 0, 1)
+        for number in (tile % grid[0], tile // grid[0], 0, 0, 0, 0, 0, 0, 0):
+            encoder.number(row, number)
+        slices.append(readings.sliced(encoder.header() + code, 0))
+    return b"".join(slices)
+
+
+def codes_of(piece, first):
+    """The codes of a slice."""
+    coder, row = readings.Coder(piece[:-8]), [128] * 32
+    if first:
+        coder.bit([128], 0)
+    for _ in range(9):
+        coder.number(row)
+    coder.bit([129], 0)
+    return piece[coder.used - 1 : -8]
