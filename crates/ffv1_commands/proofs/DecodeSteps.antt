@@ -31,23 +31,21 @@ module _ (record' : Option (List ℕ)) (width height : ℕ) (input ob oa pb pa :
   frame_refused (frames.Tile tile cause) first = (setup, of_record, (payload, read, first), λ e. subst IsMemory (sym e) tt)
   frame_refused frames.Memory first = tt
 
-  module _ (frame : Frame) (is : IsDecodedFrame setup payload frame) (samples line : List ℕ) (raw : samples ≡ raw_bytes frame)
-      (size : line ≡ frame_line frame) where
+  module _ (frame : Frame) (is : IsDecodedFrame setup payload frame) (line : List ℕ) (size : line ≡ frame_line frame) where
     is_input : IsFrameInput record' width height input frame
     is_input = record { setup = setup; of_record = of_record; payload = payload; read = read; decoded = is }
 
-    pub decoded : (r : Result (Unit {0}) CliFault) → OnOk r (Appends ob oa samples) → OnOk r (Appends pb pa line)
+    pub decoded : (r : Result (Unit {0}) CliFault) → OnOk r (Appends ob oa (raw_bytes frame)) → OnOk r (Appends pb pa line)
         → OnOk r (DecodesFile record' width height input ob oa pb pa)
     decoded (Ok done) wrote printed = record {
       frame = frame;
       is_frame = is_input;
-      samples = subst (Appends ob oa) raw wrote;
+      samples = wrote;
       printed = subst (Appends pb pa) size printed;
     }
     decoded (Err fault) wrote printed = tt
 
-    pub decode_stopped : (r : Result (Unit {0}) CliFault) → IfErr r (WriteStops samples line ob oa pb pa)
+    pub decode_stopped : (r : Result (Unit {0}) CliFault) → IfErr r (WriteStops (raw_bytes frame) line ob oa pb pa)
         → IfErr r (DecodeStops record' width height input ob oa pb pa)
-    decode_stopped = writing samples line ob oa pb pa (DecodeStops record' width height input ob oa pb pa) (λ named stops.
-        let whole = subst (λ (s : List ℕ). WriteStops s line ob oa pb pa (faults.Write named)) raw stops in
-        (frame, is_input, subst (λ (l : List ℕ). WriteStops (raw_bytes frame) l ob oa pb pa (faults.Write named)) size whole))
+    decode_stopped = writing (raw_bytes frame) line ob oa pb pa (DecodeStops record' width height input ob oa pb pa) (λ named stops.
+        (frame, is_input, subst (λ (l : List ℕ). WriteStops (raw_bytes frame) l ob oa pb pa (faults.Write named)) size stops))

@@ -13,21 +13,20 @@ use Rattle.ffv1_commands.specs.declared.fault.CliFault.{CliFault}
 use Rattle.ffv1_commands.specs.declared.fault.CliFault.TheVariants as faults
 use Rattle.ffv1_commands.proofs.WriteSteps.{writing}
 
-module _ (input ob oa pb pa : Option (List ℕ)) (h : Contents) (partial : Partial) (samples lines : List ℕ) (file : IsHoldingFile input h)
-    (is : IsPartialPicture h partial) (raw : samples ≡ raw_bytes partial.frame) (text : lines ≡ picture_text partial.tiles.items) where
-  pub shown : (whole : Bool) → (IsTrue whole ↔ All IsDecoded partial.tiles.items) → Appends ob oa samples → Appends pb pa lines
+module _ (input ob oa pb pa : Option (List ℕ)) (h : Contents) (partial : Partial) (lines : List ℕ) (file : IsHoldingFile input h)
+    (is : IsPartialPicture h partial) (text : lines ≡ picture_text partial.tiles.items) where
+  pub shown : (whole : Bool) → (IsTrue whole ↔ All IsDecoded partial.tiles.items) → Appends ob oa (raw_bytes partial.frame) → Appends pb pa lines
       → ShowsFile input ob oa pb pa whole
   shown whole is_whole wrote printed = record {
     held = h;
     partial = partial;
     file = file;
     picture = is;
-    samples = subst (Appends ob oa) raw wrote;
+    samples = wrote;
     printed = subst (Appends pb pa) text printed;
     is_whole = is_whole;
   }
 
-  pub picture_stopped : (r : Result (Unit {0}) CliFault) → IfErr r (WriteStops samples lines ob oa pb pa) → IfErr r (PictureStops input ob oa pb pa)
-  picture_stopped = writing samples lines ob oa pb pa (PictureStops input ob oa pb pa) (λ named stops.
-      let all = subst (λ (s : List ℕ). WriteStops s lines ob oa pb pa (faults.Write named)) raw stops in
-      (h, partial, file, is, subst (λ (l : List ℕ). WriteStops (raw_bytes partial.frame) l ob oa pb pa (faults.Write named)) text all))
+  pub picture_stopped : (r : Result (Unit {0}) CliFault) → IfErr r (WriteStops (raw_bytes partial.frame) lines ob oa pb pa) → IfErr r (PictureStops input ob oa pb pa)
+  picture_stopped = writing (raw_bytes partial.frame) lines ob oa pb pa (PictureStops input ob oa pb pa) (λ named stops.
+      (h, partial, file, is, subst (λ (l : List ℕ). WriteStops (raw_bytes partial.frame) l ob oa pb pa (faults.Write named)) text stops))

@@ -6,10 +6,10 @@ ghost use Rattle.ffv1_commands.specs.Devices.{UnlessWriting, IfOfRecord, TellsFa
 ghost use Rattle.ffv1_commands.specs.SamplesText.{decoded_line};
 ghost use Rattle.ffv1_commands.specs.DecodeText.{DecodesFile, DecodeStops};
 
-use crate::devices::{read_file, write_both};
+use crate::devices::read_file;
 use crate::fault::CliFault;
 use crate::path::CommandPath;
-use crate::samples::samples_of;
+use crate::samples::write_shown;
 use ffv1_hold::{FromRead, Sink, Source, ThroughWrite};
 use ffv1_picture::Decoder;
 use std::alloc::{AllocError, Global};
@@ -83,9 +83,8 @@ fn decode_of<R: Source, F: Source, O: Sink, W: Sink>(
     let decoder = Decoder::new(alloc, config.as_slice(), width, height)?;
     let payload = read_file(alloc, input, CommandPath::Frame)?;
     let frame = decoder.decode_frame(payload.as_slice())?;
-    let samples = samples_of(alloc, &frame)?;
     let line = decoded_text(alloc, frame.width, frame.height, frame.planes.len())?;
-    write_both(out, samples.as_slice(), output, line.as_str())
+    write_shown(out, &frame, output, line.as_str())
 }
 
 /// The line that tells a frame's size in luma samples, and how many planes it has.

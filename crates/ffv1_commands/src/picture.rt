@@ -6,11 +6,10 @@ ghost use Rattle.ffv1_commands.specs.Paths.{IsHoldPath};
 ghost use Rattle.ffv1_commands.specs.Devices.{UnlessWriting, TellsFailure};
 ghost use Rattle.ffv1_commands.specs.PictureText.{place_line, header_line, unreadable_line, outcome_line, picture_text, IsDecoded, ShowsFile, PictureStops};
 
-use crate::devices::write_both;
 use crate::fault::CliFault;
 use crate::holdings::read_holding;
 use crate::path::CommandPath;
-use crate::samples::samples_of;
+use crate::samples::write_shown;
 use ffv1_hold::{FromRead, Sink, Source, ThroughWrite};
 use ffv1_picture::{TileOutcome, picture};
 use ffv1_plane::TileFault;
@@ -66,9 +65,8 @@ fn picture_of<R: Source, O: Sink, W: Sink>(
 {
     let holding = read_holding(alloc, file, CommandPath::Hold(0))?;
     let partial = picture(alloc, &holding)?;
-    let samples = samples_of(alloc, &partial.frame)?;
     let lines = outcomes_text(alloc, partial.tiles.as_slice())?;
-    write_both(out, samples.as_slice(), output, lines.as_str())?;
+    write_shown(out, &partial.frame, output, lines.as_str())?;
     Ok(are_decoded(partial.tiles.as_slice()))
 }
 

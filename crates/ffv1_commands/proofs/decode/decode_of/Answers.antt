@@ -25,12 +25,11 @@ returns-clause-ok g c =
     c.in_ok-decoder.ensures.setup in
     let frame = c.in_ok-frame.frame in
     let is = subst (λ (bytes : List ℕ). IsDecodedFrame c.in_ok-decoder.decoder bytes frame) c.as_slice-2.ensures.value c.in_ok-frame.ensures.frame in
-    let raw = c.as_slice-3.ensures.value ∙ c.in_ok-samples.ensures in
     let size = c.as_str.ensures.value ∙ c.in_ok-line.ensures ∙ ap (decoded_line frame.width frame.height) c.len.ensures in
     decoded _ c.args.width c.args.height _ _ _ _ _ c.in_ok-decoder.decoder
     (record { config = c.in_ok-config.config.items; read = whole_input _ _ _ c.in_ok-config.ensures.ok; is_setup = set }) c.in_ok-payload.payload.items
     (whole_input _ _ _ c.in_ok-payload.ensures.ok)
-    frame is c.as_slice-3.result.now c.as_str.result.now raw size c.write_both.result c.write_both.ensures.file c.write_both.ensures.text
+    frame is c.as_str.result.now size c.write_shown.result c.write_shown.ensures.samples c.write_shown.ensures.text
 
 pub returns-clause-err : goal.returns-clause-err
 returns-clause-err g c =
@@ -38,9 +37,8 @@ returns-clause-err g c =
     c.in_ok-decoder.ensures.setup in
     let frame = c.in_ok-frame.frame in
     let is = subst (λ (bytes : List ℕ). IsDecodedFrame c.in_ok-decoder.decoder bytes frame) c.as_slice-2.ensures.value c.in_ok-frame.ensures.frame in
-    let raw = c.as_slice-3.ensures.value ∙ c.in_ok-samples.ensures in
     let size = c.as_str.ensures.value ∙ c.in_ok-line.ensures ∙ ap (decoded_line frame.width frame.height) c.len.ensures in
     decode_stopped _ c.args.width c.args.height _ _ _ _ _ c.in_ok-decoder.decoder
     (record { config = c.in_ok-config.config.items; read = whole_input _ _ _ c.in_ok-config.ensures.ok; is_setup = set }) c.in_ok-payload.payload.items
     (whole_input _ _ _ c.in_ok-payload.ensures.ok)
-    frame is c.as_slice-3.result.now c.as_str.result.now raw size c.write_both.result c.write_both.ensures.err
+    frame is c.as_str.result.now size c.write_shown.result c.write_shown.ensures.err

@@ -5,19 +5,17 @@ use Rattle.ffv1_commands.specs.PictureText.{picture_text, IsDecoded}
 use Rattle.ffv1_commands.proofs.PictureSteps.{shown, picture_stopped}
 use Rattle.ffv1_commands.proofs.picture.picture_of.Goals as goal
 
-pub returns-in_err-write_both-clause-err : goal.returns-in_err-write_both-clause-err
-returns-in_err-write_both-clause-err g c =
-    let raw = c.as_slice-2.ensures.value ∙ c.in_ok-samples.ensures in
+pub returns-in_err-write_shown-clause-err : goal.returns-in_err-write_shown-clause-err
+returns-in_err-write_shown-clause-err g c =
     let text = c.as_str.ensures.value ∙ c.in_ok-lines.ensures ∙ ap picture_text c.as_slice.ensures.value in
-    let p = err_from_is_err_and c.from_residual-in_err-write_both.result c.from_residual-in_err-write_both.ensures.1 in
-    rw (p.1, p.2) (picture_stopped _ _ _ _ _ c.in_ok-holding.holding c.in_ok-partial.partial c.as_slice-2.result.now c.as_str.result.now
-    c.in_ok-holding.ensures.ok c.in_ok-partial.ensures.partial raw text (Err c.in_err-write_both.field-0.0) c.in_err-write_both.ensures.err)
+    let p = err_from_is_err_and c.from_residual-in_err-write_shown.result c.from_residual-in_err-write_shown.ensures.1 in
+    rw (p.1, p.2) (picture_stopped _ _ _ _ _ c.in_ok-holding.holding c.in_ok-partial.partial c.as_str.result.now
+    c.in_ok-holding.ensures.ok c.in_ok-partial.ensures.partial text (Err c.in_err-write_shown.field-0.0) c.in_err-write_shown.ensures.err)
 
 pub returns-clause-ok : goal.returns-clause-ok
 returns-clause-ok g c =
-    let raw = c.as_slice-2.ensures.value ∙ c.in_ok-samples.ensures in
     let text = c.as_str.ensures.value ∙ c.in_ok-lines.ensures ∙ ap picture_text c.as_slice.ensures.value in
-    let whole = subst (λ (all : List TileOutcome). IsTrue c.are_decoded.result ↔ All IsDecoded all) c.as_slice-3.ensures.value c.are_decoded.ensures in
-    shown _ _ _ _ _ c.in_ok-holding.holding c.in_ok-partial.partial c.as_slice-2.result.now c.as_str.result.now c.in_ok-holding.ensures.ok
-    c.in_ok-partial.ensures.partial raw text
-    c.are_decoded.result whole c.in_ok-write_both.ensures.file c.in_ok-write_both.ensures.text
+    let whole = subst (λ (all : List TileOutcome). IsTrue c.are_decoded.result ↔ All IsDecoded all) c.as_slice-2.ensures.value c.are_decoded.ensures in
+    shown _ _ _ _ _ c.in_ok-holding.holding c.in_ok-partial.partial c.as_str.result.now c.in_ok-holding.ensures.ok
+    c.in_ok-partial.ensures.partial text
+    c.are_decoded.result whole c.in_ok-write_shown.ensures.samples c.in_ok-write_shown.ensures.text
