@@ -1,6 +1,8 @@
 pub mod Shows
 pub mod InputLaws
 pub mod WriteSteps
+pub mod PrintSteps
+pub mod ChainSteps
 pub mod TakeSteps
 pub mod JoinSteps
 pub mod RestoreSteps

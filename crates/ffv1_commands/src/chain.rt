@@ -1,18 +1,22 @@
 //! The command `chain`: tells the links of a frame payload and how their chain ends (RFC 9043, section 4.9).
-ghost use Rattle.std.specs.Prelude.{◌≡◌, ◌≤◌, [], ◌∷◌, ◌++◌, length, IfOk, IfErr, IsErrOf, OnOk, IfSome, IfNone, string_bytes};
+ghost use Rattle.std.specs.Prelude.{◌≡◌, ◌+◌, ◌≤◌, List, ℕ, [], ◌∷◌, ◌++◌, length, IfErr, IsErrOf, OnOk, OnErr, IfSome, IfNone, string_bytes, string_len, string_capacity};
+ghost use Rattle.std.specs.Io.KnownBytes.{Appends};
 ghost use Rattle.ffv1_bits.specs.Limits.{payload_limit};
+ghost use Rattle.ffv1_hold.specs.Streams.{HasGivenUp};
 ghost use Rattle.ffv1_commands.specs.Fault.{NamesPath};
 ghost use Rattle.ffv1_commands.specs.Paths.{IsChainPath};
-ghost use Rattle.ffv1_commands.specs.Devices.{UnlessWriting, TellsFailure, TellsFile};
-ghost use Rattle.ffv1_commands.specs.ChainText.{link_place, link_state, parity_word, end_line, IsChainText, PrintsChain, ChainStops};
+ghost use Rattle.ffv1_commands.specs.Devices.{UnlessWriting, WritesFront, TellsFailure, TellsFile};
+ghost use Rattle.ffv1_commands.specs.Lines.{room, longest_line, PrintsFront};
+ghost use Rattle.ffv1_commands.specs.ChainText.{link_place, link_state, link_line, parity_word, end_line, IsChainText, PrintsChain, ChainStops};
 ghost use Rattle.ffv1_slice.specs.Chain.{IsFramed};
 
-use crate::devices::{read_file, write_file};
+use crate::devices::read_file;
 use crate::fault::CliFault;
+use crate::lines::{ROOM, make_room, push_number, push_word};
 use crate::path::CommandPath;
-use ffv1_hold::{FromRead, Sink, Source, ThroughWrite};
+use ffv1_hold::{FromRead, Sink, Source, ThroughWrite, WriteFailed, write_field};
 use ffv1_slice::{Chain, ChainEnd, FOOTER_LENGTH, Link};
-use std::alloc::{AllocError, Global};
+use std::alloc::Global;
 use std::io::{Read, Write};
 
 /// Reads a frame payload to its end and prints its links, from the payload's end, and how their chain ends: a line for
@@ -61,22 +65,34 @@ fn chain_of<R: Source, W: Sink>(
     ensures same_output { W.reference output.new ≡ W.reference output.old }
 {
     let payload = read_file(alloc, frame, CommandPath::Frame)?;
-    let text = chain_text(alloc, payload.as_slice())?;
-    write_file(output, CommandPath::StandardOutput, text.as_bytes())
+    let mut text = String::with_capacity(alloc, ROOM)?;
+    match print_chain(payload.as_slice(), &mut text, output) {
+        Ok(()) => Ok(()),
+        Err(WriteFailed) => Err(CliFault::Write(CommandPath::StandardOutput)),
+    }
 }
 
-/// The text that tells a payload's chain.
-fn chain_text(alloc: Global, payload: &[u8]) -> Result<String, AllocError>
-    ensures { IfOk result (λ text. IsChainText payload.now (string_bytes text)) }
+/// Prints the text that tells a payload's chain, line by line, through an empty text with room for many of them.
+fn print_chain<W: Sink>(
+    payload: &[u8],
+    text: &mut String,
+    output: &mut W,
+) -> Result<(), WriteFailed>
+    requires empty { string_bytes text.old ≡ [] }
+    requires large { room ≤ string_capacity text.old }
+    ensures ok { OnOk result (PrintsChain payload.now (W.contents output.old) (W.contents output.new)) }
+    ensures err { OnErr result ((all : List ℕ) × IsChainText payload.now all × WritesFront (W.contents output.old) (W.contents output.new) all) }
+    ensures gave_up { OnErr result (HasGivenUp (W.failures output.old) (W.failures output.new) (W.broken output.old) (W.broken output.new)) }
+    ensures unbroken { OnOk result (W.broken output.new ≡ W.broken output.old) }
+    ensures broken_once { W.broken output.new ≤ W.broken output.old + 1 }
+    ensures same_reference { W.reference output.new ≡ W.reference output.old }
 {
     let mut chain = Chain::new(payload);
     let end = chain.end();
-    let mut text = String::new(alloc);
     while let Some(link) = next_link(&mut chain) {
-        push_link(&mut text, &link)?;
+        print_link(text, &link, output)?;
     }
-    push_end(&mut text, end)?;
-    Ok(text)
+    print_end(text, end, output)
 }
 
 /// The next link of a chain, from the payload's end.
@@ -87,47 +103,90 @@ fn next_link<'a>(chain: &mut Chain<'a>) -> Option<Link<'a>>
     chain.next()
 }
 
-/// Adds the line of a link.
-fn push_link(text: &mut String, link: &Link<'_>) -> Result<(), AllocError>
-    ensures { OnOk result (string_bytes text.new ≡ string_bytes text.old ++ (link_place link.now ++ link_state link.now)) }
+/// Adds the line of a link to the text, what waits there being printed where it might not find room.
+fn print_link<W: Sink>(
+    text: &mut String,
+    link: &Link<'_>,
+    output: &mut W,
+) -> Result<(), WriteFailed>
+    requires { room ≤ string_capacity text.old }
+    ensures ok { OnOk result (PrintsFront (W.contents output.old) (W.contents output.new) (string_bytes text.new) (string_bytes text.old ++ link_line link.now)) }
+    ensures err { OnErr result (WritesFront (W.contents output.old) (W.contents output.new) (string_bytes text.old)) }
+    ensures large { room ≤ string_capacity text.new }
+    ensures gave_up { OnErr result (HasGivenUp (W.failures output.old) (W.failures output.new) (W.broken output.old) (W.broken output.new)) }
+    ensures unbroken { OnOk result (W.broken output.new ≡ W.broken output.old) }
+    ensures broken_once { W.broken output.new ≤ W.broken output.old + 1 }
+    ensures counted { W.failures output.old ≤ W.failures output.new }
+    ensures same_reference { W.reference output.new ≡ W.reference output.old }
 {
-    push_place(text, link)?;
-    push_state(text, link)
+    make_room(text, output)?;
+    push_place(text, link);
+    push_state(text, link);
+    Ok(())
 }
 
 /// Adds where a link lies and how many of its bytes stand before its footer.
-fn push_place(text: &mut String, link: &Link<'_>) -> Result<(), AllocError>
-    ensures { OnOk result (string_bytes text.new ≡ string_bytes text.old ++ link_place link.now) }
+fn push_place(text: &mut String, link: &Link<'_>)
+    requires { string_len text.old + 68 ≤ string_capacity text.old }
+    ensures bytes { string_bytes text.new ≡ string_bytes text.old ++ link_place link.now }
+    ensures len { string_len text.new ≤ string_len text.old + 68 }
+    ensures kept { string_capacity text.old ≤ string_capacity text.new }
 {
-    let start = link.start();
-    let end = link.end();
-    let size = link.bytes().len() - FOOTER_LENGTH;
-    write!(text, "{start}..{end} size {size}")
+    push_number(text, link.start());
+    push_word(text, "..");
+    push_number(text, link.end());
+    push_word(text, " size ");
+    push_number(text, link.bytes().len() - FOOTER_LENGTH);
 }
 
 /// Adds a link's error status and parity, and ends the line.
-fn push_state(text: &mut String, link: &Link<'_>) -> Result<(), AllocError>
-    ensures { OnOk result (string_bytes text.new ≡ string_bytes text.old ++ link_state link.now) }
+fn push_state(text: &mut String, link: &Link<'_>)
+    requires { string_len text.old + 34 ≤ string_capacity text.old }
+    ensures bytes { string_bytes text.new ≡ string_bytes text.old ++ link_state link.now }
+    ensures kept { string_capacity text.old ≤ string_capacity text.new }
 {
-    let status = link.status();
-    let parity = parity_word(link);
-    writeln!(text, " status {status} {parity}")
+    push_word(text, " status ");
+    push_number(text, link.status() as usize);
+    push_word(text, " ");
+    push_word(text, parity_word(link));
+    push_word(text, "\n");
 }
 
 /// Whether a link's parity is right, as it is told.
 fn parity_word(link: &Link<'_>) -> &'static str
-    ensures { result.now ≡ parity_word link.now.bytes }
+    ensures word { result.now ≡ parity_word link.now.bytes }
+    ensures short { length result.now ≤ 4 }
 {
     let _framed = link.bytes();
     if link.passes() { "pass" } else { "fail" }
 }
 
+/// Adds the line of the chain's end to the text, and prints what waits there.
+fn print_end<W: Sink>(text: &mut String, end: ChainEnd, output: &mut W) -> Result<(), WriteFailed>
+    requires { room ≤ string_capacity text.old }
+    ensures ok { OnOk result (Appends (W.contents output.old) (W.contents output.new) (string_bytes text.old ++ end_line end)) }
+    ensures err { OnErr result (WritesFront (W.contents output.old) (W.contents output.new) (string_bytes text.old ++ end_line end)) }
+    ensures gave_up { OnErr result (HasGivenUp (W.failures output.old) (W.failures output.new) (W.broken output.old) (W.broken output.new)) }
+    ensures unbroken { OnOk result (W.broken output.new ≡ W.broken output.old) }
+    ensures broken_once { W.broken output.new ≤ W.broken output.old + 1 }
+    ensures same_reference { W.reference output.new ≡ W.reference output.old }
+{
+    make_room(text, output)?;
+    push_end(text, end);
+    write_field(output, text.as_bytes())
+}
+
 /// Adds the line of the chain's end.
-fn push_end(text: &mut String, end: ChainEnd) -> Result<(), AllocError>
-    ensures { OnOk result (string_bytes text.new ≡ string_bytes text.old ++ end_line end) }
+fn push_end(text: &mut String, end: ChainEnd)
+    requires { string_len text.old + longest_line ≤ string_capacity text.old }
+    ensures { string_bytes text.new ≡ string_bytes text.old ++ end_line end }
 {
     match end {
-        ChainEnd::Whole => text.push_str("end whole\n"),
-        ChainEnd::Broken(place) => writeln!(text, "end broken at {place}"),
+        ChainEnd::Whole => push_word(text, "end whole\n"),
+        ChainEnd::Broken(place) => {
+            push_word(text, "end broken at ");
+            push_number(text, place);
+            push_word(text, "\n");
+        }
     }
 }

@@ -9,6 +9,7 @@ mod fault;
 mod holdings;
 mod join;
 mod laws;
+mod lines;
 mod merge;
 mod path;
 mod picture;

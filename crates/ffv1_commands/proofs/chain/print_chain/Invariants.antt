@@ -1,0 +1,19 @@
+use Rattle.std.proofs.Common.{◌≡◌, ◌≤◌, ◌++◌, List, ℕ, length, string_bytes, string_capacity}
+use Rattle.std.specs.List.{flat_map}
+use Rattle.ffv1_commands.specs.Lines.{room, PrintsFront}
+use Rattle.ffv1_commands.specs.ChainText.{link_line}
+use Rattle.ffv1_commands.proofs.chain.print_chain.Given as goal
+
+-- The lines of the links so far were printed, or wait in the text; those of the links still to come are the rest of all lines.
+abbrev pub invariant-loop-link : goal.invariant-loop-link
+invariant-loop-link g l = record {
+  large : room ≤ string_capacity l.text;
+  told : (lines : List ℕ) × (lines ++ flat_map link_line l.chain.left ≡ flat_map link_line l.initial.chain.left)
+      × PrintsFront (g.W.Sink.contents l.initial.output) (g.W.Sink.contents l.output) (string_bytes l.text) lines;
+  counted : g.W.Sink.failures l.initial.output ≤ g.W.Sink.failures l.output;
+  unbroken : g.W.Sink.broken l.output ≡ g.W.Sink.broken l.initial.output;
+  same : g.W.Sink.reference l.output ≡ g.W.Sink.reference l.initial.output;
+}
+
+abbrev pub decreases-loop-link : goal.decreases-loop-link
+decreases-loop-link g l = length l.chain.left
