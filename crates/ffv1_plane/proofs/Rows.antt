@@ -122,6 +122,15 @@ pushed w x rows line above far v h less small = record {
   is_far_above = h.is_far_above;
 }
 
+-- it is the one to the left of the next
+pub push_left : (w x : ℕ) (rows line above far : List ℕ) (v : ℕ) → AreLines w x rows line above far → x < w → v < 256 → x + 1 < w
+    → v ≡ (neighbours_at w (samples_so_far (x + 1) rows (set line (x + 2) v)) (length (samples_so_far (x + 1) rows (set line (x + 2) v)))).left
+push_left w x rows line above far v h less small further =
+    let about = near_is w (x + 1) rows (set line (x + 2) v) above far (pushed w x rows line above far v h less small) further in
+    let place : x + 1 + 1 ≡ x + 2 = omega arith in
+    sym (get_or-set_same line (x + 2) v 0 (let long = h.line_long in omega arith))
+    ∙ ap (λ i. get_or (set line (x + 2) v) i 0) (sym place) ∙ ap (λ near. near.left) about
+
 -- ---- one row further
 
 -- behind the last column of a row stands its last sample

@@ -9,9 +9,17 @@ pub record RowsRead : Type 0 where
   pub x : ℕ
   pub samples : List ℕ
 
+-- the sample to the left of the next one
+abbrev pub left_of : RowsRead → ℕ
+left_of r = (neighbours_at r.width r.samples (length r.samples)).left
+
+-- a sample is the one to the left of the next one, where the row has a next one
+abbrev pub IsLeftOfNext : RowsRead → ℕ → Type 0
+IsLeftOfNext r sample = r.x < r.width → sample ≡ left_of r
+
 -- The sample to the left of the next one is the one above it to the left.
 abbrev pub IsLeftAsAbove : RowsRead → Type 0
-IsLeftAsAbove r = (neighbours_at r.width r.samples (length r.samples)).left ≡ (neighbours_at r.width r.samples (length r.samples)).top_left
+IsLeftAsAbove r = left_of r ≡ (neighbours_at r.width r.samples (length r.samples)).top_left
 
 -- The cells of a line are those of a row, its borders included. As in Samples, columns and rows are counted from two
 -- before the first.

@@ -6,7 +6,7 @@ ghost use Rattle.std.specs.Prelude.{◌≡◌, ℕ, ◌<◌, ◌≤◌, ◌+◌,
 ghost use Rattle.ffv1_bits.specs.Limits.{greatest_side};
 ghost use Rattle.ffv1_plane.specs.Samples.{neighbours_at};
 ghost use Rattle.ffv1_plane.specs.Progress.{AreSkipped};
-ghost use Rattle.ffv1_plane.specs.Rows.{IsLeftAsAbove};
+ghost use Rattle.ffv1_plane.specs.Rows.{left_of, IsLeftAsAbove, IsLeftOfNext};
 
 use crate::neighbours::Neighbours;
 use std::alloc::{AllocError, Global};
@@ -86,14 +86,24 @@ impl Lines {
         self.rows.len() + self.x
     }
 
-    /// The samples about the next one.
+    /// The sample to the left of the next one.
     #[inline(always)]
-    pub(crate) fn neighbours(&self) -> Neighbours
+    pub(crate) fn left(&self) -> u8
         requires { self.now.x < self.now.width }
+        ensures { result ≡ left_of self.now }
+    {
+        self.line[self.x + 1]
+    }
+
+    /// The samples about the next one, of which the one to the left is at hand: it was the last to be written.
+    #[inline(always)]
+    pub(crate) fn neighbours(&self, left: u8) -> Neighbours
+        requires inside { self.now.x < self.now.width }
+        requires left { left ≡ left_of self.now }
         ensures { result ≡ neighbours_at self.now.width self.now.samples (length self.now.samples) }
     {
         Neighbours {
-            left: self.line[self.x + 1],
+            left,
             top: self.above[self.x + 2],
             top_left: self.above[self.x + 1],
             top_right: self.above[self.x + 3],
@@ -106,7 +116,8 @@ impl Lines {
     #[inline(always)]
     pub(crate) fn push(&mut self, sample: u8)
         requires { self.old.x < self.old.width }
-        ensures { self.new ≡ record { width = self.old.width; x = self.old.x + 1; samples = self.old.samples ++ sample ∷ [] } }
+        ensures value { self.new ≡ record { width = self.old.width; x = self.old.x + 1; samples = self.old.samples ++ sample ∷ [] } }
+        ensures left { IsLeftOfNext self.new sample }
     {
         self.line[self.x + 2] = sample;
         self.x += 1;
@@ -122,7 +133,7 @@ impl Lines {
         ensures skipped { (entry : ℕ → ℕ → ℤ) → AreSkipped self.old.width entry self.old.samples self.new.samples count }
     {
         for done in 0..count {
-            let near = self.neighbours();
+            let near = self.neighbours(self.left());
             if near.left == near.top_left {
                 self.copy_above(count - done);
                 return;

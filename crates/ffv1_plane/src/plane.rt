@@ -7,6 +7,7 @@ ghost use Rattle.ffv1_range.specs.Setup.{set_contexts, set_entry};
 ghost use Rattle.ffv1_plane.specs.Samples.{IsPlaneOfSize, neighbours_at, context_of};
 ghost use Rattle.ffv1_plane.specs.Progress.{IsSampleRead, IsPlaneRead};
 ghost use Rattle.ffv1_plane.specs.Halts.{IsSampleHalted, IsDecodingHalted};
+ghost use Rattle.ffv1_plane.specs.Rows.{left_of, IsLeftOfNext};
 ghost use Rattle.ffv1_plane.specs.Readers.{entry_of, HasStates, IsSamePlane, HasRead, IsHaltedAt};
 
 use crate::lines::Lines;
@@ -48,9 +49,9 @@ pub(crate) struct PlaneReader<'t, 's, 'b> {
 }
 
 impl PlaneReader<'_, '_, '_> {
-    /// Reads the next sample, a run's level or a scalar, by one code.
+    /// Reads the next sample, a run's level or a scalar, by one code, and answers it.
     #[inline(always)]
-    fn read_code(&mut self, near: &Neighbours, context: i32, level: bool) -> Result<(), PlaneFault>
+    fn read_code(&mut self, near: &Neighbours, context: i32, level: bool) -> Result<u8, PlaneFault>
         requires inside { self.old.lines.x < self.old.lines.width }
         requires near { near.now ≡ neighbours_at self.old.lines.width self.old.lines.samples (length self.old.lines.samples) }
         requires context { context ≡ context_of (entry_of self.old) near.now }
@@ -58,6 +59,7 @@ impl PlaneReader<'_, '_, '_> {
         ensures same { IsSamePlane self.old self.new }
         ensures index { self.new.index ≡ self.old.index }
         ensures moved { OnOk result (self.new.lines.x ≡ self.old.lines.x + 1) }
+        ensures left { IfOk result (IsLeftOfNext self.new.lines) }
         ensures read { OnOk result (IsSampleRead self.old.lines.width
             (entry_of self.old) level self.old.lines.samples self.old.states.items self.old.bits.left
             self.new.lines.samples self.new.states.items self.new.bits.left) }
@@ -72,46 +74,51 @@ impl PlaneReader<'_, '_, '_> {
                 return Err(PlaneFault::Code { fault, sample });
             }
         };
-        self.lines
-            .push(sample_of(context, near.prediction(), difference));
-        Ok(())
+        let sample = sample_of(context, near.prediction(), difference);
+        self.lines.push(sample);
+        Ok(sample)
     }
 
-    /// Reads the level behind a run.
-    fn read_level(&mut self) -> Result<(), PlaneFault>
+    /// Reads the level behind a run, and answers its sample.
+    fn read_level(&mut self) -> Result<u8, PlaneFault>
         requires states { HasStates self.old }
         requires inside { self.old.lines.x < self.old.lines.width }
         ensures same { IsSamePlane self.old self.new }
         ensures index { self.new.index ≡ self.old.index }
         ensures moved { OnOk result (self.new.lines.x ≡ self.old.lines.x + 1) }
+        ensures left { IfOk result (IsLeftOfNext self.new.lines) }
         ensures read { OnOk result (IsSampleRead self.old.lines.width
             (entry_of self.old) true self.old.lines.samples self.old.states.items self.old.bits.left
             self.new.lines.samples self.new.states.items self.new.bits.left) }
         ensures err { IfErr result (IsSampleHalted self.old.lines.width
             (entry_of self.old) true self.old.lines.samples self.old.states.items self.old.bits.left) }
     {
-        let near = self.lines.neighbours();
+        let near = self.lines.neighbours(self.lines.left());
         let context = self.tables.context(&near);
         self.read_code(&near, context, true)
     }
 
-    /// Reads a scalar, or a run with the level that ends it.
-    fn read_next(&mut self) -> Result<(), PlaneFault>
+    /// Reads a scalar, or a run with the level that ends it, behind the sample to the left, and answers the last sample:
+    /// it stays at hand, where a look into the line would wait for it. Behind a run up to the line's end it is any.
+    #[inline(always)]
+    fn read_next(&mut self, left: u8) -> Result<u8, PlaneFault>
         requires states { HasStates self.old }
         requires inside { self.old.lines.x < self.old.lines.width }
+        requires left { left ≡ left_of self.old.lines }
         ensures same { IsSamePlane self.old self.new }
+        ensures left { IfOk result (IsLeftOfNext self.new.lines) }
         ensures read { OnOk result ((earlier : ℕ → List ℤ) (whole : List Bool) → HasRead earlier whole self.old → HasRead earlier whole self.new) }
         ensures more { OnOk result (self.old.lines.x < self.new.lines.x) }
         ensures count { OnOk result (length self.new.lines.samples + self.old.lines.x ≡ length self.old.lines.samples + self.new.lines.x) }
         ensures err { IfErr result (IsHaltedAt self.old) }
     {
-        let near = self.lines.neighbours();
+        let near = self.lines.neighbours(left);
         let context = self.tables.context(&near);
         if context != 0 {
             return self.read_code(&near, context, false);
         }
-        let left = self.lines.width() - self.lines.column();
-        let count = match read_run(&mut self.index, &mut self.bits, left as u32) {
+        let most = self.lines.width() - self.lines.column();
+        let count = match read_run(&mut self.index, &mut self.bits, most as u32) {
             Ok(count) => count as usize,
             Err(cut) => {
                 let sample = self.lines.place() + cut.skipped as usize;
@@ -120,10 +127,10 @@ impl PlaneReader<'_, '_, '_> {
             }
         };
         self.lines.skip(count);
-        if count < left {
+        if count < most {
             self.read_level()
         } else {
-            Ok(())
+            Ok(left)
         }
     }
 
@@ -139,8 +146,10 @@ impl PlaneReader<'_, '_, '_> {
         ensures bytes { OnOk result ((s : ℕ) → slice_index self.new.lines.samples s < 256) }
         ensures err { IfErr result (IsHaltedAt self.old) }
     {
-        while self.lines.column() < self.lines.width() {
-            self.read_next()?;
+        let width = self.lines.width();
+        let mut left = self.lines.left();
+        while self.lines.column() < width {
+            left = self.read_next(left)?;
         }
         Ok(())
     }

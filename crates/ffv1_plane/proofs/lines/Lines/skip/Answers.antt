@@ -13,10 +13,10 @@ loop-done-preserved c =
     record {
       skipped = λ entry. skip_more c.args.self.now.width entry c.args.self.now.samples c.loop-done.self.samples c.push.new.self.samples c.loop-done.done
           c.prediction.result c.neighbours-near.result some (c.loop-done.invariant.skipped entry)
-          near c.prediction.ensures (ap (λ r. r.samples) c.push.ensures);
-      width = ap (λ r. r.width) c.push.ensures ∙ c.loop-done.invariant.width;
-      count = omega (arith, ap (λ r. length r.samples) c.push.ensures, length_push c.loop-done.self.samples c.prediction.result, c.loop-done.invariant.count);
-      x = omega (arith, ap (λ r. r.x) c.push.ensures, c.loop-done.invariant.x);
+          near c.prediction.ensures (ap (λ r. r.samples) c.push.ensures.value);
+      width = ap (λ r. r.width) c.push.ensures.value ∙ c.loop-done.invariant.width;
+      count = omega (arith, ap (λ r. length r.samples) c.push.ensures.value, length_push c.loop-done.self.samples c.prediction.result, c.loop-done.invariant.count);
+      x = omega (arith, ap (λ r. r.x) c.push.ensures.value, c.loop-done.invariant.x);
     }
 
 -- the samples so far, and behind them the copies

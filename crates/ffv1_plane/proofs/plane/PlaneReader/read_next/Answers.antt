@@ -44,8 +44,8 @@ returns-in-Err-clause-err c =
     c.neighbours-near.result c.context-context.result c.neighbours-near.ensures c.context-context.ensures.value zero_is _ _ _ c.in-Err.ensures.truncated
     (search rules) cut
 
-pub returns-then-count-left-clause-read : goal.returns-then-count-left-clause-read
-returns-then-count-left-clause-read c =
+pub returns-then-count-most-clause-read : goal.returns-then-count-most-clause-read
+returns-then-count-most-clause-read c =
     let some : 1 ≤ c.args.self.now.lines.width = omega (arith, c.requires.inside) in
     let zero_is : c.context-context.result ≡ pos 0 = omega (arith, ints) in
     let place = c.column.ensures.place (omega (arith, c.requires.inside, c.column.ensures.value)) in
@@ -56,7 +56,7 @@ returns-then-count-left-clause-read c =
     subst (λ (n : ℕ). IsRunRead n c.args.self.now.index c.args.self.now.bits.left c.in-Ok.count c.read_run.new.index c.read_run.new.bits.left) left_is
     c.in-Ok.ensures.ok in
     let less : c.in-Ok.count < c.args.self.now.lines.width - length c.args.self.now.lines.samples % c.args.self.now.lines.width =
-    omega (arith, left_is, c.if-count-left.true) in
+    omega (arith, left_is, c.if-count-most.true) in
     let same = c.read_level.ensures.same in
     on_ok_weaker c.read_level.result
     (λ read earlier whole so_far. same_read earlier c.args.self.now.lines.width c.read_level.new.self.lines.width c.args.self.now.tables.now
@@ -73,8 +73,8 @@ returns-then-count-left-clause-read c =
     c.read_level.new.self.lines.samples c.read_level.new.self.states.items c.read_level.new.self.bits.left) c.skip.ensures.width read)))
     c.read_level.ensures.read
 
-pub returns-then-count-left-clause-err : goal.returns-then-count-left-clause-err
-returns-then-count-left-clause-err c =
+pub returns-then-count-most-clause-err : goal.returns-then-count-most-clause-err
+returns-then-count-most-clause-err c =
     let some : 1 ≤ c.args.self.now.lines.width = omega (arith, c.requires.inside) in
     let zero_is : c.context-context.result ≡ pos 0 = omega (arith, ints) in
     let place = c.column.ensures.place (omega (arith, c.requires.inside, c.column.ensures.value)) in
@@ -85,7 +85,7 @@ returns-then-count-left-clause-err c =
     subst (λ (n : ℕ). IsRunRead n c.args.self.now.index c.args.self.now.bits.left c.in-Ok.count c.read_run.new.index c.read_run.new.bits.left) left_is
     c.in-Ok.ensures.ok in
     let less : c.in-Ok.count < c.args.self.now.lines.width - length c.args.self.now.lines.samples % c.args.self.now.lines.width =
-    omega (arith, left_is, c.if-count-left.true) in
+    omega (arith, left_is, c.if-count-most.true) in
     IfErr-weaker c.read_level.result _ _
     (level_stops c.args.self.now.lines.width (entry_of c.args.self.now) some c.args.self.now.lines.samples c.args.self.now.index c.args.self.now.states.items
     c.args.self.now.bits.left
@@ -94,8 +94,8 @@ returns-then-count-left-clause-err c =
     (c.skip.ensures.skipped (entry_of c.args.self.now)) less c.skip.ensures.bytes)
     (rw c.skip.ensures.width at c.read_level.ensures.err)
 
-pub returns-else-count-left-clause-read : goal.returns-else-count-left-clause-read
-returns-else-count-left-clause-read c =
+pub returns-else-count-most-clause-read : goal.returns-else-count-most-clause-read
+returns-else-count-most-clause-read c =
     let some : 1 ≤ c.args.self.now.lines.width = omega (arith, c.requires.inside) in
     let zero_is : c.context-context.result ≡ pos 0 = omega (arith, ints) in
     let place = c.column.ensures.place (omega (arith, c.requires.inside, c.column.ensures.value)) in
@@ -106,7 +106,7 @@ returns-else-count-left-clause-read c =
     subst (λ (n : ℕ). IsRunRead n c.args.self.now.index c.args.self.now.bits.left c.in-Ok.count c.read_run.new.index c.read_run.new.bits.left) left_is
     c.in-Ok.ensures.ok in
     let whole_row : c.args.self.now.lines.width - length c.args.self.now.lines.samples % c.args.self.now.lines.width ≡ c.in-Ok.count =
-    (let enough = c.if-count-left.false in omega (arith, left_is, enough, run.fits)) in
+    (let enough = c.if-count-most.false in omega (arith, left_is, enough, run.fits)) in
     λ earlier whole so_far. same_read earlier c.args.self.now.lines.width c.skip.new.self.width c.args.self.now.tables.now c.args.self.now.tables.now
     c.read_run.new.index c.read_run.new.index whole c.read_run.new.bits.left
     c.skip.new.self.samples c.skip.new.self.samples c.args.self.now.states.items c.skip.ensures.width refl refl refl

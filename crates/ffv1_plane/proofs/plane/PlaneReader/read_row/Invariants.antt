@@ -1,4 +1,5 @@
 use Rattle.std.proofs.Common.{ℕ, ℤ, List, Bool, ◌≡◌, ◌+◌, ◌-◌, length}
+use Rattle.ffv1_plane.specs.Rows.{IsLeftOfNext}
 use Rattle.ffv1_plane.specs.Readers.{IsSamePlane, HasRead}
 use Rattle.ffv1_plane.proofs.plane.PlaneReader.read_row.Given as goal
 
@@ -6,6 +7,7 @@ abbrev pub invariant-loop-self : goal.invariant-loop-self
 invariant-loop-self l = record {
   same : IsSamePlane l.fn.self l.self;
   read : (earlier : ℕ → List ℤ) (whole : List Bool) → HasRead earlier whole l.fn.self → HasRead earlier whole l.self;
+  left : IsLeftOfNext l.self.lines l.left;
   count : length l.self.lines.samples ≡ length l.fn.self.lines.samples + l.self.lines.x;
 }
 
