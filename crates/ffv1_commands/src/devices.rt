@@ -8,8 +8,26 @@ ghost use Rattle.ffv1_commands.specs.Devices.{ReadsWhole, WritesFront, IsInputFa
 use crate::fault::CliFault;
 use crate::path::CommandPath;
 use ffv1_bits::PAYLOAD_LIMIT;
-use ffv1_hold::{HoldFault, Sink, Source, WholeFault, read_whole, write_field};
+use ffv1_hold::{FromRead, HoldFault, Sink, Source, WholeFault, read_whole, write_field};
 use std::alloc::Global;
+use std::io::{BufReader, Read};
+
+/// A reader as a source, through a buffer of 8 KiB: short fields then take no call of the system each.
+///
+/// `Memory` comes where the buffer is refused; then nothing was read.
+pub(crate) fn buffered<'a, R: Read>(
+    alloc: Global,
+    reader: &'a mut R,
+) -> Result<FromRead<BufReader<&'a mut R>>, CliFault>
+    ensures ok { IfOk result (λ source. ⟦<FromRead<BufReader<&'a mut R>> as Source>⟧.remaining source ≡ R.remaining reader.old) }
+    ensures err { IfErr result (λ fault. fault ≡ CliFault.Memory) }
+{
+    match BufReader::new(alloc, reader) {
+        Ok(reader) => Ok(FromRead::new(reader)),
+        // It is refused for memory alone.
+        Err(_) => Err(CliFault::Memory),
+    }
+}
 
 /// All bytes of the file that is this path of the command, at most 2^30.
 ///

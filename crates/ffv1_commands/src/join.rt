@@ -6,10 +6,11 @@ ghost use Rattle.ffv1_commands.specs.Paths.{IsJoinPath};
 ghost use Rattle.ffv1_commands.specs.Devices.{UnlessWriting, TellsFailure};
 ghost use Rattle.ffv1_commands.specs.JoinText.{file_line, JoinsEach, JoinsOne, JoinsFiles, IsJoinFault, IsFaultOfFiles, JoinStops};
 
+use crate::devices::buffered;
 use crate::fault::CliFault;
 use crate::holdings::{read_holding, write_made};
 use crate::path::CommandPath;
-use ffv1_hold::{FromRead, Holding, Join, Sink, Source, ThroughWrite};
+use ffv1_hold::{Holding, Join, Sink, Source, ThroughWrite};
 use std::alloc::{AllocError, Global};
 use std::io::{Read, Write};
 
@@ -38,9 +39,10 @@ pub fn run_join<R: Read, O: Write, W: Write>(
     ensures untouched { IfErr result (λ fault. UnlessWriting fault ((out.new ≡ out.old) × (output.new ≡ output.old))) }
     ensures names { IfErr result (NamesPath (IsJoinPath (length others.old + 1))) }
 {
+    let mut first = buffered(alloc, first)?;
     join_of(
         alloc,
-        &mut FromRead::new(first),
+        &mut first,
         others,
         &mut ThroughWrite::new(out),
         &mut ThroughWrite::new(output),
@@ -109,7 +111,8 @@ fn join_file<R: Read>(
     ensures ok { OnOk result (JoinsOne (R.remaining file.old) (before + 1) whole.old whole.new (string_bytes lines.old) (string_bytes lines.new)) }
     ensures err { IfErr result (IsJoinFault (CommandPath.Hold before) (R.remaining file.old) whole.old) }
 {
-    join_file_of(alloc, whole, &mut FromRead::new(file), before, lines)
+    let mut file = buffered(alloc, file)?;
+    join_file_of(alloc, whole, &mut file, before, lines)
 }
 
 /// The same over a source.

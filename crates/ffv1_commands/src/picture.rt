@@ -6,11 +6,12 @@ ghost use Rattle.ffv1_commands.specs.Paths.{IsHoldPath};
 ghost use Rattle.ffv1_commands.specs.Devices.{UnlessWriting, TellsFailure};
 ghost use Rattle.ffv1_commands.specs.PictureText.{place_line, header_line, unreadable_line, outcome_line, picture_text, IsDecoded, ShowsFile, PictureStops};
 
+use crate::devices::buffered;
 use crate::fault::CliFault;
 use crate::holdings::read_holding;
 use crate::path::CommandPath;
 use crate::samples::write_shown;
-use ffv1_hold::{FromRead, Sink, Source, ThroughWrite};
+use ffv1_hold::{Sink, Source, ThroughWrite};
 use ffv1_picture::{TileOutcome, picture};
 use ffv1_plane::TileFault;
 use std::alloc::{AllocError, Global};
@@ -35,9 +36,10 @@ pub fn run_picture<R: Read, O: Write, W: Write>(
     ensures untouched { IfErr result (λ fault. UnlessWriting fault ((out.new ≡ out.old) × (output.new ≡ output.old))) }
     ensures names { IfErr result (NamesPath IsHoldPath) }
 {
+    let mut file = buffered(alloc, file)?;
     picture_of(
         alloc,
-        &mut FromRead::new(file),
+        &mut file,
         &mut ThroughWrite::new(out),
         &mut ThroughWrite::new(output),
     )

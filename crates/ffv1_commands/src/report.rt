@@ -6,11 +6,11 @@ ghost use Rattle.ffv1_commands.specs.Paths.{IsReportPath};
 ghost use Rattle.ffv1_commands.specs.Devices.{UnlessWriting, TellsFailure};
 ghost use Rattle.ffv1_commands.specs.ReportedText.{ReportsFile, ReportStops};
 
-use crate::devices::write_file;
+use crate::devices::{buffered, write_file};
 use crate::fault::CliFault;
 use crate::holdings::read_holding;
 use crate::path::CommandPath;
-use ffv1_hold::{FromRead, Sink, Source, ThroughWrite};
+use ffv1_hold::{Sink, Source, ThroughWrite};
 use ffv1_picture::report;
 use std::alloc::Global;
 use std::io::{Read, Write};
@@ -31,11 +31,8 @@ pub fn run_report<R: Read, W: Write>(
     ensures untouched { IfErr result (λ fault. UnlessWriting fault (output.new ≡ output.old)) }
     ensures names { IfErr result (NamesPath IsReportPath) }
 {
-    report_of(
-        alloc,
-        &mut FromRead::new(file),
-        &mut ThroughWrite::new(output),
-    )
+    let mut file = buffered(alloc, file)?;
+    report_of(alloc, &mut file, &mut ThroughWrite::new(output))
 }
 
 /// The command over a source and a sink.

@@ -6,11 +6,11 @@ ghost use Rattle.ffv1_commands.specs.Paths.{IsHoldPath};
 ghost use Rattle.ffv1_commands.specs.Devices.{UnlessWriting, TellsFailure};
 ghost use Rattle.ffv1_commands.specs.RestoreText.{restored_line, RestoresFile, RestoreStops};
 
-use crate::devices::write_both;
+use crate::devices::{buffered, write_both};
 use crate::fault::CliFault;
 use crate::holdings::read_holding;
 use crate::path::CommandPath;
-use ffv1_hold::{FromRead, Sink, Source, ThroughWrite};
+use ffv1_hold::{Sink, Source, ThroughWrite};
 use std::alloc::{AllocError, Global};
 use std::io::{Read, Write};
 
@@ -32,9 +32,10 @@ pub fn run_restore<R: Read, O: Write, W: Write>(
     ensures untouched { IfErr result (λ fault. UnlessWriting fault ((out.new ≡ out.old) × (output.new ≡ output.old))) }
     ensures names { IfErr result (NamesPath IsHoldPath) }
 {
+    let mut file = buffered(alloc, file)?;
     restore_of(
         alloc,
-        &mut FromRead::new(file),
+        &mut file,
         &mut ThroughWrite::new(out),
         &mut ThroughWrite::new(output),
     )

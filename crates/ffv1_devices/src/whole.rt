@@ -69,7 +69,7 @@ pub fn read_whole<S: Source>(
     ensures counted { S.failures source.old ≤ S.failures source.new }
 {
     let mut bytes = Vec::new(alloc);
-    let mut buf = [0u8; 4096];
+    let mut buf = [0u8; 65536];
     loop {
         let left = limit - bytes.len();
         let room = left.min(buf.len() - 1) + 1;
