@@ -10,6 +10,9 @@ use crate::reads::TRIES;
 use crate::streams::Sink;
 use std::io::ErrorKind;
 
+/// Two fields of at most so many bytes together are one write.
+const SHORT: usize = 4096;
+
 /// A sink failed: a try failed and was not interrupted, took none of some bytes, or was the 65th interrupted one in a row.
 #[derive(Clone, Copy, Debug, PartialEq, Eq)]
 pub struct WriteFailed;
@@ -65,7 +68,37 @@ pub fn write_field<S: Sink>(sink: &mut S, bytes: &[u8]) -> Result<(), WriteFaile
     Ok(())
 }
 
-/// Writes one field, and then another.
+/// Puts one field and then another to the front of a buffer, and says how many bytes they are.
+fn put_pair(first: &[u8], second: &[u8], buf: &mut [u8]) -> usize
+    requires { length first.now + length second.now ≤ length buf.old }
+    ensures both { take result buf.new ≡ first.now ++ second.now }
+    ensures within { result ≤ length buf.new }
+{
+    let start = first.len();
+    let end = start + second.len();
+    buf[..start].copy_from_slice(first);
+    buf[start..end].copy_from_slice(second);
+    end
+}
+
+/// Writes two short fields, one behind the other, as one.
+fn write_short<S: Sink>(sink: &mut S, first: &[u8], second: &[u8]) -> Result<(), WriteFailed>
+    requires { length first.now + length second.now ≤ 4096 }
+    ensures ok { OnOk result (Appends (S.contents sink.old) (S.contents sink.new) (first.now ++ second.now)) }
+    ensures err { OnErr result (WritesFront (S.contents sink.old) (S.contents sink.new) (first.now ++ second.now)) }
+    ensures failed { OnErr result (HasFailed (S.failures sink.old) (S.failures sink.new)) }
+    ensures gave_up { OnErr result (HasGivenUp (S.failures sink.old) (S.failures sink.new) (S.broken sink.old) (S.broken sink.new)) }
+    ensures unbroken { OnOk result (S.broken sink.new ≡ S.broken sink.old) }
+    ensures broken_once { S.broken sink.new ≤ S.broken sink.old + 1 }
+    ensures counted { S.failures sink.old ≤ S.failures sink.new }
+    ensures same_reference { S.reference sink.new ≡ S.reference sink.old }
+{
+    let mut both = [0u8; SHORT];
+    let count = put_pair(first, second, &mut both);
+    write_field(sink, &both[..count])
+}
+
+/// Writes one field, and then another: short ones together.
 pub fn write_pair<S: Sink>(sink: &mut S, first: &[u8], second: &[u8]) -> Result<(), WriteFailed>
     ensures ok { OnOk result (Appends (S.contents sink.old) (S.contents sink.new) (first.now ++ second.now)) }
     ensures err { OnErr result (WritesFront (S.contents sink.old) (S.contents sink.new) (first.now ++ second.now)) }
@@ -76,6 +109,9 @@ pub fn write_pair<S: Sink>(sink: &mut S, first: &[u8], second: &[u8]) -> Result<
     ensures counted { S.failures sink.old ≤ S.failures sink.new }
     ensures same_reference { S.reference sink.new ≡ S.reference sink.old }
 {
+    if first.len() + second.len() <= SHORT {
+        return write_short(sink, first, second);
+    }
     write_field(sink, first)?;
     write_field(sink, second)?;
     Ok(())
