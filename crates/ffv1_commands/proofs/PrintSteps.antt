@@ -9,10 +9,6 @@ module _ (a b c : Option (List ℕ)) (waits text more : List ℕ) (front : Print
   split-more : text ++ more ≡ front.printed ++ (waits ++ more)
   split-more = ap (λ t. t ++ more) front.split ∙ append_assoc front.printed waits more
 
-  -- more text, which waits
-  pub front-waits : PrintsFront a b (waits ++ more) (text ++ more)
-  front-waits = record { printed = front.printed; split = split-more; written = front.written }
-
   -- more text, of which a front was written
   pub front-more : (rest : List ℕ) → PrintsFront b c rest (waits ++ more) → PrintsFront a c rest (text ++ more)
   front-more rest next = record {
