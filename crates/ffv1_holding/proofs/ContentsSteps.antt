@@ -2,34 +2,32 @@
 use Rattle.std.proofs.Common.{◌≡◌, ℕ, ◌+◌, ◌≤◌, ◌<◌, List, [], ◌∷◌, ◌++◌, length, map, take, get_or, sym, ap, ◌∙◌, subst}
 use Rattle.ffv1_bits.specs.Limits.{payload_limit}
 use Rattle.ffv1_holding.specs.TakeFaults.{AreShort}
-use Rattle.ffv1_holding.specs.SliceOrder.{Entry, entry_cmp, entries_total, entries_antisymmetric}
+use Rattle.ffv1_holding.specs.SliceOrder.{entries_total, entries_antisymmetric, origins_total, origins_antisymmetric}
 use Rattle.ffv1_holding.specs.Sets as set
-use Rattle.ffv1_holding.specs.Contents.{Contents, with_slices, with_found, with_copies}
+use Rattle.ffv1_holding.specs.Contents.{Contents, with_facts, with_found, with_copies, origins_of_copy}
+use Rattle.ffv1_holding.specs.ContentsLaws.{with_found-with_copies, union-flat_map}
 use Rattle.ffv1_slice.specs.Slices.{found_slices}
 use Rattle.std.specs.List.{flat_map}
-use Rattle.std.proofs.lemmas.List.{append-nil}
-use Rattle.std.proofs.lemmas.List.Concat.{flat_map-append}
 use Rattle.ffv1_holding.proofs.Lists.{map-take_more}
 
-pub with_slices-empty : (h : Contents) → h ≡ with_slices h set.empty
-with_slices-empty h = ap (λ s. record { reel = h.reel; slices = s }) (sym (set.union_empty entries_total entries_antisymmetric h.slices))
-
-abbrev with : Contents → set.SetOf entry_cmp → Contents
-with h s = record { reel = h.reel; slices = s }
-
--- two additions are one
-pub with_slices-append : (h : Contents) (xs ys : List Entry) → with_slices (with_slices h (set.from_list xs)) (set.from_list ys) ≡ with_slices h
-    (set.from_list (xs ++ ys))
-with_slices-append h xs ys =
-    ap (with h) (set.union_assoc entries_total entries_antisymmetric h.slices (set.from_list xs) (set.from_list ys))
-    ∙ ap (λ s. with h (set.union h.slices s)) (sym (set.from_list-append entries_total entries_antisymmetric xs ys))
+pub with_facts-empty : (h : Contents) → h ≡ with_facts h set.empty set.empty
+with_facts-empty h = λ i. record {
+  reel = h.reel;
+  slices = sym (set.union_empty entries_total entries_antisymmetric h.slices) i;
+  origins = sym (set.union_empty origins_total origins_antisymmetric h.origins) i;
+}
 
 -- one copy more
 pub with_copies-push : (h : Contents) (copies : List (List ℕ)) (copy : List ℕ) → with_found (with_copies h copies) copy ≡ with_copies h (copies ++ copy ∷ [])
 with_copies-push h copies copy =
-    with_slices-append h (flat_map (found_slices h.reel.setup) copies) (found_slices h.reel.setup copy)
-    ∙ ap (λ xs. with_slices h (set.from_list xs)) (ap (λ xs. flat_map (found_slices h.reel.setup) copies ++ xs)
-    (sym (append-nil (found_slices h.reel.setup copy))) ∙ sym (flat_map-append (found_slices h.reel.setup) copies (copy ∷ [])))
+    let setup = h.reel.setup in
+    let slices = set.union_assoc entries_total entries_antisymmetric h.slices
+    (set.from_list (flat_map (found_slices setup) copies)) (set.from_list (flat_map (found_slices setup) (copy ∷ [])))
+    ∙ ap (set.union h.slices) (union-flat_map entries_total entries_antisymmetric (found_slices setup) copies (copy ∷ [])) in
+    let origins = set.union_assoc origins_total origins_antisymmetric h.origins
+    (set.from_list (flat_map (origins_of_copy setup) copies)) (set.from_list (flat_map (origins_of_copy setup) (copy ∷ [])))
+    ∙ ap (set.union h.origins) (union-flat_map origins_total origins_antisymmetric (origins_of_copy setup) copies (copy ∷ [])) in
+    with_found-with_copies (with_copies h copies) copy ∙ (λ i. record { reel = h.reel; slices = slices i; origins = origins i })
 
 pub with_copies-take_more : {X : Type 0} (view : X → List ℕ) (h now next : Contents) (xs : List X) (i : ℕ) (d : X) → i < length xs
     → now ≡ with_copies h (map view (take i xs)) → next ≡ with_found now (view (get_or xs i d)) → next ≡ with_copies h (map view (take (i + 1) xs))

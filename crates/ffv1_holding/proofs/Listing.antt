@@ -1,13 +1,9 @@
 -- A link that is a slice is listed where it stands in its payload.
-use Rattle.std.proofs.Common.{◌≡◌, ℕ, zero, suc, ◌-◌, ◌<◌, true, List, [], ◌∷◌, length, take, drop, get_or, refl, sym, ap, ◌∙◌, subst, arith}
-use mathlib.Core.Bool.{true≢false}
+use Rattle.std.proofs.Common.{◌≡◌, ℕ, zero, suc, ◌-◌, List, [], ◌∷◌, length, take, drop, refl, sym, ap, ◌∙◌, subst, arith}
 use Rattle.std.proofs.lemmas.List.{length-take, length-drop}
 use Rattle.ffv1_slice.specs.Chain.{Piece, piece_of, IsFramed, status_before}
-use Rattle.ffv1_holding.specs.Sets as set
-use Rattle.ffv1_holding.specs.SliceOrder.{Entry, entry_cmp}
 use Rattle.ffv1_holding.specs.PoolEntries.{slice_in, IsEntryIn}
 use Rattle.ffv1_holding.specs.declared.pool_entry.PoolEntry.{PoolEntry}
-use Rattle.ffv1_holding.proofs.EntrySteps.{all-insert}
 
 -- what was taken from a list is as much of its front as it is long
 take-again : {X : Type 0} (n : ℕ) (xs : List X) → take (length (take n xs)) xs ≡ take n xs
@@ -37,10 +33,3 @@ module _ (payload : List ℕ) (link : Piece) (end : ℕ) (is : link ≡ piece_of
         framed = subst IsFramed (sym slice_listed) framed;
         told = told ∙ ap (λ s. status_before s (length s)) (sym slice_listed);
       }
-
--- a fact of each item of a list is one of each member of its set
-pub all-from_list : (P : Entry → Type 0) (xs : List Entry) → ((i : ℕ) (d : Entry) → i < length xs → P (get_or xs i d)) → (q : Entry)
-    → set.contains (set.from_list {R = entry_cmp} xs) q ≡ true → P q
-all-from_list P [] each q there = absurd (true≢false (sym there ∙ set.contains-empty entry_cmp q))
-all-from_list P (x ∷ xs) each q there =
-    all-insert P (set.from_list xs) x (all-from_list P xs (λ i d lt. each (suc i) d (omega arith))) (each 0 x (omega arith)) q there

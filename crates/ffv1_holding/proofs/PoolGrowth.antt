@@ -21,8 +21,8 @@ take-written xs ys n long = ap (λ k. take k (xs ++ drop (length xs) ys)) (sym l
 pub take-filled : {X : Type 0} (xs : List X) (n k : ℕ) (x : X) → length xs ≤ n → take (length xs) (take n xs ++ replicate k x) ≡ xs
 take-filled xs n k x le = ap (λ ys. take (length xs) (ys ++ replicate k x)) (take_all n xs le) ∙ take-append_seam xs (replicate k x)
 
-some_fresh : Fresh
-some_fresh = record { place = 0; entry = record { tile = 0; start = 0; length = 0; status = 0 } }
+some_fresh : Fresh PoolEntry
+some_fresh = record { place = 0; item = record { tile = 0; start = 0; length = 0; status = 0 } }
 
 module _ (bytes : List ℕ) (es : List PoolEntry) (pool : IsPool bytes es) where
   -- bytes behind those of the pool change nothing
@@ -32,7 +32,8 @@ module _ (bytes : List ℕ) (es : List PoolEntry) (pool : IsPool bytes es) where
   pub entries_behind : (next : List ℕ) → ((more : List ℕ) × (next ≡ bytes ++ more)) → map (entry_in next) es ≡ map (entry_in bytes) es
   entries_behind next is = ap (λ b. map (entry_in b) es) is.1 ∙ entries_kept bytes is.0 es pool.each
 
-  module _ (from next : List ℕ) (old new : List Fresh) (fresh : AreFresh (map (entry_in bytes) es) from old) (moved : AreMoved from bytes next old new) where
+  module _ (from next : List ℕ) (old new : List (Fresh PoolEntry)) (fresh : AreFresh (map (entry_in bytes) es) from old)
+      (moved : AreMoved from bytes next old new) where
     map_moved : map (fresh_in next) new ≡ map (fresh_in from) old
     map_moved =
         let long = length-map new (fresh_in next) in
@@ -41,7 +42,7 @@ module _ (bytes : List ℕ) (es : List PoolEntry) (pool : IsPool bytes es) where
         (λ i d lt. get_or-map (fresh_in next) new i some_fresh d (omega arith)
         ∙ (moved.each i some_fresh (omega (arith, moved.long))).same ∙ sym (get_or-map (fresh_in from) old i some_fresh d (omega (arith, moved.long))))
 
-    gaps : (i : ℕ) (d : Fresh) → i < length new → IsGapFor entry_cmp (map (entry_in bytes) es) (fresh_in next (get_or new i d)) (get_or new i d).place
+    gaps : (i : ℕ) (d : Fresh PoolEntry) → i < length new → IsGapFor entry_cmp (map (entry_in bytes) es) (fresh_in next (get_or new i d)) (get_or new i d).place
     gaps i d lt =
         let is = moved.each i d (omega (arith, moved.long)) in
         rw (is.same, is.place) (fresh.gaps i d (omega (arith, moved.long)))
@@ -49,31 +50,31 @@ module _ (bytes : List ℕ) (es : List PoolEntry) (pool : IsPool bytes es) where
     rising : IsRising entry_cmp (map (fresh_in next) new)
     rising = subst (IsRising entry_cmp) (sym map_moved) fresh.rising
 
-    pub places_within : (i : ℕ) (d : Fresh) → i < length new → (get_or new i d).place ≤ length es
+    pub places_within : (i : ℕ) (d : Fresh PoolEntry) → i < length new → (get_or new i d).place ≤ length es
     places_within i d lt = let le = (gaps i d lt).in_range in omega (arith, length-map es (entry_in bytes))
 
-    pub places_in_order : IsNonDecreasingBy (λ (f : Fresh). f.place) new
-    places_in_order = places_rise entries_total (λ (f : Fresh). f.place) (fresh_in next) (map (entry_in bytes) es) new gaps rising
+    pub places_in_order : IsNonDecreasingBy (λ (f : Fresh PoolEntry). f.place) new
+    places_in_order = places_rise entries_total (λ (f : Fresh PoolEntry). f.place) (fresh_in next) (map (entry_in bytes) es) new gaps rising
 
     behind : map (entry_in next) es ≡ map (entry_in bytes) es
     behind = entries_behind next (moved.more, moved.behind)
 
-    listed : map (entry_in next) (with_fresh new es) ≡ with_inserted (λ (f : Fresh). f.place) (fresh_in next) new (map (entry_in bytes) es)
+    listed : map (entry_in next) (with_fresh new es) ≡ with_inserted (λ (f : Fresh PoolEntry). f.place) (fresh_in next) new (map (entry_in bytes) es)
     listed =
-        map-with_inserted (λ (f : Fresh). f.place) (λ f. f.entry) (entry_in next) new es
-        ∙ ap (with_inserted (λ (f : Fresh). f.place) (fresh_in next) new) behind
+        map-with_inserted (λ (f : Fresh PoolEntry). f.place) (λ f. f.item) (entry_in next) new es
+        ∙ ap (with_inserted (λ (f : Fresh PoolEntry). f.place) (fresh_in next) new) behind
 
     pub pool_grown : IsPool next (with_fresh new es)
     pool_grown = record {
-      each = each-with_inserted (λ (f : Fresh). f.place) (λ f. f.entry) (IsEntryIn next) new es places_within
+      each = each-with_inserted (λ (f : Fresh PoolEntry). f.place) (λ f. f.item) (IsEntryIn next) new es places_within
           (pool_behind next (moved.more, moved.behind)).each (λ j d lt. (moved.each j d (omega (arith, moved.long))).lies);
       rising = subst (IsRising entry_cmp) (sym listed)
-          (rising-with_inserted entries_total (λ (f : Fresh). f.place) (fresh_in next) (map (entry_in bytes) es) new pool.rising gaps rising);
+          (rising-with_inserted entries_total (λ (f : Fresh PoolEntry). f.place) (fresh_in next) (map (entry_in bytes) es) new pool.rising gaps rising);
     }
 
     pub view_grown : set.from_list {R = entry_cmp} (map (entry_in next) (with_fresh new es)) ≡ set.union (set.from_list (map (entry_in bytes) es))
         (set.from_list (map (fresh_in from) old))
     view_grown =
         ap set.from_list listed
-        ∙ from_list-with_inserted entries_total (λ (f : Fresh). f.place) (fresh_in next) (map (entry_in bytes) es) entries_antisymmetric new
+        ∙ from_list-with_inserted entries_total (λ (f : Fresh PoolEntry). f.place) (fresh_in next) (map (entry_in bytes) es) entries_antisymmetric new
         ∙ ap (λ xs. set.union (set.from_list {R = entry_cmp} (map (entry_in bytes) es)) (set.from_list xs)) map_moved

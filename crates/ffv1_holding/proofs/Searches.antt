@@ -1,5 +1,5 @@
 -- What a binary search finds in a list whose keys strictly rise.
-use Rattle.std.proofs.Common.{◌≡◌, ℕ, ◌<◌, ◌≤◌, List, [], ◌∷◌, length, map, get_or, sym, refl, ◌∙◌, inl, inr, arith, Result, Ok, Err, IfOk, IfErr}
+use Rattle.std.proofs.Common.{◌≡◌, ℕ, ◌<◌, ◌≤◌, List, [], ◌∷◌, length, map, get_or, sym, refl, ap, subst, ◌∙◌, inl, inr, arith, Result, Ok, Err, IfOk, IfErr}
 use Rattle.std.specs.Ordering.{ordering_index}
 use Rattle.std.specs.Cmp.{IsTotalOrder, alike_right}
 use Rattle.std.specs.List.Sorted.{IsSearchInRange, IsBinarySearchResult, IsNonDecreasingBy}
@@ -75,3 +75,19 @@ module _ {K X : Type 0} {R : K → K → Ordering} (o : IsTotalOrder R) (f : X �
   searched same xs q up (Err i) in_range parted =
       let two = parted (searchable xs q up) in
       record { found = tt; absent = gap_found xs q i in_range two.0 two.1 }
+
+map-itself : {K : Type 0} (xs : List K) → map (λ x. x) xs ≡ xs
+map-itself [] = refl
+map-itself (x ∷ xs) = ap (λ r. x ∷ r) (map-itself xs)
+
+-- a binary search among the items themselves
+pub searched_items : {K : Type 0} {R : K → K → Ordering} → IsTotalOrder R → IsAntisymmetric R → (xs : List K) (q : K) → IsRising R xs
+    → (r : Result ℕ ℕ) → IsSearchInRange r (length xs) → IsBinarySearchResult (λ y. R y q) xs r
+    → record { found : IfOk r (IsPlaceOf xs q); absent : IfErr r (IsGapFor R xs q) }
+searched_items {R = R} o same xs q up r in_range is =
+    let rises = subst (IsRising R) (sym (map-itself xs)) up in
+    let both = searched o (λ x. x) same xs q rises r in_range is in
+    record {
+      found = subst (λ ys. IfOk r (IsPlaceOf ys q)) (map-itself xs) both.found;
+      absent = subst (λ ys. IfErr r (IsGapFor R ys q)) (map-itself xs) both.absent;
+    }

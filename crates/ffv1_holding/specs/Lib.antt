@@ -6,6 +6,7 @@ pub mod Reels
 pub mod TileSets
 pub mod PoolEntries
 pub mod Fresh
+pub mod Rows
 pub mod Contents
 pub mod ContentsLaws
 pub mod HoldingParts

@@ -12,7 +12,8 @@ use ffv1_range::{Setup, SetupFault};
 use std::alloc::{AllocError, Global};
 use std::marker::Model;
 
-/// The distinct slices that were found in copies of one frame.
+/// The distinct slices that were found in copies of one frame, each with the SHA-256 digests of the whole copies that
+/// gave it.
 ///
 /// Each is a slice of its tile in the frame's setup: its parity is right, and its header is one of the profile.
 #[derive(Drop)]
@@ -91,6 +92,7 @@ impl Join for Holding {
 
     ghost union = { joined };
 
+    // The slices are counted, and not where they came from.
     ghost size = { λ h. set.size h.slices };
 
     fn join_with(&mut self, other: &Self) -> Result<usize, HoldFault> {

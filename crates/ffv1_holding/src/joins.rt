@@ -15,10 +15,11 @@ pub trait Join {
     /// The value whose meaning is the union of the two.
     ghost union: { Self → Self → Self };
 
-    /// How many members the meaning has.
+    /// How many members that part of the meaning has whose growth joining answers: all of it, or what an implementation
+    /// names.
     ghost size: { Self → ℕ };
 
-    /// Joins `other` into this one, and answers how many members are new.
+    /// Joins `other` into this one, and answers how many members of that part are new.
     ///
     /// `OtherReel` comes exactly where the two cannot be joined, before any growth; the only other refusal is `Memory`.
     /// After either this value is unchanged.
@@ -51,8 +52,8 @@ pub struct JoinAllFault {
     pub cause: HoldFault,
 }
 
-/// Joins each of `others` into `whole`, and answers how many members are new. Where any two of them can be joined,
-/// their order and their repetition do not matter.
+/// Joins each of `others` into `whole`, and answers how many members of the counted part are new. Where any two of them
+/// can be joined, their order and their repetition do not matter.
 ///
 /// It stops at the first that is refused: `whole` is then joined with just those before it, and the fault says how
 /// many they are. The cause is `OtherReel` exactly where what `whole` came to cannot be joined with the next one; the

@@ -8,7 +8,7 @@ ghost use Rattle.ffv1_holding.specs.TileSets.{tile_slices};
 ghost use Rattle.ffv1_holding.specs.Standing.{tile_state, IsLeastStatus, AreSettled, restored_payload};
 ghost use Rattle.ffv1_holding.specs.TileStates.{standing_shown};
 ghost use Rattle.ffv1_holding.specs.Refusals.{IsRefusal};
-ghost use Rattle.ffv1_holding.specs.Contents.{holding_of};
+ghost use Rattle.ffv1_holding.specs.Contents.{slices_of_copies};
 ghost use Rattle.ffv1_holding.specs.Originals.{AreNear, HoldsExactly};
 
 use crate::holding::Holding;
@@ -99,9 +99,9 @@ impl Holding {
         // Where what is held is of copies that are near an original, with each of its slices intact in one of them, no answer is
         // another payload, and the only refusal is `Memory`.
         ensures near { (payload : List ℕ) (slices copies : List (List ℕ)) → AreNear self.now.reel.setup payload slices copies
-            → self.now ≡ holding_of self.now.reel copies → IfOk result (λ restored. restored.items ≡ payload) }
+            → self.now.slices ≡ slices_of_copies self.now.reel.setup copies → IfOk result (λ restored. restored.items ≡ payload) }
         ensures near_settled { (payload : List ℕ) (slices copies : List (List ℕ)) → AreNear self.now.reel.setup payload slices copies
-            → self.now ≡ holding_of self.now.reel copies → OnErr result (result ≡ Err RestoreFault.Memory) }
+            → self.now.slices ≡ slices_of_copies self.now.reel.setup copies → OnErr result (result ≡ Err RestoreFault.Memory) }
     {
         for tile in 0..self.held.tiles() {
             match self.state(tile) {

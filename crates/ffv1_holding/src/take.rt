@@ -5,7 +5,7 @@ ghost use Rattle.ffv1_bits.specs.Limits.{payload_limit};
 ghost use Rattle.ffv1_slice.specs.Walk.{links_of};
 ghost use Rattle.ffv1_slice.specs.Slices.{found_slices};
 ghost use Rattle.ffv1_holding.specs.Sets as set;
-ghost use Rattle.ffv1_holding.specs.Contents.{with_found, with_copies, IsEntryOf, AreEntriesOf};
+ghost use Rattle.ffv1_holding.specs.Contents.{with_found, with_copies, with_entry, IsEntryOf, AreEntriesOf, AreDigests};
 ghost use Rattle.ffv1_holding.specs.SliceOrder.{entry_cmp};
 ghost use Rattle.ffv1_holding.specs.PoolEntries.{entry_in, AreEntriesIn, IsPool};
 ghost use Rattle.ffv1_holding.specs.TakeFaults.{IsTakeFault, AreShort};
@@ -39,7 +39,7 @@ pub struct TakeAllFault {
 }
 
 impl Holding {
-    /// Adds the slices that are found in a copy.
+    /// Adds the slices that are found in a copy, and the SHA-256 digest of the whole copy to the origins of each.
     ///
     /// `PayloadTooLong` comes exactly where the copy has more than 2^30 bytes, before any link is looked at; the only
     /// other refusal is `Memory`. After either the holding is unchanged.
@@ -61,24 +61,31 @@ impl Holding {
         let slices = found.len();
         put_in_order(payload, &mut found)?;
         let before = self.held.size();
-        self.held.insert_all(payload, &found)?;
+        self.held.insert_copy(payload, &found)?;
         let new = self.held.size() - before;
         Ok(Taken { links, slices, new })
     }
 
-    /// Adds one slice with its footer, which must be a slice of its tile. Tiles count from 0, row by row of the grid.
+    /// Adds one slice with its footer, which must be a slice of its tile, and to its origins these digests of copies,
+    /// which must rise by their bytes. Tiles count from 0, row by row of the grid.
     ///
     /// The only refusal is `Memory`: then the holding is unchanged.
-    pub fn insert(&mut self, tile: usize, slice: &[u8]) -> Result<(), HoldFault>
-        requires { IsEntryOf self.old.reel.setup (tile, slice.now) }
-        ensures ok { OnOk result (self.new ≡ record self.old { slices = set.insert self.old.slices (tile, slice.now) }) }
+    pub fn insert(
+        &mut self,
+        tile: usize,
+        slice: &[u8],
+        origins: &[[u8; 32]],
+    ) -> Result<(), HoldFault>
+        requires slice { IsEntryOf self.old.reel.setup (tile, slice.now) }
+        requires origins { AreDigests origins.now }
+        ensures ok { OnOk result (self.new ≡ with_entry self.old (tile, slice.now) origins.now) }
         ensures memory { OnErr result (result ≡ Err HoldFault.Memory) }
         ensures err { OnErr result (self.new ≡ self.old) }
     {
-        self.held.insert(tile, slice)
+        self.held.insert(tile, slice, origins)
     }
 
-    /// Adds the slices that are found in copies, one copy after the other.
+    /// Adds the slices that are found in copies, with the copies' digests, one copy after the other.
     ///
     /// It stops at the first copy that is refused, with `PayloadTooLong` where that has more than 2^30 bytes, else `Memory`:
     /// then just those before it were taken, and the fault says how many.

@@ -1,11 +1,9 @@
 use Rattle.std.proofs.Common.{List, ℕ, ◌+◌, ap, sym, ◌∙◌, subst, map, get_or}
-use Rattle.std.proofs.lemmas.List.{take_all}
-use Rattle.ffv1_holding.specs.Sets as set
 use Rattle.ffv1_holding.specs.SliceOrder.{Entry, entry_cmp}
 use Rattle.ffv1_holding.specs.Rising.{IsGapFor, IsPlaceOf}
 use Rattle.ffv1_holding.specs.PoolEntries.{entry_in}
 use Rattle.ffv1_holding.specs.declared.pool_entry.PoolEntry.{PoolEntry}
-use Rattle.ffv1_holding.proofs.FreshSteps.{IsSifted, none_sifted, sifted_held, sifted_new}
+use Rattle.ffv1_holding.proofs.FreshSteps.{IsSifted, none_fresh, entry_held, entry_new, entries_sifted}
 use Rattle.ffv1_holding.proofs.fresh.fresh_among.Goals as goal
 use Rattle.ffv1_holding.proofs.fresh.fresh_among.Goals.{in-Err+in_ok-push, in_default}
 
@@ -14,7 +12,7 @@ nothing = record { tile = 0; start = 0; length = 0; status = 0 }
 
 pub loop-entry-init : goal.loop-entry-init
 loop-entry-init c =
-    rw c.new-fresh.ensures.items (none_sifted (map (entry_in c.args.held_bytes.now) c.args.held.now) c.args.bytes.now c.args.entries.now)
+    rw c.new-fresh.ensures.items (none_fresh (map (entry_in c.args.held_bytes.now) c.args.held.now) c.args.bytes.now c.args.entries.now)
 
 pub loop-entry-preserved : goal.loop-entry-preserved
 loop-entry-preserved c =
@@ -26,19 +24,18 @@ loop-entry-preserved c =
     elim c.match-found.branch [
       | in-Err+in_ok-push w ↦
           subst (IsSifted held bytes es (i + 1)) (sym (ap (λ v. v.items) w.fresh-is ∙ w.in_ok-push.ensures.items))
-          (sifted_new held bytes es i nothing c.loop-entry.fresh.items c.loop-entry-test.true c.loop-entry.invariant c.requires.coming w.in-Err.place
+          (entry_new held bytes es i nothing c.loop-entry.fresh.items c.loop-entry-test.true c.loop-entry.invariant c.requires.coming w.in-Err.place
           (subst (λ b. IsGapFor entry_cmp held (entry b) w.in-Err.place) c.slice.ensures w.in-Err.ensures.absent))
       | in_default w ↦
           subst (IsSifted held bytes es (i + 1)) (sym (ap (λ v. v.items) w.fresh-is))
-          (sifted_held held bytes es i nothing c.loop-entry.fresh.items c.loop-entry-test.true c.loop-entry.invariant w.in_default.field-0
+          (entry_held held bytes es i nothing c.loop-entry.fresh.items c.loop-entry-test.true c.loop-entry.invariant w.in_default.field-0
           (subst (λ b. IsPlaceOf held (entry b) w.in_default.field-0) c.slice.ensures w.in_default.ensures.found))
     ]
 
 pub returns-clause-fresh : goal.returns-clause-fresh
-returns-clause-fresh c = c.loop-entry.invariant.fresh_ones
+returns-clause-fresh c = (entries_sifted (map (entry_in c.args.held_bytes.now) c.args.held.now) c.args.bytes.now c.args.entries.now c.loop-entry.entry-index
+    c.loop-entry.fresh.items c.loop-entry-test.false c.loop-entry.invariant).0
 
 pub returns-clause-all : goal.returns-clause-all
-returns-clause-all c =
-    c.loop-entry.invariant.all
-    ∙ ap (λ xs. set.union (set.from_list {R = entry_cmp} (map (entry_in c.args.held_bytes.now) c.args.held.now)) (set.from_list (map (entry_in c.args.bytes.now) xs)))
-    (take_all c.loop-entry.entry-index c.args.entries.now c.loop-entry-test.false)
+returns-clause-all c = (entries_sifted (map (entry_in c.args.held_bytes.now) c.args.held.now) c.args.bytes.now c.args.entries.now c.loop-entry.entry-index
+    c.loop-entry.fresh.items c.loop-entry-test.false c.loop-entry.invariant).1

@@ -2,7 +2,7 @@ use Rattle.ffv1_holding.proofs.Merges.{IsMerging}
 use Rattle.ffv1_holding.proofs.fresh.merge.Given as goal
 
 abbrev pub invariant-loop-before : goal.invariant-loop-before
-invariant-loop-before l = IsMerging l.fn.entries l.held l.fresh l.before l.left l.entries
+invariant-loop-before g l = IsMerging l.fn.items l.held l.fresh l.before l.left l.items
 
 abbrev pub decreases-loop-before : goal.decreases-loop-before
-decreases-loop-before l = l.before
+decreases-loop-before g l = l.before

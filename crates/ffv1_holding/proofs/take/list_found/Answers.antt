@@ -7,13 +7,14 @@ use Rattle.ffv1_slice.specs.Slices.{slice_at, found_slices}
 use Rattle.ffv1_slice.specs.Walk.{links_of}
 use Rattle.ffv1_slice.proofs.SliceFacts.{found_slices-links}
 use Rattle.ffv1_holding.specs.Sets as set
-use Rattle.ffv1_holding.specs.SliceOrder.{Entry}
+use Rattle.ffv1_holding.specs.SliceOrder.{Entry, entries_total, entries_antisymmetric}
 use Rattle.ffv1_holding.specs.Contents.{IsEntryOf, AreEntriesOf}
 use Rattle.ffv1_holding.specs.PoolEntries.{entry_in, IsEntryIn}
 use Rattle.ffv1_holding.specs.declared.pool_entry.PoolEntry.{PoolEntry}
 use Rattle.ffv1_holding.proofs.Found.{passed_more, found_more, none_more, entry_of_link, links_fit, length-more, all_passed}
-use Rattle.ffv1_holding.proofs.FreshSteps.{each-push}
-use Rattle.ffv1_holding.proofs.Listing.{slice_listed, entry_listed, all-from_list}
+use Rattle.ffv1_holding.proofs.Sifting.{each-push}
+use Rattle.ffv1_holding.proofs.Listing.{slice_listed, entry_listed}
+use Rattle.ffv1_holding.proofs.EntrySteps.{all-from_list}
 use Rattle.ffv1_holding.proofs.take.list_found.Goals as goal
 
 abbrev AreCut : List ℕ → List Piece → Type 0
@@ -109,7 +110,7 @@ returns-clause-sound c =
     let es = c.loop-link.found.items in
     let nothing : PoolEntry = record { tile = 0; start = 0; length = 0; status = 0 } in
     subst (λ (xs : List Entry). AreEntriesOf setup (set.from_list xs)) (all_found c)
-    (all-from_list (IsEntryOf setup) (map (entry_in payload) es)
+    (all-from_list entries_total entries_antisymmetric (IsEntryOf setup) (map (entry_in payload) es)
     (λ i d lt. let in_range : i < length es = omega (arith, length-map es (entry_in payload)) in
     rw (get_or-map (entry_in payload) es i nothing d in_range) (inv.sound i nothing in_range)))
 

@@ -1,8 +1,8 @@
-use Rattle.ffv1_holding.proofs.ContentsSteps.{with_slices-empty, with_copies-take_more, AreShort-take_more}
+use Rattle.ffv1_holding.proofs.ContentsSteps.{with_facts-empty, with_copies-take_more, AreShort-take_more}
 use Rattle.ffv1_holding.proofs.holding.Holding.take_all.Goals as goal
 
 pub loop-taken-init : goal.loop-taken-init
-loop-taken-init c = record { held = with_slices-empty c.args.self.now; short = tt }
+loop-taken-init c = record { held = with_facts-empty c.args.self.now; short = tt }
 
 pub loop-taken-preserved : goal.loop-taken-preserved
 loop-taken-preserved c = record {

@@ -1,54 +1,54 @@
-use Rattle.std.proofs.Common.{◌≡◌, ◌++◌, ℕ, List, true, cond, is_ok, length, sym, ap, ◌∙◌, subst, arith, map}
-use Rattle.std.specs.List.{insert}
+use Rattle.std.proofs.Common.{◌≡◌, ℕ, [], ◌∷◌, replicate, length, Result, Ok, Err, OnOk, ap, ◌∙◌}
 use Rattle.ffv1_holding.specs.Sets as set
-use Rattle.ffv1_holding.specs.SliceOrder.{Entry, entry_cmp, entries_total, entries_antisymmetric}
-use Rattle.ffv1_holding.specs.Rising.{IsGapFor}
-use Rattle.ffv1_holding.specs.TileSets.{TileSlices, with_entry}
+use Rattle.ffv1_holding.specs.SliceOrder.{Entry, with_each}
+use Rattle.ffv1_holding.specs.TileSets.{TileSlices}
 use Rattle.ffv1_holding.specs.PoolEntries.{entry_in}
+use Rattle.ffv1_holding.specs.Rows.{rows_in}
 use Rattle.ffv1_holding.specs.declared.pool_entry.PoolEntry.{PoolEntry}
-use Rattle.ffv1_holding.proofs.RisingSets.{contains_placed, insert_present}
-use Rattle.ffv1_holding.proofs.Pools.{entry_behind, pool_added, view_added}
+use Rattle.ffv1_holding.proofs.OneRows.{union_one, own_view, own_pool, own_listed, own_rows, resized}
+use Rattle.ffv1_holding.proofs.OriginSteps.{held_one}
 use Rattle.ffv1_holding.proofs.pool.Pool.insert.Goals as goal
 
-pub returns-in_default-clause-ok : goal.returns-in_default-clause-ok
-returns-in_default-clause-ok c =
-    let key : Entry = (c.args.tile, c.args.slice.now) in
-    let listed = contains_placed entries_total _ key _ c.in_default.ensures.found in
-    let there : set.contains c.args.self.now.slices key ≡ true =
-    ap (λ (h : TileSlices). set.contains h.slices key) (sym c.self.view_is)
-    ∙ (λ i. set.contains (set.from_list {R = entry_cmp} (map (entry_in (sym c.deref.ensures.value i)) (sym c.deref-2.ensures.value i))) key) ∙ listed in
-    (λ i. record { tiles = c.args.self.now.tiles; slices = sym (insert_present entries_total entries_antisymmetric c.args.self.now.slices key there) i })
+on_ok : {T E : Type 0} (r : Result T E) (P Q : Type 0) → OnOk r P → (P → Q) → OnOk r Q
+on_ok (Ok x) P Q is leads = leads is
+on_ok (Err e) P Q is leads = is
 
-gap : (c : goal.After-unwrap-2) → IsGapFor entry_cmp (map (entry_in c.self.inside.bytes.items) c.self.inside.entries.items) (c.args.tile, c.args.slice.now)
-    c.in-Err.place
-gap c =
-    let key : Entry = (c.args.tile, c.args.slice.now) in
-    subst (λ (xs : List Entry). IsGapFor entry_cmp xs key c.in-Err.place)
-    (λ i. map (entry_in (c.deref.ensures.value i)) (c.deref-2.ensures.value i)) c.in-Err.ensures.absent
+pub insert_all-requires-clause-pool : goal.insert_all-requires-clause-pool
+insert_all-requires-clause-pool c = rw c.status_of.ensures (own_pool c.args.tile c.args.slice.now c.requires.framed)
 
-new_bytes : (c : goal.After-unwrap-2) → c.extend_from_slice.new.self.items ≡ c.self.inside.bytes.items ++ c.args.slice.now
-new_bytes c =
-    c.extend_from_slice.ensures.items
-    ∙ ap (λ r. cond (is_ok r) (c.reserve.new.self.items ++ c.args.slice.now) c.reserve.new.self.items) c.unwrap.ensures
-    ∙ ap (λ b. b ++ c.args.slice.now) c.reserve.ensures.items
+pub insert_all-requires-clause-rows : goal.insert_all-requires-clause-rows
+insert_all-requires-clause-rows c =
+    let digests = c.args.digests.now in
+    let owners = c.deref.ensures.value
+    ∙ resized c.resize.new.self.items c.new-owners.result.items (length digests) _ _ c.in_ok-resize.ensures.items
+    c.new-owners.ensures.items c.new-owners.ensures.len in
+    rw (owners, c.status_of.ensures) (own_rows c.args.tile c.args.slice.now c.requires.framed digests c.requires.digests)
 
-new_entries : (c : goal.After-unwrap-2) → c.insert.new.self.items ≡ insert c.self.inside.entries.items c.in-Err.place
-    (entry_behind c.self.inside.bytes.items c.args.tile c.args.slice.now)
-new_entries c =
-    let start : c.len.result ≡ length c.self.inside.bytes.items = omega (arith, c.len.ensures, c.reserve.ensures.len) in
-    let element = λ (n s : ℕ). let e : PoolEntry = record { tile = c.args.tile; start = n; length = length c.args.slice.now; status = s } in e in
-    c.insert.ensures.items
-    ∙ ap (λ r. cond (is_ok r) (insert c.reserve-2.new.self.items c.in-Err.place (element c.len.result c.status_of.result)) c.reserve-2.new.self.items)
-    c.unwrap-2.ensures
-    ∙ (λ i. insert (c.reserve-2.ensures.items i) c.in-Err.place (element (start i) (c.status_of.ensures i)))
-
-pub invariant_of-self-2 : goal.invariant_of-self-2
-invariant_of-self-2 c = rw (new_bytes c, new_entries c) (pool_added c.self.inside.bytes.items c.self.inside.entries.items c.self.invariant c.in-Err.place
-    c.args.tile c.args.slice.now c.requires (gap c))
+pub insert_all-requires-clause-held : goal.insert_all-requires-clause-held
+insert_all-requires-clause-held c =
+    let digests = c.args.digests.now in
+    let slice = c.args.slice.now in
+    let owners = c.deref.ensures.value
+    ∙ resized c.resize.new.self.items c.new-owners.result.items (length digests) _ _ c.in_ok-resize.ensures.items
+    c.new-owners.ensures.items c.new-owners.ensures.len in
+    rw (owners, c.status_of.ensures, own_listed c.args.tile slice c.requires.framed digests, own_view c.args.tile slice c.requires.framed)
+    (held_one set.empty set.empty (c.args.tile, slice) digests)
 
 pub returns-clause-ok : goal.returns-clause-ok
 returns-clause-ok c =
-    let held = λ (s : set.SetOf entry_cmp). let h : TileSlices = record { tiles = c.self.inside.tiles; slices = s } in h in
-    (λ i. held (set.from_list (map (entry_in (new_bytes c i)) (new_entries c i))))
-    ∙ ap held (view_added c.self.inside.bytes.items c.self.inside.entries.items c.self.invariant c.in-Err.place c.args.tile c.args.slice.now c.requires (gap c))
-    ∙ ap (λ (h : TileSlices). with_entry h (c.args.tile, c.args.slice.now)) c.self.view_is
+    let digests = c.args.digests.now in
+    let slice = c.args.slice.now in
+    let key : Entry = (c.args.tile, slice) in
+    let owners = c.deref.ensures.value
+    ∙ resized c.resize.new.self.items c.new-owners.result.items (length digests) _ _ c.in_ok-resize.ensures.items
+    c.new-owners.ensures.items c.new-owners.ensures.len in
+    let h = c.args.self.now in
+    let own = λ (n : ℕ). let e : PoolEntry = record { tile = c.args.tile; start = 0; length = length slice; status = n } in e in
+    let slices : set.union h.slices (set.from_list (entry_in slice (own c.status_of.result) ∷ [])) ≡ set.insert h.slices key =
+    ap (λ n. set.union h.slices (set.from_list (entry_in slice (own n) ∷ []))) c.status_of.ensures
+    ∙ ap (λ e. set.union h.slices (set.from_list (e ∷ []))) (own_view c.args.tile slice c.requires.framed) ∙ union_one h.slices key in
+    let rows : rows_in slice c.deref.result.now digests ≡ with_each key digests =
+    ap (λ os. rows_in slice os digests) owners ∙ ap (λ n. rows_in slice (replicate (length digests) (own n)) digests) c.status_of.ensures
+    ∙ own_listed c.args.tile slice c.requires.framed digests in
+    on_ok c.insert_all.result _ _ c.insert_all.ensures.ok
+    (λ is. is ∙ (λ i. let g : TileSlices = record { tiles = h.tiles; slices = slices i; origins = set.union h.origins (set.from_list (rows i)) } in g))

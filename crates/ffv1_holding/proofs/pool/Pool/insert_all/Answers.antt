@@ -1,69 +1,75 @@
-use Rattle.std.proofs.Common.{◌≡◌, ℕ, List, map, ap, ◌∙◌, subst, arith}
+use Rattle.std.proofs.Common.{◌≡◌, ◌++◌, List, map, sym, ap, ◌∙◌, subst}
 use Rattle.ffv1_holding.specs.Sets as set
-use Rattle.ffv1_holding.specs.SliceOrder.{Entry, entry_cmp}
-use Rattle.ffv1_holding.specs.TileSets.{TileSlices}
+use Rattle.ffv1_holding.specs.SliceOrder.{Entry, Origin, entry_cmp, origin_cmp}
+use Rattle.ffv1_holding.specs.TileSets.{TileSlices, with_more}
 use Rattle.ffv1_holding.specs.PoolEntries.{entry_in}
-use Rattle.ffv1_holding.specs.Fresh.{fresh_in, AreFresh, AreMoved, AreAllFresh, with_fresh}
-use Rattle.ffv1_holding.specs.declared.fresh.Fresh.{Fresh}
-use Rattle.ffv1_holding.proofs.PoolGrowth.{take-written, places_within, places_in_order, pool_grown, view_grown}
+use Rattle.ffv1_holding.specs.Contents.{AreHeld}
+use Rattle.ffv1_holding.specs.Fresh.{fresh_in, AreAllFresh}
+use Rattle.ffv1_holding.specs.Rows.{rows_in, rows_of, fresh_rows_in, AreFreshRows}
+use Rattle.ffv1_holding.proofs.RowGrowth.{rows_behind, rows_kept}
+use Rattle.ffv1_holding.proofs.FreshHeld.{fresh_held}
 use Rattle.ffv1_holding.proofs.pool.Pool.insert_all.Goals as goal
 
-fresh_before : (c : goal.After-deref-4) → AreFresh (map (entry_in c.self.inside.bytes.items) c.self.inside.entries.items) c.args.bytes.now c.in_ok-fresh.fresh.items
-fresh_before c = subst (λ (held : List Entry). AreFresh held c.args.bytes.now c.in_ok-fresh.fresh.items)
-    (λ i. map (entry_in (c.deref.ensures.value i)) (c.deref-2.ensures.value i)) c.in_ok-fresh.ensures.fresh
+pub put_rows-requires-clause-rows : goal.put_rows-requires-clause-rows
+put_rows-requires-clause-rows c =
+    let old = c.self.inside in
+    let more = c.put_slices.ensures.behind in
+    rw (c.deref-7.ensures.value, c.reserve-3.ensures.items, c.reserve-4.ensures.items)
+    (rows_kept old.bytes.items old.owners.items old.digests.items c.self.invariant.rows c.put_slices.new.bytes.items
+    (more.0, more.1 ∙ ap (λ b. b ++ more.0) c.reserve.ensures.items))
 
-moved_before : (c : goal.After-deref-4) → AreMoved c.args.bytes.now c.self.inside.bytes.items c.move_slices.new.bytes.items c.in_ok-fresh.fresh.items c.move_slices.new.fresh
-moved_before c = subst (λ (b : List ℕ). AreMoved c.args.bytes.now b c.move_slices.new.bytes.items c.in_ok-fresh.fresh.items c.move_slices.new.fresh)
-    c.reserve.ensures.items
-    (subst (λ (old : List Fresh). AreMoved c.args.bytes.now c.reserve.new.self.items c.move_slices.new.bytes.items old c.move_slices.new.fresh)
-    c.deref_mut.ensures.value c.move_slices.ensures)
+-- the rows that were searched are those of the pool, which stay the same over the bytes that have grown
+pub put_rows-requires-clause-fresh : goal.put_rows-requires-clause-fresh
+put_rows-requires-clause-fresh c =
+    let old = c.self.inside in
+    let more = c.put_slices.ensures.behind in
+    let searched : rows_in c.deref-3.result.now c.deref-4.result.now c.deref-5.result.now ≡ rows_in old.bytes.items old.owners.items old.digests.items =
+    (λ i. rows_in (c.deref-3.ensures.value i) (c.deref-4.ensures.value i) (c.deref-5.ensures.value i)) in
+    let held : rows_in c.deref-7.result.now c.reserve-3.new.self.items c.reserve-4.new.self.items ≡ rows_in old.bytes.items old.owners.items old.digests.items =
+    (λ i. rows_in (c.deref-7.ensures.value i) (c.reserve-3.ensures.items i) (c.reserve-4.ensures.items i))
+    ∙ rows_behind old.bytes.items old.owners.items old.digests.items c.self.invariant.rows c.put_slices.new.bytes.items
+    (more.0, more.1 ∙ ap (λ b. b ++ more.0) c.reserve.ensures.items) in
+    subst (λ (rows : List Origin). AreFreshRows rows c.args.rows.bytes.now c.in_ok-new.new.owners.items c.in_ok-new.new.digests.items)
+    (searched ∙ sym held) c.in_ok-new.ensures.fresh
 
-written_before : (c : goal.After-deref-4) → c.deref-4.result.now ≡ c.move_slices.new.fresh
-written_before c =
-    c.deref-4.ensures.value
-    ∙ take-written c.move_slices.new.fresh c.in_ok-fresh.fresh.items c.in_ok-fresh.fresh.len (omega (arith, (moved_before c).long))
-
-pub spread-requires-clause-places : goal.spread-requires-clause-places
-spread-requires-clause-places c = rw (written_before c, c.reserve-2.ensures.items)
-    (places_within c.self.inside.bytes.items c.self.inside.entries.items c.self.invariant c.args.bytes.now c.move_slices.new.bytes.items
-    c.in_ok-fresh.fresh.items c.move_slices.new.fresh (fresh_before c) (moved_before c))
-
-pub spread-requires-clause-rising : goal.spread-requires-clause-rising
-spread-requires-clause-rising c = rw (written_before c)
-    (places_in_order c.self.inside.bytes.items c.self.inside.entries.items c.self.invariant c.args.bytes.now c.move_slices.new.bytes.items
-    c.in_ok-fresh.fresh.items c.move_slices.new.fresh (fresh_before c) (moved_before c))
-
-fresh_after : (c : goal.After-drop-fresh-2) → AreFresh (map (entry_in c.self.inside.bytes.items) c.self.inside.entries.items) c.args.bytes.now c.in_ok-fresh.fresh.items
-fresh_after c = subst (λ (held : List Entry). AreFresh held c.args.bytes.now c.in_ok-fresh.fresh.items)
-    (λ i. map (entry_in (c.deref.ensures.value i)) (c.deref-2.ensures.value i)) c.in_ok-fresh.ensures.fresh
-
-moved_after : (c : goal.After-drop-fresh-2) → AreMoved c.args.bytes.now c.self.inside.bytes.items c.move_slices.new.bytes.items c.in_ok-fresh.fresh.items c.move_slices.new.fresh
-moved_after c = subst (λ (b : List ℕ). AreMoved c.args.bytes.now b c.move_slices.new.bytes.items c.in_ok-fresh.fresh.items c.move_slices.new.fresh)
-    c.reserve.ensures.items
-    (subst (λ (old : List Fresh). AreMoved c.args.bytes.now c.reserve.new.self.items c.move_slices.new.bytes.items old c.move_slices.new.fresh)
-    c.deref_mut.ensures.value c.move_slices.ensures)
-
-written_after : (c : goal.After-drop-fresh-2) → c.deref-4.result.now ≡ c.move_slices.new.fresh
-written_after c =
-    c.deref-4.ensures.value
-    ∙ take-written c.move_slices.new.fresh c.in_ok-fresh.fresh.items c.in_ok-fresh.fresh.len (omega (arith, (moved_after c).long))
-
-entries_after : (c : goal.After-drop-fresh-2) → c.spread.new.entries.items ≡ with_fresh c.move_slices.new.fresh c.self.inside.entries.items
-entries_after c = c.spread.ensures ∙ (λ i. with_fresh (written_after c i) (c.reserve-2.ensures.items i))
-
-pub invariant_of-self-2 : goal.invariant_of-self-2
-invariant_of-self-2 c = rw (entries_after c)
-    (pool_grown c.self.inside.bytes.items c.self.inside.entries.items c.self.invariant c.args.bytes.now c.move_slices.new.bytes.items
-    c.in_ok-fresh.fresh.items c.move_slices.new.fresh (fresh_after c) (moved_after c))
+pub put_rows-requires-clause-held : goal.put_rows-requires-clause-held
+put_rows-requires-clause-held c =
+    let from = c.args.rows.bytes.now in
+    let old = map (entry_in c.deref.result.now) c.deref-2.result.now in
+    let coming = map (entry_in from) c.args.entries.now in
+    let fresh = map (fresh_in from) c.in_ok-fresh.fresh.items in
+    let slices : set.from_list {R = entry_cmp} (map (entry_in c.deref-7.result.now) c.deref-8.result.now) ≡ set.union (set.from_list old) (set.from_list fresh) =
+    (λ i. set.from_list (map (entry_in (c.deref-7.ensures.value i)) (c.deref-8.ensures.value i))) ∙ c.put_slices.ensures.slices
+    ∙ (λ i. set.union (set.from_list (map (entry_in (c.reserve.ensures.items i)) (c.reserve-2.ensures.items i))) (set.from_list fresh))
+    ∙ (λ i. set.union (set.from_list (map (entry_in (sym c.deref.ensures.value i)) (sym c.deref-2.ensures.value i))) (set.from_list fresh)) in
+    subst (λ s. AreHeld s (set.from_list (fresh_rows_in from c.in_ok-new.new.owners.items c.in_ok-new.new.digests.items))) (sym slices)
+    (fresh_held old coming fresh c.in_ok-fresh.ensures.all (rows_in c.deref-3.result.now c.deref-4.result.now c.deref-5.result.now) (rows_of c.args.rows) from
+    c.in_ok-new.new.owners.items c.in_ok-new.new.digests.items c.in_ok-new.ensures.fresh c.in_ok-new.ensures.all c.requires.held)
 
 pub returns-clause-ok : goal.returns-clause-ok
 returns-clause-ok c =
-    let held = λ (s : set.SetOf entry_cmp). let h : TileSlices = record { tiles = c.self.inside.tiles; slices = s } in h in
-    let coming = map (entry_in c.args.bytes.now) c.args.entries.now in
-    let all = subst (λ (xs : List Entry). AreAllFresh xs coming (map (fresh_in c.args.bytes.now) c.in_ok-fresh.fresh.items))
+    let from = c.args.rows.bytes.now in
+    let old = c.self.inside in
+    let next = c.put_slices.new.bytes.items in
+    let coming = map (entry_in from) c.args.entries.now in
+    let fresh = map (fresh_in from) c.in_ok-fresh.fresh.items in
+    let new = fresh_rows_in from c.in_ok-new.new.owners.items c.in_ok-new.new.digests.items in
+    let more = c.put_slices.ensures.behind in
+    let grown : next ≡ old.bytes.items ++ more.0 = more.1 ∙ ap (λ b. b ++ more.0) c.reserve.ensures.items in
+    let entries = subst (λ (held : List Entry). AreAllFresh entry_cmp held coming fresh)
     (λ i. map (entry_in (c.deref.ensures.value i)) (c.deref-2.ensures.value i)) c.in_ok-fresh.ensures.all in
-    (λ i. held (set.from_list (map (entry_in c.move_slices.new.bytes.items) (entries_after c i))))
-    ∙ ap held (view_grown c.self.inside.bytes.items c.self.inside.entries.items c.self.invariant c.args.bytes.now c.move_slices.new.bytes.items
-    c.in_ok-fresh.fresh.items c.move_slices.new.fresh (fresh_after c) (moved_after c))
-    ∙ ap held all
-    ∙ ap (λ (h : TileSlices). let g : TileSlices = record { tiles = h.tiles; slices = set.union h.slices (set.from_list coming) } in g) c.self.view_is
+    let slices : set.from_list {R = entry_cmp} (map (entry_in next) c.put_slices.new.entries.items)
+    ≡ set.union (set.from_list (map (entry_in old.bytes.items) old.entries.items)) (set.from_list coming) =
+    c.put_slices.ensures.slices
+    ∙ (λ i. set.union (set.from_list (map (entry_in (c.reserve.ensures.items i)) (c.reserve-2.ensures.items i))) (set.from_list fresh)) ∙ entries in
+    let all = subst (λ (held : List Origin). AreAllFresh origin_cmp held (rows_of c.args.rows) new)
+    (λ i. rows_in (c.deref-3.ensures.value i) (c.deref-4.ensures.value i) (c.deref-5.ensures.value i)) c.in_ok-new.ensures.all in
+    let held : rows_in c.deref-7.result.now c.reserve-3.new.self.items c.reserve-4.new.self.items ≡ rows_in old.bytes.items old.owners.items old.digests.items =
+    (λ i. rows_in (c.deref-7.ensures.value i) (c.reserve-3.ensures.items i) (c.reserve-4.ensures.items i))
+    ∙ rows_behind old.bytes.items old.owners.items old.digests.items c.self.invariant.rows next (more.0, grown) in
+    let origins : set.from_list {R = origin_cmp} (rows_in next c.put_rows.new.owners.items c.put_rows.new.digests.items)
+    ≡ set.union (set.from_list (rows_in old.bytes.items old.owners.items old.digests.items)) (set.from_list (rows_of c.args.rows)) =
+    (λ i. set.from_list (rows_in (sym c.deref-7.ensures.value i) c.put_rows.new.owners.items c.put_rows.new.digests.items))
+    ∙ c.put_rows.ensures.origins ∙ ap (λ xs. set.union (set.from_list {R = origin_cmp} xs) (set.from_list new)) held ∙ all in
+    (λ i. let h : TileSlices = record { tiles = old.tiles; slices = slices i; origins = origins i } in h)
+    ∙ ap (λ (h : TileSlices). with_more h (set.from_list coming) (set.from_list (rows_of c.args.rows))) c.self.view_is

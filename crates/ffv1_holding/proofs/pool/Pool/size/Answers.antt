@@ -10,6 +10,6 @@ returns c =
     omega (
       arith,
       c.len.ensures,
-      size_kept entries_total (entry_in c.self.inside.bytes.items) c.self.inside.entries.items _ c.self.invariant.rising
+      size_kept entries_total (entry_in c.self.inside.bytes.items) c.self.inside.entries.items _ c.self.invariant.pool.rising
           (ap (λ (h : TileSlices). h.slices) c.self.view_is),
     )

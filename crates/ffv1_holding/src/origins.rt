@@ -1,0 +1,22 @@
+//! Which copies gave a slice that is held (own), by their SHA-256 digests.
+ghost use Rattle.std.specs.Prelude.{◌≡◌, true, false, IfSome, IfNone};
+ghost use Rattle.ffv1_holding.specs.Sets as set;
+ghost use Rattle.ffv1_holding.specs.Contents.{digests_of, AreDigests};
+
+use crate::holding::Holding;
+
+impl Holding {
+    /// The SHA-256 digests of the whole copies that gave a slice of a tile, which is given with its footer: each once,
+    /// rising by their bytes. `None` comes exactly where that slice is not held of the tile. Tiles count from 0, row by
+    /// row of the grid.
+    ///
+    /// A slice that came by `insert` has the digests that came with it, and may have none.
+    pub fn origins(&self, tile: usize, slice: &[u8]) -> Option<&[[u8; 32]]>
+        ensures digests { IfSome result (λ digests. digests.now ≡ digests_of self.now (tile, slice.now)) }
+        ensures rising { IfSome result (λ digests. AreDigests digests.now) }
+        ensures held { IfSome result (λ _. set.contains self.now.slices (tile, slice.now) ≡ true) }
+        ensures absent { IfNone result (set.contains self.now.slices (tile, slice.now) ≡ false) }
+    {
+        self.held.origins(tile, slice)
+    }
+}
