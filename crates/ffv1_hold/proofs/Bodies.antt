@@ -1,9 +1,9 @@
--- The parts of an entry behind its tag.
+-- The parts of a slice behind its tag.
 use Rattle.std.proofs.Common.{◌≡◌, ℕ, ◌<◌, ◌≤◌, List, ◌++◌, length, arith, inl, inr, refl, ap, length-append}
 use Rattle.ffv1_bits.specs.Limits.{slice_limit}
 use Rattle.ffv1_holding.specs.SliceOrder.{Entry}
-use Rattle.ffv1_hold.specs.HoldingText.{be2, be4, body_text}
-use Rattle.ffv1_hold.specs.FileFaults.{IsPartOfBody}
+use Rattle.ffv1_hold.specs.HoldingText.{be2, be4, slice_text}
+use Rattle.ffv1_hold.specs.FileFaults.{IsPartOfSlice}
 
 pub length-be2 : (n : ℕ) → length (be2 n) ≡ 2
 unfolding be2
@@ -13,12 +13,12 @@ pub length-be4 : (n : ℕ) → length (be4 n) ≡ 4
 unfolding be4
 length-be4 n = refl
 
-pub part_of_length : (tile : ℕ) (s : List ℕ) → length s < 4 → IsPartOfBody (be2 tile ++ s)
+pub part_of_length : (tile : ℕ) (s : List ℕ) → length s < 4 → IsPartOfSlice (be2 tile ++ s)
 part_of_length tile s h = inl (omega (arith, length-append (be2 tile) s, length-be2 tile))
 
-pub part_of_bytes : (tile n : ℕ) (s : List ℕ) → n ≤ slice_limit → length s < n → IsPartOfBody (be2 tile ++ be4 n ++ s)
+pub part_of_bytes : (tile n : ℕ) (s : List ℕ) → n ≤ slice_limit → length s < n → IsPartOfSlice (be2 tile ++ be4 n ++ s)
 part_of_bytes tile n s fits h = inr (tile, n, s, refl, fits, h)
 
-pub body_text-of : (e : Entry) (n : ℕ) → n ≡ length e.1 → be2 e.0 ++ be4 n ++ e.1 ≡ body_text e
-unfolding body_text
-body_text-of e n h = ap (λ k. be2 e.0 ++ be4 k ++ e.1) h
+pub slice_text-of : (e : Entry) (n : ℕ) → n ≡ length e.1 → be2 e.0 ++ be4 n ++ e.1 ≡ slice_text e
+unfolding slice_text
+slice_text-of e n h = ap (λ k. be2 e.0 ++ be4 k ++ e.1) h

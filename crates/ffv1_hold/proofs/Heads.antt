@@ -1,6 +1,6 @@
 -- The parts of the size and the record.
 use Rattle.std.proofs.Common.{◌≡◌, ℕ, suc, ◌<◌, ◌≤◌, List, [], ◌∷◌, ◌++◌, length, take, get_or, Option, Result, Ok, Err, IfOk, IfErr, arith, inl, inr, refl, sym, ap, ◌∙◌, subst, append_assoc, append-nil, length-append, length-take-le}
-use Rattle.std.proofs.Math.Seq.{take-suc}
+use Rattle.std.proofs.Math.Seq.{take-suc, take-append-le}
 use Rattle.std.specs.Prelude.{◌⊎◌}
 use Rattle.ffv1_bits.specs.Limits.{record_limit}
 use Rattle.ffv1_range.specs.declared.fault.SetupFault.{SetupFault}
@@ -9,15 +9,17 @@ use Rattle.ffv1_range.specs.SetupFaults.{FirstSetupFault}
 use Rattle.ffv1_hold.specs.declared.file_fault.HoldFileFault.{HoldFileFault}
 use Rattle.ffv1_hold.specs.declared.file_fault.HoldFileFault.TheVariants as faults
 use Rattle.ffv1_holding.specs.Reels.{Reel}
-use Rattle.ffv1_hold.specs.HoldingText.{magic, be4, sized_record, head_text, entries_text, holding_text}
-use Rattle.ffv1_holding.specs.SliceOrder.{entry_cmp}
-use Rattle.ffv1_holding.specs.Sets as set
-use Rattle.ffv1_hold.specs.Reading.{Takes, Refuses}
+use Rattle.ffv1_hold.specs.declared.version.Version.{Version}
+use Rattle.ffv1_hold.specs.declared.version.Version.TheVariants.{First, Second}
+use Rattle.ffv1_hold.specs.HoldingText.{name, version_number, magic, be4, sized_record, head_text, entries_text, file_entries, IsTold}
+use Rattle.ffv1_holding.specs.Contents.{Contents, IsHolding}
+use Rattle.ffv1_hold.specs.Reading.{Takes, Refuses, IsShorter, Never}
 use Rattle.ffv1_hold.specs.FileEntries.{AreEntries}
-use Rattle.ffv1_hold.specs.FileFaults.{IsFileReel, IsPartOfReel, ReelIsWhole, FileIsWhole, ReelShows, EntriesAreWhole, IsPartOfEntries, EntriesShow, IsPartOfHead, HeadIsWhole, HeadShows, IsPartOfFile, MagicShows, FileShows}
+use Rattle.ffv1_hold.specs.ReadOrigins.{VersionShows}
+use Rattle.ffv1_hold.specs.FileFaults.{IsFileReel, IsPartOfMagic, IsHoldingText, IsPartOfReel, ReelIsWhole, FileIsWhole, ReelShows, EntriesAreWhole, IsPartOfEntries, EntriesShow, IsPartOfHead, HeadIsWhole, HeadShows, IsPartOfFile, MagicShows, FileShows}
 use Rattle.ffv1_hold.proofs.Bodies.{length-be4}
 use Rattle.ffv1_hold.proofs.ReadRefusals.{Takes-nil, Takes-trans, Refuses-after}
-use Rattle.ffv1_hold.proofs.TextLaws.{same_back}
+use Rattle.ffv1_hold.proofs.NumberTexts.{same_back}
 
 pub part_of_height : (w : ℕ) (s : List ℕ) → length s < 4 → IsPartOfReel (be4 w ++ s)
 part_of_height w s h = inl (omega (arith, length-append (be4 w) s, length-be4 w))
@@ -32,31 +34,70 @@ pub sized_record-of : (config : List ℕ) (w h n : ℕ) → n ≡ length config 
 unfolding sized_record
 sized_record-of config w h n is = ap (λ k. be4 w ++ be4 h ++ be4 k ++ config) is
 
--- a beginning of the magic, and a wrong byte behind it
-pub wrong_magic : (i : ℕ) (byte : List ℕ) → i < 8 → length byte ≡ 1 → (get_or byte 0 0 ≡ get_or magic i 0 → ⊥) → MagicShows faults.Magic (take i magic ++ byte)
-wrong_magic i byte lt one other =
-    let front = length-take-le i magic (omega arith) in
-    let long : length (take i magic ++ byte) ≡ suc i = omega (arith, length-append (take i magic) byte) in (
+-- a beginning of the name, and a wrong byte behind it
+pub wrong_name : (i : ℕ) (byte : List ℕ) → i < 7 → length byte ≡ 1 → (get_or byte 0 0 ≡ get_or name i 0 → ⊥) → MagicShows faults.Magic (take i name ++ byte)
+wrong_name i byte lt one other =
+    let front = length-take-le i name (omega arith) in
+    let long : length (take i name ++ byte) ≡ suc i = omega (arith, length-append (take i name) byte) in (
       omega arith,
-      λ same.
-          let back = same_back (take i magic) (take i magic) byte (get_or magic i 0 ∷ []) refl (same ∙ ap (λ n. take n magic) long ∙ take-suc magic i 0 lt) in
+      λ v same.
+          let in_name : take (suc i) (magic v) ≡ take (suc i) name = take-append-le (suc i) name (version_number v ∷ []) (omega arith) in
+          let back = same_back (take i name) (take i name) byte (get_or name i 0 ∷ []) refl
+          (same ∙ ap (λ n. take n (magic v)) long ∙ in_name ∙ take-suc name i 0 lt) in
           other (ap (λ b. get_or b 0 0) back),
     )
 
-head_text-of : (r : Reel) → magic ++ sized_record r.config r.setup.width r.setup.height ≡ head_text r
+-- a beginning of the name is one of the magic
+pub part_of_name : (i : ℕ) (s : List ℕ) → i < 7 → length s < 1 → IsPartOfMagic (take i name ++ s)
+part_of_name i [] lt short =
+    let front = length-take-le i name (omega arith) in
+    let all = append-nil (take i name) in (
+      omega (arith, ap length all),
+      all ∙ sym (ap (λ n. take n (magic Second)) (ap length all ∙ front) ∙ take-append-le i name (2 ∷ []) (omega arith)),
+    )
+part_of_name i (x ∷ s) lt short = absurd (omega arith)
+
+-- the whole name is a beginning of the magic
+pub whole_name : (s : List ℕ) → length s < 1 → IsPartOfMagic (name ++ s)
+whole_name [] short = (omega arith, refl)
+whole_name (x ∷ s) short = absurd (omega arith)
+
+-- a byte behind the name that is the number of no version
+pub wrong_version : (n : ℕ) → (n ≡ 1 → ⊥) → (n ≡ 2 → ⊥) → MagicShows faults.Magic (name ++ n ∷ [])
+wrong_version n one two = (omega arith, wrong)
+  where
+    wrong : (v : Version) → name ++ n ∷ [] ≡ take 8 (magic v) → ⊥
+    wrong First same = one (ap (λ z. get_or z 7 0) same)
+    wrong Second same = two (ap (λ z. get_or z 7 0) same)
+
+pub version_refused : (f : HoldFileFault) (s : List ℕ) → VersionShows f s → MagicShows f (name ++ s)
+version_refused faults.Magic s (n, is, one, two) = subst (λ t. MagicShows faults.Magic (name ++ t)) (sym is) (wrong_version n one two)
+version_refused faults.TooLong s shown = absurd shown
+version_refused (faults.Setup f) s shown = absurd shown
+version_refused faults.Truncated s shown = absurd shown
+version_refused faults.Tag s shown = absurd shown
+version_refused faults.Order s shown = absurd shown
+version_refused faults.NotASlice s shown = absurd shown
+version_refused faults.Trailing s shown = absurd shown
+version_refused faults.Read s shown = absurd shown
+version_refused faults.Write s shown = absurd shown
+version_refused faults.Memory s shown = absurd shown
+version_refused faults.OtherReel s shown = absurd shown
+
+head_text-of : (v : Version) (r : Reel) → magic v ++ sized_record r.config r.setup.width r.setup.height ≡ head_text v r
 unfolding head_text
-head_text-of r = refl
+head_text-of v r = refl
 
 -- ---- the parts of a head, and of a file
 
-head_from_reel_part : (s : List ℕ) → IsPartOfReel s → IsPartOfHead (magic ++ s)
-head_from_reel_part s h = inr (s, refl, h)
+head_from_reel_part : (v : Version) (s : List ℕ) → IsPartOfReel s → IsPartOfHead (magic v ++ s)
+head_from_reel_part v s h = inr (v, s, refl, h)
 
-head_from_whole_reel : (f : HoldFileFault) (s : List ℕ) → ReelIsWhole f s → HeadIsWhole f (magic ++ s)
-head_from_whole_reel f s h = (s, refl, h)
+head_from_whole_reel : (v : Version) (f : HoldFileFault) (s : List ℕ) → ReelIsWhole f s → HeadIsWhole f (magic v ++ s)
+head_from_whole_reel v f s h = (v, s, refl, h)
 
-head_from_reel_fault : (f : HoldFileFault) (s : List ℕ) → ReelShows f s → HeadShows f (magic ++ s)
-head_from_reel_fault f s h = inr (s, refl, h)
+head_from_reel_fault : (v : Version) (f : HoldFileFault) (s : List ℕ) → ReelShows f s → HeadShows f (magic v ++ s)
+head_from_reel_fault v f s h = inr (v, s, refl, h)
 
 pub file_from_head_part : (s : List ℕ) → IsPartOfHead s → IsPartOfFile s
 file_from_head_part s (inl h) = inl h
@@ -68,17 +109,17 @@ file_from_head_fault f s (inr h) = inr (inl h)
 
 pub file_from_whole_head : (f : HoldFileFault) (s : List ℕ) → HeadIsWhole f s → FileIsWhole f s
 file_from_whole_head faults.Memory s h = h
-file_from_whole_head faults.Magic s (reel, is, h) = absurd h
-file_from_whole_head (faults.Setup f) s (reel, is, h) = absurd h
-file_from_whole_head faults.Truncated s (reel, is, h) = absurd h
-file_from_whole_head faults.Tag s (reel, is, h) = absurd h
-file_from_whole_head faults.Order s (reel, is, h) = absurd h
-file_from_whole_head faults.NotASlice s (reel, is, h) = absurd h
-file_from_whole_head faults.Trailing s (reel, is, h) = absurd h
-file_from_whole_head faults.Read s (reel, is, h) = absurd h
-file_from_whole_head faults.Write s (reel, is, h) = absurd h
-file_from_whole_head faults.TooLong s (reel, is, h) = absurd h
-file_from_whole_head faults.OtherReel s (reel, is, h) = absurd h
+file_from_whole_head faults.Magic s (v, reel, is, h) = absurd h
+file_from_whole_head (faults.Setup f) s (v, reel, is, h) = absurd h
+file_from_whole_head faults.Truncated s (v, reel, is, h) = absurd h
+file_from_whole_head faults.Tag s (v, reel, is, h) = absurd h
+file_from_whole_head faults.Order s (v, reel, is, h) = absurd h
+file_from_whole_head faults.NotASlice s (v, reel, is, h) = absurd h
+file_from_whole_head faults.Trailing s (v, reel, is, h) = absurd h
+file_from_whole_head faults.Read s (v, reel, is, h) = absurd h
+file_from_whole_head faults.Write s (v, reel, is, h) = absurd h
+file_from_whole_head faults.TooLong s (v, reel, is, h) = absurd h
+file_from_whole_head faults.OtherReel s (v, reel, is, h) = absurd h
 
 -- a head that is refused is a fault of the file
 pub head_file : (old new : Option (List ℕ)) (f : HoldFileFault) → Refuses IsPartOfHead HeadIsWhole HeadShows old new 0 f
@@ -87,56 +128,81 @@ head_file old new f r =
     Refuses-after IsPartOfHead IsPartOfFile HeadIsWhole FileIsWhole HeadShows FileShows old old new 0 0 [] f (Takes-nil old 0 (omega arith)) r
     file_from_head_part file_from_whole_head file_from_head_fault
 
-text_of : (r : Reel) (slices : set.SetOf entry_cmp) (s tag : List ℕ) → s ≡ entries_text (set.items slices) ++ tag → tag ≡ 0 ∷ []
-    → head_text r ++ s ≡ holding_text (record { reel = r; slices = slices })
-text_of r slices s tag same end = ap (λ t. head_text r ++ t) (same ∙ ap (λ t. entries_text (set.items slices) ++ t) end)
-    ∙ sym (append_assoc (head_text r) (entries_text (set.items slices)) (0 ∷ []))
-
 -- a text, whose end is looked for
-pub file_from_whole_entries : (r : Reel) → IsFileReel r → (f : HoldFileFault) (s : List ℕ) → EntriesAreWhole r.setup f s → FileIsWhole f (head_text r ++ s)
-file_from_whole_entries r is faults.Read s (slices, tag, are, same, end) =
-    (record { reel = r; slices = slices }, record { reel = is.reel; slices = are }, is.fits, text_of r slices s tag same end)
-file_from_whole_entries r is faults.Trailing s (slices, tag, are, same, end) =
-    (record { reel = r; slices = slices }, record { reel = is.reel; slices = are }, is.fits, text_of r slices s tag same end)
-file_from_whole_entries r is faults.Magic s (slices, tag, are, same, end) = absurd end
-file_from_whole_entries r is (faults.Setup f) s (slices, tag, are, same, end) = absurd end
-file_from_whole_entries r is faults.Truncated s (slices, tag, are, same, end) = absurd end
-file_from_whole_entries r is faults.Tag s (slices, tag, are, same, end) = absurd end
-file_from_whole_entries r is faults.Order s (slices, tag, are, same, end) = absurd end
-file_from_whole_entries r is faults.NotASlice s (slices, tag, are, same, end) = absurd end
-file_from_whole_entries r is faults.Write s (slices, tag, are, same, end) = absurd end
-file_from_whole_entries r is faults.Memory s (slices, tag, are, same, end) = absurd end
-file_from_whole_entries r is faults.TooLong s (slices, tag, are, same, end) = absurd end
-file_from_whole_entries r is faults.OtherReel s (slices, tag, are, same, end) = absurd end
+abbrev IsFileOfReel : Version → Reel → List ℕ → Type 0
+IsFileOfReel v r s = (h : Contents) × (tag : List ℕ) × IsHolding h × IsTold v h × (h.reel ≡ r) × (s ≡ entries_text v (file_entries h) ++ tag) × (tag ≡ 0 ∷ [])
 
-pub file_from_entries_part : (r : Reel) → IsFileReel r → (s : List ℕ) → IsPartOfEntries r.setup s → IsPartOfFile (head_text r ++ s)
-file_from_entries_part r i s h = inr (inr (r, s, i, refl, h))
+text_of : (v : Version) (r : Reel) → IsFileReel r → (s : List ℕ) → IsFileOfReel v r s → IsHoldingText (head_text v r ++ s)
+text_of v r is s (h, tag, holding, told, reel, same, end) = (
+  h,
+  holding,
+  subst (λ (x : Reel). length x.config ≤ record_limit) (sym reel) is.fits,
+  (
+    v,
+    told,
+    ap (λ (x : Reel). head_text v x ++ s) (sym reel)
+        ∙ ap (λ t. head_text v h.reel ++ t) (same ∙ ap (λ t. entries_text v (file_entries h) ++ t) end)
+        ∙ sym (append_assoc (head_text v h.reel) (entries_text v (file_entries h)) (0 ∷ [])),
+  ),
+)
+
+pub file_from_whole_entries : (v : Version) (r : Reel) → IsFileReel r → (f : HoldFileFault) (s : List ℕ) → EntriesAreWhole v r f s
+    → FileIsWhole f (head_text v r ++ s)
+file_from_whole_entries v r is faults.Read s w = text_of v r is s w
+file_from_whole_entries v r is faults.Trailing s w = text_of v r is s w
+file_from_whole_entries v r is faults.Magic s w = absurd w.6
+file_from_whole_entries v r is (faults.Setup f) s w = absurd w.6
+file_from_whole_entries v r is faults.Truncated s w = absurd w.6
+file_from_whole_entries v r is faults.Tag s w = absurd w.6
+file_from_whole_entries v r is faults.Order s w = absurd w.6
+file_from_whole_entries v r is faults.NotASlice s w = absurd w.6
+file_from_whole_entries v r is faults.Write s w = absurd w.6
+file_from_whole_entries v r is faults.Memory s w = absurd w.6
+file_from_whole_entries v r is faults.TooLong s w = absurd w.6
+file_from_whole_entries v r is faults.OtherReel s w = absurd w.6
+
+pub file_from_entries_part : (v : Version) (r : Reel) → IsFileReel r → (s : List ℕ) → IsPartOfEntries v r.setup s → IsPartOfFile (head_text v r ++ s)
+file_from_entries_part v r i s h = inr (inr (v, r, s, i, refl, h))
+
+pub file_from_entries_fault : (v : Version) (r : Reel) → IsFileReel r → (f : HoldFileFault) (s : List ℕ) → EntriesShow v r.setup f s
+    → FileShows f (head_text v r ++ s)
+file_from_entries_fault v r i f s h = inr (inr (v, r, s, i, refl, h))
 
 -- a head begins a file
-pub head_is_part : (r : Reel) → IsFileReel r → IsPartOfFile (head_text r)
+pub head_is_part : (v : Version) (r : Reel) → IsFileReel r → IsPartOfFile (head_text v r)
 unfolding entries_text
-head_is_part r is =
-    let none : AreEntries r.setup [] = record { each = tt; rising = λ i j d lt short. absurd (omega arith) } in
-    inr (inr (r, [], is, sym (append-nil (head_text r)), ([], [], none, refl, inl refl)))
+head_is_part v r is =
+    let none : AreEntries v r.setup [] = record { each = tt; rising = λ i j d lt short. absurd (omega arith) } in
+    inr (inr (v, r, [], is, sym (append-nil (head_text v r)), ([], [], none, refl, inl refl)))
 
 -- a size and a record that were read, or refused, behind the magic
-module _ (a b c : Option (List ℕ)) (i j k : ℕ) (t : Takes a b i j magic) where
+module _ (v : Version) (a b c : Option (List ℕ)) (i j k : ℕ) (t : Takes a b i j (magic v)) where
   pub head_taken : (r : Result Reel HoldFileFault) → IfOk r (λ r. Takes b c j k (sized_record r.config r.setup.width r.setup.height))
-      → IfOk r (λ r. Takes a c i k (head_text r))
-  head_taken (Ok r) more = subst (Takes a c i k) (head_text-of r) (Takes-trans a b c i j k magic _ t more)
+      → IfOk r (λ r. Takes a c i k (head_text v r))
+  head_taken (Ok r) more = subst (Takes a c i k) (head_text-of v r) (Takes-trans a b c i j k (magic v) _ t more)
   head_taken (Err f) more = tt
 
   pub head_refused : (r : Result Reel HoldFileFault) → IfErr r (Refuses IsPartOfReel ReelIsWhole ReelShows b c j)
       → IfErr r (Refuses IsPartOfHead HeadIsWhole HeadShows a c i)
   head_refused (Ok r) refused = tt
-  head_refused (Err f) refused = Refuses-after IsPartOfReel IsPartOfHead ReelIsWhole HeadIsWhole ReelShows HeadShows a b c i j magic f t refused
-      head_from_reel_part head_from_whole_reel head_from_reel_fault
-
-pub file_from_entries_fault : (r : Reel) → IsFileReel r → (f : HoldFileFault) (s : List ℕ) → EntriesShow r.setup f s → FileShows f (head_text r ++ s)
-file_from_entries_fault r i f s h = inr (inr (r, s, i, refl, h))
+  head_refused (Err f) refused = Refuses-after IsPartOfReel IsPartOfHead ReelIsWhole HeadIsWhole ReelShows HeadShows a b c i j (magic v) f t refused
+      (head_from_reel_part v) (head_from_whole_reel v) (head_from_reel_fault v)
 
 -- a refusal that isn't want of memory is the first fault of the record
 pub first_fault : (config : List ℕ) (w h : ℕ) (f : SetupFault) → (f ≡ no_memory) ⊎ FirstSetupFault config w h f → (f ≡ no_memory → ⊥)
     → FirstSetupFault config w h f
 first_fault config w h f (inl memory) other = absurd (other memory)
 first_fault config w h f (inr first) other = first
+
+-- a version that was read, or refused, behind the name
+module _ (a b c : Option (List ℕ)) (i j : ℕ) where
+  pub magic_taken : (k : ℕ) → Takes a b i j name → (r : Result Version HoldFileFault) → IfOk r (λ v. Takes b c j k (version_number v ∷ []))
+      → IfOk r (λ v. Takes a c i k (magic v))
+  magic_taken k t (Ok v) more = Takes-trans a b c i j k name _ t more
+  magic_taken k t (Err f) more = tt
+
+  pub version_behind_name : Takes a b i j name → (r : Result Version HoldFileFault) → IfErr r (Refuses (IsShorter 1) Never VersionShows b c j)
+      → IfErr r (Refuses IsPartOfMagic Never MagicShows a c i)
+  version_behind_name t (Ok v) refused = tt
+  version_behind_name t (Err f) refused =
+      Refuses-after (IsShorter 1) IsPartOfMagic Never Never VersionShows MagicShows a b c i j name f t refused whole_name (λ f s h. h) version_refused

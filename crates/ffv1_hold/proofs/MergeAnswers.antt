@@ -1,54 +1,56 @@
 -- What joining two files answers to texts of one reel, and to heads of two.
-use Rattle.std.proofs.Common.{◌≡◌, ℕ, ◌<◌, true, List, [], ◌∷◌, ◌++◌, length, Option, Some, None, Result, Ok, Err, IfErr, OnOk, IsErrOf, rules, refl, sym, ap, ◌∙◌, subst, inl, inr, arith, append_assoc, append-nil, length-append}
+use Rattle.std.proofs.Common.{◌≡◌, ℕ, ◌<◌, List, [], ◌∷◌, ◌++◌, length, Option, Some, None, Result, Ok, Err, IfErr, OnOk, IsErrOf, rules, refl, sym, ap, ◌∙◌, subst, inl, inr, arith, append_assoc, append-nil, length-append}
 use Rattle.std.specs.Prelude.{◌⊎◌}
 use Rattle.std.specs.Io.KnownBytes.{Consumes, Appends}
 use Rattle.std.proofs.KnownBytes.{Consumes-nil, Appends-nil}
 use Rattle.ffv1_bits.specs.Limits.{file_limit}
-use Rattle.ffv1_holding.specs.SliceOrder.{Entry}
-use Rattle.ffv1_holding.specs.Sets as set
+use Rattle.ffv1_hold.specs.declared.version.Version.{Version}
+use Rattle.ffv1_hold.specs.declared.version.Version.TheVariants.{Second}
 use Rattle.ffv1_holding.specs.Reels.{Reel}
 use Rattle.ffv1_holding.specs.Contents.{Contents, IsSameReel, joined}
 use Rattle.ffv1_hold.specs.declared.file_fault.HoldFileFault.{HoldFileFault}
 use Rattle.ffv1_hold.specs.declared.file_fault.HoldFileFault.TheVariants as faults
-use Rattle.ffv1_hold.specs.HoldingText.{be4, magic, sized_record, head_text, entries_text, holding_text}
+use Rattle.ffv1_hold.specs.HoldingText.{be4, magic, sized_record, head_text, entries_text, begun_text, file_entries, file_text, holding_text, IsTold}
 use Rattle.ffv1_hold.specs.Reading.{Refuses, StopsIn}
 use Rattle.ffv1_hold.specs.FileFaults.{IsFileReel, IsPartOfReel, IsPartOfHead, HeadIsWhole, HeadShows, IsOutside}
-use Rattle.ffv1_hold.specs.JoinedStreams.{Inputs, IsFileOf, BeginsWith, BeginsWithHead, InputRefuses, ShowsNoFault, BothRefuse, JoinRefuses, EntriesPass, UnionPasses, ReadsPart, ReadsAll, ReadsOtherHeads, WritesUnion, AnswersUnion, AnswersOther, WritesAtMost, WritesNoEnd, StaysInLead, begun_text}
-use Rattle.ffv1_hold.specs.Merging.{HeadsRefuse, WriteStops, Stops, JoinStops, part}
+use Rattle.ffv1_hold.specs.JoinedStreams.{Inputs, IsFileOf, BeginsWith, BeginsWithHead, InputRefuses, ShowsNoFault, BothRefuse, JoinRefuses, EntriesPass, UnionPasses, ReadsPart, ReadsAll, ReadsOtherHeads, WritesUnion, AnswersUnion, AnswersOther, WritesAtMost, WritesNoEnd, StaysInLead}
+use Rattle.ffv1_hold.specs.Merging.{Facts, both, HeadsRefuse, WriteStops, Stops, JoinStops, part}
 use Rattle.ffv1_hold.proofs.Bodies.{length-be4}
-use Rattle.ffv1_hold.proofs.TextLaws.{same_head, head_parts, behind_magic, text_parts, one_text, fitting_items}
+use Rattle.ffv1_hold.proofs.TextLaws.{same_head, head_parts, behind_magic, text_parts, one_file, fitting_items}
+use Rattle.ffv1_hold.proofs.HeldEntries.{holding-joined}
 use Rattle.ffv1_hold.proofs.FaultLaws.{magic_none, reel_none, sized_cut}
 use Rattle.ffv1_hold.proofs.Answered.{taken_front, taken_all, refused_outside}
 use Rattle.ffv1_hold.proofs.Heads.{head_is_part, head_file}
-use Rattle.ffv1_hold.proofs.MergeSets.{contains-left, contains-right, shorter, union_in, front_contained}
+use Rattle.ffv1_hold.proofs.MergeFacts.{IsWithin, within-left, within-right, within-both, within-trans, shorter}
+use Rattle.ffv1_hold.proofs.MergeFronts.{front_within}
 use Rattle.ffv1_hold.proofs.MergeLeads.{front_entries, stays_in_lead}
 
 -- ---- a head that is there is not refused
 
 -- no beginning of what goes on behind a head shows a fault of a head
-head_none : (r : Reel) → IsFileReel r → (x seen y : List ℕ) (f : HoldFileFault) → head_text r ++ x ≡ seen ++ y → HeadShows f seen → ⊥
-head_none r is x seen y f same (inl shown) = magic_none _ y seen f (sym (head_parts r x) ∙ same) shown
-head_none r is x seen y f same (inr (s, split, shown)) =
-    reel_none r is x y f s (behind_magic _ _ (sym (head_parts r x) ∙ same ∙ ap (λ t. t ++ y) split ∙ append_assoc magic s y)) shown
+head_none : (v : Version) (r : Reel) → IsFileReel r → (x seen y : List ℕ) (f : HoldFileFault) → head_text v r ++ x ≡ seen ++ y → HeadShows f seen → ⊥
+head_none v r is x seen y f same (inl shown) = magic_none v _ y seen f (sym (head_parts v r x) ∙ same) shown
+head_none v r is x seen y f same (inr (w, s, split, shown)) =
+    reel_none r is x y f s (behind_magic v w _ _ (sym (head_parts v r x) ∙ same ∙ ap (λ t. t ++ y) split ∙ append_assoc (magic w) s y)) shown
 
 -- what has a head is no part of one
-head_whole : (r : Reel) → IsFileReel r → (x : List ℕ) → IsPartOfHead (head_text r ++ x) → ⊥
-head_whole r is x (inl part) =
-    omega (arith, part.0, ap length (head_parts r x), length-append magic (sized_record r.config r.setup.width r.setup.height ++ x))
-head_whole r is x (inr (s, split, part)) =
-    sized_cut r.config r.setup.width r.setup.height x is.fits (subst IsPartOfReel (sym (behind_magic _ _ (sym (head_parts r x) ∙ split))) part)
+head_whole : (v : Version) (r : Reel) → IsFileReel r → (x : List ℕ) → IsPartOfHead (head_text v r ++ x) → ⊥
+head_whole v r is x (inl part) =
+    omega (arith, part.0, ap length (head_parts v r x), length-append (magic v) (sized_record r.config r.setup.width r.setup.height ++ x))
+head_whole v r is x (inr (w, s, split, part)) =
+    sized_cut r.config r.setup.width r.setup.height x is.fits (subst IsPartOfReel (sym (behind_magic v w _ _ (sym (head_parts v r x) ∙ split))) part)
 
 -- a part of a head is short
 part_short : (s : List ℕ) → IsPartOfHead s → length s < file_limit
 part_short s (inl part) = omega (arith, part.0)
-part_short s (inr (p, split, inl short)) = omega (arith, short, ap length split, length-append magic p)
-part_short s (inr (p, split, inr (w, h, n, config, parts, fits, cut))) =
+part_short s (inr (v, p, split, inl short)) = omega (arith, short, ap length split, length-append (magic v) p)
+part_short s (inr (v, p, split, inr (w, h, n, config, parts, fits, cut))) =
     omega (
       arith,
       fits,
       cut,
       ap length split,
-      length-append magic p,
+      length-append (magic v) p,
       ap length parts,
       length-append (be4 w ++ be4 h ++ be4 n) config,
       length-append (be4 w ++ be4 h) (be4 n),
@@ -58,21 +60,21 @@ part_short s (inr (p, split, inr (w, h, n, config, parts, fits, cut))) =
       length-be4 n,
     )
 
-module _ (r : Reel) (is : IsFileReel r) (x : List ℕ) where
-  head_shown : (f : HoldFileFault) (new : Option (List ℕ)) → StopsIn (HeadShows f) (Some (head_text r ++ x)) new 0 → ⊥
-  head_shown f new s = let front = taken_front (head_text r ++ x) s.seen new s.taken in head_none r is x s.seen front.0 f front.1 s.is
+module _ (v : Version) (r : Reel) (is : IsFileReel r) (x : List ℕ) where
+  head_shown : (f : HoldFileFault) (new : Option (List ℕ)) → StopsIn (HeadShows f) (Some (head_text v r ++ x)) new 0 → ⊥
+  head_shown f new s = let front = taken_front (head_text v r ++ x) s.seen new s.taken in head_none v r is x s.seen front.0 f front.1 s.is
 
   -- a refusal of it is the device's or memory's
-  head_outside : (f : HoldFileFault) (new : Option (List ℕ)) → Refuses IsPartOfHead HeadIsWhole HeadShows (Some (head_text r ++ x)) new 0 f → IsOutside f
+  head_outside : (f : HoldFileFault) (new : Option (List ℕ)) → Refuses IsPartOfHead HeadIsWhole HeadShows (Some (head_text v r ++ x)) new 0 f → IsOutside f
   head_outside faults.Read new s = tt
   head_outside faults.Memory new s = tt
   head_outside faults.Write new s = s
   head_outside faults.OtherReel new s = s
   head_outside faults.Truncated new s =
-      head_whole r is x (subst IsPartOfHead (sym (taken_all (head_text r ++ x) s.seen new s.taken s.at_end)) s.unfinished)
+      head_whole v r is x (subst IsPartOfHead (sym (taken_all (head_text v r ++ x) s.seen new s.taken s.at_end)) s.unfinished)
   head_outside faults.TooLong new (inl s) = head_shown faults.TooLong new s
   head_outside faults.TooLong new (inr s) = let short = part_short s.seen s.unfinished in absurd (omega (arith, short, s.at_limit))
-  head_outside faults.Trailing new s = absurd s.whole.2
+  head_outside faults.Trailing new s = absurd s.whole.3
   head_outside faults.Magic new s = head_shown faults.Magic new s
   head_outside (faults.Setup f) new s = head_shown (faults.Setup f) new s
   head_outside faults.Tag new s = head_shown faults.Tag new s
@@ -82,11 +84,11 @@ module _ (r : Reel) (is : IsFileReel r) (x : List ℕ) where
 -- ---- heads of two reels
 
 -- an input that begins with two heads has one
-one_head : (input : Option (List ℕ)) (r q : Reel) → IsFileReel r → BeginsWith input (head_text r) → BeginsWithHead input q → r ≡ q
-one_head None r q is begins head = absurd (cc)
-one_head (Some xs) r q is begins head =
-    let same : xs ≡ head_text q ++ head.rest = cc in
-    (same_head r q begins.0 head.rest is head.is (sym begins.1 ∙ same)).0
+one_head : (input : Option (List ℕ)) (v : Version) (r q : Reel) → IsFileReel r → BeginsWith input (head_text v r) → BeginsWithHead input q → r ≡ q
+one_head None v r q is begins head = absurd (cc)
+one_head (Some xs) v r q is begins head =
+    let same : xs ≡ head_text head.version q ++ head.rest = cc in
+    (same_head v head.version r q begins.0 head.rest is head.is (sym begins.1 ∙ same)).1
 
 taken_begins : (old new : Option (List ℕ)) (bytes more : List ℕ) → Consumes old new (bytes ++ more) → BeginsWith old bytes
 taken_begins None new bytes more t = tt
@@ -96,26 +98,29 @@ taken_begins (Some xs) (Some ys) bytes more t = (more ++ ys, t ∙ append_assoc 
 head_refused : (old new : Option (List ℕ)) (g : Reel) (f : HoldFileFault) → BeginsWithHead old g
     → Refuses IsPartOfHead HeadIsWhole HeadShows old new 0 f → IsOutside f
 head_refused old new g f head refused =
-    head_outside g head.is head.rest f new (subst (λ (o : Option (List ℕ)). Refuses IsPartOfHead HeadIsWhole HeadShows o new 0 f) head.split refused)
+    head_outside head.version g head.is head.rest f new
+    (subst (λ (o : Option (List ℕ)). Refuses IsPartOfHead HeadIsWhole HeadShows o new 0 f) head.split refused)
 
 module _ (i : Inputs) (w v : Option (List ℕ)) (g h : Reel) (left : BeginsWithHead i.left_old g) (right : BeginsWithHead i.right_old h) (other : ¬ (g ≡ h)) where
   other_refused : (f : HoldFileFault) → JoinStops i w v f → IsOutside f ⊎ (f ≡ faults.OtherReel)
   other_refused f (inl (inl (refused, same), untouched)) = inl (head_refused _ _ g f left refused)
   other_refused f (inl (inr (inl (head, refused)), untouched)) = inl (head_refused _ _ h f right refused)
   other_refused f (inl (inr (inr (is, heads)), untouched)) = inr is
-  other_refused f (inr s) = absurd (other (sym (one_head _ s.reel g s.is s.left_head left) ∙ one_head _ s.reel h s.is s.right_head right))
+  other_refused f (inr s) =
+      absurd (other (sym (one_head _ s.left_version s.reel g s.is s.left_head left) ∙ one_head _ s.right_version s.reel h s.is s.right_head right))
 
-  whole_head : (old new : Option (List ℕ)) (x : Contents) → ReadsAll old new x → BeginsWith old (head_text x.reel)
+  whole_head : (old new : Option (List ℕ)) (x : Contents) (a : ReadsAll old new x) → BeginsWith old (head_text a.file.version x.reel)
   whole_head old new x a =
-      taken_begins old new (head_text x.reel) (entries_text (set.items x.slices) ++ 0 ∷ []) (subst (Consumes old new) (text_parts x) a.taken)
+      taken_begins old new (head_text a.file.version x.reel) (entries_text a.file.version (file_entries x) ++ 0 ∷ [])
+      (subst (Consumes old new) (text_parts a.file.version x) a.file.taken)
 
   file_reel : (old new : Option (List ℕ)) (x : Contents) → ReadsAll old new x → IsFileReel x.reel
-  file_reel old new x a = record { reel = a.sound.reel; fits = a.fits.record' }
+  file_reel old new x a = record { reel = a.sound.reel; fits = a.file.fits.record' }
 
   other_written : WritesUnion i w v → ⊥
   other_written u =
-      let one = one_head _ u.left.reel g (file_reel _ _ u.left u.read.left_read) (whole_head _ _ u.left u.read.left_read) left in
-      let two = one_head _ u.right.reel h (file_reel _ _ u.right u.read.right_read) (whole_head _ _ u.right u.read.right_read) right in
+      let one = one_head _ _ u.left.reel g (file_reel _ _ u.left u.read.left_read) (whole_head _ _ u.left u.read.left_read) left in
+      let two = one_head _ _ u.right.reel h (file_reel _ _ u.right u.read.right_read) (whole_head _ _ u.right u.read.right_read) right in
       other (sym one ∙ u.read.same ∙ two)
 
   pub answers_other : (r : Result (Unit {0}) HoldFileFault) → OnOk r (WritesUnion i w v) → IfErr r (JoinStops i w v) → AnswersOther r
@@ -124,75 +129,80 @@ module _ (i : Inputs) (w v : Option (List ℕ)) (g h : Reel) (left : BeginsWithH
 
 -- ---- texts of one reel
 
+-- what is told of a holding
+abbrev facts_of : Contents → Facts
+facts_of h = (h.slices, h.origins)
+
 -- what was read of a text has entries of it alone
-part_of_text : (old new : Option (List ℕ)) (h part' : Contents) → IsFileOf old h → ReadsPart old new part' → (e : Entry)
-    → set.contains part'.slices e ≡ true → set.contains h.slices e ≡ true
-part_of_text old new h q file p e held =
-    let es = entries_text (set.items q.slices) in
-    let front = taken_front (holding_text h) (begun_text q ++ p.more) new
-    (subst (λ (o : Option (List ℕ)). Consumes o new (begun_text q ++ p.more)) file.text p.taken) in
-    let heads = same_head h.reel q.reel _ _ (record { reel = file.sound.reel; fits = file.fits.record' }) (record { reel = p.sound.reel; fits = p.record' })
-    (sym (text_parts h) ∙ front.1 ∙ append_assoc (begun_text q) p.more front.0 ∙ append_assoc (head_text q.reel) es (p.more ++ front.0)) in
-    let more = front_entries (set.items h.slices) (set.items q.slices) [] (p.more ++ front.0) (fitting_items h.reel file.sound.reel h.slices file.sound.slices)
-    (fitting_items q.reel p.sound.reel q.slices p.sound.slices) heads.1 in
-    front_contained q.slices h.slices more.0 more.1 e held
+part_of_text : (old new : Option (List ℕ)) (v : Version) (h q : Contents) → IsFileOf old v h → ReadsPart old new q → (q.reel ≡ h.reel)
+    × IsWithin (facts_of q) (facts_of h)
+part_of_text old new v h q file p =
+    let w = p.version in
+    let es = entries_text w (file_entries q) in
+    let front = taken_front (file_text v h) (begun_text w q ++ p.more) new
+    (subst (λ (o : Option (List ℕ)). Consumes o new (begun_text w q ++ p.more)) file.text p.taken) in
+    let heads = same_head v w h.reel q.reel _ _ (record { reel = file.sound.reel; fits = file.fits.record' }) (record { reel = p.sound.reel; fits = p.record' })
+    (sym (text_parts v h) ∙ front.1 ∙ append_assoc (begun_text w q) p.more front.0 ∙ append_assoc (head_text w q.reel) es (p.more ++ front.0)) in
+    let version = heads.0 in
+    let more = front_entries w (file_entries h) (file_entries q) [] (p.more ++ front.0)
+    (fitting_items w h file.sound (subst (λ (u : Version). IsTold u h) version file.fits.told)) (fitting_items w q p.sound p.told)
+    (ap (λ (u : Version). entries_text u (file_entries h) ++ 0 ∷ []) (sym version) ∙ heads.2) in
+    (sym heads.1, front_within q h p.sound more.0 more.1)
 
-part_reel : (old new : Option (List ℕ)) (h part' : Contents) → IsFileOf old h → ReadsPart old new part' → part'.reel ≡ h.reel
-part_reel old new h q file p =
-    one_head old q.reel h.reel (record { reel = p.sound.reel; fits = p.record' })
-    (taken_begins old new (head_text q.reel) (entries_text (set.items q.slices) ++ p.more)
-    (subst (Consumes old new) (append_assoc (head_text q.reel) (entries_text (set.items q.slices)) p.more) p.taken))
-    (record {
-      is = record { reel = file.sound.reel; fits = file.fits.record' };
-      rest = entries_text (set.items h.slices) ++ 0 ∷ [];
-      split = file.text ∙ ap Some (text_parts h);
-    })
+whole_is : (old new : Option (List ℕ)) (v : Version) (h q : Contents) → IsFileOf old v h → ReadsAll old new q → q ≡ h
+whole_is old new v h q file a =
+    let w = a.file.version in
+    let all = taken_all (file_text v h) (file_text w q) new
+    (subst (λ (o : Option (List ℕ)). Consumes o new (file_text w q)) file.text a.file.taken) a.at_end in
+    one_file w v q h a.sound file.sound a.file.fits.record' file.fits.record' a.file.fits.told file.fits.told (sym all)
 
-whole_is : (old new : Option (List ℕ)) (h q : Contents) → IsFileOf old h → ReadsAll old new q → q ≡ h
-whole_is old new h q file a =
-    let all = taken_all (holding_text h) (holding_text q) new (subst (λ (o : Option (List ℕ)). Consumes o new (holding_text q)) file.text a.taken) a.at_end in
-    one_text q h a.sound file.sound a.fits.record' file.fits.record' (sym all)
+file_refused : (old new : Option (List ℕ)) (v : Version) (h : Contents) (f : HoldFileFault) → IsFileOf old v h → InputRefuses old new f → IsOutside f
+file_refused old new v h f file refused =
+    refused_outside v h file.sound file.fits f new (subst (λ (o : Option (List ℕ)). InputRefuses o new f) file.text refused)
 
-file_refused : (old new : Option (List ℕ)) (h : Contents) (f : HoldFileFault) → IsFileOf old h → InputRefuses old new f → IsOutside f
-file_refused old new h f file refused =
-    refused_outside h file.sound file.fits f new (subst (λ (o : Option (List ℕ)). InputRefuses o new f) file.text refused)
-
-module _ (i : Inputs) (w v : Option (List ℕ)) (g h : Contents) (same : IsSameReel g h) (left : IsFileOf i.left_old g) (right : IsFileOf i.right_old h) where
+module _ (i : Inputs) (a b : Option (List ℕ)) (v w : Version) (g h : Contents) (same : IsSameReel g h) (left : IsFileOf i.left_old v g)
+    (right : IsFileOf i.right_old w h) where
   -- the entries so far are no more than those of both
   entries_within : EntriesPass i → file_limit < length (holding_text (joined g h))
   entries_within p =
-      let few = shorter (set.union p.left.slices p.right.slices) (set.union g.slices h.slices)
-      (union_in p.left.slices p.right.slices (set.union g.slices h.slices)
-      (λ e held. contains-left g.slices h.slices e (part_of_text _ _ g p.left left p.read.left_read e held))
-      (λ e held. contains-right g.slices h.slices e (part_of_text _ _ h p.right right p.read.right_read e held))) in
+      let one = part_of_text _ _ v g p.left left p.read.left_read in
+      let two = part_of_text _ _ w h p.right right p.read.right_read in
+      let of_left = facts_of p.left in
+      let of_right = facts_of p.right in
+      let all = both (facts_of g) (facts_of h) in
+      let few = shorter p.left.reel g.reel (both of_left of_right) all
+      (holding-joined p.left p.right p.read.same p.read.left_read.sound p.read.right_read.sound) (holding-joined g h same left.sound right.sound)
+      (within-both of_left of_right all (within-trans of_left (facts_of g) all one.1 (within-left (facts_of g) (facts_of h)))
+      (within-trans of_right (facts_of h) all two.1 (within-right (facts_of g) (facts_of h)))) in
       omega (
         arith,
         p.over,
         few,
-        ap (λ (q : Reel). length (head_text q)) (part_reel _ _ g p.left left p.read.left_read),
-        length-append (head_text p.left.reel) (entries_text (set.items (set.union p.left.slices p.right.slices))),
-        length-append (head_text g.reel) (entries_text (set.items (set.union g.slices h.slices))),
-        length-append (begun_text (joined g h)) (0 ∷ []),
+        ap (λ (q : Reel). length (head_text Second q)) one.0,
+        length-append (head_text Second p.left.reel) (entries_text Second (file_entries (joined p.left p.right))),
+        length-append (head_text Second g.reel) (entries_text Second (file_entries (joined g h))),
+        length-append (begun_text Second (joined g h)) (0 ∷ []),
       )
 
   union_passes : UnionPasses i → file_limit < length (holding_text (joined g h))
   union_passes u =
-      let l = whole_is _ _ g u.left left u.read.left_read in
-      let r = whole_is _ _ h u.right right u.read.right_read in
+      let l = whole_is _ _ v g u.left left u.read.left_read in
+      let r = whole_is _ _ w h u.right right u.read.right_read in
       subst (λ (x : Contents). file_limit < length (holding_text (joined x h))) l
       (subst (λ (x : Contents). file_limit < length (holding_text (joined u.left x))) r u.over)
 
   heads_same : ReadsOtherHeads i → ⊥
   heads_same o =
-      let begins : (old new : Option (List ℕ)) (r : Reel) → Consumes old new (head_text r) → BeginsWith old (head_text r) =
-      λ old new r t. taken_begins old new (head_text r) [] (subst (Consumes old new) (sym (append-nil (head_text r))) t) in
-      let head : (old : Option (List ℕ)) (x : Contents) → IsFileOf old x → BeginsWithHead old x.reel = λ old x file. record {
+      let begins : (old new : Option (List ℕ)) (u : Version) (r : Reel) → Consumes old new (head_text u r) → BeginsWith old (head_text u r) =
+      λ old new u r t. taken_begins old new (head_text u r) [] (subst (Consumes old new) (sym (append-nil (head_text u r))) t) in
+      let head : (old : Option (List ℕ)) (u : Version) (x : Contents) → IsFileOf old u x → BeginsWithHead old x.reel = λ old u x file. record {
         is = record { reel = file.sound.reel; fits = file.fits.record' };
-        rest = entries_text (set.items x.slices) ++ 0 ∷ [];
-        split = file.text ∙ ap Some (text_parts x);
+        version = u;
+        rest = entries_text u (file_entries x) ++ 0 ∷ [];
+        split = file.text ∙ ap Some (text_parts u x);
       } in
-      let one = one_head _ o.left g.reel o.left_is (begins _ _ o.left o.left_taken) (head _ g left) in
-      let two = one_head _ o.right h.reel o.right_is (begins _ _ o.right o.right_taken) (head _ h right) in
+      let one = one_head _ o.left_version o.left g.reel o.left_is (begins _ _ o.left_version o.left o.left_taken) (head _ v g left) in
+      let two = one_head _ o.right_version o.right h.reel o.right_is (begins _ _ o.right_version o.right o.right_taken) (head _ w h right) in
       o.other (one ∙ same ∙ sym two)
 
   abbrev Outcome : HoldFileFault → Type 0
@@ -213,17 +223,17 @@ module _ (i : Inputs) (w v : Option (List ℕ)) (g h : Contents) (same : IsSameR
   both_refused faults.Read b = absurd b
   both_refused faults.Memory b = absurd b
 
-  refused : (f : HoldFileFault) → JoinStops i w v f → Outcome f
-  refused f (inl (inl (r, untaken), untouched)) = inl (file_refused _ _ g f left (head_file _ _ f r))
-  refused f (inl (inr (inl (head, r)), untouched)) = inl (file_refused _ _ h f right (head_file _ _ f r))
+  refused : (f : HoldFileFault) → JoinStops i a b f → Outcome f
+  refused f (inl (inl (r, untaken), untouched)) = inl (file_refused _ _ v g f left (head_file _ _ f r))
+  refused f (inl (inr (inl (head, r)), untouched)) = inl (file_refused _ _ w h f right (head_file _ _ f r))
   refused f (inl (inr (inr (is, heads)), untouched)) = absurd (heads_same heads)
   refused f (inr s) = elim s.fault [
-    | inl (inl r) ↦ inl (file_refused _ _ g f left r.0)
-    | inl (inr r) ↦ inl (file_refused _ _ h f right r.0)
+    | inl (inl r) ↦ inl (file_refused _ _ v g f left r.0)
+    | inl (inr r) ↦ inl (file_refused _ _ w h f right r.0)
     | inr b ↦ both_refused f b
   ]
 
-  pub answers_union : (r : Result (Unit {0}) HoldFileFault) → IfErr r (JoinStops i w v) → AnswersUnion (joined g h) r
+  pub answers_union : (r : Result (Unit {0}) HoldFileFault) → IfErr r (JoinStops i a b) → AnswersUnion (joined g h) r
   answers_union (Ok x) err = tt
   answers_union (Err f) err = refused f err
 
@@ -240,12 +250,12 @@ nothing_shown old new same = record {
 module _ (i : Inputs) (w v : Option (List ℕ)) where
   pub join_refuses : (f : HoldFileFault) → JoinStops i w v f → JoinRefuses i f
   join_refuses f (inl (inl (r, untaken), untouched)) = inl (inl (head_file _ _ f r, nothing_shown _ _ untaken))
-  join_refuses f (inl (inr (inl ((q, is, taken), r)), untouched)) = inl (inr (
+  join_refuses f (inl (inr (inl ((u, q, is, taken), r)), untouched)) = inl (inr (
     head_file _ _ f r,
     record {
-      seen = head_text q;
+      seen = head_text u q;
       taken = taken;
-      sound = inl (head_is_part q is);
+      sound = inl (head_is_part u q is);
     },
   ))
   join_refuses f (inl (inr (inr (is, heads)), untouched)) = inr (subst (BothRefuse i) (sym is) heads)
@@ -273,13 +283,13 @@ module _ (i : Inputs) (w v : Option (List ℕ)) where
   write_stops (inl (heads, untouched)) = absurd (heads_write heads)
   write_stops (inr s) = (s.reel, s.is, s.write refl)
 
-  pub left_stays : (h : Contents) → IsFileOf i.left_old h → JoinStops i w v faults.Write → StaysInLead h i.left_old i.left_new w v
-  left_stays h file stops = let s = write_stops stops in
-      stays_in_lead h s.0 s.1 i.left_old i.left_new w v s.2.done file s.2.left s.2.written
+  pub left_stays : (u : Version) (h : Contents) → IsFileOf i.left_old u h → JoinStops i w v faults.Write → StaysInLead u h i.left_old i.left_new w v
+  left_stays u h file stops = let s = write_stops stops in
+      stays_in_lead u s.2.left_version h s.0 s.1 i.left_old i.left_new w v s.2.done file s.2.left s.2.written
 
-  pub right_stays : (h : Contents) → IsFileOf i.right_old h → JoinStops i w v faults.Write → StaysInLead h i.right_old i.right_new w v
-  right_stays h file stops = let s = write_stops stops in
-      stays_in_lead h s.0 s.1 i.right_old i.right_new w v s.2.done file s.2.right s.2.written
+  pub right_stays : (u : Version) (h : Contents) → IsFileOf i.right_old u h → JoinStops i w v faults.Write → StaysInLead u h i.right_old i.right_new w v
+  right_stays u h file stops = let s = write_stops stops in
+      stays_in_lead u s.2.right_version h s.0 s.1 i.right_old i.right_new w v s.2.done file s.2.right s.2.written
 
   pub says : (Q : HoldFileFault → Type 0) → ((f : HoldFileFault) → JoinStops i w v f → Q f) → (r : Result (Unit {0}) HoldFileFault)
       → IfErr r (JoinStops i w v) → IfErr r Q

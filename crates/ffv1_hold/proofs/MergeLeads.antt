@@ -1,31 +1,34 @@
 -- How far the text of a holding was read, by the entries that lie whole in what was written.
-use Rattle.std.proofs.Common.{◌≡◌, ℕ, ◌+◌, ◌≤◌, true, List, [], ◌∷◌, ◌++◌, length, get_or, drop, Option, Some, None, IfSome, refl, sym, ap, ◌∙◌, subst, inl, inr, arith, append_assoc, append-nil, length-append}
+use Rattle.std.proofs.Common.{◌≡◌, ℕ, suc, ◌+◌, ◌<◌, ◌≤◌, true, List, [], ◌∷◌, ◌++◌, length, map, get_or, drop, Option, Some, None, IfSome, refl, sym, ap, ◌∙◌, subst, inl, inr, arith, append_assoc, append-nil, length-append}
 use Rattle.std.specs.Prelude.{◌⊎◌}
 use Rattle.std.specs.List.{AllByRecursion}
 use Rattle.std.specs.Io.KnownBytes.{Consumes, Appends}
-use Rattle.ffv1_holding.specs.SliceOrder.{Entry, entry_cmp, entries_total}
+use Rattle.ffv1_holding.specs.SliceOrder.{Entry, entries_total}
 use Rattle.ffv1_holding.specs.Sets as set
 use Rattle.ffv1_holding.specs.Reels.{Reel, IsReel}
-use Rattle.ffv1_holding.specs.Contents.{Contents, IsEntryOf, AreEntriesOf}
-use Rattle.ffv1_hold.specs.HoldingText.{head_text, entry_text, body_text, entries_text, holding_text}
-use Rattle.ffv1_hold.specs.FileEntries.{next_text}
+use Rattle.ffv1_holding.specs.Contents.{Contents, IsHolding, digests_of}
+use Rattle.ffv1_hold.specs.declared.version.Version.{Version}
+use Rattle.ffv1_hold.specs.declared.version.Version.TheVariants.{Second}
+use Rattle.ffv1_hold.specs.HoldingText.{FileEntry, head_text, entry_text, body_text, entries_text, begun_text, file_entries, file_text, IsTold}
+use Rattle.ffv1_hold.specs.FileEntries.{IsFileEntryOf, next_text}
 use Rattle.ffv1_hold.specs.FileFaults.{IsFileReel}
-use Rattle.ffv1_hold.specs.Leads.{HasText, LiesWhole, IsLeadOf}
-use Rattle.ffv1_hold.specs.JoinedStreams.{begun_text, IsFileOf, StaysInLead}
-use Rattle.ffv1_hold.specs.Merging.{part, StaysBehind}
+use Rattle.ffv1_hold.specs.Leads.{LiesWhole, IsLeadOf}
+use Rattle.ffv1_hold.specs.JoinedStreams.{IsFileOf, StaysInLead}
+use Rattle.ffv1_hold.specs.Merging.{Facts, part, StaysBehind}
 use Rattle.ffv1_holding.proofs.RisingSets.{contains_item}
-use Rattle.ffv1_holding.proofs.ItemsRise.{all_by_recursion}
-use Rattle.ffv1_hold.proofs.TextLaws.{same_body, behind_body, no_tag, rest_same, entries_behind, none_behind, AreFitting, fitting_items, same_head, text_parts}
-use Rattle.ffv1_hold.proofs.FaultLaws.{fitting_all}
+use Rattle.ffv1_hold.proofs.NumberTexts.{no_tag, rest_same}
+use Rattle.ffv1_hold.proofs.BodyTexts.{same_body}
+use Rattle.ffv1_hold.proofs.TextLaws.{entries_behind, none_behind, AreFitting, fitting_all, fitting_items, same_head, text_parts}
 use Rattle.ffv1_hold.proofs.Slots.{entries_text-split, entries_text-cons, entries_text-none}
 use Rattle.ffv1_hold.proofs.Answered.{taken_front}
-use Rattle.ffv1_hold.proofs.MergeSets.{any_split}
+use Rattle.ffv1_hold.proofs.TileTexts.{own}
+use Rattle.ffv1_hold.proofs.MergeFacts.{IsWithin, own_digests, entry_split}
 
 -- ---- lists that are split in two ways
 
 -- what holds of all of a front, and not of an item, puts the item behind it
-pub behind_all : (P : Entry → Type 0) (fs rs before : List Entry) (first : Entry) (after : List Entry) → fs ++ rs ≡ before ++ first ∷ after
-    → AllByRecursion P fs → ¬ P first → (middle : List Entry) × (before ≡ fs ++ middle) × (rs ≡ middle ++ first ∷ after)
+pub behind_all : (P : FileEntry → Type 0) (fs rs before : List FileEntry) (first : FileEntry) (after : List FileEntry) → fs ++ rs ≡ before ++ first ∷ after
+    → AllByRecursion P fs → ¬ P first → (middle : List FileEntry) × (before ≡ fs ++ middle) × (rs ≡ middle ++ first ∷ after)
 behind_all P [] rs before first after same all none = (before, refl, same)
 behind_all P (f ∷ fs) rs [] first after same all none = absurd (none (subst P (ap (λ xs. get_or xs 0 f) same) all.0))
 behind_all P (f ∷ fs) rs (b ∷ before) first after same all none =
@@ -34,126 +37,147 @@ behind_all P (f ∷ fs) rs (b ∷ before) first after same all none =
 
 -- ---- entries that begin a text
 
--- entries that begin what entries and the end tag spell are the first of those
-pub front_entries : (es fs : List Entry) (x y : List ℕ) → AreFitting es → AreFitting fs → entries_text es ++ 0 ∷ x ≡ entries_text fs ++ y
-    → (rest : List Entry) × (es ≡ fs ++ rest) × (entries_text rest ++ 0 ∷ x ≡ y)
-front_entries es [] x y es_fit fs_fit same = (es, refl, same ∙ none_behind y)
-front_entries [] (f ∷ fs) x y es_fit fs_fit same =
-    absurd (no_tag x (body_text f ++ (entries_text fs ++ y)) 0 1 (sym (none_behind (0 ∷ x)) ∙ same ∙ entries_behind f fs y) (λ e. omega arith))
-front_entries (e ∷ es) (f ∷ fs) x y es_fit fs_fit same =
-    let bodies = rest_same (body_text e ++ (entries_text es ++ 0 ∷ x)) (body_text f ++ (entries_text fs ++ y)) 1 1 (sym (entries_behind e es (0 ∷ x)) ∙ same
-    ∙ entries_behind f fs y) in
-    let one = same_body e f (entries_text es ++ 0 ∷ x) (entries_text fs ++ y) es_fit.0.0 fs_fit.0.0 es_fit.0.1 fs_fit.0.1 bodies in
-    let behind = behind_body e f (entries_text es ++ 0 ∷ x) (entries_text fs ++ y) es_fit.0.0 fs_fit.0.0 es_fit.0.1 fs_fit.0.1 bodies in
-    let more = front_entries es fs x y es_fit.1 fs_fit.1 behind in
-    (more.0, (λ i. one i ∷ more.1 i), more.2)
+pub fitting_front : (v : Version) (xs ys : List FileEntry) → AreFitting v (xs ++ ys) → AreFitting v xs
+fitting_front v [] ys fit = tt
+fitting_front v (x ∷ xs) ys fit = (fit.0, fitting_front v xs ys fit.1)
 
-fitting_front : (xs ys : List Entry) → AreFitting (xs ++ ys) → AllByRecursion HasText xs
-fitting_front [] ys fit = tt
-fitting_front (x ∷ xs) ys fit = (fit.0, fitting_front xs ys fit.1)
+pub fitting_back : (v : Version) (xs ys : List FileEntry) → AreFitting v (xs ++ ys) → AreFitting v ys
+fitting_back v [] ys fit = fit
+fitting_back v (x ∷ xs) ys fit = fitting_back v xs ys fit.1
 
-pub fitting_back : (xs ys : List Entry) → AreFitting (xs ++ ys) → AreFitting ys
-fitting_back [] ys fit = fit
-fitting_back (x ∷ xs) ys fit = fitting_back xs ys fit.1
+module _ (v : Version) where
+  -- entries that begin what entries and the end tag spell are the first of those
+  pub front_entries : (es fs : List FileEntry) (x y : List ℕ) → AreFitting v es → AreFitting v fs → entries_text v es ++ 0 ∷ x ≡ entries_text v fs ++ y
+      → (rest : List FileEntry) × (es ≡ fs ++ rest) × (entries_text v rest ++ 0 ∷ x ≡ y)
+  front_entries es [] x y es_fit fs_fit same = (es, refl, same ∙ none_behind v y)
+  front_entries [] (f ∷ fs) x y es_fit fs_fit same =
+      absurd (no_tag x (body_text v f ++ (entries_text v fs ++ y)) 0 1 (sym (none_behind v (0 ∷ x)) ∙ same ∙ entries_behind v f fs y) (λ e. omega arith))
+  front_entries (e ∷ es) (f ∷ fs) x y es_fit fs_fit same =
+      let bodies = rest_same (body_text v e ++ (entries_text v es ++ 0 ∷ x)) (body_text v f ++ (entries_text v fs ++ y)) 1 1
+      (sym (entries_behind v e es (0 ∷ x)) ∙ same ∙ entries_behind v f fs y) in
+      let one = same_body v e f (entries_text v es ++ 0 ∷ x) (entries_text v fs ++ y) es_fit.0 fs_fit.0 bodies in
+      let more = front_entries es fs x y es_fit.1 fs_fit.1 one.1 in
+      (more.0, (λ i. one.0 i ∷ more.1 i), more.2)
 
--- each entry of the slices whose text begins the bytes lies whole in them
-pub lies_whole : (r : Reel) → IsReel r → (s : set.SetOf entry_cmp) → AreEntriesOf r.setup s → (rest : List ℕ) (e : Entry) → set.contains s e ≡ true
-    → LiesWhole r (begun_text (part r s) ++ rest) e
-lies_whole r is s all rest e held =
-    let split = any_split e (set.items s) (sym (set.contains-items s e) ∙ held) in
-    let before = split.0 in
-    let after = split.1 in
-    let es = entries_text before in
-    let text : entries_text (set.items s) ≡ es ++ entry_text e ++ entries_text after = ap entries_text split.2 ∙ entries_text-split before (e ∷ after)
-    ∙ ap (λ t. es ++ t) (entries_text-cons e after) ∙ sym (append_assoc es (entry_text e) (entries_text after)) in
-    record {
-      before = before;
-      rest = entries_text after ++ rest;
-      entries = fitting_front before (e ∷ after) (subst AreFitting split.2 (fitting_items r is s all));
-      split = ap (λ t. head_text r ++ t ++ rest) text ∙ ap (λ t. t ++ rest) (sym (append_assoc (head_text r) (es ++ entry_text e) (entries_text after))
-          ∙ ap (λ t. t ++ entries_text after) (sym (append_assoc (head_text r) es (entry_text e))))
-          ∙ append_assoc (head_text r ++ es ++ entry_text e) (entries_text after) rest;
-    }
+-- each entry of facts lies whole in the text of others that they are within
+module _ (r : Reel) (f g : Facts) (is : IsHolding (part r g)) (told : IsTold Second (part r g)) (within : IsWithin f g) (rest : List ℕ) where
+  lies_whole : (e : Entry) → set.contains f.0 e ≡ true → LiesWhole r (begun_text Second (part r g) ++ rest) (own (part r f) e)
+  lies_whole e held =
+      let split = entry_split (part r g) e (within.slices e held) in
+      let before = split.0 in
+      let after = split.1 in
+      let whole = own (part r g) e in
+      let fit = subst (AreFitting Second) split.2 (fitting_items Second (part r g) is told) in
+      let es = entries_text Second before in
+      let text : entries_text Second (file_entries (part r g)) ≡ es ++ entry_text Second whole ++ entries_text Second after =
+      ap (entries_text Second) split.2 ∙ entries_text-split Second before (whole ∷ after)
+      ∙ ap (λ t. es ++ t) (entries_text-cons Second whole after) ∙ sym (append_assoc es (entry_text Second whole) (entries_text Second after)) in
+      record {
+        before = before;
+        digests = digests_of (part r g) e;
+        rest = entries_text Second after ++ rest;
+        entries = fitting_front Second before (whole ∷ after) fit;
+        entry = (fitting_back Second before (whole ∷ after) fit).0;
+        own = own_digests r f g within e;
+        split = ap (λ t. head_text Second r ++ t ++ rest) text
+            ∙ ap (λ t. t ++ rest) (sym (append_assoc (head_text Second r) (es ++ entry_text Second whole) (entries_text Second after))
+            ∙ ap (λ t. t ++ entries_text Second after) (sym (append_assoc (head_text Second r) es (entry_text Second whole))))
+            ∙ append_assoc (head_text Second r ++ es ++ entry_text Second whole) (entries_text Second after) rest;
+      }
+
+  pub all_lie_whole : AllByRecursion (LiesWhole r (begun_text Second (part r g) ++ rest)) (file_entries (part r f))
+  unfolding file_entries
+  all_lie_whole = each (set.items f.0) (λ i d lt. contains_item entries_total f.0 i d lt)
+    where
+      each : (xs : List Entry) → ((i : ℕ) (d : Entry) → i < length xs → set.contains f.0 (get_or xs i d) ≡ true)
+          → AllByRecursion (LiesWhole r (begun_text Second (part r g) ++ rest)) (map (own (part r f)) xs)
+      each [] held = tt
+      each (x ∷ xs) held = (lies_whole x (held 0 x (omega arith)), each xs (λ i d lt. held (suc i) d (omega arith)))
 
 -- ---- the lead
 
-text-cons : (e : Entry) (es : List Entry) → length (entries_text (e ∷ es)) ≡ length (entry_text e) + length (entries_text es)
-text-cons e es = ap length (entries_text-cons e es) ∙ length-append (entry_text e) (entries_text es)
+module _ (v : Version) where
+  text-cons : (e : FileEntry) (es : List FileEntry) → length (entries_text v (e ∷ es)) ≡ length (entry_text v e) + length (entries_text v es)
+  text-cons e es = ap length (entries_text-cons v e es) ∙ length-append (entry_text v e) (entries_text v es)
 
-next_before : (x : Entry) (rest middle : List Entry) (first : Entry) (after : List Entry) → x ∷ rest ≡ middle ++ first ∷ after
-    → length (entry_text x) ≤ length (entries_text (middle ++ first ∷ []))
-next_before x rest [] first after same = omega (arith, text-cons first [], ap (λ xs. length (entry_text (get_or xs 0 x))) same)
-next_before x rest (m ∷ middle) first after same =
-    omega (arith, text-cons m (middle ++ first ∷ []), ap (λ xs. length (entry_text (get_or xs 0 x))) same)
+  next_before : (x : FileEntry) (rest middle : List FileEntry) (first : FileEntry) (after : List FileEntry) → x ∷ rest ≡ middle ++ first ∷ after
+      → length (entry_text v x) ≤ length (entries_text v (middle ++ first ∷ []))
+  next_before x rest [] first after same = omega (arith, text-cons first [], ap (λ xs. length (entry_text v (get_or xs 0 x))) same)
+  next_before x rest (m ∷ middle) first after same =
+      omega (arith, text-cons m (middle ++ first ∷ []), ap (λ xs. length (entry_text v (get_or xs 0 x))) same)
 
--- behind the end tag no entry stands
-end_before : (rs : List Entry) (rest : List ℕ) (middle : List Entry) (first : Entry) (after : List Entry) → rs ≡ middle ++ first ∷ after
-    → entries_text rs ++ 0 ∷ [] ≡ 0 ∷ rest → ⊥
-end_before [] rest middle first after split same = omega (arith, ap length split, length-append middle (first ∷ after))
-end_before (g ∷ gs) rest middle first after split same =
-    no_tag (body_text g ++ (entries_text gs ++ 0 ∷ [])) rest 1 0 (sym (entries_behind g gs (0 ∷ [])) ∙ same) (λ e. omega arith)
+  -- behind the end tag no entry stands
+  end_before : (rs : List FileEntry) (rest : List ℕ) (middle : List FileEntry) (first : FileEntry) (after : List FileEntry) → rs ≡ middle ++ first ∷ after
+      → entries_text v rs ++ 0 ∷ [] ≡ 0 ∷ rest → ⊥
+  end_before [] rest middle first after split same = omega (arith, ap length split, length-append middle (first ∷ after))
+  end_before (g ∷ gs) rest middle first after split same =
+      no_tag (body_text v g ++ (entries_text v gs ++ 0 ∷ [])) rest 1 0 (sym (entries_behind v g gs (0 ∷ [])) ∙ same) (λ e. omega arith)
 
--- what was read behind whole entries ends with the first that is open
-ends_before : (r : Reel) → IsReel r → (rs : List Entry) → AreFitting rs → (middle : List Entry) (first : Entry) (after : List Entry)
-    → rs ≡ middle ++ first ∷ after
-    → (more rest : List ℕ) → entries_text rs ++ 0 ∷ [] ≡ more ++ rest → (more ≡ []) ⊎ ((next : Option Entry) × (more ≡ next_text next)
-    × IfSome next (IsEntryOf r.setup))
-    → length more ≤ length (entries_text (middle ++ first ∷ []))
-ends_before r is rs fit middle first after split more rest same (inl none) = omega (arith, ap length none)
-ends_before r is rs fit middle first after split more rest same (inr (None, is_end, entry)) =
-    absurd (end_before rs rest middle first after split (same ∙ ap (λ m. m ++ rest) is_end))
-ends_before r is rs fit middle first after split more rest same (inr (Some x, is_next, entry)) =
-    let one = ap (λ t. t ++ rest) (entries_text-cons x [] ∙ ap (λ t. entry_text x ++ t) entries_text-none ∙ append-nil (entry_text x)) in
-    let front = front_entries rs (x ∷ []) [] rest fit (fitting_all r is (x ∷ []) (entry, tt)) (same ∙ ap (λ m. m ++ rest) is_next ∙ sym one) in
-    let few = next_before x front.0 middle first after (sym front.1 ∙ split) in
-    omega (arith, few, ap length is_next)
+  -- what was read behind whole entries ends with the first that is open
+  ends_before : (r : Reel) → IsReel r → (rs : List FileEntry) → AreFitting v rs → (middle : List FileEntry) (first : FileEntry) (after : List FileEntry)
+      → rs ≡ middle ++ first ∷ after
+      → (more rest : List ℕ) → entries_text v rs ++ 0 ∷ [] ≡ more ++ rest → (more ≡ []) ⊎ ((next : Option FileEntry) × (more ≡ next_text v next)
+      × IfSome next (IsFileEntryOf v r.setup))
+      → length more ≤ length (entries_text v (middle ++ first ∷ []))
+  ends_before r is rs fit middle first after split more rest same (inl none) = omega (arith, ap length none)
+  ends_before r is rs fit middle first after split more rest same (inr (None, is_end, entry)) =
+      absurd (end_before rs rest middle first after split (same ∙ ap (λ m. m ++ rest) is_end))
+  ends_before r is rs fit middle first after split more rest same (inr (Some x, is_next, entry)) =
+      let one = ap (λ t. t ++ rest) (entries_text-cons v x [] ∙ ap (λ t. entry_text v x ++ t) (entries_text-none v) ∙ append-nil (entry_text v x)) in
+      let front = front_entries v rs (x ∷ []) [] rest fit (fitting_all v r is (x ∷ []) (entry, tt)) (same ∙ ap (λ m. m ++ rest) is_next ∙ sym one) in
+      let few = next_before x front.0 middle first after (sym front.1 ∙ split) in
+      omega (arith, few, ap length is_next)
 
 -- The text of a holding was read no further than its lead.
-module _ (h : Contents) (r : Reel) (is : IsFileReel r) (old new a b : Option (List ℕ)) (done : List ℕ) (file : IsFileOf old h)
-    (s : StaysBehind r old new done) where
-  front : (rest : List ℕ) × (holding_text h ≡ (begun_text (part r s.slices) ++ s.more) ++ rest)
-  front = taken_front (holding_text h) (begun_text (part r s.slices) ++ s.more) new
-      (subst (λ (o : Option (List ℕ)). Consumes o new (begun_text (part r s.slices) ++ s.more)) file.text s.taken)
+module _ (v w : Version) (h : Contents) (r : Reel) (is : IsFileReel r) (old new a b : Option (List ℕ)) (done : List ℕ) (file : IsFileOf old v h)
+    (s : StaysBehind w r old new done) where
+  abbrev some : Contents
+  some = part r s.facts
 
-  heads : (h.reel ≡ r) × (entries_text (set.items h.slices) ++ 0 ∷ [] ≡ entries_text (set.items s.slices) ++ (s.more ++ front.0))
-  heads = same_head h.reel r _ _ (record { reel = file.sound.reel; fits = file.fits.record' }) is
-      (sym (text_parts h) ∙ front.1 ∙ append_assoc (begun_text (part r s.slices)) s.more front.0
-      ∙ append_assoc (head_text r) (entries_text (set.items s.slices)) (s.more ++ front.0))
+  front : (rest : List ℕ) × (file_text v h ≡ (begun_text w some ++ s.more) ++ rest)
+  front = taken_front (file_text v h) (begun_text w some ++ s.more) new
+      (subst (λ (o : Option (List ℕ)). Consumes o new (begun_text w some ++ s.more)) file.text s.taken)
 
-  all_fit : AreFitting (set.items h.slices)
-  all_fit = fitting_items h.reel file.sound.reel h.slices file.sound.slices
+  heads : (v ≡ w) × (h.reel ≡ r) × (entries_text v (file_entries h) ++ 0 ∷ [] ≡ entries_text w (file_entries some) ++ (s.more ++ front.0))
+  heads = same_head v w h.reel r _ _ (record { reel = file.sound.reel; fits = file.fits.record' }) is
+      (sym (text_parts v h) ∙ front.1 ∙ append_assoc (begun_text w some) s.more front.0
+      ∙ append_assoc (head_text w r) (entries_text w (file_entries some)) (s.more ++ front.0))
 
-  apart : (rest : List Entry) × (set.items h.slices ≡ set.items s.slices ++ rest) × (entries_text rest ++ 0 ∷ [] ≡ s.more ++ front.0)
-  apart = front_entries (set.items h.slices) (set.items s.slices) [] (s.more ++ front.0) all_fit (fitting_items r is.reel s.slices s.entries) heads.1
+  all_fit : AreFitting w (file_entries h)
+  all_fit = subst (λ (u : Version). AreFitting u (file_entries h)) heads.0 (fitting_items v h file.sound file.fits.told)
 
-  all_whole : AllByRecursion (LiesWhole h.reel done) (set.items s.slices)
-  all_whole = all_by_recursion (LiesWhole h.reel done) (set.items s.slices) (λ i d lt.
-      subst (λ (q : Reel). LiesWhole q done (get_or (set.items s.slices) i d)) (sym heads.0)
-      (s.whole (get_or (set.items s.slices) i d) (contains_item entries_total s.slices i d lt)))
+  apart : (rest : List FileEntry) × (file_entries h ≡ file_entries some ++ rest) × (entries_text w rest ++ 0 ∷ [] ≡ s.more ++ front.0)
+  apart = front_entries w (file_entries h) (file_entries some) [] (s.more ++ front.0) all_fit (fitting_items w some s.sound s.told)
+      (ap (λ (u : Version). entries_text u (file_entries h) ++ 0 ∷ []) (sym heads.0) ∙ heads.2)
 
-  within : (lead : ℕ) → IsLeadOf h done lead → length (begun_text (part r s.slices) ++ s.more) ≤ lead
-  within lead (inr (whole, is_lead)) = omega (arith, is_lead, ap length front.1, length-append (begun_text (part r s.slices) ++ s.more) front.0)
+  all_whole : AllByRecursion (LiesWhole h.reel done) (file_entries some)
+  all_whole = subst (λ (q : Reel). AllByRecursion (LiesWhole q done) (file_entries some)) (sym heads.1) s.whole
+
+  within : (lead : ℕ) → IsLeadOf v h done lead → length (begun_text w some ++ s.more) ≤ lead
+  within lead (inr (whole, is_lead)) = omega (arith, is_lead, ap length front.1, length-append (begun_text w some ++ s.more) front.0)
   within lead (inl o) =
-      let es = entries_text (set.items s.slices) in
-      let split = behind_all (LiesWhole h.reel done) (set.items s.slices) apart.0 o.before o.first o.after (sym apart.1 ∙ o.split) all_whole
+      let es = entries_text w (file_entries some) in
+      let split = behind_all (LiesWhole h.reel done) (file_entries some) apart.0 o.before o.first o.after (sym apart.1 ∙ o.split) all_whole
       o.not_whole in
-      let rest_fit = fitting_back (set.items s.slices) apart.0 (subst AreFitting apart.1 all_fit) in
-      let few = ends_before r is.reel apart.0 rest_fit split.0 o.first o.after split.2 s.more front.0 apart.2 s.next in
-      let text : entries_text (o.before ++ o.first ∷ []) ≡ es ++ entries_text (split.0 ++ o.first ∷ []) =
-      ap (λ xs. entries_text (xs ++ o.first ∷ [])) split.1 ∙ ap entries_text (append_assoc (set.items s.slices) split.0 (o.first ∷ []))
-      ∙ entries_text-split (set.items s.slices) (split.0 ++ o.first ∷ []) in
-      let head = ap (λ (q : Reel). length (head_text q)) heads.0 in
+      let rest_fit = fitting_back w (file_entries some) apart.0 (subst (AreFitting w) apart.1 all_fit) in
+      let few = ends_before w r is.reel apart.0 rest_fit split.0 o.first o.after split.2 s.more front.0 apart.2 s.next in
+      let text : entries_text w (o.before ++ o.first ∷ []) ≡ es ++ entries_text w (split.0 ++ o.first ∷ []) =
+      ap (λ xs. entries_text w (xs ++ o.first ∷ [])) split.1 ∙ ap (entries_text w) (append_assoc (file_entries some) split.0 (o.first ∷ []))
+      ∙ entries_text-split w (file_entries some) (split.0 ++ o.first ∷ []) in
+      let version = ap (λ (u : Version). length (head_text u h.reel ++ entries_text u (o.before ++ o.first ∷ []))) heads.0 in
+      let head = ap (λ (q : Reel). length (head_text w q)) heads.1 in
       omega (
         arith,
         few,
         o.is_end,
+        version,
         head,
         ap length text,
-        length-append (head_text h.reel) (entries_text (o.before ++ o.first ∷ [])),
-        length-append es (entries_text (split.0 ++ o.first ∷ [])),
-        length-append (begun_text (part r s.slices)) s.more,
-        length-append (head_text r) es,
+        length-append (head_text w h.reel) (entries_text w (o.before ++ o.first ∷ [])),
+        length-append es (entries_text w (split.0 ++ o.first ∷ [])),
+        length-append (begun_text w some) s.more,
+        length-append (head_text w r) es,
       )
 
-  pub stays_in_lead : Appends a b done → StaysInLead h old new a b
-  stays_in_lead written = record { done = done; written = written; seen = begun_text (part r s.slices) ++ s.more; taken = s.taken; within = within }
+  pub stays_in_lead : Appends a b done → StaysInLead v h old new a b
+  stays_in_lead written = record { done = done; written = written; seen = begun_text w some ++ s.more; taken = s.taken; within = within }

@@ -103,7 +103,7 @@ begins a b x y same few =
 
 -- no text begins what is unfinished
 text_apart : (text s z : List ℕ) → IsHoldingText text → s ≡ text ++ z → IsPartOfFile s → ⊥
-text_apart text s z (h, is, fits, told) same part = text_whole h is fits z (subst IsPartOfFile (same ∙ ap (λ q. q ++ z) told) part)
+text_apart text s z (h, is, fits, (v, told, spelled)) same part = text_whole v h is fits told z (subst IsPartOfFile (same ∙ ap (λ q. q ++ z) spelled) part)
 
 module _ (input : List ℕ) (f g : HoldFileFault) where
   shown_both : IsShown input f → IsShown input g → f ≡ g
@@ -121,7 +121,7 @@ module _ (input : List ℕ) (f g : HoldFileFault) where
   shown_before : IsShown input f → IsBehindText input g → ⊥
   shown_before a b =
       let h = b.whole in
-      text_none h.0 h.1 h.2 (b.more ∷ b.rest) a.seen a.rest f (sym (ap (λ q. q ++ b.more ∷ b.rest) h.3) ∙ sym b.split ∙ a.split) a.shown
+      text_none h.3.0 h.0 h.1 h.2 h.3.1 (b.more ∷ b.rest) a.seen a.rest f (sym (ap (λ q. q ++ b.more ∷ b.rest) h.3.2) ∙ sym b.split ∙ a.split) a.shown
 
   cut_within : IsCutOff input f → IsOverLimit input g → ⊥
   cut_within a b = omega (arith, a.within, b.at_limit, ap length b.split, length-append b.seen (b.more ∷ b.rest))

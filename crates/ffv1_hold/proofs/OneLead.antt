@@ -1,5 +1,5 @@
 -- Each text and output has one lead.
-use Rattle.std.proofs.Common.{◌≡◌, ℕ, zero, suc, ◌<◌, ◌≤◌, ◌^◌, List, [], ◌∷◌, ◌++◌, length, take, drop, get_or, refl, sym, ap, ◌∙◌, subst, inl, inr, arith, append_assoc, append-nil, length-append, take-append-drop}
+use Rattle.std.proofs.Common.{◌≡◌, ℕ, zero, suc, ◌<◌, ◌≤◌, ◌^◌, List, [], ◌∷◌, ◌++◌, length, take, drop, get_or, Contains, refl, sym, ap, ◌∙◌, subst, inl, inr, arith, append_assoc, append-nil, length-append, take-append-drop}
 use Rattle.std.specs.Prelude.{◌⊎◌}
 use Rattle.std.specs.List.{AllByRecursion}
 use Rattle.std.specs.Int.{w16, w32, from_be_bytes}
@@ -10,14 +10,21 @@ use Rattle.std.proofs.lemmas.Nat.{from_be_bytes-to_be_bytes_2, from_be_bytes-to_
 use Rattle.std.proofs.Math.Seq.{take-append_seam, drop-append_seam}
 use Rattle.ffv1_bits.specs.Limits.{slice_limit}
 use Rattle.ffv1_holding.specs.SliceOrder.{Entry, bytes_cmp, bytes_total, bytes_antisymmetric}
-use Rattle.ffv1_holding.specs.Sets as set
 use Rattle.ffv1_holding.specs.Reels.{Reel}
 use Rattle.ffv1_holding.specs.Contents.{Contents}
-use Rattle.ffv1_hold.specs.HoldingText.{be2, be4, head_text, body_text, entry_text, entries_text, holding_text}
-use Rattle.ffv1_hold.specs.Leads.{HasText, LiesWhole, EndsFirstOpen, IsLeadOf}
+use Rattle.ffv1_hold.specs.declared.version.Version.{Version}
+use Rattle.ffv1_hold.specs.declared.version.Version.TheVariants.{Second}
+use Rattle.ffv1_hold.specs.HoldingText.{FileEntry, origins_limit, be2, be4, head_text, origins_text, body_text, entry_text, entries_text, file_entries, file_text}
+use Rattle.ffv1_hold.specs.FileEntries.{HasText, IsDigest}
+use Rattle.ffv1_hold.specs.Leads.{LiesWhole, EndsFirstOpen, IsLeadOf}
 use Rattle.ffv1_hold.proofs.Bodies.{length-be2, length-be4}
-use Rattle.ffv1_hold.proofs.TextLaws.{body_parts, same_back, behind_body, rest_same, entries_behind, none_behind}
+use Rattle.ffv1_hold.proofs.NumberTexts.{same_back, rest_same}
+use Rattle.ffv1_hold.proofs.SliceTexts.{slice_parts}
+use Rattle.ffv1_hold.proofs.DigestTexts.{whole, origins_parts}
+use Rattle.ffv1_hold.proofs.BodyTexts.{body_parts, same_body}
+use Rattle.ffv1_hold.proofs.TextLaws.{entries_behind, none_behind}
 use Rattle.ffv1_hold.proofs.MergeLeads.{behind_all}
+use Rattle.ffv1_hold.proofs.DigestSets.{has}
 
 -- ---- decisions on bytes
 
@@ -52,80 +59,184 @@ back_of xs n rest is = subst (λ k. drop k (xs ++ rest) ≡ rest) is (drop-appen
 
 -- ---- the entry that bytes begin with
 
+-- digests, one after the other
+chunks : ℕ → List ℕ → List (List ℕ)
+chunks zero x = []
+chunks (suc n) x = take 32 x ∷ chunks n (drop 32 x)
+
+chunks_back : (ds : List (List ℕ)) (y : List ℕ) → AllByRecursion IsDigest ds → chunks (length ds) (whole ds ++ y) ≡ ds
+unfolding chunks
+chunks_back [] y all = refl
+chunks_back (d ∷ ds) y all =
+    let apart = append_assoc d (whole ds) y in
+    (λ i. (ap (take 32) apart ∙ front_of d 32 (whole ds ++ y) all.0) i ∷
+    (ap (λ z. chunks (length ds) (drop 32 z)) apart ∙ ap (chunks (length ds)) (back_of d 32 (whole ds ++ y) all.0) ∙ chunks_back ds y all.1) i)
+
 -- the one that bytes tell, if they tell any
 abbrev told_length : List ℕ → ℕ
 told_length x = from_be_bytes w32 (take 4 (drop 2 (drop 1 x)))
 
-abbrev told_entry : List ℕ → Entry
-told_entry x = (from_be_bytes w16 (take 2 (drop 1 x)), take (told_length x) (drop 4 (drop 2 (drop 1 x))))
+abbrev told_slice : List ℕ → Entry
+told_slice x = (from_be_bytes w16 (take 2 (drop 1 x)), take (told_length x) (drop 4 (drop 2 (drop 1 x))))
 
-told_is : (f : Entry) → HasText f → (x y : List ℕ) → x ≡ entry_text f ++ y → told_entry x ≡ f
+-- what stands behind its slice
+abbrev told_rest : List ℕ → List ℕ
+told_rest x = drop (told_length x) (drop 4 (drop 2 (drop 1 x)))
+
+abbrev told_count : List ℕ → ℕ
+told_count x = from_be_bytes w32 (take 4 (told_rest x))
+
+abbrev told_entry : List ℕ → FileEntry
+told_entry x = (told_slice x, chunks (told_count x) (drop 4 (told_rest x)))
+
+told_is : (f : FileEntry) → HasText Second f → (x y : List ℕ) → x ≡ entry_text Second f ++ y → told_entry x ≡ f
 told_is f fits x y is =
-    let one = ap (drop 1) is ∙ body_parts f y in
-    let two = ap (drop 2) one ∙ back_of (be2 f.0) 2 _ (length-be2 f.0) in
-    let three = ap (drop 4) two ∙ back_of (be4 (length f.1)) 4 _ (length-be4 (length f.1)) in
+    let s = f.0 in
+    let ds = f.1 in
+    let behind = origins_text ds ++ y in
+    let one = ap (drop 1) is ∙ body_parts Second f y ∙ slice_parts s behind in
+    let two = ap (drop 2) one ∙ back_of (be2 s.0) 2 _ (length-be2 s.0) in
+    let three = ap (drop 4) two ∙ back_of (be4 (length s.1)) 4 _ (length-be4 (length s.1)) in
     let few = fits.1 in
-    let tile = ap (λ z. from_be_bytes w16 (take 2 z)) one ∙ ap (from_be_bytes w16) (front_of (be2 f.0) 2 _ (length-be2 f.0)) ∙ be2_back f.0 fits.0 in
-    let long : told_length x ≡ length f.1 = ap (λ z. from_be_bytes w32 (take 4 z)) two
-    ∙ ap (from_be_bytes w32) (front_of (be4 (length f.1)) 4 _ (length-be4 (length f.1))) ∙ be4_back (length f.1) (omega arith) in
-    let bytes = ap (take (told_length x)) three ∙ ap (λ n. take n (f.1 ++ y)) long ∙ take-append_seam f.1 y in
-    λ i. (tile i, bytes i)
+    let tile = ap (λ z. from_be_bytes w16 (take 2 z)) one ∙ ap (from_be_bytes w16) (front_of (be2 s.0) 2 _ (length-be2 s.0)) ∙ be2_back s.0 fits.0 in
+    let long : told_length x ≡ length s.1 = ap (λ z. from_be_bytes w32 (take 4 z)) two
+    ∙ ap (from_be_bytes w32) (front_of (be4 (length s.1)) 4 _ (length-be4 (length s.1))) ∙ be4_back (length s.1) (omega arith) in
+    let bytes = ap (take (told_length x)) three ∙ ap (λ n. take n (s.1 ++ behind)) long ∙ take-append_seam s.1 behind in
+    let rest : told_rest x ≡ be4 (length ds) ++ (whole ds ++ y) = ap (drop (told_length x)) three ∙ ap (λ n. drop n (s.1 ++ behind)) long
+    ∙ drop-append_seam s.1 behind ∙ origins_parts ds y in
+    let some = fits.2.1 in
+    let count : told_count x ≡ length ds = ap (λ z. from_be_bytes w32 (take 4 z)) rest
+    ∙ ap (from_be_bytes w32) (front_of (be4 (length ds)) 4 _ (length-be4 (length ds))) ∙ be4_back (length ds) (omega arith) in
+    let digests = ap (λ z. chunks (told_count x) (drop 4 z)) rest ∙ ap (chunks (told_count x)) (back_of (be4 (length ds)) 4 _ (length-be4 (length ds)))
+    ∙ ap (λ n. chunks n (whole ds ++ y)) count ∙ chunks_back ds y fits.2.0 in
+    λ i. ((tile i, bytes i), digests i)
 
 abbrev HasEntry : List ℕ → Type 0
-HasEntry x = (f : Entry) × HasText f × ((y : List ℕ) × (x ≡ entry_text f ++ y))
+HasEntry x = (f : FileEntry) × HasText Second f × ((y : List ℕ) × (x ≡ entry_text Second f ++ y))
+
+decide_equal : (m n : ℕ) → (m ≡ n) ⊎ (¬ (m ≡ n))
+decide_equal m n = elim (cases_lt m n) [
+  | inl less ↦ inr (λ same. omega arith)
+  | inr more ↦ elim (cases_lt n m) [
+    | inl less ↦ inr (λ same. omega arith)
+    | inr also ↦ inl (omega arith)
+  ]
+]
+
+decide_whole_digests : (ds : List (List ℕ)) → AllByRecursion IsDigest ds ⊎ (¬ AllByRecursion IsDigest ds)
+decide_whole_digests [] = inl tt
+decide_whole_digests (d ∷ ds) = elim (decide_equal (length d) 32) [
+  | inr short ↦ inr (λ all. short all.0)
+  | inl one ↦ elim (decide_whole_digests ds) [ inl all ↦ inl (one, all) | inr none ↦ inr (λ all. none all.1) ]
+]
+
+decide_text : (e : FileEntry) → HasText Second e ⊎ (¬ HasText Second e)
+decide_text e = elim (cases_lt e.0.0 (2 ^ 16)) [
+  | inr large ↦ inr (λ h. let small = h.0 in omega arith)
+  | inl small ↦ elim (cases_lt slice_limit (length e.0.1)) [
+    | inl long ↦ inr (λ h. let few = h.1 in omega arith)
+    | inr few ↦ elim (cases_lt origins_limit (length e.1)) [
+      | inl many ↦ inr (λ h. let some = h.2.1 in omega arith)
+      | inr some ↦ elim (decide_whole_digests e.1) [ inl all ↦ inl (small, few, (all, some)) | inr none ↦ inr (λ h. none h.2.0) ]
+    ]
+  ]
+]
 
 decide_entry : (x : List ℕ) → HasEntry x ⊎ (¬ HasEntry x)
 decide_entry x =
     let c = told_entry x in
-    elim (cases_lt c.0 (2 ^ 16)) [
-      | inr large ↦ inr (λ h. let same = ap (λ (e : Entry). e.0) (told_is h.0 h.1 x h.2.0 h.2.1) in let small = h.1.0 in omega arith)
-      | inl small ↦ elim (cases_lt slice_limit (length c.1)) [
-        | inl long ↦ inr (λ h. let same = ap (λ (e : Entry). length e.1) (told_is h.0 h.1 x h.2.0 h.2.1) in let few = h.1.1 in omega arith)
-        | inr few ↦ elim (starts (entry_text c) x) [
-          | inl s ↦ inl (c, (small, few), s)
-          | inr none ↦ inr (λ h. none h.2.0 (h.2.1 ∙ ap (λ (e : Entry). entry_text e ++ h.2.0) (sym (told_is h.0 h.1 x h.2.0 h.2.1))))
-        ]
+    elim (decide_text c) [
+      | inr none ↦ inr (λ h. none (subst (HasText Second) (sym (told_is h.0 h.1 x h.2.0 h.2.1)) h.1))
+      | inl has ↦ elim (starts (entry_text Second c) x) [
+        | inl s ↦ inl (c, has, s)
+        | inr none ↦ inr (λ h. none h.2.0 (h.2.1 ∙ ap (λ (e : FileEntry). entry_text Second e ++ h.2.0) (sym (told_is h.0 h.1 x h.2.0 h.2.1))))
       ]
     ]
 
 -- ---- an entry behind others
 
--- entries, and behind them this one
-abbrev StandsIn : Entry → List ℕ → Type 0
-StandsIn e x = (before : List Entry) × (rest : List ℕ) × AllByRecursion HasText before × (x ≡ entries_text before ++ (entry_text e ++ rest))
+-- a digest among others, of which the first is another
+elsewhere : (x : List ℕ) (ds : List (List ℕ)) (d : List ℕ) → ¬ (x ≡ d) → ¬ Contains ds d → (i : ℕ) → i < length (x ∷ ds) → get_or (x ∷ ds) i d ≡ d → ⊥
+elsewhere x ds d other none zero lt is = other is
+elsewhere x ds d other none (suc i) lt is = none (i, omega arith, is)
 
--- an entry that is not the first stands behind the one that is
-stands_behind : (e : Entry) (f : Entry) → HasText f → (x y : List ℕ) → x ≡ entry_text f ++ y → ((rest : List ℕ) → x ≡ entry_text e ++ rest → ⊥) → StandsIn e x
-    → StandsIn e y
-stands_behind e f fits x y is none ([], rest, all, split) = absurd (none rest (split ∙ none_behind (entry_text e ++ rest)))
-stands_behind e f fits x y is none (g ∷ before, rest, all, split) =
-    let bodies = rest_same (body_text f ++ y) (body_text g ++ (entries_text before ++ (entry_text e ++ rest))) 1 1 (sym is ∙ split
-    ∙ entries_behind g before (entry_text e ++ rest)) in
-    (before, rest, all.1, behind_body f g y (entries_text before ++ (entry_text e ++ rest)) fits.0 all.0.0 fits.1 all.0.1 bodies)
-
-none_stands : (e : Entry) (x : List ℕ) → (¬ HasEntry x) → ((rest : List ℕ) → x ≡ entry_text e ++ rest → ⊥) → StandsIn e x → ⊥
-none_stands e x other none ([], rest, all, split) = none rest (split ∙ none_behind (entry_text e ++ rest))
-none_stands e x other none (g ∷ before, rest, all, split) =
-    other (g, all.0, (entries_text before ++ (entry_text e ++ rest), split ∙ entries_behind g before (entry_text e ++ rest)))
-
-one_more : (e f : Entry) → HasText f → (x y : List ℕ) → x ≡ entry_text f ++ y → StandsIn e y → StandsIn e x
-one_more e f fits x y is (before, rest, all, split) =
-    (f ∷ before, rest, (fits, all), is ∙ ap (λ z. entry_text f ++ z) split ∙ sym (entries_behind f before (entry_text e ++ rest)))
-
-decide_stands : (e : Entry) (n : ℕ) (x : List ℕ) → length x ≤ n → StandsIn e x ⊎ (¬ StandsIn e x)
-decide_stands e zero x few = elim (starts (entry_text e) x) [
-  | inl s ↦ inl ([], s.0, tt, s.1 ∙ sym (none_behind (entry_text e ++ s.0)))
-  | inr none ↦ elim (decide_entry x) [
-    | inl h ↦ let long = ap length h.2.1 in absurd (omega (arith, few, long))
-    | inr other ↦ inr (none_stands e x other none)
+decide_contained : (ds : List (List ℕ)) (d : List ℕ) → Contains ds d ⊎ (¬ Contains ds d)
+decide_contained [] d = inr (λ c. omega (arith, c.1))
+decide_contained (x ∷ ds) d = elim (decide_same x d) [
+  | inl same ↦ inl (0, omega arith, same)
+  | inr other ↦ elim (decide_contained ds d) [
+    | inl c ↦ inl (suc c.0, omega (arith, c.1), c.2)
+    | inr none ↦ inr (λ c. elsewhere x ds d other none c.0 c.1 c.2)
   ]
 ]
-decide_stands e (suc n) x few = elim (starts (entry_text e) x) [
-  | inl s ↦ inl ([], s.0, tt, s.1 ∙ sym (none_behind (entry_text e ++ s.0)))
-  | inr none ↦ elim (decide_entry x) [
-    | inr other ↦ inr (none_stands e x other none)
-    | inl h ↦
-        let shorter : length h.2.0 ≤ n = omega (arith, few, ap length h.2.1, length-append (entry_text h.0) h.2.0) in
+
+decide_among : (es ds : List (List ℕ)) → AllByRecursion (Contains es) ds ⊎ (¬ AllByRecursion (Contains es) ds)
+decide_among es [] = inl tt
+decide_among es (d ∷ ds) = elim (decide_contained es d) [
+  | inr not ↦ inr (λ all. not all.0)
+  | inl one ↦ elim (decide_among es ds) [ inl all ↦ inl (one, all) | inr none ↦ inr (λ all. none all.1) ]
+]
+
+-- an entry of this slice, with its digests among others
+record Shows (e f : FileEntry) : Type 0 where
+  slice : f.0 ≡ e.0
+  own : AllByRecursion (Contains f.1) e.1
+
+decide_slice : (e f : Entry) → (f ≡ e) ⊎ (¬ (f ≡ e))
+decide_slice e f = elim (decide_equal f.0 e.0) [
+  | inr other ↦ inr (λ same. other (ap (λ (x : Entry). x.0) same))
+  | inl tile ↦ elim (decide_same f.1 e.1) [ inl bytes ↦ inl (λ i. (tile i, bytes i)) | inr other ↦ inr (λ same. other (ap (λ (x : Entry). x.1) same)) ]
+]
+
+decide_shows : (e f : FileEntry) → Shows e f ⊎ (¬ Shows e f)
+decide_shows e f = elim (decide_slice e.0 f.0) [
+  | inr other ↦ inr (λ s. other s.slice)
+  | inl same ↦ elim (decide_among f.1 e.1) [ inl all ↦ inl (record { slice = same; own = all }) | inr none ↦ inr (λ s. none s.own) ]
+]
+
+-- entries, and behind them one that shows this one
+abbrev StandsIn : FileEntry → List ℕ → Type 0
+StandsIn e x = (before : List FileEntry) × (f : FileEntry) × (rest : List ℕ) × AllByRecursion (HasText Second) before × HasText Second f × Shows e f
+    × (x ≡ entries_text Second before ++ (entry_text Second f ++ rest))
+
+-- an entry that is not the first stands behind the one that is
+stands_behind : (e : FileEntry) (f : FileEntry) → HasText Second f → (x y : List ℕ) → x ≡ entry_text Second f ++ y → ¬ Shows e f → StandsIn e x → StandsIn e y
+stands_behind e f fits x y is none ([], g, rest, all, has, shows, split) =
+    let one = same_body Second f g y rest fits has (rest_same _ _ 1 1 (sym is ∙ split ∙ none_behind Second (entry_text Second g ++ rest))) in
+    absurd (none (subst (Shows e) (sym one.0) shows))
+stands_behind e f fits x y is none (h ∷ before, g, rest, all, has, shows, split) =
+    let bodies = rest_same (body_text Second f ++ y) (body_text Second h ++ (entries_text Second before ++ (entry_text Second g ++ rest))) 1 1 (sym is ∙ split
+    ∙ entries_behind Second h before (entry_text Second g ++ rest)) in
+    (before, g, rest, all.1, has, shows, (same_body Second f h y (entries_text Second before ++ (entry_text Second g ++ rest)) fits all.0 bodies).1)
+
+none_stands : (e : FileEntry) (x : List ℕ) → (¬ HasEntry x) → StandsIn e x → ⊥
+none_stands e x other ([], g, rest, all, has, shows, split) = other (g, has, (rest, split ∙ none_behind Second (entry_text Second g ++ rest)))
+none_stands e x other (h ∷ before, g, rest, all, has, shows, split) =
+    other (h, all.0, (entries_text Second before ++ (entry_text Second g ++ rest), split ∙ entries_behind Second h before (entry_text Second g ++ rest)))
+
+one_more : (e f : FileEntry) → HasText Second f → (x y : List ℕ) → x ≡ entry_text Second f ++ y → StandsIn e y → StandsIn e x
+one_more e f fits x y is (before, g, rest, all, has, shows, split) = (
+  f ∷ before,
+  g,
+  rest,
+  (fits, all),
+  has,
+  shows,
+  is ∙ ap (λ z. entry_text Second f ++ z) split
+      ∙ sym (entries_behind Second f before (entry_text Second g ++ rest)),
+)
+
+decide_stands : (e : FileEntry) (n : ℕ) (x : List ℕ) → length x ≤ n → StandsIn e x ⊎ (¬ StandsIn e x)
+decide_stands e zero x few = elim (decide_entry x) [
+  | inl h ↦ let long = ap length h.2.1 in absurd (omega (arith, few, long))
+  | inr other ↦ inr (none_stands e x other)
+]
+decide_stands e (suc n) x few = elim (decide_entry x) [
+  | inr other ↦ inr (none_stands e x other)
+  | inl h ↦ elim (decide_shows e h.0) [
+    | inl shows ↦ inl ([], h.0, h.2.0, tt, h.1, shows, h.2.1 ∙ sym (none_behind Second (entry_text Second h.0 ++ h.2.0)))
+    | inr none ↦
+        let shorter : length h.2.0 ≤ n = omega (arith, few, ap length h.2.1, length-append (entry_text Second h.0) h.2.0) in
         elim (decide_stands e n h.2.0 shorter) [
           | inl s ↦ inl (one_more e h.0 h.1 x h.2.0 h.2.1 s)
           | inr not ↦ inr (λ s. not (stands_behind e h.0 h.1 x h.2.0 h.2.1 none s))
@@ -135,37 +246,57 @@ decide_stands e (suc n) x few = elim (starts (entry_text e) x) [
 
 -- ---- an entry that lies whole
 
-whole_parts : (r : Reel) (e : Entry) (before : List Entry) (rest : List ℕ) → head_text r ++ entries_text before ++ entry_text e ++ rest
-    ≡ head_text r ++ (entries_text before ++ (entry_text e ++ rest))
-whole_parts r e before rest =
-    append_assoc (head_text r ++ entries_text before) (entry_text e) rest ∙ append_assoc (head_text r) (entries_text before) (entry_text e ++ rest)
+whole_parts : (r : Reel) (f : FileEntry) (before : List FileEntry) (rest : List ℕ)
+    → head_text Second r ++ entries_text Second before ++ entry_text Second f ++ rest
+    ≡ head_text Second r ++ (entries_text Second before ++ (entry_text Second f ++ rest))
+whole_parts r f before rest =
+    append_assoc (head_text Second r ++ entries_text Second before) (entry_text Second f) rest
+    ∙ append_assoc (head_text Second r) (entries_text Second before) (entry_text Second f ++ rest)
 
-decide_whole : (r : Reel) (bytes : List ℕ) (e : Entry) → LiesWhole r bytes e ⊎ (¬ LiesWhole r bytes e)
-decide_whole r bytes e = elim (starts (head_text r) bytes) [
-  | inr none ↦ inr (λ w. none (entries_text w.before ++ (entry_text e ++ w.rest)) (w.split ∙ whole_parts r e w.before w.rest))
+stands_whole : (r : Reel) (bytes : List ℕ) (e : FileEntry) (x : List ℕ) → bytes ≡ head_text Second r ++ x → StandsIn e x → LiesWhole r bytes e
+stands_whole r bytes e x is (before, f, rest, all, has, shows, split) =
+    let same : f ≡ (e.0, f.1) = λ i. (shows.slice i, f.1) in
+    record {
+      before = before;
+      digests = f.1;
+      rest = rest;
+      entries = all;
+      entry = subst (HasText Second) same has;
+      own = shows.own;
+      split = is ∙ ap (λ z. head_text Second r ++ z) (split ∙ ap (λ (g : FileEntry). entries_text Second before ++ (entry_text Second g ++ rest)) same)
+          ∙ sym (whole_parts r (e.0, f.1) before rest);
+    }
+
+whole_stands : (r : Reel) (bytes : List ℕ) (e : FileEntry) (x : List ℕ) → bytes ≡ head_text Second r ++ x → LiesWhole r bytes e → StandsIn e x
+whole_stands r bytes e x is w = (
+  w.before,
+  (e.0, w.digests),
+  w.rest,
+  w.entries,
+  w.entry,
+  record { slice = refl; own = w.own },
+  same_back (head_text Second r) (head_text Second r) x (entries_text Second w.before ++ (entry_text Second (e.0, w.digests) ++ w.rest)) refl
+      (sym is ∙ w.split ∙ whole_parts r (e.0, w.digests) w.before w.rest),
+)
+
+decide_whole : (r : Reel) (bytes : List ℕ) (e : FileEntry) → LiesWhole r bytes e ⊎ (¬ LiesWhole r bytes e)
+decide_whole r bytes e = elim (starts (head_text Second r) bytes) [
+  | inr none ↦ inr (λ w. none (entries_text Second w.before ++ (entry_text Second (e.0, w.digests) ++ w.rest))
+      (w.split ∙ whole_parts r (e.0, w.digests) w.before w.rest))
   | inl s ↦ elim (decide_stands e (length s.0) s.0 (omega arith)) [
-    | inl t ↦ inl (record {
-      before = t.0;
-      rest = t.1;
-      entries = t.2;
-      split = s.1 ∙ ap (λ z. head_text r ++ z) t.3 ∙ sym (whole_parts r e t.0 t.1);
-    })
-    | inr none ↦ inr (λ w. none (
-      w.before,
-      w.rest,
-      w.entries,
-      same_back (head_text r) (head_text r) s.0 (entries_text w.before ++ (entry_text e ++ w.rest)) refl (sym s.1 ∙ w.split ∙ whole_parts r e w.before w.rest),
-    ))
+    | inl t ↦ inl (stands_whole r bytes e s.0 s.1 t)
+    | inr none ↦ inr (λ w. none (whole_stands r bytes e s.0 s.1 w))
   ]
 ]
 
 -- ---- the first that is open
 
 -- all are so, or there is a first that isn't
-abbrev HasOpen : (Entry → Type 0) → List Entry → Type 0
-HasOpen P es = (before : List Entry) × (first : Entry) × (after : List Entry) × (es ≡ before ++ first ∷ after) × AllByRecursion P before × (¬ P first)
+abbrev HasOpen : (FileEntry → Type 0) → List FileEntry → Type 0
+HasOpen P es = (before : List FileEntry) × (first : FileEntry) × (after : List FileEntry)
+    × (es ≡ before ++ first ∷ after) × AllByRecursion P before × (¬ P first)
 
-first_open : (P : Entry → Type 0) → ((e : Entry) → P e ⊎ (¬ P e)) → (es : List Entry) → AllByRecursion P es ⊎ HasOpen P es
+first_open : (P : FileEntry → Type 0) → ((e : FileEntry) → P e ⊎ (¬ P e)) → (es : List FileEntry) → AllByRecursion P es ⊎ HasOpen P es
 first_open P decide [] = inl tt
 first_open P decide (e ∷ es) = elim (decide e) [
   | inr not ↦ inr ([], e, es, refl, tt, not)
@@ -176,43 +307,43 @@ first_open P decide (e ∷ es) = elim (decide e) [
 ]
 
 -- an item of a list of which all are so
-all_middle : (P : Entry → Type 0) (before : List Entry) (e : Entry) (after : List Entry) → AllByRecursion P (before ++ e ∷ after) → P e
+all_middle : (P : FileEntry → Type 0) (before : List FileEntry) (e : FileEntry) (after : List FileEntry) → AllByRecursion P (before ++ e ∷ after) → P e
 all_middle P [] e after all = all.0
 all_middle P (b ∷ before) e after all = all_middle P before e after all.1
 
 -- the first that is open is one
-one_place : (h : Contents) (bytes : List ℕ) (m n : ℕ) → EndsFirstOpen h bytes m → EndsFirstOpen h bytes n → m ≡ n
-one_place h bytes m n a b = go split.0 split.1 split.2
+one_place : (v : Version) (h : Contents) (bytes : List ℕ) (m n : ℕ) → EndsFirstOpen v h bytes m → EndsFirstOpen v h bytes n → m ≡ n
+one_place v h bytes m n a b = go split.0 split.1 split.2
   where
-    split : (middle : List Entry) × (b.before ≡ a.before ++ middle) × (a.first ∷ a.after ≡ middle ++ b.first ∷ b.after)
+    split : (middle : List FileEntry) × (b.before ≡ a.before ++ middle) × (a.first ∷ a.after ≡ middle ++ b.first ∷ b.after)
     split = behind_all (LiesWhole h.reel bytes) a.before (a.first ∷ a.after) b.before b.first b.after (sym a.split ∙ b.split) a.whole b.not_whole
 
-    go : (middle : List Entry) → b.before ≡ a.before ++ middle → a.first ∷ a.after ≡ middle ++ b.first ∷ b.after → m ≡ n
+    go : (middle : List FileEntry) → b.before ≡ a.before ++ middle → a.first ∷ a.after ≡ middle ++ b.first ∷ b.after → m ≡ n
     go [] same rest =
         let one = ap (λ xs. get_or xs 0 a.first) rest in
         let front = same ∙ append-nil a.before in
-        a.is_end ∙ ap (λ (e : Entry). length (head_text h.reel ++ entries_text (a.before ++ e ∷ []))) one
-        ∙ ap (λ (es : List Entry). length (head_text h.reel ++ entries_text (es ++ b.first ∷ []))) (sym front) ∙ sym b.is_end
+        a.is_end ∙ ap (λ (e : FileEntry). length (head_text v h.reel ++ entries_text v (a.before ++ e ∷ []))) one
+        ∙ ap (λ (es : List FileEntry). length (head_text v h.reel ++ entries_text v (es ++ b.first ∷ []))) (sym front) ∙ sym b.is_end
     go (x ∷ middle) same rest =
         let one : a.first ≡ x = ap (λ xs. get_or xs 0 a.first) rest in
         absurd (a.not_whole (subst (LiesWhole h.reel bytes) (sym one)
         (all_middle (LiesWhole h.reel bytes) a.before x middle (subst (AllByRecursion (LiesWhole h.reel bytes)) same b.whole))))
 
-open_not_all : (h : Contents) (bytes : List ℕ) (m : ℕ) → EndsFirstOpen h bytes m → AllByRecursion (LiesWhole h.reel bytes) (set.items h.slices) → ⊥
-open_not_all h bytes m a all =
+open_not_all : (v : Version) (h : Contents) (bytes : List ℕ) (m : ℕ) → EndsFirstOpen v h bytes m → AllByRecursion (LiesWhole h.reel bytes) (file_entries h) → ⊥
+open_not_all v h bytes m a all =
     a.not_whole (all_middle (LiesWhole h.reel bytes) a.before a.first a.after (subst (AllByRecursion (LiesWhole h.reel bytes)) a.split all))
 
-same_lead : (h : Contents) (bytes : List ℕ) (m n : ℕ) → IsLeadOf h bytes m → IsLeadOf h bytes n → m ≡ n
-same_lead h bytes m n (inl a) (inl b) = one_place h bytes m n a b
-same_lead h bytes m n (inl a) (inr b) = absurd (open_not_all h bytes m a b.0)
-same_lead h bytes m n (inr a) (inl b) = absurd (open_not_all h bytes n b a.0)
-same_lead h bytes m n (inr a) (inr b) = a.1 ∙ sym b.1
+same_lead : (v : Version) (h : Contents) (bytes : List ℕ) (m n : ℕ) → IsLeadOf v h bytes m → IsLeadOf v h bytes n → m ≡ n
+same_lead v h bytes m n (inl a) (inl b) = one_place v h bytes m n a b
+same_lead v h bytes m n (inl a) (inr b) = absurd (open_not_all v h bytes m a b.0)
+same_lead v h bytes m n (inr a) (inl b) = absurd (open_not_all v h bytes n b a.0)
+same_lead v h bytes m n (inr a) (inr b) = a.1 ∙ sym b.1
 
-has_lead : (h : Contents) (bytes : List ℕ) → (lead : ℕ) × IsLeadOf h bytes lead
-has_lead h bytes = elim (first_open (LiesWhole h.reel bytes) (decide_whole h.reel bytes) (set.items h.slices)) [
-  | inl all ↦ (length (holding_text h), inr (all, refl))
+has_lead : (v : Version) (h : Contents) (bytes : List ℕ) → (lead : ℕ) × IsLeadOf v h bytes lead
+has_lead v h bytes = elim (first_open (LiesWhole h.reel bytes) (decide_whole h.reel bytes) (file_entries h)) [
+  | inl all ↦ (length (file_text v h), inr (all, refl))
   | inr o ↦ (
-    length (head_text h.reel ++ entries_text (o.0 ++ o.1 ∷ [])),
+    length (head_text v h.reel ++ entries_text v (o.0 ++ o.1 ∷ [])),
     inl (record {
       before = o.0;
       first = o.1;
@@ -225,5 +356,5 @@ has_lead h bytes = elim (first_open (LiesWhole h.reel bytes) (decide_whole h.ree
   )
 ]
 
-pub one_lead : (h : Contents) (bytes : List ℕ) → (lead : ℕ) × IsLeadOf h bytes lead × ((other : ℕ) → IsLeadOf h bytes other → other ≡ lead)
-one_lead h bytes = let has = has_lead h bytes in (has.0, has.1, λ other is. same_lead h bytes other has.0 is has.1)
+pub one_lead : (v : Version) (h : Contents) (bytes : List ℕ) → (lead : ℕ) × IsLeadOf v h bytes lead × ((other : ℕ) → IsLeadOf v h bytes other → other ≡ lead)
+one_lead v h bytes = let has = has_lead v h bytes in (has.0, has.1, λ other is. same_lead v h bytes other has.0 is has.1)

@@ -50,4 +50,4 @@ pub near_of_meaning : {E : Type 0} (r : Result Contents E) (original : List ℕ)
     → IfOk r (λ h. h ≡ holding_of h.reel copies) → IfOk r (λ h. AreNear h.reel.setup original slices copies → HoldsExactly h slices)
 near_of_meaning r original slices copies meaning =
     IfOk-weaker r (λ h. h ≡ holding_of h.reel copies) (λ h. AreNear h.reel.setup original slices copies → HoldsExactly h slices)
-    (λ h is near. near_exact h original slices copies near is) meaning
+    (λ h is near. near_exact h original slices copies near (ap (λ (k : Contents). k.slices) is)) meaning

@@ -1,76 +1,118 @@
 -- How reading the entries of a file goes on behind those that were read.
 use Rattle.std.proofs.Common.{◌≡◌, ℕ, ◌≤◌, List, [], ◌++◌, Option, Some, None, IfSome, inl, refl, sym, ap, ◌∙◌, subst, append-nil}
-use Rattle.ffv1_bits.specs.Limits.{file_limit}
 use mathlib.Core.Bool.{true≢false}
+use Rattle.ffv1_bits.specs.Limits.{file_limit}
 use Rattle.ffv1_range.specs.Setup.{SetupValue}
 use Rattle.ffv1_hold.specs.declared.file_fault.HoldFileFault.{HoldFileFault}
 use Rattle.ffv1_hold.specs.declared.file_fault.HoldFileFault.TheVariants as faults
-use Rattle.ffv1_holding.specs.SliceOrder.{Entry, entry_cmp}
+use Rattle.ffv1_hold.specs.declared.version.Version.{Version}
+use Rattle.ffv1_hold.specs.declared.version.Version.TheVariants.{First, Second}
+use Rattle.ffv1_holding.specs.Reels.{Reel, IsReel}
+use Rattle.ffv1_holding.specs.SliceOrder.{entry_cmp, origin_cmp}
 use Rattle.ffv1_holding.specs.Sets as set
-use Rattle.ffv1_holding.specs.Contents.{IsEntryOf, AreEntriesOf}
-use Rattle.ffv1_hold.specs.HoldingText.{entries_text}
+use Rattle.ffv1_holding.specs.Contents.{Contents, IsHolding, no_slices, with_entry}
+use Rattle.ffv1_hold.specs.HoldingText.{FileEntry, entries_text, file_entries, IsTold}
 use Rattle.ffv1_hold.specs.Reading.{Takes, Refuses}
-use Rattle.ffv1_hold.specs.FileEntries.{last_of, Follows, next_text}
+use Rattle.ffv1_hold.specs.FileEntries.{last_of, Follows, AreOrigins, AreEntries, AreDigestsIn, IsFileEntryOf, next_text}
 use Rattle.ffv1_hold.specs.FileFaults.{IsPartOfEntry, EndIsWhole, EntryShows, IsPartOfEntries, EntriesAreWhole, EntriesShow}
-use Rattle.ffv1_holding.proofs.RisingSets.{items-empty}
-use Rattle.ffv1_holding.proofs.EntrySteps.{all-insert}
-use Rattle.ffv1_hold.proofs.FileOrder.{last_of-push, items-follow, are_entries}
-use Rattle.ffv1_hold.proofs.ReadRefusals.{Takes-nil, Refuses-after, memory_stops}
-use Rattle.ffv1_hold.proofs.Entries.{entries_text-nil, entries_text-append, part_of_entries, entries_show}
+use Rattle.ffv1_hold.proofs.ReadRefusals.{Takes-nil, Takes-trans, Refuses-after, memory_stops}
+use Rattle.ffv1_hold.proofs.Slots.{entries_text-none, entries_text-push}
+use Rattle.ffv1_hold.proofs.Entries.{part_of_entries, entries_show}
+use Rattle.ffv1_hold.proofs.OriginReads.{origins_none}
+use Rattle.ffv1_hold.proofs.HeldEntries.{entries-none, are_entries, entries-with_entry, last-with_entry, told-with_entry, holding-with_entry}
 
--- These slices were read, from the place i on up to j, and the last of them is known.
-pub record AreRead (setup : SetupValue) (old new : Option (List ℕ)) (i j : ℕ) (slices : set.SetOf entry_cmp) (last : Option Entry) : Type 0 where
-  pub text : Takes old new i j (entries_text (set.items slices))
-  pub entries : AreEntriesOf setup slices
-  pub last' : last ≡ last_of (set.items slices)
+-- what a version can tell of a slice are digests
+pub digests_in_version : (v : Version) (ds : List (List ℕ)) → AreDigestsIn v ds → AreOrigins ds
+digests_in_version First ds are = subst AreOrigins (sym are) origins_none
+digests_in_version Second ds are = are.0
 
--- no slices yet
-pub none_read : (setup : SetupValue) (a : Option (List ℕ)) (i : ℕ) (s : set.SetOf entry_cmp) (last : Option Entry) → i ≤ file_limit → s ≡ set.empty
-    → last ≡ None → AreRead setup a a i i s last
-none_read setup a i s last within none at =
-    let items = ap set.items none ∙ items-empty entry_cmp in
+-- These entries were read, from the place i on up to j, and the last of them is known.
+pub record AreRead (v : Version) (reel : Reel) (old new : Option (List ℕ)) (i j : ℕ) (h : Contents) (last : Option FileEntry) : Type 0 where
+  pub text : Takes old new i j (entries_text v (file_entries h))
+  pub sound : IsHolding h
+  pub told : IsTold v h
+  pub reel' : h.reel ≡ reel
+  pub last' : last ≡ last_of (file_entries h)
+
+-- a holding of no slices
+pub holding_none : (r : Reel) → IsReel r → IsHolding (no_slices r)
+holding_none r is = record {
+  reel = is;
+  slices = λ q held. absurd (true≢false (sym held ∙ set.contains-empty entry_cmp q));
+  origins_held = λ o held. absurd (true≢false (sym held ∙ set.contains-empty origin_cmp o));
+  digests_whole = λ o held. absurd (true≢false (sym held ∙ set.contains-empty origin_cmp o));
+}
+
+pub told_none : (v : Version) (r : Reel) → IsTold v (no_slices r)
+told_none First r = refl
+told_none Second r = λ q held. absurd (true≢false (sym held ∙ set.contains-empty entry_cmp q))
+
+-- no entries yet
+pub none_read : (v : Version) (a : Option (List ℕ)) (i : ℕ) (h : Contents) (last : Option FileEntry) → i ≤ file_limit → IsReel h.reel
+    → h ≡ no_slices h.reel → last ≡ None → AreRead v h.reel a a i i h last
+none_read v a i h last within is none at =
+    let entries = ap file_entries none ∙ entries-none h.reel in
     record {
-      text = subst (Takes a a i i) (sym (ap entries_text items ∙ entries_text-nil)) (Takes-nil a i within);
-      entries = λ q held. absurd (true≢false (sym held ∙ ap (λ x. set.contains x q) none ∙ set.contains-empty entry_cmp q));
-      last' = at ∙ sym (ap last_of items);
+      text = subst (Takes a a i i) (sym (ap (entries_text v) entries ∙ entries_text-none v)) (Takes-nil a i within);
+      sound = subst IsHolding (sym none) (holding_none h.reel is);
+      told = subst (IsTold v) (sym none) (told_none v h.reel);
+      reel' = refl;
+      last' = at ∙ sym (ap last_of entries);
     }
 
--- the entry that is held behind these slices is one of them
-pub one_more : (setup : SetupValue) (a b : Option (List ℕ)) (i j : ℕ) (s grown : set.SetOf entry_cmp) (held : Option Entry) (e : Entry) → held ≡ Some e
-    → grown ≡ set.insert s e
-    → Takes a b i j (entries_text (set.items s) ++ next_text held) → AreEntriesOf setup s → IfSome held (IsEntryOf setup)
-    → IfSome held (Follows (last_of (set.items s))) → AreRead setup a b i j grown held
-one_more setup a b i j s grown None e at is text are entry follows = absurd (cc)
-one_more setup a b i j s grown (Some h) e at is text are entry follows =
-    let same : h ≡ e = cc in
-    let added = is ∙ ap (set.insert s) (sym same) in
-    let items = ap set.items added ∙ items-follow s h follows in
-    record {
-      text = subst (Takes a b i j) (sym (ap entries_text items ∙ entries_text-append (set.items s) h)) text;
-      entries = subst (AreEntriesOf setup) (sym added) (all-insert (IsEntryOf setup) s h are entry);
-      last' = sym (ap last_of items ∙ last_of-push (set.items s) h);
-    }
+module _ (v : Version) (reel : Reel) (a b : Option (List ℕ)) (i j : ℕ) (h grown : Contents) (e : FileEntry) (is : IsHolding h) (told : IsTold v h)
+    (same : h.reel ≡ reel) (entry : IsFileEntryOf v reel.setup e) (follows : Follows (last_of (file_entries h)) e.0) where
+  own : IsFileEntryOf v h.reel.setup e
+  own = subst (λ (r : Reel). IsFileEntryOf v r.setup e) (sym same) entry
 
-module _ (setup : SetupValue) (a b : Option (List ℕ)) (i j : ℕ) (s : set.SetOf entry_cmp) (last : Option Entry) (read : AreRead setup a b i j s last) where
-  -- what comes behind them is refused, under the same setup
-  pub next_refused : (x : SetupValue) → x ≡ setup → (c : Option (List ℕ)) (f : HoldFileFault) → Refuses IsPartOfEntry EndIsWhole (EntryShows x last) b c j f
-      → Refuses (IsPartOfEntries setup) (EntriesAreWhole setup) (EntriesShow setup) a c i f
-  next_refused x same c f refused =
-      let es = set.items s in
-      let entries = are_entries setup s read.entries in
-      Refuses-after IsPartOfEntry (IsPartOfEntries setup) EndIsWhole (EntriesAreWhole setup) (EntryShows x last) (EntriesShow setup) a b c i j
-      (entries_text es) f read.text refused
-      (part_of_entries setup es entries) (λ f r h. (s, r, read.entries, refl, h))
-      (λ f r h. entries_show setup es entries f r (subst (λ (l : Option Entry). EntryShows setup l f r) read.last'
-      (subst (λ (s : SetupValue). EntryShows s last f r) same h)))
+  digests : AreOrigins e.1
+  digests = digests_in_version v e.1 entry.origins
+
+  -- the entry that is held behind these is one of them
+  pub one_more : (held : Option FileEntry) → held ≡ Some e → grown ≡ with_entry h e.0 e.1 → Takes a b i j (entries_text v (file_entries h) ++ next_text v held)
+      → AreRead v reel a b i j grown held
+  one_more held at added text =
+      let entries = ap file_entries added ∙ entries-with_entry h e.0 e.1 follows is digests.rising in
+      record {
+        text = subst (Takes a b i j) (ap (λ (n : Option FileEntry). entries_text v (file_entries h) ++ next_text v n) at
+            ∙ sym (ap (entries_text v) entries ∙ entries_text-push v (file_entries h) e)) text;
+        sound = subst IsHolding (sym added) (holding-with_entry h e.0 e.1 is own.slice digests.each);
+        told = subst (IsTold v) (sym added) (told-with_entry h e.0 e.1 follows v is entry.origins told);
+        reel' = ap (λ (x : Contents). x.reel) added ∙ same;
+        last' = at ∙ sym (ap (λ (x : Contents). last_of (file_entries x)) added ∙ last-with_entry h e.0 e.1 follows is digests.rising);
+      }
+
+module _ (v : Version) (reel : Reel) (a b : Option (List ℕ)) (i j : ℕ) (h : Contents) (last : Option FileEntry) (read : AreRead v reel a b i j h last) where
+  entries : AreEntries v reel.setup (file_entries h)
+  entries = subst (λ (r : Reel). AreEntries v r.setup (file_entries h)) read.reel' (are_entries v h read.sound read.told)
+
+  -- what comes behind them is refused, under the same version and setup
+  pub next_refused : (w : Version) (x : SetupValue) → w ≡ v → x ≡ reel.setup → (c : Option (List ℕ)) (f : HoldFileFault)
+      → Refuses (IsPartOfEntry w x last) EndIsWhole (EntryShows w x last) b c j f
+      → Refuses (IsPartOfEntries v reel.setup) (EntriesAreWhole v reel) (EntriesShow v reel.setup) a c i f
+  next_refused w x version same c f refused =
+      let es = file_entries h in
+      Refuses-after (IsPartOfEntry w x last) (IsPartOfEntries v reel.setup) EndIsWhole (EntriesAreWhole v reel) (EntryShows w x last)
+      (EntriesShow v reel.setup) a b c i j (entries_text v es) f read.text refused
+      (λ s part. part_of_entries v reel.setup es entries s (subst (λ (l : Option FileEntry). IsPartOfEntry v reel.setup l s) read.last'
+      (subst (λ (y : SetupValue). IsPartOfEntry v y last s) same (subst (λ (u : Version). IsPartOfEntry u x last s) version part))))
+      (λ f s whole. (h, s, read.sound, read.told, read.reel', refl, whole))
+      (λ f s shown. entries_show v reel.setup es entries f s (subst (λ (l : Option FileEntry). EntryShows v reel.setup l f s) read.last'
+      (subst (λ (y : SetupValue). EntryShows v y last f s) same (subst (λ (u : Version). EntryShows u x last f s) version shown))))
 
   -- memory for the last of them is refused
-  pub memory_refused : Refuses (IsPartOfEntries setup) (EntriesAreWhole setup) (EntriesShow setup) a b i faults.Memory
+  pub memory_refused : Refuses (IsPartOfEntries v reel.setup) (EntriesAreWhole v reel) (EntriesShow v reel.setup) a b i faults.Memory
   memory_refused =
-      memory_stops (IsPartOfEntries setup) (EntriesAreWhole setup) (EntriesShow setup) a b i j (entries_text (set.items s)) read.text
-      (subst (IsPartOfEntries setup) (append-nil (entries_text (set.items s)))
-      (part_of_entries setup (set.items s) (are_entries setup s read.entries) [] (inl refl)))
+      memory_stops (IsPartOfEntries v reel.setup) (EntriesAreWhole v reel) (EntriesShow v reel.setup) a b i j (entries_text v (file_entries h)) read.text
+      (subst (IsPartOfEntries v reel.setup) (append-nil (entries_text v (file_entries h)))
+      (part_of_entries v reel.setup (file_entries h) entries [] (inl refl)))
 
   -- what was read behind them stands behind the last one
-  pub next_follows : (next : Option Entry) → IfSome next (Follows last) → IfSome next (Follows (last_of (set.items s)))
-  next_follows next follows = subst (λ (l : Option Entry). IfSome next (Follows l)) read.last' follows
+  pub next_follows : (next : Option FileEntry) → IfSome next (λ e. Follows last e.0) → IfSome next (λ e. Follows (last_of (file_entries h)) e.0)
+  next_follows next follows = subst (λ (l : Option FileEntry). IfSome next (λ e. Follows l e.0)) read.last' follows
+
+-- the next entry, or the end, behind other bytes, where the versions are the same
+pub next_taken : (v w : Version) (a b c : Option (List ℕ)) (i j k : ℕ) (xs : List ℕ) (next : Option FileEntry) → w ≡ v → Takes a b i j xs
+    → Takes b c j k (next_text w next) → Takes a c i k (xs ++ next_text v next)
+next_taken v w a b c i j k xs next same t more =
+    Takes-trans a b c i j k xs (next_text v next) t (subst (λ (u : Version). Takes b c j k (next_text u next)) same more)

@@ -16,7 +16,11 @@ use Rattle.ffv1_holding.specs.TileSets.{tile_slices, tile_entries, entries_below
 use Rattle.ffv1_holding.proofs.RisingSets.{items-from_list}
 use Rattle.ffv1_holding.proofs.ItemsRise.{items-rising, rising-append}
 use Rattle.ffv1_holding.proofs.Tiles.{any-same, any-other, contains-tile_slices}
-use Rattle.ffv1_hold.proofs.TileTexts.{entries_below-more}
+use Rattle.ffv1_holding.proofs.Lists.{flat_map-range_more}
+
+-- one tile more
+entries_below-more : (slices : set.SetOf entry_cmp) (t : ℕ) → entries_below slices (t + 1) ≡ entries_below slices t ++ tile_entries slices t
+entries_below-more slices t = flat_map-range_more (tile_entries slices) t
 
 module _ (slices : set.SetOf entry_cmp) where
   below_suc : (n : ℕ) → entries_below slices (suc n) ≡ entries_below slices n ++ tile_entries slices n

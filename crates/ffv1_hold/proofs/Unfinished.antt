@@ -1,64 +1,50 @@
 -- No beginning of an unfinished file shows a fault.
-use Rattle.std.proofs.Common.{◌≡◌, ℕ, ◌<◌, ◌^◌, List, [], ◌∷◌, ◌++◌, length, take, drop, get_or, Option, Some, None, sym, ap, ◌∙◌, subst, inl, inr, arith, append_assoc, append-nil, length-append, take-append-drop}
-use Rattle.ffv1_bits.specs.Limits.{slice_limit, record_limit}
+use Rattle.std.proofs.Common.{◌≡◌, ℕ, ◌<◌, ◌^◌, List, [], ◌∷◌, ◌++◌, length, take, drop, Option, Some, None, refl, sym, ap, ◌∙◌, subst, inl, inr, arith, append_assoc, append-nil, length-append, take-append-drop}
+use Rattle.ffv1_bits.specs.Limits.{record_limit}
 use Rattle.ffv1_range.specs.Setup.{SetupValue}
 use Rattle.ffv1_hold.specs.declared.file_fault.HoldFileFault.{HoldFileFault}
-use Rattle.ffv1_holding.specs.SliceOrder.{Entry}
+use Rattle.ffv1_hold.specs.declared.version.Version.{Version}
+use Rattle.ffv1_hold.specs.declared.version.Version.TheVariants.{Second}
 use Rattle.ffv1_holding.specs.Reels.{Reel}
-use Rattle.ffv1_hold.specs.HoldingText.{be2, be4, magic, sized_record, head_text, body_text, entries_text}
-use Rattle.ffv1_hold.specs.FileEntries.{last_of}
-use Rattle.ffv1_hold.specs.FileFaults.{IsPartOfBody, IsPartOfEntry, EntryShows, IsPartOfReel, ReelShows, IsPartOfFile, FileShows}
-use Rattle.ffv1_hold.proofs.Bodies.{length-be2, length-be4}
-use Rattle.ffv1_hold.proofs.TextLaws.{same_body, behind_body, same_length_number, rest_same, entries_behind, none_behind, AreFitting, same_head, number_same, behind_number, behind_magic, head_parts}
-use Rattle.ffv1_hold.proofs.FaultLaws.{last_from, last_of-none, AreValid, valid_list, fitting_all, magic_none, reel_none, body_cut, sized_cut}
-use Rattle.ffv1_hold.proofs.OneFault.{entry_kinds, reel_kinds, right_none, head_on}
+use Rattle.ffv1_hold.specs.HoldingText.{FileEntry, be4, magic, sized_record, head_text, body_text, entries_text}
+use Rattle.ffv1_hold.specs.FileEntries.{last_of, AreEntries}
+use Rattle.ffv1_hold.specs.FileFaults.{IsPartOfEntry, EntryShows, IsPartOfReel, ReelShows, IsPartOfFile, FileShows}
+use Rattle.ffv1_hold.proofs.Bodies.{length-be4}
+use Rattle.ffv1_hold.proofs.NumberTexts.{rest_same, number_same, behind_number}
+use Rattle.ffv1_hold.proofs.BodyTexts.{same_body, body_cut, part_body_none}
+use Rattle.ffv1_hold.proofs.TextLaws.{entries_behind, none_behind, AreFitting, fitting_all, same_head, behind_magic, head_parts}
+use Rattle.ffv1_hold.proofs.FaultLaws.{last_from, last_of-none, AreValid, valid_list, entry_kinds, right_none, part_behind, part_tag, magic_none, reel_none, sized_cut}
+use Rattle.ffv1_hold.proofs.OneFault.{reel_kinds, head_on}
 
 -- ---- entries
 
--- a length over the limit is no part of an entry
-long_cut : (tile n : ℕ) (y : List ℕ) → slice_limit < n → n < 2 ^ 32 → IsPartOfBody ((be2 tile ++ be4 n) ++ y) → ⊥
-long_cut tile n y over small (inl short) =
-    omega (arith, short, length-append (be2 tile ++ be4 n) y, length-append (be2 tile) (be4 n), length-be2 tile, length-be4 n)
-long_cut tile n y over small (inr (t, m, bytes, split, few, cut)) =
-    let all = sym (append_assoc (be2 tile) (be4 n) y) ∙ split ∙ append_assoc (be2 t) (be4 m) bytes in
-    let is = same_length_number tile t n m y bytes all small (omega arith) in
-    omega arith
-
--- what is behind a tag 1 in a part of an entry
-part_behind : (body : List ℕ) → IsPartOfEntry (1 ∷ body) → IsPartOfBody body
-part_behind body (inl none) = let long = ap length none in absurd (omega arith)
-part_behind body (inr (other, is, part)) = subst IsPartOfBody (sym (rest_same body other 1 1 is)) part
-
-part_tag : (tag : ℕ) (y : List ℕ) → IsPartOfEntry (tag ∷ y) → tag ≡ 1
-part_tag tag y (inl none) = let long = ap length none in absurd (omega arith)
-part_tag tag y (inr (body, is, part)) = ap (λ xs. get_or xs 0 0) is
-
-module _ (setup : SetupValue) where
-  part_entry_none : (last : Option Entry) (f : HoldFileFault) (p s y : List ℕ) → p ≡ s ++ y → IsPartOfEntry p → EntryShows setup last f s → ⊥
-  part_entry_none last f p s y same part shown = elim (entry_kinds setup last f s shown) [
-    | inl w ↦ let one = part_tag w.0 y (subst IsPartOfEntry (same ∙ ap (λ q. q ++ y) w.2) part) in let over = w.3 in omega arith
-    | inr (inl w) ↦ long_cut w.0 w.1 y w.4 w.5 (part_behind _ (subst IsPartOfEntry (same ∙ ap (λ q. q ++ y) w.3) part))
-    | inr (inr w) ↦ body_cut w.0 y w.3 (part_behind _ (subst IsPartOfEntry (same ∙ ap (λ q. q ++ y) w.1) part))
+module _ (v : Version) (setup : SetupValue) where
+  part_entry_none : (last : Option FileEntry) (f : HoldFileFault) (p s y : List ℕ) → p ≡ s ++ y → IsPartOfEntry v setup last p → EntryShows v setup last f s → ⊥
+  part_entry_none last f p s y same part shown = elim (entry_kinds v setup last f s shown) [
+    | inl w ↦ let one = part_tag v setup last w.0 y (subst (IsPartOfEntry v setup last) (same ∙ ap (λ q. q ++ y) w.2) part) in let over = w.3 in omega arith
+    | inr w ↦ part_body_none v setup last f (w.0 ++ y) w.0 y refl (part_behind v setup last (w.0 ++ y) (subst (IsPartOfEntry v setup last)
+        (same ∙ ap (λ q. q ++ y) w.1) part)) w.2
   ]
 
-  entries_unfinished : (last : Option Entry) (es fs : List Entry) (f : HoldFileFault) (p t y : List ℕ) → AreValid setup last es → AreFitting es → AreFitting fs
-      → entries_text es ++ p ≡ (entries_text fs ++ t) ++ y → IsPartOfEntry p → EntryShows setup (last_from last fs) f t → ⊥
+  entries_unfinished : (last : Option FileEntry) (es fs : List FileEntry) (f : HoldFileFault) (p t y : List ℕ) → AreValid v setup last es → AreFitting v es
+      → AreFitting v fs → entries_text v es ++ p ≡ (entries_text v fs ++ t) ++ y → IsPartOfEntry v setup (last_from last es) p
+      → EntryShows v setup (last_from last fs) f t → ⊥
   entries_unfinished last [] [] f p t y valid fit fs_fit same part shown =
-      part_entry_none last f p t y (sym (none_behind p) ∙ same ∙ ap (λ q. q ++ y) (none_behind t)) part shown
+      part_entry_none last f p t y (sym (none_behind v p) ∙ same ∙ ap (λ q. q ++ y) (none_behind v t)) part shown
   entries_unfinished last [] (g ∷ fs) f p t y valid fit fs_fit same part shown =
-      let all = sym (none_behind p) ∙ same ∙ ap (λ q. q ++ y) (entries_behind g fs t) ∙ ap (λ q. 1 ∷ q) (append_assoc (body_text g) (entries_text fs ++ t) y) in
-      body_cut g ((entries_text fs ++ t) ++ y) fs_fit.0.1 (part_behind _ (subst IsPartOfEntry all part))
+      let all = sym (none_behind v p) ∙ same ∙ ap (λ q. q ++ y) (entries_behind v g fs t)
+      ∙ ap (λ q. 1 ∷ q) (append_assoc (body_text v g) (entries_text v fs ++ t) y) in
+      body_cut v setup last g ((entries_text v fs ++ t) ++ y) fs_fit.0 (part_behind v setup last _ (subst (IsPartOfEntry v setup last) all part))
   entries_unfinished last (e ∷ es) [] f p t y valid fit fs_fit same part shown =
-      right_none setup last e (entries_text es ++ p) y valid.0.0 fit.0.0 valid.0.1 f t (sym (entries_behind e es p) ∙ same
-      ∙ ap (λ q. q ++ y) (none_behind t)) shown
+      right_none v setup last e (entries_text v es ++ p) y valid.0.0 fit.0 valid.0.1 f t (sym (entries_behind v e es p) ∙ same
+      ∙ ap (λ q. q ++ y) (none_behind v t)) shown
   entries_unfinished last (e ∷ es) (g ∷ fs) f p t y valid fit fs_fit same part shown =
-      let bodies = rest_same (body_text e ++ (entries_text es ++ p)) ((body_text g ++ (entries_text fs ++ t)) ++ y) 1 1 (sym (entries_behind e es p) ∙ same
-      ∙ ap (λ q. q ++ y) (entries_behind g fs t)) in
-      let apart = bodies ∙ append_assoc (body_text g) (entries_text fs ++ t) y in
-      let one = same_body e g (entries_text es ++ p) ((entries_text fs ++ t) ++ y) fit.0.0 fs_fit.0.0 fit.0.1 fs_fit.0.1 apart in
-      let behind = behind_body e g (entries_text es ++ p) ((entries_text fs ++ t) ++ y) fit.0.0 fs_fit.0.0 fit.0.1 fs_fit.0.1 apart in
-      entries_unfinished (Some e) es fs f p t y valid.1 fit.1 fs_fit.1 behind part
-      (subst (λ (x : Entry). EntryShows setup (last_from (Some x) fs) f t) (sym one) shown)
+      let bodies = rest_same (body_text v e ++ (entries_text v es ++ p)) ((body_text v g ++ (entries_text v fs ++ t)) ++ y) 1 1 (sym (entries_behind v e es p)
+      ∙ same ∙ ap (λ q. q ++ y) (entries_behind v g fs t)) in
+      let apart = bodies ∙ append_assoc (body_text v g) (entries_text v fs ++ t) y in
+      let one = same_body v e g (entries_text v es ++ p) ((entries_text v fs ++ t) ++ y) fit.0 fs_fit.0 apart in
+      entries_unfinished (Some e) es fs f p t y valid.1 fit.1 fs_fit.1 one.1 part
+      (subst (λ (x : FileEntry). EntryShows v setup (last_from (Some x) fs) f t) (sym one.0) shown)
 
 -- ---- the head
 
@@ -93,30 +79,34 @@ part_reel_none f p s y same part shown = elim (reel_kinds f s shown) [
 -- ---- the whole file
 
 -- a part of the magic begins it
-magic_from : (s : List ℕ) → s ≡ take (length s) magic → magic ++ [] ≡ s ++ drop (length s) magic
-magic_from s is = append-nil magic ∙ sym (take-append-drop (length s) magic) ∙ ap (λ q. q ++ drop (length s) magic) (sym is)
+magic_from : (s : List ℕ) → s ≡ take (length s) (magic Second) → magic Second ++ [] ≡ s ++ drop (length s) (magic Second)
+magic_from s is = append-nil (magic Second) ∙ sym (take-append-drop (length s) (magic Second)) ∙ ap (λ q. q ++ drop (length s) (magic Second)) (sym is)
 
 pub part_shows_none : (f : HoldFileFault) (s t y : List ℕ) → s ≡ t ++ y → IsPartOfFile s → FileShows f t → ⊥
 part_shows_none f s t y same (inl (few, is)) (inl a) =
-    magic_none [] (y ++ drop (length s) magic) t f (magic_from s is ∙ ap (λ q. q ++ drop (length s) magic) same ∙ append_assoc t y (drop (length s) magic)) a
-part_shows_none f s t y same (inl (few, is)) (inr (inl (u, split, a))) =
-    omega (arith, few, ap length same, length-append t y, ap length split, length-append magic u)
-part_shows_none f s t y same (inl (few, is)) (inr (inr (r, u, r_is, split, a))) =
+    magic_none Second [] (y ++ drop (length s) (magic Second)) t f (magic_from s is ∙ ap (λ q. q ++ drop (length s) (magic Second)) same
+    ∙ append_assoc t y (drop (length s) (magic Second))) a
+part_shows_none f s t y same (inl (few, is)) (inr (inl (w, u, split, a))) =
+    omega (arith, few, ap length same, length-append t y, ap length split, length-append (magic w) u)
+part_shows_none f s t y same (inl (few, is)) (inr (inr (w, r, u, r_is, split, a))) =
     let sized = sized_record r.config r.setup.width r.setup.height in
-    omega (arith, few, ap length same, length-append t y, ap length (split ∙ head_parts r u), length-append magic (sized ++ u))
-part_shows_none f s t y same (inr (inl (p, s_split, part))) (inl a) = magic_none p y t f (sym s_split ∙ same) a
-part_shows_none f s t y same (inr (inl (p, s_split, part))) (inr (inl (u, split, a))) =
-    part_reel_none f p u y (behind_magic _ _ (sym s_split ∙ same ∙ ap (λ q. q ++ y) split ∙ append_assoc magic u y)) part a
-part_shows_none f s t y same (inr (inl (p, s_split, part))) (inr (inr (r, u, r_is, split, a))) =
+    omega (arith, few, ap length same, length-append t y, ap length (split ∙ head_parts w r u), length-append (magic w) (sized ++ u))
+part_shows_none f s t y same (inr (inl (x, p, s_split, part))) (inl a) = magic_none x p y t f (sym s_split ∙ same) a
+part_shows_none f s t y same (inr (inl (x, p, s_split, part))) (inr (inl (w, u, split, a))) =
+    part_reel_none f p u y (behind_magic x w _ _ (sym s_split ∙ same ∙ ap (λ q. q ++ y) split ∙ append_assoc (magic w) u y)) part a
+part_shows_none f s t y same (inr (inl (x, p, s_split, part))) (inr (inr (w, r, u, r_is, split, a))) =
     sized_cut r.config r.setup.width r.setup.height (u ++ y) r_is.fits
-    (subst IsPartOfReel (behind_magic _ _ (sym s_split ∙ same ∙ ap (λ q. q ++ y) split ∙ head_on r u y)) part)
-part_shows_none f s t y same (inr (inr (q, p, q_is, s_split, part))) (inl a) = magic_none _ y t f (sym (head_parts q p) ∙ sym s_split ∙ same) a
-part_shows_none f s t y same (inr (inr (q, p, q_is, s_split, part))) (inr (inl (u, split, a))) =
-    reel_none q q_is p y f u (behind_magic _ _ (sym (head_parts q p) ∙ sym s_split ∙ same ∙ ap (λ z. z ++ y) split ∙ append_assoc magic u y)) a
-part_shows_none f s t y same (inr (inr (q, p, q_is, s_split, (es, m, entries, inner, part)))) (inr (inr (r, u, r_is, split, (fs, n, others, behind, a)))) =
-    let heads = same_head q r p (u ++ y) q_is r_is (sym s_split ∙ same ∙ ap (λ z. z ++ y) split ∙ append_assoc (head_text r) u y) in
-    let setup = ap (λ (x : Reel). x.setup) heads.0 in
-    entries_unfinished q.setup None es fs f m n y (valid_list q.setup es entries) (fitting_all q q_is.reel es entries.each)
-    (fitting_all r r_is.reel fs others.each)
-    (sym inner ∙ heads.1 ∙ ap (λ z. z ++ y) behind) part
-    (subst (λ (l : Option Entry). EntryShows q.setup l f n) (last_of-none fs) (subst (λ (x : SetupValue). EntryShows x (last_of fs) f n) (sym setup) a))
+    (subst IsPartOfReel (behind_magic x w _ _ (sym s_split ∙ same ∙ ap (λ q. q ++ y) split ∙ head_on w r u y)) part)
+part_shows_none f s t y same (inr (inr (x, q, p, q_is, s_split, part))) (inl a) = magic_none x _ y t f (sym (head_parts x q p) ∙ sym s_split ∙ same) a
+part_shows_none f s t y same (inr (inr (x, q, p, q_is, s_split, part))) (inr (inl (w, u, split, a))) =
+    reel_none q q_is p y f u (behind_magic x w _ _ (sym (head_parts x q p) ∙ sym s_split ∙ same ∙ ap (λ z. z ++ y) split ∙ append_assoc (magic w) u y)) a
+part_shows_none f s t y same (inr (inr (x, q, p, q_is, s_split, (es, m, entries, inner, part)))) (inr (inr (w, r, u, r_is, split, (fs, n, more, behind, a)))) =
+    let heads = same_head x w q r p (u ++ y) q_is r_is (sym s_split ∙ same ∙ ap (λ z. z ++ y) split ∙ append_assoc (head_text w r) u y) in
+    let setup = ap (λ (x : Reel). x.setup) heads.1 in
+    let fs_all = subst (λ (k : Version). AreEntries k r.setup fs) (sym heads.0) more in
+    entries_unfinished x q.setup None es fs f m n y (valid_list x q.setup es entries) (fitting_all x q q_is.reel es entries.each)
+    (fitting_all x r r_is.reel fs fs_all.each)
+    (sym inner ∙ heads.2 ∙ ap (λ z. z ++ y) (behind ∙ ap (λ (k : Version). entries_text k fs ++ n) (sym heads.0)))
+    (subst (λ (l : Option FileEntry). IsPartOfEntry x q.setup l m) (last_of-none es) part)
+    (subst (λ (l : Option FileEntry). EntryShows x q.setup l f n) (last_of-none fs) (subst (λ (k : SetupValue). EntryShows x k (last_of fs) f n) (sym setup)
+    (subst (λ (k : Version). EntryShows k r.setup (last_of fs) f n) (sym heads.0) a)))

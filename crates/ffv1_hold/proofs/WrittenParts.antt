@@ -1,23 +1,57 @@
--- An entry, and a head, by the two parts that are written.
-use Rattle.std.proofs.Common.{◌≡◌, ℕ, ◌∷◌, List, ◌++◌, length, ap, ◌∙◌, append_assoc, refl}
+-- An entry, and a head, by the parts that are written.
+use Rattle.std.proofs.Common.{◌≡◌, ℕ, ◌∷◌, List, ◌++◌, length, Option, Result, Ok, Err, OnOk, OnErr, ap, ◌∙◌, subst, append_assoc, refl}
+use Rattle.std.specs.Io.KnownBytes.{Appends}
+use Rattle.std.proofs.KnownBytes.{Appends-trans}
+use Rattle.ffv1_devices.specs.Writing.{WritesFront}
+use Rattle.ffv1_devices.specs.declared.writes.WriteFailed.{WriteFailed}
+use Rattle.ffv1_devices.proofs.Fronts.{front-after}
+use Rattle.std.specs.Int.{w32, to_be_bytes}
 use Rattle.ffv1_holding.specs.SliceOrder.{Entry}
 use Rattle.ffv1_holding.specs.Reels.{Reel}
-use Rattle.ffv1_hold.specs.HoldingText.{be2, be4, body_text, sized_record, entry_text, head_text, magic}
+use Rattle.ffv1_hold.specs.declared.version.Version.TheVariants.{Second}
+use Rattle.ffv1_hold.specs.HoldingText.{be2, be4, slice_text, origins_text, sized_record, head_text, magic}
+use Rattle.ffv1_hold.proofs.DigestTexts.{whole}
 
-pub entry_text-parts : (e : Entry) → ((1 ∷ be2 e.0) ++ be4 (length e.1)) ++ e.1 ≡ entry_text e
-unfolding body_text
-entry_text-parts e = refl
+slice_text-parts : (e : Entry) → ((1 ∷ be2 e.0) ++ be4 (length e.1)) ++ e.1 ≡ 1 ∷ slice_text e
+unfolding slice_text
+slice_text-parts e = refl
 
-pub entry_spelled : (e : Entry) (head : List ℕ) → head ≡ (1 ∷ be2 e.0) ++ be4 (length e.1) → head ++ e.1 ≡ entry_text e
-entry_spelled e head is = ap (λ l. l ++ e.1) is ∙ entry_text-parts e
+pub slice_spelled : (e : Entry) (head : List ℕ) → head ≡ (1 ∷ be2 e.0) ++ be4 (length e.1) → head ++ e.1 ≡ 1 ∷ slice_text e
+slice_spelled e head is = ap (λ l. l ++ e.1) is ∙ slice_text-parts e
 
-pub head_text-parts : (r : Reel) → (magic ++ (be4 r.setup.width ++ be4 r.setup.height ++ be4 (length r.config))) ++ r.config ≡ head_text r
+-- a count's bytes
+pub be4_spelled : (n : ℕ) → to_be_bytes w32 n ≡ be4 n
+unfolding be4
+be4_spelled n = refl
+
+pub origins_spelled : (ds : List (List ℕ)) (count : List ℕ) → count ≡ be4 (length ds) → count ++ whole ds ≡ origins_text ds
+unfolding origins_text
+origins_spelled ds count is = ap (λ c. c ++ whole ds) is
+
+head_text-parts : (r : Reel) → (magic Second ++ (be4 r.setup.width ++ be4 r.setup.height ++ be4 (length r.config))) ++ r.config ≡ head_text Second r
 unfolding head_text sized_record
-head_text-parts r = append_assoc magic (be4 r.setup.width ++ be4 r.setup.height ++ be4 (length r.config)) r.config
+head_text-parts r = append_assoc (magic Second) (be4 r.setup.width ++ be4 r.setup.height ++ be4 (length r.config)) r.config
 
-pub head_spelled : (r : Reel) (head config : List ℕ) (w h : ℕ) → head ≡ magic ++ (be4 w ++ be4 h ++ be4 (length config)) → w ≡ r.setup.width
-    → h ≡ r.setup.height → config ≡ r.config → head ++ config ≡ head_text r
+pub head_spelled : (r : Reel) (head config : List ℕ) (w h : ℕ) → head ≡ magic Second ++ (be4 w ++ be4 h ++ be4 (length config)) → w ≡ r.setup.width
+    → h ≡ r.setup.height → config ≡ r.config → head ++ config ≡ head_text Second r
 head_spelled r head config w h a i j k =
-    ap (λ l. l ++ config) a ∙ ap (λ n. (magic ++ (be4 n ++ be4 h ++ be4 (length config))) ++ config) i
-    ∙ ap (λ n. (magic ++ (be4 r.setup.width ++ be4 n ++ be4 (length config))) ++ config) j
-    ∙ ap (λ l. (magic ++ (be4 r.setup.width ++ be4 r.setup.height ++ be4 (length l))) ++ l) k ∙ head_text-parts r
+    ap (λ l. l ++ config) a ∙ ap (λ n. (magic Second ++ (be4 n ++ be4 h ++ be4 (length config))) ++ config) i
+    ∙ ap (λ n. (magic Second ++ (be4 r.setup.width ++ be4 n ++ be4 (length config))) ++ config) j
+    ∙ ap (λ l. (magic Second ++ (be4 r.setup.width ++ be4 r.setup.height ++ be4 (length l))) ++ l) k ∙ head_text-parts r
+
+-- ---- bytes behind others
+
+module _ (a b c : Option (List ℕ)) (xs ys all : List ℕ) (r : Result (Unit {0}) WriteFailed) (spelled : xs ++ ys ≡ all) (first : Appends a b xs) where
+  pub appends_behind : OnOk r (Appends b c ys) → OnOk r (Appends a c all)
+  appends_behind more = each r more
+    where
+      each : (r : Result (Unit {0}) WriteFailed) → OnOk r (Appends b c ys) → OnOk r (Appends a c all)
+      each (Ok x) more = subst (Appends a c) spelled (Appends-trans a b c xs ys first more)
+      each (Err f) more = tt
+
+  pub front_behind : OnErr r (WritesFront b c ys) → OnErr r (WritesFront a c all)
+  front_behind more = each r more
+    where
+      each : (r : Result (Unit {0}) WriteFailed) → OnErr r (WritesFront b c ys) → OnErr r (WritesFront a c all)
+      each (Ok x) more = tt
+      each (Err f) more = subst (WritesFront a c) spelled (front-after a b c xs ys first more)

@@ -1,30 +1,70 @@
 -- Entries as they follow each other in a holding file.
-use Rattle.std.specs.Prelude.{◌≡◌, ℕ, List, [], ◌∷◌, Option, Some, None}
+use Rattle.std.specs.Prelude.{◌≡◌, ℕ, ◌≤◌, ◌<◌, ◌^◌, List, [], ◌∷◌, length, Option, Some, None}
 use Rattle.std.specs.List.{AllByRecursion}
+use Rattle.std.specs.declared.cmp.Ordering.{Ordering}
 use Rattle.std.specs.declared.cmp.Ordering.TheVariants.{Less}
+use Rattle.ffv1_bits.specs.Limits.{slice_limit}
 use Rattle.ffv1_range.specs.Setup.{SetupValue}
-use Rattle.ffv1_holding.specs.SliceOrder.{Entry, entry_cmp}
+use Rattle.ffv1_holding.specs.SliceOrder.{Entry, entry_cmp, bytes_cmp}
 use Rattle.ffv1_holding.specs.Rising.{IsRising}
-use Rattle.ffv1_holding.specs.Contents.{IsEntryOf}
-use Rattle.ffv1_hold.specs.HoldingText.{entry_text}
+use Rattle.ffv1_holding.specs.Contents.{IsEntryOf, AreDigests}
+use Rattle.ffv1_hold.specs.declared.version.Version.{Version}
+use Rattle.ffv1_hold.specs.declared.version.Version.TheVariants.{First, Second}
+use Rattle.ffv1_hold.specs.HoldingText.{FileEntry, origins_limit, entry_text}
 
--- the last entry, if there is one
-abbrev pub last_of : List Entry → Option Entry
+-- the last item, if there is one
+abbrev pub last_of : {A : Type 0} → List A → Option A
 last_of [] = None
-last_of (e ∷ []) = Some e
-last_of (e ∷ f ∷ es) = last_of (f ∷ es)
+last_of (x ∷ []) = Some x
+last_of (x ∷ y ∷ ys) = last_of (y ∷ ys)
 
--- an entry stands behind the last one, if there is one
-abbrev pub Follows : Option Entry → Entry → Type 0
+-- a slice stands behind the last entry, if there is one
+abbrev pub Follows : Option FileEntry → Entry → Type 0
 Follows None e = Unit {0}
-Follows (Some last) e = entry_cmp last e ≡ Less
+Follows (Some last) e = entry_cmp last.0 e ≡ Less
+
+-- a digest stands behind the last one, if there is one
+abbrev pub FollowsDigest : Option (List ℕ) → List ℕ → Type 0
+FollowsDigest None digest = Unit {0}
+FollowsDigest (Some last) digest = bytes_cmp last digest ≡ Less
+
+-- a SHA-256 digest has 32 bytes
+abbrev pub IsDigest : List ℕ → Type 0
+IsDigest digest = length digest ≡ 32
+
+-- digests in strictly rising order
+pub record AreOrigins (digests : List (List ℕ)) : Type 0 where
+  pub each : AllByRecursion IsDigest digests
+  pub rising : AreDigests digests
+
+-- what can stand behind a slice: nothing in version 1, rising digests in version 2
+abbrev pub AreDigestsIn : Version → List (List ℕ) → Type 0
+AreDigestsIn First digests = digests ≡ []
+AreDigestsIn Second digests = AreOrigins digests × (length digests ≤ origins_limit)
+
+-- A slice of its tile, and what can stand behind it.
+pub record IsFileEntryOf (v : Version) (setup : SetupValue) (e : FileEntry) : Type 0 where
+  pub slice : IsEntryOf setup e.0
+  pub origins : AreDigestsIn v e.1
+
+abbrev pub file_entry_cmp : FileEntry → FileEntry → Ordering
+file_entry_cmp a b = entry_cmp a.0 b.0
 
 -- slices of their tiles, in rising order of tile and bytes
-pub record AreEntries (setup : SetupValue) (es : List Entry) : Type 0 where
-  pub each : AllByRecursion (IsEntryOf setup) es
-  pub rising : IsRising entry_cmp es
+pub record AreEntries (v : Version) (setup : SetupValue) (es : List FileEntry) : Type 0 where
+  pub each : AllByRecursion (IsFileEntryOf v setup) es
+  pub rising : IsRising file_entry_cmp es
 
 -- the text of what is read behind an entry: the next one, or the end tag
-abbrev pub next_text : Option Entry → List ℕ
-next_text None = 0 ∷ []
-next_text (Some e) = entry_text e
+abbrev pub next_text : Version → Option FileEntry → List ℕ
+next_text v None = 0 ∷ []
+next_text v (Some e) = entry_text v e
+
+-- what has a text behind a slice, in whatever order
+abbrev pub HasTextBehind : Version → List (List ℕ) → Type 0
+HasTextBehind First digests = digests ≡ []
+HasTextBehind Second digests = AllByRecursion IsDigest digests × (length digests ≤ origins_limit)
+
+-- An entry that has a text: its tile's number takes two bytes, its slice is within its limit, and so are its digests.
+abbrev pub HasText : Version → FileEntry → Type 0
+HasText v e = (e.0.0 < 2 ^ 16) × (length e.0.1 ≤ slice_limit) × HasTextBehind v e.1

@@ -1,57 +1,99 @@
--- Which bytes begin a holding file, and which show a fault in it. Judged are, in byte order: the magic; the record's length;
--- the setup, behind the record; each tag; each entry's length; behind an entry's bytes whether they are a slice of its tile, and
--- then whether it stands in order.
+-- Which bytes begin a holding file, and which show a fault in it. Judged are, in byte order: the magic, which tells the version; the
+-- record's length; the setup, behind the record; each tag; each slice's length; behind a slice's bytes whether they are a slice of its
+-- tile, and then whether it stands in order; and in version 2 the count of its digests, and each digest, whether it stands in order.
 use Rattle.std.specs.Prelude.{ℕ, ◌≡◌, ◌≢◌, ◌==◌, ◌^◌, ◌<◌, ◌≤◌, ◌⊎◌, List, [], ◌∷◌, ◌++◌, length, take, Option, Some, Result, Ok, Err}
+use Rattle.std.specs.List.{flat_map}
 use Rattle.ffv1_bits.specs.Limits.{slice_limit, record_limit}
 use Rattle.ffv1_range.specs.Setup.{SetupValue}
 use Rattle.ffv1_range.specs.SetupFaults.{FirstSetupFault}
 use Rattle.ffv1_slice.specs.Slices.{IsSliceOf}
 use Rattle.ffv1_hold.specs.declared.file_fault.HoldFileFault.{HoldFileFault}
 use Rattle.ffv1_hold.specs.declared.file_fault.HoldFileFault.TheVariants as faults
-use Rattle.ffv1_holding.specs.SliceOrder.{Entry, entry_cmp}
-use Rattle.ffv1_holding.specs.Sets as set
+use Rattle.ffv1_hold.specs.declared.version.Version.{Version}
+use Rattle.ffv1_hold.specs.declared.version.Version.TheVariants.{First, Second}
+use Rattle.ffv1_holding.specs.SliceOrder.{Entry}
 use Rattle.ffv1_holding.specs.Reels.{Reel, IsReel, WantsMemory}
-use Rattle.ffv1_holding.specs.Contents.{Contents, IsHolding, AreEntriesOf}
-use Rattle.ffv1_hold.specs.HoldingText.{magic, be2, be4, sized_record, head_text, holding_text, body_text, entries_text}
+use Rattle.ffv1_holding.specs.Contents.{Contents, IsHolding, IsEntryOf}
+use Rattle.ffv1_hold.specs.HoldingText.{FileEntry, origins_limit, magic, be2, be4, sized_record, head_text, slice_text, entries_text, file_entries, IsTold, IsTextOf}
 use Rattle.ffv1_hold.specs.Reading.{Refuses}
-use Rattle.ffv1_hold.specs.FileEntries.{last_of, Follows, AreEntries}
+use Rattle.ffv1_hold.specs.FileEntries.{last_of, Follows, FollowsDigest, IsDigest, AreOrigins, AreEntries}
 
--- ---- an entry behind its tag
+-- ---- a slice behind its tag
 
 -- a beginning of one: some of its tile and its length, or both and some of its bytes
-abbrev pub IsPartOfBody : List ℕ → Type 0
-IsPartOfBody s = (length s < 6) ⊎ ((tile n : ℕ) × (bytes : List ℕ) × (s ≡ be2 tile ++ be4 n ++ bytes) × (n ≤ slice_limit) × (length bytes < n))
+abbrev pub IsPartOfSlice : List ℕ → Type 0
+IsPartOfSlice s = (length s < 6) ⊎ ((tile n : ℕ) × (bytes : List ℕ) × (s ≡ be2 tile ++ be4 n ++ bytes) × (n ≤ slice_limit) × (length bytes < n))
 
 -- its length passes the limit
-abbrev pub BodyIsTooLong : HoldFileFault → List ℕ → Type 0
-BodyIsTooLong faults.TooLong s = (tile n : ℕ) × (s ≡ be2 tile ++ be4 n) × (slice_limit < n) × (n < 2 ^ 32)
-BodyIsTooLong _ s = ⊥
+abbrev pub SliceIsTooLong : HoldFileFault → List ℕ → Type 0
+SliceIsTooLong faults.TooLong s = (tile n : ℕ) × (s ≡ be2 tile ++ be4 n) × (slice_limit < n) × (n < 2 ^ 32)
+SliceIsTooLong _ s = ⊥
 
 -- an entry behind the last one is no slice of its tile, or it is one in the wrong place
-abbrev pub IsWrong : SetupValue → Option Entry → Entry → HoldFileFault → Type 0
+abbrev pub IsWrong : SetupValue → Option FileEntry → Entry → HoldFileFault → Type 0
 IsWrong setup last e faults.NotASlice = ¬ IsSliceOf setup e.1 (e.0 == 0) e.0
 IsWrong setup last e faults.Order = IsSliceOf setup e.1 (e.0 == 0) e.0 × (¬ Follows last e)
 IsWrong setup last e _ = ⊥
 
-abbrev pub BodyShows : SetupValue → Option Entry → HoldFileFault → List ℕ → Type 0
-BodyShows setup last faults.TooLong s = BodyIsTooLong faults.TooLong s
-BodyShows setup last f s = (e : Entry) × (s ≡ body_text e) × (e.0 < 2 ^ 16) × (length e.1 ≤ slice_limit) × IsWrong setup last e f
+abbrev pub SliceShows : SetupValue → Option FileEntry → HoldFileFault → List ℕ → Type 0
+SliceShows setup last faults.TooLong s = SliceIsTooLong faults.TooLong s
+SliceShows setup last f s = (e : Entry) × (s ≡ slice_text e) × (e.0 < 2 ^ 16) × (length e.1 ≤ slice_limit) × IsWrong setup last e f
+
+-- ---- the digests behind a slice
+
+-- a beginning of them: some of their count, or that and fewer digests, and some of the next
+abbrev pub IsPartOfOrigins : List ℕ → Type 0
+IsPartOfOrigins s = (length s < 4) ⊎ ((n : ℕ) × (digests : List (List ℕ)) × (cut : List ℕ) × (s ≡ be4 n ++ flat_map (λ digest. digest) digests ++ cut)
+    × (n ≤ origins_limit) × AreOrigins digests × (length digests < n) × (length cut < 32))
+
+-- their count passes the limit, or a digest stands in the wrong place
+abbrev pub OriginsShow : HoldFileFault → List ℕ → Type 0
+OriginsShow faults.TooLong s = (n : ℕ) × (s ≡ be4 n) × (origins_limit < n) × (n < 2 ^ 32)
+OriginsShow faults.Order s = (n : ℕ) × (digests : List (List ℕ)) × (digest : List ℕ) × (s ≡ be4 n ++ flat_map (λ digest. digest) digests ++ digest)
+    × (n ≤ origins_limit) × AreOrigins digests × (length digests < n) × IsDigest digest × (¬ FollowsDigest (last_of digests) digest)
+OriginsShow _ s = ⊥
+
+-- what stands behind a slice in a version: in version 1 nothing is read there
+abbrev pub IsPartBehind : Version → List ℕ → Type 0
+IsPartBehind First s = ⊥
+IsPartBehind Second s = IsPartOfOrigins s
+
+abbrev pub ShowsBehind : Version → HoldFileFault → List ℕ → Type 0
+ShowsBehind First f s = ⊥
+ShowsBehind Second f s = OriginsShow f s
+
+-- ---- an entry behind its tag
+
+-- a slice of its tile, in its place
+abbrev pub IsRight : SetupValue → Option FileEntry → Entry → Type 0
+IsRight setup last e = IsEntryOf setup e × Follows last e × (e.0 < 2 ^ 16)
+
+-- a beginning of its slice, or the slice, which is right, and a beginning of what stands behind it
+abbrev pub IsPartOfBody : Version → SetupValue → Option FileEntry → List ℕ → Type 0
+IsPartOfBody v setup last s = IsPartOfSlice s
+    ⊎ ((e : Entry) × (part : List ℕ) × (s ≡ slice_text e ++ part) × IsRight setup last e × IsPartBehind v part)
+
+abbrev pub BodyShows : Version → SetupValue → Option FileEntry → HoldFileFault → List ℕ → Type 0
+BodyShows v setup last f s = SliceShows setup last f s
+    ⊎ ((e : Entry) × (seen : List ℕ) × (s ≡ slice_text e ++ seen) × IsRight setup last e × ShowsBehind v f seen)
 
 -- ---- entries in rising order
 
-abbrev pub IsPartOfEntry : List ℕ → Type 0
-IsPartOfEntry s = (s ≡ []) ⊎ ((body : List ℕ) × (s ≡ 1 ∷ body) × IsPartOfBody body)
+abbrev pub IsPartOfEntry : Version → SetupValue → Option FileEntry → List ℕ → Type 0
+IsPartOfEntry v setup last s = (s ≡ []) ⊎ ((body : List ℕ) × (s ≡ 1 ∷ body) × IsPartOfBody v setup last body)
 
-abbrev pub EntryShows : SetupValue → Option Entry → HoldFileFault → List ℕ → Type 0
-EntryShows setup last faults.Tag s = (tag : ℕ) × (s ≡ tag ∷ []) × (1 < tag)
-EntryShows setup last f s = (body : List ℕ) × (s ≡ 1 ∷ body) × BodyShows setup last f body
+abbrev pub EntryShows : Version → SetupValue → Option FileEntry → HoldFileFault → List ℕ → Type 0
+EntryShows v setup last faults.Tag s = (tag : ℕ) × (s ≡ tag ∷ []) × (1 < tag)
+EntryShows v setup last f s = (body : List ℕ) × (s ≡ 1 ∷ body) × BodyShows v setup last f body
 
 -- entries, and a beginning of the next, or of the end
-abbrev pub IsPartOfEntries : SetupValue → List ℕ → Type 0
-IsPartOfEntries setup s = (es : List Entry) × (part : List ℕ) × AreEntries setup es × (s ≡ entries_text es ++ part) × IsPartOfEntry part
+abbrev pub IsPartOfEntries : Version → SetupValue → List ℕ → Type 0
+IsPartOfEntries v setup s = (es : List FileEntry) × (part : List ℕ) × AreEntries v setup es × (s ≡ entries_text v es ++ part)
+    × IsPartOfEntry v setup (last_of es) part
 
-abbrev pub EntriesShow : SetupValue → HoldFileFault → List ℕ → Type 0
-EntriesShow setup f s = (es : List Entry) × (seen : List ℕ) × AreEntries setup es × (s ≡ entries_text es ++ seen) × EntryShows setup (last_of es) f seen
+abbrev pub EntriesShow : Version → SetupValue → HoldFileFault → List ℕ → Type 0
+EntriesShow v setup f s = (es : List FileEntry) × (seen : List ℕ) × AreEntries v setup es × (s ≡ entries_text v es ++ seen)
+    × EntryShows v setup (last_of es) f seen
 
 -- the end tag, behind which the end is looked for
 abbrev pub EndIsWhole : HoldFileFault → List ℕ → Type 0
@@ -59,9 +101,9 @@ EndIsWhole faults.Read s = s ≡ 0 ∷ []
 EndIsWhole faults.Trailing s = s ≡ 0 ∷ []
 EndIsWhole _ s = ⊥
 
--- all entries, and the end tag behind them
-abbrev pub EntriesAreWhole : SetupValue → HoldFileFault → List ℕ → Type 0
-EntriesAreWhole setup f s = (slices : set.SetOf entry_cmp) × (tag : List ℕ) × AreEntriesOf setup slices × (s ≡ entries_text (set.items slices) ++ tag)
+-- all entries of a holding of the reel, and the end tag behind them
+abbrev pub EntriesAreWhole : Version → Reel → HoldFileFault → List ℕ → Type 0
+EntriesAreWhole v reel f s = (h : Contents) × (tag : List ℕ) × IsHolding h × IsTold v h × (h.reel ≡ reel) × (s ≡ entries_text v (file_entries h) ++ tag)
     × EndIsWhole f tag
 
 -- ---- the head
@@ -87,50 +129,51 @@ ReelIsWhole faults.Memory s = (config : List ℕ) × (w h : ℕ) × (s ≡ sized
     × WantsMemory config w h
 ReelIsWhole _ s = ⊥
 
--- a beginning of the magic
+-- a beginning of the magic, before its version
 abbrev pub IsPartOfMagic : List ℕ → Type 0
-IsPartOfMagic s = (length s < 8) × (s ≡ take (length s) magic)
+IsPartOfMagic s = (length s < 8) × (s ≡ take (length s) (magic Second))
 
+-- what begins the magic of no version
 abbrev pub MagicShows : HoldFileFault → List ℕ → Type 0
-MagicShows faults.Magic s = (length s ≤ 8) × (s ≢ take (length s) magic)
+MagicShows faults.Magic s = (length s ≤ 8) × ((v : Version) → s ≢ take (length s) (magic v))
 MagicShows _ s = ⊥
 
 -- ---- the magic, the size and the record
 
 -- a beginning of them that shows no fault yet
 abbrev pub IsPartOfHead : List ℕ → Type 0
-IsPartOfHead s = IsPartOfMagic s ⊎ ((part : List ℕ) × (s ≡ magic ++ part) × IsPartOfReel part)
+IsPartOfHead s = IsPartOfMagic s ⊎ ((v : Version) × (part : List ℕ) × (s ≡ magic v ++ part) × IsPartOfReel part)
 
 abbrev pub HeadShows : HoldFileFault → List ℕ → Type 0
-HeadShows f s = MagicShows f s ⊎ ((seen : List ℕ) × (s ≡ magic ++ seen) × ReelShows f seen)
+HeadShows f s = MagicShows f s ⊎ ((v : Version) × (seen : List ℕ) × (s ≡ magic v ++ seen) × ReelShows f seen)
 
 -- they are whole, behind which memory for the setup is wanted
 abbrev pub HeadIsWhole : HoldFileFault → List ℕ → Type 0
-HeadIsWhole f s = (reel : List ℕ) × (s ≡ magic ++ reel) × ReelIsWhole f reel
+HeadIsWhole f s = (v : Version) × (reel : List ℕ) × (s ≡ magic v ++ reel) × ReelIsWhole f reel
 
 -- ---- the whole file
 
 -- a beginning of a file that shows no fault yet: of its magic, of its size and record, or of its entries and the end
 abbrev pub IsPartOfFile : List ℕ → Type 0
 IsPartOfFile s = IsPartOfMagic s
-    ⊎ ((part : List ℕ) × (s ≡ magic ++ part) × IsPartOfReel part)
-    ⊎ ((r : Reel) × (part : List ℕ) × IsFileReel r × (s ≡ head_text r ++ part) × IsPartOfEntries r.setup part)
+    ⊎ ((v : Version) × (part : List ℕ) × (s ≡ magic v ++ part) × IsPartOfReel part)
+    ⊎ ((v : Version) × (r : Reel) × (part : List ℕ) × IsFileReel r × (s ≡ head_text v r ++ part) × IsPartOfEntries v r.setup part)
 
 -- the beginning of a file whose last byte shows the fault
 abbrev pub FileShows : HoldFileFault → List ℕ → Type 0
 FileShows f s = MagicShows f s
-    ⊎ ((seen : List ℕ) × (s ≡ magic ++ seen) × ReelShows f seen)
-    ⊎ ((r : Reel) × (seen : List ℕ) × IsFileReel r × (s ≡ head_text r ++ seen) × EntriesShow r.setup f seen)
+    ⊎ ((v : Version) × (seen : List ℕ) × (s ≡ magic v ++ seen) × ReelShows f seen)
+    ⊎ ((v : Version) × (r : Reel) × (seen : List ℕ) × IsFileReel r × (s ≡ head_text v r ++ seen) × EntriesShow v r.setup f seen)
 
--- the text of a holding whose record is within its limit
+-- a text of a holding whose record is within its limit
 abbrev pub IsHoldingText : List ℕ → Type 0
-IsHoldingText s = (h : Contents) × IsHolding h × (length h.reel.config ≤ record_limit) × (s ≡ holding_text h)
+IsHoldingText s = (h : Contents) × IsHolding h × (length h.reel.config ≤ record_limit) × IsTextOf s h
 
 -- What is whole where a fault comes that no byte of it shows: a text, whose end is looked for, or a head, whose setup wants memory.
 abbrev pub FileIsWhole : HoldFileFault → List ℕ → Type 0
 FileIsWhole faults.Read s = IsHoldingText s
 FileIsWhole faults.Trailing s = IsHoldingText s
-FileIsWhole faults.Memory s = (reel : List ℕ) × (s ≡ magic ++ reel) × ReelIsWhole faults.Memory reel
+FileIsWhole faults.Memory s = (v : Version) × (reel : List ℕ) × (s ≡ magic v ++ reel) × ReelIsWhole faults.Memory reel
 FileIsWhole _ s = ⊥
 
 -- the device or memory is the fault, and not the bytes

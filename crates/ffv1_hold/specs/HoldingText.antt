@@ -1,12 +1,15 @@
--- The one text of a holding (own): a holding file, version 1.
-use Rattle.std.specs.Prelude.{ℕ, ◌≤◌, List, [], ◌∷◌, ◌++◌, length}
+-- The texts of a holding (own): holding files of version 1, which tell its slices, and of version 2, which tell their origins too.
+use Rattle.std.specs.Prelude.{ℕ, ◌≡◌, ◌≤◌, true, List, [], ◌∷◌, ◌++◌, length, map, Option}
 use Rattle.std.specs.List.{flat_map}
+use Rattle.std.specs.Io.KnownBytes.{Consumes}
 use Rattle.std.specs.Int.{w16, w32, to_be_bytes}
 use Rattle.ffv1_bits.specs.Limits.{record_limit, file_limit}
 use Rattle.ffv1_holding.specs.SliceOrder.{Entry}
 use Rattle.ffv1_holding.specs.Sets as set
 use Rattle.ffv1_holding.specs.Reels.{Reel}
-use Rattle.ffv1_holding.specs.Contents.{Contents}
+use Rattle.ffv1_holding.specs.Contents.{Contents, digests_of}
+use Rattle.ffv1_hold.specs.declared.version.Version.{Version}
+use Rattle.ffv1_hold.specs.declared.version.Version.TheVariants.{First, Second}
 
 -- numbers of two and four bytes, most significant byte first
 unfoldable pub be2 : ℕ → List ℕ
@@ -15,33 +18,90 @@ be2 n = to_be_bytes w16 n
 unfoldable pub be4 : ℕ → List ℕ
 be4 n = to_be_bytes w32 n
 
--- FFV1HLD and the version
-abbrev pub magic : List ℕ
-magic = 70 ∷ 70 ∷ 86 ∷ 49 ∷ 72 ∷ 76 ∷ 68 ∷ 1 ∷ []
+-- the greatest count of one slice's digests in a holding file: 2^26
+abbrev pub origins_limit : ℕ
+origins_limit = 67108864
+
+-- a slice with its tile, and the digests that stand behind it
+abbrev pub FileEntry : Type 0
+FileEntry = Entry × List (List ℕ)
+
+abbrev pub version_number : Version → ℕ
+version_number First = 1
+version_number Second = 2
+
+-- FFV1HLD
+abbrev pub name : List ℕ
+name = 70 ∷ 70 ∷ 86 ∷ 49 ∷ 72 ∷ 76 ∷ 68 ∷ []
+
+-- the name and the version
+abbrev pub magic : Version → List ℕ
+magic v = name ++ version_number v ∷ []
 
 -- a width, a height and a record
 unfoldable pub sized_record : List ℕ → ℕ → ℕ → List ℕ
 sized_record config width height = be4 width ++ be4 height ++ be4 (length config) ++ config
 
 -- what stands before the entries
-unfoldable pub head_text : Reel → List ℕ
-head_text r = magic ++ sized_record r.config r.setup.width r.setup.height
+unfoldable pub head_text : Version → Reel → List ℕ
+head_text v r = magic v ++ sized_record r.config r.setup.width r.setup.height
 
--- an entry behind its tag: its tile, its length and its bytes
-unfoldable pub body_text : Entry → List ℕ
-body_text e = be2 e.0 ++ be4 (length e.1) ++ e.1
+-- a slice: its tile, its length and its bytes
+unfoldable pub slice_text : Entry → List ℕ
+slice_text e = be2 e.0 ++ be4 (length e.1) ++ e.1
 
-abbrev pub entry_text : Entry → List ℕ
-entry_text e = 1 ∷ body_text e
+-- digests: their count, and then one after the other
+unfoldable pub origins_text : List (List ℕ) → List ℕ
+origins_text digests = be4 (length digests) ++ flat_map (λ digest. digest) digests
 
-unfoldable pub entries_text : List Entry → List ℕ
-entries_text es = flat_map entry_text es
+-- what stands behind a slice: nothing in version 1, its digests in version 2
+abbrev pub text_behind_slice : Version → List (List ℕ) → List ℕ
+text_behind_slice First digests = []
+text_behind_slice Second digests = origins_text digests
 
--- the text of a holding: its head, its entries in rising order of tile and bytes, and the end tag
+-- an entry behind its tag
+unfoldable pub body_text : Version → FileEntry → List ℕ
+body_text v e = slice_text e.0 ++ text_behind_slice v e.1
+
+abbrev pub entry_text : Version → FileEntry → List ℕ
+entry_text v e = 1 ∷ body_text v e
+
+unfoldable pub entries_text : Version → List FileEntry → List ℕ
+entries_text v es = flat_map (entry_text v) es
+
+-- the slices of a holding in rising order of tile and bytes, each with its digests
+unfoldable pub file_entries : Contents → List FileEntry
+file_entries h = map (λ e. (e, digests_of h e)) (set.items h.slices)
+
+-- the text of a holding without its end tag: its head and its entries
+abbrev pub begun_text : Version → Contents → List ℕ
+begun_text v h = head_text v h.reel ++ entries_text v (file_entries h)
+
+-- the text of a holding in a version: its head, its entries and the end tag
+abbrev pub file_text : Version → Contents → List ℕ
+file_text v h = begun_text v h ++ 0 ∷ []
+
+-- the text that is written of a holding: that of version 2
 abbrev pub holding_text : Contents → List ℕ
-holding_text h = head_text h.reel ++ entries_text (set.items h.slices) ++ 0 ∷ []
+holding_text h = file_text Second h
 
--- a holding has a text where that and its record are within their limits
-pub record FitsInFile (h : Contents) : Type 0 where
+-- what the version can tell: in version 1 no origins, in version 2 at most 2^26 of each slice
+abbrev pub IsTold : Version → Contents → Type 0
+IsTold First h = h.origins ≡ set.empty
+IsTold Second h = (e : Entry) → set.contains h.slices e ≡ true → length (digests_of h e) ≤ origins_limit
+
+-- a text of the holding: that of version 2, or, where it has no origins, that of version 1
+abbrev pub IsTextOf : List ℕ → Contents → Type 0
+IsTextOf text h = (v : Version) × IsTold v h × (text ≡ file_text v h)
+
+-- A holding has a file of a version where that can tell its origins, and its text and its record are within their limits.
+pub record FitsInFile (v : Version) (h : Contents) : Type 0 where
+  pub told : IsTold v h
   pub record' : length h.reel.config ≤ record_limit
-  pub text : length (holding_text h) ≤ file_limit
+  pub text : length (file_text v h) ≤ file_limit
+
+-- The bytes that were taken are the file of the holding, of one version.
+pub record TakesFile (old new : Option (List ℕ)) (h : Contents) : Type 0 where
+  pub version : Version
+  pub fits : FitsInFile version h
+  pub taken : Consumes old new (file_text version h)

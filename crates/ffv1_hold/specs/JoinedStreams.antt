@@ -3,12 +3,13 @@ use Rattle.std.specs.Prelude.{ℕ, ◌≡◌, ◌<◌, ◌≤◌, ◌⊎◌, Lis
 use Rattle.std.specs.Io.KnownBytes.{Consumes, Appends, IsAtEnd}
 use Rattle.ffv1_bits.specs.Limits.{record_limit, file_limit}
 use Rattle.ffv1_devices.specs.Writing.{WritesFront}
-use Rattle.ffv1_holding.specs.Sets as set
 use Rattle.ffv1_holding.specs.Reels.{Reel}
 use Rattle.ffv1_holding.specs.Contents.{Contents, IsHolding, IsSameReel, joined}
 use Rattle.ffv1_hold.specs.declared.file_fault.HoldFileFault.{HoldFileFault}
 use Rattle.ffv1_hold.specs.declared.file_fault.HoldFileFault.TheVariants as faults
-use Rattle.ffv1_hold.specs.HoldingText.{head_text, entries_text, holding_text, FitsInFile}
+use Rattle.ffv1_hold.specs.declared.version.Version.{Version}
+use Rattle.ffv1_hold.specs.declared.version.Version.TheVariants.{Second}
+use Rattle.ffv1_hold.specs.HoldingText.{head_text, begun_text, file_text, holding_text, IsTold, FitsInFile, TakesFile}
 use Rattle.ffv1_hold.specs.Reading.{Refuses}
 use Rattle.ffv1_hold.specs.FileFaults.{IsFileReel, IsPartOfFile, IsHoldingText, FileIsWhole, FileShows, IsOutside}
 use Rattle.ffv1_hold.specs.Leads.{IsLeadOf}
@@ -22,20 +23,19 @@ pub record Inputs : Type 0 where
 
 -- ---- inputs that are texts
 
--- the input is the text of the holding
-pub record IsFileOf (input : Option (List ℕ)) (h : Contents) : Type 0 where
+-- the input is the file of the holding, of this version
+pub record IsFileOf (input : Option (List ℕ)) (v : Version) (h : Contents) : Type 0 where
   pub sound : IsHolding h
-  pub fits : FitsInFile h
-  pub text : input ≡ Some (holding_text h)
+  pub fits : FitsInFile v h
+  pub text : input ≡ Some (file_text v h)
 
--- the input was read to its end, and was the text of the holding
+-- the input was read to its end, and was a file of the holding
 pub record ReadsAll (old new : Option (List ℕ)) (h : Contents) : Type 0 where
   pub sound : IsHolding h
-  pub fits : FitsInFile h
-  pub taken : Consumes old new (holding_text h)
+  pub file : TakesFile old new h
   pub at_end : IsAtEnd new
 
--- both inputs were read to their ends, and were the texts of these holdings of one reel
+-- both inputs were read to their ends, and were files of these holdings of one reel
 pub record ReadsBoth (i : Inputs) (left right : Contents) : Type 0 where
   pub left_read : ReadsAll i.left_old i.left_new left
   pub right_read : ReadsAll i.right_old i.right_new right
@@ -46,7 +46,7 @@ pub record WritesUnion (i : Inputs) (old new : Option (List ℕ)) : Type 0 where
   pub left : Contents
   pub right : Contents
   pub read : ReadsBoth i left right
-  pub fits : FitsInFile (joined left right)
+  pub fits : FitsInFile Second (joined left right)
   pub written : Appends old new (holding_text (joined left right))
 
 -- the answer to two texts of one reel whose union is this
@@ -62,15 +62,18 @@ pub record ReadsOtherHeads (i : Inputs) : Type 0 where
   pub right : Reel
   pub left_is : IsFileReel left
   pub right_is : IsFileReel right
-  pub left_taken : Consumes i.left_old i.left_new (head_text left)
-  pub right_taken : Consumes i.right_old i.right_new (head_text right)
+  pub left_version : Version
+  pub right_version : Version
+  pub left_taken : Consumes i.left_old i.left_new (head_text left_version left)
+  pub right_taken : Consumes i.right_old i.right_new (head_text right_version right)
   pub other : ¬ (left ≡ right)
 
--- the input begins with the head of the reel
+-- the input begins with a head of the reel
 pub record BeginsWithHead (input : Option (List ℕ)) (r : Reel) : Type 0 where
   pub is : IsFileReel r
+  pub version : Version
   pub rest : List ℕ
-  pub split : input ≡ Some (head_text r ++ rest)
+  pub split : input ≡ Some (head_text version r ++ rest)
 
 -- the answer to inputs that begin with heads of two reels
 abbrev pub AnswersOther : Result (Unit {0}) HoldFileFault → Type 0
@@ -79,16 +82,14 @@ AnswersOther (Err f) = IsOutside f ⊎ (f ≡ faults.OtherReel)
 
 -- ---- entries so far
 
--- the text of a holding without its end tag: the head and the entries
-abbrev pub begun_text : Contents → List ℕ
-begun_text h = head_text h.reel ++ entries_text (set.items h.slices)
-
 -- The head and the entries of this holding were read, and perhaps more behind them.
 pub record ReadsPart (old new : Option (List ℕ)) (h : Contents) : Type 0 where
   pub sound : IsHolding h
   pub record' : length h.reel.config ≤ record_limit
+  pub version : Version
+  pub told : IsTold version h
   pub more : List ℕ
-  pub taken : Consumes old new (begun_text h ++ more)
+  pub taken : Consumes old new (begun_text version h ++ more)
 
 -- so far these of one reel were read of both inputs
 pub record ReadsSoFar (i : Inputs) (left right : Contents) : Type 0 where
@@ -101,7 +102,7 @@ pub record EntriesPass (i : Inputs) : Type 0 where
   pub left : Contents
   pub right : Contents
   pub read : ReadsSoFar i left right
-  pub over : file_limit < length (begun_text (joined left right))
+  pub over : file_limit < length (begun_text Second (joined left right))
 
 -- The inputs were read as texts of one reel, and the text of their union passes the limit.
 pub record UnionPasses (i : Inputs) : Type 0 where
@@ -116,7 +117,7 @@ pub record UnionPasses (i : Inputs) : Type 0 where
 abbrev pub InputRefuses : Option (List ℕ) → Option (List ℕ) → HoldFileFault → Type 0
 InputRefuses old new f = Refuses IsPartOfFile FileIsWhole FileShows old new 0 f
 
--- What was taken of an input shows no fault: it is unfinished, or the text of a holding.
+-- What was taken of an input shows no fault: it is unfinished, or a text of a holding.
 pub record ShowsNoFault (old new : Option (List ℕ)) : Type 0 where
   pub seen : List ℕ
   pub taken : Consumes old new seen
@@ -149,7 +150,9 @@ BeginsWith (Some input) bytes = (rest : List ℕ) × (input ≡ bytes ++ rest)
 pub record BeginsWithPart (input : Option (List ℕ)) (h : Contents) : Type 0 where
   pub sound : IsHolding h
   pub record' : length h.reel.config ≤ record_limit
-  pub begins : BeginsWith input (begun_text h)
+  pub version : Version
+  pub told : IsTold version h
+  pub begins : BeginsWith input (begun_text version h)
 
 -- The head and whole entries were written, each once, of those that both inputs begin with: no end tag, and no part of an entry.
 pub record WritesEntries (i : Inputs) (old new : Option (List ℕ)) : Type 0 where
@@ -158,7 +161,7 @@ pub record WritesEntries (i : Inputs) (old new : Option (List ℕ)) : Type 0 whe
   pub left_begins : BeginsWithPart i.left_old left
   pub right_begins : BeginsWithPart i.right_old right
   pub same : IsSameReel left right
-  pub written : Appends old new (begun_text (joined left right))
+  pub written : Appends old new (begun_text Second (joined left right))
 
 -- no end tag: nothing was written, or the head and whole entries
 abbrev pub WritesNoEnd : Inputs → Option (List ℕ) → Option (List ℕ) → Type 0
@@ -178,9 +181,9 @@ pub record WritesAtMost (old new : Option (List ℕ)) (most : ℕ) : Type 0 wher
   pub few : length done ≤ most
 
 -- The bytes `done` were written, and no more was taken of the holding's text than up to its lead over them.
-pub record StaysInLead (h : Contents) (input_old input_new old new : Option (List ℕ)) : Type 0 where
+pub record StaysInLead (v : Version) (h : Contents) (input_old input_new old new : Option (List ℕ)) : Type 0 where
   pub done : List ℕ
   pub written : Appends old new done
   pub seen : List ℕ
   pub taken : Consumes input_old input_new seen
-  pub within : (lead : ℕ) → IsLeadOf h done lead → length seen ≤ lead
+  pub within : (lead : ℕ) → IsLeadOf v h done lead → length seen ≤ lead

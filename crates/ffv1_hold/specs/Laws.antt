@@ -3,15 +3,17 @@ use Rattle.std.specs.Prelude.{◌≡◌, ℕ, ◌++◌, ◌≤◌, List, length}
 use Rattle.ffv1_bits.specs.Limits.{record_limit}
 use Rattle.ffv1_holding.specs.Contents.{Contents, IsHolding}
 use Rattle.ffv1_hold.specs.declared.file_fault.HoldFileFault.{HoldFileFault}
-use Rattle.ffv1_hold.specs.HoldingText.{holding_text, FitsInFile}
+use Rattle.ffv1_hold.specs.declared.version.Version.{Version}
+use Rattle.ffv1_hold.specs.HoldingText.{IsTextOf, FitsInFile, file_text}
 use Rattle.ffv1_hold.specs.Leads.{IsLeadOf}
 use Rattle.ffv1_hold.specs.FileFaults.{IsPartOfFile, IsHoldingText, FileShows, IsFaultOf}
-pub use Rattle.ffv1_holding.specs.Laws.{CopiesHoldTheOriginal, NearCopiesHoldTheOriginal, HeldIsFound}
+pub use Rattle.ffv1_holding.specs.Laws.{CopiesHoldTheOriginal, NearCopiesHoldTheOriginal, HeldIsFound, OriginIsACopy}
 
--- Two holdings with one text are equal, and each holding has the text `holding_text`: so each meaning has exactly one.
+-- Two holdings with one text, of whatever version, are equal, and each holding has the text `holding_text` of version 2: so each
+-- meaning has exactly one of that version.
 abbrev pub OneText : Type 0
-OneText = (g h : Contents) → IsHolding g → IsHolding h → length g.reel.config ≤ record_limit → length h.reel.config ≤ record_limit
-    → holding_text g ≡ holding_text h → g ≡ h
+OneText = (g h : Contents) (text : List ℕ) → IsHolding g → IsHolding h → length g.reel.config ≤ record_limit → length h.reel.config ≤ record_limit
+    → IsTextOf text g → IsTextOf text h → g ≡ h
 
 -- No beginning of a holding's text shows a fault, and a whole text is no unfinished one.
 abbrev pub TextShowsNoFault : Type 0
@@ -22,13 +24,13 @@ TextShowsNoFault = (text : List ℕ) → IsHoldingText text → ((seen rest : Li
 abbrev pub PartShowsNoFault : Type 0
 PartShowsNoFault = (part seen rest : List ℕ) (fault : HoldFileFault) → IsPartOfFile part → part ≡ seen ++ rest → ¬ FileShows fault seen
 
--- The text of a holding has no fault, where it and its record are within their limits.
+-- A text of a holding has no fault, where it and its record are within their limits.
 abbrev pub TextHasNoFault : Type 0
-TextHasNoFault = (h : Contents) → IsHolding h → FitsInFile h → (fault : HoldFileFault) → ¬ IsFaultOf (holding_text h) fault
+TextHasNoFault = (v : Version) (h : Contents) → IsHolding h → FitsInFile v h → (fault : HoldFileFault) → ¬ IsFaultOf (file_text v h) fault
 
 -- Each text and each bytes that were written have exactly one lead.
 abbrev pub OneLead : Type 0
-OneLead = (h : Contents) (bytes : List ℕ) → (lead : ℕ) × IsLeadOf h bytes lead × ((other : ℕ) → IsLeadOf h bytes other → other ≡ lead)
+OneLead = (v : Version) (h : Contents) (bytes : List ℕ) → (lead : ℕ) × IsLeadOf v h bytes lead × ((other : ℕ) → IsLeadOf v h bytes other → other ≡ lead)
 
 -- An input has one fault at most.
 abbrev pub OneFault : Type 0

@@ -3,6 +3,7 @@ pub mod Reading
 pub mod Saving
 pub mod FileEntries
 pub mod FileFaults
+pub mod ReadOrigins
 pub mod Leads
 pub mod JoinedStreams
 pub mod Merging

@@ -1,103 +1,134 @@
 -- Where joining two holding files as streams stands (own).
-use Rattle.std.specs.Prelude.{ℕ, ◌≡◌, ◌≢◌, ◌+◌, ◌<◌, ◌≤◌, ◌⊎◌, true, List, [], ◌++◌, length, Option, Some, IfSome, IfNone}
+use Rattle.std.specs.Prelude.{ℕ, ◌≡◌, ◌≢◌, ◌+◌, ◌<◌, ◌≤◌, ◌⊎◌, List, [], ◌++◌, length, Option, Some, IfSome, IfNone}
+use Rattle.std.specs.List.{AllByRecursion}
 use Rattle.std.specs.Io.KnownBytes.{Consumes, Appends, IsAtEnd}
 use Rattle.std.specs.declared.cmp.Ordering.{Ordering}
 use Rattle.std.specs.declared.cmp.Ordering.TheVariants.{Less, Equal, Greater}
-use Rattle.ffv1_bits.specs.Limits.{file_limit}
+use Rattle.ffv1_bits.specs.Limits.{slice_limit, file_limit}
 use Rattle.ffv1_devices.specs.Writing.{WritesFront}
-use Rattle.ffv1_holding.specs.SliceOrder.{Entry, entry_cmp}
+use Rattle.ffv1_holding.specs.SliceOrder.{entry_cmp, bytes_cmp, origin_cmp, with_each}
 use Rattle.ffv1_holding.specs.Sets as set
 use Rattle.ffv1_holding.specs.Reels.{Reel}
-use Rattle.ffv1_holding.specs.Contents.{Contents, IsEntryOf, AreEntriesOf}
+use Rattle.ffv1_holding.specs.Contents.{Contents, IsHolding}
 use Rattle.ffv1_hold.specs.declared.file_fault.HoldFileFault.{HoldFileFault}
 use Rattle.ffv1_hold.specs.declared.file_fault.HoldFileFault.TheVariants as faults
-use Rattle.ffv1_hold.specs.HoldingText.{head_text, entry_text}
+use Rattle.ffv1_hold.specs.declared.version.Version.{Version}
+use Rattle.ffv1_hold.specs.declared.version.Version.TheVariants.{Second}
+use Rattle.ffv1_hold.specs.HoldingText.{FileEntry, origins_limit, head_text, entry_text, begun_text, file_entries, IsTold}
 use Rattle.ffv1_hold.specs.Reading.{Takes, Refuses}
-use Rattle.ffv1_hold.specs.FileEntries.{last_of, Follows, next_text}
+use Rattle.ffv1_hold.specs.FileEntries.{last_of, Follows, AreOrigins, IsFileEntryOf, next_text}
 use Rattle.ffv1_hold.specs.FileFaults.{IsFileReel, IsPartOfHead, HeadIsWhole, HeadShows}
 use Rattle.ffv1_hold.specs.Leads.{LiesWhole}
-use Rattle.ffv1_hold.specs.JoinedStreams.{Inputs, begun_text, ReadsOtherHeads, JoinRefuses, WritesNoEnd, WritesFrontSoFar, WritesAtMost, ReadsBoth, BeginsWith}
+use Rattle.ffv1_hold.specs.JoinedStreams.{Inputs, ReadsOtherHeads, JoinRefuses, WritesNoEnd, WritesFrontSoFar, WritesAtMost, ReadsBoth, BeginsWith}
 
--- what both inputs had left and the sink held at first, and the reel of both heads
+-- what both inputs had left and the sink held at first, the reel of both heads, and their versions
 pub record Start : Type 0 where
   pub left : Option (List ℕ)
   pub right : Option (List ℕ)
   pub sink : Option (List ℕ)
   pub reel : Reel
+  pub left_version : Version
+  pub right_version : Version
 
 abbrev pub inputs_from : Start → Option (List ℕ) → Option (List ℕ) → Inputs
 inputs_from s left right = record { left_old = s.left; left_new = left; right_old = s.right; right_new = right }
 
+-- ---- what is held of a reel
+
+-- slices, and their origins
+abbrev pub Facts : Type 0
+Facts = set.SetOf entry_cmp × set.SetOf origin_cmp
+
 -- a holding of the reel
-abbrev pub part : Reel → set.SetOf entry_cmp → Contents
-part r slices = record { reel = r; slices = slices }
+abbrev pub part : Reel → Facts → Contents
+part r facts = record { reel = r; slices = facts.0; origins = facts.1 }
+
+abbrev pub no_facts : Facts
+no_facts = (set.empty, set.empty)
+
+-- with one entry more
+abbrev pub with_file_entry : Facts → FileEntry → Facts
+with_file_entry facts e = (set.insert facts.0 e.0, set.union facts.1 (set.from_list (with_each e.0 e.1)))
+
+-- those of both
+abbrev pub both : Facts → Facts → Facts
+both lefts rights = (set.union lefts.0 rights.0, set.union lefts.1 rights.1)
 
 -- ---- one input
 
--- An input was read up to these slices, the last of which is known.
-pub record IsPassed (old new : Option (List ℕ)) (r : Reel) (slices : set.SetOf entry_cmp) (place : ℕ) (last : Option Entry) : Type 0 where
-  pub entries : AreEntriesOf r.setup slices
-  pub text : Takes old new 0 place (begun_text (part r slices))
-  pub last' : last ≡ last_of (set.items slices)
+-- An input was read up to these entries, the last of which is known.
+pub record IsPassed (old new : Option (List ℕ)) (v : Version) (r : Reel) (facts : Facts) (place : ℕ) (last : Option FileEntry) : Type 0 where
+  pub sound : IsHolding (part r facts)
+  pub told : IsTold v (part r facts)
+  pub text : Takes old new 0 place (begun_text v (part r facts))
+  pub last' : last ≡ last_of (file_entries (part r facts))
 
--- the entry stands behind these slices
-abbrev pub IsBehind : set.SetOf entry_cmp → Option Entry → Type 0
-IsBehind slices next = IfSome next (λ e. Follows (last_of (set.items slices)) e)
+-- the entry stands behind these
+abbrev pub IsBehind : Reel → Facts → Option FileEntry → Type 0
+IsBehind r facts next = IfSome next (λ e. Follows (last_of (file_entries (part r facts))) e.0)
 
--- An input was read up to these slices, and behind them the next one, or to the end.
-pub record IsHeld (old new : Option (List ℕ)) (r : Reel) (slices : set.SetOf entry_cmp) (place : ℕ) (next : Option Entry) : Type 0 where
-  pub entries : AreEntriesOf r.setup slices
-  pub text : Takes old new 0 place (begun_text (part r slices) ++ next_text next)
-  pub entry : IfSome next (IsEntryOf r.setup)
-  pub behind : IsBehind slices next
+-- An input was read up to these entries, and behind them the next one, or to the end.
+pub record IsHeld (old new : Option (List ℕ)) (v : Version) (r : Reel) (facts : Facts) (place : ℕ) (next : Option FileEntry) : Type 0 where
+  pub sound : IsHolding (part r facts)
+  pub told : IsTold v (part r facts)
+  pub text : Takes old new 0 place (begun_text v (part r facts) ++ next_text v next)
+  pub entry : IfSome next (IsFileEntryOf v r.setup)
+  pub behind : IsBehind r facts next
   pub at_end : IfNone next (IsAtEnd new)
 
--- What was read of an input: slices that lie whole in what was written, and at most the next one, or the end, behind them.
-pub record StaysBehind (r : Reel) (old new : Option (List ℕ)) (done : List ℕ) : Type 0 where
-  pub slices : set.SetOf entry_cmp
-  pub entries : AreEntriesOf r.setup slices
-  pub whole : (e : Entry) → set.contains slices e ≡ true → LiesWhole r done e
+-- What was read of an input: entries that lie whole in what was written, and at most the next one, or the end, behind them.
+pub record StaysBehind (v : Version) (r : Reel) (old new : Option (List ℕ)) (done : List ℕ) : Type 0 where
+  pub facts : Facts
+  pub sound : IsHolding (part r facts)
+  pub told : IsTold v (part r facts)
+  pub whole : AllByRecursion (LiesWhole r done) (file_entries (part r facts))
   pub more : List ℕ
-  pub next : (more ≡ []) ⊎ ((next : Option Entry) × (more ≡ next_text next) × IfSome next (IsEntryOf r.setup))
-  pub taken : Consumes old new (begun_text (part r slices) ++ more)
+  pub next : (more ≡ []) ⊎ ((next : Option FileEntry) × (more ≡ next_text v next) × IfSome next (IsFileEntryOf v r.setup))
+  pub taken : Consumes old new (begun_text v (part r facts) ++ more)
 
 -- ---- both inputs
+
+-- the readers' versions are those of the heads
+pub record AreVersions (s : Start) (left right : Version) : Type 0 where
+  pub left_is : left ≡ s.left_version
+  pub right_is : right ≡ s.right_version
 
 -- Both heads of the reel were read, and nothing was written.
 pub record IsOpened (s : Start) (r : Reel) (left right sink : Option (List ℕ)) (left_place right_place : ℕ) : Type 0 where
   pub reel : IsFileReel s.reel
   pub same : r ≡ s.reel
-  pub left_head : Takes s.left left 0 left_place (head_text s.reel)
-  pub right_head : Takes s.right right 0 right_place (head_text s.reel)
+  pub left_head : Takes s.left left 0 left_place (head_text s.left_version s.reel)
+  pub right_head : Takes s.right right 0 right_place (head_text s.right_version s.reel)
   pub unwritten : sink ≡ s.sink
 
 -- The entries of both inputs so far were written, each once, and what both hold next stands behind them.
-pub record Stands (s : Start) (left right sink : Option (List ℕ)) (left_place right_place room : ℕ) (left_next right_next : Option Entry) : Type 0 where
+pub record Stands (s : Start) (left right sink : Option (List ℕ)) (left_place right_place room : ℕ) (left_next right_next : Option FileEntry) : Type 0 where
   pub reel : IsFileReel s.reel
-  pub lefts : set.SetOf entry_cmp
-  pub rights : set.SetOf entry_cmp
-  pub left_held : IsHeld s.left left s.reel lefts left_place left_next
-  pub right_held : IsHeld s.right right s.reel rights right_place right_next
-  pub written : Appends s.sink sink (begun_text (part s.reel (set.union lefts rights)))
-  pub left_behind : IsBehind (set.union lefts rights) left_next
-  pub right_behind : IsBehind (set.union lefts rights) right_next
-  pub room_left : room + length (begun_text (part s.reel (set.union lefts rights))) ≡ file_limit
+  pub lefts : Facts
+  pub rights : Facts
+  pub left_held : IsHeld s.left left s.left_version s.reel lefts left_place left_next
+  pub right_held : IsHeld s.right right s.right_version s.reel rights right_place right_next
+  pub written : Appends s.sink sink (begun_text Second (part s.reel (both lefts rights)))
+  pub left_behind : IsBehind s.reel (both lefts rights) left_next
+  pub right_behind : IsBehind s.reel (both lefts rights) right_next
+  pub room_left : room + length (begun_text Second (part s.reel (both lefts rights))) ≡ file_limit
 
 -- Both inputs were read to their ends, and their entries were written, each once.
 pub record Ends (s : Start) (left right sink : Option (List ℕ)) (room : ℕ) : Type 0 where
   pub is : IsFileReel s.reel
-  pub lefts : set.SetOf entry_cmp
-  pub rights : set.SetOf entry_cmp
+  pub lefts : Facts
+  pub rights : Facts
   pub read : ReadsBoth (inputs_from s left right) (part s.reel lefts) (part s.reel rights)
-  pub written : Appends s.sink sink (begun_text (part s.reel (set.union lefts rights)))
-  pub room_left : room + length (begun_text (part s.reel (set.union lefts rights))) ≡ file_limit
+  pub written : Appends s.sink sink (begun_text Second (part s.reel (both lefts rights)))
+  pub room_left : room + length (begun_text Second (part s.reel (both lefts rights))) ≡ file_limit
 
 -- ---- refusals
 
 -- A head was refused, of the left input or behind the left one of the right, or both are of two reels.
 abbrev pub HeadsRefuse : Inputs → HoldFileFault → Type 0
 HeadsRefuse i f = (Refuses IsPartOfHead HeadIsWhole HeadShows i.left_old i.left_new 0 f × (i.right_new ≡ i.right_old))
-    ⊎ (((r : Reel) × IsFileReel r × Consumes i.left_old i.left_new (head_text r)) × Refuses IsPartOfHead HeadIsWhole HeadShows i.right_old i.right_new 0 f)
+    ⊎ (((v : Version) × (r : Reel) × IsFileReel r × Consumes i.left_old i.left_new (head_text v r))
+    × Refuses IsPartOfHead HeadIsWhole HeadShows i.right_old i.right_new 0 f)
     ⊎ ((f ≡ faults.OtherReel) × ReadsOtherHeads i)
 
 -- after a failed write these bytes were written: a front of the text of the union of what was read
@@ -105,15 +136,19 @@ pub record WriteStops (i : Inputs) (r : Reel) (old new : Option (List ℕ)) : Ty
   pub front : WritesFrontSoFar i old new
   pub done : List ℕ
   pub written : Appends old new done
-  pub left : StaysBehind r i.left_old i.left_new done
-  pub right : StaysBehind r i.right_old i.right_new done
+  pub left_version : Version
+  pub right_version : Version
+  pub left : StaysBehind left_version r i.left_old i.left_new done
+  pub right : StaysBehind right_version r i.right_old i.right_new done
 
 -- What a refusal behind two heads of one reel says of all that was read and written.
 pub record Stops (i : Inputs) (old new : Option (List ℕ)) (f : HoldFileFault) : Type 0 where
   pub reel : Reel
   pub is : IsFileReel reel
-  pub left_head : BeginsWith i.left_old (head_text reel)
-  pub right_head : BeginsWith i.right_old (head_text reel)
+  pub left_version : Version
+  pub right_version : Version
+  pub left_head : BeginsWith i.left_old (head_text left_version reel)
+  pub right_head : BeginsWith i.right_old (head_text right_version reel)
   pub fault : JoinRefuses i f
   pub inside : f ≢ faults.OtherReel
   pub no_end : f ≢ faults.Write → WritesNoEnd i old new
@@ -126,14 +161,27 @@ JoinStops i old new f = (HeadsRefuse i f × (new ≡ old)) ⊎ Stops i old new f
 
 -- ---- turns
 
--- The smaller of two next entries, and how the left one stands to the right one, where an end is behind all.
-abbrev pub IsTurn : Option Entry → Option Entry → Entry → Ordering → Type 0
-IsTurn left right e Less = (left ≡ Some e) × IfSome right (λ f. entry_cmp e f ≡ Less)
-IsTurn left right e Greater = (right ≡ Some e) × IfSome left (λ f. entry_cmp e f ≡ Less)
-IsTurn left right e Equal = (left ≡ Some e) × (right ≡ Some e)
+-- rising digests of two lists, each once
+abbrev pub digests_union : List (List ℕ) → List (List ℕ) → List (List ℕ)
+digests_union xs ys = set.items (set.union (set.from_list {R = bytes_cmp} xs) (set.from_list ys))
+
+-- an entry with the digests of an equal slice too
+abbrev pub with_digests : FileEntry → List (List ℕ) → FileEntry
+with_digests e others = (e.0, digests_union e.1 others)
+
+-- an entry that can be written with the digests of another
+abbrev pub IsWritten : FileEntry → Type 0
+IsWritten e = (length e.0.1 ≤ slice_limit) × AreOrigins e.1 × (length e.1 ≤ origins_limit)
+
+-- The smaller of two next entries, with the digests of the other where their slices are equal, and how the left one stands to the
+-- right one, where an end is behind all.
+abbrev pub IsTurn : Option FileEntry → Option FileEntry → FileEntry → List (List ℕ) → Ordering → Type 0
+IsTurn left right e others Less = (left ≡ Some e) × (others ≡ []) × IfSome right (λ f. entry_cmp e.0 f.0 ≡ Less)
+IsTurn left right e others Greater = (right ≡ Some e) × (others ≡ []) × IfSome left (λ f. entry_cmp e.0 f.0 ≡ Less)
+IsTurn left right e others Equal = (left ≡ Some e) × (right ≡ Some (e.0, others))
 
 -- An entry was not written whole: there was no room for it, or a front of it was written.
-abbrev pub EntryStops : Option (List ℕ) → Option (List ℕ) → ℕ → Entry → HoldFileFault → Type 0
-EntryStops old new room e faults.TooLong = (new ≡ old) × (room < length (entry_text e))
-EntryStops old new room e faults.Write = WritesFront old new (entry_text e) × (length (entry_text e) ≤ room)
+abbrev pub EntryStops : Option (List ℕ) → Option (List ℕ) → ℕ → FileEntry → HoldFileFault → Type 0
+EntryStops old new room e faults.TooLong = (new ≡ old) × (room < length (entry_text Second e))
+EntryStops old new room e faults.Write = WritesFront old new (entry_text Second e) × (length (entry_text Second e) ≤ room)
 EntryStops old new room e _ = ⊥

@@ -1,13 +1,14 @@
 -- Which slices can be written, and which holdings have no text.
-use Rattle.std.specs.Prelude.{ℕ, ◌≡◌, ◌+◌, ◌<◌, ◌≤◌, ◌⊎◌, true, List, [], ◌∷◌, length, slice_index_or}
+use Rattle.std.specs.Prelude.{ℕ, ◌≡◌, ◌+◌, ◌*◌, ◌<◌, ◌≤◌, ◌⊎◌, true, List, [], ◌∷◌, length, map, slice_index_or}
 use Rattle.ffv1_bits.specs.Limits.{slice_limit, record_limit, file_limit}
 use Rattle.ffv1_holding.specs.SliceOrder.{Entry, bytes_cmp}
 use Rattle.ffv1_holding.specs.Sets as set
 use Rattle.ffv1_holding.specs.Reels.{reel_tiles}
-use Rattle.ffv1_holding.specs.Contents.{Contents}
+use Rattle.ffv1_holding.specs.Contents.{Contents, digests_of}
 use Rattle.ffv1_hold.specs.declared.file_fault.HoldFileFault.{HoldFileFault}
 use Rattle.ffv1_hold.specs.declared.file_fault.HoldFileFault.TheVariants as faults
-use Rattle.ffv1_hold.specs.HoldingText.{holding_text}
+use Rattle.ffv1_holding.specs.TileSets.{tile_entries, entries_below}
+use Rattle.ffv1_hold.specs.HoldingText.{FileEntry, holding_text}
 
 -- no slice passes its limit
 abbrev pub AreWithinLimit : set.SetOf bytes_cmp → Type 0
@@ -23,10 +24,18 @@ pub record AreWritable (h : Contents) : Type 0 where
 abbrev pub IsTooLong : Contents → Type 0
 IsTooLong h = (record_limit < length h.reel.config) ⊎ (file_limit < length (holding_text h))
 
--- the length of the text of slices of one tile: a tag, a tile, a length and the bytes of each
-abbrev pub entries_length : List (List ℕ) → ℕ
+-- the entries of one tile, with their digests
+abbrev pub tile_file_entries : Contents → ℕ → List FileEntry
+tile_file_entries h tile = map (λ e. (e, digests_of h e)) (tile_entries h.slices tile)
+
+-- the entries of the tiles below a number
+abbrev pub file_entries_below : Contents → ℕ → List FileEntry
+file_entries_below h n = map (λ e. (e, digests_of h e)) (entries_below h.slices n)
+
+-- the length of the text of entries: a tag, a tile, a length, the bytes, a count and the digests of each
+abbrev pub entries_length : List FileEntry → ℕ
 entries_length [] = 0
-entries_length (b ∷ bs) = 7 + length b + entries_length bs
+entries_length (e ∷ es) = 11 + length e.0.1 + 32 * length e.1 + entries_length es
 
 -- the faults of writing a holding file
 abbrev pub IsWriteFault : HoldFileFault → Type 0

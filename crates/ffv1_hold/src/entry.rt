@@ -1,17 +1,17 @@
-//! The entries of a holding file (own): slices with their footers (RFC 9043, section 4.9), and their tiles.
-ghost use Rattle.std.specs.Prelude.{◌≡◌, ◌≢◌, ◌+◌, ◌*◌, ◌^◌, ◌<◌, ◌≤◌, ◌↔◌, ◌==◌, [], ◌∷◌, ◌++◌, length, IsTrue, IfSome, IfNone, OnErr, OnOk, IfOk, IfErr};
+//! The entries of a holding file (own): slices with their footers (RFC 9043, section 4.9), their tiles, and their origins.
+ghost use Rattle.std.specs.Prelude.{◌≡◌, ◌+◌, ◌^◌, ◌<◌, ◌≤◌, ◌↔◌, ◌==◌, [], ◌∷◌, length, IsTrue, IfSome, IfNone, OnErr, OnOk, IfOk, IfErr};
 ghost use Rattle.ffv1_bits.specs.Limits.{slice_limit, file_limit};
 ghost use Rattle.ffv1_slice.specs.Slices.{IsSliceOf};
-ghost use Rattle.ffv1_holding.specs.Sets as set;
 ghost use Rattle.ffv1_hold.specs.Reading.{Takes, Refuses, Never, CountsRead};
-ghost use Rattle.ffv1_holding.specs.Contents.{IsEntryOf, AreEntriesOf};
-ghost use Rattle.ffv1_hold.specs.HoldingText.{body_text, entry_text, entries_text};
-ghost use Rattle.ffv1_hold.specs.FileEntries.{Follows};
-ghost use Rattle.ffv1_hold.specs.FileFaults.{IsPartOfBody, IsPartOfEntry, BodyIsTooLong, EntryShows, IsPartOfEntries, EntriesShow, IsWrong};
+ghost use Rattle.ffv1_hold.specs.HoldingText.{slice_text, entry_text};
+ghost use Rattle.ffv1_hold.specs.FileEntries.{Follows, IsFileEntryOf};
+ghost use Rattle.ffv1_hold.specs.FileFaults.{IsPartOfSlice, SliceIsTooLong, IsWrong, IsPartOfEntry, EntryShows};
 
 use crate::fields::read_field;
 use crate::file_fault::HoldFileFault;
 use crate::number::{read_bytes, read_u16, read_u32};
+use crate::origins::read_behind_slice;
+use crate::version::Version;
 use ffv1_bits::SLICE_LIMIT;
 use ffv1_devices::Source;
 use ffv1_range::Setup;
@@ -22,12 +22,12 @@ use std::marker::Model;
 
 /// A slice with its footer, and its tile.
 #[derive(Drop)]
-pub(crate) struct HeldSlice {
+pub(crate) struct TileSlice {
     pub(crate) tile: u16,
     pub(crate) bytes: Vec<u8>,
 }
 
-impl Model for HeldSlice {
+impl Model for TileSlice {
     ghost use Rattle.ffv1_holding.specs.SliceOrder.{Entry, coded_entry};
 
     ghost Value = { Entry };
@@ -37,11 +37,11 @@ impl Model for HeldSlice {
     ghost view = { λ s. (s.tile, s.bytes.items) };
 }
 
-impl HeldSlice {
+impl TileSlice {
     ghost use Rattle.ffv1_holding.specs.SliceOrder.{entry_cmp};
 
     /// The order in a holding file: by tile, and then as byte slices compare.
-    pub(crate) fn compare(&self, other: &HeldSlice) -> Ordering
+    pub(crate) fn compare(&self, other: &TileSlice) -> Ordering
         ensures { result ≡ entry_cmp self.now other.now }
     {
         let by_tile = self.tile.cmp(&other.tile);
@@ -53,7 +53,7 @@ impl HeldSlice {
         ensures { IsTrue result ↔ Follows last.now self.now }
     {
         match last {
-            Some(last) => last.compare(self) == Ordering::Less,
+            Some(last) => last.slice.compare(self) == Ordering::Less,
             None => true,
         }
     }
@@ -74,17 +74,36 @@ impl HeldSlice {
     }
 }
 
-/// Reads an entry behind its tag.
-fn read_body<S: Source>(
+/// A slice, and the digests of the copies that gave it.
+#[derive(Drop)]
+pub(crate) struct HeldSlice {
+    pub(crate) slice: TileSlice,
+    pub(crate) origins: Vec<[u8; 32]>,
+}
+
+impl Model for HeldSlice {
+    ghost use Rattle.std.specs.Coded.{coded×, coded_list};
+    ghost use Rattle.ffv1_holding.specs.SliceOrder.{coded_entry, coded_bytes};
+    ghost use Rattle.ffv1_hold.specs.HoldingText.{FileEntry};
+
+    ghost Value = { FileEntry };
+
+    ghost coded = { coded× coded_entry (coded_list coded_bytes) };
+
+    ghost view = { λ s. (s.slice, s.origins.items) };
+}
+
+/// Reads a slice behind its tag.
+fn read_tile_slice<S: Source>(
     alloc: Global,
     source: &mut S,
     place: &mut u32,
-) -> Result<HeldSlice, HoldFileFault>
+) -> Result<TileSlice, HoldFileFault>
     requires { place.old ≤ file_limit }
-    ensures ok { IfOk result (λ e. Takes (S.remaining source.old) (S.remaining source.new) place.old place.new (body_text e)) }
+    ensures ok { IfOk result (λ e. Takes (S.remaining source.old) (S.remaining source.new) place.old place.new (slice_text e)) }
     ensures tile { IfOk result (λ e. e.0 < 2 ^ 16) }
     ensures fits { IfOk result (λ e. length e.1 ≤ slice_limit) }
-    ensures err { IfErr result (Refuses IsPartOfBody Never BodyIsTooLong
+    ensures err { IfErr result (Refuses IsPartOfSlice Never SliceIsTooLong
         (S.remaining source.old) (S.remaining source.new) place.old) }
     ensures failed { IfErr result (λ f. CountsRead f (S.failures source.old) (S.failures source.new)) }
     ensures counted { S.failures source.old ≤ S.failures source.new }
@@ -97,7 +116,7 @@ fn read_body<S: Source>(
         return Err(HoldFileFault::TooLong);
     }
     let bytes = read_bytes(alloc, source, place, length)?;
-    Ok(HeldSlice { tile, bytes })
+    Ok(TileSlice { tile, bytes })
 }
 
 /// Reads the next entry, which follows the last one, or `None` at the end tag.
@@ -105,14 +124,15 @@ pub(crate) fn read_entry<S: Source>(
     alloc: Global,
     source: &mut S,
     place: &mut u32,
+    version: Version,
     setup: &Setup,
     last: &Option<HeldSlice>,
 ) -> Result<Option<HeldSlice>, HoldFileFault>
     requires { place.old ≤ file_limit }
-    ensures some { IfOk result (λ r. IfSome r (λ e. Takes (S.remaining source.old) (S.remaining source.new) place.old place.new (entry_text e))) }
-    ensures entry { IfOk result (λ r. IfSome r (λ e. IsEntryOf setup.now e × Follows last.now e)) }
+    ensures some { IfOk result (λ r. IfSome r (λ e. Takes (S.remaining source.old) (S.remaining source.new) place.old place.new (entry_text version e))) }
+    ensures entry { IfOk result (λ r. IfSome r (λ e. IsFileEntryOf version setup.now e × Follows last.now e.0)) }
     ensures none { IfOk result (λ r. IfNone r (Takes (S.remaining source.old) (S.remaining source.new) place.old place.new (0 ∷ []))) }
-    ensures err { IfErr result (Refuses IsPartOfEntry Never (EntryShows setup.now last.now)
+    ensures err { IfErr result (Refuses (IsPartOfEntry version setup.now last.now) Never (EntryShows version setup.now last.now)
         (S.remaining source.old) (S.remaining source.new) place.old) }
     ensures failed { IfErr result (λ f. CountsRead f (S.failures source.old) (S.failures source.new)) }
     ensures counted { S.failures source.old ≤ S.failures source.new }
@@ -124,9 +144,10 @@ pub(crate) fn read_entry<S: Source>(
     match tag[0] {
         0 => Ok(None),
         1 => {
-            let slice = read_body(alloc, source, place)?;
+            let slice = read_tile_slice(alloc, source, place)?;
             slice.judge(setup, last)?;
-            Ok(Some(slice))
+            let origins = read_behind_slice(alloc, source, place, version)?;
+            Ok(Some(HeldSlice { slice, origins }))
         }
         _ => Err(HoldFileFault::Tag),
     }

@@ -9,7 +9,7 @@ use std::alloc::{AllocError, AllocFailed};
 /// Why a holding file was not read or written.
 #[derive(Clone, Copy, Debug, PartialEq, Eq)]
 pub enum HoldFileFault {
-    /// The first eight bytes are other than `FFV1HLD` and the version 1.
+    /// The first eight bytes are other than `FFV1HLD` and the version 1 or 2.
     Magic,
     /// The record has no setup for the size. `Memory` is never this fault's cause.
     Setup(SetupFault),
@@ -17,7 +17,8 @@ pub enum HoldFileFault {
     Truncated,
     /// A tag is neither 0 nor 1.
     Tag,
-    /// An entry does not stand behind the one before it, in the order of tile and bytes.
+    /// An entry does not stand behind the one before it, in the order of tile and bytes, or a digest does not stand behind
+    /// the one before it.
     Order,
     /// An entry's bytes are no slice of its tile.
     NotASlice,
@@ -29,7 +30,7 @@ pub enum HoldFileFault {
     Write,
     /// A growth of memory was refused, before a fault was met.
     Memory,
-    /// The record has more than 2^24 bytes, an entry more than 16777223, or the file more than 2^31.
+    /// The record has more than 2^24 bytes, a slice more than 16777223 bytes or 2^26 digests, or the file more than 2^31 bytes.
     TooLong,
     /// The two files that are joined as streams are of another record, width or height.
     OtherReel,

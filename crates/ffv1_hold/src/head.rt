@@ -1,28 +1,47 @@
 //! What stands before the entries of a holding file (own): its name and version, the size and the configuration record (RFC
 //! 9043, section 4.3).
-ghost use Rattle.std.specs.Prelude.{◌≡◌, ◌+◌, ◌≤◌, ◌++◌, length, OnErr, OnOk, IfOk, IfErr};
+ghost use Rattle.std.specs.Prelude.{◌≡◌, ◌+◌, ◌≤◌, [], ◌∷◌, OnErr, OnOk, IfOk, IfErr};
 ghost use Rattle.ffv1_bits.specs.Limits.{file_limit};
-ghost use Rattle.ffv1_holding.specs.Reels.{IsReel};
-ghost use Rattle.ffv1_hold.specs.Reading.{Takes, Refuses, Never, CountsRead};
-ghost use Rattle.ffv1_hold.specs.HoldingText.{magic, sized_record};
+ghost use Rattle.ffv1_hold.specs.Reading.{Takes, Refuses, IsShorter, Never, CountsRead};
+ghost use Rattle.ffv1_hold.specs.HoldingText.{name, version_number, magic, sized_record};
+ghost use Rattle.ffv1_hold.specs.ReadOrigins.{VersionShows};
 ghost use Rattle.ffv1_hold.specs.FileFaults.{IsPartOfMagic, MagicShows, IsFileReel, IsPartOfReel, ReelIsWhole, ReelShows};
 
 use crate::fields::read_field;
 use crate::file_fault::HoldFileFault;
 use crate::number::{read_bytes, read_u32};
+use crate::version::Version;
 use ffv1_bits::RECORD_LIMIT;
 use ffv1_devices::Source;
 use ffv1_holding::Reel;
 use ffv1_range::SetupFault;
 use std::alloc::Global;
 
-/// What a holding file begins with: its name and version.
-const MAGIC: [u8; 8] = *b"FFV1HLD\x01";
+/// What a holding file begins with, before its version.
+const NAME: [u8; 7] = *b"FFV1HLD";
 
 /// Reads the name and the version, byte by byte: a wrong byte is told whatever the device would do behind it.
-pub(crate) fn read_magic<S: Source>(source: &mut S, place: &mut u32) -> Result<(), HoldFileFault>
+pub(crate) fn read_magic<S: Source>(
+    source: &mut S,
+    place: &mut u32,
+) -> Result<Version, HoldFileFault>
     requires { place.old ≡ 0 }
-    ensures ok { OnOk result (Takes (S.remaining source.old) (S.remaining source.new) place.old place.new magic) }
+    ensures ok { IfOk result (λ v. Takes (S.remaining source.old) (S.remaining source.new) place.old place.new (magic v)) }
+    ensures err { IfErr result (Refuses IsPartOfMagic Never MagicShows
+        (S.remaining source.old) (S.remaining source.new) place.old) }
+    ensures failed { IfErr result (λ f. CountsRead f (S.failures source.old) (S.failures source.new)) }
+    ensures counted { S.failures source.old ≤ S.failures source.new }
+    ensures taken { OnOk result (S.taken source.new + place.old ≤ S.taken source.old + place.new) }
+    ensures most { OnErr result (S.taken source.new + place.old ≤ S.taken source.old + file_limit + 1) }
+{
+    read_name(source, place)?;
+    read_version(source, place)
+}
+
+/// Reads the name.
+fn read_name<S: Source>(source: &mut S, place: &mut u32) -> Result<(), HoldFileFault>
+    requires { place.old ≡ 0 }
+    ensures ok { OnOk result (Takes (S.remaining source.old) (S.remaining source.new) place.old place.new name) }
     ensures err { IfErr result (Refuses IsPartOfMagic Never MagicShows
         (S.remaining source.old) (S.remaining source.new) place.old) }
     ensures failed { IfErr result (λ f. CountsRead f (S.failures source.old) (S.failures source.new)) }
@@ -31,13 +50,33 @@ pub(crate) fn read_magic<S: Source>(source: &mut S, place: &mut u32) -> Result<(
     ensures most { OnErr result (S.taken source.new + place.old ≤ S.taken source.old + file_limit + 1) }
 {
     let mut byte = [0u8; 1];
-    for expected in MAGIC {
+    for expected in NAME {
         read_field(source, place, &mut byte)?;
         if byte[0] != expected {
             return Err(HoldFileFault::Magic);
         }
     }
     Ok(())
+}
+
+/// Reads the version behind the name.
+fn read_version<S: Source>(source: &mut S, place: &mut u32) -> Result<Version, HoldFileFault>
+    requires { place.old ≤ file_limit }
+    ensures ok { IfOk result (λ v. Takes (S.remaining source.old) (S.remaining source.new) place.old place.new (version_number v ∷ [])) }
+    ensures err { IfErr result (Refuses (IsShorter 1) Never VersionShows
+        (S.remaining source.old) (S.remaining source.new) place.old) }
+    ensures failed { IfErr result (λ f. CountsRead f (S.failures source.old) (S.failures source.new)) }
+    ensures counted { S.failures source.old ≤ S.failures source.new }
+    ensures taken { OnOk result (S.taken source.new + place.old ≤ S.taken source.old + place.new) }
+    ensures most { OnErr result (S.taken source.new + place.old ≤ S.taken source.old + file_limit + 1) }
+{
+    let mut number = [0u8; 1];
+    read_field(source, place, &mut number)?;
+    match number[0] {
+        1 => Ok(Version::First),
+        2 => Ok(Version::Second),
+        _ => Err(HoldFileFault::Magic),
+    }
 }
 
 /// Reads the size and the record, and judges them.

@@ -3,23 +3,25 @@ ghost use Rattle.std.specs.Prelude.{◌≡◌, ◌+◌, ◌≤◌, None, IfSome,
 ghost use Rattle.std.specs.Io.KnownBytes.{IsAtEnd};
 ghost use Rattle.ffv1_bits.specs.Limits.{file_limit};
 ghost use Rattle.ffv1_hold.specs.Reading.{Takes, Refuses, CountsRead};
-ghost use Rattle.ffv1_holding.specs.Contents.{IsEntryOf};
 ghost use Rattle.ffv1_hold.specs.HoldingText.{head_text};
-ghost use Rattle.ffv1_hold.specs.FileEntries.{Follows, next_text};
+ghost use Rattle.ffv1_hold.specs.FileEntries.{Follows, IsFileEntryOf, next_text};
 ghost use Rattle.ffv1_hold.specs.FileFaults.{IsFileReel, IsPartOfHead, HeadIsWhole, HeadShows, IsPartOfEntry, EndIsWhole, EntryShows};
 
 use crate::entry::{HeldSlice, read_entry};
 use crate::file_fault::HoldFileFault;
 use crate::head::{read_magic, read_reel};
+use crate::version::Version;
 use ffv1_devices::{Source, next_byte};
 use ffv1_holding::Reel;
 use ffv1_range::Setup;
 use std::alloc::Global;
 
-/// How far a holding file was read, and the entry that was read last: none before the first, and none behind the end tag.
+/// How far a holding file was read, its version, which the magic tells, and the entry that was read last: none before
+/// the first, and none behind the end tag.
 #[derive(Drop)]
 pub(crate) struct HoldReader {
     place: u32,
+    version: Version,
     pub(crate) held: Option<HeldSlice>,
 }
 
@@ -31,6 +33,7 @@ impl HoldReader {
     {
         HoldReader {
             place: 0,
+            version: Version::Second,
             held: None,
         }
     }
@@ -42,7 +45,7 @@ impl HoldReader {
         source: &mut S,
     ) -> Result<Reel, HoldFileFault>
         requires { self.old.place ≡ 0 }
-        ensures ok { IfOk result (λ r. Takes (S.remaining source.old) (S.remaining source.new) 0 self.new.place (head_text r)) }
+        ensures ok { IfOk result (λ r. Takes (S.remaining source.old) (S.remaining source.new) 0 self.new.place (head_text self.new.version r)) }
         ensures reel { IfOk result IsFileReel }
         ensures held { self.new.held ≡ self.old.held }
         ensures err { IfErr result (Refuses IsPartOfHead HeadIsWhole HeadShows
@@ -52,7 +55,7 @@ impl HoldReader {
         ensures taken { OnOk result (S.taken source.new ≤ S.taken source.old + self.new.place) }
         ensures most { S.taken source.new ≤ S.taken source.old + file_limit + 1 }
     {
-        read_magic(source, &mut self.place)?;
+        self.version = read_magic(source, &mut self.place)?;
         read_reel(alloc, source, &mut self.place)
     }
 
@@ -64,18 +67,28 @@ impl HoldReader {
         setup: &Setup,
     ) -> Result<(), HoldFileFault>
         requires { self.old.place ≤ file_limit }
-        ensures next { OnOk result (Takes (S.remaining source.old) (S.remaining source.new) self.old.place self.new.place (next_text self.new.held)) }
-        ensures entry { OnOk result (IfSome self.new.held (IsEntryOf setup.now)) }
-        ensures follows { OnOk result (IfSome self.new.held (Follows self.old.held)) }
+        ensures next { OnOk result (Takes (S.remaining source.old) (S.remaining source.new) self.old.place self.new.place
+            (next_text self.old.version self.new.held)) }
+        ensures entry { OnOk result (IfSome self.new.held (IsFileEntryOf self.old.version setup.now)) }
+        ensures follows { OnOk result (IfSome self.new.held (λ e. Follows self.old.held e.0)) }
+        ensures version { self.new.version ≡ self.old.version }
         ensures end { OnOk result (IfNone self.new.held (IsAtEnd (S.remaining source.new))) }
-        ensures err { IfErr result (Refuses IsPartOfEntry EndIsWhole (EntryShows setup.now self.old.held)
+        ensures err { IfErr result (Refuses (IsPartOfEntry self.old.version setup.now self.old.held) EndIsWhole
+            (EntryShows self.old.version setup.now self.old.held)
             (S.remaining source.old) (S.remaining source.new) self.old.place) }
         ensures failed { IfErr result (λ f. CountsRead f (S.failures source.old) (S.failures source.new)) }
         ensures counted { S.failures source.old ≤ S.failures source.new }
         ensures taken { OnOk result (S.taken source.new + self.old.place ≤ S.taken source.old + self.new.place) }
         ensures most { S.taken source.new + self.old.place ≤ S.taken source.old + file_limit + 1 }
     {
-        match read_entry(alloc, source, &mut self.place, setup, &self.held)? {
+        match read_entry(
+            alloc,
+            source,
+            &mut self.place,
+            self.version,
+            setup,
+            &self.held,
+        )? {
             Some(slice) => self.held = Some(slice),
             None => match next_byte(source)? {
                 Some(_) => return Err(HoldFileFault::Trailing),

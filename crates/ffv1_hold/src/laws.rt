@@ -1,7 +1,8 @@
 //! Laws of holding files (own), as contracts of functions that do nothing.
 ghost use Rattle.ffv1_hold.specs.Laws.{OneText, OneLead, OneFault, OneShownFault, TextHasNoFault, TextShowsNoFault, PartShowsNoFault};
 
-/// Two holdings with one text are equal.
+/// Two holdings with one text, of whatever version, are equal. So each has exactly one of version 2, and one without
+/// origins exactly one of version 1.
 pub fn one_text()
     ensures { OneText }
 {}

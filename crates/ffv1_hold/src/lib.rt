@@ -11,9 +11,12 @@ mod hold_reader;
 mod laws;
 mod merging;
 mod number;
+mod origins;
 mod plan;
 mod reading;
 mod saving;
+mod union;
+mod version;
 
 pub use ffv1_devices::{
     FromRead, FromWrite, Sink, Source, ThroughWrite, WholeFault, WriteFailed, read_whole,
@@ -22,6 +25,7 @@ pub use ffv1_devices::{
 pub use ffv1_holding::{
     HoldFault, Holding, Join, JoinAllFault, RestoreFault, SliceSet, TakeAllFault, Taken, TileState,
     copies_hold_the_original, held_is_found, join_all, near_copies_hold_the_original,
+    origin_is_a_copy,
 };
 pub use file_fault::HoldFileFault;
 pub use laws::{one_fault, one_lead, one_text, text_shows_no_fault};
@@ -29,3 +33,4 @@ pub use merging::join_streams;
 pub use plan::{Plan, PlanFault, run, same_copies};
 pub use reading::read_hold;
 pub use saving::write_hold;
+pub use version::Version;

@@ -1,45 +1,50 @@
 //! Joining two holding files as streams (own).
 ghost use Rattle.std.specs.Prelude.{◌≡◌, ◌≢◌, ◌+◌, ◌≤◌, ◌⊎◌, None, length, OnOk, IfOk, IfErr, IsErrOf, IfSome, IfNone};
 ghost use Rattle.std.specs.Io.KnownBytes.{Appends};
-ghost use Rattle.ffv1_bits.specs.Limits.{slice_limit, record_limit, file_limit};
+ghost use Rattle.ffv1_bits.specs.Limits.{record_limit, file_limit};
 ghost use Rattle.ffv1_devices.specs.Streams.{HasFailed};
 ghost use Rattle.ffv1_holding.specs.Reels.{Reel};
 ghost use Rattle.ffv1_holding.specs.Contents.{Contents, IsSameReel, joined};
 ghost use Rattle.ffv1_hold.specs.HoldingText.{head_text, entry_text};
+ghost use Rattle.ffv1_hold.specs.declared.version.Version.{Version};
+ghost use Rattle.ffv1_hold.specs.FileEntries.{IsFileEntryOf};
 ghost use Rattle.ffv1_hold.specs.Reading.{Takes};
 ghost use Rattle.ffv1_hold.specs.FileFaults.{IsFileReel};
 ghost use Rattle.ffv1_hold.specs.JoinedStreams.{IsFileOf, WritesUnion, AnswersUnion, BeginsWithHead, AnswersOther, JoinRefuses, WritesNoEnd, WritesFrontSoFar, WritesAtMost, StaysInLead};
-ghost use Rattle.ffv1_hold.specs.Merging.{Start, inputs_from, IsOpened, Stands, Stops, JoinStops, HeadsRefuse, Ends, IsTurn, EntryStops};
+ghost use Rattle.ffv1_hold.specs.Merging.{Start, AreVersions, inputs_from, IsOpened, Stands, Stops, JoinStops, HeadsRefuse, Ends, IsTurn, IsWritten, with_digests, EntryStops};
 
 use crate::entry::HeldSlice;
 use crate::file_fault::HoldFileFault;
 use crate::hold_reader::HoldReader;
-use crate::saving::{entry_head, write_head};
+use crate::saving::{room_behind_entry, write_head, write_origins, write_slice};
+use crate::union::union_count;
+use crate::version::Version;
 use ffv1_bits::FILE_LIMIT;
-use ffv1_devices::{Sink, Source, write_field, write_pair};
+use ffv1_devices::{Sink, Source, write_field};
 use ffv1_holding::Reel;
 use ffv1_range::Setup;
 use std::alloc::Global;
 use std::cmp::Ordering;
 
-/// Joins two holding files as streams: reads both, and writes the holding file of the union.
+/// Joins two holding files of either version as streams: reads both, and writes the file of the union, of version 2.
 ///
 /// Both heads are read and judged before anything is written. Then the smaller of the inputs' next entries is
-/// written, once where both have it, and its input is read on: one entry of each is held, and one more of an input
-/// while it is compared with the one before it. `OtherReel` comes exactly where both heads were read and their
-/// record, width or height differ, before anything is written. `TooLong` comes where an input passes its limits, or
-/// where what is written would pass 2^31 bytes; each other fault is the one that `read_hold` tells of that input. The
-/// end tag is written only where both inputs were read to their ends and show no fault. `Read` and `Write` come only
-/// where a source or the sink counted a failure: an interrupted try is made again, and 65 in a row are a failure.
-/// After `Write` each input that is a text was read at most to the end of its first entry that is not whole in what
-/// was written, or to its own end where all are whole. `Memory` comes where a growth is refused.
+/// written, once where both have its slice, and then with the digests of both, and its input is read on: one entry of
+/// each is held with its digests, and one more of an input while it is compared with the one before it. `OtherReel`
+/// comes exactly where both heads were read and their record, width or height differ, before anything is written.
+/// `TooLong` comes where an input passes its limits, or where what is written would pass 2^31 bytes; each other fault is
+/// the one that `read_hold` tells of that input. The end tag is written only where both inputs were read to their ends
+/// and show no fault. `Read` and `Write` come only where a source or the sink counted a failure: an interrupted try is
+/// made again, and 65 in a row are a failure. After `Write` each input that is a text was read at most to the end of its
+/// first entry that is not whole in what was written, or to its own end where all are whole: an entry is whole there
+/// once its slice stands there with its digests among others. `Memory` comes where a growth is refused.
 pub fn join_streams<R: Source, Q: Source, W: Sink>(
     alloc: Global,
     left: &mut R,
     right: &mut Q,
     sink: &mut W,
 ) -> Result<(), HoldFileFault>
-    // Both inputs are the texts of holdings of one reel, and the text of their union was written.
+    // Both inputs are files of holdings of one reel, and the text of their union was written.
     ensures joined { OnOk result (WritesUnion (record {
       left_old = R.remaining left.old;
       left_new = R.remaining left.new;
@@ -48,7 +53,7 @@ pub fn join_streams<R: Source, Q: Source, W: Sink>(
     }) (W.contents sink.old) (W.contents sink.new)) }
 
     // Such inputs are answered by that, by `Read`, `Write` or `Memory`, or by `TooLong` where the union has no text.
-    ensures only { (g h : Contents) → IsSameReel g h → IsFileOf (R.remaining left.old) g → IsFileOf (Q.remaining right.old) h
+    ensures only { (v w : Version) (g h : Contents) → IsSameReel g h → IsFileOf (R.remaining left.old) v g → IsFileOf (Q.remaining right.old) w h
         → AnswersUnion (joined g h) result }
 
     // Inputs that begin with heads of two reels are answered by `OtherReel`, or by `Read` or `Memory`.
@@ -65,10 +70,10 @@ pub fn join_streams<R: Source, Q: Source, W: Sink>(
     })) }
 
     // After `Write` no more was taken of an input that is a text than up to its lead.
-    ensures left_lead { (h : Contents) → IsFileOf (R.remaining left.old) h → IsErrOf result HoldFileFault.Write
-        → StaysInLead h (R.remaining left.old) (R.remaining left.new) (W.contents sink.old) (W.contents sink.new) }
-    ensures right_lead { (h : Contents) → IsFileOf (Q.remaining right.old) h → IsErrOf result HoldFileFault.Write
-        → StaysInLead h (Q.remaining right.old) (Q.remaining right.new) (W.contents sink.old) (W.contents sink.new) }
+    ensures left_lead { (v : Version) (h : Contents) → IsFileOf (R.remaining left.old) v h → IsErrOf result HoldFileFault.Write
+        → StaysInLead v h (R.remaining left.old) (R.remaining left.new) (W.contents sink.old) (W.contents sink.new) }
+    ensures right_lead { (v : Version) (h : Contents) → IsFileOf (Q.remaining right.old) v h → IsErrOf result HoldFileFault.Write
+        → StaysInLead v h (Q.remaining right.old) (Q.remaining right.new) (W.contents sink.old) (W.contents sink.new) }
 
     // What was written: after `Write` a front of a text, after another refusal no end tag.
     ensures write { IsErrOf result HoldFileFault.Write → WritesFrontSoFar (record {
@@ -162,8 +167,8 @@ impl Merge {
     ) -> Result<Reel, HoldFileFault>
         requires left_start { self.old.lefts.place ≡ 0 }
         requires right_start { self.old.rights.place ≡ 0 }
-        ensures left { IfOk result (λ r. Takes (R.remaining left.old) (R.remaining left.new) 0 self.new.lefts.place (head_text r)) }
-        ensures right { IfOk result (λ r. Takes (Q.remaining right.old) (Q.remaining right.new) 0 self.new.rights.place (head_text r)) }
+        ensures left { IfOk result (λ r. Takes (R.remaining left.old) (R.remaining left.new) 0 self.new.lefts.place (head_text self.new.lefts.version r)) }
+        ensures right { IfOk result (λ r. Takes (Q.remaining right.old) (Q.remaining right.new) 0 self.new.rights.place (head_text self.new.rights.version r)) }
         ensures reel { IfOk result IsFileReel }
         ensures left_held { self.new.lefts.held ≡ self.old.lefts.held }
         ensures right_held { self.new.rights.held ≡ self.old.rights.held }
@@ -206,13 +211,16 @@ impl Merge {
         requires right_held { self.old.rights.held ≡ None }
         requires room { self.old.room ≡ file_limit }
         requires reel { length reel.now.config ≤ record_limit }
-        ensures ok { (s : Start) → IsOpened s reel.now (R.remaining left.old) (Q.remaining right.old) (W.contents sink.old)
+        ensures ok { (s : Start) → AreVersions s self.old.lefts.version self.old.rights.version
+            → IsOpened s reel.now (R.remaining left.old) (Q.remaining right.old) (W.contents sink.old)
             self.old.lefts.place self.old.rights.place
             → OnOk result (WritesUnion (inputs_from s (R.remaining left.new) (Q.remaining right.new)) s.sink (W.contents sink.new)) }
-        ensures most { (s : Start) → IsOpened s reel.now (R.remaining left.old) (Q.remaining right.old) (W.contents sink.old)
+        ensures most { (s : Start) → AreVersions s self.old.lefts.version self.old.rights.version
+            → IsOpened s reel.now (R.remaining left.old) (Q.remaining right.old) (W.contents sink.old)
             self.old.lefts.place self.old.rights.place
             → OnOk result (WritesAtMost s.sink (W.contents sink.new) file_limit) }
-        ensures err { (s : Start) → IsOpened s reel.now (R.remaining left.old) (Q.remaining right.old) (W.contents sink.old)
+        ensures err { (s : Start) → AreVersions s self.old.lefts.version self.old.rights.version
+            → IsOpened s reel.now (R.remaining left.old) (Q.remaining right.old) (W.contents sink.old)
             self.old.lefts.place self.old.rights.place
             → IfErr result (Stops (inputs_from s (R.remaining left.new) (Q.remaining right.new)) s.sink (W.contents sink.new)) }
         ensures read_failed { IsErrOf result HoldFileFault.Read
@@ -235,7 +243,7 @@ impl Merge {
         Ok(())
     }
 
-    /// Writes the entries of both inputs in their order, each once, and reads both to their ends. The tag behind an
+    /// Writes the entries of both inputs in their order, each slice once, and reads both to their ends. The tag behind an
     /// entry is read only after that entry was written.
     fn join_entries<R: Source, Q: Source, W: Sink>(
         &mut self,
@@ -247,13 +255,14 @@ impl Merge {
     ) -> Result<(), HoldFileFault>
         requires left_place { self.old.lefts.place ≤ file_limit }
         requires right_place { self.old.rights.place ≤ file_limit }
-        requires left_fits { IfSome self.old.lefts.held (λ e. length e.1 ≤ slice_limit) }
-        requires right_fits { IfSome self.old.rights.held (λ e. length e.1 ≤ slice_limit) }
-        ensures ok { (s : Start) → setup.now ≡ s.reel.setup
+        requires left_entry { IfSome self.old.lefts.held (IsFileEntryOf self.old.lefts.version setup.now) }
+        requires right_entry { IfSome self.old.rights.held (IsFileEntryOf self.old.rights.version setup.now) }
+        requires room { self.old.room ≤ file_limit }
+        ensures ok { (s : Start) → setup.now ≡ s.reel.setup → AreVersions s self.old.lefts.version self.old.rights.version
             → Stands s (R.remaining left.old) (Q.remaining right.old) (W.contents sink.old)
             self.old.lefts.place self.old.rights.place self.old.room self.old.lefts.held self.old.rights.held
             → OnOk result (Ends s (R.remaining left.new) (Q.remaining right.new) (W.contents sink.new) self.new.room) }
-        ensures err { (s : Start) → setup.now ≡ s.reel.setup
+        ensures err { (s : Start) → setup.now ≡ s.reel.setup → AreVersions s self.old.lefts.version self.old.rights.version
             → Stands s (R.remaining left.old) (Q.remaining right.old) (W.contents sink.old)
             self.old.lefts.place self.old.rights.place self.old.room self.old.lefts.held self.old.rights.held
             → IfErr result (Stops (inputs_from s (R.remaining left.new) (Q.remaining right.new)) s.sink (W.contents sink.new)) }
@@ -265,8 +274,8 @@ impl Merge {
         ensures right_taken { Q.taken right.new + self.old.rights.place ≤ Q.taken right.old + file_limit + 1 }
         ensures same_reference { W.reference sink.new ≡ W.reference sink.old }
     {
-        while let Some((slice, order)) = next_slice(&self.lefts.held, &self.rights.held) {
-            write_entry(sink, &mut self.room, slice)?;
+        while let Some((entry, others, order)) = next_entry(&self.lefts.held, &self.rights.held) {
+            write_entry(sink, &mut self.room, entry, others)?;
             match order {
                 Ordering::Less => self.lefts.advance(alloc, left, setup)?,
                 Ordering::Greater => self.rights.advance(alloc, right, setup)?,
@@ -280,51 +289,55 @@ impl Merge {
     }
 }
 
-/// The smaller of the next entries of both inputs, and how the left one's stands to the right one's, where an end is
-/// behind all.
-fn next_slice<'a>(
+/// The smaller of the next entries of both inputs, with the digests of the other where their slices are equal, and how the
+/// left one's slice stands to the right one's, where an end is behind all.
+fn next_entry<'a>(
     left: &'a Option<HeldSlice>,
     right: &'a Option<HeldSlice>,
-) -> Option<(&'a HeldSlice, Ordering)>
-    ensures some { IfSome result (λ t. IsTurn left.now right.now t.0.now t.1) }
+) -> Option<(&'a HeldSlice, &'a [[u8; 32]], Ordering)>
+    ensures some { IfSome result (λ t. IsTurn left.now right.now t.0.now t.1.now t.2) }
     ensures none { IfNone result ((left.now ≡ None) × (right.now ≡ None)) }
 {
     match left {
         Some(a) => match right {
-            Some(b) => match a.compare(b) {
-                Ordering::Less => Some((a, Ordering::Less)),
-                Ordering::Equal => Some((a, Ordering::Equal)),
-                Ordering::Greater => Some((b, Ordering::Greater)),
+            Some(b) => match a.slice.compare(&b.slice) {
+                Ordering::Less => Some((a, &[], Ordering::Less)),
+                Ordering::Equal => Some((a, &b.origins, Ordering::Equal)),
+                Ordering::Greater => Some((b, &[], Ordering::Greater)),
             },
-            None => Some((a, Ordering::Less)),
+            None => Some((a, &[], Ordering::Less)),
         },
         None => match right {
-            Some(b) => Some((b, Ordering::Greater)),
+            Some(b) => Some((b, &[], Ordering::Greater)),
             None => None,
         },
     }
 }
 
-/// Writes an entry where there is room for it.
+/// Writes an entry, with the digests of others too, where there is room for it.
 fn write_entry<W: Sink>(
     sink: &mut W,
     room: &mut u32,
-    slice: &HeldSlice,
+    entry: &HeldSlice,
+    others: &[[u8; 32]],
 ) -> Result<(), HoldFileFault>
-    requires { length slice.now.1 ≤ slice_limit }
-    ensures ok { OnOk result (Appends (W.contents sink.old) (W.contents sink.new) (entry_text slice.now)) }
-    ensures room { OnOk result (room.new + length (entry_text slice.now) ≡ room.old) }
-    ensures err { IfErr result (EntryStops (W.contents sink.old) (W.contents sink.new) room.old slice.now) }
+    requires entry { IsWritten entry.now }
+    requires others { IsWritten (entry.now.0, others.now) }
+    requires room { room.old ≤ file_limit }
+    ensures ok { OnOk result (Appends (W.contents sink.old) (W.contents sink.new) (entry_text Version.Second (with_digests entry.now others.now))) }
+    ensures room { OnOk result (room.new + length (entry_text Version.Second (with_digests entry.now others.now)) ≡ room.old) }
+    ensures err { IfErr result (EntryStops (W.contents sink.old) (W.contents sink.new) room.old (with_digests entry.now others.now)) }
     ensures failed { IsErrOf result HoldFileFault.Write → HasFailed (W.failures sink.old) (W.failures sink.new) }
     ensures counted { W.failures sink.old ≤ W.failures sink.new }
     ensures same_reference { W.reference sink.new ≡ W.reference sink.old }
 {
-    let length = slice.bytes.len() as u32;
-    let Some(left) = room.checked_sub(7 + length) else {
+    let count = union_count(&entry.origins, others);
+    let slice = entry.slice.bytes.as_slice();
+    let Some(left) = room_behind_entry(*room, slice.len(), count as usize) else {
         return Err(HoldFileFault::TooLong);
     };
-    let head = entry_head(slice.tile, length);
-    write_pair(sink, &head, &slice.bytes)?;
+    write_slice(sink, entry.slice.tile, slice)?;
+    write_origins(sink, &entry.origins, others)?;
     *room = left;
     Ok(())
 }

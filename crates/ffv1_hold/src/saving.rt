@@ -1,30 +1,35 @@
 //! Writing a holding file (own).
-ghost use Rattle.std.specs.Prelude.{◌≡◌, ◌<◌, ◌≤◌, ◌↔◌, ◌++◌, ◌^◌, ◌∷◌, ◌+◌, [], length, map, OnOk, OnErr, IfErr, IfSome, IfNone, IsErrOf, IsTrue};
+ghost use Rattle.std.specs.Prelude.{◌≡◌, ◌<◌, ◌≤◌, ◌↔◌, ◌++◌, ◌^◌, ◌∷◌, ◌+◌, ◌*◌, ℕ, List, [], length, slice_index_or, OnOk, OnErr, IfErr, IfSome, IfNone, IsErrOf, IsTrue};
 ghost use Rattle.std.specs.Io.KnownBytes.{Appends};
-ghost use Rattle.ffv1_bits.specs.Limits.{record_limit, file_limit};
+ghost use Rattle.ffv1_bits.specs.Limits.{slice_limit, record_limit, file_limit};
 ghost use Rattle.ffv1_holding.specs.Sets as set;
 ghost use Rattle.ffv1_devices.specs.Streams.{HasFailed, HasGivenUp};
 ghost use Rattle.ffv1_devices.specs.Writing.{WritesFront};
-ghost use Rattle.ffv1_holding.specs.TileSets.{tile_slices, tile_entries};
+ghost use Rattle.ffv1_holding.specs.TileSets.{tile_slices};
 ghost use Rattle.ffv1_holding.specs.Reels.{reel_tiles};
-ghost use Rattle.ffv1_hold.specs.HoldingText.{be2, be4, magic, head_text, entries_text, holding_text, FitsInFile};
-ghost use Rattle.ffv1_holding.specs.Contents.{IsHolding};
-ghost use Rattle.ffv1_hold.specs.Saving.{AreWithinLimit, AreWritable, IsTooLong, IsWriteFault, entries_length};
+ghost use Rattle.ffv1_hold.specs.HoldingText.{origins_limit, be2, be4, magic, head_text, slice_text, FileEntry, origins_text, entry_text, entries_text, file_entries, holding_text, IsTold, FitsInFile};
+ghost use Rattle.ffv1_holding.specs.Contents.{IsHolding, AreDigests, digests_of};
+ghost use Rattle.ffv1_hold.specs.Saving.{AreWithinLimit, AreWritable, IsTooLong, IsWriteFault, tile_file_entries, entries_length};
+ghost use Rattle.ffv1_hold.specs.Merging.{digests_union};
 
 use crate::file_fault::HoldFileFault;
+use crate::origins::ORIGINS_LIMIT;
+use crate::union::{union_count, write_union};
+use crate::version::Version;
 use ffv1_bits::{FILE_LIMIT, RECORD_LIMIT};
 use ffv1_devices::{Sink, WriteFailed, write_field, write_pair};
 use ffv1_holding::{Holding, Reel};
 
-/// Writes the holding file of a holding.
+/// Writes the holding file of a holding, of version 2.
 ///
 /// `TooLong` comes exactly where the record has more than 2^24 bytes or the file would have more than 2^31, before
-/// anything is written. After `Write`, which comes only where the sink counted a failure, a front of the file was
-/// written; the first failure that is no interruption is told. No other fault comes: nothing is allocated.
+/// anything is written; more than 2^26 origins of one slice never fit. After `Write`, which comes only where the sink
+/// counted a failure, a front of the file was written; the first failure that is no interruption is told. No other fault
+/// comes: nothing is allocated.
 pub fn write_hold<W: Sink>(holding: &Holding, sink: &mut W) -> Result<(), HoldFileFault>
     ensures text { OnOk result (Appends (W.contents sink.old) (W.contents sink.new) (holding_text holding.now)) }
     ensures sound { IsHolding holding.now }
-    ensures fits { OnOk result (FitsInFile holding.now) }
+    ensures fits { OnOk result (FitsInFile Version.Second holding.now) }
 
     ensures write { IsErrOf result HoldFileFault.Write → WritesFront (W.contents sink.old) (W.contents sink.new) (holding_text holding.now) }
     ensures failed { IsErrOf result HoldFileFault.Write → HasFailed (W.failures sink.old) (W.failures sink.new) }
@@ -47,7 +52,7 @@ pub fn write_hold<W: Sink>(holding: &Holding, sink: &mut W) -> Result<(), HoldFi
 
 /// Writes the text of a holding.
 fn write_text<S: Sink>(holding: &Holding, sink: &mut S) -> Result<(), WriteFailed>
-    requires reel { length holding.now.reel.config ≤ record_limit }
+    requires fits { FitsInFile Version.Second holding.now }
     requires entries { AreWritable holding.now }
     ensures ok { OnOk result (Appends (S.contents sink.old) (S.contents sink.new) (holding_text holding.now)) }
     ensures err { OnErr result (WritesFront (S.contents sink.old) (S.contents sink.new) (holding_text holding.now)) }
@@ -66,8 +71,8 @@ fn write_text<S: Sink>(holding: &Holding, sink: &mut S) -> Result<(), WriteFaile
 /// Writes what stands before the entries.
 pub(crate) fn write_head<S: Sink>(sink: &mut S, reel: &Reel) -> Result<(), WriteFailed>
     requires { length reel.now.config ≤ record_limit }
-    ensures ok { OnOk result (Appends (S.contents sink.old) (S.contents sink.new) (head_text reel.now)) }
-    ensures err { OnErr result (WritesFront (S.contents sink.old) (S.contents sink.new) (head_text reel.now)) }
+    ensures ok { OnOk result (Appends (S.contents sink.old) (S.contents sink.new) (head_text Version.Second reel.now)) }
+    ensures err { OnErr result (WritesFront (S.contents sink.old) (S.contents sink.new) (head_text Version.Second reel.now)) }
     ensures failed { OnErr result (HasFailed (S.failures sink.old) (S.failures sink.new)) }
     ensures gave_up { OnErr result (HasGivenUp (S.failures sink.old) (S.failures sink.new) (S.broken sink.old) (S.broken sink.new)) }
     ensures unbroken { OnOk result (S.broken sink.new ≡ S.broken sink.old) }
@@ -83,9 +88,10 @@ pub(crate) fn write_head<S: Sink>(sink: &mut S, reel: &Reel) -> Result<(), Write
 
 /// Writes the entries of all tiles.
 fn write_entries<S: Sink>(sink: &mut S, holding: &Holding) -> Result<(), WriteFailed>
-    requires { AreWritable holding.now }
-    ensures ok { OnOk result (Appends (S.contents sink.old) (S.contents sink.new) (entries_text (set.items holding.now.slices))) }
-    ensures err { OnErr result (WritesFront (S.contents sink.old) (S.contents sink.new) (entries_text (set.items holding.now.slices))) }
+    requires told { IsTold Version.Second holding.now }
+    requires entries { AreWritable holding.now }
+    ensures ok { OnOk result (Appends (S.contents sink.old) (S.contents sink.new) (entries_text Version.Second (file_entries holding.now))) }
+    ensures err { OnErr result (WritesFront (S.contents sink.old) (S.contents sink.new) (entries_text Version.Second (file_entries holding.now))) }
     ensures failed { OnErr result (HasFailed (S.failures sink.old) (S.failures sink.new)) }
     ensures gave_up { OnErr result (HasGivenUp (S.failures sink.old) (S.failures sink.new) (S.broken sink.old) (S.broken sink.new)) }
     ensures unbroken { OnOk result (S.broken sink.new ≡ S.broken sink.old) }
@@ -103,9 +109,10 @@ fn write_entries<S: Sink>(sink: &mut S, holding: &Holding) -> Result<(), WriteFa
 fn write_tile<S: Sink>(sink: &mut S, holding: &Holding, tile: usize) -> Result<(), WriteFailed>
     requires tile { tile < reel_tiles holding.now.reel }
     requires number { tile < 2 ^ 16 }
+    requires told { IsTold Version.Second holding.now }
     requires fits { AreWithinLimit (tile_slices holding.now.slices tile) }
-    ensures ok { OnOk result (Appends (S.contents sink.old) (S.contents sink.new) (entries_text (tile_entries holding.now.slices tile))) }
-    ensures err { OnErr result (WritesFront (S.contents sink.old) (S.contents sink.new) (entries_text (tile_entries holding.now.slices tile))) }
+    ensures ok { OnOk result (Appends (S.contents sink.old) (S.contents sink.new) (entries_text Version.Second (tile_file_entries holding.now tile))) }
+    ensures err { OnErr result (WritesFront (S.contents sink.old) (S.contents sink.new) (entries_text Version.Second (tile_file_entries holding.now tile))) }
     ensures failed { OnErr result (HasFailed (S.failures sink.old) (S.failures sink.new)) }
     ensures gave_up { OnErr result (HasGivenUp (S.failures sink.old) (S.failures sink.new) (S.broken sink.old) (S.broken sink.new)) }
     ensures unbroken { OnOk result (S.broken sink.new ≡ S.broken sink.old) }
@@ -114,16 +121,94 @@ fn write_tile<S: Sink>(sink: &mut S, holding: &Holding, tile: usize) -> Result<(
     ensures same_reference { S.reference sink.new ≡ S.reference sink.old }
 {
     for place in 0..holding.held(tile) {
-        let slice = holding.slice(tile, place);
-        let head = entry_head(tile as u16, slice.len() as u32);
-        write_pair(sink, &head, slice)?;
+        write_held(sink, holding, tile, place)?;
     }
     Ok(())
 }
 
+/// Writes the entry of the slice of a tile at a place.
+fn write_held<S: Sink>(
+    sink: &mut S,
+    holding: &Holding,
+    tile: usize,
+    place: usize,
+) -> Result<(), WriteFailed>
+    requires tile { tile < reel_tiles holding.now.reel }
+    requires number { tile < 2 ^ 16 }
+    requires held { place < set.size (tile_slices holding.now.slices tile) }
+    requires told { IsTold Version.Second holding.now }
+    requires fits { AreWithinLimit (tile_slices holding.now.slices tile) }
+    ensures ok { (d : FileEntry) → OnOk result (Appends (S.contents sink.old) (S.contents sink.new)
+        (entry_text Version.Second (slice_index_or (tile_file_entries holding.now tile) place d))) }
+    ensures err { (d : FileEntry) → OnErr result (WritesFront (S.contents sink.old) (S.contents sink.new)
+        (entry_text Version.Second (slice_index_or (tile_file_entries holding.now tile) place d))) }
+    ensures failed { OnErr result (HasFailed (S.failures sink.old) (S.failures sink.new)) }
+    ensures gave_up { OnErr result (HasGivenUp (S.failures sink.old) (S.failures sink.new) (S.broken sink.old) (S.broken sink.new)) }
+    ensures unbroken { OnOk result (S.broken sink.new ≡ S.broken sink.old) }
+    ensures broken_once { S.broken sink.new ≤ S.broken sink.old + 1 }
+    ensures counted { S.failures sink.old ≤ S.failures sink.new }
+    ensures same_reference { S.reference sink.new ≡ S.reference sink.old }
+{
+    let origins = origins_of(holding, tile, place);
+    write_slice(sink, tile as u16, holding.slice(tile, place))?;
+    write_origins(sink, origins, &[])
+}
+
+/// The origins of the slice of a tile at a place.
+fn origins_of(holding: &Holding, tile: usize, place: usize) -> &[[u8; 32]]
+    requires tile { tile < reel_tiles holding.now.reel }
+    requires held { place < set.size (tile_slices holding.now.slices tile) }
+    ensures digests { (d : List ℕ) → result.now ≡ digests_of holding.now (tile, slice_index_or (set.items (tile_slices holding.now.slices tile)) place d) }
+    ensures rising { AreDigests result.now }
+{
+    match holding.origins(tile, holding.slice(tile, place)) {
+        Some(origins) => origins,
+        None => &[],
+    }
+}
+
+/// Writes an entry's slice.
+pub(crate) fn write_slice<S: Sink>(sink: &mut S, tile: u16, slice: &[u8]) -> Result<(), WriteFailed>
+    requires { length slice.now ≤ slice_limit }
+    ensures ok { OnOk result (Appends (S.contents sink.old) (S.contents sink.new) (1 ∷ slice_text (tile, slice.now))) }
+    ensures err { OnErr result (WritesFront (S.contents sink.old) (S.contents sink.new) (1 ∷ slice_text (tile, slice.now))) }
+    ensures failed { OnErr result (HasFailed (S.failures sink.old) (S.failures sink.new)) }
+    ensures gave_up { OnErr result (HasGivenUp (S.failures sink.old) (S.failures sink.new) (S.broken sink.old) (S.broken sink.new)) }
+    ensures unbroken { OnOk result (S.broken sink.new ≡ S.broken sink.old) }
+    ensures broken_once { S.broken sink.new ≤ S.broken sink.old + 1 }
+    ensures counted { S.failures sink.old ≤ S.failures sink.new }
+    ensures same_reference { S.reference sink.new ≡ S.reference sink.old }
+{
+    let head = entry_head(tile, slice.len() as u32);
+    write_pair(sink, &head, slice)
+}
+
+/// Writes the count of the union of two lists of digests, and then its digests.
+pub(crate) fn write_origins<S: Sink>(
+    sink: &mut S,
+    digests: &[[u8; 32]],
+    others: &[[u8; 32]],
+) -> Result<(), WriteFailed>
+    requires digests { AreDigests digests.now }
+    requires others { AreDigests others.now }
+    requires few { length digests.now + length others.now ≤ 2 ^ 31 }
+    ensures ok { OnOk result (Appends (S.contents sink.old) (S.contents sink.new) (origins_text (digests_union digests.now others.now))) }
+    ensures err { OnErr result (WritesFront (S.contents sink.old) (S.contents sink.new) (origins_text (digests_union digests.now others.now))) }
+    ensures failed { OnErr result (HasFailed (S.failures sink.old) (S.failures sink.new)) }
+    ensures gave_up { OnErr result (HasGivenUp (S.failures sink.old) (S.failures sink.new) (S.broken sink.old) (S.broken sink.new)) }
+    ensures unbroken { OnOk result (S.broken sink.new ≡ S.broken sink.old) }
+    ensures broken_once { S.broken sink.new ≤ S.broken sink.old + 1 }
+    ensures counted { S.failures sink.old ≤ S.failures sink.new }
+    ensures same_reference { S.reference sink.new ≡ S.reference sink.old }
+{
+    let count = union_count(digests, others);
+    write_field(sink, &count.to_be_bytes())?;
+    write_union(sink, digests, others)
+}
+
 /// What stands before an entry's bytes.
 #[tactic(auto, unfolding(crate::specs::HoldingText::be2, crate::specs::HoldingText::be4))]
-pub(crate) fn entry_head(tile: u16, length: u32) -> [u8; 7]
+fn entry_head(tile: u16, length: u32) -> [u8; 7]
     ensures { result ≡ (1 ∷ be2 tile) ++ be4 length }
 {
     let tile = tile.to_be_bytes();
@@ -136,13 +221,13 @@ pub(crate) fn entry_head(tile: u16, length: u32) -> [u8; 7]
 /// What stands before the record.
 #[tactic(auto, unfolding(crate::specs::HoldingText::be4))]
 fn reel_head(width: u32, height: u32, length: u32) -> [u8; 20]
-    ensures { result ≡ magic ++ (be4 width ++ be4 height ++ be4 length) }
+    ensures { result ≡ magic Version.Second ++ (be4 width ++ be4 height ++ be4 length) }
 {
     let w = width.to_be_bytes();
     let h = height.to_be_bytes();
     let n = length.to_be_bytes();
     [
-        b'F', b'F', b'V', b'1', b'H', b'L', b'D', 1, w[0], w[1], w[2], w[3], h[0], h[1], h[2],
+        b'F', b'F', b'V', b'1', b'H', b'L', b'D', 2, w[0], w[1], w[2], w[3], h[0], h[1], h[2],
         h[3], n[0], n[1], n[2], n[3],
     ]
 }
@@ -165,9 +250,11 @@ fn fits_in_file(holding: &Holding) -> bool
 
 /// What is left of the room behind the entries of all tiles, or `None` where they pass it.
 fn room_behind(holding: &Holding, room: u32) -> Option<u32>
-    requires { AreWritable holding.now }
-    ensures some { IfSome result (λ left. left + length (entries_text (set.items holding.now.slices)) ≡ room) }
-    ensures none { IfNone result (room < length (entries_text (set.items holding.now.slices))) }
+    requires sound { IsHolding holding.now }
+    requires entries { AreWritable holding.now }
+    requires room { room ≤ file_limit }
+    ensures some { IfSome result (λ left. left + length (entries_text Version.Second (file_entries holding.now)) ≡ room) }
+    ensures none { IfNone result (room < length (entries_text Version.Second (file_entries holding.now))) }
 {
     let mut left = room;
     for tile in 0..holding.reel().tiles() {
@@ -180,12 +267,29 @@ fn room_behind(holding: &Holding, room: u32) -> Option<u32>
 fn room_behind_tile(holding: &Holding, tile: usize, room: u32) -> Option<u32>
     requires tile { tile < reel_tiles holding.now.reel }
     requires fits { AreWithinLimit (tile_slices holding.now.slices tile) }
-    ensures some { IfSome result (λ left. left + entries_length (set.items (tile_slices holding.now.slices tile)) ≡ room) }
-    ensures none { IfNone result (room < entries_length (set.items (tile_slices holding.now.slices tile))) }
+    requires room { room ≤ file_limit }
+    ensures some { IfSome result (λ left. left + entries_length (tile_file_entries holding.now tile) ≡ room) }
+    ensures none { IfNone result (room < entries_length (tile_file_entries holding.now tile)) }
 {
     let mut left = room;
     for place in 0..holding.held(tile) {
-        left = left.checked_sub(7 + holding.slice(tile, place).len() as u32)?;
+        let slice = holding.slice(tile, place);
+        let origins = origins_of(holding, tile, place);
+        left = room_behind_entry(left, slice.len(), origins.len())?;
     }
     Some(left)
+}
+
+/// What is left of the room behind an entry of a slice and a count of digests, or `None` where it passes it.
+pub(crate) fn room_behind_entry(room: u32, slice: usize, digests: usize) -> Option<u32>
+    requires slice { slice ≤ slice_limit }
+    requires room { room ≤ file_limit }
+    ensures some { IfSome result (λ left. left + (11 + slice + 32 * digests) ≡ room) }
+    ensures few { IfSome result (λ left. digests ≤ origins_limit) }
+    ensures none { IfNone result (room < 11 + slice + 32 * digests) }
+{
+    if digests > ORIGINS_LIMIT as usize {
+        return None;
+    }
+    room.checked_sub(11 + slice as u32 + 32 * digests as u32)
 }

@@ -1,17 +1,8 @@
-use Rattle.std.proofs.Common.{◌++◌, take, arith}
-use Rattle.ffv1_hold.specs.HoldingText.{magic}
-use Rattle.ffv1_hold.proofs.ReadRefusals.{Takes-trans}
-use Rattle.ffv1_hold.proofs.Heads.{wrong_magic}
+use Rattle.ffv1_hold.proofs.Heads.{magic_taken, version_behind_name}
 use Rattle.ffv1_hold.proofs.head.read_magic.Goals as goal
 
-pub returns-then-byte-expected-clause-err : goal.returns-then-byte-expected-clause-err
-returns-then-byte-expected-clause-err g c =
-    let inv = c.loop-expected.invariant in
-    let i = c.loop-expected.expected-index in
-    let all = Takes-trans _ _ _ _ _ _ _ _ inv.text c.in_ok-read_field.ensures.ok in
-    record {
-      seen = take i magic ++ c.read_field.new.buf;
-      is = wrong_magic i c.read_field.new.buf (omega arith) (omega arith) c.if-byte-expected.true;
-      taken = all.taken;
-      within = omega (arith, all.moved, all.within);
-    }
+pub returns-clause-ok : goal.returns-clause-ok
+returns-clause-ok g c = magic_taken _ _ _ _ _ _ c.in_ok-read_name.ensures.ok c.read_version.result c.read_version.ensures.ok
+
+pub returns-clause-err : goal.returns-clause-err
+returns-clause-err g c = version_behind_name _ _ _ _ _ c.in_ok-read_name.ensures.ok c.read_version.result c.read_version.ensures.err

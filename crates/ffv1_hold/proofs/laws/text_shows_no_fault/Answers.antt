@@ -6,12 +6,12 @@ use Rattle.ffv1_hold.proofs.Unfinished.{part_shows_none}
 use Rattle.ffv1_hold.proofs.laws.text_shows_no_fault.Goals as goal
 
 pub returns-clause-text : goal.returns-clause-text
-returns-clause-text c h is fits fault (inside, (left, refused)) = inside (refused_outside h is fits fault left refused)
+returns-clause-text c v h is fits fault (inside, (left, refused)) = inside (refused_outside v h is fits fault left refused)
 
 pub returns-clause-beginnings : goal.returns-clause-beginnings
-returns-clause-beginnings c text (h, is, fits, same) = (
-  λ seen rest fault split shown. text_none h is fits [] seen rest fault (append-nil _ ∙ sym same ∙ split) shown,
-  λ part. text_whole h is fits [] (subst IsPartOfFile (same ∙ sym (append-nil _)) part),
+returns-clause-beginnings c text (h, is, fits, (v, told, same)) = (
+  λ seen rest fault split shown. text_none v h is fits told [] seen rest fault (append-nil _ ∙ sym same ∙ split) shown,
+  λ part. text_whole v h is fits told [] (subst IsPartOfFile (same ∙ sym (append-nil _)) part),
 )
 
 pub returns-clause-unfinished : goal.returns-clause-unfinished

@@ -2,7 +2,7 @@ use Rattle.ffv1_hold.proofs.MergeAnswers.{answers_union, answers_other, join_ref
 use Rattle.ffv1_hold.proofs.merging.join_streams.Goals as goal
 
 pub returns-clause-only : goal.returns-clause-only
-returns-clause-only g c one two same left right = answers_union _ _ _ one two same left right c.merge_files.result c.merge_files.ensures.err
+returns-clause-only g c v w one two same left right = answers_union _ _ _ v w one two same left right c.merge_files.result c.merge_files.ensures.err
 
 pub returns-clause-other : goal.returns-clause-other
 returns-clause-other g c one two left right other = answers_other _ _ _ one two left right other c.merge_files.result c.merge_files.ensures.ok
@@ -12,10 +12,10 @@ pub returns-clause-fault : goal.returns-clause-fault
 returns-clause-fault g c = says _ _ _ _ (join_refuses _ _ _) c.merge_files.result c.merge_files.ensures.err
 
 pub returns-clause-left_lead : goal.returns-clause-left_lead
-returns-clause-left_lead g c h file = says_write _ _ _ _ (left_stays _ _ _ h file) c.merge_files.result c.merge_files.ensures.err
+returns-clause-left_lead g c v h file = says_write _ _ _ _ (left_stays _ _ _ v h file) c.merge_files.result c.merge_files.ensures.err
 
 pub returns-clause-right_lead : goal.returns-clause-right_lead
-returns-clause-right_lead g c h file = says_write _ _ _ _ (right_stays _ _ _ h file) c.merge_files.result c.merge_files.ensures.err
+returns-clause-right_lead g c v h file = says_write _ _ _ _ (right_stays _ _ _ v h file) c.merge_files.result c.merge_files.ensures.err
 
 pub returns-clause-write : goal.returns-clause-write
 returns-clause-write g c = says_write _ _ _ _ (λ stops. (write_stops _ _ _ stops).2.front) c.merge_files.result c.merge_files.ensures.err

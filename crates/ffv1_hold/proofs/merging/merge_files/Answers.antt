@@ -10,9 +10,12 @@ returns-clause-ok g c =
       right = g.Q.Source.remaining c.args.right.now;
       sink = g.W.Sink.contents c.args.sink.now;
       reel = c.in_ok-reel.reel;
+      left_version = c.read_heads.new.self.lefts.version;
+      right_version = c.read_heads.new.self.rights.version;
     } in
     let o = c.in_ok-reel.ensures in
-    c.join_behind.ensures.ok s (record { reel = o.reel; same = search rules; left_head = o.left; right_head = o.right; unwritten = refl })
+    c.join_behind.ensures.ok s (record { left_is = refl; right_is = refl })
+    (record { reel = o.reel; same = search rules; left_head = o.left; right_head = o.right; unwritten = refl })
 
 pub returns-clause-most : goal.returns-clause-most
 returns-clause-most g c =
@@ -21,9 +24,12 @@ returns-clause-most g c =
       right = g.Q.Source.remaining c.args.right.now;
       sink = g.W.Sink.contents c.args.sink.now;
       reel = c.in_ok-reel.reel;
+      left_version = c.read_heads.new.self.lefts.version;
+      right_version = c.read_heads.new.self.rights.version;
     } in
     let o = c.in_ok-reel.ensures in
-    c.join_behind.ensures.most s (record { reel = o.reel; same = search rules; left_head = o.left; right_head = o.right; unwritten = refl })
+    c.join_behind.ensures.most s (record { left_is = refl; right_is = refl })
+    (record { reel = o.reel; same = search rules; left_head = o.left; right_head = o.right; unwritten = refl })
 
 pub returns-clause-err : goal.returns-clause-err
 returns-clause-err g c =
@@ -32,10 +38,13 @@ returns-clause-err g c =
       right = g.Q.Source.remaining c.args.right.now;
       sink = g.W.Sink.contents c.args.sink.now;
       reel = c.in_ok-reel.reel;
+      left_version = c.read_heads.new.self.lefts.version;
+      right_version = c.read_heads.new.self.rights.version;
     } in
     let o = c.in_ok-reel.ensures in
     behind_heads _ _ _ c.join_behind.result
-    (c.join_behind.ensures.err s (record { reel = o.reel; same = search rules; left_head = o.left; right_head = o.right; unwritten = refl }))
+    (c.join_behind.ensures.err s (record { left_is = refl; right_is = refl })
+    (record { reel = o.reel; same = search rules; left_head = o.left; right_head = o.right; unwritten = refl }))
 
 pub returns-clause-untouched : goal.returns-clause-untouched
 returns-clause-untouched g c =
@@ -44,7 +53,10 @@ returns-clause-untouched g c =
       right = g.Q.Source.remaining c.args.right.now;
       sink = g.W.Sink.contents c.args.sink.now;
       reel = c.in_ok-reel.reel;
+      left_version = c.read_heads.new.self.lefts.version;
+      right_version = c.read_heads.new.self.rights.version;
     } in
     let o = c.in_ok-reel.ensures in
     never_other _ _ _ _ c.join_behind.result
-    (c.join_behind.ensures.err s (record { reel = o.reel; same = search rules; left_head = o.left; right_head = o.right; unwritten = refl }))
+    (c.join_behind.ensures.err s (record { left_is = refl; right_is = refl })
+    (record { reel = o.reel; same = search rules; left_head = o.left; right_head = o.right; unwritten = refl }))

@@ -1,58 +1,92 @@
-use Rattle.std.proofs.Common.{◌≡◌, ◌∷◌, ◌++◌, length, arith, subst, ap, refl, ◌∙◌}
+use Rattle.std.proofs.Common.{◌≡◌, ◌∷◌, arith, subst, ap, refl, ◌∙◌}
 use Rattle.std.specs.Io.KnownBytes.{Appends}
+use Rattle.std.proofs.KnownBytes.{Appends-trans}
 use Rattle.std.proofs.lemmas.Result.{err_from_is_err_and}
-use Rattle.ffv1_hold.specs.HoldingText.{be2, be4, entry_text}
 use Rattle.ffv1_holding.specs.SliceOrder.{Entry}
+use Rattle.ffv1_hold.specs.declared.entry.HeldSlice.TheInside.{Inside}
 use Rattle.ffv1_devices.specs.Writing.{WritesFront}
-use Rattle.ffv1_hold.proofs.Slots.{length-entry_text}
-use Rattle.ffv1_hold.proofs.WrittenParts.{entry_spelled}
+use Rattle.ffv1_devices.proofs.Fronts.{front-append, front-after}
+use Rattle.ffv1_hold.specs.HoldingText.{FileEntry, slice_text, origins_text}
+use Rattle.ffv1_hold.specs.Merging.{digests_union}
+use Rattle.ffv1_hold.proofs.JoinedEntries.{joined_spelled, joined_length}
 use Rattle.ffv1_hold.proofs.merging.write_entry.Goals as goal
 
 pub returns-in_default-clause-err : goal.returns-in_default-clause-err
-returns-in_default-clause-err g c = (
-  refl,
-  omega (
-    arith,
-    length-entry_text c.args.slice.now,
-    c.in_default.ensures,
-    c.len-length.ensures,
-    ap (λ
-        (e : Entry). length e.1) c.slice.view_is,
-  ),
-)
+returns-in_default-clause-err g c =
+    let e = c.args.entry.now in
+    let others = c.args.others.now in
+    let view = c.entry.view_is in
+    let s : Entry = (c.entry-inside.inside.0.0.tile, c.as_slice-slice.result.now) in
+    let slice : s ≡ e.0 = (λ i. (c.entry-inside.inside.0.0.tile, c.as_slice-slice.ensures.value i))
+    ∙ ap (λ (x : Inside). x.slice) c.entry-inside.view_is ∙ ap (λ (x : FileEntry). x.0) view in
+    let ds = c.deref.result.now in
+    let digests = c.deref.ensures.value ∙ ap (λ (x : Inside). x.origins.items) c.entry-inside.view_is ∙ ap (λ (x : FileEntry). x.1) view in
+    let long = joined_length e others c.requires.entry.1 c.requires.others.1 s ds slice digests in
+    (refl, omega (arith, long, c.in_default.ensures.none, c.union_count-count.ensures))
 
-pub returns-in_err-write_pair-clause-err : goal.returns-in_err-write_pair-clause-err
-returns-in_err-write_pair-clause-err g c =
+pub returns-in_err-write_slice-clause-err : goal.returns-in_err-write_slice-clause-err
+returns-in_err-write_slice-clause-err g c =
     let p = err_from_is_err_and c.from_residual.result c.from_residual.ensures.1 in
-    let own : Entry = (c.slice.inside.tile, c.deref.result.now) in
-    let same : own ≡ c.args.slice.now = (λ i. (c.slice.inside.tile, c.deref.ensures.value i)) ∙ c.slice.view_is in
-    let spelled = entry_spelled own c.entry_head-head.result (c.entry_head-head.ensures ∙ ap (λ n. (1 ∷ be2 c.slice.inside.tile) ++ be4 n)
-    (c.len-length.ensures ∙ omega (arith, ap length c.deref.ensures.value))) ∙ ap entry_text same in
+    let e = c.args.entry.now in
+    let others = c.args.others.now in
+    let view = c.entry.view_is in
+    let s : Entry = (c.entry-inside.inside.0.0.tile, c.as_slice-slice.result.now) in
+    let slice : s ≡ e.0 = (λ i. (c.entry-inside.inside.0.0.tile, c.as_slice-slice.ensures.value i))
+    ∙ ap (λ (x : Inside). x.slice) c.entry-inside.view_is ∙ ap (λ (x : FileEntry). x.0) view in
+    let ds = c.deref.result.now in
+    let digests = c.deref.ensures.value ∙ ap (λ (x : Inside). x.origins.items) c.entry-inside.view_is ∙ ap (λ (x : FileEntry). x.1) view in
+    let long = joined_length e others c.requires.entry.1 c.requires.others.1 s ds slice digests in
+    let spelled = joined_spelled e others s ds slice digests in
     rw (p.1, p.2) (
-      subst (WritesFront _ _) spelled c.in_err-write_pair.ensures.err,
-      omega (
-        arith,
-        length-entry_text c.args.slice.now,
-        c.in-Some.ensures,
-        c.len-length.ensures,
-        ap (λ (e : Entry). length e.1) c.slice.view_is,
-      ),
+      subst (WritesFront _ _) spelled (front-append _ _ (1 ∷ slice_text s) (origins_text (digests_union ds others)) c.in_err-write_slice.ensures.err),
+      omega (arith, long, c.in-Some.ensures.some, c.union_count-count.ensures),
+    )
+
+pub returns-in_err-write_origins-clause-err : goal.returns-in_err-write_origins-clause-err
+returns-in_err-write_origins-clause-err g c =
+    let p = err_from_is_err_and c.from_residual-in_err-write_origins.result c.from_residual-in_err-write_origins.ensures.1 in
+    let e = c.args.entry.now in
+    let others = c.args.others.now in
+    let view = c.entry.view_is in
+    let s : Entry = (c.entry-inside.inside.0.0.tile, c.as_slice-slice.result.now) in
+    let slice : s ≡ e.0 = (λ i. (c.entry-inside.inside.0.0.tile, c.as_slice-slice.ensures.value i))
+    ∙ ap (λ (x : Inside). x.slice) c.entry-inside.view_is ∙ ap (λ (x : FileEntry). x.0) view in
+    let ds = c.deref.result.now in
+    let digests = c.deref.ensures.value ∙ ap (λ (x : Inside). x.origins.items) c.entry-inside.view_is ∙ ap (λ (x : FileEntry). x.1) view in
+    let long = joined_length e others c.requires.entry.1 c.requires.others.1 s ds slice digests in
+    let again = c.deref-2.ensures.value ∙ ap (λ (x : Inside). x.origins.items) c.entry-inside.view_is ∙ ap (λ (x : FileEntry). x.1) view in
+    let spelled = joined_spelled e others s c.deref-2.result.now slice again in
+    rw (p.1, p.2) (
+      subst (WritesFront _ _) spelled (front-after _ _ _ (1 ∷ slice_text s) (origins_text (digests_union c.deref-2.result.now others))
+          c.in_ok-write_slice.ensures.ok c.in_err-write_origins.ensures.err),
+      omega (arith, long, c.in-Some.ensures.some, c.union_count-count.ensures),
     )
 
 pub returns-clause-ok : goal.returns-clause-ok
 returns-clause-ok g c =
-    let own : Entry = (c.slice.inside.tile, c.deref.result.now) in
-    let same : own ≡ c.args.slice.now = (λ i. (c.slice.inside.tile, c.deref.ensures.value i)) ∙ c.slice.view_is in
-    let spelled = entry_spelled own c.entry_head-head.result (c.entry_head-head.ensures ∙ ap (λ n. (1 ∷ be2 c.slice.inside.tile) ++ be4 n)
-    (c.len-length.ensures ∙ omega (arith, ap length c.deref.ensures.value))) ∙ ap entry_text same in
-    subst (Appends _ _) spelled c.in_ok-write_pair.ensures.ok
+    let e = c.args.entry.now in
+    let others = c.args.others.now in
+    let view = c.entry.view_is in
+    let s : Entry = (c.entry-inside.inside.0.0.tile, c.as_slice-slice.result.now) in
+    let slice : s ≡ e.0 = (λ i. (c.entry-inside.inside.0.0.tile, c.as_slice-slice.ensures.value i))
+    ∙ ap (λ (x : Inside). x.slice) c.entry-inside.view_is ∙ ap (λ (x : FileEntry). x.0) view in
+    let ds = c.deref.result.now in
+    let digests = c.deref.ensures.value ∙ ap (λ (x : Inside). x.origins.items) c.entry-inside.view_is ∙ ap (λ (x : FileEntry). x.1) view in
+    let long = joined_length e others c.requires.entry.1 c.requires.others.1 s ds slice digests in
+    let again = c.deref-2.ensures.value ∙ ap (λ (x : Inside). x.origins.items) c.entry-inside.view_is ∙ ap (λ (x : FileEntry). x.1) view in
+    let spelled = joined_spelled e others s c.deref-2.result.now slice again in
+    subst (Appends _ _) spelled (Appends-trans _ _ _ (1 ∷ slice_text s) (origins_text (digests_union c.deref-2.result.now others))
+    c.in_ok-write_slice.ensures.ok c.in_ok-write_origins.ensures.ok)
 
 pub returns-clause-room : goal.returns-clause-room
-returns-clause-room g c = omega (
-  arith,
-  length-entry_text c.args.slice.now,
-  c.in-Some.ensures,
-  c.len-length.ensures,
-  ap (λ (e : Entry). length e.1)
-      c.slice.view_is,
-)
+returns-clause-room g c =
+    let e = c.args.entry.now in
+    let others = c.args.others.now in
+    let view = c.entry.view_is in
+    let s : Entry = (c.entry-inside.inside.0.0.tile, c.as_slice-slice.result.now) in
+    let slice : s ≡ e.0 = (λ i. (c.entry-inside.inside.0.0.tile, c.as_slice-slice.ensures.value i))
+    ∙ ap (λ (x : Inside). x.slice) c.entry-inside.view_is ∙ ap (λ (x : FileEntry). x.0) view in
+    let ds = c.deref.result.now in
+    let digests = c.deref.ensures.value ∙ ap (λ (x : Inside). x.origins.items) c.entry-inside.view_is ∙ ap (λ (x : FileEntry). x.1) view in
+    let long = joined_length e others c.requires.entry.1 c.requires.others.1 s ds slice digests in
+    omega (arith, long, c.in-Some.ensures.some, c.union_count-count.ensures)

@@ -107,8 +107,8 @@ returns-in_ok-other-in-Join-clause-fault t c =
 pub returns-in_ok-new-in-New-clause-near : goal.returns-in_ok-new-in-New-clause-near
 returns-in_ok-new-in-New-clause-near t c original slices near =
     let h = c.in_ok-new-in-New.field-0 in
-    near_exact h original slices (copies_of c.args.plan.now) near (c.in_ok-new-in-New.ensures.empty
-    ∙ ap (λ p. holding_of h.reel (copies_of p)) (sym c.in-New.is))
+    near_exact h original slices (copies_of c.args.plan.now) near (ap (λ (k : Contents). k.slices) (c.in_ok-new-in-New.ensures.empty
+    ∙ ap (λ p. holding_of h.reel (copies_of p)) (sym c.in-New.is)))
 
 pub returns-in_ok-run-in-Take-clause-near : goal.returns-in_ok-run-in-Take-clause-near
 returns-in_ok-run-in-Take-clause-near t c original slices =
@@ -127,6 +127,6 @@ returns-in_ok-reread-in-Reread-clause-near t c original slices near =
     let before = c.in_ok-holding-in-Reread.holding in
     let after = c.in_ok-reread-in-Reread.field-0 in
     near_exact after original slices (copies_of c.args.plan.now) near
-    (after_same before after (copies_of c.in-Reread.before.value)
+    (ap (λ (k : Contents). k.slices) (after_same before after (copies_of c.in-Reread.before.value)
     (c.in_ok-holding-in-Reread.ensures.meaning ∙ ap (λ p. holding_of before.reel (copies_of p)) c.deref-in-Reread.ensures) c.in_ok-reread-in-Reread.ensures.same
-    ∙ ap (λ p. holding_of after.reel (copies_of p)) (sym c.in-Reread.is))
+    ∙ ap (λ p. holding_of after.reel (copies_of p)) (sym c.in-Reread.is)))

@@ -1,82 +1,104 @@
-use Rattle.std.proofs.Common.{◌≡◌, refl, ap, ◌∙◌, arith, subst, IfSome}
+use Rattle.std.proofs.Common.{Option, refl, ap, ◌∙◌, arith, subst, IfSome}
 use Rattle.std.proofs.lemmas.Result.{err_from_is_err_and}
 use Rattle.ffv1_range.specs.Setup.{SetupValue}
-use Rattle.ffv1_holding.specs.Sets as set
 use Rattle.ffv1_holding.specs.Reels.{Reel}
-use Rattle.ffv1_holding.specs.SliceOrder.{Entry}
-use Rattle.ffv1_holding.specs.Contents.{Contents, IsEntryOf, AreEntriesOf}
+use Rattle.ffv1_holding.specs.Contents.{with_entry}
+use Rattle.ffv1_hold.specs.declared.version.Version.{Version}
+use Rattle.ffv1_hold.specs.HoldingText.{FileEntry, file_entries}
+use Rattle.ffv1_hold.specs.FileEntries.{last_of, Follows, IsFileEntryOf}
 use Rattle.ffv1_hold.proofs.ReadRefusals.{Takes-trans}
-use Rattle.ffv1_hold.proofs.ReadSteps.{none_read, one_more, next_refused, memory_refused, next_follows}
+use Rattle.ffv1_hold.proofs.ReadSteps.{none_read, one_more, next_refused, memory_refused, next_taken, next_follows, digests_in_version}
 use Rattle.ffv1_hold.proofs.reading.read_entries.Goals as goal
 
 pub returns-in_err-advance-clause-err : goal.returns-in_err-advance-clause-err
 returns-in_err-advance-clause-err g c =
     let p = err_from_is_err_and c.from_residual.result c.from_residual.ensures.1 in
+    let v = c.args.reader.now.version in
     let h = c.args.holding.now in
-    let none = none_read h.reel.setup _ _ h.slices c.args.reader.now.held c.requires.place c.requires.empty c.requires.first in
-    rw (p.1, p.2) (next_refused _ _ _ _ _ _ _ none _ c.setup.ensures.value _ _ c.in_err-advance.ensures.err)
+    let none = none_read v _ _ h c.args.reader.now.held c.requires.place c.setup.ensures.sound.reel c.requires.empty c.requires.first in
+    rw (p.1, p.2) (next_refused v h.reel _ _ _ _ h _ none v _ refl c.setup.ensures.value _ _ c.in_err-advance.ensures.err)
 
 pub loop-reader-init : goal.loop-reader-init
 loop-reader-init g c =
+    let v = c.args.reader.now.version in
     let h = c.args.holding.now in
-    let none = none_read h.reel.setup _ _ h.slices c.args.reader.now.held c.requires.place c.requires.empty c.requires.first in
+    let none = none_read v _ _ h c.args.reader.now.held c.requires.place c.setup.ensures.sound.reel c.requires.empty c.requires.first in
     let read = c.in_ok-advance.ensures in
     record {
       text = Takes-trans _ _ _ _ _ _ _ _ none.text read.next;
+      version = read.version;
       sound = c.setup.ensures.sound;
+      told = none.told;
       reel = refl;
-      entry = subst (λ (x : SetupValue). IfSome c.advance.new.self.held (IsEntryOf x)) c.setup.ensures.value read.entry;
-      follows = next_follows _ _ _ _ _ _ _ none c.advance.new.self.held read.follows;
+      entry = subst (λ (x : SetupValue). IfSome c.advance.new.self.held (IsFileEntryOf v x)) c.setup.ensures.value read.entry;
+      follows = next_follows v h.reel _ _ _ _ h _ none c.advance.new.self.held read.follows;
       at_end = read.end;
-      counted = omega arith;
+      counted = omega (arith, read.counted);
       taken = omega (arith, read.taken);
     }
 
--- memory for the entry that is held is refused
-pub returns-in_default-insert-clause-err : goal.returns-in_default-insert-clause-err
-returns-in_default-insert-clause-err g c =
+pub insert-requires-clause-origins : goal.insert-requires-clause-origins
+insert-requires-clause-origins g c =
     let inv = c.loop-reader.invariant in
-    let s = c.loop-reader.holding.slices in
-    let e = c.in-Some.slice in
-    let entries = subst (λ (r : Reel). AreEntriesOf r.setup s) inv.reel inv.sound.slices in
-    memory_refused _ _ _ _ _ _ _ (one_more c.args.holding.now.reel.setup _ _ _ _ s
-    (set.insert s e) c.loop-reader.reader.held e c.in-Some.is refl inv.text entries inv.entry inv.follows)
+    let v = c.args.reader.now.version in
+    let entry = subst (λ (o : Option FileEntry). IfSome o (IsFileEntryOf v c.args.holding.now.reel.setup)) c.in-Some.is inv.entry in
+    (digests_in_version v c.in-Some.entry.1 entry.origins).rising
+
+-- memory for the entry that is held is refused
+pub returns-in_err-insert-clause-err : goal.returns-in_err-insert-clause-err
+returns-in_err-insert-clause-err g c =
+    let p = err_from_is_err_and c.from_residual-in_err-insert.result c.from_residual-in_err-insert.ensures.1 in
+    let inv = c.loop-reader.invariant in
+    let v = c.args.reader.now.version in
+    let reel = c.args.holding.now.reel in
+    let h = c.loop-reader.holding in
+    let e = c.in-Some.entry in
+    let entry = subst (λ (o : Option FileEntry). IfSome o (IsFileEntryOf v reel.setup)) c.in-Some.is inv.entry in
+    let follows = subst (λ (o : Option FileEntry). IfSome o (λ e. Follows (last_of (file_entries h)) e.0)) c.in-Some.is inv.follows in
+    let more = one_more v reel _ _ _ _ h (with_entry h e.0 e.1) e inv.sound inv.told inv.reel entry follows
+    c.loop-reader.reader.held c.in-Some.is refl inv.text in
+    rw (p.1, p.2, c.in_err-insert.ensures.err.0) (memory_refused v reel _ _ _ _ _ _ more)
 
 pub loop-reader-preserved : goal.loop-reader-preserved
 loop-reader-preserved g c =
     let inv = c.loop-reader.invariant in
+    let v = c.args.reader.now.version in
+    let reel = c.args.holding.now.reel in
     let h = c.loop-reader.holding in
-    let e = c.in-Some.slice in
-    let same : (c.slice.inside.tile, c.deref.result.now) ≡ e = (λ i. (c.slice.inside.tile, c.deref.ensures.value i)) ∙ c.slice.view_is in
-    let grown = c.in-Ok.ensures.ok ∙ ap (λ (x : Entry). record h { slices = set.insert h.slices x }) same in
-    let is = ap (λ (x : Contents). x.slices) grown in
-    let reel = ap (λ (x : Contents). x.reel) grown ∙ inv.reel in
-    let entries = subst (λ (r : Reel). AreEntriesOf r.setup h.slices) inv.reel inv.sound.slices in
-    let more = one_more c.args.holding.now.reel.setup _ _ _ _ h.slices c.insert.new.self.slices c.loop-reader.reader.held e c.in-Some.is is inv.text entries
-    inv.entry inv.follows in
+    let e = c.in-Some.entry in
+    let entry = subst (λ (o : Option FileEntry). IfSome o (IsFileEntryOf v reel.setup)) c.in-Some.is inv.entry in
+    let follows = subst (λ (o : Option FileEntry). IfSome o (λ e. Follows (last_of (file_entries h)) e.0)) c.in-Some.is inv.follows in
+    let grown = c.in_ok-insert.ensures.ok in
+    let more = one_more v reel _ _ _ _ h c.insert.new.holding e inv.sound inv.told inv.reel entry follows
+    c.loop-reader.reader.held c.in-Some.is grown inv.text in
     let read = c.in_ok-advance-2.ensures in
-    let setup = c.setup-in-Some.ensures.value ∙ ap (λ (r : Reel). r.setup) reel in
+    let setup = c.setup-in-Some.ensures.value ∙ ap (λ (r : Reel). r.setup) more.reel' in
     record {
-      text = Takes-trans _ _ _ _ _ _ _ _ more.text read.next;
-      sound = c.setup-in-Some.ensures.sound;
-      reel = reel;
-      entry = subst (λ (x : SetupValue). IfSome c.advance-in-Some.new.self.held (IsEntryOf x)) setup read.entry;
-      follows = next_follows _ _ _ _ _ _ _ more c.advance-in-Some.new.self.held read.follows;
+      text = next_taken v c.loop-reader.reader.version _ _ _ _ _ _ _ _ inv.version more.text read.next;
+      version = read.version ∙ inv.version;
+      sound = more.sound;
+      told = more.told;
+      reel = more.reel';
+      entry = subst (λ (x : SetupValue). IfSome c.advance-in-Some.new.self.held (IsFileEntryOf v x)) setup
+          (subst (λ (u : Version). IfSome c.advance-in-Some.new.self.held (IsFileEntryOf u c.setup-in-Some.result.now)) inv.version read.entry);
+      follows = next_follows v reel _ _ _ _ _ _ more c.advance-in-Some.new.self.held read.follows;
       at_end = read.end;
-      counted = omega arith;
-      taken = omega (arith, read.taken);
+      counted = omega (arith, inv.counted, read.counted);
+      taken = omega (arith, inv.taken, read.taken);
     }
 
 pub returns-in_err-advance-2-clause-err : goal.returns-in_err-advance-2-clause-err
 returns-in_err-advance-2-clause-err g c =
     let p = err_from_is_err_and c.from_residual-in_err-advance-2.result c.from_residual-in_err-advance-2.ensures.1 in
     let inv = c.loop-reader.invariant in
+    let v = c.args.reader.now.version in
+    let reel = c.args.holding.now.reel in
     let h = c.loop-reader.holding in
-    let e = c.in-Some.slice in
-    let same : (c.slice.inside.tile, c.deref.result.now) ≡ e = (λ i. (c.slice.inside.tile, c.deref.ensures.value i)) ∙ c.slice.view_is in
-    let grown = c.in-Ok.ensures.ok ∙ ap (λ (x : Entry). record h { slices = set.insert h.slices x }) same in
-    let entries = subst (λ (r : Reel). AreEntriesOf r.setup h.slices) inv.reel inv.sound.slices in
-    let more = one_more c.args.holding.now.reel.setup _ _ _ _ h.slices c.insert.new.self.slices c.loop-reader.reader.held e c.in-Some.is
-    (ap (λ (x : Contents). x.slices) grown) inv.text entries inv.entry inv.follows in
-    let setup = c.setup-in-Some.ensures.value ∙ ap (λ (x : Contents). x.reel.setup) grown ∙ ap (λ (r : Reel). r.setup) inv.reel in
-    rw (p.1, p.2) (next_refused _ _ _ _ _ _ _ more _ setup _ _ c.in_err-advance-2.ensures.err)
+    let e = c.in-Some.entry in
+    let entry = subst (λ (o : Option FileEntry). IfSome o (IsFileEntryOf v reel.setup)) c.in-Some.is inv.entry in
+    let follows = subst (λ (o : Option FileEntry). IfSome o (λ e. Follows (last_of (file_entries h)) e.0)) c.in-Some.is inv.follows in
+    let grown = c.in_ok-insert.ensures.ok in
+    let more = one_more v reel _ _ _ _ h c.insert.new.holding e inv.sound inv.told inv.reel entry follows
+    c.loop-reader.reader.held c.in-Some.is grown inv.text in
+    let setup = c.setup-in-Some.ensures.value ∙ ap (λ (r : Reel). r.setup) more.reel' in
+    rw (p.1, p.2) (next_refused v reel _ _ _ _ _ _ more _ _ inv.version setup _ _ c.in_err-advance-2.ensures.err)

@@ -1,22 +1,23 @@
 use Rattle.std.proofs.Common.{◌≡◌, ◌≤◌, ◌+◌, ◌-◌, ◌++◌, IfSome, IfNone}
 use Rattle.std.specs.Io.KnownBytes.{IsAtEnd}
 use Rattle.ffv1_bits.specs.Limits.{file_limit}
-use Rattle.ffv1_holding.specs.Sets as set
 use Rattle.ffv1_hold.specs.Reading.{Takes}
-use Rattle.ffv1_holding.specs.Contents.{IsEntryOf, IsHolding}
-use Rattle.ffv1_hold.specs.HoldingText.{entries_text}
-use Rattle.ffv1_hold.specs.FileEntries.{last_of, Follows, next_text}
+use Rattle.ffv1_holding.specs.Contents.{IsHolding}
+use Rattle.ffv1_hold.specs.HoldingText.{entries_text, file_entries, IsTold}
+use Rattle.ffv1_hold.specs.FileEntries.{last_of, Follows, IsFileEntryOf, next_text}
 use Rattle.ffv1_hold.proofs.reading.read_entries.Given as goal
 
--- What was taken is the text of the slices so far, and of the entry that is held behind the last of them, or of the end tag.
+-- What was taken is the text of the entries so far, and of the one that is held behind the last of them, or of the end tag.
 abbrev pub invariant-loop-reader : goal.invariant-loop-reader
 invariant-loop-reader g l = record {
   text : Takes (g.R.Source.remaining l.fn.source) (g.R.Source.remaining l.source) l.fn.reader.place l.reader.place
-      (entries_text (set.items l.holding.slices) ++ next_text l.reader.held);
+      (entries_text l.fn.reader.version (file_entries l.holding) ++ next_text l.fn.reader.version l.reader.held);
+  version : l.reader.version ≡ l.fn.reader.version;
   sound : IsHolding l.holding;
+  told : IsTold l.fn.reader.version l.holding;
   reel : l.holding.reel ≡ l.fn.holding.reel;
-  entry : IfSome l.reader.held (IsEntryOf l.fn.holding.reel.setup);
-  follows : IfSome l.reader.held (Follows (last_of (set.items l.holding.slices)));
+  entry : IfSome l.reader.held (IsFileEntryOf l.fn.reader.version l.fn.holding.reel.setup);
+  follows : IfSome l.reader.held (λ e. Follows (last_of (file_entries l.holding)) e.0);
   at_end : IfNone l.reader.held (IsAtEnd (g.R.Source.remaining l.source));
   counted : g.R.Source.failures l.fn.source ≤ g.R.Source.failures l.source;
   taken : g.R.Source.taken l.source + l.fn.reader.place ≤ g.R.Source.taken l.fn.source + l.reader.place;

@@ -1,12 +1,9 @@
 use Rattle.std.proofs.Common.{◌≤◌, [], ◌∷◌, ◌++◌, length, arith, sym, subst, ap, ◌∙◌, append_assoc}
 use Rattle.std.proofs.lemmas.Result.{err_from_is_err_and}
-use Rattle.std.specs.Io.KnownBytes.{Consumes}
 use Rattle.ffv1_bits.specs.Limits.{record_limit}
-use Rattle.ffv1_range.specs.Setup.{SetupValue}
-use Rattle.ffv1_holding.specs.Sets as set
 use Rattle.ffv1_holding.specs.Reels.{Reel}
 use Rattle.ffv1_holding.specs.Contents.{Contents}
-use Rattle.ffv1_hold.specs.HoldingText.{head_text, entries_text}
+use Rattle.ffv1_hold.specs.HoldingText.{head_text, entries_text, file_entries}
 use Rattle.ffv1_hold.specs.Reading.{Takes}
 use Rattle.ffv1_hold.specs.FileFaults.{IsPartOfEntries, IsPartOfFile, EntriesAreWhole, FileIsWhole, EntriesShow, FileShows}
 use Rattle.ffv1_hold.proofs.ReadRefusals.{Takes-trans, Refuses-after, memory_stops}
@@ -23,38 +20,38 @@ pub returns-in_err-holding-clause-fault : goal.returns-in_err-holding-clause-fau
 returns-in_err-holding-clause-fault g c =
     let p = err_from_is_err_and c.from_residual-in_err-holding.result c.from_residual-in_err-holding.ensures.1 in
     let r = c.in_ok-reel.reel in
-    rw (p.1, p.2) (memory_stops IsPartOfFile FileIsWhole FileShows _ _ _ _ _ c.in_ok-reel.ensures.ok (head_is_part r c.in_ok-reel.ensures.reel))
+    rw (p.1, p.2) (memory_stops IsPartOfFile FileIsWhole FileShows _ _ _ _ _ c.in_ok-reel.ensures.ok (head_is_part _ r c.in_ok-reel.ensures.reel))
 
 pub returns-in_err-read_entries-clause-fault : goal.returns-in_err-read_entries-clause-fault
 returns-in_err-read_entries-clause-fault g c =
     let p = err_from_is_err_and c.from_residual-in_err-read_entries.result c.from_residual-in_err-read_entries.ensures.1 in
     let r = c.in_ok-reel.reel in
     let is = c.in_ok-reel.ensures.reel in
-    let same = ap (λ (h : Contents). h.reel.setup) c.in_ok-holding.ensures in
-    let setup = c.in_ok-holding.holding.reel.setup in
-    rw (p.1, p.2) (Refuses-after (IsPartOfEntries setup) IsPartOfFile (EntriesAreWhole setup) FileIsWhole (EntriesShow setup) FileShows _ _ _ _ _
-    (head_text r) _
-    c.in_ok-reel.ensures.ok c.in_err-read_entries.ensures.err
-    (λ s part. file_from_entries_part r is s (subst (λ (x : SetupValue). IsPartOfEntries x s) same part))
-    (λ f s whole. file_from_whole_entries r is f s (subst (λ (x : SetupValue). EntriesAreWhole x f s) same whole))
-    (λ f s shown. file_from_entries_fault r is f s (subst (λ (x : SetupValue). EntriesShow x f s) same shown)))
+    let same = ap (λ (h : Contents). h.reel) c.in_ok-holding.ensures in
+    let v = c.read_head.new.self.version in
+    let reel = c.in_ok-holding.holding.reel in
+    rw (p.1, p.2) (Refuses-after (IsPartOfEntries v reel.setup) IsPartOfFile (EntriesAreWhole v reel) FileIsWhole (EntriesShow v reel.setup) FileShows _ _ _ _ _
+    (head_text v r) _ c.in_ok-reel.ensures.ok c.in_err-read_entries.ensures.err
+    (λ s part. file_from_entries_part v r is s (subst (λ (x : Reel). IsPartOfEntries v x.setup s) same part))
+    (λ f s whole. file_from_whole_entries v r is f s (subst (λ (x : Reel). EntriesAreWhole v x f s) same whole))
+    (λ f s shown. file_from_entries_fault v r is f s (subst (λ (x : Reel). EntriesShow v x.setup f s) same shown)))
 
 pub returns-clause-text : goal.returns-clause-text
 returns-clause-text g c =
     let r = c.in_ok-reel.reel in
+    let v = c.read_head.new.self.version in
     let reel = c.in_ok-read_entries.ensures.reel ∙ ap (λ (h : Contents). h.reel) c.in_ok-holding.ensures in
-    let entries = entries_text (set.items c.read_entries.new.holding.slices) in
+    let h = c.read_entries.new.holding in
+    let entries = entries_text v (file_entries h) in
     let all = Takes-trans _ _ _ _ _ _ _ _ c.in_ok-reel.ensures.ok c.in_ok-read_entries.ensures.ok in
-    subst (Consumes _ _) (sym (append_assoc (head_text r) entries (0 ∷ [])) ∙ ap (λ (x : Reel). head_text x ++ entries ++ 0 ∷ []) (sym reel)) all.taken
-
-pub returns-clause-fits : goal.returns-clause-fits
-returns-clause-fits g c =
-    let r = c.in_ok-reel.reel in
-    let reel = c.in_ok-read_entries.ensures.reel ∙ ap (λ (h : Contents). h.reel) c.in_ok-holding.ensures in
-    let entries = entries_text (set.items c.read_entries.new.holding.slices) in
-    let all = Takes-trans _ _ _ _ _ _ _ _ c.in_ok-reel.ensures.ok c.in_ok-read_entries.ensures.ok in
-    let text = subst (Takes _ _ _ _) (sym (append_assoc (head_text r) entries (0 ∷ [])) ∙ ap (λ (x : Reel). head_text x ++ entries ++ 0 ∷ []) (sym reel)) all in
+    let text = subst (Takes _ _ _ _) (sym (append_assoc (head_text v r) entries (0 ∷ []))
+    ∙ ap (λ (x : Reel). head_text v x ++ entries ++ 0 ∷ []) (sym reel)) all in
     record {
-      record' = subst (λ (x : Reel). length x.config ≤ record_limit) (sym reel) c.in_ok-reel.ensures.reel.fits;
-      text = omega (arith, text.moved, text.within);
+      version = v;
+      fits = record {
+        told = c.in_ok-read_entries.ensures.told;
+        record' = subst (λ (x : Reel). length x.config ≤ record_limit) (sym reel) c.in_ok-reel.ensures.reel.fits;
+        text = omega (arith, text.moved, text.within);
+      };
+      taken = text.taken;
     }

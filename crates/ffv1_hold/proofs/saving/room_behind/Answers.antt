@@ -1,29 +1,29 @@
 use Rattle.std.proofs.Common.{◌≡◌, ◌<◌, ◌++◌, ◌+◌, length, arith, sym, ap, ◌∙◌, length-append}
-use Rattle.ffv1_holding.specs.Sets as set
+use Rattle.ffv1_hold.specs.declared.version.Version.TheVariants.{Second}
 use Rattle.ffv1_holding.specs.Reels.{reel_tiles}
-use Rattle.ffv1_holding.specs.TileSets.{tile_entries, tile_slices, entries_below}
+use Rattle.ffv1_holding.specs.TileSets.{tile_entries}
+use Rattle.ffv1_hold.specs.Saving.{tile_file_entries, file_entries_below}
 use Rattle.ffv1_hold.specs.HoldingText.{entries_text}
 use Rattle.ffv1_hold.proofs.Slots.{entries_text-none}
-use Rattle.ffv1_hold.proofs.TileTexts.{text_below-more, text_behind, length-entries_text}
-use Rattle.ffv1_hold.proofs.TileOrder.{entries_below-all}
+use Rattle.ffv1_hold.proofs.TileTexts.{text_below-more, text_behind, length-entries_text, file_entries_below-all}
 use Rattle.ffv1_hold.proofs.SavedTiles.{tile_within_limit}
 use Rattle.ffv1_hold.proofs.saving.room_behind.Goals as goal
 
 pub loop-tile-init : goal.loop-tile-init
-loop-tile-init c = omega (arith, ap length entries_text-none)
+loop-tile-init c = omega (arith, ap length (entries_text-none Second))
 
 pub room_behind_tile-requires-clause-tile : goal.room_behind_tile-requires-clause-tile
 room_behind_tile-requires-clause-tile c = omega (arith, c.loop-tile-test.true, c.tiles-tile-end.ensures.count, ap reel_tiles c.reel.ensures.value)
 
 pub room_behind_tile-requires-clause-fits : goal.room_behind_tile-requires-clause-fits
-room_behind_tile-requires-clause-fits c = tile_within_limit c.args.holding.now c.requires c.loop-tile.tile
+room_behind_tile-requires-clause-fits c = tile_within_limit c.args.holding.now c.requires.entries c.loop-tile.tile
 
 pub loop-tile-preserved : goal.loop-tile-preserved
 loop-tile-preserved c =
-    let slices = c.args.holding.now.slices in
+    let h = c.args.holding.now in
     let t = c.loop-tile.tile in
-    let block = length-entries_text t (set.items (tile_slices slices t)) in
-    let more = ap length (text_below-more slices t) ∙ length-append (entries_text (entries_below slices t)) (entries_text (tile_entries slices t)) in
+    let block = length-entries_text h c.requires.sound (tile_entries h.slices t) in
+    let more = ap length (text_below-more h t) ∙ length-append (entries_text Second (file_entries_below h t)) (entries_text Second (tile_file_entries h t)) in
     omega (arith, block, more, c.loop-tile.invariant, c.in_ok-left.ensures.some)
 
 pub returns-in_err-left-clause-none : goal.returns-in_err-left-clause-none
@@ -32,11 +32,11 @@ returns-in_err-left-clause-none c =
     let n = reel_tiles h.reel in
     let t = c.loop-tile.tile in
     let lt : t < n = omega (arith, c.loop-tile-test.true, c.tiles-tile-end.ensures.count, ap reel_tiles c.reel.ensures.value) in
-    let block = length-entries_text t (set.items (tile_slices h.slices t)) in
-    let behind = text_behind h.slices t n lt in
-    let whole = ap length (sym (ap entries_text (entries_below-all h.slices n c.requires.tile)) ∙ behind.1)
-    ∙ length-append (entries_text (entries_below h.slices t)) (entries_text (tile_entries h.slices t) ++ behind.0)
-    ∙ ap (λ n. length (entries_text (entries_below h.slices t)) + n) (length-append (entries_text (tile_entries h.slices t)) behind.0) in
+    let block = length-entries_text h c.requires.sound (tile_entries h.slices t) in
+    let behind = text_behind h t n lt in
+    let whole = ap length (sym (ap (entries_text Second) (file_entries_below-all h n c.requires.entries.tile)) ∙ behind.1)
+    ∙ length-append (entries_text Second (file_entries_below h t)) (entries_text Second (tile_file_entries h t) ++ behind.0)
+    ∙ ap (λ n. length (entries_text Second (file_entries_below h t)) + n) (length-append (entries_text Second (tile_file_entries h t)) behind.0) in
     rw c.from_residual.ensures (omega (arith, block, whole, c.loop-tile.invariant, c.in_err-left.ensures.none))
 
 pub returns-clause-some : goal.returns-clause-some
@@ -51,4 +51,9 @@ returns-clause-some c =
       ap reel_tiles
           c.reel.ensures.value,
     ) in
-    omega (arith, c.loop-tile.invariant, ap (λ xs. length (entries_text xs)) (ap (entries_below h.slices) end ∙ entries_below-all h.slices n c.requires.tile))
+    omega (
+      arith,
+      c.loop-tile.invariant,
+      ap (λ xs. length (entries_text Second xs))
+          (ap (file_entries_below h) end ∙ file_entries_below-all h n c.requires.entries.tile),
+    )

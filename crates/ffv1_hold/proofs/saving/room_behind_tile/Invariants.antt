@@ -1,8 +1,7 @@
 use Rattle.std.proofs.Common.{◌≡◌, ◌+◌, take}
-use Rattle.ffv1_holding.specs.Sets as set
-use Rattle.ffv1_holding.specs.TileSets.{tile_slices}
-use Rattle.ffv1_hold.specs.Saving.{entries_length}
+use Rattle.ffv1_hold.specs.Saving.{tile_file_entries, entries_length}
 use Rattle.ffv1_hold.proofs.saving.room_behind_tile.Given as goal
 
+-- What is left, and the entries so far, are the room.
 abbrev pub invariant-loop-place : goal.invariant-loop-place
-invariant-loop-place l = l.left + entries_length (take l.place (set.items (tile_slices l.holding.slices l.tile))) ≡ l.fn.room
+invariant-loop-place l = l.left + entries_length (take l.place (tile_file_entries l.holding l.tile)) ≡ l.fn.room

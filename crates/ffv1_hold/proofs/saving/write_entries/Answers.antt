@@ -3,19 +3,19 @@ use Rattle.std.specs.Io.KnownBytes.{Appends}
 use Rattle.std.proofs.KnownBytes.{Appends-nil, Appends-trans}
 use Rattle.std.proofs.lemmas.Result.{err_from_is_err_and}
 use Rattle.ffv1_holding.specs.Reels.{reel_tiles}
-use Rattle.ffv1_holding.specs.TileSets.{entries_below}
+use Rattle.ffv1_hold.specs.declared.version.Version.TheVariants.{Second}
+use Rattle.ffv1_hold.specs.Saving.{file_entries_below}
 use Rattle.ffv1_hold.specs.HoldingText.{entries_text}
 use Rattle.ffv1_devices.specs.Writing.{WritesFront}
 use Rattle.ffv1_devices.proofs.Fronts.{front-append, front-after}
 use Rattle.ffv1_hold.proofs.Slots.{entries_text-none}
-use Rattle.ffv1_hold.proofs.TileTexts.{text_below-more, text_behind}
-use Rattle.ffv1_hold.proofs.TileOrder.{entries_below-all}
+use Rattle.ffv1_hold.proofs.TileTexts.{text_below-more, text_behind, file_entries_below-all}
 use Rattle.ffv1_hold.proofs.SavedTiles.{tile_within_limit}
 use Rattle.ffv1_hold.proofs.saving.write_entries.Goals as goal
 
 pub loop-tile-init : goal.loop-tile-init
 loop-tile-init g c = record {
-  written = subst (Appends (g.S.Sink.contents c.args.sink.now) (g.S.Sink.contents c.args.sink.now)) (sym entries_text-none)
+  written = subst (Appends (g.S.Sink.contents c.args.sink.now) (g.S.Sink.contents c.args.sink.now)) (sym (entries_text-none Second))
       (Appends-nil (g.S.Sink.contents c.args.sink.now));
   counted = omega arith;
   unbroken = refl;
@@ -26,17 +26,18 @@ pub write_tile-requires-clause-tile : goal.write_tile-requires-clause-tile
 write_tile-requires-clause-tile g c = omega (arith, c.loop-tile-test.true, c.tiles-tile-end.ensures.count, ap reel_tiles c.reel.ensures.value)
 
 pub write_tile-requires-clause-number : goal.write_tile-requires-clause-number
-write_tile-requires-clause-number g c = omega (arith, c.loop-tile-test.true, c.tiles-tile-end.ensures.count, ap reel_tiles c.reel.ensures.value, c.requires.few)
+write_tile-requires-clause-number g c =
+    omega (arith, c.loop-tile-test.true, c.tiles-tile-end.ensures.count, ap reel_tiles c.reel.ensures.value, c.requires.entries.few)
 
 pub write_tile-requires-clause-fits : goal.write_tile-requires-clause-fits
-write_tile-requires-clause-fits g c = tile_within_limit c.args.holding.now c.requires c.loop-tile.tile
+write_tile-requires-clause-fits g c = tile_within_limit c.args.holding.now c.requires.entries c.loop-tile.tile
 
 pub loop-tile-preserved : goal.loop-tile-preserved
 loop-tile-preserved g c =
-    let slices = c.args.holding.now.slices in
+    let h = c.args.holding.now in
     let t = c.loop-tile.tile in
     record {
-      written = subst (Appends (g.S.Sink.contents c.args.sink.now) (g.S.Sink.contents c.write_tile.new.sink)) (sym (text_below-more slices t))
+      written = subst (Appends (g.S.Sink.contents c.args.sink.now) (g.S.Sink.contents c.write_tile.new.sink)) (sym (text_below-more h t))
           (Appends-trans _ _ _ _ _ c.loop-tile.invariant.written c.in_ok-write_tile.ensures.ok);
       counted = omega arith;
       unbroken = c.in_ok-write_tile.ensures.unbroken ∙ c.loop-tile.invariant.unbroken;
@@ -50,11 +51,11 @@ returns-in_err-write_tile-clause-err g c =
     let t = c.loop-tile.tile in
     let n = reel_tiles h.reel in
     let lt : t < n = omega (arith, c.loop-tile-test.true, c.tiles-tile-end.ensures.count, ap reel_tiles c.reel.ensures.value) in
-    let behind = text_behind h.slices t n lt in
+    let behind = text_behind h t n lt in
     let more = front-append _ _ _ behind.0 c.in_err-write_tile.ensures.err in
-    let all = front-after _ _ _ (entries_text (entries_below h.slices t)) _ c.loop-tile.invariant.written more in
+    let all = front-after _ _ _ (entries_text Second (file_entries_below h t)) _ c.loop-tile.invariant.written more in
     rw p.1 (subst (WritesFront (g.S.Sink.contents c.args.sink.now) (g.S.Sink.contents c.write_tile.new.sink))
-    (sym behind.1 ∙ ap entries_text (entries_below-all h.slices n c.requires.tile)) all)
+    (sym behind.1 ∙ ap (entries_text Second) (file_entries_below-all h n c.requires.entries.tile)) all)
 
 pub returns-clause-ok : goal.returns-clause-ok
 returns-clause-ok g c =
@@ -68,5 +69,5 @@ returns-clause-ok g c =
       ap reel_tiles
           c.reel.ensures.value,
     ) in
-    subst (λ xs. Appends (g.S.Sink.contents c.args.sink.now) (g.S.Sink.contents c.loop-tile.sink) (entries_text xs))
-    (ap (entries_below h.slices) end ∙ entries_below-all h.slices n c.requires.tile) c.loop-tile.invariant.written
+    subst (λ xs. Appends (g.S.Sink.contents c.args.sink.now) (g.S.Sink.contents c.loop-tile.sink) (entries_text Second xs))
+    (ap (file_entries_below h) end ∙ file_entries_below-all h n c.requires.entries.tile) c.loop-tile.invariant.written

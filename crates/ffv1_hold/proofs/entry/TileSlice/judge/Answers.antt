@@ -2,7 +2,7 @@ use Rattle.std.proofs.Common.{ℕ, List, ◌==◌, refl, sym, ◌∙◌, subst}
 use Rattle.std.proofs.lemmas.Bool.{eq-eqb}
 use Rattle.ffv1_slice.specs.Slices.{IsSliceOf}
 use Rattle.ffv1_holding.specs.SliceOrder.{Entry}
-use Rattle.ffv1_hold.proofs.entry.HeldSlice.judge.Goals as goal
+use Rattle.ffv1_hold.proofs.entry.TileSlice.judge.Goals as goal
 
 -- a slice of its tile would have been read as that
 pub returns-then-ne-clause-err : goal.returns-then-ne-clause-err

@@ -1,0 +1,47 @@
+-- An entry with the digests of an equal slice, by the parts that are written.
+use Rattle.std.proofs.Common.{◌≡◌, ℕ, ◌+◌, ◌*◌, List, [], ◌∷◌, ◌++◌, length, true, ap, ◌∙◌, sym, subst}
+use mathlib.Core.Bool.{true≢false}
+use Rattle.std.specs.List.{AllByRecursion}
+use Rattle.std.specs.Ordering.{eq_by_cmp, is_eq}
+use Rattle.std.specs.Cmp.{tied_itself}
+use Rattle.ffv1_holding.specs.SliceOrder.{Entry, bytes_cmp, bytes_total}
+use Rattle.ffv1_holding.proofs.EntrySteps.{or_cases, or_left, or_right}
+use Rattle.ffv1_hold.specs.declared.version.Version.TheVariants.{Second}
+use Rattle.ffv1_hold.specs.HoldingText.{FileEntry, slice_text, origins_text, entry_text}
+use Rattle.ffv1_hold.specs.FileEntries.{IsDigest, AreOrigins}
+use Rattle.ffv1_hold.specs.Merging.{digests_union, with_digests}
+use Rattle.ffv1_hold.proofs.DigestSets.{has, digest_tie}
+use Rattle.ffv1_hold.proofs.DigestUnions.{has-union}
+use Rattle.ffv1_hold.proofs.Entries.{entry_text-of}
+use Rattle.ffv1_hold.proofs.Slots.{length-entry_text}
+
+-- what is so of all digests is so of each
+all_has : (xs : List (List ℕ)) (d : List ℕ) → AllByRecursion IsDigest xs → has xs d ≡ true → IsDigest d
+all_has [] d all there = absurd (true≢false (sym there))
+all_has (x ∷ xs) d all there =
+    or_cases (eq_by_cmp bytes_cmp d x) (has xs d) (IsDigest d) there (λ tie. subst IsDigest (sym (digest_tie d x tie)) all.0) (all_has xs d all.1)
+
+has_all : (xs : List (List ℕ)) → ((d : List ℕ) → has xs d ≡ true → IsDigest d) → AllByRecursion IsDigest xs
+has_all [] each = tt
+has_all (x ∷ xs) each = (
+  each x (or_left (eq_by_cmp bytes_cmp x x) (has xs x) (ap is_eq (tied_itself bytes_total x))),
+  has_all xs (λ d there. each d (or_right (eq_by_cmp bytes_cmp d x) (has xs d) there)),
+)
+
+-- the digests of both are whole
+union_whole : (xs ys : List (List ℕ)) → AreOrigins xs → AreOrigins ys → AllByRecursion IsDigest (digests_union xs ys)
+union_whole xs ys left right =
+    has_all (digests_union xs ys) (λ d there.
+    or_cases (has xs d) (has ys d) (IsDigest d) (sym (has-union xs ys d) ∙ there) (all_has xs d left.each) (all_has ys d right.each))
+
+module _ (e : FileEntry) (others : List (List ℕ)) where
+  pub joined_spelled : (s : Entry) (ds : List (List ℕ)) → s ≡ e.0 → ds ≡ e.1
+      → (1 ∷ slice_text s) ++ origins_text (digests_union ds others) ≡ entry_text Second (with_digests e others)
+  joined_spelled s ds slice digests =
+      (λ i. (1 ∷ slice_text (slice i)) ++ origins_text (digests_union (digests i) others)) ∙ entry_text-of Second (with_digests e others)
+
+  pub joined_length : AreOrigins e.1 → AreOrigins others → (s : Entry) (ds : List (List ℕ)) → s ≡ e.0 → ds ≡ e.1
+      → length (entry_text Second (with_digests e others)) ≡ 11 + length s.1 + 32 * length (digests_union ds others)
+  joined_length left right s ds slice digests =
+      length-entry_text (with_digests e others) (union_whole e.1 others left right)
+      ∙ (λ i. 11 + length (sym slice i).1 + 32 * length (digests_union (sym digests i) others))

@@ -1,0 +1,171 @@
+-- Slices behind their tags are read in one way only, and show one fault at most.
+use Rattle.std.proofs.Common.{◌≡◌, ℕ, ◌<◌, ◌≤◌, ◌^◌, ◌==◌, List, ◌++◌, length, Option, refl, sym, ap, ◌∙◌, subst, inl, inr, arith, append_assoc, length-append}
+use Rattle.std.specs.Prelude.{◌⊎◌}
+use Rattle.ffv1_bits.specs.Limits.{slice_limit}
+use Rattle.ffv1_range.specs.Setup.{SetupValue}
+use Rattle.ffv1_slice.specs.Slices.{IsSliceOf}
+use Rattle.ffv1_hold.specs.declared.file_fault.HoldFileFault.{HoldFileFault}
+use Rattle.ffv1_hold.specs.declared.file_fault.HoldFileFault.TheVariants as faults
+use Rattle.ffv1_holding.specs.SliceOrder.{Entry}
+use Rattle.ffv1_hold.specs.HoldingText.{FileEntry, be2, be4, slice_text}
+use Rattle.ffv1_hold.specs.FileEntries.{Follows}
+use Rattle.ffv1_hold.specs.FileFaults.{IsPartOfSlice, IsWrong, SliceShows, IsRight}
+use Rattle.ffv1_hold.proofs.Bodies.{length-be2, length-be4}
+use Rattle.ffv1_hold.proofs.NumberTexts.{same_front, same_back, be2_same, be4_same}
+
+-- its parts, before more bytes
+pub slice_parts : (e : Entry) (x : List ℕ) → slice_text e ++ x ≡ be2 e.0 ++ (be4 (length e.1) ++ (e.1 ++ x))
+unfolding slice_text
+slice_parts e x = append_assoc (be2 e.0 ++ be4 (length e.1)) e.1 x ∙ append_assoc (be2 e.0) (be4 (length e.1)) (e.1 ++ x)
+
+module _ (t u : ℕ) (m n : ℕ) (x y : List ℕ) (e : be2 t ++ (be4 m ++ x) ≡ be2 u ++ (be4 n ++ y)) where
+  tile_bytes : be2 t ≡ be2 u
+  tile_bytes = same_front (be2 t) (be2 u) (be4 m ++ x) (be4 n ++ y) (length-be2 t ∙ sym (length-be2 u)) e
+
+  behind_tile : be4 m ++ x ≡ be4 n ++ y
+  behind_tile = same_back (be2 t) (be2 u) (be4 m ++ x) (be4 n ++ y) (length-be2 t ∙ sym (length-be2 u)) e
+
+  same_tile_number : t < 2 ^ 16 → u < 2 ^ 16 → t ≡ u
+  same_tile_number p q = be2_same t u p q tile_bytes
+
+  same_length_number : m < 2 ^ 32 → n < 2 ^ 32 → m ≡ n
+  same_length_number p q = be4_same m n p q (same_front (be4 m) (be4 n) x y (length-be4 m ∙ sym (length-be4 n)) behind_tile)
+
+  same_rest : x ≡ y
+  same_rest = same_back (be4 m) (be4 n) x y (length-be4 m ∙ sym (length-be4 n)) behind_tile
+
+-- a slice whose tile takes two bytes, and that is within its limit
+abbrev pub Fits : Entry → Type 0
+Fits e = (e.0 < 2 ^ 16) × (length e.1 ≤ slice_limit)
+
+-- two slices that begin the same bytes are the same
+module _ (e f : Entry) (x y : List ℕ) (e_fits : Fits e) (f_fits : Fits f) (same : slice_text e ++ x ≡ slice_text f ++ y) where
+  parts : be2 e.0 ++ (be4 (length e.1) ++ (e.1 ++ x)) ≡ be2 f.0 ++ (be4 (length f.1) ++ (f.1 ++ y))
+  parts = sym (slice_parts e x) ∙ same ∙ slice_parts f y
+
+  long : length e.1 ≡ length f.1
+  long =
+      let a = e_fits.1 in
+      let b = f_fits.1 in
+      same_length_number e.0 f.0 (length e.1) (length f.1) (e.1 ++ x) (f.1 ++ y) parts (omega arith) (omega arith)
+
+  pub same_slice : e ≡ f
+  same_slice =
+      let tile = same_tile_number e.0 f.0 (length e.1) (length f.1) (e.1 ++ x) (f.1 ++ y) parts e_fits.0 f_fits.0 in
+      let bytes = same_front e.1 f.1 x y long (same_rest e.0 f.0 (length e.1) (length f.1) (e.1 ++ x) (f.1 ++ y) parts) in
+      λ i. (tile i, bytes i)
+
+  pub behind_slice : x ≡ y
+  behind_slice = same_back e.1 f.1 x y long (same_rest e.0 f.0 (length e.1) (length f.1) (e.1 ++ x) (f.1 ++ y) parts)
+
+-- a whole slice is not cut by the end
+pub slice_cut : (e : Entry) (x : List ℕ) → length e.1 ≤ slice_limit → IsPartOfSlice (slice_text e ++ x) → ⊥
+slice_cut e x fits (inl short) = let long = ap length (slice_parts e x) ∙ length-append (be2 e.0) (be4 (length e.1) ++ (e.1 ++ x)) in
+    omega (arith, short, long, length-append (be4 (length e.1)) (e.1 ++ x), length-be2 e.0, length-be4 (length e.1))
+slice_cut e x fits (inr part) =
+    let t = part.0 in
+    let n = part.1 in
+    let bytes = part.2 in
+    let all = sym (slice_parts e x) ∙ part.3 ∙ append_assoc (be2 t) (be4 n) bytes in
+    let few = part.4 in
+    let length_is = same_length_number e.0 t (length e.1) n (e.1 ++ x) bytes all (omega arith) (omega arith) in
+    let rest = same_rest e.0 t (length e.1) n (e.1 ++ x) bytes all in
+    omega (arith, part.5, length_is, ap length rest, length-append e.1 x)
+
+-- ---- what shows a fault, by its kind
+
+abbrev ShowsLength : HoldFileFault → List ℕ → Type 0
+ShowsLength f s = (tile n : ℕ) × (f ≡ faults.TooLong) × (s ≡ be2 tile ++ be4 n) × (slice_limit < n) × (n < 2 ^ 32)
+
+abbrev ShowsWrong : SetupValue → Option FileEntry → HoldFileFault → List ℕ → Type 0
+ShowsWrong setup last f s = (e : Entry) × (s ≡ slice_text e) × Fits e × IsWrong setup last e f
+
+slice_kinds : (setup : SetupValue) (last : Option FileEntry) (f : HoldFileFault) (s : List ℕ) → SliceShows setup last f s
+    → ShowsLength f s ⊎ ShowsWrong setup last f s
+slice_kinds setup last faults.TooLong s (tile, n, split, over, small) = inl (tile, n, refl, split, over, small)
+slice_kinds setup last faults.NotASlice s (e, split, small, fits, wrong) = inr (e, split, (small, fits), wrong)
+slice_kinds setup last faults.Order s (e, split, small, fits, wrong) = inr (e, split, (small, fits), wrong)
+slice_kinds setup last faults.Tag s shown = absurd shown.4
+slice_kinds setup last faults.Magic s shown = absurd shown.4
+slice_kinds setup last (faults.Setup f) s shown = absurd shown.4
+slice_kinds setup last faults.Truncated s shown = absurd shown.4
+slice_kinds setup last faults.Trailing s shown = absurd shown.4
+slice_kinds setup last faults.Read s shown = absurd shown.4
+slice_kinds setup last faults.Write s shown = absurd shown.4
+slice_kinds setup last faults.Memory s shown = absurd shown.4
+slice_kinds setup last faults.OtherReel s shown = absurd shown.4
+
+-- what an entry is wrong in
+wrong_kinds : (setup : SetupValue) (last : Option FileEntry) (e : Entry) (f : HoldFileFault) → IsWrong setup last e f
+    → ((f ≡ faults.NotASlice) × (¬ IsSliceOf setup e.1 (e.0 == 0) e.0)) ⊎ ((f ≡ faults.Order) × IsSliceOf setup e.1 (e.0 == 0) e.0 × (¬ Follows last e))
+wrong_kinds setup last e faults.NotASlice wrong = inl (refl, wrong)
+wrong_kinds setup last e faults.Order wrong = inr (refl, wrong.0, wrong.1)
+wrong_kinds setup last e faults.TooLong wrong = absurd wrong
+wrong_kinds setup last e faults.Tag wrong = absurd wrong
+wrong_kinds setup last e faults.Magic wrong = absurd wrong
+wrong_kinds setup last e (faults.Setup f) wrong = absurd wrong
+wrong_kinds setup last e faults.Truncated wrong = absurd wrong
+wrong_kinds setup last e faults.Trailing wrong = absurd wrong
+wrong_kinds setup last e faults.Read wrong = absurd wrong
+wrong_kinds setup last e faults.Write wrong = absurd wrong
+wrong_kinds setup last e faults.Memory wrong = absurd wrong
+wrong_kinds setup last e faults.OtherReel wrong = absurd wrong
+
+wrong_one : (setup : SetupValue) (last : Option FileEntry) (e : Entry) (f g : HoldFileFault) → IsWrong setup last e f → IsWrong setup last e g → f ≡ g
+wrong_one setup last e f g a b = elim (wrong_kinds setup last e f a) [
+  | inl x ↦ elim (wrong_kinds setup last e g b) [ inl y ↦ x.0 ∙ sym y.0 | inr y ↦ absurd (x.1 y.1) ]
+  | inr x ↦ elim (wrong_kinds setup last e g b) [ inl y ↦ absurd (y.1 x.1) | inr y ↦ x.0 ∙ sym y.0 ]
+]
+
+-- a length over the limit stands before no whole slice
+length_apart : (tile n : ℕ) (e : Entry) (y z : List ℕ) → slice_limit < n → n < 2 ^ 32 → length e.1 ≤ slice_limit
+    → (be2 tile ++ be4 n) ++ y ≡ slice_text e ++ z → ⊥
+length_apart tile n e y z over small fits same =
+    let all = sym (append_assoc (be2 tile) (be4 n) y) ∙ same ∙ slice_parts e z in
+    let is = same_length_number tile e.0 n (length e.1) y (e.1 ++ z) all small (omega arith) in
+    omega arith
+
+-- and is no part of a slice
+long_cut : (tile n : ℕ) (y : List ℕ) → slice_limit < n → n < 2 ^ 32 → IsPartOfSlice ((be2 tile ++ be4 n) ++ y) → ⊥
+long_cut tile n y over small (inl short) =
+    omega (arith, short, length-append (be2 tile ++ be4 n) y, length-append (be2 tile) (be4 n), length-be2 tile, length-be4 n)
+long_cut tile n y over small (inr (t, m, bytes, split, few, cut)) =
+    let all = sym (append_assoc (be2 tile) (be4 n) y) ∙ split ∙ append_assoc (be2 t) (be4 m) bytes in
+    let is = same_length_number tile t n m y bytes all small (omega arith) in
+    omega arith
+
+module _ (setup : SetupValue) (last : Option FileEntry) where
+  -- a slice that is right shows no fault
+  pub slice_none : (e : Entry) (x y : List ℕ) → IsRight setup last e → (f : HoldFileFault) (s : List ℕ) → slice_text e ++ x ≡ s ++ y
+      → SliceShows setup last f s → ⊥
+  slice_none e x y right f s same shown = elim (slice_kinds setup last f s shown) [
+    | inl w ↦ length_apart w.0 w.1 e y x w.4 w.5 right.0.fits (sym (same ∙ ap (λ q. q ++ y) w.3))
+    | inr w ↦
+        let one = same_slice e w.0 x y (right.2, right.0.fits) w.2 (same ∙ ap (λ q. q ++ y) w.1) in
+        elim (wrong_kinds setup last w.0 f w.3) [
+          | inl v ↦ v.1 (subst (λ (d : Entry). IsSliceOf setup d.1 (d.0 == 0) d.0) one right.0.slice)
+          | inr v ↦ v.2 (subst (λ (d : Entry). Follows last d) one right.1)
+        ]
+  ]
+
+  -- two faults of one slice
+  pub slice_one : (f g : HoldFileFault) (s t y z : List ℕ) → s ++ y ≡ t ++ z → SliceShows setup last f s → SliceShows setup last g t → f ≡ g
+  slice_one f g s t y z same a b = elim (slice_kinds setup last f s a) [
+    | inl x ↦ elim (slice_kinds setup last g t b) [
+      | inl w ↦ x.2 ∙ sym w.2
+      | inr w ↦ absurd (length_apart x.0 x.1 w.0 y z x.4 x.5 w.2.1 (sym (ap (λ q. q ++ y) x.3) ∙ same ∙ ap (λ q. q ++ z) w.1))
+    ]
+    | inr x ↦ elim (slice_kinds setup last g t b) [
+      | inl w ↦ absurd (length_apart w.0 w.1 x.0 z y w.4 w.5 x.2.1 (sym (sym (ap (λ q. q ++ y) x.1) ∙ same ∙ ap (λ q. q ++ z) w.3)))
+      | inr w ↦
+          let one = same_slice x.0 w.0 y z x.2 w.2 (sym (ap (λ q. q ++ y) x.1) ∙ same ∙ ap (λ q. q ++ z) w.1) in
+          wrong_one setup last w.0 f g (subst (λ (e : Entry). IsWrong setup last e f) one x.3) w.3
+    ]
+  ]
+
+  -- no beginning of a part of a slice shows one
+  pub part_slice_none : (f : HoldFileFault) (p s y : List ℕ) → p ≡ s ++ y → IsPartOfSlice p → SliceShows setup last f s → ⊥
+  part_slice_none f p s y same part shown = elim (slice_kinds setup last f s shown) [
+    | inl w ↦ long_cut w.0 w.1 y w.4 w.5 (subst IsPartOfSlice (same ∙ ap (λ q. q ++ y) w.3) part)
+    | inr w ↦ slice_cut w.0 y w.2.1 (subst IsPartOfSlice (same ∙ ap (λ q. q ++ y) w.1) part)
+  ]

@@ -1,0 +1,55 @@
+use Rattle.std.proofs.Common.{sym, ◌∙◌}
+use Rattle.ffv1_hold.specs.Merging.{digests_union}
+use Rattle.ffv1_hold.proofs.DigestUnions.{rest_rises, first_less, first_equal, first_greater, first_alone, first_other, no_items, union-none}
+use Rattle.ffv1_hold.proofs.union.next_digest.Goals as goal
+
+pub returns-in-Less-clause-some : goal.returns-in-Less-clause-some
+returns-in-Less-clause-some c =
+    first_less _ _ c.in-Some.a.now c.in-Some-split_first.b.now c.in-Some.lefts.now c.in-Some-split_first.rights.now
+    c.in-Some.ensures.cases.0 c.in-Some-split_first.ensures.cases.0 c.requires.left c.requires.right (sym c.cmp.ensures ∙ c.in-Less.is)
+
+pub returns-in-Less-clause-left_behind : goal.returns-in-Less-clause-left_behind
+returns-in-Less-clause-left_behind c =
+    rest_rises _ _ _ c.in-Some.ensures.cases.0 c.requires.left
+
+pub returns-in-Equal-clause-some : goal.returns-in-Equal-clause-some
+returns-in-Equal-clause-some c =
+    first_equal _ _ c.in-Some.a.now c.in-Some-split_first.b.now c.in-Some.lefts.now c.in-Some-split_first.rights.now
+    c.in-Some.ensures.cases.0 c.in-Some-split_first.ensures.cases.0 c.requires.left c.requires.right (sym c.cmp.ensures ∙ c.in-Equal.is)
+
+pub returns-in-Equal-clause-left_behind : goal.returns-in-Equal-clause-left_behind
+returns-in-Equal-clause-left_behind c =
+    rest_rises _ _ _ c.in-Some.ensures.cases.0 c.requires.left
+
+pub returns-in-Equal-clause-right_behind : goal.returns-in-Equal-clause-right_behind
+returns-in-Equal-clause-right_behind c =
+    rest_rises _ _ _ c.in-Some-split_first.ensures.cases.0 c.requires.right
+
+pub returns-in-Greater-clause-some : goal.returns-in-Greater-clause-some
+returns-in-Greater-clause-some c =
+    first_greater _ _ c.in-Some.a.now c.in-Some-split_first.b.now c.in-Some.lefts.now c.in-Some-split_first.rights.now
+    c.in-Some.ensures.cases.0 c.in-Some-split_first.ensures.cases.0 c.requires.left c.requires.right (sym c.cmp.ensures ∙ c.in-Greater.is)
+
+pub returns-in-Greater-clause-right_behind : goal.returns-in-Greater-clause-right_behind
+returns-in-Greater-clause-right_behind c =
+    rest_rises _ _ _ c.in-Some-split_first.ensures.cases.0 c.requires.right
+
+pub returns-in-None-split_first-clause-some : goal.returns-in-None-split_first-clause-some
+returns-in-None-split_first-clause-some c =
+    first_alone _ _ c.in-Some.lefts.now _ c.in-Some.ensures.cases.0 (no_items _ c.in-None-split_first.ensures.cases) c.requires.left
+
+pub returns-in-None-split_first-clause-left_behind : goal.returns-in-None-split_first-clause-left_behind
+returns-in-None-split_first-clause-left_behind c =
+    rest_rises _ _ _ c.in-Some.ensures.cases.0 c.requires.left
+
+pub returns-in-Some-split_first-2-clause-some : goal.returns-in-Some-split_first-2-clause-some
+returns-in-Some-split_first-2-clause-some c =
+    first_other _ _ c.in-Some-split_first-2.rights.now _ c.in-Some-split_first-2.ensures.cases.0 (no_items _ c.in-None.ensures.cases) c.requires.right
+
+pub returns-in-Some-split_first-2-clause-right_behind : goal.returns-in-Some-split_first-2-clause-right_behind
+returns-in-Some-split_first-2-clause-right_behind c =
+    rest_rises _ _ _ c.in-Some-split_first-2.ensures.cases.0 c.requires.right
+
+pub returns-in-None-split_first-2-clause-none : goal.returns-in-None-split_first-2-clause-none
+returns-in-None-split_first-2-clause-none c =
+    (λ i. digests_union (no_items _ c.in-None.ensures.cases i) (no_items _ c.in-None-split_first-2.ensures.cases i)) ∙ union-none

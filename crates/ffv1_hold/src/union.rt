@@ -1,0 +1,85 @@
+//! The union of two lists of rising digests (own): how many it has, and its bytes, each digest once.
+ghost use Rattle.std.specs.Prelude.{◌≡◌, ◌+◌, ◌^◌, ◌<◌, ◌≤◌, [], ◌∷◌, length, IfSome, IfNone, OnOk, OnErr};
+ghost use Rattle.std.specs.List.{flat_map};
+ghost use Rattle.std.specs.Io.KnownBytes.{Appends};
+ghost use Rattle.ffv1_devices.specs.Streams.{HasFailed, HasGivenUp};
+ghost use Rattle.ffv1_devices.specs.Writing.{WritesFront};
+ghost use Rattle.ffv1_holding.specs.Contents.{AreDigests};
+ghost use Rattle.ffv1_hold.specs.Merging.{digests_union};
+
+use ffv1_devices::{Sink, WriteFailed, write_field};
+use std::cmp::Ordering;
+
+/// The least digest of both, and what stands behind it in each, or `None` where both are empty.
+fn next_digest<'a>(
+    left: &'a [[u8; 32]],
+    right: &'a [[u8; 32]],
+) -> Option<(&'a [u8; 32], &'a [[u8; 32]], &'a [[u8; 32]])>
+    requires left { AreDigests left.now }
+    requires right { AreDigests right.now }
+    ensures some { IfSome result (λ t. digests_union left.now right.now ≡ t.0.now ∷ digests_union t.1.now t.2.now) }
+    ensures left_behind { IfSome result (λ t. AreDigests t.1.now) }
+    ensures right_behind { IfSome result (λ t. AreDigests t.2.now) }
+    ensures fewer { IfSome result (λ t. length t.1.now + length t.2.now < length left.now + length right.now) }
+    ensures none { IfNone result (digests_union left.now right.now ≡ []) }
+{
+    match left.split_first() {
+        Some((a, lefts)) => match right.split_first() {
+            Some((b, rights)) => match a.cmp(b) {
+                Ordering::Less => Some((a, lefts, right)),
+                Ordering::Equal => Some((a, lefts, rights)),
+                Ordering::Greater => Some((b, left, rights)),
+            },
+            None => Some((a, lefts, right)),
+        },
+        None => match right.split_first() {
+            Some((b, rights)) => Some((b, left, rights)),
+            None => None,
+        },
+    }
+}
+
+/// How many digests the union has.
+pub(crate) fn union_count(left: &[[u8; 32]], right: &[[u8; 32]]) -> u32
+    requires left { AreDigests left.now }
+    requires right { AreDigests right.now }
+    requires few { length left.now + length right.now ≤ 2 ^ 31 }
+    ensures { result ≡ length (digests_union left.now right.now) }
+{
+    let mut count = 0u32;
+    let mut lefts = left;
+    let mut rights = right;
+    while let Some((_digest, left_behind, right_behind)) = next_digest(lefts, rights) {
+        count += 1;
+        lefts = left_behind;
+        rights = right_behind;
+    }
+    count
+}
+
+/// Writes the digests of the union.
+pub(crate) fn write_union<S: Sink>(
+    sink: &mut S,
+    left: &[[u8; 32]],
+    right: &[[u8; 32]],
+) -> Result<(), WriteFailed>
+    requires left { AreDigests left.now }
+    requires right { AreDigests right.now }
+    ensures ok { OnOk result (Appends (S.contents sink.old) (S.contents sink.new) (flat_map (λ digest. digest) (digests_union left.now right.now))) }
+    ensures err { OnErr result (WritesFront (S.contents sink.old) (S.contents sink.new) (flat_map (λ digest. digest) (digests_union left.now right.now))) }
+    ensures failed { OnErr result (HasFailed (S.failures sink.old) (S.failures sink.new)) }
+    ensures gave_up { OnErr result (HasGivenUp (S.failures sink.old) (S.failures sink.new) (S.broken sink.old) (S.broken sink.new)) }
+    ensures unbroken { OnOk result (S.broken sink.new ≡ S.broken sink.old) }
+    ensures broken_once { S.broken sink.new ≤ S.broken sink.old + 1 }
+    ensures counted { S.failures sink.old ≤ S.failures sink.new }
+    ensures same_reference { S.reference sink.new ≡ S.reference sink.old }
+{
+    let mut lefts = left;
+    let mut rights = right;
+    while let Some((digest, left_behind, right_behind)) = next_digest(lefts, rights) {
+        write_field(sink, digest)?;
+        lefts = left_behind;
+        rights = right_behind;
+    }
+    Ok(())
+}
