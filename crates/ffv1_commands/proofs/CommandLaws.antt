@@ -12,6 +12,7 @@ use Rattle.ffv1_hold.specs.ContentsLaws.{joined-holding_of, holding_of-same}
 use Rattle.ffv1_hold.specs.FileFaults.{IsFaultOf}
 use Rattle.ffv1_hold.specs.Headline.{IsReelOf}
 use Rattle.ffv1_hold.specs.HoldingText.{holding_text}
+use Rattle.ffv1_hold.specs.declared.version.Version.TheVariants.{Second}
 use Rattle.ffv1_hold.specs.Joins.{joined_all}
 use Rattle.ffv1_hold.specs.Originals.{AreCopiesOf, HoldsExactly}
 use Rattle.ffv1_hold.specs.Standing.{restored_payload, IsLeastUnsettled}
@@ -59,7 +60,7 @@ whole_inputs (c ∷ cs) (b ∷ bs) each =
 
 -- a file is that of one holding
 one_holding : (g h : Contents) (file : List ℕ) → IsHoldingFile (Some file) g → file ≡ holding_text h → HasFile h → g ≡ h
-one_holding g h file is text has = one_text g h is.sound has.sound is.fits.record' has.fits.record' (sym is.text ∙ text)
+one_holding g h file is text has = one_text g h file is.sound has.sound is.fits.record' has.fits.record' (is.version, is.fits.told, is.text) (Second, has.fits.told, text)
 
 -- ---- a tree of commands
 
@@ -179,7 +180,7 @@ module _ (config : List ℕ) (width height : ℕ) (copies others : List (List �
 pub made_of_copies : MadeOfCopies
 made_of_copies config width height copies file is =
     let of : IsFileOf config width height copies file = made config width height copies file is in
-    (of.reel, of.of_record, record { text = of.text; sound = of.has.sound; fits = of.has.fits })
+    (of.reel, of.of_record, record { version = Second; text = of.text; sound = of.has.sound; fits = of.has.fits })
 
 pub same_copies_make_one_holding : SameCopiesMakeOneHolding
 same_copies_make_one_holding config width height copies others file other h g is also same h_is g_is =
@@ -202,7 +203,7 @@ no_fault : (h : Contents) (file : List ℕ) → file ≡ holding_text h → HasF
     → IsHoldingFault (paths.Hold 0) (Some file) (faults.HoldFile fault) → ⊥
 no_fault h file text has fault stops =
     let own : IsFaultOf (holding_text h) fault = subst (λ (t : List ℕ). IsFaultOf t fault) text stops in
-    own.0 (refused_outside h has.sound has.fits fault own.1.0 own.1.1)
+    own.0 (refused_outside Second h has.sound has.fits fault own.1.0 own.1.1)
 
 module _ (config : List ℕ) (width height : ℕ) (setup : SetupValue) (copies : List (List ℕ)) (file original : List ℕ) (slices : List (List ℕ))
     (is_setup : IsSetupOf config width height setup) (is : IsFileOf config width height copies file)

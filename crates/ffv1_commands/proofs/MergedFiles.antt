@@ -5,11 +5,12 @@ use Rattle.std.specs.Io.KnownBytes.{Consumes}
 use Rattle.std.proofs.KnownBytes.{Consumes-whole}
 use Rattle.ffv1_bits.specs.Limits.{file_limit}
 use Rattle.ffv1_hold.specs.Reels.{Reel}
-use Rattle.ffv1_hold.specs.Contents.{Contents, IsSameReel, IsHolding, IsEntryOf, AreEntriesOf, joined}
-use Rattle.ffv1_holding.proofs.EntrySteps.{all-union}
-use Rattle.ffv1_hold.specs.HoldingText.{head_text, holding_text}
+use Rattle.ffv1_hold.specs.Contents.{Contents, IsSameReel, joined}
+use Rattle.ffv1_hold.proofs.HeldEntries.{holding-joined}
+use Rattle.ffv1_hold.specs.HoldingText.{head_text, begun_text, file_text, holding_text}
+use Rattle.ffv1_hold.specs.declared.version.Version.TheVariants.{Second}
 use Rattle.ffv1_hold.specs.FileFaults.{IsOutside, IsFaultOf}
-use Rattle.ffv1_hold.specs.JoinedStreams.{Inputs, InputRefuses, OneRefuses, JoinRefuses, EntriesPass, UnionPasses, ReadsPart, ReadsAll, ReadsSoFar, ReadsOtherHeads, WritesUnion, WritesNoEnd, WritesFrontSoFar, AnswersUnion, AnswersOther, BeginsWith, begun_text}
+use Rattle.ffv1_hold.specs.JoinedStreams.{Inputs, InputRefuses, OneRefuses, JoinRefuses, EntriesPass, UnionPasses, ReadsPart, ReadsAll, ReadsSoFar, ReadsOtherHeads, WritesUnion, WritesNoEnd, WritesFrontSoFar, AnswersUnion, AnswersOther, BeginsWith}
 use Rattle.ffv1_hold.specs.declared.file_fault.HoldFileFault.{HoldFileFault}
 use Rattle.ffv1_hold.specs.declared.file_fault.HoldFileFault.TheVariants as files
 use Rattle.ffv1_hold.proofs.MergeSteps.{part_begins}
@@ -19,21 +20,21 @@ use Rattle.ffv1_commands.specs.MergeText.{MergesFiles, BeginsUnion, HeadsDiffer,
 
 holding_file : (old new : Option (List ℕ)) (h : Contents) → ReadsAll old new h → IsHoldingFile old h
 holding_file old new h a = record {
-  text = Consumes-whole old new (holding_text h) (λ told. told ≡ holding_text h) a.taken a.at_end refl;
+  version = a.file.version;
+  text = Consumes-whole old new (file_text a.file.version h) (λ told. told ≡ file_text a.file.version h) a.file.taken a.at_end refl;
   sound = a.sound;
-  fits = a.fits;
-}
-
--- the union of holdings of one reel is one
-sound_union : (one other : Contents) → IsHolding one → IsHolding other → IsSameReel one other → IsHolding (joined one other)
-sound_union one other is also same = record {
-  reel = is.reel;
-  slices = all-union (IsEntryOf one.reel.setup) one.slices other.slices is.slices
-      (subst (λ (r : Reel). AreEntriesOf r.setup other.slices) (sym same) also.slices);
+  fits = a.file.fits;
 }
 
 all_part : (old new : Option (List ℕ)) (h : Contents) → ReadsAll old new h → ReadsPart old new h
-all_part old new h a = record { sound = a.sound; record' = a.fits.record'; more = 0 ∷ []; taken = a.taken }
+all_part old new h a = record {
+  sound = a.sound;
+  record' = a.file.fits.record';
+  version = a.file.version;
+  told = a.file.fits.told;
+  more = 0 ∷ [];
+  taken = a.file.taken;
+}
 
 taken_begins : (old new : Option (List ℕ)) (bytes : List ℕ) → Consumes old new bytes → BeginsWith old bytes
 taken_begins None new bytes t = tt
@@ -50,7 +51,7 @@ module _ (i : Inputs) (w v : Option (List ℕ)) where
     left_file = holding_file _ _ u.left u.read.left_read;
     right_file = holding_file _ _ u.right u.read.right_read;
     same = u.read.same;
-    has_file = record { sound = sound_union u.left u.right u.read.left_read.sound u.read.right_read.sound u.read.same; fits = u.fits };
+    has_file = record { sound = holding-joined u.left u.right u.read.same u.read.left_read.sound u.read.right_read.sound; fits = u.fits };
     written = u.written;
   }
 
@@ -78,7 +79,7 @@ module _ (i : Inputs) (w v : Option (List ℕ)) where
   entries_pass p = (
     joined p.left p.right,
     so_far p.left p.right p.read,
-    omega (arith, p.over, length-append (begun_text (joined p.left p.right)) (0 ∷ [])),
+    omega (arith, p.over, length-append (begun_text Second (joined p.left p.right)) (0 ∷ [])),
   )
 
   union_passes : UnionPasses i → (union : Contents) × BeginsUnion i.left_old i.right_old union × (file_limit < length (holding_text union))
@@ -95,8 +96,10 @@ module _ (i : Inputs) (w v : Option (List ℕ)) where
     other = o.right;
     one_is = o.left_is;
     other_is = o.right_is;
-    left_begins = taken_begins _ _ (head_text o.left) o.left_taken;
-    right_begins = taken_begins _ _ (head_text o.right) o.right_taken;
+    left_version = o.left_version;
+    right_version = o.right_version;
+    left_begins = taken_begins _ _ (head_text o.left_version o.left) o.left_taken;
+    right_begins = taken_begins _ _ (head_text o.right_version o.right) o.right_taken;
     differ = o.other;
   }
 

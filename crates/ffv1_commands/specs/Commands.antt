@@ -79,7 +79,7 @@ SameCopiesMakeOneFile =
     → IsMadeOf config width height copies file → IsMadeOf config width height others other → HasSameCopies copies others
     → file ≡ other
 
--- .. what is read of them is equal in every tile, ..
+-- .. what is read of them is equal in every tile and origin, ..
 abbrev pub SameCopiesMakeOneHolding : Type 0
 SameCopiesMakeOneHolding =
     (config : List ℕ) (width height : ℕ) (copies others : List (List ℕ)) (file other : List ℕ) (h g : Contents)

@@ -1,7 +1,9 @@
 -- Holding files as a command reads and writes them.
 use Rattle.std.specs.Prelude.{ℕ, ◌≡◌, List, Option, IfSome}
 use Rattle.ffv1_hold.specs.Contents.{Contents, IsHolding}
-use Rattle.ffv1_hold.specs.HoldingText.{holding_text, FitsInFile}
+use Rattle.ffv1_hold.specs.HoldingText.{file_text, holding_text, FitsInFile}
+use Rattle.ffv1_hold.specs.declared.version.Version.{Version}
+use Rattle.ffv1_hold.specs.declared.version.Version.TheVariants.{Second}
 use Rattle.ffv1_hold.specs.FileFaults.{IsFaultOf}
 use Rattle.ffv1_hold.specs.Saving.{IsTooLong}
 use Rattle.ffv1_hold.specs.declared.file_fault.HoldFileFault.TheVariants as files
@@ -11,16 +13,17 @@ use Rattle.ffv1_commands.specs.declared.fault.CliFault.TheVariants as faults
 use Rattle.ffv1_commands.specs.declared.path.CommandPath.{CommandPath}
 use Rattle.ffv1_commands.specs.declared.path.CommandPath.TheVariants as paths
 
--- The whole input is the text of the holding, where it tells its bytes.
+-- The whole input is a text of the holding, where it tells its bytes: that of version 2, or, where no origins are known, that of version 1.
 pub record IsHoldingFile (input : Option (List ℕ)) (h : Contents) : Type 0 where
-  pub text : Tells input (holding_text h)
+  pub version : Version
+  pub text : Tells input (file_text version h)
   pub sound : IsHolding h
-  pub fits : FitsInFile h
+  pub fits : FitsInFile version h
 
--- A holding that has a file: it is one, and it and its record are within their limits.
+-- A holding that has a file of version 2: it is one, and it and its record are within their limits.
 pub record HasFile (h : Contents) : Type 0 where
   pub sound : IsHolding h
-  pub fits : FitsInFile h
+  pub fits : FitsInFile Second h
 
 -- Why the file that is this path of the command gave no holding. A holding file's fault is that of the input's bytes.
 abbrev pub IsHoldingFault : CommandPath → Option (List ℕ) → CliFault → Type 0

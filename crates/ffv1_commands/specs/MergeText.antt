@@ -5,9 +5,11 @@ use Rattle.ffv1_bits.specs.Limits.{file_limit}
 use Rattle.ffv1_hold.specs.Writing.{WritesFront}
 use Rattle.ffv1_hold.specs.Reels.{Reel}
 use Rattle.ffv1_hold.specs.Contents.{Contents, IsSameReel, joined}
-use Rattle.ffv1_hold.specs.HoldingText.{head_text, holding_text}
+use Rattle.ffv1_hold.specs.HoldingText.{head_text, begun_text, holding_text}
 use Rattle.ffv1_hold.specs.FileFaults.{IsFileReel, IsFaultOf}
-use Rattle.ffv1_hold.specs.JoinedStreams.{BeginsWith, BeginsWithPart, begun_text}
+use Rattle.ffv1_hold.specs.JoinedStreams.{BeginsWith, BeginsWithPart}
+use Rattle.ffv1_hold.specs.declared.version.Version.{Version}
+use Rattle.ffv1_hold.specs.declared.version.Version.TheVariants.{Second}
 use Rattle.ffv1_hold.specs.declared.file_fault.HoldFileFault.{HoldFileFault}
 use Rattle.ffv1_hold.specs.declared.file_fault.HoldFileFault.TheVariants as files
 use Rattle.ffv1_commands.specs.Holdings.{IsHoldingFile, HasFile}
@@ -40,8 +42,10 @@ pub record HeadsDiffer (left right : Option (List ℕ)) : Type 0 where
   pub other : Reel
   pub one_is : IsFileReel one
   pub other_is : IsFileReel other
-  pub left_begins : BeginsWith left (head_text one)
-  pub right_begins : BeginsWith right (head_text other)
+  pub left_version : Version
+  pub right_version : Version
+  pub left_begins : BeginsWith left (head_text left_version one)
+  pub right_begins : BeginsWith right (head_text right_version other)
   pub differ : ¬ (one ≡ other)
 
 -- ---- why two files were not merged
@@ -68,7 +72,7 @@ IsMergeFault left right _ = ⊥
 -- the head and whole entries of what both begin with, each once, and no end tag
 abbrev pub LeavesEntries : (left right out_before out_after : Option (List ℕ)) → Type 0
 LeavesEntries left right out_before out_after = Appends out_before out_after []
-    ⊎ ((union : Contents) × BeginsUnion left right union × Appends out_before out_after (begun_text union))
+    ⊎ ((union : Contents) × BeginsUnion left right union × Appends out_before out_after (begun_text Second union))
 
 -- after a failed write a front of the file of what both begin with, and after another fault no end tag
 abbrev pub MergeLeaves : (left right out_before out_after : Option (List ℕ)) → CliFault → Type 0

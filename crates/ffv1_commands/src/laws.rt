@@ -3,8 +3,8 @@ ghost use Rattle.ffv1_commands.specs.Commands.{MadeOfCopies, SameCopiesMakeOneFi
 
 /// Whatever trees of `take`, `join` and `merge` lead from copies to a holding file, for one record and size: the file
 /// is that of the holding of just what is found in the copies. However the same copies are ordered, grouped or
-/// repeated, the files are equal byte for byte, what is read of them is equal in every tile, and their reports are
-/// equal.
+/// repeated, the files are equal byte for byte, what is read of them is equal in every tile and origin, and their
+/// reports are equal.
 pub fn same_copies_make_one_file()
     ensures made { MadeOfCopies }
     ensures file { SameCopiesMakeOneFile }

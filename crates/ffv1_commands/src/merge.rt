@@ -4,6 +4,7 @@ ghost use Rattle.ffv1_bits.specs.Limits.{file_limit};
 ghost use Rattle.ffv1_hold.specs.Streams.{HasFailed};
 ghost use Rattle.ffv1_hold.specs.Reels.{Reel};
 ghost use Rattle.ffv1_hold.specs.Contents.{Contents, IsSameReel, joined};
+ghost use Rattle.ffv1_hold.specs.declared.version.Version.{Version};
 ghost use Rattle.ffv1_hold.specs.JoinedStreams.{IsFileOf, BeginsWithHead, WritesAtMost};
 ghost use Rattle.ffv1_commands.specs.Fault.{NamesPath, of_merge};
 ghost use Rattle.ffv1_commands.specs.Paths.{IsMergePath};
@@ -34,7 +35,7 @@ pub fn run_merge<R: Read, Q: Read, O: Write>(
     ensures leaves { IfErr result (MergeLeaves (R.remaining left.old) (Q.remaining right.old) (O.contents out.old) (O.contents out.new)) }
     ensures most { WritesAtMost (O.contents out.old) (O.contents out.new) file_limit }
 
-    ensures only { (g h : Contents) → IsSameReel g h → IsFileOf (R.remaining left.old) g → IsFileOf (Q.remaining right.old) h
+    ensures only { (v w : Version) (g h : Contents) → IsSameReel g h → IsFileOf (R.remaining left.old) v g → IsFileOf (Q.remaining right.old) w h
         → AnswersFiles (joined g h) result }
     ensures other { (g h : Reel) → BeginsWithHead (R.remaining left.old) g → BeginsWithHead (Q.remaining right.old) h → ¬ (g ≡ h)
         → AnswersOtherHeads result }
@@ -61,7 +62,7 @@ fn merge_of<R: Source, Q: Source, O: Sink>(
     ensures leaves { IfErr result (MergeLeaves (R.remaining left.old) (Q.remaining right.old) (O.contents out.old) (O.contents out.new)) }
     ensures most { WritesAtMost (O.contents out.old) (O.contents out.new) file_limit }
 
-    ensures only { (g h : Contents) → IsSameReel g h → IsFileOf (R.remaining left.old) g → IsFileOf (Q.remaining right.old) h
+    ensures only { (v w : Version) (g h : Contents) → IsSameReel g h → IsFileOf (R.remaining left.old) v g → IsFileOf (Q.remaining right.old) w h
         → AnswersFiles (joined g h) result }
     ensures other { (g h : Reel) → BeginsWithHead (R.remaining left.old) g → BeginsWithHead (Q.remaining right.old) h → ¬ (g ≡ h)
         → AnswersOtherHeads result }

@@ -20,7 +20,7 @@ use Rattle.ffv1_picture.specs.declared.partial.TileOutcome.TheVariants.{Missing}
 use Rattle.ffv1_picture.proofs.OnePicture.{shown_picture}
 
 pub same_in_all : (a : Contents) → AreEqualInAll a a
-same_in_all a = record { states = λ tile. refl; held = λ tile. refl; statuses = λ tile least is. is; file = refl; report = refl }
+same_in_all a = record { states = λ tile. refl; held = λ tile. refl; origins = λ tile slice. refl; statuses = λ tile least is. is; file = refl; report = refl }
 
 -- plans of the same copies come to equal holdings
 pub equal_holdings : (config : List ℕ) (width height : ℕ) (plan other : Plan) (a b : Contents) → IsHoldingOfPlan config width height plan a

@@ -38,7 +38,10 @@ module _ (h : Contents) (sound : IsHolding h) (tile : ℕ) (slice : List ℕ) (i
       ap (list_any (eq_by_cmp bytes_cmp slice)) (only_best (best_slices held) slice is)
       ∙ ap (λ o. is_eq o || false) (tied_itself bytes_total slice)
 
+  pub settled_held : set.contains h.slices (tile, slice) ≡ true
+  settled_held =
+      sym (contains-tile_slices h.slices tile slice) ∙ set.contains-items (tile_slices h.slices tile) slice
+      ∙ any_filtered _ (eq_by_cmp bytes_cmp slice) held among_best
+
   pub settled_entry : IsEntryOf h.reel.setup (tile, slice)
-  settled_entry =
-      sound.slices (tile, slice) (sym (contains-tile_slices h.slices tile slice) ∙ set.contains-items (tile_slices h.slices tile) slice
-      ∙ any_filtered _ (eq_by_cmp bytes_cmp slice) held among_best)
+  settled_entry = sound.slices (tile, slice) settled_held

@@ -3,7 +3,7 @@ use Rattle.std.specs.Prelude.{◌≡◌, ◌≢◌, ℕ, ◌<◌, List, length, 
 use Rattle.std.specs.declared.alloc.Global.{Global}
 use Rattle.ffv1_range.specs.Setup.{SetupValue}
 use Rattle.ffv1_slice.specs.Slices.{IsOriginal}
-use Rattle.ffv1_hold.specs.Contents.{Contents, holding_of}
+use Rattle.ffv1_hold.specs.Contents.{Contents, holding_of, digests_of}
 use Rattle.ffv1_hold.specs.Standing.{tile_state, restored_payload, AreSettled, IsLeastStatus}
 use Rattle.ffv1_hold.specs.Refusals.{IsRefusal}
 use Rattle.ffv1_hold.specs.Originals.{AreCopiesOf}
@@ -28,11 +28,12 @@ pub record IsHoldingOfPlan (config : List ℕ) (width height : ℕ) (plan : Plan
   pub reel : IsReelOf config width height h.reel
   pub meaning : h ≡ holding_of h.reel (copies_of plan)
 
--- The holdings are equal in every tile, file byte and report line.
+-- The holdings are equal in every tile, origin, file byte and report line.
 pub record AreEqualInAll (a b : Contents) : Type 0 where
   pub states : (tile : ℕ) → tile_state a tile ≡ tile_state b tile
   pub held : (tile : ℕ) → length (slices_held a tile) ≡ length (slices_held b tile)
   pub statuses : (tile : ℕ) (least : Option ℕ) → IsLeastStatus (slices_held a tile) least → IsLeastStatus (slices_held b tile) least
+  pub origins : (tile : ℕ) (slice : List ℕ) → digests_of a (tile, slice) ≡ digests_of b (tile, slice)
   pub file : holding_text a ≡ holding_text b
   pub report : report_text a ≡ report_text b
 

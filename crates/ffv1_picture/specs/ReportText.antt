@@ -1,4 +1,5 @@
--- The damage report of a holding: a line for each tile, and what the whole frame comes to.
+-- The damage report of a holding: a line for each tile, behind that of a settled one a line for each copy that gave its slice, and
+-- what the whole frame comes to.
 use Rattle.std.specs.Prelude.{ℕ, ◌/◌, ◌%◌, ◌==◌, ◌++◌, Bool, true, false, List, [], ◌∷◌, length, min, codes, count_by, if◌then◌else◌}
 use Rattle.std.specs.List.{flat_map, range_with_len}
 use Rattle.std.specs.Fmt.{decimal, digit_glyph}
@@ -6,7 +7,7 @@ use Rattle.sha2.specs.Sha256.{sha256}
 use Rattle.ffv1_hold.specs.Sets as set
 use Rattle.ffv1_hold.specs.Reels.{reel_tiles}
 use Rattle.ffv1_hold.specs.TileSets.{tile_slices}
-use Rattle.ffv1_hold.specs.Contents.{Contents}
+use Rattle.ffv1_hold.specs.Contents.{Contents, digests_of}
 use Rattle.ffv1_hold.specs.Standing.{Standing, missing, settled, disputed, status_of, tile_state, restored_payload}
 
 -- a byte as two lower-case digits
@@ -53,6 +54,19 @@ state_words held (disputed slices) = disputed_words slices (least_status held) (
 abbrev pub tile_line : Contents → ℕ → List ℕ
 tile_line h tile = codes "tile " ++ decimal tile ++ state_words (slices_held h tile) (tile_state h tile) ++ codes "\n"
 
+-- a copy that a settled slice of a tile was found in, by its digest
+abbrev pub origin_line : ℕ → List ℕ → List ℕ
+origin_line tile digest = codes "tile " ++ decimal tile ++ codes " origin " ++ flat_map hex_byte digest ++ codes "\n"
+
+-- all copies that are known of it, of a settled tile alone
+abbrev pub origin_lines : Contents → ℕ → Standing → List ℕ
+origin_lines h tile missing = []
+origin_lines h tile (settled slice) = flat_map (origin_line tile) (digests_of h (tile, slice))
+origin_lines h tile (disputed slices) = []
+
+abbrev pub tile_lines : Contents → ℕ → List ℕ
+tile_lines h tile = tile_line h tile ++ origin_lines h tile (tile_state h tile)
+
 abbrev pub is_missing : Standing → Bool
 is_missing missing = true
 is_missing (settled slice) = false
@@ -90,4 +104,4 @@ abbrev pub frame_line : Contents → List ℕ
 frame_line h = if tiles_that is_settled h == reel_tiles h.reel then whole_words (restored_payload h) else codes "frame incomplete\n"
 
 unfoldable pub report_text : Contents → List ℕ
-report_text h = reel_line h ++ flat_map (tile_line h) (range_with_len 0 (reel_tiles h.reel)) ++ count_line h ++ frame_line h
+report_text h = reel_line h ++ flat_map (tile_lines h) (range_with_len 0 (reel_tiles h.reel)) ++ count_line h ++ frame_line h

@@ -5,7 +5,7 @@ ghost use Rattle.sha2.specs.Sha256.{sha256};
 ghost use Rattle.ffv1_hold.specs.Reels.{reel_tiles};
 ghost use Rattle.ffv1_hold.specs.Contents.{IsHolding};
 ghost use Rattle.ffv1_hold.specs.Standing.{status_of, tile_state, restored_payload};
-ghost use Rattle.ffv1_picture.specs.ReportText.{hex_byte, reel_line, slices_held, least_status, settled_numbers, settled_words, disputed_words, state_words, tile_line, is_missing, is_settled, is_disputed, tiles_that, count_words, length_words, whole_words, frame_line, report_text};
+ghost use Rattle.ffv1_picture.specs.ReportText.{hex_byte, reel_line, slices_held, least_status, settled_numbers, settled_words, disputed_words, state_words, tile_line, origin_line, origin_lines, tile_lines, is_missing, is_settled, is_disputed, tiles_that, count_words, length_words, whole_words, frame_line, report_text};
 
 use ffv1_hold::{Holding, TileState};
 use ffv1_slice::status_of;
@@ -13,7 +13,8 @@ use sha2::{Digest, Sha256};
 use std::alloc::{AllocError, Global};
 
 /// The damage report of a holding: a line for the recording, one for each tile, one that counts them, and one for the whole
-/// frame. A settled slice and a whole frame are told by their length in bytes and their SHA-256 digest.
+/// frame. A settled slice and a whole frame are told by their length in bytes and their SHA-256 digest. Behind the line of a
+/// settled tile stands one for each copy that is known to have given its slice, by the copy's SHA-256 digest, in rising order.
 ///
 /// It fails where memory is refused.
 #[tactic(auto, unfolding(crate::specs::ReportText::report_text))]
@@ -40,12 +41,21 @@ fn push_reel(text: &mut String, holding: &Holding) -> Result<(), AllocError>
 
 /// Adds the lines of the tiles.
 fn push_tiles(text: &mut String, holding: &Holding) -> Result<(), AllocError>
-    ensures { OnOk result (string_bytes text.new ≡ string_bytes text.old ++ flat_map (tile_line holding.now) (range_with_len 0 (reel_tiles holding.now.reel))) }
+    ensures { OnOk result (string_bytes text.new ≡ string_bytes text.old ++ flat_map (tile_lines holding.now) (range_with_len 0 (reel_tiles holding.now.reel))) }
 {
     for tile in 0..holding.setup().grid().tiles() {
-        push_tile(text, holding, tile)?;
+        push_tile_lines(text, holding, tile)?;
     }
     Ok(())
+}
+
+/// Adds the line of a tile, and those of the copies that gave its slice.
+fn push_tile_lines(text: &mut String, holding: &Holding, tile: usize) -> Result<(), AllocError>
+    requires { tile < reel_tiles holding.now.reel }
+    ensures { OnOk result (string_bytes text.new ≡ string_bytes text.old ++ tile_lines holding.now tile) }
+{
+    push_tile(text, holding, tile)?;
+    push_origins(text, holding, tile)
 }
 
 /// Adds the line of a tile.
@@ -55,6 +65,34 @@ fn push_tile(text: &mut String, holding: &Holding, tile: usize) -> Result<(), Al
 {
     write!(text, "tile {tile}")?;
     push_state(text, holding, tile)?;
+    text.push_str("\n")
+}
+
+/// Adds the lines of the copies that gave a tile's slice, where it is settled.
+fn push_origins(text: &mut String, holding: &Holding, tile: usize) -> Result<(), AllocError>
+    requires { tile < reel_tiles holding.now.reel }
+    ensures { OnOk result (string_bytes text.new ≡ string_bytes text.old ++ origin_lines holding.now tile (tile_state holding.now tile)) }
+{
+    let TileState::Settled(slice) = holding.state(tile) else {
+        return Ok(());
+    };
+    // A settled slice is held, and so has origins, be they none.
+    let _setup = holding.setup();
+    let Some(origins) = holding.origins(tile, slice) else {
+        return Ok(());
+    };
+    for origin in origins {
+        push_origin(text, tile, origin)?;
+    }
+    Ok(())
+}
+
+/// Adds the line of a copy.
+fn push_origin(text: &mut String, tile: usize, digest: &[u8; 32]) -> Result<(), AllocError>
+    ensures { OnOk result (string_bytes text.new ≡ string_bytes text.old ++ origin_line tile digest.now) }
+{
+    write!(text, "tile {tile} origin ")?;
+    push_digest(text, digest)?;
     text.push_str("\n")
 }
 

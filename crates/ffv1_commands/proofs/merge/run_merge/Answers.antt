@@ -1,8 +1,13 @@
 use Rattle.std.proofs.Common.{List, ℕ, Option, sym, subst}
-use Rattle.ffv1_hold.specs.JoinedStreams.{BeginsWithHead}
+use Rattle.ffv1_hold.specs.JoinedStreams.{BeginsWithHead, IsFileOf}
 use Rattle.ffv1_commands.proofs.merge.run_merge.Goals as goal
 
 pub returns-clause-other : goal.returns-clause-other
 returns-clause-other g c one two left right other =
     c.merge_of.ensures.other one two (subst (λ (o : Option (List ℕ)). BeginsWithHead o one) (sym c.new.ensures.bytes) left)
     (subst (λ (o : Option (List ℕ)). BeginsWithHead o two) (sym c.new-2.ensures.bytes) right) other
+
+pub returns-clause-only : goal.returns-clause-only
+returns-clause-only g c v w one two same left right =
+    c.merge_of.ensures.only v w one two same (subst (λ (o : Option (List ℕ)). IsFileOf o v one) (sym c.new.ensures.bytes) left)
+    (subst (λ (o : Option (List ℕ)). IsFileOf o w two) (sym c.new-2.ensures.bytes) right)
