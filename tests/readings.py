@@ -6,7 +6,8 @@ import zlib
 REVERSED = bytes(int(f"{byte:08b}"[::-1], 2) for byte in range(256))
 GREATEST_SIDE, MOST_TILES = 65535, 4096
 PAYLOAD_LIMIT, SLICE_LIMIT, RECORD_LIMIT = 1 << 30, 16777223, 1 << 24
-MAGIC = b"FFV1HLD\x01"
+ORIGINS_LIMIT = 1 << 26
+MAGIC = b"FFV1HLD"
 
 
 Setup = collections.namedtuple("Setup", "micro chroma shifts grid contexts intra")
@@ -247,6 +248,21 @@ def best(pieces):
     return [piece for piece in pieces if piece[-5] == least]
 
 
+def taken(setup, payload):
+    """What a copy adds to a holding: the slices found in it, each with its tile, and behind each the copy's digest."""
+    digest = hashlib.sha256(payload).digest()
+    return {each: {digest} for each in found_slices(setup, payload)}
+
+
+def united(*holdings):
+    """The slices of all, each with the digests that any of them has of it."""
+    held = {}
+    for holding in holdings:
+        for each, origins in holding.items():
+            held[each] = held.get(each, set()) | origins
+    return held
+
+
 def by_tile(held, tiles):
     """The slices of each tile."""
     found = [[] for _ in range(tiles)]
@@ -260,11 +276,21 @@ def standing(held, tiles):
     return [best(pieces) for pieces in by_tile(held, tiles)]
 
 
-def holding_text(record, size, held):
-    """The file of a holding."""
-    entries = (b"\x01" + tile.to_bytes(2, "big") + len(piece).to_bytes(4, "big") + piece for tile, piece in sorted(held))
+def entry_text(tile, piece, origins, version=2):
+    """An entry of a holding file; one of version 1 has no origins."""
+    text = b"\x01" + tile.to_bytes(2, "big") + len(piece).to_bytes(4, "big") + piece
+    return text if version == 1 else text + len(origins).to_bytes(4, "big") + b"".join(origins)
+
+
+def file_text(record, size, entries, version=2):
+    """A holding file with these texts of entries."""
     head = b"".join(number.to_bytes(4, "big") for number in (*size, len(record)))
-    return MAGIC + head + record + b"".join(entries) + b"\x00"
+    return MAGIC + bytes([version]) + head + record + b"".join(entries) + b"\x00"
+
+
+def holding_text(record, size, held, version=2):
+    """The file of a holding: of its slices, each with its tile, and the digests of each."""
+    return file_text(record, size, (entry_text(*each, sorted(held[each]), version) for each in sorted(held)), version)
 
 
 def report_text(size, held, tiles):
@@ -277,6 +303,7 @@ def report_text(size, held, tiles):
         elif len(pieces) == 1:
             digest = hashlib.sha256(pieces[0]).hexdigest()
             lines.append(f"tile {tile} settled status {pieces[0][-5]} bytes {len(pieces[0])} held {many} sha256 {digest}")
+            lines += (f"tile {tile} origin {origin.hex()}" for origin in sorted(held[tile, pieces[0]]))
         else:
             lines.append(f"tile {tile} disputed {len(pieces)} status {pieces[0][-5]} held {many}")
         count[2 if not pieces else min(len(pieces), 2) - 1] += 1
@@ -288,10 +315,10 @@ def report_text(size, held, tiles):
 
 
 def read_holding(text):
-    """The record, size, setup and slices of a holding file, or Fault with the first fault's number; None where the record's deltas
-    are too many to be read here."""
+    """The record, size, setup and slices of a holding file, each with its tile and digests, or Fault with the first fault's number;
+    None where the record's deltas are too many to be read here."""
     for place in range(8):
-        if text[place : place + 1] != MAGIC[place : place + 1]:
+        if text[place : place + 1] not in ([b"\x01", b"\x02"] if place == 7 else [MAGIC[place : place + 1]]):
             raise Fault(1 if place < len(text) else 3)
     length = int.from_bytes(text[16:20], "big")
     judge(len(text) < 20 or length <= RECORD_LIMIT, 11)
@@ -306,7 +333,7 @@ def read_holding(text):
 
 def read_entries(setup, text, place):
     """The entries of a holding file from a place on."""
-    held = []
+    held, last = {}, None
     while text[place : place + 1] == b"\x01":
         head = text[place + 1 : place + 7]
         length = int.from_bytes(head[2:6], "big")
@@ -315,10 +342,25 @@ def read_entries(setup, text, place):
         judge(len(head) == 6 and len(piece) == length, 3)
         tile = int.from_bytes(head[:2], "big")
         judge(tile_of(setup, piece, tile == 0) == tile, 6)
-        judge(not held or held[-1] < (tile, piece), 5)
-        held.append((tile, piece))
-        place += 7 + length
+        judge(last is None or last < (tile, piece), 5)
+        last, place = (tile, piece), place + 7 + length
+        held[last], place = (set(), place) if text[7] == 1 else read_origins(text, place)
     judge(place < len(text), 3)
     judge(text[place] == 0, 4)
     judge(place + 1 == len(text), 7)
     return held
+
+
+def read_origins(text, place):
+    """The digests behind an entry's slice, and the place behind them."""
+    count = int.from_bytes(text[place : place + 4], "big")
+    judge(len(text) >= place + 4, 3)
+    judge(count <= ORIGINS_LIMIT, 11)
+    origins, place = [], place + 4
+    for _ in range(count):
+        digest = text[place : place + 32]
+        judge(len(digest) == 32, 3)
+        judge(not origins or origins[-1] < digest, 5)
+        origins.append(digest)
+        place += 32
+    return set(origins), place

@@ -21,13 +21,34 @@ const BLACK: [u8; 11] = [0xFD, 0xF6, 0x80, 0, 0, 3, 0, 0x1C, 0x3E, 0xA0, 0x9B];
 /// The same of one sample 1.
 const DARK: [u8; 11] = [0xFD, 0xF6, 0x40, 0, 0, 3, 0, 0x17, 0x60, 0xA5, 0x79];
 
-/// The holding file of both: the name and the version, the size 1 x 1 and the record, an entry for each, which rise,
-/// and the end.
+/// The holding file of both of version 1: the name and the version, the size 1 x 1 and the record, an entry for each,
+/// which rise, and the end.
 const FILE: [u8; 74] = [
     0x46, 0x46, 0x56, 0x31, 0x48, 0x4C, 0x44, 1, 0, 0, 0, 1, 0, 0, 0, 1, 0, 0, 0, 17, 0x56, 0x2B,
     0x83, 0xBD, 0xC5, 0x3A, 0x74, 0xE9, 0xD3, 0xA7, 0x4E, 0x9D, 0x26, 0x60, 0x98, 0x8D, 0xE6, 1, 0,
     0, 0, 0, 0, 11, 0xFD, 0xF6, 0x40, 0, 0, 3, 0, 0x17, 0x60, 0xA5, 0x79, 1, 0, 0, 0, 0, 0, 11,
     0xFD, 0xF6, 0x80, 0, 0, 3, 0, 0x1C, 0x3E, 0xA0, 0x9B, 0,
+];
+
+/// The file of version 2 of what it means: behind each slice stands that it has no origins.
+const AGAIN: [u8; 82] = [
+    0x46, 0x46, 0x56, 0x31, 0x48, 0x4C, 0x44, 2, 0, 0, 0, 1, 0, 0, 0, 1, 0, 0, 0, 0x11, 0x56, 0x2B,
+    0x83, 0xBD, 0xC5, 0x3A, 0x74, 0xE9, 0xD3, 0xA7, 0x4E, 0x9D, 0x26, 0x60, 0x98, 0x8D, 0xE6, 1, 0,
+    0, 0, 0, 0, 0x0B, 0xFD, 0xF6, 0x40, 0, 0, 3, 0, 0x17, 0x60, 0xA5, 0x79, 0, 0, 0, 0, 1, 0, 0, 0,
+    0, 0, 0x0B, 0xFD, 0xF6, 0x80, 0, 0, 3, 0, 0x1C, 0x3E, 0xA0, 0x9B, 0, 0, 0, 0, 0,
+];
+
+/// The file of a holding that took both as copies: behind each slice stands the SHA-256 digest of its copy, which is the
+/// slice alone.
+const SECOND: [u8; 146] = [
+    0x46, 0x46, 0x56, 0x31, 0x48, 0x4C, 0x44, 2, 0, 0, 0, 1, 0, 0, 0, 1, 0, 0, 0, 0x11, 0x56, 0x2B,
+    0x83, 0xBD, 0xC5, 0x3A, 0x74, 0xE9, 0xD3, 0xA7, 0x4E, 0x9D, 0x26, 0x60, 0x98, 0x8D, 0xE6, 1, 0,
+    0, 0, 0, 0, 0x0B, 0xFD, 0xF6, 0x40, 0, 0, 3, 0, 0x17, 0x60, 0xA5, 0x79, 0, 0, 0, 1, 0xB0, 0xB4,
+    0xFB, 0x47, 0x52, 0x55, 0x16, 3, 0xCD, 0x48, 0x56, 0x4E, 0x7B, 0xAA, 0x85, 0xF4, 0x58, 0x19,
+    0xA1, 0xC2, 0x9D, 0xC1, 0xCC, 0x7C, 0x47, 0x23, 9, 0xD0, 0x8D, 0x5E, 0x88, 0, 1, 0, 0, 0, 0, 0,
+    0x0B, 0xFD, 0xF6, 0x80, 0, 0, 3, 0, 0x1C, 0x3E, 0xA0, 0x9B, 0, 0, 0, 1, 0x2D, 0x75, 0x79, 0xBA,
+    0xF4, 0x7B, 0x64, 0xE0, 0xC7, 0x63, 0xD9, 0x78, 0xA7, 0x60, 0x4F, 0xAA, 0x13, 0x4C, 0x6B, 0x5B,
+    0xAD, 0x2D, 0x5D, 0xE9, 0x19, 0xE8, 0xD5, 0xE7, 0x1D, 0x94, 0x7F, 0x53, 0,
 ];
 
 /// A reader of bytes that fails once they are read, with an error of this kind, so many times.
@@ -113,29 +134,45 @@ fn fault_behind(alloc: Global, bytes: &[u8], kind: ErrorKind, times: u32) -> Opt
 
 #[test]
 fn a_cut_file_is_truncated(rt: HostRuntime) {
-    for length in 0..FILE.len() {
-        let fault = read_hold(rt.alloc(), &mut FromRead::new(&FILE[..length])).err();
-        assert_eq!(rt; fault, Some(HoldFileFault::Truncated), "at {length}");
+    for file in [FILE.as_slice(), SECOND.as_slice()] {
+        for length in 0..file.len() {
+            let fault = read_hold(rt.alloc(), &mut FromRead::new(&file[..length])).err();
+            assert_eq!(rt; fault, Some(HoldFileFault::Truncated), "at {length}");
+        }
     }
 }
 
 #[test]
 fn a_failing_source_is_told_as_that(rt: HostRuntime) {
-    for length in 0..FILE.len() {
-        let fault = fault_behind(rt.alloc(), &FILE[..length], ErrorKind::Other, 1);
-        assert_eq!(rt; fault, Some(HoldFileFault::Read), "at {length}");
+    for file in [FILE.as_slice(), SECOND.as_slice()] {
+        for length in 0..file.len() {
+            let fault = fault_behind(rt.alloc(), &file[..length], ErrorKind::Other, 1);
+            assert_eq!(rt; fault, Some(HoldFileFault::Read), "at {length}");
+        }
     }
 }
 
 #[test]
 fn a_failing_sink_is_told_as_that(rt: HostRuntime) -> Result<(), Fail> {
-    let holding = read_hold(rt.alloc(), &mut FromRead::new(FILE.as_slice()))?;
-    for room in 0..FILE.len() {
+    let holding = read_hold(rt.alloc(), &mut FromRead::new(SECOND.as_slice()))?;
+    for room in 0..SECOND.len() {
         let bytes = Vec::new(rt.alloc());
         let mut sink = FromWrite::new(Narrow { room, bytes });
         let fault = write_hold(&holding, &mut sink).err();
         assert_eq!(rt; (fault, sink.failures()), (Some(HoldFileFault::Write), 1));
-        assert_eq!(rt; sink.into_inner().bytes.as_slice(), &FILE[..room]);
+        assert_eq!(rt; sink.into_inner().bytes.as_slice(), &SECOND[..room]);
+    }
+    Ok(())
+}
+
+#[test]
+fn a_file_of_either_version_is_written_as_one_of_the_second(rt: HostRuntime) -> Result<(), Fail> {
+    let cases: [(&[u8], &[u8]); 3] = [(&FILE, &AGAIN), (&AGAIN, &AGAIN), (&SECOND, &SECOND)];
+    for (file, wanted) in cases {
+        let holding = read_hold(rt.alloc(), &mut FromRead::new(file))?;
+        let mut sink = FromWrite::new(Vec::new(rt.alloc()));
+        write_hold(&holding, &mut sink)?;
+        assert_eq!(rt; sink.into_inner().as_slice(), wanted);
     }
     Ok(())
 }
@@ -153,7 +190,7 @@ fn a_fault_that_was_read_comes_before_the_device(rt: HostRuntime) {
     let cases = [
         (0, 0x45, 1, HoldFileFault::Magic),
         (3, 0, 4, HoldFileFault::Magic),
-        (7, 2, 8, HoldFileFault::Magic),
+        (7, 3, 8, HoldFileFault::Magic),
         (16, 2, 20, HoldFileFault::TooLong),
         (11, 0, 37, HoldFileFault::Setup(SetupFault::Size)),
         (37, 5, 38, HoldFileFault::Tag),
@@ -183,6 +220,37 @@ fn an_entry_out_of_order_comes_before_the_device(rt: HostRuntime) {
         assert_eq!(rt; shown, Some(HoldFileFault::Order), "at {second}");
         let before = fault_behind(rt.alloc(), &changed[..72], ErrorKind::Other, 1);
         assert_eq!(rt; before, Some(HoldFileFault::Read), "at {second}");
+    }
+}
+
+#[test]
+fn too_many_digests_come_before_the_device(rt: HostRuntime) {
+    // 2^26 are not too many, and one more are.
+    for (last, end, fault) in [
+        (0, 59, HoldFileFault::Read),
+        (1, 58, HoldFileFault::Read),
+        (1, 59, HoldFileFault::TooLong),
+    ] {
+        let mut changed = SECOND;
+        changed[55] = 4;
+        changed[58] = last;
+        let shown = fault_behind(rt.alloc(), &changed[..end], ErrorKind::Other, 1);
+        assert_eq!(rt; shown, Some(fault), "at {last}, {end}");
+    }
+}
+
+#[test]
+fn a_digest_out_of_order_comes_before_the_device(rt: HostRuntime) {
+    // Both digests behind the first slice, with the greater one first, or one of them twice.
+    for (first, second) in [(59, 113), (59, 59)] {
+        let mut changed = SECOND;
+        changed[58] = 2;
+        changed[59..91].copy_from_slice(&SECOND[first..first + 32]);
+        changed[91..123].copy_from_slice(&SECOND[second..second + 32]);
+        let shown = fault_behind(rt.alloc(), &changed[..123], ErrorKind::Other, 1);
+        assert_eq!(rt; shown, Some(HoldFileFault::Order), "at {first}");
+        let before = fault_behind(rt.alloc(), &changed[..122], ErrorKind::Other, 1);
+        assert_eq!(rt; before, Some(HoldFileFault::Read), "at {first}");
     }
 }
 
@@ -219,7 +287,7 @@ fn plans_of_the_same_copies_give_one_file(rt: HostRuntime) -> Result<(), Fail> {
     let copies: [&[u8]; 3] = [&DARK, &BLACK, &DARK];
     let one = file_of(rt.alloc(), &one_by_one(rt.alloc(), &BLACK, &DARK)?)?;
     let other = file_of(rt.alloc(), &through_a_file(rt.alloc(), &copies)?)?;
-    assert_eq!(rt; one.as_slice(), FILE.as_slice());
-    assert_eq!(rt; other.as_slice(), FILE.as_slice());
+    assert_eq!(rt; one.as_slice(), SECOND.as_slice());
+    assert_eq!(rt; other.as_slice(), SECOND.as_slice());
     Ok(())
 }

@@ -1,6 +1,7 @@
 //! Real slices, and the sets and holdings that they make.
 use ffv1_holding::{HoldFault, Holding, Join, RestoreFault, SliceSet, Taken, TileState, join_all};
 use ffv1_range::SetupFault;
+use sha2::{Digest, Sha256};
 use std::alloc::Global;
 use std::test::Fail;
 
@@ -89,6 +90,35 @@ fn a_copy_tells_what_was_taken(rt: HostRuntime) -> Result<(), Fail> {
         let taken = Taken { links, slices, new };
         assert_eq!(rt; holding.take(copy), Ok(taken), "of {links} links");
     }
+    Ok(())
+}
+
+/// Whether the origins of a slice of a tile are the digests of these copies.
+fn has_origins(held: &Holding, tile: usize, slice: &[u8], copies: &[&[u8]]) -> bool {
+    let Some(origins) = held.origins(tile, slice) else {
+        return false;
+    };
+    let mut found = 0;
+    for copy in copies {
+        found += usize::from(origins.contains(&Sha256::digest(copy)));
+    }
+    found == copies.len() && origins.len() == copies.len()
+}
+
+#[test]
+fn origins_are_the_digests_of_whole_copies(rt: HostRuntime) -> Result<(), Fail> {
+    let mut held = held_of(rt.alloc(), 2, [&LEFT_DAMAGED, &RIGHT_DAMAGED])?;
+    held.take(&LEFT_DAMAGED)?;
+    let mut both = held_of(rt.alloc(), 2, [&FRAME, &LEFT_DAMAGED])?;
+    let apart = has_origins(&held, 0, &BLACK, &[&RIGHT_DAMAGED])
+        && has_origins(&held, 1, &RIGHT, &[&LEFT_DAMAGED])
+        && !has_origins(&held, 0, &RIGHT, &[]);
+    assert!(rt; apart);
+    let shared = has_origins(&both, 0, &BLACK, &[&FRAME])
+        && has_origins(&both, 1, &RIGHT, &[&FRAME, &LEFT_DAMAGED]);
+    assert!(rt; shared);
+    assert_eq!(rt; both.join_with(&held), Ok(0));
+    assert!(rt; has_origins(&both, 0, &BLACK, &[&FRAME, &RIGHT_DAMAGED]));
     Ok(())
 }
 

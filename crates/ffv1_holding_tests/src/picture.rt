@@ -430,7 +430,9 @@ fn whole_frame_is_reported_with_its_digest(rt: HostRuntime) -> Result<(), Fail> 
         reported(rt.alloc(), &TWO_TILES, (2, 1), &[&FRAME])?.as_str(),
         "reel 2x1 tiles 2\n\
          tile 0 settled status 0 bytes 11 held 1 sha256 2d7579baf47b64e0c763d978a7604faa134c6b5bad2d5de919e8d5e71d947f53\n\
+         tile 0 origin d851a6f33e0e3c5daec4bafe4532347e5331626564719420468000160d2fb0a1\n\
          tile 1 settled status 0 bytes 11 held 1 sha256 8a6bf82b78d1bfaad9b3cf68b5de562e0910eaed8638e68b8f14b92b77ae9718\n\
+         tile 1 origin d851a6f33e0e3c5daec4bafe4532347e5331626564719420468000160d2fb0a1\n\
          settled 2 disputed 0 missing 0\n\
          frame bytes 22 sha256 d851a6f33e0e3c5daec4bafe4532347e5331626564719420468000160d2fb0a1\n"
     );

@@ -118,18 +118,22 @@ fn commands_restore_what_two_copies_have(rt: HostRuntime) -> Result<(), Fail> {
 }
 
 /// The numbers of the faults of the holding file of both tiles where the lowest bit of one byte is turned, by the byte's
-/// place; 0 where it is then the file of another size.
-const BIT_TURNED: [u8; 74] = [
+/// place; 0 where it is then the file of another size, or of another copy.
+const BIT_TURNED: [u8; 146] = [
     1, 1, 1, 1, 1, 1, 1, 1, 2, 2, 0, 0, 2, 2, 0, 2, 11, 3, 3, 2, 2, 2, 2, 2, 2, 2, 2, 2, 2, 2, 2,
-    2, 2, 2, 2, 2, 2, 7, 6, 6, 11, 3, 3, 6, 6, 6, 6, 6, 6, 6, 6, 6, 6, 6, 6, 7, 6, 6, 11, 3, 3, 6,
-    6, 6, 6, 6, 6, 6, 6, 6, 6, 6, 6, 3,
+    2, 2, 2, 2, 2, 2, 7, 6, 6, 11, 3, 3, 6, 6, 6, 6, 6, 6, 6, 6, 6, 6, 6, 6, 5, 5, 5, 4, 0, 0, 0,
+    0, 0, 0, 0, 0, 0, 0, 0, 0, 0, 0, 0, 0, 0, 0, 0, 0, 0, 0, 0, 0, 0, 0, 0, 0, 0, 0, 0, 0, 7, 6, 6,
+    11, 3, 3, 6, 6, 6, 6, 6, 6, 6, 6, 6, 6, 6, 6, 3, 3, 3, 4, 0, 0, 0, 0, 0, 0, 0, 0, 0, 0, 0, 0,
+    0, 0, 0, 0, 0, 0, 0, 0, 0, 0, 0, 0, 0, 0, 0, 0, 0, 0, 0, 0, 3,
 ];
 
 /// The same where all bits of the byte are turned.
-const BYTE_TURNED: [u8; 74] = [
+const BYTE_TURNED: [u8; 146] = [
     1, 1, 1, 1, 1, 1, 1, 1, 2, 2, 0, 0, 2, 2, 0, 0, 11, 3, 3, 3, 2, 2, 2, 2, 2, 2, 2, 2, 2, 2, 2,
-    2, 2, 2, 2, 2, 2, 4, 6, 6, 11, 3, 3, 3, 6, 6, 6, 6, 6, 6, 6, 6, 6, 6, 6, 4, 6, 6, 11, 3, 3, 3,
-    6, 6, 6, 6, 6, 6, 6, 6, 6, 6, 6, 4,
+    2, 2, 2, 2, 2, 2, 4, 6, 6, 11, 3, 3, 3, 6, 6, 6, 6, 6, 6, 6, 6, 6, 6, 6, 11, 5, 5, 5, 0, 0, 0,
+    0, 0, 0, 0, 0, 0, 0, 0, 0, 0, 0, 0, 0, 0, 0, 0, 0, 0, 0, 0, 0, 0, 0, 0, 0, 0, 0, 0, 0, 4, 6, 6,
+    11, 3, 3, 3, 6, 6, 6, 6, 6, 6, 6, 6, 6, 6, 6, 11, 3, 3, 3, 0, 0, 0, 0, 0, 0, 0, 0, 0, 0, 0, 0,
+    0, 0, 0, 0, 0, 0, 0, 0, 0, 0, 0, 0, 0, 0, 0, 0, 0, 0, 0, 0, 4,
 ];
 
 /// Whether `restore` tells this fault of a holding file and leaves the outputs alone; for 0, whether it restores the frame.
@@ -167,7 +171,7 @@ fn are_told(alloc: Global, file: &[u8], mask: u8, numbers: &[u8]) -> Result<bool
 #[test]
 fn each_changed_byte_of_a_holding_file_is_told(rt: HostRuntime) -> Result<(), Fail> {
     let (both, _) = taken(rt.alloc(), [&left_damaged(), &right_damaged()])?;
-    assert_eq!(rt; both.len(), 74);
+    assert_eq!(rt; both.len(), 146);
     assert!(rt; are_told(rt.alloc(), &both, 1, &BIT_TURNED)?);
     assert!(rt; are_told(rt.alloc(), &both, 0xFF, &BYTE_TURNED)?);
     Ok(())

@@ -125,23 +125,29 @@ fn record_is_judged(alloc: Global, made: &Made, rotten: &[u8]) -> bool {
     }
 }
 
-/// Whether a rotten holding file is told as cut, or for a fault of its bytes, unless nothing of it has changed.
-fn file_is_judged(alloc: Global, file: &[u8], rotten: &[u8]) -> bool {
+/// Whether a rotten holding file is told as cut, or for a fault of its bytes, or is the file of what is read of it: nothing
+/// of it has changed, or a digest.
+fn file_is_judged(alloc: Global, file: &[u8], rotten: &[u8]) -> Result<bool, Fail> {
     match read_hold(alloc, &mut FromRead::new(rotten)) {
-        Ok(_) => rotten == file,
-        Err(fault) if rotten.len() < file.len() => fault == HoldFileFault::Truncated,
-        Err(HoldFileFault::Read | HoldFileFault::Memory | HoldFileFault::Write) => false,
-        Err(_) => rotten != file,
+        Ok(holding) => Ok(text_of(alloc, &holding)?.as_slice() == rotten),
+        Err(fault) if rotten.len() < file.len() => Ok(fault == HoldFileFault::Truncated),
+        Err(HoldFileFault::Read | HoldFileFault::Memory | HoldFileFault::Write) => Ok(false),
+        Err(_) => Ok(rotten != file),
     }
+}
+
+/// The file of a holding.
+fn text_of(alloc: Global, holding: &Holding) -> Result<Vec<u8>, Fail> {
+    let mut sink = FromWrite::new(Vec::new(alloc));
+    write_hold(holding, &mut sink)?;
+    Ok(sink.into_inner())
 }
 
 /// The holding file of a frame.
 fn file_of(alloc: Global, made: &Made) -> Result<Vec<u8>, Fail> {
     let mut holding = Holding::new(alloc, &made.record, made.size.0, made.size.1)?;
     holding.take(&made.payload).ok().ok_or("ample memory")?;
-    let mut sink = FromWrite::new(Vec::new(alloc));
-    write_hold(&holding, &mut sink)?;
-    Ok(sink.into_inner())
+    text_of(alloc, &holding)
 }
 
 /// Whether a frame is judged rightly wherever it is cut or zeroed.
@@ -174,7 +180,7 @@ fn files_are_judged(alloc: Global, made: &Made, is_cut: bool) -> Result<bool, Fa
     let file = file_of(alloc, made)?;
     for place in 0..file.len() {
         if let Some(bytes) = rotten(alloc, &file, place, is_cut)? {
-            if !file_is_judged(alloc, &file, &bytes) {
+            if !file_is_judged(alloc, &file, &bytes)? {
                 return Ok(false);
             }
         }
