@@ -98,11 +98,12 @@ fn has_origins(held: &Holding, tile: usize, slice: &[u8], copies: &[&[u8]]) -> b
     let Some(origins) = held.origins(tile, slice) else {
         return false;
     };
-    let mut found = 0;
     for copy in copies {
-        found += usize::from(origins.contains(&Sha256::digest(copy)));
+        if !origins.contains(&Sha256::digest(copy)) {
+            return false;
+        }
     }
-    found == copies.len() && origins.len() == copies.len()
+    origins.len() == copies.len()
 }
 
 #[test]
