@@ -8,10 +8,9 @@ use Rattle.ffv1_hold.specs.HoldingText.{holding_text}
 use Rattle.ffv1_hold.specs.Sets as set
 use Rattle.ffv1_hold.specs.Contents.{Contents, IsSameReel, joined}
 use Rattle.ffv1_hold.specs.Joins.{joined_all, AreJoinable}
-use Rattle.ffv1_commands.specs.Devices.{WriteStops}
 use Rattle.ffv1_commands.specs.Fault.{NamesPath, of_hold}
 use Rattle.ffv1_commands.specs.Paths.{IsJoinPath}
-use Rattle.ffv1_commands.specs.Holdings.{IsHoldingFile, HasFile, IsHoldingFault, IsFileFault, MadeStops}
+use Rattle.ffv1_commands.specs.Holdings.{IsHoldingFile, HasFile, IsFileFault, MadeStops}
 use Rattle.ffv1_commands.specs.JoinText.{file_line, line_of_join, lines_from, join_text, AreHoldingFiles, JoinsEach, JoinsOne, JoinsFiles, AreJoinedBefore, IsJoinFault, IsFaultOfFiles, JoinStops}
 use Rattle.ffv1_commands.specs.declared.fault.CliFault.{CliFault}
 use Rattle.ffv1_commands.specs.declared.fault.CliFault.TheVariants as faults

@@ -19,7 +19,7 @@ use Rattle.ffv1_commands.specs.RecordInputs.{IsReelInput}
 use Rattle.ffv1_commands.specs.Fault.{NamesPath, of_setup}
 use Rattle.ffv1_commands.specs.Paths.{IsTakePath}
 use Rattle.ffv1_commands.specs.Holdings.{HasFile, IsFileFault, MadeStops}
-use Rattle.ffv1_commands.specs.TakeText.{copy_line, held_of, line_behind, lines_behind, take_text, TakesEach, TakesOne, TakesCopies, IsFaultOfInputs, TakeStops}
+use Rattle.ffv1_commands.specs.TakeText.{copy_line, held_of, line_behind, lines_behind, TakesEach, TakesOne, TakesCopies, IsFaultOfInputs, TakeStops}
 use Rattle.ffv1_commands.specs.declared.fault.CliFault.{CliFault}
 use Rattle.ffv1_commands.specs.declared.fault.CliFault.TheVariants as faults
 use Rattle.ffv1_commands.specs.declared.path.CommandPath.TheVariants as paths

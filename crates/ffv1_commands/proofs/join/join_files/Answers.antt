@@ -1,8 +1,8 @@
-use Rattle.std.proofs.Common.{◌≡◌, ◌≤◌, ◌<◌, ◌+◌, List, [], ◌∷◌, ◌++◌, Option, ℕ, map, length, take, get_or, subst, sym, ap, ◌∙◌, refl, arith}
+use Rattle.std.proofs.Common.{◌≡◌, ◌≤◌, ◌<◌, ◌+◌, List, [], ◌∷◌, ◌++◌, Option, ℕ, map, length, take, subst, sym, ap, ◌∙◌, refl, arith}
 use Rattle.std.proofs.lemmas.Result.{err_from_is_err_and}
 use Rattle.std.proofs.lemmas.List.{length-map}
 use Rattle.std.specs.String.{string_bytes}
-use Rattle.ffv1_commands.specs.JoinText.{file_line, JoinsEach, JoinsOne}
+use Rattle.ffv1_commands.specs.JoinText.{file_line, JoinsEach}
 use Rattle.ffv1_commands.proofs.InputLaws.{inputs_more, input_at, length-inputs, inputs_all, others_kept}
 use Rattle.ffv1_commands.proofs.JoinSteps.{joins_first, joins_more, joins_reel, other_refused}
 use Rattle.ffv1_commands.proofs.join.join_files.Goals as goal
