@@ -15,6 +15,7 @@ use Rattle.ffv1_holding.specs.Rising.{IsRising}
 use Rattle.ffv1_holding.specs.TileSets.{tile_slices}
 use Rattle.ffv1_holding.specs.PoolEntries.{slice_in, entry_in, IsPool, IsShelf, IsTilePart}
 use Rattle.ffv1_holding.specs.declared.pool_entry.PoolEntry.{PoolEntry}
+use Rattle.ffv1_holding.proofs.RisingSets.{size_kept, items_kept}
 use Rattle.ffv1_holding.proofs.Tiles.{same_tile, other_tile, contains-tile_slices}
 
 or_false : (b : Bool) → (b || false) ≡ b
@@ -149,3 +150,19 @@ module _ (bytes : List ℕ) (es : List PoolEntry) (pool : IsPool bytes es) (t a 
           part_at j some_entry (omega arith),
         ) bytes_less;
   }
+
+  module _ (slices : set.SetOf entry_cmp) (same : set.from_list (map (entry_in bytes) es) ≡ slices) where
+    -- a place among the tile's slices is a place in the part
+    pub size_part : set.size (tile_slices slices t) ≡ b - a
+    size_part =
+        size_kept bytes_total (slice_in bytes) (take (b - a) (drop a es)) (tile_slices slices t) is_shelf.rising (tile_slices-part slices same) ∙ part_long
+
+    pub entry_in_part : (i : ℕ) (x : PoolEntry) (d : List ℕ) → i < b - a
+        → entry_in bytes (get_or es (a + i) x) ≡ (t, get_or (set.items (tile_slices slices t)) i d)
+    entry_in_part i x d lt =
+        let long = part_long in
+        let part = take (b - a) (drop a es) in
+        let there = ap (slice_in bytes) (sym (part_at i x lt)) ∙ sym (get_or-map (slice_in bytes) part i x d (omega arith))
+        ∙ ap (λ xs. get_or xs i d)
+        (sym (items_kept bytes_total (slice_in bytes) part (tile_slices slices t) is_shelf.rising (tile_slices-part slices same))) in
+        λ k. (is.here (a + i) x (omega arith) (omega arith) k, there k)

@@ -1,5 +1,5 @@
 //! The slices that are held of all tiles (own), in one piece of memory.
-ghost use Rattle.std.specs.Prelude.{◌≡◌, ℕ, ◌<◌, true, false, List, map, IfSome, IfNone, IfOk, IfErr, OnOk, OnErr};
+ghost use Rattle.std.specs.Prelude.{◌≡◌, ℕ, ◌<◌, true, false, List, map, slice_index_or, IfSome, IfNone, IfOk, IfErr, OnOk, OnErr};
 ghost use Rattle.std.specs.List.Sorted.{IsNonDecreasingBy};
 ghost use Rattle.sha2.specs.Sha256.{sha256};
 ghost use Rattle.ffv1_slice.specs.Chain.{IsFramed};
@@ -14,7 +14,7 @@ ghost use Rattle.ffv1_holding.specs.Rows.{rows_of, AreRows};
 use crate::fault::HoldFault;
 use crate::fresh::{fresh_among, place_of, put_slices, room_of};
 use crate::pool_entry::PoolEntry;
-use crate::rows::{Rows, fresh_rows, put_rows, row_part};
+use crate::rows::{Rows, digests_of, fresh_rows, put_rows};
 use crate::shelf::Shelf;
 use ffv1_slice::status_of;
 use sha2::{Digest, Sha256};
@@ -106,17 +106,33 @@ impl Pool {
         ensures absent { IfNone result (set.contains self.now.slices (tile, slice.now) ≡ false) }
     {
         match place_of(&self.bytes, &self.entries, tile, slice) {
-            Ok(_) => {
+            Ok(place) => {
                 let rows = Rows {
                     bytes: &self.bytes,
                     owners: &self.owners,
                     digests: &self.digests,
                 };
-                let (start, end) = row_part(rows, tile, slice);
-                Some(&self.digests[start..end])
+                Some(digests_of(rows, self.entries[place]))
             }
             Err(_) => None,
         }
+    }
+
+    /// The digests of the copies that gave the slice of a tile at a place of the rising order, which counts from 0.
+    /// `place` must be less than the number of the tile's slices.
+    pub(crate) fn origins_at(&self, tile: usize, place: usize) -> &[[u8; 32]]
+        requires { place < set.size (tile_slices self.now.slices tile) }
+        ensures digests { (d : List ℕ) → result.now
+            ≡ digests_in self.now.origins (tile, slice_index_or (set.items (tile_slices self.now.slices tile)) place d) }
+        ensures rising { AreDigests result.now }
+    {
+        let rows = Rows {
+            bytes: &self.bytes,
+            owners: &self.owners,
+            digests: &self.digests,
+        };
+        let (start, _) = tile_part(&self.entries, tile);
+        digests_of(rows, self.entries[start + place])
     }
 
     /// Adds a slice of a tile, where it is not held already, and digests of copies that gave it.

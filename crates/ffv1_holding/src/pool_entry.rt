@@ -32,4 +32,15 @@ impl PoolEntry {
             apart => apart,
         }
     }
+
+    /// How its slice stands to that of another in the same bytes: by tile, then by bytes. Where both lie in the same
+    /// place, no byte is looked at.
+    pub(crate) fn compare_to(&self, bytes: &[u8], other: PoolEntry) -> Ordering
+        ensures { result ≡ entry_cmp (entry_in bytes.now self.now) (entry_in bytes.now other) }
+    {
+        if self.start == other.start && self.length == other.length {
+            return self.tile.cmp(&other.tile);
+        }
+        self.compare(bytes, other.tile, other.slice(bytes))
+    }
 }

@@ -4,7 +4,8 @@ ghost use Rattle.ffv1_holding.specs.Sets as set;
 ghost use Rattle.ffv1_holding.specs.SliceOrder.{Origin, entry_cmp, origin_cmp};
 ghost use Rattle.ffv1_holding.specs.Rising.{IsPlaceOf, IsGapFor};
 ghost use Rattle.ffv1_holding.specs.PoolEntries.{entry_in, IsPool};
-ghost use Rattle.ffv1_holding.specs.Contents.{AreHeld};
+ghost use Rattle.ffv1_holding.specs.TileSets.{digests_in};
+ghost use Rattle.ffv1_holding.specs.Contents.{AreHeld, AreDigests};
 ghost use Rattle.ffv1_holding.specs.Fresh.{AreAllFresh};
 ghost use Rattle.ffv1_holding.specs.Rows.{rows_in, rows_of, IsRows, AreRows, IsRowPart, fresh_rows_in, AreFreshRows, AreSettled};
 
@@ -32,7 +33,7 @@ pub(crate) struct FreshRows {
 }
 
 /// From where and up to where the rows of a slice stand.
-pub(crate) fn row_part(rows: Rows<'_>, tile: usize, slice: &[u8]) -> (usize, usize)
+fn row_part(rows: Rows<'_>, tile: usize, slice: &[u8]) -> (usize, usize)
     requires { AreRows rows }
     ensures { IsRowPart rows.entry.bytes.now rows.entry.owners.now (tile, slice.now) result.0 result.1 }
 {
@@ -40,6 +41,28 @@ pub(crate) fn row_part(rows: Rows<'_>, tile: usize, slice: &[u8]) -> (usize, usi
     let start = owners.partition_point(|owner| owner.compare(bytes, tile, slice).is_lt());
     let end = owners.partition_point(|owner| owner.compare(bytes, tile, slice).is_le());
     (start, end)
+}
+
+/// From where and up to where the rows of an entry's slice stand. The entry lies in the bytes of the rows; where it is
+/// their owner, no byte of the slice is looked at.
+fn part_of(rows: Rows<'_>, entry: PoolEntry) -> (usize, usize)
+    requires { AreRows rows }
+    ensures { IsRowPart rows.entry.bytes.now rows.entry.owners.now (entry_in rows.entry.bytes.now entry) result.0 result.1 }
+{
+    let Rows { bytes, owners, .. } = rows;
+    let start = owners.partition_point(|owner| owner.compare_to(bytes, entry).is_lt());
+    let end = owners.partition_point(|owner| owner.compare_to(bytes, entry).is_le());
+    (start, end)
+}
+
+/// The digests of the rows of an entry's slice, which lies in the bytes of the rows.
+pub(crate) fn digests_of<'a>(rows: Rows<'a>, entry: PoolEntry) -> &'a [[u8; 32]]
+    requires { AreRows rows }
+    ensures digests { result.now ≡ digests_in (set.from_list (rows_of rows.entry)) (entry_in rows.entry.bytes.now entry) }
+    ensures rising { AreDigests result.now }
+{
+    let (start, end) = part_of(rows, entry);
+    &rows.digests[start..end]
 }
 
 /// Where the row of a slice and a digest is, or where it would go.

@@ -1,39 +1,30 @@
-use Rattle.std.proofs.Common.{◌-◌, map, take, drop, sym, ap, ◌∙◌}
+use Rattle.std.proofs.Common.{◌≡◌, ◌<◌, length, map, get_or, sym, ap, ◌∙◌, arith}
+use Rattle.std.proofs.lemmas.List.{length-map, get_or-map}
 use Rattle.ffv1_holding.specs.Sets as set
 use Rattle.ffv1_holding.specs.SliceOrder.{Entry, entry_cmp, entries_total}
 use Rattle.ffv1_holding.specs.TileSets.{TileSlices, digests_in}
 use Rattle.ffv1_holding.specs.PoolEntries.{entry_in}
-use Rattle.ffv1_holding.specs.Rows.{IsRowPart}
+use Rattle.ffv1_holding.specs.Rows.{rows_in}
 use Rattle.ffv1_holding.proofs.RisingSets.{contains_placed, contains_gap}
-use Rattle.ffv1_holding.proofs.RowParts.{part_rising}
-use Rattle.ffv1_holding.proofs.DigestParts.{digests_in-part}
 use Rattle.ffv1_holding.proofs.pool.Pool.origins.Goals as goal
-
-pub row_part-start-requires : goal.row_part-start-requires
-row_part-start-requires c =
-    rw (c.deref-in-Ok.ensures.value, c.deref-in-Ok-2.ensures.value, c.deref-in-Ok-3.ensures.value) c.self.invariant.rows
 
 pub returns-in-Ok-clause-digests : goal.returns-in-Ok-clause-digests
 returns-in-Ok-clause-digests c =
-    let in_pool = c.self.inside in
-    let q : Entry = (c.args.tile, c.args.slice.now) in
-    let a = c.row_part-start.result.0 in
-    let b = c.row_part-start.result.1 in
-    let part : IsRowPart in_pool.bytes.items in_pool.owners.items q a b =
-    rw (← c.deref-in-Ok.ensures.value, ← c.deref-in-Ok-2.ensures.value) c.row_part-start.ensures in
-    ap (λ ds. take (b - a) (drop a ds)) c.deref-in-Ok-4.ensures.value
-    ∙ sym (digests_in-part in_pool.bytes.items in_pool.owners.items in_pool.digests.items c.self.invariant.rows q a b part)
-    ∙ ap (λ (h : TileSlices). digests_in h.origins q) c.self.view_is
-
-pub returns-in-Ok-clause-rising : goal.returns-in-Ok-clause-rising
-returns-in-Ok-clause-rising c =
-    let in_pool = c.self.inside in
-    let q : Entry = (c.args.tile, c.args.slice.now) in
-    let a = c.row_part-start.result.0 in
-    let b = c.row_part-start.result.1 in
-    let part : IsRowPart in_pool.bytes.items in_pool.owners.items q a b =
-    rw (← c.deref-in-Ok.ensures.value, ← c.deref-in-Ok-2.ensures.value) c.row_part-start.ensures in
-    rw c.deref-in-Ok-4.ensures.value (part_rising in_pool.bytes.items in_pool.owners.items in_pool.digests.items c.self.invariant.rows q a b part)
+    let kept = c.self.inside in
+    let key : Entry = (c.args.tile, c.args.slice.now) in
+    let at = c.in-Ok.ensures.found in
+    let lt : c.in-Ok.place < length c.deref-2.result.now =
+    omega (arith, at.in_range, length-map c.deref-2.result.now (entry_in c.deref.result.now)) in
+    let listed : entry_in c.deref.result.now (get_or c.deref-2.result.now c.in-Ok.place c.index.result.now) ≡ key =
+    sym (get_or-map (entry_in c.deref.result.now) c.deref-2.result.now c.in-Ok.place c.index.result.now key lt) ∙ at.is_there key in
+    let entry : entry_in kept.bytes.items c.index.result.now ≡ key =
+    ap (entry_in kept.bytes.items) c.index.ensures
+    ∙ (λ i. entry_in (sym c.deref.ensures.value i) (get_or (sym c.deref-2.ensures.value i) c.in-Ok.place c.index.result.now)) ∙ listed in
+    let origins = ap (λ (h : TileSlices). h.origins) c.self.view_is in
+    c.digests_of.ensures.digests
+    ∙ (λ i. digests_in (set.from_list (rows_in (c.deref-in-Ok.ensures.value i) (c.deref-in-Ok-2.ensures.value i) (c.deref-in-Ok-3.ensures.value i)))
+    (entry_in (c.deref-in-Ok.ensures.value i) c.index.result.now))
+    ∙ (λ i. digests_in (origins i) (entry i))
 
 pub returns-in-Ok-clause-held : goal.returns-in-Ok-clause-held
 returns-in-Ok-clause-held c =
