@@ -149,22 +149,9 @@ fn write_held<S: Sink>(
     ensures counted { S.failures sink.old ≤ S.failures sink.new }
     ensures same_reference { S.reference sink.new ≡ S.reference sink.old }
 {
-    let origins = origins_of(holding, tile, place);
+    let origins = holding.origins_at(tile, place);
     write_slice(sink, tile as u16, holding.slice(tile, place))?;
     write_origins(sink, origins, &[])
-}
-
-/// The origins of the slice of a tile at a place.
-fn origins_of(holding: &Holding, tile: usize, place: usize) -> &[[u8; 32]]
-    requires tile { tile < reel_tiles holding.now.reel }
-    requires held { place < set.size (tile_slices holding.now.slices tile) }
-    ensures digests { (d : List ℕ) → result.now ≡ digests_of holding.now (tile, slice_index_or (set.items (tile_slices holding.now.slices tile)) place d) }
-    ensures rising { AreDigests result.now }
-{
-    match holding.origins(tile, holding.slice(tile, place)) {
-        Some(origins) => origins,
-        None => &[],
-    }
 }
 
 /// Writes an entry's slice.
@@ -274,7 +261,7 @@ fn room_behind_tile(holding: &Holding, tile: usize, room: u32) -> Option<u32>
     let mut left = room;
     for place in 0..holding.held(tile) {
         let slice = holding.slice(tile, place);
-        let origins = origins_of(holding, tile, place);
+        let origins = holding.origins_at(tile, place);
         left = room_behind_entry(left, slice.len(), origins.len())?;
     }
     Some(left)

@@ -19,7 +19,7 @@ returns-in_err-left-clause-none c =
     let es = tile_file_entries h tile in
     let in_range : i < length es = omega (arith, c.loop-place-test.true, c.held-place-end.ensures, tile_count h tile) in
     let more = entries_length-more es i (own h (tile, b)) in_range (entry_at h tile bs i b lt c.slice-slice.ensures) in
-    let same = ap length (c.origins_of-origins.ensures.digests b ∙ ap (λ x. digests_of h (tile, x)) (sym c.slice-slice.ensures)) in
+    let same = ap length (c.origins_at-origins.ensures.digests b ∙ ap (λ x. digests_of h (tile, x)) (sym c.slice-slice.ensures)) in
     rw c.from_residual.ensures (omega (arith, c.in_err-left.ensures.none, same, c.loop-place.invariant, more, entries_length-part es (i + 1)))
 
 pub loop-place-preserved : goal.loop-place-preserved
@@ -33,7 +33,7 @@ loop-place-preserved c =
     let es = tile_file_entries h tile in
     let in_range : i < length es = omega (arith, c.loop-place-test.true, c.held-place-end.ensures, tile_count h tile) in
     let more = entries_length-more es i (own h (tile, b)) in_range (entry_at h tile bs i b lt c.slice-slice.ensures) in
-    let same = ap length (c.origins_of-origins.ensures.digests b ∙ ap (λ x. digests_of h (tile, x)) (sym c.slice-slice.ensures)) in
+    let same = ap length (c.origins_at-origins.ensures.digests b ∙ ap (λ x. digests_of h (tile, x)) (sym c.slice-slice.ensures)) in
     omega (arith, c.loop-place.invariant, c.in_ok-left.ensures.some, same, more)
 
 pub returns-clause-some : goal.returns-clause-some

@@ -19,7 +19,7 @@ write_origins-requires-clause-few g c =
     let s = tile_slices h.slices c.args.tile in
     let lt : c.args.place < length (set.items s) = omega (arith, c.requires.held, size-items s) in
     let few = c.requires.told (c.args.tile, b) (held_there h c.args.tile c.args.place b lt c.slice.ensures) in
-    let same = c.origins_of-origins.ensures.digests b ∙ ap (λ x. digests_of h (c.args.tile, x)) (sym c.slice.ensures) in
+    let same = c.origins_at-origins.ensures.digests b ∙ ap (λ x. digests_of h (c.args.tile, x)) (sym c.slice.ensures) in
     omega (arith, few, ap length same)
 
 pub returns-in_err-write_slice-clause-err : goal.returns-in_err-write_slice-clause-err
@@ -29,9 +29,9 @@ returns-in_err-write_slice-clause-err g c d =
     let s = tile_slices h.slices c.args.tile in
     let b = c.slice.result.now in
     let lt : c.args.place < length (set.items s) = omega (arith, c.requires.held, size-items s) in
-    let os = c.origins_of-origins.result.now in
+    let os = c.origins_at-origins.result.now in
     let spelled = held_spelled h c.args.tile c.args.place b lt c.slice.ensures os
-    (c.origins_of-origins.ensures.digests b) c.origins_of-origins.ensures.rising d in
+    (c.origins_at-origins.ensures.digests b) c.origins_at-origins.ensures.rising d in
     rw p.1 (subst (WritesFront _ _) spelled (front-append _ _ (1 ∷ slice_text (c.args.tile, b)) (origins_text (digests_union os []))
     c.in_err-write_slice.ensures.err))
 
@@ -41,9 +41,9 @@ returns-clause-ok g c d =
     let s = tile_slices h.slices c.args.tile in
     let b = c.slice.result.now in
     let lt : c.args.place < length (set.items s) = omega (arith, c.requires.held, size-items s) in
-    let os = c.origins_of-origins.result.now in
+    let os = c.origins_at-origins.result.now in
     let spelled = held_spelled h c.args.tile c.args.place b lt c.slice.ensures os
-    (c.origins_of-origins.ensures.digests b) c.origins_of-origins.ensures.rising d in
+    (c.origins_at-origins.ensures.digests b) c.origins_at-origins.ensures.rising d in
     appends_behind _ _ _ (1 ∷ slice_text (c.args.tile, b)) (origins_text (digests_union os [])) _ c.write_origins.result spelled
     c.in_ok-write_slice.ensures.ok c.write_origins.ensures.ok
 
@@ -53,8 +53,8 @@ returns-clause-err g c d =
     let s = tile_slices h.slices c.args.tile in
     let b = c.slice.result.now in
     let lt : c.args.place < length (set.items s) = omega (arith, c.requires.held, size-items s) in
-    let os = c.origins_of-origins.result.now in
+    let os = c.origins_at-origins.result.now in
     let spelled = held_spelled h c.args.tile c.args.place b lt c.slice.ensures os
-    (c.origins_of-origins.ensures.digests b) c.origins_of-origins.ensures.rising d in
+    (c.origins_at-origins.ensures.digests b) c.origins_at-origins.ensures.rising d in
     front_behind _ _ _ (1 ∷ slice_text (c.args.tile, b)) (origins_text (digests_union os [])) _ c.write_origins.result spelled
     c.in_ok-write_slice.ensures.ok c.write_origins.ensures.err
