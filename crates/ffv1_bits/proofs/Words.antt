@@ -3,7 +3,7 @@ use Rattle.std.proofs.Common.{◌≡◌, ℕ, zero, suc, ◌+◌, ◌-◌, ◌*�
 use Rattle.std.specs.Prelude.{bit_xor}
 use Rattle.std.specs.List.{fold, concat, slice_range}
 use Rattle.std.specs.Array.{IsFirstChunk}
-use Rattle.std.specs.Int.{byte_at, bytes_high_first, from_be_bytes, w64}
+use Rattle.std.specs.Int.{byte_at, bytes_high_first, from_be_bytes, w32, w64}
 use Rattle.std.specs.Int.Bits.{xor_shifted, xor_assoc}
 use Rattle.std.specs.Simd.{first_chunks}
 use Rattle.std.proofs.lemmas.Bool.{agree_below_at, eqb-true}
@@ -11,7 +11,7 @@ use Rattle.std.proofs.lemmas.Grind.{flat_map-append}
 use Rattle.std.proofs.lemmas.List.{length-replicate, take_more, take_rest, drop_all, drop_at, drop-drop, take-append-drop}
 use Rattle.std.proofs.lemmas.List.Folds.{concat-append}
 use Rattle.std.proofs.lemmas.List.Sums.{fold-append}
-use Rattle.std.proofs.lemmas.Nat.{pow-add, mod-pow-add, shl_below, be_bytes_8}
+use Rattle.std.proofs.lemmas.Nat.{xor_comm, pow-add, mod-pow-add, shl_below, be_bytes_8}
 use Rattle.std.proofs.lemmas.Nat.Bits.{bit_at_above}
 use Rattle.std.proofs.Math.Nat.{pow-suc, mod-eq_of_lt}
 use Rattle.std.proofs.Math.Seq.{take-add}
@@ -20,7 +20,7 @@ use Rattle.ffv1_bits.specs.declared.table.TheConstants.{REMAINDERS}
 use Rattle.ffv1_bits.specs.Parity.{divisor, polynomial_of, reduced_at, divided, remainder_of, AreBytes}
 use Rattle.ffv1_bits.proofs.Burst.{byte_is, length-bits}
 use Rattle.ffv1_bits.proofs.Numbers.{length-number_bits, number_bits-polynomial_of, number_bits-split, number_bits-low}
-use Rattle.ffv1_bits.proofs.Division.{shifted, divided_is_fold, remainder_is_fold, divided-xor, divided_low}
+use Rattle.ffv1_bits.proofs.Division.{shifted, divided_is_fold, remainder_is_fold, divided-xor, divided_low, polynomial_small}
 
 -- ---- the polynomial of bytes
 
@@ -50,6 +50,42 @@ no_polynomial (suc n) =
     let head : polynomial_of (bits_of (0 ∷ replicate n 0)) ≡ 0 * 2 ^ (8 * length (replicate n 0)) + polynomial_of (bits_of (replicate n 0)) =
     polynomial_of-bytes 0 (replicate n 0) (lit< tt) in
     head ∙ omega (arith, no_polynomial n)
+
+-- ---- a word's bytes as a number
+
+length-bits_of-word : (word : List ℕ) → length word ≡ 8 → length (bits_of word) ≡ 64
+length-bits_of-word word long = length-bits word ∙ ap (λ m. 8 * m) long
+
+pow_of_256 : (k : ℕ) → 256 ^ k ≡ 2 ^ (8 * k)
+pow_of_256 zero = refl
+pow_of_256 (suc k) =
+    pow-suc 256 k ∙ ap (λ p. p * 256) (pow_of_256 k) ∙ omega (arith, pow-add 2 8 (8 * k))
+    ∙ ap (λ m. 2 ^ m) (let e : 8 + 8 * k ≡ 8 * suc k = omega arith in e)
+
+byte_at_is : (k n : ℕ) → byte_at k n ≡ n / 2 ^ (8 * k) % 2 ^ 8
+byte_at_is zero n = omega arith
+byte_at_is (suc k) n = ap (λ p. n / p % 256) (pow_of_256 (suc k))
+
+length-high_first : (k n : ℕ) → length (bytes_high_first k n) ≡ k
+length-high_first zero n = refl
+length-high_first (suc k) n = ap suc (length-high_first k n)
+
+polynomial_of-high_first : (k n : ℕ) → polynomial_of (bits_of (bytes_high_first k n)) ≡ n % 2 ^ (8 * k)
+unfolding bits_of polynomial_of
+polynomial_of-high_first zero n = omega arith
+polynomial_of-high_first (suc k) n =
+    let small : byte_at k n < 256 = rw byte_at_is (omega arith) in
+    polynomial_of-bytes (byte_at k n) (bytes_high_first k n) small
+    ∙ ap (λ m. byte_at k n * 2 ^ (8 * m) + polynomial_of (bits_of (bytes_high_first k n))) (length-high_first k n)
+    ∙ ap (λ p. byte_at k n * 2 ^ (8 * k) + p) (polynomial_of-high_first k n)
+    ∙ ap (λ b. b * 2 ^ (8 * k) + n % 2 ^ (8 * k)) (byte_at_is k n)
+    ∙ sym (mod-pow-add n 8 (8 * k)) ∙ ap (λ m. n % 2 ^ m) (let e : 8 + 8 * k ≡ 8 * suc k = omega arith in e)
+
+polynomial_of-word : (word : List ℕ) → length word ≡ 8 → AreBytes word → polynomial_of (bits_of word) ≡ from_be_bytes w64 word
+polynomial_of-word word long small =
+    let n : ℕ = from_be_bytes w64 word in
+    let fits : n < 2 ^ 64 = omega (arith, small 0, small 1, small 2, small 3, small 4, small 5, small 6, small 7) in
+    ap (λ bytes. polynomial_of (bits_of bytes)) (sym (be_bytes_8 word n long small refl)) ∙ polynomial_of-high_first 8 n ∙ mod-eq_of_lt fits
 
 -- ---- a byte far from the end
 
@@ -114,76 +150,80 @@ tables_have more b few small =
 
 -- ---- a word
 
+-- two parts of a number leave the sum of what each leaves
+divided-add : (high k low : ℕ) → low < 2 ^ k → divided 64 (high * 2 ^ k + low) ≡ bit_xor (divided 64 (high * 2 ^ k)) (divided 64 low)
+divided-add high k low below = ap (divided 64) (sym (xor_shifted high k low below)) ∙ divided-xor 64 (high * 2 ^ k) low
+
 -- the first of the bytes that are left goes into the sum
 peeled : (sum more b rest : ℕ) → more < 8 → b < 256 → rest < 2 ^ (32 + 8 * more)
     → bit_xor sum (divided 64 (b * 2 ^ (32 + 8 * more) + rest)) ≡ bit_xor (bit_xor sum (moved_entry more b)) (divided 64 rest)
 peeled sum more b rest few small below =
-    ap (λ p. bit_xor sum (divided 64 p)) (sym (xor_shifted b (32 + 8 * more) rest below))
-    ∙ ap (bit_xor sum) (divided-xor 64 (b * 2 ^ (32 + 8 * more)) rest)
+    ap (bit_xor sum) (divided-add b (32 + 8 * more) rest below)
     ∙ ap (λ p. bit_xor sum (bit_xor p (divided 64 rest))) (moved_entry_in_twelve more b few small)
     ∙ sym (xor_assoc sum (moved_entry more b) (divided 64 rest))
 
-pub word_sum : (a b c d e f g h low : ℕ) → a < 256 → b < 256 → c < 256 → d < 256 → e < 256 → f < 256 → g < 256 → h < 256 → low < 2 ^ 32
-    → divided 64 (a * 2 ^ 88 + (b * 2 ^ 80 + (c * 2 ^ 72 + (d * 2 ^ 64 + (e * 2 ^ 56 + (f * 2 ^ 48 + (g * 2 ^ 40 + (h * 2 ^ 32 + low))))))))
-    ≡ bit_xor (bit_xor (bit_xor (bit_xor (bit_xor (bit_xor (bit_xor (bit_xor (moved_entry 7 a) (moved_entry 6 b)) (moved_entry 5 c)) (moved_entry 4 d))
-    (moved_entry 3 e)) (moved_entry 2 f)) (moved_entry 1 g)) (moved_entry 0 h)) low
-word_sum a b c d e f g h low ha hb hc hd he hf hg hh hl =
-    peeled 0 7 a _ (lit< tt) ha (omega arith) ∙ peeled _ 6 b _ (lit< tt) hb (omega arith) ∙ peeled _ 5 c _ (lit< tt) hc (omega arith)
-    ∙ peeled _ 4 d _ (lit< tt) hd (omega arith) ∙ peeled _ 3 e _ (lit< tt) he (omega arith) ∙ peeled _ 2 f _ (lit< tt) hf (omega arith)
-    ∙ peeled _ 1 g _ (lit< tt) hg (omega arith) ∙ peeled _ 0 h low (lit< tt) hh hl ∙ ap (bit_xor _) (divided_low 64 low hl)
+-- the entries of the register's bytes, in pairs
+abbrev register_entries : ℕ → ℕ
+register_entries r =
+    bit_xor (bit_xor (moved_entry 7 (r / 2 ^ 24 % 256)) (moved_entry 6 (r / 2 ^ 16 % 256)))
+    (bit_xor (moved_entry 5 (r / 2 ^ 8 % 256)) (moved_entry 4 (r % 256)))
 
--- the register and the word, byte by byte
-pub word_taken : (r w : ℕ) → r < 2 ^ 32 → w < 2 ^ 64
-    → bit_xor (bit_xor (bit_xor (bit_xor (bit_xor (bit_xor (bit_xor (bit_xor (moved_entry 7 (r / 2 ^ 24 % 256)) (moved_entry 6 (r / 2 ^ 16 % 256)))
-    (moved_entry 5 (r / 2 ^ 8 % 256))) (moved_entry 4 (r % 256))) (moved_entry 3 (w / 2 ^ 56 % 256))) (moved_entry 2 (w / 2 ^ 48 % 256)))
-    (moved_entry 1 (w / 2 ^ 40 % 256))) (moved_entry 0 (w / 2 ^ 32 % 256))) (w % 2 ^ 32) ≡ divided 64 (r * 2 ^ 64 + w)
-word_taken r w h k =
-    sym (word_sum (r / 2 ^ 24 % 256) (r / 2 ^ 16 % 256) (r / 2 ^ 8 % 256) (r % 256) (w / 2 ^ 56 % 256) (w / 2 ^ 48 % 256) (w / 2 ^ 40 % 256)
-    (w / 2 ^ 32 % 256) (w % 2 ^ 32) (omega arith) (omega arith) (omega arith) (omega arith) (omega arith) (omega arith) (omega arith) (omega arith)
-    (omega arith))
-    ∙ ap (divided 64) (omega arith)
+divided-register : (r : ℕ) → r < 2 ^ 32 → divided 64 (r * 2 ^ 64) ≡ register_entries r
+divided-register r small =
+    let a : ℕ = r / 2 ^ 24 % 256 in
+    let b : ℕ = r / 2 ^ 16 % 256 in
+    let c : ℕ = r / 2 ^ 8 % 256 in
+    let d : ℕ = r % 256 in
+    let parts : r * 2 ^ 64 ≡ a * 2 ^ 88 + (b * 2 ^ 80 + (c * 2 ^ 72 + d * 2 ^ 64)) = omega arith in
+    ap (divided 64) parts
+    ∙ peeled 0 7 a _ (lit< tt) (omega arith) (omega arith) ∙ peeled _ 6 b _ (lit< tt) (omega arith) (omega arith)
+    ∙ peeled _ 5 c _ (lit< tt) (omega arith) (omega arith) ∙ ap (bit_xor _) (moved_entry_in_twelve 4 d (lit< tt) (omega arith))
+    ∙ xor_assoc (bit_xor (moved_entry 7 a) (moved_entry 6 b)) (moved_entry 5 c) (moved_entry 4 d)
+
+-- the entries of the word's first four bytes
+abbrev front_entries : List ℕ → ℕ
+front_entries word =
+    bit_xor (bit_xor (bit_xor (moved_entry 3 (get_or word 0 0)) (moved_entry 2 (get_or word 1 0))) (moved_entry 1 (get_or word 2 0)))
+    (moved_entry 0 (get_or word 3 0))
+
+-- its last four as a number
+abbrev back_of : List ℕ → ℕ
+back_of word = from_be_bytes w32 (get_or word 4 0 ∷ get_or word 5 0 ∷ get_or word 6 0 ∷ get_or word 7 0 ∷ [])
+
+divided-word : (word : List ℕ) (low : ℕ) → length word ≡ 8 → AreBytes word → low ≡ back_of word
+    → divided 64 (polynomial_of (bits_of word)) ≡ bit_xor (front_entries word) low
+divided-word word low long small is =
+    let e : ℕ = get_or word 0 0 in
+    let f : ℕ = get_or word 1 0 in
+    let g : ℕ = get_or word 2 0 in
+    let h : ℕ = get_or word 3 0 in
+    let fits : low < 2 ^ 32 = omega (arith, small 4, small 5, small 6, small 7) in
+    let parts : polynomial_of (bits_of word) ≡ e * 2 ^ 56 + (f * 2 ^ 48 + (g * 2 ^ 40 + (h * 2 ^ 32 + low))) =
+    polynomial_of-word word long small ∙ omega arith in
+    ap (divided 64) parts
+    ∙ peeled 0 3 e _ (lit< tt) (small 0) (omega (arith, small 1, small 2, small 3)) ∙ peeled _ 2 f _ (lit< tt) (small 1) (omega (arith, small 2, small 3))
+    ∙ peeled _ 1 g _ (lit< tt) (small 2) (omega (arith, small 3)) ∙ peeled _ 0 h low (lit< tt) (small 3) fits ∙ ap (bit_xor _) (divided_low 64 low fits)
+
+-- the register and the word
+pub word_taken : (r low : ℕ) (word : List ℕ) → r < 2 ^ 32 → length word ≡ 8 → AreBytes word → low ≡ back_of word
+    → bit_xor (bit_xor (front_entries word) low) (register_entries r) ≡ divided 64 (r * 2 ^ 64 + polynomial_of (bits_of word))
+word_taken r low word below long small is =
+    let p : ℕ = polynomial_of (bits_of word) in
+    let fits : p < 2 ^ 64 = subst (λ n. p < 2 ^ n) (length-bits_of-word word long) (polynomial_small (bits_of word)) in
+    ap (bit_xor (bit_xor (front_entries word) low)) (sym (divided-register r below))
+    ∙ ap (λ q. bit_xor q (divided 64 (r * 2 ^ 64))) (sym (divided-word word low long small is))
+    ∙ xor_comm (divided 64 p) (divided 64 (r * 2 ^ 64)) ∙ sym (divided-add r 64 p fits)
 
 -- ---- a word behind other bytes
-
-pow_of_256 : (k : ℕ) → 256 ^ k ≡ 2 ^ (8 * k)
-pow_of_256 zero = refl
-pow_of_256 (suc k) =
-    pow-suc 256 k ∙ ap (λ p. p * 256) (pow_of_256 k) ∙ omega (arith, pow-add 2 8 (8 * k))
-    ∙ ap (λ m. 2 ^ m) (let e : 8 + 8 * k ≡ 8 * suc k = omega arith in e)
-
-byte_at_is : (k n : ℕ) → byte_at k n ≡ n / 2 ^ (8 * k) % 2 ^ 8
-byte_at_is zero n = omega arith
-byte_at_is (suc k) n = ap (λ p. n / p % 256) (pow_of_256 (suc k))
-
-length-high_first : (k n : ℕ) → length (bytes_high_first k n) ≡ k
-length-high_first zero n = refl
-length-high_first (suc k) n = ap suc (length-high_first k n)
-
-polynomial_of-high_first : (k n : ℕ) → polynomial_of (bits_of (bytes_high_first k n)) ≡ n % 2 ^ (8 * k)
-unfolding bits_of polynomial_of
-polynomial_of-high_first zero n = omega arith
-polynomial_of-high_first (suc k) n =
-    let small : byte_at k n < 256 = rw byte_at_is (omega arith) in
-    polynomial_of-bytes (byte_at k n) (bytes_high_first k n) small
-    ∙ ap (λ m. byte_at k n * 2 ^ (8 * m) + polynomial_of (bits_of (bytes_high_first k n))) (length-high_first k n)
-    ∙ ap (λ p. byte_at k n * 2 ^ (8 * k) + p) (polynomial_of-high_first k n)
-    ∙ ap (λ b. b * 2 ^ (8 * k) + n % 2 ^ (8 * k)) (byte_at_is k n)
-    ∙ sym (mod-pow-add n 8 (8 * k)) ∙ ap (λ m. n % 2 ^ m) (let e : 8 + 8 * k ≡ 8 * suc k = omega arith in e)
-
-pub polynomial_of-word : (word : List ℕ) (n : ℕ) → length word ≡ 8 → AreBytes word → n < 2 ^ 64 → n ≡ from_be_bytes w64 word
-    → n ≡ polynomial_of (bits_of word)
-polynomial_of-word word n long small fits is =
-    sym (mod-eq_of_lt fits) ∙ sym (polynomial_of-high_first 8 n) ∙ ap (λ bytes. polynomial_of (bits_of bytes)) (be_bytes_8 word n long small is)
 
 remainder_word : (bytes word : List ℕ) → length word ≡ 8
     → remainder_of (bits_of (bytes ++ word)) ≡ divided 64 (remainder_of (bits_of bytes) * 2 ^ 64 + polynomial_of (bits_of word))
 unfolding bits_of
 remainder_word bytes word long =
     let register : ℕ = fold shifted 0 (bits_of bytes) in
-    let bits : length (bits_of word) ≡ 64 = length-bits word ∙ ap (λ m. 8 * m) long in
     remainder_is_fold (bits_of (bytes ++ word)) ∙ ap (fold shifted 0) (flat_map-append (number_bits 8) bytes word)
     ∙ fold-append shifted 0 (bits_of bytes) (bits_of word) ∙ sym (divided_is_fold register (bits_of word))
-    ∙ ap (λ m. divided m (register * 2 ^ m + polynomial_of (bits_of word))) bits
+    ∙ ap (λ m. divided m (register * 2 ^ m + polynomial_of (bits_of word))) (length-bits_of-word word long)
     ∙ ap (λ r. divided 64 (r * 2 ^ 64 + polynomial_of (bits_of word))) (sym (remainder_is_fold (bits_of bytes)))
 
 -- ---- words in order
@@ -194,27 +234,16 @@ concat_chunks n (suc k) xs =
     ap (λ more. take n xs ++ more) (concat_chunks n k (drop n xs)) ∙ sym (take-add n (k * n) xs)
     ∙ ap (λ m. take m xs) (let e : n + k * n ≡ suc k * n = omega arith in e)
 
-pub word_turn : (words : List (List ℕ)) (i register n next : ℕ) → i < length words → length (get_or words i []) ≡ 8
-    → n ≡ polynomial_of (bits_of (get_or words i [])) → register ≡ remainder_of (bits_of (concat (take i words)))
-    → next ≡ divided 64 (register * 2 ^ 64 + n) → next ≡ remainder_of (bits_of (concat (take (i + 1) words)))
-word_turn words i register n next within long is now e =
+pub word_turn : (words : List (List ℕ)) (i register next : ℕ) → i < length words → length (get_or words i []) ≡ 8
+    → register ≡ remainder_of (bits_of (concat (take i words)))
+    → next ≡ divided 64 (register * 2 ^ 64 + polynomial_of (bits_of (get_or words i []))) → next ≡ remainder_of (bits_of (concat (take (i + 1) words)))
+word_turn words i register next within long now e =
     let word : List ℕ = get_or words i [] in
     let more : concat (take (i + 1) words) ≡ concat (take i words) ++ word =
     ap concat (take_more words i [] within) ∙ concat-append (take i words) (word ∷ [])
     ∙ ap (λ last. concat (take i words) ++ last) (append-nil word) in
-    e ∙ ap (λ r. divided 64 (r * 2 ^ 64 + n)) now ∙ ap (λ m. divided 64 (remainder_of (bits_of (concat (take i words))) * 2 ^ 64 + m)) is
+    e ∙ ap (λ r. divided 64 (r * 2 ^ 64 + polynomial_of (bits_of word))) now
     ∙ sym (remainder_word (concat (take i words)) word long) ∙ ap (λ bytes. remainder_of (bits_of bytes)) (sym more)
-
-AreBytes-take : (n : ℕ) (xs : List ℕ) → AreBytes xs → AreBytes (take n xs)
-AreBytes-take zero xs small i = lit< tt
-AreBytes-take (suc n) [] small i = lit< tt
-AreBytes-take (suc n) (x ∷ xs) small zero = small 0
-AreBytes-take (suc n) (x ∷ xs) small (suc i) = AreBytes-take n xs (λ j. small (suc j)) i
-
-pub AreBytes-chunks : (n k : ℕ) (xs : List ℕ) → AreBytes xs → (i : ℕ) → AreBytes (get_or (first_chunks n k xs) i [])
-AreBytes-chunks n zero xs small i j = lit< tt
-AreBytes-chunks n (suc k) xs small zero j = AreBytes-take n xs small j
-AreBytes-chunks n (suc k) xs small (suc i) j = AreBytes-chunks n k (drop n xs) (λ m. rw get_or-drop (small (n + m))) i j
 
 pub words_and_rest : (bytes : List ℕ) → concat (first_chunks 8 (length bytes / 8) bytes) ++ drop (length bytes / 8 * 8) bytes ≡ bytes
 words_and_rest bytes =
@@ -234,11 +263,11 @@ window_of n (suc (suc (suc (suc (suc (suc zero)))))) h = omega arith
 window_of n (suc (suc (suc (suc (suc (suc (suc zero))))))) h = omega arith
 window_of n (suc (suc (suc (suc (suc (suc (suc (suc j)))))))) h = absurd (omega arith)
 
-bits_of-word : (word : List ℕ) (n : ℕ) → length word ≡ 8 → AreBytes word → n < 2 ^ 64 → n ≡ from_be_bytes w64 word → bits_of word ≡ number_bits 64 n
-bits_of-word word n long small fits is =
+bits_of-word : (word : List ℕ) (n : ℕ) → length word ≡ 8 → AreBytes word → n ≡ from_be_bytes w64 word → bits_of word ≡ number_bits 64 n
+bits_of-word word n long small is =
     sym (number_bits-polynomial_of (bits_of word))
-    ∙ ap (λ c. number_bits c (polynomial_of (bits_of word))) (length-bits word ∙ ap (λ m. 8 * m) long)
-    ∙ ap (number_bits 64) (sym (polynomial_of-word word n long small fits is))
+    ∙ ap (λ c. number_bits c (polynomial_of (bits_of word))) (length-bits_of-word word long)
+    ∙ ap (number_bits 64) (polynomial_of-word word long small ∙ sym is)
 
 peeked : (n j : ℕ) (more : List Bool) → j < 8
     → drop j (number_bits 64 n ++ more) ≡ number_bits 56 (n * 2 ^ j % 2 ^ 64 / 2 ^ 8) ++ (number_bits (8 - j) n ++ more)
@@ -264,14 +293,20 @@ bits_behind (suc i) (b ∷ bytes) =
     ap (λ n. drop n (bits_of (b ∷ bytes))) (let e : 8 * suc i ≡ 8 + 8 * i = omega arith in e)
     ∙ sym (drop-drop (8 * i) 8 (bits_of (b ∷ bytes))) ∙ bits_behind i bytes
 
+AreBytes-take : (n : ℕ) (xs : List ℕ) → AreBytes xs → AreBytes (take n xs)
+AreBytes-take zero xs small i = lit< tt
+AreBytes-take (suc n) [] small i = lit< tt
+AreBytes-take (suc n) (x ∷ xs) small zero = small 0
+AreBytes-take (suc n) (x ∷ xs) small (suc i) = AreBytes-take n xs (λ j. small (suc j)) i
+
 pub word_there : (bytes rest word : List ℕ) (place n : ℕ) → AreBytes bytes → rest ≡ slice_range bytes place (length bytes) → IsFirstChunk rest word 8
-    → n < 2 ^ 64 → n ≡ from_be_bytes w64 word → bits_of (take 8 (drop place bytes)) ≡ number_bits 64 n
-word_there bytes rest word place n small is front fits value =
+    → n ≡ from_be_bytes w64 word → bits_of (take 8 (drop place bytes)) ≡ number_bits 64 n
+word_there bytes rest word place n small is front value =
     let behind : rest ≡ drop place bytes = is ∙ take_rest bytes place in
     let whole : take 8 (drop place bytes) ≡ word = ap (take 8) (sym behind) ∙ sym front.same in
     let long : length word ≡ 8 = ap length front.same ∙ length-take 8 rest ∙ omega (arith, front.enough) in
     let each : AreBytes word = subst AreBytes whole (AreBytes-take 8 (drop place bytes) (λ j. rw get_or-drop (small (place + j)))) in
-    ap bits_of whole ∙ bits_of-word word n long each fits value
+    ap bits_of whole ∙ bits_of-word word n long each value
 
 pub peek_some : (bytes : List ℕ) (place n : ℕ) → bits_of (take 8 (drop (place / 8) bytes)) ≡ number_bits 64 n
     → (rest : List Bool) × (drop place (bits_of bytes) ≡ number_bits 56 (n * 2 ^ (place % 8) % 2 ^ 64 / 2 ^ 8) ++ rest)

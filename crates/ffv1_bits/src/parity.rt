@@ -1,8 +1,8 @@
 //! The parity of records and slices: the remainder of their bits, read as a polynomial with coefficients 0 and 1.
-ghost use Rattle.std.specs.Prelude.{◌≡◌, ℕ, ◌+◌, ◌*◌, ◌^◌, ◌<◌, ◌≤◌, ◌↔◌, IsTrue, List, [], get_or};
+ghost use Rattle.std.specs.Prelude.{◌≡◌, ◌+◌, ◌*◌, ◌^◌, ◌↔◌, IsTrue};
 ghost use Rattle.std.specs.List.{concat};
 ghost use Rattle.ffv1_bits.specs.Bits.{bits_of};
-ghost use Rattle.ffv1_bits.specs.Parity.{AreBytes, polynomial_of, remainder_of, PassesParity, divided, BurstIsSeen, RemainderIsOne};
+ghost use Rattle.ffv1_bits.specs.Parity.{polynomial_of, remainder_of, PassesParity, divided, BurstIsSeen, RemainderIsOne};
 
 use crate::table::{byte_remainder, moved_remainder};
 
@@ -20,12 +20,11 @@ pub fn remainder(bytes: &[u8]) -> u32
 
 /// What is left of the bytes of all words.
 fn words_remainder(words: &[[u8; 8]]) -> u32
-    requires { (i : ℕ) → AreBytes (get_or words.now i []) }
     ensures { result ≡ remainder_of (bits_of (concat words.now)) }
 {
     let mut register = 0;
     for word in words {
-        register = with_word(register, number_of(*word));
+        register = with_word(register, word);
     }
     register
 }
@@ -56,28 +55,19 @@ fn with_byte(register: u32, byte: u8) -> u32
     byte_remainder(top) ^ ((register << 8) | u32::from(byte))
 }
 
-/// Eight bytes as a polynomial.
-fn number_of(word: [u8; 8]) -> u64
-    requires { AreBytes word }
-    ensures { result ≡ polynomial_of (bits_of word) }
-{
-    u64::from_be_bytes(word)
-}
-
 /// The remainder of more bits: eight bytes come in at the low end, and a table takes away each byte that leaves at the top.
-fn with_word(register: u32, word: u64) -> u32
-    ensures { result ≡ divided 64 (register * 2 ^ 64 + word) }
+/// What does not wait for the register is summed first, and the register's bytes come last, in pairs.
+fn with_word(register: u32, word: &[u8; 8]) -> u32
+    ensures { result ≡ divided 64 (register * 2 ^ 64 + polynomial_of (bits_of word.now)) }
 {
     let [a, b, c, d] = register.to_be_bytes();
-    let [e, f, g, h, ..] = word.to_be_bytes();
-    let low = (word % (1 << 32)) as u32;
-    moved_remainder(a, 7)
-        ^ moved_remainder(b, 6)
-        ^ moved_remainder(c, 5)
-        ^ moved_remainder(d, 4)
-        ^ moved_remainder(e, 3)
+    let [e, f, g, h, i, j, k, l] = *word;
+    let behind = moved_remainder(e, 3)
         ^ moved_remainder(f, 2)
         ^ moved_remainder(g, 1)
         ^ moved_remainder(h, 0)
-        ^ low
+        ^ u32::from_be_bytes([i, j, k, l]);
+    let first_pair = moved_remainder(a, 7) ^ moved_remainder(b, 6);
+    let second_pair = moved_remainder(c, 5) ^ moved_remainder(d, 4);
+    behind ^ (first_pair ^ second_pair)
 }

@@ -1,16 +1,12 @@
-use Rattle.std.proofs.Common.{rules, ◌≡◌, ℕ, List, ◌/◌, ◌++◌, length, take, append-nil, ap, sym, ◌∙◌, arith}
+use Rattle.std.proofs.Common.{rules, ◌≡◌, ℕ, List, ◌/◌, ◌++◌, length, take, append-nil, ap, sym, ◌∙◌}
 use Rattle.std.proofs.lemmas.List.{take_all}
 use Rattle.std.specs.List.{concat}
 use Rattle.std.specs.Simd.{first_chunks}
 use Rattle.ffv1_bits.specs.Bits.{bits_of}
 use Rattle.ffv1_bits.specs.Parity.{remainder_of}
 use Rattle.ffv1_bits.proofs.Register.{remainder_turn}
-use Rattle.ffv1_bits.proofs.Words.{AreBytes-chunks, words_and_rest}
+use Rattle.ffv1_bits.proofs.Words.{words_and_rest}
 use Rattle.ffv1_bits.proofs.parity.remainder.Goals as goal
-
-pub words_remainder-register-requires : goal.words_remainder-register-requires
-words_remainder-register-requires c =
-    rw c.as_chunks.ensures.front (AreBytes-chunks 8 (length c.args.bytes.now / 8) c.args.bytes.now (λ i. omega (arith, c.type_inv.bytes i)))
 
 pub loop-byte-init : goal.loop-byte-init
 loop-byte-init c =

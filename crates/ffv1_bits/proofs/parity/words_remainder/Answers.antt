@@ -10,5 +10,5 @@ loop-word-init c = refl
 
 pub loop-word-preserved : goal.loop-word-preserved
 loop-word-preserved c =
-    word_turn c.args.words.now c.loop-word.word-index c.loop-word.register c.number_of.result c.with_word-register.result c.loop-word-test.true
-    (c.told-words c.loop-word.word-index c.loop-word-test.true) c.number_of.ensures c.loop-word.invariant c.with_word-register.ensures
+    word_turn c.args.words.now c.loop-word.word-index c.loop-word.register c.with_word-register.result c.loop-word-test.true
+    (c.told-words c.loop-word.word-index c.loop-word-test.true) c.loop-word.invariant c.with_word-register.ensures
