@@ -1,5 +1,5 @@
 //! Writing a holding file (own).
-ghost use Rattle.std.specs.Prelude.{◌≡◌, ◌<◌, ◌≤◌, ◌↔◌, ◌++◌, ◌^◌, ◌∷◌, ◌+◌, ◌*◌, ℕ, List, [], length, slice_index_or, OnOk, OnErr, IfErr, IfSome, IfNone, IsErrOf, IsTrue};
+ghost use Rattle.std.specs.Prelude.{◌≡◌, ◌<◌, ◌≤◌, ◌↔◌, ◌++◌, ◌^◌, ◌∷◌, ◌+◌, ◌*◌, [], length, slice_index_or, OnOk, OnErr, IfErr, IfSome, IfNone, IsErrOf, IsTrue};
 ghost use Rattle.std.specs.Io.KnownBytes.{Appends};
 ghost use Rattle.ffv1_bits.specs.Limits.{slice_limit, record_limit, file_limit};
 ghost use Rattle.ffv1_holding.specs.Sets as set;
@@ -8,7 +8,7 @@ ghost use Rattle.ffv1_devices.specs.Writing.{WritesFront};
 ghost use Rattle.ffv1_holding.specs.TileSets.{tile_slices};
 ghost use Rattle.ffv1_holding.specs.Reels.{reel_tiles};
 ghost use Rattle.ffv1_hold.specs.HoldingText.{origins_limit, be2, be4, magic, head_text, slice_text, FileEntry, origins_text, entry_text, entries_text, file_entries, holding_text, IsTold, FitsInFile};
-ghost use Rattle.ffv1_holding.specs.Contents.{IsHolding, AreDigests, digests_of};
+ghost use Rattle.ffv1_holding.specs.Contents.{IsHolding, AreDigests};
 ghost use Rattle.ffv1_hold.specs.Saving.{AreWithinLimit, AreWritable, IsTooLong, IsWriteFault, tile_file_entries, entries_length};
 ghost use Rattle.ffv1_hold.specs.Merging.{digests_union};
 

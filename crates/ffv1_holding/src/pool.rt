@@ -1,11 +1,9 @@
 //! The slices that are held of all tiles (own), in one piece of memory.
-ghost use Rattle.std.specs.Prelude.{◌≡◌, ℕ, ◌<◌, true, false, List, map, slice_index_or, IfSome, IfNone, IfOk, IfErr, OnOk, OnErr};
+ghost use Rattle.std.specs.Prelude.{◌≡◌, ℕ, ◌<◌, true, false, List, map, slice_index_or, IfSome, IfNone, IfOk, OnOk, OnErr};
 ghost use Rattle.std.specs.List.Sorted.{IsNonDecreasingBy};
 ghost use Rattle.sha2.specs.Sha256.{sha256};
 ghost use Rattle.ffv1_slice.specs.Chain.{IsFramed};
 ghost use Rattle.ffv1_holding.specs.Sets as set;
-ghost use Rattle.ffv1_holding.specs.SliceOrder.{entry_cmp};
-ghost use Rattle.ffv1_holding.specs.Rising.{IsRising, IsPlaceOf, IsGapFor};
 ghost use Rattle.ffv1_holding.specs.TileSets.{with_more, with_entry, tile_slices, digests_in};
 ghost use Rattle.ffv1_holding.specs.Contents.{AreHeld, AreDigests};
 ghost use Rattle.ffv1_holding.specs.PoolEntries.{entry_in, IsPool, IsTilePart};

@@ -1,7 +1,7 @@
 //! Which copies gave the slices of a pool (own): rows of a slice's entry, the owner, and the SHA-256 digest of a copy.
 ghost use Rattle.std.specs.Prelude.{◌≡◌, ℕ, ◌+◌, ◌<◌, ◌≤◌, true, length, map, slice_index_or, vec_len, vec_capacity, IfOk, IfErr, OnErr};
 ghost use Rattle.ffv1_holding.specs.Sets as set;
-ghost use Rattle.ffv1_holding.specs.SliceOrder.{Origin, entry_cmp, origin_cmp};
+ghost use Rattle.ffv1_holding.specs.SliceOrder.{entry_cmp, origin_cmp};
 ghost use Rattle.ffv1_holding.specs.Rising.{IsPlaceOf, IsGapFor};
 ghost use Rattle.ffv1_holding.specs.PoolEntries.{entry_in, IsPool};
 ghost use Rattle.ffv1_holding.specs.TileSets.{digests_in};
