@@ -50,33 +50,88 @@ fn decoded(
     Ok(decode_tile(alloc, setup, tile, content))
 }
 
-/// The one plane of a gray frame in one tile, and its spare bits.
-fn gray_tile(
+/// The picture of a frame of one tile.
+fn one_tile(
     alloc: Global,
     record: &[u8],
     (width, height): (u32, u32),
     content: &[u8],
-) -> Result<(Vec<u8>, usize), Fail> {
+) -> Result<TilePicture, Fail> {
     let setup = Setup::read(alloc, record, width, height)?;
-    let mut picture = decoded(alloc, &setup, 0, content)??;
-    match picture.planes.pop() {
-        Some(plane) if picture.planes.is_empty() => Ok((plane, picture.spare_bits)),
-        _ => Err("not one plane".into()),
-    }
+    Ok(decoded(alloc, &setup, 0, content)??)
 }
 
+/// Whether a picture has just these planes, and so many spare bits.
+fn is_picture(picture: &TilePicture, planes: &[&[u8]], spare_bits: usize) -> bool {
+    for (plane, wanted) in picture.planes.iter().zip(planes) {
+        if plane.as_slice() != *wanted {
+            return false;
+        }
+    }
+    picture.planes.len() == planes.len() && picture.spare_bits == spare_bits
+}
+
+/// A record, a content of a frame of this size, its planes, and its spare bits.
+type Worked = (
+    &'static [u8],
+    (u32, u32),
+    &'static [u8],
+    &'static [&'static [u8]],
+    usize,
+);
+
+const WORKED: [Worked; 12] = [
+    (&GRAY, (1, 1), &[0xFD, 0xF6, 0x80], &[&[0]], 7),
+    (&GRAY, (1, 1), &[0xFD, 0xF6, 0x40], &[&[1]], 4),
+    (&GRAY, (1, 1), &[0xFD, 0xF6, 0x50], &[&[255]], 4),
+    (&GRAY, (1, 1), &[0xFD, 0xF6, 0x00, 0x07, 0xA0], &[&[128]], 3),
+    (
+        &GRAY,
+        (2, 2),
+        &[0xFD, 0xF6, 0x13, 0x50],
+        &[&[5, 5, 5, 6]],
+        4,
+    ),
+    (
+        &GRAY,
+        (2, 2),
+        &[0xFD, 0xF6, 0x13, 0x40],
+        &[&[5, 5, 5, 7]],
+        4,
+    ),
+    (&GRAY, (8, 1), &[0xFD, 0xF6, 0xFC], &[&[0; 8]], 2),
+    (&GRAY, (7, 1), &[0xFD, 0xF6, 0xFC], &[&[0; 7]], 2),
+    (&GRAY, (7, 1), &[0xFD, 0xF6, 0xFA], &[&[0; 7]], 1),
+    // contexts and their signs
+    (
+        &TWO_CONTEXTS,
+        (2, 1),
+        &[0xFD, 0xF6, 0x1F, 0x00],
+        &[&[250, 249]],
+        7,
+    ),
+    (
+        &TWO_CONTEXTS,
+        (1, 2),
+        &[0xFD, 0xF6, 0x12, 0x00],
+        &[&[5, 5]],
+        7,
+    ),
+    // Cr goes on with the states of Cb
+    (
+        &COLOUR,
+        (1, 1),
+        &[0xFD, 0xF6, 0x88, 0x60],
+        &[&[0], &[5], &[5]],
+        4,
+    ),
+];
+
 #[test]
-fn single_samples(rt: HostRuntime) -> Result<(), Fail> {
-    let contents: [(&[u8], u8, usize); 4] = [
-        (&[0xFD, 0xF6, 0x80], 0, 7),
-        (&[0xFD, 0xF6, 0x40], 1, 4),
-        (&[0xFD, 0xF6, 0x50], 255, 4),
-        (&[0xFD, 0xF6, 0x00, 0x07, 0xA0], 128, 3),
-    ];
-    for (content, sample, wanted) in contents {
-        let (plane, spare_bits) = gray_tile(rt.alloc(), &GRAY, (1, 1), content)?;
-        assert_eq!(rt; plane.as_slice(), [sample].as_slice());
-        assert_eq!(rt; spare_bits, wanted);
+fn worked_tiles_have_their_samples(rt: HostRuntime) -> Result<(), Fail> {
+    for (record, size, content, planes, spare_bits) in WORKED {
+        let picture = one_tile(rt.alloc(), record, size, content)?;
+        assert!(rt; is_picture(&picture, planes, spare_bits));
     }
     Ok(())
 }
@@ -146,82 +201,54 @@ fn contents_without_a_picture(rt: HostRuntime) -> Result<(), Fail> {
     Ok(())
 }
 
-#[test]
-fn four_samples(rt: HostRuntime) -> Result<(), Fail> {
-    for (last_code, last) in [(0x50, 6), (0x40, 7)] {
-        let content = [0xFD, 0xF6, 0x13, last_code];
-        let (plane, spare_bits) = gray_tile(rt.alloc(), &GRAY, (2, 2), &content)?;
-        assert_eq!(rt; plane.as_slice(), [5, 5, 5, last].as_slice());
-        assert_eq!(rt; spare_bits, 4);
+/// Whether a picture has one plane of so many zeros, and so many spare bits.
+fn is_of_zeros(picture: &TilePicture, samples: usize, spare_bits: usize) -> bool {
+    let [plane] = picture.planes.as_slice() else {
+        return false;
+    };
+    for sample in plane {
+        if *sample != 0 {
+            return false;
+        }
     }
-    Ok(())
+    plane.len() == samples && picture.spare_bits == spare_bits
 }
 
 #[test]
 fn lines_of_zeros(rt: HostRuntime) -> Result<(), Fail> {
-    let cases: [(&[u8], (u32, u32), usize, usize); 5] = [
-        (&[0xFD, 0xF6, 0xFC], (8, 1), 8, 2),
-        (&[0xFD, 0xF6, 0xFC], (7, 1), 7, 2),
-        (&[0xFD, 0xF6, 0xFA], (7, 1), 7, 1),
-        (
-            &[0xFD, 0xF6, 0xFF, 0xFF, 0xFF, 0xFF, 0x80],
-            (16384, 3),
-            49152,
-            7,
-        ),
+    let cases: [(&[u8], u32, usize, usize); 2] = [
+        (&[0xFD, 0xF6, 0xFF, 0xFF, 0xFF, 0xFF, 0x80], 3, 49152, 7),
         (
             &[
                 0xFD, 0xF6, 0xFF, 0xFF, 0xFF, 0xFF, 0xFF, 0xFF, 0xFF, 0xFF, 0xFF, 0xFF, 0xFF, 0xFF,
             ],
-            (16384, 65),
+            65,
             1_064_960,
             1,
         ),
     ];
-    for (content, size, samples, wanted) in cases {
-        let (plane, spare_bits) = gray_tile(rt.alloc(), &GRAY, size, content)?;
-        assert_eq!(rt; plane.len(), samples);
-        assert!(rt; plane.iter().all(|sample| *sample == 0));
-        assert_eq!(rt; spare_bits, wanted);
+    for (content, height, samples, spare_bits) in cases {
+        let picture = one_tile(rt.alloc(), &GRAY, (16384, height), content)?;
+        assert!(rt; is_of_zeros(&picture, samples, spare_bits));
     }
     Ok(())
 }
 
-#[test]
-fn contexts_and_signs(rt: HostRuntime) -> Result<(), Fail> {
-    let cases: [(&[u8], (u32, u32), [u8; 2]); 2] = [
-        (&[0xFD, 0xF6, 0x1F, 0x00], (2, 1), [250, 249]),
-        (&[0xFD, 0xF6, 0x12, 0x00], (1, 2), [5, 5]),
-    ];
-    for (content, size, samples) in cases {
-        let (plane, spare_bits) = gray_tile(rt.alloc(), &TWO_CONTEXTS, size, content)?;
-        assert_eq!(rt; plane.as_slice(), samples.as_slice());
-        assert_eq!(rt; spare_bits, 7);
-    }
-    Ok(())
+/// The remainder of samples, followed by four bytes of 0.
+fn remainder_of(alloc: Global, samples: &[u8]) -> Result<u32, Fail> {
+    let mut bytes = Vec::from_slice(alloc, samples)?;
+    bytes.extend_from_slice(&[0; 4])?;
+    Ok(remainder(&bytes))
 }
 
-#[test]
-fn cr_goes_on_with_states_of_cb(rt: HostRuntime) -> Result<(), Fail> {
-    let alloc = rt.alloc();
-    let setup = Setup::read(alloc, &COLOUR, 1, 1)?;
-    let picture = decoded(alloc, &setup, 0, &[0xFD, 0xF6, 0x88, 0x60])??;
-    assert_eq!(rt; picture.planes.len(), 3);
-    for (plane, sample) in picture.planes.iter().zip([0, 5, 5]) {
-        assert_eq!(rt; plane.as_slice(), [sample].as_slice());
+/// Whether the planes of a picture have these remainders.
+fn has_remainders(alloc: Global, picture: &TilePicture, remainders: &[u32]) -> Result<bool, Fail> {
+    for (plane, wanted) in picture.planes.iter().zip(remainders) {
+        if remainder_of(alloc, plane)? != *wanted {
+            return Ok(false);
+        }
     }
-    assert_eq!(rt; picture.spare_bits, 4);
-    Ok(())
-}
-
-/// For each plane of a tile the remainder of its samples, followed by four bytes of 0.
-fn remainders(alloc: Global, setup: &Setup, tile: usize, content: &[u8]) -> Result<Vec<u32>, Fail> {
-    let mut remainders = Vec::new(alloc);
-    for mut plane in decoded(alloc, setup, tile, content)??.planes {
-        plane.extend_from_slice(&[0; 4])?;
-        remainders.push(remainder(plane.as_slice()))?;
-    }
-    Ok(remainders)
+    Ok(picture.planes.len() == remainders.len())
 }
 
 /// Whether each tile of a recorded frame is decoded to the samples of these remainders.
@@ -233,7 +260,8 @@ fn is_as_recorded(
 ) -> Result<bool, Fail> {
     let setup = Setup::read(alloc, record, width, height)?;
     for (tile, (content, wanted)) in tiles.iter().enumerate() {
-        if remainders(alloc, &setup, tile, content)?.as_slice() != *wanted {
+        let picture = decoded(alloc, &setup, tile, content)??;
+        if !has_remainders(alloc, &picture, wanted)? {
             return Ok(false);
         }
     }

@@ -2,8 +2,10 @@
 ghost use Rattle.std.specs.Prelude.{◌≡◌};
 ghost use Rattle.ffv1_range.specs.Decoder.{AreStates};
 
+use crate::recorded;
 use ffv1_range::{RangeDecoder, RangeFault, Setup, SetupFault};
 use std::alloc::Global;
+use std::test::Fail;
 
 /// A row of states before its first bit.
 fn fresh_row() -> [u8; 32]
@@ -39,15 +41,6 @@ fn reads_signed(decoder: &mut RangeDecoder<'_>, values: &[i64]) -> bool {
 /// Why a record is refused for frames of the greatest size.
 fn refused(alloc: Global, record: &[u8]) -> Option<SetupFault> {
     Setup::read(alloc, record, 65535, 65535).err()
-}
-
-/// Whether the setup has this grid and these planes, and the tables that FFmpeg writes.
-fn is_recorded(setup: &Setup, across: u32, down: u32, planes: (bool, u32, u32)) -> bool {
-    (setup.grid().across(), setup.grid().down()) == (across, down)
-        && (setup.has_chroma(), setup.shift_h(), setup.shift_v()) == planes
-        && (setup.micro(), setup.ec(), setup.intra()) == (4, 1, 1)
-        && setup.sets() == 2
-        && (setup.contexts(0), setup.contexts(1)) == (666, 7563)
 }
 
 #[test]
@@ -256,164 +249,139 @@ fn other_tables_are_refused(rt: HostRuntime) {
     );
 }
 
+/// A record of 4:2:0 frames of 720 x 576 samples in 6 x 4 tiles.
+const BROADCAST: [u8; 44] = [
+    0x56, 0x2B, 0x84, 0xE6, 0x5D, 0xE8, 0x79, 0xA5, 0x68, 0xF5, 0xD4, 0x8F, 0xF1, 0xCD, 0xBA, 0xCE,
+    0x10, 0xA3, 0xE4, 0x05, 0xD9, 0xB4, 0xFD, 0x51, 0xCA, 0x9F, 0x5C, 0x31, 0x13, 0x9D, 0x66, 0x5F,
+    0xB9, 0x9C, 0xFB, 0x96, 0x17, 0xAE, 0xDB, 0x80, 0x3B, 0xCD, 0x87, 0x00,
+];
+
+/// Records that FFmpeg wrote: their frames' size, tiles across and down, whether they have chroma, and its shifts.
+const RECORDED: [(&[u8], [u32; 4], bool, [u32; 2]); 5] = [
+    (&recorded::GRAY_RECORD, [48, 32, 2, 2], false, [0, 0]),
+    (&BROADCAST, [720, 576, 6, 4], true, [1, 1]),
+    (&recorded::QUARTERED_RECORD, [90, 62, 3, 2], true, [1, 1]),
+    (&recorded::HALVED_RECORD, [101, 77, 2, 2], true, [1, 0]),
+    (&recorded::FULL_RECORD, [64, 64, 4, 4], true, [0, 0]),
+];
+
+/// Whether a setup has this size and grid, and the tables that FFmpeg writes.
+fn is_recorded(setup: &Setup, size_and_grid: [u32; 4]) -> bool {
+    let grid = setup.grid();
+    [setup.width(), setup.height(), grid.across(), grid.down()] == size_and_grid
+        && (setup.micro(), setup.ec(), setup.intra()) == (4, 1, 1)
+        && setup.sets() == 2
+        && (setup.contexts(0), setup.contexts(1)) == (666, 7563)
+}
+
+/// Whether a setup has chroma planes or none, and these shifts of theirs.
+fn has_chroma(setup: &Setup, has_chroma: bool, shifts: [u32; 2]) -> bool {
+    setup.has_chroma() == has_chroma && [setup.shift_h(), setup.shift_v()] == shifts
+}
+
 #[test]
-fn recorded_gray_is_read(rt: HostRuntime) {
-    let record = [
-        0x56, 0x2B, 0x83, 0x19, 0xE6, 0xF7, 0x93, 0x92, 0x1D, 0xB8, 0xA8, 0x7A, 0x3F, 0x8D, 0xA2,
-        0x3D, 0x44, 0x64, 0x7C, 0x5C, 0xBA, 0x65, 0x53, 0x0D, 0x53, 0xC2, 0x7E, 0x5B, 0x71, 0x42,
-        0x6F, 0xBC, 0x76, 0x6A, 0x39, 0xA7, 0x70, 0x9B, 0xCC, 0x14, 0x1A, 0x79,
+fn recorded_records_are_read(rt: HostRuntime) -> Result<(), Fail> {
+    for (record, size_and_grid, chroma, shifts) in RECORDED {
+        let setup = Setup::read(rt.alloc(), record, size_and_grid[0], size_and_grid[1])?;
+        assert!(rt; is_recorded(&setup, size_and_grid) && has_chroma(&setup, chroma, shifts));
+    }
+    Ok(())
+}
+
+#[test]
+fn grids_finer_than_the_frame_are_refused(rt: HostRuntime) {
+    for (width, height, fault) in [
+        (5, 4, Some(SetupFault::GridTooFine)),
+        (6, 3, Some(SetupFault::GridTooFine)),
+        (6, 4, None),
+    ] {
+        assert!(rt; Setup::read(rt.alloc(), &BROADCAST, width, height).err() == fault);
+    }
+}
+
+/// A gray record whose tables have runs of 1, 2 and 125.
+const THREE_RUNS: [u8; 19] = [
+    0x56, 0x2B, 0x83, 0xBE, 0x73, 0xB5, 0x1E, 0xFE, 0x42, 0x7F, 0x73, 0xBA, 0x41, 0x6E, 0x64, 0xD3,
+    0xC8, 0x29, 0x95,
+];
+
+/// Entries of that record: of a table, at a place.
+const ENTRIES: [(usize, usize, i32); 11] = [
+    (0, 0, 0),
+    (0, 1, 1),
+    (0, 2, 1),
+    (0, 3, 2),
+    (0, 127, 2),
+    (0, 128, -2),
+    (0, 253, -2),
+    (0, 254, -1),
+    (0, 255, -1),
+    (1, 1, 5),
+    (4, 255, -625),
+];
+
+/// Whether a setup's one set has these entries.
+fn has_entries(setup: &Setup, entries: &[(usize, usize, i32)]) -> bool {
+    for (table, index, entry) in entries {
+        if *table >= 5 || *index >= 256 || setup.sets() != 1 {
+            return false;
+        }
+        if setup.entry(0, *table, *index) != *entry {
+            return false;
+        }
+    }
+    setup.sets() == 1 && setup.contexts(0) == 1563
+}
+
+#[test]
+fn entries_count_the_runs_that_have_ended(rt: HostRuntime) -> Result<(), Fail> {
+    let setup = Setup::read(rt.alloc(), &THREE_RUNS, 1, 1)?;
+    assert!(rt; has_entries(&setup, &ENTRIES));
+    Ok(())
+}
+
+/// A gray record of two sets, the second with two contexts, and a delta for each state.
+const DELTAS: [u8; 105] = [
+    0x56, 0x2B, 0x83, 0xC4, 0xEA, 0x70, 0xE1, 0xC3, 0x87, 0x0E, 0x1C, 0x38, 0x74, 0x47, 0x1F, 0x94,
+    0xE9, 0xD3, 0xA7, 0x4E, 0x9D, 0x3F, 0xBB, 0x3A, 0x74, 0xE9, 0xD3, 0xA7, 0x4E, 0x9D, 0x3A, 0x74,
+    0xE9, 0xD3, 0xA7, 0x4E, 0x9D, 0x3A, 0x74, 0xE9, 0xD3, 0xA7, 0x4E, 0x9D, 0x3A, 0x74, 0xE9, 0xD3,
+    0xA7, 0x52, 0x8E, 0xB7, 0xFF, 0x46, 0x6D, 0x8B, 0x21, 0xFD, 0x81, 0x78, 0xCA, 0xCD, 0xB6, 0xBF,
+    0x79, 0x5C, 0x83, 0xAB, 0x34, 0x8D, 0xD8, 0xBD, 0x87, 0x3E, 0xF3, 0x79, 0x2A, 0xA9, 0x03, 0x8D,
+    0x75, 0xD0, 0x58, 0x61, 0x0D, 0xBC, 0xC2, 0x20, 0xF1, 0x25, 0x55, 0x84, 0xF3, 0x35, 0x97, 0x60,
+    0x8E, 0x70, 0x04, 0x78, 0xD8, 0xE0, 0x4A, 0x2A, 0x64,
+];
+
+/// A gray record with tables of 128 runs.
+const MANY_RUNS: [u8; 19] = [
+    0x56, 0x2B, 0x83, 0xC3, 0x28, 0xFF, 0xFF, 0xFF, 0xF2, 0x35, 0x89, 0x12, 0x24, 0x45, 0x30, 0xCD,
+    0x12, 0x5A, 0xD4,
+];
+
+/// A gray record that tells shifts of chroma.
+const SHIFTED: [u8; 19] = [
+    0x56, 0x2B, 0x80, 0x88, 0x33, 0xB9, 0xD1, 0xA3, 0x46, 0x8D, 0x1A, 0x34, 0x68, 0xCF, 0x50, 0x59,
+    0x30, 0x9D, 0xCE,
+];
+
+/// Whether a setup is gray, and has so many sets, of which the first and the last have so many contexts.
+fn has_contexts(setup: &Setup, sets: usize, first: u32, last: u32) -> bool {
+    sets >= 1
+        && setup.sets() == sets
+        && (setup.contexts(0), setup.contexts(sets - 1)) == (first, last)
+        && setup.intra() == 1
+        && has_chroma(setup, false, [0, 0])
+}
+
+#[test]
+fn what_is_not_needed_is_dropped(rt: HostRuntime) -> Result<(), Fail> {
+    let rows: [(&[u8], usize, u32, u32); 3] = [
+        (&DELTAS, 2, 1, 2),
+        (&MANY_RUNS, 1, 32513, 32513),
+        (&SHIFTED, 1, 1, 1),
     ];
-    let setup = Setup::read(rt.alloc(), &record, 48, 32).expect(&rt, "a recorded setup");
-    assert!(rt; is_recorded(&setup, 2, 2, (false, 0, 0)));
-    assert_eq!(rt; (setup.width(), setup.height()), (48, 32));
-}
-
-#[test]
-fn recorded_quarter_chroma_is_read(rt: HostRuntime) {
-    let record = [
-        0x56, 0x2B, 0x84, 0xE6, 0x5D, 0xE8, 0x79, 0xA5, 0x68, 0xF5, 0xD4, 0x8F, 0xF1, 0xCD, 0xBA,
-        0xCE, 0x10, 0xA3, 0xE4, 0x05, 0xD9, 0xB4, 0xFD, 0x51, 0xCA, 0x9F, 0x5C, 0x31, 0x13, 0x9D,
-        0x66, 0x5F, 0xB9, 0x9C, 0xFB, 0x96, 0x17, 0xAE, 0xDB, 0x80, 0x3B, 0xCD, 0x87, 0x00,
-    ];
-    let setup = Setup::read(rt.alloc(), &record, 720, 576).expect(&rt, "a recorded setup");
-    assert!(rt; is_recorded(&setup, 6, 4, (true, 1, 1)));
-    assert_eq!(rt; (setup.width(), setup.height()), (720, 576));
-    assert!(rt; Setup::read(rt.alloc(), &record, 5, 4).err() == Some(SetupFault::GridTooFine));
-    assert!(rt; Setup::read(rt.alloc(), &record, 6, 3).err() == Some(SetupFault::GridTooFine));
-    assert!(rt; Setup::read(rt.alloc(), &record, 6, 4).is_ok());
-}
-
-#[test]
-fn recorded_quarter_chroma_of_six_slices_is_read(rt: HostRuntime) {
-    let record = [
-        0x56, 0x2B, 0x84, 0xDE, 0x42, 0x71, 0x73, 0x01, 0xD2, 0x7B, 0x60, 0xFE, 0xB5, 0x96, 0x54,
-        0x0A, 0x26, 0xA1, 0x41, 0xFD, 0xFC, 0x10, 0x61, 0xFC, 0xBC, 0x1B, 0x49, 0x33, 0xAE, 0xEE,
-        0x9A, 0x77, 0xED, 0x11, 0xF4, 0xA7, 0x7E, 0x88, 0x0A, 0xA3, 0x75, 0xA2,
-    ];
-    let setup = Setup::read(rt.alloc(), &record, 90, 62).expect(&rt, "a recorded setup");
-    assert!(rt; is_recorded(&setup, 3, 2, (true, 1, 1)));
-    assert_eq!(rt; (setup.width(), setup.height()), (90, 62));
-}
-
-#[test]
-fn recorded_half_chroma_is_read(rt: HostRuntime) {
-    let record = [
-        0x56, 0x2B, 0x85, 0x9E, 0x00, 0x33, 0xF5, 0x9F, 0x4B, 0xC3, 0xEF, 0xAB, 0xDB, 0x97, 0x0D,
-        0x0B, 0x02, 0x42, 0xF7, 0xB1, 0x63, 0x37, 0x4A, 0x95, 0x05, 0xC4, 0x3F, 0x5A, 0xBF, 0xD9,
-        0x80, 0xFE, 0x19, 0x8C, 0xD2, 0x5D, 0x39, 0xCF, 0x24, 0x4E, 0xD4, 0xEB,
-    ];
-    let setup = Setup::read(rt.alloc(), &record, 101, 77).expect(&rt, "a recorded setup");
-    assert!(rt; is_recorded(&setup, 2, 2, (true, 1, 0)));
-    assert_eq!(rt; (setup.width(), setup.height()), (101, 77));
-}
-
-#[test]
-fn recorded_full_chroma_is_read(rt: HostRuntime) {
-    let record = [
-        0x56, 0x2B, 0x8A, 0x56, 0xFB, 0xC3, 0xDC, 0xBD, 0x86, 0xC0, 0x5A, 0x5C, 0xA5, 0x09, 0x36,
-        0x11, 0xAE, 0xBB, 0x59, 0x56, 0xAD, 0x71, 0x76, 0xB2, 0xD2, 0x4B, 0xDE, 0x67, 0xE7, 0x1B,
-        0x42, 0xDC, 0x53, 0x97, 0x75, 0x66, 0xDE, 0xE1, 0xAE, 0xC6, 0xE9, 0x7B,
-    ];
-    let setup = Setup::read(rt.alloc(), &record, 64, 64).expect(&rt, "a recorded setup");
-    assert!(rt; is_recorded(&setup, 4, 4, (true, 0, 0)));
-    assert_eq!(rt; (setup.width(), setup.height()), (64, 64));
-}
-
-#[test]
-fn entries_count_the_runs_that_have_ended(rt: HostRuntime) {
-    let setup = Setup::read(
-        rt.alloc(),
-        &[
-            0x56, 0x2B, 0x83, 0xBE, 0x73, 0xB5, 0x1E, 0xFE, 0x42, 0x7F, 0x73, 0xBA, 0x41, 0x6E,
-            0x64, 0xD3, 0xC8, 0x29, 0x95,
-        ],
-        1,
-        1,
-    )
-    .expect(&rt, "a setup");
-    assert!(rt; setup.sets() == 1);
-    assert_eq!(rt; setup.contexts(0), 1563);
-    assert_eq!(rt;
-        (
-            setup.entry(0, 0, 0),
-            setup.entry(0, 0, 2),
-            setup.entry(0, 0, 3)
-        ),
-        (0, 1, 2)
-    );
-    assert_eq!(rt;
-        (
-            setup.entry(0, 0, 127),
-            setup.entry(0, 0, 128),
-            setup.entry(0, 0, 253)
-        ),
-        (2, -2, -2)
-    );
-    assert_eq!(rt;
-        (
-            setup.entry(0, 0, 254),
-            setup.entry(0, 1, 1),
-            setup.entry(0, 4, 255)
-        ),
-        (-1, 5, -625)
-    );
-}
-
-#[test]
-fn deltas_are_read_and_dropped(rt: HostRuntime) {
-    let setup = Setup::read(
-        rt.alloc(),
-        &[
-            0x56, 0x2B, 0x83, 0xC4, 0xEA, 0x70, 0xE1, 0xC3, 0x87, 0x0E, 0x1C, 0x38, 0x74, 0x47,
-            0x1F, 0x94, 0xE9, 0xD3, 0xA7, 0x4E, 0x9D, 0x3F, 0xBB, 0x3A, 0x74, 0xE9, 0xD3, 0xA7,
-            0x4E, 0x9D, 0x3A, 0x74, 0xE9, 0xD3, 0xA7, 0x4E, 0x9D, 0x3A, 0x74, 0xE9, 0xD3, 0xA7,
-            0x4E, 0x9D, 0x3A, 0x74, 0xE9, 0xD3, 0xA7, 0x52, 0x8E, 0xB7, 0xFF, 0x46, 0x6D, 0x8B,
-            0x21, 0xFD, 0x81, 0x78, 0xCA, 0xCD, 0xB6, 0xBF, 0x79, 0x5C, 0x83, 0xAB, 0x34, 0x8D,
-            0xD8, 0xBD, 0x87, 0x3E, 0xF3, 0x79, 0x2A, 0xA9, 0x03, 0x8D, 0x75, 0xD0, 0x58, 0x61,
-            0x0D, 0xBC, 0xC2, 0x20, 0xF1, 0x25, 0x55, 0x84, 0xF3, 0x35, 0x97, 0x60, 0x8E, 0x70,
-            0x04, 0x78, 0xD8, 0xE0, 0x4A, 0x2A, 0x64,
-        ],
-        1,
-        1,
-    )
-    .expect(&rt, "a setup");
-    assert!(rt; setup.sets() == 2);
-    assert_eq!(rt;
-        (setup.contexts(0), setup.contexts(1), setup.intra()),
-        (1, 2, 1)
-    );
-}
-
-#[test]
-fn tables_of_many_runs_are_read(rt: HostRuntime) {
-    let setup = Setup::read(
-        rt.alloc(),
-        &[
-            0x56, 0x2B, 0x83, 0xC3, 0x28, 0xFF, 0xFF, 0xFF, 0xF2, 0x35, 0x89, 0x12, 0x24, 0x45,
-            0x30, 0xCD, 0x12, 0x5A, 0xD4,
-        ],
-        1,
-        1,
-    )
-    .expect(&rt, "a setup");
-    assert!(rt; setup.sets() == 1);
-    assert_eq!(rt; setup.contexts(0), 32513);
-}
-
-#[test]
-fn shifts_of_a_gray_record_are_dropped(rt: HostRuntime) {
-    let setup = Setup::read(
-        rt.alloc(),
-        &[
-            0x56, 0x2B, 0x80, 0x88, 0x33, 0xB9, 0xD1, 0xA3, 0x46, 0x8D, 0x1A, 0x34, 0x68, 0xCF,
-            0x50, 0x59, 0x30, 0x9D, 0xCE,
-        ],
-        1,
-        1,
-    )
-    .expect(&rt, "a setup");
-    assert_eq!(rt;
-        (setup.has_chroma(), setup.shift_h(), setup.shift_v()),
-        (false, 0, 0)
-    );
+    for (record, sets, first, last) in rows {
+        let setup = Setup::read(rt.alloc(), record, 1, 1)?;
+        assert!(rt; has_contexts(&setup, sets, first, last));
+    }
+    Ok(())
 }

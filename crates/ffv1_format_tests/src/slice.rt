@@ -21,36 +21,47 @@ fn link_at(payload: &[u8], number: usize) -> Option<(usize, usize, u8, bool)> {
     ))
 }
 
+/// The frame with a damaged tile 0.
+const DAMAGED: [u8; 22] = [
+    0xFD, 0xF6, 0, 0, 0, 3, 0, 0x1C, 0x3E, 0xA0, 0x9B, 0x3F, 0x2B, 0x80, 0, 0, 3, 0, 0x56, 0x0F,
+    0xD7, 0x3B,
+];
+
+/// The frame with a size of its last slice that is too great.
+const BROKEN: [u8; 22] = [
+    0xFD, 0xF6, 0x80, 0, 0, 3, 0, 0x1C, 0x3E, 0xA0, 0x9B, 0x3F, 0x2B, 0x80, 0xFF, 0, 3, 0, 0x56,
+    0x0F, 0xD7, 0x3B,
+];
+
 #[test]
 fn links_come_from_the_end(rt: HostRuntime) {
-    let mut damaged = FRAME;
-    damaged[2] = 0;
-    for (frame, is_right) in [(FRAME, true), (damaged, false)] {
-        let links = [0, 1, 2].map(|number| link_at(&frame, number));
-        assert_eq!(rt;
-            links,
-            [Some((11, 11, 0, true)), Some((0, 11, 0, is_right)), None]
-        );
-        assert_eq!(rt; Chain::new(&frame).end(), ChainEnd::Whole);
+    let rows: [(&[u8], usize, Option<(usize, usize, u8, bool)>); 6] = [
+        (&FRAME, 0, Some((11, 11, 0, true))),
+        (&FRAME, 1, Some((0, 11, 0, true))),
+        (&FRAME, 2, None),
+        (&DAMAGED, 0, Some((11, 11, 0, true))),
+        (&DAMAGED, 1, Some((0, 11, 0, false))),
+        (&DAMAGED, 2, None),
+    ];
+    for (frame, number, link) in rows {
+        assert!(rt; link_at(frame, number) == link);
     }
 }
 
 #[test]
 fn chains_end(rt: HostRuntime) {
-    let mut broken = FRAME;
-    broken[14] = 0xFF;
-    let payloads: [(&[u8], usize, ChainEnd); 5] = [
+    let payloads: [(&[u8], usize, ChainEnd); 7] = [
+        (&FRAME, 2, ChainEnd::Whole),
+        (&DAMAGED, 2, ChainEnd::Whole),
         (&[], 0, ChainEnd::Whole),
         (&[0; 7], 0, ChainEnd::Broken(7)),
         (&[0; 8], 1, ChainEnd::Whole),
         (&[0; 16], 2, ChainEnd::Whole),
-        (&broken, 0, ChainEnd::Broken(22)),
+        (&BROKEN, 0, ChainEnd::Broken(22)),
     ];
     for (payload, links, end) in payloads {
-        assert_eq!(rt;
-            (Chain::new(payload).count(), Chain::new(payload).end()),
-            (links, end)
-        );
+        assert!(rt; Chain::new(payload).count() == links);
+        assert!(rt; Chain::new(payload).end() == end);
     }
 }
 
@@ -86,22 +97,31 @@ const RECORDED: [u8; 336] = [
     0x80, 0x03, 0x0A, 0x61, 0x4C, 0xC2, 0x5D, 0x80, 0x00, 0x00, 0x65, 0x00, 0xE1, 0x40, 0xA3, 0xC1,
 ];
 
-/// The tiles of the slices that are found in a frame, from its end.
-fn tiles_of(alloc: Global, frame: &[u8]) -> Result<Vec<usize>, Fail> {
+/// The frame behind five bytes that are none of it.
+fn behind_junk(alloc: Global) -> Result<Vec<u8>, Fail> {
+    let mut payload = Vec::from_slice(alloc, &[0xAA; 5])?;
+    payload.extend_from_slice(&RECORDED)?;
+    Ok(payload)
+}
+
+/// Whether these are the tiles of the slices that are found in a payload, from its end.
+fn are_tiles_of(alloc: Global, payload: &[u8], tiles: &[usize]) -> Result<bool, Fail> {
     let setup = Setup::read(alloc, &RECORD, 48, 32)?;
-    let mut tiles = Vec::new(alloc);
-    for found in find_slices(alloc, &setup, frame)? {
-        tiles.push(found.tile())?;
+    let found = find_slices(alloc, &setup, payload)?;
+    for (slice, tile) in found.iter().zip(tiles) {
+        if slice.tile() != *tile {
+            return Ok(false);
+        }
     }
-    Ok(tiles)
+    Ok(found.len() == tiles.len())
 }
 
 #[test]
 fn recorded_slices_are_found(rt: HostRuntime) -> Result<(), Fail> {
-    assert_eq!(rt;
-        tiles_of(rt.alloc(), &RECORDED)?.as_slice(),
-        [3, 2, 1, 0].as_slice()
-    );
+    let alloc = rt.alloc();
+    assert!(rt; are_tiles_of(alloc, &RECORDED, &[3, 2, 1, 0])?);
+    assert!(rt; are_tiles_of(alloc, &behind_junk(alloc)?, &[3, 2, 1])?);
+    assert!(rt; are_tiles_of(alloc, &[0; 8], &[])?);
     Ok(())
 }
 
@@ -115,53 +135,50 @@ fn damaged_slices_are_not_found(rt: HostRuntime) -> Result<(), Fail> {
         for (place, byte) in damage {
             copy[place] = byte;
         }
-        assert_eq!(rt; tiles_of(rt.alloc(), &copy)?.as_slice(), tiles.as_slice());
+        assert!(rt; are_tiles_of(rt.alloc(), &copy, &tiles)?);
+    }
+    Ok(())
+}
+
+/// Why a link of a payload is no slice. Links count from the end.
+fn link_fault(alloc: Global, payload: &[u8], number: usize) -> Result<Option<LinkFault>, Fail> {
+    let setup = Setup::read(alloc, &RECORD, 48, 32)?;
+    let link = Chain::new(payload).nth(number).ok_or("a link")?;
+    Ok(slice_of(&setup, &link).err())
+}
+
+/// The second slice alone.
+const SECOND: [u8; 11] = [0x3F, 0x2B, 0x80, 0, 0, 3, 0, 0x56, 0x0F, 0xD7, 0x3B];
+
+/// The first slice twice.
+const TWICE: [u8; 22] = [
+    0xFD, 0xF6, 0x80, 0, 0, 3, 0, 0x1C, 0x3E, 0xA0, 0x9B, 0xFD, 0xF6, 0x80, 0, 0, 3, 0, 0x1C, 0x3E,
+    0xA0, 0x9B,
+];
+
+/// Payloads, the number of a link of theirs that is no slice, and why.
+const NO_SLICES: [(&[u8], usize, LinkFault); 4] = [
+    (&TWICE, 0, LinkFault::Head(HeadFault::FirstElsewhere)),
+    (&SECOND, 0, LinkFault::Head(HeadFault::NotKey)),
+    (
+        &[0; 8],
+        0,
+        LinkFault::Head(HeadFault::Range(RangeFault::Short)),
+    ),
+    (&DAMAGED, 1, LinkFault::Parity),
+];
+
+#[test]
+fn links_that_are_no_slices_are_told(rt: HostRuntime) -> Result<(), Fail> {
+    for (payload, number, fault) in NO_SLICES {
+        assert!(rt; link_fault(rt.alloc(), payload, number)? == Some(fault));
     }
     Ok(())
 }
 
 #[test]
-fn junk_before_a_frame_hides_its_first_tile(rt: HostRuntime) -> Result<(), Fail> {
-    let mut behind_junk = [0xAA; 341];
-    behind_junk[5..].copy_from_slice(&RECORDED);
-    assert_eq!(rt;
-        tiles_of(rt.alloc(), &behind_junk)?.as_slice(),
-        [3, 2, 1].as_slice()
-    );
+fn bytes_without_their_parity_are_no_slice(rt: HostRuntime) -> Result<(), Fail> {
     let setup = Setup::read(rt.alloc(), &RECORD, 48, 32)?;
-    let link = Chain::new(&behind_junk)
-        .nth(3)
-        .expect(&rt, "the slice of tile 0");
-    assert_eq!(rt;
-        (link.start(), slice_of(&setup, &link)),
-        (5, Err(LinkFault::Head(HeadFault::FirstElsewhere)))
-    );
-    Ok(())
-}
-
-#[test]
-fn zero_bytes_are_no_slice(rt: HostRuntime) -> Result<(), Fail> {
-    let setup = Setup::read(rt.alloc(), &RECORD, 48, 32)?;
-    let link = Chain::new(&[0; 8]).next().expect(&rt, "a link");
-    assert_eq!(rt;
-        slice_of(&setup, &link),
-        Err(LinkFault::Head(HeadFault::Range(RangeFault::Short)))
-    );
-    assert_eq!(rt; find_slices(rt.alloc(), &setup, &[0; 8])?.len(), 0);
-    assert_eq!(rt;
-        read_slice(&setup, &RECORDED[..40], true),
-        Err(LinkFault::Parity)
-    );
-    Ok(())
-}
-
-#[test]
-fn second_slice_alone_is_read_as_the_first(rt: HostRuntime) -> Result<(), Fail> {
-    let setup = Setup::read(rt.alloc(), &RECORD, 48, 32)?;
-    let link = Chain::new(&FRAME[11..]).next().expect(&rt, "a link");
-    assert_eq!(rt;
-        slice_of(&setup, &link),
-        Err(LinkFault::Head(HeadFault::NotKey))
-    );
+    assert!(rt; read_slice(&setup, &RECORDED[..40], true) == Err(LinkFault::Parity));
     Ok(())
 }
