@@ -1,4 +1,5 @@
 //! A holding file byte for byte, devices that fail behind any part of it, and plans.
+use crate::streams::{Failing, Narrow};
 use ffv1_hold::{
     FromRead, FromWrite, HoldFileFault, Holding, Join, Plan, Sink, Source, read_hold, run,
     write_hold,
@@ -6,7 +7,7 @@ use ffv1_hold::{
 use ffv1_range::SetupFault;
 use std::alloc::Global;
 use std::io;
-use std::io::{ErrorKind, Read, Write};
+use std::io::{ErrorKind, Read};
 use std::test::Fail;
 
 /// A gray record of micro version 4 with one tile, its five tables of one run each.
@@ -51,27 +52,6 @@ const SECOND: [u8; 146] = [
     0xAD, 0x2D, 0x5D, 0xE9, 0x19, 0xE8, 0xD5, 0xE7, 0x1D, 0x94, 0x7F, 0x53, 0,
 ];
 
-/// A reader of bytes that fails once they are read, with an error of this kind, so many times.
-#[derive(Drop)]
-struct Failing<'a> {
-    bytes: &'a [u8],
-    kind: ErrorKind,
-    times: u32,
-}
-
-impl<'a> Read for Failing<'a> {
-    fn read(&mut self, buf: &mut [u8]) -> io::Result<usize> {
-        let mut left = self.bytes;
-        let count = left.read(buf)?;
-        self.bytes = left;
-        if count == 0 && self.times > 0 {
-            self.times -= 1;
-            return Err(io::Error::from(self.kind));
-        }
-        Ok(count)
-    }
-}
-
 /// A reader of bytes that goes on with zeros and never ends.
 #[derive(Drop)]
 struct Endless<'a> {
@@ -93,96 +73,98 @@ impl<'a> Read for Endless<'a> {
     }
 }
 
-/// A writer that takes one byte at a time, so many in all, and then fails.
-#[derive(Drop)]
-struct Narrow {
-    room: usize,
-    bytes: Vec<u8>,
-}
-
-impl Write for Narrow {
-    fn write(&mut self, buf: &[u8]) -> io::Result<usize> {
-        if self.room == 0 {
-            return Err(io::Error::from(ErrorKind::Other));
-        }
-        let Some(first) = buf.first() else {
-            return Ok(0);
-        };
-        self.bytes.push(*first)?;
-        self.room -= 1;
-        Ok(1)
-    }
-
-    fn flush(&mut self) -> io::Result<()> {
-        Ok(())
-    }
-}
-
-/// The file of the holding that a plan makes of frames of one sample.
-fn file_of(alloc: Global, plan: &Plan<'_>) -> Result<Vec<u8>, Fail> {
-    let holding = run(alloc, plan, &ONE_TILE, 1, 1)?;
+/// The file of a holding.
+pub(crate) fn written(alloc: Global, holding: &Holding) -> Result<Vec<u8>, Fail> {
     let mut sink = FromWrite::new(Vec::new(alloc));
-    write_hold(&holding, &mut sink)?;
+    write_hold(holding, &mut sink)?;
     Ok(sink.into_inner())
 }
 
-/// Why these bytes are refused where the device behind them fails so many times with an error of this kind.
-fn fault_behind(alloc: Global, bytes: &[u8], kind: ErrorKind, times: u32) -> Option<HoldFileFault> {
-    let mut source = FromRead::new(Failing { bytes, kind, times });
+/// Whether a plan for frames of one sample makes the holding of this file.
+fn makes(alloc: Global, plan: &Plan<'_>, file: &[u8]) -> Result<bool, Fail> {
+    let holding = run(alloc, plan, &ONE_TILE, 1, 1)?;
+    Ok(written(alloc, &holding)?.as_slice() == file)
+}
+
+/// Why these bytes are refused where the device behind them ends, or fails first.
+fn fault_behind(alloc: Global, bytes: &[u8], fails: bool) -> Option<HoldFileFault> {
+    let mut source = FromRead::new(Failing {
+        bytes,
+        kind: ErrorKind::Other,
+        times: u32::from(fails),
+    });
     read_hold(alloc, &mut source).err()
 }
 
-#[test]
-fn a_cut_file_is_truncated(rt: HostRuntime) {
-    for file in [FILE.as_slice(), SECOND.as_slice()] {
-        for length in 0..file.len() {
-            let fault = read_hold(rt.alloc(), &mut FromRead::new(&file[..length])).err();
-            assert_eq!(rt; fault, Some(HoldFileFault::Truncated), "at {length}");
+/// Whether a file that is cut is told as that, and a device that fails there as that, at every place.
+fn each_front_is_told(alloc: Global, file: &[u8]) -> bool {
+    for length in 0..file.len() {
+        let front = &file[..length];
+        if fault_behind(alloc, front, false) != Some(HoldFileFault::Truncated)
+            || fault_behind(alloc, front, true) != Some(HoldFileFault::Read)
+        {
+            return false;
         }
     }
+    true
+}
+
+/// Whether a device that fails behind these bytes shows this fault of them, and one that fails a byte before only itself.
+fn ends_in(alloc: Global, bytes: &[u8], fault: HoldFileFault) -> bool {
+    let Some((_, front)) = bytes.split_last() else {
+        return false;
+    };
+    fault_behind(alloc, bytes, true) == Some(fault)
+        && fault_behind(alloc, front, true) == Some(HoldFileFault::Read)
 }
 
 #[test]
-fn a_failing_source_is_told_as_that(rt: HostRuntime) {
-    for file in [FILE.as_slice(), SECOND.as_slice()] {
-        for length in 0..file.len() {
-            let fault = fault_behind(rt.alloc(), &file[..length], ErrorKind::Other, 1);
-            assert_eq!(rt; fault, Some(HoldFileFault::Read), "at {length}");
+fn fronts_of_files_are_told(rt: HostRuntime) {
+    assert!(rt; each_front_is_told(rt.alloc(), &FILE));
+    assert!(rt; each_front_is_told(rt.alloc(), &SECOND));
+}
+
+/// Whether a sink that fails behind so many bytes has that front of the file, and its failure is told and counted.
+fn has_front(alloc: Global, holding: &Holding, room: usize, file: &[u8]) -> bool {
+    let mut sink = FromWrite::new(Narrow {
+        room,
+        bytes: Vec::new(alloc),
+    });
+    let failed = write_hold(holding, &mut sink) == Err(HoldFileFault::Write);
+    let counted = sink.failures() == 1;
+    failed && counted && Some(sink.into_inner().bytes.as_slice()) == file.get(..room)
+}
+
+/// Whether a sink that fails behind any number of a file's bytes does.
+fn each_front_is_left(alloc: Global, holding: &Holding, file: &[u8]) -> bool {
+    for room in 0..file.len() {
+        if !has_front(alloc, holding, room, file) {
+            return false;
         }
     }
+    true
 }
 
 #[test]
 fn a_failing_sink_is_told_as_that(rt: HostRuntime) -> Result<(), Fail> {
     let holding = read_hold(rt.alloc(), &mut FromRead::new(SECOND.as_slice()))?;
-    for room in 0..SECOND.len() {
-        let bytes = Vec::new(rt.alloc());
-        let mut sink = FromWrite::new(Narrow { room, bytes });
-        let fault = write_hold(&holding, &mut sink).err();
-        assert_eq!(rt; (fault, sink.failures()), (Some(HoldFileFault::Write), 1));
-        assert_eq!(rt; sink.into_inner().bytes.as_slice(), &SECOND[..room]);
-    }
+    assert!(rt; each_front_is_left(rt.alloc(), &holding, &SECOND));
     Ok(())
+}
+
+/// Whether the holding of a file is written as this one.
+fn is_written_as(alloc: Global, file: &[u8], wanted: &[u8]) -> Result<bool, Fail> {
+    let holding = read_hold(alloc, &mut FromRead::new(file))?;
+    Ok(written(alloc, &holding)?.as_slice() == wanted)
 }
 
 #[test]
 fn a_file_of_either_version_is_written_as_one_of_the_second(rt: HostRuntime) -> Result<(), Fail> {
     let cases: [(&[u8], &[u8]); 3] = [(&FILE, &AGAIN), (&AGAIN, &AGAIN), (&SECOND, &SECOND)];
     for (file, wanted) in cases {
-        let holding = read_hold(rt.alloc(), &mut FromRead::new(file))?;
-        let mut sink = FromWrite::new(Vec::new(rt.alloc()));
-        write_hold(&holding, &mut sink)?;
-        assert_eq!(rt; sink.into_inner().as_slice(), wanted);
+        assert!(rt; is_written_as(rt.alloc(), file, wanted)?);
     }
     Ok(())
-}
-
-#[test]
-fn sixty_five_interrupted_tries_are_a_failure(rt: HostRuntime) {
-    for (times, wanted) in [(64, HoldFileFault::Truncated), (65, HoldFileFault::Read)] {
-        let fault = fault_behind(rt.alloc(), &[], ErrorKind::Interrupted, times);
-        assert_eq!(rt; fault, Some(wanted), "at {times}");
-    }
 }
 
 #[test]
@@ -203,10 +185,7 @@ fn a_fault_that_was_read_comes_before_the_device(rt: HostRuntime) {
         assert!(rt; place < end && end <= FILE.len());
         let mut changed = FILE;
         changed[place] = value;
-        let shown = fault_behind(rt.alloc(), &changed[..end], ErrorKind::Other, 1);
-        assert_eq!(rt; shown, Some(fault), "at {place}");
-        let before = fault_behind(rt.alloc(), &changed[..end - 1], ErrorKind::Other, 1);
-        assert_eq!(rt; before, Some(HoldFileFault::Read), "before {end}");
+        assert!(rt; ends_in(rt.alloc(), &changed[..end], fault), "at {place}");
     }
 }
 
@@ -216,27 +195,20 @@ fn an_entry_out_of_order_comes_before_the_device(rt: HostRuntime) {
         let mut changed = FILE;
         changed[37..55].copy_from_slice(&FILE[first..first + 18]);
         changed[55..73].copy_from_slice(&FILE[second..second + 18]);
-        let shown = fault_behind(rt.alloc(), &changed[..73], ErrorKind::Other, 1);
-        assert_eq!(rt; shown, Some(HoldFileFault::Order), "at {second}");
-        let before = fault_behind(rt.alloc(), &changed[..72], ErrorKind::Other, 1);
-        assert_eq!(rt; before, Some(HoldFileFault::Read), "at {second}");
+        assert!(rt; ends_in(rt.alloc(), &changed[..73], HoldFileFault::Order));
     }
 }
 
 #[test]
 fn too_many_digests_come_before_the_device(rt: HostRuntime) {
     // 2^26 are not too many, and one more are.
-    for (last, end, fault) in [
-        (0, 59, HoldFileFault::Read),
-        (1, 58, HoldFileFault::Read),
-        (1, 59, HoldFileFault::TooLong),
-    ] {
-        let mut changed = SECOND;
-        changed[55] = 4;
-        changed[58] = last;
-        let shown = fault_behind(rt.alloc(), &changed[..end], ErrorKind::Other, 1);
-        assert_eq!(rt; shown, Some(fault), "at {last}, {end}");
-    }
+    let mut changed = SECOND;
+    changed[55] = 4;
+    changed[58] = 0;
+    let fault = fault_behind(rt.alloc(), &changed[..59], true);
+    assert!(rt; fault == Some(HoldFileFault::Read));
+    changed[58] = 1;
+    assert!(rt; ends_in(rt.alloc(), &changed[..59], HoldFileFault::TooLong));
 }
 
 #[test]
@@ -247,10 +219,7 @@ fn a_digest_out_of_order_comes_before_the_device(rt: HostRuntime) {
         changed[58] = 2;
         changed[59..91].copy_from_slice(&SECOND[first..first + 32]);
         changed[91..123].copy_from_slice(&SECOND[second..second + 32]);
-        let shown = fault_behind(rt.alloc(), &changed[..123], ErrorKind::Other, 1);
-        assert_eq!(rt; shown, Some(HoldFileFault::Order), "at {first}");
-        let before = fault_behind(rt.alloc(), &changed[..122], ErrorKind::Other, 1);
-        assert_eq!(rt; before, Some(HoldFileFault::Read), "at {first}");
+        assert!(rt; ends_in(rt.alloc(), &changed[..123], HoldFileFault::Order));
     }
 }
 
@@ -265,7 +234,7 @@ fn a_reader_that_never_ends_shows_its_first_fault(rt: HostRuntime) {
             bytes: &FILE[..length],
         });
         let shown = read_hold(rt.alloc(), &mut endless).err();
-        assert_eq!(rt; (shown, endless.taken()), (Some(fault), taken));
+        assert!(rt; shown == Some(fault) && endless.taken() == taken);
     }
 }
 
@@ -285,9 +254,9 @@ fn through_a_file<'a>(alloc: Global, copies: &'a [&'a [u8]]) -> Result<Plan<'a>,
 #[test]
 fn plans_of_the_same_copies_give_one_file(rt: HostRuntime) -> Result<(), Fail> {
     let copies: [&[u8]; 3] = [&DARK, &BLACK, &DARK];
-    let one = file_of(rt.alloc(), &one_by_one(rt.alloc(), &BLACK, &DARK)?)?;
-    let other = file_of(rt.alloc(), &through_a_file(rt.alloc(), &copies)?)?;
-    assert_eq!(rt; one.as_slice(), SECOND.as_slice());
-    assert_eq!(rt; other.as_slice(), SECOND.as_slice());
+    let one = one_by_one(rt.alloc(), &BLACK, &DARK)?;
+    assert!(rt; makes(rt.alloc(), &one, &SECOND)?);
+    let other = through_a_file(rt.alloc(), &copies)?;
+    assert!(rt; makes(rt.alloc(), &other, &SECOND)?);
     Ok(())
 }

@@ -53,25 +53,35 @@ const BEHIND_JUNK: [u8; 27] = [
     0x80, 0, 0, 3, 0, 0x56, 0x0F, 0xD7, 0x3B,
 ];
 
-/// What is held of two copies of a frame of so many tiles beside each other, one sample each.
-fn held_of(alloc: Global, tiles: u32, copies: [&[u8]; 2]) -> Result<Holding, Fail> {
-    let record = if tiles == 1 { ONE_TILE } else { TWO_TILES };
-    let mut holding = Holding::new(alloc, &record, tiles, 1)?;
-    holding.take_all(&copies)?;
+/// What is held of copies of a frame of this size.
+pub(crate) fn held_of(
+    alloc: Global,
+    record: &[u8],
+    (width, height): (u32, u32),
+    copies: &[&[u8]],
+) -> Result<Holding, Fail> {
+    let mut holding = Holding::new(alloc, record, width, height)?;
+    holding.take_all(copies)?;
     Ok(holding)
+}
+
+/// What is held of two copies of a frame of so many tiles beside each other, one sample each.
+fn held_beside(alloc: Global, tiles: u32, copies: [&[u8]; 2]) -> Result<Holding, Fail> {
+    let record = if tiles == 1 { &ONE_TILE } else { &TWO_TILES };
+    held_of(alloc, record, (tiles, 1), &copies)
 }
 
 #[test]
 fn slices_are_kept_once_in_rising_order(rt: HostRuntime) -> Result<(), Fail> {
     let mut set = SliceSet::new(rt.alloc());
     for (slice, new) in [(BLACK, true), (DARK, true), (BLACK, false)] {
-        assert_eq!(rt; set.insert(&slice), Ok(new));
+        assert!(rt; set.insert(&slice) == Ok(new));
     }
-    assert_eq!(rt; set.len(), 2);
-    assert_eq!(rt; set.get(0), DARK.as_slice());
+    assert!(rt; set.len() == 2);
+    assert!(rt; set.get(0) == DARK.as_slice());
     let mut all = SliceSet::new(rt.alloc());
     let copy = set.copied()?;
-    assert_eq!(rt; join_all(&mut all, &[set, copy]), Ok(2));
+    assert!(rt; join_all(&mut all, &[set, copy]) == Ok(2));
     Ok(())
 }
 
@@ -88,7 +98,7 @@ fn a_copy_tells_what_was_taken(rt: HostRuntime) -> Result<(), Fail> {
     ];
     for (copy, links, slices, new) in copies {
         let taken = Taken { links, slices, new };
-        assert_eq!(rt; holding.take(copy), Ok(taken), "of {links} links");
+        assert!(rt; holding.take(copy) == Ok(taken));
     }
     Ok(())
 }
@@ -106,20 +116,26 @@ fn has_origins(held: &Holding, tile: usize, slice: &[u8], copies: &[&[u8]]) -> b
     origins.len() == copies.len()
 }
 
+/// Whether each tile's slice is of the copy in which the other one is damaged, and no slice has another's origins.
+fn are_apart(held: &Holding) -> bool {
+    has_origins(held, 0, &BLACK, &[&RIGHT_DAMAGED])
+        && has_origins(held, 1, &RIGHT, &[&LEFT_DAMAGED])
+        && !has_origins(held, 0, &RIGHT, &[])
+}
+
+/// Whether the slice of tile 0 is of these copies, and that of tile 1 of the frame and the first damaged copy.
+fn are_shared(held: &Holding, copies: &[&[u8]]) -> bool {
+    has_origins(held, 0, &BLACK, copies) && has_origins(held, 1, &RIGHT, &[&FRAME, &LEFT_DAMAGED])
+}
+
 #[test]
 fn origins_are_the_digests_of_whole_copies(rt: HostRuntime) -> Result<(), Fail> {
-    let mut held = held_of(rt.alloc(), 2, [&LEFT_DAMAGED, &RIGHT_DAMAGED])?;
+    let mut held = held_beside(rt.alloc(), 2, [&LEFT_DAMAGED, &RIGHT_DAMAGED])?;
     held.take(&LEFT_DAMAGED)?;
-    let mut both = held_of(rt.alloc(), 2, [&FRAME, &LEFT_DAMAGED])?;
-    let apart = has_origins(&held, 0, &BLACK, &[&RIGHT_DAMAGED])
-        && has_origins(&held, 1, &RIGHT, &[&LEFT_DAMAGED])
-        && !has_origins(&held, 0, &RIGHT, &[]);
-    assert!(rt; apart);
-    let shared = has_origins(&both, 0, &BLACK, &[&FRAME])
-        && has_origins(&both, 1, &RIGHT, &[&FRAME, &LEFT_DAMAGED]);
-    assert!(rt; shared);
-    assert_eq!(rt; both.join_with(&held), Ok(0));
-    assert!(rt; has_origins(&both, 0, &BLACK, &[&FRAME, &RIGHT_DAMAGED]));
+    let mut both = held_beside(rt.alloc(), 2, [&FRAME, &LEFT_DAMAGED])?;
+    assert!(rt; are_apart(&held) && are_shared(&both, &[&FRAME]));
+    assert!(rt; both.join_with(&held) == Ok(0));
+    assert!(rt; are_shared(&both, &[&FRAME, &RIGHT_DAMAGED]));
     Ok(())
 }
 
@@ -132,8 +148,8 @@ fn settled_tiles_are_restored(rt: HostRuntime) -> Result<(), Fail> {
         (1, [&DARK_DAMAGED, &BLACK], &BLACK),
     ];
     for (tiles, copies, wanted) in cases {
-        let payload = held_of(rt.alloc(), tiles, copies)?.restore()?;
-        assert_eq!(rt; payload.as_slice(), wanted);
+        let payload = held_beside(rt.alloc(), tiles, copies)?.restore()?;
+        assert!(rt; payload.as_slice() == wanted);
     }
     Ok(())
 }
@@ -151,8 +167,8 @@ fn the_first_unsettled_tile_is_told(rt: HostRuntime) -> Result<(), Fail> {
         (1, [&BLACK, &DARK], RestoreFault::Disputed(0)),
     ];
     for (tiles, copies, fault) in cases {
-        let held = held_of(rt.alloc(), tiles, copies)?;
-        assert_eq!(rt; held.restore().err(), Some(fault));
+        let held = held_beside(rt.alloc(), tiles, copies)?;
+        assert!(rt; held.restore().err() == Some(fault));
     }
     Ok(())
 }
@@ -166,6 +182,15 @@ fn best(state: TileState<'_>) -> usize {
     }
 }
 
+/// Whether so many slices are held of a tile, with this least status, which so many of them have; and of all one or more.
+fn tells(held: &Holding, tile: usize, (slices, status, bests): (usize, Option<u8>, usize)) -> bool {
+    tile < held.reel().tiles()
+        && held.held(tile) == slices
+        && held.status(tile) == status
+        && best(held.state(tile)) == bests
+        && held.size() == slices.max(1)
+}
+
 #[test]
 fn tiles_tell_what_is_held_of_them(rt: HostRuntime) -> Result<(), Fail> {
     let cases: [(u32, [&[u8]; 2], usize, usize, Option<u8>, usize); 5] = [
@@ -176,21 +201,18 @@ fn tiles_tell_what_is_held_of_them(rt: HostRuntime) -> Result<(), Fail> {
         (1, [&DARK_DAMAGED, &DARK_DAMAGED], 0, 1, Some(2), 1),
     ];
     for (tiles, copies, tile, slices, status, bests) in cases {
-        let held = held_of(rt.alloc(), tiles, copies)?;
-        assert!(rt; tile < held.reel().tiles());
-        assert_eq!(rt; (held.held(tile), held.status(tile)), (slices, status));
-        assert_eq!(rt; best(held.state(tile)), bests);
-        assert_eq!(rt; held.size(), slices.max(1));
+        let held = held_beside(rt.alloc(), tiles, copies)?;
+        assert!(rt; tells(&held, tile, (slices, status, bests)));
     }
     Ok(())
 }
 
 #[test]
 fn other_sizes_do_not_join(rt: HostRuntime) -> Result<(), Fail> {
-    let mut frame = held_of(rt.alloc(), 2, [&FRAME, &FRAME])?;
-    let sample = held_of(rt.alloc(), 1, [&BLACK, &DARK])?;
-    assert_eq!(rt; frame.join_with(&sample), Err(HoldFault::OtherReel));
+    let mut frame = held_beside(rt.alloc(), 2, [&FRAME, &FRAME])?;
+    let sample = held_beside(rt.alloc(), 1, [&BLACK, &DARK])?;
+    assert!(rt; frame.join_with(&sample) == Err(HoldFault::OtherReel));
     let short = Holding::new(rt.alloc(), &[0; 5], 1, 1).err();
-    assert_eq!(rt; short, Some(SetupFault::TooShort));
+    assert!(rt; short == Some(SetupFault::TooShort));
     Ok(())
 }

@@ -12,4 +12,6 @@ mod merge;
 #[cfg(test)]
 mod picture;
 #[cfg(test)]
+mod streams;
+#[cfg(test)]
 mod uses;

@@ -1,10 +1,10 @@
 //! Two holding files that are joined as streams: beside `join`, cut and changed at every byte, on devices that fail.
-use ffv1_hold::{
-    FromRead, FromWrite, HoldFileFault, Holding, Join, Source, join_streams, read_hold, write_hold,
-};
+use crate::hold::written;
+use crate::holding::held_of;
+use crate::streams::{Failing, Narrow};
+use ffv1_hold::{FromRead, FromWrite, HoldFileFault, Join, Sink, Source, join_streams, read_hold};
 use std::alloc::Global;
-use std::io;
-use std::io::{ErrorKind, Read, Write};
+use std::io::ErrorKind;
 use std::test::Fail;
 
 /// A gray record of micro version 4 with one tile, its five tables of one run each.
@@ -31,58 +31,9 @@ const FIRST: [u8; 56] = [
     0, 0, 0, 0, 0x0B, 0xFD, 0xF6, 0x80, 0, 0, 3, 0, 0x1C, 0x3E, 0xA0, 0x9B, 0,
 ];
 
-/// A reader of bytes after so many interruptions in a row.
-#[derive(Drop)]
-struct Halting<'a> {
-    bytes: &'a [u8],
-    interruptions: u32,
-}
-
-impl<'a> Read for Halting<'a> {
-    fn read(&mut self, buf: &mut [u8]) -> io::Result<usize> {
-        if self.interruptions > 0 {
-            self.interruptions -= 1;
-            return Err(io::Error::from(ErrorKind::Interrupted));
-        }
-        let mut left = self.bytes;
-        let count = left.read(buf)?;
-        self.bytes = left;
-        Ok(count)
-    }
-}
-
-/// A writer that takes one byte at a time, so many in all, and then fails.
-#[derive(Drop)]
-struct Narrow {
-    room: usize,
-    bytes: Vec<u8>,
-}
-
-impl Write for Narrow {
-    fn write(&mut self, buf: &[u8]) -> io::Result<usize> {
-        if self.room == 0 {
-            return Err(io::Error::from(ErrorKind::Other));
-        }
-        let Some(first) = buf.first() else {
-            return Ok(0);
-        };
-        self.bytes.push(*first)?;
-        self.room -= 1;
-        Ok(1)
-    }
-
-    fn flush(&mut self) -> io::Result<()> {
-        Ok(())
-    }
-}
-
 /// The file of the holding of these copies, of frames of this width and one line.
 fn file_of(alloc: Global, copies: &[&[u8]], width: u32) -> Result<Vec<u8>, Fail> {
-    let mut holding = Holding::new(alloc, &ONE_TILE, width, 1)?;
-    holding.take_all(copies)?;
-    let mut sink = FromWrite::new(Vec::new(alloc));
-    write_hold(&holding, &mut sink)?;
-    Ok(sink.into_inner())
+    written(alloc, &held_of(alloc, &ONE_TILE, (width, 1), copies)?)
 }
 
 /// What two files come to as streams, and what was written.
@@ -102,9 +53,7 @@ fn joined(alloc: Global, left: &[u8], right: &[u8]) -> Result<Vec<u8>, Fail> {
     let mut whole = read_hold(alloc, &mut FromRead::new(left))?;
     let other = read_hold(alloc, &mut FromRead::new(right))?;
     whole.join_with(&other)?;
-    let mut sink = FromWrite::new(Vec::new(alloc));
-    write_hold(&whole, &mut sink)?;
-    Ok(sink.into_inner())
+    written(alloc, &whole)
 }
 
 /// The files of no slice, of each of two, of both, of one with two origins, and of one without.
@@ -120,18 +69,37 @@ fn files(alloc: Global) -> Result<Vec<Vec<u8>>, Fail> {
     Ok(files)
 }
 
+/// Whether two files are refused as streams, and leave no file. Where they are not, they have to come to what `join` makes.
+fn is_refused(alloc: Global, left: &[u8], right: &[u8]) -> Result<bool, Fail> {
+    let (answer, file) = merged(alloc, left, right);
+    if answer.is_err() {
+        if read_hold(alloc, &mut FromRead::new(file.as_slice())).is_ok() {
+            return Err(Fail::from("a file beside a fault"));
+        }
+        return Ok(true);
+    }
+    if file != joined(alloc, left, right)? {
+        return Err(Fail::from("another file than join's"));
+    }
+    Ok(false)
+}
+
 #[test]
 fn streams_come_to_what_join_makes(rt: HostRuntime) -> Result<(), Fail> {
     let alloc = rt.alloc();
     let files = files(alloc)?;
     for left in &files {
         for right in &files {
-            let (answer, written) = merged(alloc, left, right);
-            assert_eq!(rt; answer, Ok(()));
-            assert!(rt; written == joined(alloc, left, right)?);
+            assert!(rt; !is_refused(alloc, left, right)?);
         }
     }
     Ok(())
+}
+
+/// Whether a cut file among two is told, and what was written is a front of their union's file, without its end.
+fn is_cut_off(alloc: Global, left: &[u8], right: &[u8], union: &[u8]) -> bool {
+    let (answer, file) = merged(alloc, left, right);
+    answer == Err(HoldFileFault::Truncated) && file.len() < union.len() && union.starts_with(&file)
 }
 
 #[test]
@@ -140,29 +108,10 @@ fn a_cut_input_leaves_no_end(rt: HostRuntime) -> Result<(), Fail> {
     let both = file_of(alloc, &[&BLACK, &DARK], 1)?;
     let dark = file_of(alloc, &[&DARK], 1)?;
     for place in 0..both.len() {
-        let (answer, written) = merged(alloc, &both[..place], &dark);
-        assert_eq!(rt; answer, Err(HoldFileFault::Truncated));
-        assert!(rt; written.len() < both.len() && both.starts_with(&written));
-        let (answer, written) = merged(alloc, &dark, &both[..place]);
-        assert_eq!(rt; answer, Err(HoldFileFault::Truncated));
-        assert!(rt; written.len() < both.len() && both.starts_with(&written));
+        assert!(rt; is_cut_off(alloc, &both[..place], &dark, &both));
+        assert!(rt; is_cut_off(alloc, &dark, &both[..place], &both));
     }
     Ok(())
-}
-
-/// Whether two files are refused as streams, and leave no file. Where they are not, they have to come to what `join` makes.
-fn is_refused(alloc: Global, left: &[u8], right: &[u8]) -> Result<bool, Fail> {
-    let (answer, written) = merged(alloc, left, right);
-    if answer.is_err() {
-        if read_hold(alloc, &mut FromRead::new(written.as_slice())).is_ok() {
-            return Err(Fail::from("a file beside a fault"));
-        }
-        return Ok(true);
-    }
-    if written != joined(alloc, left, right)? {
-        return Err(Fail::from("another file than join's"));
-    }
-    Ok(false)
 }
 
 #[test]
@@ -176,12 +125,43 @@ fn a_changed_byte_leaves_no_file(rt: HostRuntime) -> Result<(), Fail> {
         changed[place] ^= 0xFF;
         let is_first = is_refused(alloc, &changed, &dark)?;
         let is_second = is_refused(alloc, &dark, &changed)?;
-        assert_eq!(rt; is_first, is_second);
+        assert!(rt; is_first == is_second);
         refused = refused.saturating_add(usize::from(is_first));
     }
     // A changed digest is another copy's: there are two of 32 bytes.
-    assert_eq!(rt; refused, both.len().saturating_sub(64));
+    assert!(rt; refused == both.len().saturating_sub(64));
     Ok(())
+}
+
+/// Whether a sink that fails behind so many bytes of a file of 146 has that front of it, and no more of its entries, which
+/// end at 91 and 145, was read than is needed.
+fn has_front(alloc: Global, file: &[u8], right: &[u8], room: usize) -> bool {
+    let mut sink = FromWrite::new(Narrow {
+        room,
+        bytes: Vec::new(alloc),
+    });
+    let mut left = FromRead::new(file);
+    let answer = join_streams(alloc, &mut left, &mut FromRead::new(right), &mut sink);
+    let lead = if room < 91 {
+        91
+    } else if room < 145 {
+        145
+    } else {
+        146
+    };
+    answer == Err(HoldFileFault::Write)
+        && left.taken() <= lead
+        && Some(sink.into_inner().bytes.as_slice()) == file.get(..room)
+}
+
+/// Whether it does so behind any number of them.
+fn each_front_is_left(alloc: Global, file: &[u8], right: &[u8]) -> bool {
+    for room in 0..file.len() {
+        if !has_front(alloc, file, right, room) {
+            return false;
+        }
+    }
+    file.len() == 146
 }
 
 #[test]
@@ -189,47 +169,26 @@ fn a_failed_write_leaves_a_front_and_reads_no_further(rt: HostRuntime) -> Result
     let alloc = rt.alloc();
     let both = file_of(alloc, &[&BLACK, &DARK], 1)?;
     let black = file_of(alloc, &[&BLACK], 1)?;
-    // The ends of the first entry, of the second, and of the file.
-    let ends = [91, 145, 146];
-    assert_eq!(rt; both.len(), 146);
-    for room in 0..both.len() {
-        let mut sink = FromWrite::new(Narrow {
-            room,
-            bytes: Vec::new(alloc),
-        });
-        let mut left = FromRead::new(both.as_slice());
-        let answer = join_streams(
-            alloc,
-            &mut left,
-            &mut FromRead::new(black.as_slice()),
-            &mut sink,
-        );
-        assert_eq!(rt; answer, Err(HoldFileFault::Write));
-        assert_eq!(rt; sink.into_inner().bytes.as_slice(), &both[..room]);
-        let lead = ends.iter().find(|end| room < **end).copied().unwrap_or(0);
-        assert!(rt; left.taken() <= lead as u64);
-    }
+    assert!(rt; each_front_is_left(alloc, &both, &black));
     Ok(())
+}
+
+/// What joining a file, behind which tries are interrupted so many times in a row, with itself answers.
+fn interrupted(alloc: Global, file: &[u8], times: u32) -> Result<(), HoldFileFault> {
+    let mut left = FromRead::new(Failing {
+        bytes: file,
+        kind: ErrorKind::Interrupted,
+        times,
+    });
+    let mut sink = FromWrite::new(Vec::new(alloc));
+    join_streams(alloc, &mut left, &mut FromRead::new(file), &mut sink)
 }
 
 #[test]
 fn interrupted_streams_are_tried_again(rt: HostRuntime) -> Result<(), Fail> {
-    let alloc = rt.alloc();
-    let black = file_of(alloc, &[&BLACK], 1)?;
-    for (interruptions, answer) in [(64, Ok(())), (65, Err(HoldFileFault::Read))] {
-        let mut left = FromRead::new(Halting {
-            bytes: &black,
-            interruptions,
-        });
-        let mut sink = FromWrite::new(Vec::new(alloc));
-        let told = join_streams(
-            alloc,
-            &mut left,
-            &mut FromRead::new(black.as_slice()),
-            &mut sink,
-        );
-        assert_eq!(rt; told, answer);
-    }
+    let black = file_of(rt.alloc(), &[&BLACK], 1)?;
+    assert!(rt; interrupted(rt.alloc(), &black, 64).is_ok());
+    assert!(rt; interrupted(rt.alloc(), &black, 65) == Err(HoldFileFault::Read));
     Ok(())
 }
 
@@ -238,8 +197,7 @@ fn heads_of_two_reels_are_told_before_anything_is_written(rt: HostRuntime) -> Re
     let alloc = rt.alloc();
     let black = file_of(alloc, &[&BLACK], 1)?;
     let other = file_of(alloc, &[], 2)?;
-    let (answer, written) = merged(alloc, &black, &other);
-    assert_eq!(rt; answer, Err(HoldFileFault::OtherReel));
-    assert!(rt; written.is_empty());
+    let (answer, file) = merged(alloc, &black, &other);
+    assert!(rt; answer == Err(HoldFileFault::OtherReel) && file.is_empty());
     Ok(())
 }

@@ -1,0 +1,49 @@
+//! Devices that fail, are interrupted, or take one byte at a time.
+use std::io;
+use std::io::{ErrorKind, Read, Write};
+
+/// A reader of bytes that fails once they are read, with an error of this kind, so many times.
+#[derive(Drop)]
+pub(crate) struct Failing<'a> {
+    pub(crate) bytes: &'a [u8],
+    pub(crate) kind: ErrorKind,
+    pub(crate) times: u32,
+}
+
+impl<'a> Read for Failing<'a> {
+    fn read(&mut self, buf: &mut [u8]) -> io::Result<usize> {
+        let mut left = self.bytes;
+        let count = left.read(buf)?;
+        self.bytes = left;
+        if count == 0 && self.times > 0 {
+            self.times -= 1;
+            return Err(io::Error::from(self.kind));
+        }
+        Ok(count)
+    }
+}
+
+/// A writer that takes one byte at a time, so many in all, and then fails.
+#[derive(Drop)]
+pub(crate) struct Narrow {
+    pub(crate) room: usize,
+    pub(crate) bytes: Vec<u8>,
+}
+
+impl Write for Narrow {
+    fn write(&mut self, buf: &[u8]) -> io::Result<usize> {
+        if self.room == 0 {
+            return Err(io::Error::from(ErrorKind::Other));
+        }
+        let Some(first) = buf.first() else {
+            return Ok(0);
+        };
+        self.bytes.push(*first)?;
+        self.room -= 1;
+        Ok(1)
+    }
+
+    fn flush(&mut self) -> io::Result<()> {
+        Ok(())
+    }
+}
