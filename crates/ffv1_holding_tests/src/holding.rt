@@ -128,15 +128,31 @@ fn are_shared(held: &Holding, copies: &[&[u8]]) -> bool {
     has_origins(held, 0, &BLACK, copies) && has_origins(held, 1, &RIGHT, &[&FRAME, &LEFT_DAMAGED])
 }
 
+/// Whether joining the holding of both damaged copies to that of the frame adds the other copy to a slice's, and no slice.
+fn adds_origins(both: &mut Holding, held: &Holding) -> bool {
+    are_shared(both, &[&FRAME])
+        && both.join_with(held) == Ok(0)
+        && are_shared(both, &[&FRAME, &RIGHT_DAMAGED])
+}
+
 #[test]
 fn origins_are_the_digests_of_whole_copies(rt: HostRuntime) -> Result<(), Fail> {
-    let mut held = held_beside(rt.alloc(), 2, [&LEFT_DAMAGED, &RIGHT_DAMAGED])?;
-    held.take(&LEFT_DAMAGED)?;
+    let copies: [&[u8]; 3] = [&LEFT_DAMAGED, &RIGHT_DAMAGED, &LEFT_DAMAGED];
+    let held = held_of(rt.alloc(), &TWO_TILES, (2, 1), &copies)?;
+    assert!(rt; are_apart(&held));
     let mut both = held_beside(rt.alloc(), 2, [&FRAME, &LEFT_DAMAGED])?;
-    assert!(rt; are_apart(&held) && are_shared(&both, &[&FRAME]));
-    assert!(rt; both.join_with(&held) == Ok(0));
-    assert!(rt; are_shared(&both, &[&FRAME, &RIGHT_DAMAGED]));
+    assert!(rt; adds_origins(&mut both, &held));
     Ok(())
+}
+
+/// What is restored of two copies of a frame of so many tiles.
+fn restored(
+    alloc: Global,
+    tiles: u32,
+    copies: [&[u8]; 2],
+) -> Result<Result<Vec<u8>, RestoreFault>, Fail> {
+    let holding = held_beside(alloc, tiles, copies)?;
+    Ok(holding.restore())
 }
 
 #[test]
@@ -148,7 +164,7 @@ fn settled_tiles_are_restored(rt: HostRuntime) -> Result<(), Fail> {
         (1, [&DARK_DAMAGED, &BLACK], &BLACK),
     ];
     for (tiles, copies, wanted) in cases {
-        let payload = held_beside(rt.alloc(), tiles, copies)?.restore()?;
+        let payload = restored(rt.alloc(), tiles, copies)??;
         assert!(rt; payload.as_slice() == wanted);
     }
     Ok(())
@@ -167,8 +183,7 @@ fn the_first_unsettled_tile_is_told(rt: HostRuntime) -> Result<(), Fail> {
         (1, [&BLACK, &DARK], RestoreFault::Disputed(0)),
     ];
     for (tiles, copies, fault) in cases {
-        let held = held_beside(rt.alloc(), tiles, copies)?;
-        assert!(rt; held.restore().err() == Some(fault));
+        assert!(rt; restored(rt.alloc(), tiles, copies)?.err() == Some(fault));
     }
     Ok(())
 }
@@ -209,10 +224,10 @@ fn tiles_tell_what_is_held_of_them(rt: HostRuntime) -> Result<(), Fail> {
 
 #[test]
 fn other_sizes_do_not_join(rt: HostRuntime) -> Result<(), Fail> {
+    let short = Holding::new(rt.alloc(), &[0; 5], 1, 1).err();
+    assert!(rt; short == Some(SetupFault::TooShort));
     let mut frame = held_beside(rt.alloc(), 2, [&FRAME, &FRAME])?;
     let sample = held_beside(rt.alloc(), 1, [&BLACK, &DARK])?;
     assert!(rt; frame.join_with(&sample) == Err(HoldFault::OtherReel));
-    let short = Holding::new(rt.alloc(), &[0; 5], 1, 1).err();
-    assert!(rt; short == Some(SetupFault::TooShort));
     Ok(())
 }

@@ -214,13 +214,17 @@ const RIGHT_ALONE: [TileOutcome; 2] = [
     TileOutcome::Decoded { spare_bits: 7 },
 ];
 
+/// Whether a picture is of tile 1 alone.
+fn is_right_alone(alloc: Global, picture: &Partial) -> Result<bool, Fail> {
+    let tiles = picture.tiles.as_slice() == RIGHT_ALONE.as_slice();
+    Ok(tiles && shows(alloc, &picture.frame, &[128, 0])?)
+}
+
 #[test]
 fn damaged_copy_shows_what_it_has(rt: HostRuntime) -> Result<(), Fail> {
     let holding = held_of(rt.alloc(), &TWO_TILES, (2, 1), &[&LEFT_DAMAGED])?;
-    let Partial { frame, tiles } = picture(rt.alloc(), &holding)?;
-    assert!(rt;
-        tiles.as_slice() == RIGHT_ALONE.as_slice() && shows(rt.alloc(), &frame, &[128, 0])?
-    );
+    let partial = picture(rt.alloc(), &holding)?;
+    assert!(rt; is_right_alone(rt.alloc(), &partial)?);
     Ok(())
 }
 
