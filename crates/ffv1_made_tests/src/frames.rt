@@ -1,10 +1,10 @@
 //! Frames and damage made to measure.
 use ffv1_bits::passes;
 use ffv1_range::Setup;
-use ffv1_slice::{Chain, ChainEnd, find_slices};
+use ffv1_slice::find_slices;
 use ffv1_vectors::{
-    FrameSpec, MakeFault, SUITE_NUMBERS, SuiteCase, SuiteContent, SuiteTables, TileSpec, burst,
-    cut, flip, make_frame, make_record, put_front, suite_case, suite_frame, suite_record, zero,
+    FrameSpec, MakeFault, SuiteCase, SuiteContent, SuiteTables, TileSpec, burst, cut, flip,
+    make_frame, make_record, put_front, suite_record, zero,
 };
 use std::alloc::Global;
 use std::test::Fail;
@@ -76,7 +76,7 @@ fn tiles_are_coded_byte_for_byte(rt: HostRuntime) -> Result<(), Fail> {
     ];
     for (tables, size, samples, codes) in cases {
         let made = gray_codes(rt.alloc(), tables, size, samples)?;
-        assert_eq!(rt; made.as_slice(), codes.as_slice());
+        assert!(rt; made.as_slice() == codes.as_slice());
     }
     Ok(())
 }
@@ -131,55 +131,8 @@ fn made_frames_are_found_tile_by_tile(rt: HostRuntime) -> Result<(), Fail> {
     ];
     for (front, tiles) in cases {
         let (setup, frame) = four_tiles_behind(rt.alloc(), front)?;
-        assert_eq!(rt; found_tiles(rt.alloc(), &setup, &frame)?.as_slice(), tiles);
+        assert!(rt; found_tiles(rt.alloc(), &setup, &frame)?.as_slice() == tiles);
     }
-    Ok(())
-}
-
-/// A frame of 64 x 64 tiles of one sample 0 each, and its setup.
-fn dark_tiles(alloc: Global) -> Result<(Setup, Vec<u8>), Fail> {
-    let setup = setup_of(alloc, SuiteTables::OneRun, None, (64, 64), (64, 64))?;
-    let mut tiles = Vec::new(alloc);
-    for _ in 0..4096 {
-        tiles.push(plain_tile(alloc, &[&[0]])?)?;
-    }
-    let frame = make_frame(alloc, &setup, &FrameSpec { tiles })?;
-    Ok((setup, frame))
-}
-
-#[test]
-fn slices_of_4096_tiles_are_found(rt: HostRuntime) -> Result<(), Fail> {
-    let (setup, frame) = dark_tiles(rt.alloc())?;
-    let found = found_tiles(rt.alloc(), &setup, &frame)?;
-    assert_eq!(rt; found.len(), 4096);
-    for (place, (tile, status)) in found.iter().enumerate() {
-        assert_eq!(rt; (tile.wrapping_add(place), *status), (4095, 0));
-    }
-    Ok(())
-}
-
-/// The end of the second slice from the end of a payload.
-fn second_end(payload: &[u8]) -> Option<usize> {
-    Chain::new(payload).nth(1).map(|link| link.end())
-}
-
-/// Damages the size of a payload's second slice from the end, and answers where that slice ends.
-fn damage_second_size(payload: &mut [u8]) -> Result<usize, Fail> {
-    let end = second_end(payload).ok_or("two slices")?;
-    let place = end.checked_sub(8).ok_or("a footer")?;
-    *payload.get_mut(place).ok_or("a footer")? = 0xFF;
-    Ok(end)
-}
-
-#[test]
-fn chain_breaks_at_a_damaged_size(rt: HostRuntime) -> Result<(), Fail> {
-    let (setup, mut frame) = four_tiles_behind(rt.alloc(), &[])?;
-    let end = damage_second_size(&mut frame)?;
-    let found = found_tiles(rt.alloc(), &setup, &frame)?;
-    assert_eq!(rt;
-        (found.as_slice(), Chain::new(&frame).end()),
-        ([(3, 3)].as_slice(), ChainEnd::Broken(end))
-    );
     Ok(())
 }
 
@@ -264,42 +217,4 @@ fn bursts_never_pass(rt: HostRuntime) -> Result<(), Fail> {
 fn wider_damage_can_pass(rt: HostRuntime) {
     // The first slice with the error status 1 and its parity: what differs lies within 33 bits.
     assert!(rt; passes(&[0xFD, 0xF6, 0x80, 0, 0, 3, 1, 0x18, 0xFF, 0xBD, 0x2C]));
-}
-
-/// Makes the frames of all cases with these tables, and answers how many there are.
-fn count_made(alloc: Global, tables: SuiteTables) -> Result<usize, Fail> {
-    let mut made = 0usize;
-    for number in 0..SUITE_NUMBERS {
-        if let Some(case) = suite_case(tables, number) {
-            make_case(alloc, &case)?;
-            made = made.saturating_add(1);
-        }
-    }
-    Ok(made)
-}
-
-/// Makes the frame of a case.
-fn make_case(alloc: Global, case: &SuiteCase) -> Result<(), Fail> {
-    let record = make_record(alloc, &suite_record(alloc, case)?)?;
-    let setup = Setup::read(alloc, &record, case.size.0, case.size.1)?;
-    make_frame(alloc, &setup, &suite_frame(alloc, case, &setup)?)?;
-    Ok(())
-}
-
-#[test]
-fn frames_of_one_run_are_made(rt: HostRuntime) -> Result<(), Fail> {
-    assert_eq!(rt; count_made(rt.alloc(), SuiteTables::OneRun)?, 465);
-    Ok(())
-}
-
-#[test]
-fn frames_of_six_runs_are_made(rt: HostRuntime) -> Result<(), Fail> {
-    assert_eq!(rt; count_made(rt.alloc(), SuiteTables::SixRuns)?, 465);
-    Ok(())
-}
-
-#[test]
-fn frames_of_two_runs_are_made(rt: HostRuntime) -> Result<(), Fail> {
-    assert_eq!(rt; count_made(rt.alloc(), SuiteTables::TwoRuns)?, 465);
-    Ok(())
 }

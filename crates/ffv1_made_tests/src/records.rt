@@ -19,8 +19,6 @@ const TWO: &[u32] = &[1, 127];
 
 const ALL: &[u32] = &[1; 128];
 
-const TOO_LONG: &[u32] = &[129];
-
 const PLAIN: [&[u32]; 5] = [ONE, ONE, ONE, ONE, ONE];
 
 /// One set of these tables.
@@ -62,31 +60,6 @@ fn gray(alloc: Global, tables: &[&[u32]; 5]) -> Result<RecordSpec, Fail> {
 fn fault_of(alloc: Global, spec: &RecordSpec, side: u32) -> Result<Option<SetupFault>, Fail> {
     let record = spell_record(alloc, spec)?;
     Ok(Setup::read(alloc, &record, side, side).err())
-}
-
-#[test]
-fn records_of_few_bytes_are_refused(rt: HostRuntime) -> Result<(), Fail> {
-    let alloc = rt.alloc();
-    assert_eq!(rt;
-        Setup::read(alloc, &[0; 5], 1, 1).err(),
-        Some(SetupFault::TooShort)
-    );
-    assert_eq!(rt;
-        Setup::read(alloc, &[0; 6], 1, 1).err(),
-        Some(SetupFault::Version)
-    );
-    assert_eq!(rt;
-        Setup::read(alloc, &[0; 6], 0, 1).err(),
-        Some(SetupFault::Size)
-    );
-    let mut content = Vec::new(alloc);
-    content.extend_from_slice(&[0xFF, 0])?;
-    let record = with_parity(content)?;
-    assert_eq!(rt;
-        Setup::read(alloc, &record, 1, 1).err(),
-        Some(SetupFault::Range(RangeFault::Start))
-    );
-    Ok(())
 }
 
 /// The fields of a record before its tables, in reading order: the version, its micro number, coder, colour space, depth,
@@ -136,71 +109,7 @@ fn fronts_beyond_the_profile_are_refused(rt: HostRuntime) -> Result<(), Fail> {
         (0, 1, Some(SetupFault::Version)),
     ] {
         let spec = beyond_from(rt.alloc(), right)?;
-        assert_eq!(rt; fault_of(rt.alloc(), &spec, side)?, fault);
-    }
-    Ok(())
-}
-
-#[test]
-fn records_without_a_parity_are_refused(rt: HostRuntime) -> Result<(), Fail> {
-    let mut spec = gray(rt.alloc(), &PLAIN)?;
-    spec.ec = 0;
-    assert_eq!(rt;
-        fault_of(rt.alloc(), &spec, 1)?,
-        Some(SetupFault::ParityMode)
-    );
-    assert_eq!(rt;
-        make_record(rt.alloc(), &spec).err(),
-        Some(MakeFault::NotSelf)
-    );
-    Ok(())
-}
-
-#[test]
-fn tables_beyond_the_profile_are_refused(rt: HostRuntime) -> Result<(), Fail> {
-    let alloc = rt.alloc();
-    let long = gray(alloc, &[TOO_LONG, ONE, ONE, ONE, ONE])?;
-    assert_eq!(rt; fault_of(alloc, &long, 1)?, Some(SetupFault::TableRun));
-    let fine = gray(alloc, &[ALL, ALL, TWO, TOO_LONG, ONE])?;
-    assert_eq!(rt; fault_of(alloc, &fine, 1)?, Some(SetupFault::Contexts));
-    Ok(())
-}
-
-#[test]
-fn made_records_have_their_contexts(rt: HostRuntime) -> Result<(), Fail> {
-    let alloc = rt.alloc();
-    for (tables, contexts) in [
-        (PLAIN, 1),
-        ([ALL, ALL, ONE, ONE, ONE], 32513),
-        ([SIX, SIX, SIX, ONE, ONE], 666),
-        ([THREE, THREE, THREE, THREE, THREE], 1563),
-    ] {
-        let record = make_record(alloc, &gray(alloc, &tables)?)?;
-        let setup = Setup::read(alloc, &record, 1, 1)?;
-        assert!(rt; setup.sets() == 1);
-        assert_eq!(rt; setup.contexts(0), contexts);
-    }
-    Ok(())
-}
-
-#[test]
-fn entries_follow_their_runs(rt: HostRuntime) -> Result<(), Fail> {
-    let alloc = rt.alloc();
-    let record = make_record(alloc, &gray(alloc, &[THREE, THREE, THREE, THREE, THREE])?)?;
-    let setup = Setup::read(alloc, &record, 1, 1)?;
-    assert!(rt; setup.sets() == 1);
-    for (index, entry) in [
-        (0, 0),
-        (1, 1),
-        (2, 1),
-        (3, 2),
-        (127, 2),
-        (128, -2),
-        (253, -2),
-        (254, -1),
-        (255, -1),
-    ] {
-        assert_eq!(rt; setup.entry(0, 0, index), entry, "at {index}");
+        assert!(rt; fault_of(rt.alloc(), &spec, side)? == fault);
     }
     Ok(())
 }
@@ -301,23 +210,19 @@ fn with_deltas(alloc: Global) -> Result<RecordSpec, Fail> {
     Ok(spec)
 }
 
+/// Whether a setup is as that record says.
+fn says_deltas(setup: &Setup) -> bool {
+    (setup.micro(), setup.ec(), setup.intra()) == (0x10_0003, 1, 0)
+        && setup.sets() == 2
+        && (setup.contexts(0), setup.contexts(1)) == (5, 2)
+}
+
 #[test]
 fn deltas_are_written_for_each_context(rt: HostRuntime) -> Result<(), Fail> {
     let alloc = rt.alloc();
     let record = make_record(alloc, &with_deltas(alloc)?)?;
-    assert_eq!(rt; record.as_slice(), WITH_DELTAS.as_slice());
     let setup = Setup::read(alloc, &record, 3, 2)?;
-    assert!(rt; setup.sets() == 2);
-    assert_eq!(rt;
-        (
-            setup.micro(),
-            setup.ec(),
-            setup.intra(),
-            setup.contexts(0),
-            setup.contexts(1)
-        ),
-        (0x10_0003, 1, 0, 5, 2)
-    );
+    assert!(rt; record.as_slice() == WITH_DELTAS.as_slice() && says_deltas(&setup));
     Ok(())
 }
 
@@ -350,18 +255,6 @@ fn records_beyond_the_profile_are_spelled_byte_for_byte(rt: HostRuntime) -> Resu
     Ok(())
 }
 
-#[test]
-fn shifts_of_gray_records_count_as_none(rt: HostRuntime) -> Result<(), Fail> {
-    let alloc = rt.alloc();
-    let mut spec = gray(alloc, &PLAIN)?;
-    spec.shift_h = 7;
-    let setup = Setup::read(alloc, &make_record(alloc, &spec)?, 1, 1)?;
-    assert_eq!(rt; (setup.shift_h(), setup.shift_v()), (0, 0));
-    spec.set_count = 2;
-    assert_eq!(rt; make_record(alloc, &spec).err(), Some(MakeFault::NotSelf));
-    Ok(())
-}
-
 /// Writes one bit at a slot of a row of states.
 fn write_slot(
     encoder: &mut RangeEncoder,
@@ -383,6 +276,14 @@ fn spell_front(encoder: &mut RangeEncoder, count: usize) -> Result<(), MakeFault
     for place in 0..count {
         write_slot(encoder, &mut states, 1 + place.min(9), true)?;
     }
+    Ok(())
+}
+
+#[test]
+fn records_that_count_other_sets_are_not_made(rt: HostRuntime) -> Result<(), Fail> {
+    let mut spec = gray(rt.alloc(), &PLAIN)?;
+    spec.set_count = 2;
+    assert!(rt; make_record(rt.alloc(), &spec).err() == Some(MakeFault::NotSelf));
     Ok(())
 }
 
@@ -435,7 +336,7 @@ fn slices_are_spelled_byte_for_byte(rt: HostRuntime) -> Result<(), Fail> {
     ] {
         let fields = fields_of(if first { 0 } else { 1 });
         let slice = spell_slice(alloc, first, true, &fields, &[codes], status)?;
-        assert_eq!(rt; slice.as_slice(), wanted.as_slice());
+        assert!(rt; slice.as_slice() == wanted.as_slice());
     }
     Ok(())
 }
@@ -481,48 +382,6 @@ fn slices_are_read_by_their_fields(rt: HostRuntime) -> Result<(), Fail> {
             wanted.map_err(LinkFault::Head)
         );
     }
-    Ok(())
-}
-
-/// The slice of tile 0 with sample 0, and that of tile 1 in a grid two wide.
-const FIRST: [u8; 11] = [0xFD, 0xF6, 0x80, 0, 0, 3, 0, 0x1C, 0x3E, 0xA0, 0x9B];
-
-const SECOND: [u8; 11] = [0x3F, 0x2B, 0x80, 0, 0, 3, 0, 0x56, 0x0F, 0xD7, 0x3B];
-
-#[test]
-fn slices_elsewhere_are_refused(rt: HostRuntime) -> Result<(), Fail> {
-    for (across, slice, first, tile) in [
-        (1, SECOND, false, Err(HeadFault::OutsideGrid)),
-        (2, FIRST, true, Ok(0)),
-        (2, SECOND, false, Ok(1)),
-        (2, FIRST, false, Err(HeadFault::FirstElsewhere)),
-    ] {
-        let setup = tiles_beside(rt.alloc(), across)?;
-        assert_eq!(rt;
-            read_slice(&setup, &slice, first),
-            tile.map_err(LinkFault::Head)
-        );
-    }
-    Ok(())
-}
-
-#[test]
-fn damaged_records_are_refused(rt: HostRuntime) -> Result<(), Fail> {
-    let alloc = rt.alloc();
-    let mut record = make_record(alloc, &gray(alloc, &PLAIN)?)?;
-    assert_eq!(rt;
-        Setup::read(alloc, &record[..5], 1, 1).err(),
-        Some(SetupFault::TooShort)
-    );
-    assert_eq!(rt;
-        Setup::read(alloc, &record[..record.len() - 1], 1, 1).err(),
-        Some(SetupFault::Parity)
-    );
-    record[1] ^= 0x10;
-    assert_eq!(rt;
-        Setup::read(alloc, &record, 1, 1).err(),
-        Some(SetupFault::Parity)
-    );
     Ok(())
 }
 
@@ -578,26 +437,6 @@ const RECORDED: [(&[u8], [u32; 6]); 5] = [
         [64, 64, 4, 4, 0, 0],
     ),
 ];
-
-#[test]
-fn recorded_records_are_read(rt: HostRuntime) -> Result<(), Fail> {
-    let alloc = rt.alloc();
-    for (record, [width, height, across, down, shift_h, shift_v]) in RECORDED {
-        let setup = Setup::read(alloc, record, width, height)?;
-        let grid = setup.grid();
-        assert_eq!(rt;
-            [grid.across(), grid.down(), setup.shift_h(), setup.shift_v()],
-            [across, down, shift_h, shift_v]
-        );
-        assert!(rt; setup.sets() == 2);
-        let cut = Setup::read(alloc, &record[1..], width, height).err();
-        assert_eq!(rt;
-            (setup.contexts(0), setup.contexts(1), cut),
-            (666, 7563, Some(SetupFault::Parity))
-        );
-    }
-    Ok(())
-}
 
 /// The runs of the tables that FFmpeg writes for differences of 11 and of 5 values.
 const ELEVEN: &[u32] = &[1, 1, 3, 7, 23, 93];
