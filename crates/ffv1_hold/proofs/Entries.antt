@@ -9,7 +9,7 @@ use Rattle.ffv1_range.specs.Setup.{SetupValue}
 use Rattle.ffv1_holding.specs.SliceOrder.{Entry}
 use Rattle.ffv1_hold.specs.FileEntries.{last_of, AreEntries}
 use Rattle.ffv1_hold.specs.HoldingText.{FileEntry, slice_text, text_behind_slice, body_text, entry_text, entries_text}
-use Rattle.ffv1_hold.specs.Reading.{Takes, Refuses}
+use Rattle.ffv1_hold.specs.Reading.{CountsRead, Takes, Refuses}
 use Rattle.ffv1_hold.specs.FileFaults.{IsPartOfSlice, SliceIsTooLong, IsWrong, IsRight, IsPartBehind, ShowsBehind, IsPartOfEntry, EntryShows, IsPartOfEntries, EntriesShow}
 
 pub single : (xs : List ℕ) (v : ℕ) → length xs ≡ 1 → get_or xs 0 0 ≡ v → xs ≡ v ∷ []
@@ -22,6 +22,11 @@ unfolding body_text
 entry_text-of v e = refl
 
 module _ (v : Version) (setup : SetupValue) (last : Option FileEntry) where
+  -- no byte, where less than the tag was read
+  pub part_of_tag : (s : List ℕ) → length s < 1 → IsPartOfEntry v setup last s
+  part_of_tag [] h = inl refl
+  part_of_tag (x ∷ s) h = absurd (omega arith)
+
   -- a part of a slice is one of an entry
   pub part_of_slice : (s : List ℕ) → IsPartOfSlice s → IsPartOfEntry v setup last (1 ∷ [] ++ s)
   part_of_slice s h = inr (s, refl, inl h)
@@ -88,6 +93,21 @@ module _ (v : Version) (setup : SetupValue) (last : Option FileEntry) where
   wrong_refuses P W e a b i j faults.Write t small fits w = absurd w
   wrong_refuses P W e a b i j faults.Memory t small fits w = absurd w
   wrong_refuses P W e a b i j faults.OtherReel t small fits w = absurd w
+
+  -- a slice that is wrong is no failure of the source
+  pub CountsRead-wrong : (e : Entry) (f : HoldFileFault) (a b : ℕ) → IsWrong setup last e f → CountsRead f a b
+  CountsRead-wrong e faults.NotASlice a b w = tt
+  CountsRead-wrong e faults.Order a b w = tt
+  CountsRead-wrong e faults.TooLong a b w = absurd w
+  CountsRead-wrong e faults.Magic a b w = absurd w
+  CountsRead-wrong e (faults.Setup f) a b w = absurd w
+  CountsRead-wrong e faults.Truncated a b w = absurd w
+  CountsRead-wrong e faults.Tag a b w = absurd w
+  CountsRead-wrong e faults.Trailing a b w = absurd w
+  CountsRead-wrong e faults.Read a b w = absurd w
+  CountsRead-wrong e faults.Write a b w = absurd w
+  CountsRead-wrong e faults.Memory a b w = absurd w
+  CountsRead-wrong e faults.OtherReel a b w = absurd w
 
 -- ---- entries, one after the other
 

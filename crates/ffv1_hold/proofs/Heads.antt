@@ -21,6 +21,9 @@ use Rattle.ffv1_hold.proofs.Bodies.{length-be4}
 use Rattle.ffv1_hold.proofs.ReadRefusals.{Takes-nil, Takes-trans, Refuses-after}
 use Rattle.ffv1_hold.proofs.NumberTexts.{same_back}
 
+pub part_of_width : (s : List ℕ) → length s < 4 → IsPartOfReel s
+part_of_width s h = inl (omega arith)
+
 pub part_of_height : (w : ℕ) (s : List ℕ) → length s < 4 → IsPartOfReel (be4 w ++ s)
 part_of_height w s h = inl (omega (arith, length-append (be4 w) s, length-be4 w))
 

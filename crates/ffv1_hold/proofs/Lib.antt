@@ -1,5 +1,6 @@
 pub mod Numbers
 pub mod ReadRefusals
+pub mod ReadCounts
 pub mod Bodies
 pub mod NumberTexts
 pub mod SliceTexts

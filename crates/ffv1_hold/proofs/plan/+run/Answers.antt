@@ -1,10 +1,10 @@
-use Rattle.std.proofs.Common.{◌≡◌, sym, ap, ◌∙◌, subst, map, inr, [], ◌∷◌}
-use Rattle.std.proofs.lemmas.Result.{IfOk-weaker, IfErr-weaker, on_ok_weaker}
+use Rattle.std.proofs.Common.{◌≡◌, sym, ap, ◌∙◌, subst, map, inl, inr, [], ◌∷◌}
+use Rattle.std.proofs.lemmas.Result.{IfOk-weaker, IfErr-weaker, on_ok_weaker, err_from_is_err_and}
 use Rattle.ffv1_holding.specs.Contents.{Contents, holding_of, IsHolding, with_found, with_copies, joined}
 use Rattle.ffv1_holding.specs.TakeFaults.{AreShort}
-use Rattle.ffv1_hold.specs.Plans.{copies_of, IsCarriedOut, IsPlanFault, RereadsFit}
+use Rattle.ffv1_hold.specs.Plans.{copies_of, IsCarriedOut, IsPlanFault, IsRereadFault, RereadsFit}
 use Rattle.ffv1_hold.specs.declared.plan.Plan.{Plan}
-use Rattle.ffv1_hold.specs.declared.plan.PlanFault.TheVariants.{Hold}
+use Rattle.ffv1_hold.specs.declared.plan.PlanFault.TheVariants.{Hold, Setup, File}
 use Rattle.ffv1_holding.specs.declared.fault.HoldFault.TheVariants.{Memory}
 use Rattle.ffv1_holding.proofs.ExactlyHeld.{near_exact}
 use Rattle.ffv1_hold.proofs.PlanSteps.{after_same, after_found, after_copies, after_joined, AreShort-both, one_reel, near_of_meaning}
@@ -130,3 +130,131 @@ returns-in_ok-reread-in-Reread-clause-near t c original slices near =
     (ap (λ (k : Contents). k.slices) (after_same before after (copies_of c.in-Reread.before.value)
     (c.in_ok-holding-in-Reread.ensures.meaning ∙ ap (λ p. holding_of before.reel (copies_of p)) c.deref-in-Reread.ensures) c.in_ok-reread-in-Reread.ensures.same
     ∙ ap (λ p. holding_of after.reel (copies_of p)) (sym c.in-Reread.is)))
+
+pub returns-in_err-new-in-New : goal.returns-in_err-new-in-New
+returns-in_err-new-in-New t c =
+    let p = err_from_is_err_and c.from_residual.result c.from_residual.ensures.1 in
+    let f = c.in_err-new-in-New.field-0.0 in
+    let faulty = λ (p : Plan). IsPlanFault c.args.config.now c.args.width c.args.height p (Setup f) in
+    rw (p.1, p.2) (record {
+      config = tt;
+      setup = tt;
+      meaning = tt;
+      sound = tt;
+      near = λ original slices. tt;
+      short = tt;
+      fits = tt;
+      fault = subst faulty (sym c.in-New.is) c.in_err-new-in-New.ensures.fault;
+    })
+
+pub returns-in_err-run-in-Take : goal.returns-in_err-run-in-Take
+returns-in_err-run-in-Take t c =
+    let p = err_from_is_err_and c.from_residual-in_err-run-in-Take.result c.from_residual-in_err-run-in-Take.ensures.1 in
+    let f = c.in_err-run-in-Take.field-0.0 in
+    let faulty = λ (p : Plan). IsPlanFault c.args.config.now c.args.width c.args.height p f in
+    rw (p.1, p.2) (record {
+      config = tt;
+      setup = tt;
+      meaning = tt;
+      sound = tt;
+      near = λ original slices. tt;
+      short = tt;
+      fits = tt;
+      fault = subst faulty (sym c.in-Take.is) (inl (subst faulty c.deref.ensures c.in_err-run-in-Take.ensures.fault));
+    })
+
+pub returns-in_err-run-in-TakeAll : goal.returns-in_err-run-in-TakeAll
+returns-in_err-run-in-TakeAll t c =
+    let p = err_from_is_err_and c.from_residual-in_err-run-in-TakeAll.result c.from_residual-in_err-run-in-TakeAll.ensures.1 in
+    let f = c.in_err-run-in-TakeAll.field-0.0 in
+    let faulty = λ (p : Plan). IsPlanFault c.args.config.now c.args.width c.args.height p f in
+    rw (p.1, p.2) (record {
+      config = tt;
+      setup = tt;
+      meaning = tt;
+      sound = tt;
+      near = λ original slices. tt;
+      short = tt;
+      fits = tt;
+      fault = subst faulty (sym c.in-TakeAll.is) (inl (subst faulty c.deref-in-TakeAll.ensures c.in_err-run-in-TakeAll.ensures.fault));
+    })
+
+pub returns-in_err-holding-in-Join : goal.returns-in_err-holding-in-Join
+returns-in_err-holding-in-Join t c =
+    let p = err_from_is_err_and c.from_residual-in_err-holding-in-Join.result c.from_residual-in_err-holding-in-Join.ensures.1 in
+    let f = c.in_err-holding-in-Join.field-0.0 in
+    let faulty = λ (p : Plan). IsPlanFault c.args.config.now c.args.width c.args.height p f in
+    rw (p.1, p.2) (record {
+      config = tt;
+      setup = tt;
+      meaning = tt;
+      sound = tt;
+      near = λ original slices. tt;
+      short = tt;
+      fits = tt;
+      fault = subst faulty (sym c.in-Join.is) (inl (subst faulty c.deref-in-Join.ensures c.in_err-holding-in-Join.ensures.fault));
+    })
+
+pub returns-in_err-other-in-Join : goal.returns-in_err-other-in-Join
+returns-in_err-other-in-Join t c =
+    let left = c.in_ok-holding-in-Join in
+    let p = err_from_is_err_and c.from_residual-in_err-other-in-Join.result c.from_residual-in_err-other-in-Join.ensures.1 in
+    let f = c.in_err-other-in-Join.field-0.0 in
+    let faulty = λ (p : Plan). IsPlanFault c.args.config.now c.args.width c.args.height p f in
+    rw (p.1, p.2) (record {
+      config = tt;
+      setup = tt;
+      meaning = tt;
+      sound = tt;
+      near = λ original slices. tt;
+      short = tt;
+      fits = tt;
+      fault = subst faulty (sym c.in-Join.is) (inr (
+        subst (IsCarriedOut c.args.config.now c.args.width c.args.height) c.deref-in-Join.ensures
+            (left.holding.reel, (left.ensures.config, left.ensures.setup), left.ensures.short, left.ensures.fits),
+        inl (subst faulty c.deref-in-Join-2.ensures c.in_err-other-in-Join.ensures.fault),
+      ));
+    })
+
+pub returns-in_err-holding-in-Reread : goal.returns-in_err-holding-in-Reread
+returns-in_err-holding-in-Reread t c =
+    let p = err_from_is_err_and c.from_residual-in_err-holding-in-Reread.result c.from_residual-in_err-holding-in-Reread.ensures.1 in
+    let f = c.in_err-holding-in-Reread.field-0.0 in
+    let faulty = λ (p : Plan). IsPlanFault c.args.config.now c.args.width c.args.height p f in
+    rw (p.1, p.2) (record {
+      config = tt;
+      setup = tt;
+      meaning = tt;
+      sound = tt;
+      near = λ original slices. tt;
+      short = tt;
+      fits = tt;
+      fault = subst faulty (sym c.in-Reread.is) (inl (subst faulty c.deref-in-Reread.ensures c.in_err-holding-in-Reread.ensures.fault));
+    })
+
+pub returns-in_err-reread-in-Reread : goal.returns-in_err-reread-in-Reread
+returns-in_err-reread-in-Reread t c =
+    let h = c.in_ok-holding-in-Reread.holding in
+    let before = c.in_ok-holding-in-Reread.ensures in
+    let p = err_from_is_err_and c.from_residual-in_err-reread-in-Reread.result c.from_residual-in_err-reread-in-Reread.ensures.1 in
+    let f = c.in_err-reread-in-Reread.field-0.0 in
+    let faulty = λ (p : Plan). IsPlanFault c.args.config.now c.args.width c.args.height p (File f) in
+    rw (p.1, p.2) (record {
+      config = tt;
+      setup = tt;
+      meaning = tt;
+      sound = tt;
+      near = λ original slices. tt;
+      short = tt;
+      fits = tt;
+      fault = subst faulty (sym c.in-Reread.is) (inr (
+        subst (IsCarriedOut c.args.config.now c.args.width c.args.height) c.deref-in-Reread.ensures
+            (h.reel, (before.config, before.setup), before.short, before.fits),
+        (
+          h.reel,
+          (before.config, before.setup),
+          subst (λ (k : Contents). IsRereadFault k f) (before.meaning ∙ ap (λ p. holding_of h.reel (copies_of p)) c.deref-in-Reread.ensures)
+              c.in_err-reread-in-Reread.ensures.fault,
+        ),
+      ));
+    })
