@@ -1,10 +1,14 @@
 -- What the counts of two calls in turn say together: of a source's failures, and of the bytes that were taken of it.
-use Rattle.std.proofs.Common.{◌≡◌, ℕ, ◌+◌, ◌≤◌, Err, arith, inl, inr, subst}
+use Rattle.std.proofs.Common.{◌≡◌, ℕ, ◌+◌, ◌≤◌, List, Option, Err, arith, inl, inr, ap, subst}
 use Rattle.std.specs.Result.{IsErrOf}
 use Rattle.ffv1_devices.specs.Streams.{HasFailed}
 use Rattle.ffv1_hold.specs.declared.file_fault.HoldFileFault.{HoldFileFault}
 use Rattle.ffv1_hold.specs.declared.file_fault.HoldFileFault.TheVariants as faults
-use Rattle.ffv1_hold.specs.Reading.{CountsRead}
+use Rattle.ffv1_hold.specs.Reading.{CountsRead, Refuses}
+use Rattle.ffv1_hold.specs.HoldingText.{FileEntry}
+use Rattle.ffv1_hold.specs.Merging.{EntryStops, HeadsRefuse}
+use Rattle.ffv1_hold.specs.JoinedStreams.{Inputs}
+use Rattle.ffv1_hold.specs.FileFaults.{IsPartOfHead, HeadIsWhole, HeadShows}
 
 pub CountsRead-after : (f : HoldFileFault) (a b c : ℕ) → a ≤ b → CountsRead f b c → CountsRead f a c
 CountsRead-after faults.Read a b c le (inl more) = inl (omega arith)
@@ -47,3 +51,34 @@ HasFailed-read f a b h is =
 -- one byte more was asked for, behind bytes within the limit
 pub most-byte : (a b c i j k : ℕ) → b + i ≤ a + j → c ≤ b + 1 → j ≤ k → c + i ≤ a + k + 1
 most-byte a b c i j k taken more within = omega arith
+
+-- ---- a failure of the sink
+
+pub HasFailed-after : (a b c : ℕ) → a ≤ b → HasFailed b c → HasFailed a c
+HasFailed-after a b c le h = CountsRead-after faults.Read a b c le h
+
+-- what refuses an input is no failure of the sink
+pub Refuses-not_write : {T : Type 0} (P : List ℕ → Type 0) (W Q : HoldFileFault → List ℕ → Type 0) (a b : Option (List ℕ)) (i : ℕ) (f : HoldFileFault)
+    → Refuses P W Q a b i f → IsErrOf {T = T} (Err f) faults.Write → ⊥
+Refuses-not_write P W Q a b i f r is =
+    let same : f ≡ faults.Write = cc in
+    subst (Refuses P W Q a b i) same r
+
+-- what stops an entry is no failure of an input
+pub EntryStops-not_read : {T : Type 0} (a b : Option (List ℕ)) (room : ℕ) (e : FileEntry) (f : HoldFileFault) → EntryStops a b room e f
+    → IsErrOf {T = T} (Err f) faults.Read → ⊥
+EntryStops-not_read a b room e f stops is =
+    let same : f ≡ faults.Read = cc in
+    subst (EntryStops a b room e) same stops
+
+-- what refuses the heads is no failure of the sink
+pub HeadsRefuse-not_write : {T : Type 0} (i : Inputs) (f : HoldFileFault) → HeadsRefuse i f → IsErrOf {T = T} (Err f) faults.Write → ⊥
+HeadsRefuse-not_write i f (inl (left, same)) is = Refuses-not_write IsPartOfHead HeadIsWhole HeadShows i.left_old i.left_new 0 f left is
+HeadsRefuse-not_write i f (inr (inl (left, right))) is = Refuses-not_write IsPartOfHead HeadIsWhole HeadShows i.right_old i.right_new 0 f right is
+HeadsRefuse-not_write i f (inr (inr (other, heads))) is = cc
+
+-- an error is the same one in a result of another type
+pub Err-at : {T U E : Type 0} (f e : E) → IsErrOf {T = T} (Err f) e → IsErrOf {T = U} (Err f) e
+Err-at f e is =
+    let same : f ≡ e = cc in
+    ap Err same

@@ -1,7 +1,32 @@
-use Rattle.std.proofs.Common.{rules, refl}
+use Rattle.std.proofs.Common.{rules, refl, inl}
+use Rattle.std.proofs.lemmas.Result.{err_from_is_err_and}
+use Rattle.ffv1_hold.specs.JoinedStreams.{Inputs}
 use Rattle.ffv1_hold.specs.Merging.{Start}
 use Rattle.ffv1_hold.proofs.MergeAnswers.{behind_heads, never_other}
+use Rattle.ffv1_hold.proofs.ReadCounts.{HeadsRefuse-not_write, Err-at}
 use Rattle.ffv1_hold.proofs.merging.merge_files.Goals as goal
+
+pub returns-in_err-reel : goal.returns-in_err-reel
+returns-in_err-reel g c =
+    let p = err_from_is_err_and c.from_residual.result c.from_residual.ensures.1 in
+    let e = c.in_err-reel.ensures in
+    let i : Inputs = record {
+      left_old = g.R.Source.remaining c.args.left.now;
+      left_new = g.R.Source.remaining c.read_heads.new.left;
+      right_old = g.Q.Source.remaining c.args.right.now;
+      right_new = g.Q.Source.remaining c.read_heads.new.right;
+    } in
+    rw (p.1, p.2) (record {
+      ok = tt;
+      most = tt;
+      err = inl (e.err, refl {a = g.W.Sink.contents c.args.sink.now});
+      untouched = λ is. refl;
+      read_failed = λ is. e.read_failed (Err-at _ _ is);
+      write_failed = λ is. absurd (HeadsRefuse-not_write i _ e.err is);
+      left_taken = e.left_most;
+      right_taken = e.right_most;
+      same_reference = refl;
+    })
 
 pub returns-clause-ok : goal.returns-clause-ok
 returns-clause-ok g c =

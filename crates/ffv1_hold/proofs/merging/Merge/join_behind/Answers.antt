@@ -1,4 +1,4 @@
-use Rattle.std.proofs.Common.{length, arith, ap, ◌∙◌}
+use Rattle.std.proofs.Common.{◌<◌, length, arith, ap, ◌∙◌}
 use Rattle.std.proofs.lemmas.Result.{err_from_is_err_and}
 use Rattle.ffv1_holding.specs.Reels.{Reel}
 use Rattle.ffv1_hold.specs.Merging.{AreVersions}
@@ -62,6 +62,7 @@ returns-then-self-eq0-clause-err g c s is o =
 pub returns-in_err-write_field-clause-err : goal.returns-in_err-write_field-clause-err
 returns-in_err-write_field-clause-err g c s is o =
     let p = err_from_is_err_and c.from_residual-in_err-write_field.result c.from_residual-in_err-write_field.ensures.1 in
+    let some : 0 < c.join_entries.new.self.room = omega (arith, c.if-self-eq0.false) in
     let setup = c.setup-setup.ensures.value in
     let one = c.in_ok-advance.ensures in
     let two = c.in_ok-advance-2.ensures in
@@ -75,10 +76,11 @@ returns-in_err-write_field-clause-err g c s is o =
       right_is = two.version ∙ is.right_is;
     } in
     let end = c.in_ok-join_entries.ensures.ok s same versions stands in
-    rw (p.1, p.2) (end_stops s _ _ _ _ end _ (omega (arith, c.if-self-eq0.false)) c.in_err-write_field.ensures.err)
+    rw (p.1, p.2) (end_stops s _ _ _ _ end _ some c.in_err-write_field.ensures.err)
 
 pub returns-clause-ok : goal.returns-clause-ok
 returns-clause-ok g c s is o =
+    let some : 0 < c.join_entries.new.self.room = omega (arith, c.if-self-eq0.false) in
     let setup = c.setup-setup.ensures.value in
     let one = c.in_ok-advance.ensures in
     let two = c.in_ok-advance-2.ensures in
@@ -92,10 +94,11 @@ returns-clause-ok g c s is o =
       right_is = two.version ∙ is.right_is;
     } in
     let end = c.in_ok-join_entries.ensures.ok s same versions stands in
-    union_written s _ _ _ _ end _ (omega (arith, c.if-self-eq0.false)) c.in_ok-write_field.ensures.ok
+    union_written s _ _ _ _ end _ some c.in_ok-write_field.ensures.ok
 
 pub returns-clause-most : goal.returns-clause-most
 returns-clause-most g c s is o =
+    let some : 0 < c.join_entries.new.self.room = omega (arith, c.if-self-eq0.false) in
     let setup = c.setup-setup.ensures.value in
     let one = c.in_ok-advance.ensures in
     let two = c.in_ok-advance-2.ensures in
@@ -109,4 +112,4 @@ returns-clause-most g c s is o =
       right_is = two.version ∙ is.right_is;
     } in
     let end = c.in_ok-join_entries.ensures.ok s same versions stands in
-    union_within s _ _ _ _ end _ (omega (arith, c.if-self-eq0.false)) c.in_ok-write_field.ensures.ok
+    union_within s _ _ _ _ end _ some c.in_ok-write_field.ensures.ok
