@@ -1,5 +1,6 @@
 -- What the counts of two calls in turn say together: of a source's failures, and of the bytes that were taken of it.
 use Rattle.std.proofs.Common.{◌≡◌, ℕ, ◌+◌, ◌≤◌, List, Option, Err, arith, inl, inr, ap, subst}
+use Rattle.std.specs.Prelude.{◌⊎◌}
 use Rattle.std.specs.Result.{IsErrOf}
 use Rattle.ffv1_devices.specs.Streams.{HasFailed}
 use Rattle.ffv1_hold.specs.declared.file_fault.HoldFileFault.{HoldFileFault}
@@ -42,6 +43,10 @@ counted-none a = omega arith
 pub most-none : (a k : ℕ) → a ≤ a + k + 1
 most-none a k = omega arith
 
+-- a place within the limit, behind which nothing was read
+pub most-place : (a i k : ℕ) → i ≤ k → a + i ≤ a + k + 1
+most-place a i k within = omega arith
+
 pub HasFailed-read : {T : Type 0} (f : HoldFileFault) (a b : ℕ) → CountsRead f a b
     → IsErrOf {T = T} (Err f) faults.Read → HasFailed a b
 HasFailed-read f a b h is =
@@ -82,3 +87,8 @@ pub Err-at : {T U E : Type 0} (f e : E) → IsErrOf {T = T} (Err f) e → IsErrO
 Err-at f e is =
     let same : f ≡ e = cc in
     ap Err same
+
+-- one of two inputs failed, behind what they failed before
+pub either-after : (a b c i j k : ℕ) → a ≤ b → i ≤ j → HasFailed b c ⊎ HasFailed j k → HasFailed a c ⊎ HasFailed i k
+either-after a b c i j k le more (inl h) = inl (HasFailed-after a b c le h)
+either-after a b c i j k le more (inr h) = inr (HasFailed-after i j k more h)

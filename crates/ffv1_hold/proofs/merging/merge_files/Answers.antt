@@ -19,8 +19,8 @@ returns-in_err-reel g c =
     rw (p.1, p.2) (record {
       ok = tt;
       most = tt;
-      err = inl (e.err, refl {a = g.W.Sink.contents c.args.sink.now});
-      untouched = λ is. refl;
+      err = inl (e.err, refl);
+      untouched = λ is. refl {a = c.args.sink.now};
       read_failed = λ is. e.read_failed (Err-at _ _ is);
       write_failed = λ is. absurd (HeadsRefuse-not_write i _ e.err is);
       left_taken = e.left_most;
