@@ -16,6 +16,13 @@ use Rattle.ffv1_commands.specs.declared.fault.CliFault.{CliFault}
 use Rattle.ffv1_commands.specs.declared.fault.CliFault.TheVariants as faults
 use Rattle.ffv1_commands.proofs.WriteSteps.{writing}
 
+pub of_frame-says : (P : CliFault → Type 0) (fault : FrameFault) → P faults.Memory → P (faults.Frame fault) → P (of_frame fault)
+of_frame-says P frames.Chain memory other = other
+of_frame-says P (frames.Slice place cause) memory other = other
+of_frame-says P (frames.Order place) memory other = other
+of_frame-says P (frames.Tile tile cause) memory other = other
+of_frame-says P frames.Memory memory other = memory
+
 -- want of memory, and nothing else
 abbrev IsMemory : FrameFault → Type 0
 IsMemory frames.Memory = Unit {0}

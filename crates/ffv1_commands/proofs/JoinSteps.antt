@@ -1,5 +1,6 @@
 -- One file more is joined and told.
 use Rattle.std.proofs.Common.{◌≡◌, ◌≢◌, ℕ, suc, ◌+◌, ◌-◌, ◌<◌, List, [], ◌∷◌, ◌++◌, length, take, get_or, Option, None, IfSome, Result, Ok, Err, OnOk, IfErr, refl, sym, ap, ◌∙◌, subst, inl, inr, arith, append_assoc, append-nil}
+use Rattle.std.specs.Prelude.{IsErrOf}
 use Rattle.std.specs.Io.KnownBytes.{Appends}
 use Rattle.ffv1_holding.specs.declared.fault.HoldFault.{HoldFault}
 use Rattle.ffv1_holding.specs.declared.fault.HoldFault.TheVariants as holds
@@ -10,12 +11,13 @@ use Rattle.ffv1_hold.specs.Contents.{Contents, IsSameReel, joined}
 use Rattle.ffv1_hold.specs.Joins.{joined_all, AreJoinable}
 use Rattle.ffv1_commands.specs.Fault.{NamesPath, of_hold}
 use Rattle.ffv1_commands.specs.Paths.{IsJoinPath}
-use Rattle.ffv1_commands.specs.Holdings.{IsHoldingFile, HasFile, IsFileFault, MadeStops}
+use Rattle.ffv1_commands.specs.Holdings.{IsHoldingFile, HasFile, IsHoldingFault, IsFileFault, MadeStops}
 use Rattle.ffv1_commands.specs.JoinText.{file_line, line_of_join, lines_from, join_text, AreHoldingFiles, JoinsEach, JoinsOne, JoinsFiles, AreJoinedBefore, IsJoinFault, IsFaultOfFiles, JoinStops}
 use Rattle.ffv1_commands.specs.declared.fault.CliFault.{CliFault}
 use Rattle.ffv1_commands.specs.declared.fault.CliFault.TheVariants as faults
 use Rattle.ffv1_commands.specs.declared.path.CommandPath.{CommandPath}
 use Rattle.ffv1_commands.specs.declared.path.CommandPath.TheVariants as paths
+use Rattle.ffv1_commands.proofs.InputFaults.{IsUnwritten, IsHoldingFault-says}
 
 joined_all-push : (whole : Contents) (others : List Contents) (other : Contents)
     → joined_all joined whole (others ++ other ∷ []) ≡ joined (joined_all joined whole others) other
@@ -146,6 +148,33 @@ module _ (first input : Option (List ℕ)) (rest : List (Option (List ℕ))) (i 
   other_refused (faults.Disputed tile) stops = absurd stops
   other_refused faults.Memory stops = tt
   other_refused faults.Words stops = absurd stops
+
+pub IsFaultOfFiles-unwritten : (inputs : List (Option (List ℕ))) (fault : CliFault) → IsFaultOfFiles inputs fault → IsUnwritten fault
+IsFaultOfFiles-unwritten inputs (faults.Read path) stops = tt
+IsFaultOfFiles-unwritten inputs (faults.Write path) (i, lt, before, stops) = absurd stops
+IsFaultOfFiles-unwritten inputs (faults.Setup fault) stops = tt
+IsFaultOfFiles-unwritten inputs (faults.Hold fault) stops = tt
+IsFaultOfFiles-unwritten inputs (faults.HoldFile fault) stops = tt
+IsFaultOfFiles-unwritten inputs (faults.Frame fault) stops = tt
+IsFaultOfFiles-unwritten inputs (faults.Missing tile) stops = tt
+IsFaultOfFiles-unwritten inputs (faults.Disputed tile) stops = tt
+IsFaultOfFiles-unwritten inputs faults.Memory stops = tt
+IsFaultOfFiles-unwritten inputs faults.Words stops = tt
+
+-- the first file's fault is one of the files
+pub first_refused : (first : Option (List ℕ)) (rest : List (Option (List ℕ))) (fault : CliFault) → IsHoldingFault (paths.Hold 0) first fault
+    → IsFaultOfFiles (first ∷ rest) fault
+first_refused first rest fault stops = IsHoldingFault-says (IsFaultOfFiles (first ∷ rest)) (paths.Hold 0) first fault
+    (0, omega arith, inl refl, refl) tt (λ file is. (0, omega arith, inl refl, is)) stops
+
+-- a later file's fault is no failure of the first
+pub IsJoinFault-not_first : {T : Type 0} (i : ℕ) (input : Option (List ℕ)) (whole : Contents) (fault : CliFault)
+    → IsJoinFault (paths.Hold (i + 1)) input whole fault → IsErrOf {T = T} (Err fault) (faults.Read (paths.Hold 0)) → ⊥
+IsJoinFault-not_first i input whole fault stops is =
+    let same : fault ≡ faults.Read (paths.Hold 0) = cc in
+    let named : paths.Hold 0 ≡ paths.Hold (i + 1) = subst (IsJoinFault (paths.Hold (i + 1)) input whole) same stops in
+    let none : 0 ≡ i + 1 = cc in
+    omega arith
 
 -- and names one of the paths
 pub files_name : (inputs : List (Option (List ℕ))) (n : ℕ) → length inputs ≡ n + 1 → (fault : CliFault) → IsFaultOfFiles inputs fault

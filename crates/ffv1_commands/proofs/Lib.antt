@@ -1,6 +1,7 @@
 pub mod Shows
 pub mod InputLaws
 pub mod WriteSteps
+pub mod InputFaults
 pub mod PrintSteps
 pub mod ChainSteps
 pub mod TakeSteps

@@ -14,6 +14,12 @@ use Rattle.ffv1_commands.specs.declared.fault.CliFault.{CliFault}
 use Rattle.ffv1_commands.specs.declared.fault.CliFault.TheVariants as faults
 use Rattle.ffv1_commands.proofs.WriteSteps.{writing}
 
+pub of_restore-says : (P : CliFault → Type 0) (fault : RestoreFault) → ((tile : ℕ) → P (faults.Missing tile)) → ((tile : ℕ) → P (faults.Disputed tile))
+    → P faults.Memory → P (of_restore fault)
+of_restore-says P (refusals.Missing tile) missing disputed memory = missing tile
+of_restore-says P (refusals.Disputed tile) missing disputed memory = disputed tile
+of_restore-says P refusals.Memory missing disputed memory = memory
+
 -- a holding that isn't settled is refused as it stands
 pub refused_at : (input ob oa pb pa : Option (List ℕ)) (h : Contents) (fault : RestoreFault) → IsHoldingFile input h → IsRefusal h fault
     → RestoreStops input ob oa pb pa (of_restore fault)

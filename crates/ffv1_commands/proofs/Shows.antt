@@ -1,7 +1,8 @@
 -- What printing a setup does to the output, once the record was read to its end.
-use Rattle.std.proofs.Common.{ℕ, List, Option, IfSome, Result, Ok, Err, OnOk, IfErr}
+use Rattle.std.proofs.Common.{ℕ, ◌≤◌, List, length, Option, IfSome, Result, Ok, Err, OnOk, IfErr}
 use Rattle.std.specs.Io.KnownBytes.{Appends}
 use Rattle.std.proofs.KnownBytes.{Consumes-whole}
+use Rattle.ffv1_bits.specs.Limits.{payload_limit}
 use Rattle.ffv1_range.specs.Setup.{SetupValue, IsSetupOf}
 use Rattle.ffv1_commands.specs.Devices.{ReadsWhole, WritesFront, PrintStops}
 use Rattle.ffv1_commands.specs.ShowText.{show_text, PrintsSetup, ShowStops}
@@ -15,6 +16,10 @@ module _ (before after old new : Option (List ℕ)) (config : List ℕ) (width h
   setup_printed (Ok done) printed = Consumes-whole before after config
       (λ bytes. PrintsSetup bytes width height old new) whole.taken whole.end (setup, is, printed)
   setup_printed (Err fault) printed = tt
+
+  pub setup_few : (r : Result (Unit {0}) CliFault) → OnOk r (IfSome before (λ bytes. length bytes ≤ payload_limit))
+  setup_few (Ok done) = Consumes-whole before after config (λ bytes. length bytes ≤ payload_limit) whole.taken whole.end whole.few
+  setup_few (Err fault) = tt
 
   setup_stopped_at : (fault : CliFault) → PrintStops (show_text setup) old new fault → ShowStops width height before old new fault
   setup_stopped_at (faults.Read path) stops = absurd stops

@@ -1,6 +1,6 @@
 -- One copy more is taken and told.
 use Rattle.std.proofs.Common.{◌≡◌, ℕ, ◌+◌, ◌-◌, ◌<◌, List, [], ◌∷◌, ◌++◌, length, take, get_or, Option, None, Result, Ok, Err, OnOk, IfErr, sym, ap, ◌∙◌, subst, inl, inr, arith, append_assoc, append-nil}
-use Rattle.std.specs.Prelude.{◌⊎◌}
+use Rattle.std.specs.Prelude.{◌⊎◌, IsErrOf}
 use Rattle.std.specs.Io.KnownBytes.{Appends}
 use Rattle.ffv1_range.specs.Setup.{IsSetupOf}
 use Rattle.ffv1_range.specs.SetupFaults.{FirstSetupFault}
@@ -14,6 +14,7 @@ use Rattle.ffv1_hold.specs.Contents.{Contents, with_found, holding_of, no_slices
 use Rattle.ffv1_hold.specs.ContentsLaws.{with_found-holding_of}
 use Rattle.ffv1_hold.specs.Headline.{IsReelOf}
 use Rattle.ffv1_hold.specs.HoldingText.{holding_text}
+use Rattle.ffv1_holding.specs.declared.fault.HoldFault.{HoldFault}
 use Rattle.ffv1_commands.specs.Devices.{ReadsWhole, IsWholeInput, AreWholeInputs, IsCopyFault, WriteStops}
 use Rattle.ffv1_commands.specs.RecordInputs.{IsReelInput}
 use Rattle.ffv1_commands.specs.Fault.{NamesPath, of_setup}
@@ -83,6 +84,26 @@ copy_refused inputs i copy lt at before read fault stops = (
   subst
       (λ (x : Option (List ℕ)). IsCopyFault (paths.Copy i) x fault) (sym at) stops,
 )
+
+pub IsFaultOfInputs-says : (P : CliFault → Type 0) (inputs : List (Option (List ℕ))) (fault : CliFault) → ((i : ℕ) → P (faults.Read (paths.Copy i)))
+    → ((fault : HoldFault) → P (faults.Hold fault)) → P faults.Memory → IsFaultOfInputs inputs fault → P fault
+IsFaultOfInputs-says P inputs (faults.Read path) read hold memory (i, lt, before, same) = subst (λ named. P (faults.Read named)) (sym same) (read i)
+IsFaultOfInputs-says P inputs (faults.Write path) read hold memory (i, lt, before, stops) = absurd stops
+IsFaultOfInputs-says P inputs (faults.Setup fault) read hold memory (i, lt, before, stops) = absurd stops
+IsFaultOfInputs-says P inputs (faults.Hold fault) read hold memory stops = hold fault
+IsFaultOfInputs-says P inputs (faults.HoldFile fault) read hold memory (i, lt, before, stops) = absurd stops
+IsFaultOfInputs-says P inputs (faults.Frame fault) read hold memory (i, lt, before, stops) = absurd stops
+IsFaultOfInputs-says P inputs (faults.Missing tile) read hold memory (i, lt, before, stops) = absurd stops
+IsFaultOfInputs-says P inputs (faults.Disputed tile) read hold memory (i, lt, before, stops) = absurd stops
+IsFaultOfInputs-says P inputs faults.Memory read hold memory stops = memory
+IsFaultOfInputs-says P inputs faults.Words read hold memory (i, lt, before, stops) = absurd stops
+
+-- a copy's fault is no failure of the record
+pub IsFaultOfInputs-not_record : {T : Type 0} (inputs : List (Option (List ℕ))) (fault : CliFault) → IsFaultOfInputs inputs fault
+    → IsErrOf {T = T} (Err fault) (faults.Read paths.Record) → ⊥
+IsFaultOfInputs-not_record inputs fault stops is =
+    let same : fault ≡ faults.Read paths.Record = cc in
+    IsFaultOfInputs-says (λ f. f ≡ faults.Read paths.Record → ⊥) inputs fault (λ i e. cc) (λ f e. cc) (λ e. cc) stops same
 
 -- and names one of the paths
 pub copies_name : (inputs : List (Option (List ℕ))) (n : ℕ) → length inputs ≡ n → (fault : CliFault) → IsFaultOfInputs inputs fault

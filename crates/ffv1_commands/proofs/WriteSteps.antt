@@ -1,5 +1,6 @@
 -- What a fault of writing both outputs says, of any fact about faults.
-use Rattle.std.proofs.Common.{ℕ, List, Option, Result, Ok, Err, IfErr}
+use Rattle.std.proofs.Common.{◌≡◌, ℕ, List, Option, Result, Ok, Err, IfErr, inl, inr, sym, subst}
+use Rattle.std.specs.Prelude.{◌⊎◌}
 use Rattle.ffv1_range.specs.declared.fault.SetupFault.{SetupFault}
 use Rattle.ffv1_range.specs.declared.fault.SetupFault.TheVariants as setup
 use Rattle.ffv1_commands.specs.Devices.{WriteStops}
@@ -46,3 +47,9 @@ setups P setup.TableRun memory other = other
 setups P setup.Contexts memory other = other
 setups P setup.ParityMode memory other = other
 setups P setup.Size memory other = other
+
+-- a record's fault is want of memory, or the one that reading it meets first
+pub setups_first : (P : CliFault → Type 0) (First : Type 0) (fault : SetupFault) → P faults.Memory → (First → P (faults.Setup fault))
+    → (fault ≡ setup.Memory) ⊎ First → P (of_setup fault)
+setups_first P First fault memory other (inl is) = subst (λ f. P (of_setup f)) (sym is) memory
+setups_first P First fault memory other (inr first) = setups P fault memory (other first)

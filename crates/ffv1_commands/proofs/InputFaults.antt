@@ -1,0 +1,202 @@
+-- What a fault that comes before anything is written says: which path it names, and that it tells nothing of the outputs.
+use Rattle.std.proofs.Common.{◌≡◌, ◌≢◌, ℕ, List, Option, Result, Ok, Err, IfSome, IfErr, inl, inr, refl, sym, arith, ap, subst}
+use Rattle.std.specs.Prelude.{IsErrOf}
+use Rattle.ffv1_hold.specs.Contents.{Contents}
+use Rattle.ffv1_hold.specs.HoldingText.{holding_text}
+use Rattle.ffv1_hold.specs.FileFaults.{IsFaultOf}
+use Rattle.ffv1_hold.specs.declared.file_fault.HoldFileFault.{HoldFileFault}
+use Rattle.ffv1_commands.specs.Devices.{IsInputFault, UnlessWriting, IfOfRecord, WriteStops, PrintStops, TellsFailure, TellsFile}
+use Rattle.ffv1_commands.specs.Fault.{NamesPath, NamesNoPath}
+use Rattle.ffv1_commands.specs.Holdings.{IsHoldingFault, MadeStops}
+use Rattle.ffv1_commands.specs.declared.fault.CliFault.{CliFault}
+use Rattle.ffv1_commands.specs.declared.fault.CliFault.TheVariants as faults
+use Rattle.ffv1_commands.specs.declared.path.CommandPath.{CommandPath}
+use Rattle.ffv1_commands.specs.declared.path.CommandPath.TheVariants as paths
+use Rattle.ffv1_commands.proofs.WriteSteps.{writing}
+
+-- The fault comes before anything is written.
+abbrev pub IsUnwritten : CliFault → Type 0
+IsUnwritten (faults.Write path) = ⊥
+IsUnwritten fault = Unit {0}
+
+UnlessWriting-unwritten : (P : Type 0) (fault : CliFault) → IsUnwritten fault → P → UnlessWriting fault P
+UnlessWriting-unwritten P (faults.Read path) none same = same
+UnlessWriting-unwritten P (faults.Write path) none same = tt
+UnlessWriting-unwritten P (faults.Setup fault) none same = same
+UnlessWriting-unwritten P (faults.Hold fault) none same = same
+UnlessWriting-unwritten P (faults.HoldFile fault) none same = same
+UnlessWriting-unwritten P (faults.Frame fault) none same = same
+UnlessWriting-unwritten P (faults.Missing tile) none same = same
+UnlessWriting-unwritten P (faults.Disputed tile) none same = same
+UnlessWriting-unwritten P faults.Memory none same = same
+UnlessWriting-unwritten P faults.Words none same = same
+
+-- the outputs are as they were
+pub untouched_one : {W : Type 0} (output : W) (fault : CliFault) → IsUnwritten fault → UnlessWriting fault (output ≡ output)
+untouched_one output fault none = UnlessWriting-unwritten (output ≡ output) fault none refl
+
+pub untouched_both : {O W : Type 0} (out : O) (output : W) (fault : CliFault) → IsUnwritten fault
+    → UnlessWriting fault ((out ≡ out) × (output ≡ output))
+untouched_both out output fault none = UnlessWriting-unwritten ((out ≡ out) × (output ≡ output)) fault none (refl, refl)
+
+-- ---- what is told of devices
+
+-- an error is the same one in a result of another type
+pub Err-at : {T U : Type 0} (fault named : CliFault) → IsErrOf {T = T} (Err fault) named → IsErrOf {T = U} (Err fault) named
+Err-at fault named is =
+    let same : fault ≡ named = cc in
+    ap Err same
+
+pub NamesNoPath-not_read : {T : Type 0} (fault : CliFault) (path : CommandPath) → NamesNoPath fault → IsErrOf {T = T} (Err fault) (faults.Read path) → ⊥
+NamesNoPath-not_read fault path none is =
+    let same : fault ≡ faults.Read path = cc in
+    subst NamesNoPath same none
+
+-- an output that was not touched
+pub TellsFailure-unwritten : {T : Type 0} (fault : CliFault) (path : CommandPath) (failures broken : ℕ) → IsUnwritten fault
+    → TellsFailure (IsErrOf {T = T} (Err fault) (faults.Write path)) failures failures broken broken
+TellsFailure-unwritten fault path failures broken none = record {
+  gave_up = λ is.
+      let same : fault ≡ faults.Write path = cc in
+      absurd (subst IsUnwritten same none);
+  unbroken = λ is_not. refl;
+  broken_once = omega arith;
+}
+
+-- a device that is told of in another result
+pub TellsFailure-as : {A B : Type 0} (f1 f2 b1 b2 : ℕ) → (B → A) → (A → B) → TellsFailure A f1 f2 b1 b2 → TellsFailure B f1 f2 b1 b2
+TellsFailure-as f1 f2 b1 b2 back forth told = record {
+  gave_up = λ is. told.gave_up (back is);
+  unbroken = λ is_not. told.unbroken (λ is. is_not (forth is));
+  broken_once = told.broken_once;
+}
+
+pub TellsFile-as : {A B : Type 0} (f1 f2 b1 b2 t1 t2 : ℕ) → (B → A) → (A → B) → TellsFile A f1 f2 b1 b2 t1 t2 → TellsFile B f1 f2 b1 b2 t1 t2
+TellsFile-as f1 f2 b1 b2 t1 t2 back forth told = record {
+  stopped = λ is. told.stopped (back is);
+  unbroken = λ is_not. told.unbroken (λ is. is_not (forth is));
+  broken_once = told.broken_once;
+  within = λ is_not. told.within (λ is. is_not (forth is));
+}
+
+-- an input that was not read
+pub TellsFile-unread : {A : Type 0} (failures broken taken : ℕ) → (¬ A) → TellsFile A failures failures broken broken taken taken
+TellsFile-unread failures broken taken none = record {
+  stopped = λ is. absurd (none is);
+  unbroken = λ is_not. refl;
+  broken_once = omega arith;
+  within = λ is_not. omega arith;
+}
+
+-- ---- a fault of writing both outputs
+
+module _ (file text : List ℕ) (ob oa pb pa : Option (List ℕ)) where
+  pub WriteStops-not_read : (r : Result (Unit {0}) CliFault) (path : CommandPath) → IfErr r (WriteStops file text ob oa pb pa) → IsErrOf r (faults.Read path)
+      → ⊥
+  WriteStops-not_read r path stops is = subst (λ (x : Result (Unit {0}) CliFault). IfErr x (WriteStops file text ob oa pb pa)) is stops
+
+  pub WriteStops-untouched : (P : Type 0) (r : Result (Unit {0}) CliFault) → IfErr r (WriteStops file text ob oa pb pa)
+      → IfErr r (λ fault. UnlessWriting fault P)
+  WriteStops-untouched P = writing file text ob oa pb pa (λ fault. UnlessWriting fault P) (λ named stops. tt)
+
+  pub WriteStops-in_turn : (P : Type 0) (r : Result (Unit {0}) CliFault) → IfErr r (WriteStops file text ob oa pb pa)
+      → IfErr r (λ fault. IfOfRecord fault P)
+  WriteStops-in_turn P = writing file text ob oa pb pa (λ fault. IfOfRecord fault P) (λ named stops. tt)
+
+  -- it names one of them
+  names_one : (IsPath : CommandPath → Type 0) (named : CommandPath) → IsPath paths.Out → IsPath paths.StandardOutput
+      → WriteStops file text ob oa pb pa (faults.Write named) → IsPath named
+  names_one IsPath named out printed (inl stops) = subst IsPath (sym stops.0) out
+  names_one IsPath named out printed (inr stops) = subst IsPath (sym stops.0) printed
+
+  pub WriteStops-names : (IsPath : CommandPath → Type 0) (r : Result (Unit {0}) CliFault) → IsPath paths.Out → IsPath paths.StandardOutput
+      → IfErr r (WriteStops file text ob oa pb pa) → IfErr r (NamesPath IsPath)
+  WriteStops-names IsPath r out printed =
+      writing file text ob oa pb pa (NamesPath IsPath) (λ named stops. names_one IsPath named out printed stops) r
+
+module _ (text : List ℕ) (pb pa : Option (List ℕ)) where
+  pub PrintStops-not_read : (r : Result (Unit {0}) CliFault) (path : CommandPath) → IfErr r (PrintStops text pb pa) → IsErrOf r (faults.Read path) → ⊥
+  PrintStops-not_read r path stops is = subst (λ (x : Result (Unit {0}) CliFault). IfErr x (PrintStops text pb pa)) is stops
+
+-- ---- a fault of writing one output
+
+module _ (path : CommandPath) where
+  pub written-says : (P : CliFault → Type 0) (r : Result (Unit {0}) CliFault) → P (faults.Write path) → IfErr r (λ fault. fault ≡ faults.Write path)
+      → IfErr r P
+  written-says P (Ok done) own is = tt
+  written-says P (Err fault) own is = subst P (sym is) own
+
+  pub written-untouched : (P : Type 0) (r : Result (Unit {0}) CliFault) → IfErr r (λ fault. fault ≡ faults.Write path)
+      → IfErr r (λ fault. UnlessWriting fault P)
+  written-untouched P r = written-says (λ fault. UnlessWriting fault P) r tt
+
+  pub written-not_read : (r : Result (Unit {0}) CliFault) (named : CommandPath) → IfErr r (λ fault. fault ≡ faults.Write path)
+      → IsErrOf r (faults.Read named) → ⊥
+  written-not_read r named stops is =
+      let same : faults.Read named ≡ faults.Write path = subst (λ (x : Result (Unit {0}) CliFault). IfErr x (λ fault. fault ≡ faults.Write path)) is stops in
+      cc
+
+-- ---- a fault of writing a holding's file and printing a text
+
+module _ (h : Contents) (text : List ℕ) (ob oa pb pa : Option (List ℕ)) where
+  made_says : (P : CliFault → Type 0) (r : Result (Unit {0}) CliFault) → ((named : CommandPath)
+      → WriteStops (holding_text h) text ob oa pb pa (faults.Write named) → P (faults.Write named))
+      → ((fault : HoldFileFault) → P (faults.HoldFile fault)) → IfErr r (MadeStops h text ob oa pb pa) → IfErr r P
+  made_says P (Ok done) write file stops = tt
+  made_says P (Err (faults.Read named)) write file stops = absurd stops
+  made_says P (Err (faults.Write named)) write file stops = write named stops
+  made_says P (Err (faults.Setup fault)) write file stops = absurd stops
+  made_says P (Err (faults.Hold fault)) write file stops = absurd stops
+  made_says P (Err (faults.HoldFile fault)) write file stops = file fault
+  made_says P (Err (faults.Frame fault)) write file stops = absurd stops
+  made_says P (Err (faults.Missing tile)) write file stops = absurd stops
+  made_says P (Err (faults.Disputed tile)) write file stops = absurd stops
+  made_says P (Err faults.Memory) write file stops = absurd stops
+  made_says P (Err faults.Words) write file stops = absurd stops
+
+  pub MadeStops-not_read : (r : Result (Unit {0}) CliFault) (path : CommandPath) → IfErr r (MadeStops h text ob oa pb pa) → IsErrOf r (faults.Read path)
+      → ⊥
+  MadeStops-not_read r path stops is = subst (λ (x : Result (Unit {0}) CliFault). IfErr x (MadeStops h text ob oa pb pa)) is stops
+
+  pub MadeStops-in_turn : (P : Type 0) (r : Result (Unit {0}) CliFault) → IfErr r (MadeStops h text ob oa pb pa) → IfErr r (λ fault. IfOfRecord fault P)
+  MadeStops-in_turn P r = made_says (λ fault. IfOfRecord fault P) r (λ named stops. tt) (λ fault. tt)
+
+  pub MadeStops-names : (IsPath : CommandPath → Type 0) (r : Result (Unit {0}) CliFault) → IsPath paths.Out → IsPath paths.StandardOutput
+      → IfErr r (MadeStops h text ob oa pb pa) → IfErr r (NamesPath IsPath)
+  MadeStops-names IsPath r out printed = made_says (NamesPath IsPath) r
+      (λ named stops. names_one (holding_text h) text ob oa pb pa IsPath named out printed stops) (λ fault. tt)
+
+-- ---- what any fault of an input says, if that of each form says so
+
+module _ (P : CliFault → Type 0) where
+  pub IsHoldingFault-says : (path : CommandPath) (input : Option (List ℕ)) (fault : CliFault) → P (faults.Read path) → P faults.Memory
+      → ((file : HoldFileFault) → IfSome input (λ bytes. IsFaultOf bytes file) → P (faults.HoldFile file)) → IsHoldingFault path input fault → P fault
+  IsHoldingFault-says path input (faults.Read named) read memory file is = subst (λ n. P (faults.Read n)) (sym is) read
+  IsHoldingFault-says path input (faults.Write named) read memory file is = absurd is
+  IsHoldingFault-says path input (faults.Setup fault) read memory file is = absurd is
+  IsHoldingFault-says path input (faults.Hold fault) read memory file is = absurd is
+  IsHoldingFault-says path input (faults.HoldFile fault) read memory file is = file fault is
+  IsHoldingFault-says path input (faults.Frame fault) read memory file is = absurd is
+  IsHoldingFault-says path input (faults.Missing tile) read memory file is = absurd is
+  IsHoldingFault-says path input (faults.Disputed tile) read memory file is = absurd is
+  IsHoldingFault-says path input faults.Memory read memory file is = memory
+  IsHoldingFault-says path input faults.Words read memory file is = absurd is
+
+  pub IsInputFault-says : (path : CommandPath) (fault : CliFault) → P (faults.Read path) → P faults.Memory → IsInputFault path fault → P fault
+  IsInputFault-says path (faults.Read named) read memory is = subst (λ n. P (faults.Read n)) (sym is) read
+  IsInputFault-says path (faults.Write named) read memory is = absurd is
+  IsInputFault-says path (faults.Setup fault) read memory is = absurd is
+  IsInputFault-says path (faults.Hold fault) read memory is = absurd is
+  IsInputFault-says path (faults.HoldFile fault) read memory is = absurd is
+  IsInputFault-says path (faults.Frame fault) read memory is = absurd is
+  IsInputFault-says path (faults.Missing tile) read memory is = absurd is
+  IsInputFault-says path (faults.Disputed tile) read memory is = absurd is
+  IsInputFault-says path faults.Memory read memory is = memory
+  IsInputFault-says path faults.Words read memory is = absurd is
+
+-- another path than the one that was to be read was not told
+pub IsInputFault-other : {T : Type 0} (path other : CommandPath) (fault : CliFault) → other ≢ path → IsInputFault path fault
+    → IsErrOf {T = T} (Err fault) (faults.Read other) → ⊥
+IsInputFault-other path other fault differs stops is =
+    let same : fault ≡ faults.Read other = cc in
+    differs (subst (IsInputFault path) same stops)
