@@ -1,9 +1,12 @@
--- The lines of a partial picture's tiles and of a decoded frame.
+-- Lines of numbers, by their pieces: those of tiles, of a frame, of copies and of holding files.
 use Rattle.std.proofs.Common.{◌≡◌, ℕ, ◌++◌, List, ◌∙◌, append_assoc}
 use Rattle.std.specs.Prelude.{codes}
 use Rattle.std.specs.Fmt.{decimal}
 use Rattle.ffv1_commands.specs.PictureText.{place_line}
 use Rattle.ffv1_commands.specs.SamplesText.{decoded_line}
+use Rattle.ffv1_commands.specs.TakeText.{copy_line}
+use Rattle.ffv1_commands.specs.JoinText.{file_line}
+use Rattle.ffv1_commands.specs.RestoreText.{restored_line}
 
 -- nine pieces grouped from the right, as they are written one behind the other
 append-nine : (a b c d e f g h i : List ℕ) → a ++ b ++ c ++ d ++ e ++ f ++ g ++ h ++ i ≡ a ++ (b ++ (c ++ (d ++ (e ++ (f ++ (g ++ (h ++ i)))))))
@@ -18,6 +21,24 @@ append-seven : (a b c d e f g : List ℕ) → a ++ b ++ c ++ d ++ e ++ f ++ g �
 append-seven a b c d e f g =
     append_assoc (a ++ b ++ c ++ d ++ e) f g ∙ append_assoc (a ++ b ++ c ++ d) e (f ++ g) ∙ append_assoc (a ++ b ++ c) d (e ++ (f ++ g))
     ∙ append_assoc (a ++ b) c (d ++ (e ++ (f ++ g))) ∙ append_assoc a b (c ++ (d ++ (e ++ (f ++ g))))
+
+-- five of them
+append-five : (a b c d e : List ℕ) → a ++ b ++ c ++ d ++ e ≡ a ++ (b ++ (c ++ (d ++ e)))
+append-five a b c d e = append_assoc (a ++ b ++ c) d e ∙ append_assoc (a ++ b) c (d ++ e) ∙ append_assoc a b (c ++ (d ++ e))
+
+pub copy_line-pieces : (number links slices new : ℕ) → copy_line number links slices new
+    ≡ codes "copy " ++ (decimal number ++ (codes " links " ++ (decimal links ++
+    (codes " slices " ++ (decimal slices ++ (codes " new " ++ (decimal new ++ codes "\n")))))))
+copy_line-pieces number links slices new =
+    append-nine (codes "copy ") (decimal number) (codes " links ") (decimal links) (codes " slices ") (decimal slices) (codes " new ") (decimal new)
+    (codes "\n")
+
+pub file_line-pieces : (number new : ℕ) → file_line number new
+    ≡ codes "file " ++ (decimal number ++ (codes " new " ++ (decimal new ++ codes "\n")))
+file_line-pieces number new = append-five (codes "file ") (decimal number) (codes " new ") (decimal new) (codes "\n")
+
+pub restored_line-pieces : (count : ℕ) → restored_line count ≡ codes "restored " ++ (decimal count ++ codes " bytes\n")
+restored_line-pieces count = append_assoc (codes "restored ") (decimal count) (codes " bytes\n")
 
 pub place_line-pieces : (tile plane y x : ℕ) → place_line tile plane y x
     ≡ codes "tile " ++ (decimal tile ++ (codes " fault plane " ++ (decimal plane ++
