@@ -9,3 +9,6 @@ returns-clause-untouched g c = unless_writing _ _ c.decode_of.result (λ same. (
 
 pub returns-clause-in_turn : goal.returns-clause-in_turn
 returns-clause-in_turn g c = if_of_record _ _ c.decode_of.result (λ same. search (rules, ap reader_of same)) c.decode_of.ensures.in_turn
+
+pub returns-clause-names : goal.returns-clause-names
+returns-clause-names g c = c.decode_of.ensures.names

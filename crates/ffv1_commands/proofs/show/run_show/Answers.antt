@@ -5,3 +5,6 @@ use Rattle.ffv1_commands.proofs.show.run_show.Goals as goal
 
 pub returns-clause-untouched : goal.returns-clause-untouched
 returns-clause-untouched g c = unless_writing _ _ c.show_of.result (λ same. search (rules, ap writer_of same)) c.show_of.ensures.untouched
+
+pub returns-clause-names : goal.returns-clause-names
+returns-clause-names g c = c.show_of.ensures.names
