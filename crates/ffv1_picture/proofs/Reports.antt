@@ -1,6 +1,8 @@
 -- What a report counts and measures.
-use Rattle.std.proofs.Common.{◌≡◌, ℕ, zero, suc, ◌+◌, ◌<◌, ◌≤◌, Bool, true, false, cond, List, [], ◌∷◌, ◌++◌, length, get_or, count_by, Option, Some, None, Result, Ok, Err, OnOk, append_assoc, unwrap_or, sym, ap, ◌∙◌, arith}
-use Rattle.std.specs.List.{range_with_len, sum_by}
+use Rattle.std.proofs.Common.{◌≡◌, ℕ, zero, suc, ◌+◌, ◌<◌, ◌≤◌, Bool, true, false, cond, List, [], ◌∷◌, ◌++◌, length, get_or, take, count_by, Option, Some, None, Result, Ok, Err, OnOk, append_assoc, unwrap_or, sym, ap, ◌∙◌, arith}
+use Rattle.std.specs.List.{flat_map, range_with_len, sum_by}
+use Rattle.std.proofs.lemmas.List.{take_more, append-nil}
+use Rattle.std.proofs.lemmas.Grind.{flat_map-append}
 use Rattle.std.proofs.lemmas.List.Sums.{sum_by-append}
 use Rattle.ffv1_hold.specs.Contents.{Contents}
 use Rattle.ffv1_hold.specs.Standing.{Standing, status_of, tile_state, IsLeastStatus}
@@ -57,3 +59,17 @@ pub then_pushed : {E : Type 0} (r : Result (Unit {0}) E) (old mid new first seco
 then_pushed (Ok done) old mid new first second second' before added same =
     added ∙ ap (λ text. text ++ second) before ∙ append_assoc old first second ∙ ap (λ piece. old ++ (first ++ piece)) same
 then_pushed (Err fault) old mid new first second second' before added same = added
+
+-- ---- lines that are added one after the other
+
+flat_map-take_more : {X : Type 0} (f : X → List ℕ) (xs : List X) (i : ℕ) (d : X) → i < length xs
+    → flat_map f (take (i + 1) xs) ≡ flat_map f (take i xs) ++ f (get_or xs i d)
+flat_map-take_more f xs i d lt =
+    ap (flat_map f) (take_more xs i d lt) ∙ flat_map-append f (take i xs) (get_or xs i d ∷ [])
+    ∙ ap (λ l. flat_map f (take i xs) ++ l) (append-nil (f (get_or xs i d)))
+
+pub added_more : {X : Type 0} (f : X → List ℕ) (xs : List X) (i : ℕ) (d : X) (old now next : List ℕ) → i < length xs → next ≡ now ++ f (get_or xs i d)
+    → now ≡ old ++ flat_map f (take i xs) → next ≡ old ++ flat_map f (take (i + 1) xs)
+added_more f xs i d old now next lt added is =
+    added ∙ ap (λ l. l ++ f (get_or xs i d)) is ∙ append_assoc old (flat_map f (take i xs)) (f (get_or xs i d))
+    ∙ ap (λ l. old ++ l) (sym (flat_map-take_more f xs i d lt))

@@ -4,7 +4,7 @@ use Rattle.std.proofs.Math.ListN.{set}
 use Rattle.std.specs.Vec.{with_items}
 use Rattle.ffv1_range.specs.Tiles.{plane_count}
 use Rattle.ffv1_picture.specs.WholePicture.{Planes}
-use Rattle.ffv1_picture.specs.Drawing.{plane_at}
+use Rattle.ffv1_picture.specs.Drawing.{plane_at, area}
 use Rattle.ffv1_picture.proofs.Drawings.{DrawsPlanes, plane_drawn, rect_fits, draws_same, fits_same}
 use Rattle.ffv1_picture.proofs.drawing.draw_picture.Goals as goal
 
@@ -27,6 +27,16 @@ draw_plane-requires-clause-inside c =
     ∙ ap length (c.loop-plane.invariant.others n (omega arith)) ∙ c.requires.sizes.each n few in
     fits_same _ _ _ _ _ _ (sym (ap (λ r. r.w) c.plane_size-width.ensures)) (sym long) (sym c.plane_rect-rect.ensures)
     (rect_fits g c.across-across.ensures.grid c.args.tile c.requires.tile n)
+
+pub draw_plane-requires-clause-samples : goal.draw_plane-requires-clause-samples
+draw_plane-requires-clause-samples c =
+    let g = c.args.grid.now in
+    let n = c.loop-plane.plane in
+    let picture = c.args.picture.now in
+    let few : n < plane_count g = omega (arith, c.loop-plane-test.true, c.loop-plane.auto.planes, length-map c.args.planes.now items_of, c.requires.sizes.count) in
+    let among : n < length picture = omega (arith, few, length-map picture items_of, c.requires.picture.count) in
+    ap length (c.deref.ensures.value ∙ sym (read_plane picture n c.index-picture-plane.result among c.index-picture-plane.is))
+    ∙ c.requires.picture.each n few ∙ ap area (sym c.plane_rect-rect.ensures)
 
 pub loop-plane-preserved : goal.loop-plane-preserved
 loop-plane-preserved c =
@@ -55,3 +65,22 @@ loop-plane-preserved c =
     (c.deref.ensures.value ∙ sym (read_plane c.args.picture.now n c.index-picture-plane.result among c.index-picture-plane.is))
     (c.deref_mut.ensures.value ∙ ap items_of (sym c.index-planes-plane.is) ∙ sym (read_plane mid n c.index-planes-plane.result lt c.index-planes-plane.is))
     c.draw_plane.ensures))
+
+pub returns : goal.returns
+returns c =
+    let inv = c.loop-plane.invariant in
+    record {
+      same_count = inv.same_count;
+      each = λ plane lt. inv.each plane (omega (arith, lt, c.loop-plane-test.false, length-map c.args.planes.now items_of, c.requires.sizes.count));
+    }
+
+pub bounds-picture-plane : goal.bounds-picture-plane
+bounds-picture-plane c = omega (
+  arith,
+  c.loop-plane-test.true,
+  c.loop-plane.auto.planes,
+  length-map c.args.planes.now items_of,
+  c.requires.sizes.count,
+  length-map c.args.picture.now items_of,
+  c.requires.picture.count,
+)

@@ -6,6 +6,48 @@ use Rattle.ffv1_picture.specs.Drawing.{Draws}
 use Rattle.ffv1_picture.proofs.Drawings.{first_rows, row_drawn}
 use Rattle.ffv1_picture.proofs.drawing.draw_plane.Goals as goal
 
+pub overflow_mul-to : goal.overflow_mul-to
+overflow_mul-to c =
+    let r = c.args.rect in
+    let row : r.y + c.loop-row.row + 1 ≤ r.y + r.h = omega arith in
+    omega (arith, mul-le-mul_right c.args.width row, c.requires.inside.in_height, c.requires.inside.in_width)
+
+pub overflow_add-to-in-loop-row : goal.overflow_add-to-in-loop-row
+overflow_add-to-in-loop-row c =
+    let r = c.args.rect in
+    let row : r.y + c.loop-row.row + 1 ≤ r.y + r.h = omega arith in
+    omega (arith, mul-le-mul_right c.args.width row, c.requires.inside.in_height, c.requires.inside.in_width)
+
+pub overflow_add-to-in-loop-row-2 : goal.overflow_add-to-in-loop-row-2
+overflow_add-to-in-loop-row-2 c =
+    let r = c.args.rect in
+    let row : r.y + c.loop-row.row + 1 ≤ r.y + r.h = omega arith in
+    omega (arith, mul-le-mul_right c.args.width row, c.requires.inside.in_height, c.requires.inside.in_width)
+
+pub slice_bounds-copy_from_slice-end : goal.slice_bounds-copy_from_slice-end
+slice_bounds-copy_from_slice-end c =
+    let r = c.args.rect in
+    let row : r.y + c.loop-row.row + 1 ≤ r.y + r.h = omega arith in
+    omega (arith, mul-le-mul_right c.args.width row, c.requires.inside.in_height, c.requires.inside.in_width)
+
+pub overflow_mul-from : goal.overflow_mul-from
+overflow_mul-from c =
+    let r = c.args.rect in
+    let row : c.loop-row.row + 1 ≤ r.h = omega arith in
+    omega (arith, mul-le-mul_right r.w row, c.requires.samples)
+
+pub overflow_add-from : goal.overflow_add-from
+overflow_add-from c =
+    let r = c.args.rect in
+    let row : c.loop-row.row + 1 ≤ r.h = omega arith in
+    omega (arith, mul-le-mul_right r.w row, c.requires.samples)
+
+pub slice_bounds-copy_from_slice-end-in-loop-row : goal.slice_bounds-copy_from_slice-end-in-loop-row
+slice_bounds-copy_from_slice-end-in-loop-row c =
+    let r = c.args.rect in
+    let row : c.loop-row.row + 1 ≤ r.h = omega arith in
+    omega (arith, mul-le-mul_right r.w row, c.requires.samples)
+
 pub loop-row-preserved : goal.loop-row-preserved
 loop-row-preserved c =
     let r = c.args.rect in
@@ -28,3 +70,9 @@ loop-row-preserved c =
     (omega (arith, mul-le-mul_right width last, c.requires.inside.in_height))
     c.loop-row.invariant long
     (λ i lt. ap (λ xs. get_or xs i 0) of_samples ∙ get_or-take (from + r.w - from) (drop from samples) i 0 (omega arith) ∙ get_or-drop from samples i 0))
+
+pub returns : goal.returns
+returns c =
+    let r = c.args.rect in
+    let all : c.loop-row.row ≡ r.h = omega arith in
+    subst (λ n. Draws c.args.width (first_rows r n) c.args.samples.now c.args.plane.now c.loop-row.plane) all c.loop-row.invariant

@@ -1,14 +1,18 @@
-use Rattle.std.proofs.Common.{sym}
+use Rattle.std.proofs.Common.{refl, sym}
 use Rattle.std.proofs.lemmas.Result.{err_from_is_err_and}
 use Rattle.ffv1_picture.proofs.TileFaults.{unreadable}
 use Rattle.ffv1_picture.proofs.drawing.draw_slice.Goals as goal
 
-pub returns-in_err-picture-clause-fault : goal.returns-in_err-picture-clause-fault
-returns-in_err-picture-clause-fault c =
+pub returns-in_err-picture : goal.returns-in_err-picture
+returns-in_err-picture c =
     let p = err_from_is_err_and c.from_residual.result c.from_residual.ensures.1 in
     let told = c.in_err-picture.ensures in
-    rw (p.1, p.2, sym c.content_of.ensures)
-    (unreadable c.args.setup.now c.args.tile _ c.in_err-picture.field-0.0 (record { found = λ picture is. told.found picture is; refused = told.refused }))
+    rw (p.1, p.2) (record {
+      ok = tt;
+      fault = rw (sym c.content_of.ensures)
+          (unreadable c.args.setup.now c.args.tile _ c.in_err-picture.field-0.0 (record { found = λ picture is. told.found picture is; refused = told.refused }));
+      err = refl;
+    })
 
 pub draw_picture-requires-clause-picture : goal.draw_picture-requires-clause-picture
 draw_picture-requires-clause-picture c =

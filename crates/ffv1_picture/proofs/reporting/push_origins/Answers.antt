@@ -1,5 +1,7 @@
-use Rattle.std.proofs.Common.{sym, ◌∙◌}
+use Rattle.std.proofs.Common.{◌<◌, length, string_bytes, sym, ◌∙◌, arith}
 use mathlib.Core.Bool.{true≢false}
+use Rattle.ffv1_picture.specs.ReportText.{origin_line}
+use Rattle.ffv1_picture.proofs.Reports.{added_more}
 use Rattle.ffv1_picture.proofs.SettledSlices.{settled_held}
 use Rattle.ffv1_picture.proofs.reporting.push_origins.Goals as goal
 
@@ -8,3 +10,9 @@ pub returns-in_default-origins : goal.returns-in_default-origins
 returns-in_default-origins c =
     let held = settled_held c.args.holding.now c.setup-setup.ensures.sound c.args.tile c.in-Settled.slice.now (sym c.in-Settled.ensures) in
     absurd (true≢false (sym held ∙ c.in_default-origins.ensures.absent))
+
+pub loop-origin-preserved : goal.loop-origin-preserved
+loop-origin-preserved c =
+    let lt : c.loop-origin.origin-index < length c.in-Some.origins.now = omega arith in
+    added_more (origin_line c.args.tile) c.in-Some.origins.now c.loop-origin.origin-index _ (string_bytes c.args.text.now)
+    (string_bytes c.loop-origin.text) _ lt c.in_ok-push_origin.ensures c.loop-origin.invariant
