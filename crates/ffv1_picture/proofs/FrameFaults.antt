@@ -4,9 +4,9 @@ use Rattle.ffv1_range.specs.Setup.{SetupValue}
 use Rattle.ffv1_slice.specs.Chain.{Piece}
 use Rattle.ffv1_plane.specs.declared.tile.TileFault.{TileFault}
 use Rattle.ffv1_plane.specs.declared.tile.TileFault.TheVariants as tiles
-use Rattle.ffv1_picture.specs.Frames.{links_from_front, content_at, HasPicture, IsOrdered}
+use Rattle.ffv1_picture.specs.Frames.{links_from_front, content_at, HasPicture, HasWholeChain, IsOrdered}
 use Rattle.ffv1_picture.specs.TilePictures.{IsUnreadable}
-use Rattle.ffv1_picture.specs.FrameFaults.{IsFirstUnreadable, IsFirstFault, fault_of_tile}
+use Rattle.ffv1_picture.specs.FrameFaults.{IsFirstDisorder, IsFirstUnreadable, IsFirstFault, fault_of_tile}
 use Rattle.ffv1_picture.specs.declared.fault.FrameFault.{FrameFault}
 use Rattle.ffv1_picture.specs.declared.fault.FrameFault.TheVariants.{Chain, Slice, Order, Tile, Memory}
 
@@ -20,6 +20,15 @@ first_unreadable setup links tile tiles.OtherTile lt before (inr why) = (lt, bef
 first_unreadable setup links tile (tiles.Code fault plane y x) lt before (inl is) = absurd (cc)
 first_unreadable setup links tile (tiles.Code fault plane y x) lt before (inr why) = (lt, before, why)
 first_unreadable setup links tile tiles.Memory lt before why = tt
+
+-- a fault of the order is the first of a payload with its whole chain
+pub disorder_is_first : (setup : SetupValue) (payload : List ℕ) → HasWholeChain setup payload → (fault : FrameFault)
+    → IsFirstDisorder setup (links_from_front payload) fault → IsFirstFault setup payload fault
+disorder_is_first setup payload chain Chain first = absurd first
+disorder_is_first setup payload chain (Slice place cause) first = (chain, first)
+disorder_is_first setup payload chain (Order place) first = (chain, first)
+disorder_is_first setup payload chain (Tile tile cause) first = absurd first
+disorder_is_first setup payload chain Memory first = absurd first
 
 unreadable_is_first : (setup : SetupValue) (payload : List ℕ) → IsOrdered setup payload → (fault : FrameFault)
     → IsFirstUnreadable setup (links_from_front payload) fault → IsFirstFault setup payload fault

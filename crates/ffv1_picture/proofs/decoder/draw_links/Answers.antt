@@ -1,10 +1,16 @@
 use Rattle.std.proofs.Common.{◌≡◌, ◌⊎◌, ℕ, List, subst, arith}
+use Rattle.std.proofs.lemmas.Result.{err_from_is_err_and}
 use Rattle.ffv1_slice.specs.Slices.{content_of}
 use Rattle.ffv1_plane.specs.declared.tile.TileFault.TheVariants.{Memory}
 use Rattle.ffv1_picture.specs.TilePictures.{IsUnreadable}
 use Rattle.ffv1_picture.proofs.Decoded.{drawn_sizes, drawn_more, drawn_pictures, same_content, ok_value}
 use Rattle.ffv1_picture.proofs.FrameFaults.{first_unreadable}
 use Rattle.ffv1_picture.proofs.decoder.draw_links.Goals as goal
+
+pub returns-in_err-frame : goal.returns-in_err-frame
+returns-in_err-frame c =
+    let p = err_from_is_err_and c.from_residual.result c.from_residual.ensures.1 in
+    rw (p.1, p.2) (record { ok = tt; err = tt })
 
 pub draw_slice-requires-clause-sizes : goal.draw_slice-requires-clause-sizes
 draw_slice-requires-clause-sizes c = drawn_sizes c.args.setup.now c.args.links.now c.loop-tile.tile c.loop-tile.frame c.loop-tile.invariant

@@ -1,4 +1,5 @@
 use Rattle.std.proofs.Common.{◌≡◌, ◌∙◌, ◌+◌, List, sym, ap, subst, arith}
+use Rattle.std.proofs.lemmas.Result.{err_from_is_err_and}
 use Rattle.ffv1_range.specs.Tiles.{grid_of, tile_count}
 use Rattle.ffv1_hold.specs.Reels.{reel_tiles}
 use Rattle.ffv1_picture.specs.declared.partial.Partial.{Partial}
@@ -8,6 +9,26 @@ use Rattle.ffv1_picture.proofs.Decoded.{shown_sizes, shown_more}
 use Rattle.ffv1_range.proofs.SetupLaws.{setup_is_in_profile}
 use Rattle.ffv1_picture.proofs.OnePicture.{one_partial}
 use Rattle.ffv1_picture.proofs.partial.picture.Goals as goal
+
+pub returns-in_err-frame : goal.returns-in_err-frame
+returns-in_err-frame c =
+    let p = err_from_is_err_and c.from_residual.result c.from_residual.ensures.1 in
+    rw p.1 (record { partial = tt; whole = λ pictures are. tt })
+
+pub returns-in_err-tiles : goal.returns-in_err-tiles
+returns-in_err-tiles c =
+    let p = err_from_is_err_and c.from_residual-in_err-tiles.result c.from_residual-in_err-tiles.ensures.1 in
+    rw p.1 (record { partial = tt; whole = λ pictures are. tt })
+
+pub returns-in_err-show_tile : goal.returns-in_err-show_tile
+returns-in_err-show_tile c =
+    let p = err_from_is_err_and c.from_residual-in_err-show_tile.result c.from_residual-in_err-show_tile.ensures.1 in
+    rw p.1 (record { partial = tt; whole = λ pictures are. tt })
+
+pub returns-in_err-push : goal.returns-in_err-push
+returns-in_err-push c =
+    let p = err_from_is_err_and c.from_residual-in_err-push.result c.from_residual-in_err-push.ensures.1 in
+    rw p.1 (record { partial = tt; whole = λ pictures are. tt })
 
 pub show_tile-requires-clause-sizes : goal.show_tile-requires-clause-sizes
 show_tile-requires-clause-sizes c = shown_sizes c.args.holding.now c.loop-tile.tile c.loop-tile.tiles.items c.loop-tile.frame c.loop-tile.invariant
