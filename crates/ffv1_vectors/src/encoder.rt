@@ -119,6 +119,22 @@ impl RangeEncoder {
         Ok(())
     }
 
+    /// Writes these unsigned symbols one after another, at one row of states.
+    pub(crate) fn all_unsigned(
+        &mut self,
+        states: &mut [u8; 32],
+        values: &[u32],
+    ) -> Result<(), MakeFault>
+        requires { AreStates states.old }
+        ensures in_range { AreStates states.new }
+        ensures memory { IfErr result (λ fault. fault ≡ Memory) }
+    {
+        for value in values {
+            self.unsigned(states, *value)?;
+        }
+        Ok(())
+    }
+
     /// Writes a signed symbol, as `unsigned` does.
     pub fn signed(&mut self, states: &mut [u8; 32], value: i32) -> Result<(), MakeFault>
         requires { AreStates states.old }

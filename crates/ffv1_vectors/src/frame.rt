@@ -1,5 +1,5 @@
 //! Frames (RFC 9043, sections 4.4 to 4.9), made to measure tile by tile.
-ghost use Rattle.std.specs.Prelude.{◌≡◌, ◌<◌, ◌≤◌, ◌^◌, ◌*◌, ◌==◌, ◌↔◌, ℕ, IsTrue, IfOk, Err, length, map, slice_index_or};
+ghost use Rattle.std.specs.Prelude.{◌≡◌, ◌<◌, ◌≤◌, ◌^◌, ◌+◌, ◌*◌, ◌==◌, ◌↔◌, ℕ, IsTrue, IfOk, Err, length, map, slice_index_or};
 ghost use Rattle.ffv1_bits.specs.Limits.{payload_limit};
 ghost use Rattle.ffv1_range.specs.Setup.{set_contexts};
 ghost use Rattle.ffv1_range.specs.Tiles.{grid_of, tile_count, plane_count, plane_rect};
@@ -172,25 +172,56 @@ fn spell_planes(
     requires fits { FitsTile setup.now tile spec.now }
 {
     let mut writer = BitWriter::new(alloc);
-    let luma = Tables::of(setup, spec.table_y as usize);
-    let mut states = start_states(alloc, setup, spec.table_y as usize)?;
-    let samples = &spec.planes[0];
-    write_tile_plane(&mut writer, &mut states, setup, tile, 0, &luma, samples)?;
-    let chroma = Tables::of(setup, spec.table_c as usize);
-    let mut states = start_states(alloc, setup, spec.table_c as usize)?;
-    for plane in 1..spec.planes.len() {
-        let samples = &spec.planes[plane];
+    let (luma, chroma) = spec.planes.as_slice().split_at(1);
+    write_group(
+        alloc,
+        &mut writer,
+        setup,
+        tile,
+        spec.table_y as usize,
+        0,
+        luma,
+    )?;
+    write_group(
+        alloc,
+        &mut writer,
+        setup,
+        tile,
+        spec.table_c as usize,
+        1,
+        chroma,
+    )?;
+    Ok(writer.into_bytes())
+}
+
+/// Writes the planes of a tile from `first` on by the tables of this set, with states that they share.
+fn write_group(
+    alloc: Global,
+    writer: &mut BitWriter,
+    setup: &Setup,
+    tile: usize,
+    set: usize,
+    first: usize,
+    planes: &[Vec<u8>],
+) -> Result<(), MakeFault>
+    requires tile { tile < tile_count (grid_of setup.now) }
+    requires set { set < length setup.now.sets }
+    requires planes { first + length planes.now ≤ plane_count (grid_of setup.now) }
+{
+    let tables = Tables::of(setup, set);
+    let mut states = start_states(alloc, setup, set)?;
+    for (place, samples) in planes.iter().enumerate() {
         write_tile_plane(
-            &mut writer,
+            writer,
             &mut states,
             setup,
             tile,
-            plane,
-            &chroma,
+            first + place,
+            &tables,
             samples,
         )?;
     }
-    Ok(writer.into_bytes())
+    Ok(())
 }
 
 /// Writes a plane of a tile by its tables, with the states that those before it have left.

@@ -68,8 +68,7 @@ pub fn spell_record(alloc: Global, spec: &RecordSpec) -> Result<Vec<u8>, MakeFau
     spell_planes(&mut encoder, &mut states, spec)?;
     spell_sets(&mut encoder, &spec.sets)?;
     spell_deltas(&mut encoder, &mut states, spec)?;
-    encoder.unsigned(&mut states, spec.ec)?;
-    encoder.unsigned(&mut states, spec.intra)?;
+    encoder.all_unsigned(&mut states, &[spec.ec, spec.intra])?;
     with_parity(encoder.finish_closed()?)
 }
 
@@ -104,11 +103,14 @@ fn spell_format(
     ensures in_range { AreStates states.new }
     ensures memory { IfErr result (λ fault. fault ≡ Memory) }
 {
-    encoder.unsigned(states, spec.version)?;
-    encoder.unsigned(states, spec.micro)?;
-    encoder.unsigned(states, spec.coder)?;
-    encoder.unsigned(states, spec.colorspace)?;
-    encoder.unsigned(states, spec.raw_depth)
+    let fields = [
+        spec.version,
+        spec.micro,
+        spec.coder,
+        spec.colorspace,
+        spec.raw_depth,
+    ];
+    encoder.all_unsigned(states, &fields)
 }
 
 /// Writes the planes, the grid and the number of table sets.
@@ -122,12 +124,10 @@ fn spell_planes(
     ensures memory { IfErr result (λ fault. fault ≡ Memory) }
 {
     encoder.flag(states, spec.has_chroma)?;
-    encoder.unsigned(states, spec.shift_h)?;
-    encoder.unsigned(states, spec.shift_v)?;
+    encoder.all_unsigned(states, &[spec.shift_h, spec.shift_v])?;
     encoder.flag(states, spec.extra_plane)?;
-    encoder.unsigned(states, spec.across.saturating_sub(1))?;
-    encoder.unsigned(states, spec.down.saturating_sub(1))?;
-    encoder.unsigned(states, spec.set_count)
+    let (across, down) = (spec.across.saturating_sub(1), spec.down.saturating_sub(1));
+    encoder.all_unsigned(states, &[across, down, spec.set_count])
 }
 
 /// Writes the tables of all sets.

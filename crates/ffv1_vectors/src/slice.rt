@@ -64,19 +64,9 @@ fn spell_header(
     if first {
         encoder.bit(&mut 128, key)?;
     }
-    spell_fields(&mut encoder, fields)?;
-    encoder.finish_sentinel()
-}
-
-/// Writes the nine fields, at a row of states of their own.
-fn spell_fields(encoder: &mut RangeEncoder, fields: &[u32; HEAD_FIELDS]) -> Result<(), MakeFault>
-    ensures { IfErr result (λ fault. fault ≡ Memory) }
-{
     let mut states = [128; 32];
-    for field in fields {
-        encoder.unsigned(&mut states, *field)?;
-    }
-    Ok(())
+    encoder.all_unsigned(&mut states, fields)?;
+    encoder.finish_sentinel()
 }
 
 /// The content with its footer behind it.
