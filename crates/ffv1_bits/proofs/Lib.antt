@@ -2,6 +2,7 @@ pub mod Vectors
 pub mod Sums
 pub mod Division
 pub mod Burst
+pub mod Bytes
 pub mod Register
 pub mod Multiples
 pub mod Numbers

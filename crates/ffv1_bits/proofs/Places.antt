@@ -72,9 +72,9 @@ pub none_read : (reading : Reading) → Reads reading (number_bits 0 0) reading
 unfolding number_bits
 none_read reading = record { begins = refl; moves = omega arith }
 
-value_of : (bit : Bool) → bool_byte bit ≡ bit_value bit
-value_of true = refl
-value_of false = refl
+pub bool_byte-bit_value : (bit : Bool) → bool_byte bit ≡ bit_value bit
+bool_byte-bit_value true = refl
+bool_byte-bit_value false = refl
 
 pub fits_more : (count n v : ℕ) (bit : Bool) → n < 2 ^ count → v ≡ bool_byte bit → 2 * n + v < 2 ^ (count + 1)
 fits_more count n v true small value = let wide : 2 ^ (count + 1) ≡ 2 ^ count * 2 = rw add-one (pow-suc 2 count) in omega arith
@@ -86,7 +86,7 @@ pub one_more : (old mid new : Reading) (count n m v : ℕ) (bit : Bool) → Read
 one_more old mid new count n m v bit before now value is =
     let longer : number_bits (count + 1) m ≡ number_bits count n ++ (bit ∷ []) =
     ap (λ c. number_bits c m) (let e : count + 1 ≡ suc count = omega arith in e)
-    ∙ ap (number_bits (suc count)) (is ∙ ap (λ x. 2 * n + x) (value ∙ value_of bit)) ∙ number_bits-push count n bit in
+    ∙ ap (number_bits (suc count)) (is ∙ ap (λ x. 2 * n + x) (value ∙ bool_byte-bit_value bit)) ∙ number_bits-push count n bit in
     rw longer (Reads-append old mid new (number_bits count n) (bit ∷ []) before now)
 
 -- the bits end within a number

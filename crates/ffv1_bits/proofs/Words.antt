@@ -1,5 +1,5 @@
 -- The parity of eight bytes at once: what each byte of the register and of a word leaves, far from the end.
-use Rattle.std.proofs.Common.{◌≡◌, ℕ, zero, suc, ◌+◌, ◌-◌, ◌*◌, ◌/◌, ◌%◌, ◌^◌, ◌<◌, Bool, true, false, nat_eq, cond, eqb, get_or, List, [], ◌∷◌, ◌++◌, length, take, drop, replicate, refl, sym, ap, subst, ◌∙◌, arith, lit<, length-append, length-take, append-nil, append_assoc, get_or-drop}
+use Rattle.std.proofs.Common.{◌≡◌, ℕ, zero, suc, ◌+◌, ◌-◌, ◌*◌, ◌/◌, ◌%◌, ◌^◌, ◌<◌, Bool, true, false, nat_eq, cond, eqb, get_or, List, [], ◌∷◌, ◌++◌, length, take, drop, replicate, refl, sym, ap, subst, ◌∙◌, arith, lit<, length-append, length-take, append-nil, append_assoc}
 use Rattle.std.specs.Prelude.{bit_xor}
 use Rattle.std.specs.List.{fold, concat, slice_range}
 use Rattle.std.specs.Array.{IsFirstChunk}
@@ -21,6 +21,7 @@ use Rattle.ffv1_bits.specs.Parity.{divisor, polynomial_of, reduced_at, divided, 
 use Rattle.ffv1_bits.proofs.Burst.{byte_is, length-bits}
 use Rattle.ffv1_bits.proofs.Numbers.{length-number_bits, number_bits-polynomial_of, number_bits-split, number_bits-low}
 use Rattle.ffv1_bits.proofs.Division.{shifted, divided_is_fold, remainder_is_fold, divided-xor, divided_low, polynomial_small}
+use Rattle.ffv1_bits.proofs.Bytes.{AreBytes-take, AreBytes-drop}
 
 -- ---- the polynomial of bytes
 
@@ -293,19 +294,13 @@ bits_behind (suc i) (b ∷ bytes) =
     ap (λ n. drop n (bits_of (b ∷ bytes))) (let e : 8 * suc i ≡ 8 + 8 * i = omega arith in e)
     ∙ sym (drop-drop (8 * i) 8 (bits_of (b ∷ bytes))) ∙ bits_behind i bytes
 
-AreBytes-take : (n : ℕ) (xs : List ℕ) → AreBytes xs → AreBytes (take n xs)
-AreBytes-take zero xs small i = lit< tt
-AreBytes-take (suc n) [] small i = lit< tt
-AreBytes-take (suc n) (x ∷ xs) small zero = small 0
-AreBytes-take (suc n) (x ∷ xs) small (suc i) = AreBytes-take n xs (λ j. small (suc j)) i
-
 pub word_there : (bytes rest word : List ℕ) (place n : ℕ) → AreBytes bytes → rest ≡ slice_range bytes place (length bytes) → IsFirstChunk rest word 8
     → n ≡ from_be_bytes w64 word → bits_of (take 8 (drop place bytes)) ≡ number_bits 64 n
 word_there bytes rest word place n small is front value =
     let behind : rest ≡ drop place bytes = is ∙ take_rest bytes place in
     let whole : take 8 (drop place bytes) ≡ word = ap (take 8) (sym behind) ∙ sym front.same in
     let long : length word ≡ 8 = ap length front.same ∙ length-take 8 rest ∙ omega (arith, front.enough) in
-    let each : AreBytes word = subst AreBytes whole (AreBytes-take 8 (drop place bytes) (λ j. rw get_or-drop (small (place + j)))) in
+    let each : AreBytes word = subst AreBytes whole (AreBytes-take 8 (drop place bytes) (AreBytes-drop place bytes small)) in
     ap bits_of whole ∙ bits_of-word word n long each value
 
 pub peek_some : (bytes : List ℕ) (place n : ℕ) → bits_of (take 8 (drop (place / 8) bytes)) ≡ number_bits 64 n

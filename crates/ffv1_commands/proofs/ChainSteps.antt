@@ -1,5 +1,6 @@
 -- The text of a chain, printed link by link.
 use Rattle.std.proofs.Common.{◌≡◌, ℕ, List, [], ◌∷◌, ◌++◌, Option, Result, Ok, Err, OnOk, OnErr, refl, sym, ap, subst, ◌∙◌, append_assoc}
+use Rattle.ffv1_hold.proofs.Fronts.{front-append}
 use Rattle.std.specs.List.{flat_map}
 use Rattle.std.specs.Io.KnownBytes.{Appends}
 use Rattle.ffv1_slice.specs.Chain.{Piece, AreLinksOf}
@@ -8,7 +9,7 @@ use Rattle.ffv1_slice.specs.declared.chain.ChainEnd.{ChainEnd}
 use Rattle.ffv1_commands.specs.Devices.{WritesFront}
 use Rattle.ffv1_commands.specs.Lines.{PrintsFront}
 use Rattle.ffv1_commands.specs.ChainText.{link_line, end_line, IsChainText, PrintsChain}
-use Rattle.ffv1_commands.proofs.PrintSteps.{front-all, front-fails, front-append}
+use Rattle.ffv1_commands.proofs.PrintSteps.{front-all, front-fails}
 
 -- one link more
 pub lines-more : (lines all : List ℕ) (link : Piece) (left rest : List Piece) → lines ++ flat_map link_line left ≡ all → left ≡ link ∷ rest

@@ -41,12 +41,6 @@ untouched_both out output fault none = UnlessWriting-unwritten ((out ≡ out) ×
 
 -- ---- what is told of devices
 
--- an error is the same one in a result of another type
-pub Err-at : {T U : Type 0} (fault named : CliFault) → IsErrOf {T = T} (Err fault) named → IsErrOf {T = U} (Err fault) named
-Err-at fault named is =
-    let same : fault ≡ named = cc in
-    ap Err same
-
 pub NamesNoPath-not_read : {T : Type 0} (fault : CliFault) (path : CommandPath) → NamesNoPath fault → IsErrOf {T = T} (Err fault) (faults.Read path) → ⊥
 NamesNoPath-not_read fault path none is =
     let same : fault ≡ faults.Read path = cc in

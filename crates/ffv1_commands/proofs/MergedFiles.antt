@@ -9,10 +9,11 @@ use Rattle.ffv1_hold.proofs.HeldEntries.{holding-joined}
 use Rattle.ffv1_hold.specs.HoldingText.{head_text, begun_text, file_text, holding_text}
 use Rattle.ffv1_hold.specs.declared.version.Version.TheVariants.{Second}
 use Rattle.ffv1_hold.specs.FileFaults.{IsOutside, IsFaultOf}
-use Rattle.ffv1_hold.specs.JoinedStreams.{Inputs, InputRefuses, OneRefuses, JoinRefuses, EntriesPass, UnionPasses, ReadsPart, ReadsAll, ReadsSoFar, ReadsOtherHeads, WritesUnion, WritesNoEnd, WritesFrontSoFar, AnswersUnion, AnswersOther, BeginsWith}
+use Rattle.ffv1_hold.specs.JoinedStreams.{Inputs, InputRefuses, OneRefuses, JoinRefuses, EntriesPass, UnionPasses, ReadsAll, ReadsSoFar, ReadsOtherHeads, WritesUnion, WritesNoEnd, WritesFrontSoFar, AnswersUnion, AnswersOther, BeginsWith}
 use Rattle.ffv1_hold.specs.declared.file_fault.HoldFileFault.{HoldFileFault}
 use Rattle.ffv1_hold.specs.declared.file_fault.HoldFileFault.TheVariants as files
 use Rattle.ffv1_hold.proofs.MergeSteps.{part_begins}
+use Rattle.ffv1_hold.proofs.MergeStarts.{all_part}
 use Rattle.ffv1_commands.specs.Fault.{of_merge}
 use Rattle.ffv1_commands.specs.Holdings.{IsHoldingFile}
 use Rattle.ffv1_commands.specs.MergeText.{MergesFiles, BeginsUnion, HeadsDiffer, IsFaultOfEither, IsMergeFault, LeavesEntries, MergeLeaves, AnswersFiles, AnswersOtherHeads}
@@ -23,16 +24,6 @@ holding_file old new h a = record {
   text = Consumes-whole old new (file_text a.file.version h) (λ told. told ≡ file_text a.file.version h) a.file.taken a.at_end refl;
   sound = a.sound;
   fits = a.file.fits;
-}
-
-all_part : (old new : Option (List ℕ)) (h : Contents) → ReadsAll old new h → ReadsPart old new h
-all_part old new h a = record {
-  sound = a.sound;
-  record' = a.file.fits.record';
-  version = a.file.version;
-  told = a.file.fits.told;
-  more = 0 ∷ [];
-  taken = a.file.taken;
 }
 
 taken_begins : (old new : Option (List ℕ)) (bytes : List ℕ) → Consumes old new bytes → BeginsWith old bytes

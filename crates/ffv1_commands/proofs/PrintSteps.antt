@@ -35,7 +35,3 @@ pub front_stops : {T E : Type 0} (a b c : Option (List ℕ)) (waits text more : 
     → OnErr r (WritesFront b c (waits ++ more)) → OnErr r (WritesFront a c (text ++ more))
 front_stops a b c waits text more front (Ok done) fails = tt
 front_stops a b c waits text more front (Err fault) fails = front-fails a b c waits text more front fails
-
--- a failed write, as a part of a longer one
-pub front-append : (a b : Option (List ℕ)) (xs ys : List ℕ) → WritesFront a b xs → WritesFront a b (xs ++ ys)
-front-append a b xs ys w = record { done = w.done; rest = w.rest ++ ys; split = ap (λ l. l ++ ys) w.split ∙ append_assoc w.done w.rest ys; written = w.written }

@@ -1,27 +1,26 @@
 -- The digests of a slice, as a rising list: what it has, and when two are the same.
 use Rattle.std.proofs.Common.{◌≡◌, ℕ, zero, suc, ◌<◌, cond, Bool, true, false, ◌||◌, ◌&&◌, List, [], ◌∷◌, length, map, get_or, refl, sym, ap, ◌∙◌, arith}
-use Rattle.std.specs.List.{list_any, filter}
+use Rattle.std.proofs.lemmas.Bool.{or_left, or_right}
+use mathlib.Core.Bool.{and-false}
+use Rattle.std.specs.List.{list_any, filter, AllByRecursion}
 use Rattle.std.specs.Ordering.{ordering_then, is_eq, eq_by_cmp}
 use Rattle.std.specs.Cmp.{Equal-is, tied_itself}
 use Rattle.std.specs.declared.cmp.Ordering.{Ordering}
-use Rattle.std.specs.declared.cmp.Ordering.TheVariants.{Less, Equal, Greater}
+use Rattle.std.specs.declared.cmp.Ordering.TheVariants.{Less}
 use Rattle.ffv1_holding.specs.Sets as set
 use Rattle.ffv1_holding.specs.SliceOrder.{Entry, Origin, with_each, bytes_cmp, entry_cmp, origin_cmp, bytes_total, bytes_antisymmetric, entries_total, entries_antisymmetric, origins_total}
 use Rattle.ffv1_holding.specs.Rising.{IsRising}
 use Rattle.ffv1_holding.specs.TileSets.{digests_in}
 use Rattle.ffv1_holding.proofs.RisingSets.{rising_rest, items-from_list}
 use Rattle.ffv1_holding.proofs.ItemsRise.{items-rising}
+use Rattle.ffv1_holding.proofs.OriginSteps.{both_tie}
+use Rattle.ffv1_hold.specs.FileEntries.{IsDigest}
 
 -- whether a digest is one of them
 abbrev pub has : List (List ℕ) → List ℕ → Bool
 has digests d = list_any (eq_by_cmp bytes_cmp d) digests
 
 -- ---- ties
-
-both_tie : (a b : Ordering) → is_eq (ordering_then a b) ≡ (is_eq a && is_eq b)
-both_tie Less b = refl
-both_tie Equal b = refl
-both_tie Greater b = refl
 
 pub entry_tie : (q e : Entry) → eq_by_cmp entry_cmp q e ≡ true → q ≡ e
 entry_tie q e tie = entries_antisymmetric q e ((Equal-is (entry_cmp q e)).0 tie)
@@ -33,6 +32,14 @@ pub digest_tie : (c d : List ℕ) → eq_by_cmp bytes_cmp c d ≡ true → c ≡
 digest_tie c d tie = bytes_antisymmetric c d ((Equal-is (bytes_cmp c d)).0 tie)
 
 -- ---- what they have
+
+-- what is so of each digest that they have is so of all
+pub has_all : (xs : List (List ℕ)) → ((d : List ℕ) → has xs d ≡ true → IsDigest d) → AllByRecursion IsDigest xs
+has_all [] each = tt
+has_all (x ∷ xs) each = (
+  each x (or_left (eq_by_cmp bytes_cmp x x) (has xs x) (ap is_eq (tied_itself bytes_total x))),
+  has_all xs (λ d there. each d (or_right (eq_by_cmp bytes_cmp d x) (has xs d) there)),
+)
 
 any_digest : (e : Entry) (d : List ℕ) (xs : List Origin) → has (map (λ o. o.1) (filter (λ o. eq_by_cmp entry_cmp e o.0) xs)) d
     ≡ list_any (eq_by_cmp origin_cmp (e, d)) xs
@@ -51,11 +58,7 @@ has-digests_in origins e d = any_digest e d (set.items origins) ∙ sym (set.con
 
 pub any-with_each : (q e : Entry) (d : List ℕ) (ds : List (List ℕ)) → list_any (eq_by_cmp origin_cmp (q, d)) (with_each e ds)
     ≡ (eq_by_cmp entry_cmp q e && has ds d)
-any-with_each q e d [] = sym (and_false (eq_by_cmp entry_cmp q e))
-  where
-    and_false : (b : Bool) → (b && false) ≡ false
-    and_false true = refl
-    and_false false = refl
+any-with_each q e d [] = sym (and-false (eq_by_cmp entry_cmp q e))
 any-with_each q e d (c ∷ ds) =
     (λ i. both_tie (entry_cmp q e) (bytes_cmp d c) i || any-with_each q e d ds i)
     ∙ and_shared (eq_by_cmp entry_cmp q e) (eq_by_cmp bytes_cmp d c) (has ds d)

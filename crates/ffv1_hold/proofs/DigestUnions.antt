@@ -1,6 +1,7 @@
 -- The union of two lists of rising digests.
 use Rattle.std.proofs.Common.{◌≡◌, ℕ, zero, suc, ◌<◌, Bool, true, false, ◌||◌, List, [], ◌∷◌, length, get_or, refl, sym, ap, ◌∙◌, subst, arith}
-use mathlib.Core.Bool.{true≢false}
+use Rattle.std.proofs.lemmas.Bool.{or_left, or_right}
+use mathlib.Core.Bool.{true≢false, or_assoc, or-false}
 use Rattle.std.specs.Ordering.{is_eq, eq_by_cmp, ordering_reverse}
 use Rattle.std.specs.Cmp.{tied_itself}
 use Rattle.std.specs.declared.cmp.Ordering.TheVariants.{Less, Equal, Greater}
@@ -10,7 +11,7 @@ use Rattle.ffv1_holding.specs.Rising.{IsRising}
 use Rattle.ffv1_holding.specs.Contents.{AreDigests}
 use Rattle.ffv1_holding.proofs.RisingSets.{rising_rest}
 use Rattle.ffv1_holding.proofs.ItemsRise.{items-rising}
-use Rattle.ffv1_holding.proofs.EntrySteps.{or_cases, or_left, or_right}
+use Rattle.ffv1_holding.proofs.EntrySteps.{or_cases}
 use Rattle.ffv1_hold.specs.Merging.{digests_union}
 use Rattle.ffv1_hold.proofs.DigestSets.{has, digest_tie, rising_cons, same_digests}
 
@@ -65,10 +66,6 @@ union_first x xs ys left right =
     same_digests (digests_union (x ∷ xs) ys) (x ∷ digests_union xs ys) (union-rises (x ∷ xs) ys) (below_union x xs ys left right)
     (λ d. has-union (x ∷ xs) ys d ∙ or_assoc (eq_by_cmp bytes_cmp d x) (has xs d) (has ys d)
     ∙ ap (λ b. eq_by_cmp bytes_cmp d x || b) (sym (has-union xs ys d)))
-  where
-    or_assoc : (a b c : Bool) → ((a || b) || c) ≡ (a || (b || c))
-    or_assoc true b c = refl
-    or_assoc false b c = refl
 
 -- ---- one step of both lists
 
@@ -111,11 +108,7 @@ union-none = same_digests (digests_union [] []) [] (union-rises [] []) (λ i j d
 
 -- with no others they stay
 pub union-alone : (xs : List (List ℕ)) → AreDigests xs → digests_union xs [] ≡ xs
-union-alone xs up = same_digests (digests_union xs []) xs (union-rises xs []) up (λ d. has-union xs [] d ∙ or_false (has xs d))
-  where
-    or_false : (a : Bool) → (a || false) ≡ a
-    or_false true = refl
-    or_false false = refl
+union-alone xs up = same_digests (digests_union xs []) xs (union-rises xs []) up (λ d. has-union xs [] d ∙ or-false (has xs d))
 
 -- ---- by what the lists begin with
 
@@ -147,7 +140,3 @@ pub first_other : (ys : List (List ℕ)) (y : List ℕ) (rest none : List (List 
     → digests_union none ys ≡ y ∷ digests_union none rest
 first_other ys y rest none is empty up =
     (λ i. digests_union (empty i) (is i)) ∙ union-nil_left y rest (subst AreDigests is up) ∙ ap (λ zs. y ∷ digests_union zs rest) (sym empty)
-
-pub no_items : {A : Type 0} (xs : List A) → length xs ≡ 0 → xs ≡ []
-no_items [] e = refl
-no_items (x ∷ xs) e = absurd (omega arith)

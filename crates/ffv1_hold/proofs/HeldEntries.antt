@@ -1,26 +1,26 @@
 -- The entries of a holding, as its files tell them.
-use Rattle.std.proofs.Common.{◌≡◌, ℕ, zero, suc, ◌<◌, ◌≤◌, Bool, true, false, ◌||◌, ◌&&◌, List, [], ◌∷◌, ◌++◌, length, map, get_or, Some, refl, sym, ap, ◌∙◌, subst, arith}
-use mathlib.Core.Bool.{true≢false}
+use Rattle.std.proofs.Common.{◌≡◌, ℕ, zero, suc, ◌<◌, ◌≤◌, Bool, true, false, ◌||◌, ◌&&◌, List, [], ◌∷◌, ◌++◌, length, map, get_or, Some, refl, sym, ap, ◌∙◌, subst, arith, drop}
+use mathlib.Core.Bool.{true≢false, or-false}
 use Rattle.std.specs.List.{AllByRecursion, list_any}
 use Rattle.std.specs.Ordering.{is_eq, eq_by_cmp, ordering_reverse}
-use Rattle.std.specs.Cmp.{tied_itself}
 use Rattle.std.specs.declared.cmp.Ordering.TheVariants.{Less}
 use Rattle.std.proofs.lemmas.List.{map-append, get_or-map, length-map}
+use Rattle.std.proofs.lemmas.Bool.{false_from_ne_true}
 use Rattle.ffv1_holding.specs.Sets as set
-use Rattle.ffv1_holding.specs.SliceOrder.{Entry, with_each, bytes_cmp, entry_cmp, origin_cmp, bytes_total, entries_total, entries_antisymmetric, origins_total, origins_antisymmetric}
+use Rattle.ffv1_holding.specs.SliceOrder.{Entry, with_each, bytes_cmp, entry_cmp, origin_cmp, entries_total, entries_antisymmetric, origins_total, origins_antisymmetric}
 use Rattle.ffv1_holding.specs.Rising.{IsRising}
 use Rattle.ffv1_holding.specs.TileSets.{digests_in}
 use Rattle.ffv1_holding.specs.Contents.{Contents, IsHolding, IsEntryOf, digests_of, with_entry, joined, IsSameReel}
 use Rattle.ffv1_holding.specs.Reels.{Reel}
 use Rattle.ffv1_holding.proofs.RisingSets.{rising_rest, contains_item, items-empty}
 use Rattle.ffv1_holding.proofs.ItemsRise.{items-rising, items-insert_last}
-use Rattle.ffv1_holding.proofs.EntrySteps.{or_cases, or_left, all-insert, all-union}
+use Rattle.ffv1_holding.proofs.EntrySteps.{or_cases, all-insert, all-union}
 use Rattle.ffv1_holding.proofs.OriginSteps.{held_union, whole_union, held_each, whole_each}
 use Rattle.ffv1_hold.specs.declared.version.Version.{Version}
 use Rattle.ffv1_hold.specs.declared.version.Version.TheVariants.{First, Second}
 use Rattle.ffv1_hold.specs.HoldingText.{FileEntry, origins_limit, file_entries, IsTold}
 use Rattle.ffv1_hold.specs.FileEntries.{last_of, Follows, IsDigest, AreOrigins, AreDigestsIn, IsFileEntryOf, AreEntries}
-use Rattle.ffv1_hold.proofs.DigestSets.{has, entry_tie, entry_self, has-digests_in, has-with_each, digests_rise, same_digests}
+use Rattle.ffv1_hold.proofs.DigestSets.{has, entry_tie, entry_self, has-digests_in, has-with_each, digests_rise, same_digests, has_all}
 
 -- an entry with digests
 abbrev pub told : (Entry → List (List ℕ)) → Entry → FileEntry
@@ -45,11 +45,7 @@ same_at f g [] same q there = absurd (true≢false (sym there))
 same_at f g (x ∷ xs) same q there =
     or_cases (eq_by_cmp entry_cmp q x) (list_any (eq_by_cmp entry_cmp q) xs) (f q ≡ g q) there
     (λ tie. let is = entry_tie q x tie in ap f is ∙ ap (λ es. (get_or es 0 (told f x)).1) same ∙ ap g (sym is))
-    (λ rest. same_at f g xs (ap (λ es. drop_one es) same) q rest)
-  where
-    drop_one : List FileEntry → List FileEntry
-    drop_one [] = []
-    drop_one (e ∷ es) = es
+    (λ rest. same_at f g xs (ap (drop 1) same) q rest)
 
 -- what stands behind the last entry is above all
 pub above_all : (f : Entry → List (List ℕ)) (xs : List Entry) (e : Entry) → IsRising entry_cmp xs → Follows (last_of (map (told f) xs)) e → (i : ℕ) (d : Entry)
@@ -81,11 +77,7 @@ module _ (h : Contents) (e : Entry) (ds : List (List ℕ)) where
   -- the digests of another slice stay
   digests-other : (q : Entry) → eq_by_cmp entry_cmp q e ≡ false → digests_of (with_entry h e ds) q ≡ digests_of h q
   digests-other q apart = same_digests _ _ (digests_rise _ q) (digests_rise h.origins q)
-      (λ d. has-with_entry q d ∙ ap (λ b. has (digests_of h q) d || (b && has ds d)) apart ∙ or_false (has (digests_of h q) d))
-    where
-      or_false : (b : Bool) → (b || false) ≡ b
-      or_false true = refl
-      or_false false = refl
+      (λ d. has-with_entry q d ∙ ap (λ b. has (digests_of h q) d || (b && has ds d)) apart ∙ or-false (has (digests_of h q) d))
 
   -- and a new slice has just its own
   digests-own : IsHolding h → set.contains h.slices e ≡ false → IsRising bytes_cmp ds → digests_of (with_entry h e ds) e ≡ ds
@@ -93,11 +85,7 @@ module _ (h : Contents) (e : Entry) (ds : List (List ℕ)) where
       (λ d. has-with_entry e d ∙ ap (λ b. has (digests_of h e) d || (b && has ds d)) (entry_self e) ∙ ap (λ b. b || has ds d) (none d))
     where
       none : (d : List ℕ) → has (digests_of h e) d ≡ false
-      none d = has-digests_in h.origins e d ∙ no (set.contains h.origins (e, d)) (λ there. true≢false (sym (is.origins_held (e, d) there) ∙ new))
-        where
-          no : (b : Bool) → (b ≡ true → ⊥) → b ≡ false
-          no true h = absurd (h refl)
-          no false h = refl
+      none d = has-digests_in h.origins e d ∙ false_from_ne_true (set.contains h.origins (e, d)) (λ there. true≢false (sym (is.origins_held (e, d) there) ∙ new))
 
   module _ (follows : Follows (last_of (file_entries h)) e) where
     below : (i : ℕ) (d : Entry) → i < length (set.items h.slices) → entry_cmp (get_or (set.items h.slices) i d) e ≡ Less
@@ -138,11 +126,7 @@ module _ (h : Contents) (e : Entry) (ds : List (List ℕ)) where
         (λ held. subst (λ n. n ≤ origins_limit) (sym (ap length (digests-other q (apart q held)))) (was q held))
       where
         apart : (q : Entry) → set.contains h.slices q ≡ true → eq_by_cmp entry_cmp q e ≡ false
-        apart q held = no (eq_by_cmp entry_cmp q e) (λ tie. true≢false (sym held ∙ ap (set.contains h.slices) (entry_tie q e tie) ∙ new_slice))
-          where
-            no : (b : Bool) → (b ≡ true → ⊥) → b ≡ false
-            no true h = absurd (h refl)
-            no false h = refl
+        apart q held = false_from_ne_true (eq_by_cmp entry_cmp q e) (λ tie. true≢false (sym held ∙ ap (set.contains h.slices) (entry_tie q e tie) ∙ new_slice))
 
   -- it is a holding
   pub holding-with_entry : IsHolding h → IsEntryOf h.reel.setup e → AllByRecursion IsDigest ds → IsHolding (with_entry h e ds)
@@ -173,20 +157,9 @@ holding-joined g h same g_is h_is = record {
 -- the digests of a slice are whole, and rise
 pub origins-digests_of : (h : Contents) → IsHolding h → (q : Entry) → AreOrigins (digests_of h q)
 origins-digests_of h is q = record {
-  each = each (digests_of h q) (λ d there. is.digests_whole (q, d) (sym (has-digests_in h.origins q d) ∙ there));
+  each = has_all (digests_of h q) (λ d there. is.digests_whole (q, d) (sym (has-digests_in h.origins q d) ∙ there));
   rising = digests_rise h.origins q;
 }
-  where
-    each : (xs : List (List ℕ)) → ((d : List ℕ) → has xs d ≡ true → IsDigest d) → AllByRecursion IsDigest xs
-    each [] all = tt
-    each (x ∷ xs) all = (all x (or_left (eq_by_cmp bytes_cmp x x) (has xs x) (self x)), each xs (λ d there. all d (right (eq_by_cmp bytes_cmp d x) there)))
-      where
-        self : (x : List ℕ) → eq_by_cmp bytes_cmp x x ≡ true
-        self x = ap is_eq (tied_itself bytes_total x)
-
-        right : (a : Bool) {b : Bool} → b ≡ true → (a || b) ≡ true
-        right true h = refl
-        right false h = h
 
 told_digests : (v : Version) (h : Contents) → IsHolding h → IsTold v h → (q : Entry) → set.contains h.slices q ≡ true → AreDigestsIn v (digests_of h q)
 told_digests First h is was q held = same_digests _ [] (digests_rise h.origins q) (λ i j d lt in_range. absurd (omega arith))
@@ -231,12 +204,8 @@ same_contents g h g_is h_is reel entries = λ i. record { reel = reel i; slices 
         sym (has-digests_in g.origins q d) ∙ ap (λ ds. has ds d) (same_at (digests_of g) (digests_of h) (set.items g.slices)
         (entries ∙ ap (map (told (digests_of h))) (sym items)) q (sym (set.contains-items g.slices q) ∙ there)) ∙ has-digests_in h.origins q d
     held false q d none =
-        no (set.contains g.origins (q, d)) (λ is. true≢false (sym (g_is.origins_held (q, d) is) ∙ none))
-        ∙ sym (no (set.contains h.origins (q, d)) (λ is. true≢false (sym (h_is.origins_held (q, d) is) ∙ ap (λ s. set.contains s q) (sym slices) ∙ none)))
-      where
-        no : (b : Bool) → (b ≡ true → ⊥) → b ≡ false
-        no true h = absurd (h refl)
-        no false h = refl
+        false_from_ne_true (set.contains g.origins (q, d)) (λ is. true≢false (sym (g_is.origins_held (q, d) is) ∙ none))
+        ∙ sym (false_from_ne_true (set.contains h.origins (q, d)) (λ is. true≢false (sym (h_is.origins_held (q, d) is) ∙ ap (λ s. set.contains s q) (sym slices) ∙ none)))
 
     origins : g.origins ≡ h.origins
     origins = set.same_set origins_total origins_antisymmetric g.origins h.origins (λ o. held (set.contains g.slices o.0) o.0 o.1 refl)

@@ -1,16 +1,15 @@
 -- An entry with the digests of an equal slice, by the parts that are written.
-use Rattle.std.proofs.Common.{◌≡◌, ℕ, ◌+◌, ◌*◌, List, [], ◌∷◌, ◌++◌, length, true, ap, ◌∙◌, sym, subst}
+use Rattle.std.proofs.Common.{◌≡◌, ℕ, ◌+◌, ◌*◌, List, [], ◌∷◌, ◌++◌, length, true, ◌∙◌, sym, subst}
 use mathlib.Core.Bool.{true≢false}
 use Rattle.std.specs.List.{AllByRecursion}
-use Rattle.std.specs.Ordering.{eq_by_cmp, is_eq}
-use Rattle.std.specs.Cmp.{tied_itself}
-use Rattle.ffv1_holding.specs.SliceOrder.{Entry, bytes_cmp, bytes_total}
-use Rattle.ffv1_holding.proofs.EntrySteps.{or_cases, or_left, or_right}
+use Rattle.std.specs.Ordering.{eq_by_cmp}
+use Rattle.ffv1_holding.specs.SliceOrder.{Entry, bytes_cmp}
+use Rattle.ffv1_holding.proofs.EntrySteps.{or_cases}
 use Rattle.ffv1_hold.specs.declared.version.Version.TheVariants.{Second}
 use Rattle.ffv1_hold.specs.HoldingText.{FileEntry, slice_text, origins_text, entry_text}
 use Rattle.ffv1_hold.specs.FileEntries.{IsDigest, AreOrigins}
 use Rattle.ffv1_hold.specs.Merging.{digests_union, with_digests}
-use Rattle.ffv1_hold.proofs.DigestSets.{has, digest_tie}
+use Rattle.ffv1_hold.proofs.DigestSets.{has, digest_tie, has_all}
 use Rattle.ffv1_hold.proofs.DigestUnions.{has-union}
 use Rattle.ffv1_hold.proofs.Entries.{entry_text-of}
 use Rattle.ffv1_hold.proofs.Slots.{length-entry_text}
@@ -20,13 +19,6 @@ all_has : (xs : List (List ℕ)) (d : List ℕ) → AllByRecursion IsDigest xs �
 all_has [] d all there = absurd (true≢false (sym there))
 all_has (x ∷ xs) d all there =
     or_cases (eq_by_cmp bytes_cmp d x) (has xs d) (IsDigest d) there (λ tie. subst IsDigest (sym (digest_tie d x tie)) all.0) (all_has xs d all.1)
-
-has_all : (xs : List (List ℕ)) → ((d : List ℕ) → has xs d ≡ true → IsDigest d) → AllByRecursion IsDigest xs
-has_all [] each = tt
-has_all (x ∷ xs) each = (
-  each x (or_left (eq_by_cmp bytes_cmp x x) (has xs x) (ap is_eq (tied_itself bytes_total x))),
-  has_all xs (λ d there. each d (or_right (eq_by_cmp bytes_cmp d x) (has xs d) there)),
-)
 
 -- the digests of both are whole
 union_whole : (xs ys : List (List ℕ)) → AreOrigins xs → AreOrigins ys → AllByRecursion IsDigest (digests_union xs ys)

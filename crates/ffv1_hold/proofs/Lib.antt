@@ -35,3 +35,4 @@ pub mod MergeFronts
 pub mod MergeAnswers
 pub mod JoinedEntries
 pub mod TextVectors
+pub use Rattle.ffv1_devices.proofs.Fronts

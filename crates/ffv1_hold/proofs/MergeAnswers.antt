@@ -24,6 +24,7 @@ use Rattle.ffv1_hold.proofs.Heads.{head_is_part, head_file}
 use Rattle.ffv1_hold.proofs.MergeFacts.{IsWithin, within-left, within-right, within-both, within-trans, shorter}
 use Rattle.ffv1_hold.proofs.MergeFronts.{front_within}
 use Rattle.ffv1_hold.proofs.MergeLeads.{front_entries, stays_in_lead}
+use Rattle.ffv1_hold.proofs.MergeSteps.{taken_begins}
 
 -- ---- a head that is there is not refused
 
@@ -89,11 +90,6 @@ one_head None v r q is begins head = absurd (cc)
 one_head (Some xs) v r q is begins head =
     let same : xs ≡ head_text head.version q ++ head.rest = cc in
     (same_head v head.version r q begins.0 head.rest is head.is (sym begins.1 ∙ same)).1
-
-taken_begins : (old new : Option (List ℕ)) (bytes more : List ℕ) → Consumes old new (bytes ++ more) → BeginsWith old bytes
-taken_begins None new bytes more t = tt
-taken_begins (Some xs) None bytes more t = absurd t
-taken_begins (Some xs) (Some ys) bytes more t = (more ++ ys, t ∙ append_assoc bytes more ys)
 
 head_refused : (old new : Option (List ℕ)) (g : Reel) (f : HoldFileFault) → BeginsWithHead old g
     → Refuses IsPartOfHead HeadIsWhole HeadShows old new 0 f → IsOutside f

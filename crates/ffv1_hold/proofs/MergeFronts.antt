@@ -1,14 +1,15 @@
 -- What the first entries of a holding's file tell is held by it.
-use Rattle.std.proofs.Common.{◌≡◌, ℕ, true, List, [], ◌∷◌, ◌++◌, map, sym, ap, ◌∙◌}
+use Rattle.std.proofs.Common.{◌≡◌, ℕ, true, List, [], ◌∷◌, ◌++◌, map, sym, ap, ◌∙◌, drop}
 use mathlib.Core.Bool.{true≢false}
 use Rattle.std.specs.List.{list_any}
 use Rattle.std.specs.Ordering.{eq_by_cmp}
 use Rattle.std.proofs.lemmas.List.{map-append}
+use Rattle.std.proofs.lemmas.Bool.{or_left}
 use Rattle.std.proofs.lemmas.List.Folds.{list_any-append}
 use Rattle.ffv1_holding.specs.SliceOrder.{Entry, Origin, entry_cmp}
 use Rattle.ffv1_holding.specs.Sets as set
 use Rattle.ffv1_holding.specs.Contents.{Contents, IsHolding, digests_of}
-use Rattle.ffv1_holding.proofs.EntrySteps.{or_cases, or_left}
+use Rattle.ffv1_holding.proofs.EntrySteps.{or_cases}
 use Rattle.ffv1_hold.specs.HoldingText.{FileEntry, file_entries}
 use Rattle.ffv1_hold.proofs.DigestSets.{has, entry_tie, has-digests_in}
 use Rattle.ffv1_hold.proofs.HeldEntries.{told, slices_back}
@@ -24,15 +25,11 @@ front_at f g (x ∷ xs) (y ∷ ys) rest is q there =
     let same : y ≡ x = ap (λ (e : FileEntry). e.0) first in
     or_cases (eq_by_cmp entry_cmp q x) (list_any (eq_by_cmp entry_cmp q) xs) (f q ≡ g q) there
     (λ tie. let own = entry_tie q x tie in ap f own ∙ sym (ap (λ (e : FileEntry). e.1) first) ∙ ap g (same ∙ sym own))
-    (λ more. front_at f g xs ys rest (ap rest_of is) q more)
+    (λ more. front_at f g xs ys rest (ap (drop 1) is) q more)
   where
     head_or : FileEntry → List FileEntry → FileEntry
     head_or d [] = d
     head_or d (e ∷ es) = e
-
-    rest_of : List FileEntry → List FileEntry
-    rest_of [] = []
-    rest_of (e ∷ es) = es
 
 pub front_within : (q h : Contents) → IsHolding q → (rest : List FileEntry) → file_entries h ≡ file_entries q ++ rest
     → IsWithin (q.slices, q.origins) (h.slices, h.origins)

@@ -232,7 +232,7 @@ module _ (s : Start) (q : Reel) (l0 r0 w0 : Option (List ℕ)) (lp rp : ℕ) (o 
 
 -- ---- behind the last entries
 
-all_part : (old new : Option (List ℕ)) (h : Contents) → ReadsAll old new h → ReadsPart old new h
+pub all_part : (old new : Option (List ℕ)) (h : Contents) → ReadsAll old new h → ReadsPart old new h
 all_part old new h a = record {
   sound = a.sound;
   record' = a.file.fits.record';

@@ -127,10 +127,10 @@ passed_part old new v r f place last is p = record {
   taken = subst (Consumes old new) (sym (append-nil (begun_text v (part r f)))) p.text.taken;
 }
 
-begins : (old new : Option (List ℕ)) (bytes more : List ℕ) → Consumes old new (bytes ++ more) → BeginsWith old bytes
-begins None new bytes more t = tt
-begins (Some xs) None bytes more t = absurd t
-begins (Some xs) (Some ys) bytes more t = (more ++ ys, t ∙ append_assoc bytes more ys)
+pub taken_begins : (old new : Option (List ℕ)) (bytes more : List ℕ) → Consumes old new (bytes ++ more) → BeginsWith old bytes
+taken_begins None new bytes more t = tt
+taken_begins (Some xs) None bytes more t = absurd t
+taken_begins (Some xs) (Some ys) bytes more t = (more ++ ys, t ∙ append_assoc bytes more ys)
 
 pub part_begins : (old new : Option (List ℕ)) (h : Contents) → ReadsPart old new h → BeginsWithPart old h
 part_begins old new h p = record {
@@ -138,12 +138,12 @@ part_begins old new h p = record {
   record' = p.record';
   version = p.version;
   told = p.told;
-  begins = begins old new (begun_text p.version h) p.more p.taken;
+  begins = taken_begins old new (begun_text p.version h) p.more p.taken;
 }
 
 pub head_begins : (old new : Option (List ℕ)) (h : Contents) (p : ReadsPart old new h) → BeginsWith old (head_text p.version h.reel)
 head_begins old new h p =
-    begins old new (head_text p.version h.reel) (entries_text p.version (file_entries h) ++ p.more)
+    taken_begins old new (head_text p.version h.reel) (entries_text p.version (file_entries h) ++ p.more)
     (subst (Consumes old new) (append_assoc (head_text p.version h.reel) (entries_text p.version (file_entries h)) p.more) p.taken)
 
 -- an input that was read up to its next entry, where those before it were written

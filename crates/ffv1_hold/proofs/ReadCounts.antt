@@ -36,10 +36,6 @@ most-after a b c i j k first more = omega arith
 pub most-within : (a b i j k : ℕ) → b + i ≤ a + j → j ≤ k → b + i ≤ a + k + 1
 most-within a b i j k taken within = omega arith
 
--- what was not read
-pub counted-none : (a : ℕ) → a ≤ a
-counted-none a = omega arith
-
 pub most-none : (a k : ℕ) → a ≤ a + k + 1
 most-none a k = omega arith
 

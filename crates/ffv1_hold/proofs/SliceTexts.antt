@@ -11,7 +11,7 @@ use Rattle.ffv1_hold.specs.HoldingText.{FileEntry, be2, be4, slice_text}
 use Rattle.ffv1_hold.specs.FileEntries.{Follows}
 use Rattle.ffv1_hold.specs.FileFaults.{IsPartOfSlice, IsWrong, SliceShows, IsRight}
 use Rattle.ffv1_hold.proofs.Bodies.{length-be2, length-be4}
-use Rattle.ffv1_hold.proofs.NumberTexts.{same_front, same_back, be2_same, be4_same}
+use Rattle.ffv1_hold.proofs.NumberTexts.{same_front, same_back, be2_same, number_same, behind_number}
 
 -- its parts, before more bytes
 pub slice_parts : (e : Entry) (x : List ℕ) → slice_text e ++ x ≡ be2 e.0 ++ (be4 (length e.1) ++ (e.1 ++ x))
@@ -29,10 +29,10 @@ module _ (t u : ℕ) (m n : ℕ) (x y : List ℕ) (e : be2 t ++ (be4 m ++ x) ≡
   same_tile_number p q = be2_same t u p q tile_bytes
 
   same_length_number : m < 2 ^ 32 → n < 2 ^ 32 → m ≡ n
-  same_length_number p q = be4_same m n p q (same_front (be4 m) (be4 n) x y (length-be4 m ∙ sym (length-be4 n)) behind_tile)
+  same_length_number p q = number_same m n x y behind_tile p q
 
   same_rest : x ≡ y
-  same_rest = same_back (be4 m) (be4 n) x y (length-be4 m ∙ sym (length-be4 n)) behind_tile
+  same_rest = behind_number m n x y behind_tile
 
 -- a slice whose tile takes two bytes, and that is within its limit
 abbrev pub Fits : Entry → Type 0

@@ -1,5 +1,6 @@
 -- The entries of all tiles, tile by tile, are the items of the set in their order.
 use Rattle.std.proofs.Common.{◌≡◌, ℕ, zero, suc, ◌+◌, ◌-◌, ◌<◌, nat_lt, Bool, true, false, ◌||◌, ◌&&◌, List, ◌++◌, length, get_or, refl, sym, ap, ◌∙◌, subst, inl, inr, arith, length-append}
+use mathlib.Core.Bool.{or-false}
 use Rattle.std.specs.List.{list_any}
 use Rattle.std.specs.Ordering.{nat_cmp, ordering_then, eq_by_cmp}
 use Rattle.std.specs.Cmp.{tied_itself, nat_cmp_total, nat_cmp_is}
@@ -77,16 +78,12 @@ module _ (slices : set.SetOf entry_cmp) where
         | inr (inl less) ↦
             (λ i. (any_below n t b ∙ ap (λ x. x && set.contains slices (t, b)) (lt-ltb t n less)) i || any-other t n b (set.items (tile_slices slices n))
             (λ e. omega arith) i)
-            ∙ or_false (set.contains slices (t, b)) ∙ sym (ap (λ x. x && set.contains slices (t, b)) (lt-ltb t (suc n) (omega arith)))
+            ∙ or-false (set.contains slices (t, b)) ∙ sym (ap (λ x. x && set.contains slices (t, b)) (lt-ltb t (suc n) (omega arith)))
         | inr (inr more) ↦
             (λ i. (any_below n t b ∙ ap (λ x. x && set.contains slices (t, b)) (le-ltb t n (omega arith))) i || any-other t n b
             (set.items (tile_slices slices n)) (λ e. omega arith) i)
             ∙ sym (ap (λ x. x && set.contains slices (t, b)) (le-ltb t (suc n) (omega arith)))
       ]
-    where
-      or_false : (a : Bool) → (a || false) ≡ a
-      or_false true = refl
-      or_false false = refl
 
   -- where each entry's tile is below the number, no others are left
   pub entries_below-all : (n : ℕ) → ((e : Entry) → set.contains slices e ≡ true → e.0 < n) → entries_below slices n ≡ set.items slices

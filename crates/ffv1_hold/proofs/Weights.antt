@@ -1,5 +1,5 @@
 -- How much the items of a set weigh together: those of a set that has them all weigh no less.
-use Rattle.std.proofs.Common.{◌≡◌, ℕ, ◌+◌, ◌≤◌, Bool, true, false, ◌||◌, List, [], ◌∷◌, length, map, refl, sym, ap, ◌∙◌, subst, arith}
+use Rattle.std.proofs.Common.{◌≡◌, ℕ, ◌+◌, ◌≤◌, true, List, [], ◌∷◌, length, map, refl, sym, ap, ◌∙◌, subst, arith}
 use Rattle.std.specs.Cmp.{IsTotalOrder}
 use Rattle.std.specs.FinMap as finite
 use Rattle.std.specs.FinMap.{IsAntisymmetric}
@@ -7,7 +7,7 @@ use Rattle.std.specs.FinMap.Entries.{put, by_order}
 use Rattle.std.specs.declared.cmp.Ordering.{Ordering}
 use Rattle.std.specs.declared.cmp.Ordering.TheVariants.{Less, Equal, Greater}
 use Rattle.ffv1_holding.specs.Sets as set
-use Rattle.ffv1_holding.proofs.RisingSets.{union-insert}
+use Rattle.ffv1_holding.proofs.RisingSets.{union-insert, or_absorbed}
 
 abbrev pub weight : {K : Type 0} → (K → ℕ) → List K → ℕ
 weight w [] = 0
@@ -45,12 +45,8 @@ module _ {K : Type 0} {R : K → K → Ordering} (o : IsTotalOrder R) (same : Is
       let one = weight-insert (set.union s (set.from_list es)) e in
       subst (λ t. weight w (set.items s) ≤ weight w (set.items t)) (sym (union-insert o same s (set.from_list es) e)) (omega arith)
 
-  absorbed : (a b : Bool) → (a ≡ true → b ≡ true) → (a || b) ≡ b
-  absorbed true b h = sym (h refl)
-  absorbed false b h = refl
-
   pub weight-more : (s t : set.SetOf R) → ((q : K) → set.contains s q ≡ true → set.contains t q ≡ true) → weight w (set.items s) ≤ weight w (set.items t)
   weight-more s t all =
       let whole : set.union s (set.from_list (set.items t)) ≡ t = ap (set.union s) (set.from_list-items o same t)
-      ∙ set.same_set o same _ _ (λ q. set.contains-union o s t q ∙ absorbed _ _ (all q)) in
+      ∙ set.same_set o same _ _ (λ q. set.contains-union o s t q ∙ or_absorbed _ _ (all q)) in
       subst (λ u. weight w (set.items s) ≤ weight w (set.items u)) whole (weight-list s (set.items t))

@@ -1,5 +1,6 @@
 -- A holding that grows by one copy.
 use Rattle.std.proofs.Common.{◌≡◌, ℕ, ◌+◌, ◌≤◌, ◌<◌, List, [], ◌∷◌, ◌++◌, length, map, take, get_or, sym, ap, ◌∙◌, subst}
+use Rattle.std.proofs.lemmas.List.{map_more}
 use Rattle.ffv1_bits.specs.Limits.{payload_limit}
 use Rattle.ffv1_holding.specs.TakeFaults.{AreShort}
 use Rattle.ffv1_holding.specs.SliceOrder.{entries_total, entries_antisymmetric, origins_total, origins_antisymmetric}
@@ -8,7 +9,6 @@ use Rattle.ffv1_holding.specs.Contents.{Contents, with_facts, with_found, with_c
 use Rattle.ffv1_holding.specs.ContentsLaws.{with_found-with_copies, union-flat_map}
 use Rattle.ffv1_slice.specs.Slices.{found_slices}
 use Rattle.std.specs.List.{flat_map}
-use Rattle.ffv1_holding.proofs.Lists.{map-take_more}
 
 pub with_facts-empty : (h : Contents) → h ≡ with_facts h set.empty set.empty
 with_facts-empty h = λ i. record {
@@ -33,7 +33,7 @@ pub with_copies-take_more : {X : Type 0} (view : X → List ℕ) (h now next : C
     → now ≡ with_copies h (map view (take i xs)) → next ≡ with_found now (view (get_or xs i d)) → next ≡ with_copies h (map view (take (i + 1) xs))
 with_copies-take_more view h now next xs i d lt is found =
     found ∙ ap (λ x. with_found x (view (get_or xs i d))) is ∙ with_copies-push h (map view (take i xs)) (view (get_or xs i d))
-    ∙ ap (with_copies h) (sym (map-take_more view xs i d lt))
+    ∙ ap (with_copies h) (sym (map_more view xs i d lt))
 
 AreShort-append : (copies : List (List ℕ)) (copy : List ℕ) → AreShort copies → length copy ≤ payload_limit → AreShort (copies ++ copy ∷ [])
 AreShort-append [] copy all short = (short, tt)
@@ -41,5 +41,5 @@ AreShort-append (first ∷ copies) copy all short = (all.0, AreShort-append copi
 
 pub AreShort-take_more : {X : Type 0} (view : X → List ℕ) (xs : List X) (i : ℕ) (d : X) → i < length xs → AreShort (map view (take i xs))
     → length (view (get_or xs i d)) ≤ payload_limit → AreShort (map view (take (i + 1) xs))
-AreShort-take_more view xs i d lt all short = subst AreShort (sym (map-take_more view xs i d lt))
+AreShort-take_more view xs i d lt all short = subst AreShort (sym (map_more view xs i d lt))
     (AreShort-append (map view (take i xs)) (view (get_or xs i d)) all short)

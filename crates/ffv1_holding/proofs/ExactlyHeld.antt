@@ -7,18 +7,19 @@ use Rattle.std.specs.FinMap.{IsAntisymmetric}
 use Rattle.std.specs.declared.cmp.Ordering.{Ordering}
 use Rattle.std.proofs.lemmas.List.Folds.{list_any-append}
 use Rattle.std.proofs.lemmas.List.{get_or_default}
+use Rattle.std.proofs.lemmas.Bool.{or_left, or_right}
 use Rattle.sha2.specs.Sha256.{sha256}
 use Rattle.ffv1_range.specs.Setup.{SetupValue}
 use Rattle.ffv1_slice.specs.Slices.{IsFoundIn, found_slices}
 use Rattle.ffv1_slice.proofs.NearLaws.{near_found}
-use Rattle.ffv1_slice.proofs.SliceFacts.{is_found, found_is}
+use Rattle.ffv1_slice.proofs.FoundLaws.{found_from, found_to}
 use Rattle.ffv1_holding.specs.Sets as set
 use Rattle.ffv1_holding.specs.SliceOrder.{Entry, Origin, entry_cmp, entries_total, entries_antisymmetric, origins_total, origins_antisymmetric}
 use Rattle.ffv1_holding.specs.Reels.{Reel}
 use Rattle.ffv1_holding.specs.Contents.{Contents, slices_of_copies, origins_of_copy, origins_of_copies, holding_of}
 use Rattle.ffv1_holding.specs.Originals.{AreCopiesOf, AreNear, HoldsExactly}
 use Rattle.ffv1_holding.specs.Laws.{HeldIsFound, OriginIsACopy}
-use Rattle.ffv1_holding.proofs.EntrySteps.{or_cases, or_left, or_right}
+use Rattle.ffv1_holding.proofs.EntrySteps.{or_cases}
 
 module _ {K : Type 0} {R : K → K → Ordering} (o : IsTotalOrder R) (same : IsAntisymmetric R) where
   -- what ties with an item is that item
@@ -98,7 +99,7 @@ exactly_held reel slices copies are =
     ∙ both_ways _ _
     (λ held.
     let at = found_in entries_total entries_antisymmetric (found_slices reel.setup) copies q held in
-    let own = are.only at.0 q.0 q.1 at.1 (is_found reel.setup at.0 q.0 q.1 at.2) in
+    let own = are.only at.0 q.0 q.1 at.1 (found_from reel.setup at.0 q.0 q.1 at.2) in
     ap (λ (b : List ℕ). list_any (eq_by_cmp entry_cmp (q.0, b)) (enumerate_from 0 slices)) own.1
     ∙ ap (λ n. list_any (eq_by_cmp entry_cmp (n, get_or slices q.0 q.1)) (enumerate_from 0 slices)) {x = q.0} {y = 0 + q.0} (omega arith)
     ∙ numbered_at slices 0 q.0 q.1 own.0)
@@ -109,7 +110,7 @@ exactly_held reel slices copies are =
     (omega arith) in
     is_held entries_total entries_antisymmetric (found_slices reel.setup) copies q found.0 found.1
     (subst (λ (e : Entry). Contains (found_slices reel.setup found.0) e) (sym is)
-    (found_is reel.setup found.0 at.0 (get_or slices at.0 q.1) found.2)))
+    (found_to reel.setup found.0 at.0 (get_or slices at.0 q.1) found.2)))
     ∙ sym (set.contains-from_list entries_total (enumerate_from 0 slices) q))
 
 -- what is held of copies is what is found in one of them
@@ -120,12 +121,12 @@ held_is_found setup copies tile slice = (from, to)
     from held =
         let at = found_in entries_total entries_antisymmetric (found_slices setup) copies (tile, slice)
         (sym (set.contains-from_list entries_total (flat_map (found_slices setup) copies) (tile, slice)) ∙ held) in
-        (at.0, at.1, is_found setup at.0 tile slice at.2)
+        (at.0, at.1, found_from setup at.0 tile slice at.2)
 
     to : (copy : List ℕ) × Contains copies copy × IsFoundIn setup copy tile slice → set.contains (slices_of_copies setup copies) (tile, slice) ≡ true
     to found =
         set.contains-from_list entries_total (flat_map (found_slices setup) copies) (tile, slice)
-        ∙ is_held entries_total entries_antisymmetric (found_slices setup) copies (tile, slice) found.0 found.1 (found_is setup found.0 tile slice found.2)
+        ∙ is_held entries_total entries_antisymmetric (found_slices setup) copies (tile, slice) found.0 found.1 (found_to setup found.0 tile slice found.2)
 
 -- what is found in near copies is the original's, and where each tile is intact in one of them, all of it is found
 pub near_are_copies : (setup : SetupValue) (original : List ℕ) (slices copies : List (List ℕ)) → AreNear setup original slices copies
@@ -174,7 +175,7 @@ module _ (setup : SetupValue) (copies : List (List ℕ)) (tile : ℕ) (slice dig
       let entry : (tile, slice) ≡ own.0 = ap (λ (x : Origin). x.0) own.2 in (
         at.0,
         at.1,
-        is_found setup at.0 tile slice (subst (λ (e : Entry). Contains (found_slices setup at.0) e) (sym entry) own.1),
+        found_from setup at.0 tile slice (subst (λ (e : Entry). Contains (found_slices setup at.0) e) (sym entry) own.1),
         ap (λ (x : Origin). x.1) own.2,
       )
 
@@ -183,7 +184,7 @@ module _ (setup : SetupValue) (copies : List (List ℕ)) (tile : ℕ) (slice dig
   origin_to found =
       let gives = origins_of_copy setup in
       let here = map-contains (λ (e : Entry). let x : Origin = (e, sha256 found.0) in x) (found_slices setup found.0) (tile, slice)
-      (found_is setup found.0 tile slice found.2) in
+      (found_to setup found.0 tile slice found.2) in
       set.contains-from_list origins_total (flat_map gives copies) origin
       ∙ is_held origins_total origins_antisymmetric gives copies origin found.0 found.1
       (subst (λ (d : List ℕ). let x : Origin = ((tile, slice), d) in Contains (gives found.0) x) (sym found.3) here)

@@ -3,6 +3,7 @@ use Rattle.std.proofs.Common.{◌≡◌, ℕ, true, false, List, [], get_or, sym
 use mathlib.Core.Bool.{true≢false}
 use Rattle.std.specs.List.{zip}
 use Rattle.std.proofs.lemmas.List.{length-map, get_or-map}
+use Rattle.std.proofs.lemmas.Bool.{or_right}
 use Rattle.ffv1_holding.specs.SliceOrder.{Entry, Origin, entry_cmp, origin_cmp, entries_total, origins_total, origins_antisymmetric}
 use Rattle.ffv1_holding.specs.Sets as set
 use Rattle.ffv1_holding.specs.Contents.{AreHeld}
@@ -10,7 +11,7 @@ use Rattle.ffv1_holding.specs.Fresh.{AreAllFresh}
 use Rattle.ffv1_holding.specs.Rows.{FreshRow, fresh_row, fresh_rows_in, AreFreshRows}
 use Rattle.ffv1_holding.specs.declared.pool_entry.PoolEntry.{PoolEntry}
 use Rattle.ffv1_holding.specs.declared.fresh.Fresh.{Fresh}
-use Rattle.ffv1_holding.proofs.EntrySteps.{or_cases, or_right, all-from_list, contains_listed}
+use Rattle.ffv1_holding.proofs.EntrySteps.{or_cases, all-from_list, contains_listed}
 use Rattle.ffv1_holding.proofs.RisingSets.{contains_gap}
 
 some_row : FreshRow

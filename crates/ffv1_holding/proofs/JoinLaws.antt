@@ -1,12 +1,7 @@
 -- Values joined one after another come to the same in whatever order they stand, and however often.
 use Rattle.std.proofs.Common.{◌≡◌, ℕ, zero, suc, ◌<◌, List, [], ◌∷◌, length, get_or, Contains, refl, sym, ap, ◌∙◌, arith}
+use Rattle.ffv1_slice.proofs.Links.{Contains-head, Contains-cons}
 use Rattle.ffv1_holding.specs.Joins.{joined_all}
-
-pub behind : {T : Type 0} (x : T) (xs : List T) (y : T) → Contains xs y → Contains (x ∷ xs) y
-behind x xs y is = (suc is.0, omega (arith, is.1), is.2)
-
-pub first : {T : Type 0} (x : T) (xs : List T) → Contains (x ∷ xs) x
-first x xs = (0, omega arith, refl)
 
 -- the laws, and values of which any two can be joined
 module _ {T : Type 0} (joinable : T → T → Type 0) (union : T → T → T)
@@ -28,7 +23,7 @@ module _ {T : Type 0} (joinable : T → T → Type 0) (union : T → T → T)
   accepts_more a x accepts is y also = stays_joinable a x y (accepts x is) (accepts y also)
 
   rest_ones : (x : T) (xs : List T) → AreOnes (x ∷ xs) → AreOnes xs
-  rest_ones x xs ones y is = ones y (behind x xs y is)
+  rest_ones x xs ones y is = ones y (Contains-cons x y xs is)
 
   swapped : (a x y : T) → Accepts a → IsOne x → IsOne y → union (union a x) y ≡ union (union a y) x
   swapped a x y accepts is also =
@@ -39,7 +34,7 @@ module _ {T : Type 0} (joinable : T → T → Type 0) (union : T → T → T)
   moved : (a x : T) (xs : List T) → Accepts a → IsOne x → AreOnes xs → joined_all union (union a x) xs ≡ union (joined_all union a xs) x
   moved a x [] accepts is ones = refl
   moved a x (y ∷ xs) accepts is ones =
-      let this = ones y (first y xs) in
+      let this = ones y (Contains-head y xs) in
       ap (λ b. joined_all union b xs) (swapped a x y accepts is this)
       ∙ moved (union a y) x xs (accepts_more a y accepts this) is (rest_ones y xs ones)
 
@@ -48,26 +43,26 @@ module _ {T : Type 0} (joinable : T → T → Type 0) (union : T → T → T)
       → union (joined_all union a xs) x ≡ joined_all union a xs
   absorbed a x [] k lt at accepts ones = absurd (omega arith)
   absorbed a x (y ∷ xs) zero lt at accepts ones =
-      let this = ones y (first y xs) in
+      let this = ones y (Contains-head y xs) in
       ap (union (joined_all union (union a y) xs)) (sym at)
       ∙ sym (moved (union a y) y xs (accepts_more a y accepts this) this (rest_ones y xs ones))
       ∙ ap (λ b. joined_all union b xs) (repeats a y)
   absorbed a x (y ∷ xs) (suc k) lt at accepts ones =
-      absorbed (union a y) x xs k (omega arith) at (accepts_more a y accepts (ones y (first y xs))) (rest_ones y xs ones)
+      absorbed (union a y) x xs k (omega arith) at (accepts_more a y accepts (ones y (Contains-head y xs))) (rest_ones y xs ones)
 
   all_absorbed : (a : T) (xs ys : List T) → Accepts a → AreOnes xs → ((x : T) → Contains ys x → Contains xs x)
       → joined_all union (joined_all union a xs) ys ≡ joined_all union a xs
   all_absorbed a xs [] accepts ones within = refl
   all_absorbed a xs (y ∷ ys) accepts ones within =
-      let there = within y (first y ys) in
+      let there = within y (Contains-head y ys) in
       ap (λ b. joined_all union b ys) (absorbed a y xs there.0 there.1 there.2 accepts ones)
-      ∙ all_absorbed a xs ys accepts ones (λ x is. within x (behind y ys x is))
+      ∙ all_absorbed a xs ys accepts ones (λ x is. within x (Contains-cons y x ys is))
 
   lists_swapped : (a : T) (xs ys : List T) → Accepts a → AreOnes xs → AreOnes ys
       → joined_all union (joined_all union a xs) ys ≡ joined_all union (joined_all union a ys) xs
   lists_swapped a xs [] accepts ones others = refl
   lists_swapped a xs (y ∷ ys) accepts ones others =
-      let this = others y (first y ys) in
+      let this = others y (Contains-head y ys) in
       ap (λ b. joined_all union b ys) (sym (moved a y xs accepts this ones))
       ∙ lists_swapped (union a y) xs ys (accepts_more a y accepts this) ones (rest_ones y ys others)
 

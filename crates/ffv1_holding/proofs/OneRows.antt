@@ -1,5 +1,5 @@
 -- The rows of one slice alone, and those of slices that all came from one copy.
-use Rattle.std.proofs.Common.{◌≡◌, ℕ, zero, suc, ◌-◌, List, [], ◌∷◌, ◌++◌, length, map, take, get_or, replicate, sym, refl, ap, subst, ◌∙◌, arith}
+use Rattle.std.proofs.Common.{◌≡◌, ℕ, zero, suc, ◌-◌, List, [], ◌∷◌, ◌++◌, length, map, take, get_or, replicate, sym, refl, ap, subst, ◌∙◌, arith, Result, Ok, Err, OnOk}
 use Rattle.std.specs.Ordering.{ordering_then}
 use Rattle.std.specs.Cmp.{tied_itself}
 use Rattle.std.proofs.lemmas.List.{length-map, get_or-map, length-replicate, get_or-replicate}
@@ -13,6 +13,11 @@ use Rattle.ffv1_holding.specs.declared.pool_entry.PoolEntry.{PoolEntry}
 use Rattle.ffv1_holding.proofs.ItemsRise.{rising_one}
 use Rattle.ffv1_holding.proofs.Pools.{entry_behind, slice_behind, is_behind}
 use Rattle.ffv1_holding.proofs.RisingSets.{union-insert}
+
+-- what a success says, said otherwise
+pub OnOk-map : {T E : Type 0} (r : Result T E) (P Q : Type 0) → OnOk r P → (P → Q) → OnOk r Q
+OnOk-map (Ok x) P Q is leads = leads is
+OnOk-map (Err e) P Q is leads = is
 
 -- with just one slice
 pub union_one : (s : set.SetOf entry_cmp) (e : Entry) → set.union s (set.from_list (e ∷ [])) ≡ set.insert s e

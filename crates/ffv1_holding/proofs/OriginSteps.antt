@@ -6,10 +6,11 @@ use Rattle.std.specs.Cmp.{tied_itself}
 use Rattle.std.specs.declared.cmp.Ordering.{Ordering}
 use Rattle.std.specs.declared.cmp.Ordering.TheVariants.{Less, Equal, Greater}
 use Rattle.std.proofs.lemmas.List.{length-map, get_or-map}
+use Rattle.std.proofs.lemmas.Bool.{or_left, or_right}
 use Rattle.ffv1_holding.specs.SliceOrder.{Entry, Origin, with_each, entry_cmp, origin_cmp, bytes_cmp, entries_total, origins_total, origins_antisymmetric}
 use Rattle.ffv1_holding.specs.Sets as set
 use Rattle.ffv1_holding.specs.Contents.{AreHeld, AreWhole}
-use Rattle.ffv1_holding.proofs.EntrySteps.{or_left, or_right, all-union, all-from_list, contains_listed}
+use Rattle.ffv1_holding.proofs.EntrySteps.{all-union, all-from_list, contains_listed}
 
 -- what both hold is held by the union
 module _ (s t : set.SetOf entry_cmp) where
@@ -45,7 +46,7 @@ module _ (s : set.SetOf entry_cmp) (u : set.SetOf origin_cmp) (e : Entry) (diges
       (λ i d lt. let size = length-map digests (λ x. let o : Origin = (e, x) in o) in
       rw (get_or-map (λ x. let o : Origin = (e, x) in o) digests i d.1 d (omega arith)) (long i d.1 (omega arith))))
 
-both_tie : (a b : Ordering) → is_eq (ordering_then a b) ≡ (is_eq a && is_eq b)
+pub both_tie : (a b : Ordering) → is_eq (ordering_then a b) ≡ (is_eq a && is_eq b)
 both_tie Less b = refl
 both_tie Equal b = refl
 both_tie Greater b = refl

@@ -1,8 +1,8 @@
 -- A pool with new slices behind its bytes and their entries among its own.
-use Rattle.std.proofs.Common.{◌≡◌, ℕ, ◌<◌, ◌≤◌, List, ◌++◌, length, map, take, drop, get_or, replicate, sym, ap, subst, ◌∙◌, arith}
+use Rattle.std.proofs.Common.{◌≡◌, ℕ, ◌<◌, ◌≤◌, List, ◌++◌, length, map, take, drop, get_or, sym, ap, subst, ◌∙◌, arith}
 use Rattle.std.specs.List.Sorted.{IsNonDecreasingBy}
 use Rattle.std.proofs.Math.Seq.{take-append_seam}
-use Rattle.std.proofs.lemmas.List.{same_lists, take_all, length-map, get_or-map}
+use Rattle.std.proofs.lemmas.List.{same_lists, length-map, get_or-map}
 use Rattle.ffv1_holding.specs.SliceOrder.{entry_cmp, entries_total, entries_antisymmetric}
 use Rattle.ffv1_holding.specs.Sets as set
 use Rattle.ffv1_holding.specs.Rising.{IsRising, IsGapFor}
@@ -16,10 +16,6 @@ use Rattle.ffv1_holding.proofs.Insertions.{places_rise, rising-with_inserted, fr
 -- a list that was written whole through a borrow
 pub take-written : {X : Type 0} (xs ys : List X) (n : ℕ) → length xs ≡ n → take n (xs ++ drop (length xs) ys) ≡ xs
 take-written xs ys n long = ap (λ k. take k (xs ++ drop (length xs) ys)) (sym long) ∙ take-append_seam xs (drop (length xs) ys)
-
--- a list that was filled up
-pub take-filled : {X : Type 0} (xs : List X) (n k : ℕ) (x : X) → length xs ≤ n → take (length xs) (take n xs ++ replicate k x) ≡ xs
-take-filled xs n k x le = ap (λ ys. take (length xs) (ys ++ replicate k x)) (take_all n xs le) ∙ take-append_seam xs (replicate k x)
 
 some_fresh : Fresh PoolEntry
 some_fresh = record { place = 0; item = record { tile = 0; start = 0; length = 0; status = 0 } }

@@ -1,5 +1,6 @@
 -- A holding of just the original's slices restores the original.
-use Rattle.std.proofs.Common.{◌≡◌, ℕ, zero, suc, ◌+◌, ◌<◌, eqb, Bool, true, false, ◌||◌, ◌&&◌, cond, List, [], ◌∷◌, ◌++◌, length, map, get_or, refl, sym, ap, ◌∙◌, arith}
+use Rattle.std.proofs.Common.{◌≡◌, ℕ, zero, suc, ◌+◌, ◌<◌, eqb, true, false, ◌||◌, ◌&&◌, cond, List, [], ◌∷◌, ◌++◌, length, map, get_or, refl, sym, ap, ◌∙◌, arith}
+use mathlib.Core.Bool.{or-false}
 use Rattle.std.specs.List.{list_any, filter, flat_map, range_with_len, enumerate_from}
 use Rattle.std.specs.Ordering.{eq_by_cmp}
 use Rattle.std.proofs.lemmas.Bool.{le-leb}
@@ -14,10 +15,6 @@ use Rattle.ffv1_holding.specs.Originals.{HoldsExactly}
 use Rattle.ffv1_holding.proofs.RisingSets.{items-from_list}
 use Rattle.ffv1_holding.proofs.Tiles.{any_of_tile, same_tile, other_tile}
 
-or_false : (b : Bool) → (b || false) ≡ b
-or_false true = refl
-or_false false = refl
-
 any-below : (t k : ℕ) (b : List ℕ) (slices : List (List ℕ)) → t < k → list_any (eq_by_cmp entry_cmp (t, b)) (enumerate_from k slices) ≡ false
 any-below t k b [] lt = refl
 any-below t k b (s ∷ slices) lt = (λ i. other_tile t k b s (λ e. omega arith) i || any-below t (k + 1) b slices (omega arith) i)
@@ -26,7 +23,7 @@ any-numbered : (t k : ℕ) (b : List ℕ) (slices : List (List ℕ)) (i : ℕ) (
     → list_any (eq_by_cmp entry_cmp (t, b)) (enumerate_from k slices) ≡ eq_by_cmp bytes_cmp b (get_or slices i d)
 any-numbered t k b [] i d e lt = absurd (omega arith)
 any-numbered t k b (s ∷ slices) zero d e lt =
-    (λ j. eq_by_cmp entry_cmp (t, b) (k, s) || any-below t (k + 1) b slices (omega arith) j) ∙ or_false _
+    (λ j. eq_by_cmp entry_cmp (t, b) (k, s) || any-below t (k + 1) b slices (omega arith) j) ∙ or-false _
     ∙ ap (λ n. eq_by_cmp entry_cmp (t, b) (n, s)) {x = k} {y = t} (omega arith) ∙ same_tile t b s
 any-numbered t k b (s ∷ slices) (suc i) d e lt =
     (λ j. other_tile t k b s (λ same. omega arith) j || any-numbered t (k + 1) b slices i d (omega arith) (omega arith) j)
@@ -38,7 +35,7 @@ module _ (h : Contents) (slices : List (List ℕ)) (exact : HoldsExactly h slice
       set.contains-from_list bytes_total (map (λ e. e.1) (filter (λ e. eqb e.0 t) (set.items h.slices))) b
       ∙ any_of_tile t b (set.items h.slices) ∙ sym (set.contains-items h.slices (t, b)) ∙ ap (λ s. set.contains s (t, b)) exact
       ∙ set.contains-from_list entries_total (enumerate_from 0 slices) (t, b) ∙ any-numbered t 0 b slices t d (omega arith) lt
-      ∙ sym (or_false (eq_by_cmp bytes_cmp b (get_or slices t d))) ∙ sym (set.contains-from_list bytes_total (get_or slices t d ∷ []) b))
+      ∙ sym (or-false (eq_by_cmp bytes_cmp b (get_or slices t d))) ∙ sym (set.contains-from_list bytes_total (get_or slices t d ∷ []) b))
 
   alone : (b : List ℕ) → standing_of (b ∷ []) ≡ settled b
   alone b = ap (λ x. standing_of_best (cond (x && true) (b ∷ []) [])) (le-leb (status_of b) (status_of b) (omega arith))

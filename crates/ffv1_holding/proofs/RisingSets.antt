@@ -11,8 +11,8 @@ use Rattle.ffv1_holding.specs.Sets as set
 use Rattle.std.specs.declared.cmp.Ordering.{Ordering}
 use Rattle.std.specs.declared.cmp.Ordering.TheVariants.{Less}
 use Rattle.std.proofs.lemmas.List.Edits.{length-insert, get_or-insert_below, get_or-insert_at, get_or-insert_above}
-use Rattle.std.proofs.lemmas.Bool.{cases_lt, cases_order}
-use Rattle.std.proofs.lemmas.List.{length-map, get_or_default}
+use Rattle.std.proofs.lemmas.Bool.{cases_lt, cases_order, or_left, or_right}
+use Rattle.std.proofs.lemmas.List.{length-map, get_or_default, nil_from_length}
 use Rattle.ffv1_holding.specs.Rising.{IsRising, IsGapFor, IsPlaceOf}
 
 -- the rest of a list that rises
@@ -27,20 +27,18 @@ keys-keyed : {K : Type 0} (xs : List K) → map (λ e. e.0) (keyed xs) ≡ xs
 keys-keyed [] = refl
 keys-keyed (x ∷ xs) = ap (λ r. x ∷ r) (keys-keyed xs)
 
-or_left : (a b : Bool) → a ≡ true → (a || b) ≡ true
-or_left true b e = refl
-or_left false b e = absurd (cc)
+or_swap : (a b c : Bool) → (a || (b || c)) ≡ (b || (a || c))
+or_swap true true c = refl
+or_swap true false c = refl
+or_swap false b c = refl
 
-or_right : (a b : Bool) → b ≡ true → (a || b) ≡ true
-or_right true b e = refl
-or_right false b e = e
-
-no_length : {A : Type 0} (xs : List A) → length xs ≡ 0 → xs ≡ []
-no_length [] e = refl
-no_length (x ∷ xs) e = absurd (omega arith)
+-- what comes with another adds nothing to it
+pub or_absorbed : (a b : Bool) → (a ≡ true → b ≡ true) → (a || b) ≡ b
+or_absorbed true b h = sym (h refl)
+or_absorbed false b h = refl
 
 entries-empty : {K : Type 0} (R : K → K → Ordering) → finite.entries (set.empty {R = R}) ≡ []
-entries-empty R = no_length _ (sym (finite.len-entries (set.empty {R = R})) ∙ finite.len-empty R (Unit {0}))
+entries-empty R = nil_from_length _ (sym (finite.len-entries (set.empty {R = R})) ∙ finite.len-empty R (Unit {0}))
 
 module _ {K : Type 0} {R : K → K → Ordering} (o : IsTotalOrder R) where
   entries-from_list : (xs : List K) → IsRising R xs → finite.entries (from_list {R = R} xs) ≡ keyed xs
@@ -101,11 +99,6 @@ module _ {K : Type 0} {R : K → K → Ordering} (o : IsTotalOrder R) where
         | inr (inr i_over) ↦ rw (over i i_over, over j (omega arith)) (up (i - 1) (j - 1) d (omega arith) (omega arith))
       ]
 
-  or_swap : (a b c : Bool) → (a || (b || c)) ≡ (b || (a || c))
-  or_swap true true c = refl
-  or_swap true false c = refl
-  or_swap false b c = refl
-
   any-insert : (p : K → Bool) (xs : List K) (place : ℕ) (q : K) → list_any p (insert xs place q) ≡ (p q || list_any p xs)
   any-insert p xs zero q = refl
   any-insert p [] (suc i) q = refl
@@ -117,15 +110,11 @@ module _ {K : Type 0} {R : K → K → Ordering} (o : IsTotalOrder R) where
       contains-from_list o _ r ∙ any-insert (eq_by_cmp R r) xs place q
       ∙ ap (λ b. eq_by_cmp R r q || b) (sym (contains-from_list o xs r)) ∙ sym (contains-insert o (from_list xs) q r))
 
-  absorbed : (a b : Bool) → (a ≡ true → b ≡ true) → (a || b) ≡ b
-  absorbed true b h = sym (h refl)
-  absorbed false b h = refl
-
   -- to add what is there changes nothing
   pub insert_present : IsAntisymmetric R → (s : SetOf R) (q : K) → contains s q ≡ true → set.insert s q ≡ s
   insert_present same s q there = same_set o same _ _ (λ r.
       contains-insert o s q r
-      ∙ absorbed _ _ (λ tie. ap is_some (sym (finite.get_tied o s r q ((Equal-is (R r q)).0 tie))) ∙ there))
+      ∙ or_absorbed _ _ (λ tie. ap is_some (sym (finite.get_tied o s r q ((Equal-is (R r q)).0 tie))) ∙ there))
 
 length-keys : {K : Type 0} (es : List (K × Unit {0})) → length (map (λ e. e.0) es) ≡ length es
 length-keys [] = refl
@@ -160,9 +149,6 @@ size_grows o s k = rw (set.size-insert o s k) (cond_grows (contains s k) (size s
 pub items-empty : {K : Type 0} (R : K → K → Ordering) → items (set.empty {R = R}) ≡ []
 items-empty R = ap (map (λ e. e.0)) (entries-empty R)
 
-pub size-empty : {K : Type 0} (R : K → K → Ordering) → size (set.empty {R = R}) ≡ 0
-size-empty R = finite.len-empty R (Unit {0})
-
 -- each item that is listed is contained
 pub contains_item : {K : Type 0} {R : K → K → Ordering} (o : IsTotalOrder R) → (s : SetOf R) (i : ℕ) (d : K) → i < length (items s)
     → contains s (get_or (items s) i d) ≡ true
@@ -176,13 +162,8 @@ pub union-insert : {K : Type 0} {R : K → K → Ordering} (o : IsTotalOrder R) 
     → set.union s (set.insert t k) ≡ set.insert (set.union s t) k
 union-insert {R = R} o same s t k = same_set o same _ _ (λ q.
     set.contains-union o s (set.insert t k) q ∙ ap (λ b. contains s q || b) (contains-insert o t k q)
-    ∙ or_moved (contains s q) (eq_by_cmp R q k) (contains t q)
+    ∙ or_swap (contains s q) (eq_by_cmp R q k) (contains t q)
     ∙ ap (λ b. eq_by_cmp R q k || b) (sym (set.contains-union o s t q)) ∙ sym (contains-insert o (set.union s t) k q))
-  where
-    or_moved : (a b c : Bool) → (a || (b || c)) ≡ (b || (a || c))
-    or_moved true true c = refl
-    or_moved true false c = refl
-    or_moved false b c = refl
 
 size_union_list : {K : Type 0} {R : K → K → Ordering} (o : IsTotalOrder R) → IsAntisymmetric R → (s : SetOf R) (ks : List K)
     → size s ≤ size (set.union s (from_list ks))

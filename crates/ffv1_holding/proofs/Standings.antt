@@ -1,11 +1,14 @@
 -- Which slices are the best, and how one more changes how a tile stands.
-use Rattle.std.proofs.Common.{◌≡◌, ℕ, zero, suc, ◌+◌, ◌<◌, ◌≤◌, ◌==◌, nat_le, Bool, true, false, ◌&&◌, cond, List, [], ◌∷◌, ◌++◌, length, get_or, take, sym, refl, ap, ◌∙◌, arith}
+use Rattle.std.proofs.Common.{◌≡◌, ℕ, zero, suc, ◌+◌, ◌<◌, ◌≤◌, ◌==◌, nat_le, Bool, true, false, cond, List, [], ◌∷◌, ◌++◌, length, get_or, take, sym, refl, ap, ◌∙◌, arith}
 use Rattle.std.specs.List.{filter, list_all}
 use Rattle.std.specs.Cmp.{both_ways}
-use Rattle.std.proofs.lemmas.Bool.{eq-eqb, eqb-true, le-leb, leb-true}
+use Rattle.std.proofs.lemmas.Bool.{eq-eqb, eqb-true, le-leb, leb-true, and_from, and_parts}
 use Rattle.std.proofs.lemmas.List.{length-append, length-take, append-nil}
 use Rattle.std.proofs.lemmas.List.Elements.{filter_more}
-use Rattle.ffv1_holding.specs.Standing.{status_of, Standing, missing, settled, disputed, best_slices, standing_of_best}
+use Rattle.ffv1_holding.specs.Standing.{status_of, Standing, missing, settled, disputed, best_slices, standing_of_best, settled_bytes}
+use Rattle.ffv1_holding.specs.TileStates.{standing_shown}
+use Rattle.ffv1_holding.specs.declared.standing.TileState.{TileState}
+use Rattle.ffv1_holding.specs.declared.standing.TileState.TheVariants.{Missing, Settled, Disputed}
 
 -- how a tile stands with one best slice more
 abbrev pub one_more : Standing → List ℕ → Standing
@@ -17,6 +20,12 @@ pub standing-push : (xs : List (List ℕ)) (b : List ℕ) → standing_of_best (
 standing-push [] b = refl
 standing-push (a ∷ []) b = refl
 standing-push (a ∷ c ∷ more) b = ap disputed (omega (arith, length-append more (b ∷ [])))
+
+-- a tile that has not one best slice adds no bytes to a payload
+pub settled_bytes-none : (state : TileState) → ((slice : _) → state ≡ Settled slice → ⊥) → settled_bytes (standing_shown state) ≡ []
+settled_bytes-none Missing other = refl
+settled_bytes-none (Settled slice) other = absurd (other slice refl)
+settled_bytes-none (Disputed count) other = refl
 
 length-filter-le : {X : Type 0} (p : X → Bool) (xs : List X) → length (filter p xs) ≤ length xs
 length-filter-le p [] = omega arith
@@ -37,26 +46,14 @@ filter-same p q (x ∷ xs) same =
     ap (λ b. cond b (x ∷ filter p xs) (filter p xs)) (same 0 x (omega arith))
     ∙ ap (λ r. cond (q x) (x ∷ r) r) (filter-same p q xs (λ i d lt. same (suc i) d (omega arith)))
 
-and_both : (a b : Bool) → a ≡ true → b ≡ true → (a && b) ≡ true
-and_both true b p q = q
-and_both false b p q = p
-
-and_first : (a b : Bool) → (a && b) ≡ true → a ≡ true
-and_first true b p = refl
-and_first false b p = p
-
-and_second : (a b : Bool) → (a && b) ≡ true → b ≡ true
-and_second true b p = p
-and_second false b p = absurd (cc)
-
 all_from : {X : Type 0} (p : X → Bool) (xs : List X) → ((i : ℕ) (d : X) → i < length xs → p (get_or xs i d) ≡ true) → list_all p xs ≡ true
 all_from p [] each = refl
-all_from p (x ∷ xs) each = and_both (p x) (list_all p xs) (each 0 x (omega arith)) (all_from p xs (λ i d lt. each (suc i) d (omega arith)))
+all_from p (x ∷ xs) each = and_from (p x) (list_all p xs) (each 0 x (omega arith)) (all_from p xs (λ i d lt. each (suc i) d (omega arith)))
 
 all_at : {X : Type 0} (p : X → Bool) (xs : List X) (i : ℕ) (d : X) → list_all p xs ≡ true → i < length xs → p (get_or xs i d) ≡ true
 all_at p [] i d all lt = absurd (omega arith)
-all_at p (x ∷ xs) zero d all lt = and_first (p x) (list_all p xs) all
-all_at p (x ∷ xs) (suc i) d all lt = all_at p xs i d (and_second (p x) (list_all p xs) all) (omega arith)
+all_at p (x ∷ xs) zero d all lt = (and_parts (p x) (list_all p xs) all).0
+all_at p (x ∷ xs) (suc i) d all lt = all_at p xs i d ((and_parts (p x) (list_all p xs) all).1) (omega arith)
 
 -- the best slices are those of the least status
 module _ (xs : List (List ℕ)) (least : ℕ) (low : (i : ℕ) (d : List ℕ) → i < length xs → least ≤ status_of (get_or xs i d)) (at : ℕ) (lt : at < length xs)

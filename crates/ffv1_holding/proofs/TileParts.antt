@@ -1,5 +1,6 @@
 -- The entries of one tile are a part of those of all.
-use Rattle.std.proofs.Common.{◌≡◌, ◌≢◌, ℕ, suc, leb, ltb, ◌+◌, ◌-◌, ◌<◌, ◌≤◌, Bool, true, false, ◌||◌, List, [], ◌∷◌, length, map, take, drop, get_or, sym, refl, ap, ◌∙◌, inl, inr, arith}
+use Rattle.std.proofs.Common.{◌≡◌, ◌≢◌, ℕ, suc, leb, ltb, ◌+◌, ◌-◌, ◌<◌, ◌≤◌, true, false, ◌||◌, List, [], ◌∷◌, length, map, take, drop, get_or, sym, refl, ap, ◌∙◌, inl, inr, arith}
+use mathlib.Core.Bool.{or-false}
 use Rattle.std.specs.List.{list_any}
 use Rattle.std.specs.List.Sorted.{IsNonDecreasingBy, IsPartitionPoint}
 use Rattle.std.specs.Ordering.{nat_cmp, ordering_then, eq_by_cmp, MatchOrdering}
@@ -17,10 +18,6 @@ use Rattle.ffv1_holding.specs.PoolEntries.{slice_in, entry_in, IsPool, IsShelf, 
 use Rattle.ffv1_holding.specs.declared.pool_entry.PoolEntry.{PoolEntry}
 use Rattle.ffv1_holding.proofs.RisingSets.{size_kept, items_kept}
 use Rattle.ffv1_holding.proofs.Tiles.{same_tile, other_tile, contains-tile_slices}
-
-or_false : (b : Bool) → (b || false) ≡ b
-or_false true = refl
-or_false false = refl
 
 abbrev some_entry : PoolEntry
 some_entry = record { tile = 0; start = 0; length = 0; status = 0 }
@@ -114,7 +111,7 @@ module _ (bytes : List ℕ) (es : List PoolEntry) (pool : IsPool bytes es) (t a 
       ∙ ap (λ x. x || list_any p (map f rest)) front
       ∙ ap (λ xs. list_any p (map f xs)) (sym (take-append-drop (b - a) rest))
       ∙ ap (list_any p) (map-append f (take (b - a) rest) (drop (b - a) rest)) ∙ list_any-append p (map f (take (b - a) rest)) (map f (drop (b - a) rest))
-      ∙ ap (λ x. list_any p (map f (take (b - a) rest)) || x) back ∙ or_false _
+      ∙ ap (λ x. list_any p (map f (take (b - a) rest)) || x) back ∙ or-false _
       ∙ any_alike bytes t q (take (b - a) rest) part_here
 
   -- the part is the tile's set

@@ -1,5 +1,6 @@
 -- The union of holdings of one record and size commutes, groups, and repeats without effect.
 use Rattle.std.proofs.Common.{◌≡◌, ℕ, zero, suc, ◌<◌, length, get_or, refl, arith, Bool, true, false, ◌||◌, List, [], ◌∷◌, ◌++◌, Contains, ap, sym, ◌∙◌}
+use mathlib.Core.Bool.{or-true}
 use Rattle.std.specs.List.{flat_map, list_any}
 use Rattle.std.specs.Ordering.{eq_by_cmp}
 use Rattle.std.specs.Cmp.{IsTotalOrder, both_ways}
@@ -41,11 +42,7 @@ joined_reel a b c _ same = same
 any_at : {X : Type 0} (p : X → Bool) (xs : List X) (k : ℕ) (x : X) → k < length xs → get_or xs k x ≡ x → p x ≡ true → list_any p xs ≡ true
 any_at p [] k x lt is holds = absurd (omega arith)
 any_at p (y ∷ xs) zero x lt is holds = ap (λ b. b || list_any p xs) (ap p is ∙ holds)
-any_at p (y ∷ xs) (suc k) x lt is holds = ap (λ b. p y || b) (any_at p xs k x (omega arith) is holds) ∙ or_true (p y)
-  where
-    or_true : (b : Bool) → (b || true) ≡ true
-    or_true true = refl
-    or_true false = refl
+any_at p (y ∷ xs) (suc k) x lt is holds = ap (λ b. p y || b) (any_at p xs k x (omega arith) is holds) ∙ or-true (p y)
 
 one_of_any : {X : Type 0} (p : X → Bool) (xs : List X) → list_any p xs ≡ true → (x : X) × (Contains xs x × (p x ≡ true))
 one_of_any p [] any = absurd (cc)

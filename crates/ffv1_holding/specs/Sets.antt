@@ -6,8 +6,10 @@
 --     same_set      two sets with the same members are equal, where only equal keys tie
 --     union_comm, union_assoc, union_same      the union commutes, groups, and repeats without effect
 use Rattle.std.specs.Prelude.{◌≡◌, ℕ, ◌+◌, Bool, true, false, cond, ◌||◌, List, [], ◌∷◌, ◌++◌, is_some}
+use mathlib.Core.Bool.{or_comm, or_assoc, or_self, or-false}
 use Rattle.std.proofs.Common.{sym, refl, ap, ◌∙◌}
 use Rattle.std.proofs.Common.{Option, Some, None}
+use Rattle.std.proofs.lemmas.List.Folds.{list_any-append}
 use Rattle.std.specs.Coded.{Coded}
 use Rattle.std.specs.FinSet as marks_of
 use Rattle.std.specs.List.{list_any}
@@ -31,28 +33,10 @@ marks : (x : Option (Unit {0})) → x ≡ marked (is_some x)
 marks None = refl
 marks (Some u) = refl
 
-or_comm : (a b : Bool) → (a || b) ≡ (b || a)
-or_comm true true = refl
-or_comm true false = refl
-or_comm false true = refl
-or_comm false false = refl
-
-or_assoc : (a b c : Bool) → ((a || b) || c) ≡ (a || (b || c))
-or_assoc true b c = refl
-or_assoc false b c = refl
-
-or_same : (a : Bool) → (a || a) ≡ a
-or_same true = refl
-or_same false = refl
-
 or_absorbed : (a b : Bool) → ((a || b) || b) ≡ (a || b)
 or_absorbed true b = refl
 or_absorbed false true = refl
 or_absorbed false false = refl
-
-or_false : (a : Bool) → (a || false) ≡ a
-or_false true = refl
-or_false false = refl
 
 or_moved : (a b c : Bool) → (a || (b || (c || false))) ≡ (c || (a || b))
 or_moved true b true = refl
@@ -61,10 +45,6 @@ or_moved false true true = refl
 or_moved false true false = refl
 or_moved false false true = refl
 or_moved false false false = refl
-
-any-append : {K : Type 0} (p : K → Bool) (xs ys : List K) → list_any p (xs ++ ys) ≡ (list_any p xs || list_any p ys)
-any-append p [] ys = refl
-any-append p (x ∷ xs) ys = ap (λ b. p x || b) (any-append p xs ys) ∙ sym (or_assoc (p x) (list_any p xs) (list_any p ys))
 
 module _ {K : Type 0} {R : K → K → Ordering} where
   abbrev pub code : Coded K → Coded (SetOf R)
@@ -109,7 +89,7 @@ module _ {K : Type 0} {R : K → K → Ordering} (o : IsTotalOrder R) where
   pub contains-union : (s t : SetOf R) (q : K) → contains (union s t) q ≡ (contains s q || contains t q)
   unfolding union
   contains-union s t q =
-      contains-from_list (items s ++ items t) q ∙ any-append (eq_by_cmp R q) (items s) (items t)
+      contains-from_list (items s ++ items t) q ∙ list_any-append (eq_by_cmp R q) (items s) (items t)
       ∙ ap (λ b. b || list_any (eq_by_cmp R q) (items t)) (sym (contains-items s q))
       ∙ ap (λ b. contains s q || b) (sym (contains-items t q))
 
@@ -129,7 +109,7 @@ module _ {K : Type 0} {R : K → K → Ordering} (o : IsTotalOrder R) where
         ∙ ap (λ b. contains s q || b) (sym (contains-union t u q)) ∙ sym (contains-union s (union t u) q))
 
     pub union_same : (s : SetOf R) → union s s ≡ s
-    union_same s = same_set _ _ (λ q. contains-union s s q ∙ or_same (contains s q))
+    union_same s = same_set _ _ (λ q. contains-union s s q ∙ or_self (contains s q))
 
     pub union_again : (s t : SetOf R) → union (union s t) t ≡ union s t
     union_again s t = same_set _ _ (λ q.
@@ -138,7 +118,7 @@ module _ {K : Type 0} {R : K → K → Ordering} (o : IsTotalOrder R) where
 
     pub from_list-append : (xs ys : List K) → from_list {R = R} (xs ++ ys) ≡ union (from_list xs) (from_list ys)
     from_list-append xs ys = same_set _ _ (λ q.
-        contains-from_list (xs ++ ys) q ∙ any-append (eq_by_cmp R q) xs ys
+        contains-from_list (xs ++ ys) q ∙ list_any-append (eq_by_cmp R q) xs ys
         ∙ ap (λ b. b || list_any (eq_by_cmp R q) ys) (sym (contains-from_list xs q))
         ∙ ap (λ b. contains (from_list {R = R} xs) q || b) (sym (contains-from_list ys q)) ∙ sym (contains-union (from_list xs) (from_list ys) q))
 
@@ -146,12 +126,12 @@ module _ {K : Type 0} {R : K → K → Ordering} (o : IsTotalOrder R) where
     from_list-items s = same_set _ _ (λ q. contains-from_list (items s) q ∙ sym (contains-items s q))
 
     pub union_empty : (s : SetOf R) → union s empty ≡ s
-    union_empty s = same_set _ _ (λ q. contains-union s empty q ∙ ap (λ b. contains s q || b) (contains-empty R q) ∙ or_false (contains s q))
+    union_empty s = same_set _ _ (λ q. contains-union s empty q ∙ ap (λ b. contains s q || b) (contains-empty R q) ∙ or-false (contains s q))
 
     pub union-push : (s : SetOf R) (xs : List K) (x : K) → union s (from_list (xs ++ x ∷ [])) ≡ insert (union s (from_list xs)) x
     union-push s xs x = same_set _ _ (λ q.
         contains-union s (from_list (xs ++ x ∷ [])) q
-        ∙ ap (λ b. contains s q || b) (contains-from_list (xs ++ x ∷ []) q ∙ any-append (eq_by_cmp R q) xs (x ∷ [])
+        ∙ ap (λ b. contains s q || b) (contains-from_list (xs ++ x ∷ []) q ∙ list_any-append (eq_by_cmp R q) xs (x ∷ [])
         ∙ ap (λ b. b || (eq_by_cmp R q x || false)) (sym (contains-from_list xs q)))
         ∙ or_moved (contains s q) (contains (from_list {R = R} xs) q) (eq_by_cmp R q x)
         ∙ ap (λ b. eq_by_cmp R q x || b) (sym (contains-union s (from_list xs) q)) ∙ sym (contains-insert (union s (from_list xs)) x q))

@@ -1,8 +1,7 @@
 -- The pictures of tiles, drawn one after the other.
 use Rattle.std.proofs.Common.{◌≡◌, ℕ, ◌+◌, ◌<◌, List, [], ◌∷◌, ◌++◌, length, map, get_or, Option, Some, None, Result, Ok, Err, IfOk, refl, sym, ap, subst, ◌∙◌, inl, inr, arith}
 use Rattle.std.proofs.lemmas.Bool.{cases_order}
-use Rattle.std.proofs.lemmas.List.{length-append, length-map, map-append, get_or_append_left, get_or_default}
-use Rattle.std.proofs.Math.Seq.{get_or-append_seam}
+use Rattle.std.proofs.lemmas.List.{length-append, length-map, map-append, get_or_append_left, get_or_default, get_or_push}
 use Rattle.ffv1_range.specs.Setup.{SetupValue}
 use Rattle.ffv1_range.specs.Tiles.{grid_of}
 use Rattle.ffv1_slice.specs.Chain.{Piece}
@@ -19,10 +18,6 @@ use Rattle.ffv1_picture.specs.declared.partial.TileOutcome.{TileOutcome}
 use Rattle.ffv1_picture.specs.declared.partial.TileOutcome.TheVariants.{Missing}
 use Rattle.ffv1_picture.proofs.WholePlanes.{sizes_of, drawn_frame, kept_frame}
 
--- the last of a list
-last_is : {X : Type 0} (xs : List X) (x d : X) (n : ℕ) → length xs ≡ n → get_or (xs ++ x ∷ []) n d ≡ x
-last_is xs x d n long = ap (λ k. get_or (xs ++ x ∷ []) k d) (sym long) ∙ get_or-append_seam xs x [] d
-
 module _ (setup : SetupValue) (links : List Piece) where
   pub drawn_sizes : (n : ℕ) (frame : Frame) → IsDrawnOf setup links n frame → HasSizes (grid_of setup) (planes_of frame)
   drawn_sizes n frame drawn = sizes_of setup (map Some drawn.pictures) frame drawn.is_frame
@@ -37,7 +32,7 @@ module _ (setup : SetupValue) (links : List Piece) where
           let P : Planes → Type 0 = λ p. (s : ℕ) × SpellsPlanes setup tile (content_at links tile) p s in
           let Q : ℕ → Type 0 = λ t. SpellsPlanes setup t (content_at links t) more.picture spare in
           let R : List ℕ → Type 0 = λ c. SpellsPlanes setup n c more.picture spare in
-          subst P (sym (last_is before.pictures more.picture [] tile (before.count ∙ sym is))) (spare, subst Q (sym is) (subst R same more.is_picture))
+          subst P (sym (get_or_push before.pictures more.picture [] tile (before.count ∙ sym is))) (spare, subst Q (sym is) (subst R same more.is_picture))
       | inr (inl less) ↦
           let P : Planes → Type 0 = λ p. (s : ℕ) × SpellsPlanes setup tile (content_at links tile) p s in
           subst P (sym (get_or_append_left before.pictures (more.picture ∷ []) [] tile (omega (arith, before.count)))) (before.each tile less)
@@ -75,8 +70,8 @@ module _ (h : Contents) where
           let P : TileOutcome → Type 0 = λ o. IsShown h.reel.setup tile (tile_state h tile) o (get_or (before.pictures ++ more.picture ∷ []) tile None) in
           let Q : Option Planes → Type 0 = λ p. IsShown h.reel.setup tile (tile_state h tile) outcome p in
           let R : ℕ → Type 0 = λ t. IsShown h.reel.setup t (tile_state h t) outcome more.picture in
-          subst P (sym (last_is outcomes outcome Missing tile (before.told ∙ sym is)))
-          (subst Q (sym (last_is before.pictures more.picture None tile (before.count ∙ sym is))) (subst R (sym is) more.shown))
+          subst P (sym (get_or_push outcomes outcome Missing tile (before.told ∙ sym is)))
+          (subst Q (sym (get_or_push before.pictures more.picture None tile (before.count ∙ sym is))) (subst R (sym is) more.shown))
       | inr (inl less) ↦
           let P : TileOutcome → Type 0 = λ o. IsShown h.reel.setup tile (tile_state h tile) o (get_or (before.pictures ++ more.picture ∷ []) tile None) in
           let Q : Option Planes → Type 0 = λ p. IsShown h.reel.setup tile (tile_state h tile) (get_or outcomes tile Missing) p in

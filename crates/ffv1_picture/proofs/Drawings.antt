@@ -1,10 +1,10 @@
 -- Rows of samples drawn onto a plane, one after the other.
-use Rattle.std.proofs.Common.{◌≡◌, ℕ, zero, suc, ◌+◌, ◌-◌, ◌*◌, ◌/◌, ◌^◌, ◌<◌, ◌≤◌, ◌⊎◌, Bool, true, false, ◌&&◌, cond, nat_le, nat_lt, List, [], ◌++◌, length, get_or, get_or-set_same, get_or-set_other, take, drop, refl, sym, ap, subst, ◌∙◌, inl, inr, arith}
+use Rattle.std.proofs.Common.{◌≡◌, ℕ, zero, suc, ◌+◌, ◌-◌, ◌*◌, ◌/◌, ◌^◌, ◌<◌, ◌≤◌, ◌⊎◌, true, false, ◌&&◌, cond, nat_le, nat_lt, List, [], ◌++◌, length, get_or, get_or-set_same, get_or-set_other, take, drop, sym, ap, subst, ◌∙◌, inl, inr, arith}
 use Rattle.std.proofs.Math.ListN.{set}
 use Rattle.std.specs.Int.{div_ceil}
 use Rattle.std.proofs.lemmas.Grind.{div_ceil_times}
 use Rattle.std.proofs.lemmas.Nat.{div-add-mod', pow_pos}
-use Rattle.std.proofs.lemmas.Bool.{ltb-true, lt-ltb, le-ltb, le-leb, lt-leb, cases_lt, cases_order}
+use Rattle.std.proofs.lemmas.Bool.{ltb-true, lt-ltb, le-ltb, le-leb, lt-leb, cases_lt, cases_order, and_from, and_right}
 use Rattle.std.proofs.lemmas.List.{length-take-le, length-drop, get_or-take, get_or-drop, get_or_append_left, get_or-append_right, length-append, length-set}
 use Rattle.std.proofs.Math.Nat.{mul-le-mul_right, lt_of_mul-lt-mul_right}
 use Rattle.std.specs.Cmp.{both_ways}
@@ -56,24 +56,16 @@ module _ (a w : ℕ) (old piece : List ℕ) (fits : a + w ≤ length old) (long 
 
 -- ---- which places the rows cover
 
-and_both : (a b : Bool) → a ≡ true → b ≡ true → (a && b) ≡ true
-and_both true b p q = q
-and_both false b p q = p
-
-and_none : (a b : Bool) → b ≡ false → (a && b) ≡ false
-and_none true b q = q
-and_none false b q = refl
-
 covers_here : (r : TileRect) (x y : ℕ) → r.x ≤ x → x < r.x + r.w → r.y ≤ y → y < r.y + r.h → covers r x y ≡ true
 covers_here r x y left right above below =
-    and_both _ _ (and_both _ _ (le-leb r.x x left) (lt-ltb x (r.x + r.w) right)) (and_both _ _ (le-leb r.y y above) (lt-ltb y (r.y + r.h) below))
+    and_from _ _ (and_from _ _ (le-leb r.x x left) (lt-ltb x (r.x + r.w) right)) (and_from _ _ (le-leb r.y y above) (lt-ltb y (r.y + r.h) below))
 
 left_of : (r : TileRect) (x y : ℕ) → x < r.x → covers r x y ≡ false
 left_of r x y out = ap (λ b. (b && nat_lt x (r.x + r.w)) && (nat_le r.y y && nat_lt y (r.y + r.h))) (lt-leb r.x x out)
 
 right_of : (r : TileRect) (x y : ℕ) → r.x + r.w ≤ x → covers r x y ≡ false
 right_of r x y out =
-    ap (λ b. b && (nat_le r.y y && nat_lt y (r.y + r.h))) (and_none (nat_le r.x x) _ (le-ltb x (r.x + r.w) out))
+    ap (λ b. b && (nat_le r.y y && nat_lt y (r.y + r.h))) (and_right (nat_le r.x x) _ (le-ltb x (r.x + r.w) out))
 
 -- one row more covers the same places of the other rows
 other_row : (r : TileRect) (n x y : ℕ) → (y < r.y + n) ⊎ (r.y + n < y) → covers (first_rows r n) x y ≡ covers (first_rows r (n + 1)) x y

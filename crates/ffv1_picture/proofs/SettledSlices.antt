@@ -1,5 +1,6 @@
 -- The settled slice of a tile is a slice of the tile.
 use Rattle.std.proofs.Common.{◌≡◌, ℕ, Bool, true, false, ◌||◌, cond, List, [], ◌∷◌, refl, sym, ap, ◌∙◌}
+use Rattle.std.proofs.lemmas.Bool.{or_right}
 use Rattle.std.specs.List.{filter, list_any}
 use Rattle.std.specs.Ordering.{eq_by_cmp, is_eq}
 use Rattle.std.specs.Cmp.{tied_itself}
@@ -14,10 +15,6 @@ only_best : (best : List (List ℕ)) (slice : List ℕ) → standing_of_best bes
 only_best [] slice is = absurd (cc)
 only_best (b ∷ []) slice is = let same : b ≡ slice = cc in ap (λ x. x ∷ []) same
 only_best (b ∷ c ∷ more) slice is = absurd (cc)
-
-or_right : (a b : Bool) → b ≡ true → (a || b) ≡ true
-or_right true b is = refl
-or_right false b is = is
 
 any_filtered : {X : Type 0} (p q : X → Bool) (xs : List X) → list_any q (filter p xs) ≡ true → list_any q xs ≡ true
 any_filtered p q [] any = any

@@ -1,7 +1,7 @@
 -- No bits begin with the spellings of two planes.
-use Rattle.std.proofs.Common.{◌≡◌, ◌≢◌, ℕ, zero, suc, ◌+◌, ◌-◌, ◌%◌, ◌*◌, ◌/◌, ◌<◌, ◌≤◌, Bool, true, false, not, ◌&&◌, cond, eqb, List, [], ◌∷◌, ◌++◌, map, filter, fold, refl, sym, ap, ◌∙◌, subst, arith, append_assoc, inl, inr, ⊎_elim, ◌⊎◌, ℤ, pos, negsuc, nat_abs, int_lt, ◌-ℤ◌}
+use Rattle.std.proofs.Common.{◌≡◌, ◌≢◌, ℕ, zero, suc, ◌+◌, ◌-◌, ◌%◌, ◌*◌, ◌/◌, ◌<◌, ◌≤◌, Bool, true, false, not, ◌&&◌, cond, eqb, List, [], ◌∷◌, ◌++◌, map, filter, fold, refl, sym, ap, ◌∙◌, subst, arith, append_assoc, ⊎_elim, ◌⊎◌, ℤ, pos, negsuc, nat_abs, int_lt, ◌-ℤ◌}
 use Rattle.std.proofs.lemmas.Int.{ints}
-use Rattle.std.proofs.lemmas.Bool.{cases_lt}
+use Rattle.std.proofs.lemmas.Bool.{cases_lt, cases_Bool, and_parts, not-true}
 use Rattle.std.proofs.lemmas.Nat.{div-add-mod', mod-mul-add}
 use Rattle.std.proofs.Math.Nat.{mul-add-mod_self_right, mod_self}
 use Rattle.std.proofs.lemmas.List.{map-append}
@@ -15,10 +15,6 @@ use Rattle.ffv1_plane.specs.Spelling.{Residuals, begins_line, is_zero, is_in_run
 
 abbrev pub residuals : ℕ → (ℕ → ℤ) → (ℕ → ℤ) → Residuals
 residuals width context difference = record { width = width; context = context; difference = difference }
-
-pub is_bool : (b : Bool) → (b ≡ true) ⊎ (b ≡ false)
-is_bool true = inl refl
-is_bool false = inr refl
 
 -- one column on, in one line
 pub next_column : (n w : ℕ) → 0 < w → eqb ((n + 1) % w) 0 ≡ false → (n + 1) % w ≡ n % w + 1
@@ -79,13 +75,9 @@ in_either : (b : Bool) (x y : ℤ) → (b ≡ true → IsDifference x) → IsDif
 in_either true x y h k = h refl
 in_either false x y h k = k
 
-pub and_true : (a b : Bool) → (a && b) ≡ true → (a ≡ true) × (b ≡ true)
-and_true true b h = (refl, h)
-and_true false b h = absurd cc
-
 value_range : (level : Bool) (x : ℤ) → IsDifference x → IsDifference (decoded_value level x)
 value_range level x h = in_either (level && int_lt (pos 0) x) (x -ℤ pos 1) x
-    (λ b. let p = and_true level (int_lt (pos 0) x) b in record { low = grind (arith, ints); high = omega (arith, ints) }) h
+    (λ b. let p = and_parts level (int_lt (pos 0) x) b in record { low = grind (arith, ints); high = omega (arith, ints) }) h
 
 pub zero_of : (x : ℤ) → is_zero x ≡ true → x ≡ pos 0
 zero_of (pos zero) h = refl
@@ -105,10 +97,6 @@ follows_of : (a b : Bool) → a ≡ true → (a && not b) ≡ false → b ≡ tr
 follows_of true true h k = refl
 follows_of true false h k = absurd cc
 follows_of false b h k = absurd cc
-
-pub not_true : (b : Bool) → not b ≡ true → b ≡ false
-not_true true h = absurd cc
-not_true false h = refl
 
 pub not_both : (a b : Bool) → a ≡ true → (a && b) ≡ false → b ≡ false
 not_both true b h k = k
@@ -184,7 +172,7 @@ module _ (earlier : ℕ → List ℤ) (w : ℕ) (c e d f : ℕ → ℤ) (some : 
         behind = ap (λ l. l ++ rest) (sym p.0) ∙ joined ∙ ap (λ l. l ++ more) q.0;
         lengths = λ h. alike.runs (follows_of (is_in_run (residuals w c d) n) _ h no);
       })
-      (is_bool (starts_run (residuals w c d) n))
+      (cases_Bool (starts_run (residuals w c d) n))
 
   after_run : (n index then next last : ℕ) (piece words rest more : List Bool) → Alike w c e d f n → index ≡ then → piece ++ rest ≡ words ++ more
       → (a : SampleSpells earlier (residuals w c d) n index piece next) → (b : SampleSpells earlier (residuals w e f) n then words last)
@@ -203,7 +191,7 @@ module _ (earlier : ℕ → List ℤ) (w : ℕ) (c e d f : ℕ → ℤ) (some : 
       (λ yes. first_skipped (residuals w c d) (residuals w e f) n (left_in_line (residuals w c d) n) (left_in_line (residuals w c d) n - 1) 0 (omega arith)
       (after.lengths yes))
       (λ no. let other : is_in_run (residuals w e f) n ≡ false = sym runs ∙ no in rw (no, other) refl)
-      (is_bool (is_in_run (residuals w c d) n))
+      (cases_Bool (is_in_run (residuals w c d) n))
 
   -- one sample more
   pub one_sample : (n index then next last : ℕ) (piece words rest more : List Bool) → Alike w c e d f n → index ≡ then → piece ++ rest ≡ words ++ more
@@ -216,8 +204,8 @@ module _ (earlier : ℕ → List ℤ) (w : ℕ) (c e d f : ℕ → ℤ) (some : 
       let here : c n ≡ e n = determined n alike.differences in
       ⊎_elim
       (λ yes.
-      let p = and_true (is_in_run (residuals w c d) n) (is_zero (d n)) yes in
-      let q = and_true (is_in_run (residuals w e f) n) (is_zero (f n)) (sym skipped ∙ yes) in
+      let p = and_parts (is_in_run (residuals w c d) n) (is_zero (d n)) yes in
+      let q = and_parts (is_in_run (residuals w e f) n) (is_zero (f n)) (sym skipped ∙ yes) in
       let un : is_coded (residuals w c d) n ≡ false = ap not yes in
       let un' : is_coded (residuals w e f) n ≡ false = ap not (sym skipped ∙ yes) in (
         zero_of (d n) p.1 ∙ sym (zero_of (f n) q.1),
@@ -242,7 +230,7 @@ module _ (earlier : ℕ → List ℤ) (w : ℕ) (c e d f : ℕ → ℤ) (some : 
         after.index,
         one.1,
       ))
-      (is_bool (is_skipped (residuals w c d) n))
+      (cases_Bool (is_skipped (residuals w c d) n))
 
   -- what is alike before the next sample, too
   alike_more : (n next last : ℕ) (rest more : List Bool) → Alike w c e d f n → AfterRun n next last rest more → d n ≡ f n → Alike w c e d f (n + 1)
@@ -255,13 +243,13 @@ module _ (earlier : ℕ → List ℤ) (w : ℕ) (c e d f : ℕ → ℤ) (some : 
         in_run_alike w c e d f n (contexts_to n alike.differences) alike.differences in
         let opened : (not (begins_line (residuals w c d) (suc n)) && is_skipped (residuals w c d) n) ≡ true =
         ap (λ k. follows_skipped (residuals w c d) k) (let k : suc n ≡ n + 1 = omega arith in k) ∙ follows in
-        let both = and_true (not (begins_line (residuals w c d) (suc n))) (is_skipped (residuals w c d) n) opened in
+        let both = and_parts (not (begins_line (residuals w c d) (suc n))) (is_skipped (residuals w c d) n) opened in
         let skip : is_skipped (residuals w c d) n ≡ true = both.1 in
         let skip' : is_skipped (residuals w e f) n ≡ true = rw (← runs, ← here) skip in
-        let length = after.lengths ((and_true (is_in_run (residuals w c d) n) (is_zero (d n)) skip).0) in
+        let length = after.lengths ((and_parts (is_in_run (residuals w c d) n) (is_zero (d n)) skip).0) in
         let small : n % w < w = omega arith in
         let k : suc n ≡ n + 1 = omega arith in
-        let inside : eqb ((n + 1) % w) 0 ≡ false = ap (λ j. eqb (j % w) 0) (sym k) ∙ not_true (begins_line (residuals w c d) (suc n)) both.0 in
+        let inside : eqb ((n + 1) % w) 0 ≡ false = ap (λ j. eqb (j % w) 0) (sym k) ∙ not-true (begins_line (residuals w c d) (suc n)) both.0 in
         let column : (n + 1) % w ≡ n % w + 1 = next_column n w some inside in
         let left : left_in_line (residuals w c d) n ≡ suc (w - (n + 1) % w) = omega arith in
         length_behind (residuals w c d) (residuals w e f) n (left_in_line (residuals w c d) n) (w - (n + 1) % w) left skip skip' length;

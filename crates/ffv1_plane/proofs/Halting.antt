@@ -1,7 +1,7 @@
 -- Where a code or a word of a run can't be read, a plane that begins with what was read is stuck there.
 use Rattle.std.proofs.Common.{◌≡◌, ◌≢◌, ℕ, zero, suc, ◌+◌, ◌-◌, ◌*◌, ◌/◌, ◌%◌, ◌<◌, ◌≤◌, Bool, true, false, not, cond, min, List, [], ◌∷◌, ◌++◌, get_or, length, length-append, refl, sym, ap, ◌∙◌, subst, arith, append_assoc, inl, inr, ⊎_elim, ◌⊎◌, ℤ, pos, nat_abs}
 use Rattle.std.proofs.lemmas.Bool.{cases_lt}
-use Rattle.std.proofs.lemmas.List.{append-nil, get_or_append_left, get_or_push, length_push}
+use Rattle.std.proofs.lemmas.List.{append-nil, get_or_append_left, get_or_push, length_push, get_or_past}
 use Rattle.ffv1_rice.specs.States.{ContextState, start_state}
 use Rattle.ffv1_rice.specs.Codes.{IsCodeFault}
 use Rattle.ffv1_rice.specs.Runs.{SpellsRun}
@@ -19,7 +19,6 @@ use Rattle.ffv1_plane.proofs.OnePlane.{one_sample_of}
 use Rattle.ffv1_plane.proofs.Steps.{in_run_is, in_run_to, skipped_to, follows_to, starts_here, run_here, run_to, length_least}
 use Rattle.ffv1_plane.proofs.Reading.{nonzero_is, context_here, skipped_states, none_skipped, skip_more, same_zero, same_before, this_one}
 use Rattle.ffv1_plane.proofs.Totals.{differ}
-use Rattle.ffv1_plane.proofs.Wholes.{past_end}
 
 -- ---- bytes
 
@@ -28,7 +27,7 @@ bytes_push xs x small tiny s = ⊎_elim
     (λ inside. let e = get_or_append_left xs (x ∷ []) 0 s inside in let h = small s in omega (arith, e, h))
     (λ from. ⊎_elim
     (λ last. let e = get_or_push xs x 0 s (let k : length xs ≡ s = omega arith in k) in omega (arith, e, tiny))
-    (λ past. let e = past_end (xs ++ x ∷ []) s (omega (arith, length_push xs x)) in omega (arith, e))
+    (λ past. let e = get_or_past (xs ++ x ∷ []) s 0 (omega (arith, length_push xs x)) in omega (arith, e))
     (cases_lt s (length xs + 1)))
     (cases_lt s (length xs))
 

@@ -19,7 +19,7 @@ use Rattle.ffv1_plane.specs.StuckLaws.{StuckSpellsNothing, IsOnePlace, StuckIsOn
 use Rattle.ffv1_plane.specs.declared.tile.TileFault.{TileFault}
 use Rattle.ffv1_plane.specs.declared.tile.TileFault.TheVariants.{Head, OtherTile, Code, Memory}
 use Rattle.ffv1_plane.proofs.OnePlane.{difference_range, contexts_same, samples_same}
-use Rattle.ffv1_plane.proofs.Pictures.{plane_within, same_plane, head_is_one}
+use Rattle.ffv1_plane.proofs.Pictures.{some_columns, same_plane, head_is_one}
 use Rattle.ffv1_plane.proofs.Fronts.{below_front, below_of_picture, place_below}
 use Rattle.ffv1_plane.proofs.Refused.{IsOneWord, refused_excludes, refused_one}
 
@@ -27,9 +27,6 @@ two_above : (n : ℕ) → (n == 2) ≡ true → 1 < n
 two_above n is = grind arith
 
 module _ (setup : SetupValue) (head : SliceHead) (profile : IsInProfile setup) (inside : head.tile < tile_count (grid_of setup)) where
-  some_columns : (plane : ℕ) → 1 ≤ (plane_rect (grid_of setup) head.tile plane).w
-  some_columns plane = (plane_within setup head.tile plane profile inside).some_columns
-
   values_same : (planes others : List (List ℕ)) (n : ℕ) → ((i : ℕ) → i < n → samples_of planes i ≡ samples_of others i)
       → values_behind setup head planes n ≡ values_behind setup head others n
   values_same planes others n same = either (n == 2) refl
@@ -54,7 +51,7 @@ module _ (setup : SetupValue) (head : SliceHead) (profile : IsInProfile setup) (
       let values = values_same planes others n before.0 in
       let P : (ℕ → List ℤ) → Type 0 = λ v. PlaneSpells v (tile_plane setup head others n) ck in
       let one = same_plane (plane_rect (grid_of setup) head.tile n) (set_entry setup (plane_set head n)) (values_behind setup head planes n)
-      (samples_of planes n) (samples_of others n) bk ck rest tail (some_columns n)
+      (samples_of planes n) (samples_of others n) bk ck rest tail (some_columns setup head profile inside n)
       (a.sizes n (omega arith)) (b.sizes n (omega arith)) plane (subst P (sym values) plane_too) before.1 in (
         λ i less. ⊎_elim (λ lower. before.0 i lower) (λ most. let i_is : n ≡ i = omega arith in
             subst (λ (k : ℕ). samples_of planes k ≡ samples_of others k) i_is one.0) (cases_lt i n),
@@ -75,9 +72,9 @@ module _ (setup : SetupValue) (head : SliceHead) (profile : IsInProfile setup) (
       let small = (a.sizes n there).bytes in
       let tiny = (b.sizes n there).bytes in
       refused_excludes earlier w (context_at (plane_of w entry xs)) (context_at (plane_of w entry ys)) (difference_at (plane_of w entry xs))
-      (difference_at (plane_of w entry ys)) (some_columns n)
+      (difference_at (plane_of w entry ys)) (some_columns setup head profile inside n)
       (difference_range (plane_of w entry xs)) (difference_range (plane_of w entry ys))
-      (λ k alike. contexts_same w entry (some_columns n) xs ys small tiny k (samples_same w entry (some_columns n) xs ys small tiny k alike))
+      (λ k alike. contexts_same w entry (some_columns setup head profile inside n) xs ys small tiny k (samples_same w entry (some_columns setup head profile inside n) xs ys small tiny k alike))
       s (length ys) spells.0 part rest front tail fault low refused spells.1 same
 
   plane_one : (n : ℕ) (planes others : List (List ℕ)) (earlier : ℕ → List ℤ) (s t : ℕ) (part rest more tail : List Bool) (fault other : CodeFault)
@@ -93,9 +90,9 @@ module _ (setup : SetupValue) (head : SliceHead) (profile : IsInProfile setup) (
       let small = (a.sizes n there).bytes in
       let tiny = (b.sizes n there).bytes in
       refused_one earlier w (context_at (plane_of w entry xs)) (context_at (plane_of w entry ys)) (difference_at (plane_of w entry xs))
-      (difference_at (plane_of w entry ys)) (some_columns n)
+      (difference_at (plane_of w entry ys)) (some_columns setup head profile inside n)
       (difference_range (plane_of w entry xs)) (difference_range (plane_of w entry ys))
-      (λ k alike. contexts_same w entry (some_columns n) xs ys small tiny k (samples_same w entry (some_columns n) xs ys small tiny k alike))
+      (λ k alike. contexts_same w entry (some_columns setup head profile inside n) xs ys small tiny k (samples_same w entry (some_columns setup head profile inside n) xs ys small tiny k alike))
       s t part rest more tail fault other refused refused_too same
 
   behind_whole : (bits front whole part others : List Bool) → bits ≡ front ++ others → front ≡ whole ++ part → bits ≡ whole ++ (part ++ others)

@@ -81,7 +81,7 @@ same_plane rect entry earlier samples others front words rest more some is also 
 -- ---- the groups
 
 module _ (setup : SetupValue) (head : SliceHead) (profile : IsInProfile setup) (inside : head.tile < tile_count (grid_of setup)) where
-  some_columns : (plane : ℕ) → 1 ≤ (plane_rect (grid_of setup) head.tile plane).w
+  pub some_columns : (plane : ℕ) → 1 ≤ (plane_rect (grid_of setup) head.tile plane).w
   some_columns plane = (plane_within setup head.tile plane profile inside).some_columns
 
   pub one_luma : (bits : List Bool) (samples others : List ℕ) (rest more : List Bool) → IsLumaRead setup head bits samples rest

@@ -1,7 +1,7 @@
 -- What one code says of every plane that begins with the samples so far.
-use Rattle.std.proofs.Common.{◌≡◌, ℕ, zero, suc, ◌+◌, ◌-◌, ◌%◌, ◌<◌, ◌≤◌, not, inl, inr, length-append, Bool, true, false, List, [], ◌∷◌, ◌++◌, get_or, set, length, refl, sym, ap, ◌∙◌, subst, arith, append_assoc, ⊎_elim, ◌≢◌, ◌&&◌, ◌||◌, cond, eqb, eq-eqb, ℤ, pos, negsuc, ◌-ℤ◌, int_lt, nat_abs}
+use Rattle.std.proofs.Common.{◌≡◌, ℕ, zero, suc, ◌+◌, ◌-◌, ◌%◌, ◌<◌, ◌≤◌, not, inl, inr, length-append, Bool, true, false, List, [], ◌∷◌, ◌++◌, get_or, set, length, refl, sym, ap, ◌∙◌, subst, arith, append_assoc, ⊎_elim, ◌≢◌, ◌&&◌, cond, eqb, eq-eqb, ℤ, pos, negsuc, ◌-ℤ◌, int_lt, nat_abs}
 use Rattle.std.proofs.lemmas.List.{get_or_append_left, get_or_push, length_push, get_or-set_same, get_or-set_other, length-set, append-nil, get_or_read}
-use Rattle.std.proofs.lemmas.Bool.{cases_eq, cases_lt, ne_eqb}
+use Rattle.std.proofs.lemmas.Bool.{cases_eq, cases_lt, ne_eqb, cases_Bool, or_from, and_right}
 use Rattle.std.proofs.lemmas.Int.{ints}
 use Rattle.ffv1_rice.specs.States.{ContextState, start_state, after_value, fold}
 use Rattle.ffv1_rice.specs.Codes.{IsCodeFault, decoded_value, IsCoded, IsCodedDifference, SpellsValue}
@@ -11,7 +11,7 @@ use Rattle.ffv1_plane.specs.Spelling.{Residuals, residuals_of, context_number, i
 use Rattle.ffv1_plane.specs.Progress.{AreStatesAfter, IsSampleRead, IsReadTo, IsRunRead, AreSkipped, Progress}
 use Rattle.ffv1_plane.specs.Halts.{IsCodeHalted, next_context}
 use Rattle.ffv1_rice.specs.declared.code.CodeFault.{CodeFault}
-use Rattle.ffv1_plane.proofs.Alike.{is_bool, zero_of}
+use Rattle.ffv1_plane.proofs.Alike.{zero_of}
 use Rattle.ffv1_plane.proofs.Steps.{state_more, scalar_step, in_run_is, skipped_to, in_run_to, run_end, run_level}
 use Rattle.ffv1_plane.proofs.Causal.{neighbours_same}
 
@@ -59,17 +59,10 @@ sample_read width entry level old new states after bits rest near context differ
 -- a context that isn't 0
 scalar_context : (r : Residuals) (s : ℕ) → 0 < context_number r s → is_zero (r.context s) ≡ false
 scalar_context r s some = ⊎_elim (λ yes. absurd (let z : context_number r s ≡ 0 = ap nat_abs (zero_of (r.context s) yes) in omega arith))
-    (λ no_zero. no_zero) (is_bool (is_zero (r.context s)))
-
-cleared : (a b : Bool) → a ≡ false → b ≡ false → (a || b) ≡ false
-cleared a b h k = rw (h, k) refl
+    (λ no_zero. no_zero) (cases_Bool (is_zero (r.context s)))
 
 pub nonzero_is : (x : ℤ) → x ≢ pos 0 → is_zero x ≡ false
-nonzero_is x h = ⊎_elim (λ yes. absurd (h (zero_of x yes))) (λ not_zero. not_zero) (is_bool (is_zero x))
-
-not_both_false : (a b : Bool) → b ≡ false → (a && b) ≡ false
-not_both_false true b h = h
-not_both_false false b h = refl
+nonzero_is x h = ⊎_elim (λ yes. absurd (h (zero_of x yes))) (λ not_zero. not_zero) (cases_Bool (is_zero x))
 
 -- ---- the states behind a code
 
@@ -124,7 +117,7 @@ scalar_read earlier width entry bits left rest old new index states after so_far
           subst R longer (scalar_step earlier r s index bits read.code left rest (before more) (outside more) spells read.begins);
       states_are = λ more k h.
           let r = residuals_of (plane_of width entry (new ++ more)) in
-          let run : is_in_run r s ≡ false = in_run_is r s ∙ cleared _ _ (outside more) ((before more).fresh) in
+          let run : is_in_run r s ≡ false = in_run_is r s ∙ or_from _ _ (outside more) ((before more).fresh) in
           let coded : is_coded r s ≡ true = rw run refl in
           let value : value_at r s ≡ decoded_value false read.difference = ap (λ l. decoded_value l (r.difference s)) run ∙ read.is_difference more in
           let inside : k < length states = omega (
@@ -237,7 +230,7 @@ module _ (earlier : ℕ → List ℤ) (width : ℕ) (entry : ℕ → ℕ → ℤ
           let R : ℕ → Type 0 = λ i. Progress earlier r i bits next rest in
           subst R longer_new (run_level earlier r some s n (zero_new more) ((progress_new more).fresh) run.fits
           (skipped_new more) index next run.run run.spelled
-          (inr (not_both_false _ _ (level_new more))) bits left read.code rest inside (level_new more) (subst P state (subst Q (sym difference) read.spells))
+          (inr (and_right _ _ (level_new more))) bits left read.code rest inside (level_new more) (subst P state (subst Q (sym difference) read.spells))
           (progress_new more)
           (run.begins ∙ ap (λ l. run.run ++ l) read.begins));
       states_are = λ more k h.

@@ -1,10 +1,9 @@
 -- Where a word is refused no plane is spelled, and one word of one sample is refused.
-use Rattle.std.proofs.Common.{◌≡◌, ℕ, suc, ◌+◌, ◌-◌, ◌<◌, ◌≤◌, Bool, true, false, not, List, [], ◌∷◌, ◌++◌, refl, sym, ap, ◌∙◌, subst, arith, append_assoc, ⊎_elim, ℤ, nat_abs}
-use Rattle.std.proofs.lemmas.Bool.{cases_lt}
-use Rattle.std.proofs.Math.Nat.{one-le-pow}
+use Rattle.std.proofs.Common.{◌≡◌, ℕ, suc, ◌+◌, ◌-◌, ◌<◌, Bool, true, false, not, List, [], ◌∷◌, ◌++◌, refl, sym, ap, ◌∙◌, subst, arith, append_assoc, ⊎_elim, ℤ, nat_abs}
+use Rattle.std.proofs.lemmas.Bool.{cases_lt, not-true}
 use Rattle.ffv1_rice.specs.States.{IsDifference}
 use Rattle.ffv1_rice.specs.Codes.{SpellsValue, IsCodeFault}
-use Rattle.ffv1_rice.specs.Runs.{SpellsRun, run_exponent, whole_length, IsCutWord}
+use Rattle.ffv1_rice.specs.Runs.{SpellsRun, whole_length, IsCutWord}
 use Rattle.ffv1_rice.specs.declared.code.CodeFault.{CodeFault}
 use Rattle.ffv1_rice.proofs.Faults.{no_code_at_fault, one_fault}
 use Rattle.ffv1_rice.proofs.OneRun.{no_run_when_cut}
@@ -15,9 +14,6 @@ use Rattle.ffv1_plane.proofs.Prefixes.{prefix_spells}
 use Rattle.ffv1_plane.proofs.Runs.{behind_whole}
 
 -- ---- words of a run
-
-some_length : (i : ℕ) → 1 ≤ whole_length i
-some_length i = one-le-pow (run_exponent i) 2 (omega arith)
 
 -- first words with a cut word behind them begin no run
 front_no_run : {skipped i next : ℕ} {words : List Bool} (n left last : ℕ) (others run tail : List Bool) → SpellsFront skipped i words next → skipped < left
@@ -151,15 +147,11 @@ module _ (earlier : ℕ → List ℤ) (w : ℕ) (c e d f : ℕ → ℤ) (some : 
       let q = residuals w e f in
       let both = both_past s bits (past_due earlier r s part others bits refused.0 begins) past.past in
       let coded : is_coded q s ≡ true = ap not (sym both.skipped) ∙ refused.0.coded in
-      let no_skip : is_skipped q s ≡ false = sym both.skipped ∙ (let h = refused.0.coded in is_not (is_skipped r s) h) in
+      let no_skip : is_skipped q s ≡ false = sym both.skipped ∙ (let h = refused.0.coded in not-true (is_skipped r s) h) in
       no_code_at_fault (state_before earlier q (context_number q s) s) (is_in_run q s) fault (f s) others past.code past.tail
       (subst (λ (z : _). IsCodeFault z (is_in_run q s) others fault) both.state
       (subst (λ (l : Bool). IsCodeFault (state_before earlier r (context_number r s) s) l others fault) both.in_run refused.1))
       (also s, λ t. nonzero_of (f s) (not_both (is_in_run q s) _ t no_skip)) (past.coded coded) (both.same ∙ past.joined)
-    where
-      is_not : (b : Bool) → not b ≡ true → b ≡ false
-      is_not true h = absurd cc
-      is_not false h = refl
 
   -- two codes that are refused at one sample are so for one fault
   pub code_one : (s : ℕ) (part others more tail : List Bool) (fault other : CodeFault) → IsCodeRefused earlier (residuals w c d) s part others fault

@@ -9,6 +9,7 @@ use Rattle.ffv1_plane.specs.Samples.{sample_inside, sample_at, neighbours_at}
 use Rattle.ffv1_plane.specs.Rows.{AreCellsOf, AreLines, samples_so_far}
 use Rattle.ffv1_plane.proofs.Causal.{at_same}
 use Rattle.ffv1_plane.proofs.Halting.{bytes_push}
+use Rattle.ffv1_plane.proofs.Wholes.{get_or-zeros}
 
 -- ---- how many samples there are
 
@@ -217,11 +218,6 @@ module _ (w : ℕ) (rows line above far : List ℕ) (h : AreLines w w rows line 
 
 -- ---- the first row
 
-zeros : (n i : ℕ) → get_or (replicate n zero) i zero ≡ zero
-zeros zero i = refl
-zeros (suc n) zero = refl
-zeros (suc n) (suc i) = zeros n i
-
 -- above a plane all is 0
 above_plane : (w column row : ℕ) → row < 2 → sample_at w [] column row ≡ 0
 unfolding sample_at sample_inside
@@ -252,10 +248,10 @@ first_lines w line above far some wide line_zero above_zero far_zero = record {
   line_long = ap length line_zero ∙ length-replicate {A = ℕ} (w + 3) 0;
   above_long = ap length above_zero ∙ length-replicate {A = ℕ} (w + 3) 0;
   far_above_long = ap length far_zero ∙ length-replicate {A = ℕ} (w + 3) 0;
-  borders = λ column less. ap (λ l. get_or l column 0) line_zero ∙ zeros (w + 3) column
+  borders = λ column less. ap (λ l. get_or l column 0) line_zero ∙ get_or-zeros (w + 3) column
       ∙ sym (left_of_plane w column (0 / w + 2) less (let none = none_above w some in omega arith));
-  is_above = λ column less. ap (λ l. get_or l column 0) above_zero ∙ zeros (w + 3) column
+  is_above = λ column less. ap (λ l. get_or l column 0) above_zero ∙ get_or-zeros (w + 3) column
       ∙ sym (above_plane w column (0 / w + 1) (let none = none_above w some in omega arith));
-  is_far_above = λ column less. ap (λ l. get_or l column 0) far_zero ∙ zeros (w + 3) column
+  is_far_above = λ column less. ap (λ l. get_or l column 0) far_zero ∙ get_or-zeros (w + 3) column
       ∙ sym (above_plane w column (0 / w) (let none = none_above w some in omega arith));
 }

@@ -1,9 +1,9 @@
 -- A run, word by word.
 use Rattle.std.proofs.Common.{◌≡◌, ℕ, ◌+◌, ◌-◌, ◌<◌, ◌≤◌, Bool, true, List, [], ◌∷◌, ◌++◌, refl, sym, ap, ◌∙◌, subst, arith, append_assoc, ⊎_elim}
-use Rattle.std.proofs.Math.Nat.{one-le-pow}
 use Rattle.ffv1_bits.specs.Reader.{Reading}
 use Rattle.ffv1_rice.specs.declared.run.RunWord.TheVariants.{Full, Rest, ToEnd}
-use Rattle.ffv1_rice.specs.Runs.{SpellsRun, line_end, whole, rest, over_end, long_rest, run_exponent, whole_length, IsRead, IsCutWord}
+use Rattle.ffv1_rice.specs.Runs.{SpellsRun, line_end, whole, rest, over_end, long_rest, whole_length, IsRead, IsCutWord}
+use Rattle.ffv1_rice.proofs.OneRun.{whole_length_pos}
 use Rattle.ffv1_plane.specs.Stuck.{SpellsFront, no_word, one_word}
 use Rattle.ffv1_plane.specs.Progress.{IsRunRead, IsRunBegun}
 use Rattle.ffv1_plane.specs.Halts.{IsRunCut}
@@ -19,16 +19,13 @@ begin_run left index bits =
       completes = λ m last others h. let k : 0 + m ≡ m = omega arith in rw k (rw (← all) at h);
     }
 
-some_length : (i : ℕ) → 1 ≤ whole_length i
-some_length i = one-le-pow (run_exponent i) 2 (omega arith)
-
 pub full_length : (left i n next : ℕ) (bits others : Reading) → IsRead left i (Full n) bits next others → (0 < n) × (n ≤ left)
-full_length left i n next bits others h = let p = some_length i in (omega (arith, h.is_word.0), h.is_word.1)
+full_length left i n next bits others h = let p = whole_length_pos i in (omega (arith, h.is_word.0), h.is_word.1)
 
 -- a run that begins with a whole length goes on behind it
 pub behind_whole : (left i m last n : ℕ) (run tail bits : List Bool) → SpellsRun m left i run last → n ≡ whole_length i → n ≤ left → run ++ tail ≡ true ∷ bits
     → (k : ℕ) × (others : List Bool) × SpellsRun k (left - n) (i + 1) others last × (bits ≡ others ++ tail)
-behind_whole left i m last n run tail bits (line_end a b c d) is fits same = absurd (let p = some_length i in omega arith)
+behind_whole left i m last n run tail bits (line_end a b c d) is fits same = absurd (let p = whole_length_pos i in omega arith)
 behind_whole left i m last n run tail bits (whole k room others a b c d) is fits same =
     let left_is : room ≡ left - n = omega arith in
     let joined : true ∷ (others ++ tail) ≡ true ∷ bits = ap (λ l. l ++ tail) (sym c) ∙ same in

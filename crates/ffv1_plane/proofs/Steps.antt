@@ -1,6 +1,7 @@
 -- A plane's spelling, one scalar or one run further.
 use Rattle.std.proofs.Common.{◌≡◌, ℕ, zero, suc, ◌+◌, ◌-◌, ◌*◌, ◌/◌, ◌%◌, ◌<◌, ◌≤◌, Bool, true, false, not, ◌&&◌, ◌||◌, cond, eqb, List, [], ◌∷◌, ◌++◌, refl, sym, ap, ◌∙◌, subst, arith, append_assoc, inl, inr, ⊎_elim, ◌⊎◌, ℤ, map, fold}
-use Rattle.std.proofs.lemmas.Bool.{cases_lt}
+use mathlib.Core.Bool.{and-false, or-true}
+use Rattle.std.proofs.lemmas.Bool.{cases_lt, and_parts}
 use Rattle.std.proofs.lemmas.Nat.{div-add-mod', mod-mul-add}
 use Rattle.std.proofs.Math.Nat.{mul-add-mod_self_right, mod_self}
 use Rattle.std.proofs.lemmas.List.{append-nil}
@@ -12,7 +13,6 @@ use Rattle.std.proofs.lemmas.List.Elements.{filter-append}
 use Rattle.std.proofs.lemmas.List.Sums.{fold-append}
 use Rattle.ffv1_rice.specs.States.{start_state, after_value}
 use Rattle.ffv1_plane.specs.Progress.{Progress}
-use Rattle.ffv1_plane.proofs.Alike.{and_true}
 
 pub in_run_is : (r : Residuals) (s : ℕ) → is_in_run r s ≡ (is_zero (r.context s) || follows_skipped r s)
 unfolding is_in_run follows_skipped
@@ -21,11 +21,7 @@ in_run_is r (suc s) = refl
 
 not_skipped_behind : (r : Residuals) (s : ℕ) → is_skipped r s ≡ false → follows_skipped r (suc s) ≡ false
 unfolding follows_skipped
-not_skipped_behind r s coded = rw coded (either (not (begins_line r (suc s))))
-  where
-    either : (b : Bool) → (b && false) ≡ false
-    either true = refl
-    either false = refl
+not_skipped_behind r s coded = rw coded (and-false (not (begins_line r (suc s))))
 
 pub scalar_step : (earlier : ℕ → List ℤ) (r : Residuals) (s index : ℕ) (bits code left rest : List Bool) → Progress earlier r s bits index left
     → is_zero (r.context s) ≡ false
@@ -106,12 +102,8 @@ module _ (earlier : ℕ → List ℤ) (r : Residuals) (some : 0 < r.width) (s n 
       let zero_before : is_zero (r.difference (s + j)) ≡ true = skipped j (omega arith) in
       let inside : begins_line r (suc (s + j)) ≡ false = within j (omega arith) in
       let k : s + suc j ≡ suc (s + j) = omega arith in
-      let opened : is_in_run r (suc (s + j)) ≡ true = rw (inside, before, zero_before) (either (is_zero (r.context (suc (s + j))))) in
+      let opened : is_in_run r (suc (s + j)) ≡ true = rw (inside, before, zero_before) (or-true (is_zero (r.context (suc (s + j))))) in
       ap (λ i. is_in_run r i) k ∙ opened
-    where
-      either : (b : Bool) → (b || true) ≡ true
-      either true = refl
-      either false = refl
 
   pub skipped_to : (j : ℕ) → j < n → is_skipped r (s + j) ≡ true
   skipped_to j h = let run : is_in_run r (s + j) ≡ true = in_run_to j (omega arith) (omega arith) in
@@ -188,7 +180,7 @@ module _ (earlier : ℕ → List ℤ) (r : Residuals) (some : 0 < r.width) (s n 
         let follows : follows_skipped r (suc (s + j)) ≡ true = follows_to j (omega arith) (omega arith) in
         let k : s + suc j ≡ suc (s + j) = omega arith in
         let skip : is_skipped r (suc (s + j)) ≡ true = ap (λ i. is_skipped r i) (sym k) ∙ skipped_to (suc j) h in
-        let in_it : is_in_run r (suc (s + j)) ≡ true = (and_true (is_in_run r (suc (s + j))) (is_zero (r.difference (suc (s + j)))) skip).0 in
+        let in_it : is_in_run r (suc (s + j)) ≡ true = (and_parts (is_in_run r (suc (s + j))) (is_zero (r.difference (suc (s + j)))) skip).0 in
         let no_start : starts_run r (suc (s + j)) ≡ false = rw (in_it, follows) refl in
         let here : SamplesSpell earlier r (suc (suc (s + j))) (front ++ run) next = (
           front ++ run,

@@ -1,16 +1,16 @@
 -- Every plane and every picture has a spelling, whatever stands before it.
 use Rattle.std.proofs.Common.{◌≡◌, ℕ, zero, suc, ◌+◌, ◌-◌, ◌*◌, ◌^◌, ◌<◌, ◌≤◌, Bool, true, false, cond, List, [], ◌∷◌, ◌++◌, fold, length, refl, sym, subst, arith, append_assoc, ⊎_elim, ◌⊎◌, ℤ}
-use Rattle.std.proofs.lemmas.Bool.{cases_lt, cases_eq}
+use Rattle.std.proofs.lemmas.Bool.{cases_lt, cases_eq, cases_Bool}
 use Rattle.std.proofs.lemmas.List.{append-nil}
-use Rattle.std.proofs.Math.Nat.{one-le-pow, mul-le-mul_right}
+use Rattle.std.proofs.Math.Nat.{mul-le-mul_right}
 use Rattle.std.proofs.Math.Pow.{pow-lt}
 use Rattle.ffv1_bits.specs.Bits.{number_bits}
 use Rattle.ffv1_rice.specs.States.{ContextState, IsParameter, start_state, corrected, counted, with_value, coded_value, after_value, code_number}
 use Rattle.ffv1_rice.specs.Codes.{SpellsValue, code_bits}
 use Rattle.ffv1_rice.specs.Runs.{SpellsRun, line_end, whole, rest, over_end, run_exponent, whole_length}
+use Rattle.ffv1_rice.proofs.OneRun.{whole_length_pos}
 use Rattle.ffv1_plane.specs.Samples.{Plane}
 use Rattle.ffv1_plane.specs.Spelling.{Residuals, residuals_of, is_skipped, is_coded, starts_run, left_in_line, skipped_among, run_length, value_at, context_number, state_after, values_before, state_before, SampleSpells, SamplesSpell, PlaneSpells}
-use Rattle.ffv1_plane.proofs.Alike.{is_bool}
 
 -- ---- codes
 
@@ -63,9 +63,6 @@ code_of values value =
 
 -- ---- runs
 
-some_length : (i : ℕ) → 1 ≤ whole_length i
-some_length i = one-le-pow (run_exponent i) 2 (omega arith)
-
 -- each length has a run
 run_within : (fuel n left i : ℕ) → left ≤ fuel → n ≤ left → (bits : List Bool) × (next : ℕ) × SpellsRun n left i bits next
 run_within zero n left i low fits = ([], i, line_end (omega arith) (omega arith) refl refl)
@@ -78,7 +75,7 @@ run_within (suc fuel) n left i low fits = ⊎_elim
     (let c : (n < 1) ⊎ (1 ≤ n) = cases_lt n 1 in c))
     (cases_lt n left))
     (λ more.
-    let p = some_length i in
+    let p = whole_length_pos i in
     let r = run_within fuel (n - whole_length i) (left - whole_length i) (i + 1) (omega arith) (omega arith) in
     (true ∷ r.0, r.1, whole (n - whole_length i) (left - whole_length i) r.0 (omega arith) (omega arith) refl r.2))
     (cases_lt n (whole_length i))
@@ -111,7 +108,7 @@ code_part earlier r s = ⊎_elim
     let c = code_of (earlier (context_number r s) ++ values_before r (context_number r s) s) (value_at r s) in
     (c.0, record { coded = λ h. c.1; not_coded = λ h. absurd (differ yes h) }))
     (λ no. ([], record { coded = λ h. absurd (differ h no); not_coded = λ h. refl }))
-    (is_bool (is_coded r s))
+    (cases_Bool (is_coded r s))
 
 -- what follows the run of a sample
 pub behind_run : (earlier : ℕ → List ℤ) (r : Residuals) (s index next : ℕ) (run : List Bool)
@@ -128,7 +125,7 @@ sample_of earlier r s index = ⊎_elim
     let all = behind_run earlier r s index run.1 run.0 (λ h. run.2) (λ h. absurd (differ yes h)) in
     (run.0 ++ all.0, run.1, all.1))
     (λ no. let all = behind_run earlier r s index index [] (λ h. absurd (differ h no)) (λ h. (refl, refl)) in ([] ++ all.0, index, all.1))
-    (is_bool (starts_run r s))
+    (cases_Bool (starts_run r s))
 
 pub spells_on : (earlier : ℕ → List ℤ) (r : Residuals) (count n : ℕ) (front : List Bool) (index : ℕ) → n ≤ count → SamplesSpell earlier r n front index
     → (back : List Bool) × (last : ℕ) × SamplesSpell earlier r count (front ++ back) last

@@ -1,5 +1,5 @@
 -- A whole plane, line by line.
-use Rattle.std.proofs.Common.{◌≡◌, ℕ, zero, suc, ◌∷◌, ⊎_elim, ◌+◌, ◌-◌, ◌*◌, ◌/◌, ◌%◌, ◌<◌, ◌≤◌, List, Bool, [], ◌++◌, get_or, replicate, length, length-append, refl, arith, ℤ}
+use Rattle.std.proofs.Common.{◌≡◌, ℕ, zero, suc, ⊎_elim, ◌+◌, ◌-◌, ◌*◌, ◌/◌, ◌%◌, ◌<◌, ◌≤◌, List, Bool, ◌++◌, get_or, replicate, length, length-append, refl, arith, ℤ}
 use Rattle.std.proofs.Math.Nat.{mul-le-mul_left}
 use Rattle.std.proofs.Math.Seq.{get_or-append_right}
 use Rattle.std.proofs.lemmas.Nat.{div-add-mod', div_below}
@@ -12,10 +12,10 @@ use Rattle.ffv1_plane.specs.Halts.{IsNextHalted, IsDecodingHalted}
 use Rattle.ffv1_plane.specs.declared.plane.PlaneFault.{PlaneFault}
 use Rattle.ffv1_plane.specs.declared.plane.PlaneFault.TheVariants as plane_faults
 
-pub past_end : (xs : List ℕ) (i : ℕ) → length xs ≤ i → get_or xs i 0 ≡ 0
-past_end [] i h = refl
-past_end (x ∷ xs) zero h = absurd (omega arith)
-past_end (x ∷ xs) (suc i) h = past_end xs i (omega arith)
+pub get_or-zeros : (n i : ℕ) → get_or (replicate n zero) i zero ≡ zero
+get_or-zeros zero i = refl
+get_or-zeros (suc n) zero = refl
+get_or-zeros (suc n) (suc i) = get_or-zeros n i
 
 -- the line of a sample ends within the plane
 pub line_fits : (n w h : ℕ) → 1 ≤ w → n < w * h → n + w ≤ w * h + n % w
@@ -33,14 +33,9 @@ filled width height samples small fits = record {
   bytes = λ s. ⊎_elim
       (λ inside. let e = get_or_append_left samples (replicate (width * height - length samples) 0) 0 s inside in let h = small s in omega (arith, e, h))
       (λ behind. let e = get_or-append_right samples (replicate (width * height - length samples) 0) s 0 behind in
-      let z = none_there (width * height - length samples) (s - length samples) in omega (arith, e, z))
+      let z = get_or-zeros (width * height - length samples) (s - length samples) in omega (arith, e, z))
       (cases_lt s (length samples));
 }
-  where
-    none_there : (n i : ℕ) → get_or (replicate n zero) i zero ≡ zero
-    none_there zero i = refl
-    none_there (suc n) zero = refl
-    none_there (suc n) (suc i) = none_there n i
 
 -- where a line halts, so does a plane that begins with it
 pub plane_halted : (width height : ℕ) (entry : ℕ → ℕ → ℤ) (before states : List ContextState) (bits left : List Bool) (samples : List ℕ) (index : ℕ)

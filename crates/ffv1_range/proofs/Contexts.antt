@@ -1,18 +1,14 @@
 -- The entries of a set's tables come to less than the number of its contexts.
-use Rattle.std.proofs.Common.{◌≡◌, ℕ, zero, suc, ◌+◌, ◌-◌, ◌*◌, ◌<◌, ◌≤◌, Bool, true, false, cond, List, [], ◌∷◌, length, map, refl, ap, ◌∙◌, arith, ⊎_elim, pos, neg_ℤ, nat_abs, get_or, eqb, ltb}
+use Rattle.std.proofs.Common.{◌≡◌, ℕ, zero, suc, ◌+◌, ◌-◌, ◌*◌, ◌<◌, ◌≤◌, Bool, true, false, cond, List, [], ◌∷◌, length, map, ap, ◌∙◌, arith, ⊎_elim, pos, neg_ℤ, nat_abs, get_or, eqb, ltb}
 use Rattle.std.specs.Prelude.{nat_le, sum, slice_index}
 use Rattle.std.specs.List.{All}
 use Rattle.std.proofs.Math.Nat.{mul-le-mul_left}
 use Rattle.std.proofs.lemmas.Bool.{lt-leb, cases_lt}
+use Rattle.std.proofs.lemmas.List.{get_or_past}
 use Rattle.std.proofs.lemmas.List.FromFn.{get_or-map-range_with_len, length-map-range_with_len}
 use Rattle.std.proofs.lemmas.List.Sums.{sum_by-cons}
 use Rattle.ffv1_range.specs.Tables.{IsTable, IsTableSet, HasContexts, HaveContexts, AreScalesSmall, runs_ended, half_of, halves_of, table_entry, scale_after, scale_after_all, set_of}
 use Rattle.ffv1_range.specs.Setup.{SetFields, IsSetFields}
-
-past_end : {X : Type 0} (xs : List X) (i : ℕ) (d : X) → length xs ≤ i → get_or xs i d ≡ d
-past_end [] i d h = refl
-past_end (x ∷ xs) zero d h = absurd (omega arith)
-past_end (x ∷ xs) (suc i) d h = past_end xs i d (omega arith)
 
 -- ---- the greatest entry of a table
 
@@ -47,7 +43,7 @@ half_low scale runs k h = ⊎_elim
     omega (arith, is, scaled))
     (λ past.
     let size : length (half_of scale runs) ≡ 128 = length-map-range_with_len (λ j. scale * runs_ended 0 runs j) 0 128 in
-    let none : slice_index (half_of scale runs) k ≡ 0 = past_end (half_of scale runs) k 0 (omega arith) in
+    let none : slice_index (half_of scale runs) k ≡ 0 = get_or_past (half_of scale runs) k 0 (omega arith) in
     omega (arith, none))
     (cases_lt k 128)
 

@@ -85,7 +85,7 @@ delta-found : (closed : Bool) (k : ℕ) (c : Coder) (deltas : List (List ℕ)) (
 delta-found closed k c deltas y h g =
     let row : List ℕ = slice_index_or deltas k [] in
     let x = bind_is_ok (lifted Range signed_symbol_form closed (place_of c row)) (λ x. Ok (x.0, place_of x.1.coder (set deltas k x.1.states))) y g in
-    let spelled = (signed_symbol_is_spelled closed (place_of c row) x.0.1 x.0.0).0 (lifted_ok (signed_symbol_form closed (place_of c row)) x.0 x.1) in
+    let spelled = (signed_symbol_is_spelled closed (place_of c row) x.0.1 x.0.0).0 (lifted_ok Range (signed_symbol_form closed (place_of c row)) x.0 x.1) in
     let pair = same_ok (x.0.0, place_of x.0.1.coder (set deltas k x.0.1.states)) y x.2 in
     subst (λ z. DeltaAt closed k c deltas z) pair
     (record {
@@ -262,7 +262,7 @@ SetDeltasAt closed contexts p q = (deltas : Option (List (List ℤ))) × AreDelt
 
 flag_bits : (closed : Bool) (p q : Place) (b : Bool) → flag closed p ≡ Ok (b, q) → IsRangeRun closed p (fields_bits (bit b ∷ [])) q
 unfolding IsRangeRun fields_bits
-flag_bits closed p q b h = (q, lifted_ok (slot_form 0 closed p) (b, q) h, refl)
+flag_bits closed p q b h = (q, lifted_ok Range (slot_form 0 closed p) (b, q) h, refl)
 
 set_rest_found : (closed : Bool) (contexts : ℕ) (c : Coder) (main : List ℕ) (deltas : List (List ℕ)) (b : Bool) (q : Place) (y : Unit {0} × PlaceOf TwoRows)
     → IsRangeRun closed (place_of c main) (fields_bits (bit b ∷ [])) q → coded_rest contexts b closed (place_of q.coder (q.states, deltas)) ≡ Ok y

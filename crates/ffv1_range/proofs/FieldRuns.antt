@@ -20,9 +20,9 @@ abbrev pub Extends : Bool → Place → Place → List FieldValue → Type 0
 Extends closed p q fields = (rest : List FieldValue) (z : Place) → IsRangeRun closed q (fields_bits rest) z
     → IsRangeRun closed p (fields_bits (fields ++ rest)) z
 
-pub lifted_ok : {A : Type 0} (r : Result A RangeFault) (x : A) → lifted_result Range r ≡ Ok x → r ≡ Ok x
-lifted_ok (Ok y) x h = ap (λ z. Ok z) (same_ok y x h)
-lifted_ok (Err e) x h = absurd cc
+pub lifted_ok : {A E : Type 0} (tell : RangeFault → E) (r : Result A RangeFault) (x : A) → lifted_result tell r ≡ Ok x → r ≡ Ok x
+lifted_ok tell (Ok y) x h = ap (λ z. Ok z) (same_ok y x h)
+lifted_ok tell (Err e) x h = absurd cc
 
 -- ---- where a field is read, it is coded
 
@@ -38,7 +38,7 @@ pub number_step : {A : Type 0} (closed : Bool) (p : Place) (k : ℕ → Form (Li
 unfolding fields_bits
 number_step closed p k y h =
     let x = bind_is_ok (number closed p) (λ x. k x.0 closed x.1) y h in
-    let spelled = (symbol_is_spelled closed p x.0.1 x.0.0).0 (lifted_ok (symbol_form closed p) x.0 x.1) in
+    let spelled = (symbol_is_spelled closed p x.0.1 x.0.0).0 (lifted_ok Range (symbol_form closed p) x.0 x.1) in
     record {
       value = x.0.0;
       place = x.0.1;
@@ -59,7 +59,7 @@ pub flag_step : {A : Type 0} (closed : Bool) (p : Place) (k : Bool → Form (Lis
 unfolding fields_bits IsRangeRun
 flag_step closed p k y h =
     let x = bind_is_ok (flag closed p) (λ x. k x.0 closed x.1) y h in
-    record { value = x.0.0; place = x.0.1; coded = λ rest z run. (x.0.1, lifted_ok (slot_form 0 closed p) x.0 x.1, run); rest = x.2 }
+    record { value = x.0.0; place = x.0.1; coded = λ rest z run. (x.0.1, lifted_ok Range (slot_form 0 closed p) x.0 x.1, run); rest = x.2 }
 
 pub accepted_step : {A : Type 0} (closed : Bool) (p : Place) (t : Bool) (f : SetupFault) (k : Bool → Form (List ℕ) A SetupFault) (y : A × Place)
     → (accepted t f >>= k) closed p ≡ Ok y

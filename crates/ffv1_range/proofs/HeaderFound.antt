@@ -21,6 +21,7 @@ use Rattle.ffv1_range.specs.declared.head.HeadFault.TheVariants.{Range, NotKey}
 use Rattle.ffv1_range.specs.declared.head.SliceHead.{SliceHead}
 use Rattle.ffv1_range.proofs.Forms.{place_of, bind_ok}
 use Rattle.ffv1_range.proofs.Spelling.{bind_is_ok, same_ok, run_append, run_split, symbol_is_spelled}
+use Rattle.ffv1_range.proofs.FieldRuns.{lifted_ok}
 
 -- ---- symbols in a row
 
@@ -140,10 +141,6 @@ start_leaves (a ∷ b ∷ rest) c h =
 
 -- ---- the keyframe bit
 
-lifted_ok : {A : Type 0} (r : Result A RangeFault) (x : A) → lifted_result Range r ≡ Ok x → r ≡ Ok x
-lifted_ok (Ok y) x h = ap Ok (same_ok y x h)
-lifted_ok (Err e) x h = absurd cc
-
 key_bit : (b : Bool) (c d : Coder) → (if b then Ok c else Err NotKey) ≡ Ok d → (b ≡ true) × (c ≡ d)
 key_bit true c d h = (refl, same_ok c d h)
 key_bit false c d h = absurd cc
@@ -153,7 +150,7 @@ key_found false c d h = sym (same_ok c d h)
 key_found true c d h =
     let x = bind_is_ok (lifted_result Range (bit_at false c 128)) (λ bit. if bit.0 then Ok bit.1 else Err NotKey) d h in
     let bit = key_bit x.0.0 x.0.1 d x.2 in
-    lifted_ok (bit_at false c 128) x.0 x.1 ∙ ap (λ z. Ok (z, x.0.1)) bit.0 ∙ ap (λ z. Ok (true, z)) bit.1
+    lifted_ok Range (bit_at false c 128) x.0 x.1 ∙ ap (λ z. Ok (z, x.0.1)) bit.0 ∙ ap (λ z. Ok (true, z)) bit.1
 
 key_read : (first : Bool) (c d : Coder) → MatchBool first (bit_at false c 128 ≡ Ok (true, d)) (d ≡ c) → key_coder first c ≡ Ok d
 key_read false c d h = ap Ok (sym h)
@@ -184,13 +181,13 @@ header_found content first fields place h =
     let last = bind_is_ok (lifted_result Range (bit_at false read.0.1.coder 129))
     (λ last. Ok (read.0.0, length content - (length last.1.rest + 1))) (fields, place) read.2 in
     let end = same_ok (read.0.0, length content - (length last.0.1.rest + 1)) (fields, place) last.2 in
-    let got = fields_found key.0 read.0.0 read.0.1 (lifted_ok (fields_form false (place_of key.0 tt)) read.0 read.1) in
+    let got = fields_found key.0 read.0.0 read.0.1 (lifted_ok Range (fields_form false (place_of key.0 tt)) read.0 read.1) in
     let same : read.0.0 ≡ fields = ap (λ z. z.0) end in
     let symbols = subst (λ z. AreSymbols false 9 (place_of key.0 fresh_row) got.0 z) same got.2 in
-    let started = lifted_ok (start_of false content) start.0 start.1 in
+    let started = lifted_ok Range (start_of false content) start.0 start.1 in
     let keyed = key_found first start.0 key.0 key.1 in
     let ended : bit_at false got.0.coder 129 ≡ Ok last.0 = ap (λ z. bit_at false z 129) (sym got.1)
-    ∙ lifted_ok (bit_at false read.0.1.coder 129) last.0 last.1 in
+    ∙ lifted_ok Range (bit_at false read.0.1.coder 129) last.0 last.1 in
     record {
       before_key = start.0;
       start = started;

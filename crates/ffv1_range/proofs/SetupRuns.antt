@@ -2,7 +2,7 @@
 use Rattle.std.proofs.Common.{◌≡◌, ◌≢◌, ℕ, suc, ◌+◌, ◌*◌, ◌<◌, ◌≤◌, ◌⊎◌, Bool, true, false, List, [], ◌∷◌, ◌++◌, length, map, Result, Ok, refl, sym, ap, ◌∙◌, subst, arith, inl, inr}
 use Rattle.std.specs.Prelude.{nat_le, ◌==◌, ◌||◌, not, if◌then◌else◌}
 use Rattle.std.specs.List.{All, flat_map}
-use Rattle.std.proofs.lemmas.Bool.{eqb-true, eq-eqb, leb-true, le-leb, and_parts, and_from, or_cases, not-true, not_from_false}
+use Rattle.std.proofs.lemmas.Bool.{eqb-true, eq-eqb, leb-true, le-leb, and_parts, and_from, or_cases, not-true, not_from_false, or_right}
 use Rattle.std.proofs.lemmas.List.Elements.{All-map}
 use Rattle.std.proofs.lemmas.List.{length-replicate, get_or-replicate}
 use Rattle.ffv1_bits.specs.Limits.{greatest_side, most_tiles}
@@ -89,12 +89,8 @@ shift_test false shift h = refl
 depth_found : (depth : ℕ) → (depth == 0 || depth == 8) ≡ true → (depth ≡ 0) ⊎ (depth ≡ 8)
 depth_found depth h = elim (or_cases (depth == 0) (depth == 8) h) [ inl e ↦ inl (eqb-true depth 0 e) | inr e ↦ inr (eqb-true depth 8 e) ]
 
-or_second : (a b : Bool) → b ≡ true → (a || b) ≡ true
-or_second true b h = refl
-or_second false b h = h
-
 depth_test : (depth : ℕ) → (depth ≡ 0) ⊎ (depth ≡ 8) → (depth == 0 || depth == 8) ≡ true
-depth_test depth h = elim h [ inl e ↦ ap (λ b. b || depth == 8) (eq-eqb depth 0 e) | inr e ↦ or_second (depth == 0) (depth == 8) (eq-eqb depth 8 e) ]
+depth_test depth h = elim h [ inl e ↦ ap (λ b. b || depth == 8) (eq-eqb depth 0 e) | inr e ↦ or_right (depth == 0) (depth == 8) (eq-eqb depth 8 e) ]
 
 depth_small : (depth : ℕ) → (depth ≡ 0) ⊎ (depth ≡ 8) → IsSymbol depth
 depth_small depth h = elim h [ inl e ↦ omega arith | inr e ↦ omega arith ]

@@ -7,11 +7,12 @@ use Rattle.ffv1_bits.specs.Bits.{has_bit, bit_value}
 use Rattle.ffv1_range.specs.Results.{◌>>=◌ as ◌>>>◌}
 use Rattle.ffv1_range.specs.Coding.{Place, slot_at, IsRangeRun}
 use Rattle.ffv1_range.specs.Symbols.{symbol_bits, signed_symbol_bits, counting_ones, low_slots, exponent_of}
-use Rattle.ffv1_range.specs.Forms.{Form, ◌>>=◌, giving, slot_form}
+use Rattle.ffv1_range.specs.Forms.{Form, ◌>>=◌, giving}
 use Rattle.ffv1_range.specs.Reading.{exponent_form, low_form, symbol_form, signed_symbol_form, SymbolIsSpelled, SignedSymbolIsSpelled}
 use Rattle.ffv1_range.specs.declared.coding.RangeFault.{RangeFault}
-use Rattle.std.specs.Prelude.{ℤ, pos, negsuc, neg_ℤ, unsigned_abs, if◌then◌else◌}
+use Rattle.std.specs.Prelude.{ℤ, pos, negsuc, unsigned_abs, if◌then◌else◌}
 use Rattle.ffv1_range.proofs.Forms.{bind_ok}
+use Rattle.ffv1_range.proofs.SymbolForms.{sign_rest, magnitude_rest, signed_exponent_rest, signed_rest}
 
 -- one more bit of a
 halves : (x : ℕ) → 2 * (x / 2) + bit_value (eqb (x % 2) 1) ≡ x
@@ -110,29 +111,17 @@ unfolding IsRangeRun
 run_split closed [] ys p q h = (p, refl, h)
 run_split closed (x ∷ xs) ys p q h = let r = run_split closed xs ys h.0 q h.2 in (r.0, (h.0, h.1, r.1), r.2)
 
-sign_rest : ℕ → Bool → Form (List ℕ) ℤ RangeFault
-sign_rest a is_negative = giving (if is_negative then neg_ℤ (pos a) else pos a)
-
-magnitude_rest : ℕ → ℕ → Form (List ℕ) ℤ RangeFault
-magnitude_rest e a = slot_form (11 + min e 10) >>= sign_rest a
-
-exponent_rest : ℕ → Form (List ℕ) ℤ RangeFault
-exponent_rest e = low_form e 1 >>= magnitude_rest e
-
-signed_rest : Bool → Form (List ℕ) ℤ RangeFault
-signed_rest is_zero = if is_zero then giving (pos 0) else (exponent_form 32 0 >>= exponent_rest)
-
 -- a magnitude and its sign
 signed_large_run : (closed : Bool) (n : ℕ) (is_negative : Bool) (p q : Place) → suc n < 2 ^ 32
     → IsRangeRun closed p (symbol_bits (suc n) ++ (11 + min (exponent_of (suc n)) 10, is_negative) ∷ []) q
     → signed_symbol_form closed p ≡ sign_rest (suc n) is_negative closed q
-unfolding IsRangeRun signed_symbol_form signed_rest exponent_rest magnitude_rest sign_rest
+unfolding IsRangeRun signed_symbol_form signed_rest signed_exponent_rest magnitude_rest sign_rest
 signed_large_run closed n is_negative p q l h =
     let s = run_split closed (symbol_bits (suc n)) ((11 + min (exponent_of (suc n)) 10, is_negative) ∷ []) p q h in
     let r = large_run closed n p s.0 l s.1 in
     let sign : (m : Place) × (slot_at closed s.0 (11 + min (exponent_of (suc n)) 10) ≡ Ok (is_negative, m)) × (m ≡ q) = s.2 in
     bind_ok (slot_at closed p 0) (λ x. signed_rest x.0 closed x.1) (false, r.first) r.not_zero
-    ∙ bind_ok (exponent_form 32 0 closed r.first) (λ x. exponent_rest x.0 closed x.1) (exponent_of (suc n), r.counted) r.exponent
+    ∙ bind_ok (exponent_form 32 0 closed r.first) (λ x. signed_exponent_rest x.0 closed x.1) (exponent_of (suc n), r.counted) r.exponent
     ∙ bind_ok (low_form (exponent_of (suc n)) 1 closed r.counted) (λ x. magnitude_rest (exponent_of (suc n)) x.0 closed x.1) (suc n, s.0) r.magnitude
     ∙ bind_ok (slot_at closed s.0 (11 + min (exponent_of (suc n)) 10)) (λ x. sign_rest (suc n) x.0 closed x.1) (is_negative, sign.0) sign.1
     ∙ ap (λ z. sign_rest (suc n) is_negative closed z) sign.2
@@ -140,7 +129,7 @@ signed_large_run closed n is_negative p q l h =
 -- Where a signed symbol's bits are coded, it is read.
 signed_run : (closed : Bool) (z : ℤ) (p q : Place) → unsigned_abs z < 2 ^ 32 → IsRangeRun closed p (signed_symbol_bits z) q
     → signed_symbol_form closed p ≡ Ok (z, q)
-unfolding IsRangeRun symbol_bits signed_symbol_bits signed_symbol_form sign_rest signed_rest exponent_rest magnitude_rest
+unfolding IsRangeRun symbol_bits signed_symbol_bits signed_symbol_form sign_rest signed_rest signed_exponent_rest magnitude_rest
 signed_run closed (pos zero) p q l h =
     bind_ok (slot_at closed p 0) (λ x. signed_rest x.0 closed x.1) (true, h.0) h.1
     ∙ ap (λ z. Ok (pos 0, z)) h.2
@@ -304,12 +293,12 @@ sign_found closed (suc n) e true p m o q z l positive x run s g =
 
 signed_first_found : (closed : Bool) (z : ℤ) (p q : Place) (bit : Bool) (o : Place) → slot_at closed p 0 ≡ Ok (bit, o) → signed_rest bit closed o ≡ Ok (z, q)
     → IsSpelled closed z p q
-unfolding IsRangeRun symbol_bits signed_symbol_bits signed_rest exponent_rest magnitude_rest
+unfolding IsRangeRun symbol_bits signed_symbol_bits signed_rest signed_exponent_rest magnitude_rest
 signed_first_found closed z p q true o s g =
     let pair : ◌≡◌ {A = ℤ × Place} (pos 0, o) (z, q) = same_ok (pos 0, o) (z, q) g in
     subst (λ y. IsSpelled closed y p q) (ap (λ y. y.0) pair) (lit< tt, (o, s, ap (λ y. y.1) pair))
 signed_first_found closed z p q false o s g =
-    let e = bind_is_ok (exponent_form 32 0 closed o) (λ x. exponent_rest x.0 closed x.1) (z, q) g in
+    let e = bind_is_ok (exponent_form 32 0 closed o) (λ x. signed_exponent_rest x.0 closed x.1) (z, q) g in
     let a = bind_is_ok (low_form e.0.0 1 closed e.0.1) (λ x. magnitude_rest e.0.0 x.0 closed x.1) (z, q) e.2 in
     let n = bind_is_ok (slot_at closed a.0.1 (11 + min e.0.0 10)) (λ x. sign_rest a.0.0 x.0 closed x.1) (z, q) a.2 in
     let r = large_read closed a.0.0 e.0.0 p o e.0.1 a.0.1 s e.1 a.1 in
@@ -317,7 +306,7 @@ signed_first_found closed z p q false o s g =
 
 -- What is read as a signed symbol is coded there.
 signed_found : (closed : Bool) (z : ℤ) (p q : Place) → signed_symbol_form closed p ≡ Ok (z, q) → IsSpelled closed z p q
-unfolding signed_symbol_form signed_rest exponent_rest magnitude_rest sign_rest
+unfolding signed_symbol_form signed_rest signed_exponent_rest magnitude_rest sign_rest
 signed_found closed z p q h =
     let x = bind_is_ok (slot_at closed p 0) (λ x. signed_rest x.0 closed x.1) (z, q) h in
     signed_first_found closed z p q x.0.0 x.0.1 x.1 x.2

@@ -5,6 +5,7 @@ use Rattle.std.proofs.Math.Nat.{pow-suc, mul-le-mul_left, mul-le-mul_right}
 use Rattle.std.proofs.lemmas.Nat.{pow_pos}
 use mir.Val.{bool_byte}
 use Rattle.ffv1_bits.specs.Bits.{bit_value}
+use Rattle.ffv1_bits.proofs.Places.{bool_byte-bit_value}
 use Rattle.ffv1_range.specs.Coding.{Coder}
 use Rattle.ffv1_range.specs.Decoder.{Reader}
 use Rattle.ffv1_range.specs.Forms.{Form, ◌>>=◌, giving, from_place, form_at, Reads, same_fault, slot_form}
@@ -63,10 +64,6 @@ exponent_over k e r c row l h =
 
 -- ---- the bits of a magnitude
 
-byte_value : (b : Bool) → bool_byte b ≡ bit_value b
-byte_value true = refl
-byte_value false = refl
-
 low_rest : ℕ → ℕ → Bool → Form (List ℕ) ℕ RangeFault
 low_rest n a bit = low_form n (2 * a + bit_value bit)
 
@@ -77,7 +74,7 @@ unfolding low_form low_rest
 low_turn e k n a slot v bit q r s start row states l m b so h =
     continue_both same_fault (low_form e 1) (low_form k a) (low_form n (2 * a + v)) q r s start row states so
     (subst (λ z. Continues same_fault (low_form z a) r row (low_form n (2 * a + v)) s states) (sym l)
-    (subst (λ z. Continues same_fault (low_form (suc n) a) r row (low_form n (2 * a + z)) s states) (sym (b ∙ byte_value bit))
+    (subst (λ z. Continues same_fault (low_form (suc n) a) r row (low_form n (2 * a + z)) s states) (sym (b ∙ bool_byte-bit_value bit))
     (continue_step same_fault (slot_form (22 + min n 9)) (low_rest n a) r s row states bit
     (subst (λ z. Reads same_fault (slot_form z) r row (Ok bit) s states) m h))))
 
@@ -164,16 +161,16 @@ symbol_read bit e r s t u row states mid after result b h k l =
     (continue_step same_fault (exponent_form 32 0) (λ e. low_form e 1) s t states mid e k))
     l
 
-sign_rest : ℕ → Bool → Form (List ℕ) ℤ RangeFault
+unfoldable pub sign_rest : ℕ → Bool → Form (List ℕ) ℤ RangeFault
 sign_rest a is_negative = giving (if is_negative then neg_ℤ (pos a) else pos a)
 
-magnitude_rest : ℕ → ℕ → Form (List ℕ) ℤ RangeFault
+unfoldable pub magnitude_rest : ℕ → ℕ → Form (List ℕ) ℤ RangeFault
 magnitude_rest e a = slot_form (11 + min e 10) >>= sign_rest a
 
-signed_exponent_rest : ℕ → Form (List ℕ) ℤ RangeFault
+unfoldable pub signed_exponent_rest : ℕ → Form (List ℕ) ℤ RangeFault
 signed_exponent_rest e = low_form e 1 >>= magnitude_rest e
 
-signed_rest : Bool → Form (List ℕ) ℤ RangeFault
+unfoldable pub signed_rest : Bool → Form (List ℕ) ℤ RangeFault
 signed_rest is_zero = if is_zero then giving (pos 0) else (exponent_form 32 0 >>= signed_exponent_rest)
 
 pub signed_fails : (f : RangeFault) (r s : Reader) (row states : List ℕ) → Reads same_fault (slot_form 0) r row (Err f) s states

@@ -8,17 +8,17 @@ use Rattle.ffv1_rice.specs.declared.run.RunWord.{RunWord}
 use Rattle.ffv1_rice.specs.declared.run.RunWord.TheVariants.{Full, Rest, ToEnd}
 use Rattle.ffv1_rice.specs.Runs.{SpellsRun, line_end, whole, rest, over_end, long_rest, run_exponent, whole_length, IsRunWord, IsRead, IsCutWord, RunsAreOne, WordsAreOne, CutsExcludeRuns}
 
-some_length : (i : ℕ) → 0 < whole_length i
-some_length i = one-le-pow (run_exponent i) 2 (omega arith)
+pub whole_length_pos : (i : ℕ) → 0 < whole_length i
+whole_length_pos i = one-le-pow (run_exponent i) 2 (omega arith)
 
 run_alike : {m n left room i next then : ℕ} {bits words : List Bool} (others more : List Bool) → left ≡ room → SpellsRun m left i bits next
     → SpellsRun n room i words then → bits ++ others ≡ words ++ more → (m ≡ n) × (next ≡ then) × (others ≡ more)
 run_alike others more e (line_end a b c d) (line_end p q r s) same = (omega arith, omega arith, cc)
-run_alike {i = i} others more e (line_end a b c d) (whole m room tail p q r s) same = absurd (omega (arith, some_length i))
+run_alike {i = i} others more e (line_end a b c d) (whole m room tail p q r s) same = absurd (omega (arith, whole_length_pos i))
 run_alike others more e (line_end a b c d) (rest p q r s) same = absurd (omega arith)
 run_alike others more e (line_end a b c d) (over_end p q r s t) same = absurd (omega arith)
 run_alike others more e (line_end a b c d) (long_rest told p q r s t u) same = absurd (omega arith)
-run_alike {i = i} others more e (whole m room tail a b c d) (line_end p q r s) same = absurd (omega (arith, some_length i))
+run_alike {i = i} others more e (whole m room tail a b c d) (line_end p q r s) same = absurd (omega (arith, whole_length_pos i))
 run_alike others more e (whole m room tail a b c d) (whole n place words p q r s) same =
     let behind : tail ++ others ≡ words ++ more = cc in
     let ind = run_alike others more (let h : room ≡ place = omega arith in h) d s behind in

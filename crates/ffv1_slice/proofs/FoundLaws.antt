@@ -8,18 +8,12 @@ use Rattle.ffv1_slice.specs.Chain.{size_before, IsCut, IsLinkOf, Piece, piece_of
 use Rattle.ffv1_slice.specs.Walk.{links_of}
 use Rattle.ffv1_slice.specs.Slices.{IsSliceOf, IsFoundIn, IsOriginal, slice_read, with_tile, slice_at, found_slices, FoundSlicesAreFound, OriginalIsFound}
 use Rattle.ffv1_slice.specs.declared.slice.LinkFault.{LinkFault}
-use Rattle.ffv1_slice.proofs.Links.{are_links}
+use Rattle.ffv1_slice.proofs.Links.{are_links, Contains-head, Contains-cons}
 use Rattle.ffv1_slice.specs.Near.{starts_at}
 use Rattle.ffv1_slice.proofs.Places.{joined, size_in, range_in, around, starts_next, IsCutAt, end_of_tile, tile_of_cut, first_tile}
 use Rattle.ffv1_slice.proofs.SliceLaws.{slice_found, slice_run, one_tile}
 
 -- ---- what a list keeps under a test
-
-Contains-head : {X : Type 0} (x : X) (xs : List X) → Contains (x ∷ xs) x
-Contains-head x xs = (0, omega arith, refl)
-
-Contains-cons : {X : Type 0} (y x : X) (xs : List X) → Contains xs x → Contains (y ∷ xs) x
-Contains-cons y x xs h = (suc h.0, (let l : h.0 < length xs = h.1 in omega arith), h.2)
 
 kept_at : {X Y : Type 0} (h : X → Option Y) (xs : List X) (k : ℕ) (x : X) (y : Y) → k < length xs → get_or xs k x ≡ x → h x ≡ Some y
     → Contains (filter_map h xs) y
@@ -69,7 +63,7 @@ with_tile_is bytes (Err e) tile slice h = absurd cc
 IsLinkPiece : List ℕ → Piece → Type 0
 IsLinkPiece payload piece = (q : ℕ) × IsLinkOf payload piece.start q × (piece ≡ piece_of payload piece.start q)
 
-found_from : (setup : SetupValue) (payload : List ℕ) (tile : ℕ) (slice : List ℕ) → Contains (found_slices setup payload) (tile, slice)
+pub found_from : (setup : SetupValue) (payload : List ℕ) (tile : ℕ) (slice : List ℕ) → Contains (found_slices setup payload) (tile, slice)
     → IsFoundIn setup payload tile slice
 unfolding found_slices IsLinkPiece
 found_from setup payload tile slice h =
@@ -86,7 +80,7 @@ found_from setup payload tile slice h =
           (slice_found setup kept.from.bytes (kept.from.start == 0) tile parts.0);
     }
 
-found_to : (setup : SetupValue) (payload : List ℕ) (tile : ℕ) (slice : List ℕ) → IsFoundIn setup payload tile slice
+pub found_to : (setup : SetupValue) (payload : List ℕ) (tile : ℕ) (slice : List ℕ) → IsFoundIn setup payload tile slice
     → Contains (found_slices setup payload) (tile, slice)
 unfolding found_slices
 found_to setup payload tile slice h =

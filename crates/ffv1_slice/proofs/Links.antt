@@ -3,6 +3,7 @@ use Rattle.std.proofs.Common.{◌≡◌, ℕ, suc, zero, ◌+◌, ◌-◌, ◌*�
 use Rattle.std.specs.Prelude.{◌⊎◌}
 use Rattle.std.specs.List.{All, AllByRecursion, AllPairs, Contains}
 use Rattle.std.proofs.lemmas.List.Elements.{All-cons, All-nil, All-weaker}
+use Rattle.std.proofs.lemmas.List.Kept.{AllPairs-cons}
 use Rattle.std.proofs.lemmas.Bool.{cond-true, cond_both, le-leb, leb-true, cases_lt}
 use Rattle.ffv1_slice.specs.Chain.{size_before, IsCut, IsEnd, IsLinkOf, Piece, piece_of, AreLinksOf}
 use Rattle.ffv1_slice.specs.Chain.IsEnd.{last, before}
@@ -69,10 +70,10 @@ walked-fuel c (suc n) (suc m) q h k =
 
 -- ---- all links are there
 
-Contains-head : {X : Type 0} (x : X) (xs : List X) → Contains (x ∷ xs) x
+pub Contains-head : {X : Type 0} (x : X) (xs : List X) → Contains (x ∷ xs) x
 Contains-head x xs = (0, omega arith, refl)
 
-Contains-cons : {X : Type 0} (y x : X) (xs : List X) → Contains xs x → Contains (y ∷ xs) x
+pub Contains-cons : {X : Type 0} (y x : X) (xs : List X) → Contains xs x → Contains (y ∷ xs) x
 Contains-cons y x xs h = (suc h.0, (let l : h.0 < length xs = h.1 in omega arith), h.2)
 
 found : (c : List ℕ) (n top p q : ℕ) → top ≤ n → EndsFrom c top q → IsCut c p q → Contains (walked n c top) (piece_of c p q)
@@ -104,11 +105,6 @@ only_links c (suc n) top h =
     ]
 
 -- ---- the starts fall
-
-AllPairs-cons : {X : Type 0} (R : X → X → Type 0) (x : X) (xs : List X) → All (R x) xs → AllPairs R xs → AllPairs R (x ∷ xs)
-AllPairs-cons R x xs h k i zero d l m = absurd (omega arith)
-AllPairs-cons R x xs h k zero (suc j) d l m = h j d (omega arith)
-AllPairs-cons R x xs h k (suc i) (suc j) d l m = k i j d (omega arith) (omega arith)
 
 all_below : (c : List ℕ) (n top : ℕ) → All (λ piece. piece.start < top) (walked n c top)
 unfolding walked

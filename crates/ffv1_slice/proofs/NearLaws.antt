@@ -1,30 +1,17 @@
 -- In a copy that is near an original, its intact slices are found and nothing else.
-use Rattle.std.proofs.Common.{◌≡◌, ℕ, suc, zero, ◌+◌, ◌-◌, ◌<◌, ◌≤◌, List, [], ◌∷◌, ◌++◌, refl, sym, ap, ◌∙◌, subst, arith, length, take, drop, get_or, take-append-drop, min, inl, inr}
+use Rattle.std.proofs.Common.{◌≡◌, ℕ, ◌+◌, ◌-◌, ◌<◌, ◌≤◌, List, [], ◌∷◌, ◌++◌, refl, sym, ap, ◌∙◌, subst, arith, length, take, drop, get_or, take-append-drop, min, inl, inr}
 use Rattle.std.specs.Prelude.{◌==◌, slice_range}
-use Rattle.std.proofs.lemmas.List.{drop-drop, get_or-drop, length-take, length-drop, length-take-le}
+use Rattle.std.proofs.lemmas.List.{drop-drop, length-take, length-drop, length-take-le}
 use Rattle.byteorder.specs.Endian.{big_number}
 use Rattle.ffv1_bits.specs.Parity.{AreBytes, PassesParity}
 use Rattle.ffv1_bits.proofs.Burst.{burst}
+use Rattle.ffv1_bits.proofs.Bytes.{AreBytes-range}
 use Rattle.ffv1_range.specs.Setup.{SetupValue}
 use Rattle.ffv1_slice.specs.Chain.{size_before}
 use Rattle.ffv1_slice.specs.Slices.{IsSliceOf, IsFoundIn}
 use Rattle.ffv1_slice.specs.Near.{starts_at, piece_at, size_field, IsNear, IsIntactIn, NearFound}
 use Rattle.ffv1_slice.proofs.Places.{size_in, starts_next, IsCutAt}
 use Rattle.ffv1_slice.proofs.FoundLaws.{bytes_of_tile, original_cut, found_at, own_tile, found_there}
-
--- ---- bytes of bytes
-
-AreBytes-take : (n : ℕ) (xs : List ℕ) → AreBytes xs → AreBytes (take n xs)
-AreBytes-take zero xs h i = omega arith
-AreBytes-take (suc n) [] h i = omega arith
-AreBytes-take (suc n) (x ∷ xs) h zero = h 0
-AreBytes-take (suc n) (x ∷ xs) h (suc i) = AreBytes-take n xs (λ k. h (suc k)) i
-
-AreBytes-drop : (n : ℕ) (xs : List ℕ) → AreBytes xs → AreBytes (drop n xs)
-AreBytes-drop n xs h i = omega (arith, get_or-drop n xs i 0, h (n + i))
-
-AreBytes-range : (xs : List ℕ) (p q : ℕ) → AreBytes xs → AreBytes (slice_range xs p q)
-AreBytes-range xs p q h = AreBytes-take (q - p) (drop p xs) (AreBytes-drop p xs h)
 
 -- ---- the size field
 

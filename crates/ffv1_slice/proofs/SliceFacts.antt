@@ -1,5 +1,5 @@
 -- What the crates above use of slices: their footer, their tile, and what is found of a link.
-use Rattle.std.proofs.Common.{◌≡◌, ℕ, ◌*◌, ◌<◌, ◌≤◌, Bool, true, false, List, length, Contains, Ok, Err, Some, None, refl, sym, ap, ◌∙◌, subst}
+use Rattle.std.proofs.Common.{◌≡◌, ℕ, ◌*◌, ◌<◌, ◌≤◌, Bool, true, false, List, length, Ok, Err, Some, None, refl, sym, ap, ◌∙◌, subst}
 use Rattle.std.specs.Prelude.{◌==◌}
 use Rattle.std.specs.List.{filter_map}
 use Rattle.std.proofs.lemmas.Bool.{eq-eqb, ne_eqb}
@@ -7,9 +7,8 @@ use Rattle.ffv1_range.specs.Setup.{SetupValue}
 use Rattle.ffv1_range.proofs.TileLaws.{number_below}
 use Rattle.ffv1_slice.specs.Chain.{Piece}
 use Rattle.ffv1_slice.specs.Walk.{links_of}
-use Rattle.ffv1_slice.specs.Slices.{IsSliceOf, IsFoundIn, slice_read, with_tile, slice_at, found_slices}
+use Rattle.ffv1_slice.specs.Slices.{IsSliceOf, slice_read, with_tile, slice_at, found_slices}
 use Rattle.ffv1_slice.proofs.SliceLaws.{slice_found, slice_run}
-use Rattle.ffv1_slice.proofs.FoundLaws.{found_slices_are_found}
 
 -- a slice has its footer
 pub slice_footer : (setup : SetupValue) (bytes : List ℕ) (first : Bool) (tile : ℕ) → IsSliceOf setup bytes first tile → 8 ≤ length bytes
@@ -41,12 +40,3 @@ slice_at-none setup piece none =
 pub found_slices-links : (setup : SetupValue) (payload : List ℕ) → found_slices setup payload ≡ filter_map (slice_at setup) (links_of payload)
 unfolding found_slices
 found_slices-links setup payload = refl
-
--- they are exactly what is found
-pub is_found : (setup : SetupValue) (payload : List ℕ) (tile : ℕ) (bytes : List ℕ) → Contains (found_slices setup payload) (tile, bytes)
-    → IsFoundIn setup payload tile bytes
-is_found setup payload tile bytes h = (found_slices_are_found setup payload tile bytes).0 h
-
-pub found_is : (setup : SetupValue) (payload : List ℕ) (tile : ℕ) (bytes : List ℕ) → IsFoundIn setup payload tile bytes
-    → Contains (found_slices setup payload) (tile, bytes)
-found_is setup payload tile bytes h = (found_slices_are_found setup payload tile bytes).1 h

@@ -4,8 +4,7 @@ use Rattle.std.specs.Prelude.{IsTrue}
 use Rattle.std.specs.List.{flat_map}
 use Rattle.std.proofs.lemmas.Bool.{cases_order}
 use Rattle.std.proofs.lemmas.Grind.{flat_map-append}
-use Rattle.std.proofs.lemmas.List.{length-append, get_or_append_left, append-nil, get_or-map}
-use Rattle.std.proofs.Math.Seq.{get_or-append_seam}
+use Rattle.std.proofs.lemmas.List.{length-append, get_or_append_left, append-nil, get_or-map, get_or_push}
 use Rattle.ffv1_bits.specs.Limits.{payload_limit}
 use Rattle.ffv1_range.specs.Setup.{SetupValue}
 use Rattle.ffv1_range.specs.Tiles.{grid_of, tile_count}
@@ -25,10 +24,6 @@ pub record IsMadeTo (setup : SetupValue) (spec : FrameSpec) (tiles : ℕ) (paylo
   pub short : length payload ≤ payload_limit
   pub are_slices : (tile : ℕ) (e : List ℕ) → tile < tiles → IsSliceOf setup (get_or slices tile e) (eqb tile 0) tile
   pub each : (tile : ℕ) (d : TileSpec) (e : List ℕ) → tile < tiles → IsMadeSlice setup tile (get_or spec.tiles.items tile d) (get_or slices tile e)
-
--- the last of a list
-last_is : {X : Type 0} (xs : List X) (x d : X) (n : ℕ) → length xs ≡ n → get_or (xs ++ x ∷ []) n d ≡ x
-last_is xs x d n long = ap (λ k. get_or (xs ++ x ∷ []) k d) (sym long) ∙ get_or-append_seam xs x [] d
 
 module _ (setup : SetupValue) (spec : FrameSpec) where
   pub made_none : (payload : List ℕ) → payload ≡ [] → IsMadeTo setup spec 0 payload
@@ -54,7 +49,7 @@ module _ (setup : SetupValue) (spec : FrameSpec) where
       | inl is ↦
           let P : List ℕ → Type 0 = λ s. IsSliceOf setup s (eqb tile 0) tile in
           let Q : ℕ → Type 0 = λ t. IsSliceOf setup slice (eqb t 0) t in
-          subst P (sym (last_is before.slices slice e tile (before.count ∙ sym is))) (subst Q (sym is) made.is_slice)
+          subst P (sym (get_or_push before.slices slice e tile (before.count ∙ sym is))) (subst Q (sym is) made.is_slice)
       | inr (inl less) ↦
           let P : List ℕ → Type 0 = λ s. IsSliceOf setup s (eqb tile 0) tile in
           subst P (sym (get_or_append_left before.slices (slice ∷ []) e tile (omega (arith, before.count)))) (before.are_slices tile e less)
@@ -65,7 +60,7 @@ module _ (setup : SetupValue) (spec : FrameSpec) where
           let P : List ℕ → Type 0 = λ s. IsMadeSlice setup tile (get_or spec.tiles.items tile d) s in
           let Q : ℕ → Type 0 = λ t. IsMadeSlice setup t (get_or spec.tiles.items t d) slice in
           let R : TileSpec → Type 0 = λ a. IsMadeSlice setup n a slice in
-          subst P (sym (last_is before.slices slice e tile (before.count ∙ sym is))) (subst Q (sym is) (subst R (is_asked d) made))
+          subst P (sym (get_or_push before.slices slice e tile (before.count ∙ sym is))) (subst Q (sym is) (subst R (is_asked d) made))
       | inr (inl less) ↦
           let P : List ℕ → Type 0 = λ s. IsMadeSlice setup tile (get_or spec.tiles.items tile d) s in
           subst P (sym (get_or_append_left before.slices (slice ∷ []) e tile (omega (arith, before.count)))) (before.each tile d e less)

@@ -1,4 +1,5 @@
 use Rattle.std.proofs.Common.{refl}
+use Rattle.ffv1_hold.proofs.ReadCounts.{Err-at}
 use Rattle.std.proofs.lemmas.Result.{err_from_is_err_and}
 use Rattle.std.proofs.KnownBytes.{Keeps-refl}
 use Rattle.ffv1_commands.specs.Fault.{NamesPath}
@@ -6,7 +7,7 @@ use Rattle.ffv1_commands.specs.Paths.{IsChainPath}
 use Rattle.ffv1_commands.specs.ChainText.{ChainStops}
 use Rattle.ffv1_commands.specs.declared.fault.CliFault.TheVariants as faults
 use Rattle.ffv1_commands.specs.declared.path.CommandPath.TheVariants as paths
-use Rattle.ffv1_commands.proofs.InputFaults.{IsUnwritten, untouched_one, Err-at, TellsFailure-unwritten, TellsFile-as, IsInputFault-says}
+use Rattle.ffv1_commands.proofs.InputFaults.{IsUnwritten, untouched_one, TellsFailure-unwritten, TellsFile-as, IsInputFault-says}
 use Rattle.ffv1_commands.proofs.chain.chain_of.Goals as goal
 
 pub returns-in_err-payload : goal.returns-in_err-payload

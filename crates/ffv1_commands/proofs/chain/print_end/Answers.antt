@@ -1,8 +1,9 @@
 use Rattle.std.proofs.Common.{List, ℕ, OnErr, ◌∙◌, subst}
+use Rattle.ffv1_hold.proofs.Fronts.{front-append}
 use Rattle.std.proofs.lemmas.Result.{err_from_is_err_and}
 use Rattle.ffv1_commands.specs.Devices.{WritesFront}
 use Rattle.ffv1_commands.specs.ChainText.{end_line}
-use Rattle.ffv1_commands.proofs.PrintSteps.{front-append, front_stops}
+use Rattle.ffv1_commands.proofs.PrintSteps.{front_stops}
 use Rattle.ffv1_commands.proofs.chain.print_end.Goals as goal
 
 pub returns-in_err-make_room-clause-err : goal.returns-in_err-make_room-clause-err

@@ -1,4 +1,5 @@
 use Rattle.std.proofs.Common.{◌≡◌, ◌⊎◌, List, ℕ, refl, inl, inr, ap, ◌∙◌, subst}
+use Rattle.ffv1_hold.proofs.ReadCounts.{Err-at}
 use Rattle.std.proofs.lemmas.Result.{err_from_is_err_and}
 use Rattle.ffv1_range.specs.Setup.{IsSetupOf}
 use Rattle.ffv1_range.specs.SetupFaults.{FirstSetupFault}
@@ -14,7 +15,7 @@ use Rattle.ffv1_commands.specs.declared.fault.CliFault.TheVariants as faults
 use Rattle.ffv1_commands.specs.declared.path.CommandPath.TheVariants as paths
 use Rattle.ffv1_commands.proofs.InputLaws.{whole_input}
 use Rattle.ffv1_commands.proofs.WriteSteps.{setups, setups_first}
-use Rattle.ffv1_commands.proofs.InputFaults.{IsUnwritten, untouched_both, Err-at, NamesNoPath-not_read, TellsFailure-unwritten, TellsFile-as, TellsFile-unread, WriteStops-not_read, WriteStops-untouched, WriteStops-in_turn, WriteStops-names, IsInputFault-says, IsInputFault-other}
+use Rattle.ffv1_commands.proofs.InputFaults.{IsUnwritten, untouched_both, NamesNoPath-not_read, TellsFailure-unwritten, TellsFile-as, TellsFile-unread, WriteStops-not_read, WriteStops-untouched, WriteStops-in_turn, WriteStops-names, IsInputFault-says, IsInputFault-other}
 use Rattle.ffv1_commands.proofs.DecodeSteps.{of_frame-says, frame_refused, decoded, decode_stopped}
 use Rattle.ffv1_commands.proofs.decode.decode_of.Goals as goal
 

@@ -1,11 +1,11 @@
 use Rattle.std.proofs.Common.{◌≡◌, ◌≤◌, ◌<◌, ◌+◌, List, [], ◌∷◌, ◌++◌, Option, ℕ, map, length, take, subst, sym, ap, ◌∙◌, refl, arith}
+use Rattle.ffv1_hold.proofs.ReadCounts.{Err-at}
 use Rattle.std.proofs.lemmas.Result.{err_from_is_err_and}
 use Rattle.std.proofs.lemmas.List.{length-map}
 use Rattle.std.specs.String.{string_bytes}
 use Rattle.ffv1_commands.specs.JoinText.{file_line, JoinsEach}
 use Rattle.ffv1_commands.specs.declared.fault.CliFault.TheVariants as faults
 use Rattle.ffv1_commands.specs.declared.path.CommandPath.TheVariants as paths
-use Rattle.ffv1_commands.proofs.InputFaults.{Err-at}
 use Rattle.ffv1_commands.proofs.InputLaws.{inputs_more, input_at, length-inputs, inputs_all, others_kept}
 use Rattle.ffv1_commands.proofs.JoinSteps.{joins_first, joins_more, joins_reel, first_refused, other_refused, IsJoinFault-not_first}
 use Rattle.ffv1_commands.proofs.join.join_files.Goals as goal

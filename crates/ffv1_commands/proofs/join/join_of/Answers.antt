@@ -1,11 +1,12 @@
 use Rattle.std.proofs.Common.{◌≡◌, ◌+◌, ◌∷◌, length, map, refl, sym, subst, arith}
+use Rattle.ffv1_hold.proofs.ReadCounts.{Err-at}
 use Rattle.std.proofs.lemmas.Result.{err_from_is_err_and}
 use Rattle.std.proofs.lemmas.List.{length-map}
 use Rattle.ffv1_commands.specs.JoinText.{JoinsEach}
 use Rattle.ffv1_commands.specs.Paths.{IsJoinPath}
 use Rattle.ffv1_commands.specs.declared.fault.CliFault.TheVariants as faults
 use Rattle.ffv1_commands.specs.declared.path.CommandPath.TheVariants as paths
-use Rattle.ffv1_commands.proofs.InputFaults.{untouched_both, Err-at, TellsFailure-unwritten, MadeStops-not_read, MadeStops-names}
+use Rattle.ffv1_commands.proofs.InputFaults.{untouched_both, TellsFailure-unwritten, MadeStops-not_read, MadeStops-names}
 use Rattle.ffv1_commands.proofs.JoinSteps.{IsFaultOfFiles-unwritten, files_refused, files_name, joins, join_stopped}
 use Rattle.ffv1_commands.proofs.join.join_of.Goals as goal
 

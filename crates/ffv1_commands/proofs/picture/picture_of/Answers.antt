@@ -1,4 +1,5 @@
 use Rattle.std.proofs.Common.{◌↔◌, All, IsTrue, List, Result, Err, refl, ap, ◌∙◌, subst, arith}
+use Rattle.ffv1_hold.proofs.ReadCounts.{Err-at}
 use Rattle.std.proofs.lemmas.Result.{err_from_is_err_and}
 use Rattle.ffv1_picture.specs.declared.partial.TileOutcome.{TileOutcome}
 use Rattle.ffv1_commands.specs.Fault.{NamesPath}
@@ -8,7 +9,7 @@ use Rattle.ffv1_commands.specs.SamplesText.{raw_bytes}
 use Rattle.ffv1_commands.specs.declared.fault.CliFault.{CliFault}
 use Rattle.ffv1_commands.specs.declared.fault.CliFault.TheVariants as faults
 use Rattle.ffv1_commands.specs.declared.path.CommandPath.TheVariants as paths
-use Rattle.ffv1_commands.proofs.InputFaults.{IsUnwritten, untouched_both, Err-at, TellsFailure-unwritten, TellsFailure-as, WriteStops-not_read, WriteStops-untouched, WriteStops-names, IsHoldingFault-says}
+use Rattle.ffv1_commands.proofs.InputFaults.{IsUnwritten, untouched_both, TellsFailure-unwritten, TellsFailure-as, WriteStops-not_read, WriteStops-untouched, WriteStops-names, IsHoldingFault-says}
 use Rattle.ffv1_commands.proofs.PictureSteps.{shown, picture_stopped}
 use Rattle.ffv1_commands.proofs.picture.picture_of.Goals as goal
 

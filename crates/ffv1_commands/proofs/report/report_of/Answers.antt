@@ -1,11 +1,12 @@
 use Rattle.std.proofs.Common.{refl, ◌∙◌, arith}
+use Rattle.ffv1_hold.proofs.ReadCounts.{Err-at}
 use Rattle.std.proofs.lemmas.Result.{err_from_is_err_and}
 use Rattle.ffv1_commands.specs.Fault.{NamesPath}
 use Rattle.ffv1_commands.specs.Paths.{IsReportPath}
 use Rattle.ffv1_commands.specs.ReportedText.{ReportStops}
 use Rattle.ffv1_commands.specs.declared.fault.CliFault.TheVariants as faults
 use Rattle.ffv1_commands.specs.declared.path.CommandPath.TheVariants as paths
-use Rattle.ffv1_commands.proofs.InputFaults.{IsUnwritten, untouched_one, Err-at, TellsFailure-unwritten, written-says, written-untouched, written-not_read, IsHoldingFault-says}
+use Rattle.ffv1_commands.proofs.InputFaults.{IsUnwritten, untouched_one, TellsFailure-unwritten, written-says, written-untouched, written-not_read, IsHoldingFault-says}
 use Rattle.ffv1_commands.proofs.ReportSteps.{reported, report_stopped}
 use Rattle.ffv1_commands.proofs.report.report_of.Goals as goal
 

@@ -1,11 +1,12 @@
 use Rattle.std.proofs.Common.{refl, sym, ap, ◌∙◌, arith}
+use Rattle.ffv1_hold.proofs.ReadCounts.{Err-at}
 use Rattle.std.proofs.lemmas.Result.{err_from_is_err_and}
 use Rattle.ffv1_commands.specs.Fault.{NamesPath, NamesNoPath, of_restore}
 use Rattle.ffv1_commands.specs.Paths.{IsHoldPath}
 use Rattle.ffv1_commands.specs.RestoreText.{restored_line, RestoreStops}
 use Rattle.ffv1_commands.specs.declared.fault.CliFault.TheVariants as faults
 use Rattle.ffv1_commands.specs.declared.path.CommandPath.TheVariants as paths
-use Rattle.ffv1_commands.proofs.InputFaults.{IsUnwritten, untouched_both, Err-at, NamesNoPath-not_read, TellsFailure-unwritten, WriteStops-not_read, WriteStops-untouched, WriteStops-names, IsHoldingFault-says}
+use Rattle.ffv1_commands.proofs.InputFaults.{IsUnwritten, untouched_both, NamesNoPath-not_read, TellsFailure-unwritten, WriteStops-not_read, WriteStops-untouched, WriteStops-names, IsHoldingFault-says}
 use Rattle.ffv1_commands.proofs.RestoreSteps.{of_restore-says, refused_at, restored, restore_stopped}
 use Rattle.ffv1_commands.proofs.restore.restore_of.Goals as goal
 

@@ -1,4 +1,5 @@
 use Rattle.std.proofs.Common.{◌≡◌, List, ℕ, Bool, Err, refl, subst}
+use Rattle.ffv1_hold.proofs.ReadCounts.{Err-at}
 use Rattle.std.proofs.lemmas.Result.{err_from_is_err_and}
 use Rattle.std.proofs.KnownBytes.{Consumes-whole, Keeps-refl}
 use Rattle.ffv1_range.specs.Setup.{IsSetupOf}
@@ -9,7 +10,7 @@ use Rattle.ffv1_commands.specs.ShowText.{show_text, ShowStops}
 use Rattle.ffv1_commands.specs.declared.fault.CliFault.TheVariants as faults
 use Rattle.ffv1_commands.specs.declared.path.CommandPath.TheVariants as paths
 use Rattle.ffv1_commands.proofs.WriteSteps.{setups}
-use Rattle.ffv1_commands.proofs.InputFaults.{IsUnwritten, untouched_one, Err-at, NamesNoPath-not_read, TellsFailure-unwritten, TellsFile-as, PrintStops-not_read, IsInputFault-says}
+use Rattle.ffv1_commands.proofs.InputFaults.{IsUnwritten, untouched_one, NamesNoPath-not_read, TellsFailure-unwritten, TellsFile-as, PrintStops-not_read, IsInputFault-says}
 use Rattle.ffv1_commands.proofs.Shows.{setup_printed, setup_few, setup_stopped}
 use Rattle.ffv1_commands.proofs.show.show_of.Goals as goal
 

@@ -5,6 +5,7 @@ use Rattle.std.proofs.lemmas.List.{length-map}
 use Rattle.ffv1_range.specs.SetupFaults.{FirstSetupFault}
 use Rattle.ffv1_range.specs.declared.fault.SetupFault.TheVariants as setup
 use Rattle.ffv1_hold.specs.Headline.{IsReelOf}
+use Rattle.ffv1_hold.proofs.ReadCounts.{Err-at}
 use Rattle.ffv1_commands.specs.TakeText.{TakesEach, TakeStops}
 use Rattle.ffv1_commands.specs.Devices.{IfOfRecord}
 use Rattle.ffv1_commands.specs.Fault.{NamesPath, NamesNoPath, of_setup}
@@ -12,7 +13,7 @@ use Rattle.ffv1_commands.specs.Paths.{IsTakePath}
 use Rattle.ffv1_commands.specs.declared.fault.CliFault.TheVariants as faults
 use Rattle.ffv1_commands.specs.declared.path.CommandPath.TheVariants as paths
 use Rattle.ffv1_commands.proofs.WriteSteps.{setups}
-use Rattle.ffv1_commands.proofs.InputFaults.{IsUnwritten, untouched_both, Err-at, NamesNoPath-not_read, TellsFailure-unwritten, TellsFile-as, MadeStops-not_read, MadeStops-in_turn, MadeStops-names, IsInputFault-says}
+use Rattle.ffv1_commands.proofs.InputFaults.{IsUnwritten, untouched_both, NamesNoPath-not_read, TellsFailure-unwritten, TellsFile-as, MadeStops-not_read, MadeStops-in_turn, MadeStops-names, IsInputFault-says}
 use Rattle.ffv1_commands.proofs.TakeSteps.{setup_refused, copies_refused, copies_name, IsFaultOfInputs-says, IsFaultOfInputs-not_record, taken, take_stopped}
 use Rattle.ffv1_commands.proofs.take.take_of.Goals as goal
 

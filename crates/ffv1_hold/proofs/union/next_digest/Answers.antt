@@ -1,6 +1,7 @@
 use Rattle.std.proofs.Common.{sym, ◌∙◌}
+use Rattle.std.proofs.lemmas.List.{nil_from_length}
 use Rattle.ffv1_hold.specs.Merging.{digests_union}
-use Rattle.ffv1_hold.proofs.DigestUnions.{rest_rises, first_less, first_equal, first_greater, first_alone, first_other, no_items, union-none}
+use Rattle.ffv1_hold.proofs.DigestUnions.{rest_rises, first_less, first_equal, first_greater, first_alone, first_other, union-none}
 use Rattle.ffv1_hold.proofs.union.next_digest.Goals as goal
 
 pub returns-in-Less-clause-some : goal.returns-in-Less-clause-some
@@ -36,7 +37,7 @@ returns-in-Greater-clause-right_behind c =
 
 pub returns-in-None-split_first-clause-some : goal.returns-in-None-split_first-clause-some
 returns-in-None-split_first-clause-some c =
-    first_alone _ _ c.in-Some.lefts.now _ c.in-Some.ensures.cases.0 (no_items _ c.in-None-split_first.ensures.cases) c.requires.left
+    first_alone _ _ c.in-Some.lefts.now _ c.in-Some.ensures.cases.0 (nil_from_length _ c.in-None-split_first.ensures.cases) c.requires.left
 
 pub returns-in-None-split_first-clause-left_behind : goal.returns-in-None-split_first-clause-left_behind
 returns-in-None-split_first-clause-left_behind c =
@@ -44,7 +45,7 @@ returns-in-None-split_first-clause-left_behind c =
 
 pub returns-in-Some-split_first-2-clause-some : goal.returns-in-Some-split_first-2-clause-some
 returns-in-Some-split_first-2-clause-some c =
-    first_other _ _ c.in-Some-split_first-2.rights.now _ c.in-Some-split_first-2.ensures.cases.0 (no_items _ c.in-None.ensures.cases) c.requires.right
+    first_other _ _ c.in-Some-split_first-2.rights.now _ c.in-Some-split_first-2.ensures.cases.0 (nil_from_length _ c.in-None.ensures.cases) c.requires.right
 
 pub returns-in-Some-split_first-2-clause-right_behind : goal.returns-in-Some-split_first-2-clause-right_behind
 returns-in-Some-split_first-2-clause-right_behind c =
@@ -52,4 +53,4 @@ returns-in-Some-split_first-2-clause-right_behind c =
 
 pub returns-in-None-split_first-2-clause-none : goal.returns-in-None-split_first-2-clause-none
 returns-in-None-split_first-2-clause-none c =
-    (λ i. digests_union (no_items _ c.in-None.ensures.cases i) (no_items _ c.in-None-split_first-2.ensures.cases i)) ∙ union-none
+    (λ i. digests_union (nil_from_length _ c.in-None.ensures.cases i) (nil_from_length _ c.in-None-split_first-2.ensures.cases i)) ∙ union-none

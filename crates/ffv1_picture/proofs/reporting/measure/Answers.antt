@@ -1,21 +1,15 @@
-use Rattle.std.proofs.Common.{◌≡◌, ◌+◌, ◌++◌, List, ℕ, [], length, refl, sym, ap, subst, ◌∙◌, arith}
+use Rattle.std.proofs.Common.{◌≡◌, ◌+◌, ◌++◌, List, ℕ, length, sym, ap, subst, ◌∙◌, arith}
 use Rattle.std.proofs.lemmas.List.{append-nil, length-append}
 use Rattle.std.specs.List.{flat_map, range_with_len}
 use Rattle.sha2.specs.Hashers.{Holds256}
 use Rattle.sha2.specs.declared.Sha256.{Sha256}
 use Rattle.ffv1_hold.specs.Standing.{settled_bytes, tile_state}
 use Rattle.ffv1_hold.specs.TileStates.{standing_shown}
-use Rattle.ffv1_holding.specs.declared.standing.TileState.{TileState}
-use Rattle.ffv1_holding.specs.declared.standing.TileState.TheVariants.{Missing, Settled, Disputed}
 use Rattle.ffv1_holding.proofs.Lists.{flat_map-range_more}
+use Rattle.ffv1_holding.proofs.Standings.{settled_bytes-none}
 use Rattle.ffv1_picture.proofs.SettledSlices.{settled_entry}
 use Rattle.ffv1_picture.proofs.reporting.measure.Goals as goal
 use Rattle.ffv1_picture.proofs.reporting.measure.Goals.{in-Settled, in_default}
-
-no_bytes : (r : TileState) → ((x : _) → r ≡ Settled x → ⊥) → settled_bytes (standing_shown r) ≡ []
-no_bytes Missing other = refl
-no_bytes (Settled x) other = absurd (other x refl)
-no_bytes (Disputed n) other = refl
 
 pub loop-tile-preserved : goal.loop-tile-preserved
 loop-tile-preserved c =
@@ -38,7 +32,7 @@ loop-tile-preserved c =
             few = omega (arith, w.bytes-is, so_far.few, (settled_entry h c.setup.ensures.sound n slice (sym is)).fits);
           }
       | in_default w ↦
-          let none = sym (no_bytes c.state.result w.in_default.not-Settled) ∙ ap settled_bytes c.state.ensures in
+          let none = sym (settled_bytes-none c.state.result w.in_default.not-Settled) ∙ ap settled_bytes c.state.ensures in
           let all : before ≡ flat_map bytes (range_with_len 0 (n + 1)) = sym (append-nil before)
           ∙ ap (λ xs. before ++ xs) none ∙ sym (flat_map-range_more bytes n) in
           let P : Sha256 → Type 0 = λ hasher. Holds256 hasher before in

@@ -1,8 +1,8 @@
-use Rattle.std.proofs.Common.{◌≡◌, rules, refl, inl, inr, sym, subst}
+use Rattle.std.proofs.Common.{◌≡◌, rules, refl, inl, inr, sym, subst, le_refl}
 use Rattle.std.proofs.lemmas.Result.{err_from_is_err_and}
 use Rattle.ffv1_hold.specs.Reading.{Takes}
 use Rattle.ffv1_hold.specs.HoldingText.{head_text}
-use Rattle.ffv1_hold.proofs.ReadCounts.{HasFailed-read, counted-none, most-none}
+use Rattle.ffv1_hold.proofs.ReadCounts.{HasFailed-read, most-none}
 use Rattle.ffv1_hold.proofs.merging.Merge.read_heads.Goals as goal
 
 pub returns-in_err-reel : goal.returns-in_err-reel
@@ -19,7 +19,7 @@ returns-in_err-reel g c =
       err = inl (e.err, refl);
       read_failed = λ is. inl (HasFailed-read _ _ _ e.failed is);
       left_counted = e.counted;
-      right_counted = counted-none _;
+      right_counted = le_refl _;
       left_taken = tt;
       right_taken = tt;
       left_most = e.most;

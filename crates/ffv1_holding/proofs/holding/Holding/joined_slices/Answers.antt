@@ -1,18 +1,12 @@
-use Rattle.std.proofs.Common.{◌≡◌, ◌++◌, ℕ, [], refl, sym, ap, ◌∙◌}
+use Rattle.std.proofs.Common.{◌++◌, ℕ, sym, ap, ◌∙◌}
 use Rattle.std.proofs.lemmas.List.{append-nil}
 use Rattle.std.specs.List.{flat_map, range_with_len}
 use Rattle.ffv1_holding.specs.Standing.{settled_bytes, tile_state}
 use Rattle.ffv1_holding.specs.TileStates.{standing_shown}
-use Rattle.ffv1_holding.specs.declared.standing.TileState.{TileState}
-use Rattle.ffv1_holding.specs.declared.standing.TileState.TheVariants.{Missing, Settled, Disputed}
 use Rattle.ffv1_holding.proofs.Lists.{flat_map-range_more}
+use Rattle.ffv1_holding.proofs.Standings.{settled_bytes-none}
 use Rattle.ffv1_holding.proofs.holding.Holding.joined_slices.Goals as goal
 use Rattle.ffv1_holding.proofs.holding.Holding.joined_slices.Goals.{in-Settled+in_ok-extend_from_slice, in_default}
-
-no_bytes : (r : TileState) → ((x : _) → r ≡ Settled x → ⊥) → settled_bytes (standing_shown r) ≡ []
-no_bytes Missing other = refl
-no_bytes (Settled x) other = absurd (other x refl)
-no_bytes (Disputed n) other = refl
 
 pub loop-tile-preserved : goal.loop-tile-preserved
 loop-tile-preserved c =
@@ -26,6 +20,6 @@ loop-tile-preserved c =
           ∙ sym (flat_map-range_more bytes t)
       | in_default w ↦
           ap (λ v. v.items) w.payload-is ∙ c.loop-tile.invariant ∙ sym (append-nil so_far)
-          ∙ ap (λ xs. so_far ++ xs) (sym (no_bytes c.state.result w.in_default.not-Settled) ∙ ap settled_bytes c.state.ensures)
+          ∙ ap (λ xs. so_far ++ xs) (sym (settled_bytes-none c.state.result w.in_default.not-Settled) ∙ ap settled_bytes c.state.ensures)
           ∙ sym (flat_map-range_more bytes t)
     ]

@@ -1,17 +1,13 @@
-use Rattle.std.proofs.Common.{◌≡◌, ℕ, [], ◌∷◌, replicate, length, Result, Ok, Err, OnOk, ap, ◌∙◌}
+use Rattle.std.proofs.Common.{◌≡◌, ℕ, [], ◌∷◌, replicate, length, ap, ◌∙◌}
 use Rattle.ffv1_holding.specs.Sets as set
 use Rattle.ffv1_holding.specs.SliceOrder.{Entry, with_each}
 use Rattle.ffv1_holding.specs.TileSets.{TileSlices}
 use Rattle.ffv1_holding.specs.PoolEntries.{entry_in}
 use Rattle.ffv1_holding.specs.Rows.{rows_in}
 use Rattle.ffv1_holding.specs.declared.pool_entry.PoolEntry.{PoolEntry}
-use Rattle.ffv1_holding.proofs.OneRows.{union_one, own_view, own_pool, own_listed, own_rows, resized}
+use Rattle.ffv1_holding.proofs.OneRows.{union_one, own_view, own_pool, own_listed, own_rows, resized, OnOk-map}
 use Rattle.ffv1_holding.proofs.OriginSteps.{held_one}
 use Rattle.ffv1_holding.proofs.pool.Pool.insert.Goals as goal
-
-on_ok : {T E : Type 0} (r : Result T E) (P Q : Type 0) → OnOk r P → (P → Q) → OnOk r Q
-on_ok (Ok x) P Q is leads = leads is
-on_ok (Err e) P Q is leads = is
 
 pub insert_all-requires-clause-pool : goal.insert_all-requires-clause-pool
 insert_all-requires-clause-pool c = rw c.status_of.ensures (own_pool c.args.tile c.args.slice.now c.requires.framed)
@@ -50,5 +46,5 @@ returns-clause-ok c =
     let rows : rows_in slice c.deref.result.now digests ≡ with_each key digests =
     ap (λ os. rows_in slice os digests) owners ∙ ap (λ n. rows_in slice (replicate (length digests) (own n)) digests) c.status_of.ensures
     ∙ own_listed c.args.tile slice c.requires.framed digests in
-    on_ok c.insert_all.result _ _ c.insert_all.ensures.ok
+    OnOk-map c.insert_all.result _ _ c.insert_all.ensures.ok
     (λ is. is ∙ (λ i. let g : TileSlices = record { tiles = h.tiles; slices = slices i; origins = set.union h.origins (set.from_list (rows i)) } in g))

@@ -1,17 +1,13 @@
-use Rattle.std.proofs.Common.{◌≡◌, ℕ, List, length, map, Result, Ok, Err, OnOk, ap, ◌∙◌}
+use Rattle.std.proofs.Common.{◌≡◌, ℕ, List, length, map, ap, ◌∙◌}
 use Rattle.sha2.specs.Sha256.{sha256}
 use Rattle.ffv1_holding.specs.Sets as set
 use Rattle.ffv1_holding.specs.SliceOrder.{Entry, Origin}
 use Rattle.ffv1_holding.specs.TileSets.{with_more}
 use Rattle.ffv1_holding.specs.PoolEntries.{entry_in}
 use Rattle.ffv1_holding.specs.Rows.{rows_in}
-use Rattle.ffv1_holding.proofs.OneRows.{marked_listed, marked_rows, resized}
+use Rattle.ffv1_holding.proofs.OneRows.{marked_listed, marked_rows, resized, OnOk-map}
 use Rattle.ffv1_holding.proofs.OriginSteps.{held_marked}
 use Rattle.ffv1_holding.proofs.pool.Pool.insert_copy.Goals as goal
-
-on_ok : {T E : Type 0} (r : Result T E) (P Q : Type 0) → OnOk r P → (P → Q) → OnOk r Q
-on_ok (Ok x) P Q is leads = leads is
-on_ok (Err e) P Q is leads = is
 
 pub insert_all-requires-clause-rows : goal.insert_all-requires-clause-rows
 insert_all-requires-clause-rows c =
@@ -42,5 +38,5 @@ returns-clause-ok c =
     let rows : rows_in copy found c.deref.result.now ≡ map (λ e. (e, sha256 copy)) (map (entry_in copy) found) =
     ap (rows_in copy found) digests ∙ marked_listed copy c.digest-digest.result found
     ∙ ap (λ d. map (mark d) (map (entry_in copy) found)) c.digest-digest.ensures in
-    on_ok c.insert_all.result _ _ c.insert_all.ensures.ok
+    OnOk-map c.insert_all.result _ _ c.insert_all.ensures.ok
     (λ is. is ∙ ap (λ xs. with_more h (set.from_list (map (entry_in copy) found)) (set.from_list xs)) rows)

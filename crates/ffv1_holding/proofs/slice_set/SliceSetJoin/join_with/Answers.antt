@@ -1,5 +1,5 @@
 use Rattle.std.proofs.Common.{◌++◌, ◌∷◌, [], map, take, sym, ap, ◌∙◌, arith}
-use Rattle.ffv1_holding.proofs.Lists.{map-take_more}
+use Rattle.std.proofs.lemmas.List.{map_more}
 use Rattle.ffv1_holding.specs.Sets as set
 use Rattle.ffv1_holding.specs.SliceOrder.{bytes_total, bytes_antisymmetric}
 use Rattle.ffv1_holding.proofs.RisingSets.{size_grows}
@@ -15,7 +15,7 @@ loop-slice-preserved c =
     let slices = c.deref-slice-items.result.now in
     let slice = c.deref.result.now in
     let item = c.deref.ensures.value ∙ ap (λ v. v.items) c.slice-item.is in
-    let one_more = map-take_more (λ v. v.items) slices c.loop-slice.slice-index c.slice-item.result c.loop-slice-test.true in
+    let one_more = map_more (λ v. v.items) slices c.loop-slice.slice-index c.slice-item.result c.loop-slice-test.true in
     let inserted = c.in_ok-insert.ensures.ok ∙ ap (λ s. set.insert s slice) c.loop-slice.invariant.added in
     let pushed = set.union-push bytes_total bytes_antisymmetric c.args.self.now (map (λ v. v.items) (take c.loop-slice.slice-index slices)) slice in
     record {
