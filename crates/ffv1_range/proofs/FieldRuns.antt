@@ -226,9 +226,25 @@ pub record PlanesAt (closed : Bool) (p : Place) (y : PlanesValue × Place) : Typ
   pub is : (record { has_chroma = chroma; shift_h = if chroma then shift_h else 0; shift_v = if chroma then shift_v else 0 }) ≡ y.0
   pub coded : Extends closed p y.1 (symbol coder ∷ symbol space ∷ symbol depth ∷ bit chroma ∷ symbol shift_h ∷ symbol shift_v ∷ bit extra ∷ [])
 
-pub planes-found : (closed : Bool) (p : Place) (y : PlanesValue × Place) → planes closed p ≡ Ok y → PlanesAt closed p y
+-- its first four fields ..
+record PlanesFront (closed : Bool) (p : Place) (y : PlanesValue × Place) : Type 0 where
+  coder : ℕ
+  space : ℕ
+  depth : ℕ
+  chroma : Bool
+  place : Place
+  test_0 : (coder == 0) ≡ true
+  test_1 : (space == 0) ≡ true
+  test_2 : (depth == 0 || depth == 8) ≡ true
+  small_coder : IsSymbol coder
+  small_space : IsSymbol space
+  small_depth : IsSymbol depth
+  coded : Extends closed p place (symbol coder ∷ symbol space ∷ symbol depth ∷ bit chroma ∷ [])
+  rest : plane_rest_6 coder space depth chroma closed place ≡ Ok y
+
+planes-front : (closed : Bool) (p : Place) (y : PlanesValue × Place) → planes closed p ≡ Ok y → PlanesFront closed p y
 unfolding plane_rest_0 plane_rest_1 plane_rest_2 plane_rest_3 plane_rest_4 plane_rest_5 plane_rest_6 plane_rest_7 plane_rest_8 plane_rest_9 plane_rest_10 plane_rest_11 plane_rest_12
-planes-found closed p y h =
+planes-front closed p y h =
     let s0 = number_step closed p plane_rest_0 y h in
     let s1 = accepted_step closed s0.place (s0.value == 0) Coder (plane_rest_1 s0.value) y s0.rest in
     let s2 = number_step closed s0.place (plane_rest_2 s0.value) y s1.1 in
@@ -236,47 +252,113 @@ planes-found closed p y h =
     let s4 = number_step closed s2.place (plane_rest_4 s0.value s2.value) y s3.1 in
     let s5 = accepted_step closed s4.place (s4.value == 0 || s4.value == 8) Depth (plane_rest_5 s0.value s2.value s4.value) y s4.rest in
     let s6 = flag_step closed s4.place (plane_rest_6 s0.value s2.value s4.value) y s5.1 in
-    let s7 = number_step closed s6.place (plane_rest_7 s0.value s2.value s4.value s6.value) y s6.rest in
-    let s8 = accepted_step closed s7.place (not s6.value || nat_le s7.value 2) Subsampling
-    (plane_rest_8 s0.value s2.value s4.value s6.value s7.value) y s7.rest in
-    let s9 = number_step closed s7.place (plane_rest_9 s0.value s2.value s4.value s6.value s7.value) y s8.1 in
-    let s10 = accepted_step closed s9.place (not s6.value || nat_le s9.value 2) Subsampling
-    (plane_rest_10 s0.value s2.value s4.value s6.value s7.value s9.value) y s9.rest in
-    let s11 = flag_step closed s9.place (plane_rest_11 s0.value s2.value s4.value s6.value s7.value s9.value) y s10.1 in
-    let s12 = accepted_step closed s11.place (not s11.value) ExtraPlane
-    (plane_rest_12 s0.value s2.value s4.value s6.value s7.value s9.value s11.value) y s11.rest in
-    let given = given_step (record {
-      has_chroma = s6.value;
-      shift_h = if s6.value then s7.value else 0;
-      shift_v = if s6.value then s9.value else 0;
-    }) s11.place y s12.1 in
     record {
       coder = s0.value;
       space = s2.value;
       depth = s4.value;
       chroma = s6.value;
-      shift_h = s7.value;
-      shift_v = s9.value;
-      extra = s11.value;
+      place = s6.place;
       test_0 = s1.0;
       test_1 = s3.0;
       test_2 = s5.0;
-      test_3 = s8.0;
-      test_4 = s10.0;
-      test_5 = s12.0;
       small_coder = s0.small;
       small_space = s2.small;
       small_depth = s4.small;
+      coded = λ rest z run. s0.coded (symbol s2.value ∷ symbol s4.value ∷ bit s6.value ∷ rest) z
+          (s2.coded (symbol s4.value ∷ bit s6.value ∷ rest) z (s4.coded (bit s6.value ∷ rest) z (s6.coded rest z run)));
+      rest = s6.rest;
+    }
+
+-- .. and its last three
+record PlanesBack (closed : Bool) (chroma : Bool) (p : Place) (y : PlanesValue × Place) : Type 0 where
+  shift_h : ℕ
+  shift_v : ℕ
+  extra : Bool
+  test_3 : (not chroma || nat_le shift_h 2) ≡ true
+  test_4 : (not chroma || nat_le shift_v 2) ≡ true
+  test_5 : (not extra) ≡ true
+  small_shift_h : IsSymbol shift_h
+  small_shift_v : IsSymbol shift_v
+  is : (record { has_chroma = chroma; shift_h = if chroma then shift_h else 0; shift_v = if chroma then shift_v else 0 }) ≡ y.0
+  coded : Extends closed p y.1 (symbol shift_h ∷ symbol shift_v ∷ bit extra ∷ [])
+
+planes-back : (closed : Bool) (coder space depth : ℕ) (chroma : Bool) (p : Place) (y : PlanesValue × Place)
+    → plane_rest_6 coder space depth chroma closed p ≡ Ok y → PlanesBack closed chroma p y
+unfolding plane_rest_6 plane_rest_7 plane_rest_8 plane_rest_9 plane_rest_10 plane_rest_11 plane_rest_12
+planes-back closed coder space depth chroma p y h =
+    let s7 = number_step closed p (plane_rest_7 coder space depth chroma) y h in
+    let s8 = accepted_step closed s7.place (not chroma || nat_le s7.value 2) Subsampling (plane_rest_8 coder space depth chroma s7.value) y s7.rest in
+    let s9 = number_step closed s7.place (plane_rest_9 coder space depth chroma s7.value) y s8.1 in
+    let s10 = accepted_step closed s9.place (not chroma || nat_le s9.value 2) Subsampling (plane_rest_10 coder space depth chroma s7.value s9.value) y s9.rest in
+    let s11 = flag_step closed s9.place (plane_rest_11 coder space depth chroma s7.value s9.value) y s10.1 in
+    let s12 = accepted_step closed s11.place (not s11.value) ExtraPlane (plane_rest_12 coder space depth chroma s7.value s9.value s11.value) y s11.rest in
+    let given = given_step (record {
+      has_chroma = chroma;
+      shift_h = if chroma then s7.value else 0;
+      shift_v = if chroma then s9.value else 0;
+    }) s11.place y s12.1 in
+    record {
+      shift_h = s7.value;
+      shift_v = s9.value;
+      extra = s11.value;
+      test_3 = s8.0;
+      test_4 = s10.0;
+      test_5 = s12.0;
       small_shift_h = s7.small;
       small_shift_v = s9.small;
       is = given.0;
-      coded = λ rest z run. s0.coded (symbol s2.value ∷ symbol s4.value ∷ bit s6.value ∷ symbol s7.value ∷ symbol s9.value ∷ bit s11.value ∷ rest) z
-          (s2.coded (symbol s4.value ∷ bit s6.value ∷ symbol s7.value ∷ symbol s9.value ∷ bit s11.value ∷ rest) z
-          (s4.coded (bit s6.value ∷ symbol s7.value ∷ symbol s9.value ∷ bit s11.value ∷ rest) z
-          (s6.coded (symbol s7.value ∷ symbol s9.value ∷ bit s11.value ∷ rest) z
-          (s7.coded (symbol s9.value ∷ bit s11.value ∷ rest) z (s9.coded (bit s11.value ∷ rest) z
-          (s11.coded rest z (subst (λ w. IsRangeRun closed w (fields_bits rest) z) (sym given.1) run)))))));
+      coded = λ rest z run. s7.coded (symbol s9.value ∷ bit s11.value ∷ rest) z (s9.coded (bit s11.value ∷ rest) z
+          (s11.coded rest z (subst (λ w. IsRangeRun closed w (fields_bits rest) z) (sym given.1) run)));
     }
+
+pub planes-found : (closed : Bool) (p : Place) (y : PlanesValue × Place) → planes closed p ≡ Ok y → PlanesAt closed p y
+planes-found closed p y h =
+    let front = planes-front closed p y h in
+    let back = planes-back closed front.coder front.space front.depth front.chroma front.place y front.rest in
+    record {
+      coder = front.coder;
+      space = front.space;
+      depth = front.depth;
+      chroma = front.chroma;
+      shift_h = back.shift_h;
+      shift_v = back.shift_v;
+      extra = back.extra;
+      test_0 = front.test_0;
+      test_1 = front.test_1;
+      test_2 = front.test_2;
+      test_3 = back.test_3;
+      test_4 = back.test_4;
+      test_5 = back.test_5;
+      small_coder = front.small_coder;
+      small_space = front.small_space;
+      small_depth = front.small_depth;
+      small_shift_h = back.small_shift_h;
+      small_shift_v = back.small_shift_v;
+      is = back.is;
+      coded = λ rest z run. front.coded (symbol back.shift_h ∷ symbol back.shift_v ∷ bit back.extra ∷ rest) z (back.coded rest z run);
+    }
+
+planes-read : (closed : Bool) (coder space depth : ℕ) (chroma : Bool) (shift_h shift_v : ℕ) (extra : Bool) (p q0 q2 q4 q6 q7 q9 q11 : Place)
+    → (coder == 0) ≡ true → (space == 0) ≡ true → (depth == 0 || depth == 8) ≡ true → (not chroma || nat_le shift_h 2) ≡ true
+    → (not chroma || nat_le shift_v 2) ≡ true → (not extra) ≡ true → number closed p ≡ Ok (coder, q0) → number closed q0 ≡ Ok (space, q2)
+    → number closed q2 ≡ Ok (depth, q4) → flag closed q4 ≡ Ok (chroma, q6) → number closed q6 ≡ Ok (shift_h, q7) → number closed q7 ≡ Ok (shift_v, q9)
+    → flag closed q9 ≡ Ok (extra, q11)
+    → planes closed p ≡ Ok (record { has_chroma = chroma; shift_h = if chroma then shift_h else 0; shift_v = if chroma then shift_v else 0 }, q11)
+unfolding plane_rest_0 plane_rest_1 plane_rest_2 plane_rest_3 plane_rest_4 plane_rest_5 plane_rest_6 plane_rest_7 plane_rest_8 plane_rest_9 plane_rest_10 plane_rest_11 plane_rest_12
+planes-read closed coder space depth chroma shift_h shift_v extra p q0 q2 q4 q6 q7 q9 q11 t0 t1 t2 t3 t4 t5 r0 r2 r4 r6 r7 r9 r11 =
+    number_then closed p q0 coder plane_rest_0 r0
+    ∙ accepted_then closed q0 (coder == 0) Coder (plane_rest_1 coder) t0
+    ∙ number_then closed q0 q2 space (plane_rest_2 coder) r2
+    ∙ accepted_then closed q2 (space == 0) ColorSpace (plane_rest_3 coder space) t1
+    ∙ number_then closed q2 q4 depth (plane_rest_4 coder space) r4
+    ∙ accepted_then closed q4 (depth == 0 || depth == 8) Depth (plane_rest_5 coder space depth) t2
+    ∙ flag_then closed q4 q6 chroma (plane_rest_6 coder space depth) r6
+    ∙ number_then closed q6 q7 shift_h (plane_rest_7 coder space depth chroma) r7
+    ∙ accepted_then closed q7 (not chroma || nat_le shift_h 2) Subsampling (plane_rest_8 coder space depth chroma shift_h) t3
+    ∙ number_then closed q7 q9 shift_v (plane_rest_9 coder space depth chroma shift_h) r9
+    ∙ accepted_then closed q9 (not chroma || nat_le shift_v 2) Subsampling (plane_rest_10 coder space depth chroma shift_h shift_v) t4
+    ∙ flag_then closed q9 q11 extra (plane_rest_11 coder space depth chroma shift_h shift_v) r11
+    ∙ accepted_then closed q11 (not extra) ExtraPlane (plane_rest_12 coder space depth chroma shift_h shift_v extra) t5
 
 pub planes-run : (closed : Bool) (coder : ℕ) (space : ℕ) (depth : ℕ) (chroma : Bool) (shift_h : ℕ) (shift_v : ℕ) (extra : Bool) (p : Place)
     (rest : List FieldValue) (z : Place) → (coder == 0) ≡ true → (space == 0) ≡ true → (depth == 0 || depth == 8) ≡ true
@@ -284,7 +366,6 @@ pub planes-run : (closed : Bool) (coder : ℕ) (space : ℕ) (depth : ℕ) (chro
     → IsSymbol depth → IsSymbol shift_h → IsSymbol shift_v
     → IsRangeRun closed p (fields_bits (symbol coder ∷ symbol space ∷ symbol depth ∷ bit chroma ∷ symbol shift_h ∷ symbol shift_v ∷ bit extra ∷ rest)) z
     → FormRun closed planes p (record { has_chroma = chroma; shift_h = if chroma then shift_h else 0; shift_v = if chroma then shift_v else 0 }) rest z
-unfolding plane_rest_0 plane_rest_1 plane_rest_2 plane_rest_3 plane_rest_4 plane_rest_5 plane_rest_6 plane_rest_7 plane_rest_8 plane_rest_9 plane_rest_10 plane_rest_11 plane_rest_12
 planes-run closed coder space depth chroma shift_h shift_v extra p rest z t0 t1 t2 t3 t4 t5 k_coder k_space k_depth k_shift_h k_shift_v run =
     let s0 = number_run closed p coder (symbol space ∷ symbol depth ∷ bit chroma ∷ symbol shift_h ∷ symbol shift_v ∷ bit extra ∷ rest) z k_coder run in
     let s2 = number_run closed s0.place space (symbol depth ∷ bit chroma ∷ symbol shift_h ∷ symbol shift_v ∷ bit extra ∷ rest) z k_space s0.left in
@@ -295,19 +376,8 @@ planes-run closed coder space depth chroma shift_h shift_v extra p rest z t0 t1 
     let s11 = flag_run closed s9.place extra rest z s9.left in
     record {
       place = s11.place;
-      read = number_then closed p s0.place coder plane_rest_0 s0.read
-          ∙ accepted_then closed s0.place (coder == 0) Coder (plane_rest_1 coder) t0
-          ∙ number_then closed s0.place s2.place space (plane_rest_2 coder) s2.read
-          ∙ accepted_then closed s2.place (space == 0) ColorSpace (plane_rest_3 coder space) t1
-          ∙ number_then closed s2.place s4.place depth (plane_rest_4 coder space) s4.read
-          ∙ accepted_then closed s4.place (depth == 0 || depth == 8) Depth (plane_rest_5 coder space depth) t2
-          ∙ flag_then closed s4.place s6.place chroma (plane_rest_6 coder space depth) s6.read
-          ∙ number_then closed s6.place s7.place shift_h (plane_rest_7 coder space depth chroma) s7.read
-          ∙ accepted_then closed s7.place (not chroma || nat_le shift_h 2) Subsampling (plane_rest_8 coder space depth chroma shift_h) t3
-          ∙ number_then closed s7.place s9.place shift_v (plane_rest_9 coder space depth chroma shift_h) s9.read
-          ∙ accepted_then closed s9.place (not chroma || nat_le shift_v 2) Subsampling (plane_rest_10 coder space depth chroma shift_h shift_v) t4
-          ∙ flag_then closed s9.place s11.place extra (plane_rest_11 coder space depth chroma shift_h shift_v) s11.read
-          ∙ accepted_then closed s11.place (not extra) ExtraPlane (plane_rest_12 coder space depth chroma shift_h shift_v extra) t5;
+      read = planes-read closed coder space depth chroma shift_h shift_v extra p s0.place s2.place s4.place s6.place s7.place s9.place s11.place
+          t0 t1 t2 t3 t4 t5 s0.read s2.read s4.read s6.read s7.read s9.read s11.read;
       left = s11.left;
     }
 

@@ -4,6 +4,7 @@ pub mod OneCode
 pub mod OneNumber
 pub mod OneRun
 pub mod Shapes
+pub mod Sums
 pub mod Words
 pub mod Vectors
 pub mod Windows

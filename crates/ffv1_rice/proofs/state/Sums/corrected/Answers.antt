@@ -1,57 +1,50 @@
-use Rattle.std.proofs.Common.{◌≡◌, ℤ, pos, neg_ℤ, ◌+ℤ◌, ◌-ℤ◌, ◌≤ℤ◌, ◌<ℤ◌, arith, sym, subst, to_z, of_z, w32}
-use Rattle.std.specs.Int.{int_max, int_min}
-use Rattle.std.proofs.lemmas.Int.{ints, clamps}
-use Rattle.ffv1_rice.specs.States.{ContextState, IsUncorrected, corrected}
+use Rattle.std.proofs.Common.{sym, subst}
+use Rattle.ffv1_rice.specs.States.{IsState, IsUncorrected}
+use Rattle.ffv1_rice.proofs.Sums.{count_fits, count_less_fits, raised_fits, one_less_fits, bias_less_fits, lowered_fits, bias_more_fits, corrected_fallen, corrected_risen, corrected_same, corrected_range}
 use Rattle.ffv1_rice.proofs.state.Sums.corrected.Goals as goal
 
-fallen : (s : ContextState) (d b : ℤ) → s.drift ≤ℤ neg_ℤ (pos s.count) → d ≡ int_max (s.drift +ℤ pos s.count) (pos 1 -ℤ pos s.count)
-    → b ≡ int_max (s.bias -ℤ pos 1) (neg_ℤ (pos 128)) → let r : ContextState = record { drift = d; error_sum = s.error_sum; bias = b; count = s.count } in
-    r ≡ corrected s
-fallen s d b h e f = grind (arith, ints)
+pub overflow_cast-count : goal.overflow_cast-count
+overflow_cast-count c = count_fits c.self.inside.count (subst IsUncorrected (sym c.self.view_is) c.requires).few_counted
 
-risen : (s : ContextState) (d b : ℤ) → neg_ℤ (pos s.count) <ℤ s.drift → pos 0 <ℤ s.drift → d ≡ int_min (s.drift -ℤ pos s.count) (pos 0)
-    → b ≡ int_min (s.bias +ℤ pos 1) (pos 127) → let r : ContextState = record { drift = d; error_sum = s.error_sum; bias = b; count = s.count } in
-    r ≡ corrected s
-risen s d b h i e f = grind (arith, ints)
+pub overflow_sub-count : goal.overflow_sub-count
+overflow_sub-count c = count_less_fits c.self.inside.count (subst IsUncorrected (sym c.self.view_is) c.requires).few_counted
+
+pub overflow_add-self-inside : goal.overflow_add-self-inside
+overflow_add-self-inside c = raised_fits _ (subst IsUncorrected (sym c.self.view_is) c.requires)
+
+pub overflow_sub-count-then-self-count : goal.overflow_sub-count-then-self-count
+overflow_sub-count-then-self-count c = one_less_fits c.self.inside.count (subst IsUncorrected (sym c.self.view_is) c.requires).few_counted
+
+pub overflow_sub-self-inside : goal.overflow_sub-self-inside
+overflow_sub-self-inside c = bias_less_fits _ (subst IsUncorrected (sym c.self.view_is) c.requires)
+
+pub overflow_sub-self-inside-then-self-gt0 : goal.overflow_sub-self-inside-then-self-gt0
+overflow_sub-self-inside-then-self-gt0 c = lowered_fits _ (subst IsUncorrected (sym c.self.view_is) c.requires)
+
+pub overflow_add-self-inside-then-self-gt0 : goal.overflow_add-self-inside-then-self-gt0
+overflow_add-self-inside-then-self-gt0 c = bias_more_fits _ (subst IsUncorrected (sym c.self.view_is) c.requires)
 
 pub returns-then-self-count-clause-value : goal.returns-then-self-count-clause-value
 returns-then-self-count-clause-value c =
-    let bounds : IsUncorrected _ = subst IsUncorrected (sym c.self.view_is) c.requires in
     rw (← c.self.view_is)
-    (fallen (record { drift = c.self.inside.drift; error_sum = c.self.inside.error_sum; bias = c.self.inside.bias; count = c.self.inside.count })
-    (to_z w32 (of_z w32 c.max.result)) (to_z w32 (of_z w32 c.max-then-self-count.result)) (omega (arith, ints))
-    (omega (arith, ints, clamps, c.max.ensures.value)) (omega (arith, ints, clamps, c.max-then-self-count.ensures.value)))
+    (corrected_fallen _ c.max.result c.max-then-self-count.result (subst IsUncorrected (sym c.self.view_is) c.requires) c.if-self-count.true
+    c.max.ensures.value c.max-then-self-count.ensures.value)
 
 pub returns-then-self-count-clause-range : goal.returns-then-self-count-clause-range
-returns-then-self-count-clause-range c =
-    let bounds : IsUncorrected _ = subst IsUncorrected (sym c.self.view_is) c.requires in
-    record {
-      some_counted = omega arith;
-      few_counted = omega arith;
-      drift_low = omega (arith, ints, clamps);
-      drift_high = omega (arith, ints, clamps);
-      errors = omega arith;
-      bias_low = omega (arith, ints, clamps);
-      bias_high = omega (arith, ints, clamps);
-    }
+returns-then-self-count-clause-range c = subst IsState (sym (returns-then-self-count-clause-value c)) (corrected_range c.args.self c.requires)
 
 pub returns-then-self-gt0-clause-value : goal.returns-then-self-gt0-clause-value
 returns-then-self-gt0-clause-value c =
-    let bounds : IsUncorrected _ = subst IsUncorrected (sym c.self.view_is) c.requires in
     rw (← c.self.view_is)
-    (risen (record { drift = c.self.inside.drift; error_sum = c.self.inside.error_sum; bias = c.self.inside.bias; count = c.self.inside.count })
-    (to_z w32 (of_z w32 c.min.result)) (to_z w32 (of_z w32 c.min-then-self-gt0.result)) (omega (arith, ints)) (omega (arith, ints))
-    (omega (arith, ints, clamps, c.min.ensures.value)) (omega (arith, ints, clamps, c.min-then-self-gt0.ensures.value)))
+    (corrected_risen _ c.min.result c.min-then-self-gt0.result (subst IsUncorrected (sym c.self.view_is) c.requires) c.if-self-count.false
+    c.if-self-gt0.true c.min.ensures.value c.min-then-self-gt0.ensures.value)
 
 pub returns-then-self-gt0-clause-range : goal.returns-then-self-gt0-clause-range
-returns-then-self-gt0-clause-range c =
-    let bounds : IsUncorrected _ = subst IsUncorrected (sym c.self.view_is) c.requires in
-    record {
-      some_counted = omega arith;
-      few_counted = omega arith;
-      drift_low = omega (arith, ints, clamps);
-      drift_high = omega (arith, ints, clamps);
-      errors = omega arith;
-      bias_low = omega (arith, ints, clamps);
-      bias_high = omega (arith, ints, clamps);
-    }
+returns-then-self-gt0-clause-range c = subst IsState (sym (returns-then-self-gt0-clause-value c)) (corrected_range c.args.self c.requires)
+
+pub returns-clause-value : goal.returns-clause-value
+returns-clause-value c =
+    rw (← c.self.view_is) (corrected_same _ (subst IsUncorrected (sym c.self.view_is) c.requires) c.if-self-count.false c.if-self-gt0.false)
+
+pub returns-clause-range : goal.returns-clause-range
+returns-clause-range c = subst IsState (sym (returns-clause-value c)) (corrected_range c.args.self c.requires)

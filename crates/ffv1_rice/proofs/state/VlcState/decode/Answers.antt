@@ -1,9 +1,32 @@
-use Rattle.std.proofs.Common.{◌≡◌, ap, sym, arith, ◌∙◌, to_z, of_z, w32}
+use Rattle.std.proofs.Common.{Bool, ℤ, subst, ◌≡◌, ap, sym, arith, ◌∙◌, to_z, of_z, w32}
 use Rattle.std.specs.Prelude.{Ok}
 use Rattle.std.proofs.lemmas.Int.{ints}
+use Rattle.ffv1_rice.specs.Codes.{IsCodedDifference}
+use Rattle.ffv1_rice.proofs.Sums.{IsDifference-of_z, to_z-of_z-difference}
 use Rattle.ffv1_rice.proofs.OneCode.{IsValueRead, value_read, same_difference}
 use Rattle.ffv1_rice.proofs.Faults.{no_level_above, no_difference_at_fault}
 use Rattle.ffv1_rice.proofs.state.VlcState.decode.Goals as goal
+
+IsCodedDifference-of_z : (level : Bool) (d : ℤ) → IsCodedDifference level d → IsCodedDifference level (to_z w32 (of_z w32 d))
+IsCodedDifference-of_z level d coded = subst (IsCodedDifference level) (sym (to_z-of_z-difference d coded.0)) coded
+
+pub read_number-requires : goal.read_number-requires
+read_number-requires c = c.k.ensures.bound
+
+pub coded-coded-requires : goal.coded-coded-requires
+coded-coded-requires c = c.in_ok-number.ensures.byte
+
+pub value-requires : goal.value-requires
+value-requires c = IsDifference-of_z c.coded-coded.result c.coded-coded.ensures.range
+
+pub difference_of-requires : goal.difference_of-requires
+difference_of-requires c = IsDifference-of_z c.value.result c.value.ensures.range
+
+pub updated-requires : goal.updated-requires
+updated-requires c = IsDifference-of_z c.coded-coded.result c.coded-coded.ensures.range
+
+pub returns-clause-range : goal.returns-clause-range
+returns-clause-range c = IsCodedDifference-of_z c.args.level c.in_ok-difference.difference c.in_ok-difference.ensures.range
 
 pub returns-in_err-number-clause-found : goal.returns-in_err-number-clause-found
 returns-in_err-number-clause-found c = λ difference after told spelled.

@@ -1,17 +1,35 @@
-use Rattle.std.proofs.Common.{◌≡◌, ℤ, pos, neg_ℤ, ◌-ℤ◌, ◌<ℤ◌, ◌*ℤ◌, arith, ap, subst, to_z, of_z, w32}
-use Rattle.std.proofs.lemmas.Int.{ints}
+use Rattle.std.proofs.Common.{sym, ap, subst, ◌∙◌}
 use Rattle.ffv1_rice.specs.declared.state.VlcState.TheInside.{Inside}
-use Rattle.ffv1_rice.specs.States.{ContextState, flipped}
+use Rattle.ffv1_rice.specs.States.{IsState}
+use Rattle.ffv1_rice.proofs.Sums.{IsDifference-of_z, count_fits, count_less_fits, double_fits, flip_fits, flip_range, flipped_twice, flipped_not}
 use Rattle.ffv1_rice.proofs.state.VlcState.flipped.Goals as goal
 
-flipped_again : (s : ContextState) (v r : ℤ) → (pos 2 *ℤ s.drift) <ℤ neg_ℤ (pos s.count) → r ≡ neg_ℤ (pos 1) -ℤ v → flipped s r ≡ v
-flipped_again s v r h k = grind (arith, ints)
+pub overflow_mul-self-inside-inside : goal.overflow_mul-self-inside-inside
+overflow_mul-self-inside-inside c = double_fits _ (subst (λ (i : Inside). IsState i.sums) (sym c.self-inside.view_is) c.self.invariant)
+
+pub overflow_cast-self-inside-inside : goal.overflow_cast-self-inside-inside
+overflow_cast-self-inside-inside c =
+    count_fits c.self-inside.inside.0.0.count (subst (λ (i : Inside). IsState i.sums) (sym c.self-inside.view_is) c.self.invariant).few_counted
+
+pub overflow_sub-self-inside-inside : goal.overflow_sub-self-inside-inside
+overflow_sub-self-inside-inside c =
+    count_less_fits c.self-inside.inside.0.0.count (subst (λ (i : Inside). IsState i.sums) (sym c.self-inside.view_is) c.self.invariant).few_counted
+
+pub overflow_sub-result : goal.overflow_sub-result
+overflow_sub-result c = flip_fits c.args.coded c.requires
 
 pub returns-then-self-clause-again : goal.returns-then-self-clause-again
 returns-then-self-clause-again c =
-    let drift : c.self-inside.inside.0.0.drift ≡ c.self.inside.sums.drift = ap (λ (s : Inside). s.sums.drift) c.self-inside.view_is in
-    let count : c.self-inside.inside.0.0.count ≡ c.self.inside.sums.count = ap (λ (s : Inside). s.sums.count) c.self-inside.view_is in
-    let low : (pos 2 *ℤ c.self.inside.sums.drift) <ℤ neg_ℤ (pos c.self.inside.sums.count) = omega (arith, ints) in
-    let P : ContextState → Type 0 = (λ s. (pos 2 *ℤ s.drift) <ℤ neg_ℤ (pos s.count)) in
-    flipped_again c.args.self.now c.args.coded (to_z w32 (of_z w32 (neg_ℤ (pos 1) -ℤ to_z w32 (of_z w32 c.args.coded)))) (subst P c.self.view_is low)
-    (omega (arith, ints))
+    rw (← (ap (λ (i : Inside). i.sums) c.self-inside.view_is ∙ c.self.view_is))
+    (flipped_twice _ c.args.coded (subst (λ (i : Inside). IsState i.sums) (sym c.self-inside.view_is) c.self.invariant) c.requires c.if-self.true)
+
+pub returns-then-self-clause-range : goal.returns-then-self-clause-range
+returns-then-self-clause-range c = flip_range c.args.coded c.requires
+
+pub returns-else-self-clause-again : goal.returns-else-self-clause-again
+returns-else-self-clause-again c =
+    rw (← (ap (λ (i : Inside). i.sums) c.self-inside.view_is ∙ c.self.view_is))
+    (flipped_not _ c.args.coded (subst (λ (i : Inside). IsState i.sums) (sym c.self-inside.view_is) c.self.invariant) c.requires c.if-self.false)
+
+pub returns-else-self-clause-range : goal.returns-else-self-clause-range
+returns-else-self-clause-range c = IsDifference-of_z c.args.coded c.requires

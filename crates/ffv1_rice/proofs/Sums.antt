@@ -1,0 +1,358 @@
+-- What the code computes of a state in 32 bits is what the definitions say. Each lemma speaks of plain numbers: a proof by
+-- arithmetic is short there, and long among all that is known in the code.
+use Rattle.std.proofs.Common.{◌≡◌, ℕ, ◌+◌, ◌*◌, ◌/◌, ◌<◌, ◌≤◌, ◌==◌, Bool, true, false, ℤ, pos, negsuc, ◌+ℤ◌, ◌-ℤ◌, ◌*ℤ◌, neg_ℤ, ◌≤ℤ◌, ◌<ℤ◌, int_lt, int_le, nat_abs, if◌then◌else◌, arith, refl, sym, ap, subst, ◌∙◌, to_z, of_z, w32, SFits, Fits}
+use Rattle.std.specs.Int.{int_max, int_min, int_div_euclid}
+use Rattle.std.proofs.lemmas.Int.{ints, clamps, to_z-of_z, to_z_pos}
+use Rattle.std.proofs.lemmas.Bool.{eqb-true, eqb-false, ne_eqb}
+use Rattle.ffv1_rice.specs.States.{ContextState, IsDifference, IsState, IsUncounted, IsUncorrected, half, fold, with_value, counted, corrected, coded_value, flipped}
+use Rattle.ffv1_rice.proofs.Folds.{fold_back}
+
+-- ---- small numbers
+
+pub SFits-small : (z : ℤ) → neg_ℤ (pos 512) ≤ℤ z → z ≤ℤ pos 512 → SFits w32 z
+SFits-small z low high = omega (arith, ints)
+
+pub to_z-of_z-small : (z : ℤ) → neg_ℤ (pos 512) ≤ℤ z → z ≤ℤ pos 512 → to_z w32 (of_z w32 z) ≡ z
+to_z-of_z-small z low high = to_z-of_z w32 z (SFits-small z low high)
+
+pub to_z-of_z-difference : (v : ℤ) → IsDifference v → to_z w32 (of_z w32 v) ≡ v
+to_z-of_z-difference v bounds = to_z-of_z-small v (omega (arith, ints)) (omega (arith, ints))
+
+pub IsDifference-of_z : (v : ℤ) → IsDifference v → IsDifference (to_z w32 (of_z w32 v))
+IsDifference-of_z v bounds = subst IsDifference (sym (to_z-of_z-difference v bounds)) bounds
+
+to_z-small : (n : ℕ) → n ≤ 512 → to_z w32 n ≡ pos n
+to_z-small n few = to_z_pos w32 n (omega arith)
+
+-- ---- a value enters the sums
+
+drift_kept : (s : ContextState) → IsState s → to_z w32 (of_z w32 s.drift) ≡ s.drift
+drift_kept s bounds = to_z-of_z-small s.drift (omega (arith, ints)) (omega (arith, ints))
+
+bias_kept : (s : ContextState) → IsState s → to_z w32 (of_z w32 s.bias) ≡ s.bias
+bias_kept s bounds = to_z-of_z-difference s.bias (record { low = bounds.bias_low; high = bounds.bias_high })
+
+sum_fits : (s : ContextState) (v : ℤ) → IsState s → IsDifference v → SFits w32 (s.drift +ℤ v)
+sum_fits s v bounds difference = SFits-small (s.drift +ℤ v) (omega (arith, ints)) (omega (arith, ints))
+
+pub with_value_drift_fits : (s : ContextState) (v : ℤ) → IsState s → IsDifference v → SFits w32 (to_z w32 (of_z w32 s.drift) +ℤ to_z w32 (of_z w32 v))
+with_value_drift_fits s v bounds difference = rw (drift_kept s bounds, to_z-of_z-difference v difference) (sum_fits s v bounds difference)
+
+pub with_value_errors_fit : (s : ContextState) (e : ℕ) → IsState s → e ≤ 2147483648 → Fits w32 (s.error_sum + e)
+with_value_errors_fit s e bounds few = record { fits = omega arith }
+
+pub with_value_is : (s : ContextState) (v : ℤ) (e : ℕ) → IsState s → IsDifference v → e ≡ nat_abs (to_z w32 (of_z w32 v))
+    → let r : ContextState = record {
+      drift = to_z w32 (of_z w32 (to_z w32 (of_z w32 s.drift) +ℤ to_z w32 (of_z w32 v)));
+      error_sum = s.error_sum + e;
+      bias = to_z w32 (of_z w32 s.bias);
+      count = s.count;
+    } in
+    r ≡ with_value s v
+with_value_is s v e bounds difference is =
+    rw (is, drift_kept s bounds, to_z-of_z-difference v difference, to_z-of_z w32 (s.drift +ℤ v) (sum_fits s v bounds difference), bias_kept s bounds)
+
+pub with_value_range : (s : ContextState) (v : ℤ) → IsState s → IsDifference v → IsUncounted (with_value s v)
+with_value_range s v bounds difference = record {
+  some_counted = bounds.some_counted;
+  few_counted = bounds.few_counted;
+  drift_low = omega (arith, ints);
+  drift_high = omega (arith, ints);
+  errors = omega (arith, ints);
+  bias_low = bounds.bias_low;
+  bias_high = bounds.bias_high;
+}
+
+-- ---- the value is counted
+
+uncounted_drift_kept : (s : ContextState) → IsUncounted s → to_z w32 (of_z w32 s.drift) ≡ s.drift
+uncounted_drift_kept s bounds = to_z-of_z-small s.drift (omega (arith, ints)) (omega (arith, ints))
+
+uncounted_bias_kept : (s : ContextState) → IsUncounted s → to_z w32 (of_z w32 s.bias) ≡ s.bias
+uncounted_bias_kept s bounds = to_z-of_z-difference s.bias (record { low = bounds.bias_low; high = bounds.bias_high })
+
+pub half_more_fits : (n : ℕ) → n ≤ 128 → Fits w32 (n / 2 + 1)
+half_more_fits n few = record { fits = omega arith }
+
+pub count_more_fits : (n : ℕ) → n ≤ 128 → Fits w32 (n + 1)
+count_more_fits n few = record { fits = omega arith }
+
+int_div_euclid-two : (z : ℤ) → int_div_euclid z (pos 2) ≡ half z
+int_div_euclid-two (pos n) = refl
+int_div_euclid-two (negsuc n) = refl
+
+half_low : (z : ℤ) → neg_ℤ (pos 256) <ℤ z → neg_ℤ (pos 192) ≤ℤ half z
+half_low (pos n) low = omega (arith, ints)
+half_low (negsuc n) low = omega (arith, ints)
+
+half_high : (z : ℤ) → z ≤ℤ pos 127 → half z ≤ℤ pos 127
+half_high (pos n) high = omega (arith, ints)
+half_high (negsuc n) high = omega (arith, ints)
+
+uncounted_low : (s : ContextState) → IsUncounted s → neg_ℤ (pos 256) <ℤ s.drift
+uncounted_low s bounds = omega (arith, ints)
+
+half_kept : (s : ContextState) → IsUncounted s → to_z w32 (of_z w32 (half s.drift)) ≡ half s.drift
+half_kept s bounds =
+    let low = half_low s.drift (uncounted_low s bounds) in
+    let high = half_high s.drift bounds.drift_high in
+    to_z-of_z-small (half s.drift) (omega (arith, ints)) (omega (arith, ints))
+
+pub counted_halved : (s : ContextState) (d : ℤ) → IsUncounted s → s.count ≡ 128 → d ≡ int_div_euclid (to_z w32 (of_z w32 s.drift)) (pos 2)
+    → let r : ContextState = record { drift = to_z w32 (of_z w32 d); error_sum = s.error_sum / 2; bias = to_z w32 (of_z w32 s.bias); count = s.count / 2 + 1 } in
+    r ≡ counted s
+counted_halved s d bounds full is =
+    let is_half : d ≡ half s.drift = is ∙ ap (λ z. int_div_euclid z (pos 2)) (uncounted_drift_kept s bounds) ∙ int_div_euclid-two s.drift in
+    rw (is_half, half_kept s bounds, uncounted_bias_kept s bounds, full)
+
+pub counted_more : (s : ContextState) → IsUncounted s → (s.count ≡ 128 → ⊥)
+    → let r : ContextState = record { drift = to_z w32 (of_z w32 s.drift); error_sum = s.error_sum; bias = to_z w32 (of_z w32 s.bias); count = s.count + 1 } in
+    r ≡ counted s
+counted_more s bounds not_full =
+    rw (uncounted_drift_kept s bounds, uncounted_bias_kept s bounds, ne_eqb s.count 128 not_full)
+
+counted_range_at : (s : ContextState) → IsUncounted s → (full : Bool) → (s.count == 128) ≡ full
+    → let r : ContextState =
+    if full then record s { drift = half s.drift; error_sum = s.error_sum / 2; count = s.count / 2 + 1 } else record s { count = s.count + 1 } in
+    IsUncorrected r
+counted_range_at s bounds true is =
+    let full : s.count ≡ 128 = eqb-true s.count 128 is in
+    let low = half_low s.drift (uncounted_low s bounds) in
+    record {
+      some_counted = omega arith;
+      few_counted = omega arith;
+      drift_low = omega (arith, ints);
+      drift_high = half_high s.drift bounds.drift_high;
+      errors = omega arith;
+      bias_low = bounds.bias_low;
+      bias_high = bounds.bias_high;
+    }
+counted_range_at s bounds false is =
+    let more : s.count ≡ 128 → ⊥ = eqb-false s.count 128 is in
+    record {
+      some_counted = omega arith;
+      few_counted = omega arith;
+      drift_low = omega (arith, ints);
+      drift_high = bounds.drift_high;
+      errors = omega arith;
+      bias_low = bounds.bias_low;
+      bias_high = bounds.bias_high;
+    }
+
+pub counted_range : (s : ContextState) → IsUncounted s → IsUncorrected (counted s)
+counted_range s bounds = counted_range_at s bounds (s.count == 128) refl
+
+-- ---- the bias follows the drift
+
+uncorrected_drift_kept : (s : ContextState) → IsUncorrected s → to_z w32 (of_z w32 s.drift) ≡ s.drift
+uncorrected_drift_kept s bounds = to_z-of_z-small s.drift (omega (arith, ints)) (omega (arith, ints))
+
+uncorrected_bias_kept : (s : ContextState) → IsUncorrected s → to_z w32 (of_z w32 s.bias) ≡ s.bias
+uncorrected_bias_kept s bounds = to_z-of_z-difference s.bias (record { low = bounds.bias_low; high = bounds.bias_high })
+
+-- the count as a signed number, and its negative
+to_z-count : (n : ℕ) → n ≤ 128 → to_z w32 n ≡ pos n
+to_z-count n few = to_z-small n (omega arith)
+
+pub count_fits : (n : ℕ) → n ≤ 128 → SFits w32 (pos n)
+count_fits n few = SFits-small (pos n) (omega (arith, ints)) (omega (arith, ints))
+
+zero-less : (n : ℕ) → pos 0 -ℤ pos n ≡ neg_ℤ (pos n)
+zero-less n = omega (arith, ints)
+
+less_fits : (n : ℕ) → n ≤ 128 → SFits w32 (neg_ℤ (pos n))
+less_fits n few = SFits-small (neg_ℤ (pos n)) (omega (arith, ints)) (omega (arith, ints))
+
+pub count_less_fits : (n : ℕ) → n ≤ 128 → SFits w32 (pos 0 -ℤ to_z w32 n)
+count_less_fits n few = rw (to_z-count n few, zero-less n) (less_fits n few)
+
+count_less_is : (n : ℕ) → n ≤ 128 → to_z w32 (of_z w32 (pos 0 -ℤ to_z w32 n)) ≡ neg_ℤ (pos n)
+count_less_is n few = rw (to_z-count n few, zero-less n) (to_z-of_z w32 (neg_ℤ (pos n)) (less_fits n few))
+
+low_test : (s : ContextState) → IsUncorrected s
+    → int_le (to_z w32 (of_z w32 s.drift)) (to_z w32 (of_z w32 (pos 0 -ℤ to_z w32 s.count))) ≡ int_le s.drift (neg_ℤ (pos s.count))
+low_test s bounds = rw (uncorrected_drift_kept s bounds, count_less_is s.count bounds.few_counted)
+
+high_test : (s : ContextState) → IsUncorrected s → int_lt (pos 0) (to_z w32 (of_z w32 s.drift)) ≡ int_lt (pos 0) s.drift
+high_test s bounds = rw (uncorrected_drift_kept s bounds)
+
+pub raised_fits : (s : ContextState) → IsUncorrected s → SFits w32 (to_z w32 (of_z w32 s.drift) +ℤ to_z w32 s.count)
+raised_fits s bounds =
+    rw (uncorrected_drift_kept s bounds, to_z-count s.count bounds.few_counted)
+    (SFits-small (s.drift +ℤ pos s.count) (omega (arith, ints)) (omega (arith, ints)))
+
+pub one_less_fits : (n : ℕ) → n ≤ 128 → SFits w32 (pos 1 -ℤ to_z w32 n)
+one_less_fits n few = rw (to_z-count n few) (SFits-small (pos 1 -ℤ pos n) (omega (arith, ints)) (omega (arith, ints)))
+
+pub bias_less_fits : (s : ContextState) → IsUncorrected s → SFits w32 (to_z w32 (of_z w32 s.bias) -ℤ pos 1)
+bias_less_fits s bounds = rw (uncorrected_bias_kept s bounds) (SFits-small (s.bias -ℤ pos 1) (omega (arith, ints)) (omega (arith, ints)))
+
+pub lowered_fits : (s : ContextState) → IsUncorrected s → SFits w32 (to_z w32 (of_z w32 s.drift) -ℤ to_z w32 s.count)
+lowered_fits s bounds =
+    rw (uncorrected_drift_kept s bounds, to_z-count s.count bounds.few_counted)
+    (SFits-small (s.drift -ℤ pos s.count) (omega (arith, ints)) (omega (arith, ints)))
+
+pub bias_more_fits : (s : ContextState) → IsUncorrected s → SFits w32 (to_z w32 (of_z w32 s.bias) +ℤ pos 1)
+bias_more_fits s bounds = rw (uncorrected_bias_kept s bounds) (SFits-small (s.bias +ℤ pos 1) (omega (arith, ints)) (omega (arith, ints)))
+
+fallen_drift : (s : ContextState) (d : ℤ) → IsUncorrected s
+    → d ≡ int_max (to_z w32 (of_z w32 (to_z w32 (of_z w32 s.drift) +ℤ to_z w32 s.count))) (to_z w32 (of_z w32 (pos 1 -ℤ to_z w32 s.count)))
+    → to_z w32 (of_z w32 d) ≡ int_max (s.drift +ℤ pos s.count) (pos 1 -ℤ pos s.count)
+fallen_drift s d bounds is =
+    let more : to_z w32 (of_z w32 (s.drift +ℤ pos s.count)) ≡ s.drift +ℤ pos s.count =
+    to_z-of_z-small (s.drift +ℤ pos s.count) (omega (arith, ints)) (omega (arith, ints)) in
+    let one : to_z w32 (of_z w32 (pos 1 -ℤ pos s.count)) ≡ pos 1 -ℤ pos s.count =
+    to_z-of_z-small (pos 1 -ℤ pos s.count) (omega (arith, ints)) (omega (arith, ints)) in
+    rw (is, uncorrected_drift_kept s bounds, to_z-count s.count bounds.few_counted, more, one)
+    (to_z-of_z-small (int_max (s.drift +ℤ pos s.count) (pos 1 -ℤ pos s.count)) (omega (arith, ints, clamps)) (omega (arith, ints, clamps)))
+
+fallen_bias : (s : ContextState) (b : ℤ) → IsUncorrected s → b ≡ int_max (to_z w32 (of_z w32 (to_z w32 (of_z w32 s.bias) -ℤ pos 1))) (neg_ℤ (pos 128))
+    → to_z w32 (of_z w32 b) ≡ int_max (s.bias -ℤ pos 1) (neg_ℤ (pos 128))
+fallen_bias s b bounds is =
+    let less : to_z w32 (of_z w32 (s.bias -ℤ pos 1)) ≡ s.bias -ℤ pos 1 =
+    to_z-of_z-small (s.bias -ℤ pos 1) (omega (arith, ints)) (omega (arith, ints)) in
+    rw (is, uncorrected_bias_kept s bounds, less)
+    (to_z-of_z-small (int_max (s.bias -ℤ pos 1) (neg_ℤ (pos 128))) (omega (arith, ints, clamps)) (omega (arith, ints, clamps)))
+
+pub corrected_fallen : (s : ContextState) (d b : ℤ) → IsUncorrected s
+    → int_le (to_z w32 (of_z w32 s.drift)) (to_z w32 (of_z w32 (pos 0 -ℤ to_z w32 s.count))) ≡ true
+    → d ≡ int_max (to_z w32 (of_z w32 (to_z w32 (of_z w32 s.drift) +ℤ to_z w32 s.count))) (to_z w32 (of_z w32 (pos 1 -ℤ to_z w32 s.count)))
+    → b ≡ int_max (to_z w32 (of_z w32 (to_z w32 (of_z w32 s.bias) -ℤ pos 1))) (neg_ℤ (pos 128))
+    → let r : ContextState = record { drift = to_z w32 (of_z w32 d); error_sum = s.error_sum; bias = to_z w32 (of_z w32 b); count = s.count } in
+    r ≡ corrected s
+corrected_fallen s d b bounds test drift bias =
+    rw (fallen_drift s d bounds drift, fallen_bias s b bounds bias, sym (low_test s bounds) ∙ test)
+
+risen_drift : (s : ContextState) (d : ℤ) → IsUncorrected s → pos 0 <ℤ s.drift
+    → d ≡ int_min (to_z w32 (of_z w32 (to_z w32 (of_z w32 s.drift) -ℤ to_z w32 s.count))) (pos 0)
+    → to_z w32 (of_z w32 d) ≡ int_min (s.drift -ℤ pos s.count) (pos 0)
+risen_drift s d bounds above is =
+    let less : to_z w32 (of_z w32 (s.drift -ℤ pos s.count)) ≡ s.drift -ℤ pos s.count =
+    to_z-of_z-small (s.drift -ℤ pos s.count) (omega (arith, ints)) (omega (arith, ints)) in
+    rw (is, uncorrected_drift_kept s bounds, to_z-count s.count bounds.few_counted, less)
+    (to_z-of_z-small (int_min (s.drift -ℤ pos s.count) (pos 0)) (omega (arith, ints, clamps)) (omega (arith, ints, clamps)))
+
+risen_bias : (s : ContextState) (b : ℤ) → IsUncorrected s → b ≡ int_min (to_z w32 (of_z w32 (to_z w32 (of_z w32 s.bias) +ℤ pos 1))) (pos 127)
+    → to_z w32 (of_z w32 b) ≡ int_min (s.bias +ℤ pos 1) (pos 127)
+risen_bias s b bounds is =
+    let more : to_z w32 (of_z w32 (s.bias +ℤ pos 1)) ≡ s.bias +ℤ pos 1 =
+    to_z-of_z-small (s.bias +ℤ pos 1) (omega (arith, ints)) (omega (arith, ints)) in
+    rw (is, uncorrected_bias_kept s bounds, more)
+    (to_z-of_z-small (int_min (s.bias +ℤ pos 1) (pos 127)) (omega (arith, ints, clamps)) (omega (arith, ints, clamps)))
+
+pub corrected_risen : (s : ContextState) (d b : ℤ) → IsUncorrected s
+    → int_le (to_z w32 (of_z w32 s.drift)) (to_z w32 (of_z w32 (pos 0 -ℤ to_z w32 s.count))) ≡ false
+    → int_lt (pos 0) (to_z w32 (of_z w32 s.drift)) ≡ true
+    → d ≡ int_min (to_z w32 (of_z w32 (to_z w32 (of_z w32 s.drift) -ℤ to_z w32 s.count))) (pos 0)
+    → b ≡ int_min (to_z w32 (of_z w32 (to_z w32 (of_z w32 s.bias) +ℤ pos 1))) (pos 127)
+    → let r : ContextState = record { drift = to_z w32 (of_z w32 d); error_sum = s.error_sum; bias = to_z w32 (of_z w32 b); count = s.count } in
+    r ≡ corrected s
+corrected_risen s d b bounds low high drift bias =
+    let above : int_lt (pos 0) s.drift ≡ true = sym (high_test s bounds) ∙ high in
+    rw (risen_drift s d bounds (omega (arith, ints)) drift, risen_bias s b bounds bias, sym (low_test s bounds) ∙ low, above)
+
+pub corrected_same : (s : ContextState) → IsUncorrected s
+    → int_le (to_z w32 (of_z w32 s.drift)) (to_z w32 (of_z w32 (pos 0 -ℤ to_z w32 s.count))) ≡ false
+    → int_lt (pos 0) (to_z w32 (of_z w32 s.drift)) ≡ false → s ≡ corrected s
+corrected_same s bounds low high = rw (sym (low_test s bounds) ∙ low, sym (high_test s bounds) ∙ high)
+
+corrected_range_at : (s : ContextState) → IsUncorrected s → (low high : Bool) → int_le s.drift (neg_ℤ (pos s.count)) ≡ low → int_lt (pos 0) s.drift ≡ high
+    → let r : ContextState =
+    if low then record s { drift = int_max (s.drift +ℤ pos s.count) (pos 1 -ℤ pos s.count); bias = int_max (s.bias -ℤ pos 1) (neg_ℤ (pos 128)) }
+    else if high then record s { drift = int_min (s.drift -ℤ pos s.count) (pos 0); bias = int_min (s.bias +ℤ pos 1) (pos 127) } else s in
+    IsState r
+corrected_range_at s bounds true high is above = record {
+  some_counted = omega arith;
+  few_counted = bounds.few_counted;
+  drift_low = omega (arith, ints, clamps);
+  drift_high = omega (arith, ints, clamps);
+  errors = bounds.errors;
+  bias_low = omega (arith, ints, clamps);
+  bias_high = omega (arith, ints, clamps);
+}
+corrected_range_at s bounds false true is above = record {
+  some_counted = omega arith;
+  few_counted = bounds.few_counted;
+  drift_low = omega (arith, ints, clamps);
+  drift_high = omega (arith, ints, clamps);
+  errors = bounds.errors;
+  bias_low = omega (arith, ints, clamps);
+  bias_high = omega (arith, ints, clamps);
+}
+corrected_range_at s bounds false false is above = record {
+  some_counted = omega arith;
+  few_counted = bounds.few_counted;
+  drift_low = omega (arith, ints);
+  drift_high = omega (arith, ints);
+  errors = bounds.errors;
+  bias_low = bounds.bias_low;
+  bias_high = bounds.bias_high;
+}
+
+pub corrected_range : (s : ContextState) → IsUncorrected s → IsState (corrected s)
+corrected_range s bounds = corrected_range_at s bounds (int_le s.drift (neg_ℤ (pos s.count))) (int_lt (pos 0) s.drift) refl refl
+
+-- ---- the coded value is flipped
+
+pub double_fits : (s : ContextState) → IsState s → SFits w32 (pos 2 *ℤ to_z w32 (of_z w32 s.drift))
+double_fits s bounds = rw (drift_kept s bounds) (SFits-small (pos 2 *ℤ s.drift) (omega (arith, ints)) (omega (arith, ints)))
+
+flip_test : (s : ContextState) → IsState s
+    → int_lt (to_z w32 (of_z w32 (pos 2 *ℤ to_z w32 (of_z w32 s.drift)))) (to_z w32 (of_z w32 (pos 0 -ℤ to_z w32 s.count)))
+    ≡ int_lt (pos 2 *ℤ s.drift) (neg_ℤ (pos s.count))
+flip_test s bounds =
+    let double : to_z w32 (of_z w32 (pos 2 *ℤ s.drift)) ≡ pos 2 *ℤ s.drift =
+    to_z-of_z-small (pos 2 *ℤ s.drift) (omega (arith, ints)) (omega (arith, ints)) in
+    rw (drift_kept s bounds, double, count_less_is s.count bounds.few_counted)
+
+pub flip_fits : (v : ℤ) → IsDifference v → SFits w32 (neg_ℤ (pos 1) -ℤ to_z w32 (of_z w32 v))
+flip_fits v bounds = rw (to_z-of_z-difference v bounds) (SFits-small (neg_ℤ (pos 1) -ℤ v) (omega (arith, ints)) (omega (arith, ints)))
+
+flip_is : (v : ℤ) → IsDifference v → to_z w32 (of_z w32 (neg_ℤ (pos 1) -ℤ to_z w32 (of_z w32 v))) ≡ neg_ℤ (pos 1) -ℤ v
+flip_is v bounds =
+    rw (to_z-of_z-difference v bounds) (to_z-of_z-small (neg_ℤ (pos 1) -ℤ v) (omega (arith, ints)) (omega (arith, ints)))
+
+pub flip_range : (v : ℤ) → IsDifference v → IsDifference (to_z w32 (of_z w32 (neg_ℤ (pos 1) -ℤ to_z w32 (of_z w32 v))))
+flip_range v bounds =
+    let flip : IsDifference (neg_ℤ (pos 1) -ℤ v) = record { low = omega (arith, ints); high = omega (arith, ints) } in
+    subst IsDifference (sym (flip_is v bounds)) flip
+
+pub flipped_twice : (s : ContextState) (v : ℤ) → IsState s → IsDifference v
+    → int_lt (to_z w32 (of_z w32 (pos 2 *ℤ to_z w32 (of_z w32 s.drift)))) (to_z w32 (of_z w32 (pos 0 -ℤ to_z w32 s.count))) ≡ true
+    → flipped s (to_z w32 (of_z w32 (neg_ℤ (pos 1) -ℤ to_z w32 (of_z w32 v)))) ≡ v
+flipped_twice s v bounds difference test =
+    let back : neg_ℤ (pos 1) -ℤ (neg_ℤ (pos 1) -ℤ v) ≡ v = omega (arith, ints) in
+    rw (flip_is v difference, sym (flip_test s bounds) ∙ test) back
+
+pub flipped_not : (s : ContextState) (v : ℤ) → IsState s → IsDifference v
+    → int_lt (to_z w32 (of_z w32 (pos 2 *ℤ to_z w32 (of_z w32 s.drift)))) (to_z w32 (of_z w32 (pos 0 -ℤ to_z w32 s.count))) ≡ false
+    → flipped s (to_z w32 (of_z w32 v)) ≡ v
+flipped_not s v bounds difference test = rw (to_z-of_z-difference v difference, sym (flip_test s bounds) ∙ test)
+
+-- ---- the value of a coded one
+
+bias_difference : (s : ContextState) → IsState s → IsDifference s.bias
+bias_difference s bounds = record { low = bounds.bias_low; high = bounds.bias_high }
+
+biased_sum_fits : (v b : ℤ) → IsDifference v → IsDifference b → SFits w32 (v +ℤ b)
+biased_sum_fits v b difference bias = SFits-small (v +ℤ b) (omega (arith, ints)) (omega (arith, ints))
+
+pub biased_fits : (s : ContextState) (v : ℤ) → IsState s → IsDifference v → SFits w32 (to_z w32 (of_z w32 v) +ℤ to_z w32 (of_z w32 s.bias))
+biased_fits s v bounds difference =
+    rw (to_z-of_z-difference v difference, bias_kept s bounds) (biased_sum_fits v s.bias difference (bias_difference s bounds))
+
+biased_is : (s : ContextState) (v : ℤ) → IsState s → IsDifference v
+    → to_z w32 (of_z w32 (to_z w32 (of_z w32 v) +ℤ to_z w32 (of_z w32 s.bias))) ≡ v +ℤ s.bias
+biased_is s v bounds difference =
+    rw (to_z-of_z-difference v difference, bias_kept s bounds)
+    (to_z-of_z w32 (v +ℤ s.bias) (biased_sum_fits v s.bias difference (bias_difference s bounds)))
+
+pub biased_low : (s : ContextState) (v : ℤ) → IsState s → IsDifference v
+    → to_z w32 (of_z w32 (to_z w32 (of_z w32 v) +ℤ to_z w32 (of_z w32 s.bias))) ≤ℤ pos 2147483519
+biased_low s v bounds difference = rw (biased_is s v bounds difference) (omega (arith, ints))
+
+pub coded_value-fold : (s : ContextState) (v r : ℤ) → IsState s → IsDifference v → IsDifference r
+    → r ≡ fold (to_z w32 (of_z w32 (to_z w32 (of_z w32 v) +ℤ to_z w32 (of_z w32 s.bias)))) → coded_value s (to_z w32 (of_z w32 r)) ≡ v
+coded_value-fold s v r bounds difference range is =
+    let value : to_z w32 (of_z w32 r) ≡ fold (v +ℤ s.bias) = to_z-of_z-difference r range ∙ is ∙ ap fold (biased_is s v bounds difference) in
+    rw value (fold_back v s.bias difference (bias_difference s bounds))
