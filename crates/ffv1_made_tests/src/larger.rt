@@ -1,7 +1,6 @@
 //! The greatest frames: sides of 65535 samples, 4096 tiles, and the run index that lines of that length reach.
 use crate::frames::{plain_tile, setup_of};
 use ffv1_bits::{Bits, GREATEST_SIDE};
-use ffv1_holding::Holding;
 use ffv1_plane::decode_tile;
 use ffv1_range::{Setup, SetupFault, TileRect};
 use ffv1_rice::{RunIndex, RunWord};
@@ -147,41 +146,4 @@ fn run_index_reaches_32_behind_two_lines(rt: HostRuntime) {
         Some((RunWord::ToEnd, 32))
     );
     assert_eq!(rt; bits.left(), 6);
-}
-
-/// A frame of 64 x 64 tiles of one sample each, and its record.
-fn many_tiles(alloc: Global) -> Result<(Vec<u8>, Vec<u8>), Fail> {
-    let record = make_record(alloc, &gray_spec(alloc, (64, 64))?)?;
-    let setup = Setup::read(alloc, &record, 64, 64)?;
-    let mut tiles = Vec::new(alloc);
-    for tile in 0..4096u32 {
-        tiles.push(plain_tile(alloc, &[&[(tile % 251) as u8]])?)?;
-    }
-    let frame = make_frame(alloc, &setup, &FrameSpec { tiles })?;
-    Ok((record, frame))
-}
-
-/// The frame with a bit turned in each second slice, from the last one or from the one before it on.
-fn damaged(alloc: Global, frame: &[u8], from: usize) -> Result<Vec<u8>, Fail> {
-    let mut copy = frame.to_vec(alloc)?;
-    for (place, link) in Chain::new(frame).enumerate() {
-        if place % 2 == from % 2 {
-            *copy.get_mut(link.start()).ok_or("a slice")? ^= 1;
-        }
-    }
-    Ok(copy)
-}
-
-#[test]
-fn a_frame_of_4096_tiles_is_restored_from_two_copies(rt: HostRuntime) -> Result<(), Fail> {
-    let alloc = rt.alloc();
-    let (record, frame) = many_tiles(alloc)?;
-    for first in 0..2 {
-        let one = damaged(alloc, &frame, first)?;
-        let other = damaged(alloc, &frame, first + 1)?;
-        let mut holding = Holding::new(alloc, &record, 64, 64)?;
-        holding.take_all(&[&one, &other])?;
-        assert!(rt; holding.restore()? == frame);
-    }
-    Ok(())
 }
