@@ -1,47 +1,77 @@
 use Rattle.std.proofs.Common.{◌≡◌, sym, ap, ◌∙◌, subst, map, inl, inr, [], ◌∷◌}
 use Rattle.std.proofs.lemmas.Result.{IfOk-weaker, IfErr-weaker, on_ok_weaker, err_from_is_err_and}
+use Rattle.ffv1_range.specs.Setup.{IsSetupOf}
 use Rattle.ffv1_holding.specs.Contents.{Contents, holding_of, IsHolding, with_found, with_copies, joined}
 use Rattle.ffv1_holding.specs.TakeFaults.{AreShort}
-use Rattle.ffv1_hold.specs.Plans.{copies_of, IsCarriedOut, IsPlanFault, IsRereadFault, RereadsFit}
+use Rattle.ffv1_hold.specs.Plans.{copies_of, IsCarriedOut, IsPlanFault, IsFaultOfCopy, IsFaultOfCopies, IsRereadFault, RereadsFit}
+use Rattle.ffv1_hold.specs.Saving.{IsTooLong}
 use Rattle.ffv1_hold.specs.declared.plan.Plan.{Plan}
 use Rattle.ffv1_hold.specs.declared.plan.PlanFault.TheVariants.{Hold, Setup, File}
 use Rattle.ffv1_holding.specs.declared.fault.HoldFault.TheVariants.{Memory}
 use Rattle.ffv1_holding.proofs.ExactlyHeld.{near_exact}
-use Rattle.ffv1_hold.proofs.PlanSteps.{after_same, after_found, after_copies, after_joined, AreShort-both, one_reel, near_of_meaning}
+use Rattle.ffv1_hold.proofs.PlanSteps.{after_same, after_found, after_copies, after_joined, AreShort-both, of_kept_reel, one_reel, near_of_meaning}
 use Rattle.ffv1_hold.proofs.plan.+run.Goals as goal
 
-pub returns-in_ok-run-in-Take-clause-meaning : goal.returns-in_ok-run-in-Take-clause-meaning
-returns-in_ok-run-in-Take-clause-meaning t c =
+-- a copy is taken into what the plan before gave: the reel stays, and what is held grows by what is found in the copy
+pub returns-in_ok-run-in-Take : goal.returns-in_ok-run-in-Take
+returns-in_ok-run-in-Take t c =
+    let plan = c.args.plan.now in
     let before = c.in_ok-run-in-Take.field-0 in
-    let copies = copies_of c.in-Take.before.value in
-    let meaning = c.in_ok-run-in-Take.ensures.meaning ∙ ap (λ p. holding_of before.reel (copies_of p)) c.deref.ensures in
-    IfOk-weaker c.with_copy.result (λ h. h ≡ with_found before c.in-Take.copy.now) (λ h. h ≡ holding_of h.reel (copies_of c.args.plan.now))
-    (λ h took. after_found before h copies meaning c.in-Take.copy.now took ∙ ap (λ p. holding_of h.reel (copies_of p)) (sym c.in-Take.is))
-    c.with_copy.ensures.ok
+    let was = c.in_ok-run-in-Take.ensures in
+    let copy = c.in-Take.copy.now in
+    let r = c.with_copy.result in
+    let Took = λ (h : Contents). h ≡ with_found before copy in
+    let took = c.with_copy.ensures.ok in
+    let keeps = λ (h : Contents) (is : h ≡ with_found before copy). ap (λ (k : Contents). k.reel) is in
+    let meaning = IfOk-weaker r Took (λ h. h ≡ holding_of h.reel (copies_of plan)) (λ h is. after_found before h (copies_of c.in-Take.before.value)
+    (was.meaning ∙ ap (λ p. holding_of before.reel (copies_of p)) c.deref.ensures) copy is
+    ∙ ap (λ p. holding_of h.reel (copies_of p)) (sym c.in-Take.is)) took in
+    record {
+      config = of_kept_reel r Took before.reel keeps (λ q. q.config ≡ c.args.config.now) was.config took;
+      setup = of_kept_reel r Took before.reel keeps (λ q. IsSetupOf c.args.config.now c.args.width c.args.height q.setup) was.setup took;
+      meaning = meaning;
+      sound = c.with_copy.ensures.sound;
+      near = λ original slices. near_of_meaning r original slices (copies_of plan) meaning;
+      short = on_ok_weaker r (λ short. subst (λ (p : Plan). AreShort (copies_of p)) (sym c.in-Take.is)
+          (AreShort-both (copies_of c.in-Take.before.value) (copy ∷ []) (subst (λ (p : Plan). AreShort (copies_of p)) c.deref.ensures was.short) short))
+          c.with_copy.ensures.short;
+      fits = of_kept_reel r Took before.reel keeps (λ q. RereadsFit q plan)
+          (subst (RereadsFit before.reel) (sym c.in-Take.is) (subst (RereadsFit before.reel) c.deref.ensures was.fits)) took;
+      fault = IfErr-weaker r (IsFaultOfCopy copy) (IsPlanFault c.args.config.now c.args.width c.args.height plan)
+          (λ f is. subst (λ p. IsPlanFault c.args.config.now c.args.width c.args.height p f) (sym c.in-Take.is)
+          (inr (subst (IsCarriedOut c.args.config.now c.args.width c.args.height) c.deref.ensures
+          (before.reel, (was.config, was.setup), was.short, was.fits), is))) c.with_copy.ensures.fault;
+    }
 
-pub returns-in_ok-run-in-Take-clause-short : goal.returns-in_ok-run-in-Take-clause-short
-returns-in_ok-run-in-Take-clause-short t c =
-    let before = subst (λ (p : Plan). AreShort (copies_of p)) c.deref.ensures c.in_ok-run-in-Take.ensures.short in
-    on_ok_weaker c.with_copy.result (λ short. subst (λ (p : Plan). AreShort (copies_of p)) (sym c.in-Take.is)
-    (AreShort-both (copies_of c.in-Take.before.value) (c.in-Take.copy.now ∷ []) before short))
-    c.with_copy.ensures.short
-
-pub returns-in_ok-run-in-TakeAll-clause-meaning : goal.returns-in_ok-run-in-TakeAll-clause-meaning
-returns-in_ok-run-in-TakeAll-clause-meaning t c =
+pub returns-in_ok-run-in-TakeAll : goal.returns-in_ok-run-in-TakeAll
+returns-in_ok-run-in-TakeAll t c =
+    let plan = c.args.plan.now in
     let before = c.in_ok-run-in-TakeAll.field-0 in
-    let copies = copies_of c.in-TakeAll.before.value in
+    let was = c.in_ok-run-in-TakeAll.ensures in
     let more = map (λ copy. copy.now) c.in-TakeAll.copies.now in
-    let meaning = c.in_ok-run-in-TakeAll.ensures.meaning ∙ ap (λ p. holding_of before.reel (copies_of p)) c.deref-in-TakeAll.ensures in
-    IfOk-weaker c.with_all_copies.result (λ h. h ≡ with_copies before more) (λ h. h ≡ holding_of h.reel (copies_of c.args.plan.now))
-    (λ h took. after_copies before h copies meaning more took ∙ ap (λ p. holding_of h.reel (copies_of p)) (sym c.in-TakeAll.is))
-    c.with_all_copies.ensures.ok
-
-pub returns-in_ok-run-in-TakeAll-clause-short : goal.returns-in_ok-run-in-TakeAll-clause-short
-returns-in_ok-run-in-TakeAll-clause-short t c =
-    let before = subst (λ (p : Plan). AreShort (copies_of p)) c.deref-in-TakeAll.ensures c.in_ok-run-in-TakeAll.ensures.short in
-    on_ok_weaker c.with_all_copies.result (λ short. subst (λ (p : Plan). AreShort (copies_of p)) (sym c.in-TakeAll.is)
-    (AreShort-both (copies_of c.in-TakeAll.before.value) (map (λ copy. copy.now) c.in-TakeAll.copies.now) before short))
-    c.with_all_copies.ensures.short
+    let r = c.with_all_copies.result in
+    let Took = λ (h : Contents). h ≡ with_copies before more in
+    let took = c.with_all_copies.ensures.ok in
+    let keeps = λ (h : Contents) (is : h ≡ with_copies before more). ap (λ (k : Contents). k.reel) is in
+    let meaning = IfOk-weaker r Took (λ h. h ≡ holding_of h.reel (copies_of plan)) (λ h is. after_copies before h (copies_of c.in-TakeAll.before.value)
+    (was.meaning ∙ ap (λ p. holding_of before.reel (copies_of p)) c.deref-in-TakeAll.ensures) more is
+    ∙ ap (λ p. holding_of h.reel (copies_of p)) (sym c.in-TakeAll.is)) took in
+    record {
+      config = of_kept_reel r Took before.reel keeps (λ q. q.config ≡ c.args.config.now) was.config took;
+      setup = of_kept_reel r Took before.reel keeps (λ q. IsSetupOf c.args.config.now c.args.width c.args.height q.setup) was.setup took;
+      meaning = meaning;
+      sound = c.with_all_copies.ensures.sound;
+      near = λ original slices. near_of_meaning r original slices (copies_of plan) meaning;
+      short = on_ok_weaker r (λ short. subst (λ (p : Plan). AreShort (copies_of p)) (sym c.in-TakeAll.is)
+          (AreShort-both (copies_of c.in-TakeAll.before.value) more (subst (λ (p : Plan). AreShort (copies_of p)) c.deref-in-TakeAll.ensures was.short) short))
+          c.with_all_copies.ensures.short;
+      fits = of_kept_reel r Took before.reel keeps (λ q. RereadsFit q plan)
+          (subst (RereadsFit before.reel) (sym c.in-TakeAll.is) (subst (RereadsFit before.reel) c.deref-in-TakeAll.ensures was.fits)) took;
+      fault = IfErr-weaker r (IsFaultOfCopies more) (IsPlanFault c.args.config.now c.args.width c.args.height plan)
+          (λ f is. subst (λ p. IsPlanFault c.args.config.now c.args.width c.args.height p f) (sym c.in-TakeAll.is)
+          (inr (subst (IsCarriedOut c.args.config.now c.args.width c.args.height) c.deref-in-TakeAll.ensures
+          (before.reel, (was.config, was.setup), was.short, was.fits), is))) c.with_all_copies.ensures.fault;
+    }
 
 -- both are of the record and the size asked for
 pub union_of-requires : goal.union_of-requires
@@ -51,57 +81,43 @@ union_of-requires t c =
     one_reel c.args.config.now c.args.width c.args.height left.holding.reel right.other.reel (left.ensures.config, left.ensures.setup)
     (right.ensures.config, right.ensures.setup)
 
-pub returns-in_ok-other-in-Join-clause-meaning : goal.returns-in_ok-other-in-Join-clause-meaning
-returns-in_ok-other-in-Join-clause-meaning t c =
+-- what the second plan gave is joined into what the first gave
+pub returns-in_ok-other-in-Join : goal.returns-in_ok-other-in-Join
+returns-in_ok-other-in-Join t c =
+    let plan = c.args.plan.now in
     let before = c.in_ok-holding-in-Join.holding in
+    let was = c.in_ok-holding-in-Join.ensures in
     let other = c.in_ok-other-in-Join.other in
-    let same = one_reel c.args.config.now c.args.width c.args.height before.reel other.reel
-    (c.in_ok-holding-in-Join.ensures.config, c.in_ok-holding-in-Join.ensures.setup)
-    (c.in_ok-other-in-Join.ensures.config, c.in_ok-other-in-Join.ensures.setup) in
-    let meaning = c.in_ok-holding-in-Join.ensures.meaning ∙ ap (λ p. holding_of before.reel (copies_of p)) c.deref-in-Join.ensures in
-    let other_meaning = c.in_ok-other-in-Join.ensures.meaning ∙ ap (λ p. holding_of other.reel (copies_of p)) c.deref-in-Join-2.ensures in
-    IfOk-weaker c.union_of.result (λ h. h ≡ joined before other) (λ h. h ≡ holding_of h.reel (copies_of c.args.plan.now))
-    (λ h took. after_joined before h (copies_of c.in-Join.left.value) meaning other (copies_of c.in-Join.right.value) other_meaning same took
-    ∙ ap (λ p. holding_of h.reel (copies_of p)) (sym c.in-Join.is))
-    c.union_of.ensures.ok
-
-pub returns-in_ok-other-in-Join-clause-short : goal.returns-in_ok-other-in-Join-clause-short
-returns-in_ok-other-in-Join-clause-short t c =
-    let left = subst (λ (p : Plan). AreShort (copies_of p)) c.deref-in-Join.ensures c.in_ok-holding-in-Join.ensures.short in
-    let right = subst (λ (p : Plan). AreShort (copies_of p)) c.deref-in-Join-2.ensures c.in_ok-other-in-Join.ensures.short in
-    let both = subst (λ (p : Plan). AreShort (copies_of p)) (sym c.in-Join.is)
-    (AreShort-both (copies_of c.in-Join.left.value) (copies_of c.in-Join.right.value) left right) in
-    IfOk-weaker c.union_of.result IsHolding (λ _. AreShort (copies_of c.args.plan.now)) (λ _ _. both) c.union_of.ensures.sound
-
--- both were reread in the one reel
-pub returns-in_ok-other-in-Join-clause-fits : goal.returns-in_ok-other-in-Join-clause-fits
-returns-in_ok-other-in-Join-clause-fits t c =
-    let before = c.in_ok-holding-in-Join.holding in
-    let other = c.in_ok-other-in-Join.other in
-    let left = subst (RereadsFit before.reel) c.deref-in-Join.ensures c.in_ok-holding-in-Join.ensures.fits in
-    let same = one_reel c.args.config.now c.args.width c.args.height before.reel other.reel
-    (c.in_ok-holding-in-Join.ensures.config, c.in_ok-holding-in-Join.ensures.setup)
-    (c.in_ok-other-in-Join.ensures.config, c.in_ok-other-in-Join.ensures.setup) in
-    let right = subst (λ r. RereadsFit r c.in-Join.right.value) (sym same)
-    (subst (RereadsFit other.reel) c.deref-in-Join-2.ensures c.in_ok-other-in-Join.ensures.fits) in
-    let both = subst (RereadsFit before.reel) (sym c.in-Join.is) (left, right) in
-    IfOk-weaker c.union_of.result (λ h. h ≡ joined before other) (λ h. RereadsFit h.reel c.args.plan.now)
-    (λ h took. subst (λ r. RereadsFit r c.args.plan.now) (sym (ap (λ (k : Contents). k.reel) took)) both)
-    c.union_of.ensures.ok
-
-pub returns-in_ok-other-in-Join-clause-fault : goal.returns-in_ok-other-in-Join-clause-fault
-returns-in_ok-other-in-Join-clause-fault t c =
-    let left = c.in_ok-holding-in-Join in
-    let right = c.in_ok-other-in-Join in
+    let too = c.in_ok-other-in-Join.ensures in
+    let same = one_reel c.args.config.now c.args.width c.args.height before.reel other.reel (was.config, was.setup) (too.config, too.setup) in
+    let r = c.union_of.result in
+    let Took = λ (h : Contents). h ≡ joined before other in
+    let took = c.union_of.ensures.ok in
+    let keeps = λ (h : Contents) (is : h ≡ joined before other). ap (λ (k : Contents). k.reel) is in
+    let left_short = subst (λ (p : Plan). AreShort (copies_of p)) c.deref-in-Join.ensures was.short in
+    let right_short = subst (λ (p : Plan). AreShort (copies_of p)) c.deref-in-Join-2.ensures too.short in
+    let left_fits = subst (RereadsFit before.reel) c.deref-in-Join.ensures was.fits in
+    let right_fits = subst (λ q. RereadsFit q c.in-Join.right.value) (sym same) (subst (RereadsFit other.reel) c.deref-in-Join-2.ensures too.fits) in
     let carried = IsCarriedOut c.args.config.now c.args.width c.args.height in
-    let left_done = subst carried c.deref-in-Join.ensures
-    (left.holding.reel, (left.ensures.config, left.ensures.setup), left.ensures.short, left.ensures.fits) in
-    let right_done = subst carried c.deref-in-Join-2.ensures
-    (right.other.reel, (right.ensures.config, right.ensures.setup), right.ensures.short, right.ensures.fits) in
-    IfErr-weaker c.union_of.result (λ fault. fault ≡ Hold Memory) (IsPlanFault c.args.config.now c.args.width c.args.height c.args.plan.now)
-    (λ fault is. subst (λ p. IsPlanFault c.args.config.now c.args.width c.args.height p fault) (sym c.in-Join.is)
-    (inr (left_done, inr (right_done, is))))
-    c.union_of.ensures.memory
+    let left_done = subst carried c.deref-in-Join.ensures (before.reel, (was.config, was.setup), was.short, was.fits) in
+    let right_done = subst carried c.deref-in-Join-2.ensures (other.reel, (too.config, too.setup), too.short, too.fits) in
+    let meaning = IfOk-weaker r Took (λ h. h ≡ holding_of h.reel (copies_of plan)) (λ h is. after_joined before h (copies_of c.in-Join.left.value)
+    (was.meaning ∙ ap (λ p. holding_of before.reel (copies_of p)) c.deref-in-Join.ensures) other (copies_of c.in-Join.right.value)
+    (too.meaning ∙ ap (λ p. holding_of other.reel (copies_of p)) c.deref-in-Join-2.ensures) same is
+    ∙ ap (λ p. holding_of h.reel (copies_of p)) (sym c.in-Join.is)) took in
+    record {
+      config = of_kept_reel r Took before.reel keeps (λ q. q.config ≡ c.args.config.now) was.config took;
+      setup = of_kept_reel r Took before.reel keeps (λ q. IsSetupOf c.args.config.now c.args.width c.args.height q.setup) was.setup took;
+      meaning = meaning;
+      sound = c.union_of.ensures.sound;
+      near = λ original slices. near_of_meaning r original slices (copies_of plan) meaning;
+      short = IfOk-weaker r Took (λ _. AreShort (copies_of plan)) (λ _ _. subst (λ (p : Plan). AreShort (copies_of p)) (sym c.in-Join.is)
+          (AreShort-both (copies_of c.in-Join.left.value) (copies_of c.in-Join.right.value) left_short right_short)) took;
+      fits = of_kept_reel r Took before.reel keeps (λ q. RereadsFit q plan) (subst (RereadsFit before.reel) (sym c.in-Join.is) (left_fits, right_fits)) took;
+      fault = IfErr-weaker r (λ fault. fault ≡ Hold Memory) (IsPlanFault c.args.config.now c.args.width c.args.height plan)
+          (λ f is. subst (λ p. IsPlanFault c.args.config.now c.args.width c.args.height p f) (sym c.in-Join.is)
+          (inr (left_done, inr (right_done, is)))) c.union_of.ensures.memory;
+    }
 
 -- what is held of near copies is the original's slices, by what is held
 pub returns-in_ok-new-in-New-clause-near : goal.returns-in_ok-new-in-New-clause-near
@@ -110,26 +126,30 @@ returns-in_ok-new-in-New-clause-near t c original slices near =
     near_exact h original slices (copies_of c.args.plan.now) near (ap (λ (k : Contents). k.slices) (c.in_ok-new-in-New.ensures.empty
     ∙ ap (λ p. holding_of h.reel (copies_of p)) (sym c.in-New.is)))
 
-pub returns-in_ok-run-in-Take-clause-near : goal.returns-in_ok-run-in-Take-clause-near
-returns-in_ok-run-in-Take-clause-near t c original slices =
-    near_of_meaning c.with_copy.result original slices (copies_of c.args.plan.now) (returns-in_ok-run-in-Take-clause-meaning t c)
-
-pub returns-in_ok-run-in-TakeAll-clause-near : goal.returns-in_ok-run-in-TakeAll-clause-near
-returns-in_ok-run-in-TakeAll-clause-near t c original slices =
-    near_of_meaning c.with_all_copies.result original slices (copies_of c.args.plan.now) (returns-in_ok-run-in-TakeAll-clause-meaning t c)
-
-pub returns-in_ok-other-in-Join-clause-near : goal.returns-in_ok-other-in-Join-clause-near
-returns-in_ok-other-in-Join-clause-near t c original slices =
-    near_of_meaning c.union_of.result original slices (copies_of c.args.plan.now) (returns-in_ok-other-in-Join-clause-meaning t c)
-
-pub returns-in_ok-reread-in-Reread-clause-near : goal.returns-in_ok-reread-in-Reread-clause-near
-returns-in_ok-reread-in-Reread-clause-near t c original slices near =
+-- a holding comes back from its file as it was
+pub returns-in_ok-reread-in-Reread : goal.returns-in_ok-reread-in-Reread
+returns-in_ok-reread-in-Reread t c =
+    let plan = c.args.plan.now in
     let before = c.in_ok-holding-in-Reread.holding in
-    let after = c.in_ok-reread-in-Reread.field-0 in
-    near_exact after original slices (copies_of c.args.plan.now) near
-    (ap (λ (k : Contents). k.slices) (after_same before after (copies_of c.in-Reread.before.value)
-    (c.in_ok-holding-in-Reread.ensures.meaning ∙ ap (λ p. holding_of before.reel (copies_of p)) c.deref-in-Reread.ensures) c.in_ok-reread-in-Reread.ensures.same
-    ∙ ap (λ p. holding_of after.reel (copies_of p)) (sym c.in-Reread.is)))
+    let was = c.in_ok-holding-in-Reread.ensures in
+    let h = c.in_ok-reread-in-Reread.field-0 in
+    let is = c.in_ok-reread-in-Reread.ensures in
+    let kept = ap (λ (k : Contents). k.reel) is.same in
+    let own = was.meaning ∙ ap (λ p. holding_of before.reel (copies_of p)) c.deref-in-Reread.ensures in
+    let meaning = after_same before h (copies_of c.in-Reread.before.value) own is.same
+    ∙ ap (λ p. holding_of h.reel (copies_of p)) (sym c.in-Reread.is) in
+    record {
+      config = ap (λ q. q.config) kept ∙ was.config;
+      setup = subst (λ q. IsSetupOf c.args.config.now c.args.width c.args.height q.setup) (sym kept) was.setup;
+      meaning = meaning;
+      sound = subst IsHolding (sym is.same) was.sound;
+      near = λ original slices near. near_exact h original slices (copies_of plan) near (ap (λ (k : Contents). k.slices) meaning);
+      short = subst (λ (p : Plan). AreShort (copies_of p)) (sym c.in-Reread.is)
+          (subst (λ (p : Plan). AreShort (copies_of p)) c.deref-in-Reread.ensures was.short);
+      fits = subst (λ q. RereadsFit q plan) (sym kept) (subst (RereadsFit before.reel) (sym c.in-Reread.is)
+          (subst (RereadsFit before.reel) c.deref-in-Reread.ensures was.fits, subst (λ (k : Contents). ¬ IsTooLong k) own is.fits));
+      fault = tt;
+    }
 
 pub returns-in_err-new-in-New : goal.returns-in_err-new-in-New
 returns-in_err-new-in-New t c =
