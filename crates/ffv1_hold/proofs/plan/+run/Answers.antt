@@ -39,8 +39,11 @@ returns-in_ok-run-in-Take t c =
           (subst (RereadsFit before.reel) (sym c.in-Take.is) (subst (RereadsFit before.reel) c.deref.ensures was.fits)) took;
       fault = IfErr-weaker r (IsFaultOfCopy copy) (IsPlanFault c.args.config.now c.args.width c.args.height plan)
           (λ f is. subst (λ p. IsPlanFault c.args.config.now c.args.width c.args.height p f) (sym c.in-Take.is)
-          (inr (subst (IsCarriedOut c.args.config.now c.args.width c.args.height) c.deref.ensures
-          (before.reel, (was.config, was.setup), was.short, was.fits), is))) c.with_copy.ensures.fault;
+          (inr (
+            subst (IsCarriedOut c.args.config.now c.args.width c.args.height) c.deref.ensures
+                (before.reel, (was.config, was.setup), was.short, was.fits),
+            is,
+          ))) c.with_copy.ensures.fault;
     }
 
 pub returns-in_ok-run-in-TakeAll : goal.returns-in_ok-run-in-TakeAll
@@ -69,8 +72,11 @@ returns-in_ok-run-in-TakeAll t c =
           (subst (RereadsFit before.reel) (sym c.in-TakeAll.is) (subst (RereadsFit before.reel) c.deref-in-TakeAll.ensures was.fits)) took;
       fault = IfErr-weaker r (IsFaultOfCopies more) (IsPlanFault c.args.config.now c.args.width c.args.height plan)
           (λ f is. subst (λ p. IsPlanFault c.args.config.now c.args.width c.args.height p f) (sym c.in-TakeAll.is)
-          (inr (subst (IsCarriedOut c.args.config.now c.args.width c.args.height) c.deref-in-TakeAll.ensures
-          (before.reel, (was.config, was.setup), was.short, was.fits), is))) c.with_all_copies.ensures.fault;
+          (inr (
+            subst (IsCarriedOut c.args.config.now c.args.width c.args.height) c.deref-in-TakeAll.ensures
+                (before.reel, (was.config, was.setup), was.short, was.fits),
+            is,
+          ))) c.with_all_copies.ensures.fault;
     }
 
 -- both are of the record and the size asked for
