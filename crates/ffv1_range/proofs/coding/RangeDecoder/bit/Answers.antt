@@ -1,3 +1,4 @@
+use Rattle.std.proofs.Common.{rules}
 use Rattle.ffv1_range.proofs.Slots.{bit_read}
 use Rattle.ffv1_range.proofs.coding.RangeDecoder.bit.Goals as goal
 
@@ -5,3 +6,6 @@ pub returns-in-Ok-clause-read : goal.returns-in-Ok-clause-read
 returns-in-Ok-clause-read c =
     bit_read c.args.self.now c.self.inside.closed c.self.inside.total c.self.inside.fault c.self.inside.interval c.in-Ok.interval c.args.state.now
     c.next_state.result c.in-Ok.bit c.self.view_is c.in_default.is c.in-Ok.ensures.value c.next_state.ensures.value
+
+pub returns-in-Err-clause-kept : goal.returns-in-Err-clause-kept
+returns-in-Err-clause-kept c = search rules
