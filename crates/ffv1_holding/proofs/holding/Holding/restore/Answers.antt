@@ -1,4 +1,4 @@
-use Rattle.std.proofs.Common.{◌∙◌, Result, Ok, Err, IfOk}
+use Rattle.std.proofs.Common.{◌∙◌, Result, Ok, Err, IfOk, rules}
 use Rattle.std.proofs.Common.{sym, ap}
 use Rattle.ffv1_holding.specs.Standing.{missing, disputed}
 use Rattle.ffv1_holding.specs.TileStates.{standing_shown}
@@ -39,3 +39,6 @@ returns-in-Missing-clause-near_settled c payload slices copies near is =
 pub returns-in-Disputed-clause-near_settled : goal.returns-in-Disputed-clause-near_settled
 returns-in-Disputed-clause-near_settled c payload slices copies near is =
     returns-in-Disputed-clause-original_settled c payload slices near.is_original (near_exact c.args.self.now payload slices copies near is)
+
+pub returns-in-Missing-clause-refused : goal.returns-in-Missing-clause-refused
+returns-in-Missing-clause-refused c = search rules

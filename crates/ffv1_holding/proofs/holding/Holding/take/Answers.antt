@@ -89,3 +89,6 @@ returns-clause-ok c =
     ap whole (grown_last c)
     ∙ ap (λ (setup : SetupValue). with_facts (whole c.self.inside.held) (slices_in setup copy) (origins_in setup copy)) c.setup.ensures.value
     ∙ ap (λ (h : Contents). with_found h copy) c.self.view_is
+
+pub list_found-requires-clause-short : goal.list_found-requires-clause-short
+list_found-requires-clause-short c = omega arith
