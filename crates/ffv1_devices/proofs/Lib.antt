@@ -1,2 +1,4 @@
+pub mod Counts
 pub mod Filling
 pub mod Fronts
+pub mod Kept
