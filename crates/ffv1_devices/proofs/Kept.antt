@@ -1,9 +1,13 @@
 -- Bytes that are known, behind tries that moved none of them.
-use Rattle.std.proofs.Common.{◌≡◌, ℕ, List, Option, None, Some, sym, ◌∙◌}
+use Rattle.std.proofs.Common.{◌≡◌, ℕ, List, [], ◌++◌, Option, None, Some, sym, subst, ap, ◌∙◌, append-nil}
 use Rattle.std.specs.Io.KnownBytes.{Keeps, Consumes, Appends}
+use Rattle.std.proofs.KnownBytes.{Consumes-trans}
 
 pub Consumes-behind : (a b c : Option (List ℕ)) (bs : List ℕ) → Keeps a b → Consumes b c bs → Consumes a c bs
 Consumes-behind None b c bs p q = tt
 Consumes-behind (Some x) None c bs p q = absurd p
 Consumes-behind (Some x) (Some y) None bs p q = absurd q
 Consumes-behind (Some x) (Some y) (Some z) bs p q = sym p ∙ q
+
+pub Consumes-then_none : (a b c : Option (List ℕ)) (bs cs : List ℕ) → Consumes a b bs → Consumes b c cs → cs ≡ [] → Consumes a c bs
+Consumes-then_none a b c bs cs p q e = subst (Consumes a c) (ap (λ l. bs ++ l) e ∙ append-nil bs) (Consumes-trans a b c bs cs p q)
