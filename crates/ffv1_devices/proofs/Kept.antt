@@ -1,5 +1,5 @@
 -- Bytes that are known, behind tries that moved none of them.
-use Rattle.std.proofs.Common.{◌≡◌, ℕ, List, [], ◌++◌, Option, None, Some, sym, subst, ap, ◌∙◌, append-nil}
+use Rattle.std.proofs.Common.{◌≡◌, ℕ, ◌<◌, List, [], ◌∷◌, ◌++◌, length, take, get_or, Option, None, Some, arith, refl, sym, subst, ap, ◌∙◌, append-nil}
 use Rattle.std.specs.Io.KnownBytes.{Keeps, Consumes, Appends}
 use Rattle.std.proofs.KnownBytes.{Consumes-trans}
 
@@ -11,3 +11,12 @@ Consumes-behind (Some x) (Some y) (Some z) bs p q = sym p ∙ q
 
 pub Consumes-then_none : (a b c : Option (List ℕ)) (bs cs : List ℕ) → Consumes a b bs → Consumes b c cs → cs ≡ [] → Consumes a c bs
 Consumes-then_none a b c bs cs p q e = subst (Consumes a c) (ap (λ l. bs ++ l) e ∙ append-nil bs) (Consumes-trans a b c bs cs p q)
+
+-- what is less than one byte is none
+pub Consumes-none : (a b : Option (List ℕ)) (bs : List ℕ) → length bs < 1 → Consumes a b bs → Consumes a b []
+Consumes-none a b [] h p = p
+Consumes-none a b (x ∷ bs) h p = absurd (omega arith)
+
+pub take-one : (xs : List ℕ) (d : ℕ) → length xs ≡ 1 → take 1 xs ≡ get_or xs 0 d ∷ []
+take-one [] d e = absurd (omega arith)
+take-one (x ∷ xs) d e = refl
