@@ -1,7 +1,7 @@
 -- Counts of tries that failed, over one step or several.
 use Rattle.std.proofs.Common.{◌≡◌, ℕ, ◌+◌, ◌-◌, ◌^◌, ◌<◌, ◌≤◌, ◌⊎◌, arith, inl, inr, ⊎_elim, le_trans, le_of_eq, le_refl, sym, ◌∙◌, true}
 use Rattle.std.proofs.lemmas.Bool.Decides.{nat_tests}
-use Rattle.ffv1_devices.specs.Streams.{failures_after, HasFailed, HasCounted, HasGivenUp}
+use Rattle.ffv1_devices.specs.Streams.{failures_after, sum_to_limit, HasFailed, HasCounted, HasGivenUp}
 
 -- a count after a failure
 pub record CountsOne (old new : ℕ) : Type 0 where
@@ -41,3 +41,7 @@ gave_up-behind old mid new old_broken mid_broken new_broken h e f =
     (λ (p : HasFailed mid_broken new_broken). inl (failed-behind _ _ _ (le_of_eq (sym e)) p))
     (λ (p : HasCounted 65 mid new). inr (⊎_elim (λ (q : mid + 65 ≤ new). inl (omega arith)) (λ (q : 2 ^ 64 - 1 ≤ new). inr q) p))
     f
+
+-- bytes were taken behind others, up to the largest count
+pub counted-past : (n k count old mid new : ℕ) → HasCounted n old mid → new ≡ sum_to_limit mid count → k ≤ n + count → HasCounted k old new
+counted-past n k count old mid new h e more = grind arith
