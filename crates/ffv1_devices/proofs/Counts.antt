@@ -1,5 +1,6 @@
 -- Counts of tries that failed, over one step or several.
-use Rattle.std.proofs.Common.{◌≡◌, ℕ, ◌+◌, ◌-◌, ◌^◌, ◌<◌, ◌≤◌, ◌⊎◌, arith, inl, inr, ⊎_elim, le_trans, le_of_eq, le_refl, sym, ◌∙◌, true}
+use Rattle.std.proofs.Common.{◌≡◌, ℕ, ◌+◌, ◌-◌, ◌^◌, ◌<◌, ◌≤◌, ◌⊎◌, arith, inl, inr, ⊎_elim, le_trans, le_of_eq, le_refl, sym, ◌∙◌, true, false, nat_lt}
+use Rattle.std.specs.Prelude.{◌==◌, if◌then◌else◌}
 use Rattle.std.proofs.lemmas.Bool.Decides.{nat_tests}
 use Rattle.ffv1_devices.specs.Streams.{failures_after, sum_to_limit, HasFailed, HasCounted, HasGivenUp}
 
@@ -45,3 +46,9 @@ gave_up-behind old mid new old_broken mid_broken new_broken h e f =
 -- bytes were taken behind others, up to the largest count
 pub counted-past : (n k count old mid new : ℕ) → HasCounted n old mid → new ≡ sum_to_limit mid count → k ≤ n + count → HasCounted k old new
 counted-past n k count old mid new h e more = grind arith
+
+pub took_none : (n size : ℕ) → n ≡ 0 → 0 < size → (if n == 0 then nat_lt 0 size else false) ≡ true
+took_none n size e h = grind (arith, nat_tests)
+
+pub took_some : (n size : ℕ) → (n ≡ 0 → ⊥) → (if n == 0 then nat_lt 0 size else false) ≡ false
+took_some n size h = grind (arith, nat_tests)

@@ -20,3 +20,16 @@ Consumes-none a b (x ∷ bs) h p = absurd (omega arith)
 pub take-one : (xs : List ℕ) (d : ℕ) → length xs ≡ 1 → take 1 xs ≡ get_or xs 0 d ∷ []
 take-one [] d e = absurd (omega arith)
 take-one (x ∷ xs) d e = refl
+
+pub Appends-behind : (a b c : Option (List ℕ)) (bs : List ℕ) → Keeps a b → Appends b c bs → Appends a c bs
+Appends-behind None b c bs p q = tt
+Appends-behind (Some x) None c bs p q = absurd p
+Appends-behind (Some x) (Some y) None bs p q = absurd q
+Appends-behind (Some x) (Some y) (Some z) bs p q = q ∙ ap (λ l. l ++ bs) p
+
+-- what takes nothing keeps
+pub Keeps-of_nil : (a b c : Option (List ℕ)) → Keeps a b → Appends b c [] → Keeps a c
+Keeps-of_nil None b c p q = tt
+Keeps-of_nil (Some x) None c p q = absurd p
+Keeps-of_nil (Some x) (Some y) None p q = absurd q
+Keeps-of_nil (Some x) (Some y) (Some z) p q = q ∙ append-nil y ∙ p

@@ -4,6 +4,7 @@ use Rattle.std.proofs.lemmas.List.{length-take, take-append-le}
 use Rattle.std.proofs.lemmas.Result.{err_from_is_err_and}
 use Rattle.std.proofs.KnownBytes.{Consumes-nil, Consumes-trans, Consumes-kept}
 use Rattle.ffv1_devices.proofs.Counts.{failed-behind, gave_up-behind, once-same, once-behind, counted-past}
+use Rattle.ffv1_devices.proofs.Faults.{not_ok, not_read, not_too_long, no_memory-too_long, no_memory-read}
 use Rattle.ffv1_devices.proofs.Kept.{Consumes-then_none}
 use Rattle.ffv1_devices.proofs.whole.read_whole.Goals as goal
 
@@ -28,8 +29,8 @@ returns-in_err-count g c =
       bytes = tt;
       end = tt;
       few = tt;
-      too_long = λ is. absurd (cc);
-      one_more = λ is. absurd (cc);
+      too_long = not_read _ _ refl refl;
+      one_more = not_read _ _ refl refl;
       no_more = omega (arith, e.none_taken);
       within = λ not. omega (arith, e.none_taken);
       failed = λ is. failed-behind _ _ _ inv.counted e.failed;
@@ -49,12 +50,12 @@ returns-then-count-eq0 g c =
       bytes = Consumes-then_none _ _ _ _ _ inv.kept e.bytes.0 (ap (λ n. take n c.read_some.new.buf) zero);
       end = e.bytes.1 zero (omega (arith, length-take (c.min-room.result + 1) c.loop-bytes.buf));
       few = omega arith;
-      too_long = λ is. absurd (cc);
-      one_more = λ is. absurd (cc);
+      too_long = not_ok _ _ _ _ refl refl;
+      one_more = not_ok _ _ _ _ refl refl;
       no_more = omega (arith, e.taken);
       within = λ not. omega (arith, e.taken);
-      failed = λ is. absurd (cc);
-      gave_up = λ is. absurd (cc);
+      failed = not_ok _ _ _ _ refl refl;
+      gave_up = not_ok _ _ _ _ refl refl;
       unbroken = λ not. unbroken;
       broken_once = once-same _ _ unbroken;
       counted = le_trans inv.counted e.counted;
@@ -78,8 +79,8 @@ returns-then-count-left g c =
       one_more = λ is. counted-past _ _ _ _ _ _ inv.taken e.taken (omega (arith, count, length-append kept piece, e.bound));
       no_more = omega (arith, e.taken, count, length-append kept piece, e.bound);
       within = λ not. absurd (not refl);
-      failed = λ is. absurd (cc);
-      gave_up = λ is. absurd (cc);
+      failed = not_too_long _ _ refl refl;
+      gave_up = not_too_long _ _ refl refl;
       unbroken = λ not. unbroken;
       broken_once = once-same _ _ unbroken;
       counted = le_trans inv.counted e.counted;
@@ -96,12 +97,12 @@ returns-in_err-extend_from_slice g c =
       bytes = tt;
       end = tt;
       few = tt;
-      too_long = λ is. absurd (cc);
-      one_more = λ is. absurd (cc);
+      too_long = no_memory-too_long _ _ refl refl;
+      one_more = no_memory-too_long _ _ refl refl;
       no_more = omega (arith, within);
       within = λ not. within;
-      failed = λ is. absurd (cc);
-      gave_up = λ is. absurd (cc);
+      failed = no_memory-read _ _ refl refl;
+      gave_up = no_memory-read _ _ refl refl;
       unbroken = λ not. unbroken;
       broken_once = once-same _ _ unbroken;
       counted = le_trans inv.counted e.counted;
