@@ -1,14 +1,149 @@
-use Rattle.std.proofs.Common.{◌≡◌, ◌++◌, List, map, sym, ap, ◌∙◌, subst}
+use Rattle.std.proofs.Common.{◌≡◌, ◌++◌, ℕ, List, map, sym, ap, ◌∙◌, subst, refl, arith, Result, Ok, Err}
+use Rattle.std.proofs.lemmas.Result.{err_from_is_err_and}
 use Rattle.ffv1_holding.specs.Sets as set
 use Rattle.ffv1_holding.specs.SliceOrder.{Entry, Origin, entry_cmp, origin_cmp}
 use Rattle.ffv1_holding.specs.TileSets.{TileSlices, with_more}
-use Rattle.ffv1_holding.specs.PoolEntries.{entry_in}
+use Rattle.ffv1_holding.specs.PoolEntries.{entry_in, IsPool}
+use Rattle.ffv1_holding.specs.declared.pool_entry.PoolEntry.{PoolEntry}
 use Rattle.ffv1_holding.specs.Contents.{AreHeld}
-use Rattle.ffv1_holding.specs.Fresh.{fresh_in, AreAllFresh}
-use Rattle.ffv1_holding.specs.Rows.{rows_in, rows_of, fresh_rows_in, AreFreshRows}
+use Rattle.ffv1_holding.specs.Fresh.{fresh_in, AreFresh, AreAllFresh}
+use Rattle.ffv1_holding.specs.Rows.{rows_in, rows_of, IsRows, IsStock, fresh_rows_in, AreFreshRows}
 use Rattle.ffv1_holding.proofs.RowGrowth.{rows_behind, rows_kept}
 use Rattle.ffv1_holding.proofs.FreshHeld.{fresh_held}
 use Rattle.ffv1_holding.proofs.pool.Pool.insert_all.Goals as goal
+
+-- what a pool of these parts is taken for
+abbrev seen : ℕ → List ℕ → List PoolEntry → List PoolEntry → List (List ℕ) → TileSlices
+seen tiles bytes entries owners digests = record {
+  tiles = tiles;
+  slices = set.from_list (map (entry_in bytes) entries);
+  origins = set.from_list (rows_in bytes owners digests);
+}
+
+-- parts that are the same make the same stock
+stock_same : (bytes bytes' : List ℕ) (entries entries' owners owners' : List PoolEntry) (digests digests' : List (List ℕ)) → bytes' ≡ bytes
+    → entries' ≡ entries → owners' ≡ owners → digests' ≡ digests → IsStock bytes entries owners digests → IsStock bytes' entries' owners' digests'
+stock_same bytes bytes' entries entries' owners owners' digests digests' b e o d is = rw (b, e, o, d) is
+
+rows_same : (bytes bytes' : List ℕ) (owners owners' : List PoolEntry) (digests digests' : List (List ℕ)) → bytes' ≡ bytes → owners' ≡ owners
+    → digests' ≡ digests → IsRows bytes owners digests → IsRows bytes' owners' digests'
+rows_same bytes bytes' owners owners' digests digests' b o d is = rw (b, o, d) is
+
+pool_same : (bytes bytes' : List ℕ) (entries entries' : List PoolEntry) → bytes' ≡ bytes → entries' ≡ entries → IsPool bytes entries
+    → IsPool bytes' entries'
+pool_same bytes bytes' entries entries' b e is = rw (b, e) is
+
+-- an error is the same beside whatever values there might have been
+abbrev told : {S T E : Type 0} → E → Result S E → Result T E
+told d (Ok x) = Err d
+told d (Err e) = Err e
+
+pub fresh_among-requires : goal.fresh_among-requires
+fresh_among-requires c = record {
+  held = (pool_same _ _ _ _ c.deref.ensures.value c.deref-2.ensures.value c.self.invariant.pool).rising;
+  coming = c.requires.pool;
+}
+
+pub returns-in_err-fresh : goal.returns-in_err-fresh
+returns-in_err-fresh c =
+    let p = err_from_is_err_and c.from_residual.result c.from_residual.ensures.1 in
+    rw (p.1, p.2) (record { ok = tt; memory = ap (told c.in_err-fresh.field-0.0) c.in_err-fresh.ensures.memory; err = refl })
+
+pub fresh_rows-requires : goal.fresh_rows-requires
+fresh_rows-requires c = record {
+  held = rows_same _ _ _ _ _ _ c.deref-3.ensures.value c.deref-4.ensures.value c.deref-5.ensures.value c.self.invariant.rows;
+  coming = c.requires.rows;
+}
+
+pub returns-in_err-new : goal.returns-in_err-new
+returns-in_err-new c =
+    let p = err_from_is_err_and c.from_residual-in_err-new.result c.from_residual-in_err-new.ensures.1 in
+    rw (p.1, p.2) (record { ok = tt; memory = ap (told c.in_err-new.field-0.0) c.in_err-new.ensures.memory; err = refl })
+
+pub returns-in_default : goal.returns-in_default
+returns-in_default c = record { ok = tt; memory = refl; err = refl }
+
+pub invariant_of-self : goal.invariant_of-self
+invariant_of-self c = stock_same _ _ _ _ _ _ _ _ c.reserve.ensures.items refl refl refl c.self.invariant
+
+pub returns-in_err-reserve : goal.returns-in_err-reserve
+returns-in_err-reserve c =
+    let p = err_from_is_err_and c.from_residual-in_err-reserve.result c.from_residual-in_err-reserve.ensures.1 in
+    let old = c.self.inside in
+    rw (p.1, p.2) (record {
+      ok = tt;
+      memory = refl;
+      err = (λ i. seen old.tiles (c.reserve.ensures.items i) old.entries.items old.owners.items old.digests.items) ∙ c.self.view_is;
+    })
+
+pub invariant_of-self-in_err-reserve-2 : goal.invariant_of-self-in_err-reserve-2
+invariant_of-self-in_err-reserve-2 c =
+    stock_same _ _ _ _ _ _ _ _ c.reserve.ensures.items c.reserve-2.ensures.items refl refl c.self.invariant
+
+pub returns-in_err-reserve-2 : goal.returns-in_err-reserve-2
+returns-in_err-reserve-2 c =
+    let p = err_from_is_err_and c.from_residual-in_err-reserve-2.result c.from_residual-in_err-reserve-2.ensures.1 in
+    let old = c.self.inside in
+    rw (p.1, p.2) (record {
+      ok = tt;
+      memory = refl;
+      err = (λ i. seen old.tiles (c.reserve.ensures.items i) (c.reserve-2.ensures.items i) old.owners.items old.digests.items) ∙ c.self.view_is;
+    })
+
+pub invariant_of-self-in_err-reserve-3 : goal.invariant_of-self-in_err-reserve-3
+invariant_of-self-in_err-reserve-3 c =
+    stock_same _ _ _ _ _ _ _ _ c.reserve.ensures.items c.reserve-2.ensures.items c.reserve-3.ensures.items refl c.self.invariant
+
+pub returns-in_err-reserve-3 : goal.returns-in_err-reserve-3
+returns-in_err-reserve-3 c =
+    let p = err_from_is_err_and c.from_residual-in_err-reserve-3.result c.from_residual-in_err-reserve-3.ensures.1 in
+    let old = c.self.inside in
+    rw (p.1, p.2) (record {
+      ok = tt;
+      memory = refl;
+      err = (λ i. seen old.tiles (c.reserve.ensures.items i) (c.reserve-2.ensures.items i) (c.reserve-3.ensures.items i) old.digests.items)
+          ∙ c.self.view_is;
+    })
+
+pub invariant_of-self-in_err-reserve-4 : goal.invariant_of-self-in_err-reserve-4
+invariant_of-self-in_err-reserve-4 c =
+    stock_same _ _ _ _ _ _ _ _ c.reserve.ensures.items c.reserve-2.ensures.items c.reserve-3.ensures.items c.reserve-4.ensures.items c.self.invariant
+
+pub returns-in_err-reserve-4 : goal.returns-in_err-reserve-4
+returns-in_err-reserve-4 c =
+    let p = err_from_is_err_and c.from_residual-in_err-reserve-4.result c.from_residual-in_err-reserve-4.ensures.1 in
+    let old = c.self.inside in
+    rw (p.1, p.2) (record {
+      ok = tt;
+      memory = refl;
+      err = (λ i. seen old.tiles (c.reserve.ensures.items i) (c.reserve-2.ensures.items i) (c.reserve-3.ensures.items i) (c.reserve-4.ensures.items i))
+          ∙ c.self.view_is;
+    })
+
+pub put_slices-requires-clause-pool : goal.put_slices-requires-clause-pool
+put_slices-requires-clause-pool c = pool_same _ _ _ _ c.reserve.ensures.items c.reserve-2.ensures.items c.self.invariant.pool
+
+pub put_slices-requires-clause-fresh : goal.put_slices-requires-clause-fresh
+put_slices-requires-clause-fresh c =
+    let bytes = c.deref.ensures.value ∙ sym c.reserve.ensures.items in
+    let entries = c.deref-2.ensures.value ∙ sym c.reserve-2.ensures.items in
+    subst (λ (held : List Entry). AreFresh held c.args.rows.bytes.now c.in_ok-fresh.fresh.items) (λ i. map (entry_in (bytes i)) (entries i))
+    c.in_ok-fresh.ensures.fresh
+
+pub put_rows-requires-clause-pool : goal.put_rows-requires-clause-pool
+put_rows-requires-clause-pool c = pool_same _ _ _ _ c.deref-7.ensures.value c.deref-8.ensures.value c.put_slices.ensures.pool
+
+pub invariant_of-self-2 : goal.invariant_of-self-2
+invariant_of-self-2 c = record {
+  pool = c.put_slices.ensures.pool;
+  rows = subst (λ (b : List ℕ). IsRows b c.put_rows.new.owners.items c.put_rows.new.digests.items) c.deref-7.ensures.value c.put_rows.ensures.rows;
+}
+
+pub returns-clause-memory : goal.returns-clause-memory
+returns-clause-memory c = tt
+
+pub returns-clause-err : goal.returns-clause-err
+returns-clause-err c = tt
 
 pub put_rows-requires-clause-rows : goal.put_rows-requires-clause-rows
 put_rows-requires-clause-rows c =
