@@ -35,4 +35,5 @@ pub mod Found
 pub mod TileReads
 pub mod Restored
 pub mod ExactlyHeld
+pub mod Errors
 mod NearVectors

@@ -1,4 +1,4 @@
-use Rattle.std.proofs.Common.{◌+◌, ◌-◌, ◌<◌, get_or, set, length, ap, subst, arith}
+use Rattle.std.proofs.Common.{◌≡◌, ℕ, ◌+◌, ◌-◌, ◌<◌, ◌≤◌, get_or, set, length, ap, subst, arith}
 use Rattle.std.proofs.lemmas.List.{get_or_default}
 use Rattle.ffv1_holding.proofs.Merges.{IsMerging, merging_starts, merging_ends, merging_goes}
 use Rattle.ffv1_holding.proofs.fresh.merge.Goals as goal
@@ -27,3 +27,24 @@ returns g c =
     merging_ends c.args.items.now c.args.held c.args.fresh.now c.requires.room c.requires.places c.loop-before.left c.loop-before.items
     (subst (λ n. IsMerging c.args.items.now c.args.held c.args.fresh.now n c.loop-before.left c.loop-before.items)
     {x = c.loop-before.before} {y = 0} (omega (arith, c.loop-before-test.false)) c.loop-before.invariant)
+
+one_less : (n : ℕ) → 0 < n → n - 1 < n
+one_less n some = omega arith
+
+pub copy_within-requires-clause-start_le_end : goal.copy_within-requires-clause-start_le_end
+copy_within-requires-clause-start_le_end g c =
+    c.loop-before.invariant.places (c.loop-before.before - 1) c.index-fresh-before.result (one_less c.loop-before.before c.loop-before-test.true)
+
+pub overflow_add-place : goal.overflow_add-place
+overflow_add-place g c =
+    omega (arith, copy_within-requires-clause-start_le_end g c, c.loop-before.invariant.within, c.loop-before.invariant.few, c.loop-before.invariant.long)
+
+pub overflow_add-place-in-loop-before : goal.overflow_add-place-in-loop-before
+overflow_add-place-in-loop-before g c =
+    omega (arith, copy_within-requires-clause-start_le_end g c, c.loop-before.invariant.within, c.loop-before.invariant.few, c.loop-before.invariant.long)
+
+within : (left held more long : ℕ) → left ≤ held → long ≡ held + more → left ≤ long
+within left held more long le is = omega arith
+
+pub copy_within-requires-clause-in_bounds : goal.copy_within-requires-clause-in_bounds
+copy_within-requires-clause-in_bounds g c = within _ _ _ _ c.loop-before.invariant.within c.loop-before.invariant.long

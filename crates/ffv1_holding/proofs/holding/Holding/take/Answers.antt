@@ -1,18 +1,59 @@
-use Rattle.std.proofs.Common.{◌≡◌, List, ℕ, map, ap, sym, ◌∙◌, subst, arith}
+use Rattle.std.proofs.Common.{◌≡◌, List, ℕ, map, ap, sym, ◌∙◌, subst, refl, arith}
+use Rattle.std.proofs.lemmas.Result.{err_from_is_err_and}
 use Rattle.sha2.specs.Sha256.{sha256}
 use Rattle.ffv1_range.specs.Setup.{SetupValue}
 use Rattle.ffv1_slice.specs.Slices.{found_slices}
 use Rattle.ffv1_holding.specs.Sets as set
 use Rattle.ffv1_holding.specs.SliceOrder.{entry_cmp, origin_cmp, entries_total, entries_antisymmetric}
 use Rattle.ffv1_holding.specs.TileSets.{TileSlices, with_more}
-use Rattle.ffv1_holding.specs.PoolEntries.{entry_in}
+use Rattle.ffv1_holding.specs.PoolEntries.{entry_in, IsPool}
 use Rattle.ffv1_holding.specs.declared.pool_entry.PoolEntry.{PoolEntry}
 use Rattle.ffv1_holding.specs.Contents.{Contents, IsEntryOf, AreEntriesOf, AreHeld, AreWhole, origins_of_copy, with_facts, with_found}
+use Rattle.ffv1_holding.specs.HoldingParts.{IsKept}
+use Rattle.ffv1_holding.specs.declared.holding.Holding.TheInside.{Inside}
+use Rattle.ffv1_holding.proofs.Errors.{error_is}
 use Rattle.ffv1_holding.proofs.EntrySteps.{all-union}
 use Rattle.ffv1_holding.proofs.Digests.{length-sha256}
 use Rattle.ffv1_holding.proofs.OriginSteps.{held_union, whole_union, held_marked, whole_marked, marked_same}
 use Rattle.ffv1_holding.proofs.TileUnions.{tiles-grown, slices-grown, origins-grown, size_grown}
 use Rattle.ffv1_holding.proofs.holding.Holding.take.Goals as goal
+
+pub returns-then-payload-gt-PAYLOAD_LIMIT : goal.returns-then-payload-gt-PAYLOAD_LIMIT
+returns-then-payload-gt-PAYLOAD_LIMIT c = record { ok = tt; short = tt; links = tt; slices = tt; new = tt; fault = omega arith; err = refl }
+
+pub returns-in_err-links : goal.returns-in_err-links
+returns-in_err-links c =
+    let p = err_from_is_err_and c.from_residual.result c.from_residual.ensures.1 in
+    let memory = error_is c.in_err-links.ensures.memory in
+    rw (p.1, p.2, memory) (record { ok = tt; short = tt; links = tt; slices = tt; new = tt; fault = omega arith; err = refl })
+
+pub returns-in_err-put_in_order : goal.returns-in_err-put_in_order
+returns-in_err-put_in_order c =
+    let p = err_from_is_err_and c.from_residual-in_err-put_in_order.result c.from_residual-in_err-put_in_order.ensures.1 in
+    rw (p.1, p.2) (record { ok = tt; short = tt; links = tt; slices = tt; new = tt; fault = omega arith; err = refl })
+
+pub insert_copy-requires : goal.insert_copy-requires
+insert_copy-requires c = subst (IsPool c.args.payload.now) (sym c.deref.ensures.value) c.in_ok-put_in_order.ensures.ok
+
+pub invariant_of-self : goal.invariant_of-self
+invariant_of-self c =
+    let kept = λ (held : TileSlices). let a : Inside = record { reel = c.self.inside.reel; held = held } in IsKept a in
+    subst kept (sym c.in_err-insert_copy.ensures.err) c.self.invariant
+
+pub returns-in_err-insert_copy : goal.returns-in_err-insert_copy
+returns-in_err-insert_copy c =
+    let p = err_from_is_err_and c.from_residual-in_err-insert_copy.result c.from_residual-in_err-insert_copy.ensures.1 in
+    let memory = error_is c.in_err-insert_copy.ensures.memory in
+    let whole = λ (held : TileSlices). let h : Contents = record { reel = c.self.inside.reel; slices = held.slices; origins = held.origins } in h in
+    rw (p.1, p.2, memory) (record {
+      ok = tt;
+      short = tt;
+      links = tt;
+      slices = tt;
+      new = tt;
+      fault = omega arith;
+      err = ap whole c.in_err-insert_copy.ensures.err ∙ c.self.view_is;
+    })
 
 abbrev slices_in : SetupValue → List ℕ → set.SetOf entry_cmp
 slices_in setup copy = set.from_list (found_slices setup copy)
@@ -92,3 +133,15 @@ returns-clause-ok c =
 
 pub list_found-requires-clause-short : goal.list_found-requires-clause-short
 list_found-requires-clause-short c = omega arith
+
+pub returns-clause-links : goal.returns-clause-links
+returns-clause-links c = c.in_ok-links.ensures.links
+
+pub returns-clause-short : goal.returns-clause-short
+returns-clause-short c = omega arith
+
+pub returns-clause-fault : goal.returns-clause-fault
+returns-clause-fault c = tt
+
+pub returns-clause-err : goal.returns-clause-err
+returns-clause-err c = tt

@@ -1,4 +1,4 @@
-use Rattle.std.proofs.Common.{◌≡◌, ◌++◌, ℕ, List, map, sym, ap, ◌∙◌, subst, refl, arith, Result, Ok, Err}
+use Rattle.std.proofs.Common.{◌≡◌, ◌++◌, ℕ, List, map, sym, ap, ◌∙◌, subst, refl, Err}
 use Rattle.std.proofs.lemmas.Result.{err_from_is_err_and}
 use Rattle.ffv1_holding.specs.Sets as set
 use Rattle.ffv1_holding.specs.SliceOrder.{Entry, Origin, entry_cmp, origin_cmp}
@@ -10,6 +10,7 @@ use Rattle.ffv1_holding.specs.Fresh.{fresh_in, AreFresh, AreAllFresh}
 use Rattle.ffv1_holding.specs.Rows.{rows_in, rows_of, IsRows, IsStock, fresh_rows_in, AreFreshRows}
 use Rattle.ffv1_holding.proofs.RowGrowth.{rows_behind, rows_kept}
 use Rattle.ffv1_holding.proofs.FreshHeld.{fresh_held}
+use Rattle.ffv1_holding.proofs.Errors.{error_is}
 use Rattle.ffv1_holding.proofs.pool.Pool.insert_all.Goals as goal
 
 -- what a pool of these parts is taken for
@@ -33,11 +34,6 @@ pool_same : (bytes bytes' : List ℕ) (entries entries' : List PoolEntry) → by
     → IsPool bytes' entries'
 pool_same bytes bytes' entries entries' b e is = rw (b, e) is
 
--- an error is the same beside whatever values there might have been
-abbrev told : {S T E : Type 0} → E → Result S E → Result T E
-told d (Ok x) = Err d
-told d (Err e) = Err e
-
 pub fresh_among-requires : goal.fresh_among-requires
 fresh_among-requires c = record {
   held = (pool_same _ _ _ _ c.deref.ensures.value c.deref-2.ensures.value c.self.invariant.pool).rising;
@@ -47,7 +43,7 @@ fresh_among-requires c = record {
 pub returns-in_err-fresh : goal.returns-in_err-fresh
 returns-in_err-fresh c =
     let p = err_from_is_err_and c.from_residual.result c.from_residual.ensures.1 in
-    rw (p.1, p.2) (record { ok = tt; memory = ap (told c.in_err-fresh.field-0.0) c.in_err-fresh.ensures.memory; err = refl })
+    rw (p.1, p.2) (record { ok = tt; memory = ap Err (error_is c.in_err-fresh.ensures.memory); err = refl })
 
 pub fresh_rows-requires : goal.fresh_rows-requires
 fresh_rows-requires c = record {
@@ -58,7 +54,7 @@ fresh_rows-requires c = record {
 pub returns-in_err-new : goal.returns-in_err-new
 returns-in_err-new c =
     let p = err_from_is_err_and c.from_residual-in_err-new.result c.from_residual-in_err-new.ensures.1 in
-    rw (p.1, p.2) (record { ok = tt; memory = ap (told c.in_err-new.field-0.0) c.in_err-new.ensures.memory; err = refl })
+    rw (p.1, p.2) (record { ok = tt; memory = ap Err (error_is c.in_err-new.ensures.memory); err = refl })
 
 pub returns-in_default : goal.returns-in_default
 returns-in_default c = record { ok = tt; memory = refl; err = refl }
