@@ -1,13 +1,83 @@
-use Rattle.std.proofs.Common.{◌≡◌, rules, sym, ap, ◌∙◌, subst, arith}
+use Rattle.std.proofs.Common.{◌≡◌, Result, Err, sym, refl, ap, ◌∙◌, subst, arith}
+use Rattle.std.proofs.lemmas.Bool.{false≢true}
+use Rattle.std.proofs.lemmas.Result.{err_from_is_err_and}
+use Rattle.ffv1_holding.specs.declared.fault.HoldFault.{HoldFault}
+use Rattle.ffv1_holding.specs.declared.fault.HoldFault.TheVariants.{OtherReel, PayloadTooLong, Memory}
 use Rattle.ffv1_holding.specs.Sets as set
 use Rattle.ffv1_holding.specs.SliceOrder.{entries_total, entries_antisymmetric}
 use Rattle.ffv1_holding.specs.Reels.{Reel}
 use Rattle.ffv1_holding.specs.TileSets.{TileSlices}
-use Rattle.ffv1_holding.specs.Contents.{Contents, IsEntryOf, AreEntriesOf, AreHeld, AreWhole}
+use Rattle.ffv1_holding.specs.Contents.{Contents, joined, IsEntryOf, AreEntriesOf, AreHeld, AreWhole}
+use Rattle.ffv1_holding.specs.HoldingParts.{contents, IsKept}
+use Rattle.ffv1_holding.specs.declared.holding.Holding.TheInside.{Inside}
+use Rattle.ffv1_holding.proofs.Errors.{error_is}
 use Rattle.ffv1_holding.proofs.EntrySteps.{all-union}
 use Rattle.ffv1_holding.proofs.OriginSteps.{held_union, whole_union}
 use Rattle.ffv1_holding.proofs.TileUnions.{tiles-grown, slices-grown, origins-grown, size_grown}
 use Rattle.ffv1_holding.proofs.holding.HoldingJoin.join_with.Goals as goal
+
+other_is_no_memory : {T : Type 0} → (let r : Result T HoldFault = Err OtherReel in r) ≡ Err Memory → ⊥
+other_is_no_memory same = cc
+
+other_is_not_long : {T : Type 0} → (let r : Result T HoldFault = Err OtherReel in r) ≡ Err PayloadTooLong → ⊥
+other_is_not_long same = cc
+
+memory_is_no_other : {T : Type 0} → (let r : Result T HoldFault = Err Memory in r) ≡ Err OtherReel → ⊥
+memory_is_no_other same = cc
+
+memory_is_not_long : {T : Type 0} → (let r : Result T HoldFault = Err Memory in r) ≡ Err PayloadTooLong → ⊥
+memory_is_not_long same = cc
+
+-- what is kept and what is shown are of the same reels
+reels_shown : (a b : Inside) {x y : Contents} → contents a ≡ x → contents b ≡ y → a.reel ≡ b.reel → x.reel ≡ y.reel
+reels_shown a b x y same = ap (λ (h : Contents). h.reel) (sym x) ∙ same ∙ ap (λ (h : Contents). h.reel) y
+
+reels_inside : (a b : Inside) {x y : Contents} → contents a ≡ x → contents b ≡ y → x.reel ≡ y.reel → a.reel ≡ b.reel
+reels_inside a b x y same = ap (λ (h : Contents). h.reel) x ∙ same ∙ sym (ap (λ (h : Contents). h.reel) y)
+
+pub returns-then-not-is_same : goal.returns-then-not-is_same
+returns-then-not-is_same c = record {
+  joined = tt;
+  growth = tt;
+  fits = tt;
+  joinable = tt;
+  other_reel = λ _ same. absurd (false≢true (c.if-not-is_same.ensures.1 (reels_inside c.self.inside c.other.inside c.self.view_is c.other.view_is same)));
+  memory = λ e. absurd (other_is_no_memory e);
+  too_long = other_is_not_long;
+  err = refl;
+}
+
+pub invariant_of-self : goal.invariant_of-self
+invariant_of-self c =
+    let kept = λ (held : TileSlices). let a : Inside = record { reel = c.self.inside.reel; held = held } in IsKept a in
+    subst kept (sym c.in_err-join.ensures.err) c.self.invariant
+
+pub returns-in_err-join : goal.returns-in_err-join
+returns-in_err-join c =
+    let p = err_from_is_err_and c.from_residual.result c.from_residual.ensures.1 in
+    let memory = error_is c.in_err-join.ensures.memory in
+    let whole = λ (held : TileSlices). let h : Contents = record { reel = c.self.inside.reel; slices = held.slices; origins = held.origins } in h in
+    rw (p.1, p.2, memory) (record {
+      joined = tt;
+      growth = tt;
+      fits = tt;
+      joinable = tt;
+      other_reel = λ e. absurd (memory_is_no_other e);
+      memory = λ _. reels_shown c.self.inside c.other.inside c.self.view_is c.other.view_is (c.if-not-is_same.ensures.0 refl);
+      too_long = memory_is_not_long;
+      err = ap whole c.in_err-join.ensures.err ∙ c.self.view_is;
+    })
+
+pub returns-clause-joined : goal.returns-clause-joined
+returns-clause-joined c =
+    let whole = λ (held : TileSlices). let h : Contents = record { reel = c.self.inside.reel; slices = held.slices; origins = held.origins } in h in
+    ap whole c.in_ok-join.ensures.ok ∙ (λ i. joined (c.self.view_is i) (c.other.view_is i))
+
+pub returns-clause-fits : goal.returns-clause-fits
+returns-clause-fits c = omega (arith, c.size.ensures, c.size.type_inv)
+
+pub returns-clause-joinable : goal.returns-clause-joinable
+returns-clause-joinable c = reels_shown c.self.inside c.other.inside c.self.view_is c.other.view_is (c.if-not-is_same.ensures.0 refl)
 
 pub overflow_sub-result : goal.overflow_sub-result
 overflow_sub-result c =
@@ -16,7 +86,7 @@ overflow_sub-result c =
 
 pub invariant_of-self-2 : goal.invariant_of-self-2
 invariant_of-self-2 c =
-    let same : c.self.inside.reel ≡ c.other.inside.reel = search rules in
+    let same : c.self.inside.reel ≡ c.other.inside.reel = c.if-not-is_same.ensures.0 refl in
     let old = c.self.inside.held in
     let more = c.other.inside.held in
     let slices = slices-grown old c.join.new.self more.slices more.origins c.in_ok-join.ensures.ok in
