@@ -1,5 +1,4 @@
-use Rattle.std.proofs.Common.{◌≡◌, Result, Err, sym, refl, ap, ◌∙◌, subst, arith}
-use Rattle.std.proofs.lemmas.Bool.{false≢true}
+use Rattle.std.proofs.Common.{◌≡◌, Result, Err, rules, sym, ap, ◌∙◌, subst, arith}
 use Rattle.std.proofs.lemmas.Result.{err_from_is_err_and}
 use Rattle.ffv1_holding.specs.declared.fault.HoldFault.{HoldFault}
 use Rattle.ffv1_holding.specs.declared.fault.HoldFault.TheVariants.{OtherReel, PayloadTooLong, Memory}
@@ -16,36 +15,15 @@ use Rattle.ffv1_holding.proofs.OriginSteps.{held_union, whole_union}
 use Rattle.ffv1_holding.proofs.TileUnions.{tiles-grown, slices-grown, origins-grown, size_grown}
 use Rattle.ffv1_holding.proofs.holding.HoldingJoin.join_with.Goals as goal
 
-other_is_no_memory : {T : Type 0} → (let r : Result T HoldFault = Err OtherReel in r) ≡ Err Memory → ⊥
-other_is_no_memory same = cc
-
-other_is_not_long : {T : Type 0} → (let r : Result T HoldFault = Err OtherReel in r) ≡ Err PayloadTooLong → ⊥
-other_is_not_long same = cc
-
 memory_is_no_other : {T : Type 0} → (let r : Result T HoldFault = Err Memory in r) ≡ Err OtherReel → ⊥
 memory_is_no_other same = cc
 
 memory_is_not_long : {T : Type 0} → (let r : Result T HoldFault = Err Memory in r) ≡ Err PayloadTooLong → ⊥
 memory_is_not_long same = cc
 
--- what is kept and what is shown are of the same reels
+-- what is shown is of one reel where what is kept is
 reels_shown : (a b : Inside) {x y : Contents} → contents a ≡ x → contents b ≡ y → a.reel ≡ b.reel → x.reel ≡ y.reel
 reels_shown a b x y same = ap (λ (h : Contents). h.reel) (sym x) ∙ same ∙ ap (λ (h : Contents). h.reel) y
-
-reels_inside : (a b : Inside) {x y : Contents} → contents a ≡ x → contents b ≡ y → x.reel ≡ y.reel → a.reel ≡ b.reel
-reels_inside a b x y same = ap (λ (h : Contents). h.reel) x ∙ same ∙ sym (ap (λ (h : Contents). h.reel) y)
-
-pub returns-then-not-is_same : goal.returns-then-not-is_same
-returns-then-not-is_same c = record {
-  joined = tt;
-  growth = tt;
-  fits = tt;
-  joinable = tt;
-  other_reel = λ _ same. absurd (false≢true (c.if-not-is_same.ensures.1 (reels_inside c.self.inside c.other.inside c.self.view_is c.other.view_is same)));
-  memory = λ e. absurd (other_is_no_memory e);
-  too_long = other_is_not_long;
-  err = refl;
-}
 
 pub invariant_of-self : goal.invariant_of-self
 invariant_of-self c =
@@ -63,7 +41,7 @@ returns-in_err-join c =
       fits = tt;
       joinable = tt;
       other_reel = λ e. absurd (memory_is_no_other e);
-      memory = λ _. reels_shown c.self.inside c.other.inside c.self.view_is c.other.view_is (c.if-not-is_same.ensures.0 refl);
+      memory = λ _. reels_shown c.self.inside c.other.inside c.self.view_is c.other.view_is (search rules);
       too_long = memory_is_not_long;
       err = ap whole c.in_err-join.ensures.err ∙ c.self.view_is;
     })
@@ -77,7 +55,7 @@ pub returns-clause-fits : goal.returns-clause-fits
 returns-clause-fits c = omega (arith, c.size.ensures, c.size.type_inv)
 
 pub returns-clause-joinable : goal.returns-clause-joinable
-returns-clause-joinable c = reels_shown c.self.inside c.other.inside c.self.view_is c.other.view_is (c.if-not-is_same.ensures.0 refl)
+returns-clause-joinable c = reels_shown c.self.inside c.other.inside c.self.view_is c.other.view_is (search rules)
 
 pub overflow_sub-result : goal.overflow_sub-result
 overflow_sub-result c =
@@ -86,7 +64,7 @@ overflow_sub-result c =
 
 pub invariant_of-self-2 : goal.invariant_of-self-2
 invariant_of-self-2 c =
-    let same : c.self.inside.reel ≡ c.other.inside.reel = c.if-not-is_same.ensures.0 refl in
+    let same : c.self.inside.reel ≡ c.other.inside.reel = search rules in
     let old = c.self.inside.held in
     let more = c.other.inside.held in
     let slices = slices-grown old c.join.new.self more.slices more.origins c.in_ok-join.ensures.ok in
