@@ -1,4 +1,4 @@
-use Rattle.std.proofs.Common.{◌≡◌, sym, ap, ◌∙◌, subst, map, inl, inr, [], ◌∷◌}
+use Rattle.std.proofs.Common.{rules, ◌≡◌, sym, ap, ◌∙◌, subst, map, inl, inr, [], ◌∷◌}
 use Rattle.std.proofs.lemmas.Result.{IfOk-weaker, IfErr-weaker, on_ok_weaker, err_from_is_err_and}
 use Rattle.ffv1_range.specs.Setup.{IsSetupOf}
 use Rattle.ffv1_holding.specs.Contents.{Contents, holding_of, IsHolding, with_found, with_copies, joined}
@@ -126,11 +126,23 @@ returns-in_ok-other-in-Join t c =
     }
 
 -- what is held of near copies is the original's slices, by what is held
-pub returns-in_ok-new-in-New-clause-near : goal.returns-in_ok-new-in-New-clause-near
-returns-in_ok-new-in-New-clause-near t c original slices near =
+-- nothing is held of no copies
+pub returns-in_ok-new-in-New : goal.returns-in_ok-new-in-New
+returns-in_ok-new-in-New t c =
+    let plan = c.args.plan.now in
     let h = c.in_ok-new-in-New.field-0 in
-    near_exact h original slices (copies_of c.args.plan.now) near (ap (λ (k : Contents). k.slices) (c.in_ok-new-in-New.ensures.empty
-    ∙ ap (λ p. holding_of h.reel (copies_of p)) (sym c.in-New.is)))
+    let new = c.in_ok-new-in-New.ensures in
+    let meaning = new.empty ∙ ap (λ p. holding_of h.reel (copies_of p)) (sym c.in-New.is) in
+    record {
+      config = new.config;
+      setup = new.setup;
+      meaning = meaning;
+      sound = search rules;
+      near = λ original slices near. near_exact h original slices (copies_of plan) near (ap (λ (k : Contents). k.slices) meaning);
+      short = subst (λ (p : Plan). AreShort (copies_of p)) (sym c.in-New.is) tt;
+      fits = subst (RereadsFit h.reel) (sym c.in-New.is) tt;
+      fault = tt;
+    }
 
 -- a holding comes back from its file as it was
 pub returns-in_ok-reread-in-Reread : goal.returns-in_ok-reread-in-Reread
