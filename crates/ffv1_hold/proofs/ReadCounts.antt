@@ -36,6 +36,10 @@ most-after a b c i j k first more = omega arith
 pub most-within : (a b i j k : ℕ) → b + i ≤ a + j → j ≤ k → b + i ≤ a + k + 1
 most-within a b i j k taken within = omega arith
 
+-- the same, behind a call from the start on
+pub most-start : (a b c j k : ℕ) → b ≤ a + j → c + j ≤ b + k + 1 → c ≤ a + k + 1
+most-start a b c j k first more = omega arith
+
 pub most-none : (a k : ℕ) → a ≤ a + k + 1
 most-none a k = omega arith
 

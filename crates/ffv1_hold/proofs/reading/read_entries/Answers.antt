@@ -1,4 +1,5 @@
 use Rattle.std.proofs.Common.{Option, refl, ap, ◌∙◌, arith, subst, IfSome}
+use Rattle.std.proofs.Math.Nat.{le_trans}
 use Rattle.std.proofs.lemmas.Result.{err_from_is_err_and}
 use Rattle.ffv1_range.specs.Setup.{SetupValue}
 use Rattle.ffv1_holding.specs.Reels.{Reel}
@@ -6,17 +7,29 @@ use Rattle.ffv1_holding.specs.Contents.{with_entry}
 use Rattle.ffv1_hold.specs.declared.version.Version.{Version}
 use Rattle.ffv1_hold.specs.HoldingText.{FileEntry, file_entries}
 use Rattle.ffv1_hold.specs.FileEntries.{last_of, Follows, IsFileEntryOf}
+use Rattle.ffv1_hold.proofs.ReadCounts.{CountsRead-after, most-after, most-within}
 use Rattle.ffv1_hold.proofs.ReadRefusals.{Takes-trans}
 use Rattle.ffv1_hold.proofs.ReadSteps.{none_read, one_more, next_refused, memory_refused, next_taken, next_follows, digests_in_version}
 use Rattle.ffv1_hold.proofs.reading.read_entries.Goals as goal
 
-pub returns-in_err-advance-clause-err : goal.returns-in_err-advance-clause-err
-returns-in_err-advance-clause-err g c =
+pub returns-in_err-advance : goal.returns-in_err-advance
+returns-in_err-advance g c =
     let p = err_from_is_err_and c.from_residual.result c.from_residual.ensures.1 in
     let v = c.args.reader.now.version in
     let h = c.args.holding.now in
     let none = none_read v _ _ h c.args.reader.now.held c.requires.place c.setup.ensures.sound.reel c.requires.empty c.requires.first in
-    rw (p.1, p.2) (next_refused v h.reel _ _ _ _ h _ none v _ refl c.setup.ensures.value _ _ c.in_err-advance.ensures.err)
+    let e = c.in_err-advance.ensures in
+    rw (p.1, p.2) (record {
+      ok = tt;
+      end = tt;
+      sound = tt;
+      told = tt;
+      reel = tt;
+      err = next_refused v h.reel _ _ _ _ h _ none v _ refl c.setup.ensures.value _ _ e.err;
+      failed = e.failed;
+      counted = e.counted;
+      most = e.most;
+    })
 
 pub loop-reader-init : goal.loop-reader-init
 loop-reader-init g c =
@@ -45,8 +58,8 @@ insert-requires-clause-origins g c =
     (digests_in_version v c.in-Some.entry.1 entry.origins).rising
 
 -- memory for the entry that is held is refused
-pub returns-in_err-insert-clause-err : goal.returns-in_err-insert-clause-err
-returns-in_err-insert-clause-err g c =
+pub returns-in_err-insert : goal.returns-in_err-insert
+returns-in_err-insert g c =
     let p = err_from_is_err_and c.from_residual-in_err-insert.result c.from_residual-in_err-insert.ensures.1 in
     let inv = c.loop-reader.invariant in
     let v = c.args.reader.now.version in
@@ -57,7 +70,17 @@ returns-in_err-insert-clause-err g c =
     let follows = subst (λ (o : Option FileEntry). IfSome o (λ e. Follows (last_of (file_entries h)) e.0)) c.in-Some.is inv.follows in
     let more = one_more v reel _ _ _ _ h (with_entry h e.0 e.1) e inv.sound inv.told inv.reel entry follows
     c.loop-reader.reader.held c.in-Some.is refl inv.text in
-    rw (p.1, p.2, c.in_err-insert.ensures.err.0) (memory_refused v reel _ _ _ _ _ _ more)
+    rw (p.1, p.2, c.in_err-insert.ensures.err.0) (record {
+      ok = tt;
+      end = tt;
+      sound = tt;
+      told = tt;
+      reel = tt;
+      err = memory_refused v reel _ _ _ _ _ _ more;
+      failed = tt;
+      counted = inv.counted;
+      most = most-within _ _ _ _ _ inv.taken inv.text.within;
+    })
 
 pub loop-reader-preserved : goal.loop-reader-preserved
 loop-reader-preserved g c =
@@ -87,8 +110,8 @@ loop-reader-preserved g c =
       taken = omega (arith, inv.taken, read.taken);
     }
 
-pub returns-in_err-advance-2-clause-err : goal.returns-in_err-advance-2-clause-err
-returns-in_err-advance-2-clause-err g c =
+pub returns-in_err-advance-2 : goal.returns-in_err-advance-2
+returns-in_err-advance-2 g c =
     let p = err_from_is_err_and c.from_residual-in_err-advance-2.result c.from_residual-in_err-advance-2.ensures.1 in
     let inv = c.loop-reader.invariant in
     let v = c.args.reader.now.version in
@@ -101,4 +124,30 @@ returns-in_err-advance-2-clause-err g c =
     let more = one_more v reel _ _ _ _ h c.insert.new.holding e inv.sound inv.told inv.reel entry follows
     c.loop-reader.reader.held c.in-Some.is grown inv.text in
     let setup = c.setup-in-Some.ensures.value ∙ ap (λ (r : Reel). r.setup) more.reel' in
-    rw (p.1, p.2) (next_refused v reel _ _ _ _ _ _ more _ _ inv.version setup _ _ c.in_err-advance-2.ensures.err)
+    let e = c.in_err-advance-2.ensures in
+    rw (p.1, p.2) (record {
+      ok = tt;
+      end = tt;
+      sound = tt;
+      told = tt;
+      reel = tt;
+      err = next_refused v reel _ _ _ _ _ _ more _ _ inv.version setup _ _ e.err;
+      failed = CountsRead-after _ _ _ _ inv.counted e.failed;
+      counted = le_trans inv.counted e.counted;
+      most = most-after _ _ _ _ _ _ inv.taken e.most;
+    })
+
+pub returns : goal.returns
+returns g c =
+    let inv = c.loop-reader.invariant in
+    record {
+      ok = rw c.in_default.is at inv.text;
+      end = rw c.in_default.is at inv.at_end;
+      sound = inv.sound;
+      told = inv.told;
+      reel = inv.reel;
+      err = tt;
+      failed = tt;
+      counted = inv.counted;
+      most = most-within _ _ _ _ _ inv.taken inv.text.within;
+    }
