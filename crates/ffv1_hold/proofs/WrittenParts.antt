@@ -1,5 +1,6 @@
 -- An entry, and a head, by the parts that are written.
-use Rattle.std.proofs.Common.{◌≡◌, ℕ, ◌∷◌, List, ◌++◌, length, Option, Result, Ok, Err, OnOk, OnErr, ap, ◌∙◌, subst, append_assoc, refl}
+use Rattle.std.proofs.Common.{◌≡◌, ℕ, ◌+◌, ◌≤◌, ◌∷◌, List, ◌++◌, length, Option, Result, Ok, Err, OnOk, OnErr, ap, ◌∙◌, subst, append_assoc, refl, inl, inr, arith}
+use Rattle.ffv1_devices.specs.Streams.{HasFailed, HasGivenUp}
 use Rattle.std.specs.Io.KnownBytes.{Appends}
 use Rattle.std.proofs.KnownBytes.{Appends-trans}
 use Rattle.ffv1_devices.specs.Writing.{WritesFront}
@@ -55,3 +56,13 @@ module _ (a b c : Option (List ℕ)) (xs ys all : List ℕ) (r : Result (Unit {0
       each : (r : Result (Unit {0}) WriteFailed) → OnErr r (WritesFront b c ys) → OnErr r (WritesFront a c all)
       each (Ok x) more = tt
       each (Err f) more = subst (WritesFront a c) spelled (front-after a b c xs ys first more)
+
+-- what a later part gave up, counted from before an earlier one that gave up nothing
+pub given_up_after : (f g h b d e : ℕ) → f ≤ g → d ≡ b → HasGivenUp g h d e → HasGivenUp f h b e
+given_up_after f g h b d e le same (inl failed) = inl (subst (λ n. HasFailed n e) same failed)
+given_up_after f g h b d e le same (inr (inl counted)) = inr (inl (omega arith))
+given_up_after f g h b d e le same (inr (inr full)) = inr (inr full)
+
+-- an earlier part gave up nothing, and a later one at most once
+pub once_after : (b d e : ℕ) → d ≡ b → e ≤ d + 1 → e ≤ b + 1
+once_after b d e same once = omega arith
