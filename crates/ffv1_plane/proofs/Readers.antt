@@ -1,9 +1,11 @@
 -- A reader of a plane, a step further.
-use Rattle.std.proofs.Common.{◌≡◌, ℕ, ◌+◌, ◌%◌, ◌<◌, Bool, List, length, get_or, arith, ℤ}
+use Rattle.std.proofs.Common.{◌≡◌, ℕ, ◌+◌, ◌%◌, ◌<◌, Bool, List, Result, Ok, Err, length, get_or, ap, arith, ℤ}
+use Rattle.std.specs.Prelude.{OnOk}
+use Rattle.std.proofs.lemmas.List.{length_push}
 use Rattle.ffv1_range.specs.Setup.{set_entry}
 use Rattle.ffv1_rice.specs.States.{ContextState}
 use Rattle.ffv1_plane.specs.SetTables.{SetTables}
-use Rattle.ffv1_plane.specs.Progress.{IsReadTo}
+use Rattle.ffv1_plane.specs.Progress.{IsReadTo, IsSampleRead}
 use Rattle.ffv1_plane.specs.Halts.{IsNextHalted}
 use Rattle.ffv1_plane.specs.declared.plane.PlaneFault.{PlaneFault}
 use Rattle.ffv1_plane.specs.declared.plane.PlaneFault.TheVariants as plane_faults
@@ -36,3 +38,12 @@ row_halted w entry start samples i j x before states first left (plane_faults.Co
       halted = there.halted;
     }
 row_halted w entry start samples i j x before states first left plane_faults.Memory whole inside column longer bytes read halts = tt
+
+-- where a sample more was read, there is one more of the plane and of its row
+pub one_more : {T E : Type 0} (r : Result T E) (width : ℕ) (entry : ℕ → ℕ → ℤ) (level : Bool) (old : List ℕ) (states : List ContextState) (bits : List Bool)
+    (new : List ℕ)
+    (after : List ContextState) (rest : List Bool) (x next : ℕ)
+    → OnOk r (next ≡ x + 1) → OnOk r (IsSampleRead width entry level old states bits new after rest) → OnOk r (length new + x ≡ length old + next)
+one_more (Ok v) width entry level old states bits new after rest x next moved read =
+    omega (arith, moved, ap length read.pushed, length_push old read.sample)
+one_more (Err e) width entry level old states bits new after rest x next moved read = tt

@@ -5,47 +5,56 @@ use Rattle.ffv1_plane.specs.Progress.{IsRunRead, IsSampleRead}
 use Rattle.ffv1_plane.specs.Readers.{entry_of}
 use Rattle.ffv1_plane.proofs.Reading.{scalar_read_at, zero_here, run_end_read, run_level_read}
 use Rattle.ffv1_plane.proofs.Halting.{scalar_stops, word_halted, level_stops}
-use Rattle.ffv1_plane.proofs.Readers.{same_read}
+use Rattle.ffv1_plane.proofs.Readers.{same_read, one_more}
 use Rattle.ffv1_plane.proofs.plane.PlaneReader.read_next.Goals as goal
 
-pub returns-then-context-ne0-clause-read : goal.returns-then-context-ne0-clause-read
-returns-then-context-ne0-clause-read c =
+pub returns-then-context-ne0 : goal.returns-then-context-ne0
+returns-then-context-ne0 c =
     let some : 1 ≤ c.args.self.now.lines.width = omega (arith, c.requires.inside) in
     let same = c.read_code.ensures.same in
-    on_ok_weaker c.read_code.result
-    (λ read earlier whole so_far. same_read earlier c.args.self.now.lines.width c.read_code.new.self.lines.width c.args.self.now.tables.now
-    c.read_code.new.self.tables.now c.args.self.now.index c.read_code.new.self.index whole c.read_code.new.self.bits.left
-    c.read_code.new.self.lines.samples c.read_code.new.self.lines.samples c.read_code.new.self.states.items same.width same.tables c.read_code.ensures.index
-    refl
-    (scalar_read_at earlier c.args.self.now.lines.width (entry_of c.args.self.now) _ _ _ _ _ _ _ c.neighbours-near.result c.context-context.result some
-    c.neighbours-near.ensures c.context-context.ensures.value
-    (λ e. absurd (omega (arith, ints, e))) read whole so_far))
-    c.read_code.ensures.read
+    record {
+      same = same;
+      left = c.read_code.ensures.left;
+      read = on_ok_weaker c.read_code.result
+          (λ read earlier whole so_far. same_read earlier c.args.self.now.lines.width c.read_code.new.self.lines.width c.args.self.now.tables.now
+          c.read_code.new.self.tables.now c.args.self.now.index c.read_code.new.self.index whole c.read_code.new.self.bits.left
+          c.read_code.new.self.lines.samples c.read_code.new.self.lines.samples c.read_code.new.self.states.items same.width same.tables c.read_code.ensures.index
+          refl
+          (scalar_read_at earlier c.args.self.now.lines.width (entry_of c.args.self.now) _ _ _ _ _ _ _ c.neighbours-near.result c.context-context.result some
+          c.neighbours-near.ensures c.context-context.ensures.value
+          (λ e. absurd (omega (arith, ints, e))) read whole so_far))
+          c.read_code.ensures.read;
+      more = on_ok_weaker c.read_code.result (λ moved. omega (arith, moved)) c.read_code.ensures.moved;
+      count = one_more c.read_code.result _ _ _ _ _ _ _ _ _ c.args.self.now.lines.x c.read_code.new.self.lines.x c.read_code.ensures.moved c.read_code.ensures.read;
+      err = IfErr-weaker c.read_code.result _ _
+          (scalar_stops c.args.self.now.lines.width (entry_of c.args.self.now) some c.args.self.now.lines.samples c.args.self.now.index
+          c.args.self.now.states.items c.args.self.now.bits.left
+          c.neighbours-near.result c.context-context.result c.neighbours-near.ensures c.context-context.ensures.value (λ e. absurd (omega (arith, ints, e))))
+          c.read_code.ensures.err;
+    }
 
-pub returns-then-context-ne0-clause-err : goal.returns-then-context-ne0-clause-err
-returns-then-context-ne0-clause-err c =
-    let some : 1 ≤ c.args.self.now.lines.width = omega (arith, c.requires.inside) in
-    IfErr-weaker c.read_code.result _ _
-    (scalar_stops c.args.self.now.lines.width (entry_of c.args.self.now) some c.args.self.now.lines.samples c.args.self.now.index
-    c.args.self.now.states.items c.args.self.now.bits.left
-    c.neighbours-near.result c.context-context.result c.neighbours-near.ensures c.context-context.ensures.value (λ e. absurd (omega (arith, ints, e))))
-    c.read_code.ensures.err
-
-pub returns-in-Err-clause-err : goal.returns-in-Err-clause-err
-returns-in-Err-clause-err c =
+pub returns-in-Err : goal.returns-in-Err
+returns-in-Err c =
     let some : 1 ≤ c.args.self.now.lines.width = omega (arith, c.requires.inside) in
     let zero_is : c.context-context.result ≡ pos 0 = omega (arith, ints) in
     let place = c.column.ensures.place (omega (arith, c.requires.inside, c.column.ensures.value)) in
     let left_is : c.width.result - c.column.result ≡ c.args.self.now.lines.width - length c.args.self.now.lines.samples % c.args.self.now.lines.width =
     omega (arith, place, c.width.ensures.value) in
     let cut = rw left_is at c.in-Err.ensures.err in
-    word_halted c.args.self.now.lines.width (entry_of c.args.self.now) some c.args.self.now.lines.samples c.args.self.now.index c.args.self.now.states.items
-    c.args.self.now.bits.left
-    c.neighbours-near.result c.context-context.result c.neighbours-near.ensures c.context-context.ensures.value zero_is _ _ _ c.in-Err.ensures.truncated
-    (search rules) cut
+    record {
+      same = record { width = refl; tables = refl; states = refl };
+      left = tt;
+      read = tt;
+      more = tt;
+      count = tt;
+      err = word_halted c.args.self.now.lines.width (entry_of c.args.self.now) some c.args.self.now.lines.samples c.args.self.now.index c.args.self.now.states.items
+          c.args.self.now.bits.left
+          c.neighbours-near.result c.context-context.result c.neighbours-near.ensures c.context-context.ensures.value zero_is _ _ _ c.in-Err.ensures.truncated
+          (search rules) cut;
+    }
 
-pub returns-then-count-most-clause-read : goal.returns-then-count-most-clause-read
-returns-then-count-most-clause-read c =
+pub returns-then-count-most : goal.returns-then-count-most
+returns-then-count-most c =
     let some : 1 ≤ c.args.self.now.lines.width = omega (arith, c.requires.inside) in
     let zero_is : c.context-context.result ≡ pos 0 = omega (arith, ints) in
     let place = c.column.ensures.place (omega (arith, c.requires.inside, c.column.ensures.value)) in
@@ -58,44 +67,37 @@ returns-then-count-most-clause-read c =
     let less : c.in-Ok.count < c.args.self.now.lines.width - length c.args.self.now.lines.samples % c.args.self.now.lines.width =
     omega (arith, left_is, c.if-count-most.true) in
     let same = c.read_level.ensures.same in
-    on_ok_weaker c.read_level.result
-    (λ read earlier whole so_far. same_read earlier c.args.self.now.lines.width c.read_level.new.self.lines.width c.args.self.now.tables.now
-    c.read_level.new.self.tables.now c.read_run.new.index c.read_level.new.self.index whole c.read_level.new.self.bits.left
-    c.read_level.new.self.lines.samples c.read_level.new.self.lines.samples c.read_level.new.self.states.items
-    (same.width ∙ c.skip.ensures.width) same.tables c.read_level.ensures.index refl
-    (run_level_read earlier c.args.self.now.lines.width (entry_of c.args.self.now) some whole c.args.self.now.bits.left c.args.self.now.lines.samples
-    c.skip.new.self.samples c.args.self.now.index c.args.self.now.states.items so_far
-    (zero_here c.args.self.now.lines.width (entry_of c.args.self.now) c.args.self.now.lines.samples c.neighbours-near.result c.context-context.result some
-    c.neighbours-near.ensures c.context-context.ensures.value zero_is)
-    c.in-Ok.count c.read_run.new.index c.read_run.new.bits.left run (c.skip.ensures.skipped (entry_of c.args.self.now))
-    _ _ _ less
-    (subst (λ (w : ℕ). IsSampleRead w (entry_of c.args.self.now) true c.skip.new.self.samples c.args.self.now.states.items c.read_run.new.bits.left
-    c.read_level.new.self.lines.samples c.read_level.new.self.states.items c.read_level.new.self.bits.left) c.skip.ensures.width read)))
-    c.read_level.ensures.read
+    record {
+      same = record { width = same.width ∙ c.skip.ensures.width; tables = same.tables; states = same.states };
+      left = c.read_level.ensures.left;
+      read = on_ok_weaker c.read_level.result
+          (λ read earlier whole so_far. same_read earlier c.args.self.now.lines.width c.read_level.new.self.lines.width c.args.self.now.tables.now
+          c.read_level.new.self.tables.now c.read_run.new.index c.read_level.new.self.index whole c.read_level.new.self.bits.left
+          c.read_level.new.self.lines.samples c.read_level.new.self.lines.samples c.read_level.new.self.states.items
+          (same.width ∙ c.skip.ensures.width) same.tables c.read_level.ensures.index refl
+          (run_level_read earlier c.args.self.now.lines.width (entry_of c.args.self.now) some whole c.args.self.now.bits.left c.args.self.now.lines.samples
+          c.skip.new.self.samples c.args.self.now.index c.args.self.now.states.items so_far
+          (zero_here c.args.self.now.lines.width (entry_of c.args.self.now) c.args.self.now.lines.samples c.neighbours-near.result c.context-context.result some
+          c.neighbours-near.ensures c.context-context.ensures.value zero_is)
+          c.in-Ok.count c.read_run.new.index c.read_run.new.bits.left run (c.skip.ensures.skipped (entry_of c.args.self.now))
+          _ _ _ less
+          (subst (λ (w : ℕ). IsSampleRead w (entry_of c.args.self.now) true c.skip.new.self.samples c.args.self.now.states.items c.read_run.new.bits.left
+          c.read_level.new.self.lines.samples c.read_level.new.self.states.items c.read_level.new.self.bits.left) c.skip.ensures.width read)))
+          c.read_level.ensures.read;
+      more = on_ok_weaker c.read_level.result (λ moved. omega (arith, moved, c.skip.ensures.x)) c.read_level.ensures.moved;
+      count = on_ok_weaker c.read_level.result (λ more. omega (arith, more, c.skip.ensures.x, c.skip.ensures.count))
+          (one_more c.read_level.result _ _ _ _ _ _ _ _ _ c.skip.new.self.x c.read_level.new.self.lines.x c.read_level.ensures.moved c.read_level.ensures.read);
+      err = IfErr-weaker c.read_level.result _ _
+          (level_stops c.args.self.now.lines.width (entry_of c.args.self.now) some c.args.self.now.lines.samples c.args.self.now.index c.args.self.now.states.items
+          c.args.self.now.bits.left
+          c.neighbours-near.result c.context-context.result c.neighbours-near.ensures c.context-context.ensures.value zero_is c.skip.new.self.samples c.in-Ok.count
+          c.read_run.new.index c.read_run.new.bits.left run
+          (c.skip.ensures.skipped (entry_of c.args.self.now)) less c.skip.ensures.bytes)
+          (rw c.skip.ensures.width at c.read_level.ensures.err);
+    }
 
-pub returns-then-count-most-clause-err : goal.returns-then-count-most-clause-err
-returns-then-count-most-clause-err c =
-    let some : 1 ≤ c.args.self.now.lines.width = omega (arith, c.requires.inside) in
-    let zero_is : c.context-context.result ≡ pos 0 = omega (arith, ints) in
-    let place = c.column.ensures.place (omega (arith, c.requires.inside, c.column.ensures.value)) in
-    let left_is : c.width.result - c.column.result ≡ c.args.self.now.lines.width - length c.args.self.now.lines.samples % c.args.self.now.lines.width =
-    omega (arith, place, c.width.ensures.value) in
-    let run : IsRunRead (c.args.self.now.lines.width - length c.args.self.now.lines.samples % c.args.self.now.lines.width) c.args.self.now.index
-    c.args.self.now.bits.left c.in-Ok.count c.read_run.new.index c.read_run.new.bits.left =
-    subst (λ (n : ℕ). IsRunRead n c.args.self.now.index c.args.self.now.bits.left c.in-Ok.count c.read_run.new.index c.read_run.new.bits.left) left_is
-    c.in-Ok.ensures.ok in
-    let less : c.in-Ok.count < c.args.self.now.lines.width - length c.args.self.now.lines.samples % c.args.self.now.lines.width =
-    omega (arith, left_is, c.if-count-most.true) in
-    IfErr-weaker c.read_level.result _ _
-    (level_stops c.args.self.now.lines.width (entry_of c.args.self.now) some c.args.self.now.lines.samples c.args.self.now.index c.args.self.now.states.items
-    c.args.self.now.bits.left
-    c.neighbours-near.result c.context-context.result c.neighbours-near.ensures c.context-context.ensures.value zero_is c.skip.new.self.samples c.in-Ok.count
-    c.read_run.new.index c.read_run.new.bits.left run
-    (c.skip.ensures.skipped (entry_of c.args.self.now)) less c.skip.ensures.bytes)
-    (rw c.skip.ensures.width at c.read_level.ensures.err)
-
-pub returns-else-count-most-clause-read : goal.returns-else-count-most-clause-read
-returns-else-count-most-clause-read c =
+pub returns-else-count-most : goal.returns-else-count-most
+returns-else-count-most c =
     let some : 1 ≤ c.args.self.now.lines.width = omega (arith, c.requires.inside) in
     let zero_is : c.context-context.result ≡ pos 0 = omega (arith, ints) in
     let place = c.column.ensures.place (omega (arith, c.requires.inside, c.column.ensures.value)) in
@@ -107,11 +109,18 @@ returns-else-count-most-clause-read c =
     c.in-Ok.ensures.ok in
     let whole_row : c.args.self.now.lines.width - length c.args.self.now.lines.samples % c.args.self.now.lines.width ≡ c.in-Ok.count =
     (let enough = c.if-count-most.false in omega (arith, left_is, enough, run.fits)) in
-    λ earlier whole so_far. same_read earlier c.args.self.now.lines.width c.skip.new.self.width c.args.self.now.tables.now c.args.self.now.tables.now
-    c.read_run.new.index c.read_run.new.index whole c.read_run.new.bits.left
-    c.skip.new.self.samples c.skip.new.self.samples c.args.self.now.states.items c.skip.ensures.width refl refl refl
-    (run_end_read earlier c.args.self.now.lines.width (entry_of c.args.self.now) some whole c.args.self.now.bits.left c.args.self.now.lines.samples
-    c.skip.new.self.samples c.args.self.now.index c.args.self.now.states.items so_far
-    (zero_here c.args.self.now.lines.width (entry_of c.args.self.now) c.args.self.now.lines.samples c.neighbours-near.result c.context-context.result some
-    c.neighbours-near.ensures c.context-context.ensures.value zero_is)
-    c.in-Ok.count c.read_run.new.index c.read_run.new.bits.left run (c.skip.ensures.skipped (entry_of c.args.self.now)) whole_row)
+    record {
+      same = record { width = c.skip.ensures.width; tables = refl; states = refl };
+      left = λ inside. absurd (omega (arith, inside, c.skip.ensures.x, c.skip.ensures.width, c.width.ensures.value, c.column.ensures.value));
+      read = λ earlier whole so_far. same_read earlier c.args.self.now.lines.width c.skip.new.self.width c.args.self.now.tables.now c.args.self.now.tables.now
+          c.read_run.new.index c.read_run.new.index whole c.read_run.new.bits.left
+          c.skip.new.self.samples c.skip.new.self.samples c.args.self.now.states.items c.skip.ensures.width refl refl refl
+          (run_end_read earlier c.args.self.now.lines.width (entry_of c.args.self.now) some whole c.args.self.now.bits.left c.args.self.now.lines.samples
+          c.skip.new.self.samples c.args.self.now.index c.args.self.now.states.items so_far
+          (zero_here c.args.self.now.lines.width (entry_of c.args.self.now) c.args.self.now.lines.samples c.neighbours-near.result c.context-context.result some
+          c.neighbours-near.ensures c.context-context.ensures.value zero_is)
+          c.in-Ok.count c.read_run.new.index c.read_run.new.bits.left run (c.skip.ensures.skipped (entry_of c.args.self.now)) whole_row);
+      more = omega (arith, c.requires.inside, c.skip.ensures.x, c.width.ensures.value, c.column.ensures.value);
+      count = omega (arith, c.skip.ensures.x, c.skip.ensures.count);
+      err = tt;
+    }
