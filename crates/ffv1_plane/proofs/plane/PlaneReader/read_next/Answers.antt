@@ -18,14 +18,16 @@ returns-then-context-ne0 c =
       read = on_ok_weaker c.read_code.result
           (λ read earlier whole so_far. same_read earlier c.args.self.now.lines.width c.read_code.new.self.lines.width c.args.self.now.tables.now
           c.read_code.new.self.tables.now c.args.self.now.index c.read_code.new.self.index whole c.read_code.new.self.bits.left
-          c.read_code.new.self.lines.samples c.read_code.new.self.lines.samples c.read_code.new.self.states.items same.width same.tables c.read_code.ensures.index
+          c.read_code.new.self.lines.samples c.read_code.new.self.lines.samples c.read_code.new.self.states.items same.width same.tables
+          c.read_code.ensures.index
           refl
           (scalar_read_at earlier c.args.self.now.lines.width (entry_of c.args.self.now) _ _ _ _ _ _ _ c.neighbours-near.result c.context-context.result some
           c.neighbours-near.ensures c.context-context.ensures.value
           (λ e. absurd (omega (arith, ints, e))) read whole so_far))
           c.read_code.ensures.read;
       more = on_ok_weaker c.read_code.result (λ moved. omega (arith, moved)) c.read_code.ensures.moved;
-      count = one_more c.read_code.result _ _ _ _ _ _ _ _ _ c.args.self.now.lines.x c.read_code.new.self.lines.x c.read_code.ensures.moved c.read_code.ensures.read;
+      count = one_more c.read_code.result _ _ _ _ _ _ _ _ _ c.args.self.now.lines.x c.read_code.new.self.lines.x c.read_code.ensures.moved
+          c.read_code.ensures.read;
       err = IfErr-weaker c.read_code.result _ _
           (scalar_stops c.args.self.now.lines.width (entry_of c.args.self.now) some c.args.self.now.lines.samples c.args.self.now.index
           c.args.self.now.states.items c.args.self.now.bits.left
@@ -47,7 +49,8 @@ returns-in-Err c =
       read = tt;
       more = tt;
       count = tt;
-      err = word_halted c.args.self.now.lines.width (entry_of c.args.self.now) some c.args.self.now.lines.samples c.args.self.now.index c.args.self.now.states.items
+      err = word_halted c.args.self.now.lines.width (entry_of c.args.self.now) some c.args.self.now.lines.samples c.args.self.now.index
+          c.args.self.now.states.items
           c.args.self.now.bits.left
           c.neighbours-near.result c.context-context.result c.neighbours-near.ensures c.context-context.ensures.value zero_is _ _ _ c.in-Err.ensures.truncated
           (search rules) cut;
@@ -88,9 +91,11 @@ returns-then-count-most c =
       count = on_ok_weaker c.read_level.result (λ more. omega (arith, more, c.skip.ensures.x, c.skip.ensures.count))
           (one_more c.read_level.result _ _ _ _ _ _ _ _ _ c.skip.new.self.x c.read_level.new.self.lines.x c.read_level.ensures.moved c.read_level.ensures.read);
       err = IfErr-weaker c.read_level.result _ _
-          (level_stops c.args.self.now.lines.width (entry_of c.args.self.now) some c.args.self.now.lines.samples c.args.self.now.index c.args.self.now.states.items
+          (level_stops c.args.self.now.lines.width (entry_of c.args.self.now) some c.args.self.now.lines.samples c.args.self.now.index
+          c.args.self.now.states.items
           c.args.self.now.bits.left
-          c.neighbours-near.result c.context-context.result c.neighbours-near.ensures c.context-context.ensures.value zero_is c.skip.new.self.samples c.in-Ok.count
+          c.neighbours-near.result c.context-context.result c.neighbours-near.ensures c.context-context.ensures.value zero_is c.skip.new.self.samples
+          c.in-Ok.count
           c.read_run.new.index c.read_run.new.bits.left run
           (c.skip.ensures.skipped (entry_of c.args.self.now)) less c.skip.ensures.bytes)
           (rw c.skip.ensures.width at c.read_level.ensures.err);

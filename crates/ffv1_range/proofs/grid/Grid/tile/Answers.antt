@@ -93,13 +93,24 @@ overflow_add-row c = omega (
 
 pub overflow_sub-result : goal.overflow_sub-result
 overflow_sub-result c =
-    let fits : c.across-across.result ≤ c.self.inside.width = omega (arith, c.across-across.ensures.value, ap (λ (g : GridValue). g.across) c.self.view_is, c.self.invariant.not_finer_across) in
-    let rise = parts_rise c.self.inside.width c.across-across.result (c.args.index % c.across-across.result) (omega (arith, c.across-across.ensures.value, c.across-across.ensures.grid.some_across)) fits in
+    let fits : c.across-across.result ≤ c.self.inside.width = omega (
+      arith,
+      c.across-across.ensures.value,
+      ap (λ (g : GridValue). g.across)
+          c.self.view_is,
+      c.self.invariant.not_finer_across,
+    ) in
+    let rise = parts_rise c.self.inside.width c.across-across.result (c.args.index % c.across-across.result) (omega (
+      arith,
+      c.across-across.ensures.value,
+      c.across-across.ensures.grid.some_across,
+    )) fits in
     omega (arith, rise, c.part_start-x.ensures, c.part_start.ensures)
 
 pub overflow_sub-result-2 : goal.overflow_sub-result-2
 overflow_sub-result-2 c =
-    let rise = parts_rise c.self.inside.height c.self.inside.down (c.args.index / c.across-across.result) c.self.invariant.some_down c.self.invariant.not_finer_down in
+    let rise = parts_rise c.self.inside.height c.self.inside.down (c.args.index / c.across-across.result) c.self.invariant.some_down
+    c.self.invariant.not_finer_down in
     omega (arith, rise, c.part_start-y.ensures, c.part_start-2.ensures)
 
 pub returns : goal.returns
