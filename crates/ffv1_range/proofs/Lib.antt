@@ -8,7 +8,6 @@ pub mod TableMeanings
 pub mod TileLaws
 pub mod HeaderSteps
 pub mod HeaderFound
-pub mod PlaneSteps
 pub mod DeltaSteps
 pub mod SetupSteps
 pub mod FieldRuns

@@ -1,8 +1,7 @@
 -- A length cut into parts: where each part begins, that each place lies in one part, and so in one tile.
 use Rattle.std.proofs.Common.{◌≡◌, ℕ, ◌+◌, ◌-◌, ◌*◌, ◌/◌, ◌%◌, ◌<◌, ◌≤◌, sym, ap, subst, arith}
 use Rattle.std.proofs.Math.Nat.{div-lt_iff_lt-mul, le-div_iff_mul-le, div-mul-le_self, lt-div-mul-add, mul-le-mul_right, lt_of_mul-lt-mul_left, div-eq_of_lt-le, mod-add-div', mod-lt}
-use Rattle.ffv1_bits.specs.Limits.{most_tiles}
-use Rattle.ffv1_range.specs.Tiles.{GridValue, IsGrid, tile_count, part_start, tile_rect, IsInside, EachPlaceInOneTile, EachTileInFrame}
+use Rattle.ffv1_range.specs.Tiles.{GridValue, IsGrid, part_start, tile_rect, IsInside, EachPlaceInOneTile, EachTileInFrame}
 
 -- ---- one direction: part i begins at x or before exactly where i * len < (x + 1) * n
 
@@ -78,20 +77,6 @@ row_of across i j h = div-eq_of_lt-le {k = j} across {m = j * across + i} (omega
 -- a tile's row is one of the grid's
 pub row_below : (across down t : ℕ) → 0 < across → t < across * down → t / across < down
 row_below across down t some h = (div-lt_iff_lt-mul {k = across} {x = t} {y = down} some).1 (omega arith)
-
--- the same of a grid, and how many tiles stand in a row and in a column
-pub tile_row : (g : GridValue) (across t : ℕ) → IsGrid g → across ≡ g.across → t < tile_count g → t / across < g.down
-tile_row g across t is_grid is below = rw is (row_below g.across g.down t is_grid.some_across below)
-
-pub few_in_row : (g : GridValue) → IsGrid g → g.across ≤ most_tiles
-few_in_row g is_grid =
-    let most : 1 * g.across ≤ g.down * g.across = mul-le-mul_right {m = 1} {n = g.down} g.across is_grid.some_down in
-    omega (arith, is_grid.few_tiles)
-
-pub few_in_column : (g : GridValue) → IsGrid g → g.down ≤ most_tiles
-few_in_column g is_grid =
-    let most : 1 * g.down ≤ g.across * g.down = mul-le-mul_right {m = 1} {n = g.across} g.down is_grid.some_across in
-    omega (arith, is_grid.few_tiles)
 
 pub number_below : (across down i j : ℕ) → i < across → j < down → j * across + i < across * down
 number_below across down i j h k =
