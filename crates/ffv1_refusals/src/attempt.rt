@@ -13,7 +13,7 @@ pub enum Outcome {
 }
 
 /// A call, with what it is made on.
-pub trait Attempt {
+pub trait Attempt: Drop {
     /// Makes the call.
     fn attempt(&mut self, alloc: Global) -> Outcome;
 

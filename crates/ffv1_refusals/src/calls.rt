@@ -152,7 +152,7 @@ impl<'a> JoinWith<'a> {
         let Take { held, before } = Take::new(alloc)?;
         Ok(JoinWith {
             held,
-            other: &stock.second,
+            other: &stock.second.holding,
             before,
         })
     }
@@ -239,9 +239,9 @@ impl<'a> JoinStreams<'a> {
     /// The files, of which nothing was written.
     pub fn new(stock: &'a Stock) -> JoinStreams<'a> {
         JoinStreams {
-            first: stock.first_file.bytes(),
-            second: stock.second_file.bytes(),
-            both: stock.both_file.bytes(),
+            first: stock.first.file.bytes(),
+            second: stock.second.file.bytes(),
+            both: stock.both.file.bytes(),
             written: Buffer::new(),
         }
     }

@@ -80,8 +80,8 @@ impl<'a> Run<'a> {
     pub fn new(command: Command, stock: &'a Stock) -> Run<'a> {
         Run {
             command,
-            first_file: stock.first_file.bytes(),
-            both_file: stock.both_file.bytes(),
+            first_file: stock.first.file.bytes(),
+            both_file: stock.both.file.bytes(),
             outputs: Outputs::new(),
         }
     }

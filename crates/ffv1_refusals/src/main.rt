@@ -23,7 +23,7 @@ use std::process::ExitCode;
 use stock::Stock;
 
 /// Makes a call, and again where memory is refused, and prints what it answered.
-fn tell<C: Attempt>(rt: &HostRuntime, name: &str, call: &mut C) -> io::Result<()> {
+fn tell<C: Attempt>(rt: &HostRuntime, name: &str, mut call: C) -> io::Result<()> {
     let mut outcome = call.attempt(rt.alloc());
     if outcome == Outcome::Memory {
         println!(rt; "{name} memory")?;
@@ -39,60 +39,61 @@ fn tell<C: Attempt>(rt: &HostRuntime, name: &str, call: &mut C) -> io::Result<()
     }
 }
 
-/// The calls on records, slices and holdings.
-fn tell_calls(rt: &HostRuntime, stock: &Stock) -> io::Result<()> {
-    tell(rt, "Setup::read", &mut ReadSetup)?;
-    tell(rt, "Holding::new", &mut MakeHolding)?;
-    tell(rt, "take", &mut Take::new(rt.alloc())?)?;
-    tell(rt, "take_all", &mut TakeAll::new(rt.alloc())?)?;
-    tell(rt, "join_with", &mut JoinWith::new(rt.alloc(), stock)?)?;
-    tell(rt, "restore", &mut Restore { held: &stock.both })?;
-    tell(rt, "write_hold", &mut WriteHold { held: &stock.both })?;
-    tell(
-        rt,
-        "read_hold",
-        &mut ReadHold {
-            file: stock.both_file.bytes(),
-        },
-    )?;
-    tell(rt, "join_streams", &mut JoinStreams::new(stock))?;
-    tell(
-        rt,
-        "decode_tile",
-        &mut DecodeTile {
-            setup: stock.both.setup(),
-        },
-    )?;
-    tell(rt, "Decoder::new", &mut MakeDecoder)?;
-    tell(
-        rt,
-        "decode_frame",
-        &mut DecodeFrame {
-            decoder: &stock.decoder,
-        },
-    )?;
-    tell(rt, "picture", &mut Picture { held: &stock.first })?;
-    tell(rt, "report", &mut Report { held: &stock.both })
+/// The calls that read a record or take slices.
+fn tell_holdings(rt: &HostRuntime, stock: &Stock) -> io::Result<()> {
+    tell(rt, "Setup::read", ReadSetup)?;
+    tell(rt, "Holding::new", MakeHolding)?;
+    tell(rt, "take", Take::new(rt.alloc())?)?;
+    tell(rt, "take_all", TakeAll::new(rt.alloc())?)?;
+    tell(rt, "join_with", JoinWith::new(rt.alloc(), stock)?)
+}
+
+/// The calls that restore a payload, or read and write a holding file.
+fn tell_files(rt: &HostRuntime, stock: &Stock) -> io::Result<()> {
+    let (held, file) = (&stock.both.holding, stock.both.file.bytes());
+    tell(rt, "restore", Restore { held })?;
+    tell(rt, "write_hold", WriteHold { held })?;
+    tell(rt, "read_hold", ReadHold { file })?;
+    tell(rt, "join_streams", JoinStreams::new(stock))
+}
+
+/// The calls that decode, and those that show a holding.
+fn tell_pictures(rt: &HostRuntime, stock: &Stock) -> io::Result<()> {
+    let (held, decoder) = (&stock.both.holding, &stock.decoder);
+    let setup = held.setup();
+    tell(rt, "decode_tile", DecodeTile { setup })?;
+    tell(rt, "Decoder::new", MakeDecoder)?;
+    tell(rt, "decode_frame", DecodeFrame { decoder })?;
+    let first = &stock.first.holding;
+    tell(rt, "picture", Picture { held: first })?;
+    tell(rt, "report", Report { held })
 }
 
 /// The functions of the commands.
 fn tell_commands(rt: &HostRuntime, stock: &Stock) -> io::Result<()> {
-    tell(rt, "run_chain", &mut Run::new(Command::Chain, stock))?;
-    tell(rt, "run_show", &mut Run::new(Command::Show, stock))?;
-    tell(rt, "run_take", &mut Run::new(Command::Take, stock))?;
-    tell(rt, "run_join", &mut Run::new(Command::Join, stock))?;
-    tell(rt, "run_merge", &mut Run::new(Command::Merge, stock))?;
-    tell(rt, "run_report", &mut Run::new(Command::Report, stock))?;
-    tell(rt, "run_restore", &mut Run::new(Command::Restore, stock))?;
-    tell(rt, "run_picture", &mut Run::new(Command::Picture, stock))?;
-    tell(rt, "run_decode", &mut Run::new(Command::Decode, stock))
+    tell(rt, "run_chain", Run::new(Command::Chain, stock))?;
+    tell(rt, "run_show", Run::new(Command::Show, stock))?;
+    tell(rt, "run_take", Run::new(Command::Take, stock))?;
+    tell(rt, "run_join", Run::new(Command::Join, stock))?;
+    tell(rt, "run_merge", Run::new(Command::Merge, stock))?;
+    tell(rt, "run_report", Run::new(Command::Report, stock))?;
+    tell(rt, "run_restore", Run::new(Command::Restore, stock))?;
+    tell(rt, "run_picture", Run::new(Command::Picture, stock))?;
+    tell(rt, "run_decode", Run::new(Command::Decode, stock))
+}
+
+/// All calls, on what is there.
+fn tell_calls(rt: &HostRuntime, stock: &Stock) -> io::Result<()> {
+    tell_holdings(rt, stock)?;
+    tell_files(rt, stock)?;
+    tell_pictures(rt, stock)?;
+    tell_commands(rt, stock)
 }
 
 /// All of it.
 fn tell_all(rt: &HostRuntime) -> io::Result<()> {
     let stock = Stock::new(rt.alloc())?;
-    tell_calls(rt, &stock)?;
-    tell_commands(rt, &stock)
+    tell_calls(rt, &stock)
 }
 
 fn main(rt: HostRuntime) -> ExitCode {

@@ -70,6 +70,14 @@ pub fn holding_of(alloc: Global, copies: &[&[u8]]) -> io::Result<Holding> {
     }
 }
 
+/// A decoder of the recording.
+fn decoder(alloc: Global) -> io::Result<Decoder> {
+    match Decoder::new(alloc, &RECORD, SIZE.0, SIZE.1) {
+        Ok(decoder) => Ok(decoder),
+        Err(_) => Err(io::Error::from(ErrorKind::OutOfMemory)),
+    }
+}
+
 /// The file of a holding; no bytes where it could not be written.
 pub fn file_of(holding: &Holding) -> Buffer {
     let mut sink = FromWrite::new(Buffer::new());
@@ -79,21 +87,33 @@ pub fn file_of(holding: &Holding) -> Buffer {
     }
 }
 
-/// Holdings of the first copy, of the second and of both, with their files, and a decoder.
+/// A holding, and its file.
+#[derive(Drop)]
+pub struct Held {
+    /// The holding.
+    pub holding: Holding,
+    /// Its file.
+    pub file: Buffer,
+}
+
+impl Held {
+    /// The holding of copies. It fails where memory is refused.
+    fn new(alloc: Global, copies: &[&[u8]]) -> io::Result<Held> {
+        let holding = holding_of(alloc, copies)?;
+        let file = file_of(&holding);
+        Ok(Held { holding, file })
+    }
+}
+
+/// Holdings of the first copy, of the second and of both, and a decoder.
 #[derive(Drop)]
 pub struct Stock {
     /// The holding of the first copy.
-    pub first: Holding,
+    pub first: Held,
     /// The holding of the second.
-    pub second: Holding,
+    pub second: Held,
     /// The holding of both.
-    pub both: Holding,
-    /// The file of the first.
-    pub first_file: Buffer,
-    /// The file of the second.
-    pub second_file: Buffer,
-    /// The file of both.
-    pub both_file: Buffer,
+    pub both: Held,
     /// A decoder of the recording.
     pub decoder: Decoder,
 }
@@ -101,20 +121,11 @@ pub struct Stock {
 impl Stock {
     /// All of it. It fails where memory is refused.
     pub fn new(alloc: Global) -> io::Result<Stock> {
-        let first = holding_of(alloc, &[&first_copy()])?;
-        let second = holding_of(alloc, &[&second_copy()])?;
-        let both = holding_of(alloc, &[&first_copy(), &second_copy()])?;
-        let Ok(decoder) = Decoder::new(alloc, &RECORD, SIZE.0, SIZE.1) else {
-            return Err(io::Error::from(ErrorKind::OutOfMemory));
-        };
         Ok(Stock {
-            first_file: file_of(&first),
-            second_file: file_of(&second),
-            both_file: file_of(&both),
-            first,
-            second,
-            both,
-            decoder,
+            first: Held::new(alloc, &[&first_copy()])?,
+            second: Held::new(alloc, &[&second_copy()])?,
+            both: Held::new(alloc, &[&first_copy(), &second_copy()])?,
+            decoder: decoder(alloc)?,
         })
     }
 }
