@@ -27,6 +27,7 @@ module _ (input ob oa pb pa : Option (List ℕ)) (h : Contents) (partial : Parti
     is_whole = is_whole;
   }
 
-  pub picture_stopped : (r : Result (Unit {0}) CliFault) → IfErr r (WriteStops (raw_bytes partial.frame) lines ob oa pb pa) → IfErr r (PictureStops input ob oa pb pa)
+  pub picture_stopped : (r : Result (Unit {0}) CliFault) → IfErr r (WriteStops (raw_bytes partial.frame) lines ob oa pb pa)
+      → IfErr r (PictureStops input ob oa pb pa)
   picture_stopped = writing (raw_bytes partial.frame) lines ob oa pb pa (PictureStops input ob oa pb pa) (λ named stops.
       (h, partial, file, is, subst (λ (l : List ℕ). WriteStops (raw_bytes partial.frame) l ob oa pb pa (faults.Write named)) text stops))

@@ -110,7 +110,8 @@ fn print_link<W: Sink>(
     output: &mut W,
 ) -> Result<(), WriteFailed>
     requires { room ≤ string_capacity text.old }
-    ensures ok { OnOk result (PrintsFront (W.contents output.old) (W.contents output.new) (string_bytes text.new) (string_bytes text.old ++ link_line link.now)) }
+    ensures ok { OnOk result (PrintsFront (W.contents output.old) (W.contents output.new) (string_bytes text.new)
+        (string_bytes text.old ++ link_line link.now)) }
     ensures err { OnErr result (WritesFront (W.contents output.old) (W.contents output.new) (string_bytes text.old)) }
     ensures large { room ≤ string_capacity text.new }
     ensures gave_up { OnErr result (HasGivenUp (W.failures output.old) (W.failures output.new) (W.broken output.old) (W.broken output.new)) }

@@ -85,7 +85,8 @@ module _ (h : Contents) (e : Entry) (ds : List (List ℕ)) where
       (λ d. has-with_entry e d ∙ ap (λ b. has (digests_of h e) d || (b && has ds d)) (entry_self e) ∙ ap (λ b. b || has ds d) (none d))
     where
       none : (d : List ℕ) → has (digests_of h e) d ≡ false
-      none d = has-digests_in h.origins e d ∙ false_from_ne_true (set.contains h.origins (e, d)) (λ there. true≢false (sym (is.origins_held (e, d) there) ∙ new))
+      none d = has-digests_in h.origins e d ∙ false_from_ne_true (set.contains h.origins (e, d))
+          (λ there. true≢false (sym (is.origins_held (e, d) there) ∙ new))
 
   module _ (follows : Follows (last_of (file_entries h)) e) where
     below : (i : ℕ) (d : Entry) → i < length (set.items h.slices) → entry_cmp (get_or (set.items h.slices) i d) e ≡ Less
@@ -205,7 +206,8 @@ same_contents g h g_is h_is reel entries = λ i. record { reel = reel i; slices 
         (entries ∙ ap (map (told (digests_of h))) (sym items)) q (sym (set.contains-items g.slices q) ∙ there)) ∙ has-digests_in h.origins q d
     held false q d none =
         false_from_ne_true (set.contains g.origins (q, d)) (λ is. true≢false (sym (g_is.origins_held (q, d) is) ∙ none))
-        ∙ sym (false_from_ne_true (set.contains h.origins (q, d)) (λ is. true≢false (sym (h_is.origins_held (q, d) is) ∙ ap (λ s. set.contains s q) (sym slices) ∙ none)))
+        ∙ sym (false_from_ne_true (set.contains h.origins (q, d))
+        (λ is. true≢false (sym (h_is.origins_held (q, d) is) ∙ ap (λ s. set.contains s q) (sym slices) ∙ none)))
 
     origins : g.origins ≡ h.origins
     origins = set.same_set origins_total origins_antisymmetric g.origins h.origins (λ o. held (set.contains g.slices o.0) o.0 o.1 refl)

@@ -35,7 +35,8 @@ module _ (held : List Entry) (bytes : List ℕ) (es : List PoolEntry) where
     pub entry_held : (at : ℕ) → IsPlaceOf held (entry_in bytes (get_or es place d)) at → IsSifted held bytes es (place + 1) fresh
     entry_held at found = record {
       each = is.each;
-      sifted = sifted_held entries_total entries_antisymmetric (λ f. f.place) (fresh_in bytes) held (map (entry_in bytes) es) place (entry_in bytes d) fresh there
+      sifted = sifted_held entries_total entries_antisymmetric (λ f. f.place) (fresh_in bytes) held
+          (map (entry_in bytes) es) place (entry_in bytes d) fresh there
           is.sifted at (subst (λ v. IsPlaceOf held v at) (sym entry_at) found);
     }
 

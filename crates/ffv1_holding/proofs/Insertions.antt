@@ -108,7 +108,8 @@ module _ {F K : Type 0} {R : K → K → Ordering} (o : IsTotalOrder R) (place :
         let others = λ (i : ℕ) (d : F) (lt : i < length fs). gaps (suc i) d (omega arith) in
         let within = λ (i : ℕ) (d : F) (lt : i < length fs). (others i d lt).in_range in
         let from = λ (i : ℕ) (d : F) (lt : i < length fs).
-        gaps_in_order ks (key f) (key (get_or fs i d)) (place f) (place (get_or fs i d)) (first_below f fs rise i d lt) (gaps 0 f (omega arith)) (others i d lt) in
+        gaps_in_order ks (key f) (key (get_or fs i d)) (place f) (place (get_or fs i d)) (first_below f fs rise i d lt)
+        (gaps 0 f (omega arith)) (others i d lt) in
         let long = length-with_inserted place key fs ks within in
         let gap = gaps 0 f (omega arith) in
         rising_insert o (with_inserted place key fs ks) (key f) (place f)

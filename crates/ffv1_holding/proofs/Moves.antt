@@ -37,7 +37,8 @@ moved_kept from bytes more old new is = record {
 
 module _ (from bytes : List ℕ) (old fresh : List (Fresh PoolEntry)) (index start : ℕ) (f : Fresh PoolEntry) (lt : index < length fresh)
     (long : length fresh ≡ length old)
-    (here : get_or fresh index f ≡ f) (begin : start ≡ length bytes) (lies : (i : ℕ) (d : Fresh PoolEntry) → i < length old → IsEntryIn from (get_or old i d).item)
+    (here : get_or fresh index f ≡ f) (begin : start ≡ length bytes)
+    (lies : (i : ℕ) (d : Fresh PoolEntry) → i < length old → IsEntryIn from (get_or old i d).item)
     (done : (i : ℕ) (d : Fresh PoolEntry) → i < index → IsMoved from bytes (get_or old i d) (get_or fresh i d))
     (left : (i : ℕ) (d : Fresh PoolEntry) → index ≤ i → get_or fresh i d ≡ get_or old i d) where
   f_is : (d : Fresh PoolEntry) → get_or old index d ≡ f

@@ -21,7 +21,8 @@ OnOk-map (Err e) P Q is leads = is
 
 -- with just one slice
 pub union_one : (s : set.SetOf entry_cmp) (e : Entry) → set.union s (set.from_list (e ∷ [])) ≡ set.insert s e
-union_one s e = union-insert entries_total entries_antisymmetric s set.empty e ∙ ap (λ t. set.insert t e) (set.union_empty entries_total entries_antisymmetric s)
+union_one s e = union-insert entries_total entries_antisymmetric s set.empty e
+    ∙ ap (λ t. set.insert t e) (set.union_empty entries_total entries_antisymmetric s)
 
 module _ (tile : ℕ) (slice : List ℕ) (framed : IsFramed slice) where
   -- the entry of a slice in its own bytes

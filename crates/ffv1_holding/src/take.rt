@@ -137,7 +137,8 @@ fn list_found(setup: &Setup, payload: &[u8], found: &mut Vec<PoolEntry>) -> Resu
 fn put_in_order(bytes: &[u8], entries: &mut Vec<PoolEntry>) -> Result<(), AllocError>
     requires { AreEntriesIn bytes.now entries.old.items }
     ensures ok { OnOk result (IsPool bytes.now entries.new.items) }
-    ensures same { OnOk result (set.from_list {R = entry_cmp} (map (entry_in bytes.now) entries.new.items) ≡ set.from_list (map (entry_in bytes.now) entries.old.items)) }
+    ensures same { OnOk result (set.from_list {R = entry_cmp} (map (entry_in bytes.now) entries.new.items)
+        ≡ set.from_list (map (entry_in bytes.now) entries.old.items)) }
 {
     entries.sort_by(|one, other| one.compare(bytes, other.tile, other.slice(bytes)))?;
     entries.dedup_by(|next, last| { next.compare(bytes, last.tile, last.slice(bytes)).is_eq() });

@@ -41,7 +41,8 @@ fn push_reel(text: &mut String, holding: &Holding) -> Result<(), AllocError>
 
 /// Adds the lines of the tiles.
 fn push_tiles(text: &mut String, holding: &Holding) -> Result<(), AllocError>
-    ensures { OnOk result (string_bytes text.new ≡ string_bytes text.old ++ flat_map (tile_lines holding.now) (range_with_len 0 (reel_tiles holding.now.reel))) }
+    ensures { OnOk result (string_bytes text.new
+        ≡ string_bytes text.old ++ flat_map (tile_lines holding.now) (range_with_len 0 (reel_tiles holding.now.reel))) }
 {
     for tile in 0..holding.setup().grid().tiles() {
         push_tile_lines(text, holding, tile)?;

@@ -74,7 +74,8 @@ module _ (setup : SetupValue) (head : SliceHead) (profile : IsInProfile setup) (
       refused_excludes earlier w (context_at (plane_of w entry xs)) (context_at (plane_of w entry ys)) (difference_at (plane_of w entry xs))
       (difference_at (plane_of w entry ys)) (some_columns setup head profile inside n)
       (difference_range (plane_of w entry xs)) (difference_range (plane_of w entry ys))
-      (λ k alike. contexts_same w entry (some_columns setup head profile inside n) xs ys small tiny k (samples_same w entry (some_columns setup head profile inside n) xs ys small tiny k alike))
+      (λ k alike. contexts_same w entry (some_columns setup head profile inside n) xs ys small tiny k
+      (samples_same w entry (some_columns setup head profile inside n) xs ys small tiny k alike))
       s (length ys) spells.0 part rest front tail fault low refused spells.1 same
 
   plane_one : (n : ℕ) (planes others : List (List ℕ)) (earlier : ℕ → List ℤ) (s t : ℕ) (part rest more tail : List Bool) (fault other : CodeFault)
@@ -92,7 +93,8 @@ module _ (setup : SetupValue) (head : SliceHead) (profile : IsInProfile setup) (
       refused_one earlier w (context_at (plane_of w entry xs)) (context_at (plane_of w entry ys)) (difference_at (plane_of w entry xs))
       (difference_at (plane_of w entry ys)) (some_columns setup head profile inside n)
       (difference_range (plane_of w entry xs)) (difference_range (plane_of w entry ys))
-      (λ k alike. contexts_same w entry (some_columns setup head profile inside n) xs ys small tiny k (samples_same w entry (some_columns setup head profile inside n) xs ys small tiny k alike))
+      (λ k alike. contexts_same w entry (some_columns setup head profile inside n) xs ys small tiny k
+      (samples_same w entry (some_columns setup head profile inside n) xs ys small tiny k alike))
       s t part rest more tail fault other refused refused_too same
 
   behind_whole : (bits front whole part others : List Bool) → bits ≡ front ++ others → front ≡ whole ++ part → bits ≡ whole ++ (part ++ others)

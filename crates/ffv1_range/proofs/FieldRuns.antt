@@ -243,7 +243,8 @@ record PlanesFront (closed : Bool) (p : Place) (y : PlanesValue × Place) : Type
   rest : plane_rest_6 coder space depth chroma closed place ≡ Ok y
 
 planes-front : (closed : Bool) (p : Place) (y : PlanesValue × Place) → planes closed p ≡ Ok y → PlanesFront closed p y
-unfolding plane_rest_0 plane_rest_1 plane_rest_2 plane_rest_3 plane_rest_4 plane_rest_5 plane_rest_6 plane_rest_7 plane_rest_8 plane_rest_9 plane_rest_10 plane_rest_11 plane_rest_12
+unfolding plane_rest_0 plane_rest_1 plane_rest_2 plane_rest_3 plane_rest_4 plane_rest_5 plane_rest_6 plane_rest_7
+    plane_rest_8 plane_rest_9 plane_rest_10 plane_rest_11 plane_rest_12
 planes-front closed p y h =
     let s0 = number_step closed p plane_rest_0 y h in
     let s1 = accepted_step closed s0.place (s0.value == 0) Coder (plane_rest_1 s0.value) y s0.rest in
@@ -289,7 +290,8 @@ planes-back closed coder space depth chroma p y h =
     let s7 = number_step closed p (plane_rest_7 coder space depth chroma) y h in
     let s8 = accepted_step closed s7.place (not chroma || nat_le s7.value 2) Subsampling (plane_rest_8 coder space depth chroma s7.value) y s7.rest in
     let s9 = number_step closed s7.place (plane_rest_9 coder space depth chroma s7.value) y s8.1 in
-    let s10 = accepted_step closed s9.place (not chroma || nat_le s9.value 2) Subsampling (plane_rest_10 coder space depth chroma s7.value s9.value) y s9.rest in
+    let s10 = accepted_step closed s9.place (not chroma || nat_le s9.value 2) Subsampling
+    (plane_rest_10 coder space depth chroma s7.value s9.value) y s9.rest in
     let s11 = flag_step closed s9.place (plane_rest_11 coder space depth chroma s7.value s9.value) y s10.1 in
     let s12 = accepted_step closed s11.place (not s11.value) ExtraPlane (plane_rest_12 coder space depth chroma s7.value s9.value s11.value) y s11.rest in
     let given = given_step (record {
@@ -344,7 +346,8 @@ planes-read : (closed : Bool) (coder space depth : ℕ) (chroma : Bool) (shift_h
     → number closed q2 ≡ Ok (depth, q4) → flag closed q4 ≡ Ok (chroma, q6) → number closed q6 ≡ Ok (shift_h, q7) → number closed q7 ≡ Ok (shift_v, q9)
     → flag closed q9 ≡ Ok (extra, q11)
     → planes closed p ≡ Ok (record { has_chroma = chroma; shift_h = if chroma then shift_h else 0; shift_v = if chroma then shift_v else 0 }, q11)
-unfolding plane_rest_0 plane_rest_1 plane_rest_2 plane_rest_3 plane_rest_4 plane_rest_5 plane_rest_6 plane_rest_7 plane_rest_8 plane_rest_9 plane_rest_10 plane_rest_11 plane_rest_12
+unfolding plane_rest_0 plane_rest_1 plane_rest_2 plane_rest_3 plane_rest_4 plane_rest_5 plane_rest_6 plane_rest_7
+    plane_rest_8 plane_rest_9 plane_rest_10 plane_rest_11 plane_rest_12
 planes-read closed coder space depth chroma shift_h shift_v extra p q0 q2 q4 q6 q7 q9 q11 t0 t1 t2 t3 t4 t5 r0 r2 r4 r6 r7 r9 r11 =
     number_then closed p q0 coder plane_rest_0 r0
     ∙ accepted_then closed q0 (coder == 0) Coder (plane_rest_1 coder) t0
@@ -413,7 +416,8 @@ tile_counts-found closed width height p y h =
     let s1 = number_step closed s0.place (tile_rest_1 width height s0.value) y s0.rest in
     let s2 = accepted_step closed s1.place (nat_le (s0.value + 1) width && nat_le (s1.value + 1) height) GridTooFine
     (tile_rest_2 width height s0.value s1.value) y s1.rest in
-    let s3 = accepted_step closed s1.place (nat_le ((s0.value + 1) * (s1.value + 1)) most_tiles) TooManyTiles (tile_rest_3 width height s0.value s1.value) y s2.1 in
+    let s3 = accepted_step closed s1.place (nat_le ((s0.value + 1) * (s1.value + 1)) most_tiles) TooManyTiles
+    (tile_rest_3 width height s0.value s1.value) y s2.1 in
     let given = given_step (record { across = s0.value + 1; down = s1.value + 1 }) s1.place y s3.1 in
     record {
       across = s0.value;

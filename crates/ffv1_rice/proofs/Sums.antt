@@ -99,7 +99,12 @@ half_kept s bounds =
     to_z-of_z-small (half s.drift) (omega (arith, ints)) (omega (arith, ints))
 
 pub counted_halved : (s : ContextState) (d : ℤ) → IsUncounted s → s.count ≡ 128 → d ≡ int_div_euclid (to_z w32 (of_z w32 s.drift)) (pos 2)
-    → let r : ContextState = record { drift = to_z w32 (of_z w32 d); error_sum = s.error_sum / 2; bias = to_z w32 (of_z w32 s.bias); count = s.count / 2 + 1 } in
+    → let r : ContextState = record {
+      drift = to_z w32 (of_z w32 d);
+      error_sum = s.error_sum / 2;
+      bias = to_z w32 (of_z w32 s.bias);
+      count = s.count / 2 + 1;
+    } in
     r ≡ counted s
 counted_halved s d bounds full is =
     let is_half : d ≡ half s.drift = is ∙ ap (λ z. int_div_euclid z (pos 2)) (uncounted_drift_kept s bounds) ∙ int_div_euclid-two s.drift in

@@ -23,7 +23,8 @@ returns-in_err-count g c =
     let p = err_from_is_err_and c.from_residual.result c.from_residual.ensures.1 in
     let inv = c.loop-filled.invariant in
     let read = c.in_err-count.ensures in
-    let size : length (put_mid c.loop-filled.filled (length c.loop-filled.buf - c.loop-filled.filled) c.loop-filled.buf c.read_some.new.buf) ≡ length c.loop-filled.buf = search rules in
+    let size : length (put_mid c.loop-filled.filled (length c.loop-filled.buf - c.loop-filled.filled) c.loop-filled.buf c.read_some.new.buf)
+    ≡ length c.loop-filled.buf = search rules in
     rw p.1 (record {
       bound = tt;
       bytes = tt;

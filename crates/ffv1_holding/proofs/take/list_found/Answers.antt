@@ -57,7 +57,8 @@ loop-link-preserved-in-Continue-1 c =
     let long = ap length c.bytes.ensures.value in
     let slice = slice_listed payload link cut.0 cut.2 tile c.start.result (length c.bytes.result.now) c.status.result c.start.ensures long in
     let view : entry_in payload new ≡ (tile, link.bytes) = (λ i. (tile, slice i)) in
-    let lies : IsEntryIn payload new = entry_listed payload link cut.0 cut.2 tile c.start.result (length c.bytes.result.now) c.status.result c.start.ensures long
+    let lies : IsEntryIn payload new = entry_listed payload link cut.0 cut.2 tile c.start.result
+    (length c.bytes.result.now) c.status.result c.start.ensures long
     (subst IsFramed c.bytes.ensures.value c.bytes.ensures.framed) c.status.ensures in
     let entry : IsEntryOf setup (entry_in payload new) = subst (IsEntryOf setup) (sym view)
     (entry_of_link setup link tile is (subst (λ (b : List ℕ). length b ≤ slice_limit) c.bytes.ensures.value c.bytes.ensures.short)) in

@@ -33,7 +33,13 @@ draw_plane-requires-clause-samples c =
     let g = c.args.grid.now in
     let n = c.loop-plane.plane in
     let picture = c.args.picture.now in
-    let few : n < plane_count g = omega (arith, c.loop-plane-test.true, c.loop-plane.auto.planes, length-map c.args.planes.now items_of, c.requires.sizes.count) in
+    let few : n < plane_count g = omega (
+      arith,
+      c.loop-plane-test.true,
+      c.loop-plane.auto.planes,
+      length-map c.args.planes.now items_of,
+      c.requires.sizes.count,
+    ) in
     let among : n < length picture = omega (arith, few, length-map picture items_of, c.requires.picture.count) in
     ap length (c.deref.ensures.value ∙ sym (read_plane picture n c.index-picture-plane.result among c.index-picture-plane.is))
     ∙ c.requires.picture.each n few ∙ ap area (sym c.plane_rect-rect.ensures)

@@ -10,7 +10,8 @@ returns-in_err-picture c =
     rw (p.1, p.2) (record {
       ok = tt;
       fault = rw (sym c.content_of.ensures)
-          (unreadable c.args.setup.now c.args.tile _ c.in_err-picture.field-0.0 (record { found = λ picture is. told.found picture is; refused = told.refused }));
+          (unreadable c.args.setup.now c.args.tile _ c.in_err-picture.field-0.0
+          (record { found = λ picture is. told.found picture is; refused = told.refused }));
       err = refl;
     })
 

@@ -44,7 +44,12 @@ returns-in_err-next_byte-in-None g c =
       follows = tt;
       version = refl;
       end = tt;
-      err = record { seen = 0 ∷ []; is = inr refl; taken = Consumes-trans _ _ _ (0 ∷ []) [] none.taken e.kept; within = omega (arith, none.moved, none.within) };
+      err = record {
+        seen = 0 ∷ [];
+        is = inr refl;
+        taken = Consumes-trans _ _ _ (0 ∷ []) [] none.taken e.kept;
+        within = omega (arith, none.moved, none.within);
+      };
       failed = CountsRead-after faults.Read _ _ _ first.counted e.failed;
       counted = le_trans first.counted e.counted;
       taken = tt;

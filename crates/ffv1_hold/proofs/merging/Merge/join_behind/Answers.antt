@@ -39,7 +39,8 @@ returns-in_err-advance g c =
           c.in_err-advance.ensures.err c.in_ok-write_head.ensures.ok;
       read_failed = λ is. inl (HasFailed-read _ _ _ e.failed is);
       write_failed = λ is. absurd (Refuses-not_write (IsPartOfEntry c.args.self.now.lefts.version setup c.args.self.now.lefts.held) EndIsWhole
-          (EntryShows c.args.self.now.lefts.version setup c.args.self.now.lefts.held) (g.R.Source.remaining c.args.left.now) (g.R.Source.remaining c.advance.new.source) c.args.self.now.lefts.place _ e.err is);
+          (EntryShows c.args.self.now.lefts.version setup c.args.self.now.lefts.held) (g.R.Source.remaining c.args.left.now)
+          (g.R.Source.remaining c.advance.new.source) c.args.self.now.lefts.place _ e.err is);
       left_taken = e.most;
       right_taken = most-place _ _ _ c.requires.right_place;
       same_reference = head.same_reference;
@@ -58,12 +59,14 @@ returns-in_err-advance-2 g c =
       err = λ s is o.
           let one = c.in_ok-advance.ensures in
           let setup = c.setup-setup.ensures.value in
-          let held = left_held s _ _ _ _ _ _ o _ _ _ _ _ c.setup-setup.result.now c.requires.left_held is.left_is setup one.next one.entry one.follows one.end in
+          let held = left_held s _ _ _ _ _ _ o _ _ _ _ _ c.setup-setup.result.now c.requires.left_held is.left_is
+          setup one.next one.entry one.follows one.end in
           first_right_stops s _ _ _ _ _ _ o _ _ _ _ _ _ _ c.setup-setup.result.now _ c.requires.right_held is.right_is setup
           c.in_err-advance-2.ensures.err held c.in_ok-write_head.ensures.ok;
       read_failed = λ is. inr (HasFailed-read _ _ _ e.failed is);
       write_failed = λ is. absurd (Refuses-not_write (IsPartOfEntry c.args.self.now.rights.version setup c.args.self.now.rights.held) EndIsWhole
-          (EntryShows c.args.self.now.rights.version setup c.args.self.now.rights.held) (g.Q.Source.remaining c.args.right.now) (g.Q.Source.remaining c.advance-2.new.source) c.args.self.now.rights.place _ e.err is);
+          (EntryShows c.args.self.now.rights.version setup c.args.self.now.rights.held) (g.Q.Source.remaining c.args.right.now)
+          (g.Q.Source.remaining c.advance-2.new.source) c.args.self.now.rights.place _ e.err is);
       left_taken = most-within _ _ _ _ _ first.taken first.next.within;
       right_taken = e.most;
       same_reference = head.same_reference;
@@ -83,8 +86,10 @@ returns-in_err-join_entries g c =
           let room : c.args.self.now.room - (20 + length c.config.result.now) + (20 + length c.args.reel.now.config) ≡ file_limit =
           omega (arith, c.requires.room, ap length c.config.ensures) in
           let setup = c.setup-setup.ensures.value in
-          let left = left_held s _ _ _ _ _ _ o _ _ _ _ _ c.setup-setup.result.now c.requires.left_held is.left_is setup one.next one.entry one.follows one.end in
-          let right = right_held s _ _ _ _ _ _ o _ _ _ _ _ c.setup-setup.result.now c.requires.right_held is.right_is setup two.next two.entry two.follows two.end in
+          let left = left_held s _ _ _ _ _ _ o _ _ _ _ _ c.setup-setup.result.now c.requires.left_held is.left_is
+          setup one.next one.entry one.follows one.end in
+          let right = right_held s _ _ _ _ _ _ o _ _ _ _ _ c.setup-setup.result.now c.requires.right_held
+          is.right_is setup two.next two.entry two.follows two.end in
           let stands = opened_stands s _ _ _ _ _ _ o _ _ _ _ _ _ _ _ left right head.ok room in
           let same = setup ∙ ap (λ (x : Reel). x.setup) o.same in
           let versions : AreVersions s c.advance.new.self.version c.advance-2.new.self.version = record {
@@ -112,8 +117,10 @@ returns-then-self-eq0 g c =
           let room : c.args.self.now.room - (20 + length c.config.result.now) + (20 + length c.args.reel.now.config) ≡ file_limit =
           omega (arith, c.requires.room, ap length c.config.ensures) in
           let setup = c.setup-setup.ensures.value in
-          let left = left_held s _ _ _ _ _ _ o _ _ _ _ _ c.setup-setup.result.now c.requires.left_held is.left_is setup one.next one.entry one.follows one.end in
-          let right = right_held s _ _ _ _ _ _ o _ _ _ _ _ c.setup-setup.result.now c.requires.right_held is.right_is setup two.next two.entry two.follows two.end in
+          let left = left_held s _ _ _ _ _ _ o _ _ _ _ _ c.setup-setup.result.now c.requires.left_held is.left_is
+          setup one.next one.entry one.follows one.end in
+          let right = right_held s _ _ _ _ _ _ o _ _ _ _ _ c.setup-setup.result.now c.requires.right_held
+          is.right_is setup two.next two.entry two.follows two.end in
           let stands = opened_stands s _ _ _ _ _ _ o _ _ _ _ _ _ _ _ left right head.ok room in
           let same = setup ∙ ap (λ (x : Reel). x.setup) o.same in
           let versions : AreVersions s c.advance.new.self.version c.advance-2.new.self.version = record {
@@ -143,8 +150,10 @@ returns-in_err-write_field g c =
           let room : c.args.self.now.room - (20 + length c.config.result.now) + (20 + length c.args.reel.now.config) ≡ file_limit =
           omega (arith, c.requires.room, ap length c.config.ensures) in
           let setup = c.setup-setup.ensures.value in
-          let left = left_held s _ _ _ _ _ _ o _ _ _ _ _ c.setup-setup.result.now c.requires.left_held is.left_is setup one.next one.entry one.follows one.end in
-          let right = right_held s _ _ _ _ _ _ o _ _ _ _ _ c.setup-setup.result.now c.requires.right_held is.right_is setup two.next two.entry two.follows two.end in
+          let left = left_held s _ _ _ _ _ _ o _ _ _ _ _ c.setup-setup.result.now c.requires.left_held is.left_is
+          setup one.next one.entry one.follows one.end in
+          let right = right_held s _ _ _ _ _ _ o _ _ _ _ _ c.setup-setup.result.now c.requires.right_held
+          is.right_is setup two.next two.entry two.follows two.end in
           let stands = opened_stands s _ _ _ _ _ _ o _ _ _ _ _ _ _ _ left right head.ok room in
           let same = setup ∙ ap (λ (x : Reel). x.setup) o.same in
           let versions : AreVersions s c.advance.new.self.version c.advance-2.new.self.version = record {
@@ -172,8 +181,10 @@ returns g c =
           let room : c.args.self.now.room - (20 + length c.config.result.now) + (20 + length c.args.reel.now.config) ≡ file_limit =
           omega (arith, c.requires.room, ap length c.config.ensures) in
           let setup = c.setup-setup.ensures.value in
-          let left = left_held s _ _ _ _ _ _ o _ _ _ _ _ c.setup-setup.result.now c.requires.left_held is.left_is setup one.next one.entry one.follows one.end in
-          let right = right_held s _ _ _ _ _ _ o _ _ _ _ _ c.setup-setup.result.now c.requires.right_held is.right_is setup two.next two.entry two.follows two.end in
+          let left = left_held s _ _ _ _ _ _ o _ _ _ _ _ c.setup-setup.result.now c.requires.left_held is.left_is
+          setup one.next one.entry one.follows one.end in
+          let right = right_held s _ _ _ _ _ _ o _ _ _ _ _ c.setup-setup.result.now c.requires.right_held
+          is.right_is setup two.next two.entry two.follows two.end in
           let stands = opened_stands s _ _ _ _ _ _ o _ _ _ _ _ _ _ _ left right head.ok room in
           let same = setup ∙ ap (λ (x : Reel). x.setup) o.same in
           let versions : AreVersions s c.advance.new.self.version c.advance-2.new.self.version = record {
@@ -185,8 +196,10 @@ returns g c =
           let room : c.args.self.now.room - (20 + length c.config.result.now) + (20 + length c.args.reel.now.config) ≡ file_limit =
           omega (arith, c.requires.room, ap length c.config.ensures) in
           let setup = c.setup-setup.ensures.value in
-          let left = left_held s _ _ _ _ _ _ o _ _ _ _ _ c.setup-setup.result.now c.requires.left_held is.left_is setup one.next one.entry one.follows one.end in
-          let right = right_held s _ _ _ _ _ _ o _ _ _ _ _ c.setup-setup.result.now c.requires.right_held is.right_is setup two.next two.entry two.follows two.end in
+          let left = left_held s _ _ _ _ _ _ o _ _ _ _ _ c.setup-setup.result.now c.requires.left_held is.left_is
+          setup one.next one.entry one.follows one.end in
+          let right = right_held s _ _ _ _ _ _ o _ _ _ _ _ c.setup-setup.result.now c.requires.right_held
+          is.right_is setup two.next two.entry two.follows two.end in
           let stands = opened_stands s _ _ _ _ _ _ o _ _ _ _ _ _ _ _ left right head.ok room in
           let same = setup ∙ ap (λ (x : Reel). x.setup) o.same in
           let versions : AreVersions s c.advance.new.self.version c.advance-2.new.self.version = record {

@@ -84,7 +84,8 @@ grown_first c =
 pub overflow_sub-new : goal.overflow_sub-new
 overflow_sub-new c =
     let setup = c.setup.result.now in
-    let more = size_grown c.self.inside.held c.insert_copy.new.self (slices_in setup c.args.payload.now) (origins_in setup c.args.payload.now) (grown_first c) in
+    let more = size_grown c.self.inside.held c.insert_copy.new.self (slices_in setup c.args.payload.now)
+    (origins_in setup c.args.payload.now) (grown_first c) in
     omega (arith, more, c.size.ensures, c.size-before.ensures)
 
 grown_last : (c : goal.After-drop-found-2) → c.insert_copy.new.self ≡ with_more c.self.inside.held (slices_in c.setup.result.now c.args.payload.now)

@@ -169,7 +169,8 @@ put_rows-requires-clause-held c =
     let old = map (entry_in c.deref.result.now) c.deref-2.result.now in
     let coming = map (entry_in from) c.args.entries.now in
     let fresh = map (fresh_in from) c.in_ok-fresh.fresh.items in
-    let slices : set.from_list {R = entry_cmp} (map (entry_in c.deref-7.result.now) c.deref-8.result.now) ≡ set.union (set.from_list old) (set.from_list fresh) =
+    let slices : set.from_list {R = entry_cmp} (map (entry_in c.deref-7.result.now) c.deref-8.result.now)
+    ≡ set.union (set.from_list old) (set.from_list fresh) =
     (λ i. set.from_list (map (entry_in (c.deref-7.ensures.value i)) (c.deref-8.ensures.value i))) ∙ c.put_slices.ensures.slices
     ∙ (λ i. set.union (set.from_list (map (entry_in (c.reserve.ensures.items i)) (c.reserve-2.ensures.items i))) (set.from_list fresh))
     ∙ (λ i. set.union (set.from_list (map (entry_in (sym c.deref.ensures.value i)) (sym c.deref-2.ensures.value i))) (set.from_list fresh)) in

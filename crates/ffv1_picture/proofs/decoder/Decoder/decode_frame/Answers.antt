@@ -33,7 +33,8 @@ returns-in_err-check_order c =
     let payload = c.args.payload.now in
     let f = c.in_err-check_order.field-0.0 in
     let own : HasWholeChain setup payload = search rules in
-    let first = subst (λ (links : List Piece). IsFirstDisorder setup links f) (c.deref.ensures.value ∙ c.in_ok-links.ensures) c.in_err-check_order.ensures.err in
+    let first = subst (λ (links : List Piece). IsFirstDisorder setup links f)
+    (c.deref.ensures.value ∙ c.in_ok-links.ensures) c.in_err-check_order.ensures.err in
     let fault = subst (λ (s : SetupValue). IsFirstFault s payload f) c.self.view_is (disorder_is_first setup payload own f first) in
     rw (p.1, p.2) (record { frame = tt; found = λ pictures spells. no_fault c.args.self.now payload pictures spells f fault; fault = fault })
 

@@ -8,7 +8,8 @@ returns c =
     let less : c.self.inside.x < c.self.inside.width = search rules in
     let about = near_is c.self.inside.width c.self.inside.x c.self.inside.rows.items c.self.inside.line.items c.self.inside.above.items
     c.self.inside.far_above.items c.self.invariant less in
-    let left : c.args.left ≡ get_or c.self.inside.line.items (c.self.inside.x + 1) 0 = (rw (← c.self.view_is) at c.requires.left) ∙ sym (ap (λ near. near.left) about) in
+    let left : c.args.left ≡ get_or c.self.inside.line.items (c.self.inside.x + 1) 0 =
+    (rw (← c.self.view_is) at c.requires.left) ∙ sym (ap (λ near. near.left) about) in
     let top = get_or_read c.self.inside.above.items (c.self.inside.x + 2) c.index.result.now (omega arith) c.index.ensures 0 in
     let top_left = get_or_read c.self.inside.above.items (c.self.inside.x + 1) c.index-2.result.now (omega arith) c.index-2.ensures 0 in
     let top_right = get_or_read c.self.inside.above.items (c.self.inside.x + 3) c.index-3.result.now (omega arith) c.index-3.ensures 0 in

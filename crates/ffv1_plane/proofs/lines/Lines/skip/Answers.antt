@@ -15,7 +15,12 @@ loop-done-preserved c =
           c.prediction.result c.neighbours-near.result some (c.loop-done.invariant.skipped entry)
           near c.prediction.ensures (ap (λ r. r.samples) c.push.ensures.value);
       width = ap (λ r. r.width) c.push.ensures.value ∙ c.loop-done.invariant.width;
-      count = omega (arith, ap (λ r. length r.samples) c.push.ensures.value, length_push c.loop-done.self.samples c.prediction.result, c.loop-done.invariant.count);
+      count = omega (
+        arith,
+        ap (λ r. length r.samples) c.push.ensures.value,
+        length_push c.loop-done.self.samples c.prediction.result,
+        c.loop-done.invariant.count,
+      );
       x = omega (arith, ap (λ r. r.x) c.push.ensures.value, c.loop-done.invariant.x);
     }
 
