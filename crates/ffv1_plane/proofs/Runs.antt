@@ -106,3 +106,6 @@ cut_run left index done i bits words before a cut = record {
   inside = before;
   cut = cut;
 }
+
+-- what `read_run` rests on: where the reading of a run begins, what each word does to it, and where it ends
+pub ruleset run_steps = (begin_run, full_length, more_run, rest_run, end_run, line_run, cut_run)

@@ -17,7 +17,7 @@ pub(crate) struct CutRun {
 }
 
 /// How many samples the next run skips, in a line with `left` samples to come.
-#[tactic(auto, using(crate::proofs::Runs::begin_run, crate::proofs::Runs::full_length, crate::proofs::Runs::more_run, crate::proofs::Runs::rest_run, crate::proofs::Runs::end_run, crate::proofs::Runs::line_run, crate::proofs::Runs::cut_run))]
+#[tactic(auto, using(crate::proofs::Runs::run_steps))]
 pub(crate) fn read_run(index: &mut RunIndex, bits: &mut Bits, left: u32) -> Result<u32, CutRun>
     requires some_left { 1 ≤ left }
     requires few_left { left ≤ greatest_side }
