@@ -129,19 +129,23 @@ fn are_shared(held: &Holding, copies: &[&[u8]]) -> bool {
 }
 
 /// Whether joining the holding of both damaged copies to that of the frame adds the other copy to a slice's, and no slice.
-fn adds_origins(both: &mut Holding, held: &Holding) -> bool {
-    are_shared(both, &[&FRAME])
-        && both.join_with(held) == Ok(0)
-        && are_shared(both, &[&FRAME, &RIGHT_DAMAGED])
+fn adds_origins(alloc: Global, held: &Holding) -> Result<bool, Fail> {
+    let mut both = held_beside(alloc, 2, [&FRAME, &LEFT_DAMAGED])?;
+    let before = are_shared(&both, &[&FRAME]);
+    let joined = both.join_with(held) == Ok(0);
+    Ok(before && joined && are_shared(&both, &[&FRAME, &RIGHT_DAMAGED]))
+}
+
+/// Whether the origins of what is held of both damaged copies, one of them twice, are digests of whole copies.
+fn has_whole_copies(alloc: Global) -> Result<bool, Fail> {
+    let copies: [&[u8]; 3] = [&LEFT_DAMAGED, &RIGHT_DAMAGED, &LEFT_DAMAGED];
+    let held = held_of(alloc, &TWO_TILES, (2, 1), &copies)?;
+    Ok(are_apart(&held) && adds_origins(alloc, &held)?)
 }
 
 #[test]
 fn origins_are_the_digests_of_whole_copies(rt: HostRuntime) -> Result<(), Fail> {
-    let copies: [&[u8]; 3] = [&LEFT_DAMAGED, &RIGHT_DAMAGED, &LEFT_DAMAGED];
-    let held = held_of(rt.alloc(), &TWO_TILES, (2, 1), &copies)?;
-    assert!(rt; are_apart(&held));
-    let mut both = held_beside(rt.alloc(), 2, [&FRAME, &LEFT_DAMAGED])?;
-    assert!(rt; adds_origins(&mut both, &held));
+    assert!(rt; has_whole_copies(rt.alloc())?);
     Ok(())
 }
 
@@ -222,12 +226,17 @@ fn tiles_tell_what_is_held_of_them(rt: HostRuntime) -> Result<(), Fail> {
     Ok(())
 }
 
+/// What joining the holding of one tile to that of a frame of two answers.
+fn sizes_joined(alloc: Global) -> Result<Result<usize, HoldFault>, Fail> {
+    let mut frame = held_beside(alloc, 2, [&FRAME, &FRAME])?;
+    let sample = held_beside(alloc, 1, [&BLACK, &DARK])?;
+    Ok(frame.join_with(&sample))
+}
+
 #[test]
 fn other_sizes_do_not_join(rt: HostRuntime) -> Result<(), Fail> {
     let short = Holding::new(rt.alloc(), &[0; 5], 1, 1).err();
     assert!(rt; short == Some(SetupFault::TooShort));
-    let mut frame = held_beside(rt.alloc(), 2, [&FRAME, &FRAME])?;
-    let sample = held_beside(rt.alloc(), 1, [&BLACK, &DARK])?;
-    assert!(rt; frame.join_with(&sample) == Err(HoldFault::OtherReel));
+    assert!(rt; sizes_joined(rt.alloc())? == Err(HoldFault::OtherReel));
     Ok(())
 }

@@ -2,7 +2,9 @@
 use crate::hold::written;
 use crate::holding::held_of;
 use crate::streams::{Failing, Narrow};
-use ffv1_hold::{FromRead, FromWrite, HoldFileFault, Join, Sink, Source, join_streams, read_hold};
+use ffv1_hold::{
+    FromRead, FromWrite, HoldFileFault, Holding, Join, Sink, Source, join_streams, read_hold,
+};
 use std::alloc::Global;
 use std::io::ErrorKind;
 use std::test::Fail;
@@ -48,11 +50,17 @@ fn merged(alloc: Global, left: &[u8], right: &[u8]) -> (Result<(), HoldFileFault
     (answer, sink.into_inner())
 }
 
+/// Joins the holding of a file to another.
+fn join_file(alloc: Global, whole: &mut Holding, file: &[u8]) -> Result<(), Fail> {
+    let other = read_hold(alloc, &mut FromRead::new(file))?;
+    whole.join_with(&other)?;
+    Ok(())
+}
+
 /// The file of the union of two files' holdings.
 fn joined(alloc: Global, left: &[u8], right: &[u8]) -> Result<Vec<u8>, Fail> {
     let mut whole = read_hold(alloc, &mut FromRead::new(left))?;
-    let other = read_hold(alloc, &mut FromRead::new(right))?;
-    whole.join_with(&other)?;
+    join_file(alloc, &mut whole, right)?;
     written(alloc, &whole)
 }
 

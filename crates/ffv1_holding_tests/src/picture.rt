@@ -116,6 +116,23 @@ fn restored_of_two(alloc: Global, copies: &[&[u8]]) -> Result<Restoration, Fail>
     )
 }
 
+/// What can be shown of copies of a frame of this size.
+fn shown_of(
+    alloc: Global,
+    record: &[u8],
+    size: (u32, u32),
+    copies: &[&[u8]],
+) -> Result<Partial, Fail> {
+    let holding = held_of(alloc, record, size, copies)?;
+    Ok(picture(alloc, &holding)?)
+}
+
+/// The report of copies of a frame of two gray tiles.
+fn reported_of_two(alloc: Global, copies: &[&[u8]]) -> Result<String, Fail> {
+    let holding = held_of(alloc, &TWO_TILES, (2, 1), copies)?;
+    Ok(report(alloc, &holding)?)
+}
+
 /// Whether a payload is these bytes.
 fn is_payload(payload: &Result<Vec<u8>, RestoreFault>, bytes: &[u8]) -> bool {
     match payload {
@@ -222,8 +239,7 @@ fn is_right_alone(alloc: Global, picture: &Partial) -> Result<bool, Fail> {
 
 #[test]
 fn damaged_copy_shows_what_it_has(rt: HostRuntime) -> Result<(), Fail> {
-    let holding = held_of(rt.alloc(), &TWO_TILES, (2, 1), &[&LEFT_DAMAGED])?;
-    let partial = picture(rt.alloc(), &holding)?;
+    let partial = shown_of(rt.alloc(), &TWO_TILES, (2, 1), &[&LEFT_DAMAGED])?;
     assert!(rt; is_right_alone(rt.alloc(), &partial)?);
     Ok(())
 }
@@ -239,8 +255,8 @@ const REPORT: &str = "reel 2x1 tiles 2\n\
 
 #[test]
 fn whole_frame_is_reported_with_its_digest(rt: HostRuntime) -> Result<(), Fail> {
-    let holding = held_of(rt.alloc(), &TWO_TILES, (2, 1), &[&FRAME])?;
-    assert!(rt; report(rt.alloc(), &holding)?.as_str() == REPORT);
+    let report = reported_of_two(rt.alloc(), &[&FRAME])?;
+    assert!(rt; report.as_str() == REPORT);
     Ok(())
 }
 
@@ -271,21 +287,20 @@ fn has_front(alloc: Global, frame: &Frame, room: usize, samples: &[u8]) -> bool 
     failed && counted && Some(sink.into_inner().bytes.as_slice()) == samples.get(..room)
 }
 
-/// Whether a sink that fails behind any number of the 18 samples has that front of them.
-fn each_front_is_left(alloc: Global, frame: &Frame, samples: &[u8]) -> bool {
+/// Whether a sink that fails behind any number of the 18 samples of a frame has that front of them.
+fn each_front_is_left(alloc: Global, frame: &Frame) -> Result<bool, Fail> {
+    let samples = written(alloc, frame)?;
     for room in 0..18 {
-        if !has_front(alloc, frame, room, samples) {
-            return false;
+        if !has_front(alloc, frame, room, &samples) {
+            return Ok(false);
         }
     }
-    samples.len() == 18
+    Ok(samples.len() == 18)
 }
 
 #[test]
 fn failing_sink_has_a_front_of_the_samples(rt: HostRuntime) -> Result<(), Fail> {
-    let holding = held_of(rt.alloc(), &WITH_CHROMA, (6, 2), &[&LEFT_OF_6])?;
-    let frame = picture(rt.alloc(), &holding)?.frame;
-    let samples = written(rt.alloc(), &frame)?;
-    assert!(rt; each_front_is_left(rt.alloc(), &frame, &samples));
+    let shown = shown_of(rt.alloc(), &WITH_CHROMA, (6, 2), &[&LEFT_OF_6])?;
+    assert!(rt; each_front_is_left(rt.alloc(), &shown.frame)?);
     Ok(())
 }

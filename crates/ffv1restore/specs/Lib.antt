@@ -1,4 +1,3 @@
-pub mod WordPaths
 -- those of the commands, which are the program's own
 pub use Rattle.ffv1_commands.specs.Paths
 pub use Rattle.ffv1_commands.specs.Fault

@@ -5,21 +5,20 @@
 ghost use Rattle.std.specs.Prelude.{◌≡◌, ◌+◌, length, vec_len, IfOk, IfErr};
 ghost use Rattle.ffv1_commands.specs.Fault.{NamesPath, NamesNoPath};
 ghost use Rattle.ffv1_commands.specs.Paths.{IsTakePath, IsJoinPath, IsMergePath, IsDecodePath};
-ghost use Rattle.ffv1restore.specs.WordPaths.{IsPathOf};
+ghost use Rattle.ffv1_words.specs.WordPaths.{IsPathOf};
 
 mod files;
-mod words;
 
 pub use ffv1_commands::{
     CliFault, CommandPath, commands_restore_the_original, run_chain, run_decode, run_join,
     run_merge, run_picture, run_report, run_restore, run_show, run_take, same_copies_make_one_file,
 };
+use ffv1_words::{Recording, Words, read_words};
 use files::{InputFile, OutputFile};
 use std::alloc::{AllocError, Global};
 use std::fs::File;
 use std::process::ExitCode;
 use std::{env, io};
-use words::{Recording, Words, read_words};
 
 /// The files of paths, none of which is opened yet.
 fn input_files<'a>(

@@ -1,103 +1,12 @@
-//! The words of a command: the first names it, then come exactly its own.
+//! The words that the program is given (own): the first names a command, then come exactly its own.
 ghost use Rattle.std.specs.Prelude.{IfErr};
 ghost use Rattle.ffv1_commands.specs.Fault.{NamesNoPath};
-ghost use Rattle.ffv1restore.specs.WordPaths.{IsPathOf};
 
+use crate::words::{Recording, Words};
 use clap::error::ErrorKind;
 use clap::{Arg, ArgAction, ArgMatches, Command};
-use ffv1_commands::{CliFault, CommandPath};
+use ffv1_commands::CliFault;
 use std::alloc::{AllocError, Global};
-
-/// A configuration record, and the size in samples of the frames that are recorded with it.
-#[derive(Drop)]
-pub struct Recording<'a> {
-    pub record: &'a str,
-    pub width: u32,
-    pub height: u32,
-}
-
-/// A command and its words.
-#[derive(Drop)]
-pub enum Words<'a> {
-    /// Tells the chain of a frame payload.
-    Chain {
-        frame: &'a str,
-    },
-    /// Tells the setup of a configuration record, for frames of its size.
-    Show {
-        recording: Recording<'a>,
-    },
-    /// Makes the holding file of copies.
-    Take {
-        recording: Recording<'a>,
-        out: &'a str,
-        copies: Vec<&'a str>,
-    },
-    /// Makes the holding file of the union of holding files.
-    Join {
-        out: &'a str,
-        first: &'a str,
-        others: Vec<&'a str>,
-    },
-    /// Makes the holding file of the union of two holding files, which are read as streams.
-    Merge {
-        out: &'a str,
-        left: &'a str,
-        right: &'a str,
-    },
-    /// Tells the damage report of a holding file.
-    Report {
-        file: &'a str,
-    },
-    /// Writes the payload that a holding file restores.
-    Restore {
-        file: &'a str,
-        out: &'a str,
-    },
-    /// Writes what can be shown of a holding file.
-    Picture {
-        file: &'a str,
-        out: &'a str,
-    },
-    /// Writes the samples of a frame payload.
-    Decode {
-        recording: Recording<'a>,
-        frame: &'a str,
-        out: &'a str,
-    },
-}
-
-impl<'a> Words<'a> {
-    /// The word that names a path of the command, which has to be one of its own; `inputs` for both of `merge` together.
-    pub fn path(&self, path: CommandPath) -> &'a str
-        requires { IsPathOf self.now path }
-    {
-        match (self, path) {
-            (Words::Chain { frame }, CommandPath::Frame) => frame,
-            (Words::Show { recording }, CommandPath::Record) => recording.record,
-            (Words::Take { recording, .. }, CommandPath::Record) => recording.record,
-            (Words::Take { copies, .. }, CommandPath::Copy(place)) => copies[place],
-            (Words::Take { out, .. }, CommandPath::Out) => out,
-            (Words::Join { first, .. }, CommandPath::Hold(0)) => first,
-            (Words::Join { others, .. }, CommandPath::Hold(place)) => others[place - 1],
-            (Words::Join { out, .. }, CommandPath::Out) => out,
-            (Words::Merge { left, .. }, CommandPath::Hold(0)) => left,
-            (Words::Merge { right, .. }, CommandPath::Hold(_)) => right,
-            (Words::Merge { .. }, CommandPath::Inputs) => "inputs",
-            (Words::Merge { out, .. }, CommandPath::Out) => out,
-            (Words::Report { file }, CommandPath::Hold(_)) => file,
-            (Words::Restore { file, .. }, CommandPath::Hold(_)) => file,
-            (Words::Restore { out, .. }, CommandPath::Out) => out,
-            (Words::Picture { file, .. }, CommandPath::Hold(_)) => file,
-            (Words::Picture { out, .. }, CommandPath::Out) => out,
-            (Words::Decode { recording, .. }, CommandPath::Record) => recording.record,
-            (Words::Decode { frame, .. }, CommandPath::Frame) => frame,
-            (Words::Decode { out, .. }, CommandPath::Out) => out,
-            // No command has another path.
-            _ => "standard output",
-        }
-    }
-}
 
 /// The commands: the name of each, its words, and behind them the word of which there has to be one at least.
 const COMMANDS: [(&str, &[&str], Option<&str>); 9] = [

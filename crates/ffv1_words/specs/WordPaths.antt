@@ -2,8 +2,8 @@
 use Rattle.std.specs.Prelude.{◌+◌, vec_len}
 use Rattle.ffv1_commands.specs.Paths.{IsChainPath, IsShowPath, IsTakePath, IsJoinPath, IsMergePath, IsReportPath, IsHoldPath, IsDecodePath}
 use Rattle.ffv1_commands.specs.declared.path.CommandPath.{CommandPath}
-use Rattle.ffv1restore.specs.declared.words.Words.{Words}
-use Rattle.ffv1restore.specs.declared.words.Words.TheVariants.{Chain, Show, Take, Join, Merge, Report, Restore, Picture, Decode}
+use Rattle.ffv1_words.specs.declared.words.Words.{Words}
+use Rattle.ffv1_words.specs.declared.words.Words.TheVariants.{Chain, Show, Take, Join, Merge, Report, Restore, Picture, Decode}
 
 -- The command of the words has this path.
 abbrev pub IsPathOf : Words → CommandPath → Type 0

@@ -1,0 +1,4 @@
+pub mod WordPaths
+-- those that the paths and the faults of the words are told by
+pub use Rattle.ffv1_commands.specs.Paths
+pub use Rattle.ffv1_commands.specs.Fault

@@ -1,0 +1,117 @@
+//! A command and its words (own). Each of its paths is one of them.
+ghost use Rattle.ffv1_words.specs.WordPaths.{IsPathOf};
+
+use ffv1_commands::CommandPath;
+
+/// A configuration record, and the size in samples of the frames that are recorded with it.
+#[derive(Drop)]
+pub struct Recording<'a> {
+    /// The path of the record.
+    pub record: &'a str,
+    /// The width of its frames, in samples.
+    pub width: u32,
+    /// Their height, in samples.
+    pub height: u32,
+}
+
+/// A command and its words, each a path but for the numbers of a recording. No path is opened or judged yet.
+#[derive(Drop)]
+pub enum Words<'a> {
+    /// Tells the chain of a frame payload.
+    Chain {
+        /// The payload.
+        frame: &'a str,
+    },
+    /// Tells the setup of a configuration record, for frames of its size.
+    Show {
+        /// The record and the size.
+        recording: Recording<'a>,
+    },
+    /// Makes the holding file of copies.
+    Take {
+        /// The record and size of the copies.
+        recording: Recording<'a>,
+        /// The file that is made.
+        out: &'a str,
+        /// The copies, one at least.
+        copies: Vec<&'a str>,
+    },
+    /// Makes the holding file of the union of holding files.
+    Join {
+        /// The file that is made.
+        out: &'a str,
+        /// The first holding file.
+        first: &'a str,
+        /// Those behind it.
+        others: Vec<&'a str>,
+    },
+    /// Makes the holding file of the union of two holding files, which are read as streams.
+    Merge {
+        /// The file that is made.
+        out: &'a str,
+        /// The one holding file.
+        left: &'a str,
+        /// The other.
+        right: &'a str,
+    },
+    /// Tells the damage report of a holding file.
+    Report {
+        /// The holding file.
+        file: &'a str,
+    },
+    /// Writes the payload that a holding file restores.
+    Restore {
+        /// The holding file.
+        file: &'a str,
+        /// The file that is made.
+        out: &'a str,
+    },
+    /// Writes what can be shown of a holding file.
+    Picture {
+        /// The holding file.
+        file: &'a str,
+        /// The file that is made.
+        out: &'a str,
+    },
+    /// Writes the samples of a frame payload.
+    Decode {
+        /// The record and size of the frame.
+        recording: Recording<'a>,
+        /// The payload.
+        frame: &'a str,
+        /// The file that is made.
+        out: &'a str,
+    },
+}
+
+impl<'a> Words<'a> {
+    /// The word that names a path of the command, which has to be one of its own; `inputs` for both of `merge` together.
+    pub fn path(&self, path: CommandPath) -> &'a str
+        requires { IsPathOf self.now path }
+    {
+        match (self, path) {
+            (Words::Chain { frame }, CommandPath::Frame) => frame,
+            (Words::Show { recording }, CommandPath::Record) => recording.record,
+            (Words::Take { recording, .. }, CommandPath::Record) => recording.record,
+            (Words::Take { copies, .. }, CommandPath::Copy(place)) => copies[place],
+            (Words::Take { out, .. }, CommandPath::Out) => out,
+            (Words::Join { first, .. }, CommandPath::Hold(0)) => first,
+            (Words::Join { others, .. }, CommandPath::Hold(place)) => others[place - 1],
+            (Words::Join { out, .. }, CommandPath::Out) => out,
+            (Words::Merge { left, .. }, CommandPath::Hold(0)) => left,
+            (Words::Merge { right, .. }, CommandPath::Hold(_)) => right,
+            (Words::Merge { .. }, CommandPath::Inputs) => "inputs",
+            (Words::Merge { out, .. }, CommandPath::Out) => out,
+            (Words::Report { file }, CommandPath::Hold(_)) => file,
+            (Words::Restore { file, .. }, CommandPath::Hold(_)) => file,
+            (Words::Restore { out, .. }, CommandPath::Out) => out,
+            (Words::Picture { file, .. }, CommandPath::Hold(_)) => file,
+            (Words::Picture { out, .. }, CommandPath::Out) => out,
+            (Words::Decode { recording, .. }, CommandPath::Record) => recording.record,
+            (Words::Decode { frame, .. }, CommandPath::Frame) => frame,
+            (Words::Decode { out, .. }, CommandPath::Out) => out,
+            // No command has another path.
+            _ => "standard output",
+        }
+    }
+}
