@@ -9,14 +9,14 @@ use Rattle.ffv1_hold.proofs.HeldEntries.{holding-joined}
 use Rattle.ffv1_hold.specs.HoldingText.{head_text, begun_text, file_text, holding_text}
 use Rattle.ffv1_hold.specs.declared.version.Version.TheVariants.{Second}
 use Rattle.ffv1_hold.specs.FileFaults.{IsOutside, IsFaultOf}
-use Rattle.ffv1_hold.specs.JoinedStreams.{Inputs, InputRefuses, OneRefuses, JoinRefuses, EntriesPass, UnionPasses, ReadsAll, ReadsSoFar, ReadsOtherHeads, WritesUnion, WritesNoEnd, WritesFrontSoFar, AnswersUnion, AnswersOther, BeginsWith}
+use Rattle.ffv1_hold.specs.JoinedStreams.{Inputs, InputRefuses, OneRefuses, JoinRefuses, EntriesPass, UnionPasses, ReadsAll, ReadsSoFar, ReadsOtherHeads, WritesUnion, WritesNoEnd, WritesFrontSoFar, AnswersOther, BeginsWith}
 use Rattle.ffv1_hold.specs.declared.file_fault.HoldFileFault.{HoldFileFault}
 use Rattle.ffv1_hold.specs.declared.file_fault.HoldFileFault.TheVariants as files
 use Rattle.ffv1_hold.proofs.MergeSteps.{part_begins}
 use Rattle.ffv1_hold.proofs.MergeStarts.{all_part}
 use Rattle.ffv1_commands.specs.Fault.{of_merge}
 use Rattle.ffv1_commands.specs.Holdings.{IsHoldingFile}
-use Rattle.ffv1_commands.specs.MergeText.{MergesFiles, BeginsUnion, HeadsDiffer, IsFaultOfEither, IsMergeFault, LeavesEntries, MergeLeaves, AnswersFiles, AnswersOtherHeads}
+use Rattle.ffv1_commands.specs.MergeText.{MergesFiles, BeginsUnion, HeadsDiffer, IsFaultOfEither, IsMergeFault, LeavesEntries, MergeLeaves, AnswersOtherHeads}
 
 holding_file : (old new : Option (List ℕ)) (h : Contents) → ReadsAll old new h → IsHoldingFile old h
 holding_file old new h a = record {
@@ -151,26 +151,6 @@ module _ (i : Inputs) (w v : Option (List ℕ)) where
   merge_leaves files.Trailing none front = entries_left (none (λ is. absurd (cc)))
 
 -- ---- answers
-
-module _ (union : Contents) where
-  outside_answers : (f : HoldFileFault) → IsOutside f → AnswersFiles union (Err (of_merge f))
-  outside_answers files.Read out = tt
-  outside_answers files.Memory out = tt
-  outside_answers files.Write out = absurd out
-  outside_answers files.OtherReel out = absurd out
-  outside_answers files.TooLong out = absurd out
-  outside_answers files.Magic out = absurd out
-  outside_answers (files.Setup f) out = absurd out
-  outside_answers files.Truncated out = absurd out
-  outside_answers files.Tag out = absurd out
-  outside_answers files.Order out = absurd out
-  outside_answers files.NotASlice out = absurd out
-  outside_answers files.Trailing out = absurd out
-
-  pub answers_files : (f : HoldFileFault) → AnswersUnion union (Err f) → AnswersFiles union (Err (of_merge f))
-  answers_files f (inl out) = outside_answers f out
-  answers_files f (inr (inl is)) = subst (λ (g : HoldFileFault). AnswersFiles union (Err (of_merge g))) (sym is) tt
-  answers_files f (inr (inr (is, over))) = subst (λ (g : HoldFileFault). AnswersFiles union (Err (of_merge g))) (sym is) (refl, over)
 
 outside_other : (f : HoldFileFault) → IsOutside f → AnswersOtherHeads (Err (of_merge f))
 outside_other files.Read out = tt

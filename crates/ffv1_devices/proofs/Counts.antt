@@ -1,5 +1,5 @@
 -- Counts of tries that failed, over one step or several.
-use Rattle.std.proofs.Common.{◌≡◌, ℕ, ◌+◌, ◌-◌, ◌^◌, ◌<◌, ◌≤◌, ◌⊎◌, arith, inl, inr, ⊎_elim, le_trans, le_of_eq, le_refl, sym, ◌∙◌, true, false, nat_lt}
+use Rattle.std.proofs.Common.{◌≡◌, ℕ, ◌+◌, ◌-◌, ◌^◌, ◌<◌, ◌≤◌, ◌⊎◌, arith, inl, inr, ⊎_elim, le_trans, le_of_eq, sym, true, false, nat_lt}
 use Rattle.std.specs.Prelude.{◌==◌, if◌then◌else◌}
 use Rattle.std.proofs.lemmas.Bool.Decides.{nat_tests}
 use Rattle.ffv1_devices.specs.Streams.{failures_after, sum_to_limit, HasFailed, HasCounted, HasGivenUp}
@@ -15,9 +15,6 @@ CountsOne-from old new e = record { least = grind (arith, nat_tests); most = gri
 
 pub failed-behind : (old mid new : ℕ) → old ≤ mid → HasFailed mid new → HasFailed old new
 failed-behind old mid new h f = ⊎_elim (λ (p : mid < new). inl (omega arith)) (λ (p : 2 ^ 64 - 1 ≤ new). inr p) f
-
-pub failed-before : (old mid new : ℕ) → HasFailed old mid → mid ≤ new → HasFailed old new
-failed-before old mid new f h = ⊎_elim (λ (p : old < mid). inl (omega arith)) (λ (p : 2 ^ 64 - 1 ≤ mid). inr (omega arith)) f
 
 pub counted-more : (n old mid new : ℕ) → HasCounted n old mid → CountsOne mid new → HasCounted (n + 1) old new
 counted-more n old mid new h one =

@@ -67,9 +67,6 @@ module _ {X : Type 0} (same : X → X → Bool) (p : X → Bool) (alike : (x y :
   any-dedup (x ∷ xs) = any-dedup_from x xs
 
 module _ (bytes : List ℕ) (old sorted : List PoolEntry) (moved : IsPermutation old sorted) where
-  abbrev same_in : PoolEntry → PoolEntry → Bool
-  same_in x y = eq_by_cmp (cmp_in bytes) x y
-
   alike : (q : Entry) (x y : PoolEntry) → eq_by_cmp (cmp_in bytes) x y ≡ true
       → eq_by_cmp entry_cmp q (entry_in bytes x) ≡ eq_by_cmp entry_cmp q (entry_in bytes y)
   alike q x y is = ap (eq_by_cmp entry_cmp q) (entries_antisymmetric (entry_in bytes x) (entry_in bytes y)

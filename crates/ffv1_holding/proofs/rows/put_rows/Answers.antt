@@ -44,12 +44,6 @@ settled_then c =
     subst (λ (old : List (Fresh PoolEntry)). AreSettled c.args.from.now c.args.bytes.now old c.settle.new.owners)
     c.deref_mut.ensures.value c.settle.ensures
 
--- the new owners as `spread` sees them
-written_then : (c : goal.After-deref-2) → c.deref.result.now ≡ c.settle.new.owners
-written_then c =
-    c.deref.ensures.value
-    ∙ take-written c.settle.new.owners c.args.fresh.now.owners.items c.args.fresh.now.owners.len (omega (arith, (settled_then c).long))
-
 pub spread-requires-2-clause-places : goal.spread-requires-2-clause-places
 spread-requires-2-clause-places c = rw c.deref-2.ensures.value
     (digests_within c.args.bytes.now c.args.owners.now.items c.args.digests.now.items c.requires.rows c.args.from.now
