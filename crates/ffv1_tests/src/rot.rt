@@ -95,8 +95,15 @@ fn holds_of_original(
     Ok(true)
 }
 
-/// Whether a rotten payload gives only slices of the original, and is decoded exactly where it is the original.
-fn payload_is_judged(
+/// Whether a rotten payload is decoded exactly where it is the original.
+fn is_decoded_as_original(alloc: Global, made: &Made, rotten: &[u8]) -> Result<bool, Fail> {
+    let decoder = Decoder::new(alloc, &made.record, made.size.0, made.size.1)?;
+    let is_whole = decoder.decode_frame(rotten).is_ok();
+    Ok(is_whole == (rotten == made.payload.as_slice()))
+}
+
+/// Whether a rotten payload gives only slices of the original.
+fn gives_slices_of_original(
     alloc: Global,
     made: &Made,
     original: &[FoundSlice<'_>],
@@ -104,12 +111,20 @@ fn payload_is_judged(
 ) -> Result<bool, Fail> {
     let mut holding = Holding::new(alloc, &made.record, made.size.0, made.size.1)?;
     let taken = holding.take(rotten).ok().ok_or("ample memory")?;
-    let decoder = Decoder::new(alloc, &made.record, made.size.0, made.size.1)?;
-    let is_whole = decoder.decode_frame(rotten).is_ok();
+    let is_original = holds_of_original(alloc, &holding, original)?;
+    Ok(is_original && taken.links <= rotten.len() / 8)
+}
+
+/// Whether a rotten payload gives only slices of the original, and is decoded exactly where it is the original.
+fn payload_is_judged(
+    alloc: Global,
+    made: &Made,
+    original: &[FoundSlice<'_>],
+    rotten: &[u8],
+) -> Result<bool, Fail> {
     Ok(
-        taken.links <= rotten.len() / 8
-            && is_whole == (rotten == made.payload.as_slice())
-            && holds_of_original(alloc, &holding, original)?,
+        gives_slices_of_original(alloc, made, original, rotten)?
+            && is_decoded_as_original(alloc, made, rotten)?,
     )
 }
 

@@ -221,25 +221,43 @@ fn burst_at(alloc: Global, payload: &[u8], byte: usize) -> Result<Vec<u8>, Fail>
     Ok(burst(alloc, payload, byte * 8 + 3, 0xFFFF_FFFF)?)
 }
 
+/// A copy of a frame with a burst in the contents of these tiles.
+fn hurt_in(alloc: Global, payload: &[u8], tiles: &[usize]) -> Result<Vec<u8>, Fail> {
+    let mut copy = payload.to_vec(alloc)?;
+    for tile in tiles {
+        let (start, _end) = place_of(alloc, payload, *tile)?;
+        copy = burst_at(alloc, &copy, start.wrapping_add(4))?;
+    }
+    Ok(copy)
+}
+
+/// A copy of a frame with a burst in the error status and the parity of tile 0.
+fn hurt_behind_first(alloc: Global, payload: &[u8]) -> Result<Vec<u8>, Fail> {
+    let (_start, end) = place_of(alloc, payload, 0)?;
+    burst_at(alloc, payload, end.wrapping_sub(5))
+}
+
+/// Whether two copies restore a frame, and this is printed of them.
+fn are_restored(
+    alloc: Global,
+    frame: &Made,
+    copies: [&[u8]; 2],
+    lines: &str,
+) -> Result<bool, Fail> {
+    let (_file, printed) = taken(alloc, frame, copies)?;
+    let is_told = printed.as_slice() == lines.as_bytes();
+    Ok(is_told && restored(alloc, frame, copies)?.as_slice() == frame.payload.as_slice())
+}
+
 #[test]
 fn bursts_in_each_tile_are_restored_from_two_copies(rt: HostRuntime) -> Result<(), Fail> {
     let frame = four_tiles(rt.alloc())?;
-    let payload = frame.payload.as_slice();
-    let mut first = payload.to_vec(rt.alloc())?;
-    for tile in 1..4 {
-        let (start, _end) = place_of(rt.alloc(), payload, tile)?;
-        first = burst_at(rt.alloc(), &first, start.wrapping_add(4))?;
-    }
-    // The error status and the parity of tile 0.
-    let (_start, end) = place_of(rt.alloc(), payload, 0)?;
-    let second = burst_at(rt.alloc(), payload, end.wrapping_sub(5))?;
-    let one = restored(rt.alloc(), &frame, [&first, &second])?;
-    assert!(rt; one.as_slice() == payload);
-    let other = restored(rt.alloc(), &frame, [&second, &first])?;
-    assert!(rt; other.as_slice() == payload);
-    let (_file, printed) = taken(rt.alloc(), &frame, [&first, &second])?;
+    let one = hurt_in(rt.alloc(), &frame.payload, &[1, 2, 3])?;
+    let three = hurt_behind_first(rt.alloc(), &frame.payload)?;
     let lines = "copy 1 links 4 slices 1 new 1\ncopy 2 links 4 slices 3 new 3\n";
-    assert!(rt; printed.as_slice() == lines.as_bytes());
+    assert!(rt; are_restored(rt.alloc(), &frame, [&one, &three], lines)?);
+    let lines = "copy 1 links 4 slices 3 new 3\ncopy 2 links 4 slices 1 new 1\n";
+    assert!(rt; are_restored(rt.alloc(), &frame, [&three, &one], lines)?);
     Ok(())
 }
 
@@ -280,26 +298,51 @@ fn merged(alloc: Global, left: &[u8], right: &[u8]) -> Result<Vec<u8>, Fail> {
     Ok(file)
 }
 
-/// A copy of a frame with a burst in the contents of two tiles.
-fn hurt_in(alloc: Global, payload: &[u8], tiles: [usize; 2]) -> Result<Vec<u8>, Fail> {
-    let mut copy = payload.to_vec(alloc)?;
-    for tile in tiles {
-        let (start, _end) = place_of(alloc, payload, tile)?;
-        copy = burst_at(alloc, &copy, start.wrapping_add(4))?;
-    }
-    Ok(copy)
+/// The holding files of two copies, and of both together.
+#[derive(Drop)]
+struct Files {
+    a: Vec<u8>,
+    b: Vec<u8>,
+    both: Vec<u8>,
+}
+
+/// The holding file of two copies.
+fn file_of(alloc: Global, frame: &Made, copies: [&[u8]; 2]) -> Result<Vec<u8>, Fail> {
+    let (file, _printed) = taken(alloc, frame, copies)?;
+    Ok(file)
+}
+
+/// The files of two copies of a frame.
+fn files_of(alloc: Global, frame: &Made, a: &[u8], b: &[u8]) -> Result<Files, Fail> {
+    Ok(Files {
+        a: file_of(alloc, frame, [a, a])?,
+        b: file_of(alloc, frame, [b, b])?,
+        both: file_of(alloc, frame, [a, b])?,
+    })
+}
+
+/// The files of a copy with bursts in tiles 0 and 3, and of one with bursts in the others.
+fn files_of_halves(alloc: Global) -> Result<Files, Fail> {
+    let frame = four_tiles(alloc)?;
+    let a = hurt_in(alloc, &frame.payload, &[0, 3])?;
+    let b = hurt_in(alloc, &frame.payload, &[1, 2])?;
+    files_of(alloc, &frame, &a, &b)
+}
+
+/// Whether `merge` writes of two holding files what `join` does.
+fn are_alike(alloc: Global, left: &[u8], right: &[u8]) -> Result<bool, Fail> {
+    let file = merged(alloc, left, right)?;
+    Ok(file.as_slice() == joined(alloc, left, right)?.as_slice())
 }
 
 #[test]
 fn merge_writes_what_join_writes(rt: HostRuntime) -> Result<(), Fail> {
-    let frame = four_tiles(rt.alloc())?;
-    let whole = frame.payload.as_slice();
-    let a = hurt_in(rt.alloc(), whole, [0, 3])?;
-    let b = hurt_in(rt.alloc(), whole, [1, 2])?;
-    let (of_a, _) = taken(rt.alloc(), &frame, [&a, &a])?;
-    let (of_b, _) = taken(rt.alloc(), &frame, [&b, &b])?;
-    let (of_both, _) = taken(rt.alloc(), &frame, [&a, &b])?;
-    let (a, b, both) = (of_a.as_slice(), of_b.as_slice(), of_both.as_slice());
+    let files = files_of_halves(rt.alloc())?;
+    let (a, b, both) = (
+        files.a.as_slice(),
+        files.b.as_slice(),
+        files.both.as_slice(),
+    );
     for (left, right) in [
         (a, a),
         (a, b),
@@ -310,10 +353,8 @@ fn merge_writes_what_join_writes(rt: HostRuntime) -> Result<(), Fail> {
         (b, both),
         (both, b),
     ] {
-        let file = merged(rt.alloc(), left, right)?;
-        assert!(rt; file.as_slice() == joined(rt.alloc(), left, right)?.as_slice());
+        assert!(rt; are_alike(rt.alloc(), left, right)?);
     }
-    let file = merged(rt.alloc(), a, b)?;
-    assert!(rt; file.as_slice() == both);
+    assert!(rt; merged(rt.alloc(), a, b)?.as_slice() == both);
     Ok(())
 }
