@@ -85,7 +85,8 @@ pub enum Words<'a> {
 }
 
 impl<'a> Words<'a> {
-    /// The word that names a path of the command, which has to be one of its own; `inputs` for both of `merge` together.
+    /// The word that names a path of the command, which has to be one of its own; `inputs` for both of `merge` together,
+    /// and `standard output` for that.
     pub fn path(&self, path: CommandPath) -> &'a str
         requires { IsPathOf self.now path }
     {
