@@ -235,6 +235,7 @@ module _ (config : List ℕ) (width height : ℕ) (setup : SetupValue) (copies :
   refused ob oa pb pa (faults.Missing tile) (h, file_is, refusal) = settled h file_is tile refusal.0
   refused ob oa pb pa (faults.Disputed tile) (h, file_is, refusal) = settled h file_is tile refusal.0
   refused ob oa pb pa faults.Memory stops = tt
+  refused ob oa pb pa (faults.Splice other) stops = stops
   refused ob oa pb pa faults.Words stops = stops
 
   restores : RestoresOnly file original
@@ -256,6 +257,7 @@ module _ (config : List ℕ) (width height : ℕ) (setup : SetupValue) (copies :
   not_shown ob oa pb pa (faults.Missing tile) stops = stops
   not_shown ob oa pb pa (faults.Disputed tile) stops = stops
   not_shown ob oa pb pa faults.Memory stops = tt
+  not_shown ob oa pb pa (faults.Splice other) stops = stops
   not_shown ob oa pb pa faults.Words stops = stops
 
   shows : ShowsOnly setup file slices

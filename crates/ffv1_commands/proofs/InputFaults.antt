@@ -1,5 +1,5 @@
 -- What a fault that comes before anything is written says: which path it names, and that it tells nothing of the outputs.
-use Rattle.std.proofs.Common.{◌≡◌, ◌≢◌, ℕ, List, Option, Result, Ok, Err, IfSome, IfErr, inl, inr, refl, sym, arith, ap, subst}
+use Rattle.std.proofs.Common.{◌≡◌, ◌≢◌, ℕ, List, Option, Result, Ok, Err, IfSome, IfErr, inl, inr, refl, sym, arith, subst}
 use Rattle.std.specs.Prelude.{IsErrOf}
 use Rattle.ffv1_hold.specs.Contents.{Contents}
 use Rattle.ffv1_hold.specs.HoldingText.{holding_text}
@@ -29,6 +29,7 @@ UnlessWriting-unwritten P (faults.Frame fault) none same = same
 UnlessWriting-unwritten P (faults.Missing tile) none same = same
 UnlessWriting-unwritten P (faults.Disputed tile) none same = same
 UnlessWriting-unwritten P faults.Memory none same = same
+UnlessWriting-unwritten P (faults.Splice other) none same = same
 UnlessWriting-unwritten P faults.Words none same = same
 
 -- the outputs are as they were
@@ -146,6 +147,7 @@ module _ (h : Contents) (text : List ℕ) (ob oa pb pa : Option (List ℕ)) wher
   made_says P (Err (faults.Missing tile)) write file stops = absurd stops
   made_says P (Err (faults.Disputed tile)) write file stops = absurd stops
   made_says P (Err faults.Memory) write file stops = absurd stops
+  made_says P (Err (faults.Splice other)) write file stops = absurd stops
   made_says P (Err faults.Words) write file stops = absurd stops
 
   pub MadeStops-not_read : (r : Result (Unit {0}) CliFault) (path : CommandPath) → IfErr r (MadeStops h text ob oa pb pa) → IsErrOf r (faults.Read path)
@@ -174,6 +176,7 @@ module _ (P : CliFault → Type 0) where
   IsHoldingFault-says path input (faults.Missing tile) read memory file is = absurd is
   IsHoldingFault-says path input (faults.Disputed tile) read memory file is = absurd is
   IsHoldingFault-says path input faults.Memory read memory file is = memory
+  IsHoldingFault-says path input (faults.Splice other) read memory file is = absurd is
   IsHoldingFault-says path input faults.Words read memory file is = absurd is
 
   pub IsInputFault-says : (path : CommandPath) (fault : CliFault) → P (faults.Read path) → P faults.Memory → IsInputFault path fault → P fault
@@ -186,6 +189,7 @@ module _ (P : CliFault → Type 0) where
   IsInputFault-says path (faults.Missing tile) read memory is = absurd is
   IsInputFault-says path (faults.Disputed tile) read memory is = absurd is
   IsInputFault-says path faults.Memory read memory is = memory
+  IsInputFault-says path (faults.Splice other) read memory is = absurd is
   IsInputFault-says path faults.Words read memory is = absurd is
 
 -- another path than the one that was to be read was not told

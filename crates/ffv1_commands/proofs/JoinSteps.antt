@@ -147,6 +147,7 @@ module _ (first input : Option (List ℕ)) (rest : List (Option (List ℕ))) (i 
   other_refused (faults.Missing tile) stops = absurd stops
   other_refused (faults.Disputed tile) stops = absurd stops
   other_refused faults.Memory stops = tt
+  other_refused (faults.Splice other) stops = absurd stops
   other_refused faults.Words stops = absurd stops
 
 pub IsFaultOfFiles-unwritten : (inputs : List (Option (List ℕ))) (fault : CliFault) → IsFaultOfFiles inputs fault → IsUnwritten fault
@@ -159,6 +160,7 @@ IsFaultOfFiles-unwritten inputs (faults.Frame fault) stops = tt
 IsFaultOfFiles-unwritten inputs (faults.Missing tile) stops = tt
 IsFaultOfFiles-unwritten inputs (faults.Disputed tile) stops = tt
 IsFaultOfFiles-unwritten inputs faults.Memory stops = tt
+IsFaultOfFiles-unwritten inputs (faults.Splice other) stops = tt
 IsFaultOfFiles-unwritten inputs faults.Words stops = tt
 
 -- the first file's fault is one of the files
@@ -188,6 +190,7 @@ files_name inputs n is (faults.Frame fault) (i, lt, before, stops) = absurd stop
 files_name inputs n is (faults.Missing tile) (i, lt, before, stops) = absurd stops
 files_name inputs n is (faults.Disputed tile) (i, lt, before, stops) = absurd stops
 files_name inputs n is faults.Memory stops = tt
+files_name inputs n is (faults.Splice other) (i, lt, before, stops) = absurd stops
 files_name inputs n is faults.Words (i, lt, before, stops) = absurd stops
 
 module _ (inputs : List (Option (List ℕ))) (ob oa pb pa : Option (List ℕ)) where
@@ -201,6 +204,7 @@ module _ (inputs : List (Option (List ℕ))) (ob oa pb pa : Option (List ℕ)) w
   files_refused (faults.Missing tile) stops = stops
   files_refused (faults.Disputed tile) stops = stops
   files_refused faults.Memory stops = tt
+  files_refused (faults.Splice other) stops = stops
   files_refused faults.Words stops = stops
 
   module _ (whole : Contents) (lines : List ℕ) (each : JoinsEach inputs whole lines) where
@@ -214,6 +218,7 @@ module _ (inputs : List (Option (List ℕ))) (ob oa pb pa : Option (List ℕ)) w
     union_refused (faults.Missing tile) stops = absurd stops
     union_refused (faults.Disputed tile) stops = absurd stops
     union_refused faults.Memory stops = absurd stops
+    union_refused (faults.Splice other) stops = absurd stops
     union_refused faults.Words stops = absurd stops
 
     pub joins : (r : Result (Unit {0}) CliFault) → OnOk r (HasFile whole) → OnOk r (Appends ob oa (holding_text whole)) → OnOk r (Appends pb pa lines)
@@ -239,4 +244,5 @@ module _ (inputs : List (Option (List ℕ))) (ob oa pb pa : Option (List ℕ)) w
     join_stopped (Err (faults.Missing tile)) stops = absurd stops
     join_stopped (Err (faults.Disputed tile)) stops = absurd stops
     join_stopped (Err faults.Memory) stops = absurd stops
+    join_stopped (Err (faults.Splice other)) stops = absurd stops
     join_stopped (Err faults.Words) stops = absurd stops

@@ -5,6 +5,7 @@ pub mod InputFaults
 pub mod PrintSteps
 pub mod ChainSteps
 pub mod TakeSteps
+pub mod SpliceCommandSteps
 pub mod JoinSteps
 pub mod RestoreSteps
 pub mod Outcomes

@@ -96,6 +96,7 @@ IsFaultOfInputs-says P inputs (faults.Frame fault) read hold memory (i, lt, befo
 IsFaultOfInputs-says P inputs (faults.Missing tile) read hold memory (i, lt, before, stops) = absurd stops
 IsFaultOfInputs-says P inputs (faults.Disputed tile) read hold memory (i, lt, before, stops) = absurd stops
 IsFaultOfInputs-says P inputs faults.Memory read hold memory stops = memory
+IsFaultOfInputs-says P inputs (faults.Splice other) read hold memory (i, lt, before, stops) = absurd stops
 IsFaultOfInputs-says P inputs faults.Words read hold memory (i, lt, before, stops) = absurd stops
 
 -- a copy's fault is no failure of the record
@@ -117,6 +118,7 @@ copies_name inputs n is (faults.Frame fault) (i, lt, before, stops) = absurd sto
 copies_name inputs n is (faults.Missing tile) (i, lt, before, stops) = absurd stops
 copies_name inputs n is (faults.Disputed tile) (i, lt, before, stops) = absurd stops
 copies_name inputs n is faults.Memory stops = tt
+copies_name inputs n is (faults.Splice other) (i, lt, before, stops) = absurd stops
 copies_name inputs n is faults.Words (i, lt, before, stops) = absurd stops
 
 module _ (record' after : Option (List ℕ)) (config : List ℕ) (width height : ℕ) (inputs : List (Option (List ℕ))) (ob oa pb pa : Option (List ℕ))
@@ -144,6 +146,7 @@ module _ (record' after : Option (List ℕ)) (config : List ℕ) (width height :
     copies_refused (faults.Missing tile) (i, lt, before, stops) = absurd stops
     copies_refused (faults.Disputed tile) (i, lt, before, stops) = absurd stops
     copies_refused faults.Memory stops = tt
+    copies_refused (faults.Splice other) (i, lt, before, stops) = absurd stops
     copies_refused faults.Words (i, lt, before, stops) = absurd stops
 
   module _ (reel : Reel) (held : Contents) (lines : List ℕ) (is : IsReelOf config width height reel) (each : TakesEach inputs reel held lines) where
@@ -164,6 +167,7 @@ module _ (record' after : Option (List ℕ)) (config : List ℕ) (width height :
     file_refused (faults.Missing tile) stops = absurd stops
     file_refused (faults.Disputed tile) stops = absurd stops
     file_refused faults.Memory stops = absurd stops
+    file_refused (faults.Splice other) stops = absurd stops
     file_refused faults.Words stops = absurd stops
 
     text : holding_text held ≡ holding_text (holding_of reel each.copies)
@@ -202,4 +206,5 @@ module _ (record' after : Option (List ℕ)) (config : List ℕ) (width height :
     take_stopped (Err (faults.Missing tile)) stops = absurd stops
     take_stopped (Err (faults.Disputed tile)) stops = absurd stops
     take_stopped (Err faults.Memory) stops = absurd stops
+    take_stopped (Err (faults.Splice other)) stops = absurd stops
     take_stopped (Err faults.Words) stops = absurd stops

@@ -20,12 +20,14 @@ use Rattle.ffv1_commands.specs.declared.path.CommandPath.TheVariants as paths
 abbrev pub named_path : CliFault → Option CommandPath
 named_path (faults.Read path) = Some path
 named_path (faults.Write path) = Some path
+named_path (faults.Splice path) = Some path
 named_path _ = None
 
 -- The path that it names, if it names one, is one of these.
 abbrev pub NamesPath : (CommandPath → Type 0) → CliFault → Type 0
 NamesPath IsPath (faults.Read path) = IsPath path
 NamesPath IsPath (faults.Write path) = IsPath path
+NamesPath IsPath (faults.Splice path) = IsPath path
 NamesPath IsPath _ = Unit {0}
 
 abbrev pub NamesNoPath : CliFault → Type 0
@@ -91,6 +93,7 @@ fault_line text (faults.HoldFile fault) = codes "holding file fault " ++ decimal
 fault_line text (faults.Frame fault) = frame_fault_line fault
 fault_line text (faults.Missing tile) = codes "missing tile " ++ decimal tile
 fault_line text (faults.Disputed tile) = codes "disputed tile " ++ decimal tile
+fault_line text (faults.Splice path) = codes "cannot splice " ++ text
 fault_line text faults.Memory = codes "memory"
 fault_line text faults.Words = codes "words refused"
 

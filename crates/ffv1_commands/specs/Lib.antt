@@ -14,6 +14,7 @@ pub mod SamplesText
 pub mod DecodeText
 pub mod PictureText
 pub mod ReportedText
+pub mod SpliceText
 pub mod Commands
 -- what the clauses cite of the crates below
 pub use Rattle.ffv1_slice.specs.Chain
@@ -42,3 +43,5 @@ pub use Rattle.ffv1_picture.specs.Frames
 pub use Rattle.ffv1_picture.specs.FrameFaults
 pub use Rattle.ffv1_picture.specs.PartialPictures
 pub use Rattle.ffv1_picture.specs.ReportText
+pub use Rattle.ffv1_splice.specs.Splice
+pub use Rattle.ffv1_splice.specs.Faults

@@ -21,6 +21,13 @@ IsTakePath copies Out = Unit {0}
 IsTakePath copies StandardOutput = Unit {0}
 IsTakePath copies _ = ⊥
 
+-- `splice` of so many copies
+abbrev pub IsSplicePath : ℕ → CommandPath → Type 0
+IsSplicePath copies (Copy place) = place < copies
+IsSplicePath copies Out = Unit {0}
+IsSplicePath copies StandardOutput = Unit {0}
+IsSplicePath copies _ = ⊥
+
 -- `join` of so many holding files
 abbrev pub IsJoinPath : ℕ → CommandPath → Type 0
 IsJoinPath files (Hold place) = place < files

@@ -6,7 +6,7 @@ use crate::path::CommandPath;
 use ffv1_hold::{HoldFault, HoldFileFault, RestoreFault};
 use ffv1_picture::FrameFault;
 use ffv1_range::SetupFault;
-use std::alloc::{AllocError, Global};
+use std::alloc::{AllocError, AllocFailed, Global};
 use thiserror::Error;
 
 /// A fault of a command. That of a device says which path of the command it is.
@@ -39,6 +39,9 @@ pub enum CliFault {
     /// Several slices of this tile have the least error_status, and every earlier tile is settled.
     #[error("disputed tile {0}")]
     Disputed(usize),
+    /// The copy is not as long as the first one.
+    #[error("{0:?} was not spliced")]
+    Splice(CommandPath),
     /// A growth of memory was refused.
     #[error("no memory")]
     Memory,
@@ -53,7 +56,7 @@ impl CliFault {
         ensures { result ≡ named_path self.now }
     {
         match self {
-            CliFault::Read(path) | CliFault::Write(path) => Some(*path),
+            CliFault::Read(path) | CliFault::Write(path) | CliFault::Splice(path) => Some(*path),
             _ => None,
         }
     }
@@ -81,6 +84,7 @@ impl CliFault {
             CliFault::Frame(fault) => frame_fault_line(alloc, *fault),
             CliFault::Missing(tile) => format!(in alloc; "missing tile {tile}"),
             CliFault::Disputed(tile) => format!(in alloc; "disputed tile {tile}"),
+            CliFault::Splice(_) => format!(in alloc; "cannot splice {path}"),
             CliFault::Memory => String::from_str(alloc, "memory"),
             CliFault::Words => String::from_str(alloc, "words refused"),
         }
@@ -165,6 +169,17 @@ impl From<AllocError> for CliFault {
     ghost from_gives = { λ _ result. result ≡ Memory };
 
     fn from(_refusal: AllocError) -> CliFault {
+        CliFault::Memory
+    }
+}
+
+impl<T: Drop> From<AllocFailed<T>> for CliFault {
+    ghost use Rattle.std.specs.Prelude.{◌≡◌};
+    ghost use Rattle.ffv1_commands.specs.declared.fault.CliFault.TheVariants.{Memory};
+
+    ghost from_gives = { λ _ result. result ≡ Memory };
+
+    fn from(_refusal: AllocFailed<T>) -> CliFault {
         CliFault::Memory
     }
 }

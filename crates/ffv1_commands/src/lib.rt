@@ -17,6 +17,7 @@ mod report;
 mod restore;
 mod samples;
 mod show;
+mod splice;
 mod take;
 
 pub use chain::run_chain;
@@ -30,4 +31,5 @@ pub use picture::run_picture;
 pub use report::run_report;
 pub use restore::run_restore;
 pub use show::run_show;
+pub use splice::run_splice;
 pub use take::run_take;

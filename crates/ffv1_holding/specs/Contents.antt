@@ -7,8 +7,8 @@ use Rattle.std.specs.Coded.{Coded, code_by, coded×}
 use Rattle.sha2.specs.Sha256.{sha256}
 use Rattle.ffv1_bits.specs.Limits.{slice_limit}
 use Rattle.ffv1_range.specs.Setup.{SetupValue}
-use Rattle.ffv1_slice.specs.Slices.{IsSliceOf}
-use Rattle.ffv1_slice.specs.Slices.{found_slices}
+use Rattle.ffv1_slice.specs.Members.{HasSameMembers}
+use Rattle.ffv1_slice.specs.Slices.{IsSliceOf, found_slices}
 use Rattle.ffv1_holding.specs.SliceOrder.{Entry, Origin, with_each, bytes_cmp, entry_cmp, origin_cmp, coded_entry, coded_origin}
 use Rattle.ffv1_holding.specs.Sets as set
 use Rattle.ffv1_holding.specs.Rising.{IsRising}
@@ -62,7 +62,7 @@ holding_of reel copies = record { reel = reel; slices = slices_of_copies reel.se
 
 -- the same copies, in whatever order and however often
 abbrev pub HasSameCopies : List (List ℕ) → List (List ℕ) → Type 0
-HasSameCopies copies others = (copy : List ℕ) → (Contains copies copy → Contains others copy) × (Contains others copy → Contains copies copy)
+HasSameCopies copies others = HasSameMembers copies others
 
 -- the digests of the copies that gave a slice, in their order
 abbrev pub digests_of : Contents → Entry → List (List ℕ)

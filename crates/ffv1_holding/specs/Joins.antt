@@ -11,10 +11,6 @@ abbrev pub AreJoinable : {T : Type 0} → (T → T → Type 0) → (T → T → 
 AreJoinable joinable union whole [] = Unit {0}
 AreJoinable joinable union whole (other ∷ others) = joinable whole other × AreJoinable joinable union (union whole other) others
 
--- each member of one list is one of the other, in whatever order and however often
-abbrev pub HasSameMembers : {T : Type 0} → List T → List T → Type 0
-HasSameMembers xs ys = (x : _) → (Contains xs x → Contains ys x) × (Contains ys x → Contains xs x)
-
 -- any two of the others can be joined, and each into the value
 abbrev pub AreJoinableInPairs : {T : Type 0} → (T → T → Type 0) → T → List T → Type 0
 AreJoinableInPairs joinable whole others =

@@ -1,6 +1,7 @@
 //! Values whose meaning is a set: one grows by another, or by many (own).
 ghost use Rattle.std.specs.Prelude.{◌≡◌, ◌≢◌, ℕ, List, ◌+◌, ◌<◌, ◌^◌, length, take, slice_index_or, IfOk, IfErr, OnOk, OnErr};
-ghost use Rattle.ffv1_holding.specs.Joins.{joined_all, AreJoinable, HasSameMembers, AreJoinableInPairs};
+ghost use Rattle.ffv1_holding.specs.Joins.{joined_all, AreJoinable, AreJoinableInPairs};
+ghost use Rattle.ffv1_slice.specs.Members.{HasSameMembers};
 
 use crate::fault::HoldFault;
 

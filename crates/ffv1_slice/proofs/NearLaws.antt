@@ -29,9 +29,14 @@ size_field-size slice long =
     big_number_front (a ∷ b ∷ []) = refl
     big_number_front (a ∷ b ∷ c ∷ xs) = refl
 
+-- bytes with the same size field give the same size
+pub same_size_field : (slice piece : List ℕ) → 8 ≤ length slice → 8 ≤ length piece → size_field piece ≡ size_field slice
+    → size_before piece (length piece) ≡ size_before slice (length slice)
+same_size_field slice piece long other same = size_field-size piece other ∙ ap (big_number 3) same ∙ sym (size_field-size slice long)
+
 -- ---- a piece where it stands
 
-length-range : (xs : List ℕ) (p q : ℕ) → p ≤ q → q ≤ length xs → length (slice_range xs p q) ≡ q - p
+pub length-range : (xs : List ℕ) (p q : ℕ) → p ≤ q → q ≤ length xs → length (slice_range xs p q) ≡ q - p
 length-range xs p q low high = length-take-le (q - p) (drop p xs) (omega (arith, length-drop p xs))
 
 around_range : (xs : List ℕ) (p q : ℕ) → p ≤ q → take p xs ++ (slice_range xs p q ++ drop q xs) ≡ xs
@@ -43,7 +48,7 @@ around_range xs p q low =
     ∙ take-append-drop p xs
 
 -- the footer that ends at q is that of the piece that ends there
-size_of_range : (xs : List ℕ) (p q : ℕ) → p + 8 ≤ q → q ≤ length xs → size_before xs q ≡ size_before (slice_range xs p q) (length (slice_range xs p q))
+pub size_of_range : (xs : List ℕ) (p q : ℕ) → p + 8 ≤ q → q ≤ length xs → size_before xs q ≡ size_before (slice_range xs p q) (length (slice_range xs p q))
 size_of_range xs p q low high =
     let piece = slice_range xs p q in
     let size : length (slice_range xs p q) ≡ q - p = length-range xs p q (omega arith) high in
@@ -89,8 +94,7 @@ module _ (setup : SetupValue) (original : List ℕ) (slices : List (List ℕ)) (
         | inl same ↦ ap (λ z. size_before z (length z)) same ∙ (own k lt).framed.size
         | inr hurt ↦
             let long : 8 ≤ length (get_or slices k []) = cut.long k lt in
-            size_field-size (piece_at slices copy k) (omega (arith, piece_length k lt)) ∙ ap (big_number 3) hurt.size
-            ∙ sym (size_field-size (get_or slices k []) long) ∙ (own k lt).framed.size
+            same_size_field (get_or slices k []) (piece_at slices copy k) long (omega (arith, piece_length k lt)) hurt.size ∙ (own k lt).framed.size
       ]
 
   -- so the copy is cut as the original is

@@ -1,4 +1,5 @@
 pub mod Chain
+pub mod Members
 pub mod Walk
 pub mod Ending
 pub mod Slices

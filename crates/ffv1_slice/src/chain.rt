@@ -89,8 +89,9 @@ impl<'a> Iterator for Chain<'a> {
     }
 }
 
-/// Where the slice begins whose footer ends at this place.
-fn slice_start(payload: &[u8], place: usize) -> Option<usize>
+/// Where the slice begins whose footer ends at this place, counted as the place is, in bytes from the payload's start; `None`
+/// where fewer than 8 bytes stand before the place, or the footer there gives a size that is more than there is.
+pub fn slice_start(payload: &[u8], place: usize) -> Option<usize>
     requires { place ≤ length payload.now }
     ensures cut { MatchOption result ((p : ℕ) → IsCut payload.now p place → ⊥) (λ p. IsCut payload.now p place) }
     ensures short { IfSome result (λ p. place ≤ p + slice_limit) }

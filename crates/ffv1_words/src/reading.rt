@@ -9,7 +9,7 @@ use ffv1_commands::CliFault;
 use std::alloc::{AllocError, Global};
 
 /// The commands: the name of each, its words, and behind them the word of which there has to be one at least.
-const COMMANDS: [(&str, &[&str], Option<&str>); 9] = [
+const COMMANDS: [(&str, &[&str], Option<&str>); 10] = [
     ("chain", &["FRAME"], None),
     ("show", &["RECORD", "WIDTH", "HEIGHT"], None),
     ("take", &["RECORD", "WIDTH", "HEIGHT", "OUT"], Some("COPY")),
@@ -18,6 +18,7 @@ const COMMANDS: [(&str, &[&str], Option<&str>); 9] = [
     ("report", &["HOLD"], None),
     ("restore", &["HOLD", "OUT"], None),
     ("picture", &["HOLD", "OUT"], None),
+    ("splice", &["OUT"], Some("COPY")),
     (
         "decode",
         &["RECORD", "WIDTH", "HEIGHT", "FRAME", "OUT"],
@@ -134,6 +135,16 @@ fn merge_words<'a>(matches: &ArgMatches<'a>) -> Result<Words<'a>, CliFault>
     })
 }
 
+/// The words of `splice`.
+fn splice_words<'a>(alloc: Global, matches: &ArgMatches<'a>) -> Result<Words<'a>, CliFault>
+    ensures { IfErr result NamesNoPath }
+{
+    Ok(Words::Splice {
+        out: word(matches, "OUT")?,
+        copies: list(alloc, several(matches, "COPY")?)?,
+    })
+}
+
 /// The words of `decode`.
 fn decode_words<'a>(matches: &ArgMatches<'a>) -> Result<Words<'a>, CliFault>
     ensures { IfErr result NamesNoPath }
@@ -170,6 +181,7 @@ fn words_of<'a>(alloc: Global, name: &str, matches: &ArgMatches<'a>) -> Result<W
             file: word(matches, "HOLD")?,
             out: word(matches, "OUT")?,
         }),
+        "splice" => splice_words(alloc, matches),
         "decode" => decode_words(matches),
         _ => Err(CliFault::Words),
     }

@@ -73,6 +73,13 @@ pub enum Words<'a> {
         /// The file that is made.
         out: &'a str,
     },
+    /// Splices copies of a frame.
+    Splice {
+        /// The file that is made.
+        out: &'a str,
+        /// The copies, one at least.
+        copies: Vec<&'a str>,
+    },
     /// Writes the samples of a frame payload.
     Decode {
         /// The record and size of the frame.
@@ -108,6 +115,8 @@ impl<'a> Words<'a> {
             (Words::Restore { out, .. }, CommandPath::Out) => out,
             (Words::Picture { file, .. }, CommandPath::Hold(_)) => file,
             (Words::Picture { out, .. }, CommandPath::Out) => out,
+            (Words::Splice { copies, .. }, CommandPath::Copy(place)) => copies[place],
+            (Words::Splice { out, .. }, CommandPath::Out) => out,
             (Words::Decode { recording, .. }, CommandPath::Record) => recording.record,
             (Words::Decode { frame, .. }, CommandPath::Frame) => frame,
             (Words::Decode { out, .. }, CommandPath::Out) => out,

@@ -4,14 +4,15 @@
 
 ghost use Rattle.std.specs.Prelude.{◌≡◌, ◌+◌, length, vec_len, IfOk, IfErr};
 ghost use Rattle.ffv1_commands.specs.Fault.{NamesPath, NamesNoPath};
-ghost use Rattle.ffv1_commands.specs.Paths.{IsTakePath, IsJoinPath, IsMergePath, IsDecodePath};
+ghost use Rattle.ffv1_commands.specs.Paths.{IsTakePath, IsJoinPath, IsMergePath, IsSplicePath, IsDecodePath};
 ghost use Rattle.ffv1_words.specs.WordPaths.{IsPathOf};
 
 mod files;
 
 pub use ffv1_commands::{
     CliFault, CommandPath, commands_restore_the_original, run_chain, run_decode, run_join,
-    run_merge, run_picture, run_report, run_restore, run_show, run_take, same_copies_make_one_file,
+    run_merge, run_picture, run_report, run_restore, run_show, run_splice, run_take,
+    same_copies_make_one_file,
 };
 use ffv1_words::{Recording, Words, read_words};
 use files::{InputFile, OutputFile};
@@ -92,6 +93,22 @@ fn merge_files(rt: &HostRuntime, out: &str, left: &str, right: &str) -> Result<(
     run_merge(rt.alloc(), &mut left, &mut right, &mut out)
 }
 
+/// Splices the copies of these paths. There is one at least, as the words are read.
+fn splice_files(rt: &HostRuntime, out: &str, copies: &[&str]) -> Result<bool, CliFault>
+    ensures { IfErr result (NamesPath (IsSplicePath (length copies.now))) }
+{
+    if copies.is_empty() {
+        return Err(CliFault::Words);
+    }
+    let mut copies = input_files(rt, copies)?;
+    run_splice(
+        rt.alloc(),
+        copies.as_mut_slice(),
+        &mut OutputFile::new(rt, out),
+        &mut io::writer(rt),
+    )
+}
+
 /// Decodes the frame of these paths.
 fn decode_files(
     rt: &HostRuntime,
@@ -113,7 +130,7 @@ fn decode_files(
 }
 
 /// Runs a command on the files that its words name. Answers `false` where `picture` wrote its file and some tile has no
-/// samples, else `true`.
+/// samples, or `splice` its own and some place is not settled, else `true`.
 fn run(rt: &HostRuntime, words: &Words<'_>) -> Result<bool, CliFault>
     ensures { IfErr result (NamesPath (IsPathOf words.now)) }
 {
@@ -142,6 +159,7 @@ fn run(rt: &HostRuntime, words: &Words<'_>) -> Result<bool, CliFault>
             let (mut file, mut out) = (InputFile::new(rt, file), OutputFile::new(rt, out));
             return run_picture(alloc, &mut file, &mut out, &mut output);
         }
+        Words::Splice { out, copies } => return splice_files(rt, out, copies.as_slice()),
         Words::Decode {
             recording,
             frame,

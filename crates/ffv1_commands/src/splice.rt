@@ -1,0 +1,166 @@
+//! The command `splice`: splices copies of one frame by the footers of their slices alone (own; footers are those of RFC
+//! 9043, section 4.9).
+ghost use Rattle.std.specs.Prelude.{◌≡◌, ◌<◌, ◌++◌, ◌↔◌, length, map, IsTrue, IfOk, IfErr, IsErrOf, OnOk, string_bytes};
+ghost use Rattle.ffv1_splice.specs.Splice.{IsSpliceOf};
+ghost use Rattle.ffv1_commands.specs.Fault.{NamesPath};
+ghost use Rattle.ffv1_commands.specs.Paths.{IsSplicePath};
+ghost use Rattle.ffv1_commands.specs.Devices.{IsWholeInput, AreWholeInputs, IsCopyFault, UnlessWriting, TellsFailure};
+ghost use Rattle.ffv1_commands.specs.TakeText.{IsFaultOfInputs};
+ghost use Rattle.ffv1_commands.specs.SpliceText.{standing_word, standing_line, front_line, splice_text, IsAllSettled, IsLengthFault, SplicesCopies, SpliceStops};
+
+use crate::devices::{read_copy, write_both};
+use crate::fault::CliFault;
+use crate::path::CommandPath;
+use ffv1_hold::{FromRead, Sink, ThroughWrite};
+use ffv1_splice::{Place, SpliceFault, Spliced, Standing, splice};
+use std::alloc::{AllocError, Global};
+use std::io::{Read, Write};
+
+/// Reads copies of a frame to their ends, one after the other; splices them, and writes the splice to `out`; and then prints a line
+/// for each of its places, from its end, as `1833..3698 missing`, and last `end whole`, or `end broken at 1833` where the front before that
+/// place can't be divided. Answers whether the places cover the frame and each is settled.
+///
+/// `Read` comes where a copy can't be read; `Hold` where one is longer than 2^30 bytes; `Splice` with the first copy that is not as
+/// long as the first one; `Memory` where a growth is refused: then nothing was written, and `out` was not touched. `Write` comes where
+/// `out` or the output fails: a front of the splice was written, or the whole and a front of the lines.
+pub fn run_splice<C: Read, O: Write, W: Write>(
+    alloc: Global,
+    copies: &mut [C],
+    out: &mut O,
+    output: &mut W,
+) -> Result<bool, CliFault>
+    requires { 0 < length copies.old }
+    ensures ok { IfOk result (SplicesCopies (map C.remaining copies.old)
+        (O.contents out.old) (O.contents out.new) (W.contents output.old) (W.contents output.new)) }
+    ensures err { IfErr result (SpliceStops (map C.remaining copies.old)
+        (O.contents out.old) (O.contents out.new) (W.contents output.old) (W.contents output.new)) }
+    ensures untouched { IfErr result (λ fault. UnlessWriting fault ((out.new ≡ out.old) × (output.new ≡ output.old))) }
+    ensures names { IfErr result (NamesPath (IsSplicePath (length copies.old))) }
+{
+    splice_of(
+        alloc,
+        copies,
+        &mut ThroughWrite::new(out),
+        &mut ThroughWrite::new(output),
+    )
+}
+
+/// The command over readers of copies, and sinks.
+fn splice_of<C: Read, O: Sink, W: Sink>(
+    alloc: Global,
+    copies: &mut [C],
+    out: &mut O,
+    output: &mut W,
+) -> Result<bool, CliFault>
+    requires { 0 < length copies.old }
+    ensures ok { IfOk result (SplicesCopies (map C.remaining copies.old)
+        (O.contents out.old) (O.contents out.new) (W.contents output.old) (W.contents output.new)) }
+    ensures err { IfErr result (SpliceStops (map C.remaining copies.old)
+        (O.contents out.old) (O.contents out.new) (W.contents output.old) (W.contents output.new)) }
+    ensures untouched { IfErr result (λ fault. UnlessWriting fault ((out.new ≡ out.old) × (output.new ≡ output.old))) }
+    ensures names { IfErr result (NamesPath (IsSplicePath (length copies.old))) }
+
+    ensures out_told { TellsFailure (IsErrOf result (CliFault.Write CommandPath.Out)) (O.failures out.old) (O.failures out.new)
+        (O.broken out.old) (O.broken out.new) }
+    ensures output_told { TellsFailure (IsErrOf result (CliFault.Write CommandPath.StandardOutput)) (W.failures output.old) (W.failures output.new)
+        (W.broken output.old) (W.broken output.new) }
+    ensures same_out { O.reference out.new ≡ O.reference out.old }
+    ensures same_output { W.reference output.new ≡ W.reference output.old }
+{
+    let read = read_copies(alloc, copies)?;
+    let spliced = spliced_of(alloc, read.as_slice())?;
+    let text = spliced_text(alloc, &spliced)?;
+    write_both(out, spliced.payload(), output, text.as_str())?;
+    Ok(is_all_settled(&spliced))
+}
+
+/// The bytes of all copies.
+fn read_copies<C: Read>(alloc: Global, copies: &mut [C]) -> Result<Vec<Vec<u8>>, CliFault>
+    ensures ok { IfOk result (λ read. AreWholeInputs (map C.remaining copies.old) (map (λ copy. copy.items) read.items)) }
+    ensures err { IfErr result (IsFaultOfInputs (map C.remaining copies.old)) }
+{
+    let mut read = Vec::new(alloc);
+    for index in 0..copies.len() {
+        let copy = read_one(alloc, &mut copies[index], index)?;
+        read.push(copy)?;
+    }
+    Ok(read)
+}
+
+/// The bytes of a copy, before which stand so many others.
+fn read_one<C: Read>(alloc: Global, copy: &mut C, before: usize) -> Result<Vec<u8>, CliFault>
+    ensures ok { IfOk result (λ read. IsWholeInput (C.remaining copy.old) read.items) }
+    ensures err { IfErr result (IsCopyFault (CommandPath.Copy before) (C.remaining copy.old)) }
+{
+    read_copy(alloc, &mut FromRead::new(copy), CommandPath::Copy(before))
+}
+
+/// The splice of copies, of which there is one at least.
+fn spliced_of(alloc: Global, copies: &[Vec<u8>]) -> Result<Spliced, CliFault>
+    requires { 0 < length copies.now }
+    ensures ok { IfOk result (IsSpliceOf (map (λ copy. copy.items) copies.now)) }
+    ensures err { IfErr result (IsLengthFault (map (λ copy. copy.items) copies.now)) }
+{
+    let mut slices = Vec::new(alloc);
+    for copy in copies {
+        slices.push(copy.as_slice())?;
+    }
+    match splice(alloc, slices.as_slice()) {
+        Ok(spliced) => Ok(spliced),
+        Err(SpliceFault::OtherLength(index)) => Err(CliFault::Splice(CommandPath::Copy(index))),
+        Err(SpliceFault::Memory) => Err(CliFault::Memory),
+    }
+}
+
+/// Whether the places cover the frame, and each is settled.
+fn is_all_settled(spliced: &Spliced) -> bool
+    ensures { IsTrue result ↔ IsAllSettled spliced.now }
+{
+    spliced.front() == 0
+        && spliced
+            .places()
+            .iter()
+            .all(|place| matches!(place.standing, Standing::Settled))
+}
+
+/// The lines of the places, from the frame's end, and of its front.
+fn spliced_text(alloc: Global, spliced: &Spliced) -> Result<String, AllocError>
+    ensures { IfOk result (λ text. string_bytes text ≡ splice_text spliced.now) }
+{
+    let mut text = String::new(alloc);
+    for place in spliced.places() {
+        push_standing(&mut text, *place)?;
+    }
+    push_front(&mut text, spliced.front())?;
+    Ok(text)
+}
+
+/// Adds the line of a place.
+fn push_standing(text: &mut String, place: Place) -> Result<(), AllocError>
+    ensures { OnOk result (string_bytes text.new ≡ string_bytes text.old ++ standing_line place) }
+{
+    let (start, end, word) = (place.start, place.end, standing_word(place.standing));
+    writeln!(text, "{start}..{end} {word}")
+}
+
+/// The word for how a place stands.
+fn standing_word(standing: Standing) -> &'static str
+    ensures { result.now ≡ standing_word standing }
+{
+    match standing {
+        Standing::Settled => "settled",
+        Standing::Disputed => "disputed",
+        Standing::Missing => "missing",
+    }
+}
+
+/// Adds the line that tells whether the places cover the frame.
+fn push_front(text: &mut String, front: usize) -> Result<(), AllocError>
+    ensures { OnOk result (string_bytes text.new ≡ string_bytes text.old ++ front_line front) }
+{
+    if front == 0 {
+        writeln!(text, "end whole")
+    } else {
+        writeln!(text, "end broken at {front}")
+    }
+}

@@ -1,0 +1,10 @@
+pub mod CopyLists
+pub mod ToldSteps
+pub mod LeastSteps
+pub mod PlaceSteps
+pub mod Walks
+pub mod SpliceSteps
+pub mod OneSplice
+pub mod OriginalLaws
+pub mod NearCopies
+pub mod Vectors

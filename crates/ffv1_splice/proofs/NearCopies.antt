@@ -1,0 +1,165 @@
+-- The splice of copies that are near an original.
+use Rattle.std.proofs.Common.{◌≡◌, ℕ, ◌+◌, ◌<◌, ◌≤◌, List, length, get_or, refl, sym, ap, ◌∙◌, subst, arith, inl, inr}
+use Rattle.std.specs.Prelude.{slice_range}
+use Rattle.ffv1_bits.specs.Parity.{PassesParity}
+use Rattle.ffv1_bits.proofs.Burst.{burst}
+use Rattle.ffv1_bits.proofs.Bytes.{AreBytes-range}
+use Rattle.ffv1_slice.specs.Chain.{size_before, IsCut, IsEnd, IsLinkOf, piece_of}
+use Rattle.ffv1_slice.specs.Chain.IsEnd.{last}
+use Rattle.ffv1_slice.proofs.NearLaws.{same_size_field, length-range, size_of_range}
+use Rattle.ffv1_splice.specs.Pieces.{IsPiece, IsToldStart}
+use Rattle.ffv1_splice.specs.Standings.{StandsAs, IsStop}
+use Rattle.ffv1_splice.specs.Splice.{SplicedValue, IsSpliceOf}
+use Rattle.ffv1_splice.specs.Originals.{AreCopiesOf, AgreeWith, IsSound, IsIntact, IsNearCopy, AreNearCopies, IsIntactInSome}
+use Rattle.ffv1_splice.specs.Laws.{IsNearSplice, NearCopiesSplice}
+use Rattle.ffv1_splice.specs.declared.place.Standing.{Standing}
+use Rattle.ffv1_splice.specs.declared.place.Standing.TheVariants.{Settled, Disputed, Missing}
+use Rattle.ffv1_splice.proofs.OriginalLaws.{end_within, link_at, same_cut, AreLinkPlaces, link_places, undisputed, settled_link, settled_where, is_original}
+use Rattle.ffv1_splice.proofs.Walks.{IsSpliceBefore, splice_walk}
+
+-- ---- a near copy is cut where the original is
+
+module _ (original copy : List ℕ) (sound : IsSound original) (near : IsNearCopy original copy) (start end : ℕ) (link : IsLinkOf original start end) where
+  within : end ≤ length original
+  within = end_within original end link.is_end
+
+  below : start + 8 ≤ end
+  below = let cut : IsCut original start end = link.cut in omega arith
+
+  size_of : (bytes : List ℕ) → length bytes ≡ length original → size_before bytes end ≡ size_before (slice_range bytes start end) (length (slice_range bytes start end))
+  size_of bytes long = size_of_range bytes start end below (omega (arith, within))
+
+  long_slice : (bytes : List ℕ) → length bytes ≡ length original → 8 ≤ length (slice_range bytes start end)
+  long_slice bytes long = let size = length-range bytes start end (omega (arith, below)) (omega (arith, within)) in omega (arith, below)
+
+  same_size : size_before copy end ≡ size_before original end
+  same_size =
+      size_of copy near.same_length
+      ∙ (elim (near.each start end link) [
+        | inl intact ↦ ap (λ z. size_before z (length z)) intact
+        | inr hurt ↦ same_size_field (slice_range original start end) (slice_range copy start end) (long_slice original refl)
+            (long_slice copy near.same_length) hurt.size
+      ])
+      ∙ sym (size_of original refl)
+
+  pub near_cut : IsCut copy start end
+  near_cut = let cut : IsCut original start end = link.cut in omega (arith, same_size)
+
+  -- what passes its parity there is intact
+  pub near_intact : PassesParity (slice_range copy start end) → IsIntact original copy start end
+  near_intact passes =
+      elim (near.each start end link) [
+        | inl intact ↦ intact
+        | inr hurt ↦ sym (burst (slice_range original start end) (slice_range copy start end) hurt.at (AreBytes-range original start end sound.are_bytes)
+            (AreBytes-range copy start end near.are_bytes) hurt.differ (sound.passes start end link) passes)
+      ]
+
+module _ (original : List ℕ) (copies : List (List ℕ)) (near : AreNearCopies original copies) where
+  -- a start that is told is that of the original's link
+  told_start : (end start told : ℕ) → IsLinkOf original start end → IsToldStart copies end told → told ≡ start
+  told_start end start told link h =
+      let cut : IsCut h.copy start end = near_cut original h.copy near.sound (near.near h.copy h.there) start end link in
+      same_cut h.copy told start end h.cut cut
+
+  pub near_agree : AgreeWith original copies
+  near_agree end piece is_end h =
+      let cut : IsCut h.copy piece.start end = h.cut in
+      let at = link_at original near.sound.whole end is_end (omega arith) in
+      let link : IsLinkOf original at.0 end = record { is_end = is_end; cut = at.1 } in
+      let start : piece.start ≡ at.0 = told_start end at.0 piece.start link
+      (record { copy = h.copy; there = h.there; cut = h.cut; content = h.content }) in
+      let mine : IsLinkOf original piece.start end = subst (λ s. IsLinkOf original s end) (sym start) link in
+      let intact : IsIntact original h.copy piece.start end =
+      near_intact original h.copy near.sound (near.near h.copy h.there) piece.start end mine (subst PassesParity h.bytes h.passes) in
+      (mine, ap (λ z. record { start = piece.start; bytes = z }) (h.bytes ∙ intact))
+
+  -- a link that is intact in some copy is a piece
+  pub intact_piece : (start end : ℕ) → IsLinkOf original start end → IsIntactInSome original copies start end → IsPiece copies end (piece_of original start end)
+  intact_piece start end link intact = record {
+    copy = intact.0;
+    there = intact.1;
+    cut = near_cut original intact.0 near.sound (near.near intact.0 intact.1) start end link;
+    content = near.sound.content start end link;
+    bytes = sym intact.2;
+    passes = near.sound.passes start end link;
+  }
+
+  are_copies : AreCopiesOf original copies
+  are_copies = record { whole = near.sound.whole; one_length = λ copy there. (near.near copy there).same_length }
+
+  module _ (spliced : SplicedValue) (is : IsSpliceOf copies spliced) where
+    told_cut : (start end : ℕ) → IsEnd original end → IsToldStart copies end start → IsCut original start end
+    told_cut start end is_end told =
+        let cut : IsCut told.copy start end = told.cut in
+        let at = link_at original near.sound.whole end is_end (omega arith) in
+        subst (λ s. IsCut original s end) (sym (told_start end at.0 start (record { is_end = is_end; cut = at.1 }) told)) at.1
+
+    cuts : (start end : ℕ) (bytes : List ℕ) (standing : Standing) → IsEnd original end → StandsAs copies start end bytes standing → IsCut original start end
+    cuts start end bytes Settled is_end h =
+        told_cut start end is_end (record { copy = h.there.copy; there = h.there.there; cut = h.there.cut; content = h.there.content })
+    cuts start end bytes Disputed is_end h = told_cut start end is_end h.1.told.there
+    cuts start end bytes Missing is_end h = told_cut start end is_end h.1.told.there
+
+    goes_on : (end : ℕ) → IsEnd original end → 0 < end → IsStop copies end → ⊥
+    goes_on end is_end behind stop =
+        let at = link_at original near.sound.whole end is_end behind in
+        let link : IsLinkOf original at.0 end = record { is_end = is_end; cut = at.1 } in
+        stop.untold at.0 (record {
+          there = record {
+            copy = is.before.copy;
+            there = is.before.there;
+            cut = near_cut original is.before.copy near.sound (near.near is.before.copy is.before.there) at.0 end link;
+            content = near.sound.content at.0 end link;
+          };
+          others = λ other told. told_start end at.0 other link told;
+        })
+
+    places : AreLinkPlaces original (length original) spliced.places spliced.front
+    places =
+        let long = sym (is.one_length is.before.copy is.before.there) ∙ (near.near is.before.copy is.before.there).same_length in
+        link_places original copies cuts goes_on (length original) spliced.places spliced.front spliced.payload last
+        (subst (λ n. IsSpliceBefore copies n spliced.places spliced.front spliced.payload) long (splice_walk copies spliced is))
+
+    not_disputed : (start end : ℕ) (bytes : List ℕ) (standing : Standing) → IsEnd original end → StandsAs copies start end bytes standing → standing ≡ Disputed → ⊥
+    not_disputed start end bytes Settled is_end h e = absurd (cc)
+    not_disputed start end bytes Disputed is_end h e = undisputed original copies near_agree end is_end h.0
+    not_disputed start end bytes Missing is_end h e = absurd (cc)
+
+    -- the copy whose piece settles a place has the link intact
+    intact_where : (start end : ℕ) (bytes : List ℕ) (standing : Standing) → IsLinkOf original start end → StandsAs copies start end bytes standing
+        → standing ≡ Settled → IsIntactInSome original copies start end
+    intact_where start end bytes Settled link h e = (
+      h.there.copy,
+      h.there.there,
+      near_intact original h.there.copy near.sound (near.near h.there.copy h.there.there) start end link (subst PassesParity h.there.bytes h.there.passes),
+    )
+    intact_where start end bytes Disputed link h e = absurd (cc)
+    intact_where start end bytes Missing link h e = absurd (cc)
+
+    pub near_splice : IsNearSplice original copies spliced
+    near_splice = record {
+      places = record { links = places.links; whole = places.whole };
+      undisputed = λ k d lt. not_disputed (get_or spliced.places k d).start (get_or spliced.places k d).end
+          (slice_range spliced.payload (get_or spliced.places k d).start (get_or spliced.places k d).end) (get_or spliced.places k d).standing
+          (places.each k d lt).is_end (is.stand k d lt);
+      settled = λ k d lt. (
+        intact_where (get_or spliced.places k d).start (get_or spliced.places k d).end
+            (slice_range spliced.payload (get_or spliced.places k d).start (get_or spliced.places k d).end) (get_or spliced.places k d).standing
+            (places.each k d lt) (is.stand k d lt),
+        λ intact. settled_where original copies near_agree (get_or spliced.places k d).start (get_or spliced.places k d).end
+            (slice_range spliced.payload (get_or spliced.places k d).start (get_or spliced.places k d).end) (get_or spliced.places k d).standing
+            (get_or spliced.places k d).start (places.each k d lt).is_end
+            (intact_piece (get_or spliced.places k d).start (get_or spliced.places k d).end (places.each k d lt) intact) (is.stand k d lt),
+      );
+      bytes = λ k d lt e. (settled_link original copies near_agree (get_or spliced.places k d).start (get_or spliced.places k d).end
+          (slice_range spliced.payload (get_or spliced.places k d).start (get_or spliced.places k d).end) (get_or spliced.places k d).standing
+          (places.each k d lt).is_end e (is.stand k d lt)).1;
+    }
+
+pub near_copies_splice : NearCopiesSplice
+near_copies_splice = record {
+  agree = near_agree;
+  near = λ original copies spliced near is. near_splice original copies near spliced is;
+  original = λ original copies spliced near intact is. is_original original copies (are_copies original copies near) (near_agree original copies near)
+      (λ start end link. intact_piece original copies near start end link (intact start end link)) spliced is;
+}

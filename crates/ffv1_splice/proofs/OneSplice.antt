@@ -1,0 +1,148 @@
+-- Copies have one splice, and it rests on the set of the copies alone.
+use Rattle.std.proofs.Common.{◌≡◌, ℕ, List, [], ◌∷◌, ◌++◌, length, sym, ap, ◌∙◌, subst}
+use Rattle.std.specs.Ordering.{nat_cmp}
+use Rattle.std.specs.Cmp.Lexicographic.{slice_cmp}
+use Rattle.std.specs.declared.cmp.Ordering.TheVariants.{Less}
+use Rattle.ffv1_slice.specs.Chain.{Piece}
+use Rattle.ffv1_slice.specs.Members.{IsOnly, IsOfTwo}
+use Rattle.ffv1_splice.specs.Pieces.{IsPiece, IsToldStart, IsLeast}
+use Rattle.ffv1_splice.specs.Standings.{StandsAs, IsGap, IsStop}
+use Rattle.ffv1_splice.specs.Splice.{SplicedValue}
+use Rattle.ffv1_slice.specs.Members.{HasSameMembers}
+use Rattle.ffv1_splice.specs.Laws.{SameCopiesSplice}
+use Rattle.ffv1_splice.specs.declared.place.Standing.{Standing}
+use Rattle.ffv1_splice.specs.declared.place.Standing.TheVariants.{Settled, Disputed, Missing}
+use Rattle.ffv1_splice.specs.declared.place.Place.{Place}
+use Rattle.ffv1_splice.proofs.LeastSteps.{same_if_neither_below}
+use Rattle.ffv1_splice.proofs.PlaceSteps.{none_not_only, two_not_only}
+use Rattle.ffv1_splice.proofs.Walks.{IsSpliceBefore, splice_walk}
+use Rattle.ffv1_splice.proofs.Walks.IsSpliceBefore.{stops, goes}
+
+-- ---- one place ends there
+
+-- how a place stands, as one value
+pub record StandingValue : Type 0 where
+  pub start : ℕ
+  pub bytes : List ℕ
+  pub standing : Standing
+
+module _ (copies : List (List ℕ)) (end : ℕ) where
+  least_same : (start : ℕ) (a b : List ℕ) → IsLeast copies start end a → IsLeast copies start end b → a ≡ b
+  least_same start a b h k =
+      same_if_neither_below a b (λ below. k.least h.copy h.there (subst (λ z. slice_cmp nat_cmp z b ≡ Less) h.lies below))
+      (λ below. h.least k.copy k.there (subst (λ z. slice_cmp nat_cmp z a ≡ Less) k.lies below))
+
+  one_gap : (standing : Standing) (s t : ℕ) (a b : List ℕ) → IsGap copies s end a → IsGap copies t end b
+      → ◌≡◌ {A = StandingValue} (record { start = s; bytes = a; standing = standing }) (record { start = t; bytes = b; standing = standing })
+  one_gap standing s t a b h k =
+      let starts : s ≡ t = k.told.others s h.told.there in
+      let bytes : a ≡ b = least_same t a b (subst (λ n. IsLeast copies n end a) starts h.least) k.least in
+      ap (λ n. record { start = n; bytes = a; standing = standing }) starts ∙ ap (λ z. record { start = t; bytes = z; standing = standing }) bytes
+
+  pub one_standing : (s t : ℕ) (a b : List ℕ) (x y : Standing) → StandsAs copies s end a x → StandsAs copies t end b y
+      → ◌≡◌ {A = StandingValue} (record { start = s; bytes = a; standing = x }) (record { start = t; bytes = b; standing = y })
+  one_standing s t a b Settled Settled h k =
+      ap (λ (p : Piece). record { start = p.start; bytes = p.bytes; standing = Settled }) (k.others (record { start = s; bytes = a }) h.there)
+  one_standing s t a b Settled Disputed h k = absurd (two_not_only (IsPiece copies end) k.0 (record { start = s; bytes = a }) h)
+  one_standing s t a b Settled Missing h k = absurd (none_not_only (IsPiece copies end) k.0 (record { start = s; bytes = a }) h)
+  one_standing s t a b Disputed Settled h k = absurd (two_not_only (IsPiece copies end) h.0 (record { start = t; bytes = b }) k)
+  one_standing s t a b Disputed Disputed h k = one_gap Disputed s t a b h.1 k.1
+  one_standing s t a b Disputed Missing h k = absurd (k.0 h.0.one h.0.one_there)
+  one_standing s t a b Missing Settled h k = absurd (none_not_only (IsPiece copies end) h.0 (record { start = t; bytes = b }) k)
+  one_standing s t a b Missing Disputed h k = absurd (h.0 k.0.one k.0.one_there)
+  one_standing s t a b Missing Missing h k = one_gap Missing s t a b h.1 k.1
+
+  pub stop_not_stands : (start : ℕ) (bytes : List ℕ) (standing : Standing) → IsStop copies end → StandsAs copies start end bytes standing → ⊥
+  stop_not_stands start bytes Settled stop h = stop.unsettled (record { start = start; bytes = bytes }) h
+  stop_not_stands start bytes Disputed stop h = stop.untold start h.1.told
+  stop_not_stands start bytes Missing stop h = stop.untold start h.1.told
+
+-- ---- one splice
+
+abbrev pub value_of : List Place → ℕ → List ℕ → SplicedValue
+value_of places front payload = record { places = places; front = front; payload = payload }
+
+-- the value with one more place
+abbrev pub value_more : ℕ → StandingValue → SplicedValue → SplicedValue
+value_more end place rest =
+    record {
+      places = record { start = place.start; end = end; standing = place.standing } ∷ rest.places;
+      front = rest.front;
+      payload = rest.payload ++ place.bytes;
+    }
+
+pub one_splice : (copies : List (List ℕ)) (end : ℕ) (ps qs : List Place) (f g : ℕ) (a b : List ℕ) → IsSpliceBefore copies end ps f a
+    → IsSpliceBefore copies end qs g b → value_of ps f a ≡ value_of qs g b
+one_splice copies end ps qs f g a b (stops stop least) (stops other lesser) = ap (λ z. value_of [] end z) (least_same copies end 0 a b least lesser)
+one_splice copies end ps qs f g a b (stops stop least) (goes {start = t} {standing = y} bytes stands k) =
+    absurd (stop_not_stands copies end t bytes y stop stands)
+one_splice copies end ps qs f g a b (goes {start = s} {standing = x} bytes stands h) (stops stop least) =
+    absurd (stop_not_stands copies end s bytes x stop stands)
+one_splice copies end ps qs f g a b (goes {start = s} {front = u} {standing = x} {places = more} {before = c} bytes stands h)
+    (goes {start = t} {front = v} {standing = y} {places = others} {before = d} others_bytes others_stand k) =
+    let place = one_standing copies end s t bytes others_bytes x y stands others_stand in
+    let rest = one_splice copies s more others u v c d h
+    (subst (λ n. IsSpliceBefore copies n others v d) (sym (ap (λ (z : StandingValue). z.start) place)) k) in
+    ap (λ z. value_more end z (value_of more u c)) place
+    ∙ ap (λ z. value_more end (record { start = t; bytes = others_bytes; standing = y }) z) rest
+
+-- ---- the same copies tell the same
+
+module _ (copies others : List (List ℕ)) (same : HasSameMembers copies others) where
+  piece_there : (end : ℕ) (piece : Piece) → IsPiece copies end piece → IsPiece others end piece
+  piece_there end piece h =
+      record { copy = h.copy; there = (same h.copy).0 h.there; cut = h.cut; content = h.content; bytes = h.bytes; passes = h.passes }
+
+  piece_here : (end : ℕ) (piece : Piece) → IsPiece others end piece → IsPiece copies end piece
+  piece_here end piece h =
+      record { copy = h.copy; there = (same h.copy).1 h.there; cut = h.cut; content = h.content; bytes = h.bytes; passes = h.passes }
+
+  start_there : (end start : ℕ) → IsToldStart copies end start → IsToldStart others end start
+  start_there end start h = record { copy = h.copy; there = (same h.copy).0 h.there; cut = h.cut; content = h.content }
+
+  start_here : (end start : ℕ) → IsToldStart others end start → IsToldStart copies end start
+  start_here end start h = record { copy = h.copy; there = (same h.copy).1 h.there; cut = h.cut; content = h.content }
+
+  only_same : {X : Type 0} (P Q : X → Type 0) → ((x : X) → P x → Q x) → ((x : X) → Q x → P x) → (x : X) → IsOnly P x → IsOnly Q x
+  only_same P Q on back x h = record { there = on x h.there; others = λ y q. h.others y (back y q) }
+
+  two_same : {X : Type 0} (P Q : X → Type 0) → ((x : X) → P x → Q x) → IsOfTwo P → IsOfTwo Q
+  two_same P Q on h = record { one = h.one; other = h.other; one_there = on h.one h.one_there; other_there = on h.other h.other_there; differ = h.differ }
+
+  least_there : (start end : ℕ) (bytes : List ℕ) → IsLeast copies start end bytes → IsLeast others start end bytes
+  least_there start end bytes h =
+      record { copy = h.copy; there = (same h.copy).0 h.there; lies = h.lies; least = λ other there. h.least other ((same other).1 there) }
+
+  gap_there : (start end : ℕ) (bytes : List ℕ) → IsGap copies start end bytes → IsGap others start end bytes
+  gap_there start end bytes h =
+      record {
+        told = only_same (IsToldStart copies end) (IsToldStart others end) (start_there end) (start_here end) start h.told;
+        least = least_there start end bytes h.least;
+      }
+
+  stands_there : (start end : ℕ) (bytes : List ℕ) (standing : Standing) → StandsAs copies start end bytes standing → StandsAs others start end bytes standing
+  stands_there start end bytes Settled h =
+      only_same (IsPiece copies end) (IsPiece others end) (piece_there end) (piece_here end) (record { start = start; bytes = bytes }) h
+  stands_there start end bytes Disputed h = (two_same (IsPiece copies end) (IsPiece others end) (piece_there end) h.0, gap_there start end bytes h.1)
+  stands_there start end bytes Missing h = ((λ piece p. h.0 piece (piece_here end piece p)), gap_there start end bytes h.1)
+
+  stop_there : (end : ℕ) → IsStop copies end → IsStop others end
+  stop_there end h =
+      record {
+        unsettled = λ piece only. h.unsettled piece (only_same (IsPiece others end) (IsPiece copies end) (piece_here end) (piece_there end) piece only);
+        untold = λ start only. h.untold start (only_same (IsToldStart others end) (IsToldStart copies end) (start_here end) (start_there end) start only);
+      }
+
+  pub walk_there : (end : ℕ) (places : List Place) (front : ℕ) (payload : List ℕ) → IsSpliceBefore copies end places front payload
+      → IsSpliceBefore others end places front payload
+  walk_there end places front payload (stops {bytes = bytes} stop least) = stops (stop_there end stop) (least_there 0 end bytes least)
+  walk_there end places front payload (goes {start = start} {standing = standing} {places = more} {before = before} bytes stands h) =
+      goes bytes (stands_there start end bytes standing stands) (walk_there start more front before h)
+
+pub same_copies_splice : SameCopiesSplice
+same_copies_splice copies others one other same h k =
+    let long : length one.payload ≡ length other.payload =
+    sym (h.one_length h.before.copy h.before.there) ∙ k.one_length h.before.copy ((same h.before.copy).0 h.before.there) in
+    let walk = walk_there copies others same (length one.payload) one.places one.front one.payload (splice_walk copies one h) in
+    one_splice others (length other.payload) one.places other.places one.front other.front one.payload other.payload
+    (subst (λ n. IsSpliceBefore others n one.places one.front one.payload) long walk) (splice_walk others other k)

@@ -1,0 +1,191 @@
+-- The splice of copies that tell nothing other than an original.
+use Rattle.std.proofs.Common.{◌≡◌, ℕ, suc, ◌+◌, ◌-◌, ◌<◌, ◌≤◌, List, [], ◌∷◌, ◌++◌, length, get_or, take, map, refl, sym, ap, ◌∙◌, subst, arith, inl, inr}
+use Rattle.std.specs.Prelude.{All, slice_range}
+use Rattle.std.proofs.lemmas.List.{take_all}
+use Rattle.std.proofs.Math.Seq.{take-add}
+use Rattle.std.proofs.lemmas.List.Elements.{All-nil, All-cons, All-head, All-tail, All-contains}
+use Rattle.std.proofs.lemmas.Bool.{cases_lt}
+use Rattle.ffv1_slice.specs.Chain.{size_before, IsCut, IsEnd, IsLinkOf, Piece, piece_of}
+use Rattle.ffv1_slice.specs.Chain.IsEnd.{last, before}
+use Rattle.ffv1_slice.specs.Walk.{walked}
+use Rattle.ffv1_slice.proofs.Links.{walked-more, walked-none, walked-fuel, least_end}
+use Rattle.ffv1_slice.specs.Members.{IsOfTwo}
+use Rattle.ffv1_splice.specs.Pieces.{IsPiece}
+use Rattle.ffv1_splice.specs.Standings.{StandsAs, IsStop}
+use Rattle.ffv1_splice.specs.Splice.{SplicedValue, LieFrom, IsSpliceOf}
+use Rattle.ffv1_splice.specs.Originals.{AreCopiesOf, AgreeWith, HaveEachLink}
+use Rattle.ffv1_splice.specs.Laws.{IsOriginal, OriginalIsSpliced, SettledIsOriginal}
+use Rattle.ffv1_splice.specs.declared.place.Standing.{Standing}
+use Rattle.ffv1_splice.specs.declared.place.Standing.TheVariants.{Settled, Disputed, Missing}
+use Rattle.ffv1_splice.specs.declared.place.Place.{Place}
+use Rattle.ffv1_splice.proofs.Walks.{IsSpliceBefore, splice_walk, stands_below}
+use Rattle.ffv1_splice.proofs.Walks.IsSpliceBefore.{stops, goes}
+
+-- ---- the links of an original
+
+pub end_within : (original : List ℕ) (end : ℕ) → IsEnd original end → end ≤ length original
+end_within original end last = omega arith
+end_within original end (before {q = q} h cut) = omega (arith, end_within original q h)
+
+-- a link ends at each end behind the first byte
+pub link_at : (original : List ℕ) → IsEnd original 0 → (end : ℕ) → IsEnd original end → 0 < end → (start : ℕ) × IsCut original start end
+link_at original whole end is_end behind =
+    elim (cases_lt end (size_before original end + 8)) [
+      | inl short ↦ absurd (omega (arith, least_end original end is_end (λ p cut. omega arith) 0 whole))
+      | inr fits ↦ (end - (size_before original end + 8), omega arith)
+    ]
+
+pub same_cut : (original : List ℕ) (s t end : ℕ) → IsCut original s end → IsCut original t end → s ≡ t
+same_cut original s t end h k = omega arith
+
+-- ---- a splice whose places are links
+
+-- what is so of the places before an end of the original
+pub record AreLinkPlaces (original : List ℕ) (end : ℕ) (places : List Place) (front : ℕ) : Type 0 where
+  pub links : map (λ place. piece_of original place.start place.end) places ≡ walked end original end
+  pub whole : front ≡ 0
+  pub each : All (λ place. IsLinkOf original place.start place.end) places
+
+module _ (original : List ℕ) (copies : List (List ℕ)) (cuts : (start end : ℕ) (bytes : List ℕ) (standing : Standing) → IsEnd original end
+    → StandsAs copies start end bytes standing → IsCut original start end)
+    (goes_on : (end : ℕ) → IsEnd original end → 0 < end → IsStop copies end → ⊥) where
+  pub link_places : (end : ℕ) (places : List Place) (front : ℕ) (payload : List ℕ) → IsEnd original end → IsSpliceBefore copies end places front payload
+      → AreLinkPlaces original end places front
+  link_places end places front payload is_end (stops stop least) =
+      elim (cases_lt 0 end) [
+        | inl behind ↦ absurd (goes_on end is_end behind stop)
+        | inr here ↦
+            let zero_end : end ≡ 0 = omega arith in
+            record {
+              links = sym (walked-none original end end (λ p cut. omega arith));
+              whole = zero_end;
+              each = All-nil (λ place. IsLinkOf original place.start place.end);
+            }
+      ]
+  link_places end places front payload is_end (goes {start = start} {standing = standing} {places = more} {before = rest} bytes stands h) =
+      let cut : IsCut original start end = cuts start end bytes standing is_end stands in
+      let below = link_places start more front rest (before is_end cut) h in
+      record {
+        links = ap (λ z. piece_of original start end ∷ z) below.links
+            ∙ sym (walked-fuel original end (suc end) end (omega arith) (omega arith) ∙ walked-more original end start end cut
+            ∙ ap (λ z. piece_of original start end ∷ z) (walked-fuel original end start start (omega arith) (omega arith)));
+        whole = below.whole;
+        each = All-cons (λ place. IsLinkOf original place.start place.end) (record { start = start; end = end; standing = standing }) more
+            (record { is_end = is_end; cut = cut }) below.each;
+      }
+
+-- ---- bytes place by place
+
+take_on : (start end : ℕ) (bytes : List ℕ) → start ≤ end → take end bytes ≡ take start bytes ++ slice_range bytes start end
+take_on start end bytes h =
+    let on : end ≡ start + (end - start) = omega arith in
+    ap (λ n. take n bytes) on ∙ take-add start (end - start) bytes
+
+pub same_bytes : (a b : List ℕ) (end : ℕ) (places : List Place) → LieFrom end places 0 → All (λ place. place.start ≤ place.end) places
+    → All (λ place. slice_range a place.start place.end ≡ slice_range b place.start place.end) places → take end a ≡ take end b
+same_bytes a b end [] lie up same = ap (λ n. take n a) lie ∙ sym (ap (λ n. take n b) lie)
+same_bytes a b end (place ∷ places) lie up same =
+    let ends : place.end ≡ end = lie.0 in
+    let here : place.start ≤ place.end = All-head (λ place. place.start ≤ place.end) place places up in
+    let front = same_bytes a b place.start places lie.1 (All-tail (λ place. place.start ≤ place.end) place places up)
+    (All-tail (λ place. slice_range a place.start place.end ≡ slice_range b place.start place.end) place places same) in
+    let slice = All-head (λ place. slice_range a place.start place.end ≡ slice_range b place.start place.end) place places same in
+    let both : take place.end a ≡ take place.end b =
+    take_on place.start place.end a here ∙ ap (λ z. z ++ slice_range a place.start place.end) front
+    ∙ ap (λ z. take place.start b ++ z) slice ∙ sym (take_on place.start place.end b here) in
+    subst (λ n. take n a ≡ take n b) ends both
+
+-- ---- copies that agree
+
+module _ (original : List ℕ) (copies : List (List ℕ)) (agree : AgreeWith original copies) where
+  -- two pieces do not differ
+  pub agree_one : (end : ℕ) (one other : Piece) → IsEnd original end → IsPiece copies end one → IsPiece copies end other → one ≡ other
+  agree_one end one other is_end h k =
+      let mine = agree end one is_end h in
+      let yours = agree end other is_end k in
+      let start = same_cut original one.start other.start end mine.0.cut yours.0.cut in
+      mine.1 ∙ ap (λ s. piece_of original s end) start ∙ sym yours.1
+
+  pub undisputed : (end : ℕ) → IsEnd original end → IsOfTwo (IsPiece copies end) → ⊥
+  undisputed end is_end two = two.differ (agree_one end two.one two.other is_end two.one_there two.other_there)
+
+  pub settled_link : (start end : ℕ) (bytes : List ℕ) (standing : Standing) → IsEnd original end → standing ≡ Settled
+      → StandsAs copies start end bytes standing → IsLinkOf original start end × (bytes ≡ slice_range original start end)
+  settled_link start end bytes Settled is_end is h =
+      let told = agree end (record { start = start; bytes = bytes }) is_end h.there in (told.0, ap (λ (p : Piece). p.bytes) told.1)
+  settled_link start end bytes Disputed is_end is h = absurd (cc)
+  settled_link start end bytes Missing is_end is h = absurd (cc)
+
+  -- where a link is a piece, it settles its place
+  pub settled_where : (start end : ℕ) (bytes : List ℕ) (standing : Standing) (link : ℕ) → IsEnd original end → IsPiece copies end (piece_of original link end)
+      → StandsAs copies start end bytes standing → standing ≡ Settled
+  settled_where start end bytes Settled link is_end piece h = refl
+  settled_where start end bytes Disputed link is_end piece h = absurd (undisputed end is_end h.0)
+  settled_where start end bytes Missing link is_end piece h = absurd (h.0 (piece_of original link end) piece)
+
+pub settled_is_original : SettledIsOriginal
+settled_is_original original copies spliced place agree is there settled is_end =
+    settled_link original copies agree place.start place.end (slice_range spliced.payload place.start place.end) place.standing is_end settled
+    (All-contains (λ place. StandsAs copies place.start place.end (slice_range spliced.payload place.start place.end) place.standing) spliced.places place is.stand
+    there)
+
+module _ (original : List ℕ) (copies : List (List ℕ)) (of : AreCopiesOf original copies) (agree : AgreeWith original copies)
+    (have : HaveEachLink original copies) (spliced : SplicedValue) (is : IsSpliceOf copies spliced) where
+  long : length spliced.payload ≡ length original
+  long = sym (is.one_length is.before.copy is.before.there) ∙ of.one_length is.before.copy is.before.there
+
+  -- each place is settled
+  settles : (start end : ℕ) (bytes : List ℕ) (standing : Standing) → IsEnd original end → StandsAs copies start end bytes standing → standing ≡ Settled
+  settles start end bytes standing is_end h =
+      let below = stands_below copies start end bytes standing h in
+      let link = link_at original of.whole end is_end (omega arith) in
+      settled_where original copies agree start end bytes standing link.0 is_end (have link.0 end (record { is_end = is_end; cut = link.1 })) h
+
+  cuts : (start end : ℕ) (bytes : List ℕ) (standing : Standing) → IsEnd original end → StandsAs copies start end bytes standing → IsCut original start end
+  cuts start end bytes standing is_end h =
+      (settled_link original copies agree start end bytes standing is_end (settles start end bytes standing is_end h) h).0.cut
+
+  goes_on : (end : ℕ) → IsEnd original end → 0 < end → IsStop copies end → ⊥
+  goes_on end is_end behind stop =
+      let link = link_at original of.whole end is_end behind in
+      let piece = have link.0 end (record { is_end = is_end; cut = link.1 }) in
+      stop.unsettled (piece_of original link.0 end) (record {
+        there = piece;
+        others = λ other told. agree_one original copies agree end other (piece_of original link.0 end) is_end told piece;
+      })
+
+  places : AreLinkPlaces original (length original) spliced.places spliced.front
+  places =
+      link_places original copies cuts goes_on (length original) spliced.places spliced.front spliced.payload last
+      (subst (λ n. IsSpliceBefore copies n spliced.places spliced.front spliced.payload) long (splice_walk copies spliced is))
+
+  each_settled : All (λ place. place.standing ≡ Settled) spliced.places
+  each_settled k d lt =
+      let place : Place = get_or spliced.places k d in
+      settles place.start place.end (slice_range spliced.payload place.start place.end) place.standing (places.each k d lt).is_end (is.stand k d lt)
+
+  each_same : All (λ place. slice_range spliced.payload place.start place.end ≡ slice_range original place.start place.end) spliced.places
+  each_same k d lt =
+      let place : Place = get_or spliced.places k d in
+      (settled_link original copies agree place.start place.end (slice_range spliced.payload place.start place.end) place.standing (places.each k d lt).is_end
+      (each_settled k d lt) (is.stand k d lt)).1
+
+  upright : All (λ place. place.start ≤ place.end) spliced.places
+  upright k d lt =
+      let place : Place = get_or spliced.places k d in
+      let cut : IsCut original place.start place.end = (places.each k d lt).cut in
+      omega arith
+
+  pub is_original : IsOriginal original spliced
+  is_original =
+      record {
+        places = record { links = places.links; whole = places.whole };
+        settled = each_settled;
+        payload = sym (take_all (length spliced.payload) spliced.payload (omega arith))
+            ∙ same_bytes spliced.payload original (length spliced.payload) spliced.places
+            (subst (LieFrom (length spliced.payload) spliced.places) places.whole is.lie) upright each_same
+            ∙ take_all (length spliced.payload) original (omega (arith, long));
+      }
+
+pub original_is_spliced : OriginalIsSpliced
+original_is_spliced original copies spliced of agree have is = is_original original copies of agree have spliced is

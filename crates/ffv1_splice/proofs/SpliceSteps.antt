@@ -1,0 +1,89 @@
+-- The splice, place after place from the end.
+use Rattle.std.proofs.Common.{◌≡◌, ℕ, ◌+◌, ◌<◌, ◌≤◌, List, [], ◌∷◌, ◌++◌, Bor, length, take, drop, get_or, map, sym, ap, ◌∙◌, subst, arith}
+use Rattle.std.specs.Prelude.{All, Contains}
+use Rattle.std.proofs.Math.Seq.{drop-append_seam}
+use Rattle.std.proofs.lemmas.List.{append-nil, append_assoc, length-append, length-drop, length-take-le, drop_all, take_all}
+use Rattle.ffv1_splice.specs.Pieces.{IsLeast}
+use Rattle.ffv1_splice.specs.Standings.{StandsAs, IsStop}
+use Rattle.ffv1_splice.proofs.Walks.{IsSpliceBefore}
+use Rattle.ffv1_splice.proofs.Walks.IsSpliceBefore.{stops, goes}
+use Rattle.ffv1_splice.specs.Faults.{length_at, HasOneLength}
+use Rattle.ffv1_splice.specs.declared.place.Place.{Place}
+use Rattle.ffv1_splice.proofs.CopyLists.{bytes_at, length-bytes_of}
+
+-- ---- bytes written over others
+
+abbrev pub written : List ℕ → ℕ → List ℕ → List ℕ
+written payload start bytes = take start payload ++ (bytes ++ drop (start + length bytes) payload)
+
+pub length-written : (payload : List ℕ) (start : ℕ) (bytes : List ℕ) → start + length bytes ≤ length payload → length (written payload start bytes) ≡ length payload
+length-written payload start bytes h =
+    let front = length-take-le start payload (omega arith) in
+    let whole = length-append (take start payload) (bytes ++ drop (start + length bytes) payload) in
+    let back = length-append bytes (drop (start + length bytes) payload) in
+    let rest = length-drop (start + length bytes) payload in
+    omega arith
+
+drop-written : (payload : List ℕ) (start : ℕ) (bytes : List ℕ) → start + length bytes ≤ length payload
+    → drop start (written payload start bytes) ≡ bytes ++ drop (start + length bytes) payload
+drop-written payload start bytes h =
+    let front : length (take start payload) ≡ start = length-take-le start payload (omega arith) in
+    ap (λ n. drop n (written payload start bytes)) (sym front) ∙ drop-append_seam (take start payload) (bytes ++ drop (start + length bytes) payload)
+
+-- what is written through a vector's slice is what the vector holds
+pub put_back : (len : ℕ) (new items : List ℕ) → len ≡ length items → length new ≡ length items → take len (new ++ drop (length new) items) ≡ new
+put_back len new items l n =
+    let none : drop (length new) items ≡ [] = ap (λ k. drop k items) n ∙ drop_all (length items) items (omega arith) in
+    ap (λ z. take len (new ++ z)) none ∙ ap (take len) (append-nil new) ∙ ap (λ k. take k new) (l ∙ sym n) ∙ take_all (length new) new (omega arith)
+
+-- ---- a turn
+
+-- what stands before an end is spliced with the places and the bytes behind it
+abbrev pub Continues : List (List ℕ) → (whole end : ℕ) → List Place → List ℕ → Type 0
+Continues copies whole end behind bytes =
+    (places : List Place) (front : ℕ) (before : List ℕ) → IsSpliceBefore copies end places front before
+    → IsSpliceBefore copies whole (behind ++ places) front (before ++ bytes)
+
+module _ (copies : List (List ℕ)) where
+  pub continues_start : (whole : ℕ) (payload : List ℕ) → length payload ≤ whole → Continues copies whole whole [] (drop whole payload)
+  continues_start whole payload l places front before h =
+      let none : drop whole payload ≡ [] = drop_all whole payload l in
+      subst (IsSpliceBefore copies whole places front) (sym (ap (λ z. before ++ z) none ∙ append-nil before)) h
+
+  pub continues_more : (whole end : ℕ) (behind : List Place) (place : Place) (bytes payload : List ℕ) → place.end ≡ end → place.start + length bytes ≡ end
+      → end ≤ length payload → StandsAs copies place.start end bytes place.standing → Continues copies whole end behind (drop end payload)
+      → Continues copies whole place.start (behind ++ place ∷ []) (drop place.start (written payload place.start bytes))
+  continues_more whole end behind place bytes payload ends size within stands h places front before rest =
+      let here : IsSpliceBefore copies place.end (place ∷ places) front (before ++ bytes) =
+      goes bytes (subst (λ e. StandsAs copies place.start e bytes place.standing) (sym ends) stands) rest in
+      let all : IsSpliceBefore copies whole (behind ++ place ∷ places) front ((before ++ bytes) ++ drop end payload) =
+      h (place ∷ places) front (before ++ bytes) (subst (λ e. IsSpliceBefore copies e (place ∷ places) front (before ++ bytes)) ends here) in
+      let back : drop place.start (written payload place.start bytes) ≡ bytes ++ drop end payload =
+      drop-written payload place.start bytes (omega arith) ∙ ap (λ n. bytes ++ drop n payload) size in
+      subst (λ ps. IsSpliceBefore copies whole ps front (before ++ drop place.start (written payload place.start bytes)))
+      (sym (append_assoc behind (place ∷ []) places))
+      (subst (IsSpliceBefore copies whole (behind ++ place ∷ places) front) (append_assoc before bytes (drop end payload) ∙ ap (λ z. before ++ z) (sym back)) all)
+
+  -- where it stops
+  pub continues_end : (whole end : ℕ) (behind : List Place) (bytes payload : List ℕ) → length bytes ≡ end → end ≤ length payload → IsStop copies end
+      → IsLeast copies 0 end bytes → Continues copies whole end behind (drop end payload)
+      → IsSpliceBefore copies whole behind end (written payload 0 bytes)
+  continues_end whole end behind bytes payload size within stop least h =
+      let all : IsSpliceBefore copies whole (behind ++ []) end (bytes ++ drop end payload) = h [] end bytes (stops stop least) in
+      let zero : 0 + length bytes ≡ end = omega arith in
+      subst (λ ps. IsSpliceBefore copies whole ps end (written payload 0 bytes)) (append-nil behind)
+      (subst (IsSpliceBefore copies whole (behind ++ []) end) (ap (λ n. bytes ++ drop n payload) (sym zero)) all)
+
+-- ---- copies of one length
+
+module _ (copies : List (Bor (List ℕ))) (some : 0 < length copies) (one : HasOneLength (map (λ copy. copy.now) copies)) where
+  length_of_first : (i : ℕ) (d : Bor (List ℕ)) → i < length copies → length (get_or copies i d).now ≡ length_at (map (λ copy. copy.now) copies) 0
+  length_of_first i d h = sym (ap length (bytes_at copies i d [] h)) ∙ one i (omega (arith, length-bytes_of copies))
+
+  pub all_reach : (end : ℕ) (first : Bor (List ℕ)) → end ≤ length (get_or copies 0 first).now → All (λ copy. end ≤ length copy.now) copies
+  all_reach end first h k d lt = omega (arith, length_of_first k d lt, length_of_first 0 first some)
+
+  pub one_length : (first : Bor (List ℕ)) (other : List ℕ) → Contains (map (λ copy. copy.now) copies) other → length other ≡ length (get_or copies 0 first).now
+  one_length first other there =
+      let lt : there.0 < length copies = omega (arith, there.1, length-bytes_of copies) in
+      sym (ap length there.2) ∙ ap length (bytes_at copies there.0 first other lt) ∙ length_of_first there.0 first lt ∙ sym (length_of_first 0 first some)

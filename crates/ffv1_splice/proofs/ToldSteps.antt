@@ -1,0 +1,129 @@
+-- What one more copy tells of the slice that ends at a place.
+use Rattle.std.proofs.Common.{◌≡◌, ℕ, List, [], ◌∷◌, ◌++◌, get_or, refl, sym, ap, ◌∙◌, subst, arith, inl, inr}
+use Rattle.std.specs.Prelude.{◌⊎◌, Contains, slice_range}
+use Rattle.std.proofs.lemmas.List.Elements.{Contains-append_left, Contains-append_right, Contains-append_cases}
+use Rattle.ffv1_bits.specs.Parity.{PassesParity}
+use Rattle.ffv1_slice.specs.Chain.{IsCut, Piece, piece_of}
+use Rattle.ffv1_splice.specs.Pieces.{HasContent, IsPiece, IsToldStart}
+use Rattle.ffv1_splice.specs.Told.{Told, Tells, TellsMore}
+use Rattle.ffv1_splice.specs.Told.Told.{none, one, two}
+
+-- ---- any fact
+
+-- what is so of the same values is told alike
+pub tells_same : {X : Type 0} (P Q : X → Type 0) (told : Told X) → ((x : X) → P x → Q x) → ((x : X) → Q x → P x) → Tells P told → Tells Q told
+tells_same P Q none on back h = λ x q. h x (back x q)
+tells_same P Q (one value) on back h = record { there = on value h.there; others = λ x q. h.others x (back x q) }
+tells_same P Q two on back h =
+    record { one = h.one; other = h.other; one_there = on h.one h.one_there; other_there = on h.other h.other_there; differ = h.differ }
+
+-- one more value
+pub tells_more : {X : Type 0} (P Q : X → Type 0) (told after : Told X) (value : X) → ((x : X) → P x → Q x) → Q value → ((x : X) → Q x → P x ⊎ (x ≡ value))
+    → TellsMore told value after → Tells P told → Tells Q after
+tells_more P Q none after value on new cases more h =
+    subst (Tells Q) (sym more) (record { there = new; others = λ x q. elim (cases x q) [ inl p ↦ absurd (h x p) | inr same ↦ same ] })
+tells_more P Q (one first) after value on new cases more h =
+    elim more [
+      | inl same ↦ subst (Tells Q) (sym same.1) (record {
+        there = on first h.there;
+        others = λ x q. elim (cases x q) [ inl p ↦ h.others x p | inr is ↦ is ∙ sym same.0 ];
+      })
+      | inr apart ↦ subst (Tells Q) (sym apart.1) (record { one = first; other = value; one_there = on first h.there; other_there = new; differ = apart.0 })
+    ]
+tells_more P Q two after value on new cases more h =
+    subst (Tells Q) (sym more)
+    (record { one = h.one; other = h.other; one_there = on h.one h.one_there; other_there = on h.other h.other_there; differ = h.differ })
+
+-- ---- one more copy
+
+alone : (copy other : List ℕ) → Contains (copy ∷ []) other → other ≡ copy
+alone copy other h = let first : h.0 ≡ 0 = omega (arith, h.1) in sym h.2 ∙ ap (λ k. get_or (copy ∷ []) k other) first
+
+module _ (copies : List (List ℕ)) (copy : List ℕ) (end : ℕ) where
+  more_copies : List (List ℕ)
+  more_copies = copies ++ copy ∷ []
+
+  last : Contains (copies ++ copy ∷ []) copy
+  last = Contains-append_right copies (copy ∷ []) copy (0, omega arith, refl)
+
+  piece_on : (piece : Piece) → IsPiece copies end piece → IsPiece (copies ++ copy ∷ []) end piece
+  piece_on piece h =
+      record {
+        copy = h.copy;
+        there = Contains-append_left copies (copy ∷ []) h.copy h.there;
+        cut = h.cut;
+        content = h.content;
+        bytes = h.bytes;
+        passes = h.passes;
+      }
+
+  start_on : (start : ℕ) → IsToldStart copies end start → IsToldStart (copies ++ copy ∷ []) end start
+  start_on start h = record { copy = h.copy; there = Contains-append_left copies (copy ∷ []) h.copy h.there; cut = h.cut; content = h.content }
+
+  piece_back : (piece : Piece) → IsPiece (copies ++ copy ∷ []) end piece
+      → IsPiece copies end piece
+      ⊎ (IsCut copy piece.start end × HasContent piece.start end × (piece ≡ piece_of copy piece.start end) × PassesParity (slice_range copy piece.start end))
+  piece_back piece h =
+      elim (Contains-append_cases copies (copy ∷ []) h.copy h.there) [
+        | inl there ↦ inl (record { copy = h.copy; there = there; cut = h.cut; content = h.content; bytes = h.bytes; passes = h.passes })
+        | inr there ↦
+            let same : h.copy ≡ copy = alone copy h.copy there in
+            let lies : piece.bytes ≡ slice_range copy piece.start end = h.bytes ∙ ap (λ c. slice_range c piece.start end) same in
+            inr (
+              subst (λ c. IsCut c piece.start end) same h.cut,
+              h.content,
+              ap (λ b. record { start = piece.start; bytes = b }) lies,
+              subst PassesParity lies h.passes,
+            )
+      ]
+
+  start_back : (start : ℕ) → IsToldStart (copies ++ copy ∷ []) end start → IsToldStart copies end start ⊎ (IsCut copy start end × HasContent start end)
+  start_back start h =
+      elim (Contains-append_cases copies (copy ∷ []) h.copy h.there) [
+        | inl there ↦ inl (record { copy = h.copy; there = there; cut = h.cut; content = h.content })
+        | inr there ↦ inr (subst (λ c. IsCut c start end) (alone copy h.copy there) h.cut, h.content)
+      ]
+
+  -- a copy's footer tells one start
+  one_cut : (start other : ℕ) → IsCut copy start end → IsCut copy other end → other ≡ start
+  one_cut start other h k = omega arith
+
+  -- a copy with no cut there, or one without content, tells nothing
+  pub pieces-uncut : (told : Told Piece) → ((start : ℕ) → IsCut copy start end → HasContent start end → ⊥) → Tells (IsPiece copies end) told
+      → Tells (IsPiece (copies ++ copy ∷ []) end) told
+  pieces-uncut told uncut h =
+      tells_same (IsPiece copies end) (IsPiece (copies ++ copy ∷ []) end) told piece_on
+      (λ piece q. elim (piece_back piece q) [ inl p ↦ p | inr cut ↦ absurd (uncut piece.start cut.0 cut.1) ]) h
+
+  pub starts-uncut : (told : Told ℕ) → ((start : ℕ) → IsCut copy start end → HasContent start end → ⊥) → Tells (IsToldStart copies end) told
+      → Tells (IsToldStart (copies ++ copy ∷ []) end) told
+  starts-uncut told uncut h =
+      tells_same (IsToldStart copies end) (IsToldStart (copies ++ copy ∷ []) end) told start_on
+      (λ start q. elim (start_back start q) [ inl p ↦ p | inr cut ↦ absurd (uncut start cut.0 cut.1) ]) h
+
+  -- nor does one that fails its parity tell a piece
+  pub pieces-failed : (told : Told Piece) (start : ℕ) → IsCut copy start end → (PassesParity (slice_range copy start end) → ⊥) → Tells (IsPiece copies end) told
+      → Tells (IsPiece (copies ++ copy ∷ []) end) told
+  pieces-failed told start cut fails h =
+      tells_same (IsPiece copies end) (IsPiece (copies ++ copy ∷ []) end) told piece_on
+      (λ piece q. elim (piece_back piece q) [
+        | inl p ↦ p
+        | inr new ↦ absurd (fails (subst (λ s. PassesParity (slice_range copy s end)) (one_cut start piece.start cut new.0) new.3))
+      ]) h
+
+  pub pieces-passed : (told after : Told Piece) (start : ℕ) → IsCut copy start end → HasContent start end → PassesParity (slice_range copy start end)
+      → TellsMore told (piece_of copy start end) after → Tells (IsPiece copies end) told → Tells (IsPiece (copies ++ copy ∷ []) end) after
+  pieces-passed told after start cut content passes more h =
+      tells_more (IsPiece copies end) (IsPiece (copies ++ copy ∷ []) end) told after (piece_of copy start end) piece_on
+      (record { copy = copy; there = last; cut = cut; content = content; bytes = refl; passes = passes })
+      (λ piece q. elim (piece_back piece q) [
+        | inl p ↦ inl p
+        | inr new ↦ inr (new.2 ∙ ap (λ s. piece_of copy s end) (one_cut start piece.start cut new.0))
+      ]) more h
+
+  pub starts-cut : (told after : Told ℕ) (start : ℕ) → IsCut copy start end → HasContent start end → TellsMore told start after → Tells (IsToldStart copies end) told
+      → Tells (IsToldStart (copies ++ copy ∷ []) end) after
+  starts-cut told after start cut content more h =
+      tells_more (IsToldStart copies end) (IsToldStart (copies ++ copy ∷ []) end) told after start start_on
+      (record { copy = copy; there = last; cut = cut; content = content })
+      (λ other q. elim (start_back other q) [ inl p ↦ inl p | inr new ↦ inr (one_cut start other cut new.0) ]) more h

@@ -1,0 +1,136 @@
+-- Copies that are near the slices of a setup are near copies; two of the frame of two slices, of which each has one slice intact, are
+-- spliced to the frame; and zeros, which read as a row of slices without content, have no places.
+use Rattle.std.proofs.Common.{◌≡◌, ℕ, zero, suc, ◌+◌, ◌-◌, ◌<◌, Bool, List, [], ◌∷◌, length, get_or, replicate, refl, sym, ap, ◌∙◌, subst, arith, inl, inr}
+use Rattle.std.specs.Prelude.{◌⊎◌, ◌==◌, Contains, slice_range}
+use Rattle.std.proofs.lemmas.List.{length-take}
+use Rattle.ffv1_bits.specs.Bits.{number_bits, bits_of}
+use Rattle.ffv1_bits.specs.Parity.{AreBytes, PassesParity, polynomial_of, reduced_at, divided, remainder_of}
+use Rattle.ffv1_slice.specs.Setup.{SetupValue}
+use Rattle.ffv1_slice.specs.Chain.{IsCut, IsEnd, IsLinkOf}
+use Rattle.ffv1_slice.specs.Slices.{IsSliceOf, IsOriginal}
+use Rattle.ffv1_slice.specs.Near.{starts_at, piece_at, IsHurtWithin32, IsNear}
+use Rattle.ffv1_slice.proofs.Places.{starts_none, IsCutAt, end_of_tile, tile_of_cut}
+use Rattle.ffv1_slice.proofs.FoundLaws.{original_cut, bytes_of_tile}
+use Rattle.ffv1_slice.proofs.NearLaws.{length-range}
+use Rattle.ffv1_slice.proofs.NearVectors as vectors
+use Rattle.ffv1_splice.specs.Pieces.{HasContent}
+use Rattle.ffv1_splice.specs.Standings.{IsStop}
+use Rattle.ffv1_splice.specs.Splice.{SplicedValue, IsSpliceOf}
+use Rattle.ffv1_splice.specs.Originals.{IsSound, IsIntact, IsNearCopy, AreNearCopies, IsIntactInSome}
+use Rattle.ffv1_splice.specs.Laws as laws
+use Rattle.ffv1_splice.proofs.OriginalLaws.{end_within}
+use Rattle.ffv1_splice.proofs.NearCopies.{near_copies_splice}
+
+-- ---- slices of a setup
+
+module _ (setup : SetupValue) (original : List ℕ) (slices : List (List ℕ)) (is : IsOriginal setup original slices) where
+  cut : IsCutAt original slices
+  cut = original_cut setup original slices is
+
+  -- a link is a tile's slice
+  slice_of_link : (start end : ℕ) → IsLinkOf original start end
+      → (k : ℕ) × (k < length slices) × (start ≡ starts_at slices k) × (end ≡ starts_at slices (k + 1)) × (slice_range original start end ≡ get_or slices k [])
+  slice_of_link start end link =
+      let at = tile_of_cut original slices cut start end link.is_end link.cut in (
+        at.0,
+        at.1,
+        at.2,
+        at.3,
+        ap (λ s. slice_range original s end) at.2 ∙ ap (λ e. slice_range original (starts_at slices at.0) e) at.3
+            ∙ bytes_of_tile setup original slices is at.0 at.1,
+      )
+
+  -- a slice has its header before its footer
+  slice_filled : (slice : List ℕ) (first : Bool) (tile : ℕ) → IsSliceOf setup slice first tile → 8 < length slice
+  slice_filled slice first tile h =
+      let behind = h.is_head.header.at in
+      let size = length-take (length slice - 8) slice in
+      omega (arith, behind)
+
+  pub sound_of_setup : AreBytes original → IsSound original
+  sound_of_setup bytes = record {
+    whole = subst (IsEnd original) (starts_none slices) (end_of_tile original slices cut 0 (omega arith));
+    are_bytes = bytes;
+    content = λ start end link.
+        let cut : IsCut original start end = link.cut in
+        let at = slice_of_link start end link in
+        let size = length-range original start end (omega arith) (end_within original end link.is_end) in
+        let filled = slice_filled (get_or slices at.0 []) (at.0 == 0) at.0 (is.each at.0 [] at.1) in
+        omega (arith, ap length at.4);
+    passes = λ start end link. let at = slice_of_link start end link in subst PassesParity (sym at.4) (is.each at.0 [] at.1).passes;
+  }
+
+pub near_of_setup : (setup : SetupValue) (original : List ℕ) (slices : List (List ℕ)) (copy : List ℕ) → IsNear setup original slices copy
+    → IsNearCopy original copy
+near_of_setup setup original slices copy near = record { are_bytes = near.copy_bytes; same_length = near.same_length; each = each }
+  where
+    each : (start end : ℕ) → IsLinkOf original start end
+        → IsIntact original copy start end ⊎ IsHurtWithin32 (slice_range original start end) (slice_range copy start end)
+    each start end link =
+        let at = slice_of_link setup original slices near.is_original start end link in
+        let piece : piece_at slices copy at.0 ≡ slice_range copy start end =
+        ap (λ s. slice_range copy s (starts_at slices (at.0 + 1))) (sym at.2) ∙ ap (λ e. slice_range copy start e) (sym at.3) in
+        elim (near.each at.0 [] at.1) [
+          | inl intact ↦ inl (sym piece ∙ intact ∙ sym at.4)
+          | inr hurt ↦ inr (subst (λ p. IsHurtWithin32 (slice_range original start end) p) piece
+              (subst (λ s. IsHurtWithin32 s (piece_at slices copy at.0)) (sym at.4) hurt))
+        ]
+
+-- ---- two copies of a frame
+
+abbrev pub copies : List (List ℕ)
+copies = vectors.hurt_frame ∷ vectors.other_frame ∷ []
+
+near_each : (copy : List ℕ) → Contains copies copy → IsNearCopy vectors.frame copy
+near_each copy there = at there.0 there.1 there.2
+  where
+    at : (k : ℕ) → k < 2 → get_or copies k copy ≡ copy → IsNearCopy vectors.frame copy
+    at zero lt same = subst (IsNearCopy vectors.frame) same (near_of_setup vectors.setup vectors.frame vectors.slices vectors.hurt_frame vectors.near)
+    at (suc zero) lt same =
+        subst (IsNearCopy vectors.frame) same (near_of_setup vectors.setup vectors.frame vectors.slices vectors.other_frame vectors.other_near)
+    at (suc (suc k)) lt same = absurd (omega arith)
+
+pub are_near : AreNearCopies vectors.frame copies
+are_near = record { sound = sound_of_setup vectors.setup vectors.frame vectors.slices vectors.is_original vectors.near.original_bytes; near = near_each }
+
+intact_each : (start end : ℕ) → IsLinkOf vectors.frame start end → IsIntactInSome vectors.frame copies start end
+intact_each start end link = let at = slice_of_link vectors.setup vectors.frame vectors.slices vectors.is_original start end link in
+    intact at.0 at.1 at.2 at.3 at.4
+  where
+    piece : (copy : List ℕ) (k : ℕ) → start ≡ starts_at vectors.slices k → end ≡ starts_at vectors.slices (k + 1)
+        → slice_range copy start end ≡ piece_at vectors.slices copy k
+    piece copy k s e = ap (λ n. slice_range copy n end) s ∙ ap (λ n. slice_range copy (starts_at vectors.slices k) n) e
+
+    intact : (k : ℕ) → k < 2 → start ≡ starts_at vectors.slices k → end ≡ starts_at vectors.slices (k + 1)
+        → slice_range vectors.frame start end ≡ get_or vectors.slices k [] → IsIntactInSome vectors.frame copies start end
+    intact zero lt s e is = (vectors.other_frame, (1, omega arith, refl), piece vectors.other_frame 0 s e ∙ vectors.first_intact ∙ sym is)
+    intact (suc zero) lt s e is = (vectors.hurt_frame, (0, omega arith, refl), piece vectors.hurt_frame 1 s e ∙ vectors.second_intact ∙ sym is)
+    intact (suc (suc k)) lt s e is = absurd (omega arith)
+
+-- neither has the frame, and both together have it
+pub spliced_to_the_frame : (spliced : SplicedValue) → IsSpliceOf copies spliced → laws.IsOriginal vectors.frame spliced
+spliced_to_the_frame spliced is = near_copies_splice.original vectors.frame copies spliced are_near intact_each is
+
+-- ---- zeros
+
+abbrev zeros : List ℕ
+zeros = replicate 16 0
+
+-- eight zeros are a footer of size 0 that passes its parity
+zeros_pass : IsCut zeros 8 16 × PassesParity (slice_range zeros 8 16)
+unfolding number_bits bits_of polynomial_of reduced_at divided remainder_of
+zeros_pass = (omega arith, (omega arith, refl))
+
+zeros_cut : (copy : List ℕ) (start : ℕ) → Contains (zeros ∷ []) copy → IsCut copy start 16 → HasContent start 16 → ⊥
+zeros_cut copy start there cut content =
+    let here : there.0 ≡ 0 = omega (arith, there.1) in
+    let same : copy ≡ zeros = sym there.2 ∙ ap (λ k. get_or (zeros ∷ []) k copy) here in
+    let told : IsCut zeros start 16 = subst (λ c. IsCut c start 16) same cut in
+    absurd (omega arith)
+
+-- and no piece: the splice of zeros has no places
+pub zeros_stop : IsStop (zeros ∷ []) 16
+zeros_stop = record {
+  unsettled = λ piece only. zeros_cut only.there.copy piece.start only.there.there only.there.cut only.there.content;
+  untold = λ start only. zeros_cut only.there.copy start only.there.there only.there.cut only.there.content;
+}

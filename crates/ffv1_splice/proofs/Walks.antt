@@ -1,0 +1,187 @@
+-- The splice as it is found, place by place from an end, and as it is told, place by place of the whole payload.
+use Rattle.std.proofs.Common.{◌≡◌, ℕ, ◌+◌, ◌-◌, ◌≤◌, List, [], ◌∷◌, ◌++◌, length, get_or, take, drop, refl, sym, ap, ◌∙◌, subst, arith, inl, inr, take-append-drop}
+use Rattle.std.specs.Prelude.{All, Contains, slice_range}
+use Rattle.std.proofs.Math.Seq.{drop-append_seam}
+use Rattle.std.proofs.lemmas.List.{drop-append-le, take-append-le, take_all, take-take, length-append, length-drop, length-take-le}
+use Rattle.std.proofs.lemmas.List.Elements.{All-nil, All-cons, All-head, All-tail}
+use Rattle.std.proofs.lemmas.Bool.{cases_lt}
+use Rattle.ffv1_splice.specs.Pieces.{IsLeast}
+use Rattle.ffv1_splice.specs.Standings.{StandsAs, IsStop}
+use Rattle.ffv1_splice.specs.Splice.{SplicedValue, LieFrom, IsSpliceOf}
+use Rattle.ffv1_splice.specs.declared.place.Standing.{Standing}
+use Rattle.ffv1_splice.specs.declared.place.Standing.TheVariants.{Settled, Disputed, Missing}
+use Rattle.ffv1_splice.specs.declared.place.Place.{Place}
+use Rattle.ffv1_splice.proofs.PlaceSteps.{AllReach, cut_below, told_below, piece_size, gap_size, least_size}
+
+-- What stands before an end. Where no place ends, it is one front that can't be divided; else the place that ends there, and what stands
+-- before its start.
+pub data IsSpliceBefore (copies : List (List ℕ)) : ℕ → List Place → ℕ → List ℕ → Type 0 where
+  stops : {end : ℕ} {bytes : List ℕ} → IsStop copies end → IsLeast copies 0 end bytes → IsSpliceBefore copies end [] end bytes
+  goes : {start end front : ℕ} {standing : Standing} {places : List Place} {before : List ℕ} (bytes : List ℕ) → StandsAs copies start end bytes standing
+      → IsSpliceBefore copies start places front before
+      → IsSpliceBefore copies end (record { start = start; end = end; standing = standing } ∷ places) front (before ++ bytes)
+
+-- ---- parts of bytes
+
+slice-front : (before bytes : List ℕ) (start end : ℕ) → end ≤ length before → slice_range (before ++ bytes) start end ≡ slice_range before start end
+slice-front before bytes start end h =
+    elim (cases_lt end start) [
+      | inl beyond ↦
+          let none : end - start ≡ 0 = omega arith in
+          ap (λ n. take n (drop start (before ++ bytes))) none ∙ sym (ap (λ n. take n (drop start before)) none)
+      | inr within ↦ ap (take (end - start)) (drop-append-le start before bytes (omega arith))
+          ∙ take-append-le (end - start) (drop start before) bytes (omega (arith, length-drop start before))
+    ]
+
+slice-back : (before bytes : List ℕ) (start end : ℕ) → length before ≡ start → start + length bytes ≡ end → slice_range (before ++ bytes) start end ≡ bytes
+slice-back before bytes start end s e =
+    let size : end - start ≡ length bytes = omega arith in
+    ap (λ n. take n (drop start (before ++ bytes))) size ∙ ap (λ n. take (length bytes) (drop n (before ++ bytes))) (sym s)
+    ∙ ap (take (length bytes)) (drop-append_seam before bytes) ∙ take_all (length bytes) bytes (omega arith)
+
+slice-take : (bytes : List ℕ) (count start end : ℕ) → end ≤ count → count ≤ length bytes → slice_range (take count bytes) start end ≡ slice_range bytes start end
+slice-take bytes count start end e c =
+    sym (slice-front (take count bytes) (drop count bytes) start end (omega (arith, length-take-le count bytes c)))
+    ∙ ap (λ z. slice_range z start end) (take-append-drop count bytes)
+
+-- ---- how long a place is
+
+pub stands_below : (copies : List (List ℕ)) (start end : ℕ) (bytes : List ℕ) (standing : Standing) → StandsAs copies start end bytes standing → start + 8 ≤ end
+stands_below copies start end bytes Settled h = cut_below h.there.copy start end h.there.cut
+stands_below copies start end bytes Disputed h = told_below copies start end h.1.told.there
+stands_below copies start end bytes Missing h = told_below copies start end h.1.told.there
+
+pub stands_size : (copies : List (List ℕ)) (start end : ℕ) (bytes : List ℕ) (standing : Standing) → AllReach copies end
+    → StandsAs copies start end bytes standing → start + length bytes ≡ end
+stands_size copies start end bytes Settled reach h = piece_size copies end (record { start = start; bytes = bytes }) reach h.there
+stands_size copies start end bytes Disputed reach h = gap_size copies start end bytes reach h.1
+stands_size copies start end bytes Missing reach h = gap_size copies start end bytes reach h.1
+
+pub reach_less : (copies : List (List ℕ)) (end start : ℕ) → start ≤ end → AllReach copies end → AllReach copies start
+reach_less copies end start below reach copy there = let far = reach copy there in omega arith
+
+-- ---- places that lie end to end
+
+pub front_below : (end : ℕ) (places : List Place) (front : ℕ) → All (λ place. place.start ≤ place.end) places → LieFrom end places front → front ≤ end
+front_below end [] front up lie = omega arith
+front_below end (place ∷ places) front up lie =
+    let below = front_below place.start places front (All-tail (λ place. place.start ≤ place.end) place places up) lie.1 in
+    let here = All-head (λ place. place.start ≤ place.end) place places up in
+    let ends = lie.0 in
+    omega arith
+
+pub ends_below : (end : ℕ) (places : List Place) (front : ℕ) → All (λ place. place.start ≤ place.end) places → LieFrom end places front
+    → All (λ place. place.end ≤ end) places
+ends_below end [] front up lie = All-nil (λ place. place.end ≤ end)
+ends_below end (place ∷ places) front up lie =
+    let here : place.start ≤ place.end = All-head (λ place. place.start ≤ place.end) place places up in
+    let ends = lie.0 in
+    let rest = ends_below place.start places front (All-tail (λ place. place.start ≤ place.end) place places up) lie.1 in
+    All-cons (λ place. place.end ≤ end) place places (omega arith) (λ k d lt. let below = rest k d lt in omega arith)
+
+-- ---- from the one to the other
+
+-- what is told of the bytes before an end
+pub record IsToldBefore (copies : List (List ℕ)) (end : ℕ) (places : List Place) (front : ℕ) (payload : List ℕ) : Type 0 where
+  pub size : length payload ≡ end
+  pub lie : LieFrom end places front
+  pub stand : All (λ place. StandsAs copies place.start place.end (slice_range payload place.start place.end) place.standing) places
+  pub stop : IsStop copies front
+  pub before : IsLeast copies 0 front (take front payload)
+
+module _ (copies : List (List ℕ)) where
+  all_upright : (payload : List ℕ) (places : List Place)
+      → All (λ place. StandsAs copies place.start place.end (slice_range payload place.start place.end) place.standing) places
+      → All (λ place. place.start ≤ place.end) places
+  all_upright payload places stand k d lt =
+      let place : Place = get_or places k d in
+      let below = stands_below copies place.start place.end (slice_range payload place.start place.end) place.standing (stand k d lt) in omega arith
+
+  -- the same bytes stand alike
+  stands_alike : (a b : List ℕ) (place : Place) → slice_range a place.start place.end ≡ slice_range b place.start place.end
+      → StandsAs copies place.start place.end (slice_range b place.start place.end) place.standing
+      → StandsAs copies place.start place.end (slice_range a place.start place.end) place.standing
+  stands_alike a b place same stands = subst (λ z. StandsAs copies place.start place.end z place.standing) (sym same) stands
+
+  pub told_before : (end : ℕ) (places : List Place) (front : ℕ) (payload : List ℕ) → AllReach copies end → IsSpliceBefore copies end places front payload
+      → IsToldBefore copies end places front payload
+  told_before end places front payload reach (stops {bytes = bytes} stop least) =
+      let size = least_size copies 0 end bytes reach (omega arith) least in
+      record {
+        size = omega arith;
+        lie = refl;
+        stand = All-nil (λ place. StandsAs copies place.start place.end (slice_range bytes place.start place.end) place.standing);
+        stop = stop;
+        before = subst (IsLeast copies 0 end) (sym (take_all end bytes (omega arith))) least;
+      }
+  told_before end places front payload reach (goes {start = start} {standing = standing} {places = more} {before = before} bytes stands h) =
+      let below = stands_below copies start end bytes standing stands in
+      let long = stands_size copies start end bytes standing reach stands in
+      let rest = told_before start more front before (reach_less copies end start (omega arith) reach) h in
+      let size = rest.size in
+      let up = all_upright before more rest.stand in
+      let within = ends_below start more front up rest.lie in
+      let far = front_below start more front up rest.lie in
+      record {
+        size = length-append before bytes ∙ omega arith;
+        lie = (refl, rest.lie);
+        stand = All-cons (λ place. StandsAs copies place.start place.end (slice_range (before ++ bytes) place.start place.end) place.standing)
+            (record { start = start; end = end; standing = standing }) more
+            (subst (λ z. StandsAs copies start end z standing) (sym (slice-back before bytes start end size long)) stands)
+            (λ k d lt. let inside = within k d lt in stands_alike (before ++ bytes) before (get_or more k d)
+            (slice-front before bytes (get_or more k d).start (get_or more k d).end (omega arith)) (rest.stand k d lt));
+        stop = rest.stop;
+        before = subst (IsLeast copies 0 front) (sym (take-append-le front before bytes (omega arith))) rest.before;
+      }
+
+  pub splice_before : (end : ℕ) (places : List Place) (front : ℕ) (payload : List ℕ) → AllReach copies end → IsToldBefore copies end places front payload
+      → IsSpliceBefore copies end places front payload
+  splice_before end [] front payload reach told =
+      let size = told.size in
+      let here : end ≡ front = told.lie in
+      let all : take front payload ≡ payload = take_all front payload (omega arith) in
+      subst (λ e. IsSpliceBefore copies e [] front payload) (sym here) (stops told.stop (subst (IsLeast copies 0 front) all told.before))
+  splice_before end (place ∷ places) front payload reach told =
+      let size = told.size in
+      let ends : place.end ≡ end = told.lie.0 in
+      let stands : StandsAs copies place.start place.end (slice_range payload place.start place.end) place.standing =
+      All-head (λ place. StandsAs copies place.start place.end (slice_range payload place.start place.end) place.standing) place places told.stand in
+      let below = stands_below copies place.start place.end (slice_range payload place.start place.end) place.standing stands in
+      let rest = All-tail (λ place. StandsAs copies place.start place.end (slice_range payload place.start place.end) place.standing) place places told.stand in
+      let up = all_upright payload places rest in
+      let within = ends_below place.start places front up told.lie.1 in
+      let far = front_below place.start places front up told.lie.1 in
+      let tail : take (place.end - place.start) (drop place.start payload) ≡ drop place.start payload =
+      take_all (place.end - place.start) (drop place.start payload) (omega (arith, length-drop place.start payload)) in
+      let whole : take place.start payload ++ slice_range payload place.start place.end ≡ payload =
+      ap (λ z. take place.start payload ++ z) tail ∙ take-append-drop place.start payload in
+      let before = splice_before place.start places front (take place.start payload) (reach_less copies end place.start (omega arith) reach) (record {
+        size = length-take-le place.start payload (omega arith);
+        lie = told.lie.1;
+        stand = λ k d lt. let inside = within k d lt in stands_alike (take place.start payload) payload (get_or places k d)
+            (slice-take payload place.start (get_or places k d).start (get_or places k d).end (omega arith) (omega arith)) (rest k d lt);
+        stop = told.stop;
+        before = subst (IsLeast copies 0 front) (sym (take-take front place.start payload far)) told.before;
+      }) in
+      subst (λ e. IsSpliceBefore copies e (place ∷ places) front payload) ends
+      (subst (IsSpliceBefore copies place.end (place ∷ places) front) whole
+      (goes (slice_range payload place.start place.end) stands before))
+
+  -- the splice of copies of one length
+  pub splice_of : (whole : ℕ) (places : List Place) (front : ℕ) (payload : List ℕ) → ((copy : List ℕ) → Contains copies copy → length copy ≡ whole)
+      → IsSpliceBefore copies whole places front payload → IsSpliceOf copies (record { places = places; front = front; payload = payload })
+  splice_of whole places front payload one h =
+      let told = told_before whole places front payload (λ copy there. omega (arith, one copy there)) h in
+      record {
+        one_length = λ copy there. one copy there ∙ sym told.size;
+        lie = subst (λ n. LieFrom n places front) (sym told.size) told.lie;
+        stand = told.stand;
+        stop = told.stop;
+        before = told.before;
+      }
+
+  pub splice_walk : (spliced : SplicedValue) → IsSpliceOf copies spliced
+      → IsSpliceBefore copies (length spliced.payload) spliced.places spliced.front spliced.payload
+  splice_walk spliced h =
+      splice_before (length spliced.payload) spliced.places spliced.front spliced.payload (λ copy there. omega (arith, h.one_length copy there))
+      (record { size = refl; lie = h.lie; stand = h.stand; stop = h.stop; before = h.before })

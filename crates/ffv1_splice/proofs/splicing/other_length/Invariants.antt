@@ -1,0 +1,7 @@
+use Rattle.std.proofs.Common.{◌≡◌, ◌<◌, ℕ, map}
+use Rattle.ffv1_splice.specs.Faults.{length_at}
+use Rattle.ffv1_splice.proofs.splicing.other_length.Given as goal
+
+abbrev pub invariant-loop-index : goal.invariant-loop-index
+invariant-loop-index l =
+    (before : ℕ) → before < l.index → length_at (map (λ copy. copy.now) l.copies) before ≡ length_at (map (λ copy. copy.now) l.copies) 0

@@ -1,0 +1,11 @@
+pub mod Pieces
+pub mod Standings
+pub mod Splice
+pub mod Told
+pub mod Faults
+pub mod Originals
+pub mod Laws
+-- what the clauses cite of the crates below
+pub use Rattle.ffv1_slice.specs.Chain
+pub use Rattle.ffv1_slice.specs.Members
+pub use Rattle.ffv1_slice.specs.Near

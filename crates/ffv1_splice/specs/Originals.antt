@@ -1,0 +1,48 @@
+-- Copies of an original: what they tell of its links.
+use Rattle.std.specs.Prelude.{ℕ, ◌≡◌, ◌⊎◌, List, Contains, length, slice_range}
+use Rattle.ffv1_bits.specs.Parity.{AreBytes, PassesParity}
+use Rattle.ffv1_slice.specs.Chain.{IsEnd, IsLinkOf, Piece, piece_of}
+use Rattle.ffv1_slice.specs.Near.{IsHurtWithin32}
+use Rattle.ffv1_splice.specs.Pieces.{HasContent, IsPiece}
+
+-- The chain of the original is whole, and all copies are as long as it is.
+pub record AreCopiesOf (original : List ℕ) (copies : List (List ℕ)) : Type 0 where
+  pub whole : IsEnd original 0
+  pub one_length : (copy : List ℕ) → Contains copies copy → length copy ≡ length original
+
+-- No piece tells other than the original: each that ends at an end of the original is the original's link there.
+abbrev pub AgreeWith : List ℕ → List (List ℕ) → Type 0
+AgreeWith original copies =
+    (end : ℕ) (piece : Piece) → IsEnd original end → IsPiece copies end piece → IsLinkOf original piece.start end × (piece ≡ piece_of original piece.start end)
+
+-- each link of the original is a piece of some copy; so each has content
+abbrev pub HaveEachLink : List ℕ → List (List ℕ) → Type 0
+HaveEachLink original copies = (start end : ℕ) → IsLinkOf original start end → IsPiece copies end (piece_of original start end)
+
+-- ---- copies that are near an original
+
+-- An original whose chain is whole, and whose links all have content and pass their parity.
+pub record IsSound (original : List ℕ) : Type 0 where
+  pub whole : IsEnd original 0
+  pub are_bytes : AreBytes original
+  pub content : (start end : ℕ) → IsLinkOf original start end → HasContent start end
+  pub passes : (start end : ℕ) → IsLinkOf original start end → PassesParity (slice_range original start end)
+
+-- where a link of the original stands, a copy has the same bytes
+abbrev pub IsIntact : List ℕ → List ℕ → (start end : ℕ) → Type 0
+IsIntact original copy start end = slice_range copy start end ≡ slice_range original start end
+
+-- A copy as long as the original. Where a link of the original stands, it is intact, or hurt within 32 consecutive bits off the size field.
+pub record IsNearCopy (original copy : List ℕ) : Type 0 where
+  pub are_bytes : AreBytes copy
+  pub same_length : length copy ≡ length original
+  pub each : (start end : ℕ) → IsLinkOf original start end
+      → IsIntact original copy start end ⊎ IsHurtWithin32 (slice_range original start end) (slice_range copy start end)
+
+pub record AreNearCopies (original : List ℕ) (copies : List (List ℕ)) : Type 0 where
+  pub sound : IsSound original
+  pub near : (copy : List ℕ) → Contains copies copy → IsNearCopy original copy
+
+-- some copy has the link intact
+abbrev pub IsIntactInSome : List ℕ → List (List ℕ) → (start end : ℕ) → Type 0
+IsIntactInSome original copies start end = (copy : List ℕ) × Contains copies copy × IsIntact original copy start end

@@ -1,0 +1,39 @@
+-- What copies of a frame tell of the slice that ends at a place, by its footer alone (RFC 9043, section 4.9). No setup is asked
+-- for: every FFV1 version 3 frame with parity has these footers, whatever its samples are coded by.
+use Rattle.std.specs.Prelude.{ℕ, ◌+◌, ◌<◌, ◌≡◌, List, Contains, slice_range}
+use Rattle.std.specs.Ordering.{nat_cmp}
+use Rattle.std.specs.Cmp.Lexicographic.{slice_cmp}
+use Rattle.std.specs.declared.cmp.Ordering.TheVariants.{Less}
+use Rattle.ffv1_bits.specs.Parity.{PassesParity}
+use Rattle.ffv1_slice.specs.Chain.{IsCut, Piece}
+
+-- The slice between two places has content before its footer. One without is neither a piece nor a told start: a sector of zeros reads
+-- as a row of links of size 0, each of which passes its parity, and no slice of a frame is without content.
+abbrev pub HasContent : (start end : ℕ) → Type 0
+HasContent start end = start + 8 < end
+
+-- A piece: what lies in some copy between the end and the start that the copy's footer there tells, where it has content and passes
+-- its parity.
+pub record IsPiece (copies : List (List ℕ)) (end : ℕ) (piece : Piece) : Type 0 where
+  pub copy : List ℕ
+  pub there : Contains copies copy
+  pub cut : IsCut copy piece.start end
+  pub content : HasContent piece.start end
+  pub bytes : piece.bytes ≡ slice_range copy piece.start end
+  pub passes : PassesParity piece.bytes
+
+-- The footer that ends there in some copy tells this start, of a slice that has content, whatever the parity.
+pub record IsToldStart (copies : List (List ℕ)) (end start : ℕ) : Type 0 where
+  pub copy : List ℕ
+  pub there : Contains copies copy
+  pub cut : IsCut copy start end
+  pub content : HasContent start end
+
+-- ---- what lies there where no piece tells
+
+-- The bytes are those of a copy between two places, and no copy has lesser ones there: the first byte that differs decides.
+pub record IsLeast (copies : List (List ℕ)) (start end : ℕ) (bytes : List ℕ) : Type 0 where
+  pub copy : List ℕ
+  pub there : Contains copies copy
+  pub lies : bytes ≡ slice_range copy start end
+  pub least : (other : List ℕ) → Contains copies other → slice_cmp nat_cmp (slice_range other start end) bytes ≡ Less → ⊥

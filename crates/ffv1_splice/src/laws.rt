@@ -1,0 +1,25 @@
+//! Laws of the splice, whatever it is made by.
+ghost use Rattle.ffv1_splice.specs.Laws.{SameCopiesSplice, OriginalIsSpliced, SettledIsOriginal, NearCopiesSplice};
+
+/// However the same copies are ordered or repeated, they have one splice.
+pub fn same_copies_splice()
+    ensures { SameCopiesSplice }
+{}
+
+/// Where each slice with content that passes its parity and ends at an end of an original is the original's there, and each of the
+/// original's slices is found so in some copy, the splice is the original, and all its places are settled.
+pub fn original_is_spliced()
+    ensures { OriginalIsSpliced }
+{}
+
+/// Of the same copies, where some of the original's slices are found in none: a settled place that ends at an end of the original is the
+/// original's slice there.
+pub fn settled_is_original()
+    ensures { SettledIsOriginal }
+{}
+
+/// Damage within 32 consecutive bits of each slice of each copy, off its size field, is never taken for the original, whose slices all
+/// have content: the places are the original's slices, settled exactly where a copy has it intact, and then the original's.
+pub fn near_copies_splice()
+    ensures { NearCopiesSplice }
+{}

@@ -1,0 +1,103 @@
+//! What copies tell of the slice that ends at a place, each looked at once.
+ghost use Rattle.std.specs.Prelude.{◌≡◌, ◌≤◌, ◌<◌, ℕ, length, map, All, MatchOption};
+ghost use Rattle.ffv1_slice.specs.Chain.{IsCut};
+ghost use Rattle.ffv1_splice.specs.Pieces.{HasContent, IsPiece, IsToldStart, IsLeast};
+ghost use Rattle.ffv1_splice.specs.Told.{Tells, TellsMore, pieces_told, starts_told};
+
+use ffv1_bits::passes;
+use ffv1_slice::{FOOTER_LENGTH, slice_start};
+
+/// The pieces that end at a place: slices with content that pass their parity.
+#[derive(Clone, Copy)]
+pub(crate) enum Pieces<'a> {
+    /// There is none.
+    None,
+    /// All are equal: from this start on, these bytes.
+    One(usize, &'a [u8]),
+    /// Two differ.
+    Two,
+}
+
+/// The starts that the footers tell which end at a place, of slices with content.
+#[derive(Clone, Copy)]
+pub(crate) enum Starts {
+    /// None tells one.
+    None,
+    /// All that tell one tell this.
+    One(usize),
+    /// Two differ.
+    Two,
+}
+
+impl<'a> Pieces<'a> {
+    /// The same with one more piece.
+    fn with(self, start: usize, bytes: &'a [u8]) -> Pieces<'a>
+        ensures { TellsMore (pieces_told self.entry) (record { start = start; bytes = bytes.now }) (pieces_told result) }
+    {
+        match self {
+            Pieces::None => Pieces::One(start, bytes),
+            Pieces::One(other, same) if other == start && same == bytes => self,
+            _ => Pieces::Two,
+        }
+    }
+}
+
+impl Starts {
+    /// The same with one more start.
+    fn with(self, start: usize) -> Starts
+        ensures { TellsMore (starts_told self) start (starts_told result) }
+    {
+        match self {
+            Starts::None => Starts::One(start),
+            Starts::One(same) if same == start => self,
+            _ => Starts::Two,
+        }
+    }
+}
+
+/// Where the slice begins whose footer ends at this place, as `slice_start` says; but `None` too where it has no content. Zeros read
+/// as a row of such slices, each of which passes its parity.
+fn told_start(copy: &[u8], end: usize) -> Option<usize>
+    requires { end ≤ length copy.now }
+    ensures { MatchOption result ((start : ℕ) → IsCut copy.now start end → HasContent start end → ⊥)
+        (λ start. IsCut copy.now start end × HasContent start end) }
+{
+    match slice_start(copy, end) {
+        Some(start) if start + FOOTER_LENGTH < end => Some(start),
+        _ => None,
+    }
+}
+
+/// The pieces that end at a place, and the starts that are told there. Each copy has the place.
+pub(crate) fn told_at<'a>(copies: &[&'a [u8]], end: usize) -> (Pieces<'a>, Starts)
+    requires { All (λ copy. end ≤ length copy.now) copies.now }
+    ensures pieces { Tells (IsPiece (map (λ copy. copy.now) copies.now) end) (pieces_told result.0) }
+    ensures starts { Tells (IsToldStart (map (λ copy. copy.now) copies.now) end) (starts_told result.1) }
+{
+    let mut pieces = Pieces::None;
+    let mut starts = Starts::None;
+    for copy in copies {
+        if let Some(start) = told_start(copy, end) {
+            let bytes = &copy[start..end];
+            starts = starts.with(start);
+            if passes(bytes) {
+                pieces = pieces.with(start, bytes);
+            }
+        }
+    }
+    (pieces, starts)
+}
+
+/// The least of what lies in the copies between two places, of which there is one at least. Each copy has them.
+pub(crate) fn least_at<'a>(copies: &[&'a [u8]], start: usize, end: usize) -> &'a [u8]
+    requires some { 0 < length copies.now }
+    requires within { All (λ copy. end ≤ length copy.now) copies.now }
+    requires order { start ≤ end }
+    ensures { IsLeast (map (λ copy. copy.now) copies.now) start end result.now }
+{
+    let mut least = &copies[0][start..end];
+    for copy in copies {
+        least = least.min(&copy[start..end]);
+    }
+    least
+}

@@ -1,0 +1,11 @@
+pub mod VersionLists
+pub mod Agreeing
+pub mod RegionSteps
+pub mod PieceSteps
+pub mod PartSteps
+pub mod Choices
+pub mod Linear
+pub mod Numbering
+pub mod WeaveSteps
+pub mod WeaveLaws
+pub mod Vectors

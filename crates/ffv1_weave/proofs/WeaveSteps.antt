@@ -1,0 +1,142 @@
+-- The combinations as they are tried, by number.
+use Rattle.std.proofs.Common.{◌≡◌, ℕ, ◌+◌, ◌<◌, List, [], ◌++◌, length, get_or, take, drop, Option, Some, None, Bor, true, false, refl, sym, ap, ◌∙◌, subst, arith, inl, inr, map}
+use Rattle.std.specs.Prelude.{All, Contains, is_some}
+use Rattle.std.proofs.lemmas.Bool.{cases_lt}
+use Rattle.std.proofs.lemmas.List.{append-nil, drop_all, take_all}
+use Rattle.std.proofs.lemmas.List.Elements.{Contains-get_or}
+use Rattle.ffv1_weave.specs.Regions.{HaveLength}
+use Rattle.ffv1_weave.specs.Combinations.{IsCombination, IsValid, AreNumbered}
+use Rattle.ffv1_weave.specs.Parts.{Part, ArePartsFrom, IsFit, count_of, chosen}
+use Rattle.ffv1_slice.specs.Members.{IsOnly, IsOfTwo, IsOfNone}
+use Rattle.ffv1_weave.proofs.VersionLists.{bytes_of, bytes_at, length-bytes_of, each_version}
+use Rattle.ffv1_weave.specs.Changes.{remainder_in, changes_of, changed}
+use Rattle.ffv1_weave.proofs.Linear.{changed_is}
+use Rattle.ffv1_weave.proofs.Choices.{IsAlike, numbered, chosen_alike, combination_alike}
+
+-- Among the numbers so far none has a valid combination, or one alone.
+abbrev pub IsFoundSoFar : List (List ℕ) → (ℕ → List ℕ) → ℕ → Option ℕ → Type 0
+IsFoundSoFar versions at code None = (k : ℕ) → k < code → IsValid versions (at k) → ⊥
+IsFoundSoFar versions at code (Some found) =
+    (found < code) × IsValid versions (at found) × ((k : ℕ) → k < code → IsValid versions (at k) → k ≡ found)
+
+module _ (versions : List (List ℕ)) (at : ℕ → List ℕ) where
+  pub found_skip : (code : ℕ) (found : Option ℕ) → (IsValid versions (at code) → ⊥) → IsFoundSoFar versions at code found
+      → IsFoundSoFar versions at (code + 1) found
+  found_skip code None fails h = λ k lt valid.
+      elim (cases_lt k code) [
+        | inl below ↦ h k below valid
+        | inr above ↦ let same : k ≡ code = omega arith in fails (subst (λ n. IsValid versions (at n)) same valid)
+      ]
+  found_skip code (Some found) fails h =
+      let below = h.0 in (
+        omega arith,
+        h.1,
+        λ k lt valid.
+            elim (cases_lt k code) [
+              | inl before ↦ h.2 k before valid
+              | inr above ↦ let same : k ≡ code = omega arith in absurd (fails (subst (λ n. IsValid versions (at n)) same valid))
+            ],
+      )
+
+  pub found_first : (code : ℕ) → IsValid versions (at code) → IsFoundSoFar versions at code None → IsFoundSoFar versions at (code + 1) (Some code)
+  found_first code valid h = (
+    omega arith,
+    valid,
+    λ k lt other.
+        elim (cases_lt k code) [
+          | inl below ↦ absurd (h k below other)
+          | inr above ↦ omega arith
+        ],
+  )
+
+module _ (versions : List (List ℕ)) (count : ℕ) (all : AreNumbered (IsCombination versions) count) where
+  pub found_second : (code found : ℕ) → code < count → IsValid versions (all.at code) → IsFoundSoFar versions all.at code (Some found) → IsOfTwo (IsValid versions)
+  found_second code found lt valid h =
+      record {
+        one = all.at found;
+        other = all.at code;
+        one_there = h.1;
+        other_there = valid;
+        differ = λ same. let below = h.0 in let e = all.once found code (omega arith) lt same in omega arith;
+      }
+
+  pub found_none : IsFoundSoFar versions all.at count None → IsOfNone (IsValid versions)
+  found_none h bytes valid =
+      let k = all.all bytes valid.combination in h k.0 k.1 (subst (IsValid versions) (sym k.2) valid)
+
+  pub found_only : (found : ℕ) → IsFoundSoFar versions all.at count (Some found) → IsOnly (IsValid versions) (all.at found)
+  found_only found h =
+      record {
+        there = h.1;
+        others = λ other valid. let k = all.all other valid.combination in
+            sym k.2 ∙ ap all.at (h.2 k.0 k.1 (subst (IsValid versions) (sym k.2) valid));
+      }
+
+-- ---- the regions of versions of one length
+
+pub record HaveParts (versions : List (List ℕ)) (parts : List Part) : Type 0 where
+  pub some : 0 < length versions
+  pub long : HaveLength versions (length (get_or versions 0 []))
+  pub are : ArePartsFrom versions 0 parts
+  pub fit : All (IsFit (length (get_or versions 0 []))) parts
+
+module _ (versions : List (List ℕ)) (parts : List Part) (have : HaveParts versions parts) where
+  pub first_there : Contains versions (get_or versions 0 [])
+  first_there = Contains-get_or versions 0 [] have.some
+
+  abbrev pub all_numbered : AreNumbered (IsCombination versions) (count_of parts)
+  all_numbered = numbered versions parts (get_or versions 0 []) have.long first_there have.are have.fit
+
+  -- what is written over bytes that are as the first version where all agree
+  pub chosen_over : (code : ℕ) (bytes : List ℕ) → IsAlike versions 0 bytes (get_or versions 0 [])
+      → chosen parts code bytes ≡ chosen parts code (get_or versions 0 [])
+  chosen_over code bytes alike =
+      chosen_alike versions 0 parts code bytes (get_or versions 0 []) have.are (subst (λ s. All (IsFit s) parts) (sym alike.size) have.fit) alike
+
+  pub fit_over : (bytes : List ℕ) → IsAlike versions 0 bytes (get_or versions 0 []) → All (IsFit (length bytes)) parts
+  fit_over bytes alike = subst (λ s. All (IsFit s) parts) (sym alike.size) have.fit
+
+  pub alike_at : (code : ℕ) → code < count_of parts → IsAlike versions 0 (chosen parts code (get_or versions 0 [])) (get_or versions 0 [])
+  alike_at code lt = combination_alike versions (get_or versions 0 []) (chosen parts code (get_or versions 0 [])) first_there (all_numbered.are code lt)
+
+-- the first version, as the code has it
+pub alike_first : (versions : List (List ℕ)) (first : List ℕ) → first ≡ get_or versions 0 [] → IsAlike versions 0 first (get_or versions 0 [])
+alike_first versions first is =
+    record { size = ap length is; front = λ i lt. ap (λ z. get_or z i 0) is; agree = λ i same. ap (λ z. get_or z i 0) is }
+
+-- what is written through a vector's slice is what the vector holds
+pub put_back : (len : ℕ) (new items : List ℕ) → len ≡ length items → length new ≡ length items → take len (new ++ drop (length new) items) ≡ new
+put_back len new items l n =
+    let none : drop (length new) items ≡ [] = ap (λ k. drop k items) n ∙ drop_all (length items) items (omega arith) in
+    ap (λ z. take len (new ++ z)) none ∙ ap (take len) (append-nil new) ∙ ap (λ k. take k new) (l ∙ sym n) ∙ take_all (length new) new (omega arith)
+
+pub some_of : (o : Option ℕ) → is_some o ≡ true → (x : ℕ) × (o ≡ Some x)
+some_of None h = absurd (cc)
+some_of (Some x) h = (x, refl)
+
+pub none_of : (o : Option ℕ) → is_some o ≡ false → o ≡ None
+none_of None h = refl
+none_of (Some x) h = absurd (cc)
+
+-- as the code has them
+pub have_parts : (versions : List (Bor (List ℕ))) (parts : List Part) (d : Bor (List ℕ)) → 0 < length versions
+    → All (λ version. length version.now ≡ length (get_or (bytes_of versions) 0 [])) versions → ArePartsFrom (bytes_of versions) 0 parts
+    → All (IsFit (length (get_or versions 0 d).now)) parts → HaveParts (bytes_of versions) parts
+have_parts versions parts d some long are fit =
+    record {
+      some = omega (arith, length-bytes_of versions);
+      long = each_version versions (λ version. length version ≡ length (get_or (bytes_of versions) 0 [])) long;
+      are = are;
+      fit = subst (λ z. All (IsFit (length z)) parts) (sym (bytes_at versions 0 d [] some)) fit;
+    }
+
+pub absent : (o : Option ℕ) → ((x : ℕ) → o ≡ Some x → ⊥) → o ≡ None
+absent None h = refl
+absent (Some x) h = absurd (h x refl)
+
+-- ---- the remainder of a combination, as it is summed
+
+pub summed : (versions : List (List ℕ)) (parts : List Part) (have : HaveParts versions parts) (code : ℕ)
+    → changed (map (changes_of (get_or versions 0 [])) parts) code (remainder_in (get_or versions 0 [])) ≡ remainder_in (chosen parts code (get_or versions 0 []))
+summed versions parts have code =
+    changed_is versions (get_or versions 0 []) 0 parts code (get_or versions 0 []) have.are have.fit refl (λ i low. refl)

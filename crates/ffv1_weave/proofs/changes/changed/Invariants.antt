@@ -1,0 +1,8 @@
+use Rattle.std.proofs.Common.{◌≡◌, map, drop}
+use Rattle.ffv1_weave.specs.Changes.{changed}
+use Rattle.ffv1_weave.proofs.changes.changed.Given as goal
+
+-- The changes of the rest make of this register what all make of the first.
+abbrev pub invariant-loop-changes : goal.invariant-loop-changes
+invariant-loop-changes l =
+    changed (map (λ changes. changes.items) (drop l.changes-index l.tables)) l.rest l.register ≡ changed (map (λ changes. changes.items) l.tables) l.code l.base

@@ -1,0 +1,10 @@
+use Rattle.std.proofs.Common.{◌≡◌, length, drop}
+use Rattle.ffv1_weave.specs.Parts.{chosen}
+use Rattle.ffv1_weave.proofs.parts.choose.Given as goal
+
+-- The pieces of the rest make of these bytes what all make of the first.
+abbrev pub invariant-loop-region : goal.invariant-loop-region
+invariant-loop-region l = record {
+  same_length : length l.bytes ≡ length l.initial.bytes;
+  rest : chosen (drop l.region-index l.regions) l.rest l.bytes ≡ chosen l.regions l.code l.initial.bytes;
+}

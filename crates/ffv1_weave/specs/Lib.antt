@@ -1,0 +1,11 @@
+pub mod Regions
+pub mod Combinations
+pub mod Weave
+pub mod Parts
+pub mod Changes
+pub mod Laws
+-- what the clauses cite of the crates below
+pub use Rattle.ffv1_bits.specs.Bits
+pub use Rattle.ffv1_bits.specs.Parity
+pub use Rattle.ffv1_slice.specs.Chain
+pub use Rattle.ffv1_slice.specs.Members

@@ -1,0 +1,24 @@
+-- Versions of one slice: what several copies of a frame have at the slice's place, all of one length. They are split into regions
+-- where they differ.
+use Rattle.std.specs.Prelude.{ℕ, ◌+◌, ◌-◌, ◌<◌, ◌≤◌, ◌≡◌, List, Contains, length, slice_index}
+
+-- all versions are as long
+abbrev pub HaveLength : List (List ℕ) → ℕ → Type 0
+HaveLength versions size = (version : List ℕ) → Contains versions version → length version ≡ size
+
+-- At a place, counted in bytes from the slice's start, all versions have the same byte.
+abbrev pub AgreeAt : List (List ℕ) → ℕ → Type 0
+AgreeAt versions i = (one other : List ℕ) → Contains versions one → Contains versions other → slice_index one i ≡ slice_index other i
+
+abbrev pub DifferAt : List (List ℕ) → ℕ → Type 0
+DifferAt versions i = AgreeAt versions i → ⊥
+
+-- A region, from its start up to its end: the versions differ at its first place and at its last. Between two regions they agree at 64
+-- places in a row at least, and within one nowhere at 64 in a row.
+pub record IsRegion (versions : List (List ℕ)) (start end : ℕ) : Type 0 where
+  pub some : start < end
+  pub first : DifferAt versions start
+  pub last : DifferAt versions (end - 1)
+  pub before : (i : ℕ) → i < start → start ≤ i + 64 → AgreeAt versions i
+  pub behind : (i : ℕ) → end ≤ i → i < end + 64 → AgreeAt versions i
+  pub within : (i : ℕ) → start ≤ i → i + 64 ≤ end → (j : ℕ) × (i ≤ j) × (j < i + 64) × DifferAt versions j

@@ -1,0 +1,40 @@
+-- What is woven of the versions of a slice.
+use Rattle.std.specs.Prelude.{ℕ, ◌≤◌, ◌<◌, ◌≡◌, List}
+use Rattle.ffv1_slice.specs.Members.{IsOnly, IsOfTwo, IsOfNone}
+use Rattle.ffv1_weave.specs.Combinations.{IsCombination, IsValid, AreNumbered}
+use Rattle.ffv1_weave.specs.declared.weaving.Outcome.{Outcome}
+use Rattle.ffv1_weave.specs.declared.weaving.Outcome.TheVariants as outcome
+
+-- the greatest number of combinations that are tried
+abbrev pub most_combinations : ℕ
+most_combinations = 4096
+
+pub data Weave : Type 0 where
+  woven : (bytes : List ℕ) (count : ℕ) → Weave
+  disputed : Weave
+  missing : Weave
+  too_many : Weave
+
+-- The versions have so many combinations, few enough to be tried.
+pub record AreFew (versions : List (List ℕ)) (count : ℕ) : Type 0 where
+  pub numbered : AreNumbered (IsCombination versions) count
+  pub few : count ≤ most_combinations
+
+pub record AreMany (versions : List (List ℕ)) : Type 0 where
+  pub count : ℕ
+  pub numbered : AreNumbered (IsCombination versions) count
+  pub many : most_combinations < count
+
+-- Woven where one combination alone is valid, disputed where two are that differ, missing where none is; too many where they are not tried.
+abbrev pub IsWeaveOf : List (List ℕ) → Weave → Type 0
+IsWeaveOf versions (woven bytes count) = IsOnly (IsValid versions) bytes × AreFew versions count
+IsWeaveOf versions disputed = IsOfTwo (IsValid versions) × ((count : ℕ) × AreFew versions count)
+IsWeaveOf versions missing = IsOfNone (IsValid versions) × ((count : ℕ) × AreFew versions count)
+IsWeaveOf versions too_many = AreMany versions
+
+-- what the code answers
+abbrev pub weave_told : Outcome → Weave
+weave_told (outcome.Woven bytes count) = woven bytes.items count
+weave_told outcome.Disputed = disputed
+weave_told outcome.Missing = missing
+weave_told outcome.TooMany = too_many

@@ -1,0 +1,75 @@
+//! What the pieces of regions change of the parity's remainder: each is computed once, and a combination's remainder is the
+//! sum of those of its pieces.
+ghost use Rattle.std.specs.Prelude.{◌≡◌, ◌+◌, ◌≤◌, ◌<◌, length, map, All, IfOk};
+ghost use Rattle.ffv1_weave.specs.Parts.{IsFit};
+ghost use Rattle.ffv1_weave.specs.Changes.{remainder_in, change_of, changes_of, changed};
+
+use crate::parts::Region;
+use ffv1_bits::remainder;
+use std::alloc::{AllocError, Global};
+
+/// What a piece changes of the remainder of `first`, where it is written over it from `start` on.
+fn change_of(scratch: &mut [u8], first: &[u8], base: u32, start: usize, piece: &[u8]) -> u32
+    requires same { length scratch.old ≡ length first.now }
+    requires fits { start + length piece.now ≤ length first.now }
+    requires base { base ≡ remainder_in first.now }
+    ensures { result ≡ change_of first.now start piece.now }
+{
+    scratch.copy_from_slice(first);
+    scratch[start..start + piece.len()].copy_from_slice(piece);
+    remainder(scratch) ^ base
+}
+
+/// What each piece of a region changes.
+fn changes_of(
+    alloc: Global,
+    scratch: &mut [u8],
+    first: &[u8],
+    base: u32,
+    region: &Region<'_>,
+) -> Result<Vec<u32>, AllocError>
+    requires same { length scratch.old ≡ length first.now }
+    requires fits { IsFit (length first.now) region.now }
+    requires base { base ≡ remainder_in first.now }
+    ensures { IfOk result (λ changes. changes.items ≡ changes_of first.now region.now) }
+{
+    let mut changes = Vec::new(alloc);
+    for piece in region.pieces.as_slice() {
+        changes.push(change_of(scratch, first, base, region.start, piece))?;
+    }
+    Ok(changes)
+}
+
+/// What each piece of each region changes of the remainder of `first`, which is `base`.
+pub(crate) fn tables_of(
+    alloc: Global,
+    first: &[u8],
+    base: u32,
+    regions: &[Region<'_>],
+) -> Result<Vec<Vec<u32>>, AllocError>
+    requires fits { All (IsFit (length first.now)) regions.now }
+    requires base { base ≡ remainder_in first.now }
+    ensures { IfOk result (λ tables. map (λ changes. changes.items) tables.items ≡ map (changes_of first.now) regions.now) }
+{
+    let mut scratch = Vec::from_slice(alloc, first)?;
+    let mut tables = Vec::new(alloc);
+    for region in regions {
+        tables.push(changes_of(alloc, &mut scratch, first, base, region)?)?;
+    }
+    Ok(tables)
+}
+
+/// The remainder of the combination of this number.
+pub(crate) fn changed(tables: &[Vec<u32>], base: u32, code: usize) -> u32
+    requires { All (λ changes. 0 < length changes.items) tables.now }
+    ensures { result ≡ changed (map (λ changes. changes.items) tables.now) code base }
+{
+    let mut register = base;
+    let mut rest = code;
+    for changes in tables {
+        let many = changes.len();
+        register ^= changes[rest % many];
+        rest /= many;
+    }
+    register
+}

@@ -1,0 +1,15 @@
+//! A slice that is damaged in every copy, in different places, is put together of what is undamaged in each: the copies'
+//! versions of it are split into regions where they differ, and the parity tells which combination is the slice
+//! (RFC 9043, section 4.9).
+#![tactic(auto)]
+
+mod changes;
+mod laws;
+mod parts;
+mod regions;
+mod weaving;
+
+pub use laws::{
+    covered_is_combination, original_is_woven, same_versions_weave, version_is_combination,
+};
+pub use weaving::{MOST_COMBINATIONS, Outcome, weave};

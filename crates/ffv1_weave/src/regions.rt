@@ -1,0 +1,79 @@
+//! The regions where versions of a slice differ, found from its front on.
+ghost use Rattle.std.specs.Prelude.{◌≡◌, ◌+◌, ◌-◌, ◌≤◌, ◌<◌, ℕ, length, map, All, MatchBool, MatchOption, IfSome};
+ghost use Rattle.ffv1_weave.specs.Regions.{AgreeAt, DifferAt};
+ghost use Rattle.ffv1_weave.specs.Parts.{IsNextRegion};
+
+/// How many places in a row at which all versions agree part two regions.
+const GAP: usize = 64;
+
+/// Whether versions differ at a place. There is one at least, and all have the place.
+fn differ_at(versions: &[&[u8]], place: usize) -> bool
+    requires some { 0 < length versions.now }
+    requires within { All (λ version. place < length version.now) versions.now }
+    ensures { MatchBool result (DifferAt (map (λ version. version.now) versions.now) place) (AgreeAt (map (λ version. version.now) versions.now) place) }
+{
+    for version in versions {
+        if version[place] != versions[0][place] {
+            return true;
+        }
+    }
+    false
+}
+
+/// The first place from `from` on where versions differ, or their length `size` where there is none.
+fn first_from(versions: &[&[u8]], from: usize, size: usize) -> usize
+    requires some { 0 < length versions.now }
+    requires lengths { All (λ version. length version.now ≡ size) versions.now }
+    requires within { from ≤ size }
+    ensures beyond { from ≤ result }
+    ensures within { result ≤ size }
+    ensures until { (i : ℕ) → from ≤ i → i < result → AgreeAt (map (λ version. version.now) versions.now) i }
+    ensures there { result < size → DifferAt (map (λ version. version.now) versions.now) result }
+{
+    for place in from..size {
+        if differ_at(versions, place) {
+            return place;
+        }
+    }
+    size
+}
+
+/// The end of the region that begins at `start`.
+fn end_from(versions: &[&[u8]], start: usize, size: usize) -> usize
+    requires some { 0 < length versions.now }
+    requires lengths { All (λ version. length version.now ≡ size) versions.now }
+    requires within { start < size }
+    requires first { DifferAt (map (λ version. version.now) versions.now) start }
+    ensures within { result ≤ size }
+    ensures beyond { start < result }
+    ensures last { DifferAt (map (λ version. version.now) versions.now) (result - 1) }
+    ensures behind { (i : ℕ) → result ≤ i → i < result + 64 → AgreeAt (map (λ version. version.now) versions.now) i }
+    ensures dense { (i : ℕ) → start ≤ i → i + 64 ≤ result → (j : ℕ) × (i ≤ j) × (j < i + 64) × DifferAt (map (λ version. version.now) versions.now) j }
+{
+    let mut end = start + 1;
+    let mut place = end;
+    while place < size && place - end < GAP {
+        if differ_at(versions, place) {
+            end = place + 1;
+        }
+        place += 1;
+    }
+    end
+}
+
+/// The next region from `from` on, where it is the slice's start or a region's end: its start and its end.
+pub(crate) fn region_from(versions: &[&[u8]], from: usize, size: usize) -> Option<(usize, usize)>
+    requires some { 0 < length versions.now }
+    requires lengths { All (λ version. length version.now ≡ size) versions.now }
+    requires within { from ≤ size }
+    requires gap { (i : ℕ) → 0 < from → from ≤ i → i < from + 64 → AgreeAt (map (λ version. version.now) versions.now) i }
+    ensures region { MatchOption result ((i : ℕ) → from ≤ i → AgreeAt (map (λ version. version.now) versions.now) i)
+        (λ (start, end). IsNextRegion (map (λ version. version.now) versions.now) from start end) }
+    ensures within { IfSome result (λ (start, end). end ≤ size) }
+{
+    let start = first_from(versions, from, size);
+    if start == size {
+        return None;
+    }
+    Some((start, end_from(versions, start, size)))
+}
