@@ -5,6 +5,7 @@ use Rattle.std.proofs.Math.Seq.{drop-append_seam}
 use Rattle.std.proofs.lemmas.List.{append-nil, append_assoc, length-append, length-drop, length-take-le, drop_all, take_all}
 use Rattle.ffv1_splice.specs.Pieces.{IsLeast}
 use Rattle.ffv1_splice.specs.Standings.{StandsAs, IsStop}
+use Rattle.ffv1_splice.specs.Placing.{written}
 use Rattle.ffv1_splice.proofs.Walks.{IsSpliceBefore}
 use Rattle.ffv1_splice.proofs.Walks.IsSpliceBefore.{stops, goes}
 use Rattle.ffv1_splice.specs.Faults.{length_at, HasOneLength}
@@ -12,9 +13,6 @@ use Rattle.ffv1_splice.specs.declared.place.Place.{Place}
 use Rattle.ffv1_splice.proofs.CopyLists.{bytes_at, length-bytes_of}
 
 -- ---- bytes written over others
-
-abbrev pub written : List ℕ → ℕ → List ℕ → List ℕ
-written payload start bytes = take start payload ++ (bytes ++ drop (start + length bytes) payload)
 
 pub length-written : (payload : List ℕ) (start : ℕ) (bytes : List ℕ) → start + length bytes ≤ length payload → length (written payload start bytes) ≡ length payload
 length-written payload start bytes h =
