@@ -1,4 +1,4 @@
-//! Tests of the public calls that read bits, codes, records, slices and tiles: worked rows and recorded frames.
+//! Tests of the public calls that read bits, codes, records, slices and tiles, and weave slices: worked rows and recorded frames.
 #![tactic(auto)]
 
 #[cfg(test)]
@@ -13,3 +13,5 @@ mod recorded;
 mod rice;
 #[cfg(test)]
 mod slice;
+#[cfg(test)]
+mod weave;

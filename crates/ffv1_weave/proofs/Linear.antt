@@ -15,7 +15,7 @@ use Rattle.ffv1_bits.proofs.Sums.{xor_twice}
 use Rattle.ffv1_weave.specs.Parts.{Part, ArePartsFrom, IsFit, chosen, written}
 use Rattle.ffv1_weave.specs.Changes.{remainder_in, change_of, changes_of, changed}
 use Rattle.ffv1_weave.proofs.VersionLists.{bytes_of, bytes_at, length-bytes_of}
-use Rattle.ffv1_weave.proofs.Choices.{length-written, written_behind, same_range, piece_of, piece_size, digit_below, fit_as, fit_head, fit_tail, fits_in}
+use Rattle.ffv1_weave.proofs.Choices.{length-written, written_after, same_range, piece_of, piece_size, digit_below, fit_as, fit_head, fit_tail, fits_in}
 
 -- ---- the polynomial of bits with others in a window
 
@@ -133,7 +133,7 @@ module _ (versions : List (List ℕ)) (first : List ℕ) where
       ∙ changed_is part.end parts (code / n) (written bytes part.start piece) are.2
       (fit_as (length (written bytes part.start piece)) (length bytes) parts (length-written bytes part.start piece fits) (fit_tail (length bytes) part parts fit))
       (length-written bytes part.start piece fits ∙ long)
-      (λ i low. written_behind bytes part.start piece fits i (omega arith) ∙ same i (omega arith))
+      (λ i low. written_after bytes part.start piece fits i (omega arith) ∙ same i (omega arith))
 
 -- ---- the pieces of a part, as the code has them
 

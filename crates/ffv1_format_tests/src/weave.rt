@@ -1,0 +1,124 @@
+//! Slices that are put together from damaged versions.
+use crate::recorded::QUARTERED;
+use ffv1_weave::{Outcome, weave};
+use std::alloc::Global;
+use std::test::Fail;
+
+/// The footer of the first slice of `QUARTERED`, as FFmpeg wrote it.
+const FOOTER: [u8; 8] = [0x00, 0x04, 0x05, 0x00, 0x18, 0x4B, 0x2B, 0x5C];
+
+/// Places of a slice, and what is added to the bytes there, by XOR.
+type Damage<'a> = &'a [(usize, u8)];
+
+/// The first slice of `QUARTERED` with this damage. It has 1037 bytes.
+fn version_of(alloc: Global, damage: Damage<'_>) -> Result<Vec<u8>, Fail> {
+    let mut bytes = Vec::from_slice(alloc, QUARTERED[0].0)?;
+    bytes.extend_from_slice(&FOOTER)?;
+    for (place, change) in damage {
+        let byte = bytes.get_mut(*place).ok_or("a place of the slice")?;
+        *byte ^= *change;
+    }
+    Ok(bytes)
+}
+
+/// What comes of weaving versions of the slice.
+#[derive(Clone, Copy, Debug, PartialEq, Eq)]
+enum Told {
+    /// The slice itself, of so many combinations.
+    Slice(usize),
+    Other,
+    Disputed,
+    Missing,
+    TooMany,
+    /// The versions are of no one length, or there are none.
+    Uneven,
+}
+
+/// What comes of weaving these versions of a slice.
+fn told_of(alloc: Global, slice: &[u8], versions: &[&[u8]]) -> Result<Told, Fail> {
+    if versions.is_empty()
+        || !versions
+            .iter()
+            .all(|version| version.len() == versions[0].len())
+    {
+        return Ok(Told::Uneven);
+    }
+    Ok(match weave(alloc, versions)? {
+        Outcome::Woven(bytes, count) if bytes.as_slice() == slice => Told::Slice(count),
+        Outcome::Woven(_, _) => Told::Other,
+        Outcome::Disputed => Told::Disputed,
+        Outcome::Missing => Told::Missing,
+        Outcome::TooMany => Told::TooMany,
+    })
+}
+
+/// Whether this comes of weaving the slice's versions with these damages.
+fn is_told(alloc: Global, damages: &[Damage<'_>], told: Told) -> Result<bool, Fail> {
+    let mut copies = Vec::new(alloc);
+    for damage in damages {
+        copies.push(version_of(alloc, damage)?)?;
+    }
+    let mut versions = Vec::new(alloc);
+    for copy in &copies {
+        versions.push(copy.as_slice())?;
+    }
+    let slice = version_of(alloc, &[])?;
+    Ok(told_of(alloc, &slice, &versions)? == told)
+}
+
+/// Versions by their damage, and what is woven of them.
+const ROWS: [(&'static [Damage<'static>], Told); 9] = [
+    // apart in two copies, in whatever order and however often; in the footer's size too
+    (&[&[(3, 1), (4, 1)], &[(100, 0x80)]], Told::Slice(4)),
+    (
+        &[&[(100, 0x80)], &[(3, 1), (4, 1)], &[(100, 0x80)]],
+        Told::Slice(4),
+    ),
+    (&[&[(3, 1)], &[(1031, 1)]], Told::Slice(4)),
+    // in one region, and with an intact version
+    (&[&[(3, 1)], &[(67, 1)]], Told::Missing),
+    (&[&[(3, 1)], &[(67, 1)], &[]], Told::Slice(3)),
+    (&[&[(3, 1)], &[(68, 1)]], Told::Slice(4)),
+    (&[&[]], Told::Slice(1)),
+    (&[&[(3, 1)]], Told::Missing),
+    // both damages together have the parity of neither
+    (
+        &[
+            &[(3, 1)],
+            &[(100, 0x87), (101, 0x62), (102, 0xC1), (103, 0xF6)],
+        ],
+        Told::Disputed,
+    ),
+];
+
+#[test]
+fn damaged_versions_are_woven(rt: HostRuntime) -> Result<(), Fail> {
+    for (damages, told) in ROWS {
+        assert!(rt; is_told(rt.alloc(), damages, told)?);
+    }
+    Ok(())
+}
+
+/// Damage at so many places, 65 apart, in each second of them alone.
+#[test]
+fn at_most_4096_combinations_are_tried(rt: HostRuntime) -> Result<(), Fail> {
+    let even = [
+        (0, 1),
+        (130, 1),
+        (260, 1),
+        (390, 1),
+        (520, 1),
+        (650, 1),
+        (780, 1),
+    ];
+    let odd = [(65, 1), (195, 1), (325, 1), (455, 1), (585, 1), (715, 1)];
+    assert!(rt; is_told(rt.alloc(), &[&even[..6], odd.as_slice()], Told::Slice(4096))?);
+    assert!(rt;
+        is_told(
+            rt.alloc(),
+            &[even.as_slice(), odd.as_slice()],
+            Told::TooMany
+        )?
+    );
+    Ok(())
+}
