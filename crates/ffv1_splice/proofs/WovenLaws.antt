@@ -1,18 +1,18 @@
 -- What is woven of copies of an original.
-use Rattle.std.proofs.Common.{◌≡◌, ℕ, ◌+◌, ◌-◌, ◌<◌, ◌≤◌, List, length, get_or, refl, sym, ap, ◌∙◌, subst, arith, inl, inr}
-use Rattle.std.specs.Prelude.{All, Contains, slice_range}
+use Rattle.std.proofs.Common.{◌≡◌, ℕ, ◌<◌, List, length, get_or, refl, sym, ◌∙◌, subst, arith, inl, inr}
+use Rattle.std.specs.Prelude.{All, slice_range}
 use Rattle.std.proofs.lemmas.List.Elements.{All-contains}
 use Rattle.ffv1_bits.specs.Parity.{PassesParity}
-use Rattle.ffv1_slice.specs.Chain.{size_before, IsCut, IsEnd, IsLinkOf, IsFramed}
+use Rattle.ffv1_slice.specs.Chain.{IsCut, IsEnd, IsLinkOf, IsFramed}
 use Rattle.ffv1_slice.specs.Chain.IsEnd.{last}
 use Rattle.ffv1_slice.specs.Members.{IsOnly}
 use Rattle.ffv1_slice.proofs.NearLaws.{length-range, size_of_range}
 use Rattle.ffv1_weave.specs.Weave.{AreMany}
 use Rattle.ffv1_splice.specs.Pieces.{IsToldStart}
-use Rattle.ffv1_splice.specs.Standings.{versions_at, StandsAs, IsStop}
+use Rattle.ffv1_splice.specs.Standings.{versions_at, StandsAs}
 use Rattle.ffv1_splice.specs.Splice.{SplicedValue, IsSpliceOf, IsSettledOrWoven, IsGivenBack}
 use Rattle.ffv1_splice.specs.Originals.{AreCopiesOf, IsAmong, AreWeavable}
-use Rattle.ffv1_splice.specs.Laws.{HasLinksOf, KeepsLink, WovenIsOriginal, GivenBackIsOriginal}
+use Rattle.ffv1_splice.specs.Laws.{HasLinksOf, WovenIsOriginal, GivenBackIsOriginal}
 use Rattle.ffv1_splice.specs.declared.place.Standing.{Standing}
 use Rattle.ffv1_splice.specs.declared.place.Standing.TheVariants.{Settled, Woven, Disputed, Missing}
 use Rattle.ffv1_splice.specs.declared.place.Place.{Place}

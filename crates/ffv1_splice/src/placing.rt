@@ -28,7 +28,11 @@ pub(crate) fn place_before(
         Pieces::One(start, bytes) => {
             write_at(payload, start, bytes);
             let standing = Standing::Settled;
-            Ok(Some(Place { start, end, standing }))
+            Ok(Some(Place {
+                start,
+                end,
+                standing,
+            }))
         }
         Pieces::Two => Ok(disputed_before(copies, starts, end, payload)),
         Pieces::None => woven_before(alloc, copies, starts, end, payload),
@@ -54,7 +58,11 @@ fn disputed_before(
     };
     write_at(payload, start, least_at(copies, start, end));
     let standing = Standing::Disputed;
-    Some(Place { start, end, standing })
+    Some(Place {
+        start,
+        end,
+        standing,
+    })
 }
 
 /// The place that ends there, where no piece does.
@@ -76,7 +84,11 @@ fn woven_before(
         return Ok(None);
     };
     let standing = weave_at(alloc, copies, start, end, payload)?;
-    Ok(Some(Place { start, end, standing }))
+    Ok(Some(Place {
+        start,
+        end,
+        standing,
+    }))
 }
 
 /// How the place between these ends stands, of which no piece is one: it is woven, or the least of all copies' bytes are written.

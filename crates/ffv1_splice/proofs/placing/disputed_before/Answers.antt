@@ -1,4 +1,4 @@
-use Rattle.std.proofs.Common.{◌≡◌, ◌≤◌, ◌+◌, ℕ, length, refl, subst, inl, arith}
+use Rattle.std.proofs.Common.{◌≤◌, length, refl, subst, inl, arith}
 use Rattle.ffv1_slice.specs.Members.{IsOnly}
 use Rattle.ffv1_splice.specs.Pieces.{IsPiece, IsToldStart}
 use Rattle.ffv1_splice.specs.Told.{Tells, starts_told}

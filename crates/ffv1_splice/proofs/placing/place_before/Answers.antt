@@ -1,6 +1,5 @@
-use Rattle.std.proofs.Common.{◌≡◌, ◌+◌, ◌≤◌, ℕ, length, subst, refl, arith}
-use Rattle.ffv1_slice.specs.Chain.{Piece}
-use Rattle.ffv1_slice.specs.Members.{IsOnly, IsOfNone, IsOfTwo}
+use Rattle.std.proofs.Common.{◌≤◌, length, subst, refl, arith}
+use Rattle.ffv1_slice.specs.Members.{IsOnly}
 use Rattle.ffv1_splice.specs.Pieces.{IsPiece}
 use Rattle.ffv1_splice.specs.Told.{Tells, pieces_told}
 use Rattle.ffv1_splice.proofs.CopyLists.{bytes_of, each_copy}

@@ -1,7 +1,6 @@
-use Rattle.std.proofs.Common.{◌≡◌, ◌++◌, ◌∷◌, ℕ, List, [], Bor, map, get_or, ap, ◌∙◌, arith}
+use Rattle.std.proofs.Common.{◌++◌, ◌∷◌, ℕ, List, [], map, get_or, ap, ◌∙◌, arith}
 use Rattle.std.specs.Prelude.{slice_range}
 use Rattle.std.proofs.lemmas.List.{map-append}
-use Rattle.ffv1_splice.proofs.CopyLists.{bytes_of}
 use Rattle.ffv1_splice.proofs.Versions.{next_version, all_versions}
 use Rattle.ffv1_splice.proofs.placing.versions_at.Goals as goal
 

@@ -1,4 +1,4 @@
-use Rattle.std.proofs.Common.{◌≡◌, ◌≤◌, ◌+◌, ℕ, length, refl, sym, ap, subst, ◌∙◌, inl, inr, arith}
+use Rattle.std.proofs.Common.{◌≡◌, ◌≤◌, length, refl, sym, ap, subst, ◌∙◌, inl, inr, arith}
 use Rattle.ffv1_weave.specs.Weave.{Weave, IsWeaveOf, weave_told}
 use Rattle.ffv1_weave.specs.Weave.Weave.{woven, disputed, missing, too_many}
 use Rattle.ffv1_weave.specs.declared.weaving.Outcome.{Outcome}
@@ -70,14 +70,14 @@ returns c =
     let is : bytes_of c.as_slice.result.now ≡ versions_at (bytes_of c.args.copies.now) c.args.start c.args.end =
     ap bytes_of c.as_slice.ensures.value ∙ c.in_ok-versions.ensures in
     let at = λ (w : Weave) (h : IsWeaveOf (bytes_of c.as_slice.result.now) w).
-        stands_weave (bytes_of c.args.copies.now) c.args.start c.args.end w c.requires.none c.requires.told (subst (λ vs. IsWeaveOf vs w) is h) in
+    stands_weave (bytes_of c.args.copies.now) c.args.start c.args.end w c.requires.none c.requires.told (subst (λ vs. IsWeaveOf vs w) is h) in
     let below = told_below (bytes_of c.args.copies.now) c.args.start c.args.end c.requires.told.there in
     let gap : IsGap (bytes_of c.args.copies.now) c.args.start c.args.end c.least_at.result.now =
     record { told = c.requires.told; least = c.least_at.ensures } in
     let size = least_size (bytes_of c.args.copies.now) c.args.start c.args.end c.least_at.result.now
     (each_copy c.args.copies.now (λ copy. c.args.end ≤ length copy) c.requires.within) (omega arith) c.least_at.ensures in
     let weave = λ (o : Outcome) (is : c.in_ok-bytes.field-0 ≡ o). let P : Outcome → Type 0 = λ o. IsWeaveOf (bytes_of c.as_slice.result.now) (weave_told o) in
-        subst P is c.in_ok-bytes.ensures in
+    subst P is c.in_ok-bytes.ensures in
     elim c.match-branch-3.branch [
       | in-Disputed w ↦ placed_as (bytes_of c.args.copies.now) c.args.start c.args.end c.args.payload.now c.write_at-2.new.payload c.least_at.result.now
           c.match-branch-3.standing
@@ -85,9 +85,11 @@ returns c =
           (inr (at disputed (weave outcome.Disputed w.in-Disputed.is)), gap)) size c.write_at-2.ensures
       | in-Missing w ↦ placed_as (bytes_of c.args.copies.now) c.args.start c.args.end c.args.payload.now c.write_at-2.new.payload c.least_at.result.now
           c.match-branch-3.standing
-          (subst (StandsAs (bytes_of c.args.copies.now) c.args.start c.args.end c.least_at.result.now) (sym w.standing-is)
-          (elim w.in-Missing.is [
-            | inl e ↦ inl (at missing (weave outcome.Missing e))
-            | inr e ↦ inr (at too_many (weave outcome.TooMany e))
-          ], gap)) size c.write_at-2.ensures
+          (subst (StandsAs (bytes_of c.args.copies.now) c.args.start c.args.end c.least_at.result.now) (sym w.standing-is) (
+            elim w.in-Missing.is [
+              | inl e ↦ inl (at missing (weave outcome.Missing e))
+              | inr e ↦ inr (at too_many (weave outcome.TooMany e))
+            ],
+            gap,
+          )) size c.write_at-2.ensures
     ]

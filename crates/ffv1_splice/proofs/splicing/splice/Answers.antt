@@ -1,4 +1,4 @@
-use Rattle.std.proofs.Common.{◌≡◌, ◌≤◌, ◌+◌, ℕ, List, [], ◌++◌, Bor, None, length, drop, take, get_or, arith, ap, sym, ◌∙◌, subst}
+use Rattle.std.proofs.Common.{◌≡◌, ◌≤◌, ◌+◌, ℕ, List, [], ◌++◌, None, length, drop, take, get_or, arith, ap, sym, ◌∙◌, subst}
 use Rattle.std.specs.Prelude.{All}
 use Rattle.ffv1_splice.proofs.Walks.{IsSpliceBefore, splice_of}
 use Rattle.ffv1_splice.proofs.CopyLists.{bytes_of, each_copy}
