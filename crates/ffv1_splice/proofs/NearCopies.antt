@@ -27,7 +27,8 @@ module _ (original copy : List ℕ) (sound : IsSound original) (near : IsNearCop
   below : start + 8 ≤ end
   below = let cut : IsCut original start end = link.cut in omega arith
 
-  size_of : (bytes : List ℕ) → length bytes ≡ length original → size_before bytes end ≡ size_before (slice_range bytes start end) (length (slice_range bytes start end))
+  size_of : (bytes : List ℕ) → length bytes ≡ length original → size_before bytes end ≡ size_before (slice_range bytes start end)
+      (length (slice_range bytes start end))
   size_of bytes long = size_of_range bytes start end below (omega (arith, within))
 
   long_slice : (bytes : List ℕ) → length bytes ≡ length original → 8 ≤ length (slice_range bytes start end)

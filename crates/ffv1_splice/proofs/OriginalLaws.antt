@@ -147,7 +147,8 @@ module _ (original : List ℕ) (copies : List (List ℕ)) (agree : AgreeWith ori
 pub settled_is_original : SettledIsOriginal
 settled_is_original original copies spliced place agree is there settled is_end =
     settled_link original copies agree place.start place.end (slice_range spliced.payload place.start place.end) place.standing is_end settled
-    (All-contains (λ place. StandsAs copies place.start place.end (slice_range spliced.payload place.start place.end) place.standing) spliced.places place is.stand
+    (All-contains (λ place. StandsAs copies place.start place.end (slice_range spliced.payload place.start place.end) place.standing) spliced.places
+    place is.stand
     there)
 
 module _ (original : List ℕ) (copies : List (List ℕ)) (of : AreCopiesOf original copies) (agree : AgreeWith original copies)

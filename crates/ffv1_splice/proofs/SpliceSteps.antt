@@ -14,7 +14,8 @@ use Rattle.ffv1_splice.proofs.CopyLists.{bytes_at, length-bytes_of}
 
 -- ---- bytes written over others
 
-pub length-written : (payload : List ℕ) (start : ℕ) (bytes : List ℕ) → start + length bytes ≤ length payload → length (written payload start bytes) ≡ length payload
+pub length-written : (payload : List ℕ) (start : ℕ) (bytes : List ℕ) → start + length bytes ≤ length payload
+    → length (written payload start bytes) ≡ length payload
 length-written payload start bytes h =
     let front = length-take-le start payload (omega arith) in
     let whole = length-append (take start payload) (bytes ++ drop (start + length bytes) payload) in
@@ -60,7 +61,8 @@ module _ (copies : List (List ℕ)) where
       drop-written payload place.start bytes (omega arith) ∙ ap (λ n. bytes ++ drop n payload) size in
       subst (λ ps. IsSpliceBefore copies whole ps front (before ++ drop place.start (written payload place.start bytes)))
       (sym (append_assoc after (place ∷ []) places))
-      (subst (IsSpliceBefore copies whole (after ++ place ∷ places) front) (append_assoc before bytes (drop end payload) ∙ ap (λ z. before ++ z) (sym back)) all)
+      (subst (IsSpliceBefore copies whole (after ++ place ∷ places) front) (append_assoc before bytes (drop end payload)
+      ∙ ap (λ z. before ++ z) (sym back)) all)
 
   -- where it stops
   pub continues_end : (whole end : ℕ) (after : List Place) (bytes payload : List ℕ) → length bytes ≡ end → end ≤ length payload → IsStop copies end

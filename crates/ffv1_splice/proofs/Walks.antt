@@ -40,7 +40,8 @@ slice-back before bytes start end s e =
     ap (λ n. take n (drop start (before ++ bytes))) size ∙ ap (λ n. take (length bytes) (drop n (before ++ bytes))) (sym s)
     ∙ ap (take (length bytes)) (drop-append_seam before bytes) ∙ take_all (length bytes) bytes (omega arith)
 
-slice-take : (bytes : List ℕ) (count start end : ℕ) → end ≤ count → count ≤ length bytes → slice_range (take count bytes) start end ≡ slice_range bytes start end
+slice-take : (bytes : List ℕ) (count start end : ℕ) → end ≤ count → count ≤ length bytes
+    → slice_range (take count bytes) start end ≡ slice_range bytes start end
 slice-take bytes count start end e c =
     sym (slice-front (take count bytes) (drop count bytes) start end (omega (arith, length-take-le count bytes c)))
     ∙ ap (λ z. slice_range z start end) (take-append-drop count bytes)

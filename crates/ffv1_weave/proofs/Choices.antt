@@ -190,7 +190,8 @@ module _ (versions : List (List ℕ)) where
   chosen_alike from [] code a b are fit h = alike_end versions from a b are h
   chosen_alike from (part ∷ parts) code a b are fit h =
       let digit = digit_below (length a) part (fit_head (length a) part parts fit) code in
-      let long = length-written a part.start (piece_of part (code % length part.pieces)) (fits_in (length a) part parts fit (code % length part.pieces) digit) in
+      let long = length-written a part.start (piece_of part (code % length part.pieces))
+      (fits_in (length a) part parts fit (code % length part.pieces) digit) in
       chosen_alike part.end parts (code / length part.pieces) (written a part.start (piece_of part (code % length part.pieces)))
       (written b part.start (piece_of part (code % length part.pieces))) are.2
       (fit_as _ (length a) parts long (fit_tail (length a) part parts fit))

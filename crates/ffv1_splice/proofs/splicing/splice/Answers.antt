@@ -26,7 +26,8 @@ loop-places-preserved c =
     let within = c.loop-places.invariant.within in
     let fits : start + length bytes ≤ length items = omega arith in
     let is : c.place_before.new.payload ≡ written items start bytes = placed.written' ∙ ap (λ z. written z start bytes) c.deref_mut.ensures.value in
-    let all = put_back c.loop-places.payload.len c.place_before.new.payload items c.loop-places.payload.ok.0 (ap length is ∙ length-written items start bytes fits) ∙ is in
+    let all = put_back c.loop-places.payload.len c.place_before.new.payload items c.loop-places.payload.ok.0 (ap length is
+    ∙ length-written items start bytes fits) ∙ is in
     let kept = ap length all ∙ length-written items start bytes fits in
     record {
       same_length = kept ∙ c.loop-places.invariant.same_length;
@@ -68,7 +69,8 @@ returns-clause-ok c =
     let all : all_bytes ≡ written items 0 bytes =
     put_back c.loop-places.payload.len c.write_at.new.payload middle (c.loop-places.payload.ok.0 ∙ sym (ap length back))
     (ap length is ∙ length-written items 0 bytes fits ∙ sym (ap length back)) ∙ is in
-    let walk = continues_end (bytes_of c.args.copies.now) (length c.in_ok-payload.payload.items) c.loop-places.end c.loop-places.places.items bytes items (omega arith)
+    let walk = continues_end (bytes_of c.args.copies.now) (length c.in_ok-payload.payload.items) c.loop-places.end c.loop-places.places.items bytes
+    items (omega arith)
     within stopped.0 c.least_at.ensures c.loop-places.invariant.after in
     splice_of (bytes_of c.args.copies.now) (length (get_or c.args.copies.now 0 (record { ref_ptr = (0, 0); now = [] })).now) c.loop-places.places.items
     c.loop-places.end all_bytes (one_length c.args.copies.now c.requires c.in_default.ensures (record { ref_ptr = (0, 0); now = [] }))

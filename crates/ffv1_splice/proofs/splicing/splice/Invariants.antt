@@ -9,7 +9,8 @@ invariant-loop-places l = record {
   same_length : length l.payload.items ≡ length l.initial.payload.items;
   within : l.end ≤ length l.payload.items;
   after : (places : List Place) (front : ℕ) (before : List ℕ) → IsSpliceBefore (map (λ copy. copy.now) l.copies) l.end places front before
-      → IsSpliceBefore (map (λ copy. copy.now) l.copies) (length l.initial.payload.items) (l.places.items ++ places) front (before ++ drop l.end l.payload.items);
+      → IsSpliceBefore (map (λ copy. copy.now) l.copies) (length l.initial.payload.items) (l.places.items ++ places) front
+      (before ++ drop l.end l.payload.items);
 }
 
 abbrev pub decreases-loop-places : goal.decreases-loop-places
