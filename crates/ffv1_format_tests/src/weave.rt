@@ -99,7 +99,7 @@ fn damaged_versions_are_woven(rt: HostRuntime) -> Result<(), Fail> {
     Ok(())
 }
 
-/// Damage at so many places, 65 apart, in each second of them alone.
+/// Two versions that are damaged in turn, at places 65 apart: each is a region, and doubles the number of combinations.
 #[test]
 fn at_most_4096_combinations_are_tried(rt: HostRuntime) -> Result<(), Fail> {
     let even = [

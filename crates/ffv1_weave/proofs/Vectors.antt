@@ -1,7 +1,10 @@
--- Two versions of three bytes that differ in the second: what the definitions say of them.
-use Rattle.std.proofs.Common.{◌≡◌, ℕ, zero, suc, ◌<◌, List, [], ◌∷◌, length, get_or, refl, sym, ap, ◌∙◌, subst, arith, inl, inr}
+-- Two versions of three bytes that differ in the second, and two that differ in two places, at a distance of 64 and of 65: what the
+-- definitions say of them.
+use Rattle.std.proofs.Common.{◌≡◌, ℕ, zero, suc, ◌+◌, ◌-◌, ◌<◌, List, [], ◌∷◌, ◌++◌, length, length-append, add-one, get_or, refl, sym, ap, ◌∙◌, subst, arith, inl, inr}
 use Rattle.std.specs.Prelude.{Contains, slice_range}
 use Rattle.std.proofs.lemmas.Bool.{cases_lt}
+use Rattle.std.proofs.Math.ListN.{replicate, get_or-append}
+use Rattle.std.proofs.lemmas.List.{get_or-replicate, length-replicate, get_or-append_right}
 use Rattle.ffv1_weave.specs.Regions.{HaveLength, AgreeAt, DifferAt, IsRegion}
 use Rattle.ffv1_weave.specs.Combinations.{IsCombination}
 use Rattle.ffv1_weave.proofs.Agreeing.{agree_from, agree_past, differ_from}
@@ -75,3 +78,80 @@ alone start end h = elim (cases_lt start 2) [
     | inr past ↦ agree_past versions 3 start three past
   ]))
 ]
+
+-- ---- two versions that differ at the first place and at the last, with so many zeros between
+
+pub spread : ℕ → List (List ℕ)
+spread space = (1 ∷ (replicate space 0 ++ 1 ∷ [])) ∷ (2 ∷ (replicate space 0 ++ 2 ∷ [])) ∷ []
+
+long : (space : ℕ) → HaveLength (spread space) (space + 2)
+unfolding spread
+long space version (zero, lt, is) = ap length (sym is) ∙ simp (length-append, length-replicate) (omega arith)
+long space version (suc zero, lt, is) = ap length (sym is) ∙ simp (length-append, length-replicate) (omega arith)
+long space version (suc (suc k), lt, is) = absurd (omega arith)
+
+start_differs : (space : ℕ) → DifferAt (spread space) 0
+unfolding spread
+start_differs space = differ_from (spread space) 0 1 (omega arith) (λ same. absurd (omega arith))
+
+end_differs : (space : ℕ) → DifferAt (spread space) (space + 1)
+unfolding spread
+end_differs space = differ_from (spread space) (space + 1) 1 (omega arith) (λ same. absurd (omega (arith, sym (last 2) ∙ same ∙ last 1)))
+  where
+    last : (byte : ℕ) → get_or (byte ∷ (replicate space 0 ++ byte ∷ [])) (space + 1) 0 ≡ byte
+    last byte =
+        let none : space - space ≡ 0 = omega arith in
+        rw add-one (get_or-append_right (replicate space 0) (byte ∷ []) space space 0 (length-replicate space 0) (omega arith)
+        ∙ ap (λ n. get_or (byte ∷ []) n 0) none)
+
+between_agrees : (space i : ℕ) → 0 < i → i < space + 1 → AgreeAt (spread space) i
+unfolding spread
+between_agrees space zero above below = absurd (omega arith)
+between_agrees space (suc i) above below = agree_from (spread space) (suc i) same
+  where
+    inner : (byte : ℕ) → get_or (byte ∷ (replicate space 0 ++ byte ∷ [])) (suc i) 0 ≡ 0
+    inner byte =
+        get_or-append (replicate space 0) (byte ∷ []) 0 i (omega (arith, length-replicate {A = ℕ} space 0)) ∙ get_or-replicate space i 0 0 (omega arith)
+
+    same : (k : ℕ) → k < 2 → get_or (get_or (spread space) k []) (suc i) 0 ≡ get_or (get_or (spread space) 0 []) (suc i) 0
+    same zero lt = refl
+    same (suc zero) lt = inner 2 ∙ sym (inner 1)
+    same (suc (suc k)) lt = absurd (omega arith)
+
+-- sixty-three zeros between, so at a distance of 64: one region
+pub one_of_both : IsRegion (spread 63) 0 65
+one_of_both =
+    record {
+      some = omega arith;
+      first = start_differs 63;
+      last = end_differs 63;
+      before = λ i lt near. absurd (omega arith);
+      after = λ i low near. agree_past (spread 63) 65 i (long 63) low;
+      within = λ i low high. elim (cases_lt 0 i) [
+        | inl above ↦ (64, omega arith, omega arith, end_differs 63)
+        | inr none ↦ (0, omega arith, omega arith, start_differs 63)
+      ];
+    }
+
+-- sixty-four between, so at a distance of 65: two
+pub first_of_two : IsRegion (spread 64) 0 1
+first_of_two =
+    record {
+      some = omega arith;
+      first = start_differs 64;
+      last = start_differs 64;
+      before = λ i lt near. absurd (omega arith);
+      after = λ i low near. between_agrees 64 i (omega arith) (omega arith);
+      within = λ i low high. absurd (omega arith);
+    }
+
+pub second_of_two : IsRegion (spread 64) 65 66
+second_of_two =
+    record {
+      some = omega arith;
+      first = end_differs 64;
+      last = end_differs 64;
+      before = λ i lt near. between_agrees 64 i (omega arith) (omega arith);
+      after = λ i low near. agree_past (spread 64) 66 i (long 64) low;
+      within = λ i low high. absurd (omega arith);
+    }
