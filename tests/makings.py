@@ -171,3 +171,36 @@ def two_halves(piece, first, second):
     place is inverted and whose four bytes from the second on fit that."""
     other = forged(inverted(piece, first), second)
     return inverted(piece, first), written(piece, second, other[second : second + 4])
+
+
+def lose_sector(numbers, frame, ends):
+    """A sector of 512 bytes is zeros."""
+    place = 512 * numbers.randrange(-(-len(frame) // 512))
+    return written(frame, place, bytes(len(frame[place : place + 512])))
+
+
+def turn_bits(numbers, frame, ends):
+    """One to eight bits are turned."""
+    copy = bytearray(frame)
+    for _ in range(numbers.randint(1, 8)):
+        copy[numbers.randrange(len(copy))] ^= 1 << numbers.randrange(8)
+    return bytes(copy)
+
+
+def spill(numbers, frame, ends):
+    """Some bytes that follow each other are garbage."""
+    place = numbers.randrange(len(frame))
+    return written(frame, place, numbers.randbytes(len(frame[place : place + numbers.randint(4, 256)])))
+
+
+def damage_size(numbers, frame, ends):
+    """A byte of a footer's size is another one."""
+    return written(frame, numbers.choice(ends) - 8 + numbers.randrange(3), numbers.randbytes(1))
+
+
+def rotten(numbers, frame):
+    """A copy of a frame with one to four places of damage, of its length."""
+    ends, copy = [start + len(piece) for start, piece in readings.links(frame)[0]], frame
+    for _ in range(numbers.randint(1, 4)):
+        copy = numbers.choice([lose_sector, turn_bits, spill, damage_size])(numbers, copy, ends)
+    return copy
