@@ -42,9 +42,12 @@ SEED ?= 0
 fuzz: $(PROGRAM)
 	tests/fuzz $(PROGRAM) $(SECONDS) --workers $(WORKERS) --seed $(SEED)
 
-# FFmpeg's samples of the stored frames, and large frames that it makes, where it is installed.
+# FFmpeg's samples of the stored frames, large frames that it makes, and FRAMES small ones of many formats, from the number FRAME on,
+# damaged and spliced, where it is installed.
+FRAMES ?= 480
+FRAME ?= 0
 ffmpeg: $(PROGRAM)
-	tests/ffmpeg $(PROGRAM)
+	tests/ffmpeg $(PROGRAM) $(FRAMES) $(FRAME)
 
 # Damaged reels, made and read by FFmpeg, mended: REELS of them, from the number FIRST on.
 REELS ?= 20

@@ -128,3 +128,79 @@ def codes_of(piece, first):
         coder.number(row)
     coder.bit([129], 0)
     return piece[coder.used - 1 : -8]
+
+
+# ---- damage of copies that keep their length
+
+
+def inverted(content, *places):
+    """A copy of some bytes with those at these places inverted."""
+    copy = bytearray(content)
+    for place in places:
+        copy[place] ^= 0xFF
+    return bytes(copy)
+
+
+def written(content, place, others):
+    """A copy of some bytes with others written over them from a place on."""
+    return content[:place] + others + content[place + len(others) :]
+
+
+def forged(piece, place):
+    """The slice with the four bytes from a place on made such that it passes its parity, whatever its other bytes are.
+
+    Which bits to turn is a linear system over GF(2), as the remainder is linear: each of the 32 bits changes the remainder by what
+    the bit alone leaves, and these changes are independent, for the divisor has a degree of 32."""
+    reduced = {}
+    for bit in range(32):
+        turned, left = 1 << bit, readings.parity(written(bytes(len(piece)), place, (1 << bit).to_bytes(4, "big")))
+        for highest, (other_left, other_turned) in sorted(reduced.items(), reverse=True):
+            if left >> highest & 1:
+                left, turned = left ^ other_left, turned ^ other_turned
+        reduced[left.bit_length() - 1] = left, turned
+    remainder, turn = readings.parity(piece), 0
+    for highest, (left, turned) in sorted(reduced.items(), reverse=True):
+        if remainder >> highest & 1:
+            remainder, turn = remainder ^ left, turn ^ turned
+    others = int.from_bytes(piece[place : place + 4], "big") ^ turn
+    return written(piece, place, others.to_bytes(4, "big"))
+
+
+def two_halves(piece, first, second):
+    """Two copies of a slice that do not pass, but of which two combinations do: the slice itself, and one whose byte at the first
+    place is inverted and whose four bytes from the second on fit that."""
+    other = forged(inverted(piece, first), second)
+    return inverted(piece, first), written(piece, second, other[second : second + 4])
+
+
+def lose_sector(numbers, frame, ends):
+    """A sector of 512 bytes is zeros."""
+    place = 512 * numbers.randrange(-(-len(frame) // 512))
+    return written(frame, place, bytes(len(frame[place : place + 512])))
+
+
+def turn_bits(numbers, frame, ends):
+    """One to eight bits are turned."""
+    copy = bytearray(frame)
+    for _ in range(numbers.randint(1, 8)):
+        copy[numbers.randrange(len(copy))] ^= 1 << numbers.randrange(8)
+    return bytes(copy)
+
+
+def spill(numbers, frame, ends):
+    """Some bytes that follow each other are garbage."""
+    place = numbers.randrange(len(frame))
+    return written(frame, place, numbers.randbytes(len(frame[place : place + numbers.randint(4, 256)])))
+
+
+def damage_size(numbers, frame, ends):
+    """A byte of a footer's size is another one."""
+    return written(frame, numbers.choice(ends) - 8 + numbers.randrange(3), numbers.randbytes(1))
+
+
+def rotten(numbers, frame):
+    """A copy of a frame with one to four places of damage, of its length."""
+    ends, copy = [start + len(piece) for start, piece in readings.links(frame)[0]], frame
+    for _ in range(numbers.randint(1, 4)):
+        copy = numbers.choice([lose_sector, turn_bits, spill, damage_size])(numbers, copy, ends)
+    return copy

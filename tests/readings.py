@@ -1,6 +1,8 @@
 """Frames and holding files read by their definitions (docs/FORMAT.md), apart from the program: what tests compare with it."""
 import collections
 import hashlib
+import itertools
+import math
 import zlib
 
 REVERSED = bytes(int(f"{byte:08b}"[::-1], 2) for byte in range(256))
@@ -364,3 +366,86 @@ def read_origins(text, place):
         origins.append(digest)
         place += 32
     return set(origins), place
+
+
+# ---- copies of one length, put together by their footers and parities
+
+MOST_COMBINATIONS, GREATEST_DISTANCE = 4096, 64
+
+
+def told_starts(copies, end):
+    """Each copy whose footer there tells a start, with it: one of size 0 tells none, nor one of more bytes than come before it."""
+    for copy in copies:
+        size = int.from_bytes(copy[end - 8 : end - 5], "big") if end >= 8 else 0
+        if 0 < size <= end - 8:
+            yield copy, end - 8 - size
+
+
+def regions(versions):
+    """Where byte strings of one length differ: the first and the last place of each region."""
+    first, *others = (int.from_bytes(version, "big") for version in versions)
+    differences = 0
+    for other in others:
+        differences |= first ^ other
+    found = []
+    for place, differs in enumerate(differences.to_bytes(len(versions[0]), "big")):
+        if differs and found and place - found[-1][1] <= GREATEST_DISTANCE:
+            found[-1][1] = place
+        elif differs:
+            found.append([place, place])
+    return found
+
+
+def stretches(versions):
+    """For each stretch of some versions of a slice, one after the other, the different bytes that they have there: one string
+    where they all agree, two or more in a region."""
+    found, end = [], 0
+    for first, last in regions(versions):
+        found += [{versions[0][end:first]}, {version[first : last + 1] for version in versions}]
+        end = last + 1
+    return [*found, {versions[0][end:]}]
+
+
+def is_slice(piece):
+    return passes(piece) and int.from_bytes(piece[-8:-5], "big") == len(piece) - 8
+
+
+def woven(versions):
+    """How many combinations some versions of a slice have, and those that are slices; none are looked for among too many."""
+    found = stretches(versions)
+    number = math.prod(map(len, found))
+    combinations = map(b"".join, itertools.product(*found)) if number <= MOST_COMBINATIONS else ()
+    return number, [whole for whole in combinations if is_slice(whole)]
+
+
+def place_before(copies, end):
+    """The place that ends there: its start, how it stands, and the bytes that stand there; None where the front can't be divided."""
+    told = [(copy[start:end], start) for copy, start in told_starts(copies, end)]
+    pieces = {piece for piece, _ in told if passes(piece)}
+    starts = {start for _, start in told}
+    if len(pieces) == 1:
+        (piece,) = pieces
+        return end - len(piece), "settled", piece
+    if len(starts) != 1:
+        return None
+    (start,) = starts
+    versions = sorted({copy[start:end] for copy in copies})
+    number, slices = (0, []) if pieces else woven(versions)
+    if len(slices) == 1:
+        return start, f"woven {number}", slices[0]
+    return start, "disputed" if pieces or slices else "missing", versions[0]
+
+
+def spliced(copies):
+    """What `splice` makes of copies of one length: the payload, the lines that it prints, and its exit status."""
+    parts, lines, sure, end = [], [], True, len(copies[0])
+    while end and (place := place_before(copies, end)):
+        start, stands, standing = place
+        lines.append(f"{start}..{end} {stands}\n")
+        parts.append(standing)
+        sure = sure and stands not in ("disputed", "missing")
+        end = start
+    if end:
+        parts.append(min(copy[:end] for copy in copies))
+    lines.append(f"end broken at {end}\n" if end else "end whole\n")
+    return b"".join(reversed(parts)), "".join(lines).encode(), 0 if sure and not end else 3
