@@ -2,9 +2,11 @@ pub mod CopyLists
 pub mod ToldSteps
 pub mod LeastSteps
 pub mod PlaceSteps
+pub mod Versions
 pub mod Walks
 pub mod SpliceSteps
 pub mod OneSplice
 pub mod OriginalLaws
+pub mod WovenLaws
 pub mod NearCopies
 pub mod Vectors

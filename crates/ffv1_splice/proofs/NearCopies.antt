@@ -1,6 +1,6 @@
 -- The splice of copies that are near an original.
 use Rattle.std.proofs.Common.{◌≡◌, ℕ, ◌+◌, ◌<◌, ◌≤◌, List, length, get_or, refl, sym, ap, ◌∙◌, subst, arith, inl, inr}
-use Rattle.std.specs.Prelude.{slice_range}
+use Rattle.std.specs.Prelude.{Contains, slice_range}
 use Rattle.ffv1_bits.specs.Parity.{PassesParity}
 use Rattle.ffv1_bits.proofs.Burst.{burst}
 use Rattle.ffv1_bits.proofs.Bytes.{AreBytes-range}
@@ -10,11 +10,12 @@ use Rattle.ffv1_slice.proofs.NearLaws.{same_size_field, length-range, size_of_ra
 use Rattle.ffv1_splice.specs.Pieces.{IsPiece, IsToldStart}
 use Rattle.ffv1_splice.specs.Standings.{StandsAs, IsStop}
 use Rattle.ffv1_splice.specs.Splice.{SplicedValue, IsSpliceOf}
-use Rattle.ffv1_splice.specs.Originals.{AreCopiesOf, AgreeWith, IsSound, IsIntact, IsNearCopy, AreNearCopies, IsIntactInSome}
+use Rattle.ffv1_splice.specs.Originals.{AreCopiesOf, AgreeWith, IsAmong, AreWeavable, IsSound, IsIntact, IsNearCopy, AreNearCopies, IsIntactInSome}
 use Rattle.ffv1_splice.specs.Laws.{IsNearSplice, NearCopiesSplice}
 use Rattle.ffv1_splice.specs.declared.place.Standing.{Standing}
-use Rattle.ffv1_splice.specs.declared.place.Standing.TheVariants.{Settled, Disputed, Missing}
-use Rattle.ffv1_splice.proofs.OriginalLaws.{end_within, link_at, same_cut, AreLinkPlaces, link_places, undisputed, settled_link, settled_where, is_original}
+use Rattle.ffv1_splice.specs.declared.place.Standing.TheVariants.{Settled, Woven, Disputed, Missing}
+use Rattle.ffv1_splice.proofs.OriginalLaws.{end_within, link_at, same_cut, AreLinkPlaces, link_places, settled_link, settled_where, is_original}
+use Rattle.ffv1_splice.proofs.WovenLaws.{given_back_is_original}
 use Rattle.ffv1_splice.proofs.Walks.{IsSpliceBefore, splice_walk}
 
 -- ---- a near copy is cut where the original is
@@ -26,7 +27,8 @@ module _ (original copy : List ℕ) (sound : IsSound original) (near : IsNearCop
   below : start + 8 ≤ end
   below = let cut : IsCut original start end = link.cut in omega arith
 
-  size_of : (bytes : List ℕ) → length bytes ≡ length original → size_before bytes end ≡ size_before (slice_range bytes start end) (length (slice_range bytes start end))
+  size_of : (bytes : List ℕ) → length bytes ≡ length original → size_before bytes end ≡ size_before (slice_range bytes start end)
+      (length (slice_range bytes start end))
   size_of bytes long = size_of_range bytes start end below (omega (arith, within))
 
   long_slice : (bytes : List ℕ) → length bytes ≡ length original → 8 ≤ length (slice_range bytes start end)
@@ -87,6 +89,21 @@ module _ (original : List ℕ) (copies : List (List ℕ)) (near : AreNearCopies 
   are_copies : AreCopiesOf original copies
   are_copies = record { whole = near.sound.whole; one_length = λ copy there. (near.near copy there).same_length }
 
+  -- each copy tells the start of each link
+  told_link : (copy : List ℕ) → Contains copies copy → (start end : ℕ) → IsLinkOf original start end → IsToldStart copies end start
+  told_link copy there start end link =
+      record {
+        copy = copy;
+        there = there;
+        cut = near_cut original copy near.sound (near.near copy there) start end link;
+        content = near.sound.content start end link;
+      }
+
+  pub are_weavable : (copy : List ℕ) → Contains copies copy → ((start end : ℕ) → IsLinkOf original start end → IsAmong original copies start end)
+      → AreWeavable original copies
+  are_weavable copy there among =
+      record { agree = near_agree; told = told_link copy there; passes = near.sound.passes; among = among }
+
   module _ (spliced : SplicedValue) (is : IsSpliceOf copies spliced) where
     told_cut : (start end : ℕ) → IsEnd original end → IsToldStart copies end start → IsCut original start end
     told_cut start end is_end told =
@@ -97,33 +114,25 @@ module _ (original : List ℕ) (copies : List (List ℕ)) (near : AreNearCopies 
     cuts : (start end : ℕ) (bytes : List ℕ) (standing : Standing) → IsEnd original end → StandsAs copies start end bytes standing → IsCut original start end
     cuts start end bytes Settled is_end h =
         told_cut start end is_end (record { copy = h.there.copy; there = h.there.there; cut = h.there.cut; content = h.there.content })
+    cuts start end bytes (Woven count) is_end h = told_cut start end is_end h.told.there
     cuts start end bytes Disputed is_end h = told_cut start end is_end h.1.told.there
     cuts start end bytes Missing is_end h = told_cut start end is_end h.1.told.there
 
     goes_on : (end : ℕ) → IsEnd original end → 0 < end → IsStop copies end → ⊥
-    goes_on end is_end behind stop =
-        let at = link_at original near.sound.whole end is_end behind in
+    goes_on end is_end after stop =
+        let at = link_at original near.sound.whole end is_end after in
         let link : IsLinkOf original at.0 end = record { is_end = is_end; cut = at.1 } in
         stop.untold at.0 (record {
-          there = record {
-            copy = is.before.copy;
-            there = is.before.there;
-            cut = near_cut original is.before.copy near.sound (near.near is.before.copy is.before.there) at.0 end link;
-            content = near.sound.content at.0 end link;
-          };
+          there = told_link is.before.copy is.before.there at.0 end link;
           others = λ other told. told_start end at.0 other link told;
         })
 
     places : AreLinkPlaces original (length original) spliced.places spliced.front
     places =
         let long = sym (is.one_length is.before.copy is.before.there) ∙ (near.near is.before.copy is.before.there).same_length in
-        link_places original copies cuts goes_on (length original) spliced.places spliced.front spliced.payload last
+        link_places original copies cuts (length original) spliced.places spliced.front spliced.payload
+        (λ stop is_end after stops same. goes_on stop is_end after stops) last
         (subst (λ n. IsSpliceBefore copies n spliced.places spliced.front spliced.payload) long (splice_walk copies spliced is))
-
-    not_disputed : (start end : ℕ) (bytes : List ℕ) (standing : Standing) → IsEnd original end → StandsAs copies start end bytes standing → standing ≡ Disputed → ⊥
-    not_disputed start end bytes Settled is_end h e = absurd (cc)
-    not_disputed start end bytes Disputed is_end h e = undisputed original copies near_agree end is_end h.0
-    not_disputed start end bytes Missing is_end h e = absurd (cc)
 
     -- the copy whose piece settles a place has the link intact
     intact_where : (start end : ℕ) (bytes : List ℕ) (standing : Standing) → IsLinkOf original start end → StandsAs copies start end bytes standing
@@ -133,15 +142,13 @@ module _ (original : List ℕ) (copies : List (List ℕ)) (near : AreNearCopies 
       h.there.there,
       near_intact original h.there.copy near.sound (near.near h.there.copy h.there.there) start end link (subst PassesParity h.there.bytes h.there.passes),
     )
+    intact_where start end bytes (Woven count) link h e = absurd (cc)
     intact_where start end bytes Disputed link h e = absurd (cc)
     intact_where start end bytes Missing link h e = absurd (cc)
 
     pub near_splice : IsNearSplice original copies spliced
     near_splice = record {
       places = record { links = places.links; whole = places.whole };
-      undisputed = λ k d lt. not_disputed (get_or spliced.places k d).start (get_or spliced.places k d).end
-          (slice_range spliced.payload (get_or spliced.places k d).start (get_or spliced.places k d).end) (get_or spliced.places k d).standing
-          (places.each k d lt).is_end (is.stand k d lt);
       settled = λ k d lt. (
         intact_where (get_or spliced.places k d).start (get_or spliced.places k d).end
             (slice_range spliced.payload (get_or spliced.places k d).start (get_or spliced.places k d).end) (get_or spliced.places k d).standing
@@ -162,4 +169,6 @@ near_copies_splice = record {
   near = λ original copies spliced near is. near_splice original copies near spliced is;
   original = λ original copies spliced near intact is. is_original original copies (are_copies original copies near) (near_agree original copies near)
       (λ start end link. intact_piece original copies near start end link (intact start end link)) spliced is;
+  woven = λ original copies spliced near among is given. (given_back_is_original original copies spliced (are_copies original copies near)
+      (are_weavable original copies near is.before.copy is.before.there among) is given).1;
 }

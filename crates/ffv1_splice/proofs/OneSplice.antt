@@ -1,20 +1,25 @@
 -- Copies have one splice, and it rests on the set of the copies alone.
-use Rattle.std.proofs.Common.{◌≡◌, ℕ, List, [], ◌∷◌, ◌++◌, length, sym, ap, ◌∙◌, subst}
+use Rattle.std.proofs.Common.{◌≡◌, ℕ, List, [], ◌∷◌, ◌++◌, length, sym, ap, ◌∙◌, subst, inl, inr}
+use Rattle.std.specs.Prelude.{◌⊎◌}
 use Rattle.std.specs.Ordering.{nat_cmp}
 use Rattle.std.specs.Cmp.Lexicographic.{slice_cmp}
 use Rattle.std.specs.declared.cmp.Ordering.TheVariants.{Less}
 use Rattle.ffv1_slice.specs.Chain.{Piece}
-use Rattle.ffv1_slice.specs.Members.{IsOnly, IsOfTwo}
+use Rattle.ffv1_slice.specs.Members.{IsOnly, IsOfTwo, IsOfNone}
 use Rattle.ffv1_splice.specs.Pieces.{IsPiece, IsToldStart, IsLeast}
-use Rattle.ffv1_splice.specs.Standings.{StandsAs, IsGap, IsStop}
+use Rattle.ffv1_splice.specs.Standings.{versions_at, IsWeaveAt, StandsAs, IsGap, IsStop}
+use Rattle.ffv1_weave.specs.Weave.{Weave, IsWeaveOf}
+use Rattle.ffv1_weave.specs.Weave.Weave.{woven, disputed, missing, too_many}
+use Rattle.ffv1_weave.proofs.WeaveLaws.{same_versions_weave}
 use Rattle.ffv1_splice.specs.Splice.{SplicedValue}
 use Rattle.ffv1_slice.specs.Members.{HasSameMembers}
 use Rattle.ffv1_splice.specs.Laws.{SameCopiesSplice}
 use Rattle.ffv1_splice.specs.declared.place.Standing.{Standing}
-use Rattle.ffv1_splice.specs.declared.place.Standing.TheVariants.{Settled, Disputed, Missing}
+use Rattle.ffv1_splice.specs.declared.place.Standing.TheVariants.{Settled, Woven, Disputed, Missing}
 use Rattle.ffv1_splice.specs.declared.place.Place.{Place}
 use Rattle.ffv1_splice.proofs.LeastSteps.{same_if_neither_below}
-use Rattle.ffv1_splice.proofs.PlaceSteps.{none_not_only, two_not_only}
+use Rattle.ffv1_splice.proofs.PlaceSteps.{two_not_only}
+use Rattle.ffv1_splice.proofs.Versions.{same_versions, weave_there}
 use Rattle.ffv1_splice.proofs.Walks.{IsSpliceBefore, splice_walk}
 use Rattle.ffv1_splice.proofs.Walks.IsSpliceBefore.{stops, goes}
 
@@ -39,21 +44,76 @@ module _ (copies : List (List ℕ)) (end : ℕ) where
       let bytes : a ≡ b = least_same t a b (subst (λ n. IsLeast copies n end a) starts h.least) k.least in
       ap (λ n. record { start = n; bytes = a; standing = standing }) starts ∙ ap (λ z. record { start = t; bytes = z; standing = standing }) bytes
 
+  -- what is woven there
+  one_weave_at : (s t : ℕ) (v w : Weave) → IsWeaveAt copies s end v → IsWeaveAt copies t end w → v ≡ w
+  one_weave_at s t v w h k =
+      let starts : s ≡ t = k.told.others s h.told.there in
+      same_versions_weave (versions_at copies t end) (versions_at copies t end) v w (λ version. ((λ there. there), λ there. there))
+      (subst (λ n. IsWeaveOf (versions_at copies n end) v) starts h.weave') k.weave'
+
+  one_woven : (s t : ℕ) (a b : List ℕ) (m n : ℕ) → IsWeaveAt copies s end (woven a m) → IsWeaveAt copies t end (woven b n)
+      → ◌≡◌ {A = StandingValue} (record { start = s; bytes = a; standing = Woven m }) (record { start = t; bytes = b; standing = Woven n })
+  one_woven s t a b m n h k =
+      let starts : s ≡ t = k.told.others s h.told.there in
+      let same : woven a m ≡ woven b n = one_weave_at s t (woven a m) (woven b n) h k in
+      let bytes : a ≡ b = cc in
+      let counts : m ≡ n = cc in
+      ap (λ i. record { start = i; bytes = a; standing = Woven m }) starts ∙ ap (λ z. record { start = t; bytes = z; standing = Woven m }) bytes
+      ∙ ap (λ i. record { start = t; bytes = b; standing = Woven i }) counts
+
+  -- two pieces that differ, and what no piece told
+  two_not_none : IsOfTwo (IsPiece copies end) → IsOfNone (IsPiece copies end) → ⊥
+  two_not_none two none = none two.one two.one_there
+
+  not_disputed_and_missing : (s t : ℕ) → IsOfTwo (IsPiece copies end) ⊎ IsWeaveAt copies s end disputed
+      → IsWeaveAt copies t end missing ⊎ IsWeaveAt copies t end too_many → ⊥
+  not_disputed_and_missing s t (inl two) (inl w) = two_not_none two w.none
+  not_disputed_and_missing s t (inl two) (inr w) = two_not_none two w.none
+  not_disputed_and_missing s t (inr h) (inl w) = let e = one_weave_at s t disputed missing h w in absurd (cc)
+  not_disputed_and_missing s t (inr h) (inr w) = let e = one_weave_at s t disputed too_many h w in absurd (cc)
+
+  not_woven_and_disputed : (s t : ℕ) (a : List ℕ) (m : ℕ) → IsWeaveAt copies s end (woven a m)
+      → IsOfTwo (IsPiece copies end) ⊎ IsWeaveAt copies t end disputed → ⊥
+  not_woven_and_disputed s t a m h (inl two) = two_not_none two h.none
+  not_woven_and_disputed s t a m h (inr w) = let e = one_weave_at s t (woven a m) disputed h w in absurd (cc)
+
+  not_woven_and_missing : (s t : ℕ) (a : List ℕ) (m : ℕ) → IsWeaveAt copies s end (woven a m)
+      → IsWeaveAt copies t end missing ⊎ IsWeaveAt copies t end too_many → ⊥
+  not_woven_and_missing s t a m h (inl w) = let e = one_weave_at s t (woven a m) missing h w in absurd (cc)
+  not_woven_and_missing s t a m h (inr w) = let e = one_weave_at s t (woven a m) too_many h w in absurd (cc)
+
+  not_settled_and_disputed : (piece : Piece) (t : ℕ) → IsOnly (IsPiece copies end) piece → IsOfTwo (IsPiece copies end) ⊎ IsWeaveAt copies t end disputed → ⊥
+  not_settled_and_disputed piece t h (inl two) = two_not_only (IsPiece copies end) two piece h
+  not_settled_and_disputed piece t h (inr w) = w.none piece h.there
+
+  not_settled_and_missing : (piece : Piece) (t : ℕ) → IsOnly (IsPiece copies end) piece
+      → IsWeaveAt copies t end missing ⊎ IsWeaveAt copies t end too_many → ⊥
+  not_settled_and_missing piece t h (inl w) = w.none piece h.there
+  not_settled_and_missing piece t h (inr w) = w.none piece h.there
+
   pub one_standing : (s t : ℕ) (a b : List ℕ) (x y : Standing) → StandsAs copies s end a x → StandsAs copies t end b y
       → ◌≡◌ {A = StandingValue} (record { start = s; bytes = a; standing = x }) (record { start = t; bytes = b; standing = y })
   one_standing s t a b Settled Settled h k =
       ap (λ (p : Piece). record { start = p.start; bytes = p.bytes; standing = Settled }) (k.others (record { start = s; bytes = a }) h.there)
-  one_standing s t a b Settled Disputed h k = absurd (two_not_only (IsPiece copies end) k.0 (record { start = s; bytes = a }) h)
-  one_standing s t a b Settled Missing h k = absurd (none_not_only (IsPiece copies end) k.0 (record { start = s; bytes = a }) h)
-  one_standing s t a b Disputed Settled h k = absurd (two_not_only (IsPiece copies end) h.0 (record { start = t; bytes = b }) k)
+  one_standing s t a b Settled (Woven n) h k = absurd (k.none (record { start = s; bytes = a }) h.there)
+  one_standing s t a b Settled Disputed h k = absurd (not_settled_and_disputed (record { start = s; bytes = a }) t h k.0)
+  one_standing s t a b Settled Missing h k = absurd (not_settled_and_missing (record { start = s; bytes = a }) t h k.0)
+  one_standing s t a b (Woven m) Settled h k = absurd (h.none (record { start = t; bytes = b }) k.there)
+  one_standing s t a b (Woven m) (Woven n) h k = one_woven s t a b m n h k
+  one_standing s t a b (Woven m) Disputed h k = absurd (not_woven_and_disputed s t a m h k.0)
+  one_standing s t a b (Woven m) Missing h k = absurd (not_woven_and_missing s t a m h k.0)
+  one_standing s t a b Disputed Settled h k = absurd (not_settled_and_disputed (record { start = t; bytes = b }) s k h.0)
+  one_standing s t a b Disputed (Woven n) h k = absurd (not_woven_and_disputed t s b n k h.0)
   one_standing s t a b Disputed Disputed h k = one_gap Disputed s t a b h.1 k.1
-  one_standing s t a b Disputed Missing h k = absurd (k.0 h.0.one h.0.one_there)
-  one_standing s t a b Missing Settled h k = absurd (none_not_only (IsPiece copies end) h.0 (record { start = t; bytes = b }) k)
-  one_standing s t a b Missing Disputed h k = absurd (h.0 k.0.one k.0.one_there)
+  one_standing s t a b Disputed Missing h k = absurd (not_disputed_and_missing s t h.0 k.0)
+  one_standing s t a b Missing Settled h k = absurd (not_settled_and_missing (record { start = t; bytes = b }) s k h.0)
+  one_standing s t a b Missing (Woven n) h k = absurd (not_woven_and_missing t s b n k h.0)
+  one_standing s t a b Missing Disputed h k = absurd (not_disputed_and_missing t s k.0 h.0)
   one_standing s t a b Missing Missing h k = one_gap Missing s t a b h.1 k.1
 
   pub stop_not_stands : (start : ℕ) (bytes : List ℕ) (standing : Standing) → IsStop copies end → StandsAs copies start end bytes standing → ⊥
   stop_not_stands start bytes Settled stop h = stop.unsettled (record { start = start; bytes = bytes }) h
+  stop_not_stands start bytes (Woven count) stop h = stop.untold start h.told
   stop_not_stands start bytes Disputed stop h = stop.untold start h.1.told
   stop_not_stands start bytes Missing stop h = stop.untold start h.1.told
 
@@ -120,11 +180,32 @@ module _ (copies others : List (List ℕ)) (same : HasSameMembers copies others)
         least = least_there start end bytes h.least;
       }
 
+  weave_at_there : (start end : ℕ) (weave : Weave) → IsWeaveAt copies start end weave → IsWeaveAt others start end weave
+  weave_at_there start end weave h =
+      record {
+        none = λ piece p. h.none piece (piece_here end piece p);
+        told = only_same (IsToldStart copies end) (IsToldStart others end) (start_there end) (start_here end) start h.told;
+        weave' = weave_there (versions_at copies start end) (versions_at others start end) (same_versions copies others same start end) weave h.weave';
+      }
+
   stands_there : (start end : ℕ) (bytes : List ℕ) (standing : Standing) → StandsAs copies start end bytes standing → StandsAs others start end bytes standing
   stands_there start end bytes Settled h =
       only_same (IsPiece copies end) (IsPiece others end) (piece_there end) (piece_here end) (record { start = start; bytes = bytes }) h
-  stands_there start end bytes Disputed h = (two_same (IsPiece copies end) (IsPiece others end) (piece_there end) h.0, gap_there start end bytes h.1)
-  stands_there start end bytes Missing h = ((λ piece p. h.0 piece (piece_here end piece p)), gap_there start end bytes h.1)
+  stands_there start end bytes (Woven count) h = weave_at_there start end (woven bytes count) h
+  stands_there start end bytes Disputed h = (
+    elim h.0 [
+      | inl two ↦ inl (two_same (IsPiece copies end) (IsPiece others end) (piece_there end) two)
+      | inr w ↦ inr (weave_at_there start end disputed w)
+    ],
+    gap_there start end bytes h.1,
+  )
+  stands_there start end bytes Missing h = (
+    elim h.0 [
+      | inl w ↦ inl (weave_at_there start end missing w)
+      | inr w ↦ inr (weave_at_there start end too_many w)
+    ],
+    gap_there start end bytes h.1,
+  )
 
   stop_there : (end : ℕ) → IsStop copies end → IsStop others end
   stop_there end h =

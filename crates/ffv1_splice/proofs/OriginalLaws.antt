@@ -16,7 +16,7 @@ use Rattle.ffv1_splice.specs.Splice.{SplicedValue, LieFrom, IsSpliceOf}
 use Rattle.ffv1_splice.specs.Originals.{AreCopiesOf, AgreeWith, HaveEachLink}
 use Rattle.ffv1_splice.specs.Laws.{IsOriginal, OriginalIsSpliced, SettledIsOriginal}
 use Rattle.ffv1_splice.specs.declared.place.Standing.{Standing}
-use Rattle.ffv1_splice.specs.declared.place.Standing.TheVariants.{Settled, Disputed, Missing}
+use Rattle.ffv1_splice.specs.declared.place.Standing.TheVariants.{Settled, Woven, Disputed, Missing}
 use Rattle.ffv1_splice.specs.declared.place.Place.{Place}
 use Rattle.ffv1_splice.proofs.Walks.{IsSpliceBefore, splice_walk, stands_below}
 use Rattle.ffv1_splice.proofs.Walks.IsSpliceBefore.{stops, goes}
@@ -27,9 +27,9 @@ pub end_within : (original : List ℕ) (end : ℕ) → IsEnd original end → en
 end_within original end last = omega arith
 end_within original end (before {q = q} h cut) = omega (arith, end_within original q h)
 
--- a link ends at each end behind the first byte
+-- a link ends at each end after the first byte
 pub link_at : (original : List ℕ) → IsEnd original 0 → (end : ℕ) → IsEnd original end → 0 < end → (start : ℕ) × IsCut original start end
-link_at original whole end is_end behind =
+link_at original whole end is_end after =
     elim (cases_lt end (size_before original end + 8)) [
       | inl short ↦ absurd (omega (arith, least_end original end is_end (λ p cut. omega arith) 0 whole))
       | inr fits ↦ (end - (size_before original end + 8), omega arith)
@@ -47,13 +47,13 @@ pub record AreLinkPlaces (original : List ℕ) (end : ℕ) (places : List Place)
   pub each : All (λ place. IsLinkOf original place.start place.end) places
 
 module _ (original : List ℕ) (copies : List (List ℕ)) (cuts : (start end : ℕ) (bytes : List ℕ) (standing : Standing) → IsEnd original end
-    → StandsAs copies start end bytes standing → IsCut original start end)
-    (goes_on : (end : ℕ) → IsEnd original end → 0 < end → IsStop copies end → ⊥) where
-  pub link_places : (end : ℕ) (places : List Place) (front : ℕ) (payload : List ℕ) → IsEnd original end → IsSpliceBefore copies end places front payload
-      → AreLinkPlaces original end places front
-  link_places end places front payload is_end (stops stop least) =
+    → StandsAs copies start end bytes standing → IsCut original start end) where
+  pub link_places : (end : ℕ) (places : List Place) (front : ℕ) (payload : List ℕ)
+      → ((stop : ℕ) → IsEnd original stop → 0 < stop → IsStop copies stop → stop ≡ front → ⊥)
+      → IsEnd original end → IsSpliceBefore copies end places front payload → AreLinkPlaces original end places front
+  link_places end places front payload goes_on is_end (stops stop least) =
       elim (cases_lt 0 end) [
-        | inl behind ↦ absurd (goes_on end is_end behind stop)
+        | inl after ↦ absurd (goes_on end is_end after stop refl)
         | inr here ↦
             let zero_end : end ≡ 0 = omega arith in
             record {
@@ -62,9 +62,9 @@ module _ (original : List ℕ) (copies : List (List ℕ)) (cuts : (start end : �
               each = All-nil (λ place. IsLinkOf original place.start place.end);
             }
       ]
-  link_places end places front payload is_end (goes {start = start} {standing = standing} {places = more} {before = rest} bytes stands h) =
+  link_places end places front payload goes_on is_end (goes {start = start} {standing = standing} {places = more} {before = rest} bytes stands h) =
       let cut : IsCut original start end = cuts start end bytes standing is_end stands in
-      let below = link_places start more front rest (before is_end cut) h in
+      let below = link_places start more front rest goes_on (before is_end cut) h in
       record {
         links = ap (λ z. piece_of original start end ∷ z) below.links
             ∙ sym (walked-fuel original end (suc end) end (omega arith) (omega arith) ∙ walked-more original end start end cut
@@ -95,6 +95,23 @@ same_bytes a b end (place ∷ places) lie up same =
     ∙ ap (λ z. take place.start b ++ z) slice ∙ sym (take_on place.start place.end b here) in
     subst (λ n. take n a ≡ take n b) ends both
 
+-- the same bytes at places that are links from the end to the first byte
+pub same_payload : (original : List ℕ) (spliced : SplicedValue) (end : ℕ) → AreLinkPlaces original end spliced.places spliced.front
+    → LieFrom (length spliced.payload) spliced.places spliced.front → length spliced.payload ≡ length original
+    → All (λ place. slice_range spliced.payload place.start place.end ≡ slice_range original place.start place.end) spliced.places
+    → spliced.payload ≡ original
+same_payload original spliced end places lie long same =
+    sym (take_all (length spliced.payload) spliced.payload (omega arith))
+    ∙ same_bytes spliced.payload original (length spliced.payload) spliced.places
+    (subst (LieFrom (length spliced.payload) spliced.places) places.whole lie) upright same
+    ∙ take_all (length spliced.payload) original (omega (arith, long))
+  where
+    upright : All (λ place. place.start ≤ place.end) spliced.places
+    upright k d lt =
+        let place : Place = get_or spliced.places k d in
+        let cut : IsCut original place.start place.end = (places.each k d lt).cut in
+        omega arith
+
 -- ---- copies that agree
 
 module _ (original : List ℕ) (copies : List (List ℕ)) (agree : AgreeWith original copies) where
@@ -113,6 +130,7 @@ module _ (original : List ℕ) (copies : List (List ℕ)) (agree : AgreeWith ori
       → StandsAs copies start end bytes standing → IsLinkOf original start end × (bytes ≡ slice_range original start end)
   settled_link start end bytes Settled is_end is h =
       let told = agree end (record { start = start; bytes = bytes }) is_end h.there in (told.0, ap (λ (p : Piece). p.bytes) told.1)
+  settled_link start end bytes (Woven count) is_end is h = absurd (cc)
   settled_link start end bytes Disputed is_end is h = absurd (cc)
   settled_link start end bytes Missing is_end is h = absurd (cc)
 
@@ -120,13 +138,17 @@ module _ (original : List ℕ) (copies : List (List ℕ)) (agree : AgreeWith ori
   pub settled_where : (start end : ℕ) (bytes : List ℕ) (standing : Standing) (link : ℕ) → IsEnd original end → IsPiece copies end (piece_of original link end)
       → StandsAs copies start end bytes standing → standing ≡ Settled
   settled_where start end bytes Settled link is_end piece h = refl
-  settled_where start end bytes Disputed link is_end piece h = absurd (undisputed end is_end h.0)
-  settled_where start end bytes Missing link is_end piece h = absurd (h.0 (piece_of original link end) piece)
+  settled_where start end bytes (Woven count) link is_end piece h = absurd (h.none (piece_of original link end) piece)
+  settled_where start end bytes Disputed link is_end piece h =
+      elim h.0 [ inl two ↦ absurd (undisputed end is_end two) | inr w ↦ absurd (w.none (piece_of original link end) piece) ]
+  settled_where start end bytes Missing link is_end piece h =
+      elim h.0 [ inl w ↦ absurd (w.none (piece_of original link end) piece) | inr w ↦ absurd (w.none (piece_of original link end) piece) ]
 
 pub settled_is_original : SettledIsOriginal
 settled_is_original original copies spliced place agree is there settled is_end =
     settled_link original copies agree place.start place.end (slice_range spliced.payload place.start place.end) place.standing is_end settled
-    (All-contains (λ place. StandsAs copies place.start place.end (slice_range spliced.payload place.start place.end) place.standing) spliced.places place is.stand
+    (All-contains (λ place. StandsAs copies place.start place.end (slice_range spliced.payload place.start place.end) place.standing) spliced.places
+    place is.stand
     there)
 
 module _ (original : List ℕ) (copies : List (List ℕ)) (of : AreCopiesOf original copies) (agree : AgreeWith original copies)
@@ -146,8 +168,8 @@ module _ (original : List ℕ) (copies : List (List ℕ)) (of : AreCopiesOf orig
       (settled_link original copies agree start end bytes standing is_end (settles start end bytes standing is_end h) h).0.cut
 
   goes_on : (end : ℕ) → IsEnd original end → 0 < end → IsStop copies end → ⊥
-  goes_on end is_end behind stop =
-      let link = link_at original of.whole end is_end behind in
+  goes_on end is_end after stop =
+      let link = link_at original of.whole end is_end after in
       let piece = have link.0 end (record { is_end = is_end; cut = link.1 }) in
       stop.unsettled (piece_of original link.0 end) (record {
         there = piece;
@@ -156,7 +178,8 @@ module _ (original : List ℕ) (copies : List (List ℕ)) (of : AreCopiesOf orig
 
   places : AreLinkPlaces original (length original) spliced.places spliced.front
   places =
-      link_places original copies cuts goes_on (length original) spliced.places spliced.front spliced.payload last
+      link_places original copies cuts (length original) spliced.places spliced.front spliced.payload
+      (λ stop is_end after stops same. goes_on stop is_end after stops) last
       (subst (λ n. IsSpliceBefore copies n spliced.places spliced.front spliced.payload) long (splice_walk copies spliced is))
 
   each_settled : All (λ place. place.standing ≡ Settled) spliced.places
@@ -170,21 +193,12 @@ module _ (original : List ℕ) (copies : List (List ℕ)) (of : AreCopiesOf orig
       (settled_link original copies agree place.start place.end (slice_range spliced.payload place.start place.end) place.standing (places.each k d lt).is_end
       (each_settled k d lt) (is.stand k d lt)).1
 
-  upright : All (λ place. place.start ≤ place.end) spliced.places
-  upright k d lt =
-      let place : Place = get_or spliced.places k d in
-      let cut : IsCut original place.start place.end = (places.each k d lt).cut in
-      omega arith
-
   pub is_original : IsOriginal original spliced
   is_original =
       record {
         places = record { links = places.links; whole = places.whole };
         settled = each_settled;
-        payload = sym (take_all (length spliced.payload) spliced.payload (omega arith))
-            ∙ same_bytes spliced.payload original (length spliced.payload) spliced.places
-            (subst (LieFrom (length spliced.payload) spliced.places) places.whole is.lie) upright each_same
-            ∙ take_all (length spliced.payload) original (omega (arith, long));
+        payload = same_payload original spliced (length original) places is.lie long each_same;
       }
 
 pub original_is_spliced : OriginalIsSpliced

@@ -1,17 +1,17 @@
 -- The place that ends at an end of the splice: how long it is, and how it stands.
-use Rattle.std.proofs.Common.{◌≡◌, ℕ, ◌+◌, ◌≤◌, List, Bor, Option, Some, None, length, refl, sym, ap, ◌∙◌, subst, arith}
-use Rattle.std.specs.Prelude.{Contains, MatchOption, IfSome}
+use Rattle.std.proofs.Common.{◌≡◌, ℕ, ◌+◌, ◌≤◌, List, length, refl, sym, ap, ◌∙◌, arith}
+use Rattle.std.specs.Prelude.{Contains}
 use Rattle.ffv1_slice.specs.Chain.{IsCut, Piece}
 use Rattle.ffv1_slice.proofs.NearLaws.{length-range}
 use Rattle.ffv1_slice.specs.Members.{IsOnly, IsOfTwo, IsOfNone}
 use Rattle.ffv1_splice.specs.Pieces.{IsPiece, IsToldStart, IsLeast}
-use Rattle.ffv1_splice.specs.Standings.{StandsAs, IsGap, IsStop}
+use Rattle.ffv1_weave.specs.Weave.{Weave, IsWeaveOf}
+use Rattle.ffv1_splice.specs.Standings.{versions_at, IsWeaveAt, StandsAs, IsGap}
+use Rattle.ffv1_splice.specs.Placing.{written, IsPlaced}
+use Rattle.ffv1_splice.specs.declared.place.Standing.{Standing}
 use Rattle.ffv1_splice.specs.Told.{Tells, starts_told}
 use Rattle.ffv1_splice.specs.declared.told.Starts.{Starts}
 use Rattle.ffv1_splice.specs.declared.told.Starts.TheVariants as starts
-use Rattle.ffv1_splice.specs.declared.place.Standing.{Standing}
-use Rattle.ffv1_splice.specs.declared.place.Standing.TheVariants.{Disputed, Missing}
-use Rattle.ffv1_splice.specs.declared.place.Place.{Place}
 
 -- ---- how many differ
 
@@ -59,25 +59,12 @@ gap_size copies start end bytes reach h =
 
 -- ---- how it stands
 
-stands_missing : (copies : List (List ℕ)) (start end : ℕ) (bytes : List ℕ) (standing : Standing) → standing ≡ Missing → IsOfNone (IsPiece copies end)
-    → IsGap copies start end bytes → StandsAs copies start end bytes standing
-stands_missing copies start end bytes standing is none gap = subst (StandsAs copies start end bytes) (sym is) (none, gap)
+pub stands_weave : (copies : List (List ℕ)) (start end : ℕ) (weave : Weave) → IsOfNone (IsPiece copies end) → IsOnly (IsToldStart copies end) start
+    → IsWeaveOf (versions_at copies start end) weave → IsWeaveAt copies start end weave
+stands_weave copies start end weave none told is = record { none = none; told = told; weave' = is }
 
-stands_disputed : (copies : List (List ℕ)) (start end : ℕ) (bytes : List ℕ) (standing : Standing) → standing ≡ Disputed → IsOfTwo (IsPiece copies end)
-    → IsGap copies start end bytes → StandsAs copies start end bytes standing
-stands_disputed copies start end bytes standing is two gap = subst (StandsAs copies start end bytes) (sym is) (two, gap)
-
-module _ (copies : List (List ℕ)) (end : ℕ) where
-  pub missing_place : (found : Option (Place × Bor (List ℕ))) → IsOfNone (IsPiece copies end)
-      → MatchOption found ((start : ℕ) → IsOnly (IsToldStart copies end) start → ⊥) (λ found. IsGap copies found.0.start end found.1.now)
-      → IfSome found (λ found. (found.0.end ≡ end) × (found.0.standing ≡ Missing))
-      → MatchOption found (IsStop copies end) (λ found. StandsAs copies found.0.start end found.1.now found.0.standing)
-  missing_place None none untold place = record { unsettled = none_not_only (IsPiece copies end) none; untold = untold }
-  missing_place (Some found) none gap place = stands_missing copies found.0.start end found.1.now found.0.standing place.1 none gap
-
-  pub disputed_place : (found : Option (Place × Bor (List ℕ))) → IsOfTwo (IsPiece copies end)
-      → MatchOption found ((start : ℕ) → IsOnly (IsToldStart copies end) start → ⊥) (λ found. IsGap copies found.0.start end found.1.now)
-      → IfSome found (λ found. (found.0.end ≡ end) × (found.0.standing ≡ Disputed))
-      → MatchOption found (IsStop copies end) (λ found. StandsAs copies found.0.start end found.1.now found.0.standing)
-  disputed_place None two untold place = record { unsettled = two_not_only (IsPiece copies end) two; untold = untold }
-  disputed_place (Some found) two gap place = stands_disputed copies found.0.start end found.1.now found.0.standing place.1 two gap
+pub placed_as : (copies : List (List ℕ)) (start end : ℕ) (old new bytes : List ℕ) (standing : Standing) → StandsAs copies start end bytes standing
+    → start + length bytes ≡ end → new ≡ written old start bytes
+    → IsPlaced copies end old new (record { start = start; end = end; standing = standing })
+placed_as copies start end old new bytes standing stands size is =
+    record { bytes = bytes; ends = refl; stands = stands; size = size; written' = is }

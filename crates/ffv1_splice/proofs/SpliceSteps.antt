@@ -5,6 +5,7 @@ use Rattle.std.proofs.Math.Seq.{drop-append_seam}
 use Rattle.std.proofs.lemmas.List.{append-nil, append_assoc, length-append, length-drop, length-take-le, drop_all, take_all}
 use Rattle.ffv1_splice.specs.Pieces.{IsLeast}
 use Rattle.ffv1_splice.specs.Standings.{StandsAs, IsStop}
+use Rattle.ffv1_splice.specs.Placing.{written}
 use Rattle.ffv1_splice.proofs.Walks.{IsSpliceBefore}
 use Rattle.ffv1_splice.proofs.Walks.IsSpliceBefore.{stops, goes}
 use Rattle.ffv1_splice.specs.Faults.{length_at, HasOneLength}
@@ -13,10 +14,8 @@ use Rattle.ffv1_splice.proofs.CopyLists.{bytes_at, length-bytes_of}
 
 -- ---- bytes written over others
 
-abbrev pub written : List ℕ → ℕ → List ℕ → List ℕ
-written payload start bytes = take start payload ++ (bytes ++ drop (start + length bytes) payload)
-
-pub length-written : (payload : List ℕ) (start : ℕ) (bytes : List ℕ) → start + length bytes ≤ length payload → length (written payload start bytes) ≡ length payload
+pub length-written : (payload : List ℕ) (start : ℕ) (bytes : List ℕ) → start + length bytes ≤ length payload
+    → length (written payload start bytes) ≡ length payload
 length-written payload start bytes h =
     let front = length-take-le start payload (omega arith) in
     let whole = length-append (take start payload) (bytes ++ drop (start + length bytes) payload) in
@@ -38,11 +37,11 @@ put_back len new items l n =
 
 -- ---- a turn
 
--- what stands before an end is spliced with the places and the bytes behind it
+-- what stands before an end is spliced with the places and the bytes after it
 abbrev pub Continues : List (List ℕ) → (whole end : ℕ) → List Place → List ℕ → Type 0
-Continues copies whole end behind bytes =
+Continues copies whole end after bytes =
     (places : List Place) (front : ℕ) (before : List ℕ) → IsSpliceBefore copies end places front before
-    → IsSpliceBefore copies whole (behind ++ places) front (before ++ bytes)
+    → IsSpliceBefore copies whole (after ++ places) front (before ++ bytes)
 
 module _ (copies : List (List ℕ)) where
   pub continues_start : (whole : ℕ) (payload : List ℕ) → length payload ≤ whole → Continues copies whole whole [] (drop whole payload)
@@ -50,29 +49,30 @@ module _ (copies : List (List ℕ)) where
       let none : drop whole payload ≡ [] = drop_all whole payload l in
       subst (IsSpliceBefore copies whole places front) (sym (ap (λ z. before ++ z) none ∙ append-nil before)) h
 
-  pub continues_more : (whole end : ℕ) (behind : List Place) (place : Place) (bytes payload : List ℕ) → place.end ≡ end → place.start + length bytes ≡ end
-      → end ≤ length payload → StandsAs copies place.start end bytes place.standing → Continues copies whole end behind (drop end payload)
-      → Continues copies whole place.start (behind ++ place ∷ []) (drop place.start (written payload place.start bytes))
-  continues_more whole end behind place bytes payload ends size within stands h places front before rest =
+  pub continues_more : (whole end : ℕ) (after : List Place) (place : Place) (bytes payload : List ℕ) → place.end ≡ end → place.start + length bytes ≡ end
+      → end ≤ length payload → StandsAs copies place.start end bytes place.standing → Continues copies whole end after (drop end payload)
+      → Continues copies whole place.start (after ++ place ∷ []) (drop place.start (written payload place.start bytes))
+  continues_more whole end after place bytes payload ends size within stands h places front before rest =
       let here : IsSpliceBefore copies place.end (place ∷ places) front (before ++ bytes) =
       goes bytes (subst (λ e. StandsAs copies place.start e bytes place.standing) (sym ends) stands) rest in
-      let all : IsSpliceBefore copies whole (behind ++ place ∷ places) front ((before ++ bytes) ++ drop end payload) =
+      let all : IsSpliceBefore copies whole (after ++ place ∷ places) front ((before ++ bytes) ++ drop end payload) =
       h (place ∷ places) front (before ++ bytes) (subst (λ e. IsSpliceBefore copies e (place ∷ places) front (before ++ bytes)) ends here) in
       let back : drop place.start (written payload place.start bytes) ≡ bytes ++ drop end payload =
       drop-written payload place.start bytes (omega arith) ∙ ap (λ n. bytes ++ drop n payload) size in
       subst (λ ps. IsSpliceBefore copies whole ps front (before ++ drop place.start (written payload place.start bytes)))
-      (sym (append_assoc behind (place ∷ []) places))
-      (subst (IsSpliceBefore copies whole (behind ++ place ∷ places) front) (append_assoc before bytes (drop end payload) ∙ ap (λ z. before ++ z) (sym back)) all)
+      (sym (append_assoc after (place ∷ []) places))
+      (subst (IsSpliceBefore copies whole (after ++ place ∷ places) front) (append_assoc before bytes (drop end payload)
+      ∙ ap (λ z. before ++ z) (sym back)) all)
 
   -- where it stops
-  pub continues_end : (whole end : ℕ) (behind : List Place) (bytes payload : List ℕ) → length bytes ≡ end → end ≤ length payload → IsStop copies end
-      → IsLeast copies 0 end bytes → Continues copies whole end behind (drop end payload)
-      → IsSpliceBefore copies whole behind end (written payload 0 bytes)
-  continues_end whole end behind bytes payload size within stop least h =
-      let all : IsSpliceBefore copies whole (behind ++ []) end (bytes ++ drop end payload) = h [] end bytes (stops stop least) in
+  pub continues_end : (whole end : ℕ) (after : List Place) (bytes payload : List ℕ) → length bytes ≡ end → end ≤ length payload → IsStop copies end
+      → IsLeast copies 0 end bytes → Continues copies whole end after (drop end payload)
+      → IsSpliceBefore copies whole after end (written payload 0 bytes)
+  continues_end whole end after bytes payload size within stop least h =
+      let all : IsSpliceBefore copies whole (after ++ []) end (bytes ++ drop end payload) = h [] end bytes (stops stop least) in
       let zero : 0 + length bytes ≡ end = omega arith in
-      subst (λ ps. IsSpliceBefore copies whole ps end (written payload 0 bytes)) (append-nil behind)
-      (subst (IsSpliceBefore copies whole (behind ++ []) end) (ap (λ n. bytes ++ drop n payload) (sym zero)) all)
+      subst (λ ps. IsSpliceBefore copies whole ps end (written payload 0 bytes)) (append-nil after)
+      (subst (IsSpliceBefore copies whole (after ++ []) end) (ap (λ n. bytes ++ drop n payload) (sym zero)) all)
 
 -- ---- copies of one length
 

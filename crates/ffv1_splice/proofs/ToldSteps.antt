@@ -121,7 +121,8 @@ module _ (copies : List (List ℕ)) (copy : List ℕ) (end : ℕ) where
         | inr new ↦ inr (new.2 ∙ ap (λ s. piece_of copy s end) (one_cut start piece.start cut new.0))
       ]) more h
 
-  pub starts-cut : (told after : Told ℕ) (start : ℕ) → IsCut copy start end → HasContent start end → TellsMore told start after → Tells (IsToldStart copies end) told
+  pub starts-cut : (told after : Told ℕ) (start : ℕ) → IsCut copy start end → HasContent start end → TellsMore told start after
+      → Tells (IsToldStart copies end) told
       → Tells (IsToldStart (copies ++ copy ∷ []) end) after
   starts-cut told after start cut content more h =
       tells_more (IsToldStart copies end) (IsToldStart (copies ++ copy ∷ []) end) told after start start_on

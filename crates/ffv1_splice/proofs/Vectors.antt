@@ -43,9 +43,9 @@ module _ (setup : SetupValue) (original : List ℕ) (slices : List (List ℕ)) (
   -- a slice has its header before its footer
   slice_filled : (slice : List ℕ) (first : Bool) (tile : ℕ) → IsSliceOf setup slice first tile → 8 < length slice
   slice_filled slice first tile h =
-      let behind = h.is_head.header.at in
+      let after = h.is_head.header.at in
       let size = length-take (length slice - 8) slice in
-      omega (arith, behind)
+      omega (arith, after)
 
   pub sound_of_setup : AreBytes original → IsSound original
   sound_of_setup bytes = record {

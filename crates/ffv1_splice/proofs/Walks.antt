@@ -9,8 +9,9 @@ use Rattle.ffv1_splice.specs.Pieces.{IsLeast}
 use Rattle.ffv1_splice.specs.Standings.{StandsAs, IsStop}
 use Rattle.ffv1_splice.specs.Splice.{SplicedValue, LieFrom, IsSpliceOf}
 use Rattle.ffv1_splice.specs.declared.place.Standing.{Standing}
-use Rattle.ffv1_splice.specs.declared.place.Standing.TheVariants.{Settled, Disputed, Missing}
+use Rattle.ffv1_splice.specs.declared.place.Standing.TheVariants.{Settled, Woven, Disputed, Missing}
 use Rattle.ffv1_splice.specs.declared.place.Place.{Place}
+use Rattle.ffv1_splice.proofs.Versions.{weave_size}
 use Rattle.ffv1_splice.proofs.PlaceSteps.{AllReach, cut_below, told_below, piece_size, gap_size, least_size}
 
 -- What stands before an end. Where no place ends, it is one front that can't be divided; else the place that ends there, and what stands
@@ -39,7 +40,8 @@ slice-back before bytes start end s e =
     ap (λ n. take n (drop start (before ++ bytes))) size ∙ ap (λ n. take (length bytes) (drop n (before ++ bytes))) (sym s)
     ∙ ap (take (length bytes)) (drop-append_seam before bytes) ∙ take_all (length bytes) bytes (omega arith)
 
-slice-take : (bytes : List ℕ) (count start end : ℕ) → end ≤ count → count ≤ length bytes → slice_range (take count bytes) start end ≡ slice_range bytes start end
+slice-take : (bytes : List ℕ) (count start end : ℕ) → end ≤ count → count ≤ length bytes
+    → slice_range (take count bytes) start end ≡ slice_range bytes start end
 slice-take bytes count start end e c =
     sym (slice-front (take count bytes) (drop count bytes) start end (omega (arith, length-take-le count bytes c)))
     ∙ ap (λ z. slice_range z start end) (take-append-drop count bytes)
@@ -48,12 +50,14 @@ slice-take bytes count start end e c =
 
 pub stands_below : (copies : List (List ℕ)) (start end : ℕ) (bytes : List ℕ) (standing : Standing) → StandsAs copies start end bytes standing → start + 8 ≤ end
 stands_below copies start end bytes Settled h = cut_below h.there.copy start end h.there.cut
+stands_below copies start end bytes (Woven count) h = told_below copies start end h.told.there
 stands_below copies start end bytes Disputed h = told_below copies start end h.1.told.there
 stands_below copies start end bytes Missing h = told_below copies start end h.1.told.there
 
 pub stands_size : (copies : List (List ℕ)) (start end : ℕ) (bytes : List ℕ) (standing : Standing) → AllReach copies end
     → StandsAs copies start end bytes standing → start + length bytes ≡ end
 stands_size copies start end bytes Settled reach h = piece_size copies end (record { start = start; bytes = bytes }) reach h.there
+stands_size copies start end bytes (Woven count) reach h = weave_size copies start end bytes count reach h
 stands_size copies start end bytes Disputed reach h = gap_size copies start end bytes reach h.1
 stands_size copies start end bytes Missing reach h = gap_size copies start end bytes reach h.1
 

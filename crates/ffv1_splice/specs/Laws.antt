@@ -1,11 +1,14 @@
 -- Laws of the splice.
-use Rattle.std.specs.Prelude.{ℕ, ◌≡◌, ◌≢◌, ◌↔◌, List, All, Contains, map, slice_range}
+use Rattle.std.specs.Prelude.{ℕ, ◌≡◌, ◌↔◌, List, All, Contains, map, slice_range}
 use Rattle.ffv1_slice.specs.Chain.{IsEnd, IsLinkOf, piece_of}
 use Rattle.ffv1_slice.specs.Walk.{links_of}
 use Rattle.ffv1_slice.specs.Members.{HasSameMembers}
-use Rattle.ffv1_splice.specs.Splice.{SplicedValue, IsSpliceOf}
-use Rattle.ffv1_splice.specs.Originals.{AreCopiesOf, AgreeWith, HaveEachLink, AreNearCopies, IsIntactInSome}
-use Rattle.ffv1_splice.specs.declared.place.Standing.TheVariants.{Settled, Disputed}
+use Rattle.ffv1_bits.specs.Parity.{PassesParity}
+use Rattle.ffv1_weave.specs.Weave.{AreMany}
+use Rattle.ffv1_splice.specs.Standings.{versions_at}
+use Rattle.ffv1_splice.specs.Splice.{SplicedValue, IsSpliceOf, IsGivenBack}
+use Rattle.ffv1_splice.specs.Originals.{AreCopiesOf, AgreeWith, HaveEachLink, IsAmong, AreWeavable, AreNearCopies, IsIntactInSome}
+use Rattle.ffv1_splice.specs.declared.place.Standing.TheVariants.{Settled, Woven, Missing}
 use Rattle.ffv1_splice.specs.declared.place.Place.{Place}
 
 -- The same copies have one splice.
@@ -39,21 +42,45 @@ SettledIsOriginal =
     → Contains spliced.places place → place.standing ≡ Settled → IsEnd original place.end
     → IsLinkOf original place.start place.end × (slice_range spliced.payload place.start place.end ≡ slice_range original place.start place.end)
 
+-- ---- what is woven
+
+-- What is woven at a place is the original's slice; and where it is missing, there are more combinations than are tried.
+pub record KeepsLink (original : List ℕ) (copies : List (List ℕ)) (spliced : SplicedValue) (place : Place) : Type 0 where
+  pub woven : (count : ℕ) → place.standing ≡ Woven count
+      → slice_range spliced.payload place.start place.end ≡ slice_range original place.start place.end
+  pub missing : place.standing ≡ Missing → AreMany (versions_at copies place.start place.end)
+
+-- So it is at each place that is a link of the original, where the original's slice passes its parity and is among the combinations
+-- of what the copies have there.
+abbrev pub WovenIsOriginal : Type 0
+WovenIsOriginal =
+    (original : List ℕ) (copies : List (List ℕ)) (spliced : SplicedValue) (place : Place) → IsSpliceOf copies spliced → Contains spliced.places place
+    → IsLinkOf original place.start place.end → PassesParity (slice_range original place.start place.end)
+    → IsAmong original copies place.start place.end → KeepsLink original copies spliced place
+
+-- Where the copies are weavable, a frame that is given back is the original, and its places are the original's links.
+abbrev pub GivenBackIsOriginal : Type 0
+GivenBackIsOriginal =
+    (original : List ℕ) (copies : List (List ℕ)) (spliced : SplicedValue) → AreCopiesOf original copies → AreWeavable original copies
+    → IsSpliceOf copies spliced → IsGivenBack spliced → HasLinksOf original spliced × (spliced.payload ≡ original)
+
 -- ---- copies that are near an original
 
--- The places are the original's links; none is disputed; a place is settled exactly where a copy has the link intact, and has the
--- original's bytes there.
+-- The places are the original's links; a place is settled exactly where a copy has the link intact, and has the original's bytes there.
 pub record IsNearSplice (original : List ℕ) (copies : List (List ℕ)) (spliced : SplicedValue) : Type 0 where
   pub places : HasLinksOf original spliced
-  pub undisputed : All (λ place. place.standing ≢ Disputed) spliced.places
   pub settled : All (λ place. (place.standing ≡ Settled) ↔ IsIntactInSome original copies place.start place.end) spliced.places
   pub bytes : All (λ place. place.standing ≡ Settled → slice_range spliced.payload place.start place.end ≡ slice_range original place.start place.end)
       spliced.places
 
--- Of near copies no piece tells other than the original; and where each link is intact in some copy, the splice is the original.
+-- Of near copies no piece tells other than the original; where each link is intact in some copy, the splice is the original; and where
+-- each is among the combinations, a frame that is given back is the original.
 pub record NearCopiesSplice : Type 0 where
   pub agree : (original : List ℕ) (copies : List (List ℕ)) → AreNearCopies original copies → AgreeWith original copies
   pub near : (original : List ℕ) (copies : List (List ℕ)) (spliced : SplicedValue) → AreNearCopies original copies → IsSpliceOf copies spliced
       → IsNearSplice original copies spliced
   pub original : (original : List ℕ) (copies : List (List ℕ)) (spliced : SplicedValue) → AreNearCopies original copies
       → ((start end : ℕ) → IsLinkOf original start end → IsIntactInSome original copies start end) → IsSpliceOf copies spliced → IsOriginal original spliced
+  pub woven : (original : List ℕ) (copies : List (List ℕ)) (spliced : SplicedValue) → AreNearCopies original copies
+      → ((start end : ℕ) → IsLinkOf original start end → IsAmong original copies start end) → IsSpliceOf copies spliced → IsGivenBack spliced
+      → spliced.payload ≡ original

@@ -1,5 +1,6 @@
 pub mod Pieces
 pub mod Standings
+pub mod Placing
 pub mod Splice
 pub mod Told
 pub mod Faults

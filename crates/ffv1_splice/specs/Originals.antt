@@ -3,7 +3,9 @@ use Rattle.std.specs.Prelude.{ℕ, ◌≡◌, ◌⊎◌, List, Contains, length,
 use Rattle.ffv1_bits.specs.Parity.{AreBytes, PassesParity}
 use Rattle.ffv1_slice.specs.Chain.{IsEnd, IsLinkOf, Piece, piece_of}
 use Rattle.ffv1_slice.specs.Near.{IsHurtWithin32}
-use Rattle.ffv1_splice.specs.Pieces.{HasContent, IsPiece}
+use Rattle.ffv1_weave.specs.Combinations.{IsCombination}
+use Rattle.ffv1_splice.specs.Pieces.{HasContent, IsPiece, IsToldStart}
+use Rattle.ffv1_splice.specs.Standings.{versions_at}
 
 -- The chain of the original is whole, and all copies are as long as it is.
 pub record AreCopiesOf (original : List ℕ) (copies : List (List ℕ)) : Type 0 where
@@ -18,6 +20,19 @@ AgreeWith original copies =
 -- each link of the original is a piece of some copy; so each has content
 abbrev pub HaveEachLink : List ℕ → List (List ℕ) → Type 0
 HaveEachLink original copies = (start end : ℕ) → IsLinkOf original start end → IsPiece copies end (piece_of original start end)
+
+-- The original's slice between two places is a combination of what the copies have there: so it is where each region in which they
+-- differ is intact in some copy, and where all agree they are right.
+abbrev pub IsAmong : List ℕ → List (List ℕ) → (start end : ℕ) → Type 0
+IsAmong original copies start end = IsCombination (versions_at copies start end) (slice_range original start end)
+
+-- No piece tells other than the original. The start of each link is told by a footer of some copy, and its slice, which passes its
+-- parity, is among the combinations of what the copies have there.
+pub record AreWeavable (original : List ℕ) (copies : List (List ℕ)) : Type 0 where
+  pub agree : AgreeWith original copies
+  pub told : (start end : ℕ) → IsLinkOf original start end → IsToldStart copies end start
+  pub passes : (start end : ℕ) → IsLinkOf original start end → PassesParity (slice_range original start end)
+  pub among : (start end : ℕ) → IsLinkOf original start end → IsAmong original copies start end
 
 -- ---- copies that are near an original
 

@@ -2,6 +2,8 @@
 use Rattle.std.specs.Prelude.{ℕ, ◌≡◌, List, [], ◌∷◌, All, Contains, length, take, slice_range}
 use Rattle.ffv1_splice.specs.Pieces.{IsLeast}
 use Rattle.ffv1_splice.specs.Standings.{StandsAs, IsStop}
+use Rattle.ffv1_splice.specs.declared.place.Standing.{Standing}
+use Rattle.ffv1_splice.specs.declared.place.Standing.TheVariants.{Settled, Woven}
 use Rattle.ffv1_splice.specs.declared.place.Place.{Place}
 
 -- what a splice gives: its places from the frame's end on, where the last of them begins, and all bytes
@@ -24,3 +26,13 @@ pub record IsSpliceOf (copies : List (List ℕ)) (spliced : SplicedValue) : Type
   pub stand : All (λ place. StandsAs copies place.start place.end (slice_range spliced.payload place.start place.end) place.standing) spliced.places
   pub stop : IsStop copies spliced.front
   pub before : IsLeast copies 0 spliced.front (take spliced.front spliced.payload)
+
+-- a slice that passes its parity stands there
+abbrev pub IsSettledOrWoven : Standing → Type 0
+IsSettledOrWoven Settled = Unit {0}
+IsSettledOrWoven (Woven count) = Unit {0}
+IsSettledOrWoven _ = ⊥
+
+-- All of the frame is given back: the places cover it, and at each stands a slice that passes its parity.
+abbrev pub IsGivenBack : SplicedValue → Type 0
+IsGivenBack spliced = (spliced.front ≡ 0) × All (λ place. IsSettledOrWoven place.standing) spliced.places

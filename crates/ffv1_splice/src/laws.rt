@@ -1,5 +1,5 @@
 //! Laws of the splice, whatever it is made by.
-ghost use Rattle.ffv1_splice.specs.Laws.{SameCopiesSplice, OriginalIsSpliced, SettledIsOriginal, NearCopiesSplice};
+ghost use Rattle.ffv1_splice.specs.Laws.{SameCopiesSplice, OriginalIsSpliced, SettledIsOriginal, WovenIsOriginal, GivenBackIsOriginal, NearCopiesSplice};
 
 /// However the same copies are ordered or repeated, they have one splice.
 pub fn same_copies_splice()
@@ -16,6 +16,18 @@ pub fn original_is_spliced()
 /// original's slice there.
 pub fn settled_is_original()
     ensures { SettledIsOriginal }
+{}
+
+/// At a place that is a slice of an original, where the original's slice passes its parity and is among the combinations of what the
+/// copies have there: what is woven is the original's slice, and it is missing only where there are too many combinations.
+pub fn woven_is_original()
+    ensures { WovenIsOriginal }
+{}
+
+/// Where no slice that passes its parity tells other than an original, the start of each of its slices is told by some copy, and each is
+/// among the combinations of what the copies have there: a splice all of whose places are settled or woven is the original.
+pub fn given_back_is_original()
+    ensures { GivenBackIsOriginal }
 {}
 
 /// Damage within 32 consecutive bits of each slice of each copy, off its size field, is never taken for the original, whose slices all

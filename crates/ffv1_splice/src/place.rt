@@ -5,9 +5,14 @@
 pub enum Standing {
     /// All slices with content that pass their parity and end there are equal: they stand there.
     Settled,
-    /// Two slices with content that differ pass their parity and end there.
+    /// No slice with content that ends there passes its parity, but of what the copies have there one combination alone does,
+    /// among so many: it stands there.
+    Woven(usize),
+    /// Two slices with content that differ pass their parity and end there, or else two combinations of what the copies have there
+    /// do. The least of all copies' bytes stand there.
     Disputed,
-    /// No slice with content that ends there passes its parity.
+    /// No slice with content that ends there passes its parity, and no combination of what the copies have there does, or there
+    /// are more combinations than are tried. The least of all copies' bytes stand there.
     Missing,
 }
 

@@ -1,14 +1,11 @@
 //! The splice of copies of one length: the frame, place by place from its end.
-ghost use Rattle.std.specs.Prelude.{◌≡◌, ◌+◌, ◌≤◌, ◌<◌, ◌++◌, ℕ, length, take, drop, map, All, MatchOption, IfSome, IfOk, IfErr};
-ghost use Rattle.ffv1_slice.specs.Members.{IsOnly};
-ghost use Rattle.ffv1_splice.specs.Pieces.{IsToldStart};
-ghost use Rattle.ffv1_splice.specs.Standings.{StandsAs, IsGap, IsStop};
-ghost use Rattle.ffv1_splice.specs.Told.{Tells, starts_told};
-ghost use Rattle.ffv1_splice.specs.Splice.{IsSpliceOf};
+ghost use Rattle.std.specs.Prelude.{◌≡◌, ◌<◌, ◌↔◌, IsTrue, length, map, MatchOption, IfOk, IfErr};
+ghost use Rattle.ffv1_splice.specs.Splice.{IsSpliceOf, IsSettledOrWoven, IsGivenBack};
 ghost use Rattle.ffv1_splice.specs.Faults.{HasOneLength, IsOfOtherLength, IsSpliceFault};
 
 use crate::place::{Place, Standing};
-use crate::told::{Pieces, Starts, least_at, told_at};
+use crate::placing::{place_before, write_at};
+use crate::told::least_at;
 use std::alloc::{AllocError, AllocFailed, Global};
 use std::marker::Model;
 
@@ -74,12 +71,26 @@ impl Spliced {
         self.front
     }
 
+    /// Whether all of the frame is given back: the places cover it, and each is settled or woven.
+    pub fn is_given_back(&self) -> bool
+        ensures { IsTrue result ↔ IsGivenBack self.now }
+    {
+        self.front == 0 && self.places.as_slice().iter().all(stands_whole)
+    }
+
     /// All bytes.
     pub fn payload(&self) -> &[u8]
         ensures { result.now ≡ self.now.payload }
     {
         self.payload.as_slice()
     }
+}
+
+/// Whether a slice that passes its parity stands there.
+fn stands_whole(place: &Place) -> bool
+    ensures { IsTrue result ↔ IsSettledOrWoven place.now.standing }
+{
+    matches!(place.standing, Standing::Settled | Standing::Woven(_))
 }
 
 /// Splices copies of one frame, of which there is one at least, place by place from its end. However the same copies are
@@ -97,9 +108,8 @@ pub fn splice(alloc: Global, copies: &[&[u8]]) -> Result<Spliced, SpliceFault>
     let mut payload = Vec::from_slice(alloc, copies[0])?;
     let mut places = Vec::new(alloc);
     let mut end = payload.len();
-    while let Some((place, bytes)) = place_before(copies, end) {
+    while let Some(place) = place_before(alloc, copies, end, &mut payload)? {
         places.push(place)?;
-        write_at(&mut payload, place.start, bytes);
         end = place.start;
     }
     write_at(&mut payload, 0, least_at(copies, 0, end));
@@ -121,65 +131,4 @@ fn other_length(copies: &[&[u8]]) -> Option<usize>
         }
     }
     None
-}
-
-/// The place that ends there, and its bytes. Each copy has the end.
-fn place_before<'a>(copies: &[&'a [u8]], end: usize) -> Option<(Place, &'a [u8])>
-    requires some { 0 < length copies.now }
-    requires within { All (λ copy. end ≤ length copy.now) copies.now }
-    ensures place { MatchOption result (IsStop (map (λ copy. copy.now) copies.now) end)
-        (λ (place, bytes). StandsAs (map (λ copy. copy.now) copies.now) place.start end bytes.now place.standing) }
-    ensures end { IfSome result (λ (place, bytes). place.end ≡ end) }
-    ensures size { IfSome result (λ (place, bytes). place.start + length bytes.now ≡ end) }
-{
-    let (pieces, starts) = told_at(copies, end);
-    match pieces {
-        Pieces::One(start, bytes) => Some((
-            Place {
-                start,
-                end,
-                standing: Standing::Settled,
-            },
-            bytes,
-        )),
-        Pieces::None => gap_before(copies, starts, end, Standing::Missing),
-        Pieces::Two => gap_before(copies, starts, end, Standing::Disputed),
-    }
-}
-
-/// The gap that ends there, and its bytes, where one start is told.
-fn gap_before<'a>(
-    copies: &[&'a [u8]],
-    starts: Starts,
-    end: usize,
-    standing: Standing,
-) -> Option<(Place, &'a [u8])>
-    requires some { 0 < length copies.now }
-    requires within { All (λ copy. end ≤ length copy.now) copies.now }
-    requires told { Tells (IsToldStart (map (λ copy. copy.now) copies.now) end) (starts_told starts) }
-    ensures gap { MatchOption result ((start : ℕ) → IsOnly (IsToldStart (map (λ copy. copy.now) copies.now) end) start → ⊥)
-        (λ (place, bytes). IsGap (map (λ copy. copy.now) copies.now) place.start end bytes.now) }
-    ensures place { IfSome result (λ (place, bytes). (place.end ≡ end) × (place.standing ≡ standing)) }
-    ensures size { IfSome result (λ (place, bytes). place.start + length bytes.now ≡ end) }
-{
-    let Starts::One(start) = starts else {
-        return None;
-    };
-    let bytes = least_at(copies, start, end);
-    Some((
-        Place {
-            start,
-            end,
-            standing,
-        },
-        bytes,
-    ))
-}
-
-/// Writes bytes over those that stand in the payload from `start` on.
-fn write_at(payload: &mut [u8], start: usize, bytes: &[u8])
-    requires { start + length bytes.now ≤ length payload.old }
-    ensures { payload.new ≡ take start payload.old ++ (bytes.now ++ drop (start + length bytes.now) payload.old) }
-{
-    payload[start..start + bytes.len()].copy_from_slice(bytes);
 }

@@ -35,8 +35,8 @@ module _ (bytes : List ℕ) (start : ℕ) (piece : List ℕ) (fits : start + len
       get_or-append_right (take start bytes) (piece ++ drop (start + length piece) bytes) start i 0 (length-take-le start bytes (omega arith)) low
       ∙ get_or_append_left piece (drop (start + length piece) bytes) 0 (i - start) (omega arith)
 
-  pub written_behind : (i : ℕ) → start + length piece ≤ i → get_or (written bytes start piece) i 0 ≡ get_or bytes i 0
-  written_behind i low =
+  pub written_after : (i : ℕ) → start + length piece ≤ i → get_or (written bytes start piece) i 0 ≡ get_or bytes i 0
+  written_after i low =
       let there : start + length piece + (i - start - length piece) ≡ i = omega arith in
       get_or-append_right (take start bytes) (piece ++ drop (start + length piece) bytes) start i 0 (length-take-le start bytes (omega arith)) (omega arith)
       ∙ get_or-append_right piece (drop (start + length piece) bytes) (length piece) (i - start) 0 refl (omega arith)
@@ -71,7 +71,7 @@ module _ (size : ℕ) (part : Part) (fit : IsFit size part) where
 
 -- ---- bytes that are alike
 
--- Before a place both are the same, and behind it where all versions agree.
+-- Before a place both are the same, and after it where all versions agree.
 pub record IsAlike (versions : List (List ℕ)) (from : ℕ) (a b : List ℕ) : Type 0 where
   pub size : length a ≡ length b
   pub front : (i : ℕ) → i < from → get_or a i 0 ≡ get_or b i 0
@@ -113,8 +113,8 @@ module _ (versions : List (List ℕ)) where
           | inr inside ↦ elim (cases_lt i part.end) [
             | inl below ↦ written_inside a part.start (piece_of part k) fits_a i inside (omega arith)
                 ∙ sym (written_inside b part.start (piece_of part k) fits_b i inside (omega arith))
-            | inr behind ↦ written_behind a part.start (piece_of part k) fits_a i (omega arith) ∙ h.agree i same
-                ∙ sym (written_behind b part.start (piece_of part k) fits_b i (omega arith))
+            | inr after ↦ written_after a part.start (piece_of part k) fits_a i (omega arith) ∙ h.agree i same
+                ∙ sym (written_after b part.start (piece_of part k) fits_b i (omega arith))
           ]
         ];
       }
@@ -140,7 +140,7 @@ module _ (versions : List (List ℕ)) where
           | inl outside ↦ written_before a part.start (piece_of part k) fits i outside ∙ h.agree i same
           | inr low ↦ elim (cases_lt i part.end) [
             | inl below ↦ inside i low below
-            | inr behind ↦ written_behind a part.start (piece_of part k) fits i (omega arith) ∙ h.agree i same
+            | inr after ↦ written_after a part.start (piece_of part k) fits i (omega arith) ∙ h.agree i same
           ]
         ];
       }
@@ -190,7 +190,8 @@ module _ (versions : List (List ℕ)) where
   chosen_alike from [] code a b are fit h = alike_end versions from a b are h
   chosen_alike from (part ∷ parts) code a b are fit h =
       let digit = digit_below (length a) part (fit_head (length a) part parts fit) code in
-      let long = length-written a part.start (piece_of part (code % length part.pieces)) (fits_in (length a) part parts fit (code % length part.pieces) digit) in
+      let long = length-written a part.start (piece_of part (code % length part.pieces))
+      (fits_in (length a) part parts fit (code % length part.pieces) digit) in
       chosen_alike part.end parts (code / length part.pieces) (written a part.start (piece_of part (code % length part.pieces)))
       (written b part.start (piece_of part (code % length part.pieces))) are.2
       (fit_as _ (length a) parts long (fit_tail (length a) part parts fit))
@@ -285,7 +286,7 @@ module _ (versions : List (List ℕ)) where
             | inl below ↦ written_inside bytes part.start (piece_of part k) fits i low (omega arith)
                 ∙ ap (λ p. get_or p (i - part.start) 0) from_version.2
                 ∙ range_at from_version.0 part.start part.end i low below ∙ same from_version.0 version from_version.1 there
-            | inr behind ↦ written_behind bytes part.start (piece_of part k) fits i (omega arith) ∙ h.agrees i same version there
+            | inr after ↦ written_after bytes part.start (piece_of part k) fits i (omega arith) ∙ h.agrees i same version there
           ]
         ];
         regions = λ start end region below. elim (cases_lt from end) [

@@ -15,7 +15,7 @@ use Rattle.ffv1_bits.proofs.Sums.{xor_twice}
 use Rattle.ffv1_weave.specs.Parts.{Part, ArePartsFrom, IsFit, chosen, written}
 use Rattle.ffv1_weave.specs.Changes.{remainder_in, change_of, changes_of, changed}
 use Rattle.ffv1_weave.proofs.VersionLists.{bytes_of, bytes_at, length-bytes_of}
-use Rattle.ffv1_weave.proofs.Choices.{length-written, written_behind, same_range, piece_of, piece_size, digit_below, fit_as, fit_head, fit_tail, fits_in}
+use Rattle.ffv1_weave.proofs.Choices.{length-written, written_after, same_range, piece_of, piece_size, digit_below, fit_as, fit_head, fit_tail, fits_in}
 
 -- ---- the polynomial of bits with others in a window
 
@@ -47,7 +47,8 @@ window front one other back same =
     ap (bit_xor (polynomial_of (front ++ (one ++ back)))) (polynomial_append front (other ++ back)
     ∙ ap (λ n. polynomial_of front * 2 ^ n + polynomial_of (other ++ back)) (sym long))
     ∙ ap (λ x. bit_xor x (polynomial_of front * 2 ^ length (one ++ back) + polynomial_of (other ++ back))) (polynomial_append front (one ++ back))
-    ∙ same_front (length (one ++ back)) (polynomial_of front) (polynomial_of (one ++ back)) (polynomial_of (other ++ back)) (polynomial_small (one ++ back)) small
+    ∙ same_front (length (one ++ back)) (polynomial_of front) (polynomial_of (one ++ back)) (polynomial_of (other ++ back))
+    (polynomial_small (one ++ back)) small
     ∙ ap (bit_xor (polynomial_of (one ++ back))) (polynomial_append other back)
     ∙ ap (λ x. bit_xor x (polynomial_of other * 2 ^ length back + polynomial_of back)) (polynomial_append one back)
     ∙ same_back (length back) (polynomial_of one) (polynomial_of other) (polynomial_of back) (polynomial_small back)
@@ -79,11 +80,13 @@ change_is size bytes start end piece long ends within =
     let back : length (bits_of (drop (start + length piece) bytes)) ≡ 8 * (size - end) =
     length-bits (drop (start + length piece) bytes) ∙ ap (λ n. 8 * n) (length-drop (start + length piece) bytes ∙ omega arith) in
     ap (bit_xor (remainder_in (written bytes start piece))) (remainder_at size bytes long)
-    ∙ ap (λ x. bit_xor x (divided (8 * size) (polynomial_of (bits_of bytes)))) (remainder_at size (written bytes start piece) (length-written bytes start piece fits ∙ long))
+    ∙ ap (λ x. bit_xor x (divided (8 * size) (polynomial_of (bits_of bytes)))) (remainder_at size (written bytes start piece)
+    (length-written bytes start piece fits ∙ long))
     ∙ sym (divided-xor (8 * size) (polynomial_of (bits_of (written bytes start piece))) (polynomial_of (bits_of bytes)))
     ∙ ap (divided (8 * size))
     (ap (bit_xor (polynomial_of (bits_of (written bytes start piece))))
-    (ap (λ z. polynomial_of (bits_of z)) split ∙ ap polynomial_of (bits_three (take start bytes) (slice_range bytes start end) (drop (start + length piece) bytes)))
+    (ap (λ z. polynomial_of (bits_of z)) split
+    ∙ ap polynomial_of (bits_three (take start bytes) (slice_range bytes start end) (drop (start + length piece) bytes)))
     ∙ ap (λ z. bit_xor (polynomial_of z)
     (polynomial_of (bits_of (take start bytes) ++ (bits_of (slice_range bytes start end) ++ bits_of (drop (start + length piece) bytes)))))
     (bits_three (take start bytes) piece (drop (start + length piece) bytes))
@@ -131,9 +134,10 @@ module _ (versions : List (List ℕ)) (first : List ℕ) where
       ∙ ap (λ x. changed (map (changes_of first) parts) (code / n) (bit_xor (remainder_in bytes) x)) entry
       ∙ ap (changed (map (changes_of first) parts) (code / n)) (changed_by bytes first part.start part.end piece long ends (omega arith) here)
       ∙ changed_is part.end parts (code / n) (written bytes part.start piece) are.2
-      (fit_as (length (written bytes part.start piece)) (length bytes) parts (length-written bytes part.start piece fits) (fit_tail (length bytes) part parts fit))
+      (fit_as (length (written bytes part.start piece)) (length bytes) parts (length-written bytes part.start piece fits)
+      (fit_tail (length bytes) part parts fit))
       (length-written bytes part.start piece fits ∙ long)
-      (λ i low. written_behind bytes part.start piece fits i (omega arith) ∙ same i (omega arith))
+      (λ i low. written_after bytes part.start piece fits i (omega arith) ∙ same i (omega arith))
 
 -- ---- the pieces of a part, as the code has them
 

@@ -3,6 +3,7 @@ use Rattle.std.proofs.Common.{◌≡◌, ℕ, ◌+◌, ◌-◌, ◌<◌, ◌≤�
 use Rattle.std.proofs.lemmas.Bool.{cases_lt}
 use Rattle.ffv1_weave.specs.Regions.{AgreeAt, DifferAt, IsRegion}
 use Rattle.ffv1_weave.specs.Parts.{IsNextRegion}
+use Rattle.ffv1_weave.specs.declared.regions.TheConstants.{GAP}
 
 -- ---- the end of a region
 
@@ -13,7 +14,7 @@ pub record IsEndSoFar (versions : List (List ℕ)) (start end place size : ℕ) 
   pub within : place ≤ size
   pub last : DifferAt versions (end - 1)
   pub quiet : (i : ℕ) → end ≤ i → i < place → AgreeAt versions i
-  pub dense : (i : ℕ) → start ≤ i → i + 64 ≤ end → (j : ℕ) × (i ≤ j) × (j < i + 64) × DifferAt versions j
+  pub dense : (i : ℕ) → start ≤ i → i + GAP ≤ end → (j : ℕ) × (i ≤ j) × (j < i + GAP) × DifferAt versions j
 
 module _ (versions : List (List ℕ)) where
   pub end_begins : (start size : ℕ) → start < size → DifferAt versions start → IsEndSoFar versions start (start + 1) (start + 1) size
@@ -43,7 +44,7 @@ module _ (versions : List (List ℕ)) where
         dense = h.dense;
       }
 
-  pub end_moves : (start end place size : ℕ) → place < size → place < end + 64 → DifferAt versions place → IsEndSoFar versions start end place size
+  pub end_moves : (start end place size : ℕ) → place < size → place < end + GAP → DifferAt versions place → IsEndSoFar versions start end place size
       → IsEndSoFar versions start (place + 1) (place + 1) size
   end_moves start end place size within near differ h =
       let order = h.order in
@@ -54,7 +55,7 @@ module _ (versions : List (List ℕ)) where
         within = omega arith;
         last = let same : place ≡ place + 1 - 1 = omega arith in subst (DifferAt versions) same differ;
         quiet = λ i low high. absurd (omega arith);
-        dense = λ i low high. elim (cases_lt end (i + 64)) [
+        dense = λ i low high. elim (cases_lt end (i + GAP)) [
           | inl far ↦ elim (cases_lt i end) [
             | inl below ↦ (end - 1, omega arith, omega arith, h.last)
             | inr above ↦ (place, omega arith, omega arith, differ)
@@ -65,11 +66,11 @@ module _ (versions : List (List ℕ)) where
 
   -- ---- the next region
 
-  pub next_region : (from start end : ℕ) → from ≤ start → ((i : ℕ) → 0 < from → from ≤ i → i < from + 64 → AgreeAt versions i)
+  pub next_region : (from start end : ℕ) → from ≤ start → ((i : ℕ) → 0 < from → from ≤ i → i < from + GAP → AgreeAt versions i)
       → ((i : ℕ) → from ≤ i → i < start → AgreeAt versions i) → DifferAt versions start → start < end → DifferAt versions (end - 1)
-      → ((i : ℕ) → end ≤ i → i < end + 64 → AgreeAt versions i)
-      → ((i : ℕ) → start ≤ i → i + 64 ≤ end → (j : ℕ) × (i ≤ j) × (j < i + 64) × DifferAt versions j) → IsNextRegion versions from start end
-  next_region from start end beyond gap until first some last behind dense =
+      → ((i : ℕ) → end ≤ i → i < end + GAP → AgreeAt versions i)
+      → ((i : ℕ) → start ≤ i → i + GAP ≤ end → (j : ℕ) × (i ≤ j) × (j < i + GAP) × DifferAt versions j) → IsNextRegion versions from start end
+  next_region from start end beyond gap until first some last after dense =
       record {
         beyond = beyond;
         until = until;
@@ -78,13 +79,13 @@ module _ (versions : List (List ℕ)) where
           first = first;
           last = last;
           before = λ i low near. elim (cases_lt i from) [
-            | inl below ↦ elim (cases_lt start (from + 64)) [
+            | inl below ↦ elim (cases_lt start (from + GAP)) [
               | inl close ↦ absurd (first (gap start (omega arith) beyond close))
               | inr far ↦ absurd (omega arith)
             ]
             | inr above ↦ until i above low
           ];
-          behind = behind;
+          after = after;
           within = dense;
         };
       }
@@ -94,9 +95,9 @@ module _ (versions : List (List ℕ)) where
   region_begins : (s e t f : ℕ) → IsRegion versions s e → IsRegion versions t f → s ≤ t → t < e → s ≡ t
   region_begins s e t f h k low high =
       elim (cases_lt s t) [
-        | inl below ↦ elim (cases_lt t (s + 64)) [
+        | inl below ↦ elim (cases_lt t (s + GAP)) [
           | inl near ↦ absurd (h.first (k.before s below (omega arith)))
-          | inr far ↦ let spot = h.within (t - 64) (omega arith) (omega arith) in
+          | inr far ↦ let spot = h.within (t - GAP) (omega arith) (omega arith) in
               let up = spot.1 in let down = spot.2 in
               absurd (spot.3 (k.before spot.0 (omega arith) (omega arith)))
         ]
@@ -106,10 +107,10 @@ module _ (versions : List (List ℕ)) where
   end_not_below : (s e f : ℕ) → IsRegion versions s e → IsRegion versions s f → e < f → ⊥
   end_not_below s e f h k below =
       let some = h.some in
-      elim (cases_lt (f - 1) (e + 64)) [
-        | inl near ↦ k.last (h.behind (f - 1) (omega arith) near)
+      elim (cases_lt (f - 1) (e + GAP)) [
+        | inl near ↦ k.last (h.after (f - 1) (omega arith) near)
         | inr far ↦ let spot = k.within e (omega arith) (omega arith) in
-            spot.3 (h.behind spot.0 spot.1 spot.2)
+            spot.3 (h.after spot.0 spot.1 spot.2)
       ]
 
   -- two regions that overlap are one

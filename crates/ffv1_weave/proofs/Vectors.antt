@@ -46,7 +46,7 @@ region =
       first = second_differs;
       last = second_differs;
       before = λ i lt near. let is : 0 ≡ i = omega arith in subst (AgreeAt versions) is first_agrees;
-      behind = λ i low near. elim (cases_lt i 3) [
+      after = λ i low near. elim (cases_lt i 3) [
         | inl below ↦ let is : 2 ≡ i = omega arith in subst (AgreeAt versions) is last_agrees
         | inr past ↦ agree_past versions 3 i three past
       ];

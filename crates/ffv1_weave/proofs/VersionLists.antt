@@ -31,5 +31,7 @@ module _ (versions : List (Bor (List ℕ))) where
       (Contains-get_or (map (λ version. version.now) versions) i [] (omega (arith, length-bytes_of)))
 
   -- what is so of each reference is so of each version
-  pub each_version : (P : List ℕ → Type 0) → All (λ version. P version.now) versions → (version : List ℕ) → Contains (map (λ version. version.now) versions) version → P version
-  each_version P h version there = All-contains P (map (λ version. version.now) versions) version (All-map P (λ (version : Bor (List ℕ)). version.now) versions h) there
+  pub each_version : (P : List ℕ → Type 0) → All (λ version. P version.now) versions → (version : List ℕ)
+      → Contains (map (λ version. version.now) versions) version → P version
+  each_version P h version there = All-contains P (map (λ version. version.now) versions) version
+      (All-map P (λ (version : Bor (List ℕ)). version.now) versions h) there

@@ -22,7 +22,7 @@ module _ (versions others : List (List ℕ)) (same : HasSameMembers versions oth
         first = λ agree. h.first (agree_as start agree);
         last = λ agree. let last : DifferAt others (end - 1) = h.last in last (agree_as (end - 1) agree);
         before = λ i low near. agree_back i (h.before i low near);
-        behind = λ i low near. agree_back i (h.behind i low near);
+        after = λ i low near. agree_back i (h.after i low near);
         within = λ i low high. let spot = h.within i low high in (spot.0, spot.1, spot.2, λ agree. spot.3 (agree_as spot.0 agree));
       }
 

@@ -50,7 +50,8 @@ module _ (versions : List (List ℕ)) (at : ℕ → List ℕ) where
   )
 
 module _ (versions : List (List ℕ)) (count : ℕ) (all : AreNumbered (IsCombination versions) count) where
-  pub found_second : (code found : ℕ) → code < count → IsValid versions (all.at code) → IsFoundSoFar versions all.at code (Some found) → IsOfTwo (IsValid versions)
+  pub found_second : (code found : ℕ) → code < count → IsValid versions (all.at code) → IsFoundSoFar versions all.at code (Some found)
+      → IsOfTwo (IsValid versions)
   found_second code found lt valid h =
       record {
         one = all.at found;
@@ -137,6 +138,7 @@ absent (Some x) h = absurd (h x refl)
 -- ---- the remainder of a combination, as it is summed
 
 pub summed : (versions : List (List ℕ)) (parts : List Part) (have : HaveParts versions parts) (code : ℕ)
-    → changed (map (changes_of (get_or versions 0 [])) parts) code (remainder_in (get_or versions 0 [])) ≡ remainder_in (chosen parts code (get_or versions 0 []))
+    → changed (map (changes_of (get_or versions 0 [])) parts) code (remainder_in (get_or versions 0 [])) ≡ remainder_in
+    (chosen parts code (get_or versions 0 []))
 summed versions parts have code =
     changed_is versions (get_or versions 0 []) 0 parts code (get_or versions 0 []) have.are have.fit refl (λ i low. refl)

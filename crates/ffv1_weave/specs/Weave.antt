@@ -2,12 +2,9 @@
 use Rattle.std.specs.Prelude.{ℕ, ◌≤◌, ◌<◌, ◌≡◌, List}
 use Rattle.ffv1_slice.specs.Members.{IsOnly, IsOfTwo, IsOfNone}
 use Rattle.ffv1_weave.specs.Combinations.{IsCombination, IsValid, AreNumbered}
+use Rattle.ffv1_weave.specs.declared.weaving.TheConstants.{MOST_COMBINATIONS}
 use Rattle.ffv1_weave.specs.declared.weaving.Outcome.{Outcome}
 use Rattle.ffv1_weave.specs.declared.weaving.Outcome.TheVariants as outcome
-
--- the greatest number of combinations that are tried
-abbrev pub most_combinations : ℕ
-most_combinations = 4096
 
 pub data Weave : Type 0 where
   woven : (bytes : List ℕ) (count : ℕ) → Weave
@@ -15,15 +12,15 @@ pub data Weave : Type 0 where
   missing : Weave
   too_many : Weave
 
--- The versions have so many combinations, few enough to be tried.
+-- The versions have so many combinations, few enough to be tried: at most 4096.
 pub record AreFew (versions : List (List ℕ)) (count : ℕ) : Type 0 where
   pub numbered : AreNumbered (IsCombination versions) count
-  pub few : count ≤ most_combinations
+  pub few : count ≤ MOST_COMBINATIONS
 
 pub record AreMany (versions : List (List ℕ)) : Type 0 where
   pub count : ℕ
   pub numbered : AreNumbered (IsCombination versions) count
-  pub many : most_combinations < count
+  pub many : MOST_COMBINATIONS < count
 
 -- Woven where one combination alone is valid, disputed where two are that differ, missing where none is; too many where they are not tried.
 abbrev pub IsWeaveOf : List (List ℕ) → Weave → Type 0

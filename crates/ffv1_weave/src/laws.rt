@@ -1,22 +1,24 @@
 //! Laws of the weave, whatever it is made by.
 ghost use Rattle.ffv1_weave.specs.Laws.{SameVersionsWeave, OriginalIsWoven, CoveredIsCombination, VersionIsCombination};
 
-/// However the same versions are ordered or repeated, they have one weave.
+/// However the same versions are ordered or repeated, they have one weave: outcome, bytes and number of combinations.
 pub fn same_versions_weave()
     ensures { SameVersionsWeave }
 {}
 
-/// Where the original is a slice with its parity, and one of the combinations, nothing else is woven, and it is not missed.
+/// Where the original is a slice that passes its parity (RFC 9043, section 4.9), and one of the combinations, nothing else is
+/// woven, and it is not missing.
 pub fn original_is_woven()
     ensures { OriginalIsWoven }
 {}
 
-/// The original is one of the combinations where each region is intact in some version, and where all versions agree they are right.
+/// The original is one of the combinations where each region is intact in some version, and what all versions agree on is
+/// right.
 pub fn covered_is_combination()
     ensures { CoveredIsCombination }
 {}
 
-/// A version is a combination itself.
+/// Each version, of versions of one length, is a combination itself.
 pub fn version_is_combination()
     ensures { VersionIsCombination }
 {}

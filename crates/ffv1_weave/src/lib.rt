@@ -1,6 +1,6 @@
-//! A slice that is damaged in every copy, in different places, is put together of what is undamaged in each: the copies'
-//! versions of it are split into regions where they differ, and the parity tells which combination is the slice
-//! (RFC 9043, section 4.9).
+//! A slice that is damaged in every copy, in different places, is put together of what is undamaged in each. The copies'
+//! versions of it are split into regions where they differ, each combination of what they have there is tried, and footer and
+//! parity tell which of them is the slice (RFC 9043, section 4.9).
 #![tactic(auto)]
 
 mod changes;

@@ -1,7 +1,6 @@
 //! The regions with what versions have there, and the combinations by number.
 ghost use Rattle.std.specs.Prelude.{◌≡◌, ◌+◌, ◌≤◌, ◌<◌, ℕ, List, length, map, All, MatchOption, IfOk};
 ghost use Rattle.ffv1_weave.specs.Parts.{Part, ArePieces, ArePartsFrom, IsFit, count_of, chosen};
-ghost use Rattle.ffv1_weave.specs.Weave.{most_combinations};
 
 use crate::regions::region_from;
 use crate::weaving::MOST_COMBINATIONS;
@@ -70,8 +69,8 @@ pub(crate) fn regions_of<'a>(
 /// How many combinations there are, where they are few enough to be tried.
 pub(crate) fn count_of(regions: &[Region<'_>]) -> Option<usize>
     requires { All (λ part. 0 < length part.pieces) regions.now }
-    ensures { MatchOption result (most_combinations < count_of regions.now)
-        (λ count. (count ≡ count_of regions.now) × (count ≤ most_combinations)) }
+    ensures { MatchOption result (MOST_COMBINATIONS < count_of regions.now)
+        (λ count. (count ≡ count_of regions.now) × (count ≤ MOST_COMBINATIONS)) }
 {
     let mut count = 1;
     for region in regions {

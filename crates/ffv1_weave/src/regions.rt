@@ -3,7 +3,8 @@ ghost use Rattle.std.specs.Prelude.{◌≡◌, ◌+◌, ◌-◌, ◌≤◌, ◌<
 ghost use Rattle.ffv1_weave.specs.Regions.{AgreeAt, DifferAt};
 ghost use Rattle.ffv1_weave.specs.Parts.{IsNextRegion};
 
-/// How many places in a row at which all versions agree part two regions.
+/// How many places in a row at which all versions agree part two regions: places at which versions differ are of one region where
+/// they follow each other at a distance of at most so many bytes.
 const GAP: usize = 64;
 
 /// Whether versions differ at a place. There is one at least, and all have the place.
@@ -47,8 +48,8 @@ fn end_from(versions: &[&[u8]], start: usize, size: usize) -> usize
     ensures within { result ≤ size }
     ensures beyond { start < result }
     ensures last { DifferAt (map (λ version. version.now) versions.now) (result - 1) }
-    ensures behind { (i : ℕ) → result ≤ i → i < result + 64 → AgreeAt (map (λ version. version.now) versions.now) i }
-    ensures dense { (i : ℕ) → start ≤ i → i + 64 ≤ result → (j : ℕ) × (i ≤ j) × (j < i + 64) × DifferAt (map (λ version. version.now) versions.now) j }
+    ensures after { (i : ℕ) → result ≤ i → i < result + GAP → AgreeAt (map (λ version. version.now) versions.now) i }
+    ensures dense { (i : ℕ) → start ≤ i → i + GAP ≤ result → (j : ℕ) × (i ≤ j) × (j < i + GAP) × DifferAt (map (λ version. version.now) versions.now) j }
 {
     let mut end = start + 1;
     let mut place = end;
@@ -66,7 +67,7 @@ pub(crate) fn region_from(versions: &[&[u8]], from: usize, size: usize) -> Optio
     requires some { 0 < length versions.now }
     requires lengths { All (λ version. length version.now ≡ size) versions.now }
     requires within { from ≤ size }
-    requires gap { (i : ℕ) → 0 < from → from ≤ i → i < from + 64 → AgreeAt (map (λ version. version.now) versions.now) i }
+    requires gap { (i : ℕ) → 0 < from → from ≤ i → i < from + GAP → AgreeAt (map (λ version. version.now) versions.now) i }
     ensures region { MatchOption result ((i : ℕ) → from ≤ i → AgreeAt (map (λ version. version.now) versions.now) i)
         (λ (start, end). IsNextRegion (map (λ version. version.now) versions.now) from start end) }
     ensures within { IfSome result (λ (start, end). end ≤ size) }

@@ -1,5 +1,5 @@
 //! The weave of versions of one slice: each combination is tried. Its remainder is summed of what each of its pieces changes, and only
-//! where nothing is left of it are its bytes written.
+//! where that is 0 are its bytes written and its footer looked at (RFC 9043, section 4.9).
 ghost use Rattle.std.specs.Prelude.{◌≡◌, ◌<◌, [], length, map, All, IfOk, slice_index_or};
 ghost use Rattle.ffv1_weave.specs.Weave.{IsWeaveOf, weave_told};
 
@@ -9,26 +9,33 @@ use ffv1_bits::remainder;
 use ffv1_slice::is_framed;
 use std::alloc::{AllocError, Global};
 
-/// The greatest number of combinations that are tried.
+/// The greatest number of combinations that are tried: where versions have more, none is.
 pub const MOST_COMBINATIONS: usize = 4096;
 
-/// What is woven of versions of a slice.
+/// What comes of weaving versions of a slice. A combination is valid where its footer tells its length (RFC 9043, section 4.9.1)
+/// and it passes the parity (section 4.9.3).
 #[derive(Debug, Drop)]
 pub enum Outcome {
-    /// One combination alone is a slice that passes its parity: these bytes, among so many combinations.
+    /// One combination alone is valid: these bytes, among so many combinations, which are at most `MOST_COMBINATIONS`.
     Woven(Vec<u8>, usize),
-    /// Two combinations that differ pass.
+    /// Two combinations that differ are valid.
     Disputed,
-    /// No combination passes.
+    /// No combination is valid.
     Missing,
     /// There are more than `MOST_COMBINATIONS`: none is tried.
     TooMany,
 }
 
-/// Weaves versions of a slice: what several copies have at its place. There is one at least, and all are as long as the
-/// first. However they are ordered or repeated, the answer is the same.
+/// Weaves versions of a slice, each with its footer: what several copies have at its place. There is one at least, and all
+/// are as long as the first.
 ///
-/// The only refusal is that of a growth of memory.
+/// Places at which versions differ, counted in bytes from the slice's start, are of one region where they follow each other at
+/// a distance of at most 64. A combination has in each region the bytes of one version, which may be another one in each, and
+/// what all versions have elsewhere. However versions are ordered or repeated, the answer is the same; where the original is
+/// one of the combinations, nothing else is woven (`original_is_woven`), and where it is not, one of them passes by chance
+/// once in 2^32 divided by their number.
+///
+/// It takes memory for a copy of the slice, and for a list of the regions. The only refusal is that of such a growth.
 pub fn weave(alloc: Global, versions: &[&[u8]]) -> Result<Outcome, AllocError>
     requires some { 0 < length versions.now }
     requires lengths { All (λ version. length version.now ≡ length (slice_index_or (map (λ version. version.now) versions.now) 0 [])) versions.now }

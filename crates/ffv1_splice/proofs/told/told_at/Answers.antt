@@ -22,22 +22,26 @@ loop-copy-preserved c =
           record {
             pieces = subst (λ z. Tells (IsPiece z c.args.end) (pieces_told c.match-told_start.pieces)) more
                 (subst (λ p. Tells (IsPiece (before ++ copy ∷ []) c.args.end) (pieces_told p)) (sym w.pieces-is)
-                (pieces-passed before copy c.args.end (pieces_told c.loop-copy.pieces) (pieces_told w.with-pieces.result) w.in-Some.start cut content passes w.with-pieces.ensures c.loop-copy.invariant.pieces));
+                (pieces-passed before copy c.args.end (pieces_told c.loop-copy.pieces) (pieces_told w.with-pieces.result) w.in-Some.start cut content
+                passes w.with-pieces.ensures c.loop-copy.invariant.pieces));
             starts = subst (λ z. Tells (IsToldStart z c.args.end) (starts_told c.match-told_start.starts)) more
                 (subst (λ p. Tells (IsToldStart (before ++ copy ∷ []) c.args.end) (starts_told p)) (sym w.starts-is)
-                (starts-cut before copy c.args.end (starts_told c.loop-copy.starts) (starts_told w.with-starts.result) w.in-Some.start cut content w.with-starts.ensures c.loop-copy.invariant.starts));
+                (starts-cut before copy c.args.end (starts_told c.loop-copy.starts) (starts_told w.with-starts.result) w.in-Some.start cut content
+                w.with-starts.ensures c.loop-copy.invariant.starts));
           }
       | in-Some+else-passes w ↦
           let cut : IsCut copy w.in-Some.start c.args.end = w.in-Some.ensures.0 in
           let content : HasContent w.in-Some.start c.args.end = w.in-Some.ensures.1 in
-          let fails : PassesParity (slice_range copy w.in-Some.start c.args.end) → ⊥ = λ p. let t = w.passes.ensures.1 p in let f = w.if-passes.false in absurd (cc) in
+          let fails : PassesParity (slice_range copy w.in-Some.start c.args.end) → ⊥ = λ p. let t = w.passes.ensures.1 p in let f =
+          w.if-passes.false in absurd (cc) in
           record {
             pieces = subst (λ z. Tells (IsPiece z c.args.end) (pieces_told c.match-told_start.pieces)) more
                 (subst (λ p. Tells (IsPiece (before ++ copy ∷ []) c.args.end) (pieces_told p)) (sym w.pieces-is)
                 (pieces-failed before copy c.args.end (pieces_told c.loop-copy.pieces) w.in-Some.start cut fails c.loop-copy.invariant.pieces));
             starts = subst (λ z. Tells (IsToldStart z c.args.end) (starts_told c.match-told_start.starts)) more
                 (subst (λ p. Tells (IsToldStart (before ++ copy ∷ []) c.args.end) (starts_told p)) (sym w.starts-is)
-                (starts-cut before copy c.args.end (starts_told c.loop-copy.starts) (starts_told w.with-starts.result) w.in-Some.start cut content w.with-starts.ensures c.loop-copy.invariant.starts));
+                (starts-cut before copy c.args.end (starts_told c.loop-copy.starts) (starts_told w.with-starts.result) w.in-Some.start cut content
+                w.with-starts.ensures c.loop-copy.invariant.starts));
           }
       | in_default w ↦
           let none : (start : ℕ) → IsCut copy start c.args.end → HasContent start c.args.end → ⊥ = w.in_default.ensures in

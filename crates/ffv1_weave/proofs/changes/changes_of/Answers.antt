@@ -11,7 +11,8 @@ change_of-requires-clause-fits c =
     let part : Part = c.args.region.now in
     let i : ℕ = c.loop-piece.piece-index in
     let pieces : List (Bor (List ℕ)) = c.as_slice-piece-items.result.now in
-    let there = piece_there pieces part i (record { ref_ptr = (0, 0); now = [] }) (ap bytes_of c.as_slice-piece-items.ensures.value ∙ ap (λ p. p.pieces) c.region.view_is) (omega arith) in
+    let there = piece_there pieces part i (record { ref_ptr = (0, 0); now = [] }) (ap bytes_of c.as_slice-piece-items.ensures.value
+    ∙ ap (λ p. p.pieces) c.region.view_is) (omega arith) in
     let start : c.region.inside.start ≡ part.start = ap (λ p. p.start) c.region.view_is in
     let size = piece_size (length c.args.first.now) part c.requires.fits i there.0 in
     let within = c.requires.fits.within in
@@ -22,7 +23,8 @@ loop-piece-preserved c =
     let part : Part = c.args.region.now in
     let i : ℕ = c.loop-piece.piece-index in
     let pieces : List (Bor (List ℕ)) = c.as_slice-piece-items.result.now in
-    let there = piece_there pieces part i (record { ref_ptr = (0, 0); now = [] }) (ap bytes_of c.as_slice-piece-items.ensures.value ∙ ap (λ p. p.pieces) c.region.view_is) (omega arith) in
+    let there = piece_there pieces part i (record { ref_ptr = (0, 0); now = [] }) (ap bytes_of c.as_slice-piece-items.ensures.value
+    ∙ ap (λ p. p.pieces) c.region.view_is) (omega arith) in
     let start : c.region.inside.start ≡ part.start = ap (λ p. p.start) c.region.view_is in
     let is : c.change_of.result ≡ change_of c.args.first.now part.start (get_or part.pieces i []) =
     c.change_of.ensures ∙ ap (λ s. change_of c.args.first.now s (get_or pieces i (record { ref_ptr = (0, 0); now = [] })).now) start

@@ -2,6 +2,7 @@ use Rattle.std.proofs.Common.{◌≡◌, ◌*◌, ℕ, arith, drop, ◌+◌, ◌
 use Rattle.std.proofs.lemmas.List.{drop_more, length-map}
 use Rattle.std.proofs.lemmas.List.Elements.{All-drop}
 use Rattle.ffv1_weave.specs.Parts.{Part, count_of}
+use Rattle.ffv1_weave.specs.declared.weaving.TheConstants.{MOST_COMBINATIONS}
 use Rattle.ffv1_weave.proofs.PartSteps.{count_over}
 use Rattle.ffv1_weave.proofs.parts.count_of.Goals as goal
 
@@ -16,7 +17,7 @@ returns-then-many-count c =
     let len = c.region.inside.pieces.ok.0 in
     let many = c.len-many.ensures in
     let over = c.if-many-count.true in
-    count_over rest part c.loop-region.count (count_of c.args.regions.now) 4096 c.loop-region.invariant.some
+    count_over rest part c.loop-region.count (count_of c.args.regions.now) MOST_COMBINATIONS c.loop-region.invariant.some
     (All-drop (λ (p : Part). 0 < length p.pieces) (c.loop-region.region-index + 1) c.args.regions.now c.requires)
     (ap (λ ps. c.loop-region.count * count_of ps) (sym next) ∙ c.loop-region.invariant.whole)
     (omega arith)

@@ -15,9 +15,10 @@ loop-start-preserved c =
     let some = c.in-Some.ensures.region.region.some in
     record {
       within = c.in-Some.ensures.within;
-      gap = λ i more low near. c.in-Some.ensures.region.region.behind i low near;
+      gap = λ i more low near. c.in-Some.ensures.region.region.after i low near;
       before = subst (Continues versions c.in-Some.end) (sym c.in_ok-push.ensures.items)
-          (continues_more versions c.loop-start.from c.loop-start.regions.items part c.loop-start.invariant.before c.in-Some.ensures.region c.in_ok-pieces.ensures);
+          (continues_more versions c.loop-start.from c.loop-start.regions.items part c.loop-start.invariant.before c.in-Some.ensures.region
+          c.in_ok-pieces.ensures);
       fit = subst (All (IsFit c.args.size)) (sym c.in_ok-push.ensures.items)
           (All-push (IsFit c.args.size) c.loop-start.regions.items part c.loop-start.invariant.fit
           (pieces_fit c.in-Some.start c.in-Some.end versions (bytes_of c.in_ok-pieces.pieces.items) c.args.size

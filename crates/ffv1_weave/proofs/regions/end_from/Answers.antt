@@ -27,8 +27,8 @@ loop-place-preserved c =
           (end_stays versions c.args.start c.loop-place.end c.loop-place.place c.args.size (omega arith) agree c.loop-place.invariant)
     ]
 
-pub returns-after-loop-place-clause-behind : goal.returns-after-loop-place-clause-behind
-returns-after-loop-place-clause-behind c = λ i low near.
+pub returns-after-loop-place-clause-after : goal.returns-after-loop-place-clause-after
+returns-after-loop-place-clause-after c = λ i low near.
     elim (cases_lt i c.loop-place.place) [
       | inl below ↦ c.loop-place.invariant.quiet i low below
       | inr above ↦ agree_past (bytes_of c.args.versions.now) c.args.size i

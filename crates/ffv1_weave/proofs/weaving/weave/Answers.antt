@@ -4,6 +4,7 @@ use Rattle.std.proofs.lemmas.List.{length-map, get_or-map}
 use Rattle.ffv1_slice.specs.Chain.{IsFramed}
 use Rattle.ffv1_weave.specs.Combinations.{IsCombination, IsValid, AreNumbered}
 use Rattle.ffv1_weave.specs.Parts.{Part, chosen, count_of}
+use Rattle.ffv1_weave.specs.declared.weaving.TheConstants.{MOST_COMBINATIONS}
 use Rattle.ffv1_weave.specs.Changes.{remainder_in, changes_of, changed}
 use Rattle.ffv1_slice.specs.Members.{IsOnly}
 use Rattle.ffv1_weave.proofs.VersionLists.{bytes_of, bytes_at}
@@ -26,7 +27,7 @@ returns-in_default c =
     record {
       count = count_of parts;
       numbered = all_numbered versions parts have;
-      many = subst (λ ps. 4096 < count_of ps) c.as_slice.ensures.value c.in_default.ensures;
+      many = subst (λ ps. MOST_COMBINATIONS < count_of ps) c.as_slice.ensures.value c.in_default.ensures;
     }
 
 pub loop-code-init : goal.loop-code-init

@@ -1,0 +1,147 @@
+//! The places of a splice, each found by what all copies tell at its end, and written into the payload.
+ghost use Rattle.std.specs.Prelude.{◌≡◌, ◌+◌, ◌≤◌, ◌<◌, length, map, All, IfOk};
+ghost use Rattle.ffv1_slice.specs.Members.{IsOnly, IsOfTwo, IsOfNone};
+ghost use Rattle.ffv1_splice.specs.Pieces.{IsPiece, IsToldStart};
+ghost use Rattle.ffv1_splice.specs.Standings.{versions_at};
+ghost use Rattle.ffv1_splice.specs.Placing.{written, IsPlaced, IsPlacedOrStop};
+ghost use Rattle.ffv1_splice.specs.Told.{Tells, starts_told};
+
+use crate::place::{Place, Standing};
+use crate::told::{Pieces, Starts, least_at, told_at};
+use ffv1_weave::{Outcome, weave};
+use std::alloc::{AllocError, Global};
+
+/// The place that ends there, which is written over the payload's bytes. Each copy has the end, and so has the payload.
+pub(crate) fn place_before(
+    alloc: Global,
+    copies: &[&[u8]],
+    end: usize,
+    payload: &mut [u8],
+) -> Result<Option<Place>, AllocError>
+    requires some { 0 < length copies.now }
+    requires within { All (λ copy. end ≤ length copy.now) copies.now }
+    requires room { end ≤ length payload.old }
+    ensures { IfOk result (IsPlacedOrStop (map (λ copy. copy.now) copies.now) end payload.old payload.new) }
+{
+    let (pieces, starts) = told_at(copies, end);
+    match pieces {
+        Pieces::One(start, bytes) => {
+            write_at(payload, start, bytes);
+            let standing = Standing::Settled;
+            Ok(Some(Place {
+                start,
+                end,
+                standing,
+            }))
+        }
+        Pieces::Two => Ok(disputed_before(copies, starts, end, payload)),
+        Pieces::None => woven_before(alloc, copies, starts, end, payload),
+    }
+}
+
+/// The place that ends there, where two pieces that differ do.
+fn disputed_before(
+    copies: &[&[u8]],
+    starts: Starts,
+    end: usize,
+    payload: &mut [u8],
+) -> Option<Place>
+    requires some { 0 < length copies.now }
+    requires within { All (λ copy. end ≤ length copy.now) copies.now }
+    requires room { end ≤ length payload.old }
+    requires two { IsOfTwo (IsPiece (map (λ copy. copy.now) copies.now) end) }
+    requires told { Tells (IsToldStart (map (λ copy. copy.now) copies.now) end) (starts_told starts) }
+    ensures { IsPlacedOrStop (map (λ copy. copy.now) copies.now) end payload.old payload.new result }
+{
+    let Starts::One(start) = starts else {
+        return None;
+    };
+    write_at(payload, start, least_at(copies, start, end));
+    let standing = Standing::Disputed;
+    Some(Place {
+        start,
+        end,
+        standing,
+    })
+}
+
+/// The place that ends there, where no piece does.
+fn woven_before(
+    alloc: Global,
+    copies: &[&[u8]],
+    starts: Starts,
+    end: usize,
+    payload: &mut [u8],
+) -> Result<Option<Place>, AllocError>
+    requires some { 0 < length copies.now }
+    requires within { All (λ copy. end ≤ length copy.now) copies.now }
+    requires room { end ≤ length payload.old }
+    requires none { IsOfNone (IsPiece (map (λ copy. copy.now) copies.now) end) }
+    requires told { Tells (IsToldStart (map (λ copy. copy.now) copies.now) end) (starts_told starts) }
+    ensures { IfOk result (IsPlacedOrStop (map (λ copy. copy.now) copies.now) end payload.old payload.new) }
+{
+    let Starts::One(start) = starts else {
+        return Ok(None);
+    };
+    let standing = weave_at(alloc, copies, start, end, payload)?;
+    Ok(Some(Place {
+        start,
+        end,
+        standing,
+    }))
+}
+
+/// How the place between these ends stands, of which no piece is one: it is woven, or the least of all copies' bytes are written.
+fn weave_at(
+    alloc: Global,
+    copies: &[&[u8]],
+    start: usize,
+    end: usize,
+    payload: &mut [u8],
+) -> Result<Standing, AllocError>
+    requires some { 0 < length copies.now }
+    requires within { All (λ copy. end ≤ length copy.now) copies.now }
+    requires room { end ≤ length payload.old }
+    requires none { IsOfNone (IsPiece (map (λ copy. copy.now) copies.now) end) }
+    requires told { IsOnly (IsToldStart (map (λ copy. copy.now) copies.now) end) start }
+    ensures { IfOk result (λ standing. IsPlaced (map (λ copy. copy.now) copies.now) end payload.old payload.new
+        (record { start = start; end = end; standing = standing })) }
+{
+    let versions = versions_at(alloc, copies, start, end)?;
+    let standing = match weave(alloc, versions.as_slice())? {
+        Outcome::Woven(bytes, count) => {
+            write_at(payload, start, bytes.as_slice());
+            return Ok(Standing::Woven(count));
+        }
+        Outcome::Disputed => Standing::Disputed,
+        Outcome::Missing | Outcome::TooMany => Standing::Missing,
+    };
+    write_at(payload, start, least_at(copies, start, end));
+    Ok(standing)
+}
+
+/// What each copy has between two places. Each has them.
+fn versions_at<'a>(
+    alloc: Global,
+    copies: &[&'a [u8]],
+    start: usize,
+    end: usize,
+) -> Result<Vec<&'a [u8]>, AllocError>
+    requires within { All (λ copy. end ≤ length copy.now) copies.now }
+    requires order { start ≤ end }
+    ensures { IfOk result (λ versions. map (λ version. version.now) versions.items ≡ versions_at (map (λ copy. copy.now) copies.now) start end) }
+{
+    let mut versions = Vec::new(alloc);
+    for copy in copies {
+        versions.push(&copy[start..end])?;
+    }
+    Ok(versions)
+}
+
+/// Writes bytes over those that stand in the payload from `start` on.
+pub(crate) fn write_at(payload: &mut [u8], start: usize, bytes: &[u8])
+    requires { start + length bytes.now ≤ length payload.old }
+    ensures { payload.new ≡ written payload.old start bytes.now }
+{
+    payload[start..start + bytes.len()].copy_from_slice(bytes);
+}
