@@ -49,7 +49,7 @@ record IsFileOf (config : List ℕ) (width height : ℕ) (copies : List (List �
 
 -- ---- what is read
 
-whole_inputs : (copies all : List (List ℕ)) → AreWholeInputs (map Some copies) all → copies ≡ all
+pub whole_inputs : (copies all : List (List ℕ)) → AreWholeInputs (map Some copies) all → copies ≡ all
 whole_inputs [] [] each = refl
 whole_inputs [] (b ∷ bs) each = absurd each
 whole_inputs (c ∷ cs) [] each = absurd each

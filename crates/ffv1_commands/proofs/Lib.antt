@@ -13,5 +13,7 @@ pub mod ReportSteps
 pub mod DecodeSteps
 pub mod PictureSteps
 pub mod CommandLaws
+pub mod SpliceCommandLaws
+pub mod WholeFrames
 pub mod Wrapped
 pub mod MergedFiles

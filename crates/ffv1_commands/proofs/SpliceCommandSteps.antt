@@ -3,16 +3,16 @@ use Rattle.std.proofs.Common.{◌≡◌, ℕ, ◌+◌, ◌<◌, Bool, List, [], 
 use Rattle.std.specs.Prelude.{◌↔◌, IsTrue}
 use Rattle.std.specs.Io.KnownBytes.{Appends}
 use Rattle.std.proofs.lemmas.List.{get_or-map, take_more, length-map, map-append}
-use Rattle.ffv1_splice.specs.Splice.{SplicedValue, IsSpliceOf}
+use Rattle.ffv1_splice.specs.Splice.{SplicedValue, IsSpliceOf, IsGivenBack}
 use Rattle.ffv1_splice.specs.Faults.{IsOfOtherLength}
-use Rattle.ffv1_commands.specs.Devices.{AreWholeInputs, WriteStops}
+use Rattle.ffv1_commands.specs.Devices.{AreWholeInputs, IsInputFault, WriteStops}
 use Rattle.ffv1_commands.specs.Fault.{NamesPath}
 use Rattle.ffv1_commands.specs.Paths.{IsSplicePath}
-use Rattle.ffv1_commands.specs.TakeText.{IsFaultOfInputs}
-use Rattle.ffv1_commands.specs.SpliceText.{splice_text, IsAllSettled, IsLengthFault, SplicesCopies, SpliceStops}
+use Rattle.ffv1_commands.specs.SpliceText.{splice_text, IsFirstUnread, IsReadFault, IsLengthFault, SplicesCopies, SpliceStops}
 use Rattle.ffv1_commands.specs.declared.fault.CliFault.{CliFault}
 use Rattle.ffv1_commands.specs.declared.fault.CliFault.TheVariants as faults
 use Rattle.ffv1_commands.specs.declared.path.CommandPath.TheVariants as paths
+use Rattle.ffv1_commands.proofs.InputFaults.{IsInputFault-says}
 use Rattle.ffv1_commands.proofs.InputLaws.{length-AreWholeInputs}
 use Rattle.ffv1_commands.proofs.WriteSteps.{writing}
 
@@ -27,34 +27,36 @@ map_push f xs ys x same = sym (ap (map f) same ∙ map-append f xs (x ∷ []))
 
 -- ---- what a fault says
 
--- a copy's fault is one of the command, and names one of the copies
-pub inputs_stop : (inputs : List (Option (List ℕ))) (ob oa pb pa : Option (List ℕ)) (fault : CliFault) → IsFaultOfInputs inputs fault
-    → SpliceStops inputs ob oa pb pa fault
-inputs_stop inputs ob oa pb pa (faults.Read path) stops = stops
-inputs_stop inputs ob oa pb pa (faults.Write path) (i, lt, before, stops) = absurd stops
-inputs_stop inputs ob oa pb pa (faults.Setup fault) (i, lt, before, stops) = absurd stops
-inputs_stop inputs ob oa pb pa (faults.Hold fault) stops = stops
-inputs_stop inputs ob oa pb pa (faults.HoldFile fault) (i, lt, before, stops) = absurd stops
-inputs_stop inputs ob oa pb pa (faults.Frame fault) (i, lt, before, stops) = absurd stops
-inputs_stop inputs ob oa pb pa (faults.Missing tile) (i, lt, before, stops) = absurd stops
-inputs_stop inputs ob oa pb pa (faults.Disputed tile) (i, lt, before, stops) = absurd stops
-inputs_stop inputs ob oa pb pa (faults.Splice path) (i, lt, before, stops) = absurd stops
-inputs_stop inputs ob oa pb pa faults.Memory stops = tt
-inputs_stop inputs ob oa pb pa faults.Words (i, lt, before, stops) = absurd stops
+-- any fact of a copy that was not read, and of want of memory
+pub read_says : (inputs : List (Option (List ℕ))) (P : CliFault → Type 0) (fault : CliFault)
+    → ((index : ℕ) → IsFirstUnread inputs index → P (faults.Read (paths.Copy index))) → P faults.Memory → IsReadFault inputs fault → P fault
+read_says inputs P (faults.Read path) unread memory stops = subst (λ p. P (faults.Read p)) (sym stops.2) (unread stops.0 stops.1)
+read_says inputs P (faults.Write path) unread memory stops = absurd stops
+read_says inputs P (faults.Setup fault) unread memory stops = absurd stops
+read_says inputs P (faults.Hold fault) unread memory stops = absurd stops
+read_says inputs P (faults.HoldFile fault) unread memory stops = absurd stops
+read_says inputs P (faults.Frame fault) unread memory stops = absurd stops
+read_says inputs P (faults.Missing tile) unread memory stops = absurd stops
+read_says inputs P (faults.Disputed tile) unread memory stops = absurd stops
+read_says inputs P (faults.Splice path) unread memory stops = absurd stops
+read_says inputs P faults.Memory unread memory stops = memory
+read_says inputs P faults.Words unread memory stops = absurd stops
 
-pub inputs_name : (inputs : List (Option (List ℕ))) (n : ℕ) → length inputs ≡ n → (fault : CliFault) → IsFaultOfInputs inputs fault
+pub inputs_stop : (inputs : List (Option (List ℕ))) (ob oa pb pa : Option (List ℕ)) (fault : CliFault) → IsReadFault inputs fault
+    → SpliceStops inputs ob oa pb pa fault
+inputs_stop inputs ob oa pb pa fault = read_says inputs (SpliceStops inputs ob oa pb pa) fault (λ index is. (index, is, refl)) tt
+
+pub inputs_name : (inputs : List (Option (List ℕ))) (n : ℕ) → length inputs ≡ n → (fault : CliFault) → IsReadFault inputs fault
     → NamesPath (IsSplicePath n) fault
-inputs_name inputs n is (faults.Read path) (i, lt, before, same) = subst (IsSplicePath n) (sym same) (omega (arith, lt, is))
-inputs_name inputs n is (faults.Write path) (i, lt, before, stops) = absurd stops
-inputs_name inputs n is (faults.Setup fault) (i, lt, before, stops) = absurd stops
-inputs_name inputs n is (faults.Hold fault) stops = tt
-inputs_name inputs n is (faults.HoldFile fault) (i, lt, before, stops) = absurd stops
-inputs_name inputs n is (faults.Frame fault) (i, lt, before, stops) = absurd stops
-inputs_name inputs n is (faults.Missing tile) (i, lt, before, stops) = absurd stops
-inputs_name inputs n is (faults.Disputed tile) (i, lt, before, stops) = absurd stops
-inputs_name inputs n is (faults.Splice path) (i, lt, before, stops) = absurd stops
-inputs_name inputs n is faults.Memory stops = tt
-inputs_name inputs n is faults.Words (i, lt, before, stops) = absurd stops
+inputs_name inputs n is fault =
+    read_says inputs (NamesPath (IsSplicePath n)) fault (λ index unread. let there : index < length inputs = unread.there in omega arith) tt
+
+-- the fault of a copy before which all were read
+pub first_unread : (inputs : List (Option (List ℕ))) (index : ℕ) (copies : List (List ℕ)) → index < length inputs
+    → AreWholeInputs (take index inputs) copies → (fault : CliFault) → IsInputFault (paths.Copy index) fault → IsReadFault inputs fault
+first_unread inputs index copies there earlier fault =
+    IsInputFault-says (IsReadFault inputs) (paths.Copy index) fault
+    (index, record { there = there; copies = copies; earlier = earlier }, refl) tt
 
 -- any fact of a copy of another length, and of want of memory
 pub length_says : (copies : List (List ℕ)) (P : CliFault → Type 0) (fault : CliFault)
@@ -73,7 +75,7 @@ length_says copies P faults.Words other memory stops = absurd stops
 
 module _ (inputs : List (Option (List ℕ))) (copies : List (List ℕ)) (ob oa pb pa : Option (List ℕ)) (read : AreWholeInputs inputs copies) where
   pub length_stops : (fault : CliFault) → IsLengthFault copies fault → SpliceStops inputs ob oa pb pa fault
-  length_stops fault = length_says copies (SpliceStops inputs ob oa pb pa) fault (λ index is. (copies, index, read, is, refl)) tt
+  length_stops fault = length_says copies (SpliceStops inputs ob oa pb pa) fault (λ index is. (copies, read, (index, is, refl))) tt
 
   pub length_names : (n : ℕ) → length inputs ≡ n → (fault : CliFault) → IsLengthFault copies fault → NamesPath (IsSplicePath n) fault
   length_names n is fault =
@@ -92,14 +94,14 @@ module _ (inputs : List (Option (List ℕ))) (copies : List (List ℕ)) (ob oa p
           (subst (λ f. WriteStops f text ob oa pb pa (faults.Write named)) whole stops),
     ))
 
-    pub splices : (settled : Bool) → IsTrue settled ↔ IsAllSettled spliced → Appends ob oa file → Appends pb pa text
-        → SplicesCopies inputs ob oa pb pa settled
-    splices settled all wrote printed = record {
+    pub splices : (answer : Bool) → IsTrue answer ↔ IsGivenBack spliced → Appends ob oa file → Appends pb pa text
+        → SplicesCopies inputs ob oa pb pa answer
+    splices answer given wrote printed = record {
       copies = copies;
       spliced = spliced;
       read = read;
       is_splice = is;
       payload = subst (Appends ob oa) whole wrote;
       printed = subst (Appends pb pa) lines printed;
-      is_settled = all;
+      given_back = given;
     }

@@ -16,6 +16,7 @@ pub mod PictureText
 pub mod ReportedText
 pub mod SpliceText
 pub mod Commands
+pub mod SpliceLaws
 -- what the clauses cite of the crates below
 pub use Rattle.ffv1_slice.specs.Chain
 pub use Rattle.ffv1_slice.specs.Ending
@@ -45,3 +46,5 @@ pub use Rattle.ffv1_picture.specs.PartialPictures
 pub use Rattle.ffv1_picture.specs.ReportText
 pub use Rattle.ffv1_splice.specs.Splice
 pub use Rattle.ffv1_splice.specs.Faults
+pub use Rattle.ffv1_splice.specs.Originals as SpliceOriginals
+pub use Rattle.ffv1_slice.specs.Members

@@ -1,5 +1,6 @@
 //! The way from copies to a frame by commands, whatever their order (own), as contracts of functions that do nothing.
 ghost use Rattle.ffv1_commands.specs.Commands.{MadeOfCopies, SameCopiesMakeOneFile, SameCopiesMakeOneHolding, SameCopiesMakeOneReport, CommandsRestoreTheOriginal, CommandsRestoreNearCopies};
+ghost use Rattle.ffv1_commands.specs.SpliceLaws.{SameCopiesMakeOneSplice, SpliceGivesTheOriginal, SpliceGivesNearCopies, SpliceGivesWovenCopies, SpliceGivesNearWovenCopies, TrueIsWhole};
 
 /// Whatever trees of `take`, `join` and `merge` lead from copies to a holding file, for one record and size: the file
 /// is that of the holding of just what is found in the copies. However the same copies are ordered, grouped or
@@ -20,4 +21,35 @@ pub fn same_copies_make_one_file()
 pub fn commands_restore_the_original()
     ensures original { CommandsRestoreTheOriginal }
     ensures near { CommandsRestoreNearCopies }
+{}
+
+/// However the same copies are ordered or repeated, `splice` writes the same file, prints the same lines and answers the
+/// same.
+pub fn same_copies_make_one_splice()
+    ensures { SameCopiesMakeOneSplice }
+{}
+
+/// Where each slice with content that passes its parity and ends at an end of an original is the original's there, and
+/// each of the original's slices is found so in some copy, `splice` writes the original byte for byte, prints that each
+/// of its slices is settled, and answers `true`; or it is refused by a device or for want of memory. So it is where all
+/// copies differ from the original only within 32 bits of each slice, its size field unhurt, and each of its slices is
+/// intact in one of them.
+pub fn splice_gives_the_original()
+    ensures original { SpliceGivesTheOriginal }
+    ensures near { SpliceGivesNearCopies }
+{}
+
+/// Where some of the original's slices are intact in no copy, but the start of each is told by a footer of some copy, and
+/// each is a combination of what the copies have there (so it is where each region in which they differ is intact in
+/// some copy): where `splice` answers `true`, what it wrote is the original byte for byte; and it is refused only by a
+/// device or for want of memory. Of near copies the starts need not be asked for.
+pub fn splice_weaves_the_original()
+    ensures original { SpliceGivesWovenCopies }
+    ensures near { SpliceGivesNearWovenCopies }
+{}
+
+/// Where `splice` answers `true`, what it wrote is a frame in one piece: by its own footers its chain is whole, and each
+/// of its slices has content and passes its parity.
+pub fn splice_tells_whole_frames()
+    ensures { TrueIsWhole }
 {}

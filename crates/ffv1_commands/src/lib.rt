@@ -24,7 +24,10 @@ pub use chain::run_chain;
 pub use decode::run_decode;
 pub use fault::CliFault;
 pub use join::run_join;
-pub use laws::{commands_restore_the_original, same_copies_make_one_file};
+pub use laws::{
+    commands_restore_the_original, same_copies_make_one_file, same_copies_make_one_splice,
+    splice_gives_the_original, splice_tells_whole_frames, splice_weaves_the_original,
+};
 pub use merge::run_merge;
 pub use path::CommandPath;
 pub use picture::run_picture;

@@ -1,14 +1,13 @@
 //! The command `splice`: splices copies of one frame by the footers of their slices alone (own; footers are those of RFC
 //! 9043, section 4.9).
-ghost use Rattle.std.specs.Prelude.{◌≡◌, ◌<◌, ◌++◌, ◌↔◌, length, map, IsTrue, IfOk, IfErr, IsErrOf, OnOk, string_bytes};
+ghost use Rattle.std.specs.Prelude.{◌≡◌, ◌<◌, ◌++◌, length, map, IfOk, IfErr, IsErrOf, OnOk, string_bytes};
 ghost use Rattle.ffv1_splice.specs.Splice.{IsSpliceOf};
 ghost use Rattle.ffv1_commands.specs.Fault.{NamesPath};
 ghost use Rattle.ffv1_commands.specs.Paths.{IsSplicePath};
-ghost use Rattle.ffv1_commands.specs.Devices.{IsWholeInput, AreWholeInputs, IsCopyFault, UnlessWriting, TellsFailure};
-ghost use Rattle.ffv1_commands.specs.TakeText.{IsFaultOfInputs};
-ghost use Rattle.ffv1_commands.specs.SpliceText.{standing_word, standing_line, front_line, splice_text, IsAllSettled, IsLengthFault, SplicesCopies, SpliceStops};
+ghost use Rattle.ffv1_commands.specs.Devices.{IsWholeInput, AreWholeInputs, IsInputFault, UnlessWriting, TellsFailure};
+ghost use Rattle.ffv1_commands.specs.SpliceText.{standing_line, front_line, splice_text, IsReadFault, IsLengthFault, SplicesCopies, SpliceStops};
 
-use crate::devices::{read_copy, write_both};
+use crate::devices::{read_file, write_both};
 use crate::fault::CliFault;
 use crate::path::CommandPath;
 use ffv1_hold::{FromRead, Sink, ThroughWrite};
@@ -17,12 +16,13 @@ use std::alloc::{AllocError, Global};
 use std::io::{Read, Write};
 
 /// Reads copies of a frame to their ends, one after the other; splices them, and writes the splice to `out`; and then prints a line
-/// for each of its places, from its end, as `1833..3698 missing`, and last `end whole`, or `end broken at 1833` where the front before that
-/// place can't be divided. Answers whether the places cover the frame and each is settled.
+/// for each of its places, from its end, as `1833..3698 missing`, with the number of combinations where it is woven, as
+/// `3698..4515 woven 4`; and last `end whole`, or `end broken at 1833` where the front before that place can't be divided.
+/// Answers whether all of the frame is given back: the places cover it, and each is settled or woven.
 ///
-/// `Read` comes where a copy can't be read; `Hold` where one is longer than 2^30 bytes; `Splice` with the first copy that is not as
-/// long as the first one; `Memory` where a growth is refused: then nothing was written, and `out` was not touched. `Write` comes where
-/// `out` or the output fails: a front of the splice was written, or the whole and a front of the lines.
+/// `Read` comes with the first copy that can't be read, or is longer than 2^30 bytes; `Splice`, where all are read, with the first
+/// copy that is not as long as the first one; `Memory` where a growth is refused: then nothing was written, and `out` was not
+/// touched. `Write` comes where `out` or the output fails: a front of the splice was written, or the whole and a front of the lines.
 pub fn run_splice<C: Read, O: Write, W: Write>(
     alloc: Global,
     copies: &mut [C],
@@ -71,13 +71,13 @@ fn splice_of<C: Read, O: Sink, W: Sink>(
     let spliced = spliced_of(alloc, read.as_slice())?;
     let text = spliced_text(alloc, &spliced)?;
     write_both(out, spliced.payload(), output, text.as_str())?;
-    Ok(is_all_settled(&spliced))
+    Ok(spliced.is_given_back())
 }
 
 /// The bytes of all copies.
 fn read_copies<C: Read>(alloc: Global, copies: &mut [C]) -> Result<Vec<Vec<u8>>, CliFault>
     ensures ok { IfOk result (λ read. AreWholeInputs (map C.remaining copies.old) (map (λ copy. copy.items) read.items)) }
-    ensures err { IfErr result (IsFaultOfInputs (map C.remaining copies.old)) }
+    ensures err { IfErr result (IsReadFault (map C.remaining copies.old)) }
 {
     let mut read = Vec::new(alloc);
     for index in 0..copies.len() {
@@ -87,12 +87,12 @@ fn read_copies<C: Read>(alloc: Global, copies: &mut [C]) -> Result<Vec<Vec<u8>>,
     Ok(read)
 }
 
-/// The bytes of a copy, before which stand so many others.
+/// The bytes of a copy, before which stand so many others; at most 2^30.
 fn read_one<C: Read>(alloc: Global, copy: &mut C, before: usize) -> Result<Vec<u8>, CliFault>
     ensures ok { IfOk result (λ read. IsWholeInput (C.remaining copy.old) read.items) }
-    ensures err { IfErr result (IsCopyFault (CommandPath.Copy before) (C.remaining copy.old)) }
+    ensures err { IfErr result (IsInputFault (CommandPath.Copy before)) }
 {
-    read_copy(alloc, &mut FromRead::new(copy), CommandPath::Copy(before))
+    read_file(alloc, &mut FromRead::new(copy), CommandPath::Copy(before))
 }
 
 /// The splice of copies, of which there is one at least.
@@ -112,17 +112,6 @@ fn spliced_of(alloc: Global, copies: &[Vec<u8>]) -> Result<Spliced, CliFault>
     }
 }
 
-/// Whether the places cover the frame, and each is settled.
-fn is_all_settled(spliced: &Spliced) -> bool
-    ensures { IsTrue result ↔ IsAllSettled spliced.now }
-{
-    spliced.front() == 0
-        && spliced
-            .places()
-            .iter()
-            .all(|place| matches!(place.standing, Standing::Settled))
-}
-
 /// The lines of the places, from the frame's end, and of its front.
 fn spliced_text(alloc: Global, spliced: &Spliced) -> Result<String, AllocError>
     ensures { IfOk result (λ text. string_bytes text ≡ splice_text spliced.now) }
@@ -139,18 +128,12 @@ fn spliced_text(alloc: Global, spliced: &Spliced) -> Result<String, AllocError>
 fn push_standing(text: &mut String, place: Place) -> Result<(), AllocError>
     ensures { OnOk result (string_bytes text.new ≡ string_bytes text.old ++ standing_line place) }
 {
-    let (start, end, word) = (place.start, place.end, standing_word(place.standing));
-    writeln!(text, "{start}..{end} {word}")
-}
-
-/// The word for how a place stands.
-fn standing_word(standing: Standing) -> &'static str
-    ensures { result.now ≡ standing_word standing }
-{
-    match standing {
-        Standing::Settled => "settled",
-        Standing::Disputed => "disputed",
-        Standing::Missing => "missing",
+    let (start, end) = (place.start, place.end);
+    match place.standing {
+        Standing::Settled => writeln!(text, "{start}..{end} settled"),
+        Standing::Woven(count) => writeln!(text, "{start}..{end} woven {count}"),
+        Standing::Disputed => writeln!(text, "{start}..{end} disputed"),
+        Standing::Missing => writeln!(text, "{start}..{end} missing"),
     }
 }
 

@@ -2,9 +2,8 @@ use Rattle.std.proofs.Common.{◌<◌, List, Option, ℕ, map, length, take, sub
 use Rattle.std.proofs.lemmas.Result.{err_from_is_err_and}
 use Rattle.std.proofs.lemmas.List.{length-map}
 use Rattle.ffv1_commands.specs.Devices.{AreWholeInputs}
-use Rattle.ffv1_commands.proofs.InputLaws.{AreWholeInputs-push, inputs_more, input_at, others_kept}
-use Rattle.ffv1_commands.proofs.SpliceCommandSteps.{map_push}
-use Rattle.ffv1_commands.proofs.TakeSteps.{copy_refused}
+use Rattle.ffv1_commands.proofs.InputLaws.{AreWholeInputs-push, inputs_more, others_kept}
+use Rattle.ffv1_commands.proofs.SpliceCommandSteps.{map_push, first_unread}
 use Rattle.ffv1_commands.proofs.splice.read_copies.Goals as goal
 
 pub loop-index-preserved : goal.loop-index-preserved
@@ -28,18 +27,7 @@ loop-index-preserved g c =
 pub returns-in_err-copy-clause-err : goal.returns-in_err-copy-clause-err
 returns-in_err-copy-clause-err g c =
     let p = err_from_is_err_and c.from_residual.result c.from_residual.ensures.1 in
-    let i = c.loop-index.index in
-    let old = c.args.copies.now in
-    let d = c.index-copies-index.result in
-    let lt : i < length old = omega arith in
-    let few : i < length (map g.C.Read.remaining old) = omega (arith, length-map old g.C.Read.remaining) in
-    let same = c.loop-index.invariant.others i d (omega arith) in
-    rw (p.1, p.2) (copy_refused (map g.C.Read.remaining old) i _ few (input_at g.C.Read.remaining old c.loop-index.copies i d lt same)
-    (map (λ copy. copy.items) c.loop-index.read.items) c.loop-index.invariant.read c.in_err-copy.field-0.0 c.in_err-copy.ensures.err)
-
-pub returns-in_err-push-clause-err : goal.returns-in_err-push-clause-err
-returns-in_err-push-clause-err g c =
-    let p = err_from_is_err_and c.from_residual-in_err-push.result c.from_residual-in_err-push.ensures.1 in
     let old = c.args.copies.now in
     let few : c.loop-index.index < length (map g.C.Read.remaining old) = omega (arith, length-map old g.C.Read.remaining) in
-    rw (p.1, p.2) (c.loop-index.index, few, (map (λ copy. copy.items) c.loop-index.read.items, c.loop-index.invariant.read), tt)
+    rw (p.1, p.2) (first_unread (map g.C.Read.remaining old) c.loop-index.index (map (λ copy. copy.items) c.loop-index.read.items) few
+    c.loop-index.invariant.read c.in_err-copy.field-0.0 c.in_err-copy.ensures.err)

@@ -10,8 +10,7 @@ use Rattle.ffv1_commands.specs.declared.fault.CliFault.TheVariants as faults
 use Rattle.ffv1_commands.specs.declared.path.CommandPath.TheVariants as paths
 use Rattle.ffv1_commands.proofs.InputFaults.{IsUnwritten, untouched_both, TellsFailure-unwritten, TellsFailure-as, WriteStops-untouched, WriteStops-names}
 use Rattle.ffv1_commands.proofs.InputLaws.{length-AreWholeInputs}
-use Rattle.ffv1_commands.proofs.TakeSteps.{IsFaultOfInputs-says}
-use Rattle.ffv1_commands.proofs.SpliceCommandSteps.{inputs_stop, inputs_name, length_says, length_stops, length_names, write_stops, splices}
+use Rattle.ffv1_commands.proofs.SpliceCommandSteps.{read_says, inputs_stop, inputs_name, length_says, length_stops, length_names, write_stops, splices}
 use Rattle.ffv1_commands.proofs.splice.splice_of.Goals as goal
 
 pub returns-in_err-read : goal.returns-in_err-read
@@ -22,7 +21,7 @@ returns-in_err-read g c =
     let copies = map g.C.Read.remaining c.args.copies.now in
     let out = g.O.Sink.contents c.args.out.now in
     let printed = g.W.Sink.contents c.args.output.now in
-    let none = IsFaultOfInputs-says IsUnwritten copies f (λ i. tt) (λ fault. tt) tt e.err in
+    let none = read_says copies IsUnwritten f (λ index is. tt) tt e.err in
     rw (p.1, p.2) (record {
       ok = tt;
       err = inputs_stop copies out out printed printed f e.err;
@@ -121,7 +120,7 @@ returns g c =
     let text = c.as_str.ensures.value ∙ c.in_ok-text.ensures in
     record {
       ok = splices inputs copies _ _ _ _ c.in_ok-read.ensures.ok spliced is c.payload.result.now c.as_str.result.now c.payload.ensures text
-          c.is_all_settled.result c.is_all_settled.ensures e.file e.text;
+          c.is_given_back.result c.is_given_back.ensures e.file e.text;
       err = tt;
       untouched = tt;
       names = tt;
