@@ -1,7 +1,9 @@
 -- The paths that the command of the words has.
-use Rattle.std.specs.Prelude.{◌+◌, vec_len}
+use Rattle.std.specs.Prelude.{ℕ, zero, suc, ◌+◌, ◌-◌, ◌==◌, if◌then◌else◌, List, [], map, slice_index_or, vec_len, codes}
+use Rattle.std.specs.Borrow.{Bor}
 use Rattle.ffv1_commands.specs.Paths.{IsChainPath, IsShowPath, IsTakePath, IsJoinPath, IsMergePath, IsReportPath, IsHoldPath, IsSplicePath, IsDecodePath}
 use Rattle.ffv1_commands.specs.declared.path.CommandPath.{CommandPath}
+use Rattle.ffv1_commands.specs.declared.path.CommandPath.TheVariants.{Record, Frame, Copy, Hold, Inputs, Out, StandardOutput}
 use Rattle.ffv1_words.specs.declared.words.Words.{Words}
 use Rattle.ffv1_words.specs.declared.words.Words.TheVariants.{Chain, Show, Take, Join, Merge, Report, Restore, Picture, Splice, Decode}
 
@@ -17,3 +19,32 @@ IsPathOf (Restore file out) path = IsHoldPath path
 IsPathOf (Picture file out) path = IsHoldPath path
 IsPathOf (Splice out copies) path = IsSplicePath (vec_len copies) path
 IsPathOf (Decode recording frame out) path = IsDecodePath path
+
+-- the word at a place among words that name files
+abbrev pub word_at : List (Bor (List ℕ)) → ℕ → List ℕ
+word_at words place = slice_index_or (map (λ word. word.now) words) place []
+
+-- the word that names a path of the command of the words; `inputs` for both of `merge` together, and `standard output` for that
+unfoldable pub path_word : Words → CommandPath → List ℕ
+path_word (Chain frame) Frame = frame.now
+path_word (Show recording) Record = recording.record.now
+path_word (Take recording out copies) Record = recording.record.now
+path_word (Take recording out copies) (Copy place) = word_at copies.items place
+path_word (Take recording out copies) Out = out.now
+path_word (Join out first others) (Hold place) = if place == 0 then first.now else word_at others.items (place - 1)
+path_word (Join out first others) Out = out.now
+path_word (Merge out left right) (Hold zero) = left.now
+path_word (Merge out left right) (Hold (suc before)) = right.now
+path_word (Merge out left right) Inputs = codes "inputs"
+path_word (Merge out left right) Out = out.now
+path_word (Report file) (Hold before) = file.now
+path_word (Restore file out) (Hold before) = file.now
+path_word (Restore file out) Out = out.now
+path_word (Picture file out) (Hold before) = file.now
+path_word (Picture file out) Out = out.now
+path_word (Splice out copies) (Copy place) = word_at copies.items place
+path_word (Splice out copies) Out = out.now
+path_word (Decode recording frame out) Record = recording.record.now
+path_word (Decode recording frame out) Frame = frame.now
+path_word (Decode recording frame out) Out = out.now
+path_word _ _ = codes "standard output"

@@ -1,6 +1,7 @@
 //! The words that the program is given (own): the first names a command, then come exactly its own.
-ghost use Rattle.std.specs.Prelude.{IfErr};
+ghost use Rattle.std.specs.Prelude.{◌≡◌, map, IfOk, IfErr, codes};
 ghost use Rattle.ffv1_commands.specs.Fault.{NamesNoPath};
+ghost use Rattle.ffv1_words.specs.Arguments.{IsWord, AreWords, IsNumber, IsRecording, AreRead, command_name};
 
 use crate::words::{Recording, Words};
 use clap::error::ErrorKind;
@@ -59,14 +60,16 @@ fn program<'a>(alloc: Global) -> Result<Command<'a>, AllocError> {
 
 /// The word of this name.
 fn word<'a>(matches: &ArgMatches<'a>, name: &str) -> Result<&'a str, CliFault>
-    ensures { IfErr result NamesNoPath }
+    ensures ok { IfOk result (λ word. IsWord matches.now name.now word.now) }
+    ensures err { IfErr result NamesNoPath }
 {
     matches.get_str(name).ok_or(CliFault::Words)
 }
 
 /// The word of this name, as a number.
 fn number(matches: &ArgMatches, name: &str) -> Result<u32, CliFault>
-    ensures { IfErr result NamesNoPath }
+    ensures ok { IfOk result (IsNumber matches.now name.now) }
+    ensures err { IfErr result NamesNoPath }
 {
     match word(matches, name)?.parse::<u32>() {
         Ok(number) => Ok(number),
@@ -76,21 +79,24 @@ fn number(matches: &ArgMatches, name: &str) -> Result<u32, CliFault>
 
 /// The words of this name.
 fn several<'m, 'a>(matches: &'m ArgMatches<'a>, name: &str) -> Result<&'m [&'a str], CliFault>
-    ensures { IfErr result NamesNoPath }
+    ensures ok { IfOk result (λ words. AreWords matches.now name.now (map (λ word. word.now) words.now)) }
+    ensures err { IfErr result NamesNoPath }
 {
     matches.get_strs(name).ok_or(CliFault::Words)
 }
 
 /// A list of words in memory of its own.
 fn list<'a>(alloc: Global, words: &[&'a str]) -> Result<Vec<&'a str>, CliFault>
-    ensures { IfErr result NamesNoPath }
+    ensures ok { IfOk result (λ list. list.items ≡ words.now) }
+    ensures err { IfErr result NamesNoPath }
 {
     Ok(words.to_vec(alloc)?)
 }
 
 /// The words of a recording: RECORD, WIDTH and HEIGHT.
 fn recording_words<'a>(matches: &ArgMatches<'a>) -> Result<Recording<'a>, CliFault>
-    ensures { IfErr result NamesNoPath }
+    ensures ok { IfOk result (IsRecording matches.now) }
+    ensures err { IfErr result NamesNoPath }
 {
     Ok(Recording {
         record: word(matches, "RECORD")?,
@@ -101,7 +107,9 @@ fn recording_words<'a>(matches: &ArgMatches<'a>) -> Result<Recording<'a>, CliFau
 
 /// The words of `take`.
 fn take_words<'a>(alloc: Global, matches: &ArgMatches<'a>) -> Result<Words<'a>, CliFault>
-    ensures { IfErr result NamesNoPath }
+    ensures ok { IfOk result (AreRead matches.now) }
+    ensures name { IfOk result (λ words. command_name words ≡ codes "take") }
+    ensures err { IfErr result NamesNoPath }
 {
     Ok(Words::Take {
         recording: recording_words(matches)?,
@@ -112,7 +120,9 @@ fn take_words<'a>(alloc: Global, matches: &ArgMatches<'a>) -> Result<Words<'a>, 
 
 /// The words of `join`.
 fn join_words<'a>(alloc: Global, matches: &ArgMatches<'a>) -> Result<Words<'a>, CliFault>
-    ensures { IfErr result NamesNoPath }
+    ensures ok { IfOk result (AreRead matches.now) }
+    ensures name { IfOk result (λ words. command_name words ≡ codes "join") }
+    ensures err { IfErr result NamesNoPath }
 {
     let [first, others @ ..] = several(matches, "HOLD")? else {
         return Err(CliFault::Words);
@@ -126,7 +136,9 @@ fn join_words<'a>(alloc: Global, matches: &ArgMatches<'a>) -> Result<Words<'a>, 
 
 /// The words of `merge`.
 fn merge_words<'a>(matches: &ArgMatches<'a>) -> Result<Words<'a>, CliFault>
-    ensures { IfErr result NamesNoPath }
+    ensures ok { IfOk result (AreRead matches.now) }
+    ensures name { IfOk result (λ words. command_name words ≡ codes "merge") }
+    ensures err { IfErr result NamesNoPath }
 {
     Ok(Words::Merge {
         out: word(matches, "OUT")?,
@@ -137,7 +149,9 @@ fn merge_words<'a>(matches: &ArgMatches<'a>) -> Result<Words<'a>, CliFault>
 
 /// The words of `splice`.
 fn splice_words<'a>(alloc: Global, matches: &ArgMatches<'a>) -> Result<Words<'a>, CliFault>
-    ensures { IfErr result NamesNoPath }
+    ensures ok { IfOk result (AreRead matches.now) }
+    ensures name { IfOk result (λ words. command_name words ≡ codes "splice") }
+    ensures err { IfErr result NamesNoPath }
 {
     Ok(Words::Splice {
         out: word(matches, "OUT")?,
@@ -147,7 +161,9 @@ fn splice_words<'a>(alloc: Global, matches: &ArgMatches<'a>) -> Result<Words<'a>
 
 /// The words of `decode`.
 fn decode_words<'a>(matches: &ArgMatches<'a>) -> Result<Words<'a>, CliFault>
-    ensures { IfErr result NamesNoPath }
+    ensures ok { IfOk result (AreRead matches.now) }
+    ensures name { IfOk result (λ words. command_name words ≡ codes "decode") }
+    ensures err { IfErr result NamesNoPath }
 {
     Ok(Words::Decode {
         recording: recording_words(matches)?,
@@ -158,7 +174,9 @@ fn decode_words<'a>(matches: &ArgMatches<'a>) -> Result<Words<'a>, CliFault>
 
 /// The command of this name, with its words.
 fn words_of<'a>(alloc: Global, name: &str, matches: &ArgMatches<'a>) -> Result<Words<'a>, CliFault>
-    ensures { IfErr result NamesNoPath }
+    ensures ok { IfOk result (AreRead matches.now) }
+    ensures name { IfOk result (λ words. command_name words ≡ name.now) }
+    ensures err { IfErr result NamesNoPath }
 {
     match name {
         "chain" => Ok(Words::Chain {

@@ -1,5 +1,6 @@
 //! A command and its words (own). Each of its paths is one of them.
-ghost use Rattle.ffv1_words.specs.WordPaths.{IsPathOf};
+ghost use Rattle.std.specs.Prelude.{◌≡◌};
+ghost use Rattle.ffv1_words.specs.WordPaths.{IsPathOf, path_word};
 
 use ffv1_commands::CommandPath;
 
@@ -94,8 +95,10 @@ pub enum Words<'a> {
 impl<'a> Words<'a> {
     /// The word that names a path of the command, which has to be one of its own; `inputs` for both of `merge` together,
     /// and `standard output` for that.
+    #[tactic(auto, unfolding(crate::specs::WordPaths::path_word))]
     pub fn path(&self, path: CommandPath) -> &'a str
         requires { IsPathOf self.now path }
+        ensures { result.now ≡ path_word self.now path }
     {
         match (self, path) {
             (Words::Chain { frame }, CommandPath::Frame) => frame,

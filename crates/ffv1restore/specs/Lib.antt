@@ -15,3 +15,5 @@ pub use Rattle.ffv1_commands.specs.DecodeText
 pub use Rattle.ffv1_commands.specs.PictureText
 pub use Rattle.ffv1_commands.specs.ReportedText
 pub use Rattle.ffv1_commands.specs.Commands
+pub use Rattle.ffv1_commands.specs.SpliceText
+pub use Rattle.ffv1_commands.specs.SpliceLaws

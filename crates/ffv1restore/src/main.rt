@@ -12,7 +12,8 @@ mod files;
 pub use ffv1_commands::{
     CliFault, CommandPath, commands_restore_the_original, run_chain, run_decode, run_join,
     run_merge, run_picture, run_report, run_restore, run_show, run_splice, run_take,
-    same_copies_make_one_file,
+    same_copies_make_one_file, same_copies_make_one_splice, splice_gives_the_original,
+    splice_tells_whole_frames, splice_weaves_the_original,
 };
 use ffv1_words::{Recording, Words, read_words};
 use files::{InputFile, OutputFile};
@@ -130,7 +131,7 @@ fn decode_files(
 }
 
 /// Runs a command on the files that its words name. Answers `false` where `picture` wrote its file and some tile has no
-/// samples, or `splice` its own and some place is not settled, else `true`.
+/// samples, or `splice` its own and not all of the frame is given back, else `true`.
 fn run(rt: &HostRuntime, words: &Words<'_>) -> Result<bool, CliFault>
     ensures { IfErr result (NamesPath (IsPathOf words.now)) }
 {
