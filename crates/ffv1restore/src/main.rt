@@ -94,7 +94,8 @@ fn merge_files(rt: &HostRuntime, out: &str, left: &str, right: &str) -> Result<(
     run_merge(rt.alloc(), &mut left, &mut right, &mut out)
 }
 
-/// Splices the copies of these paths. There is one at least, as the words are read.
+/// Splices the copies of these paths. There is one at least, as the words are read. Where the copies have no bytes, nothing
+/// is written, and the file is made after that.
 fn splice_files(rt: &HostRuntime, out: &str, copies: &[&str]) -> Result<bool, CliFault>
     ensures { IfErr result (NamesPath (IsSplicePath (length copies.now))) }
 {
@@ -102,12 +103,17 @@ fn splice_files(rt: &HostRuntime, out: &str, copies: &[&str]) -> Result<bool, Cl
         return Err(CliFault::Words);
     }
     let mut copies = input_files(rt, copies)?;
-    run_splice(
+    let mut out = OutputFile::new(rt, out);
+    let all = run_splice(
         rt.alloc(),
         copies.as_mut_slice(),
-        &mut OutputFile::new(rt, out),
+        &mut out,
         &mut io::writer(rt),
-    )
+    )?;
+    match out.make() {
+        Ok(()) => Ok(all),
+        Err(_) => Err(CliFault::Write(CommandPath::Out)),
+    }
 }
 
 /// Decodes the frame of these paths.
