@@ -1,5 +1,5 @@
 -- Parts of a list of bytes are lists of bytes.
-use Rattle.std.proofs.Common.{ℕ, zero, suc, ◌+◌, ◌-◌, List, [], ◌∷◌, get_or, take, drop, get_or-drop, arith}
+use Rattle.std.proofs.Common.{ℕ, zero, suc, ◌+◌, ◌-◌, List, [], ◌∷◌, take, drop, get_or-drop, arith}
 use Rattle.std.specs.Prelude.{slice_range}
 use Rattle.ffv1_bits.specs.Parity.{AreBytes}
 

@@ -1,4 +1,5 @@
 -- The parity of eight bytes at once: what each byte of the register and of a word leaves, far from the end.
+use Rattle.std.proofs.Math.Seq.{take-length}
 use Rattle.std.proofs.Common.{◌≡◌, ℕ, zero, suc, ◌+◌, ◌-◌, ◌*◌, ◌/◌, ◌%◌, ◌^◌, ◌<◌, Bool, true, false, nat_eq, cond, eqb, get_or, List, [], ◌∷◌, ◌++◌, length, take, drop, replicate, refl, sym, ap, subst, ◌∙◌, arith, lit<, length-append, length-take, append-nil, append_assoc}
 use Rattle.std.specs.Prelude.{bit_xor}
 use Rattle.std.specs.List.{fold, concat, slice_range}
@@ -8,7 +9,7 @@ use Rattle.std.specs.Int.Bits.{xor_shifted, xor_assoc}
 use Rattle.std.specs.Simd.{first_chunks}
 use Rattle.std.proofs.lemmas.Bool.{agree_below_at, eqb-true}
 use Rattle.std.proofs.lemmas.Grind.{flat_map-append}
-use Rattle.std.proofs.lemmas.List.{length-replicate, take_more, take_rest, drop_all, drop_at, drop-drop, take-append-drop}
+use Rattle.std.proofs.lemmas.List.{length-replicate, take_more, drop_all, drop_at, drop-drop, take-append-drop}
 use Rattle.std.proofs.lemmas.List.Folds.{concat-append}
 use Rattle.std.proofs.lemmas.List.Sums.{fold-append}
 use Rattle.std.proofs.lemmas.Nat.{xor_comm, pow-add, mod-pow-add, shl_below, be_bytes_8}
@@ -294,12 +295,14 @@ bits_behind (suc i) (b ∷ bytes) =
     ap (λ n. drop n (bits_of (b ∷ bytes))) (let e : 8 * suc i ≡ 8 + 8 * i = omega arith in e)
     ∙ sym (drop-drop (8 * i) 8 (bits_of (b ∷ bytes))) ∙ bits_behind i bytes
 
-pub word_there : (bytes rest word : List ℕ) (place n : ℕ) → AreBytes bytes → rest ≡ slice_range bytes place (length bytes) → IsFirstChunk rest word 8
+pub word_there : (bytes rest word : List ℕ) (place end n : ℕ) → AreBytes bytes → end ≡ place + 8 → rest ≡ slice_range bytes place end → IsFirstChunk rest word 8
     → n ≡ from_be_bytes w64 word → bits_of (take 8 (drop place bytes)) ≡ number_bits 64 n
-word_there bytes rest word place n small is front value =
-    let behind : rest ≡ drop place bytes = is ∙ take_rest bytes place in
-    let whole : take 8 (drop place bytes) ≡ word = ap (take 8) (sym behind) ∙ sym front.same in
-    let long : length word ≡ 8 = ap length front.same ∙ length-take 8 rest ∙ omega (arith, front.enough) in
+word_there bytes rest word place end n small ends is front value =
+    let behind : rest ≡ take 8 (drop place bytes) = is ∙ ap (λ m. take m (drop place bytes)) (let e : end - place ≡ 8 = omega (arith, ends) in e) in
+    let eight : length rest ≡ 8 = omega (arith, front.enough, ap length behind, length-take 8 (drop place bytes)) in
+    let all : take 8 rest ≡ rest = ap (λ m. take m rest) (sym eight) ∙ take-length rest in
+    let whole : take 8 (drop place bytes) ≡ word = sym behind ∙ sym all ∙ sym front.same in
+    let long : length word ≡ 8 = ap length (front.same ∙ all) ∙ eight in
     let each : AreBytes word = subst AreBytes whole (AreBytes-take 8 (drop place bytes) (AreBytes-drop place bytes small)) in
     ap bits_of whole ∙ bits_of-word word n long each value
 

@@ -122,7 +122,8 @@ fn word_at(bytes: &[u8], place: usize) -> Option<u64>
     ensures some { IfSome result (λ word. bits_of (take 8 (drop place bytes.now)) ≡ number_bits 64 word) }
     ensures none { IfNone result (length bytes.now < place + 8) }
 {
-    let front = bytes.get(place..)?.first_chunk::<8>()?;
+    let end = place.checked_add(8)?;
+    let front = bytes.get(place..end)?.first_chunk::<8>()?;
     Some(u64::from_be_bytes(*front))
 }
 

@@ -7,6 +7,7 @@ pub mod Fronts
 pub mod Halting
 pub mod OnePlane
 pub mod OneStuck
+pub mod Medians
 pub mod Pictures
 pub mod Prefixes
 pub mod Readers

@@ -119,8 +119,9 @@ impl Lines {
         ensures value { self.new ≡ record { width = self.old.width; x = self.old.x + 1; samples = self.old.samples ++ sample ∷ [] } }
         ensures left { IsLeftOfNext self.new sample }
     {
-        self.line[self.x + 2] = sample;
-        self.x += 1;
+        let x = self.x;
+        self.line[x + 2] = sample;
+        self.x = x + 1;
     }
 
     /// Skips the next samples of the row: each is what is predicted of it.

@@ -47,17 +47,10 @@ impl Neighbours {
     pub fn prediction(&self) -> u8
         ensures { result ≡ prediction_of self.now }
     {
-        let low = self.left.min(self.top);
-        let high = self.left.max(self.top);
-        let sum = u16::from(self.left) + u16::from(self.top);
-        let slope = sum.saturating_sub(u16::from(self.top_left));
-        if slope < u16::from(low) {
-            low
-        } else if slope > u16::from(high) {
-            high
-        } else {
-            slope as u8
-        }
+        let (left, top) = (i32::from(self.left), i32::from(self.top));
+        let sum = left + top - i32::from(self.top_left);
+        let slope = sum.max(left.min(top)).min(left.max(top));
+        slope as u8
     }
 }
 

@@ -66,6 +66,8 @@ impl PlaneReader<'_, '_, '_> {
         ensures err { IfErr result (IsSampleHalted self.old.lines.width
             (entry_of self.old) level self.old.lines.samples self.old.states.items self.old.bits.left) }
     {
+        // Before the code is read: one number stays at hand then, and not the samples about it.
+        let prediction = near.prediction();
         let state = &mut self.states[context.unsigned_abs() as usize];
         let difference = match state.decode(&mut self.bits, level) {
             Ok(difference) => difference,
@@ -74,7 +76,7 @@ impl PlaneReader<'_, '_, '_> {
                 return Err(PlaneFault::Code { fault, sample });
             }
         };
-        let sample = sample_of(context, near.prediction(), difference);
+        let sample = sample_of(context, prediction, difference);
         self.lines.push(sample);
         Ok(sample)
     }

@@ -3,6 +3,7 @@ pub mod Faults
 pub mod OneCode
 pub mod OneNumber
 pub mod OneRun
+pub mod Parameter
 pub mod Shapes
 pub mod Sums
 pub mod Words

@@ -1,6 +1,6 @@
 -- What the code computes of a state in 32 bits is what the definitions say. Each lemma speaks of plain numbers: a proof by
 -- arithmetic is short there, and long among all that is known in the code.
-use Rattle.std.proofs.Common.{◌≡◌, ℕ, ◌+◌, ◌*◌, ◌/◌, ◌<◌, ◌≤◌, ◌==◌, Bool, true, false, ℤ, pos, negsuc, ◌+ℤ◌, ◌-ℤ◌, ◌*ℤ◌, neg_ℤ, ◌≤ℤ◌, ◌<ℤ◌, int_lt, int_le, nat_abs, if◌then◌else◌, arith, refl, sym, ap, subst, ◌∙◌, to_z, of_z, w32, SFits, Fits}
+use Rattle.std.proofs.Common.{◌≡◌, ℕ, ◌+◌, ◌/◌, ◌≤◌, ◌==◌, Bool, true, false, ℤ, pos, negsuc, ◌+ℤ◌, ◌-ℤ◌, ◌*ℤ◌, neg_ℤ, ◌≤ℤ◌, ◌<ℤ◌, int_lt, int_le, nat_abs, if◌then◌else◌, arith, refl, sym, ap, subst, ◌∙◌, to_z, of_z, w32, SFits, Fits}
 use Rattle.std.specs.Int.{int_max, int_min, int_div_euclid}
 use Rattle.std.proofs.lemmas.Int.{ints, clamps, to_z-of_z, to_z_pos}
 use Rattle.std.proofs.lemmas.Bool.{eqb-true, eqb-false, ne_eqb}
@@ -77,7 +77,7 @@ half_more_fits n few = record { fits = omega arith }
 pub count_more_fits : (n : ℕ) → n ≤ 128 → Fits w32 (n + 1)
 count_more_fits n few = record { fits = omega arith }
 
-int_div_euclid-two : (z : ℤ) → int_div_euclid z (pos 2) ≡ half z
+pub int_div_euclid-two : (z : ℤ) → int_div_euclid z (pos 2) ≡ half z
 int_div_euclid-two (pos n) = refl
 int_div_euclid-two (negsuc n) = refl
 
@@ -98,7 +98,7 @@ half_kept s bounds =
     let high = half_high s.drift bounds.drift_high in
     to_z-of_z-small (half s.drift) (omega (arith, ints)) (omega (arith, ints))
 
-pub counted_halved : (s : ContextState) (d : ℤ) → IsUncounted s → s.count ≡ 128 → d ≡ int_div_euclid (to_z w32 (of_z w32 s.drift)) (pos 2)
+pub counted_halved : (s : ContextState) (d : ℤ) → IsUncounted s → s.count ≡ 128 → d ≡ half (to_z w32 (of_z w32 s.drift))
     → let r : ContextState = record {
       drift = to_z w32 (of_z w32 d);
       error_sum = s.error_sum / 2;
@@ -107,7 +107,7 @@ pub counted_halved : (s : ContextState) (d : ℤ) → IsUncounted s → s.count 
     } in
     r ≡ counted s
 counted_halved s d bounds full is =
-    let is_half : d ≡ half s.drift = is ∙ ap (λ z. int_div_euclid z (pos 2)) (uncounted_drift_kept s bounds) ∙ int_div_euclid-two s.drift in
+    let is_half : d ≡ half s.drift = is ∙ ap half (uncounted_drift_kept s bounds) in
     rw (is_half, half_kept s bounds, uncounted_bias_kept s bounds, full)
 
 pub counted_more : (s : ContextState) → IsUncounted s → (s.count ≡ 128 → ⊥)
@@ -174,9 +174,22 @@ count_less_fits n few = rw (to_z-count n few, zero-less n) (less_fits n few)
 count_less_is : (n : ℕ) → n ≤ 128 → to_z w32 (of_z w32 (pos 0 -ℤ to_z w32 n)) ≡ neg_ℤ (pos n)
 count_less_is n few = rw (to_z-count n few, zero-less n) (to_z-of_z w32 (neg_ℤ (pos n)) (less_fits n few))
 
+-- a count moved over to the other side of a test
+moved_le : (x y : ℤ) (b : Bool) → int_le (x +ℤ y) (pos 0) ≡ b → b ≡ int_le x (neg_ℤ y)
+moved_le x y true is = omega (arith, ints)
+moved_le x y false is = omega (arith, ints)
+
+moved_lt : (x y : ℤ) (b : Bool) → int_lt (x +ℤ y) (pos 0) ≡ b → b ≡ int_lt x (neg_ℤ y)
+moved_lt x y true is = omega (arith, ints)
+moved_lt x y false is = omega (arith, ints)
+
 low_test : (s : ContextState) → IsUncorrected s
-    → int_le (to_z w32 (of_z w32 s.drift)) (to_z w32 (of_z w32 (pos 0 -ℤ to_z w32 s.count))) ≡ int_le s.drift (neg_ℤ (pos s.count))
-low_test s bounds = rw (uncorrected_drift_kept s bounds, count_less_is s.count bounds.few_counted)
+    → int_le (to_z w32 (of_z w32 (to_z w32 (of_z w32 s.drift) +ℤ to_z w32 s.count))) (pos 0) ≡ int_le s.drift (neg_ℤ (pos s.count))
+low_test s bounds =
+    let raised : to_z w32 (of_z w32 (s.drift +ℤ pos s.count)) ≡ s.drift +ℤ pos s.count =
+    to_z-of_z-small (s.drift +ℤ pos s.count) (omega (arith, ints)) (omega (arith, ints)) in
+    rw (uncorrected_drift_kept s bounds, to_z-count s.count bounds.few_counted, raised)
+    (moved_le s.drift (pos s.count) (int_le (s.drift +ℤ pos s.count) (pos 0)) refl)
 
 high_test : (s : ContextState) → IsUncorrected s → int_lt (pos 0) (to_z w32 (of_z w32 s.drift)) ≡ int_lt (pos 0) s.drift
 high_test s bounds = rw (uncorrected_drift_kept s bounds)
@@ -220,7 +233,7 @@ fallen_bias s b bounds is =
     (to_z-of_z-small (int_max (s.bias -ℤ pos 1) (neg_ℤ (pos 128))) (omega (arith, ints, clamps)) (omega (arith, ints, clamps)))
 
 pub corrected_fallen : (s : ContextState) (d b : ℤ) → IsUncorrected s
-    → int_le (to_z w32 (of_z w32 s.drift)) (to_z w32 (of_z w32 (pos 0 -ℤ to_z w32 s.count))) ≡ true
+    → int_le (to_z w32 (of_z w32 (to_z w32 (of_z w32 s.drift) +ℤ to_z w32 s.count))) (pos 0) ≡ true
     → d ≡ int_max (to_z w32 (of_z w32 (to_z w32 (of_z w32 s.drift) +ℤ to_z w32 s.count))) (to_z w32 (of_z w32 (pos 1 -ℤ to_z w32 s.count)))
     → b ≡ int_max (to_z w32 (of_z w32 (to_z w32 (of_z w32 s.bias) -ℤ pos 1))) (neg_ℤ (pos 128))
     → let r : ContextState = record { drift = to_z w32 (of_z w32 d); error_sum = s.error_sum; bias = to_z w32 (of_z w32 b); count = s.count } in
@@ -246,7 +259,7 @@ risen_bias s b bounds is =
     (to_z-of_z-small (int_min (s.bias +ℤ pos 1) (pos 127)) (omega (arith, ints, clamps)) (omega (arith, ints, clamps)))
 
 pub corrected_risen : (s : ContextState) (d b : ℤ) → IsUncorrected s
-    → int_le (to_z w32 (of_z w32 s.drift)) (to_z w32 (of_z w32 (pos 0 -ℤ to_z w32 s.count))) ≡ false
+    → int_le (to_z w32 (of_z w32 (to_z w32 (of_z w32 s.drift) +ℤ to_z w32 s.count))) (pos 0) ≡ false
     → int_lt (pos 0) (to_z w32 (of_z w32 s.drift)) ≡ true
     → d ≡ int_min (to_z w32 (of_z w32 (to_z w32 (of_z w32 s.drift) -ℤ to_z w32 s.count))) (pos 0)
     → b ≡ int_min (to_z w32 (of_z w32 (to_z w32 (of_z w32 s.bias) +ℤ pos 1))) (pos 127)
@@ -257,7 +270,7 @@ corrected_risen s d b bounds low high drift bias =
     rw (risen_drift s d bounds (omega (arith, ints)) drift, risen_bias s b bounds bias, sym (low_test s bounds) ∙ low, above)
 
 pub corrected_same : (s : ContextState) → IsUncorrected s
-    → int_le (to_z w32 (of_z w32 s.drift)) (to_z w32 (of_z w32 (pos 0 -ℤ to_z w32 s.count))) ≡ false
+    → int_le (to_z w32 (of_z w32 (to_z w32 (of_z w32 s.drift) +ℤ to_z w32 s.count))) (pos 0) ≡ false
     → int_lt (pos 0) (to_z w32 (of_z w32 s.drift)) ≡ false → s ≡ corrected s
 corrected_same s bounds low high = rw (sym (low_test s bounds) ∙ low, sym (high_test s bounds) ∙ high)
 
@@ -302,13 +315,24 @@ corrected_range s bounds = corrected_range_at s bounds (int_le s.drift (neg_ℤ 
 pub double_fits : (s : ContextState) → IsState s → SFits w32 (pos 2 *ℤ to_z w32 (of_z w32 s.drift))
 double_fits s bounds = rw (drift_kept s bounds) (SFits-small (pos 2 *ℤ s.drift) (omega (arith, ints)) (omega (arith, ints)))
 
+pub doubled_more_fits : (s : ContextState) → IsState s
+    → SFits w32 (to_z w32 (of_z w32 (pos 2 *ℤ to_z w32 (of_z w32 s.drift))) +ℤ to_z w32 s.count)
+doubled_more_fits s bounds =
+    let double : to_z w32 (of_z w32 (pos 2 *ℤ s.drift)) ≡ pos 2 *ℤ s.drift =
+    to_z-of_z-small (pos 2 *ℤ s.drift) (omega (arith, ints)) (omega (arith, ints)) in
+    rw (drift_kept s bounds, double, to_z-count s.count bounds.few_counted)
+    (SFits-small (pos 2 *ℤ s.drift +ℤ pos s.count) (omega (arith, ints)) (omega (arith, ints)))
+
 flip_test : (s : ContextState) → IsState s
-    → int_lt (to_z w32 (of_z w32 (pos 2 *ℤ to_z w32 (of_z w32 s.drift)))) (to_z w32 (of_z w32 (pos 0 -ℤ to_z w32 s.count)))
+    → int_lt (to_z w32 (of_z w32 (to_z w32 (of_z w32 (pos 2 *ℤ to_z w32 (of_z w32 s.drift))) +ℤ to_z w32 s.count))) (pos 0)
     ≡ int_lt (pos 2 *ℤ s.drift) (neg_ℤ (pos s.count))
 flip_test s bounds =
     let double : to_z w32 (of_z w32 (pos 2 *ℤ s.drift)) ≡ pos 2 *ℤ s.drift =
     to_z-of_z-small (pos 2 *ℤ s.drift) (omega (arith, ints)) (omega (arith, ints)) in
-    rw (drift_kept s bounds, double, count_less_is s.count bounds.few_counted)
+    let more : to_z w32 (of_z w32 (pos 2 *ℤ s.drift +ℤ pos s.count)) ≡ pos 2 *ℤ s.drift +ℤ pos s.count =
+    to_z-of_z-small (pos 2 *ℤ s.drift +ℤ pos s.count) (omega (arith, ints)) (omega (arith, ints)) in
+    rw (drift_kept s bounds, double, to_z-count s.count bounds.few_counted, more)
+    (moved_lt (pos 2 *ℤ s.drift) (pos s.count) (int_lt (pos 2 *ℤ s.drift +ℤ pos s.count) (pos 0)) refl)
 
 pub flip_fits : (v : ℤ) → IsDifference v → SFits w32 (neg_ℤ (pos 1) -ℤ to_z w32 (of_z w32 v))
 flip_fits v bounds = rw (to_z-of_z-difference v bounds) (SFits-small (neg_ℤ (pos 1) -ℤ v) (omega (arith, ints)) (omega (arith, ints)))
@@ -323,14 +347,14 @@ flip_range v bounds =
     subst IsDifference (sym (flip_is v bounds)) flip
 
 pub flipped_twice : (s : ContextState) (v : ℤ) → IsState s → IsDifference v
-    → int_lt (to_z w32 (of_z w32 (pos 2 *ℤ to_z w32 (of_z w32 s.drift)))) (to_z w32 (of_z w32 (pos 0 -ℤ to_z w32 s.count))) ≡ true
+    → int_lt (to_z w32 (of_z w32 (to_z w32 (of_z w32 (pos 2 *ℤ to_z w32 (of_z w32 s.drift))) +ℤ to_z w32 s.count))) (pos 0) ≡ true
     → flipped s (to_z w32 (of_z w32 (neg_ℤ (pos 1) -ℤ to_z w32 (of_z w32 v)))) ≡ v
 flipped_twice s v bounds difference test =
     let back : neg_ℤ (pos 1) -ℤ (neg_ℤ (pos 1) -ℤ v) ≡ v = omega (arith, ints) in
     rw (flip_is v difference, sym (flip_test s bounds) ∙ test) back
 
 pub flipped_not : (s : ContextState) (v : ℤ) → IsState s → IsDifference v
-    → int_lt (to_z w32 (of_z w32 (pos 2 *ℤ to_z w32 (of_z w32 s.drift)))) (to_z w32 (of_z w32 (pos 0 -ℤ to_z w32 s.count))) ≡ false
+    → int_lt (to_z w32 (of_z w32 (to_z w32 (of_z w32 (pos 2 *ℤ to_z w32 (of_z w32 s.drift))) +ℤ to_z w32 s.count))) (pos 0) ≡ false
     → flipped s (to_z w32 (of_z w32 v)) ≡ v
 flipped_not s v bounds difference test = rw (to_z-of_z-difference v difference, sym (flip_test s bounds) ∙ test)
 

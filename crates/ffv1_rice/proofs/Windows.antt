@@ -1,12 +1,14 @@
 -- Codes in a window of 56 bits.
-use Rattle.std.proofs.Common.{◌≡◌, ℕ, zero, suc, ◌+◌, ◌-◌, ◌*◌, ◌/◌, ◌%◌, ◌^◌, ◌<◌, ◌≤◌, true, false, eqb, [], ◌∷◌, ◌++◌, length, replicate, refl, sym, ap, subst, ◌∙◌, arith, lit<, length-append, ⊎_elim}
+use Rattle.std.proofs.Common.{◌≡◌, ℕ, zero, suc, ◌+◌, ◌-◌, ◌*◌, ◌/◌, ◌%◌, ◌^◌, ◌<◌, ◌≤◌, true, false, eqb, [], ◌∷◌, ◌++◌, length, take, replicate, List, Bool, append_assoc, refl, sym, ap, subst, ◌∙◌, arith, lit<, length-append, ⊎_elim}
 use Rattle.std.specs.Int.Count.{count_leading_zeros}
 use Rattle.std.proofs.lemmas.Bool.{lt-ltb, cases_lt}
-use Rattle.std.proofs.lemmas.Nat.{leading_length, le-div, pow-add, pow_pos, one_shl, shr_below}
+use Rattle.std.proofs.lemmas.Nat.{leading_length, le-div, pow-add, pow_pos, shr_below}
 use Rattle.std.proofs.lemmas.Nat.Bits.{bit_at_above}
-use Rattle.std.proofs.Math.Nat.{pow-suc, mul-le-mul}
+use Rattle.std.proofs.Math.Nat.{pow-suc}
 use Rattle.std.proofs.Math.Pow.{pow_mono}
+use Rattle.std.proofs.lemmas.List.{take_at}
 use Rattle.ffv1_bits.specs.Bits.{number_bits}
+use Rattle.ffv1_bits.specs.Reader.{Reading, Reads}
 use Rattle.ffv1_bits.proofs.Numbers.{length-number_bits, number_bits-split, number_bits-low}
 use Rattle.ffv1_rice.specs.Codes.{prefix_bits, code_bits, BeginsWith}
 use Rattle.ffv1_rice.proofs.Shapes.{short_code, escape_code, short_suffix}
@@ -61,22 +63,24 @@ suffix_at window z k few small low high =
     let narrow : window / 2 ^ behind < 2 ^ suc k = shr_below window (suc k) behind below in
     (le-div (2 ^ k) window (2 ^ behind) (pow_pos behind) whole, omega (arith, narrow, pow-suc 2 k))
 
--- the suffix as the code has it
-pub suffix_left : (window z k : ℕ) → z < 12 → k ≤ 7 → 2 ^ (55 - z) ≤ window → window < 2 ^ (56 - z)
-    → let place : ℕ = window / 2 ^ (55 - z - k) in
-    (1 * 2 ^ k % 2 ^ 64 ≤ place) × (place - 1 * 2 ^ k % 2 ^ 64 < 2 ^ 7) × (place - 1 * 2 ^ k % 2 ^ 64 ≡ place - 2 ^ k)
-suffix_left window z k few small low high =
+pub small_place : (window z k : ℕ) → z < 12 → k ≤ 7 → 2 ^ (55 - z) ≤ window → window < 2 ^ (56 - z) → window / 2 ^ (55 - z - k) < 2 ^ 8
+small_place window z k few small low high =
     let bounds = suffix_at window z k few small low high in
-    let one : 1 * 2 ^ k % 2 ^ 64 ≡ 2 ^ k = one_shl k 64 (omega arith) in
     let power : 2 ^ k ≤ 2 ^ 7 = pow_mono small in
-    (omega (arith, one, bounds.0), omega (arith, one, bounds.1, power), omega (arith, one))
+    omega (arith, bounds.1, power)
 
-pub shifted_bound : (k z : ℕ) → z < 12 → k ≤ 7 → z * 2 ^ k % 2 ^ 32 < 2 ^ 11
-shifted_bound k z few small =
-    let power : 2 ^ k ≤ 2 ^ 7 = pow_mono small in
-    let most : z ≤ 11 = omega arith in
-    let product : z * 2 ^ k ≤ 11 * 2 ^ 7 = mul-le-mul most power in
-    omega (arith, product)
+-- the number as the code has it: the one before the suffix stands for a zero
+pub short_number : (z k low : ℕ) → z < 12 → k ≤ 7 → 2 ^ k ≤ low → low < 2 ^ 8
+    → ((z + 4294967295) % 4294967296 * 2 ^ k % 4294967296 + low) % 4294967296 ≡ z * 2 ^ k + (low - 2 ^ k)
+short_number z zero low few small one narrow = omega arith
+short_number z (suc zero) low few small one narrow = omega arith
+short_number z (suc (suc zero)) low few small one narrow = omega arith
+short_number z (suc (suc (suc zero))) low few small one narrow = omega arith
+short_number z (suc (suc (suc (suc zero)))) low few small one narrow = omega arith
+short_number z (suc (suc (suc (suc (suc zero))))) low few small one narrow = omega arith
+short_number z (suc (suc (suc (suc (suc (suc zero)))))) low few small one narrow = omega arith
+short_number z (suc (suc (suc (suc (suc (suc (suc zero))))))) low few small one narrow = omega arith
+short_number z (suc (suc (suc (suc (suc (suc (suc (suc k)))))))) low few small one narrow = absurd (omega arith)
 
 window_one : (window width : ℕ) → 2 ^ width ≤ window → window < 2 ^ (1 + width) → window / 2 ^ width ≡ 1
 window_one window width low high =
@@ -116,6 +120,15 @@ short_begins window z k suffix number few small low high is value =
         length-number_bits r window,
       );
     }
+
+-- a code that is passed over is read
+pub begun_read : (old new : Reading) (window code rest : List Bool) (count : ℕ) → old.left ≡ window ++ rest → BeginsWith window code count
+    → Reads old (take count old.left) new → Reads old code new
+begun_read old new window code rest count left begins passed =
+    let parts : old.left ≡ code ++ (begins.rest ++ rest) =
+    left ∙ ap (λ l. l ++ rest) begins.same ∙ append_assoc code begins.rest rest in
+    let front : take count old.left ≡ code = ap (take count) parts ∙ take_at code (begins.rest ++ rest) count begins.long in
+    subst (λ l. Reads old l new) front passed
 
 pub escape_begins : (window k number : ℕ) → window < 2 ^ 44 → number ≡ window / 2 ^ 36 + 11 → 12 ≤ number / 2 ^ k
     → BeginsWith (number_bits 56 window) (code_bits number k) 20

@@ -63,11 +63,11 @@ fn read_number(bits: &mut Bits, k: u32) -> Result<u32, CodeFault>
     match read_at_once(bits, k) {
         Some(number) => Ok(number),
         None => {
-            // A reader of its own, so that the other one can stay in registers.
+            // A reader of its own, so that the other one can stay in registers; of it the place alone changes.
             let mut slow = bits.fork();
-            let number = read_bit_by_bit(&mut slow, k);
-            *bits = slow;
-            number
+            let number = read_bit_by_bit(&mut slow, k)?;
+            bits.skip(slow.place() - bits.place());
+            Ok(number)
         }
     }
 }
@@ -81,59 +81,51 @@ fn read_at_once(bits: &mut Bits, k: u32) -> Option<u32>
     ensures none { IfNone result (bits.new ≡ bits.old) }
 {
     let window = bits.peek()?;
-    let (number, length) = number_in(window, k)?;
-    bits.skip(length as usize);
-    Some(number)
-}
-
-/// The number whose code these 56 bits begin with, and the code's length. None where it has a fault.
-#[inline(always)]
-fn number_in(window: u64, k: u32) -> Option<(u32, u32)>
-    requires parameter { k ≤ 7 }
-    requires window { window < 2 ^ 56 }
-    ensures byte { IfSome result (λ found. found.0 ≤ 255) }
-    ensures some { IfSome result (λ found. BeginsWith (number_bits 56 window) (code_bits found.0 k) found.1) }
-{
     let zeros = window.leading_zeros() - 8;
     if zeros < ESCAPE_ZEROS {
-        short_in(window, k, zeros)
+        let number = short_in(window, k, zeros)?;
+        bits.skip((zeros + 1 + k) as usize);
+        Some(number)
     } else {
-        escaped_in(window, k)
+        let number = escaped_in(window, k)?;
+        bits.skip((ESCAPE_ZEROS + ESCAPE_BITS) as usize);
+        Some(number)
     }
 }
 
 /// The number, where the prefix has fewer than 12 zeros.
 #[inline(always)]
-fn short_in(window: u64, k: u32, zeros: u32) -> Option<(u32, u32)>
+fn short_in(window: u64, k: u32, zeros: u32) -> Option<u32>
     requires parameter { k ≤ 7 }
     requires zeros { zeros < 12 }
     requires low { 2 ^ (55 - zeros) ≤ window }
     requires high { window < 2 ^ (56 - zeros) }
-    ensures byte { IfSome result (λ found. found.0 ≤ 255) }
-    ensures some { IfSome result (λ found. BeginsWith (number_bits 56 window) (code_bits found.0 k) found.1) }
+    ensures byte { IfSome result (λ u. u ≤ 255) }
+    ensures some { IfSome result (λ u. BeginsWith (number_bits 56 window) (code_bits u k) (zeros + 1 + k)) }
 {
-    // The one that ends the prefix stands before the suffix.
-    let suffix = (window >> (55 - zeros - k)) - (1 << k);
-    let number = (zeros << k) + suffix as u32;
+    // The one that ends the prefix stands before the suffix, so that one zero less is counted.
+    let low = (window >> (55 - zeros - k)) as u32;
+    let number = (zeros.wrapping_sub(1) << k).wrapping_add(low);
     if number > LARGEST_NUMBER {
         return None;
     }
-    Some((number, zeros + 1 + k))
+    Some(number)
 }
 
 /// The number, where the prefix is an escape.
-#[inline(always)]
-fn escaped_in(window: u64, k: u32) -> Option<(u32, u32)>
+#[cold]
+#[inline(never)]
+fn escaped_in(window: u64, k: u32) -> Option<u32>
     requires parameter { k ≤ 7 }
     requires window { window < 2 ^ 44 }
-    ensures byte { IfSome result (λ found. found.0 ≤ 255) }
-    ensures some { IfSome result (λ found. BeginsWith (number_bits 56 window) (code_bits found.0 k) found.1) }
+    ensures byte { IfSome result (λ u. u ≤ 255) }
+    ensures some { IfSome result (λ u. BeginsWith (number_bits 56 window) (code_bits u k) 20) }
 {
     let number = (window >> 36) as u32 + ESCAPE_OFFSET;
     if number >> k < ESCAPE_ZEROS || number > LARGEST_NUMBER {
         return None;
     }
-    Some((number, ESCAPE_ZEROS + ESCAPE_BITS))
+    Some(number)
 }
 
 /// The number whose code comes next, bit by bit. After a fault the bits stand at any place.
@@ -232,8 +224,9 @@ impl VlcState {
         let number = read_number(&mut ahead, self.k())?;
         let coded = self.coded(number);
         let difference = difference_of(self.value(coded), level)?;
-        *self = self.updated(coded);
+        let next = self.updated(coded);
         *bits = ahead;
+        *self = next;
         Ok(difference)
     }
 }

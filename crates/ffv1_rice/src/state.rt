@@ -3,7 +3,7 @@
 //! A state counts 1 to 128 values, its drift lies between -count and 0, and its error sum is at
 //! most 128 for each value counted, so that its parameter is at most 7.
 ghost use Rattle.std.specs.Prelude.{◌≡◌, ℕ, ◌-◌, ◌^◌, pos, ◌≤ℤ◌, ◌≤◌};
-ghost use Rattle.ffv1_rice.specs.States.{IsDifference, fold, start_state, IsParameter, with_value, counted, corrected, updated, IsState, IsUncounted, IsUncorrected, coded_value, flipped, sign_number};
+ghost use Rattle.ffv1_rice.specs.States.{IsDifference, half, fold, start_state, IsParameter, with_value, counted, corrected, updated, IsState, IsUncounted, IsUncorrected, coded_value, flipped, sign_number};
 
 use std::marker::Model;
 
@@ -67,7 +67,7 @@ impl Sums {
     {
         if self.count == 128 {
             Sums {
-                drift: self.drift.div_euclid(2),
+                drift: halved(self.drift),
                 error_sum: self.error_sum / 2,
                 count: self.count / 2 + 1,
                 ..self
@@ -87,7 +87,7 @@ impl Sums {
         ensures range { IsState result }
     {
         let count = self.count as i32;
-        if self.drift <= -count {
+        if self.drift + count <= 0 {
             return Sums {
                 drift: (self.drift + count).max(1 - count),
                 bias: (self.bias - 1).max(-128),
@@ -103,6 +103,15 @@ impl Sums {
         }
         self
     }
+}
+
+/// Half of the drift, rounded down. One value in 64 comes here, and the others pass by it in one test.
+#[cold]
+#[inline(never)]
+fn halved(drift: i32) -> i32
+    ensures { result ≡ half drift }
+{
+    drift.div_euclid(2)
 }
 
 /// The number from -128 to 127 that is `d` modulo 256. The sum of `d` and 128 fits an `i32`.
@@ -134,12 +143,13 @@ impl VlcState {
         ensures parameter { IsParameter self.now result }
         ensures bound { result ≤ 7 }
     {
-        for k in 0..7 {
-            if self.sums.count << k >= self.sums.error_sum {
-                return k;
-            }
+        let count_zeros = self.sums.count.leading_zeros();
+        let k = count_zeros.saturating_sub(self.sums.error_sum.leading_zeros());
+        if self.sums.count << k >= self.sums.error_sum {
+            k
+        } else {
+            k + 1
         }
-        7
     }
 
     /// Drift, error sum, bias and count, in this order.
@@ -189,7 +199,7 @@ impl VlcState {
         ensures again { flipped self.now result ≡ coded }
         ensures range { IsDifference result }
     {
-        if 2 * self.sums.drift < -(self.sums.count as i32) {
+        if 2 * self.sums.drift + (self.sums.count as i32) < 0 {
             -1 - coded
         } else {
             coded

@@ -1,5 +1,5 @@
-use Rattle.std.proofs.Common.{◌≡◌, ◌+◌, ◌<◌, ◌∙◌, ap, sym, arith, rules, get_or-set_same}
-use Rattle.ffv1_plane.proofs.Rows.{pushed, near_is, push_left}
+use Rattle.std.proofs.Common.{◌<◌, arith, rules}
+use Rattle.ffv1_plane.proofs.Rows.{pushed, push_left}
 use Rattle.ffv1_plane.proofs.lines.Lines.push.Goals as goal
 
 pub invariant_of-self : goal.invariant_of-self

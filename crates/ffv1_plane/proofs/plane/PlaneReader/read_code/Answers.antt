@@ -13,9 +13,9 @@ returns-clause-read c =
     let i_is : c.unsigned_abs.result ≡ nat_abs c.args.context = (simp to_z-of_z at c.unsigned_abs.ensures.value) in
     sample_read_at c.args.self.now.lines.width (entry_of c.args.self.now) c.args.level c.args.self.now.lines.samples c.push.new.self.samples
     c.args.self.now.states.items c.args.self.now.bits c.decode.new.bits
-    c.args.near.now c.args.context _ c.in-Ok.difference _ c.sample_of-sample.result c.unsigned_abs.result c.prediction.result c.index_mut-state.result.now
+    c.args.near.now c.args.context _ c.in-Ok.difference _ c.sample_of-sample.result c.unsigned_abs.result c.prediction-prediction.result c.index_mut-state.result.now
     c.decode.new.self
-    some c.requires.near c.requires.context c.prediction.ensures (to_z-of_z w32 c.args.context f)
+    some c.requires.near c.requires.context c.prediction-prediction.ensures (to_z-of_z w32 c.args.context f)
     (to_z-of_z w32 c.in-Ok.difference g) c.sample_of-sample.ensures
     (ap (λ r. r.samples) c.push.ensures.value) c.in-Ok.ensures.range
     i_is (omega (arith, i_is, c.requires.below)) c.index_mut-state.ensures.value c.in-Ok.ensures.ok c.in-Ok.ensures.state

@@ -1,10 +1,7 @@
-use Rattle.std.proofs.Common.{arith, sym, subst}
+use Rattle.std.proofs.Common.{sym, subst}
 use Rattle.ffv1_rice.specs.States.{IsUncounted, IsUncorrected}
 use Rattle.ffv1_rice.proofs.Sums.{count_more_fits, half_more_fits, counted_halved, counted_more, counted_range}
 use Rattle.ffv1_rice.proofs.state.Sums.counted.Goals as goal
-
-pub div_euclid-requires-clause-no_overflow : goal.div_euclid-requires-clause-no_overflow
-div_euclid-requires-clause-no_overflow c = λ two _. absurd (omega (arith, two))
 
 pub overflow_add-self-inside : goal.overflow_add-self-inside
 overflow_add-self-inside c = half_more_fits c.self.inside.count (subst IsUncounted (sym c.self.view_is) c.requires).few_counted
@@ -14,7 +11,7 @@ overflow_add-result c = count_more_fits c.self.inside.count (subst IsUncounted (
 
 pub returns-then-self-eq128-clause-value : goal.returns-then-self-eq128-clause-value
 returns-then-self-eq128-clause-value c =
-    rw (← c.self.view_is) (counted_halved _ c.div_euclid.result (subst IsUncounted (sym c.self.view_is) c.requires) c.if-self-eq128.true c.div_euclid.ensures)
+    rw (← c.self.view_is) (counted_halved _ c.halved.result (subst IsUncounted (sym c.self.view_is) c.requires) c.if-self-eq128.true c.halved.ensures)
 
 pub returns-then-self-eq128-clause-range : goal.returns-then-self-eq128-clause-range
 returns-then-self-eq128-clause-range c = subst IsUncorrected (sym (returns-then-self-eq128-clause-value c)) (counted_range c.args.self c.requires)

@@ -22,8 +22,8 @@ value-requires c = IsDifference-of_z c.coded-coded.result c.coded-coded.ensures.
 pub difference_of-requires : goal.difference_of-requires
 difference_of-requires c = IsDifference-of_z c.value.result c.value.ensures.range
 
-pub updated-requires : goal.updated-requires
-updated-requires c = IsDifference-of_z c.coded-coded.result c.coded-coded.ensures.range
+pub updated-next-requires : goal.updated-next-requires
+updated-next-requires c = IsDifference-of_z c.coded-coded.result c.coded-coded.ensures.range
 
 pub returns-clause-range : goal.returns-clause-range
 returns-clause-range c = IsCodedDifference-of_z c.args.level c.in_ok-difference.difference c.in_ok-difference.ensures.range
