@@ -1,7 +1,9 @@
 //! The calls of the libraries, each on a recorded frame.
 use crate::attempt::{Attempt, Outcome};
 use crate::buffer::Buffer;
-use crate::stock::{FRAME, RECORD, SIZE, Stock, file_of, first_copy, holding_of, second_copy};
+use crate::stock::{
+    FRAME, RECORD, SIZE, Stock, file_of, first_copy, holding_of, second_copy, torn_copies,
+};
 use ffv1_bits::remainder;
 use ffv1_hold::{
     FromRead, FromWrite, HoldFault, HoldFileFault, Holding, Join, RestoreFault, TakeAllFault,
@@ -11,6 +13,8 @@ use ffv1_picture::{Decoder, Frame, FrameFault, Partial, TileOutcome, picture, re
 use ffv1_plane::{TileFault, decode_tile};
 use ffv1_range::{Setup, SetupFault};
 use ffv1_slice::content_of;
+use ffv1_splice::{SpliceFault, splice};
+use ffv1_weave::{Outcome as Woven, weave};
 use std::alloc::Global;
 use std::io;
 
@@ -356,6 +360,40 @@ impl Attempt for Report<'_> {
         match report(alloc, self.held) {
             Ok(text) => Outcome::Answer(remainder(text.as_bytes())),
             Err(_) => Outcome::Memory,
+        }
+    }
+}
+
+/// `weave` of the last slice of both torn copies.
+#[derive(Drop)]
+pub struct Weave;
+
+impl Attempt for Weave {
+    fn attempt(&mut self, alloc: Global) -> Outcome {
+        let [one, other] = torn_copies();
+        match weave(alloc, &[&one[LAST_SLICE..], &other[LAST_SLICE..]]) {
+            Ok(Woven::Woven(bytes, 4)) if bytes.as_slice() == &FRAME[LAST_SLICE..] => {
+                Outcome::Answer(remainder(&bytes))
+            }
+            Ok(_) => Outcome::Wrong,
+            Err(_) => Outcome::Memory,
+        }
+    }
+}
+
+/// `splice` of both torn copies.
+#[derive(Drop)]
+pub struct Splice;
+
+impl Attempt for Splice {
+    fn attempt(&mut self, alloc: Global) -> Outcome {
+        let [one, other] = torn_copies();
+        match splice(alloc, &[&one, &other]) {
+            Ok(spliced) if spliced.payload() == FRAME.as_slice() => {
+                Outcome::Answer(remainder(spliced.payload()))
+            }
+            Err(SpliceFault::Memory) => Outcome::Memory,
+            Ok(_) | Err(_) => Outcome::Wrong,
         }
     }
 }

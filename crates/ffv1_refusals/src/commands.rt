@@ -2,10 +2,10 @@
 //! front of its file.
 use crate::attempt::{Attempt, Outcome};
 use crate::buffer::Buffer;
-use crate::stock::{FRAME, RECORD, SIZE, Stock, first_copy, second_copy};
+use crate::stock::{FRAME, RECORD, SIZE, Stock, first_copy, second_copy, torn_copies};
 use ffv1_commands::{
     CliFault, run_chain, run_decode, run_join, run_merge, run_picture, run_report, run_restore,
-    run_show, run_take,
+    run_show, run_splice, run_take,
 };
 use std::alloc::Global;
 
@@ -62,6 +62,8 @@ pub enum Command {
     Restore,
     /// `run_picture` of the file of both copies.
     Picture,
+    /// `run_splice` of both torn copies.
+    Splice,
     /// `run_decode` of the frame.
     Decode,
 }
@@ -117,6 +119,13 @@ impl<'a> Run<'a> {
                 Ok(_) => Ok(()),
                 Err(fault) => Err(fault),
             },
+            Command::Splice => {
+                let [one, other] = torn_copies();
+                match run_splice(alloc, &mut [one.as_slice(), &other], made, printed) {
+                    Ok(_) => Ok(()),
+                    Err(fault) => Err(fault),
+                }
+            }
             Command::Decode => {
                 run_decode(alloc, &mut record, width, height, &mut frame, made, printed)
             }

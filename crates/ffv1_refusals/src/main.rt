@@ -15,7 +15,7 @@ mod stock;
 use attempt::{Attempt, Outcome};
 use calls::{
     DecodeFrame, DecodeTile, JoinStreams, JoinWith, MakeDecoder, MakeHolding, Picture, ReadHold,
-    ReadSetup, Report, Restore, Take, TakeAll, WriteHold,
+    ReadSetup, Report, Restore, Splice, Take, TakeAll, Weave, WriteHold,
 };
 use commands::{Command, Run};
 use std::io;
@@ -69,6 +69,12 @@ fn tell_pictures(rt: &HostRuntime, stock: &Stock) -> io::Result<()> {
     tell(rt, "report", Report { held })
 }
 
+/// The calls that splice copies without a setup.
+fn tell_splices(rt: &HostRuntime) -> io::Result<()> {
+    tell(rt, "weave", Weave)?;
+    tell(rt, "splice", Splice)
+}
+
 /// The functions of the commands.
 fn tell_commands(rt: &HostRuntime, stock: &Stock) -> io::Result<()> {
     tell(rt, "run_chain", Run::new(Command::Chain, stock))?;
@@ -79,6 +85,7 @@ fn tell_commands(rt: &HostRuntime, stock: &Stock) -> io::Result<()> {
     tell(rt, "run_report", Run::new(Command::Report, stock))?;
     tell(rt, "run_restore", Run::new(Command::Restore, stock))?;
     tell(rt, "run_picture", Run::new(Command::Picture, stock))?;
+    tell(rt, "run_splice", Run::new(Command::Splice, stock))?;
     tell(rt, "run_decode", Run::new(Command::Decode, stock))
 }
 
@@ -87,6 +94,7 @@ fn tell_calls(rt: &HostRuntime, stock: &Stock) -> io::Result<()> {
     tell_holdings(rt, stock)?;
     tell_files(rt, stock)?;
     tell_pictures(rt, stock)?;
+    tell_splices(rt)?;
     tell_commands(rt, stock)
 }
 

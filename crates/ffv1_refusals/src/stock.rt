@@ -58,6 +58,14 @@ pub fn second_copy() -> [u8; 336] {
     copy
 }
 
+/// Two copies with damage in tile 3, each in another place of it.
+pub fn torn_copies() -> [[u8; 336]; 2] {
+    let (mut one, mut other) = (FRAME, FRAME);
+    one[230] ^= 1;
+    other[320] ^= 1;
+    [one, other]
+}
+
 /// The holding of copies.
 pub fn holding_of(alloc: Global, copies: &[&[u8]]) -> io::Result<Holding> {
     let refused = io::Error::from(ErrorKind::OutOfMemory);
