@@ -1,7 +1,7 @@
 //! The commands on devices that fail behind any number of bytes: which path is told, and what is left in the outputs.
 use ffv1_commands::{
     CliFault, CommandPath, run_chain, run_decode, run_join, run_picture, run_report, run_restore,
-    run_show, run_take,
+    run_show, run_splice, run_take,
 };
 use ffv1_hold::HoldFileFault;
 use std::alloc::Global;
@@ -126,10 +126,11 @@ enum Command {
     Report,
     Restore,
     Picture,
+    Splice,
     Decode,
 }
 
-const COMMANDS: [Command; 8] = [
+const COMMANDS: [Command; 9] = [
     Command::Chain,
     Command::Show,
     Command::Take,
@@ -137,6 +138,7 @@ const COMMANDS: [Command; 8] = [
     Command::Report,
     Command::Restore,
     Command::Picture,
+    Command::Splice,
     Command::Decode,
 ];
 
@@ -147,6 +149,7 @@ impl Command {
             Command::Chain => (CommandPath::Frame, None),
             Command::Show => (CommandPath::Record, None),
             Command::Take => (CommandPath::Record, Some(CommandPath::Copy(0))),
+            Command::Splice => (CommandPath::Copy(0), Some(CommandPath::Copy(1))),
             Command::Decode => (CommandPath::Record, Some(CommandPath::Frame)),
             Command::Join => (CommandPath::Hold(0), Some(CommandPath::Hold(1))),
             Command::Report | Command::Restore | Command::Picture => (CommandPath::Hold(0), None),
@@ -159,6 +162,7 @@ impl Command {
             Command::Chain => (&FRAME, &[]),
             Command::Show => (&RECORD, &[]),
             Command::Take | Command::Decode => (&RECORD, &FRAME),
+            Command::Splice => (&FRAME, &FRAME),
             Command::Join => (&files.part, &files.whole),
             Command::Report | Command::Restore => (&files.whole, &[]),
             Command::Picture => (&files.part, &[]),
@@ -190,6 +194,10 @@ fn run<'a>(
         Command::Report => run_report(alloc, &mut first, printed),
         Command::Restore => run_restore(alloc, &mut first, out, printed),
         Command::Picture => match run_picture(alloc, &mut first, out, printed) {
+            Ok(_) => Ok(()),
+            Err(fault) => Err(fault),
+        },
+        Command::Splice => match run_splice(alloc, &mut [first, second], out, printed) {
             Ok(_) => Ok(()),
             Err(fault) => Err(fault),
         },

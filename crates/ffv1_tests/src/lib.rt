@@ -11,4 +11,6 @@ mod made;
 #[cfg(test)]
 mod rot;
 #[cfg(test)]
+mod splice;
+#[cfg(test)]
 mod suite;
