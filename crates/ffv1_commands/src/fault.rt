@@ -12,8 +12,8 @@ use thiserror::Error;
 /// A fault of a command. That of a device says which path of the command it is.
 #[derive(Debug, Drop, Error)]
 pub enum CliFault {
-    /// The file could not be opened or read; or it is a record or the payload of `chain` or `decode`, and longer than
-    /// 2^30 bytes.
+    /// The file could not be opened or read; or it is a record, the payload of `chain` or `decode` or a copy of `splice`,
+    /// and longer than 2^30 bytes.
     #[error("{0:?} was not read")]
     Read(CommandPath),
     /// The file could not be made or written; or it is the one that `merge` makes, and an input by the same word.
@@ -22,7 +22,7 @@ pub enum CliFault {
     /// The configuration record, with its width and height, gives no setup of the profile.
     #[error("setup fault")]
     Setup(SetupFault),
-    /// A copy is too long, or a holding file is of another record or size than the first. `Memory` is never this
+    /// A copy of `take` is too long, or a holding file is of another record or size than the first. `Memory` is never this
     /// fault's cause.
     #[error("hold fault")]
     Hold(HoldFault),
