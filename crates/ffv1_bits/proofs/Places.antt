@@ -34,7 +34,7 @@ bit_in_byte (x ∷ xs) (suc i) j h k =
     ap (λ n. get_or (bits_of (x ∷ xs)) n false) (let e : 8 * suc i + j ≡ length (number_bits 8 x) + (8 * i + j) = omega (arith, length-number_bits 8 x) in e)
     ∙ get_or-append-add (number_bits 8 x) (bits_of xs) (8 * i + j) false ∙ bit_in_byte xs i j (omega arith) k
 
--- the next bit, and those behind it
+-- the next bit, and those after it
 pub next_bit : (bytes : List ℕ) (place : ℕ) → place / 8 < length bytes
     → drop place (bits_of bytes) ≡ eqb (bit_and (get_or bytes (place / 8) 0 / 2 ^ (7 - place % 8)) 1) 1 ∷ drop (place + 1) (bits_of bytes)
 next_bit bytes place within =
@@ -45,7 +45,7 @@ next_bit bytes place within =
     drop_more (bits_of bytes) place false below
     ∙ ap (λ b. b ∷ drop (place + 1) (bits_of bytes)) (bit ∙ ap (λ b. eqb b 1) (sym (shr_and_one (get_or bytes (place / 8) 0) (7 - place % 8))))
 
--- behind the last byte no bit is left
+-- after the last byte no bit is left
 pub no_bit : (bytes : List ℕ) (place : ℕ) → length bytes ≤ place / 8 → drop place (bits_of bytes) ≡ []
 no_bit bytes place past = drop_all place (bits_of bytes) (omega (arith, length-bits bytes))
 

@@ -33,7 +33,7 @@ entry_is t h =
     zero_more (t ∷ 0 ∷ 0 ∷ []) ∙ ap (λ z. divided 8 (z * 2 ^ 8)) three ∙ divided_low 8 (t * 2 ^ 8 * 2 ^ 8 * 2 ^ 8) (omega arith) in
     zero_more (t ∷ 0 ∷ 0 ∷ 0 ∷ []) ∙ ap (λ z. divided 8 (z * 2 ^ 8)) four ∙ ap (divided 8) (omega arith)
 
--- One byte more: the entry of the top byte, and the rest of the register moved up with the byte behind it.
+-- One byte more: the entry of the top byte, and the rest of the register moved up with the byte after it.
 table_step : (r b : ℕ) → r < 2 ^ 32 → b < 256 → divided 8 (r * 2 ^ 8 + b) ≡ bit_xor (entry_of (r / 2 ^ 24)) (r % 2 ^ 24 * 2 ^ 8 + b)
 table_step r b h k =
     let split : r * 2 ^ 8 + b ≡ r / 2 ^ 24 * 2 ^ 32 + (r % 2 ^ 24 * 2 ^ 8 + b) = omega arith in

@@ -216,7 +216,7 @@ word_taken r low word below long small is =
     ∙ ap (λ q. bit_xor q (divided 64 (r * 2 ^ 64))) (sym (divided-word word low long small is))
     ∙ xor_comm (divided 64 p) (divided 64 (r * 2 ^ 64)) ∙ sym (divided-add r 64 p fits)
 
--- ---- a word behind other bytes
+-- ---- a word after other bytes
 
 remainder_word : (bytes word : List ℕ) → length word ≡ 8
     → remainder_of (bits_of (bytes ++ word)) ≡ divided 64 (remainder_of (bits_of bytes) * 2 ^ 64 + polynomial_of (bits_of word))

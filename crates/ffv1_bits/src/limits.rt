@@ -1,4 +1,4 @@
-//! The limits of this reader, each in one place: they are not of the format, but for that of a slice.
+//! The limits of this reader, each in one place: they are not of the format, except that of a slice.
 
 /// The greatest width and height of a frame, in samples.
 pub const GREATEST_SIDE: u32 = 65535;

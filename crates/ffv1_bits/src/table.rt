@@ -3,7 +3,7 @@ ghost use Rattle.std.specs.Prelude.{◌≡◌, ◌+◌, ◌<◌, [], ◌∷◌, 
 ghost use Rattle.ffv1_bits.specs.Bits.{bits_of};
 ghost use Rattle.ffv1_bits.specs.Parity.{remainder_of};
 
-/// At each number from 0 to 7 and each byte the remainder of the byte and four zero bytes and that many more behind it.
+/// At each number from 0 to 7 and each byte the remainder of the byte and four zero bytes and that many more after it.
 const REMAINDERS: [[u32; 256]; 8] = [
     [
         0x00000000, 0x04C11DB7, 0x09823B6E, 0x0D4326D9, 0x130476DC, 0x17C56B6B, 0x1A864DB2,

@@ -165,7 +165,7 @@ fn contents_without_a_picture(rt: HostRuntime) -> Result<(), Fail> {
             (2, 1),
             code(CodeFault::Truncated, 0, 1),
         ),
-        // twelve zeros and `00100100`, behind a run word
+        // twelve zeros and `00100100`, after a run word
         (
             &[0xFD, 0xF6, 0x00, 0x01, 0x20],
             (1, 1),

@@ -5,8 +5,8 @@ use ffv1_bits::Bits;
 use ffv1_rice::{CodeFault, RunIndex, RunWord, VlcState, fold};
 use std::test::*;
 
-/// What reading a word of a line with so many samples left answers, behind `skipped` bits and `words` whole words, and
-/// the index and the place behind it.
+/// What reading a word of a line with so many samples left answers, after `skipped` bits and `words` whole words, and
+/// the index and the place after it.
 fn word_behind(
     bytes: &[u8],
     skipped: u32,

@@ -97,7 +97,7 @@ const RECORDED: [u8; 336] = [
     0x80, 0x03, 0x0A, 0x61, 0x4C, 0xC2, 0x5D, 0x80, 0x00, 0x00, 0x65, 0x00, 0xE1, 0x40, 0xA3, 0xC1,
 ];
 
-/// The frame behind five bytes that are none of it.
+/// The frame after five bytes that are none of it.
 fn behind_junk(alloc: Global) -> Result<Vec<u8>, Fail> {
     let mut payload = Vec::from_slice(alloc, &[0xAA; 5])?;
     payload.extend_from_slice(&RECORDED)?;

@@ -74,7 +74,7 @@ module _ {F K : Type 0} {R : K → K → Ordering} (o : IsTotalOrder R) (place :
       let long = length-map fs key in
       flip (key f) (key (get_or fs j e)) (ap (R (key f)) (sym (get_or-map key fs j e (key e) lt)) ∙ up 0 (suc j) (key e) (omega arith) (omega arith))
 
-  -- what is lower does not go behind what is higher
+  -- what is lower does not go after what is higher
   gaps_in_order : (ks : List K) (x y : K) (p q : ℕ) → R y x ≡ Greater → IsGapFor R ks x p → IsGapFor R ks y q → p ≤ q
   gaps_in_order ks x y p q above gap also = elim (cases_lt q p) [
     | inl under ↦

@@ -1,4 +1,4 @@
--- Entries move up to make room, and new ones go among them, from behind.
+-- Entries move up to make room, and new ones go among them, from the end.
 use Rattle.std.proofs.Common.{◌≡◌, ℕ, ◌+◌, ◌-◌, ◌<◌, ◌≤◌, List, length, take, drop, get_or, set, sym, refl, ap, ◌∙◌, inl, inr, arith}
 use Rattle.std.specs.List.{insert, CopiedTo, SameBelow, SameFrom}
 use Rattle.std.specs.List.Sorted.{IsNonDecreasingBy}

@@ -1,4 +1,4 @@
--- The slices of new entries go behind the bytes that are there, and the entries tell it.
+-- The slices of new entries go after the bytes that are there, and the entries tell it.
 use Rattle.std.proofs.Common.{◌≡◌, ℕ, ◌+◌, ◌<◌, ◌≤◌, List, ◌++◌, length, drop, get_or, set, sym, refl, ap, subst, ◌∙◌, inl, inr, arith}
 use Rattle.std.proofs.lemmas.Bool.{cases_order}
 use Rattle.std.proofs.lemmas.List.{length-take-le, length-drop, get_or_default, get_or-set_same, get_or-set_other}
@@ -27,7 +27,7 @@ module _ (from bytes : List ℕ) (f : Fresh PoolEntry) (is : IsEntryIn from f.it
         place = refl;
       }
 
--- what lies in the bytes lies there as well with more behind them
+-- what lies in the bytes lies there as well with more after them
 moved_kept : (from bytes more : List ℕ) (old new : Fresh PoolEntry) → IsMoved from bytes old new → IsMoved from (bytes ++ more) old new
 moved_kept from bytes more old new is = record {
   lies = entry_kept bytes more new.item is.lies;

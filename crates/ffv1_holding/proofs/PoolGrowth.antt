@@ -1,4 +1,4 @@
--- A pool with new slices behind its bytes and their entries among its own.
+-- A pool with new slices after its bytes and their entries among its own.
 use Rattle.std.proofs.Common.{◌≡◌, ℕ, ◌<◌, ◌≤◌, List, ◌++◌, length, map, take, drop, get_or, sym, ap, subst, ◌∙◌, arith}
 use Rattle.std.specs.List.Sorted.{IsNonDecreasingBy}
 use Rattle.std.proofs.Math.Seq.{take-append_seam}
@@ -21,7 +21,7 @@ some_fresh : Fresh PoolEntry
 some_fresh = record { place = 0; item = record { tile = 0; start = 0; length = 0; status = 0 } }
 
 module _ (bytes : List ℕ) (es : List PoolEntry) (pool : IsPool bytes es) where
-  -- bytes behind those of the pool change nothing
+  -- bytes after those of the pool change nothing
   pub pool_behind : (next : List ℕ) → ((more : List ℕ) × (next ≡ bytes ++ more)) → IsPool next es
   pool_behind next is = subst (λ b. IsPool b es) (sym is.1) (pool_kept bytes is.0 es pool)
 

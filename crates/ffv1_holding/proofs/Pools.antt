@@ -31,14 +31,14 @@ module _ (bytes more : List ℕ) where
   entries_kept (e ∷ es) each =
       (λ i. (e.tile, part_kept e.start e.length (each 0 e (omega arith)).within i) ∷ entries_kept es (λ j d lt. each (suc j) d (omega arith)) i)
 
-  -- the entries of a pool stay, whatever bytes come behind
+  -- the entries of a pool stay, whatever bytes come after
   pub pool_kept : (es : List PoolEntry) → IsPool bytes es → IsPool (bytes ++ more) es
   pool_kept es pool = record {
     each = each_kept es pool.each;
     rising = subst (IsRising entry_cmp) (sym (entries_kept es pool.each)) pool.rising;
   }
 
--- the entry of a slice that stands behind the bytes
+-- the entry of a slice that stands after the bytes
 abbrev pub entry_behind : List ℕ → ℕ → List ℕ → PoolEntry
 entry_behind bytes tile slice = record { tile = tile; start = length bytes; length = length slice; status = status_before slice (length slice) }
 

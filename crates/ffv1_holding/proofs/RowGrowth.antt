@@ -24,7 +24,7 @@ some_fresh = record { place = 0; item = record { tile = 0; start = 0; length = 0
 some_digest : Fresh (List ℕ)
 some_digest = record { place = 0; item = [] }
 
--- bytes behind those of the pool change no row
+-- bytes after those of the pool change no row
 module _ (bytes : List ℕ) (os : List PoolEntry) (ds : List (List ℕ)) (rows : IsRows bytes os ds) (next : List ℕ)
     (behind : (more : List ℕ) × (next ≡ bytes ++ more)) where
   owners_behind : AreEntriesIn next os

@@ -30,7 +30,7 @@ pub record IsMoved (from bytes : List ℕ) (old new : Fresh PoolEntry) : Type 0 
   pub same : fresh_in bytes new ≡ fresh_in from old
   pub place : new.place ≡ old.place
 
--- Bytes came behind those that were there, and the new entries lie in them all.
+-- Bytes came after those that were there, and the new entries lie in them all.
 pub record AreMoved (from old_bytes bytes : List ℕ) (old new : List (Fresh PoolEntry)) : Type 0 where
   pub more : List ℕ
   pub behind : bytes ≡ old_bytes ++ more

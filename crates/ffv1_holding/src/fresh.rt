@@ -57,7 +57,7 @@ pub(crate) fn room_of(fresh: &[Fresh<PoolEntry>]) -> Option<usize>
     Some(room)
 }
 
-/// Puts the slices of new entries, which lie in `from`, behind the other bytes, and the entries among the others. There
+/// Puts the slices of new entries, which lie in `from`, after the other bytes, and the entries among the others. There
 /// has to be room.
 pub(crate) fn put_slices(
     from: &[u8],
@@ -78,7 +78,7 @@ pub(crate) fn put_slices(
     spread(entries, fresh);
 }
 
-/// Puts the slices of new entries, which lie in `from`, behind the other bytes, and tells the entries so. There has
+/// Puts the slices of new entries, which lie in `from`, after the other bytes, and tells the entries so. There has
 /// to be room.
 fn move_slices(from: &[u8], bytes: &mut Vec<u8>, fresh: &mut [Fresh<PoolEntry>])
     requires room { vec_len bytes.old + sum_by (λ new. new.item.length) fresh.old ≤ vec_capacity bytes.old }
@@ -108,8 +108,8 @@ pub(crate) fn spread<T: Copy + Default>(items: &mut Vec<T>, fresh: &[Fresh<T>])
     merge(items, held, fresh);
 }
 
-/// Puts new items among the first `held` of items, behind which there is room for just them. Each place is passed once,
-/// from behind.
+/// Puts new items among the first `held` of items, after which there is room for just them. Each place is passed once,
+/// from the end.
 fn merge<T: Copy>(items: &mut [T], held: usize, fresh: &[Fresh<T>])
     requires room { length items.old ≡ held + length fresh.now }
     requires places { (i : ℕ) (d : Fresh T) → i < length fresh.now → (slice_index_or fresh.now i d).place ≤ held }

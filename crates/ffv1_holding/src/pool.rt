@@ -197,7 +197,7 @@ impl Pool {
     }
 
     /// Adds the slices of entries that lie in other bytes, those of `rows`, and these rows, whose owners have to be of
-    /// the same slices. What is new is found first, then room is made for it, and then its slices are put behind the
+    /// the same slices. What is new is found first, then room is made for it, and then its slices are put after the
     /// others, and its entries and rows among the others. The owners are then the entries here.
     fn insert_all(&mut self, entries: &[PoolEntry], rows: Rows<'_>) -> Result<(), HoldFault>
         requires pool { IsPool rows.bytes.now entries.now }

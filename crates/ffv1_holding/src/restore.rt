@@ -1,5 +1,5 @@
 //! What a holding says of its tiles, and the payload that it restores (own). A slice's error_status is the byte of
-//! its footer behind the three of its size (RFC 9043, sections 4.9.1 and 4.9.2).
+//! its footer after the three of its size (RFC 9043, sections 4.9.1 and 4.9.2).
 ghost use Rattle.std.specs.Prelude.{◌≡◌, ◌<◌, ℕ, List, slice_index_or, IfOk, IfErr, OnOk, OnErr};
 ghost use Rattle.ffv1_slice.specs.Slices.{IsOriginal};
 ghost use Rattle.ffv1_holding.specs.Sets as set;

@@ -107,7 +107,7 @@ impl Holding {
     }
 }
 
-/// Lists the slices that are found in a copy, from its end, behind no others, and answers how many links it has.
+/// Lists the slices that are found in a copy, from its end, after no others, and answers how many links it has.
 fn list_found(setup: &Setup, payload: &[u8], found: &mut Vec<PoolEntry>) -> Result<usize, HoldFault>
     requires short { length payload.now ≤ payload_limit }
     requires none { found.old.items ≡ [] }

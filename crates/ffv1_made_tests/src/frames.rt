@@ -45,7 +45,7 @@ pub(crate) fn setup_of(
     Ok(Setup::read(alloc, &record, size.0, size.1)?)
 }
 
-/// The codes of the one tile of a frame: its bytes behind the header's two and before the footer.
+/// The codes of the one tile of a frame: its bytes after the header's two and before the footer.
 fn codes_of(alloc: Global, setup: &Setup, planes: &[&[u8]]) -> Result<Vec<u8>, Fail> {
     let mut tiles = Vec::new(alloc);
     tiles.push(plain_tile(alloc, planes)?)?;
@@ -115,7 +115,7 @@ fn found_tiles(alloc: Global, setup: &Setup, payload: &[u8]) -> Result<Vec<(usiz
     Ok(tiles)
 }
 
-/// The frame of these tiles, behind some bytes, and its setup.
+/// The frame of these tiles, after some bytes, and its setup.
 fn four_tiles_behind(alloc: Global, front: &[u8]) -> Result<(Setup, Vec<u8>), Fail> {
     let setup = setup_of(alloc, SuiteTables::OneRun, None, (2, 2), (2, 2))?;
     let frame = make_frame(alloc, &setup, &four_tiles(alloc)?)?;

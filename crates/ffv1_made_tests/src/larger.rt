@@ -116,7 +116,7 @@ fn longest_lines_of_zeros(rt: HostRuntime) -> Result<(), Fail> {
     Ok(())
 }
 
-/// The last word of a line of 65535 zeros at this index, and the index behind the line.
+/// The last word of a line of 65535 zeros at this index, and the index after the line.
 fn line_of_zeros(index: &mut RunIndex, bits: &mut Bits<'_>) -> Option<(RunWord, usize)> {
     let mut left = GREATEST_SIDE;
     for _ in 0..64 {

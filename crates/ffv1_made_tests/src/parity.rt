@@ -2,7 +2,7 @@
 use ffv1_bits::remainder;
 use std::test::Fail;
 
-/// The bytes with their parity behind them: the remainder of the bytes and four zero bytes, most significant byte first.
+/// The bytes with their parity after them: the remainder of the bytes and four zero bytes, most significant byte first.
 pub(crate) fn with_parity(content: Vec<u8>) -> Result<Vec<u8>, Fail> {
     let mut bytes = content;
     bytes.extend_from_slice(&[0; 4])?;

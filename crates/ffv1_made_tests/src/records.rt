@@ -63,7 +63,7 @@ fn fault_of(alloc: Global, spec: &RecordSpec, side: u32) -> Result<Option<SetupF
 }
 
 /// The fields of a record before its tables, in reading order: the version, its micro number, coder, colour space, depth,
-/// chroma planes, their shift across, an extra plane, tiles across and down, sets of tables; and, behind these, the parity.
+/// chroma planes, their shift across, an extra plane, tiles across and down, sets of tables; and, after these, the parity.
 const FRONT: [u32; 12] = [3, 4, 0, 0, 8, 0, 0, 0, 1, 1, 1, 1];
 
 /// The same, each beyond the profile.
@@ -471,7 +471,7 @@ fn recorded_records_are_made(rt: HostRuntime) -> Result<(), Fail> {
     for (record, [width, _, across, down, shift_h, shift_v]) in RECORDED {
         let spec = recorded(alloc, [across, down, shift_h, shift_v], width != 48)?;
         let made = make_record(alloc, &spec)?;
-        // FFmpeg wrote a zero byte more behind one of them.
+        // FFmpeg wrote a zero byte more after one of them.
         let (front, behind) = record.split_at(made.len().min(record.len()));
         assert!(rt; made.as_slice() == front && behind.iter().all(|byte| *byte == 0));
     }

@@ -115,7 +115,7 @@ first_skipped r q s count m n is same =
     let opened : skipped_among r (suc m) s ≡ skipped_among q (suc m) s = ap (λ k. skipped_among r k s) (sym is) ∙ same ∙ ap (λ k. skipped_among q k s) is in
     same_test _ _ _ _ opened
 
--- .. and how long it is behind it
+-- .. and how long it is after it
 length_behind : (r q : Residuals) (s count m : ℕ) → count ≡ suc m → is_skipped r s ≡ true → is_skipped q s ≡ true
     → skipped_among r count s ≡ skipped_among q count s → skipped_among r m (s + 1) ≡ skipped_among q m (s + 1)
 unfolding skipped_among
@@ -141,7 +141,7 @@ module _ (earlier : ℕ → List ℤ) (w : ℕ) (c e d f : ℕ → ℤ) (some : 
       let b : c j ≡ e j = determined j (λ i less. alike i (omega arith)) in rw (r, a, b) refl)
       (λ j h. let r : is_in_run (residuals w c d) j ≡ is_in_run (residuals w e f) j = runs j h in let a : d j ≡ f j = alike j h in rw (r, a) refl))
 
-  -- sample n, behind what was read alike
+  -- sample n, after what was read alike
   pub record AfterRun (n next then : ℕ) (rest more : List Bool) : Type 0 where
     pub index : next ≡ then
     pub behind : rest ≡ more

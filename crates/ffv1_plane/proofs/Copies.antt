@@ -1,5 +1,5 @@
 -- A run of copies: where the sample to the left is the one above it to the left, the one above is predicted, and so again
--- behind it.
+-- after it.
 use Rattle.std.proofs.Common.{◌≡◌, ℕ, zero, suc, ◌+◌, ◌-◌, ◌<◌, ◌≤◌, ℤ, List, length, take, drop, get_or, set, refl, sym, ap, ◌∙◌, subst, arith, get_or-set_same, Vec, Global}
 use Rattle.std.proofs.Math.Seq.{paste, paste-zero, paste-suc}
 use Rattle.std.proofs.lemmas.List.{with_items_is, get_or-take, get_or-drop, length-take-le, length-drop}
@@ -18,7 +18,7 @@ top_predicted : (near : SamplesAbout) → near.left ≡ near.top_left → predic
 unfolding prediction_of
 top_predicted near same = omega (arith, same)
 
--- The row has n copies more, `new` in place of `line`: they are skipped, and the one above is predicted behind them too.
+-- The row has n copies more, `new` in place of `line`: they are skipped, and the one above is predicted after them too.
 pub record AreCopied (w x : ℕ) (rows line above far new : List ℕ) (n : ℕ) : Type 0 where
   pub lines : AreLines w (x + n) rows new above far
   pub skipped : (entry : ℕ → ℕ → ℤ) → AreSkipped w entry (samples_so_far x rows line) (samples_so_far (x + n) rows new) n

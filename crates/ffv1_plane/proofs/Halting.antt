@@ -193,7 +193,7 @@ module _ (width : ℕ) (entry : ℕ → ℕ → ℤ) (some : 1 ≤ width) (old :
           );
         }
 
-    -- the level behind them
+    -- the level after them
     level_here : (next : ℕ) (tail run : List Bool) → left ≡ run ++ tail → SpellsRun n (width - length old % width) index run next
         → n < width - length old % width → (fault : CodeFault) (sample : ℕ)
         → IsCodeHalted width entry true mid states tail fault sample → is_zero

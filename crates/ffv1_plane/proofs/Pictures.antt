@@ -276,14 +276,14 @@ head_is_one limits content first a b place other h k =
     let same = same_ok (a, place) (b, other) (sym (head_run limits content first a place h) ∙ head_run limits content first b other k) in
     (ap (λ z. z.0) same, ap (λ z. z.1) same)
 
--- what stands behind a place
+-- what stands after a place
 pub behind_place : (k : ℕ) (content : List ℕ) → take (length content - k) (drop k content) ≡ drop k content
 behind_place k content = take_all (length content - k) (drop k content) (omega (arith, length-drop k content))
 
 abbrev pub picture : List (List ℕ) → ℕ → PictureValue
 picture planes spare_bits = record { planes = planes; spare_bits = spare_bits }
 
--- what is read behind a header is a picture of its tile
+-- what is read after a header is a picture of its tile
 pub picture_is : (setup : SetupValue) (tile : ℕ) (content : List ℕ) (head : SliceHead) (place : ℕ) (bits rest : List Bool) (planes : List (List ℕ))
     (spare_bits : ℕ) → IsHeadOf (header_limits setup) content (tile == 0) head place → head.tile ≡ tile
     → bits ≡ bits_of (drop place content) → ArePlanesRead setup head bits planes rest → spare_bits ≡ length rest
@@ -301,7 +301,7 @@ picture_is setup tile content head place bits rest planes spare_bits is_head of_
   spare_bits = spare;
 }
 
--- the planes of a picture, as they are read behind the header
+-- the planes of a picture, as they are read after the header
 pub picture_read : (setup : SetupValue) (tile : ℕ) (content : List ℕ) (pic : PictureValue) (head : SliceHead) (place : ℕ)
     → (p : IsPictureOf setup tile content pic) → p.head ≡ head → p.place ≡ place
     → ArePlanesRead setup head (bits_of (drop place content)) pic.planes p.spare

@@ -64,7 +64,7 @@ scalar_context r s some = ⊎_elim (λ yes. absurd (let z : context_number r s �
 pub nonzero_is : (x : ℤ) → x ≢ pos 0 → is_zero x ≡ false
 nonzero_is x h = ⊎_elim (λ yes. absurd (h (zero_of x yes))) (λ not_zero. not_zero) (cases_Bool (is_zero x))
 
--- ---- the states behind a code
+-- ---- the states after a code
 
 states_step : (earlier : ℕ → List ℤ) (r : Residuals) (s k j : ℕ) (states : List ContextState) (value : ℤ) → k < length states → is_coded r s ≡ true
     → context_number r s ≡ k → value_at r s ≡ value

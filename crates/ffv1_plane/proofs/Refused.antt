@@ -15,7 +15,7 @@ use Rattle.ffv1_plane.proofs.Runs.{behind_whole}
 
 -- ---- words of a run
 
--- first words with a cut word behind them begin no run
+-- first words with a cut word after them begin no run
 front_no_run : {skipped i next : ℕ} {words : List Bool} (n left last : ℕ) (others run tail : List Bool) → SpellsFront skipped i words next → skipped < left
     → IsCutWord next others → SpellsRun n left i run last → words ++ others ≡ run ++ tail → ⊥
 front_no_run {i = i} {next = next} n left last others run tail (no_word a b c) inside cut spells same =
@@ -31,7 +31,7 @@ no_cut_one i [] others is cut = cc
 no_cut_one i (true ∷ bits) others is cut = cut
 no_cut_one i (false ∷ bits) others is cut = cc
 
--- bits with a cut word behind first words begin with them alone
+-- bits with a cut word after first words begin with them alone
 front_one : {skipped also i next last : ℕ} {words more : List Bool} (others tail : List Bool) → SpellsFront skipped i words next
     → SpellsFront also i more last → IsCutWord next others → IsCutWord last tail → words ++ others ≡ more ++ tail → skipped ≡ also
 front_one others tail (no_word a b c) (no_word p q r) cut cut_too same = a ∙ sym p
@@ -47,7 +47,7 @@ front_one {i = i} others tail (one_word m rest a b c) (one_word k more p q r) cu
 -- ---- against another spelling
 
 -- A spelling that has been read past the run of sample s: the bits before s, the run that starts there, if one does, and
--- what stands behind it.
+-- what stands after it.
 pub record IsPastRun (earlier : ℕ → List ℤ) (r : Residuals) (s : ℕ) (bits : List Bool) : Type 0 where
   pub before : List Bool
   pub index : ℕ
@@ -94,7 +94,7 @@ past_code earlier r s count last bits front tail inside spells same =
       joined = refl;
     }
 
--- a code that is due stands behind its run
+-- a code that is due stands after its run
 abbrev pub past_due : (earlier : ℕ → List ℤ) (r : Residuals) (s : ℕ) (part others bits : List Bool) → IsCodeDue earlier r s part → bits ≡ part ++ others
     → IsPastRun earlier r s bits
 past_due earlier r s part others bits due same = record {

@@ -37,7 +37,7 @@ module _ (w x : ℕ) (rows line above far : List ℕ) (h : AreLines w x rows lin
 
   -- ---- the cells of the lines
 
-  -- behind the rows that are ended, samples change nothing above
+  -- after the rows that are ended, samples change nothing above
   above_stays : (part : List ℕ) (column row : ℕ) → row ≤ length rows / w + 1 → sample_at w rows column row ≡ sample_at w (rows ++ part) column row
   above_stays part column row high = at_same w (length rows) h.some rows (rows ++ part)
       (λ j less. sym (get_or_append_left rows part 0 j less)) column row (inl high)
@@ -134,7 +134,7 @@ push_left w x rows line above far v h less small further =
 
 -- ---- one row further
 
--- behind the last column of a row stands its last sample
+-- after the last column of a row stands its last sample
 right_border : (w row : ℕ) (xs : List ℕ) → 1 ≤ w → sample_at w xs (w + 1) row ≡ sample_at w xs (w + 2) row
 unfolding sample_at
 right_border w row xs some =

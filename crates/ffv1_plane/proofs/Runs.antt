@@ -22,7 +22,7 @@ begin_run left index bits =
 pub full_length : (left i n next : ℕ) (bits others : Reading) → IsRead left i (Full n) bits next others → (0 < n) × (n ≤ left)
 full_length left i n next bits others h = let p = whole_length_pos i in (omega (arith, h.is_word.0), h.is_word.1)
 
--- a run that begins with a whole length goes on behind it
+-- a run that begins with a whole length goes on after it
 pub behind_whole : (left i m last n : ℕ) (run tail bits : List Bool) → SpellsRun m left i run last → n ≡ whole_length i → n ≤ left → run ++ tail ≡ true ∷ bits
     → (k : ℕ) × (others : List Bool) × SpellsRun k (left - n) (i + 1) others last × (bits ≡ others ++ tail)
 behind_whole left i m last n run tail bits (line_end a b c d) is fits same = absurd (let p = whole_length_pos i in omega arith)

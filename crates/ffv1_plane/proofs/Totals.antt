@@ -55,7 +55,7 @@ some_on (v ∷ values) s h = some_on values (after_value s v) (corrected_some (c
 pub some_counted : (values : List ℤ) → 1 ≤ (state_after values).count
 some_counted values = some_on values start_state (omega arith)
 
--- each value has a code behind all others
+-- each value has a code after all others
 pub code_of : (values : List ℤ) (value : ℤ) → (code : List Bool) × SpellsValue (state_after values) value code
 code_of values value =
     let p = parameter_of (state_after values) (some_counted values) in

@@ -13,7 +13,7 @@ column_around : neighbours_at 1 (5 ∷ 5 ∷ []) 1 ≡ record { left = 5; top = 
 unfolding neighbours_at sample_at sample_inside
 column_around = refl
 
--- the second row of 1 2 3 above 4 5 6: behind the last column its last sample stands again
+-- the second row of 1 2 3 above 4 5 6: after the last column its last sample stands again
 behind_last_column : neighbours_at 3 (1 ∷ 2 ∷ 3 ∷ 4 ∷ 5 ∷ 6 ∷ []) 5 ≡ record {
   left = 5;
   top = 3;

@@ -46,7 +46,7 @@ IsSampleHalted width entry level samples states bits plane_faults.Memory = Unit 
 
 -- ---- a line and a plane
 
--- Behind the words before it, no word of a sample can be read.
+-- After the words before it, no word of a sample can be read.
 pub record IsHalted (earlier : ℕ → List ℤ) (r : Residuals) (bits : List Bool) (fault : CodeFault) (sample : ℕ) : Type 0 where
   pub part : List Bool
   pub others : List Bool
@@ -81,7 +81,7 @@ IsDecodingHalted width height entry states bits plane_faults.Memory = Unit {0}
 
 -- ---- the planes of a tile
 
--- The place of a sample of a plane of a tile, behind earlier values.
+-- The place of a sample of a plane of a tile, after earlier values.
 pub record IsTilePlaneHalted (setup : SetupValue) (head : SliceHead) (plane : ℕ) (earlier : ℕ → List ℤ) (bits : List Bool) (fault : CodeFault)
     (y x : ℕ) : Type 0 where
   pub row_there : y < (plane_rect (grid_of setup) head.tile plane).h

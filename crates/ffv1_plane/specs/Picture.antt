@@ -9,7 +9,7 @@ use Rattle.ffv1_range.specs.declared.head.SliceHead.{SliceHead}
 use Rattle.ffv1_plane.specs.Samples.{Plane, plane_of, IsPlaneOfSize}
 use Rattle.ffv1_plane.specs.Spelling.{PlaneSpells, values_after}
 
--- The planes Y, or Y, Cb and Cr, each row by row, and how many bits stand behind the last code.
+-- The planes Y, or Y, Cb and Cr, each row by row, and how many bits stand after the last code.
 pub record PictureValue : Type 0 where
   pub planes : List (List ℕ)
   pub spare_bits : ℕ
@@ -50,7 +50,7 @@ plane_groups has_chroma = if has_chroma then (0 ∷ []) ∷ (1 ∷ 2 ∷ []) ∷
 abbrev pub no_values : ℕ → List ℤ
 no_values context = []
 
--- the bits of some planes that share states, one plane after the other, behind earlier values
+-- the bits of some planes that share states, one plane after the other, after earlier values
 abbrev pub PlanesSpell : (ℕ → List ℤ) → List Plane → List Bool → Type 0
 PlanesSpell earlier [] bits = bits ≡ []
 PlanesSpell earlier (plane ∷ planes) bits =

@@ -71,7 +71,7 @@ pub record AreSkipped (width : ℕ) (entry : ℕ → ℕ → ℤ) (old new : Lis
 
 -- ---- whole planes
 
--- A plane was read, and the states are what its values leave behind earlier ones.
+-- A plane was read, and the states are what its values leave after earlier ones.
 abbrev pub IsPlaneRead : ℕ → ℕ → (ℕ → ℕ → ℤ) → List ContextState → List Bool → List ℕ → List ContextState → List Bool → Type 0
 IsPlaneRead width height entry states bits samples after rest =
     (earlier : ℕ → List ℤ) → AreStatesAfter earlier states

@@ -30,7 +30,7 @@ AreCellsOf width samples row cells = (column : ℕ) → column < width + 3 → g
 abbrev pub samples_so_far : ℕ → List ℕ → List ℕ → List ℕ
 samples_so_far x rows line = rows ++ take x (drop 2 line)
 
--- Three lines are the row that is read, up to x, the row above it and the one above that, behind the rows that are ended.
+-- Three lines are the row that is read, up to x, the row above it and the one above that, after the rows that are ended.
 pub record AreLines (width x : ℕ) (rows line above far_above : List ℕ) : Type 0 where
   pub some : 1 ≤ width
   pub wide : width ≤ greatest_side

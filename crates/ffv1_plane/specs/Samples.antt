@@ -9,7 +9,7 @@ use Rattle.ffv1_rice.specs.States.{fold}
 unfoldable pub sample_inside : ℕ → List ℕ → ℕ → ℕ → ℕ
 sample_inside width samples column row = if nat_lt row 2 then 0 else get_or samples ((row - 2) * width + (column - 2)) 0
 
--- Two columns before a row is 0, one column before it the first sample of the row above. One column behind a row its
+-- Two columns before a row is 0, one column before it the first sample of the row above. One column after a row its
 -- last sample stands again (section 3.1).
 unfoldable pub sample_at : ℕ → List ℕ → ℕ → ℕ → ℕ
 sample_at width samples column row =

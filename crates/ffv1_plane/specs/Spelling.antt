@@ -87,7 +87,7 @@ state_before earlier r context s = state_after (earlier context ++ values_before
 -- ---- the bits of a plane
 
 -- The bits of sample s: where a run starts there, the run's; then, where the sample is coded, its code. The run
--- index is one number before them and another behind them.
+-- index is one number before them and another after them.
 pub record SampleSpells (earlier : ℕ → List ℤ) (r : Residuals) (s : ℕ) (index : ℕ) (bits : List Bool) (next : ℕ) : Type 0 where
   pub run : List Bool
   pub code : List Bool
@@ -108,6 +108,6 @@ SamplesSpell earlier r (suc count) bits next =
 abbrev pub PlaneSpells : (ℕ → List ℤ) → Plane → List Bool → Type 0
 PlaneSpells earlier p bits = (last : ℕ) × SamplesSpell earlier (residuals_of p) (length p.samples) bits last
 
--- the values that a plane leaves behind earlier ones
+-- the values that a plane leaves after earlier ones
 abbrev pub values_after : (ℕ → List ℤ) → Plane → (ℕ → List ℤ)
 values_after earlier p context = earlier context ++ values_before (residuals_of p) context (length p.samples)

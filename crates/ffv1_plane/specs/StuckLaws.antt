@@ -48,7 +48,7 @@ StuckIsOne =
 
 -- ---- the answers of a tile
 
--- A content is refused so: its header can't be read, or is that of another tile, or a word behind it can't be read.
+-- A content is refused so: its header can't be read, or is that of another tile, or a word after it can't be read.
 abbrev pub IsRefusedFor : SetupValue → ℕ → List ℕ → TileFault → Type 0
 IsRefusedFor setup tile content (Head fault) = head_read (header_limits setup) content (tile == 0) ≡ Err fault
 IsRefusedFor setup tile content OtherTile = (head : SliceHead) × (place : ℕ) × IsHeadOf (header_limits setup) content (tile == 0) head place

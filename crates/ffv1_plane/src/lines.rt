@@ -1,7 +1,7 @@
 //! The rows about the next sample of a plane (RFC 9043, sections 3.1 and 3.2).
 //!
 //! Three lines roll over the plane: the row that is read, the one above it and the one above that. A line has two cells
-//! before its row and one behind it, for the borders, which are written once a row.
+//! before its row and one after it, for the borders, which are written once a row.
 ghost use Rattle.std.specs.Prelude.{◌≡◌, ℕ, ◌<◌, ◌≤◌, ◌+◌, ◌^◌, ◌%◌, [], ◌∷◌, ◌++◌, length, slice_index, IfOk, OnOk, ℤ};
 ghost use Rattle.ffv1_bits.specs.Limits.{greatest_side};
 ghost use Rattle.ffv1_plane.specs.Samples.{neighbours_at};

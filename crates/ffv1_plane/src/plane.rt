@@ -81,7 +81,7 @@ impl PlaneReader<'_, '_, '_> {
         Ok(sample)
     }
 
-    /// Reads the level behind a run, and answers its sample.
+    /// Reads the level after a run, and answers its sample.
     fn read_level(&mut self) -> Result<u8, PlaneFault>
         requires states { HasStates self.old }
         requires inside { self.old.lines.x < self.old.lines.width }
@@ -100,8 +100,8 @@ impl PlaneReader<'_, '_, '_> {
         self.read_code(&near, context, true)
     }
 
-    /// Reads a scalar, or a run with the level that ends it, behind the sample to the left, and answers the last sample:
-    /// it stays at hand, where a look into the line would wait for it. Behind a run up to the line's end it is any.
+    /// Reads a scalar, or a run with the level that ends it, after the sample to the left, and answers the last sample:
+    /// it stays at hand, where a look into the line would wait for it. After a run up to the line's end it is any.
     #[inline(always)]
     fn read_next(&mut self, left: u8) -> Result<u8, PlaneFault>
         requires states { HasStates self.old }

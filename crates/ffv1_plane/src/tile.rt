@@ -92,7 +92,7 @@ pub struct TilePicture {
 /// most 2^30 bytes; that of tile 0 is read as the payload's first, with a keyframe bit before its header.
 ///
 /// Refused with `Head` where the content has no header of the profile, then `OtherTile` where the header is that of
-/// another tile, then `Code` where the bits behind it spell no picture; `Memory` comes where a growth was refused. A
+/// another tile, then `Code` where the bits after it spell no picture; `Memory` comes where a growth was refused. A
 /// picture takes memory for its planes and, while they are decoded, for the adaptive states of Y, then of Cb and Cr.
 pub fn decode_tile(
     alloc: Global,

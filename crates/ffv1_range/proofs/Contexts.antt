@@ -16,7 +16,7 @@ ended_or : (b : Bool) (n m : ℕ) → n ≤ m → cond b 1 0 + n ≤ suc m
 ended_or true n m h = omega arith
 ended_or false n m h = omega arith
 
--- the last run ends behind the entries
+-- the last run ends after the entries
 last_not_ended : (from : ℕ) (runs : List ℕ) (k : ℕ) → k < from + sum runs → 0 < length runs → runs_ended from runs k ≤ length runs - 1
 last_not_ended from [] k h some = absurd (omega arith)
 last_not_ended from (len ∷ []) k h some =

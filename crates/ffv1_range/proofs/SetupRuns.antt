@@ -270,7 +270,7 @@ last-found width height front sets p y h =
     let pair = same_ok (setup_from front sets 1 x.0.0 width height, x.0.1) y x.2 in
     record { read = x.0; fields = last_fields-found true p x.0 x.1; is = sym (ap (λ z. z.0) pair) }
 
--- the deltas, and what is read behind them
+-- the deltas, and what is read after them
 record DeltasAt (width height : ℕ) (front : FrontValue) (sets : List SetValue) (contexts : List ℕ) (p : Place) (y : SetupValue × Place) : Type 0 where
   after : PlaceOf TwoRows
   read : sets_deltas contexts true (place_of p.coder (p.states, fresh_rows)) ≡ Ok (tt, after)
@@ -291,7 +291,7 @@ deltas-found width height front sets p y h =
       rest = ap (λ z. deltas_rest width height front sets z.0 true z.1) pair ∙ x.2;
     }
 
--- the sets, and what is read behind them
+-- the sets, and what is read after them
 record TablesAt (width height : ℕ) (front : FrontValue) (p : Place) (y : SetupValue × Place) : Type 0 where
   sets : List SetValue
   after : PlaceOf (Unit {0})

@@ -69,7 +69,7 @@ one_run closed filled less got p q y coded r =
       coded = subst (λ z. IsRangeRun closed p (fields_bits (symbol z ∷ run_fields r.runs)) y.1) same (coded (run_fields r.runs) y.1 r.coded);
     }
 
--- a run that is read, and then those behind it
+-- a run that is read, and then those after it
 more_runs : (closed : Bool) (n filled : ℕ) (got : List ℕ) (p : Place) (y : List ℕ × Place) → filled < 128 → runs_from (suc n) filled got closed p ≡ Ok y
     → ((less : ℕ) (q : Place) → filled + (less + 1) ≤ 128 → runs_from n (filled + (less + 1)) (got ++ (less + 1) ∷ []) closed q ≡ Ok y
     → RunsAt closed (filled + (less + 1)) (got ++ (less + 1) ∷ []) q y)
@@ -187,7 +187,7 @@ more_tables closed runs tables c d e h behind m rows fresh =
 
 -- ---- the tables of a set
 
--- What is left to read of a set, at a scale and behind some halves.
+-- What is left to read of a set, at a scale and after some halves.
 record TablesAt (closed : Bool) (n scale : ℕ) (halves : List (List ℕ)) (c : Coder) (y : SetValue × PlaceOf (Unit {0})) : Type 0 where
   tables : List (List ℕ)
   size : length tables ≡ n
@@ -275,7 +275,7 @@ tables-run closed (suc n) scale halves (runs ∷ tables) m c rows q size each sm
 
 -- ---- the sets of a record
 
--- What is left to read of some sets, behind those that were read.
+-- What is left to read of some sets, after those that were read.
 pub record SetsAt (closed : Bool) (n : ℕ) (got : List SetValue) (c : Coder) (y : List SetValue × PlaceOf (Unit {0})) : Type 0 where
   pub sets : List (List (List ℕ))
   pub size : length sets ≡ n

@@ -13,7 +13,7 @@ use Rattle.ffv1_range.specs.declared.head.SliceHead.{SliceHead}
 use Rattle.ffv1_range.specs.declared.head.HeadFault.{HeadFault}
 use Rattle.ffv1_range.specs.declared.head.HeadFault.TheVariants.{Range, OutsideGrid, Spans, TableIndex, FirstElsewhere}
 
--- The content begins with these nine fields, behind a keyframe bit 1 where it is the payload's first; the codes begin at
+-- The content begins with these nine fields, after a keyframe bit 1 where it is the payload's first; the codes begin at
 -- this place, one byte before those that the range decoder has not read.
 pub record IsHeaderOf (content : List ℕ) (first : Bool) (fields : List ℕ) (place : ℕ) : Type 0 where
   pub before_key : Coder

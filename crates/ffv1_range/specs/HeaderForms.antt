@@ -10,7 +10,7 @@ use Rattle.ffv1_range.specs.declared.coding.RangeFault.{RangeFault}
 use Rattle.ffv1_range.specs.declared.head.HeadFault.{HeadFault}
 use Rattle.ffv1_range.specs.declared.head.HeadFault.TheVariants.{Range, NotKey}
 
--- n more unsigned symbols, behind those that were read
+-- n more unsigned symbols, after those that were read
 unfoldable pub symbols_onto : ℕ → List ℕ → Form (List ℕ) (List ℕ) RangeFault
 symbols_onto zero done = giving done
 symbols_onto (suc n) done = symbol_form >>= λ symbol. symbols_onto n (done ++ symbol ∷ [])
@@ -24,7 +24,7 @@ abbrev pub key_coder : Bool → Coder → Result Coder HeadFault
 key_coder false c = Ok c
 key_coder true c = lifted_result Range (bit_at false c 128) >>> λ bit. if bit.0 then Ok bit.1 else Err NotKey
 
--- A call read the keyframe bit where there has to be one: the decoder is behind it.
+-- A call read the keyframe bit where there has to be one: the decoder is after it.
 abbrev pub ReadsKey : Bool → Reader → Result (Unit {0}) HeadFault → Reader → Type 0
 ReadsKey first r (Ok _) s = (c : Coder) × (from_place Range r.at (key_coder first) ≡ Ok c) × (s ≡ reader_at r (Ok c))
 ReadsKey first r (Err e) s = from_place Range r.at (key_coder first) ≡ Err e

@@ -109,7 +109,7 @@ front_fields r =
     bit r.chroma_planes ∷ symbol r.log2_h_chroma_subsample ∷ symbol r.log2_v_chroma_subsample ∷ bit r.extra_plane ∷
     symbol r.num_h_slices_less_1 ∷ symbol r.num_v_slices_less_1 ∷ symbol (length r.sets) ∷ []
 
--- the fields behind the deltas
+-- the fields after the deltas
 abbrev pub back_fields : RecordFields → List FieldValue
 back_fields r = symbol r.ec ∷ symbol r.intra ∷ []
 

@@ -28,7 +28,7 @@ front_form width height = do
   sets ← set_count
   giving (record { micro = micro; planes = shape; tiles = tiles; sets = sets })
 
--- The record's fields; behind quant_table_set_count memory for the sets is wanted, which is granted or refused.
+-- The record's fields; after quant_table_set_count memory for the sets is wanted, which is granted or refused.
 abbrev pub setup_form : Bool → ℕ → ℕ → Form (List ℕ) SetupValue SetupFault
 setup_form granted width height = do
   front ← front_form width height

@@ -26,7 +26,7 @@ unfoldable pub symbol_bits : ℕ → List (ℕ × Bool)
 symbol_bits zero = (0, true) ∷ []
 symbol_bits (suc n) = magnitude_slots (exponent_of (suc n)) (suc n)
 
--- a signed symbol: that of its absolute value, and behind it the sign where it is not 0
+-- a signed symbol: that of its absolute value, and after it the sign where it is not 0
 unfoldable pub signed_symbol_bits : ℤ → List (ℕ × Bool)
 signed_symbol_bits (pos zero) = symbol_bits zero
 signed_symbol_bits (pos (suc n)) = symbol_bits (suc n) ++ (11 + min (exponent_of (suc n)) 10, false) ∷ []

@@ -25,7 +25,7 @@ runs_from (suc n) filled got =
 abbrev pub table_form : Form (Unit {0}) (List ℕ) SetupFault
 table_form = apart fresh_row (runs_from 128 0 [])
 
--- n more tables of a set, the first of this scale, behind those that were read
+-- n more tables of a set, the first of this scale, after those that were read
 unfoldable pub tables_from : ℕ → ℕ → List (List ℕ) → Form (Unit {0}) SetValue SetupFault
 tables_from zero scale halves = giving (record { halves = halves; contexts = (scale + 1) / 2 })
 tables_from (suc n) scale halves =
@@ -33,7 +33,7 @@ tables_from (suc n) scale halves =
     accepted (nat_le (scale_after scale runs) 65535) Contexts >>= λ fits.
     tables_from n (scale_after scale runs) (halves ++ half_of scale runs ∷ [])
 
--- n more sets, behind those that were read
+-- n more sets, after those that were read
 unfoldable pub sets_from : ℕ → List SetValue → Form (Unit {0}) (List SetValue) SetupFault
 sets_from zero sets = giving sets
 sets_from (suc n) sets = tables_from 5 1 [] >>= λ set. sets_from n (sets ++ set ∷ [])

@@ -155,7 +155,7 @@ impl<'a> RangeDecoder<'a> {
     }
 
     /// Reads the bit at state 129 that ends the values, and answers the place, in bytes from the content's start, of the
-    /// first byte behind them: one less than the bytes that were read. Only in sentinel mode.
+    /// first byte after them: one less than the bytes that were read. Only in sentinel mode.
     ///
     /// Refused with `Short` where that bit wants a byte past the content, or with the fault that was met before.
     pub fn finish(self) -> Result<usize, RangeFault>

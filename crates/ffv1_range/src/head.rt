@@ -131,7 +131,7 @@ fn read_key(decoder: &mut RangeDecoder<'_>, first: bool) -> Result<(), HeadFault
     Ok(())
 }
 
-/// The nine fields of a header, as they stand behind the keyframe bit (RFC 9043, section 4.6): slice_x, slice_y,
+/// The nine fields of a header, as they stand after the keyframe bit (RFC 9043, section 4.6): slice_x, slice_y,
 /// slice_width - 1, slice_height - 1, the two table sets, picture_structure, sar_num and sar_den. None of them is
 /// judged.
 ///

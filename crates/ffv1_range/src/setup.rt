@@ -69,7 +69,7 @@ impl Model for Setup {
 
 impl Setup {
     /// Reads a configuration record, its parity included, for frames of this width and height in samples (RFC 9043,
-    /// sections 4.2 and 4.3). What is left of the record behind its last field is ignored.
+    /// sections 4.2 and 4.3). What is left of the record after its last field is ignored.
     ///
     /// Refused with the first of its faults: `TooShort`, `Parity`, `Size`, then those of the fields in the order in
     /// which they are read, each as soon as its value was read; those of the grid after both of its numbers, that of
@@ -84,7 +84,7 @@ impl Setup {
         // A refusal is the first that reading meets, or want of memory ..
         ensures first { IfErr result (λ fault. (fault ≡ Memory) ⊎ FirstSetupFault config.now width height fault) }
 
-        // .. which stands behind the fields before the sets.
+        // .. which stands after the fields before the sets.
         ensures fault { IfErr result (λ fault. (granted : Bool) × (setup_read granted config.now width height ≡ Err fault)) }
     {
         let content = checked_content(config)?;

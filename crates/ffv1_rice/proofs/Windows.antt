@@ -24,7 +24,7 @@ some_leading n small =
     (λ short. omega (arith, lead.1, short))
     (cases_lt 56 lead.0)
 
--- behind fewer than 56 more stands a one
+-- after fewer than 56 more stands a one
 pub leading_one : (n z : ℕ) → n < 2 ^ 56 → z ≡ count_leading_zeros 64 n - 8 → z < 56 → (2 ^ (55 - z) ≤ n) × (n < 2 ^ (56 - z))
 leading_one n z small is few =
     let lead = leading_length 64 n (omega arith) in
@@ -52,7 +52,7 @@ zeros_and_one : (z : ℕ) → z < 12 → number_bits (z + 1) 1 ≡ prefix_bits z
 unfolding number_bits prefix_bits
 zeros_and_one z few = number_bits-split z 1 1 ∙ ap (λ bits. bits ++ (true ∷ [])) (no_ones z) ∙ rw (lt-ltb z 12 few) refl
 
--- the bits behind the prefix's zeros: a one and the suffix
+-- the bits after the prefix's zeros: a one and the suffix
 pub suffix_at : (window z k : ℕ) → z < 12 → k ≤ 7 → 2 ^ (55 - z) ≤ window → window < 2 ^ (56 - z)
     → (2 ^ k ≤ window / 2 ^ (55 - z - k)) × (window / 2 ^ (55 - z - k) < 2 ^ k * 2)
 suffix_at window z k few small low high =

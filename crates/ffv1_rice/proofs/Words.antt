@@ -71,7 +71,7 @@ long_word left i e n old mid new is fits more first number =
       reads = zero_and_number i e n old mid new is first number;
     }
 
--- ---- what a zero with too few bits behind it is
+-- ---- what a zero with too few bits after it is
 
 pub cut_number : (i e : ℕ) (old mid : Reading) → e ≡ run_exponent i → Reads old (false ∷ []) mid → length mid.left < e → IsCutWord i old.left
 cut_number i e old mid is first short =

@@ -54,7 +54,7 @@ pub record IsRead (left index : ℕ) (word : RunWord) (old : Reading) (next : �
   pub is_word : IsRunWord left index word spelled next
   pub reads : Reads old spelled new
 
--- The bits end within a word: there are none, or a zero and too few bits behind it.
+-- The bits end within a word: there are none, or a zero and too few bits after it.
 abbrev pub IsCutWord : ℕ → List Bool → Type 0
 IsCutWord i [] = Unit {0}
 IsCutWord i (true ∷ bits) = ⊥
@@ -75,7 +75,7 @@ WordsAreOne =
     → IsRunWord left i word bits next → IsRunWord left i another other last
     → bits ++ rest ≡ other ++ more → (word ≡ another) × (next ≡ last) × (rest ≡ more)
 
--- A whole length and a run behind it are a run, and so is a word that ends one.
+-- A whole length and a run after it are a run, and so is a word that ends one.
 pub record WordsSpellRuns : Type 0 where
   pub full : (m n left i mid next : ℕ) (bits more : List Bool) → IsRunWord left i (Full m) bits mid → SpellsRun n (left - m) mid more next
       → SpellsRun (m + n) left i (bits ++ more) next

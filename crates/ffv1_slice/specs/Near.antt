@@ -5,7 +5,7 @@ use Rattle.ffv1_bits.specs.Parity.{DifferWithin32, AreBytes}
 use Rattle.ffv1_range.specs.Setup.{SetupValue}
 use Rattle.ffv1_slice.specs.Slices.{IsFoundIn, IsOriginal}
 
--- the place at which the slice of a tile begins, where slices are joined in tile order; behind the last tile, their length
+-- the place at which the slice of a tile begins, where slices are joined in tile order; after the last tile, their length
 unfoldable pub starts_at : List (List ℕ) → ℕ → ℕ
 starts_at slices tile = length (flat_map (λ slice. slice) (take tile slices))
 

@@ -7,7 +7,7 @@ use Rattle.std.proofs.lemmas.Nat.Bits.{shr_and_one}
 use Rattle.ffv1_bits.specs.Bits.{has_bit, bits_of}
 use Rattle.ffv1_bits.proofs.Burst.{length-bits}
 
--- the bit of this number behind the place, as the mask wants it
+-- the bit of this number after the place, as the mask wants it
 abbrev pub wanted_bit : List Bool → ℕ → ℕ → ℕ → Bool
 wanted_bit bits at mask k = if has_bit mask (31 - k) then not (get_or bits (at + k) false) else get_or bits (at + k) false
 
@@ -17,7 +17,7 @@ pub record IsBurstUpTo (bytes : List ℕ) (at mask count : ℕ) (damaged : List 
   pub back : drop (at + count) (bits_of bytes) ≡ drop (at + count) (bits_of damaged)
   pub turned : (k : ℕ) → k < count → get_or (bits_of damaged) (at + k) false ≡ wanted_bit (bits_of bytes) at mask k
 
--- what is left behind one more bit
+-- what is left after one more bit
 back_more : (xs ys : List Bool) (at n : ℕ) → drop (at + n) xs ≡ drop (at + n) ys → drop (at + (n + 1)) xs ≡ drop (at + (n + 1)) ys
 back_more xs ys at n same =
     let more : at + n + 1 ≡ at + (n + 1) = omega arith in

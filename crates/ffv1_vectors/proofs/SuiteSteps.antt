@@ -6,7 +6,7 @@ use Rattle.std.proofs.Math.Seq.{get_or-append_seam}
 use Rattle.ffv1_vectors.specs.Suite.{IsSuitePlane}
 use Rattle.ffv1_vectors.specs.declared.suite.SuiteContent.{SuiteContent}
 
--- What holds of each element holds with one more behind them of which it holds.
+-- What holds of each element holds with one more after them of which it holds.
 pub each_more : {X : Type 0} (P : ℕ → X → Type 0) (n : ℕ) (old new : List X) (x d : X) → length old ≡ n → new ≡ old ++ x ∷ []
     → ((k : ℕ) → k < n → P k (get_or old k d)) → P n x → (k : ℕ) → k < n + 1 → P k (get_or new k d)
 each_more P n old new x d count grown before here k lt = elim (cases_order k n) [

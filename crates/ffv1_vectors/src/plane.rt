@@ -59,7 +59,7 @@ impl Plane<'_> {
     }
 
     /// The sample in a column and a row that are counted from two before the plane's first (section 3.1): above the
-    /// plane, and two columns before it, is 0; a column before it the first sample of the row above; behind it the last
+    /// plane, and two columns before it, is 0; a column before it the first sample of the row above; after it the last
     /// one of the row.
     fn at(&self, column: usize, row: usize) -> u8
         requires column { column ≤ self.now.width + 2 }

@@ -69,7 +69,7 @@ fn spell_header(
     encoder.finish_sentinel()
 }
 
-/// The content with its footer behind it.
+/// The content with its footer after it.
 fn with_footer(content: Vec<u8>, status: u8) -> Result<Vec<u8>, MakeFault>
     requires { length content.items < 2 ^ 24 }
     ensures { IfOk result (λ bytes. (footer : List ℕ) × (bytes.items ≡ content.items ++ footer) × (length footer ≡ 8)) }

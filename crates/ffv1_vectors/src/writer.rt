@@ -23,7 +23,7 @@ impl Word {
         Word { number, length }
     }
 
-    /// The bits with zeros behind them.
+    /// The bits with zeros after them.
     pub(crate) fn bytes(&self) -> [u8; 4] {
         (self.number << (32 - self.length)).to_be_bytes()
     }

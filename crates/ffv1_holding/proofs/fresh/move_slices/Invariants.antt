@@ -4,7 +4,7 @@ use Rattle.ffv1_holding.specs.declared.fresh.Fresh.{Fresh}
 use Rattle.ffv1_holding.specs.declared.pool_entry.PoolEntry.{PoolEntry}
 use Rattle.ffv1_holding.proofs.fresh.move_slices.Given as goal
 
--- the slices passed so far stand behind the other bytes
+-- the slices passed so far stand after the other bytes
 abbrev pub invariant-loop-index : goal.invariant-loop-index
 invariant-loop-index l = record {
   room : vec_len l.bytes + sum_by (λ (f : Fresh PoolEntry). f.item.length) (drop l.index l.fn.fresh) ≤ vec_capacity l.bytes;

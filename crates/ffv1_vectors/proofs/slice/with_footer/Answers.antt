@@ -2,7 +2,7 @@ use Rattle.std.proofs.Common.{◌≡◌, ◌++◌, ℕ, List, length, length-app
 use Rattle.std.proofs.lemmas.Result.{IfOk-weaker, err_from_is_err_and}
 use Rattle.ffv1_vectors.proofs.slice.with_footer.Goals as goal
 
--- four bytes with their parity behind them are a footer
+-- four bytes with their parity after them are a footer
 footer_behind : (content four whole bytes : List ℕ) → whole ≡ content ++ four → length four ≡ 4
     → (parity : List ℕ) × (bytes ≡ whole ++ parity) × (length parity ≡ 4) → (footer : List ℕ) × (bytes ≡ content ++ footer) × (length footer ≡ 8)
 footer_behind content four whole bytes is size (parity, behind, count) =

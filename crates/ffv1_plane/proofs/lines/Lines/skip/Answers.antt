@@ -24,7 +24,7 @@ loop-done-preserved c =
       x = omega (arith, ap (λ r. r.x) c.push.ensures.value, c.loop-done.invariant.x);
     }
 
--- the samples so far, and behind them the copies
+-- the samples so far, and after them the copies
 pub returns-then-near-clause-skipped : goal.returns-then-near-clause-skipped
 returns-then-near-clause-skipped c = λ entry.
     let all : c.loop-done.done + (c.args.count - c.loop-done.done) ≡ c.args.count = omega arith in
