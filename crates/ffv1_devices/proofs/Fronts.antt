@@ -1,6 +1,6 @@
 -- A write that failed, as a part of a longer one.
-use Rattle.std.proofs.Common.{ℕ, List, ◌++◌, Option, sym, ap, ◌∙◌, append_assoc}
-use Rattle.std.specs.Io.KnownBytes.{Appends}
+use Rattle.std.proofs.Common.{ℕ, List, [], ◌++◌, Option, None, Some, refl, sym, ap, ◌∙◌, append_assoc, append-nil}
+use Rattle.std.specs.Io.KnownBytes.{Keeps, Appends}
 use Rattle.std.proofs.KnownBytes.{Appends-trans}
 use Rattle.ffv1_devices.specs.Writing.{WritesFront}
 
@@ -14,3 +14,12 @@ front-after a b c xs ys h w = record {
   split = ap (λ l. xs ++ l) w.split ∙ sym (append_assoc xs w.done w.rest);
   written = Appends-trans a b c xs w.done h w.written;
 }
+
+appends_none : (a b : Option (List ℕ)) → Keeps a b → Appends a b []
+appends_none None b p = tt
+appends_none (Some x) None p = absurd p
+appends_none (Some x) (Some y) p = p ∙ sym (append-nil x)
+
+-- nothing was written
+pub front_none : (a b : Option (List ℕ)) → Keeps a b → WritesFront a b []
+front_none a b kept = record { done = []; rest = []; split = refl; written = appends_none a b kept }

@@ -1,5 +1,5 @@
 pub mod Counts
-pub mod Faults
 pub mod Filling
 pub mod Fronts
 pub mod Kept
+pub mod Steps

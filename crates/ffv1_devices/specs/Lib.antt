@@ -1,3 +1,4 @@
+pub mod Logs
+pub mod Results
 pub mod Streams
-pub mod Whole
 pub mod Writing

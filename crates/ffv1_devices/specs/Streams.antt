@@ -1,11 +1,13 @@
--- How a device counts its failures, and what it took.
-use Rattle.std.specs.Prelude.{ℕ, ◌≡◌, ◌≢◌, ◌+◌, ◌-◌, ◌^◌, ◌<◌, ◌≤◌, ◌⊎◌, min, List, length, Option, Bool, true, false, Result, Ok, Err, nat_lt, ◌==◌, if◌then◌else◌}
-use Rattle.std.specs.Io.KnownBytes.{Consumes}
+-- One try of a device, and how it is counted.
+use Rattle.std.specs.Prelude.{ℕ, ◌≡◌, ◌≢◌, ◌+◌, ◌-◌, ◌^◌, ◌<◌, List, length, Bool, true, false, is_err, Result, Ok, Err, nat_lt, ◌==◌, if◌then◌else◌, MatchResult}
+use Rattle.std.specs.Io.KnownBytes.{ReadConsumes, WriteAppends}
 use Rattle.std.specs.IoError.{error_kind}
 use Rattle.std.specs.declared.io.Error.{Error}
 use Rattle.std.specs.declared.io.ErrorKind.TheVariants.{Interrupted}
+use Rattle.ffv1_devices.specs.declared.failures.Failures.{Failures}
 use Rattle.ffv1_devices.specs.declared.streams.FromRead.{FromRead}
 use Rattle.ffv1_devices.specs.declared.streams.ThroughWrite.{ThroughWrite}
+use Rattle.ffv1_devices.specs.Logs.{Tries, ReadLog, WriteLog, sum_to_limit}
 
 -- the count after a try, which stays once it stands at `u64::MAX`
 abbrev pub failures_after : Bool → ℕ → ℕ
@@ -26,29 +28,31 @@ abbrev pub IsBrokenWrite : Result ℕ Error → List ℕ → Type 0
 IsBrokenWrite (Ok n) buf = (n ≡ 0) × (0 < length buf)
 IsBrokenWrite (Err e) buf = error_kind e ≢ Interrupted
 
--- a sum that stays at `u64::MAX`
-abbrev pub sum_to_limit : ℕ → ℕ → ℕ
-sum_to_limit a b = min (a + b) (2 ^ 64 - 1)
+-- One try was counted: whether it failed, and whether that was no interruption. Each that was not interrupted ends a row of interrupted ones.
+pub record CountsTry (failed : Bool) (Broken : Type 0) (old new : Tries) : Type 0 where
+  pub failures' : new.failures ≡ failures_after failed old.failures
+  pub broken' : Broken → (new.broken ≡ failures_after true old.broken) × (new.in_row ≡ 0)
+  pub unbroken : ¬ Broken → (new.broken ≡ old.broken) × (new.in_row ≡ (if failed then failures_after true old.in_row else 0))
 
--- a failure was counted, or the count stands at `u64::MAX`
-abbrev pub HasFailed : ℕ → ℕ → Type 0
-HasFailed old new = (old < new) ⊎ (2 ^ 64 - 1 ≤ new)
+-- One try of reading: what came to the front of the buffer, and how it was counted.
+pub record TriesRead (result : Result ℕ Error) (buf : List ℕ) (old new : ReadLog) : Type 0 where
+  pub bytes : ReadConsumes old.remaining new.remaining result buf
+  pub taken' : MatchResult result (λ n. new.taken ≡ sum_to_limit old.taken n) (λ _. new.taken ≡ old.taken)
+  pub tries' : CountsTry (is_err result) (IsBrokenRead result) old.tries new.tries
 
--- at least so many more were counted, or the count stands at `u64::MAX`
-abbrev pub HasCounted : (n old new : ℕ) → Type 0
-HasCounted n old new = (old + n ≤ new) ⊎ (2 ^ 64 - 1 ≤ new)
+-- One try of writing: how many of the bytes were taken, and how it was counted.
+pub record TriesWrite (result : Result ℕ Error) (buf : List ℕ) (old new : WriteLog) : Type 0 where
+  pub bytes : WriteAppends old.contents new.contents result buf
+  pub same : new.reference ≡ old.reference
+  pub tries' : CountsTry (takes_none result buf) (IsBrokenWrite result buf) old.tries new.tries
 
--- fewer than n bytes were taken
-abbrev pub TakesFewer : Option (List ℕ) → Option (List ℕ) → ℕ → Type 0
-TakesFewer old new n = (seen : List ℕ) × (length seen < n) × Consumes old new seen
+-- what a device's own counts say of its tries
+abbrev pub tries_of : Failures → Tries
+tries_of f = record { failures = f.failed; broken = f.broken; in_row = f.in_row }
 
--- how many interrupted tries in a row are a failure
-abbrev pub most_tries : ℕ
-most_tries = 65
-
--- A device gave up: a failure that was no interruption was counted, or that many failures.
-abbrev pub HasGivenUp : (failures_old failures_new broken_old broken_new : ℕ) → Type 0
-HasGivenUp failures_old failures_new broken_old broken_new = HasFailed broken_old broken_new ⊎ HasCounted most_tries failures_old failures_new
+-- no try has failed yet
+abbrev pub no_failures : Tries
+no_failures = record { failures = 0; broken = 0; in_row = 0 }
 
 -- the reader of a source
 abbrev pub reader_of : {R : Type 0} → FromRead R → R

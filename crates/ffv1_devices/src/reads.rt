@@ -1,9 +1,9 @@
-//! Reads that go on behind interrupted tries, until a source has failed (own).
+//! Reads that go on after interrupted tries, until a source has failed (own).
 
-ghost use Rattle.std.specs.Prelude.{◌≡◌, [], ◌∷◌, ◌+◌, ◌<◌, ◌≤◌, length, take, IfOk, IfSome, IfNone, OnOk, OnErr};
+ghost use Rattle.std.specs.Prelude.{◌≡◌, ◌+◌, ◌≤◌, MatchResult};
 ghost use Rattle.std.specs.Io.{ReadsAtMost};
-ghost use Rattle.std.specs.Io.KnownBytes.{ReadConsumes, Consumes, IsAtEnd};
-ghost use Rattle.ffv1_devices.specs.Streams.{HasFailed, HasGivenUp, TakesFewer, most_tries, sum_to_limit};
+ghost use Rattle.ffv1_devices.specs.Logs.{most_tries, sum_to_limit};
+ghost use Rattle.ffv1_devices.specs.Results.{ReadsSome, ReadsFull, ReadsByte};
 
 use crate::streams::Source;
 use std::io::ErrorKind;
@@ -18,15 +18,10 @@ pub struct ReadFailed;
 /// One read, made again where it is interrupted.
 pub fn read_some<S: Source>(source: &mut S, buf: &mut [u8]) -> Result<usize, ReadFailed>
     ensures bound { ReadsAtMost result buf.new }
-    ensures bytes { ReadConsumes (S.remaining source.old) (S.remaining source.new) result buf.new }
-    ensures failed { OnErr result (HasFailed (S.failures source.old) (S.failures source.new)) }
-    ensures gave_up { OnErr result (HasGivenUp (S.failures source.old) (S.failures source.new) (S.broken source.old) (S.broken source.new)) }
-    ensures unbroken { OnOk result (S.broken source.new ≡ S.broken source.old) }
-    ensures broken_once { S.broken source.new ≤ S.broken source.old + 1 }
-    ensures counted { S.failures source.old ≤ S.failures source.new }
-    ensures tries { S.failures source.new ≤ S.failures source.old + most_tries }
-    ensures taken { IfOk result (λ n. S.taken source.new ≡ sum_to_limit (S.taken source.old) n) }
-    ensures none_taken { OnErr result (S.taken source.new ≡ S.taken source.old) }
+    ensures read { ReadsSome result buf.new (S.log source.old) (S.log source.new) }
+    ensures taken { MatchResult result (λ n. (S.log source.new).taken ≡ sum_to_limit (S.log source.old).taken n)
+        (λ _. (S.log source.new).taken ≡ (S.log source.old).taken) }
+    ensures tries { (S.log source.new).tries.failures ≤ (S.log source.old).tries.failures + most_tries }
 {
     for _ in 0..TRIES {
         match source.read(buf) {
@@ -44,16 +39,7 @@ pub fn read_some<S: Source>(source: &mut S, buf: &mut [u8]) -> Result<usize, Rea
 /// Reads until the buffer is full or the input ends, and says how many bytes came.
 pub fn read_full<S: Source>(source: &mut S, buf: &mut [u8]) -> Result<usize, ReadFailed>
     ensures bound { ReadsAtMost result buf.new }
-    ensures bytes { IfOk result (λ n. Consumes (S.remaining source.old) (S.remaining source.new) (take n buf.new)) }
-    ensures end { IfOk result (λ n. n < length buf.new → IsAtEnd (S.remaining source.new)) }
-    ensures fewer { OnErr result (TakesFewer (S.remaining source.old) (S.remaining source.new) (length buf.new)) }
-    ensures failed { OnErr result (HasFailed (S.failures source.old) (S.failures source.new)) }
-    ensures gave_up { OnErr result (HasGivenUp (S.failures source.old) (S.failures source.new) (S.broken source.old) (S.broken source.new)) }
-    ensures unbroken { OnOk result (S.broken source.new ≡ S.broken source.old) }
-    ensures broken_once { S.broken source.new ≤ S.broken source.old + 1 }
-    ensures counted { S.failures source.old ≤ S.failures source.new }
-    ensures taken { IfOk result (λ n. S.taken source.new ≤ S.taken source.old + n) }
-    ensures within { S.taken source.new ≤ S.taken source.old + length buf.new }
+    ensures read { ReadsFull result buf.new (S.log source.old) (S.log source.new) }
 {
     let mut filled = 0;
     while filled < buf.len() {
@@ -68,16 +54,7 @@ pub fn read_full<S: Source>(source: &mut S, buf: &mut [u8]) -> Result<usize, Rea
 
 /// The next byte, or `None` at the end of the input.
 pub fn next_byte<S: Source>(source: &mut S) -> Result<Option<u8>, ReadFailed>
-    ensures some { IfOk result (λ r. IfSome r (λ b. Consumes (S.remaining source.old) (S.remaining source.new) (b ∷ []))) }
-    ensures none { IfOk result (λ r. IfNone r (Consumes (S.remaining source.old) (S.remaining source.new) [] × IsAtEnd (S.remaining source.new))) }
-    ensures kept { OnErr result (Consumes (S.remaining source.old) (S.remaining source.new) []) }
-    ensures failed { OnErr result (HasFailed (S.failures source.old) (S.failures source.new)) }
-    ensures gave_up { OnErr result (HasGivenUp (S.failures source.old) (S.failures source.new) (S.broken source.old) (S.broken source.new)) }
-    ensures unbroken { OnOk result (S.broken source.new ≡ S.broken source.old) }
-    ensures broken_once { S.broken source.new ≤ S.broken source.old + 1 }
-    ensures counted { S.failures source.old ≤ S.failures source.new }
-    ensures taken { S.taken source.new ≤ S.taken source.old + 1 }
-    ensures none_taken { IfOk result (λ r. IfNone r (S.taken source.new ≤ S.taken source.old)) }
+    ensures { ReadsByte result (S.log source.old) (S.log source.new) }
 {
     let mut byte = [0u8; 1];
     let count = read_full(source, &mut byte)?;

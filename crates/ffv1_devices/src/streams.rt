@@ -1,80 +1,53 @@
 //! Devices that are read and written, and how often they failed (own).
 
-ghost use Rattle.std.specs.Prelude.{◌≡◌, ℕ, ◌+◌, ◌-◌, ◌^◌, ◌≤◌, min, true, List, Option, is_err, IfOk, OnErr};
+ghost use Rattle.std.specs.Prelude.{◌≡◌};
 ghost use Rattle.std.specs.Io.{ReadsAtMost, WritesAtMost};
-ghost use Rattle.std.specs.Io.KnownBytes.{ReadConsumes, WriteAppends};
-ghost use Rattle.ffv1_devices.specs.Streams.{failures_after, takes_none, IsBrokenRead, IsBrokenWrite, sum_to_limit, reader_of, writer_of};
+ghost use Rattle.ffv1_devices.specs.Logs.{ReadLog, WriteLog};
+ghost use Rattle.ffv1_devices.specs.Streams.{TriesRead, TriesWrite, tries_of, no_failures, reader_of, writer_of};
 
 use crate::failures::{Failures, NONE_FAILED};
 use std::io;
 use std::io::{Read, Write};
 
-/// What is read. Where its bytes are told, `remaining` is those that are left.
+/// What is read.
 pub trait Source {
-    ghost remaining: { Self → Option (List ℕ) };
-
-    // How many reads failed. At `u64::MAX` it rises no more.
-    ghost failures: { Self → ℕ };
-
-    // How many of them were not interrupted. At `u64::MAX` it rises no more.
-    ghost broken: { Self → ℕ };
-
-    // How many bytes were read, `u64::MAX` for more.
-    ghost taken: { Self → ℕ };
+    ghost log: { Self → ReadLog };
 
     /// One try: answers how many bytes came to the front of `buf`. It may be interrupted; each error counts as a failure.
     fn read(&mut self, buf: &mut [u8]) -> io::Result<usize>
         ensures bound { ReadsAtMost result buf.new }
-        ensures bytes { ReadConsumes (remaining self.old) (remaining self.new) result buf.new }
-        ensures failures { failures self.new ≡ failures_after (is_err result) (failures self.old) }
-        ensures broken { IsBrokenRead result → broken self.new ≡ failures_after true (broken self.old) }
-        ensures unbroken { ¬ IsBrokenRead result → broken self.new ≡ broken self.old }
-        ensures taken { IfOk result (λ n. taken self.new ≡ sum_to_limit (taken self.old) n) }
-        ensures none_taken { OnErr result (taken self.new ≡ taken self.old) };
+        ensures tried { TriesRead result buf.new (log self.old) (log self.new) };
 
     /// How many tries failed, interrupted ones among them: `u64::MAX` for that many or more.
     fn failures(&self) -> u64
-        ensures { result ≡ failures self.now };
+        ensures { result ≡ (log self.now).tries.failures };
 
     /// How many of the tries that failed were not interrupted: `u64::MAX` for that many or more.
     fn broken(&self) -> u64
-        ensures { result ≡ broken self.now };
+        ensures { result ≡ (log self.now).tries.broken };
 
     /// How many bytes were read: `u64::MAX` for that many or more.
     fn taken(&self) -> u64
-        ensures { result ≡ taken self.now };
+        ensures { result ≡ (log self.now).taken };
 }
 
-/// What is written. Where its bytes are told, `contents` is those that it holds.
+/// What is written.
 pub trait Sink {
-    ghost contents: { Self → Option (List ℕ) };
-
-    // How many writes failed. At `u64::MAX` it rises no more.
-    ghost failures: { Self → ℕ };
-
-    // How many of them were not interrupted. At `u64::MAX` it rises no more.
-    ghost broken: { Self → ℕ };
-
-    // Which reference it writes through, where it borrows its writer.
-    ghost reference: { Self → ℕ };
+    ghost log: { Self → WriteLog };
 
     /// One try: answers how many of the first bytes were taken. It may be interrupted; an error counts as a failure, and so
     /// does taking none of some bytes.
     fn write(&mut self, buf: &[u8]) -> io::Result<usize>
         ensures bound { WritesAtMost result buf.now }
-        ensures bytes { WriteAppends (contents self.old) (contents self.new) result buf.now }
-        ensures failures { failures self.new ≡ failures_after (takes_none result buf.now) (failures self.old) }
-        ensures broken { IsBrokenWrite result buf.now → broken self.new ≡ failures_after true (broken self.old) }
-        ensures unbroken { ¬ IsBrokenWrite result buf.now → broken self.new ≡ broken self.old }
-        ensures same_reference { reference self.new ≡ reference self.old };
+        ensures tried { TriesWrite result buf.now (log self.old) (log self.new) };
 
     /// How many tries failed, interrupted ones among them: `u64::MAX` for that many or more.
     fn failures(&self) -> u64
-        ensures { result ≡ failures self.now };
+        ensures { result ≡ (log self.now).tries.failures };
 
     /// How many of the tries that failed were not interrupted: `u64::MAX` for that many or more.
     fn broken(&self) -> u64
-        ensures { result ≡ broken self.now };
+        ensures { result ≡ (log self.now).tries.broken };
 }
 
 /// A reader of std as a source, without a buffer.
@@ -89,10 +62,7 @@ impl<R: Read> FromRead<R> {
     /// The reader, with no failure and no byte counted yet.
     pub fn new(reader: R) -> FromRead<R>
         ensures reader { reader_of result ≡ reader }
-        ensures bytes { ⟦<FromRead<R> as Source>⟧.remaining result ≡ R.remaining reader }
-        ensures failures { ⟦<FromRead<R> as Source>⟧.failures result ≡ 0 }
-        ensures broken { ⟦<FromRead<R> as Source>⟧.broken result ≡ 0 }
-        ensures taken { ⟦<FromRead<R> as Source>⟧.taken result ≡ 0 }
+        ensures log { ⟦<FromRead<R> as Source>⟧.log result ≡ record { remaining = R.remaining reader; tries = no_failures; taken = 0 } }
     {
         FromRead {
             reader,
@@ -103,13 +73,7 @@ impl<R: Read> FromRead<R> {
 }
 
 impl<R: Read> Source for FromRead<R> {
-    ghost remaining = { λ s. R.remaining s.reader };
-
-    ghost failures = { λ s. s.failures.failed };
-
-    ghost broken = { λ s. s.failures.broken };
-
-    ghost taken = { λ s. s.taken };
+    ghost log = { λ s. record { remaining = R.remaining s.reader; tries = tries_of s.failures; taken = s.taken } };
 
     fn read(&mut self, buf: &mut [u8]) -> io::Result<usize> {
         let result = self.reader.read(buf);
@@ -143,9 +107,7 @@ pub struct FromWrite<W> {
 impl<W: Write> FromWrite<W> {
     /// The writer, with no failure counted yet.
     pub fn new(writer: W) -> FromWrite<W>
-        ensures bytes { ⟦<FromWrite<W> as Sink>⟧.contents result ≡ W.contents writer }
-        ensures failures { ⟦<FromWrite<W> as Sink>⟧.failures result ≡ 0 }
-        ensures broken { ⟦<FromWrite<W> as Sink>⟧.broken result ≡ 0 }
+        ensures { ⟦<FromWrite<W> as Sink>⟧.log result ≡ record { contents = W.contents writer; tries = no_failures; reference = 0 } }
     {
         FromWrite {
             writer,
@@ -155,20 +117,14 @@ impl<W: Write> FromWrite<W> {
 
     /// The writer, with what was written to it.
     pub fn into_inner(self) -> W
-        ensures { W.contents result ≡ ⟦<FromWrite<W> as Sink>⟧.contents self }
+        ensures { W.contents result ≡ (⟦<FromWrite<W> as Sink>⟧.log self).contents }
     {
         self.writer
     }
 }
 
 impl<W: Write> Sink for FromWrite<W> {
-    ghost contents = { λ s. W.contents s.writer };
-
-    ghost failures = { λ s. s.failures.failed };
-
-    ghost broken = { λ s. s.failures.broken };
-
-    ghost reference = { λ _. 0 };
+    ghost log = { λ s. record { contents = W.contents s.writer; tries = tries_of s.failures; reference = 0 } };
 
     fn write(&mut self, buf: &[u8]) -> io::Result<usize> {
         let result = self.writer.write(buf);
@@ -196,10 +152,8 @@ impl<'a, W: Write> ThroughWrite<'a, W> {
     /// The writer, with no failure counted yet.
     pub fn new(writer: &'a mut W) -> ThroughWrite<'a, W>
         ensures writer { writer_of result ≡ writer.old }
-        ensures reference { ⟦<ThroughWrite<'a, W> as Sink>⟧.reference result ≡ writer.entry.ghost_name }
-        ensures bytes { ⟦<ThroughWrite<'a, W> as Sink>⟧.contents result ≡ W.contents writer.old }
-        ensures failures { ⟦<ThroughWrite<'a, W> as Sink>⟧.failures result ≡ 0 }
-        ensures broken { ⟦<ThroughWrite<'a, W> as Sink>⟧.broken result ≡ 0 }
+        ensures log { ⟦<ThroughWrite<'a, W> as Sink>⟧.log result
+            ≡ record { contents = W.contents writer.old; tries = no_failures; reference = writer.entry.ghost_name } }
     {
         ThroughWrite {
             writer,
@@ -209,13 +163,7 @@ impl<'a, W: Write> ThroughWrite<'a, W> {
 }
 
 impl<W: Write> Sink for ThroughWrite<'_, W> {
-    ghost contents = { λ s. W.contents s.writer.now };
-
-    ghost failures = { λ s. s.failures.failed };
-
-    ghost broken = { λ s. s.failures.broken };
-
-    ghost reference = { λ s. s.writer.ghost_name };
+    ghost log = { λ s. record { contents = W.contents s.writer.now; tries = tries_of s.failures; reference = s.writer.ghost_name } };
 
     fn write(&mut self, buf: &[u8]) -> io::Result<usize> {
         let result = self.writer.write(buf);

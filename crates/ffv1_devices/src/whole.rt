@@ -1,9 +1,6 @@
 //! Whole inputs, up to a limit (own).
 
-ghost use Rattle.std.specs.Prelude.{◌≡◌, ◌+◌, ◌≤◌, length, IfOk, OnOk, IsErrOf};
-ghost use Rattle.std.specs.Io.KnownBytes.{Consumes, IsAtEnd};
-ghost use Rattle.ffv1_devices.specs.Streams.{HasFailed, HasGivenUp, HasCounted};
-ghost use Rattle.ffv1_devices.specs.Whole.{PassesLimit};
+ghost use Rattle.ffv1_devices.specs.Results.{ReadsInput};
 
 use crate::reads::{ReadFailed, read_some};
 use crate::streams::Source;
@@ -44,29 +41,15 @@ impl From<ReadFailed> for WholeFault {
 
 /// All bytes of a source, up to so many.
 ///
-/// `TooLong` comes exactly where one byte more than the limit came, and none is read behind it. `Read` comes only where the
-/// source counted a failure that was no interruption, or 65 interruptions; the first failure that is no interruption is
+/// `TooLong` comes exactly where one byte more than the limit came, and none is read after it. `Read` comes only where the
+/// source counted a failure that was no interruption, or 65 interruptions in a row; the first failure that is no interruption is
 /// told. `Memory` comes where a growth is refused, before the limit is passed.
 pub fn read_whole<S: Source>(
     alloc: Global,
     source: &mut S,
     limit: usize,
 ) -> Result<Vec<u8>, WholeFault>
-    ensures bytes { IfOk result (λ v. Consumes (S.remaining source.old) (S.remaining source.new) v.items) }
-    ensures end { OnOk result (IsAtEnd (S.remaining source.new)) }
-    ensures few { IfOk result (λ v. length v.items ≤ limit) }
-
-    ensures too_long { IsErrOf result WholeFault.TooLong → PassesLimit limit (S.remaining source.old) (S.remaining source.new) }
-    ensures one_more { IsErrOf result WholeFault.TooLong → HasCounted (limit + 1) (S.taken source.old) (S.taken source.new) }
-    ensures no_more { S.taken source.new ≤ S.taken source.old + limit + 1 }
-    ensures within { (¬ IsErrOf result WholeFault.TooLong) → S.taken source.new ≤ S.taken source.old + limit }
-
-    ensures failed { IsErrOf result WholeFault.Read → HasFailed (S.failures source.old) (S.failures source.new) }
-    ensures gave_up { IsErrOf result WholeFault.Read → HasGivenUp (S.failures source.old) (S.failures source.new)
-        (S.broken source.old) (S.broken source.new) }
-    ensures unbroken { (¬ IsErrOf result WholeFault.Read) → S.broken source.new ≡ S.broken source.old }
-    ensures broken_once { S.broken source.new ≤ S.broken source.old + 1 }
-    ensures counted { S.failures source.old ≤ S.failures source.new }
+    ensures { ReadsInput (λ v. v.items) limit result (S.log source.old) (S.log source.new) }
 {
     let mut bytes = Vec::new(alloc);
     let mut buf = [0u8; 65536];

@@ -1,10 +1,10 @@
-//! Whole fields to a sink (own): writes that go on behind interrupted tries, until the sink has failed.
+//! Whole fields to a sink (own): writes that go on after interrupted tries, until the sink has failed.
 
-ghost use Rattle.std.specs.Prelude.{◌≡◌, ◌+◌, ◌<◌, ◌≤◌, ◌++◌, length, take, IfOk, OnOk, OnErr};
+ghost use Rattle.std.specs.Prelude.{◌≡◌, ◌+◌, ◌<◌, ◌≤◌, ◌++◌, length, take, IfOk};
 ghost use Rattle.std.specs.Io.{WritesAtMost};
-ghost use Rattle.std.specs.Io.KnownBytes.{Appends, Keeps};
-ghost use Rattle.ffv1_devices.specs.Streams.{HasFailed, HasGivenUp, most_tries};
-ghost use Rattle.ffv1_devices.specs.Writing.{WritesFront};
+ghost use Rattle.ffv1_devices.specs.Logs.{most_tries};
+ghost use Rattle.ffv1_devices.specs.Writing.{short};
+ghost use Rattle.ffv1_devices.specs.Results.{WritesSome, WritesAll};
 
 use crate::reads::TRIES;
 use crate::streams::Sink;
@@ -22,15 +22,8 @@ fn write_some<S: Sink>(sink: &mut S, bytes: &[u8]) -> Result<usize, WriteFailed>
     requires { 0 < length bytes.now }
     ensures bound { WritesAtMost result bytes.now }
     ensures some { IfOk result (λ n. 0 < n) }
-    ensures ok { IfOk result (λ n. Appends (S.contents sink.old) (S.contents sink.new) (take n bytes.now)) }
-    ensures err { OnErr result (Keeps (S.contents sink.old) (S.contents sink.new)) }
-    ensures failed { OnErr result (HasFailed (S.failures sink.old) (S.failures sink.new)) }
-    ensures gave_up { OnErr result (HasGivenUp (S.failures sink.old) (S.failures sink.new) (S.broken sink.old) (S.broken sink.new)) }
-    ensures unbroken { OnOk result (S.broken sink.new ≡ S.broken sink.old) }
-    ensures broken_once { S.broken sink.new ≤ S.broken sink.old + 1 }
-    ensures counted { S.failures sink.old ≤ S.failures sink.new }
-    ensures same_reference { S.reference sink.new ≡ S.reference sink.old }
-    ensures tries { S.failures sink.new ≤ S.failures sink.old + most_tries }
+    ensures written { WritesSome result bytes.now (S.log sink.old) (S.log sink.new) }
+    ensures tries { (S.log sink.new).tries.failures ≤ (S.log sink.old).tries.failures + most_tries }
 {
     for _ in 0..TRIES {
         match sink.write(bytes) {
@@ -51,14 +44,7 @@ fn write_some<S: Sink>(sink: &mut S, bytes: &[u8]) -> Result<usize, WriteFailed>
 /// It is refused only where the sink counted a failure: an interrupted try is made again, and 65 in a row are a failure; the
 /// first failure that is no interruption is told. Then a front of the bytes was written, none or all of them among it.
 pub fn write_field<S: Sink>(sink: &mut S, bytes: &[u8]) -> Result<(), WriteFailed>
-    ensures ok { OnOk result (Appends (S.contents sink.old) (S.contents sink.new) bytes.now) }
-    ensures err { OnErr result (WritesFront (S.contents sink.old) (S.contents sink.new) bytes.now) }
-    ensures failed { OnErr result (HasFailed (S.failures sink.old) (S.failures sink.new)) }
-    ensures gave_up { OnErr result (HasGivenUp (S.failures sink.old) (S.failures sink.new) (S.broken sink.old) (S.broken sink.new)) }
-    ensures unbroken { OnOk result (S.broken sink.new ≡ S.broken sink.old) }
-    ensures broken_once { S.broken sink.new ≤ S.broken sink.old + 1 }
-    ensures counted { S.failures sink.old ≤ S.failures sink.new }
-    ensures same_reference { S.reference sink.new ≡ S.reference sink.old }
+    ensures { WritesAll result (S.log sink.old) (S.log sink.new) bytes.now }
 {
     let mut rest = bytes;
     while !rest.is_empty() {
@@ -81,17 +67,10 @@ fn put_pair(first: &[u8], second: &[u8], buf: &mut [u8]) -> usize
     end
 }
 
-/// Writes two short fields, one behind the other, as one.
+/// Writes two short fields, one after the other, as one.
 fn write_short<S: Sink>(sink: &mut S, first: &[u8], second: &[u8]) -> Result<(), WriteFailed>
-    requires { length first.now + length second.now ≤ 4096 }
-    ensures ok { OnOk result (Appends (S.contents sink.old) (S.contents sink.new) (first.now ++ second.now)) }
-    ensures err { OnErr result (WritesFront (S.contents sink.old) (S.contents sink.new) (first.now ++ second.now)) }
-    ensures failed { OnErr result (HasFailed (S.failures sink.old) (S.failures sink.new)) }
-    ensures gave_up { OnErr result (HasGivenUp (S.failures sink.old) (S.failures sink.new) (S.broken sink.old) (S.broken sink.new)) }
-    ensures unbroken { OnOk result (S.broken sink.new ≡ S.broken sink.old) }
-    ensures broken_once { S.broken sink.new ≤ S.broken sink.old + 1 }
-    ensures counted { S.failures sink.old ≤ S.failures sink.new }
-    ensures same_reference { S.reference sink.new ≡ S.reference sink.old }
+    requires { length first.now + length second.now ≤ short }
+    ensures { WritesAll result (S.log sink.old) (S.log sink.new) (first.now ++ second.now) }
 {
     let mut both = [0u8; SHORT];
     let count = put_pair(first, second, &mut both);
@@ -100,14 +79,7 @@ fn write_short<S: Sink>(sink: &mut S, first: &[u8], second: &[u8]) -> Result<(),
 
 /// Writes one field, and then another: short ones together.
 pub fn write_pair<S: Sink>(sink: &mut S, first: &[u8], second: &[u8]) -> Result<(), WriteFailed>
-    ensures ok { OnOk result (Appends (S.contents sink.old) (S.contents sink.new) (first.now ++ second.now)) }
-    ensures err { OnErr result (WritesFront (S.contents sink.old) (S.contents sink.new) (first.now ++ second.now)) }
-    ensures failed { OnErr result (HasFailed (S.failures sink.old) (S.failures sink.new)) }
-    ensures gave_up { OnErr result (HasGivenUp (S.failures sink.old) (S.failures sink.new) (S.broken sink.old) (S.broken sink.new)) }
-    ensures unbroken { OnOk result (S.broken sink.new ≡ S.broken sink.old) }
-    ensures broken_once { S.broken sink.new ≤ S.broken sink.old + 1 }
-    ensures counted { S.failures sink.old ≤ S.failures sink.new }
-    ensures same_reference { S.reference sink.new ≡ S.reference sink.old }
+    ensures { WritesAll result (S.log sink.old) (S.log sink.new) (first.now ++ second.now) }
 {
     if first.len() + second.len() <= SHORT {
         return write_short(sink, first, second);

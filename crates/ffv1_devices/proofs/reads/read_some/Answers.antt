@@ -1,76 +1,61 @@
-use Rattle.std.proofs.Common.{◌≡◌, ◌≢◌, ◌≤◌, ◌+◌, arith, rules, refl, ap, inl, inr, le_refl, le_trans, sym, subst, ◌∙◌}
+use Rattle.std.proofs.Common.{◌≡◌, ◌≢◌, arith, rules, refl, ap, ◌∙◌}
 use Rattle.std.proofs.KnownBytes.{Keeps-refl, Keeps-trans}
 use Rattle.std.specs.IoError.{error_kind}
 use Rattle.std.specs.declared.io.ErrorKind.TheVariants.{Interrupted}
-use Rattle.ffv1_devices.proofs.Counts.{CountsOne-from, failed-behind, counted-more, tries-more, once-same}
-use Rattle.ffv1_devices.proofs.Kept.{Consumes-behind}
+use Rattle.ffv1_devices.proofs.Counts.{none_interrupted, one_more, broken_after, went_after, most_after, given_up}
+use Rattle.ffv1_devices.proofs.Kept.{Consumes-after, Consumes-kept_nil}
+use Rattle.ffv1_devices.specs.Logs.{sum_to_limit}
+use Rattle.ffv1_devices.proofs.Steps.{bytes-same, bytes-counted}
 use Rattle.ffv1_devices.proofs.reads.read_some.Goals as goal
 
 pub loop-init : goal.loop-init
-loop-init g c = record {
-  same = refl;
-  kept = Keeps-refl _;
-  counted = le_refl _;
-  failed = λ h. absurd (omega arith);
-  each = inl (omega arith);
-  tries = omega arith;
-  unbroken = refl;
-  taken = refl;
-}
+loop-init g c = record { same = refl; kept = Keeps-refl _; taken' = refl; tries' = none_interrupted _ }
 
 pub returns-in-Ok : goal.returns-in-Ok
 returns-in-Ok g c =
     let inv = c.loop.invariant in
     let e = c.in-Ok.ensures in
-    let unbroken = e.unbroken (λ h. h) ∙ inv.unbroken in
+    let taken = e.tried.taken' ∙ ap (λ x. sum_to_limit x c.in-Ok.count) inv.taken' in
     record {
       bound = e.bound;
-      bytes = (Consumes-behind _ _ _ _ inv.kept e.bytes.0, e.bytes.1);
-      failed = tt;
-      gave_up = tt;
-      unbroken = unbroken;
-      broken_once = once-same _ _ unbroken;
-      counted = omega (arith, inv.counted, e.failures);
-      tries = omega (arith, inv.tries, e.failures);
-      taken = rw (← inv.taken) e.taken;
-      none_taken = tt;
+      read = (
+        record {
+          bytes' = Consumes-after _ _ _ _ inv.kept e.tried.bytes.0;
+          taken' = bytes-counted _ _ _ (taken ∙ ap (sum_to_limit _) e.bound.1);
+          tries' = went_after _ _ _ _ inv.tries' _ _ e.tried.tries' refl (λ h. h);
+        },
+        e.tried.bytes.1,
+      );
+      taken = taken;
+      tries = omega (arith, most_after _ _ _ _ inv.tries' _ _ e.tried.tries');
     }
 
 pub returns-then-ne : goal.returns-then-ne
 returns-then-ne g c =
     let inv = c.loop.invariant in
-    let e = c.in-Err.ensures in
+    let e = c.in-Err.ensures.tried in
     let other : error_kind c.in-Err.error ≢ Interrupted = search rules in
-    let one = CountsOne-from _ _ e.failures in
-    let broken = CountsOne-from _ _ (e.broken other) in
     record {
       bound = tt;
-      bytes = Keeps-trans _ _ _ inv.kept e.bytes;
-      failed = failed-behind _ _ _ inv.counted one.failed;
-      gave_up = inl (rw (← inv.unbroken) broken.failed);
-      unbroken = tt;
-      broken_once = omega (arith, inv.unbroken, broken.most);
-      counted = le_trans inv.counted one.least;
-      tries = omega (arith, inv.tries, one.most);
-      taken = tt;
-      none_taken = e.none_taken ∙ inv.taken;
+      read = record {
+        bytes' = Consumes-kept_nil _ _ (Keeps-trans _ _ _ inv.kept e.bytes);
+        taken' = bytes-same _ _ (e.taken' ∙ inv.taken');
+        tries' = broken_after _ _ _ _ inv.tries' _ _ e.tries' refl other;
+      };
+      taken = e.taken' ∙ inv.taken';
+      tries = omega (arith, most_after _ _ _ _ inv.tries' _ _ e.tries');
     }
 
 pub loop-preserved : goal.loop-preserved
 loop-preserved g c =
     let inv = c.loop.invariant in
-    let e = c.in-Err.ensures in
+    let e = c.in-Err.ensures.tried in
     let same : error_kind c.in-Err.error ≡ Interrupted = search rules in
-    let one = CountsOne-from _ _ e.failures in
     record {
       same = c.read.auto.buf ∙ inv.same;
       kept = Keeps-trans _ _ _ inv.kept e.bytes;
-      counted = le_trans inv.counted one.least;
-      failed = λ h. failed-behind _ _ _ inv.counted one.failed;
-      each = counted-more _ _ _ _ inv.each one;
-      tries = tries-more _ _ _ _ inv.tries one.most;
-      unbroken = e.unbroken (λ h. h same) ∙ inv.unbroken;
-      taken = e.none_taken ∙ inv.taken;
+      taken' = e.taken' ∙ inv.taken';
+      tries' = one_more _ _ _ _ inv.tries' _ _ e.tries' refl (λ h. h same);
     }
 
 pub returns : goal.returns
@@ -79,13 +64,11 @@ returns g c =
     let over : c.loop.counter ≡ 65 = omega arith in
     record {
       bound = tt;
-      bytes = inv.kept;
-      failed = inv.failed (omega arith);
-      gave_up = inr (rw over at inv.each);
-      unbroken = tt;
-      broken_once = once-same _ _ inv.unbroken;
-      counted = inv.counted;
-      tries = rw over at inv.tries;
-      taken = tt;
-      none_taken = inv.taken;
+      read = record {
+        bytes' = Consumes-kept_nil _ _ inv.kept;
+        taken' = bytes-same _ _ inv.taken';
+        tries' = given_up _ _ _ over inv.tries';
+      };
+      taken = inv.taken';
+      tries = rw over at inv.tries'.most;
     }

@@ -1,6 +1,9 @@
-use Rattle.std.proofs.Common.{◌≡◌, ℕ, ◌-◌, List, ◌++◌, arith, length, take, drop, sym, ap, ◌∙◌, append_assoc, take-append-drop}
+use Rattle.std.proofs.Common.{◌≡◌, ℕ, ◌-◌, List, [], ◌++◌, arith, length, take, drop, refl, sym, subst, ap, ◌∙◌, append_assoc, append-nil, take-append-drop}
 use Rattle.std.proofs.lemmas.List.{take_rest}
-use Rattle.std.proofs.KnownBytes.{Appends-trans}
+use Rattle.std.proofs.lemmas.Result.{err_from_is_err_and}
+use Rattle.ffv1_devices.specs.Logs.{Writes, StopsWriting}
+use Rattle.ffv1_devices.proofs.Kept.{none_of-length}
+use Rattle.ffv1_devices.proofs.Steps.{Writes-nil, Writes-trans, StopsWriting-after, StopsWriting-of}
 use Rattle.ffv1_devices.proofs.writes.write_field.Goals as goal
 
 moves_front : (all done rest : List ℕ) (n : ℕ) → all ≡ done ++ rest → all ≡ (done ++ take n rest) ++ take (length rest - n) (drop n rest)
@@ -8,14 +11,26 @@ moves_front all done rest n e =
     e ∙ ap (λ l. done ++ l) (sym (take-append-drop n rest)) ∙ sym (append_assoc done (take n rest) (drop n rest))
     ∙ ap (λ l. (done ++ take n rest) ++ l) (sym (take_rest rest n))
 
+pub loop-rest-init : goal.loop-rest-init
+loop-rest-init g c = ([], refl, Writes-nil _)
+
 pub loop-rest-preserved : goal.loop-rest-preserved
 loop-rest-preserved g c =
-    let (done, split, written) = c.loop-rest.invariant.written in
+    let (done, split, written) = c.loop-rest.invariant in
     let rest = c.loop-rest.rest.now in
     let n = c.in_ok-count.count in
-    record {
-      written = (done ++ take n rest, moves_front _ done rest n split, Appends-trans _ _ _ _ _ written c.in_ok-count.ensures.ok);
-      counted = omega arith;
-      unbroken = omega (arith, c.in_ok-count.ensures.unbroken);
-      same = c.in_ok-count.ensures.same_reference ∙ c.loop-rest.invariant.same;
-    }
+    (done ++ take n rest, moves_front _ done rest n split, Writes-trans _ _ _ _ _ written c.in_ok-count.ensures.written)
+
+pub returns-in_err-count : goal.returns-in_err-count
+returns-in_err-count g c =
+    let p = err_from_is_err_and c.from_residual.result c.from_residual.ensures.1 in
+    let (done, split, written) = c.loop-rest.invariant in
+    let rest = c.loop-rest.rest.now in
+    rw p.1 (subst (StopsWriting _ _) (sym split) (StopsWriting-after _ _ _ _ _ written (StopsWriting-of _ _ [] rest c.in_err-count.ensures.written)))
+
+pub returns : goal.returns
+returns g c =
+    let (done, split, written) = c.loop-rest.invariant in
+    let size : length c.loop-rest.rest.now ≡ 0 = grind arith in
+    let none = none_of-length c.loop-rest.rest.now (omega (arith, size)) in
+    subst (Writes _ _) (sym (split ∙ ap (λ l. done ++ l) none ∙ append-nil done)) written
