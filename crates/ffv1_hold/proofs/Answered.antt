@@ -1,14 +1,15 @@
 -- What reading the text of a holding answers.
-use Rattle.std.proofs.Common.{◌≡◌, ℕ, ◌≤◌, List, [], ◌∷◌, ◌++◌, length, Option, Some, None, Result, Ok, Err, IfOk, OnOk, IfErr, inl, inr, sym, ap, ◌∙◌, subst, arith, append_assoc, append-nil, length-append}
+use Rattle.std.proofs.Common.{◌≡◌, ℕ, ◌≤◌, List, [], ◌∷◌, ◌++◌, length, Option, Some, None, Result, Ok, Err, inl, inr, sym, ap, ◌∙◌, subst, arith, append_assoc, append-nil, length-append}
 use Rattle.std.specs.Io.KnownBytes.{Consumes, IsAtEnd}
 use Rattle.ffv1_bits.specs.Limits.{record_limit}
+use Rattle.ffv1_devices.specs.Logs.{ReadLog}
 use Rattle.ffv1_hold.specs.declared.file_fault.HoldFileFault.{HoldFileFault}
 use Rattle.ffv1_hold.specs.declared.file_fault.HoldFileFault.TheVariants as faults
 use Rattle.ffv1_hold.specs.declared.version.Version.{Version}
 use Rattle.ffv1_holding.specs.Contents.{Contents, IsHolding}
-use Rattle.ffv1_hold.specs.HoldingText.{file_text, head_text, entries_text, file_entries, IsTold, FitsInFile, TakesFile}
+use Rattle.ffv1_hold.specs.HoldingText.{file_text, head_text, entries_text, file_entries, IsTold, FitsInFile}
 use Rattle.ffv1_hold.specs.Reading.{Refuses, StopsIn}
-use Rattle.ffv1_hold.specs.FileFaults.{IsPartOfFile, FileIsWhole, FileShows, IsOutside, Answers}
+use Rattle.ffv1_hold.specs.FileFaults.{IsPartOfFile, FileIsWhole, FileShows, ReadsFile, IsOutside, Answers}
 use Rattle.ffv1_hold.proofs.TextLaws.{one_file, same_head, same_entries, fitting_items, text_parts}
 use Rattle.ffv1_hold.proofs.FaultLaws.{text_none, text_whole}
 
@@ -71,12 +72,11 @@ module _ (v : Version) (h : Contents) (is : IsHolding h) (fits : FitsInFile v h)
   refused_outside faults.Order new r = shows_none faults.Order new r
   refused_outside faults.NotASlice new r = shows_none faults.NotASlice new r
 
-  pub answered : (old new : Option (List ℕ)) (r : Result Contents HoldFileFault) → old ≡ Some (file_text v h)
-      → IfOk r (TakesFile old new) → OnOk r (IsAtEnd new) → IfOk r IsHolding
-      → IfErr r (Refuses IsPartOfFile FileIsWhole FileShows old new 0) → Answers h r
-  answered old new (Ok g) known file end sound fault =
-      let whole = taken_all (file_text v h) (file_text file.version g) new
-      (subst (λ (o : Option (List ℕ)). Consumes o new (file_text file.version g)) known file.taken) end in
-      one_file file.version v g h sound is file.fits.record' fits.record' file.fits.told fits.told (sym whole)
-  answered old new (Err f) known file end sound fault = refused_outside f new
-      (subst (λ (o : Option (List ℕ)). Refuses IsPartOfFile FileIsWhole FileShows o new 0 f) known fault)
+  pub answered : (old new : ReadLog) (r : Result Contents HoldFileFault) → old.remaining ≡ Some (file_text v h) → ReadsFile r old new → Answers h r
+  answered old new (Ok g) known read =
+      let file = read.file in
+      let whole = taken_all (file_text v h) (file_text file.version g) new.remaining
+      (subst (λ (o : Option (List ℕ)). Consumes o new.remaining (file_text file.version g)) known file.taken) read.at_end in
+      one_file file.version v g h read.sound is file.fits.record' fits.record' file.fits.told fits.told (sym whole)
+  answered old new (Err f) known stops = refused_outside f new.remaining
+      (subst (λ (o : Option (List ℕ)). Refuses IsPartOfFile FileIsWhole FileShows o new.remaining 0 f) known stops.fault)

@@ -9,8 +9,10 @@ use Rattle.ffv1_range.specs.Setup.{SetupValue}
 use Rattle.ffv1_holding.specs.SliceOrder.{Entry}
 use Rattle.ffv1_hold.specs.FileEntries.{last_of, AreEntries}
 use Rattle.ffv1_hold.specs.HoldingText.{FileEntry, slice_text, text_behind_slice, body_text, entry_text, entries_text}
-use Rattle.ffv1_hold.specs.Reading.{CountsRead, Takes, Refuses}
+use Rattle.ffv1_devices.specs.Logs.{ReadLog}
+use Rattle.ffv1_hold.specs.Reading.{TakesText, StopsAt}
 use Rattle.ffv1_hold.specs.FileFaults.{IsPartOfSlice, SliceIsTooLong, IsWrong, IsRight, IsPartBehind, ShowsBehind, IsPartOfEntry, EntryShows, IsPartOfEntries, EntriesShow}
+use Rattle.ffv1_hold.proofs.TextReads.{shown}
 
 pub single : (xs : List ℕ) (v : ℕ) → length xs ≡ 1 → get_or xs 0 0 ≡ v → xs ≡ v ∷ []
 single [] v len at = absurd (omega arith)
@@ -69,45 +71,20 @@ module _ (v : Version) (setup : SetupValue) (last : Option FileEntry) where
   behind_shows e right faults.OtherReel s h = (slice_text e ++ s, refl, inr (e, s, refl, right, h))
 
   -- a slice that was read whole, and is wrong
-  pub wrong_refuses : (P : List ℕ → Type 0) (W : HoldFileFault → List ℕ → Type 0) (e : Entry) (a b : Option (List ℕ)) (i j : ℕ) (f : HoldFileFault)
-      → Takes a b i j (1 ∷ slice_text e) → e.0 < 2 ^ 16 → length e.1 ≤ slice_limit → IsWrong setup last e f → Refuses P W (EntryShows v setup last) a b i f
-  wrong_refuses P W e a b i j faults.NotASlice t small fits w = record {
-    seen = 1 ∷ slice_text e;
-    is = (slice_text e, refl, inl (e, refl, small, fits, w));
-    taken = t.taken;
-    within = omega (arith, t.moved, t.within);
-  }
-  wrong_refuses P W e a b i j faults.Order t small fits w = record {
-    seen = 1 ∷ slice_text e;
-    is = (slice_text e, refl, inl (e, refl, small, fits, w));
-    taken = t.taken;
-    within = omega (arith, t.moved, t.within);
-  }
-  wrong_refuses P W e a b i j faults.TooLong t small fits w = absurd w
-  wrong_refuses P W e a b i j faults.Magic t small fits w = absurd w
-  wrong_refuses P W e a b i j (faults.Setup f) t small fits w = absurd w
-  wrong_refuses P W e a b i j faults.Truncated t small fits w = absurd w
-  wrong_refuses P W e a b i j faults.Tag t small fits w = absurd w
-  wrong_refuses P W e a b i j faults.Trailing t small fits w = absurd w
-  wrong_refuses P W e a b i j faults.Read t small fits w = absurd w
-  wrong_refuses P W e a b i j faults.Write t small fits w = absurd w
-  wrong_refuses P W e a b i j faults.Memory t small fits w = absurd w
-  wrong_refuses P W e a b i j faults.OtherReel t small fits w = absurd w
-
-  -- a slice that is wrong is no failure of the source
-  pub CountsRead-wrong : (e : Entry) (f : HoldFileFault) (a b : ℕ) → IsWrong setup last e f → CountsRead f a b
-  CountsRead-wrong e faults.NotASlice a b w = tt
-  CountsRead-wrong e faults.Order a b w = tt
-  CountsRead-wrong e faults.TooLong a b w = absurd w
-  CountsRead-wrong e faults.Magic a b w = absurd w
-  CountsRead-wrong e (faults.Setup f) a b w = absurd w
-  CountsRead-wrong e faults.Truncated a b w = absurd w
-  CountsRead-wrong e faults.Tag a b w = absurd w
-  CountsRead-wrong e faults.Trailing a b w = absurd w
-  CountsRead-wrong e faults.Read a b w = absurd w
-  CountsRead-wrong e faults.Write a b w = absurd w
-  CountsRead-wrong e faults.Memory a b w = absurd w
-  CountsRead-wrong e faults.OtherReel a b w = absurd w
+  pub wrong_stops : (P : List ℕ → Type 0) (W : HoldFileFault → List ℕ → Type 0) (e : Entry) (a b : ReadLog) (i j : ℕ) (f : HoldFileFault)
+      → TakesText a b i j (1 ∷ slice_text e) → e.0 < 2 ^ 16 → length e.1 ≤ slice_limit → IsWrong setup last e f → StopsAt P W (EntryShows v setup last) a b i f
+  wrong_stops P W e a b i j faults.NotASlice t small fits w = shown P W _ a b i j _ t faults.NotASlice tt (slice_text e, refl, inl (e, refl, small, fits, w))
+  wrong_stops P W e a b i j faults.Order t small fits w = shown P W _ a b i j _ t faults.Order tt (slice_text e, refl, inl (e, refl, small, fits, w))
+  wrong_stops P W e a b i j faults.TooLong t small fits w = absurd w
+  wrong_stops P W e a b i j faults.Magic t small fits w = absurd w
+  wrong_stops P W e a b i j (faults.Setup f) t small fits w = absurd w
+  wrong_stops P W e a b i j faults.Truncated t small fits w = absurd w
+  wrong_stops P W e a b i j faults.Tag t small fits w = absurd w
+  wrong_stops P W e a b i j faults.Trailing t small fits w = absurd w
+  wrong_stops P W e a b i j faults.Read t small fits w = absurd w
+  wrong_stops P W e a b i j faults.Write t small fits w = absurd w
+  wrong_stops P W e a b i j faults.Memory t small fits w = absurd w
+  wrong_stops P W e a b i j faults.OtherReel t small fits w = absurd w
 
 -- ---- entries, one after the other
 

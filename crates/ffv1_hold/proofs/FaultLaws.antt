@@ -144,8 +144,9 @@ module _ (v : Version) (setup : SetupValue) where
 -- ---- the head, and the whole text
 
 pub magic_none : (v : Version) (z y s : List ℕ) (fault : HoldFileFault) → magic v ++ z ≡ s ++ y → MagicShows fault s → ⊥
-magic_none v z y s faults.Magic same shown =
-    shown.1 v (sym (take-append_seam s y) ∙ ap (take (length s)) (sym same) ∙ take-append-le (length s) (magic v) z shown.0)
+magic_none v z y s faults.Magic same (seen, wrong, is, part, none) =
+    let few : length s ≤ 8 = omega (arith, ap length is, length-append seen (wrong ∷ []), part.0) in
+    none v (sym (take-append_seam s y) ∙ ap (take (length s)) (sym same) ∙ take-append-le (length s) (magic v) z few)
 magic_none v z y s faults.TooLong same shown = shown
 magic_none v z y s (faults.Setup f) same shown = shown
 magic_none v z y s faults.Truncated same shown = shown

@@ -1,5 +1,5 @@
 -- The parts of the size and the record.
-use Rattle.std.proofs.Common.{◌≡◌, ℕ, suc, ◌<◌, ◌≤◌, List, [], ◌∷◌, ◌++◌, length, take, get_or, Option, Result, Ok, Err, IfOk, IfErr, arith, inl, inr, refl, sym, ap, ◌∙◌, subst, append_assoc, append-nil, length-append, length-take-le}
+use Rattle.std.proofs.Common.{◌≡◌, ℕ, suc, ◌<◌, ◌≤◌, List, [], ◌∷◌, ◌++◌, length, take, get_or, Option, Result, Ok, Err, arith, inl, inr, refl, sym, ap, ◌∙◌, subst, append_assoc, append-nil, length-append, length-take-le}
 use Rattle.std.proofs.Math.Seq.{take-suc, take-append-le}
 use Rattle.std.specs.Prelude.{◌⊎◌}
 use Rattle.ffv1_bits.specs.Limits.{record_limit}
@@ -13,12 +13,15 @@ use Rattle.ffv1_hold.specs.declared.version.Version.{Version}
 use Rattle.ffv1_hold.specs.declared.version.Version.TheVariants.{First, Second}
 use Rattle.ffv1_hold.specs.HoldingText.{name, version_number, magic, be4, sized_record, head_text, entries_text, file_entries, IsTold}
 use Rattle.ffv1_holding.specs.Contents.{Contents, IsHolding}
-use Rattle.ffv1_hold.specs.Reading.{Takes, Refuses, IsShorter, Never}
+use Rattle.ffv1_devices.specs.Logs.{ReadLog}
+use Rattle.ffv1_hold.specs.Reading.{Refuses, TakesText, ReadsText}
 use Rattle.ffv1_hold.specs.FileEntries.{AreEntries}
 use Rattle.ffv1_hold.specs.ReadOrigins.{VersionShows}
 use Rattle.ffv1_hold.specs.FileFaults.{IsFileReel, IsPartOfMagic, IsHoldingText, IsPartOfReel, ReelIsWhole, FileIsWhole, ReelShows, EntriesAreWhole, IsPartOfEntries, EntriesShow, IsPartOfHead, HeadIsWhole, HeadShows, IsPartOfFile, MagicShows, FileShows}
 use Rattle.ffv1_hold.proofs.Bodies.{length-be4}
-use Rattle.ffv1_hold.proofs.ReadRefusals.{Takes-nil, Takes-trans, Refuses-after}
+use Rattle.ffv1_hold.proofs.Entries.{single}
+use Rattle.ffv1_hold.proofs.ReadRefusals.{Takes-nil, Refuses-after}
+use Rattle.ffv1_hold.proofs.TextReads.{TakesText-trans, StopsAt-after}
 use Rattle.ffv1_hold.proofs.NumberTexts.{same_back}
 
 pub part_of_width : (s : List ℕ) → length s < 4 → IsPartOfReel s
@@ -37,19 +40,6 @@ pub sized_record-of : (config : List ℕ) (w h n : ℕ) → n ≡ length config 
 unfolding sized_record
 sized_record-of config w h n is = ap (λ k. be4 w ++ be4 h ++ be4 k ++ config) is
 
--- a beginning of the name, and a wrong byte behind it
-pub wrong_name : (i : ℕ) (byte : List ℕ) → i < 7 → length byte ≡ 1 → (get_or byte 0 0 ≡ get_or name i 0 → ⊥) → MagicShows faults.Magic (take i name ++ byte)
-wrong_name i byte lt one other =
-    let front = length-take-le i name (omega arith) in
-    let long : length (take i name ++ byte) ≡ suc i = omega (arith, length-append (take i name) byte) in (
-      omega arith,
-      λ v same.
-          let in_name : take (suc i) (magic v) ≡ take (suc i) name = take-append-le (suc i) name (version_number v ∷ []) (omega arith) in
-          let back = same_back (take i name) (take i name) byte (get_or name i 0 ∷ []) refl
-          (same ∙ ap (λ n. take n (magic v)) long ∙ in_name ∙ take-suc name i 0 lt) in
-          other (ap (λ b. get_or b 0 0) back),
-    )
-
 -- a beginning of the name is one of the magic
 pub part_of_name : (i : ℕ) (s : List ℕ) → i < 7 → length s < 1 → IsPartOfMagic (take i name ++ s)
 part_of_name i [] lt short =
@@ -60,6 +50,22 @@ part_of_name i [] lt short =
     )
 part_of_name i (x ∷ s) lt short = absurd (omega arith)
 
+-- a beginning of the name, and a wrong byte after it
+pub wrong_name : (i : ℕ) (byte : List ℕ) → i < 7 → length byte ≡ 1 → (get_or byte 0 0 ≡ get_or name i 0 → ⊥) → MagicShows faults.Magic (take i name ++ byte)
+wrong_name i byte lt one other =
+    let front = length-take-le i name (omega arith) in
+    let long : length (take i name ++ byte) ≡ suc i = omega (arith, length-append (take i name) byte) in (
+      take i name,
+      get_or byte 0 0,
+      ap (λ l. take i name ++ l) (single byte (get_or byte 0 0) one refl),
+      subst IsPartOfMagic (append-nil (take i name)) (part_of_name i [] lt (omega arith)),
+      λ v same.
+          let in_name : take (suc i) (magic v) ≡ take (suc i) name = take-append-le (suc i) name (version_number v ∷ []) (omega arith) in
+          let back = same_back (take i name) (take i name) byte (get_or name i 0 ∷ []) refl
+          (same ∙ ap (λ n. take n (magic v)) long ∙ in_name ∙ take-suc name i 0 lt) in
+          other (ap (λ b. get_or b 0 0) back),
+    )
+
 -- the whole name is a beginning of the magic
 pub whole_name : (s : List ℕ) → length s < 1 → IsPartOfMagic (name ++ s)
 whole_name [] short = (omega arith, refl)
@@ -67,7 +73,7 @@ whole_name (x ∷ s) short = absurd (omega arith)
 
 -- a byte behind the name that is the number of no version
 pub wrong_version : (n : ℕ) → (n ≡ 1 → ⊥) → (n ≡ 2 → ⊥) → MagicShows faults.Magic (name ++ n ∷ [])
-wrong_version n one two = (omega arith, wrong)
+wrong_version n one two = (name, n, refl, whole_name [] (omega arith), wrong)
   where
     wrong : (v : Version) → name ++ n ∷ [] ≡ take 8 (magic v) → ⊥
     wrong First same = one (ap (λ z. get_or z 7 0) same)
@@ -179,16 +185,12 @@ head_is_part v r is =
     inr (inr (v, r, [], is, sym (append-nil (head_text v r)), ([], [], none, refl, inl refl)))
 
 -- a size and a record that were read, or refused, behind the magic
-module _ (v : Version) (a b c : Option (List ℕ)) (i j k : ℕ) (t : Takes a b i j (magic v)) where
-  pub head_taken : (r : Result Reel HoldFileFault) → IfOk r (λ r. Takes b c j k (sized_record r.config r.setup.width r.setup.height))
-      → IfOk r (λ r. Takes a c i k (head_text v r))
-  head_taken (Ok r) more = subst (Takes a c i k) (head_text-of v r) (Takes-trans a b c i j k (magic v) _ t more)
-  head_taken (Err f) more = tt
-
-  pub head_refused : (r : Result Reel HoldFileFault) → IfErr r (Refuses IsPartOfReel ReelIsWhole ReelShows b c j)
-      → IfErr r (Refuses IsPartOfHead HeadIsWhole HeadShows a c i)
-  head_refused (Ok r) refused = tt
-  head_refused (Err f) refused = Refuses-after IsPartOfReel IsPartOfHead ReelIsWhole HeadIsWhole ReelShows HeadShows a b c i j (magic v) f t refused
+module _ (v : Version) (a b c : ReadLog) (i j k : ℕ) (t : TakesText a b i j (magic v)) where
+  pub head_read : (r : Result Reel HoldFileFault)
+      → ReadsText (λ r. sized_record r.config r.setup.width r.setup.height) IsPartOfReel ReelIsWhole ReelShows b c j k r
+      → ReadsText (head_text v) IsPartOfHead HeadIsWhole HeadShows a c i k r
+  head_read (Ok r) more = subst (TakesText a c i k) (head_text-of v r) (TakesText-trans a b c i j k (magic v) _ t more)
+  head_read (Err f) more = StopsAt-after IsPartOfReel IsPartOfHead ReelIsWhole HeadIsWhole ReelShows HeadShows a b c i j (magic v) t f more
       (head_from_reel_part v) (head_from_whole_reel v) (head_from_reel_fault v)
 
 -- a refusal that isn't want of memory is the first fault of the record
@@ -196,16 +198,3 @@ pub first_fault : (config : List ℕ) (w h : ℕ) (f : SetupFault) → (f ≡ no
     → FirstSetupFault config w h f
 first_fault config w h f (inl memory) other = absurd (other memory)
 first_fault config w h f (inr first) other = first
-
--- a version that was read, or refused, behind the name
-module _ (a b c : Option (List ℕ)) (i j : ℕ) where
-  pub magic_taken : (k : ℕ) → Takes a b i j name → (r : Result Version HoldFileFault) → IfOk r (λ v. Takes b c j k (version_number v ∷ []))
-      → IfOk r (λ v. Takes a c i k (magic v))
-  magic_taken k t (Ok v) more = Takes-trans a b c i j k name _ t more
-  magic_taken k t (Err f) more = tt
-
-  pub version_behind_name : Takes a b i j name → (r : Result Version HoldFileFault) → IfErr r (Refuses (IsShorter 1) Never VersionShows b c j)
-      → IfErr r (Refuses IsPartOfMagic Never MagicShows a c i)
-  version_behind_name t (Ok v) refused = tt
-  version_behind_name t (Err f) refused =
-      Refuses-after (IsShorter 1) IsPartOfMagic Never Never VersionShows MagicShows a b c i j name f t refused whole_name (λ f s h. h) version_refused

@@ -1,6 +1,6 @@
 pub mod Numbers
 pub mod ReadRefusals
-pub mod ReadCounts
+pub mod TextReads
 pub mod Bodies
 pub mod NumberTexts
 pub mod SliceTexts
@@ -33,6 +33,7 @@ pub mod MergeSteps
 pub mod MergeStarts
 pub mod MergeFronts
 pub mod MergeAnswers
+pub mod JoinSteps
 pub mod JoinedEntries
 pub mod TextVectors
 pub use Rattle.ffv1_devices.proofs.Fronts

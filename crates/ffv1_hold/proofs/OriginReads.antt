@@ -1,5 +1,5 @@
 -- How reading the digests behind a slice goes on behind those that were read.
-use Rattle.std.proofs.Common.{◌≡◌, ℕ, zero, suc, ◌-◌, ◌<◌, ◌≤◌, ◌==◌, IsTrue, rules, slice_get, List, [], ◌∷◌, ◌++◌, length, get_or, Option, Some, refl, sym, ap, ◌∙◌, subst, inr, arith, append_assoc}
+use Rattle.std.proofs.Common.{◌≡◌, ℕ, zero, suc, ◌-◌, ◌<◌, ◌≤◌, ◌==◌, IsTrue, rules, slice_get, List, [], ◌∷◌, ◌++◌, length, get_or, Some, refl, sym, ap, ◌∙◌, subst, inr, arith, append_assoc}
 use Rattle.std.specs.Ordering.{ordering_index}
 use Rattle.std.specs.declared.cmp.Ordering.{Ordering}
 use Rattle.std.specs.declared.cmp.Ordering.TheVariants.{Less, Equal, Greater}
@@ -13,8 +13,9 @@ use Rattle.ffv1_hold.specs.HoldingText.{origins_limit, be4, origins_text}
 use Rattle.ffv1_hold.specs.FileEntries.{last_of, FollowsDigest, IsDigest, AreOrigins}
 use Rattle.ffv1_hold.specs.FileFaults.{IsPartOfOrigins, OriginsShow}
 use Rattle.ffv1_hold.specs.ReadOrigins.{DigestShows, TakesDigest}
-use Rattle.ffv1_hold.specs.Reading.{Takes, Refuses, IsShorter, Never}
-use Rattle.ffv1_hold.proofs.ReadRefusals.{Takes-trans, Refuses-after}
+use Rattle.ffv1_devices.specs.Logs.{ReadLog}
+use Rattle.ffv1_hold.specs.Reading.{TakesText, StopsAt, IsShorter, Never}
+use Rattle.ffv1_hold.proofs.TextReads.{TakesText-trans, StopsAt-after}
 use Rattle.ffv1_hold.proofs.DigestTexts.{whole, whole-push, all_push}
 
 -- what stands behind the last digest is above all
@@ -58,17 +59,17 @@ origins_push ds d are is follows = record {
       (above_digests ds d are.rising follows i x lt));
 }
 
-module _ (a b c : Option (List ℕ)) (i j : ℕ) (n : ℕ) (ds : List (List ℕ)) (t : Takes a b i j (be4 n ++ whole ds)) where
-  pub text_push : (k : ℕ) (es : List (List ℕ)) → TakesDigest b c j k ds es → Takes a c i k (be4 n ++ whole es)
+module _ (a b c : ReadLog) (i j : ℕ) (n : ℕ) (ds : List (List ℕ)) (t : TakesText a b i j (be4 n ++ whole ds)) where
+  pub text_push : (k : ℕ) (es : List (List ℕ)) → TakesDigest b c j k ds es → TakesText a c i k (be4 n ++ whole es)
   text_push k es one =
-      subst (Takes a c i k) (append_assoc (be4 n) (whole ds) one.digest ∙ ap (λ x. be4 n ++ x) (sym (whole-push ds one.digest)
-      ∙ ap whole (sym one.pushed))) (Takes-trans _ _ _ _ _ _ _ _ t one.text)
+      subst (TakesText a c i k) (append_assoc (be4 n) (whole ds) one.digest ∙ ap (λ x. be4 n ++ x) (sym (whole-push ds one.digest)
+      ∙ ap whole (sym one.pushed))) (TakesText-trans _ _ _ _ _ _ _ _ t one.text)
 
   -- the next digest is refused
   pub digest_refused : (f : HoldFileFault) → AreOrigins ds → n ≤ origins_limit → length ds < n
-      → Refuses (IsShorter 32) Never (DigestShows (last_of ds)) b c j f → Refuses IsPartOfOrigins Never OriginsShow a c i f
+      → StopsAt (IsShorter 32) Never (DigestShows (last_of ds)) b c j f → StopsAt IsPartOfOrigins Never OriginsShow a c i f
   digest_refused f are few less refused =
-      Refuses-after (IsShorter 32) IsPartOfOrigins Never Never (DigestShows (last_of ds)) OriginsShow a b c i j (be4 n ++ whole ds) f t refused
+      StopsAt-after (IsShorter 32) IsPartOfOrigins Never Never (DigestShows (last_of ds)) OriginsShow a b c i j (be4 n ++ whole ds) t f refused
       (λ s short. inr (n, ds, s, refl, few, are, less, short)) (λ f s h. h) shows
     where
       shows : (f : HoldFileFault) (s : List ℕ) → DigestShows (last_of ds) f s → OriginsShow f ((be4 n ++ whole ds) ++ s)
@@ -85,7 +86,7 @@ module _ (a b c : Option (List ℕ)) (i j : ℕ) (n : ℕ) (ds : List (List ℕ)
       shows faults.Memory s h = absurd h
       shows faults.OtherReel s h = absurd h
 
-pub pushed_origins : (a b : Option (List ℕ)) (i j : ℕ) (ds es : List (List ℕ)) → TakesDigest a b i j ds es → AreOrigins ds → AreOrigins es
+pub pushed_origins : (a b : ReadLog) (i j : ℕ) (ds es : List (List ℕ)) → TakesDigest a b i j ds es → AreOrigins ds → AreOrigins es
 pushed_origins a b i j ds es one are = subst AreOrigins (sym one.pushed) (origins_push ds one.digest are one.is one.follows)
 
 pub origins_text-of : (ds : List (List ℕ)) (n : ℕ) → length ds ≡ n → be4 n ++ whole ds ≡ origins_text ds

@@ -6,7 +6,7 @@ use Rattle.std.proofs.KnownBytes.{Consumes-nil, Consumes-trans}
 use Rattle.ffv1_bits.specs.Limits.{file_limit}
 use Rattle.ffv1_hold.specs.declared.file_fault.HoldFileFault.{HoldFileFault}
 use Rattle.ffv1_hold.specs.declared.file_fault.HoldFileFault.TheVariants as faults
-use Rattle.ffv1_hold.specs.Reading.{Takes, EndsIn, StopsIn, PassesIn, GoesOnIn, Refuses, Never}
+use Rattle.ffv1_hold.specs.Reading.{Takes, EndsIn, StopsIn, PassesIn, GoesOnIn, Refuses}
 
 pub Takes-nil : (a : Option (List ℕ)) (n : ℕ) → n ≤ file_limit → Takes a a n n []
 Takes-nil a n h = record { taken = Consumes-nil a; moved = omega arith; within = h }
@@ -85,14 +85,3 @@ Refuses-after P P' W W' Q Q' a b c i j xs (faults.Setup f) t r p w q = StopsIn-a
 Refuses-after P P' W W' Q Q' a b c i j xs faults.Tag t r p w q = StopsIn-after _ _ a b c i j xs t (q faults.Tag) r
 Refuses-after P P' W W' Q Q' a b c i j xs faults.Order t r p w q = StopsIn-after _ _ a b c i j xs t (q faults.Order) r
 Refuses-after P P' W W' Q Q' a b c i j xs faults.NotASlice t r p w q = StopsIn-after _ _ a b c i j xs t (q faults.NotASlice) r
-
--- no memory was granted behind bytes that are unfinished
-pub memory_stops : (P : List ℕ → Type 0) (W Q : HoldFileFault → List ℕ → Type 0) (a b : Option (List ℕ)) (i j : ℕ) (xs : List ℕ) → Takes a b i j xs → P xs
-    → Refuses P W Q a b i faults.Memory
-memory_stops P W Q a b i j xs t is = record { seen = xs; is = inl is; taken = t.taken; within = omega (arith, t.moved, t.within) }
-
--- a field that was not read whole shows no fault
-pub Refuses-field : (P : List ℕ → Type 0) (Q : HoldFileFault → List ℕ → Type 0) (a b : Option (List ℕ)) (i : ℕ) (f : HoldFileFault)
-    → i ≤ file_limit → Refuses P Never Never a b i f → Refuses P Never Q a b i f
-Refuses-field P Q a b i f fits r =
-    Refuses-after P P Never Never Never Q a a b i i [] f (Takes-nil a i fits) r (λ s h. h) (λ f s h. h) (λ f s h. absurd h)

@@ -12,10 +12,11 @@ use Rattle.ffv1_holding.specs.SliceOrder.{entry_cmp, origin_cmp}
 use Rattle.ffv1_holding.specs.Sets as set
 use Rattle.ffv1_holding.specs.Contents.{Contents, IsHolding, no_slices, with_entry}
 use Rattle.ffv1_hold.specs.HoldingText.{FileEntry, entries_text, file_entries, IsTold}
-use Rattle.ffv1_hold.specs.Reading.{Takes, Refuses}
+use Rattle.ffv1_devices.specs.Logs.{ReadLog}
+use Rattle.ffv1_hold.specs.Reading.{TakesText, StopsAt}
 use Rattle.ffv1_hold.specs.FileEntries.{last_of, Follows, AreOrigins, AreEntries, AreDigestsIn, IsFileEntryOf, next_text}
 use Rattle.ffv1_hold.specs.FileFaults.{IsPartOfEntry, EndIsWhole, EntryShows, IsPartOfEntries, EntriesAreWhole, EntriesShow}
-use Rattle.ffv1_hold.proofs.ReadRefusals.{Takes-nil, Takes-trans, Refuses-after, memory_stops}
+use Rattle.ffv1_hold.proofs.TextReads.{TakesText-nil, TakesText-trans, StopsAt-after, memory_stops}
 use Rattle.ffv1_hold.proofs.Slots.{entries_text-none, entries_text-push}
 use Rattle.ffv1_hold.proofs.Entries.{part_of_entries, entries_show}
 use Rattle.ffv1_hold.proofs.OriginReads.{origins_none}
@@ -27,8 +28,8 @@ digests_in_version First ds are = subst AreOrigins (sym are) origins_none
 digests_in_version Second ds are = are.0
 
 -- These entries were read, from the place i on up to j, and the last of them is known.
-pub record AreRead (v : Version) (reel : Reel) (old new : Option (List ℕ)) (i j : ℕ) (h : Contents) (last : Option FileEntry) : Type 0 where
-  pub text : Takes old new i j (entries_text v (file_entries h))
+pub record AreRead (v : Version) (reel : Reel) (old new : ReadLog) (i j : ℕ) (h : Contents) (last : Option FileEntry) : Type 0 where
+  pub text : TakesText old new i j (entries_text v (file_entries h))
   pub sound : IsHolding h
   pub told : IsTold v h
   pub reel' : h.reel ≡ reel
@@ -48,19 +49,19 @@ told_none First r = refl
 told_none Second r = λ q held. absurd (true≢false (sym held ∙ set.contains-empty entry_cmp q))
 
 -- no entries yet
-pub none_read : (v : Version) (a : Option (List ℕ)) (i : ℕ) (h : Contents) (last : Option FileEntry) → i ≤ file_limit → IsReel h.reel
+pub none_read : (v : Version) (a : ReadLog) (i : ℕ) (h : Contents) (last : Option FileEntry) → i ≤ file_limit → IsReel h.reel
     → h ≡ no_slices h.reel → last ≡ None → AreRead v h.reel a a i i h last
 none_read v a i h last within is none at =
     let entries = ap file_entries none ∙ entries-none h.reel in
     record {
-      text = subst (Takes a a i i) (sym (ap (entries_text v) entries ∙ entries_text-none v)) (Takes-nil a i within);
+      text = subst (TakesText a a i i) (sym (ap (entries_text v) entries ∙ entries_text-none v)) (TakesText-nil a i within);
       sound = subst IsHolding (sym none) (holding_none h.reel is);
       told = subst (IsTold v) (sym none) (told_none v h.reel);
       reel' = refl;
       last' = at ∙ sym (ap last_of entries);
     }
 
-module _ (v : Version) (reel : Reel) (a b : Option (List ℕ)) (i j : ℕ) (h grown : Contents) (e : FileEntry) (is : IsHolding h) (told : IsTold v h)
+module _ (v : Version) (reel : Reel) (a b : ReadLog) (i j : ℕ) (h grown : Contents) (e : FileEntry) (is : IsHolding h) (told : IsTold v h)
     (same : h.reel ≡ reel) (entry : IsFileEntryOf v reel.setup e) (follows : Follows (last_of (file_entries h)) e.0) where
   own : IsFileEntryOf v h.reel.setup e
   own = subst (λ (r : Reel). IsFileEntryOf v r.setup e) (sym same) entry
@@ -69,12 +70,12 @@ module _ (v : Version) (reel : Reel) (a b : Option (List ℕ)) (i j : ℕ) (h gr
   digests = digests_in_version v e.1 entry.origins
 
   -- the entry that is held behind these is one of them
-  pub one_more : (held : Option FileEntry) → held ≡ Some e → grown ≡ with_entry h e.0 e.1 → Takes a b i j (entries_text v (file_entries h) ++ next_text v held)
+  pub one_more : (held : Option FileEntry) → held ≡ Some e → grown ≡ with_entry h e.0 e.1 → TakesText a b i j (entries_text v (file_entries h) ++ next_text v held)
       → AreRead v reel a b i j grown held
   one_more held at added text =
       let entries = ap file_entries added ∙ entries-with_entry h e.0 e.1 follows is digests.rising in
       record {
-        text = subst (Takes a b i j) (ap (λ (n : Option FileEntry). entries_text v (file_entries h) ++ next_text v n) at
+        text = subst (TakesText a b i j) (ap (λ (n : Option FileEntry). entries_text v (file_entries h) ++ next_text v n) at
             ∙ sym (ap (entries_text v) entries ∙ entries_text-push v (file_entries h) e)) text;
         sound = subst IsHolding (sym added) (holding-with_entry h e.0 e.1 is own.slice digests.each);
         told = subst (IsTold v) (sym added) (told-with_entry h e.0 e.1 follows v is entry.origins told);
@@ -82,18 +83,18 @@ module _ (v : Version) (reel : Reel) (a b : Option (List ℕ)) (i j : ℕ) (h gr
         last' = at ∙ sym (ap (λ (x : Contents). last_of (file_entries x)) added ∙ last-with_entry h e.0 e.1 follows is digests.rising);
       }
 
-module _ (v : Version) (reel : Reel) (a b : Option (List ℕ)) (i j : ℕ) (h : Contents) (last : Option FileEntry) (read : AreRead v reel a b i j h last) where
+module _ (v : Version) (reel : Reel) (a b : ReadLog) (i j : ℕ) (h : Contents) (last : Option FileEntry) (read : AreRead v reel a b i j h last) where
   entries : AreEntries v reel.setup (file_entries h)
   entries = subst (λ (r : Reel). AreEntries v r.setup (file_entries h)) read.reel' (are_entries v h read.sound read.told)
 
   -- what comes behind them is refused, under the same version and setup
-  pub next_refused : (w : Version) (x : SetupValue) → w ≡ v → x ≡ reel.setup → (c : Option (List ℕ)) (f : HoldFileFault)
-      → Refuses (IsPartOfEntry w x last) EndIsWhole (EntryShows w x last) b c j f
-      → Refuses (IsPartOfEntries v reel.setup) (EntriesAreWhole v reel) (EntriesShow v reel.setup) a c i f
+  pub next_refused : (w : Version) (x : SetupValue) → w ≡ v → x ≡ reel.setup → (c : ReadLog) (f : HoldFileFault)
+      → StopsAt (IsPartOfEntry w x last) EndIsWhole (EntryShows w x last) b c j f
+      → StopsAt (IsPartOfEntries v reel.setup) (EntriesAreWhole v reel) (EntriesShow v reel.setup) a c i f
   next_refused w x version same c f refused =
       let es = file_entries h in
-      Refuses-after (IsPartOfEntry w x last) (IsPartOfEntries v reel.setup) EndIsWhole (EntriesAreWhole v reel) (EntryShows w x last)
-      (EntriesShow v reel.setup) a b c i j (entries_text v es) f read.text refused
+      StopsAt-after (IsPartOfEntry w x last) (IsPartOfEntries v reel.setup) EndIsWhole (EntriesAreWhole v reel) (EntryShows w x last)
+      (EntriesShow v reel.setup) a b c i j (entries_text v es) read.text f refused
       (λ s part. part_of_entries v reel.setup es entries s (subst (λ (l : Option FileEntry). IsPartOfEntry v reel.setup l s) read.last'
       (subst (λ (y : SetupValue). IsPartOfEntry v y last s) same (subst (λ (u : Version). IsPartOfEntry u x last s) version part))))
       (λ f s whole. (h, s, read.sound, read.told, read.reel', refl, whole))
@@ -101,18 +102,18 @@ module _ (v : Version) (reel : Reel) (a b : Option (List ℕ)) (i j : ℕ) (h : 
       (subst (λ (y : SetupValue). EntryShows v y last f s) same (subst (λ (u : Version). EntryShows u x last f s) version shown))))
 
   -- memory for the last of them is refused
-  pub memory_refused : Refuses (IsPartOfEntries v reel.setup) (EntriesAreWhole v reel) (EntriesShow v reel.setup) a b i faults.Memory
+  pub memory_refused : StopsAt (IsPartOfEntries v reel.setup) (EntriesAreWhole v reel) (EntriesShow v reel.setup) a b i faults.Memory
   memory_refused =
       memory_stops (IsPartOfEntries v reel.setup) (EntriesAreWhole v reel) (EntriesShow v reel.setup) a b i j (entries_text v (file_entries h)) read.text
-      (subst (IsPartOfEntries v reel.setup) (append-nil (entries_text v (file_entries h)))
-      (part_of_entries v reel.setup (file_entries h) entries [] (inl refl)))
+      (inl (subst (IsPartOfEntries v reel.setup) (append-nil (entries_text v (file_entries h)))
+      (part_of_entries v reel.setup (file_entries h) entries [] (inl refl))))
 
   -- what was read behind them stands behind the last one
   pub next_follows : (next : Option FileEntry) → IfSome next (λ e. Follows last e.0) → IfSome next (λ e. Follows (last_of (file_entries h)) e.0)
   next_follows next follows = subst (λ (l : Option FileEntry). IfSome next (λ e. Follows l e.0)) read.last' follows
 
 -- the next entry, or the end, behind other bytes, where the versions are the same
-pub next_taken : (v w : Version) (a b c : Option (List ℕ)) (i j k : ℕ) (xs : List ℕ) (next : Option FileEntry) → w ≡ v → Takes a b i j xs
-    → Takes b c j k (next_text w next) → Takes a c i k (xs ++ next_text v next)
+pub next_taken : (v w : Version) (a b c : ReadLog) (i j k : ℕ) (xs : List ℕ) (next : Option FileEntry) → w ≡ v → TakesText a b i j xs
+    → TakesText b c j k (next_text w next) → TakesText a c i k (xs ++ next_text v next)
 next_taken v w a b c i j k xs next same t more =
-    Takes-trans a b c i j k xs (next_text v next) t (subst (λ (u : Version). Takes b c j k (next_text u next)) same more)
+    TakesText-trans a b c i j k xs (next_text v next) t (subst (λ (u : Version). TakesText b c j k (next_text u next)) same more)

@@ -1,11 +1,5 @@
 -- An entry, and a head, by the parts that are written.
-use Rattle.std.proofs.Common.{◌≡◌, ℕ, ◌+◌, ◌≤◌, ◌∷◌, List, ◌++◌, length, Option, Result, Ok, Err, OnOk, OnErr, ap, ◌∙◌, subst, append_assoc, refl, inl, inr, arith}
-use Rattle.ffv1_devices.specs.Streams.{HasFailed, HasGivenUp}
-use Rattle.std.specs.Io.KnownBytes.{Appends}
-use Rattle.std.proofs.KnownBytes.{Appends-trans}
-use Rattle.ffv1_devices.specs.Writing.{WritesFront}
-use Rattle.ffv1_devices.specs.declared.writes.WriteFailed.{WriteFailed}
-use Rattle.ffv1_devices.proofs.Fronts.{front-after}
+use Rattle.std.proofs.Common.{◌≡◌, ℕ, ◌∷◌, List, ◌++◌, length, ap, ◌∙◌, append_assoc, refl}
 use Rattle.std.specs.Int.{w32, to_be_bytes}
 use Rattle.ffv1_holding.specs.SliceOrder.{Entry}
 use Rattle.ffv1_holding.specs.Reels.{Reel}
@@ -39,30 +33,3 @@ head_spelled r head config w h a i j k =
     ap (λ l. l ++ config) a ∙ ap (λ n. (magic Second ++ (be4 n ++ be4 h ++ be4 (length config))) ++ config) i
     ∙ ap (λ n. (magic Second ++ (be4 r.setup.width ++ be4 n ++ be4 (length config))) ++ config) j
     ∙ ap (λ l. (magic Second ++ (be4 r.setup.width ++ be4 r.setup.height ++ be4 (length l))) ++ l) k ∙ head_text-parts r
-
--- ---- bytes behind others
-
-module _ (a b c : Option (List ℕ)) (xs ys all : List ℕ) (r : Result (Unit {0}) WriteFailed) (spelled : xs ++ ys ≡ all) (first : Appends a b xs) where
-  pub appends_behind : OnOk r (Appends b c ys) → OnOk r (Appends a c all)
-  appends_behind more = each r more
-    where
-      each : (r : Result (Unit {0}) WriteFailed) → OnOk r (Appends b c ys) → OnOk r (Appends a c all)
-      each (Ok x) more = subst (Appends a c) spelled (Appends-trans a b c xs ys first more)
-      each (Err f) more = tt
-
-  pub front_behind : OnErr r (WritesFront b c ys) → OnErr r (WritesFront a c all)
-  front_behind more = each r more
-    where
-      each : (r : Result (Unit {0}) WriteFailed) → OnErr r (WritesFront b c ys) → OnErr r (WritesFront a c all)
-      each (Ok x) more = tt
-      each (Err f) more = subst (WritesFront a c) spelled (front-after a b c xs ys first more)
-
--- what a later part gave up, counted from before an earlier one that gave up nothing
-pub given_up_after : (f g h b d e : ℕ) → f ≤ g → d ≡ b → HasGivenUp g h d e → HasGivenUp f h b e
-given_up_after f g h b d e le same (inl failed) = inl (subst (λ n. HasFailed n e) same failed)
-given_up_after f g h b d e le same (inr (inl counted)) = inr (inl (omega arith))
-given_up_after f g h b d e le same (inr (inr full)) = inr (inr full)
-
--- an earlier part gave up nothing, and a later one at most once
-pub once_after : (b d e : ℕ) → d ≡ b → e ≤ d + 1 → e ≤ b + 1
-once_after b d e same once = omega arith

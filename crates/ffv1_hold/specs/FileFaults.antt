@@ -1,9 +1,11 @@
 -- Which bytes begin a holding file, and which show a fault in it. Judged are, in byte order: the magic, which tells the version; the
 -- record's length; the setup, behind the record; each tag; each slice's length; behind a slice's bytes whether they are a slice of its
 -- tile, and then whether it stands in order; and in version 2 the count of its digests, and each digest, whether it stands in order.
-use Rattle.std.specs.Prelude.{ℕ, ◌≡◌, ◌≢◌, ◌==◌, ◌^◌, ◌<◌, ◌≤◌, ◌⊎◌, List, [], ◌∷◌, ◌++◌, length, take, Option, Some, Result, Ok, Err}
+use Rattle.std.specs.Prelude.{ℕ, ◌≡◌, ◌≢◌, ◌==◌, ◌+◌, ◌^◌, ◌<◌, ◌≤◌, ◌⊎◌, List, [], ◌∷◌, ◌++◌, length, take, Option, Some, Result, Ok, Err}
 use Rattle.std.specs.List.{flat_map}
-use Rattle.ffv1_bits.specs.Limits.{slice_limit, record_limit}
+use Rattle.std.specs.Io.KnownBytes.{IsAtEnd}
+use Rattle.ffv1_bits.specs.Limits.{slice_limit, record_limit, file_limit}
+use Rattle.ffv1_devices.specs.Logs.{ReadLog, GoesOn}
 use Rattle.ffv1_range.specs.Setup.{SetupValue}
 use Rattle.ffv1_range.specs.SetupFaults.{FirstSetupFault}
 use Rattle.ffv1_slice.specs.Slices.{IsSliceOf}
@@ -14,8 +16,8 @@ use Rattle.ffv1_hold.specs.declared.version.Version.TheVariants.{First, Second}
 use Rattle.ffv1_holding.specs.SliceOrder.{Entry}
 use Rattle.ffv1_holding.specs.Reels.{Reel, IsReel, WantsMemory}
 use Rattle.ffv1_holding.specs.Contents.{Contents, IsHolding, IsEntryOf}
-use Rattle.ffv1_hold.specs.HoldingText.{FileEntry, origins_limit, magic, be2, be4, sized_record, head_text, slice_text, entries_text, file_entries, IsTold, IsTextOf}
-use Rattle.ffv1_hold.specs.Reading.{Refuses}
+use Rattle.ffv1_hold.specs.HoldingText.{TakesFile, FileEntry, origins_limit, magic, be2, be4, sized_record, head_text, slice_text, entries_text, file_entries, IsTold, IsTextOf}
+use Rattle.ffv1_hold.specs.Reading.{Refuses, StopsAt}
 use Rattle.ffv1_hold.specs.FileEntries.{last_of, Follows, FollowsDigest, IsDigest, AreOrigins, AreEntries}
 
 -- ---- a slice behind its tag
@@ -133,9 +135,9 @@ ReelIsWhole _ s = ⊥
 abbrev pub IsPartOfMagic : List ℕ → Type 0
 IsPartOfMagic s = (length s < 8) × (s ≡ take (length s) (magic Second))
 
--- what begins the magic of no version
+-- what begins the magic of no version, though all before its last byte begins one
 abbrev pub MagicShows : HoldFileFault → List ℕ → Type 0
-MagicShows faults.Magic s = (length s ≤ 8) × ((v : Version) → s ≢ take (length s) (magic v))
+MagicShows faults.Magic s = (seen : List ℕ) × (wrong : ℕ) × (s ≡ seen ++ wrong ∷ []) × IsPartOfMagic seen × ((v : Version) → s ≢ take (length s) (magic v))
 MagicShows _ s = ⊥
 
 -- ---- the magic, the size and the record
@@ -190,3 +192,16 @@ IsFaultOf input f = (¬ IsOutside f) × ((left : Option (List ℕ)) × Refuses I
 abbrev pub Answers : Contents → Result Contents HoldFileFault → Type 0
 Answers h (Ok g) = g ≡ h
 Answers h (Err f) = IsOutside f
+
+-- A source was read to its end, and was the file of a holding.
+pub record ReadsHolding (old new : ReadLog) (h : Contents) : Type 0 where
+  pub sound : IsHolding h
+  pub file : TakesFile old.remaining new.remaining h
+  pub at_end : IsAtEnd new.remaining
+  pub tries' : GoesOn old.tries new.tries
+  pub few : new.taken ≤ old.taken + file_limit
+
+-- that, or reading stopped at the first fault
+abbrev pub ReadsFile : Result Contents HoldFileFault → ReadLog → ReadLog → Type 0
+ReadsFile (Ok h) old new = ReadsHolding old new h
+ReadsFile (Err f) old new = StopsAt IsPartOfFile FileIsWhole FileShows old new 0 f

@@ -8,6 +8,7 @@ use Rattle.ffv1_holding.specs.SliceOrder.{Entry}
 use Rattle.ffv1_holding.specs.Sets as set
 use Rattle.ffv1_holding.specs.Reels.{Reel}
 use Rattle.ffv1_holding.specs.Contents.{Contents, digests_of}
+use Rattle.ffv1_hold.specs.declared.origins.TheConstants.{ORIGINS_LIMIT}
 use Rattle.ffv1_hold.specs.declared.version.Version.{Version}
 use Rattle.ffv1_hold.specs.declared.version.Version.TheVariants.{First, Second}
 
@@ -20,7 +21,7 @@ be4 n = to_be_bytes w32 n
 
 -- the greatest count of one slice's digests in a holding file: 2^26
 abbrev pub origins_limit : ℕ
-origins_limit = 67108864
+origins_limit = ORIGINS_LIMIT
 
 -- a slice with its tile, and the digests that stand behind it
 abbrev pub FileEntry : Type 0

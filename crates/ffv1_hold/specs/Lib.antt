@@ -5,13 +5,15 @@ pub mod FileEntries
 pub mod FileFaults
 pub mod ReadOrigins
 pub mod Leads
+pub mod JoinLogs
 pub mod JoinedStreams
 pub mod Merging
 pub mod Laws
 pub mod Headline
 pub mod Plans
+pub use Rattle.ffv1_devices.specs.Logs
+pub use Rattle.ffv1_devices.specs.Results
 pub use Rattle.ffv1_devices.specs.Streams
-pub use Rattle.ffv1_devices.specs.Whole
 pub use Rattle.ffv1_devices.specs.Writing
 pub use Rattle.ffv1_holding.specs.SliceOrder
 pub use Rattle.ffv1_holding.specs.Sets

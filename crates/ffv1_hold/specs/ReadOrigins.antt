@@ -1,8 +1,9 @@
 -- How the version, and a digest, of a holding file are read.
 use Rattle.std.specs.Prelude.{ℕ, ◌≡◌, ◌≢◌, List, [], ◌∷◌, ◌++◌, Option}
+use Rattle.ffv1_devices.specs.Logs.{ReadLog}
 use Rattle.ffv1_hold.specs.declared.file_fault.HoldFileFault.{HoldFileFault}
 use Rattle.ffv1_hold.specs.declared.file_fault.HoldFileFault.TheVariants as faults
-use Rattle.ffv1_hold.specs.Reading.{Takes}
+use Rattle.ffv1_hold.specs.Reading.{TakesText}
 use Rattle.ffv1_hold.specs.FileEntries.{last_of, FollowsDigest, IsDigest}
 
 -- a byte that is the number of no version
@@ -16,9 +17,9 @@ DigestShows last faults.Order s = IsDigest s × (¬ FollowsDigest last s)
 DigestShows last _ s = ⊥
 
 -- A digest that stands behind the last one was taken, and stands behind the others.
-pub record TakesDigest (old new : Option (List ℕ)) (from to : ℕ) (before after : List (List ℕ)) : Type 0 where
+pub record TakesDigest (old new : ReadLog) (from to : ℕ) (before after : List (List ℕ)) : Type 0 where
   pub digest : List ℕ
   pub is : IsDigest digest
   pub follows : FollowsDigest (last_of before) digest
   pub pushed : after ≡ before ++ digest ∷ []
-  pub text : Takes old new from to digest
+  pub text : TakesText old new from to digest

@@ -1,7 +1,8 @@
 -- How the reading of a holding file stops at a fault.
-use Rattle.std.specs.Prelude.{ℕ, ◌≡◌, ◌+◌, ◌-◌, ◌^◌, ◌<◌, ◌≤◌, ◌⊎◌, List, [], ◌∷◌, ◌++◌, length, Option}
+use Rattle.std.specs.Prelude.{ℕ, ◌≡◌, ◌+◌, ◌<◌, ◌≤◌, ◌⊎◌, List, [], ◌∷◌, ◌++◌, length, Option, Bool, true, false, Result, Ok, Err}
 use Rattle.std.specs.Io.KnownBytes.{Consumes, IsAtEnd}
 use Rattle.ffv1_bits.specs.Limits.{file_limit}
+use Rattle.ffv1_devices.specs.Logs.{Tries, ReadLog, GoesOn, GivesUp}
 use Rattle.ffv1_hold.specs.declared.file_fault.HoldFileFault.{HoldFileFault}
 use Rattle.ffv1_hold.specs.declared.file_fault.HoldFileFault.TheVariants as faults
 
@@ -66,7 +67,30 @@ Never f bytes = ⊥
 abbrev pub IsShorter : ℕ → List ℕ → Type 0
 IsShorter n bytes = length bytes < n
 
--- the count of failures rose or stands at its limit, where the device is the fault
-abbrev pub CountsRead : HoldFileFault → ℕ → ℕ → Type 0
-CountsRead faults.Read old new = (old < new) ⊎ (2 ^ 64 - 1 ≤ new)
-CountsRead _ old new = Unit {0}
+-- the source is the fault, and not memory or the bytes
+abbrev pub is_read : HoldFileFault → Bool
+is_read faults.Read = true
+is_read _ = false
+
+-- how the tries of a source went before a fault: it was given up where it is the fault
+abbrev pub WentBefore : Bool → Tries → Tries → Type 0
+WentBefore true = GivesUp
+WentBefore false = GoesOn
+
+-- The bytes were read off the source, from one place to another, and no others.
+pub record TakesText (old new : ReadLog) (from to : ℕ) (bytes : List ℕ) : Type 0 where
+  pub text : Takes old.remaining new.remaining from to bytes
+  pub tries' : GoesOn old.tries new.tries
+  pub few : new.taken + from ≤ old.taken + to
+
+-- Reading from the place on stopped at the fault, after at most one byte past the limit; at `Read` the source was given up.
+pub record StopsAt (P : List ℕ → Type 0) (W Q : HoldFileFault → List ℕ → Type 0) (old new : ReadLog) (from : ℕ) (f : HoldFileFault) : Type 0 where
+  pub fault : Refuses P W Q old.remaining new.remaining from f
+  pub tries' : WentBefore (is_read f) old.tries new.tries
+  pub few : new.taken + from ≤ old.taken + file_limit + 1
+
+-- the text of what is answered was read off the source, or reading it stopped at the first fault
+abbrev pub ReadsText : {T : Type 0} → (T → List ℕ) → (List ℕ → Type 0) → (W Q : HoldFileFault → List ℕ → Type 0) → ReadLog → ReadLog → (from to : ℕ)
+    → Result T HoldFileFault → Type 0
+ReadsText text P W Q old new from to (Ok x) = TakesText old new from to (text x)
+ReadsText text P W Q old new from to (Err f) = StopsAt P W Q old new from f

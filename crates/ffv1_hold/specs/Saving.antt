@@ -1,14 +1,16 @@
 -- Which slices can be written, and which holdings have no text.
-use Rattle.std.specs.Prelude.{ℕ, ◌≡◌, ◌+◌, ◌*◌, ◌<◌, ◌≤◌, ◌⊎◌, true, List, [], ◌∷◌, length, map, slice_index_or}
+use Rattle.std.specs.Prelude.{ℕ, ◌≡◌, ◌+◌, ◌*◌, ◌<◌, ◌≤◌, ◌⊎◌, true, List, [], ◌∷◌, length, map, slice_index_or, Result, Ok, Err}
 use Rattle.ffv1_bits.specs.Limits.{slice_limit, record_limit, file_limit}
+use Rattle.ffv1_devices.specs.Logs.{WriteLog, Writes, StopsWriting}
 use Rattle.ffv1_holding.specs.SliceOrder.{Entry, bytes_cmp}
 use Rattle.ffv1_holding.specs.Sets as set
 use Rattle.ffv1_holding.specs.Reels.{reel_tiles}
 use Rattle.ffv1_holding.specs.Contents.{Contents, digests_of}
+use Rattle.ffv1_hold.specs.declared.version.Version.TheVariants.{Second}
 use Rattle.ffv1_hold.specs.declared.file_fault.HoldFileFault.{HoldFileFault}
 use Rattle.ffv1_hold.specs.declared.file_fault.HoldFileFault.TheVariants as faults
 use Rattle.ffv1_holding.specs.TileSets.{tile_entries, entries_below}
-use Rattle.ffv1_hold.specs.HoldingText.{FileEntry, holding_text}
+use Rattle.ffv1_hold.specs.HoldingText.{FileEntry, holding_text, FitsInFile}
 
 -- no slice passes its limit
 abbrev pub AreWithinLimit : set.SetOf bytes_cmp → Type 0
@@ -37,8 +39,10 @@ abbrev pub entries_length : List FileEntry → ℕ
 entries_length [] = 0
 entries_length (e ∷ es) = 11 + length e.0.1 + 32 * length e.1 + entries_length es
 
--- the faults of writing a holding file
-abbrev pub IsWriteFault : HoldFileFault → Type 0
-IsWriteFault faults.Write = Unit {0}
-IsWriteFault faults.TooLong = Unit {0}
-IsWriteFault _ = ⊥
+-- The file of a holding was written; or a front of it, before the sink was given up; or the holding has no file, and nothing was
+-- touched.
+abbrev pub SavesFile : {T : Type 0} → Result T HoldFileFault → Contents → WriteLog → WriteLog → Type 0
+SavesFile (Ok x) h old new = FitsInFile Second h × Writes old new (holding_text h)
+SavesFile (Err faults.Write) h old new = (¬ IsTooLong h) × StopsWriting old new (holding_text h)
+SavesFile (Err faults.TooLong) h old new = IsTooLong h × (new ≡ old)
+SavesFile (Err _) h old new = ⊥

@@ -1,10 +1,10 @@
 //! The entries of a holding file (own): slices with their footers (RFC 9043, section 4.9), their tiles, and their origins.
-ghost use Rattle.std.specs.Prelude.{◌≡◌, ◌+◌, ◌^◌, ◌<◌, ◌≤◌, ◌↔◌, ◌==◌, [], ◌∷◌, length, IsTrue, IfSome, IfNone, OnErr, OnOk, IfOk, IfErr};
+ghost use Rattle.std.specs.Prelude.{◌≡◌, ◌^◌, ◌<◌, ◌≤◌, ◌↔◌, ◌==◌, length, IsTrue, IfSome, OnOk, IfOk, IfErr};
 ghost use Rattle.ffv1_bits.specs.Limits.{slice_limit, file_limit};
 ghost use Rattle.ffv1_slice.specs.Slices.{IsSliceOf};
-ghost use Rattle.ffv1_hold.specs.Reading.{Takes, Refuses, Never, CountsRead};
-ghost use Rattle.ffv1_hold.specs.HoldingText.{slice_text, entry_text};
-ghost use Rattle.ffv1_hold.specs.FileEntries.{Follows, IsFileEntryOf};
+ghost use Rattle.ffv1_hold.specs.Reading.{ReadsText, Never};
+ghost use Rattle.ffv1_hold.specs.HoldingText.{slice_text};
+ghost use Rattle.ffv1_hold.specs.FileEntries.{Follows, IsFileEntryOf, next_text};
 ghost use Rattle.ffv1_hold.specs.FileFaults.{IsPartOfSlice, SliceIsTooLong, IsWrong, IsPartOfEntry, EntryShows};
 
 use crate::fields::read_field;
@@ -100,15 +100,10 @@ fn read_tile_slice<S: Source>(
     place: &mut u32,
 ) -> Result<TileSlice, HoldFileFault>
     requires { place.old ≤ file_limit }
-    ensures ok { IfOk result (λ e. Takes (S.remaining source.old) (S.remaining source.new) place.old place.new (slice_text e)) }
+    ensures read { ReadsText slice_text IsPartOfSlice Never SliceIsTooLong
+        (S.log source.old) (S.log source.new) place.old place.new result }
     ensures tile { IfOk result (λ e. e.0 < 2 ^ 16) }
     ensures fits { IfOk result (λ e. length e.1 ≤ slice_limit) }
-    ensures err { IfErr result (Refuses IsPartOfSlice Never SliceIsTooLong
-        (S.remaining source.old) (S.remaining source.new) place.old) }
-    ensures failed { IfErr result (λ f. CountsRead f (S.failures source.old) (S.failures source.new)) }
-    ensures counted { S.failures source.old ≤ S.failures source.new }
-    ensures taken { OnOk result (S.taken source.new + place.old ≤ S.taken source.old + place.new) }
-    ensures most { OnErr result (S.taken source.new + place.old ≤ S.taken source.old + file_limit + 1) }
 {
     let tile = read_u16(source, place)?;
     let length = read_u32(source, place)?;
@@ -129,15 +124,9 @@ pub(crate) fn read_entry<S: Source>(
     last: &Option<HeldSlice>,
 ) -> Result<Option<HeldSlice>, HoldFileFault>
     requires { place.old ≤ file_limit }
-    ensures some { IfOk result (λ r. IfSome r (λ e. Takes (S.remaining source.old) (S.remaining source.new) place.old place.new (entry_text version e))) }
+    ensures read { ReadsText (next_text version) (IsPartOfEntry version setup.now last.now) Never (EntryShows version setup.now last.now)
+        (S.log source.old) (S.log source.new) place.old place.new result }
     ensures entry { IfOk result (λ r. IfSome r (λ e. IsFileEntryOf version setup.now e × Follows last.now e.0)) }
-    ensures none { IfOk result (λ r. IfNone r (Takes (S.remaining source.old) (S.remaining source.new) place.old place.new (0 ∷ []))) }
-    ensures err { IfErr result (Refuses (IsPartOfEntry version setup.now last.now) Never (EntryShows version setup.now last.now)
-        (S.remaining source.old) (S.remaining source.new) place.old) }
-    ensures failed { IfErr result (λ f. CountsRead f (S.failures source.old) (S.failures source.new)) }
-    ensures counted { S.failures source.old ≤ S.failures source.new }
-    ensures taken { OnOk result (S.taken source.new + place.old ≤ S.taken source.old + place.new) }
-    ensures most { OnErr result (S.taken source.new + place.old ≤ S.taken source.old + file_limit + 1) }
 {
     let mut tag = [0u8; 1];
     read_field(source, place, &mut tag)?;

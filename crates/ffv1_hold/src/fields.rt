@@ -1,9 +1,9 @@
 //! Whole fields of a holding file, within its limit (own).
 
-ghost use Rattle.std.specs.Prelude.{◌≡◌, ◌+◌, ◌≤◌, length, OnOk, OnErr, IfErr};
+ghost use Rattle.std.specs.Prelude.{◌≡◌, ◌+◌, ◌≤◌, length};
 ghost use Rattle.ffv1_bits.specs.Limits.{file_limit};
 ghost use Rattle.ffv1_bits.specs.Parity.{AreBytes};
-ghost use Rattle.ffv1_hold.specs.Reading.{Takes, Refuses, IsShorter, Never, CountsRead};
+ghost use Rattle.ffv1_hold.specs.Reading.{ReadsText, StopsAt, IsShorter, Never};
 
 use crate::file_fault::HoldFileFault;
 use ffv1_bits::FILE_LIMIT;
@@ -16,12 +16,8 @@ fn read_within<S: Source>(
     buf: &mut [u8],
 ) -> Result<(), HoldFileFault>
     requires { place.old + length buf.old ≤ file_limit }
-    ensures ok { OnOk result (Takes (S.remaining source.old) (S.remaining source.new) place.old place.new buf.new) }
-    ensures err { IfErr result (Refuses (IsShorter (length buf.old)) Never Never
-        (S.remaining source.old) (S.remaining source.new) place.old) }
-    ensures failed { IfErr result (λ f. CountsRead f (S.failures source.old) (S.failures source.new)) }
-    ensures counted { S.failures source.old ≤ S.failures source.new }
-    ensures taken { S.taken source.new ≤ S.taken source.old + length buf.new }
+    ensures { ReadsText (λ _. buf.new) (IsShorter (length buf.old)) Never Never
+        (S.log source.old) (S.log source.new) place.old place.new result }
 {
     let count = read_full(source, buf)?;
     if count < buf.len() {
@@ -34,11 +30,7 @@ fn read_within<S: Source>(
 /// Fills a buffer that ends at the limit, for a field that goes on past it.
 fn read_to_limit<S: Source>(source: &mut S, place: &mut u32, buf: &mut [u8]) -> HoldFileFault
     requires { place.old + length buf.old ≡ file_limit }
-    ensures fault { Refuses (IsShorter (length buf.old + 1)) Never Never
-        (S.remaining source.old) (S.remaining source.new) place.old result }
-    ensures failed { CountsRead result (S.failures source.old) (S.failures source.new) }
-    ensures counted { S.failures source.old ≤ S.failures source.new }
-    ensures taken { S.taken source.new ≤ S.taken source.old + length buf.new + 1 }
+    ensures { StopsAt (IsShorter (length buf.old + 1)) Never Never (S.log source.old) (S.log source.new) place.old result }
 {
     if let Err(fault) = read_within(source, place, buf) {
         return fault;
@@ -58,14 +50,9 @@ pub(crate) fn read_field<S: Source>(
     buf: &mut [u8],
 ) -> Result<(), HoldFileFault>
     requires { place.old ≤ file_limit }
-    ensures ok { OnOk result (Takes (S.remaining source.old) (S.remaining source.new) place.old place.new buf.new) }
+    ensures read { ReadsText (λ _. buf.new) (IsShorter (length buf.old)) Never Never
+        (S.log source.old) (S.log source.new) place.old place.new result }
     ensures bytes { AreBytes buf.new }
-    ensures err { IfErr result (Refuses (IsShorter (length buf.old)) Never Never
-        (S.remaining source.old) (S.remaining source.new) place.old) }
-    ensures failed { IfErr result (λ f. CountsRead f (S.failures source.old) (S.failures source.new)) }
-    ensures counted { S.failures source.old ≤ S.failures source.new }
-    ensures taken { OnOk result (S.taken source.new + place.old ≤ S.taken source.old + place.new) }
-    ensures most { OnErr result (S.taken source.new + place.old ≤ S.taken source.old + file_limit + 1) }
 {
     let room = (FILE_LIMIT - *place) as usize;
     if buf.len() <= room {

@@ -1,8 +1,8 @@
 //! What stands before the entries of a holding file (own): its name and version, the size and the configuration record (RFC
 //! 9043, section 4.3).
-ghost use Rattle.std.specs.Prelude.{◌≡◌, ◌+◌, ◌≤◌, [], ◌∷◌, OnErr, OnOk, IfOk, IfErr};
+ghost use Rattle.std.specs.Prelude.{◌≡◌, ◌≤◌, [], ◌∷◌, IfOk};
 ghost use Rattle.ffv1_bits.specs.Limits.{file_limit};
-ghost use Rattle.ffv1_hold.specs.Reading.{Takes, Refuses, IsShorter, Never, CountsRead};
+ghost use Rattle.ffv1_hold.specs.Reading.{ReadsText, IsShorter, Never};
 ghost use Rattle.ffv1_hold.specs.HoldingText.{name, version_number, magic, sized_record};
 ghost use Rattle.ffv1_hold.specs.ReadOrigins.{VersionShows};
 ghost use Rattle.ffv1_hold.specs.FileFaults.{IsPartOfMagic, MagicShows, IsFileReel, IsPartOfReel, ReelIsWhole, ReelShows};
@@ -26,13 +26,8 @@ pub(crate) fn read_magic<S: Source>(
     place: &mut u32,
 ) -> Result<Version, HoldFileFault>
     requires { place.old ≡ 0 }
-    ensures ok { IfOk result (λ v. Takes (S.remaining source.old) (S.remaining source.new) place.old place.new (magic v)) }
-    ensures err { IfErr result (Refuses IsPartOfMagic Never MagicShows
-        (S.remaining source.old) (S.remaining source.new) place.old) }
-    ensures failed { IfErr result (λ f. CountsRead f (S.failures source.old) (S.failures source.new)) }
-    ensures counted { S.failures source.old ≤ S.failures source.new }
-    ensures taken { OnOk result (S.taken source.new + place.old ≤ S.taken source.old + place.new) }
-    ensures most { OnErr result (S.taken source.new + place.old ≤ S.taken source.old + file_limit + 1) }
+    ensures { ReadsText magic IsPartOfMagic Never MagicShows
+        (S.log source.old) (S.log source.new) place.old place.new result }
 {
     read_name(source, place)?;
     read_version(source, place)
@@ -41,13 +36,8 @@ pub(crate) fn read_magic<S: Source>(
 /// Reads the name.
 fn read_name<S: Source>(source: &mut S, place: &mut u32) -> Result<(), HoldFileFault>
     requires { place.old ≡ 0 }
-    ensures ok { OnOk result (Takes (S.remaining source.old) (S.remaining source.new) place.old place.new name) }
-    ensures err { IfErr result (Refuses IsPartOfMagic Never MagicShows
-        (S.remaining source.old) (S.remaining source.new) place.old) }
-    ensures failed { IfErr result (λ f. CountsRead f (S.failures source.old) (S.failures source.new)) }
-    ensures counted { S.failures source.old ≤ S.failures source.new }
-    ensures taken { OnOk result (S.taken source.new + place.old ≤ S.taken source.old + place.new) }
-    ensures most { OnErr result (S.taken source.new + place.old ≤ S.taken source.old + file_limit + 1) }
+    ensures { ReadsText (λ _. name) IsPartOfMagic Never MagicShows
+        (S.log source.old) (S.log source.new) place.old place.new result }
 {
     let mut byte = [0u8; 1];
     for expected in NAME {
@@ -62,13 +52,8 @@ fn read_name<S: Source>(source: &mut S, place: &mut u32) -> Result<(), HoldFileF
 /// Reads the version behind the name.
 fn read_version<S: Source>(source: &mut S, place: &mut u32) -> Result<Version, HoldFileFault>
     requires { place.old ≤ file_limit }
-    ensures ok { IfOk result (λ v. Takes (S.remaining source.old) (S.remaining source.new) place.old place.new (version_number v ∷ [])) }
-    ensures err { IfErr result (Refuses (IsShorter 1) Never VersionShows
-        (S.remaining source.old) (S.remaining source.new) place.old) }
-    ensures failed { IfErr result (λ f. CountsRead f (S.failures source.old) (S.failures source.new)) }
-    ensures counted { S.failures source.old ≤ S.failures source.new }
-    ensures taken { OnOk result (S.taken source.new + place.old ≤ S.taken source.old + place.new) }
-    ensures most { OnErr result (S.taken source.new + place.old ≤ S.taken source.old + file_limit + 1) }
+    ensures { ReadsText (λ v. version_number v ∷ []) (IsShorter 1) Never VersionShows
+        (S.log source.old) (S.log source.new) place.old place.new result }
 {
     let mut number = [0u8; 1];
     read_field(source, place, &mut number)?;
@@ -86,15 +71,9 @@ pub(crate) fn read_reel<S: Source>(
     place: &mut u32,
 ) -> Result<Reel, HoldFileFault>
     requires { place.old ≤ file_limit }
-    ensures ok { IfOk result (λ r. Takes (S.remaining source.old) (S.remaining source.new) place.old place.new
-        (sized_record r.config r.setup.width r.setup.height)) }
+    ensures read { ReadsText (λ r. sized_record r.config r.setup.width r.setup.height) IsPartOfReel ReelIsWhole ReelShows
+        (S.log source.old) (S.log source.new) place.old place.new result }
     ensures reel { IfOk result IsFileReel }
-    ensures err { IfErr result (Refuses IsPartOfReel ReelIsWhole ReelShows
-        (S.remaining source.old) (S.remaining source.new) place.old) }
-    ensures failed { IfErr result (λ f. CountsRead f (S.failures source.old) (S.failures source.new)) }
-    ensures counted { S.failures source.old ≤ S.failures source.new }
-    ensures taken { OnOk result (S.taken source.new + place.old ≤ S.taken source.old + place.new) }
-    ensures most { OnErr result (S.taken source.new + place.old ≤ S.taken source.old + file_limit + 1) }
 {
     let width = read_u32(source, place)?;
     let height = read_u32(source, place)?;

@@ -1,8 +1,8 @@
 //! A holding file that is read entry by entry (own).
-ghost use Rattle.std.specs.Prelude.{◌≡◌, ◌+◌, ◌≤◌, None, IfSome, IfNone, IfOk, OnOk, IfErr};
+ghost use Rattle.std.specs.Prelude.{◌≡◌, ◌≤◌, None, IfSome, IfNone, IfOk, OnOk};
 ghost use Rattle.std.specs.Io.KnownBytes.{IsAtEnd};
 ghost use Rattle.ffv1_bits.specs.Limits.{file_limit};
-ghost use Rattle.ffv1_hold.specs.Reading.{Takes, Refuses, CountsRead};
+ghost use Rattle.ffv1_hold.specs.Reading.{ReadsText};
 ghost use Rattle.ffv1_hold.specs.HoldingText.{head_text};
 ghost use Rattle.ffv1_hold.specs.FileEntries.{Follows, IsFileEntryOf, next_text};
 ghost use Rattle.ffv1_hold.specs.FileFaults.{IsFileReel, IsPartOfHead, HeadIsWhole, HeadShows, IsPartOfEntry, EndIsWhole, EntryShows};
@@ -45,15 +45,10 @@ impl HoldReader {
         source: &mut S,
     ) -> Result<Reel, HoldFileFault>
         requires { self.old.place ≡ 0 }
-        ensures ok { IfOk result (λ r. Takes (S.remaining source.old) (S.remaining source.new) 0 self.new.place (head_text self.new.version r)) }
+        ensures read { ReadsText (head_text self.new.version) IsPartOfHead HeadIsWhole HeadShows
+            (S.log source.old) (S.log source.new) 0 self.new.place result }
         ensures reel { IfOk result IsFileReel }
         ensures held { self.new.held ≡ self.old.held }
-        ensures err { IfErr result (Refuses IsPartOfHead HeadIsWhole HeadShows
-            (S.remaining source.old) (S.remaining source.new) 0) }
-        ensures failed { IfErr result (λ f. CountsRead f (S.failures source.old) (S.failures source.new)) }
-        ensures counted { S.failures source.old ≤ S.failures source.new }
-        ensures taken { OnOk result (S.taken source.new ≤ S.taken source.old + self.new.place) }
-        ensures most { S.taken source.new ≤ S.taken source.old + file_limit + 1 }
     {
         self.version = read_magic(source, &mut self.place)?;
         read_reel(alloc, source, &mut self.place)
@@ -67,19 +62,12 @@ impl HoldReader {
         setup: &Setup,
     ) -> Result<(), HoldFileFault>
         requires { self.old.place ≤ file_limit }
-        ensures next { OnOk result (Takes (S.remaining source.old) (S.remaining source.new) self.old.place self.new.place
-            (next_text self.old.version self.new.held)) }
+        ensures read { ReadsText (λ _. next_text self.old.version self.new.held) (IsPartOfEntry self.old.version setup.now self.old.held) EndIsWhole (EntryShows self.old.version setup.now self.old.held)
+            (S.log source.old) (S.log source.new) self.old.place self.new.place result }
         ensures entry { OnOk result (IfSome self.new.held (IsFileEntryOf self.old.version setup.now)) }
         ensures follows { OnOk result (IfSome self.new.held (λ e. Follows self.old.held e.0)) }
         ensures version { self.new.version ≡ self.old.version }
-        ensures end { OnOk result (IfNone self.new.held (IsAtEnd (S.remaining source.new))) }
-        ensures err { IfErr result (Refuses (IsPartOfEntry self.old.version setup.now self.old.held) EndIsWhole
-            (EntryShows self.old.version setup.now self.old.held)
-            (S.remaining source.old) (S.remaining source.new) self.old.place) }
-        ensures failed { IfErr result (λ f. CountsRead f (S.failures source.old) (S.failures source.new)) }
-        ensures counted { S.failures source.old ≤ S.failures source.new }
-        ensures taken { OnOk result (S.taken source.new + self.old.place ≤ S.taken source.old + self.new.place) }
-        ensures most { S.taken source.new + self.old.place ≤ S.taken source.old + file_limit + 1 }
+        ensures end { OnOk result (IfNone self.new.held (IsAtEnd (S.log source.new).remaining)) }
     {
         match read_entry(
             alloc,

@@ -2,7 +2,7 @@
 ghost use Rattle.std.specs.Prelude.{◌≡◌, ◌≢◌, ◌+◌, ◌≤◌, ◌⊎◌, None, length, OnOk, IfOk, IfErr, IsErrOf, IfSome, IfNone};
 ghost use Rattle.std.specs.Io.KnownBytes.{Appends};
 ghost use Rattle.ffv1_bits.specs.Limits.{record_limit, file_limit};
-ghost use Rattle.ffv1_devices.specs.Streams.{HasFailed};
+ghost use Rattle.ffv1_devices.specs.Logs.{WriteLog};
 ghost use Rattle.ffv1_holding.specs.Reels.{Reel};
 ghost use Rattle.ffv1_holding.specs.Contents.{Contents, IsSameReel, joined};
 ghost use Rattle.ffv1_hold.specs.HoldingText.{head_text, entry_text};
@@ -11,7 +11,8 @@ ghost use Rattle.ffv1_hold.specs.FileEntries.{IsFileEntryOf};
 ghost use Rattle.ffv1_hold.specs.Reading.{Takes};
 ghost use Rattle.ffv1_hold.specs.FileFaults.{IsFileReel};
 ghost use Rattle.ffv1_hold.specs.JoinedStreams.{IsFileOf, WritesUnion, AnswersUnion, BeginsWithHead, AnswersOther, JoinRefuses, WritesNoEnd, WritesFrontSoFar, WritesAtMost, StaysInLead};
-ghost use Rattle.ffv1_hold.specs.Merging.{Start, AreVersions, inputs_from, IsOpened, Stands, Stops, JoinStops, HeadsRefuse, Ends, IsTurn, IsWritten, with_digests, EntryStops};
+ghost use Rattle.ffv1_hold.specs.Merging.{Start, AreVersions, inputs_from, IsOpened, Stands, Stops, JoinStops, HeadsRefuse, Ends, IsTurn, IsWritten, with_digests};
+ghost use Rattle.ffv1_hold.specs.JoinLogs.{JoinWent, WritesEntry};
 
 use crate::entry::HeldSlice;
 use crate::file_fault::HoldFileFault;
@@ -46,57 +47,52 @@ pub fn join_streams<R: Source, Q: Source, W: Sink>(
 ) -> Result<(), HoldFileFault>
     // Both inputs are files of holdings of one reel, and the text of their union was written.
     ensures joined { OnOk result (WritesUnion (record {
-      left_old = R.remaining left.old;
-      left_new = R.remaining left.new;
-      right_old = Q.remaining right.old;
-      right_new = Q.remaining right.new;
-    }) (W.contents sink.old) (W.contents sink.new)) }
+      left_old = (R.log left.old).remaining;
+      left_new = (R.log left.new).remaining;
+      right_old = (Q.log right.old).remaining;
+      right_new = (Q.log right.new).remaining;
+    }) (W.log sink.old).contents (W.log sink.new).contents) }
 
     // Such inputs are answered by that, by `Read`, `Write` or `Memory`, or by `TooLong` where the union has no text.
-    ensures only { (v w : Version) (g h : Contents) → IsSameReel g h → IsFileOf (R.remaining left.old) v g → IsFileOf (Q.remaining right.old) w h
+    ensures only { (v w : Version) (g h : Contents) → IsSameReel g h → IsFileOf (R.log left.old).remaining v g → IsFileOf (Q.log right.old).remaining w h
         → AnswersUnion (joined g h) result }
 
     // Inputs that begin with heads of two reels are answered by `OtherReel`, or by `Read` or `Memory`.
-    ensures other { (g h : Reel) → BeginsWithHead (R.remaining left.old) g → BeginsWithHead (Q.remaining right.old) h → ¬ (g ≡ h)
+    ensures other { (g h : Reel) → BeginsWithHead (R.log left.old).remaining g → BeginsWithHead (Q.log right.old).remaining h → ¬ (g ≡ h)
         → AnswersOther result }
     ensures untouched { IsErrOf result HoldFileFault.OtherReel → sink.new ≡ sink.old }
 
     // The bytes that were read show the fault, and it is the first: what was taken of the other input shows none.
     ensures fault { IfErr result (JoinRefuses (record {
-      left_old = R.remaining left.old;
-      left_new = R.remaining left.new;
-      right_old = Q.remaining right.old;
-      right_new = Q.remaining right.new;
+      left_old = (R.log left.old).remaining;
+      left_new = (R.log left.new).remaining;
+      right_old = (Q.log right.old).remaining;
+      right_new = (Q.log right.new).remaining;
     })) }
 
     // After `Write` no more was taken of an input that is a text than up to its lead.
-    ensures left_lead { (v : Version) (h : Contents) → IsFileOf (R.remaining left.old) v h → IsErrOf result HoldFileFault.Write
-        → StaysInLead v h (R.remaining left.old) (R.remaining left.new) (W.contents sink.old) (W.contents sink.new) }
-    ensures right_lead { (v : Version) (h : Contents) → IsFileOf (Q.remaining right.old) v h → IsErrOf result HoldFileFault.Write
-        → StaysInLead v h (Q.remaining right.old) (Q.remaining right.new) (W.contents sink.old) (W.contents sink.new) }
+    ensures left_lead { (v : Version) (h : Contents) → IsFileOf (R.log left.old).remaining v h → IsErrOf result HoldFileFault.Write
+        → StaysInLead v h (R.log left.old).remaining (R.log left.new).remaining (W.log sink.old).contents (W.log sink.new).contents }
+    ensures right_lead { (v : Version) (h : Contents) → IsFileOf (Q.log right.old).remaining v h → IsErrOf result HoldFileFault.Write
+        → StaysInLead v h (Q.log right.old).remaining (Q.log right.new).remaining (W.log sink.old).contents (W.log sink.new).contents }
 
     // What was written: after `Write` a front of a text, after another refusal no end tag.
     ensures write { IsErrOf result HoldFileFault.Write → WritesFrontSoFar (record {
-      left_old = R.remaining left.old;
-      left_new = R.remaining left.new;
-      right_old = Q.remaining right.old;
-      right_new = Q.remaining right.new;
-    }) (W.contents sink.old) (W.contents sink.new) }
+      left_old = (R.log left.old).remaining;
+      left_new = (R.log left.new).remaining;
+      right_old = (Q.log right.old).remaining;
+      right_new = (Q.log right.new).remaining;
+    }) (W.log sink.old).contents (W.log sink.new).contents }
     ensures no_end { IfErr result (λ f. f ≢ HoldFileFault.Write → WritesNoEnd (record {
-      left_old = R.remaining left.old;
-      left_new = R.remaining left.new;
-      right_old = Q.remaining right.old;
-      right_new = Q.remaining right.new;
-    }) (W.contents sink.old) (W.contents sink.new)) }
-    ensures most { WritesAtMost (W.contents sink.old) (W.contents sink.new) file_limit }
-
-    ensures read_failed { IsErrOf result HoldFileFault.Read
-        → HasFailed (R.failures left.old) (R.failures left.new) ⊎ HasFailed (Q.failures right.old) (Q.failures right.new) }
-    ensures write_failed { IsErrOf result HoldFileFault.Write → HasFailed (W.failures sink.old) (W.failures sink.new) }
-
-    ensures left_taken { R.taken left.new ≤ R.taken left.old + file_limit + 1 }
-    ensures right_taken { Q.taken right.new ≤ Q.taken right.old + file_limit + 1 }
-    ensures same_reference { W.reference sink.new ≡ W.reference sink.old }
+      left_old = (R.log left.old).remaining;
+      left_new = (R.log left.new).remaining;
+      right_old = (Q.log right.old).remaining;
+      right_new = (Q.log right.new).remaining;
+    }) (W.log sink.old).contents (W.log sink.new).contents) }
+    ensures most { WritesAtMost (W.log sink.old).contents (W.log sink.new).contents file_limit }
+    // At `Read` one input was given up, at `Write` the sink, and no other device; no more was taken than the limits.
+    ensures went { JoinWent result (record { left = R.log left.old; right = Q.log right.old; sink = W.log sink.old })
+        (record { left = R.log left.new; right = Q.log right.new; sink = W.log sink.new }) (0, 0) (file_limit, file_limit) }
 {
     merge_files(alloc, left, right, sink)
 }
@@ -109,25 +105,21 @@ fn merge_files<R: Source, Q: Source, W: Sink>(
     sink: &mut W,
 ) -> Result<(), HoldFileFault>
     ensures ok { OnOk result (WritesUnion (record {
-      left_old = R.remaining left.old;
-      left_new = R.remaining left.new;
-      right_old = Q.remaining right.old;
-      right_new = Q.remaining right.new;
-    }) (W.contents sink.old) (W.contents sink.new)) }
-    ensures most { OnOk result (WritesAtMost (W.contents sink.old) (W.contents sink.new) file_limit) }
+      left_old = (R.log left.old).remaining;
+      left_new = (R.log left.new).remaining;
+      right_old = (Q.log right.old).remaining;
+      right_new = (Q.log right.new).remaining;
+    }) (W.log sink.old).contents (W.log sink.new).contents) }
+    ensures most { OnOk result (WritesAtMost (W.log sink.old).contents (W.log sink.new).contents file_limit) }
     ensures err { IfErr result (JoinStops (record {
-      left_old = R.remaining left.old;
-      left_new = R.remaining left.new;
-      right_old = Q.remaining right.old;
-      right_new = Q.remaining right.new;
-    }) (W.contents sink.old) (W.contents sink.new)) }
+      left_old = (R.log left.old).remaining;
+      left_new = (R.log left.new).remaining;
+      right_old = (Q.log right.old).remaining;
+      right_new = (Q.log right.new).remaining;
+    }) (W.log sink.old).contents (W.log sink.new).contents) }
     ensures untouched { IsErrOf result HoldFileFault.OtherReel → sink.new ≡ sink.old }
-    ensures read_failed { IsErrOf result HoldFileFault.Read
-        → HasFailed (R.failures left.old) (R.failures left.new) ⊎ HasFailed (Q.failures right.old) (Q.failures right.new) }
-    ensures write_failed { IsErrOf result HoldFileFault.Write → HasFailed (W.failures sink.old) (W.failures sink.new) }
-    ensures left_taken { R.taken left.new ≤ R.taken left.old + file_limit + 1 }
-    ensures right_taken { Q.taken right.new ≤ Q.taken right.old + file_limit + 1 }
-    ensures same_reference { W.reference sink.new ≡ W.reference sink.old }
+    ensures went { JoinWent result (record { left = R.log left.old; right = Q.log right.old; sink = W.log sink.old })
+        (record { left = R.log left.new; right = Q.log right.new; sink = W.log sink.new }) (0, 0) (file_limit, file_limit) }
 {
     let mut merge = Merge::new();
     let reel = merge.read_heads(alloc, left, right)?;
@@ -167,26 +159,20 @@ impl Merge {
     ) -> Result<Reel, HoldFileFault>
         requires left_start { self.old.lefts.place ≡ 0 }
         requires right_start { self.old.rights.place ≡ 0 }
-        ensures left { IfOk result (λ r. Takes (R.remaining left.old) (R.remaining left.new) 0 self.new.lefts.place (head_text self.new.lefts.version r)) }
-        ensures right { IfOk result (λ r. Takes (Q.remaining right.old) (Q.remaining right.new) 0 self.new.rights.place (head_text self.new.rights.version r)) }
+        ensures left { IfOk result (λ r. Takes (R.log left.old).remaining (R.log left.new).remaining 0 self.new.lefts.place (head_text self.new.lefts.version r)) }
+        ensures right { IfOk result (λ r. Takes (Q.log right.old).remaining (Q.log right.new).remaining 0 self.new.rights.place (head_text self.new.rights.version r)) }
         ensures reel { IfOk result IsFileReel }
         ensures left_held { self.new.lefts.held ≡ self.old.lefts.held }
         ensures right_held { self.new.rights.held ≡ self.old.rights.held }
         ensures room { self.new.room ≡ self.old.room }
         ensures err { IfErr result (HeadsRefuse (record {
-          left_old = R.remaining left.old;
-          left_new = R.remaining left.new;
-          right_old = Q.remaining right.old;
-          right_new = Q.remaining right.new;
+          left_old = (R.log left.old).remaining;
+          left_new = (R.log left.new).remaining;
+          right_old = (Q.log right.old).remaining;
+          right_new = (Q.log right.new).remaining;
         })) }
-        ensures read_failed { IsErrOf result HoldFileFault.Read
-            → HasFailed (R.failures left.old) (R.failures left.new) ⊎ HasFailed (Q.failures right.old) (Q.failures right.new) }
-        ensures left_counted { R.failures left.old ≤ R.failures left.new }
-        ensures right_counted { Q.failures right.old ≤ Q.failures right.new }
-        ensures left_taken { OnOk result (R.taken left.new ≤ R.taken left.old + self.new.lefts.place) }
-        ensures right_taken { OnOk result (Q.taken right.new ≤ Q.taken right.old + self.new.rights.place) }
-        ensures left_most { R.taken left.new ≤ R.taken left.old + file_limit + 1 }
-        ensures right_most { Q.taken right.new ≤ Q.taken right.old + file_limit + 1 }
+        ensures went { (s : WriteLog) → JoinWent result (record { left = R.log left.old; right = Q.log right.old; sink = s })
+            (record { left = R.log left.new; right = Q.log right.new; sink = s }) (0, 0) (self.new.lefts.place, self.new.rights.place) }
     {
         let reel = self.lefts.read_head(alloc, left)?;
         let other = self.rights.read_head(alloc, right)?;
@@ -212,23 +198,19 @@ impl Merge {
         requires room { self.old.room ≡ file_limit }
         requires reel { length reel.now.config ≤ record_limit }
         ensures ok { (s : Start) → AreVersions s self.old.lefts.version self.old.rights.version
-            → IsOpened s reel.now (R.remaining left.old) (Q.remaining right.old) (W.contents sink.old)
+            → IsOpened s reel.now (R.log left.old).remaining (Q.log right.old).remaining (W.log sink.old).contents
             self.old.lefts.place self.old.rights.place
-            → OnOk result (WritesUnion (inputs_from s (R.remaining left.new) (Q.remaining right.new)) s.sink (W.contents sink.new)) }
+            → OnOk result (WritesUnion (inputs_from s (R.log left.new).remaining (Q.log right.new).remaining) s.sink (W.log sink.new).contents) }
         ensures most { (s : Start) → AreVersions s self.old.lefts.version self.old.rights.version
-            → IsOpened s reel.now (R.remaining left.old) (Q.remaining right.old) (W.contents sink.old)
+            → IsOpened s reel.now (R.log left.old).remaining (Q.log right.old).remaining (W.log sink.old).contents
             self.old.lefts.place self.old.rights.place
-            → OnOk result (WritesAtMost s.sink (W.contents sink.new) file_limit) }
+            → OnOk result (WritesAtMost s.sink (W.log sink.new).contents file_limit) }
         ensures err { (s : Start) → AreVersions s self.old.lefts.version self.old.rights.version
-            → IsOpened s reel.now (R.remaining left.old) (Q.remaining right.old) (W.contents sink.old)
+            → IsOpened s reel.now (R.log left.old).remaining (Q.log right.old).remaining (W.log sink.old).contents
             self.old.lefts.place self.old.rights.place
-            → IfErr result (Stops (inputs_from s (R.remaining left.new) (Q.remaining right.new)) s.sink (W.contents sink.new)) }
-        ensures read_failed { IsErrOf result HoldFileFault.Read
-            → HasFailed (R.failures left.old) (R.failures left.new) ⊎ HasFailed (Q.failures right.old) (Q.failures right.new) }
-        ensures write_failed { IsErrOf result HoldFileFault.Write → HasFailed (W.failures sink.old) (W.failures sink.new) }
-        ensures left_taken { R.taken left.new + self.old.lefts.place ≤ R.taken left.old + file_limit + 1 }
-        ensures right_taken { Q.taken right.new + self.old.rights.place ≤ Q.taken right.old + file_limit + 1 }
-        ensures same_reference { W.reference sink.new ≡ W.reference sink.old }
+            → IfErr result (Stops (inputs_from s (R.log left.new).remaining (Q.log right.new).remaining) s.sink (W.log sink.new).contents) }
+        ensures went { JoinWent result (record { left = R.log left.old; right = Q.log right.old; sink = W.log sink.old })
+            (record { left = R.log left.new; right = Q.log right.new; sink = W.log sink.new }) (self.old.lefts.place, self.old.rights.place) (file_limit, file_limit) }
     {
         write_head(sink, reel)?;
         self.room -= 20 + reel.config().len() as u32;
@@ -259,20 +241,15 @@ impl Merge {
         requires right_entry { IfSome self.old.rights.held (IsFileEntryOf self.old.rights.version setup.now) }
         requires room { self.old.room ≤ file_limit }
         ensures ok { (s : Start) → setup.now ≡ s.reel.setup → AreVersions s self.old.lefts.version self.old.rights.version
-            → Stands s (R.remaining left.old) (Q.remaining right.old) (W.contents sink.old)
+            → Stands s (R.log left.old).remaining (Q.log right.old).remaining (W.log sink.old).contents
             self.old.lefts.place self.old.rights.place self.old.room self.old.lefts.held self.old.rights.held
-            → OnOk result (Ends s (R.remaining left.new) (Q.remaining right.new) (W.contents sink.new) self.new.room) }
+            → OnOk result (Ends s (R.log left.new).remaining (Q.log right.new).remaining (W.log sink.new).contents self.new.room) }
         ensures err { (s : Start) → setup.now ≡ s.reel.setup → AreVersions s self.old.lefts.version self.old.rights.version
-            → Stands s (R.remaining left.old) (Q.remaining right.old) (W.contents sink.old)
+            → Stands s (R.log left.old).remaining (Q.log right.old).remaining (W.log sink.old).contents
             self.old.lefts.place self.old.rights.place self.old.room self.old.lefts.held self.old.rights.held
-            → IfErr result (Stops (inputs_from s (R.remaining left.new) (Q.remaining right.new)) s.sink (W.contents sink.new)) }
-        ensures read_failed { IsErrOf result HoldFileFault.Read
-            → HasFailed (R.failures left.old) (R.failures left.new) ⊎ HasFailed (Q.failures right.old) (Q.failures right.new) }
-        ensures write_failed { IsErrOf result HoldFileFault.Write → HasFailed (W.failures sink.old) (W.failures sink.new) }
-        ensures counted { W.failures sink.old ≤ W.failures sink.new }
-        ensures left_taken { R.taken left.new + self.old.lefts.place ≤ R.taken left.old + file_limit + 1 }
-        ensures right_taken { Q.taken right.new + self.old.rights.place ≤ Q.taken right.old + file_limit + 1 }
-        ensures same_reference { W.reference sink.new ≡ W.reference sink.old }
+            → IfErr result (Stops (inputs_from s (R.log left.new).remaining (Q.log right.new).remaining) s.sink (W.log sink.new).contents) }
+        ensures went { JoinWent result (record { left = R.log left.old; right = Q.log right.old; sink = W.log sink.old })
+            (record { left = R.log left.new; right = Q.log right.new; sink = W.log sink.new }) (self.old.lefts.place, self.old.rights.place) (file_limit, file_limit) }
     {
         while let Some((entry, others, order)) = next_entry(&self.lefts.held, &self.rights.held) {
             write_entry(sink, &mut self.room, entry, others)?;
@@ -324,12 +301,7 @@ fn write_entry<W: Sink>(
     requires entry { IsWritten entry.now }
     requires others { IsWritten (entry.now.0, others.now) }
     requires room { room.old ≤ file_limit }
-    ensures ok { OnOk result (Appends (W.contents sink.old) (W.contents sink.new) (entry_text Version.Second (with_digests entry.now others.now))) }
-    ensures room { OnOk result (room.new + length (entry_text Version.Second (with_digests entry.now others.now)) ≡ room.old) }
-    ensures err { IfErr result (EntryStops (W.contents sink.old) (W.contents sink.new) room.old (with_digests entry.now others.now)) }
-    ensures failed { IsErrOf result HoldFileFault.Write → HasFailed (W.failures sink.old) (W.failures sink.new) }
-    ensures counted { W.failures sink.old ≤ W.failures sink.new }
-    ensures same_reference { W.reference sink.new ≡ W.reference sink.old }
+    ensures { WritesEntry result (W.log sink.old) (W.log sink.new) room.old room.new (with_digests entry.now others.now) }
 {
     let count = union_count(&entry.origins, others);
     let slice = entry.slice.bytes.as_slice();

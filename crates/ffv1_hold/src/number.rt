@@ -1,8 +1,8 @@
 //! Numbers of a holding file (own), most significant byte first.
 
-ghost use Rattle.std.specs.Prelude.{◌≡◌, ◌+◌, ◌≤◌, length, OnErr, OnOk, IfOk, IfErr};
+ghost use Rattle.std.specs.Prelude.{◌≡◌, ◌≤◌, length, IfOk};
 ghost use Rattle.ffv1_bits.specs.Limits.{file_limit};
-ghost use Rattle.ffv1_hold.specs.Reading.{Takes, Refuses, IsShorter, Never, CountsRead};
+ghost use Rattle.ffv1_hold.specs.Reading.{ReadsText, IsShorter, Never};
 ghost use Rattle.ffv1_hold.specs.HoldingText.{be2, be4};
 
 use crate::fields::read_field;
@@ -12,13 +12,8 @@ use std::alloc::Global;
 
 pub(crate) fn read_u16<S: Source>(source: &mut S, place: &mut u32) -> Result<u16, HoldFileFault>
     requires { place.old ≤ file_limit }
-    ensures ok { IfOk result (λ n. Takes (S.remaining source.old) (S.remaining source.new) place.old place.new (be2 n)) }
-    ensures err { IfErr result (Refuses (IsShorter 2) Never Never
-        (S.remaining source.old) (S.remaining source.new) place.old) }
-    ensures failed { IfErr result (λ f. CountsRead f (S.failures source.old) (S.failures source.new)) }
-    ensures counted { S.failures source.old ≤ S.failures source.new }
-    ensures taken { OnOk result (S.taken source.new + place.old ≤ S.taken source.old + place.new) }
-    ensures most { OnErr result (S.taken source.new + place.old ≤ S.taken source.old + file_limit + 1) }
+    ensures { ReadsText be2 (IsShorter 2) Never Never
+        (S.log source.old) (S.log source.new) place.old place.new result }
 {
     let mut bytes = [0u8; 2];
     read_field(source, place, &mut bytes)?;
@@ -27,13 +22,8 @@ pub(crate) fn read_u16<S: Source>(source: &mut S, place: &mut u32) -> Result<u16
 
 pub(crate) fn read_u32<S: Source>(source: &mut S, place: &mut u32) -> Result<u32, HoldFileFault>
     requires { place.old ≤ file_limit }
-    ensures ok { IfOk result (λ n. Takes (S.remaining source.old) (S.remaining source.new) place.old place.new (be4 n)) }
-    ensures err { IfErr result (Refuses (IsShorter 4) Never Never
-        (S.remaining source.old) (S.remaining source.new) place.old) }
-    ensures failed { IfErr result (λ f. CountsRead f (S.failures source.old) (S.failures source.new)) }
-    ensures counted { S.failures source.old ≤ S.failures source.new }
-    ensures taken { OnOk result (S.taken source.new + place.old ≤ S.taken source.old + place.new) }
-    ensures most { OnErr result (S.taken source.new + place.old ≤ S.taken source.old + file_limit + 1) }
+    ensures { ReadsText be4 (IsShorter 4) Never Never
+        (S.log source.old) (S.log source.new) place.old place.new result }
 {
     let mut bytes = [0u8; 4];
     read_field(source, place, &mut bytes)?;
@@ -48,14 +38,9 @@ pub(crate) fn read_bytes<S: Source>(
     count: u32,
 ) -> Result<Vec<u8>, HoldFileFault>
     requires { place.old ≤ file_limit }
-    ensures ok { IfOk result (λ v. Takes (S.remaining source.old) (S.remaining source.new) place.old place.new v.items) }
+    ensures read { ReadsText (λ v. v.items) (IsShorter count) Never Never
+        (S.log source.old) (S.log source.new) place.old place.new result }
     ensures count { IfOk result (λ v. length v.items ≡ count) }
-    ensures err { IfErr result (Refuses (IsShorter count) Never Never
-        (S.remaining source.old) (S.remaining source.new) place.old) }
-    ensures failed { IfErr result (λ f. CountsRead f (S.failures source.old) (S.failures source.new)) }
-    ensures counted { S.failures source.old ≤ S.failures source.new }
-    ensures taken { OnOk result (S.taken source.new + place.old ≤ S.taken source.old + place.new) }
-    ensures most { OnErr result (S.taken source.new + place.old ≤ S.taken source.old + file_limit + 1) }
 {
     let mut bytes = Vec::with_capacity(alloc, count as usize)?;
     bytes.resize(count as usize, 0)?;

@@ -1,7 +1,7 @@
 //! The digests behind a slice of a holding file (own): their count, and then each, in rising order.
-ghost use Rattle.std.specs.Prelude.{◌≡◌, ◌+◌, ◌*◌, ◌≤◌, ◌↔◌, IsTrue, OnOk, OnErr, IfOk, IfErr, length};
+ghost use Rattle.std.specs.Prelude.{◌≤◌, ◌↔◌, IsTrue, OnOk, IfOk, IfErr, length};
 ghost use Rattle.ffv1_bits.specs.Limits.{file_limit};
-ghost use Rattle.ffv1_hold.specs.Reading.{Takes, Refuses, IsShorter, Never, CountsRead};
+ghost use Rattle.ffv1_hold.specs.Reading.{ReadsText, StopsAt, IsShorter, Never};
 ghost use Rattle.ffv1_hold.specs.HoldingText.{origins_limit, origins_text, text_behind_slice};
 ghost use Rattle.ffv1_hold.specs.FileEntries.{last_of, FollowsDigest, AreOrigins, AreDigestsIn};
 ghost use Rattle.ffv1_hold.specs.ReadOrigins.{DigestShows, TakesDigest};
@@ -26,14 +26,9 @@ pub(crate) fn read_behind_slice<S: Source>(
     version: Version,
 ) -> Result<Vec<[u8; 32]>, HoldFileFault>
     requires { place.old ≤ file_limit }
-    ensures ok { IfOk result (λ v. Takes (S.remaining source.old) (S.remaining source.new) place.old place.new (text_behind_slice version v.items)) }
+    ensures read { ReadsText (λ v. text_behind_slice version v.items) (IsPartBehind version) Never (ShowsBehind version)
+        (S.log source.old) (S.log source.new) place.old place.new result }
     ensures digests { IfOk result (λ v. AreDigestsIn version v.items) }
-    ensures err { IfErr result (Refuses (IsPartBehind version) Never (ShowsBehind version)
-        (S.remaining source.old) (S.remaining source.new) place.old) }
-    ensures failed { IfErr result (λ f. CountsRead f (S.failures source.old) (S.failures source.new)) }
-    ensures counted { S.failures source.old ≤ S.failures source.new }
-    ensures taken { OnOk result (S.taken source.new + place.old ≤ S.taken source.old + place.new) }
-    ensures most { OnErr result (S.taken source.new + place.old ≤ S.taken source.old + file_limit + 1) }
 {
     match version {
         Version::First => Ok(Vec::new(alloc)),
@@ -48,15 +43,10 @@ fn read_origins<S: Source>(
     place: &mut u32,
 ) -> Result<Vec<[u8; 32]>, HoldFileFault>
     requires { place.old ≤ file_limit }
-    ensures ok { IfOk result (λ v. Takes (S.remaining source.old) (S.remaining source.new) place.old place.new (origins_text v.items)) }
+    ensures read { ReadsText (λ v. origins_text v.items) IsPartOfOrigins Never OriginsShow
+        (S.log source.old) (S.log source.new) place.old place.new result }
     ensures digests { IfOk result (λ v. AreOrigins v.items) }
     ensures few { IfOk result (λ v. length v.items ≤ origins_limit) }
-    ensures err { IfErr result (Refuses IsPartOfOrigins Never OriginsShow
-        (S.remaining source.old) (S.remaining source.new) place.old) }
-    ensures failed { IfErr result (λ f. CountsRead f (S.failures source.old) (S.failures source.new)) }
-    ensures counted { S.failures source.old ≤ S.failures source.new }
-    ensures taken { OnOk result (S.taken source.new + place.old ≤ S.taken source.old + place.new) }
-    ensures most { OnErr result (S.taken source.new + place.old ≤ S.taken source.old + file_limit + 1) }
 {
     let count = read_u32(source, place)?;
     if count > ORIGINS_LIMIT {
@@ -76,13 +66,9 @@ fn read_digest<S: Source>(
     origins: &mut Vec<[u8; 32]>,
 ) -> Result<(), HoldFileFault>
     requires { place.old ≤ file_limit }
-    ensures ok { OnOk result (TakesDigest (S.remaining source.old) (S.remaining source.new) place.old place.new origins.old.items origins.new.items) }
-    ensures err { IfErr result (Refuses (IsShorter 32) Never (DigestShows (last_of origins.old.items))
-        (S.remaining source.old) (S.remaining source.new) place.old) }
-    ensures failed { IfErr result (λ f. CountsRead f (S.failures source.old) (S.failures source.new)) }
-    ensures counted { S.failures source.old ≤ S.failures source.new }
-    ensures taken { OnOk result (S.taken source.new + place.old ≤ S.taken source.old + place.new) }
-    ensures most { OnErr result (S.taken source.new + place.old ≤ S.taken source.old + file_limit + 1) }
+    ensures ok { OnOk result (TakesDigest (S.log source.old) (S.log source.new) place.old place.new origins.old.items origins.new.items) }
+    ensures err { IfErr result (StopsAt (IsShorter 32) Never (DigestShows (last_of origins.old.items))
+        (S.log source.old) (S.log source.new) place.old) }
 {
     origins.reserve(1)?;
     let mut digest = [0u8; 32];

@@ -1,12 +1,12 @@
 //! Reading a holding file (own).
-ghost use Rattle.std.specs.Prelude.{◌≡◌, ◌+◌, ◌≤◌, [], ◌∷◌, ◌++◌, None, Some, IfOk, OnOk, IfErr};
+ghost use Rattle.std.specs.Prelude.{◌≡◌, ◌≤◌, [], ◌∷◌, ◌++◌, None, Some, OnOk, IfErr};
 ghost use Rattle.std.specs.Io.KnownBytes.{IsAtEnd};
 ghost use Rattle.ffv1_bits.specs.Limits.{file_limit};
-ghost use Rattle.ffv1_hold.specs.Reading.{Takes, Refuses, CountsRead};
+ghost use Rattle.ffv1_hold.specs.Reading.{ReadsText};
 ghost use Rattle.ffv1_holding.specs.Contents.{Contents, IsEntryOf, IsHolding, AreDigests, no_slices, with_entry};
 ghost use Rattle.ffv1_hold.specs.declared.version.Version.{Version};
-ghost use Rattle.ffv1_hold.specs.HoldingText.{entries_text, file_entries, file_text, IsTold, FitsInFile, TakesFile};
-ghost use Rattle.ffv1_hold.specs.FileFaults.{IsPartOfFile, FileIsWhole, FileShows, IsPartOfEntries, EntriesAreWhole, EntriesShow, Answers};
+ghost use Rattle.ffv1_hold.specs.HoldingText.{entries_text, file_entries, file_text, IsTold, FitsInFile};
+ghost use Rattle.ffv1_hold.specs.FileFaults.{ReadsFile, IsPartOfEntries, EntriesAreWhole, EntriesShow, Answers};
 
 use crate::entry::HeldSlice;
 use crate::file_fault::HoldFileFault;
@@ -22,36 +22,21 @@ use std::alloc::Global;
 /// where a growth is refused. Both come only before a fault is met; within the record, memory for its setup is wanted where
 /// `Setup::read` tells.
 pub fn read_hold<R: Source>(alloc: Global, source: &mut R) -> Result<Holding, HoldFileFault>
-    // The whole input is the holding's text of version 2, or, where it has no origins, that of version 1.
-    ensures text { IfOk result (TakesFile (R.remaining source.old) (R.remaining source.new)) }
-    ensures end { OnOk result (IsAtEnd (R.remaining source.new)) }
-    ensures sound { IfOk result IsHolding }
+    // The whole input is the holding's text of version 2, or, where it has no origins, that of version 1. Or the bytes that were
+    // read show the fault; at `Read` and `Memory` they show none: they are unfinished, or a text whose end was looked for, or a head
+    // whose setup wants memory before a fault.
+    ensures read { ReadsFile result (R.log source.old) (R.log source.new) }
 
     // An input that is such a text of a holding is answered by that holding, or by `Read` or `Memory`.
-    ensures only { (v : Version) (h : Contents) → IsHolding h → FitsInFile v h → R.remaining source.old ≡ Some (file_text v h) → Answers h result }
-
-    // The bytes that were read show the fault. At `Read` and `Memory` they show none: they are unfinished, or a text whose end
-    // was looked for, or a head whose setup wants memory before a fault.
-    ensures fault { IfErr result (Refuses IsPartOfFile FileIsWhole FileShows
-        (R.remaining source.old) (R.remaining source.new) 0) }
-    ensures failed { IfErr result (λ f. CountsRead f (R.failures source.old) (R.failures source.new)) }
-
-    ensures taken { R.taken source.new ≤ R.taken source.old + file_limit + 1 }
+    ensures only { (v : Version) (h : Contents) → IsHolding h → FitsInFile v h → (R.log source.old).remaining ≡ Some (file_text v h)
+        → Answers h result }
 {
     read_parts(alloc, source)
 }
 
 /// Reads the head, and then the entries.
 fn read_parts<R: Source>(alloc: Global, source: &mut R) -> Result<Holding, HoldFileFault>
-    ensures text { IfOk result (TakesFile (R.remaining source.old) (R.remaining source.new)) }
-    ensures end { OnOk result (IsAtEnd (R.remaining source.new)) }
-    ensures sound { IfOk result IsHolding }
-
-    ensures fault { IfErr result (Refuses IsPartOfFile FileIsWhole FileShows
-        (R.remaining source.old) (R.remaining source.new) 0) }
-    ensures failed { IfErr result (λ f. CountsRead f (R.failures source.old) (R.failures source.new)) }
-
-    ensures taken { R.taken source.new ≤ R.taken source.old + file_limit + 1 }
+    ensures { ReadsFile result (R.log source.old) (R.log source.new) }
 {
     let mut reader = HoldReader::new();
     let reel = reader.read_head(alloc, source)?;
@@ -70,18 +55,14 @@ fn read_entries<R: Source>(
     requires place { reader.old.place ≤ file_limit }
     requires first { reader.old.held ≡ None }
     requires empty { holding.old ≡ no_slices holding.old.reel }
-    ensures ok { OnOk result (Takes (R.remaining source.old) (R.remaining source.new) reader.old.place reader.new.place
-        (entries_text reader.old.version (file_entries holding.new) ++ 0 ∷ [])) }
-    ensures end { OnOk result (IsAtEnd (R.remaining source.new)) }
+    ensures read { ReadsText (λ _. entries_text reader.old.version (file_entries holding.new) ++ 0 ∷ [])
+        (IsPartOfEntries reader.old.version holding.old.reel.setup) (EntriesAreWhole reader.old.version holding.old.reel)
+        (EntriesShow reader.old.version holding.old.reel.setup)
+        (R.log source.old) (R.log source.new) reader.old.place reader.new.place result }
+    ensures end { OnOk result (IsAtEnd (R.log source.new).remaining) }
     ensures sound { OnOk result (IsHolding holding.new) }
     ensures told { OnOk result (IsTold reader.old.version holding.new) }
     ensures reel { OnOk result (holding.new.reel ≡ holding.old.reel) }
-    ensures err { IfErr result (Refuses (IsPartOfEntries reader.old.version holding.old.reel.setup) (EntriesAreWhole reader.old.version holding.old.reel)
-        (EntriesShow reader.old.version holding.old.reel.setup)
-        (R.remaining source.old) (R.remaining source.new) reader.old.place) }
-    ensures failed { IfErr result (λ f. CountsRead f (R.failures source.old) (R.failures source.new)) }
-    ensures counted { R.failures source.old ≤ R.failures source.new }
-    ensures most { R.taken source.new + reader.old.place ≤ R.taken source.old + file_limit + 1 }
 {
     reader.advance(alloc, source, holding.setup())?;
     while let Some(entry) = &reader.held {

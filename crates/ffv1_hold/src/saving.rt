@@ -1,15 +1,13 @@
 //! Writing a holding file (own).
-ghost use Rattle.std.specs.Prelude.{◌≡◌, ◌<◌, ◌≤◌, ◌↔◌, ◌++◌, ◌^◌, ◌∷◌, ◌+◌, ◌*◌, [], length, slice_index_or, OnOk, OnErr, IfErr, IfSome, IfNone, IsErrOf, IsTrue};
-ghost use Rattle.std.specs.Io.KnownBytes.{Appends};
+ghost use Rattle.std.specs.Prelude.{◌≡◌, ◌<◌, ◌≤◌, ◌↔◌, ◌++◌, ◌^◌, ◌∷◌, ◌+◌, ◌*◌, [], length, slice_index_or, IfSome, IfNone, IsErrOf, IsTrue};
 ghost use Rattle.ffv1_bits.specs.Limits.{slice_limit, record_limit, file_limit};
 ghost use Rattle.ffv1_holding.specs.Sets as set;
-ghost use Rattle.ffv1_devices.specs.Streams.{HasFailed, HasGivenUp};
-ghost use Rattle.ffv1_devices.specs.Writing.{WritesFront};
+ghost use Rattle.ffv1_devices.specs.Results.{WritesAll};
 ghost use Rattle.ffv1_holding.specs.TileSets.{tile_slices};
 ghost use Rattle.ffv1_holding.specs.Reels.{reel_tiles};
 ghost use Rattle.ffv1_hold.specs.HoldingText.{origins_limit, be2, be4, magic, head_text, slice_text, FileEntry, origins_text, entry_text, entries_text, file_entries, holding_text, IsTold, FitsInFile};
 ghost use Rattle.ffv1_holding.specs.Contents.{IsHolding, AreDigests};
-ghost use Rattle.ffv1_hold.specs.Saving.{AreWithinLimit, AreWritable, IsTooLong, IsWriteFault, tile_file_entries, entries_length};
+ghost use Rattle.ffv1_hold.specs.Saving.{AreWithinLimit, AreWritable, SavesFile, tile_file_entries, entries_length};
 ghost use Rattle.ffv1_hold.specs.Merging.{digests_union};
 
 use crate::file_fault::HoldFileFault;
@@ -27,21 +25,9 @@ use ffv1_holding::{Holding, Reel};
 /// counted a failure, a front of the file was written; the first failure that is no interruption is told. No other fault
 /// comes: nothing is allocated.
 pub fn write_hold<W: Sink>(holding: &Holding, sink: &mut W) -> Result<(), HoldFileFault>
-    ensures text { OnOk result (Appends (W.contents sink.old) (W.contents sink.new) (holding_text holding.now)) }
+    ensures saved { SavesFile result holding.now (W.log sink.old) (W.log sink.new) }
     ensures sound { IsHolding holding.now }
-    ensures fits { OnOk result (FitsInFile Version.Second holding.now) }
-
-    ensures write { IsErrOf result HoldFileFault.Write → WritesFront (W.contents sink.old) (W.contents sink.new) (holding_text holding.now) }
-    ensures failed { IsErrOf result HoldFileFault.Write → HasFailed (W.failures sink.old) (W.failures sink.new) }
-    ensures gave_up { IsErrOf result HoldFileFault.Write → HasGivenUp (W.failures sink.old) (W.failures sink.new) (W.broken sink.old) (W.broken sink.new) }
-    ensures unbroken { (¬ IsErrOf result HoldFileFault.Write) → W.broken sink.new ≡ W.broken sink.old }
-    ensures broken_once { W.broken sink.new ≤ W.broken sink.old + 1 }
-    ensures same_reference { W.reference sink.new ≡ W.reference sink.old }
-
-    ensures too_long { IsErrOf result HoldFileFault.TooLong ↔ IsTooLong holding.now }
     ensures untouched { IsErrOf result HoldFileFault.TooLong → sink.new ≡ sink.old }
-
-    ensures only { IfErr result IsWriteFault }
 {
     if !fits_in_file(holding) {
         return Err(HoldFileFault::TooLong);
@@ -54,13 +40,7 @@ pub fn write_hold<W: Sink>(holding: &Holding, sink: &mut W) -> Result<(), HoldFi
 fn write_text<S: Sink>(holding: &Holding, sink: &mut S) -> Result<(), WriteFailed>
     requires fits { FitsInFile Version.Second holding.now }
     requires entries { AreWritable holding.now }
-    ensures ok { OnOk result (Appends (S.contents sink.old) (S.contents sink.new) (holding_text holding.now)) }
-    ensures err { OnErr result (WritesFront (S.contents sink.old) (S.contents sink.new) (holding_text holding.now)) }
-    ensures failed { OnErr result (HasFailed (S.failures sink.old) (S.failures sink.new)) }
-    ensures gave_up { OnErr result (HasGivenUp (S.failures sink.old) (S.failures sink.new) (S.broken sink.old) (S.broken sink.new)) }
-    ensures unbroken { OnOk result (S.broken sink.new ≡ S.broken sink.old) }
-    ensures broken_once { S.broken sink.new ≤ S.broken sink.old + 1 }
-    ensures same_reference { S.reference sink.new ≡ S.reference sink.old }
+    ensures { WritesAll result (S.log sink.old) (S.log sink.new) (holding_text holding.now) }
 {
     write_head(sink, holding.reel())?;
     write_entries(sink, holding)?;
@@ -71,14 +51,7 @@ fn write_text<S: Sink>(holding: &Holding, sink: &mut S) -> Result<(), WriteFaile
 /// Writes what stands before the entries.
 pub(crate) fn write_head<S: Sink>(sink: &mut S, reel: &Reel) -> Result<(), WriteFailed>
     requires { length reel.now.config ≤ record_limit }
-    ensures ok { OnOk result (Appends (S.contents sink.old) (S.contents sink.new) (head_text Version.Second reel.now)) }
-    ensures err { OnErr result (WritesFront (S.contents sink.old) (S.contents sink.new) (head_text Version.Second reel.now)) }
-    ensures failed { OnErr result (HasFailed (S.failures sink.old) (S.failures sink.new)) }
-    ensures gave_up { OnErr result (HasGivenUp (S.failures sink.old) (S.failures sink.new) (S.broken sink.old) (S.broken sink.new)) }
-    ensures unbroken { OnOk result (S.broken sink.new ≡ S.broken sink.old) }
-    ensures broken_once { S.broken sink.new ≤ S.broken sink.old + 1 }
-    ensures counted { S.failures sink.old ≤ S.failures sink.new }
-    ensures same_reference { S.reference sink.new ≡ S.reference sink.old }
+    ensures { WritesAll result (S.log sink.old) (S.log sink.new) (head_text Version.Second reel.now) }
 {
     let config = reel.config();
     let setup = reel.setup();
@@ -90,14 +63,7 @@ pub(crate) fn write_head<S: Sink>(sink: &mut S, reel: &Reel) -> Result<(), Write
 fn write_entries<S: Sink>(sink: &mut S, holding: &Holding) -> Result<(), WriteFailed>
     requires told { IsTold Version.Second holding.now }
     requires entries { AreWritable holding.now }
-    ensures ok { OnOk result (Appends (S.contents sink.old) (S.contents sink.new) (entries_text Version.Second (file_entries holding.now))) }
-    ensures err { OnErr result (WritesFront (S.contents sink.old) (S.contents sink.new) (entries_text Version.Second (file_entries holding.now))) }
-    ensures failed { OnErr result (HasFailed (S.failures sink.old) (S.failures sink.new)) }
-    ensures gave_up { OnErr result (HasGivenUp (S.failures sink.old) (S.failures sink.new) (S.broken sink.old) (S.broken sink.new)) }
-    ensures unbroken { OnOk result (S.broken sink.new ≡ S.broken sink.old) }
-    ensures broken_once { S.broken sink.new ≤ S.broken sink.old + 1 }
-    ensures counted { S.failures sink.old ≤ S.failures sink.new }
-    ensures same_reference { S.reference sink.new ≡ S.reference sink.old }
+    ensures { WritesAll result (S.log sink.old) (S.log sink.new) (entries_text Version.Second (file_entries holding.now)) }
 {
     for tile in 0..holding.reel().tiles() {
         write_tile(sink, holding, tile)?;
@@ -111,14 +77,7 @@ fn write_tile<S: Sink>(sink: &mut S, holding: &Holding, tile: usize) -> Result<(
     requires number { tile < 2 ^ 16 }
     requires told { IsTold Version.Second holding.now }
     requires fits { AreWithinLimit (tile_slices holding.now.slices tile) }
-    ensures ok { OnOk result (Appends (S.contents sink.old) (S.contents sink.new) (entries_text Version.Second (tile_file_entries holding.now tile))) }
-    ensures err { OnErr result (WritesFront (S.contents sink.old) (S.contents sink.new) (entries_text Version.Second (tile_file_entries holding.now tile))) }
-    ensures failed { OnErr result (HasFailed (S.failures sink.old) (S.failures sink.new)) }
-    ensures gave_up { OnErr result (HasGivenUp (S.failures sink.old) (S.failures sink.new) (S.broken sink.old) (S.broken sink.new)) }
-    ensures unbroken { OnOk result (S.broken sink.new ≡ S.broken sink.old) }
-    ensures broken_once { S.broken sink.new ≤ S.broken sink.old + 1 }
-    ensures counted { S.failures sink.old ≤ S.failures sink.new }
-    ensures same_reference { S.reference sink.new ≡ S.reference sink.old }
+    ensures { WritesAll result (S.log sink.old) (S.log sink.new) (entries_text Version.Second (tile_file_entries holding.now tile)) }
 {
     for place in 0..holding.held(tile) {
         write_held(sink, holding, tile, place)?;
@@ -138,16 +97,8 @@ fn write_held<S: Sink>(
     requires held { place < set.size (tile_slices holding.now.slices tile) }
     requires told { IsTold Version.Second holding.now }
     requires fits { AreWithinLimit (tile_slices holding.now.slices tile) }
-    ensures ok { (d : FileEntry) → OnOk result (Appends (S.contents sink.old) (S.contents sink.new)
-        (entry_text Version.Second (slice_index_or (tile_file_entries holding.now tile) place d))) }
-    ensures err { (d : FileEntry) → OnErr result (WritesFront (S.contents sink.old) (S.contents sink.new)
-        (entry_text Version.Second (slice_index_or (tile_file_entries holding.now tile) place d))) }
-    ensures failed { OnErr result (HasFailed (S.failures sink.old) (S.failures sink.new)) }
-    ensures gave_up { OnErr result (HasGivenUp (S.failures sink.old) (S.failures sink.new) (S.broken sink.old) (S.broken sink.new)) }
-    ensures unbroken { OnOk result (S.broken sink.new ≡ S.broken sink.old) }
-    ensures broken_once { S.broken sink.new ≤ S.broken sink.old + 1 }
-    ensures counted { S.failures sink.old ≤ S.failures sink.new }
-    ensures same_reference { S.reference sink.new ≡ S.reference sink.old }
+    ensures { (d : FileEntry) → WritesAll result (S.log sink.old) (S.log sink.new)
+        (entry_text Version.Second (slice_index_or (tile_file_entries holding.now tile) place d)) }
 {
     let origins = holding.origins_at(tile, place);
     write_slice(sink, tile as u16, holding.slice(tile, place))?;
@@ -157,14 +108,7 @@ fn write_held<S: Sink>(
 /// Writes an entry's slice.
 pub(crate) fn write_slice<S: Sink>(sink: &mut S, tile: u16, slice: &[u8]) -> Result<(), WriteFailed>
     requires { length slice.now ≤ slice_limit }
-    ensures ok { OnOk result (Appends (S.contents sink.old) (S.contents sink.new) (1 ∷ slice_text (tile, slice.now))) }
-    ensures err { OnErr result (WritesFront (S.contents sink.old) (S.contents sink.new) (1 ∷ slice_text (tile, slice.now))) }
-    ensures failed { OnErr result (HasFailed (S.failures sink.old) (S.failures sink.new)) }
-    ensures gave_up { OnErr result (HasGivenUp (S.failures sink.old) (S.failures sink.new) (S.broken sink.old) (S.broken sink.new)) }
-    ensures unbroken { OnOk result (S.broken sink.new ≡ S.broken sink.old) }
-    ensures broken_once { S.broken sink.new ≤ S.broken sink.old + 1 }
-    ensures counted { S.failures sink.old ≤ S.failures sink.new }
-    ensures same_reference { S.reference sink.new ≡ S.reference sink.old }
+    ensures { WritesAll result (S.log sink.old) (S.log sink.new) (1 ∷ slice_text (tile, slice.now)) }
 {
     let head = entry_head(tile, slice.len() as u32);
     write_pair(sink, &head, slice)
@@ -179,14 +123,7 @@ pub(crate) fn write_origins<S: Sink>(
     requires digests { AreDigests digests.now }
     requires others { AreDigests others.now }
     requires few { length digests.now + length others.now ≤ 2 ^ 31 }
-    ensures ok { OnOk result (Appends (S.contents sink.old) (S.contents sink.new) (origins_text (digests_union digests.now others.now))) }
-    ensures err { OnErr result (WritesFront (S.contents sink.old) (S.contents sink.new) (origins_text (digests_union digests.now others.now))) }
-    ensures failed { OnErr result (HasFailed (S.failures sink.old) (S.failures sink.new)) }
-    ensures gave_up { OnErr result (HasGivenUp (S.failures sink.old) (S.failures sink.new) (S.broken sink.old) (S.broken sink.new)) }
-    ensures unbroken { OnOk result (S.broken sink.new ≡ S.broken sink.old) }
-    ensures broken_once { S.broken sink.new ≤ S.broken sink.old + 1 }
-    ensures counted { S.failures sink.old ≤ S.failures sink.new }
-    ensures same_reference { S.reference sink.new ≡ S.reference sink.old }
+    ensures { WritesAll result (S.log sink.old) (S.log sink.new) (origins_text (digests_union digests.now others.now)) }
 {
     let count = union_count(digests, others);
     write_field(sink, &count.to_be_bytes())?;

@@ -1,9 +1,7 @@
 //! The union of two lists of rising digests (own): how many it has, and its bytes, each digest once.
-ghost use Rattle.std.specs.Prelude.{◌≡◌, ◌+◌, ◌^◌, ◌<◌, ◌≤◌, [], ◌∷◌, length, IfSome, IfNone, OnOk, OnErr};
+ghost use Rattle.std.specs.Prelude.{◌≡◌, ◌+◌, ◌^◌, ◌<◌, ◌≤◌, [], ◌∷◌, length, IfSome, IfNone};
 ghost use Rattle.std.specs.List.{flat_map};
-ghost use Rattle.std.specs.Io.KnownBytes.{Appends};
-ghost use Rattle.ffv1_devices.specs.Streams.{HasFailed, HasGivenUp};
-ghost use Rattle.ffv1_devices.specs.Writing.{WritesFront};
+ghost use Rattle.ffv1_devices.specs.Results.{WritesAll};
 ghost use Rattle.ffv1_holding.specs.Contents.{AreDigests};
 ghost use Rattle.ffv1_hold.specs.Merging.{digests_union};
 
@@ -65,14 +63,7 @@ pub(crate) fn write_union<S: Sink>(
 ) -> Result<(), WriteFailed>
     requires left { AreDigests left.now }
     requires right { AreDigests right.now }
-    ensures ok { OnOk result (Appends (S.contents sink.old) (S.contents sink.new) (flat_map (λ digest. digest) (digests_union left.now right.now))) }
-    ensures err { OnErr result (WritesFront (S.contents sink.old) (S.contents sink.new) (flat_map (λ digest. digest) (digests_union left.now right.now))) }
-    ensures failed { OnErr result (HasFailed (S.failures sink.old) (S.failures sink.new)) }
-    ensures gave_up { OnErr result (HasGivenUp (S.failures sink.old) (S.failures sink.new) (S.broken sink.old) (S.broken sink.new)) }
-    ensures unbroken { OnOk result (S.broken sink.new ≡ S.broken sink.old) }
-    ensures broken_once { S.broken sink.new ≤ S.broken sink.old + 1 }
-    ensures counted { S.failures sink.old ≤ S.failures sink.new }
-    ensures same_reference { S.reference sink.new ≡ S.reference sink.old }
+    ensures { WritesAll result (S.log sink.old) (S.log sink.new) (flat_map (λ digest. digest) (digests_union left.now right.now)) }
 {
     let mut lefts = left;
     let mut rights = right;

@@ -1,39 +1,28 @@
 use Rattle.std.proofs.Common.{rules, refl, inl}
 use Rattle.std.proofs.lemmas.Result.{err_from_is_err_and}
-use Rattle.ffv1_hold.specs.JoinedStreams.{Inputs}
 use Rattle.ffv1_hold.specs.Merging.{Start}
 use Rattle.ffv1_hold.proofs.MergeAnswers.{behind_heads, never_other}
-use Rattle.ffv1_hold.proofs.ReadCounts.{HeadsRefuse-not_write, Err-at}
+use Rattle.ffv1_hold.proofs.JoinSteps.{JoinWent-after}
 use Rattle.ffv1_hold.proofs.merging.merge_files.Goals as goal
 
 pub returns-in_err-reel : goal.returns-in_err-reel
 returns-in_err-reel g c =
     let p = err_from_is_err_and c.from_residual.result c.from_residual.ensures.1 in
     let e = c.in_err-reel.ensures in
-    let i : Inputs = record {
-      left_old = g.R.Source.remaining c.args.left.now;
-      left_new = g.R.Source.remaining c.read_heads.new.left;
-      right_old = g.Q.Source.remaining c.args.right.now;
-      right_new = g.Q.Source.remaining c.read_heads.new.right;
-    } in
     rw (p.1, p.2) (record {
       ok = tt;
       most = tt;
       err = inl (e.err, refl);
       untouched = λ is. refl {a = c.args.sink.now};
-      read_failed = λ is. e.read_failed (Err-at _ _ is);
-      write_failed = λ is. absurd (HeadsRefuse-not_write i _ e.err is);
-      left_taken = e.left_most;
-      right_taken = e.right_most;
-      same_reference = refl;
+      went = e.went (g.W.Sink.log c.args.sink.now);
     })
 
 pub returns-clause-ok : goal.returns-clause-ok
 returns-clause-ok g c =
     let s : Start = record {
-      left = g.R.Source.remaining c.args.left.now;
-      right = g.Q.Source.remaining c.args.right.now;
-      sink = g.W.Sink.contents c.args.sink.now;
+      left = (g.R.Source.log c.args.left.now).remaining;
+      right = (g.Q.Source.log c.args.right.now).remaining;
+      sink = (g.W.Sink.log c.args.sink.now).contents;
       reel = c.in_ok-reel.reel;
       left_version = c.read_heads.new.self.lefts.version;
       right_version = c.read_heads.new.self.rights.version;
@@ -45,9 +34,9 @@ returns-clause-ok g c =
 pub returns-clause-most : goal.returns-clause-most
 returns-clause-most g c =
     let s : Start = record {
-      left = g.R.Source.remaining c.args.left.now;
-      right = g.Q.Source.remaining c.args.right.now;
-      sink = g.W.Sink.contents c.args.sink.now;
+      left = (g.R.Source.log c.args.left.now).remaining;
+      right = (g.Q.Source.log c.args.right.now).remaining;
+      sink = (g.W.Sink.log c.args.sink.now).contents;
       reel = c.in_ok-reel.reel;
       left_version = c.read_heads.new.self.lefts.version;
       right_version = c.read_heads.new.self.rights.version;
@@ -59,9 +48,9 @@ returns-clause-most g c =
 pub returns-clause-err : goal.returns-clause-err
 returns-clause-err g c =
     let s : Start = record {
-      left = g.R.Source.remaining c.args.left.now;
-      right = g.Q.Source.remaining c.args.right.now;
-      sink = g.W.Sink.contents c.args.sink.now;
+      left = (g.R.Source.log c.args.left.now).remaining;
+      right = (g.Q.Source.log c.args.right.now).remaining;
+      sink = (g.W.Sink.log c.args.sink.now).contents;
       reel = c.in_ok-reel.reel;
       left_version = c.read_heads.new.self.lefts.version;
       right_version = c.read_heads.new.self.rights.version;
@@ -74,9 +63,9 @@ returns-clause-err g c =
 pub returns-clause-untouched : goal.returns-clause-untouched
 returns-clause-untouched g c =
     let s : Start = record {
-      left = g.R.Source.remaining c.args.left.now;
-      right = g.Q.Source.remaining c.args.right.now;
-      sink = g.W.Sink.contents c.args.sink.now;
+      left = (g.R.Source.log c.args.left.now).remaining;
+      right = (g.Q.Source.log c.args.right.now).remaining;
+      sink = (g.W.Sink.log c.args.sink.now).contents;
       reel = c.in_ok-reel.reel;
       left_version = c.read_heads.new.self.lefts.version;
       right_version = c.read_heads.new.self.rights.version;
@@ -85,3 +74,6 @@ returns-clause-untouched g c =
     never_other _ _ _ _ c.join_behind.result
     (c.join_behind.ensures.err s (record { left_is = refl; right_is = refl })
     (record { reel = o.reel; same = search rules; left_head = o.left; right_head = o.right; unwritten = refl }))
+
+pub returns-clause-went : goal.returns-clause-went
+returns-clause-went g c = JoinWent-after c.join_behind.result _ _ _ _ _ _ (c.in_ok-reel.ensures.went (g.W.Sink.log c.args.sink.now)) c.join_behind.ensures.went

@@ -1,12 +1,9 @@
 use Rattle.std.proofs.Common.{◌++◌, ◌∷◌, [], length, arith, inl, ap, sym, ◌∙◌, subst, append-nil, length-append}
-use Rattle.std.proofs.Math.Nat.{le_trans}
 use Rattle.std.proofs.lemmas.Result.{err_from_is_err_and}
 use Rattle.ffv1_hold.specs.HoldingText.{be4}
-use Rattle.ffv1_hold.specs.Reading.{Takes, IsShorter, Never}
-use Rattle.ffv1_hold.specs.FileFaults.{IsPartOfOrigins, OriginsShow}
-use Rattle.ffv1_hold.proofs.ReadRefusals.{Takes-nil, Refuses-after}
-use Rattle.ffv1_hold.proofs.ReadCounts.{CountsRead-after, most-after}
+use Rattle.ffv1_hold.specs.Reading.{TakesText}
 use Rattle.ffv1_hold.specs.FileEntries.{AreOrigins}
+use Rattle.ffv1_hold.proofs.TextReads.{StopsAt-part}
 use Rattle.ffv1_hold.proofs.DigestTexts.{whole}
 use Rattle.ffv1_hold.proofs.OriginReads.{origins_none, text_push, digest_refused, pushed_origins, origins_text-of}
 use Rattle.ffv1_hold.proofs.origins.read_origins.Goals as goal
@@ -15,49 +12,26 @@ pub loop-index-init : goal.loop-index-init
 loop-index-init g c =
     let none = c.new-origins.ensures.items in
     record {
-      text = subst (Takes _ _ _ _) (sym (append-nil (be4 c.in_ok-count.count))
-          ∙ ap (λ ds. be4 c.in_ok-count.count ++ whole ds) (sym none)) c.in_ok-count.ensures.ok;
+      text = subst (TakesText _ _ _ _) (sym (append-nil (be4 c.in_ok-count.count))
+          ∙ ap (λ ds. be4 c.in_ok-count.count ++ whole ds) (sym none)) c.in_ok-count.ensures;
       origins = subst AreOrigins (sym none) origins_none;
       some = ap length none;
-      counted = omega (arith, c.in_ok-count.ensures.counted);
-      taken = omega (arith, c.in_ok-count.ensures.taken);
     }
 
 pub read_digest-requires : goal.read_digest-requires
-read_digest-requires g c = c.loop-index.invariant.text.within
+read_digest-requires g c = c.loop-index.invariant.text.text.within
 
-pub returns-in_err-count : goal.returns-in_err-count
-returns-in_err-count g c =
+pub returns-in_err-count-clause-read : goal.returns-in_err-count-clause-read
+returns-in_err-count-clause-read g c =
     let p = err_from_is_err_and c.from_residual.result c.from_residual.ensures.1 in
-    let e = c.in_err-count.ensures in
-    rw (p.1, p.2) (record {
-      ok = tt;
-      digests = tt;
-      few = tt;
-      err = Refuses-after (IsShorter 4) IsPartOfOrigins Never Never Never OriginsShow _ _ _ _ _ [] _ (Takes-nil _ _ c.requires) e.err
-          (λ s h. inl h) (λ f s h. h) (λ f s h. absurd h);
-      failed = e.failed;
-      counted = e.counted;
-      taken = tt;
-      most = e.most;
-    })
+    rw (p.1, p.2) (StopsAt-part _ _ _ _ _ _ _ c.requires c.in_err-count.ensures (λ s h. inl h))
 
-pub returns-in_err-read_digest : goal.returns-in_err-read_digest
-returns-in_err-read_digest g c =
+pub returns-in_err-read_digest-clause-read : goal.returns-in_err-read_digest-clause-read
+returns-in_err-read_digest-clause-read g c =
     let p = err_from_is_err_and c.from_residual-in_err-read_digest.result c.from_residual-in_err-read_digest.ensures.1 in
     let inv = c.loop-index.invariant in
-    let e = c.in_err-read_digest.ensures in
-    rw (p.1, p.2) (record {
-      ok = tt;
-      digests = tt;
-      few = tt;
-      err = digest_refused _ _ _ _ _ c.in_ok-count.count c.loop-index.origins.items inv.text _ inv.origins (omega arith)
-          (omega (arith, inv.some, c.loop-index-test.true)) e.err;
-      failed = CountsRead-after _ _ _ _ inv.counted e.failed;
-      counted = le_trans inv.counted e.counted;
-      taken = tt;
-      most = most-after _ _ _ _ _ _ inv.taken e.most;
-    })
+    rw (p.1, p.2) (digest_refused _ _ _ _ _ c.in_ok-count.count c.loop-index.origins.items inv.text _ inv.origins (omega arith)
+    (omega (arith, inv.some, c.loop-index-test.true)) c.in_err-read_digest.ensures.err)
 
 pub loop-index-preserved : goal.loop-index-preserved
 loop-index-preserved g c =
@@ -67,12 +41,10 @@ loop-index-preserved g c =
       text = text_push _ _ _ _ _ c.in_ok-count.count c.loop-index.origins.items inv.text _ _ one;
       origins = pushed_origins _ _ _ _ _ _ one inv.origins;
       some = omega (arith, inv.some, ap length one.pushed, length-append c.loop-index.origins.items (one.digest ∷ []));
-      counted = omega (arith, inv.counted, c.in_ok-read_digest.ensures.counted);
-      taken = omega (arith, inv.taken, c.in_ok-read_digest.ensures.taken);
     }
 
-pub returns-clause-ok : goal.returns-clause-ok
-returns-clause-ok g c =
+pub returns-clause-read : goal.returns-clause-read
+returns-clause-read g c =
     let inv = c.loop-index.invariant in
-    subst (Takes _ _ _ _) (origins_text-of c.loop-index.origins.items c.in_ok-count.count
+    subst (TakesText _ _ _ _) (origins_text-of c.loop-index.origins.items c.in_ok-count.count
     (omega (arith, inv.some, c.loop-index-test.false, c.loop-index.auto._index-end))) inv.text

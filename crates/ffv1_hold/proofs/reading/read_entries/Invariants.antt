@@ -1,7 +1,7 @@
-use Rattle.std.proofs.Common.{◌≡◌, ◌≤◌, ◌+◌, ◌-◌, ◌++◌, IfSome, IfNone}
+use Rattle.std.proofs.Common.{◌≡◌, ◌-◌, ◌++◌, IfSome, IfNone}
 use Rattle.std.specs.Io.KnownBytes.{IsAtEnd}
 use Rattle.ffv1_bits.specs.Limits.{file_limit}
-use Rattle.ffv1_hold.specs.Reading.{Takes}
+use Rattle.ffv1_hold.specs.Reading.{TakesText}
 use Rattle.ffv1_holding.specs.Contents.{IsHolding}
 use Rattle.ffv1_hold.specs.HoldingText.{entries_text, file_entries, IsTold}
 use Rattle.ffv1_hold.specs.FileEntries.{last_of, Follows, IsFileEntryOf, next_text}
@@ -10,7 +10,7 @@ use Rattle.ffv1_hold.proofs.reading.read_entries.Given as goal
 -- What was taken is the text of the entries so far, and of the one that is held behind the last of them, or of the end tag.
 abbrev pub invariant-loop-reader : goal.invariant-loop-reader
 invariant-loop-reader g l = record {
-  text : Takes (g.R.Source.remaining l.fn.source) (g.R.Source.remaining l.source) l.fn.reader.place l.reader.place
+  text : TakesText (g.R.Source.log l.fn.source) (g.R.Source.log l.source) l.fn.reader.place l.reader.place
       (entries_text l.fn.reader.version (file_entries l.holding) ++ next_text l.fn.reader.version l.reader.held);
   version : l.reader.version ≡ l.fn.reader.version;
   sound : IsHolding l.holding;
@@ -18,9 +18,7 @@ invariant-loop-reader g l = record {
   reel : l.holding.reel ≡ l.fn.holding.reel;
   entry : IfSome l.reader.held (IsFileEntryOf l.fn.reader.version l.fn.holding.reel.setup);
   follows : IfSome l.reader.held (λ e. Follows (last_of (file_entries l.holding)) e.0);
-  at_end : IfNone l.reader.held (IsAtEnd (g.R.Source.remaining l.source));
-  counted : g.R.Source.failures l.fn.source ≤ g.R.Source.failures l.source;
-  taken : g.R.Source.taken l.source + l.fn.reader.place ≤ g.R.Source.taken l.fn.source + l.reader.place;
+  at_end : IfNone l.reader.held (IsAtEnd (g.R.Source.log l.source).remaining);
 }
 
 abbrev pub decreases-loop-reader : goal.decreases-loop-reader

@@ -1,43 +1,27 @@
-use Rattle.std.proofs.Common.{◌≤◌, [], ◌∷◌, ◌++◌, length, arith, sym, subst, ap, ◌∙◌, append_assoc}
+use Rattle.std.proofs.Common.{◌≤◌, [], ◌∷◌, ◌++◌, length, arith, inl, sym, subst, ap, ◌∙◌, append_assoc}
 use Rattle.std.proofs.lemmas.Result.{err_from_is_err_and}
 use Rattle.ffv1_bits.specs.Limits.{record_limit}
 use Rattle.ffv1_holding.specs.Reels.{Reel}
 use Rattle.ffv1_holding.specs.Contents.{Contents}
 use Rattle.ffv1_hold.specs.HoldingText.{head_text, entries_text, file_entries}
-use Rattle.ffv1_hold.specs.Reading.{Takes}
+use Rattle.ffv1_hold.specs.Reading.{TakesText}
 use Rattle.ffv1_hold.specs.FileFaults.{IsPartOfEntries, IsPartOfFile, EntriesAreWhole, FileIsWhole, EntriesShow, FileShows}
-use Rattle.ffv1_hold.proofs.ReadRefusals.{Takes-trans, Refuses-after, memory_stops}
-use Rattle.ffv1_hold.proofs.ReadCounts.{CountsRead-after, most-start}
+use Rattle.ffv1_hold.proofs.TextReads.{TakesText-trans, StopsAt-after, memory_stops}
 use Rattle.ffv1_hold.proofs.Heads.{head_is_part, head_file, file_from_entries_part, file_from_whole_entries, file_from_entries_fault}
 use Rattle.ffv1_hold.proofs.reading.read_parts.Goals as goal
 
 pub returns-in_err-reel : goal.returns-in_err-reel
 returns-in_err-reel g c =
     let p = err_from_is_err_and c.from_residual.result c.from_residual.ensures.1 in
-    let e = c.in_err-reel.ensures in
-    rw (p.1, p.2) (record {
-      text = tt;
-      end = tt;
-      sound = tt;
-      fault = head_file _ _ _ e.err;
-      failed = e.failed;
-      taken = e.most;
-    })
+    let e = c.in_err-reel.ensures.read in
+    rw (p.1, p.2) (record { fault = head_file _ _ _ e.fault; tries' = e.tries'; few = e.few })
 
 -- the head was right, and memory for its tiles was refused
 pub returns-in_err-holding : goal.returns-in_err-holding
 returns-in_err-holding g c =
     let p = err_from_is_err_and c.from_residual-in_err-holding.result c.from_residual-in_err-holding.ensures.1 in
-    let r = c.in_ok-reel.reel in
     let head = c.in_ok-reel.ensures in
-    rw (p.1, p.2) (record {
-      text = tt;
-      end = tt;
-      sound = tt;
-      fault = memory_stops IsPartOfFile FileIsWhole FileShows _ _ _ _ _ head.ok (head_is_part _ r head.reel);
-      failed = tt;
-      taken = head.most;
-    })
+    rw (p.1, p.2) (memory_stops IsPartOfFile FileIsWhole FileShows _ _ _ _ _ head.read (inl (head_is_part _ c.in_ok-reel.reel head.reel)))
 
 pub returns-in_err-read_entries : goal.returns-in_err-read_entries
 returns-in_err-read_entries g c =
@@ -47,46 +31,35 @@ returns-in_err-read_entries g c =
     let same = ap (λ (h : Contents). h.reel) c.in_ok-holding.ensures in
     let v = c.read_head.new.self.version in
     let reel = c.in_ok-holding.holding.reel in
-    let head = c.in_ok-reel.ensures in
-    let e = c.in_err-read_entries.ensures in
-    rw (p.1, p.2) (record {
-      text = tt;
-      end = tt;
-      sound = tt;
-      fault = Refuses-after (IsPartOfEntries v reel.setup) IsPartOfFile (EntriesAreWhole v reel) FileIsWhole (EntriesShow v reel.setup) FileShows _ _ _ _ _
-          (head_text v r) _ head.ok e.err
-          (λ s part. file_from_entries_part v r is s (subst (λ (x : Reel). IsPartOfEntries v x.setup s) same part))
-          (λ f s whole. file_from_whole_entries v r is f s (subst (λ (x : Reel). EntriesAreWhole v x f s) same whole))
-          (λ f s shown. file_from_entries_fault v r is f s (subst (λ (x : Reel). EntriesShow v x.setup f s) same shown));
-      failed = CountsRead-after _ _ _ _ head.counted e.failed;
-      taken = most-start _ _ _ _ _ head.taken e.most;
-    })
+    rw (p.1, p.2) (StopsAt-after (IsPartOfEntries v reel.setup) IsPartOfFile (EntriesAreWhole v reel) FileIsWhole (EntriesShow v reel.setup) FileShows _ _ _ _ _
+    (head_text v r) c.in_ok-reel.ensures.read _ c.in_err-read_entries.ensures.read
+    (λ s part. file_from_entries_part v r is s (subst (λ (x : Reel). IsPartOfEntries v x.setup s) same part))
+    (λ f s whole. file_from_whole_entries v r is f s (subst (λ (x : Reel). EntriesAreWhole v x f s) same whole))
+    (λ f s shown. file_from_entries_fault v r is f s (subst (λ (x : Reel). EntriesShow v x.setup f s) same shown)))
 
 pub returns : goal.returns
 returns g c =
     let r = c.in_ok-reel.reel in
     let v = c.read_head.new.self.version in
     let reel = c.in_ok-read_entries.ensures.reel ∙ ap (λ (h : Contents). h.reel) c.in_ok-holding.ensures in
-    let h = c.read_entries.new.holding in
-    let entries = entries_text v (file_entries h) in
-    let all = Takes-trans _ _ _ _ _ _ _ _ c.in_ok-reel.ensures.ok c.in_ok-read_entries.ensures.ok in
-    let text = subst (Takes _ _ _ _) (sym (append_assoc (head_text v r) entries (0 ∷ []))
-    ∙ ap (λ (x : Reel). head_text v x ++ entries ++ 0 ∷ []) (sym reel)) all in
+    let entries = entries_text v (file_entries c.read_entries.new.holding) in
     let first = c.in_ok-reel.ensures in
     let more = c.in_ok-read_entries.ensures in
+    let all = TakesText-trans _ _ _ _ _ _ _ _ first.read more.read in
+    let whole = subst (TakesText _ _ _ _) (sym (append_assoc (head_text v r) entries (0 ∷ []))
+    ∙ ap (λ (x : Reel). head_text v x ++ entries ++ 0 ∷ []) (sym reel)) all in
     record {
-      text = record {
+      sound = more.sound;
+      file = record {
         version = v;
         fits = record {
           told = more.told;
           record' = subst (λ (x : Reel). length x.config ≤ record_limit) (sym reel) first.reel.fits;
-          text = omega (arith, text.moved, text.within);
+          text = omega (arith, whole.text.moved, whole.text.within);
         };
-        taken = text.taken;
+        taken = whole.text.taken;
       };
-      end = more.end;
-      sound = more.sound;
-      fault = tt;
-      failed = tt;
-      taken = most-start _ _ _ _ _ first.taken more.most;
+      at_end = more.end;
+      tries' = whole.tries';
+      few = omega (arith, whole.few, whole.text.within);
     }

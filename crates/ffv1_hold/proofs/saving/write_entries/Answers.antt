@@ -1,26 +1,18 @@
-use Rattle.std.proofs.Common.{refl, ◌≡◌, ◌<◌, arith, sym, subst, ap, ◌∙◌}
-use Rattle.std.specs.Io.KnownBytes.{Appends}
-use Rattle.std.proofs.KnownBytes.{Appends-nil, Appends-trans}
+use Rattle.std.proofs.Common.{◌≡◌, ◌<◌, arith, sym, subst, ap, ◌∙◌}
 use Rattle.std.proofs.lemmas.Result.{err_from_is_err_and}
+use Rattle.ffv1_devices.specs.Logs.{Writes, StopsWriting}
+use Rattle.ffv1_devices.proofs.Steps.{Writes-nil, Writes-trans, StopsWriting-after, StopsWriting-of}
 use Rattle.ffv1_holding.specs.Reels.{reel_tiles}
 use Rattle.ffv1_hold.specs.declared.version.Version.TheVariants.{Second}
 use Rattle.ffv1_hold.specs.Saving.{file_entries_below}
 use Rattle.ffv1_hold.specs.HoldingText.{entries_text}
-use Rattle.ffv1_devices.specs.Writing.{WritesFront}
-use Rattle.ffv1_devices.proofs.Fronts.{front-append, front-after}
 use Rattle.ffv1_hold.proofs.Slots.{entries_text-none}
 use Rattle.ffv1_hold.proofs.TileTexts.{text_below-more, text_behind, file_entries_below-all}
 use Rattle.ffv1_hold.proofs.SavedTiles.{tile_within_limit}
 use Rattle.ffv1_hold.proofs.saving.write_entries.Goals as goal
 
 pub loop-tile-init : goal.loop-tile-init
-loop-tile-init g c = record {
-  written = subst (Appends (g.S.Sink.contents c.args.sink.now) (g.S.Sink.contents c.args.sink.now)) (sym (entries_text-none Second))
-      (Appends-nil (g.S.Sink.contents c.args.sink.now));
-  counted = omega arith;
-  unbroken = refl;
-  same = refl;
-}
+loop-tile-init g c = subst (Writes _ _) (sym (entries_text-none Second)) (Writes-nil _)
 
 pub write_tile-requires-clause-tile : goal.write_tile-requires-clause-tile
 write_tile-requires-clause-tile g c = omega (arith, c.loop-tile-test.true, c.tiles-tile-end.ensures.count, ap reel_tiles c.reel.ensures.value)
@@ -34,31 +26,22 @@ write_tile-requires-clause-fits g c = tile_within_limit c.args.holding.now c.req
 
 pub loop-tile-preserved : goal.loop-tile-preserved
 loop-tile-preserved g c =
-    let h = c.args.holding.now in
-    let t = c.loop-tile.tile in
-    record {
-      written = subst (Appends (g.S.Sink.contents c.args.sink.now) (g.S.Sink.contents c.write_tile.new.sink)) (sym (text_below-more h t))
-          (Appends-trans _ _ _ _ _ c.loop-tile.invariant.written c.in_ok-write_tile.ensures.ok);
-      counted = omega arith;
-      unbroken = c.in_ok-write_tile.ensures.unbroken ∙ c.loop-tile.invariant.unbroken;
-      same = c.write_tile.ensures.same_reference ∙ c.loop-tile.invariant.same;
-    }
+    subst (Writes _ _) (sym (text_below-more c.args.holding.now c.loop-tile.tile)) (Writes-trans _ _ _ _ _ c.loop-tile.invariant c.in_ok-write_tile.ensures)
 
-pub returns-in_err-write_tile-clause-err : goal.returns-in_err-write_tile-clause-err
-returns-in_err-write_tile-clause-err g c =
+pub returns-in_err-write_tile : goal.returns-in_err-write_tile
+returns-in_err-write_tile g c =
     let p = err_from_is_err_and c.from_residual.result c.from_residual.ensures.1 in
     let h = c.args.holding.now in
     let t = c.loop-tile.tile in
     let n = reel_tiles h.reel in
     let lt : t < n = omega (arith, c.loop-tile-test.true, c.tiles-tile-end.ensures.count, ap reel_tiles c.reel.ensures.value) in
     let behind = text_behind h t n lt in
-    let more = front-append _ _ _ behind.0 c.in_err-write_tile.ensures.err in
-    let all = front-after _ _ _ (entries_text Second (file_entries_below h t)) _ c.loop-tile.invariant.written more in
-    rw p.1 (subst (WritesFront (g.S.Sink.contents c.args.sink.now) (g.S.Sink.contents c.write_tile.new.sink))
-    (sym behind.1 ∙ ap (entries_text Second) (file_entries_below-all h n c.requires.entries.tile)) all)
+    let more = StopsWriting-of _ _ _ behind.0 c.in_err-write_tile.ensures in
+    rw p.1 (subst (StopsWriting _ _) (sym behind.1 ∙ ap (entries_text Second) (file_entries_below-all h n c.requires.entries.tile))
+    (StopsWriting-after _ _ _ (entries_text Second (file_entries_below h t)) _ c.loop-tile.invariant more))
 
-pub returns-clause-ok : goal.returns-clause-ok
-returns-clause-ok g c =
+pub returns : goal.returns
+returns g c =
     let h = c.args.holding.now in
     let n = reel_tiles h.reel in
     let end : c.loop-tile.tile ≡ n = omega (
@@ -69,5 +52,4 @@ returns-clause-ok g c =
       ap reel_tiles
           c.reel.ensures.value,
     ) in
-    subst (λ xs. Appends (g.S.Sink.contents c.args.sink.now) (g.S.Sink.contents c.loop-tile.sink) (entries_text Second xs))
-    (ap (file_entries_below h) end ∙ file_entries_below-all h n c.requires.entries.tile) c.loop-tile.invariant.written
+    subst (Writes _ _) (ap (entries_text Second) (ap (file_entries_below h) end ∙ file_entries_below-all h n c.requires.entries.tile)) c.loop-tile.invariant

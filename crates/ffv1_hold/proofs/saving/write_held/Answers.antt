@@ -1,14 +1,12 @@
-use Rattle.std.proofs.Common.{◌∷◌, ◌<◌, [], length, subst, ap, sym, ◌∙◌, arith}
+use Rattle.std.proofs.Common.{◌<◌, length, subst, ap, sym, ◌∙◌, arith}
 use Rattle.std.proofs.lemmas.Result.{err_from_is_err_and}
-use Rattle.ffv1_devices.specs.Writing.{WritesFront}
-use Rattle.ffv1_devices.proofs.Fronts.{front-append}
+use Rattle.ffv1_devices.specs.Logs.{StopsWriting}
+use Rattle.ffv1_devices.specs.Results.{WritesAll}
+use Rattle.ffv1_devices.proofs.Steps.{StopsWriting-of, WritesAll-after}
 use Rattle.ffv1_holding.specs.Sets as set
 use Rattle.ffv1_holding.specs.TileSets.{tile_slices}
 use Rattle.ffv1_holding.specs.Contents.{digests_of}
-use Rattle.ffv1_hold.specs.HoldingText.{slice_text, origins_text}
-use Rattle.ffv1_hold.specs.Merging.{digests_union}
 use Rattle.ffv1_holding.proofs.RisingSets.{size-items}
-use Rattle.ffv1_hold.proofs.WrittenParts.{appends_behind, front_behind}
 use Rattle.ffv1_hold.proofs.TileTexts.{held_spelled, held_there}
 use Rattle.ffv1_hold.proofs.saving.write_held.Goals as goal
 
@@ -22,39 +20,23 @@ write_origins-requires-clause-few g c =
     let same = c.origins_at-origins.ensures.digests b ∙ ap (λ x. digests_of h (c.args.tile, x)) (sym c.slice.ensures) in
     omega (arith, few, ap length same)
 
-pub returns-in_err-write_slice-clause-err : goal.returns-in_err-write_slice-clause-err
-returns-in_err-write_slice-clause-err g c d =
+pub returns-in_err-write_slice : goal.returns-in_err-write_slice
+returns-in_err-write_slice g c d =
     let p = err_from_is_err_and c.from_residual.result c.from_residual.ensures.1 in
     let h = c.args.holding.now in
     let s = tile_slices h.slices c.args.tile in
     let b = c.slice.result.now in
     let lt : c.args.place < length (set.items s) = omega (arith, c.requires.held, size-items s) in
-    let os = c.origins_at-origins.result.now in
-    let spelled = held_spelled h c.args.tile c.args.place b lt c.slice.ensures os
+    let spelled = held_spelled h c.args.tile c.args.place b lt c.slice.ensures c.origins_at-origins.result.now
     (c.origins_at-origins.ensures.digests b) c.origins_at-origins.ensures.rising d in
-    rw p.1 (subst (WritesFront _ _) spelled (front-append _ _ (1 ∷ slice_text (c.args.tile, b)) (origins_text (digests_union os []))
-    c.in_err-write_slice.ensures.err))
+    rw p.1 (subst (StopsWriting _ _) spelled (StopsWriting-of _ _ _ _ c.in_err-write_slice.ensures))
 
-pub returns-clause-ok : goal.returns-clause-ok
-returns-clause-ok g c d =
+pub returns : goal.returns
+returns g c d =
     let h = c.args.holding.now in
     let s = tile_slices h.slices c.args.tile in
     let b = c.slice.result.now in
     let lt : c.args.place < length (set.items s) = omega (arith, c.requires.held, size-items s) in
-    let os = c.origins_at-origins.result.now in
-    let spelled = held_spelled h c.args.tile c.args.place b lt c.slice.ensures os
+    let spelled = held_spelled h c.args.tile c.args.place b lt c.slice.ensures c.origins_at-origins.result.now
     (c.origins_at-origins.ensures.digests b) c.origins_at-origins.ensures.rising d in
-    appends_behind _ _ _ (1 ∷ slice_text (c.args.tile, b)) (origins_text (digests_union os [])) _ c.write_origins.result spelled
-    c.in_ok-write_slice.ensures.ok c.write_origins.ensures.ok
-
-pub returns-clause-err : goal.returns-clause-err
-returns-clause-err g c d =
-    let h = c.args.holding.now in
-    let s = tile_slices h.slices c.args.tile in
-    let b = c.slice.result.now in
-    let lt : c.args.place < length (set.items s) = omega (arith, c.requires.held, size-items s) in
-    let os = c.origins_at-origins.result.now in
-    let spelled = held_spelled h c.args.tile c.args.place b lt c.slice.ensures os
-    (c.origins_at-origins.ensures.digests b) c.origins_at-origins.ensures.rising d in
-    front_behind _ _ _ (1 ∷ slice_text (c.args.tile, b)) (origins_text (digests_union os [])) _ c.write_origins.result spelled
-    c.in_ok-write_slice.ensures.ok c.write_origins.ensures.err
+    subst (WritesAll c.write_origins.result _ _) spelled (WritesAll-after c.write_origins.result _ _ _ _ _ c.in_ok-write_slice.ensures c.write_origins.ensures)

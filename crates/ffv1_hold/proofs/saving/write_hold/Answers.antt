@@ -9,5 +9,8 @@ write_text-requires-clause-fits g c = fits_within c.args.holding.now c.fits_in_f
 pub write_text-requires-clause-entries : goal.write_text-requires-clause-entries
 write_text-requires-clause-entries g c = holding_writable c.args.holding.now c.fits_in_file.ensures.sound
 
-pub returns-clause-fits : goal.returns-clause-fits
-returns-clause-fits g c = fits_within c.args.holding.now c.fits_in_file.ensures.sound (c.if-not-fits_in_file.ensures.fits.0 (search rules))
+pub returns-clause-saved : goal.returns-clause-saved
+returns-clause-saved g c = (
+  fits_within c.args.holding.now c.fits_in_file.ensures.sound (c.if-not-fits_in_file.ensures.fits.0 (search rules)),
+  c.in_ok-write_text.ensures,
+)

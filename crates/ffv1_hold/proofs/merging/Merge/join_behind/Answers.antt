@@ -1,11 +1,9 @@
-use Rattle.std.proofs.Common.{◌≡◌, ◌+◌, ◌-◌, ◌<◌, length, arith, inl, inr, ap, ◌∙◌}
+use Rattle.std.proofs.Common.{◌≡◌, ◌+◌, ◌-◌, ◌<◌, length, arith, refl, ap, le_refl, ◌∙◌}
 use Rattle.ffv1_bits.specs.Limits.{file_limit}
-use Rattle.std.proofs.Math.Nat.{le_trans}
 use Rattle.std.proofs.lemmas.Result.{err_from_is_err_and}
 use Rattle.ffv1_holding.specs.Reels.{Reel}
-use Rattle.ffv1_hold.specs.FileFaults.{IsPartOfEntry, EndIsWhole, EntryShows}
 use Rattle.ffv1_hold.specs.Merging.{AreVersions}
-use Rattle.ffv1_hold.proofs.ReadCounts.{HasFailed-after, HasFailed-read, Refuses-not_write, either-after, most-after, most-place, most-within}
+use Rattle.ffv1_hold.proofs.JoinSteps.{AllGoOn-trans, OneStops-after, left_read, right_read, left_stops, right_stops, wrote, sink_stops, inside}
 use Rattle.ffv1_hold.proofs.MergeStarts.{head_stops, first_left_stops, first_right_stops, left_held, right_held, opened_stands, full_stops, end_stops, union_written, union_within}
 use Rattle.ffv1_hold.proofs.merging.Merge.join_behind.Goals as goal
 
@@ -17,40 +15,28 @@ returns-in_err-write_head g c =
       ok = λ s is o. tt;
       most = λ s is o. tt;
       err = λ s is o.
-          head_stops s _ _ _ _ _ _ o _ c.in_err-write_head.ensures.err;
-      read_failed = λ is. cc;
-      write_failed = λ is. e.failed;
-      left_taken = most-place _ _ _ c.requires.left_place;
-      right_taken = most-place _ _ _ c.requires.right_place;
-      same_reference = e.same_reference;
+          head_stops s _ _ _ _ _ _ o _ c.in_err-write_head.ensures.front;
+      went = sink_stops _ _ _ _ _ _ e c.requires.left_place c.requires.right_place;
     })
 
 pub returns-in_err-advance : goal.returns-in_err-advance
 returns-in_err-advance g c =
     let p = err_from_is_err_and c.from_residual-in_err-advance.result c.from_residual-in_err-advance.ensures.1 in
     let head = c.in_ok-write_head.ensures in
-    let setup = c.setup-setup.result.now in
     let e = c.in_err-advance.ensures in
     rw (p.1, p.2) (record {
       ok = λ s is o. tt;
       most = λ s is o. tt;
       err = λ s is o.
           first_left_stops s _ _ _ _ _ _ o _ _ _ _ c.setup-setup.result.now _ c.requires.left_held is.left_is c.setup-setup.ensures.value
-          c.in_err-advance.ensures.err c.in_ok-write_head.ensures.ok;
-      read_failed = λ is. inl (HasFailed-read _ _ _ e.failed is);
-      write_failed = λ is. absurd (Refuses-not_write (IsPartOfEntry c.args.self.now.lefts.version setup c.args.self.now.lefts.held) EndIsWhole
-          (EntryShows c.args.self.now.lefts.version setup c.args.self.now.lefts.held) (g.R.Source.remaining c.args.left.now)
-          (g.R.Source.remaining c.advance.new.source) c.args.self.now.lefts.place _ e.err is);
-      left_taken = e.most;
-      right_taken = most-place _ _ _ c.requires.right_place;
-      same_reference = head.same_reference;
+          c.in_err-advance.ensures.read.fault c.in_ok-write_head.ensures.bytes';
+      went = OneStops-after _ _ _ _ _ _ (wrote _ _ _ _ _ _ head) (left_stops _ _ _ _ _ _ _ _ _ _ c.requires.right_place e.read);
     })
 
 pub returns-in_err-advance-2 : goal.returns-in_err-advance-2
 returns-in_err-advance-2 g c =
     let p = err_from_is_err_and c.from_residual-in_err-advance-2.result c.from_residual-in_err-advance-2.ensures.1 in
     let head = c.in_ok-write_head.ensures in
-    let setup = c.setup-setup.result.now in
     let first = c.in_ok-advance.ensures in
     let e = c.in_err-advance-2.ensures in
     rw (p.1, p.2) (record {
@@ -60,16 +46,10 @@ returns-in_err-advance-2 g c =
           let one = c.in_ok-advance.ensures in
           let setup = c.setup-setup.ensures.value in
           let held = left_held s _ _ _ _ _ _ o _ _ _ _ _ c.setup-setup.result.now c.requires.left_held is.left_is
-          setup one.next one.entry one.follows one.end in
+          setup one.read.text one.entry one.follows one.end in
           first_right_stops s _ _ _ _ _ _ o _ _ _ _ _ _ _ c.setup-setup.result.now _ c.requires.right_held is.right_is setup
-          c.in_err-advance-2.ensures.err held c.in_ok-write_head.ensures.ok;
-      read_failed = λ is. inr (HasFailed-read _ _ _ e.failed is);
-      write_failed = λ is. absurd (Refuses-not_write (IsPartOfEntry c.args.self.now.rights.version setup c.args.self.now.rights.held) EndIsWhole
-          (EntryShows c.args.self.now.rights.version setup c.args.self.now.rights.held) (g.Q.Source.remaining c.args.right.now)
-          (g.Q.Source.remaining c.advance-2.new.source) c.args.self.now.rights.place _ e.err is);
-      left_taken = most-within _ _ _ _ _ first.taken first.next.within;
-      right_taken = e.most;
-      same_reference = head.same_reference;
+          c.in_err-advance-2.ensures.read.fault held c.in_ok-write_head.ensures.bytes';
+      went = OneStops-after _ _ _ _ _ _ (AllGoOn-trans _ _ _ _ _ _ (wrote _ _ _ _ _ _ head) (left_read _ _ _ _ _ _ _ _ first.read)) (right_stops _ _ _ _ _ _ _ _ _ _ first.read.text.within e.read);
     })
 
 pub returns-in_err-join_entries : goal.returns-in_err-join_entries
@@ -87,21 +67,17 @@ returns-in_err-join_entries g c =
           omega (arith, c.requires.room, ap length c.config.ensures) in
           let setup = c.setup-setup.ensures.value in
           let left = left_held s _ _ _ _ _ _ o _ _ _ _ _ c.setup-setup.result.now c.requires.left_held is.left_is
-          setup one.next one.entry one.follows one.end in
+          setup one.read.text one.entry one.follows one.end in
           let right = right_held s _ _ _ _ _ _ o _ _ _ _ _ c.setup-setup.result.now c.requires.right_held
-          is.right_is setup two.next two.entry two.follows two.end in
-          let stands = opened_stands s _ _ _ _ _ _ o _ _ _ _ _ _ _ _ left right head.ok room in
+          is.right_is setup two.read.text two.entry two.follows two.end in
+          let stands = opened_stands s _ _ _ _ _ _ o _ _ _ _ _ _ _ _ left right head.bytes' room in
           let same = setup ∙ ap (λ (x : Reel). x.setup) o.same in
           let versions : AreVersions s c.advance.new.self.version c.advance-2.new.self.version = record {
             left_is = one.version ∙ is.left_is;
             right_is = two.version ∙ is.right_is;
           } in
           c.in_err-join_entries.ensures.err s same versions stands;
-      read_failed = λ is. either-after _ _ _ _ _ _ one.counted two.counted (e.read_failed is);
-      write_failed = λ is. HasFailed-after _ _ _ head.counted (e.write_failed is);
-      left_taken = most-after _ _ _ _ _ _ one.taken e.left_taken;
-      right_taken = most-after _ _ _ _ _ _ two.taken e.right_taken;
-      same_reference = e.same_reference ∙ head.same_reference;
+      went = OneStops-after _ _ _ _ _ _ (AllGoOn-trans _ _ _ _ _ _ (AllGoOn-trans _ _ _ _ _ _ (wrote _ _ _ _ _ _ head) (left_read _ _ _ _ _ _ _ _ one.read)) (right_read _ _ _ _ _ _ _ _ two.read)) e.went;
     })
 
 pub returns-then-self-eq0 : goal.returns-then-self-eq0
@@ -118,21 +94,17 @@ returns-then-self-eq0 g c =
           omega (arith, c.requires.room, ap length c.config.ensures) in
           let setup = c.setup-setup.ensures.value in
           let left = left_held s _ _ _ _ _ _ o _ _ _ _ _ c.setup-setup.result.now c.requires.left_held is.left_is
-          setup one.next one.entry one.follows one.end in
+          setup one.read.text one.entry one.follows one.end in
           let right = right_held s _ _ _ _ _ _ o _ _ _ _ _ c.setup-setup.result.now c.requires.right_held
-          is.right_is setup two.next two.entry two.follows two.end in
-          let stands = opened_stands s _ _ _ _ _ _ o _ _ _ _ _ _ _ _ left right head.ok room in
+          is.right_is setup two.read.text two.entry two.follows two.end in
+          let stands = opened_stands s _ _ _ _ _ _ o _ _ _ _ _ _ _ _ left right head.bytes' room in
           let same = setup ∙ ap (λ (x : Reel). x.setup) o.same in
           let versions : AreVersions s c.advance.new.self.version c.advance-2.new.self.version = record {
             left_is = one.version ∙ is.left_is;
             right_is = two.version ∙ is.right_is;
           } in
           full_stops s _ _ _ _ (joined.ok s same versions stands) c.if-self-eq0.true;
-      read_failed = λ is. cc;
-      write_failed = λ is. cc;
-      left_taken = most-after _ _ _ _ _ _ one.taken joined.left_taken;
-      right_taken = most-after _ _ _ _ _ _ two.taken joined.right_taken;
-      same_reference = joined.same_reference ∙ head.same_reference;
+      went = inside _ _ _ _ _ (AllGoOn-trans _ _ _ _ _ _ (AllGoOn-trans _ _ _ _ _ _ (AllGoOn-trans _ _ _ _ _ _ (wrote _ _ _ _ _ _ head) (left_read _ _ _ _ _ _ _ _ one.read)) (right_read _ _ _ _ _ _ _ _ two.read)) joined.went) (le_refl _) (le_refl _) refl refl;
     }
 
 pub returns-in_err-write_field : goal.returns-in_err-write_field
@@ -151,21 +123,17 @@ returns-in_err-write_field g c =
           omega (arith, c.requires.room, ap length c.config.ensures) in
           let setup = c.setup-setup.ensures.value in
           let left = left_held s _ _ _ _ _ _ o _ _ _ _ _ c.setup-setup.result.now c.requires.left_held is.left_is
-          setup one.next one.entry one.follows one.end in
+          setup one.read.text one.entry one.follows one.end in
           let right = right_held s _ _ _ _ _ _ o _ _ _ _ _ c.setup-setup.result.now c.requires.right_held
-          is.right_is setup two.next two.entry two.follows two.end in
-          let stands = opened_stands s _ _ _ _ _ _ o _ _ _ _ _ _ _ _ left right head.ok room in
+          is.right_is setup two.read.text two.entry two.follows two.end in
+          let stands = opened_stands s _ _ _ _ _ _ o _ _ _ _ _ _ _ _ left right head.bytes' room in
           let same = setup ∙ ap (λ (x : Reel). x.setup) o.same in
           let versions : AreVersions s c.advance.new.self.version c.advance-2.new.self.version = record {
             left_is = one.version ∙ is.left_is;
             right_is = two.version ∙ is.right_is;
           } in
-          end_stops s _ _ _ _ (joined.ok s same versions stands) _ (omega (arith, c.if-self-eq0.false)) e.err;
-      read_failed = λ is. cc;
-      write_failed = λ is. HasFailed-after _ _ _ (le_trans head.counted joined.counted) e.failed;
-      left_taken = most-after _ _ _ _ _ _ one.taken joined.left_taken;
-      right_taken = most-after _ _ _ _ _ _ two.taken joined.right_taken;
-      same_reference = e.same_reference ∙ joined.same_reference ∙ head.same_reference;
+          end_stops s _ _ _ _ (joined.ok s same versions stands) _ (omega (arith, c.if-self-eq0.false)) e.front;
+      went = OneStops-after _ _ _ _ _ _ (AllGoOn-trans _ _ _ _ _ _ (AllGoOn-trans _ _ _ _ _ _ (AllGoOn-trans _ _ _ _ _ _ (wrote _ _ _ _ _ _ head) (left_read _ _ _ _ _ _ _ _ one.read)) (right_read _ _ _ _ _ _ _ _ two.read)) joined.went) (sink_stops _ _ _ _ _ _ e (le_refl _) (le_refl _));
     })
 
 pub returns : goal.returns
@@ -182,35 +150,31 @@ returns g c =
           omega (arith, c.requires.room, ap length c.config.ensures) in
           let setup = c.setup-setup.ensures.value in
           let left = left_held s _ _ _ _ _ _ o _ _ _ _ _ c.setup-setup.result.now c.requires.left_held is.left_is
-          setup one.next one.entry one.follows one.end in
+          setup one.read.text one.entry one.follows one.end in
           let right = right_held s _ _ _ _ _ _ o _ _ _ _ _ c.setup-setup.result.now c.requires.right_held
-          is.right_is setup two.next two.entry two.follows two.end in
-          let stands = opened_stands s _ _ _ _ _ _ o _ _ _ _ _ _ _ _ left right head.ok room in
+          is.right_is setup two.read.text two.entry two.follows two.end in
+          let stands = opened_stands s _ _ _ _ _ _ o _ _ _ _ _ _ _ _ left right head.bytes' room in
           let same = setup ∙ ap (λ (x : Reel). x.setup) o.same in
           let versions : AreVersions s c.advance.new.self.version c.advance-2.new.self.version = record {
             left_is = one.version ∙ is.left_is;
             right_is = two.version ∙ is.right_is;
           } in
-          union_written s _ _ _ _ (joined.ok s same versions stands) _ some last.ok;
+          union_written s _ _ _ _ (joined.ok s same versions stands) _ some last.bytes';
       most = λ s is o.
           let room : c.args.self.now.room - (20 + length c.config.result.now) + (20 + length c.args.reel.now.config) ≡ file_limit =
           omega (arith, c.requires.room, ap length c.config.ensures) in
           let setup = c.setup-setup.ensures.value in
           let left = left_held s _ _ _ _ _ _ o _ _ _ _ _ c.setup-setup.result.now c.requires.left_held is.left_is
-          setup one.next one.entry one.follows one.end in
+          setup one.read.text one.entry one.follows one.end in
           let right = right_held s _ _ _ _ _ _ o _ _ _ _ _ c.setup-setup.result.now c.requires.right_held
-          is.right_is setup two.next two.entry two.follows two.end in
-          let stands = opened_stands s _ _ _ _ _ _ o _ _ _ _ _ _ _ _ left right head.ok room in
+          is.right_is setup two.read.text two.entry two.follows two.end in
+          let stands = opened_stands s _ _ _ _ _ _ o _ _ _ _ _ _ _ _ left right head.bytes' room in
           let same = setup ∙ ap (λ (x : Reel). x.setup) o.same in
           let versions : AreVersions s c.advance.new.self.version c.advance-2.new.self.version = record {
             left_is = one.version ∙ is.left_is;
             right_is = two.version ∙ is.right_is;
           } in
-          union_within s _ _ _ _ (joined.ok s same versions stands) _ some last.ok;
+          union_within s _ _ _ _ (joined.ok s same versions stands) _ some last.bytes';
       err = λ s is o. tt;
-      read_failed = λ is. cc;
-      write_failed = λ is. cc;
-      left_taken = most-after _ _ _ _ _ _ one.taken joined.left_taken;
-      right_taken = most-after _ _ _ _ _ _ two.taken joined.right_taken;
-      same_reference = last.same_reference ∙ joined.same_reference ∙ head.same_reference;
+      went = AllGoOn-trans _ _ _ _ _ _ (AllGoOn-trans _ _ _ _ _ _ (AllGoOn-trans _ _ _ _ _ _ (AllGoOn-trans _ _ _ _ _ _ (wrote _ _ _ _ _ _ head) (left_read _ _ _ _ _ _ _ _ one.read)) (right_read _ _ _ _ _ _ _ _ two.read)) joined.went) (wrote _ _ _ _ _ _ last);
     }

@@ -1,8 +1,8 @@
-use Rattle.std.proofs.Common.{◌≡◌, rules, refl, inl, inr, sym, subst, le_refl}
+use Rattle.std.proofs.Common.{◌≡◌, arith, rules, refl, inl, inr, sym, subst}
 use Rattle.std.proofs.lemmas.Result.{err_from_is_err_and}
 use Rattle.ffv1_hold.specs.Reading.{Takes}
 use Rattle.ffv1_hold.specs.HoldingText.{head_text}
-use Rattle.ffv1_hold.proofs.ReadCounts.{HasFailed-read, most-none}
+use Rattle.ffv1_hold.proofs.JoinSteps.{OneStops-after, AllGoOn-trans, left_read, right_read, left_stops, right_stops, inside}
 use Rattle.ffv1_hold.proofs.merging.Merge.read_heads.Goals as goal
 
 pub returns-in_err-reel : goal.returns-in_err-reel
@@ -16,14 +16,8 @@ returns-in_err-reel g c =
       left_held = e.held;
       right_held = refl;
       room = refl;
-      err = inl (e.err, refl);
-      read_failed = λ is. inl (HasFailed-read _ _ _ e.failed is);
-      left_counted = e.counted;
-      right_counted = le_refl _;
-      left_taken = tt;
-      right_taken = tt;
-      left_most = e.most;
-      right_most = most-none _ _;
+      err = inl (e.read.fault, refl);
+      went = λ s. left_stops _ _ _ _ _ _ s 0 0 _ (omega arith) e.read;
     })
 
 pub returns-in_err-other : goal.returns-in_err-other
@@ -38,14 +32,8 @@ returns-in_err-other g c =
       left_held = first.held;
       right_held = e.held;
       room = refl;
-      err = inr (inl ((c.read_head.new.self.version, c.in_ok-reel.reel, first.reel, first.ok.taken), e.err));
-      read_failed = λ is. inr (HasFailed-read _ _ _ e.failed is);
-      left_counted = first.counted;
-      right_counted = e.counted;
-      left_taken = tt;
-      right_taken = tt;
-      left_most = first.most;
-      right_most = e.most;
+      err = inr (inl ((c.read_head.new.self.version, c.in_ok-reel.reel, first.reel, first.read.text.taken), e.read.fault));
+      went = λ s. OneStops-after _ _ _ _ _ _ (left_read _ _ _ s 0 _ 0 _ first.read) (right_stops _ _ _ _ _ _ s 0 _ _ first.read.text.within e.read);
     })
 
 pub returns-then-not-is_same : goal.returns-then-not-is_same
@@ -68,18 +56,12 @@ returns-then-not-is_same g c =
           right_is = second.reel;
           left_version = c.read_head.new.self.version;
           right_version = c.read_head-2.new.self.version;
-          left_taken = first.ok.taken;
-          right_taken = second.ok.taken;
+          left_taken = first.read.text.taken;
+          right_taken = second.read.text.taken;
           other = search rules;
         },
       ));
-      read_failed = λ is. cc;
-      left_counted = first.counted;
-      right_counted = second.counted;
-      left_taken = tt;
-      right_taken = tt;
-      left_most = first.most;
-      right_most = second.most;
+      went = λ s. inside _ _ _ _ _ (AllGoOn-trans _ _ _ _ _ _ (left_read _ _ _ s 0 _ 0 _ first.read) (right_read _ _ _ s 0 _ _ _ second.read)) first.read.text.within second.read.text.within refl refl;
     }
 
 pub returns : goal.returns
@@ -88,19 +70,13 @@ returns g c =
     let second = c.in_ok-other.ensures in
     let same : c.in_ok-reel.reel ≡ c.in_ok-other.other = c.is_same.ensures.0 (search rules) in
     record {
-      left = first.ok;
-      right = subst (λ r. Takes (g.Q.Source.remaining c.args.right.now) (g.Q.Source.remaining c.read_head-2.new.source) 0 c.read_head-2.new.self.place
-          (head_text c.read_head-2.new.self.version r)) (sym same) second.ok;
+      left = first.read.text;
+      right = subst (λ r. Takes (g.Q.Source.log c.args.right.now).remaining (g.Q.Source.log c.read_head-2.new.source).remaining 0 c.read_head-2.new.self.place
+          (head_text c.read_head-2.new.self.version r)) (sym same) second.read.text;
       reel = first.reel;
       left_held = first.held;
       right_held = second.held;
       room = refl;
       err = tt;
-      read_failed = λ is. cc;
-      left_counted = first.counted;
-      right_counted = second.counted;
-      left_taken = first.taken;
-      right_taken = second.taken;
-      left_most = first.most;
-      right_most = second.most;
+      went = λ s. AllGoOn-trans _ _ _ _ _ _ (left_read _ _ _ s 0 _ 0 _ first.read) (right_read _ _ _ s 0 _ _ _ second.read);
     }
