@@ -1,9 +1,6 @@
 //! Writing the samples of a frame: planes in the order of RFC 9043, section 4.7, a byte a sample.
-ghost use Rattle.std.specs.Prelude.{◌≡◌, ◌+◌, ◌≤◌, OnOk, OnErr};
 ghost use Rattle.std.specs.List.{flat_map};
-ghost use Rattle.std.specs.Io.KnownBytes.{Appends};
-ghost use Rattle.ffv1_hold.specs.Streams.{HasFailed, HasGivenUp};
-ghost use Rattle.ffv1_hold.specs.Writing.{WritesFront};
+ghost use Rattle.ffv1_devices.specs.Results.{WritesAll};
 
 use crate::frame::Frame;
 use ffv1_hold::{Sink, WriteFailed, write_field};
@@ -26,13 +23,7 @@ impl From<WriteFailed> for WriteFault {
 /// After `Write`, which comes only where the sink counted a failure, a front of the samples was written; the first failure
 /// that is no interruption is told. It takes no memory.
 pub fn write_raw<W: Sink>(frame: &Frame, sink: &mut W) -> Result<(), WriteFault>
-    ensures ok { OnOk result (Appends (W.contents sink.old) (W.contents sink.new) (flat_map (λ plane. plane.items) frame.now.planes.items)) }
-    ensures write { OnErr result (WritesFront (W.contents sink.old) (W.contents sink.new) (flat_map (λ plane. plane.items) frame.now.planes.items)) }
-    ensures failed { OnErr result (HasFailed (W.failures sink.old) (W.failures sink.new)) }
-    ensures gave_up { OnErr result (HasGivenUp (W.failures sink.old) (W.failures sink.new) (W.broken sink.old) (W.broken sink.new)) }
-    ensures unbroken { OnOk result (W.broken sink.new ≡ W.broken sink.old) }
-    ensures broken_once { W.broken sink.new ≤ W.broken sink.old + 1 }
-    ensures same_reference { W.reference sink.new ≡ W.reference sink.old }
+    ensures { WritesAll result (W.log sink.old) (W.log sink.new) (flat_map (λ plane. plane.items) frame.now.planes.items) }
 {
     for plane in &frame.planes {
         write_field(sink, plane)?;
