@@ -1,0 +1,4 @@
+pub mod NumberSteps
+pub mod LineSteps
+pub mod StepLaws
+pub mod ScanSteps

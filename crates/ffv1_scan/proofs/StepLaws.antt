@@ -1,0 +1,15 @@
+-- Steps of a scan, one after the other.
+use Rattle.std.proofs.Common.{ℕ, ◌+◌, ◌≤◌, List, ◌++◌, length, arith, inl, inr, ⊎_elim, length-append}
+use Rattle.std.specs.Io.KnownBytes.{IsAtEnd}
+use Rattle.ffv1_devices.specs.Logs.{ReadLog, Reads, BreaksOff}
+use Rattle.ffv1_devices.proofs.Steps.{Reads-trans, BreaksOff-after}
+use Rattle.ffv1_scan.specs.Steps.{StopsReading, EndsBefore}
+
+pub StopsReading-after : (a b c : ReadLog) (xs ys : List ℕ) → Reads a b xs → StopsReading b c ys → StopsReading a c (xs ++ ys)
+StopsReading-after a b c xs ys p q =
+    ⊎_elim (λ (broken : BreaksOff b c ys). inl (BreaksOff-after a b c xs ys p broken))
+    (λ (ends : Reads b c ys × IsAtEnd c.remaining). inr (Reads-trans a b c xs ys p ends.0, ends.1)) q
+
+pub EndsBefore-after : (a b c : ReadLog) (xs : List ℕ) (m n : ℕ) → Reads a b xs → EndsBefore m b c → length xs + m ≤ n → EndsBefore n a c
+EndsBefore-after a b c xs m n p ends le =
+    (xs ++ ends.0, StopsReading-after a b c xs ends.0 p ends.1, omega (arith, length-append xs ends.0, ends.2, le))

@@ -1,0 +1,4 @@
+pub mod Ranges
+pub mod Verdicts
+pub mod Scans
+pub mod Steps
