@@ -2,7 +2,7 @@
 _ffv1restore() {
     local word=${COMP_WORDS[COMP_CWORD]}
     if [ "$COMP_CWORD" -eq 1 ]; then
-        mapfile -t COMPREPLY < <(compgen -W "chain show take join merge report restore picture splice decode" -- "$word")
+        mapfile -t COMPREPLY < <(compgen -W "chain show take join merge report restore picture splice decode scan" -- "$word")
         return
     fi
     case "${COMP_WORDS[1]}:$COMP_CWORD" in
@@ -13,11 +13,11 @@ _ffv1restore() {
 _mend_reel() {
     local word=${COMP_WORDS[COMP_CWORD]}
     case "${COMP_WORDS[COMP_CWORD - 1]}" in
-        --keep | --pictures | --work) mapfile -t COMPREPLY < <(compgen -d -- "$word") ;;
-        --jobs | --parallel) COMPREPLY=() ;;
+        --keep | --pictures) mapfile -t COMPREPLY < <(compgen -d -- "$word") ;;
+        --jobs) COMPREPLY=() ;;
         *)
             case "$word" in
-                -*) mapfile -t COMPREPLY < <(compgen -W "--force --keep --pictures --jobs --parallel --work --help" -- "$word") ;;
+                -*) mapfile -t COMPREPLY < <(compgen -W "--force --keep --pictures --report --jobs --help" -- "$word") ;;
                 *) mapfile -t COMPREPLY < <(compgen -f -- "$word") ;;
             esac ;;
     esac

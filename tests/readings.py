@@ -3,6 +3,7 @@ import collections
 import hashlib
 import itertools
 import math
+import re
 import zlib
 
 REVERSED = bytes(int(f"{byte:08b}"[::-1], 2) for byte in range(256))
@@ -449,3 +450,34 @@ def spliced(copies):
         parts.append(min(copy[:end] for copy in copies))
     lines.append(f"end broken at {end}\n" if end else "end whole\n")
     return b"".join(reversed(parts)), "".join(lines).encode(), 0 if sure and not end else 3
+
+
+def ranges_of(text):
+    """The ranges that a list tells, each as its place and size; a fault has the number of the first wrong line."""
+    lines, ranges, end = text.split(b"\n"), [], 0
+    for number, line in enumerate(lines if lines[-1] else lines[:-1], 1):
+        found = re.fullmatch(rb"0*([0-9]{1,20}) 0*([0-9]{1,20})", line)
+        place, size = map(int, found.groups()) if found else (0, PAYLOAD_LIMIT + 1)
+        if place >= 1 << 64 or size > PAYLOAD_LIMIT or place < end:
+            raise Fault(number)
+        end = place + size
+        ranges.append((place, size))
+    return ranges
+
+
+def scanned(text, content):
+    """What `scan` prints of the ranges of some content, its exit status, and its fault, where the file has the name `reel`."""
+    try:
+        ranges = ranges_of(text)
+    except Fault as fault:
+        return b"", 1, f"ranges fault {fault.args[0]}"
+    printed, sound = "", True
+    for number, (place, size) in enumerate(ranges, 1):
+        if place + size > len(content):
+            return printed.encode(), 1, "cannot read reel"
+        found, broken = links(content[place : place + size])
+        passing = sum(len(piece) > 8 and passes(piece) for _, piece in found)
+        ends = "whole" if broken is None else f"broken at {broken}"
+        printed += f"range {number} links {len(found)} pass {passing} {ends}\n"
+        sound = sound and broken is None and 0 < len(found) == passing
+    return printed.encode(), 0 if sound else 3, None

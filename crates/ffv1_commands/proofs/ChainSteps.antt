@@ -1,15 +1,28 @@
 -- The text of a chain, printed link by link.
-use Rattle.std.proofs.Common.{◌≡◌, ℕ, List, [], ◌∷◌, ◌++◌, Option, Result, Ok, Err, OnOk, OnErr, refl, sym, ap, subst, ◌∙◌, append_assoc}
-use Rattle.ffv1_hold.proofs.Fronts.{front-append}
+use Rattle.std.proofs.Common.{◌≡◌, ◌≤◌, ℕ, List, [], ◌∷◌, ◌++◌, length, Option, IfSome, Result, Ok, Err, OnOk, IfErr, inl, inr, refl, sym, ap, subst, ◌∙◌, append_assoc}
+use Rattle.std.specs.Result.{IsErrOf}
+use Rattle.std.specs.Io.KnownBytes.{Keeps}
+use Rattle.std.proofs.KnownBytes.{Consumes-whole, Keeps-refl}
+use Rattle.ffv1_bits.specs.Limits.{payload_limit}
 use Rattle.std.specs.List.{flat_map}
-use Rattle.std.specs.Io.KnownBytes.{Appends}
 use Rattle.ffv1_slice.specs.Chain.{Piece, AreLinksOf}
 use Rattle.ffv1_slice.specs.Ending.{EndsAs}
 use Rattle.ffv1_slice.specs.declared.chain.ChainEnd.{ChainEnd}
-use Rattle.ffv1_commands.specs.Devices.{WritesFront}
+use Rattle.ffv1_devices.specs.Logs.{ReadLog, WriteLog, StopsWriting}
+use Rattle.ffv1_devices.specs.Results.{WritesAll}
+use Rattle.ffv1_devices.proofs.Steps.{StopsWriting-of}
 use Rattle.ffv1_commands.specs.Lines.{PrintsFront}
-use Rattle.ffv1_commands.specs.ChainText.{link_line, end_line, IsChainText, PrintsChain}
-use Rattle.ffv1_commands.proofs.PrintSteps.{front-all, front-fails}
+use Rattle.ffv1_commands.specs.ChainText.{link_line, end_line, IsChainText, PrintsChain, ChainStops, ChainBreaks, TellsChain}
+use Rattle.ffv1_commands.specs.Devices.{UnlessWriting, WritesFront, FileStops, TellsFailure, TellsFile}
+use Rattle.ffv1_commands.specs.Fault.{NamesPath}
+use Rattle.ffv1_commands.specs.Paths.{IsChainPath}
+use Rattle.ffv1_commands.specs.declared.fault.CliFault.{CliFault}
+use Rattle.ffv1_commands.specs.declared.fault.CliFault.TheVariants as faults
+use Rattle.ffv1_commands.specs.declared.path.CommandPath.{CommandPath}
+use Rattle.ffv1_commands.specs.declared.path.CommandPath.TheVariants as paths
+use Rattle.ffv1_commands.proofs.InputFaults.{IsUnwritten, untouched_one, IsInputFault-says}
+use Rattle.ffv1_commands.proofs.Telling.{GoesOn-told, GivesUp-told, kept-told, Reads-told, BreaksOff-told, TooLong-told, whole_of, stops_of}
+use Rattle.ffv1_commands.proofs.PrintSteps.{front_rest, front-fails}
 
 -- one link more
 pub lines-more : (lines all : List ℕ) (link : Piece) (left rest : List Piece) → lines ++ flat_map link_line left ≡ all → left ≡ link ∷ rest
@@ -17,7 +30,7 @@ pub lines-more : (lines all : List ℕ) (link : Piece) (left rest : List Piece) 
 lines-more lines all link left rest split next =
     append_assoc lines (link_line link) (flat_map link_line rest) ∙ ap (λ ls. lines ++ flat_map link_line ls) (sym next) ∙ split
 
-module _ (a b c : Option (List ℕ)) (waits lines : List ℕ) (links left : List Piece) (end : ChainEnd)
+module _ (a b c : WriteLog) (waits lines : List ℕ) (links left : List Piece) (end : ChainEnd)
     (split : lines ++ flat_map link_line left ≡ flat_map link_line links) (front : PrintsFront a b waits lines) (payload : List ℕ)
     (are : AreLinksOf payload links) (ends : EndsAs payload end) where
   abbrev all : List ℕ
@@ -31,23 +44,136 @@ module _ (a b c : Option (List ℕ)) (waits lines : List ℕ) (links left : List
   rest-all = sym (append_assoc lines (flat_map link_line left) (end_line end)) ∙ ap (λ t. t ++ end_line end) split
 
   -- what waits was not printed whole
-  pub link_fails : WritesFront b c waits → (text : List ℕ) × IsChainText payload text × WritesFront a c text
+  pub link_fails : StopsWriting b c waits → (text : List ℕ) × IsChainText payload text × StopsWriting a c text
   link_fails fails = (
     all,
     told,
-    subst (WritesFront a c) rest-all (front-fails a b c waits lines (flat_map link_line left ++ end_line end) front
-        (front-append b c waits (flat_map link_line left ++ end_line end) fails)),
+    subst (StopsWriting a c) rest-all (front-fails a b c waits lines (flat_map link_line left ++ end_line end) front
+        (StopsWriting-of b c waits (flat_map link_line left ++ end_line end) fails)),
   )
 
-  module _ (none : left ≡ []) where
-    last-all : lines ++ end_line end ≡ all
-    last-all = ap (λ ls. lines ++ (flat_map link_line ls ++ end_line end)) (sym none) ∙ rest-all
+  -- the line of the end was printed after what waits, or was not
+  pub end_printed : {T E : Type 0} (r : Result T E) → left ≡ [] → WritesAll r b c (waits ++ end_line end)
+      → (text : List ℕ) × IsChainText payload text × WritesAll r a c text
+  end_printed r none wrote =
+      let last-all : lines ++ end_line end ≡ all = ap (λ ls. lines ++ (flat_map link_line ls ++ end_line end)) (sym none) ∙ rest-all in
+      (all, told, subst (WritesAll r a c) last-all (front_rest a b c waits lines (end_line end) front r wrote))
 
-    pub end_printed : {T E : Type 0} (r : Result T E) → OnOk r (Appends b c (waits ++ end_line end)) → OnOk r (PrintsChain payload a c)
-    end_printed (Ok done) wrote = (all, told, subst (Appends a c) last-all (front-all a b c waits lines (end_line end) front wrote))
-    end_printed (Err fault) wrote = tt
+-- ---- a payload that was not read
 
-    pub end_fails : {T E : Type 0} (r : Result T E) → OnErr r (WritesFront b c (waits ++ end_line end))
-        → OnErr r ((text : List ℕ) × IsChainText payload text × WritesFront a c text)
-    end_fails (Ok done) fails = tt
-    end_fails (Err fault) fails = (all, told, subst (WritesFront a c) last-all (front-fails a b c waits lines (end_line end) front fails))
+module _ (f : CliFault) (a b : ReadLog) where
+  pub payload_unread : (output : WriteLog) → FileStops paths.Frame f a b → ChainBreaks a b output output f
+  payload_unread output = unread_at f
+    where
+      unread_at : (f : CliFault) → FileStops paths.Frame f a b → ChainBreaks a b output output f
+      unread_at (faults.Read named) (same, unread) = (same, unread, refl)
+      unread_at faults.Memory stops = (stops, refl)
+      unread_at (faults.Write named) stops = absurd stops
+      unread_at (faults.Setup fault) stops = absurd stops
+      unread_at (faults.Hold fault) stops = absurd stops
+      unread_at (faults.HoldFile fault) stops = absurd stops
+      unread_at (faults.Frame fault) stops = absurd stops
+      unread_at (faults.Missing tile) stops = absurd stops
+      unread_at (faults.Disputed tile) stops = absurd stops
+      unread_at (faults.Splice other) stops = absurd stops
+      unread_at (faults.Ranges line) stops = absurd stops
+      unread_at faults.Words stops = absurd stops
+
+  pub payload_untouched : {W : Type 0} (output : W) → FileStops paths.Frame f a b → UnlessWriting f (output ≡ output)
+  payload_untouched output stops = untouched_one output f (IsInputFault-says IsUnwritten paths.Frame f tt tt (stops_of paths.Frame f a b stops).err)
+
+-- ---- the same of bytes
+
+pub record ChainOfBytes {T : Type 0} (r : Result T CliFault) (frame old new : Option (List ℕ)) : Type 0 where
+  pub ok : OnOk r (IfSome frame (λ payload. PrintsChain payload old new))
+  pub few : OnOk r (IfSome frame (λ payload. length payload ≤ payload_limit))
+  pub err : IfErr r (ChainStops frame old new)
+  pub names : IfErr r (NamesPath IsChainPath)
+
+module _ {T : Type 0} (a b : ReadLog) (old new : WriteLog) where
+  pub chain_of_bytes : (r : Result T CliFault) → TellsChain r a b old new → ChainOfBytes r a.remaining old.contents new.contents
+  chain_of_bytes (Ok x) (payload, text, took, told, wrote) =
+      let whole = (whole_of paths.Frame a b payload took).ok in
+      record {
+        ok = Consumes-whole _ _ payload (λ bytes. PrintsChain bytes old.contents new.contents) whole.taken whole.end (text, told, wrote.bytes');
+        few = Consumes-whole _ _ payload (λ bytes. length bytes ≤ payload_limit) whole.taken whole.end whole.few;
+        err = tt;
+        names = tt;
+      }
+  chain_of_bytes (Err (faults.Read path)) (same, unread, kept) = record {
+    ok = tt;
+    few = tt;
+    err = (same, subst (λ (log : WriteLog). Keeps old.contents log.contents) (sym kept) (Keeps-refl old.contents));
+    names = subst IsChainPath (sym same) tt;
+  }
+  chain_of_bytes (Err (faults.Write path)) (same, (payload, text, took, told, stopped)) =
+      let whole = (whole_of paths.Frame a b payload took).ok in
+      record {
+        ok = tt;
+        few = tt;
+        err = (
+          same,
+          Consumes-whole _ _ payload (λ bytes. (all : List ℕ) × IsChainText bytes all × WritesFront old.contents new.contents all) whole.taken whole.end
+              (text, told, stopped.front),
+        );
+        names = subst IsChainPath (sym same) tt;
+      }
+  chain_of_bytes (Err faults.Memory) (within, kept) = record {
+    ok = tt;
+    few = tt;
+    err = subst (λ (log : WriteLog). Keeps old.contents log.contents) (sym kept) (Keeps-refl old.contents);
+    names = tt;
+  }
+  chain_of_bytes (Err (faults.Setup fault)) stops = absurd stops
+  chain_of_bytes (Err (faults.Hold fault)) stops = absurd stops
+  chain_of_bytes (Err (faults.HoldFile fault)) stops = absurd stops
+  chain_of_bytes (Err (faults.Frame fault)) stops = absurd stops
+  chain_of_bytes (Err (faults.Missing tile)) stops = absurd stops
+  chain_of_bytes (Err (faults.Disputed tile)) stops = absurd stops
+  chain_of_bytes (Err (faults.Splice other)) stops = absurd stops
+  chain_of_bytes (Err (faults.Ranges line)) stops = absurd stops
+  chain_of_bytes (Err faults.Words) stops = absurd stops
+
+-- ---- and of counts
+
+pub record ChainCounts {T : Type 0} (r : Result T CliFault) (a b : ReadLog) (old new : WriteLog) : Type 0 where
+  pub frame_told : TellsFile (IsErrOf r (faults.Read paths.Frame)) a.tries.failures b.tries.failures a.tries.broken b.tries.broken a.taken b.taken
+  pub output_told : TellsFailure (IsErrOf r (faults.Write paths.StandardOutput)) old.tries.failures new.tries.failures old.tries.broken new.tries.broken
+  pub same_output : new.reference ≡ old.reference
+
+module _ {T : Type 0} (a b : ReadLog) (old new : WriteLog) where
+  pub chain_counts : (r : Result T CliFault) → TellsChain r a b old new → ChainCounts r a b old new
+  chain_counts (Ok x) (payload, text, took, told, wrote) = record {
+    frame_told = Reads-told a b payload (λ is. cc) took.read took.few;
+    output_told = GoesOn-told old.tries new.tries (λ is. cc) wrote.tries';
+    same_output = wrote.same;
+  }
+  chain_counts (Err (faults.Read path)) (same, inl (bytes, broke, few), kept) = record {
+    frame_told = BreaksOff-told a b bytes (ap (λ (p : CommandPath). Err (faults.Read p)) same) broke;
+    output_told = kept-told old new (λ is. cc) kept;
+    same_output = ap (λ (log : WriteLog). log.reference) kept;
+  }
+  chain_counts (Err (faults.Read path)) (same, inr (bytes, read, more), kept) = record {
+    frame_told = TooLong-told a b bytes (ap (λ (p : CommandPath). Err (faults.Read p)) same) read more;
+    output_told = kept-told old new (λ is. cc) kept;
+    same_output = ap (λ (log : WriteLog). log.reference) kept;
+  }
+  chain_counts (Err (faults.Write path)) (same, (payload, text, took, told, stopped)) = record {
+    frame_told = Reads-told a b payload (λ is. cc) took.read took.few;
+    output_told = GivesUp-told old.tries new.tries (ap (λ (p : CommandPath). Err (faults.Write p)) same) stopped.tries';
+    same_output = stopped.same;
+  }
+  chain_counts (Err faults.Memory) ((bytes, read, few), kept) = record {
+    frame_told = Reads-told a b bytes (λ is. cc) read few;
+    output_told = kept-told old new (λ is. cc) kept;
+    same_output = ap (λ (log : WriteLog). log.reference) kept;
+  }
+  chain_counts (Err (faults.Setup fault)) stops = absurd stops
+  chain_counts (Err (faults.Hold fault)) stops = absurd stops
+  chain_counts (Err (faults.HoldFile fault)) stops = absurd stops
+  chain_counts (Err (faults.Frame fault)) stops = absurd stops
+  chain_counts (Err (faults.Missing tile)) stops = absurd stops
+  chain_counts (Err (faults.Disputed tile)) stops = absurd stops
+  chain_counts (Err (faults.Splice other)) stops = absurd stops
+  chain_counts (Err (faults.Ranges line)) stops = absurd stops
+  chain_counts (Err faults.Words) stops = absurd stops

@@ -236,6 +236,7 @@ module _ (config : List ℕ) (width height : ℕ) (setup : SetupValue) (copies :
   refused ob oa pb pa (faults.Disputed tile) (h, file_is, refusal) = settled h file_is tile refusal.0
   refused ob oa pb pa faults.Memory stops = tt
   refused ob oa pb pa (faults.Splice other) stops = stops
+  refused ob oa pb pa (faults.Ranges line) stops = stops
   refused ob oa pb pa faults.Words stops = stops
 
   restores : RestoresOnly file original
@@ -258,6 +259,7 @@ module _ (config : List ℕ) (width height : ℕ) (setup : SetupValue) (copies :
   not_shown ob oa pb pa (faults.Disputed tile) stops = stops
   not_shown ob oa pb pa faults.Memory stops = tt
   not_shown ob oa pb pa (faults.Splice other) stops = stops
+  not_shown ob oa pb pa (faults.Ranges line) stops = stops
   not_shown ob oa pb pa faults.Words stops = stops
 
   shows : ShowsOnly setup file slices

@@ -30,6 +30,7 @@ UnlessWriting-unwritten P (faults.Missing tile) none same = same
 UnlessWriting-unwritten P (faults.Disputed tile) none same = same
 UnlessWriting-unwritten P faults.Memory none same = same
 UnlessWriting-unwritten P (faults.Splice other) none same = same
+UnlessWriting-unwritten P (faults.Ranges line) none same = same
 UnlessWriting-unwritten P faults.Words none same = same
 
 -- the outputs are as they were
@@ -148,6 +149,7 @@ module _ (h : Contents) (text : List ℕ) (ob oa pb pa : Option (List ℕ)) wher
   made_says P (Err (faults.Disputed tile)) write file stops = absurd stops
   made_says P (Err faults.Memory) write file stops = absurd stops
   made_says P (Err (faults.Splice other)) write file stops = absurd stops
+  made_says P (Err (faults.Ranges line)) write file stops = absurd stops
   made_says P (Err faults.Words) write file stops = absurd stops
 
   pub MadeStops-not_read : (r : Result (Unit {0}) CliFault) (path : CommandPath) → IfErr r (MadeStops h text ob oa pb pa) → IsErrOf r (faults.Read path)
@@ -177,6 +179,7 @@ module _ (P : CliFault → Type 0) where
   IsHoldingFault-says path input (faults.Disputed tile) read memory file is = absurd is
   IsHoldingFault-says path input faults.Memory read memory file is = memory
   IsHoldingFault-says path input (faults.Splice other) read memory file is = absurd is
+  IsHoldingFault-says path input (faults.Ranges line) read memory file is = absurd is
   IsHoldingFault-says path input faults.Words read memory file is = absurd is
 
   pub IsInputFault-says : (path : CommandPath) (fault : CliFault) → P (faults.Read path) → P faults.Memory → IsInputFault path fault → P fault
@@ -190,6 +193,7 @@ module _ (P : CliFault → Type 0) where
   IsInputFault-says path (faults.Disputed tile) read memory is = absurd is
   IsInputFault-says path faults.Memory read memory is = memory
   IsInputFault-says path (faults.Splice other) read memory is = absurd is
+  IsInputFault-says path (faults.Ranges line) read memory is = absurd is
   IsInputFault-says path faults.Words read memory is = absurd is
 
 -- another path than the one that was to be read was not told

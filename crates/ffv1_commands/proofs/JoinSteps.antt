@@ -148,6 +148,7 @@ module _ (first input : Option (List ℕ)) (rest : List (Option (List ℕ))) (i 
   other_refused (faults.Disputed tile) stops = absurd stops
   other_refused faults.Memory stops = tt
   other_refused (faults.Splice other) stops = absurd stops
+  other_refused (faults.Ranges line) stops = absurd stops
   other_refused faults.Words stops = absurd stops
 
 pub IsFaultOfFiles-unwritten : (inputs : List (Option (List ℕ))) (fault : CliFault) → IsFaultOfFiles inputs fault → IsUnwritten fault
@@ -161,6 +162,7 @@ IsFaultOfFiles-unwritten inputs (faults.Missing tile) stops = tt
 IsFaultOfFiles-unwritten inputs (faults.Disputed tile) stops = tt
 IsFaultOfFiles-unwritten inputs faults.Memory stops = tt
 IsFaultOfFiles-unwritten inputs (faults.Splice other) stops = tt
+IsFaultOfFiles-unwritten inputs (faults.Ranges line) stops = tt
 IsFaultOfFiles-unwritten inputs faults.Words stops = tt
 
 -- the first file's fault is one of the files
@@ -191,6 +193,7 @@ files_name inputs n is (faults.Missing tile) (i, lt, before, stops) = absurd sto
 files_name inputs n is (faults.Disputed tile) (i, lt, before, stops) = absurd stops
 files_name inputs n is faults.Memory stops = tt
 files_name inputs n is (faults.Splice other) (i, lt, before, stops) = absurd stops
+files_name inputs n is (faults.Ranges line) (i, lt, before, stops) = absurd stops
 files_name inputs n is faults.Words (i, lt, before, stops) = absurd stops
 
 module _ (inputs : List (Option (List ℕ))) (ob oa pb pa : Option (List ℕ)) where
@@ -205,6 +208,7 @@ module _ (inputs : List (Option (List ℕ))) (ob oa pb pa : Option (List ℕ)) w
   files_refused (faults.Disputed tile) stops = stops
   files_refused faults.Memory stops = tt
   files_refused (faults.Splice other) stops = stops
+  files_refused (faults.Ranges line) stops = stops
   files_refused faults.Words stops = stops
 
   module _ (whole : Contents) (lines : List ℕ) (each : JoinsEach inputs whole lines) where
@@ -219,6 +223,7 @@ module _ (inputs : List (Option (List ℕ))) (ob oa pb pa : Option (List ℕ)) w
     union_refused (faults.Disputed tile) stops = absurd stops
     union_refused faults.Memory stops = absurd stops
     union_refused (faults.Splice other) stops = absurd stops
+    union_refused (faults.Ranges line) stops = absurd stops
     union_refused faults.Words stops = absurd stops
 
     pub joins : (r : Result (Unit {0}) CliFault) → OnOk r (HasFile whole) → OnOk r (Appends ob oa (holding_text whole)) → OnOk r (Appends pb pa lines)
@@ -245,4 +250,5 @@ module _ (inputs : List (Option (List ℕ))) (ob oa pb pa : Option (List ℕ)) w
     join_stopped (Err (faults.Disputed tile)) stops = absurd stops
     join_stopped (Err faults.Memory) stops = absurd stops
     join_stopped (Err (faults.Splice other)) stops = absurd stops
+    join_stopped (Err (faults.Ranges line)) stops = absurd stops
     join_stopped (Err faults.Words) stops = absurd stops

@@ -1,5 +1,6 @@
 pub mod Shows
 pub mod InputLaws
+pub mod Telling
 pub mod WriteSteps
 pub mod InputFaults
 pub mod PrintSteps
@@ -17,3 +18,5 @@ pub mod SpliceCommandLaws
 pub mod WholeFrames
 pub mod Wrapped
 pub mod MergedFiles
+pub mod JoinTold
+pub mod ScanCommandSteps

@@ -36,6 +36,7 @@ module _ (before after old new : Option (List ℕ)) (config : List ℕ) (width h
   setup_stopped_at (faults.Missing tile) stops = absurd stops
   setup_stopped_at (faults.Disputed tile) stops = absurd stops
   setup_stopped_at (faults.Splice other) stops = absurd stops
+  setup_stopped_at (faults.Ranges line) stops = absurd stops
   setup_stopped_at faults.Words stops = absurd stops
 
   pub setup_stopped : (r : Result (Unit {0}) CliFault) → IfErr r (PrintStops (show_text setup) old new) → IfErr r (ShowStops width height before old new)

@@ -1,9 +1,9 @@
 -- What the command `splice` makes of copies rests on the set of the copies, and is the original where the splice is.
-use Rattle.std.proofs.Common.{◌≡◌, ℕ, ◌+◌, ◌-◌, ◌<◌, ◌≤◌, Bool, true, false, List, [], ◌∷◌, ◌++◌, length, get_or, map, Option, Some, refl, sym, ap, ◌∙◌, subst, arith}
+use Rattle.std.proofs.Common.{◌≡◌, ℕ, ◌+◌, ◌<◌, ◌≤◌, Bool, true, false, List, [], ◌∷◌, ◌++◌, length, get_or, map, Option, Some, refl, sym, ap, ◌∙◌, subst, arith}
 use Rattle.std.specs.Prelude.{◌↔◌, IsTrue, All, slice_range}
 use Rattle.std.specs.List.{flat_map}
 use Rattle.std.proofs.lemmas.List.Elements.{All-head, All-tail, Contains-get_or}
-use Rattle.ffv1_slice.specs.Chain.{Piece, piece_of}
+use Rattle.ffv1_slice.specs.Chain.{piece_of}
 use Rattle.ffv1_slice.specs.Walk.{links_of}
 use Rattle.ffv1_slice.proofs.NearLaws.{length-range}
 use Rattle.ffv1_splice.specs.Splice.{SplicedValue, IsSpliceOf, IsSettledOrWoven, IsGivenBack}
@@ -123,6 +123,7 @@ only_devices copies size one ob oa pb pa (faults.Hold fault) stops = absurd stop
 only_devices copies size one ob oa pb pa (faults.HoldFile fault) stops = absurd stops
 only_devices copies size one ob oa pb pa (faults.Frame fault) stops = absurd stops
 only_devices copies size one ob oa pb pa (faults.Missing tile) stops = absurd stops
+only_devices copies size one ob oa pb pa (faults.Ranges line) stops = absurd stops
 only_devices copies size one ob oa pb pa (faults.Disputed tile) stops = absurd stops
 only_devices copies size one ob oa pb pa (faults.Splice path) (read, whole, (index, is, named)) =
     let same : copies ≡ read = whole_inputs copies read whole in

@@ -97,6 +97,7 @@ IsFaultOfInputs-says P inputs (faults.Missing tile) read hold memory (i, lt, bef
 IsFaultOfInputs-says P inputs (faults.Disputed tile) read hold memory (i, lt, before, stops) = absurd stops
 IsFaultOfInputs-says P inputs faults.Memory read hold memory stops = memory
 IsFaultOfInputs-says P inputs (faults.Splice other) read hold memory (i, lt, before, stops) = absurd stops
+IsFaultOfInputs-says P inputs (faults.Ranges line) read hold memory (i, lt, before, stops) = absurd stops
 IsFaultOfInputs-says P inputs faults.Words read hold memory (i, lt, before, stops) = absurd stops
 
 -- a copy's fault is no failure of the record
@@ -119,6 +120,7 @@ copies_name inputs n is (faults.Missing tile) (i, lt, before, stops) = absurd st
 copies_name inputs n is (faults.Disputed tile) (i, lt, before, stops) = absurd stops
 copies_name inputs n is faults.Memory stops = tt
 copies_name inputs n is (faults.Splice other) (i, lt, before, stops) = absurd stops
+copies_name inputs n is (faults.Ranges line) (i, lt, before, stops) = absurd stops
 copies_name inputs n is faults.Words (i, lt, before, stops) = absurd stops
 
 module _ (record' after : Option (List ℕ)) (config : List ℕ) (width height : ℕ) (inputs : List (Option (List ℕ))) (ob oa pb pa : Option (List ℕ))
@@ -147,6 +149,7 @@ module _ (record' after : Option (List ℕ)) (config : List ℕ) (width height :
     copies_refused (faults.Disputed tile) (i, lt, before, stops) = absurd stops
     copies_refused faults.Memory stops = tt
     copies_refused (faults.Splice other) (i, lt, before, stops) = absurd stops
+    copies_refused (faults.Ranges line) (i, lt, before, stops) = absurd stops
     copies_refused faults.Words (i, lt, before, stops) = absurd stops
 
   module _ (reel : Reel) (held : Contents) (lines : List ℕ) (is : IsReelOf config width height reel) (each : TakesEach inputs reel held lines) where
@@ -168,6 +171,7 @@ module _ (record' after : Option (List ℕ)) (config : List ℕ) (width height :
     file_refused (faults.Disputed tile) stops = absurd stops
     file_refused faults.Memory stops = absurd stops
     file_refused (faults.Splice other) stops = absurd stops
+    file_refused (faults.Ranges line) stops = absurd stops
     file_refused faults.Words stops = absurd stops
 
     text : holding_text held ≡ holding_text (holding_of reel each.copies)
@@ -207,4 +211,5 @@ module _ (record' after : Option (List ℕ)) (config : List ℕ) (width height :
     take_stopped (Err (faults.Disputed tile)) stops = absurd stops
     take_stopped (Err faults.Memory) stops = absurd stops
     take_stopped (Err (faults.Splice other)) stops = absurd stops
+    take_stopped (Err (faults.Ranges line)) stops = absurd stops
     take_stopped (Err faults.Words) stops = absurd stops

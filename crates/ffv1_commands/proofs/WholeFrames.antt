@@ -1,9 +1,9 @@
 -- A frame that the command `splice` tells whole: its chain is whole, and each of its links passes its parity.
-use Rattle.std.proofs.Common.{◌≡◌, ℕ, ◌+◌, ◌-◌, ◌<◌, ◌≤◌, true, List, [], ◌∷◌, length, get_or, refl, sym, ap, ◌∙◌, subst, arith}
+use Rattle.std.proofs.Common.{◌≡◌, ℕ, ◌≤◌, List, [], ◌∷◌, length, get_or, sym, ◌∙◌, subst, arith}
 use Rattle.std.specs.Prelude.{All, slice_range}
 use Rattle.std.proofs.lemmas.List.Elements.{All-head, All-tail}
 use Rattle.ffv1_bits.specs.Parity.{PassesParity}
-use Rattle.ffv1_slice.specs.Chain.{size_before, IsCut, IsEnd, IsLinkOf, IsFramed}
+use Rattle.ffv1_slice.specs.Chain.{IsCut, IsEnd, IsFramed}
 use Rattle.ffv1_slice.specs.Chain.IsEnd.{last, before}
 use Rattle.ffv1_slice.proofs.NearLaws.{length-range, size_of_range}
 use Rattle.ffv1_splice.specs.Pieces.{HasContent}

@@ -16,6 +16,7 @@ module _ (P Q : Type 0) where
   unless_writing_at (faults.Disputed tile) then kept = then kept
   unless_writing_at faults.Memory then kept = then kept
   unless_writing_at (faults.Splice other) then kept = then kept
+  unless_writing_at (faults.Ranges line) then kept = then kept
   unless_writing_at faults.Words then kept = then kept
 
   pub unless_writing : {T : Type 0} (r : Result T CliFault) → (P → Q) → IfErr r (λ fault. UnlessWriting fault P) → IfErr r (λ fault. UnlessWriting fault Q)
@@ -33,6 +34,7 @@ module _ (P Q : Type 0) where
   if_of_record_at (faults.Disputed tile) then kept = tt
   if_of_record_at faults.Memory then kept = tt
   if_of_record_at (faults.Splice other) then kept = tt
+  if_of_record_at (faults.Ranges line) then kept = tt
   if_of_record_at faults.Words then kept = tt
 
   pub if_of_record : {T : Type 0} (r : Result T CliFault) → (P → Q) → IfErr r (λ fault. IfOfRecord fault P) → IfErr r (λ fault. IfOfRecord fault Q)

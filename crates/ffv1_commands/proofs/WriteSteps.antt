@@ -22,6 +22,7 @@ module _ (file text : List ℕ) (ob oa pb pa : Option (List ℕ)) (P : CliFault 
   writing_at (faults.Disputed tile) stops = absurd stops
   writing_at faults.Memory stops = absurd stops
   writing_at (faults.Splice other) stops = absurd stops
+  writing_at (faults.Ranges line) stops = absurd stops
   writing_at faults.Words stops = absurd stops
 
   pub writing : (r : Result (Unit {0}) CliFault) → IfErr r (WriteStops file text ob oa pb pa) → IfErr r P

@@ -1,5 +1,5 @@
 -- The text that tells the chain of a payload: a line for each link, from the payload's end, and a line for its end.
-use Rattle.std.specs.Prelude.{ℕ, ◌+◌, ◌-◌, ◌≡◌, ◌==◌, ◌++◌, List, length, Option, IfSome, codes, if◌then◌else◌}
+use Rattle.std.specs.Prelude.{ℕ, ◌+◌, ◌-◌, ◌≡◌, ◌==◌, ◌++◌, List, length, Option, IfSome, Result, Ok, Err, codes, if◌then◌else◌}
 use Rattle.std.specs.List.{flat_map}
 use Rattle.std.specs.Fmt.{decimal}
 use Rattle.std.specs.Io.KnownBytes.{Appends, Keeps}
@@ -9,7 +9,8 @@ use Rattle.ffv1_slice.specs.Chain.{Piece, AreLinksOf, status_before}
 use Rattle.ffv1_slice.specs.Ending.{EndsAs}
 use Rattle.ffv1_slice.specs.declared.chain.ChainEnd.{ChainEnd}
 use Rattle.ffv1_slice.specs.declared.chain.ChainEnd.TheVariants.{Whole, Broken}
-use Rattle.ffv1_commands.specs.Devices.{WritesFront}
+use Rattle.ffv1_devices.specs.Logs.{ReadLog, WriteLog, Writes, StopsWriting}
+use Rattle.ffv1_commands.specs.Devices.{WritesFront, TakesWhole, StopsWithin, IsUnread}
 use Rattle.ffv1_commands.specs.declared.fault.CliFault.{CliFault}
 use Rattle.ffv1_commands.specs.declared.fault.CliFault.TheVariants as faults
 use Rattle.ffv1_commands.specs.declared.path.CommandPath.TheVariants as paths
@@ -52,3 +53,21 @@ ChainStops frame before after (faults.Write path) =
     (path ≡ paths.StandardOutput) × IfSome frame (λ payload. (text : List ℕ) × IsChainText payload text × WritesFront before after text)
 ChainStops frame before after faults.Memory = Keeps before after
 ChainStops frame before after _ = ⊥
+
+-- ---- over the logs of the devices
+
+-- How a fault stopped the command: the payload was not read, which leaves the output as it was, or its text was not written whole.
+abbrev pub ChainBreaks : (frame_old frame_new : ReadLog) → (output_old output_new : WriteLog) → CliFault → Type 0
+ChainBreaks frame_old frame_new output_old output_new (faults.Read path) =
+    (path ≡ paths.Frame) × IsUnread frame_old frame_new × (output_new ≡ output_old)
+ChainBreaks frame_old frame_new output_old output_new (faults.Write path) =
+    (path ≡ paths.StandardOutput) × ((payload text : List ℕ) × TakesWhole frame_old frame_new payload × IsChainText payload text
+    × StopsWriting output_old output_new text)
+ChainBreaks frame_old frame_new output_old output_new faults.Memory = StopsWithin frame_old frame_new × (output_new ≡ output_old)
+ChainBreaks frame_old frame_new output_old output_new _ = ⊥
+
+-- The payload was read whole and its text was written, or a fault stopped the command.
+abbrev pub TellsChain : {T : Type 0} → Result T CliFault → (frame_old frame_new : ReadLog) → (output_old output_new : WriteLog) → Type 0
+TellsChain (Ok x) frame_old frame_new output_old output_new =
+    (payload text : List ℕ) × TakesWhole frame_old frame_new payload × IsChainText payload text × Writes output_old output_new text
+TellsChain (Err fault) frame_old frame_new output_old output_new = ChainBreaks frame_old frame_new output_old output_new fault

@@ -1,9 +1,9 @@
 -- What a command takes from a file and leaves in one.
-use Rattle.std.specs.Prelude.{ℕ, ◌≡◌, ◌+◌, ◌<◌, ◌≤◌, List, [], ◌∷◌, length, Option, IfSome, ◌⊎◌}
+use Rattle.std.specs.Prelude.{ℕ, ◌≡◌, ◌+◌, ◌<◌, ◌≤◌, List, [], ◌∷◌, length, Option, IfSome, ◌⊎◌, Result, Ok, Err}
 use Rattle.std.specs.Io.KnownBytes.{Appends, Consumes, IsAtEnd, Keeps}
 use Rattle.ffv1_bits.specs.Limits.{payload_limit}
-use Rattle.ffv1_hold.specs.Streams.{HasCounted, HasGivenUp}
-pub use Rattle.ffv1_hold.specs.Writing.{WritesFront}
+use Rattle.ffv1_devices.specs.Logs.{ReadLog, Reads, BreaksOff, HasFailed, HasCounted, most_tries}
+pub use Rattle.ffv1_devices.specs.Writing.{WritesFront}
 use Rattle.ffv1_holding.specs.declared.fault.HoldFault.TheVariants as holds
 use Rattle.ffv1_commands.specs.declared.fault.CliFault.{CliFault}
 use Rattle.ffv1_commands.specs.declared.fault.CliFault.TheVariants as faults
@@ -15,6 +15,32 @@ pub record ReadsWhole (before after : Option (List ℕ)) (bytes : List ℕ) : Ty
   pub taken : Consumes before after bytes
   pub end : IsAtEnd after
   pub few : length bytes ≤ payload_limit
+
+-- These bytes were read to the end of their source, and are not too many.
+pub record TakesWhole (old new : ReadLog) (bytes : List ℕ) : Type 0 where
+  pub read : Reads old new bytes
+  pub end : IsAtEnd new.remaining
+  pub few : length bytes ≤ payload_limit
+
+-- Reading stopped within the limit.
+abbrev pub StopsWithin : ReadLog → ReadLog → Type 0
+StopsWithin old new = (bytes : List ℕ) × Reads old new bytes × (length bytes ≤ payload_limit)
+
+-- The source was given up within the limit, or passed it by one byte.
+abbrev pub IsUnread : ReadLog → ReadLog → Type 0
+IsUnread old new =
+    ((bytes : List ℕ) × BreaksOff old new bytes × (length bytes ≤ payload_limit)) ⊎ ((bytes : List ℕ) × Reads old new bytes × (length bytes ≡ payload_limit + 1))
+
+-- how the file that is this path of the command was not read
+abbrev pub FileStops : CommandPath → CliFault → ReadLog → ReadLog → Type 0
+FileStops path (faults.Read named) old new = (named ≡ path) × IsUnread old new
+FileStops path faults.Memory old new = StopsWithin old new
+FileStops path _ old new = ⊥
+
+-- the file that is this path of the command was read whole, or it was not
+abbrev pub ReadsNamed : {T : Type 0} → (T → List ℕ) → CommandPath → Result T CliFault → ReadLog → ReadLog → Type 0
+ReadsNamed items path (Ok x) old new = TakesWhole old new (items x)
+ReadsNamed items path (Err fault) old new = FileStops path fault old new
 
 -- An input has these bytes, where it tells its bytes.
 abbrev pub Tells : Option (List ℕ) → List ℕ → Type 0
@@ -73,6 +99,10 @@ abbrev pub PrintStops : List ℕ → Option (List ℕ) → Option (List ℕ) →
 PrintStops text before after (faults.Write named) = (named ≡ paths.StandardOutput) × WritesFront before after text
 PrintStops text before after faults.Memory = Keeps before after
 PrintStops text before after _ = ⊥
+
+-- A device gave up: a failure that was no interruption was counted, or that many failures.
+abbrev pub HasGivenUp : (failures_old failures_new broken_old broken_new : ℕ) → Type 0
+HasGivenUp failures_old failures_new broken_old broken_new = HasFailed broken_old broken_new ⊎ HasCounted most_tries failures_old failures_new
 
 -- How a device is told, by the counts of its failures and of those that were no interruption: it gave up where it is told, and else
 -- no failure but interruptions came.

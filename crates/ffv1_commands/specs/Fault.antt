@@ -94,6 +94,7 @@ fault_line text (faults.Frame fault) = frame_fault_line fault
 fault_line text (faults.Missing tile) = codes "missing tile " ++ decimal tile
 fault_line text (faults.Disputed tile) = codes "disputed tile " ++ decimal tile
 fault_line text (faults.Splice path) = codes "cannot splice " ++ text
+fault_line text (faults.Ranges line) = codes "ranges fault " ++ decimal line
 fault_line text faults.Memory = codes "memory"
 fault_line text faults.Words = codes "words refused"
 

@@ -15,6 +15,7 @@ pub mod DecodeText
 pub mod PictureText
 pub mod ReportedText
 pub mod SpliceText
+pub mod ScanText
 pub mod Commands
 pub mod SpliceLaws
 -- what the clauses cite of the crates below
@@ -25,8 +26,10 @@ pub use Rattle.ffv1_range.specs.SetupForms
 pub use Rattle.ffv1_range.specs.SetupFaults
 pub use Rattle.ffv1_slice.specs.Walk
 pub use Rattle.ffv1_slice.specs.Slices
-pub use Rattle.ffv1_hold.specs.Streams
-pub use Rattle.ffv1_hold.specs.Writing
+pub use Rattle.ffv1_devices.specs.Logs
+pub use Rattle.ffv1_devices.specs.Results
+pub use Rattle.ffv1_devices.specs.Streams
+pub use Rattle.ffv1_devices.specs.Writing
 pub use Rattle.ffv1_hold.specs.Sets
 pub use Rattle.ffv1_hold.specs.Reels
 pub use Rattle.ffv1_hold.specs.Contents
@@ -45,6 +48,9 @@ pub use Rattle.ffv1_picture.specs.FrameFaults
 pub use Rattle.ffv1_picture.specs.PartialPictures
 pub use Rattle.ffv1_picture.specs.ReportText
 pub use Rattle.ffv1_splice.specs.Splice
+pub use Rattle.ffv1_scan.specs.Ranges
+pub use Rattle.ffv1_scan.specs.Verdicts
+pub use Rattle.ffv1_scan.specs.Scans
 pub use Rattle.ffv1_splice.specs.Faults
 pub use Rattle.ffv1_splice.specs.Originals as SpliceOriginals
 pub use Rattle.ffv1_slice.specs.Members

@@ -2,7 +2,7 @@
 use Rattle.std.specs.Prelude.{ℕ, ◌≡◌, ◌<◌, ◌⊎◌, List, [], length, Option, IfSome, Result, Ok, Err}
 use Rattle.std.specs.Io.KnownBytes.{Appends}
 use Rattle.ffv1_bits.specs.Limits.{file_limit}
-use Rattle.ffv1_hold.specs.Writing.{WritesFront}
+use Rattle.ffv1_devices.specs.Writing.{WritesFront}
 use Rattle.ffv1_hold.specs.Reels.{Reel}
 use Rattle.ffv1_hold.specs.Contents.{Contents, IsSameReel, joined}
 use Rattle.ffv1_hold.specs.HoldingText.{head_text, begun_text, holding_text}

@@ -1,7 +1,7 @@
 -- The paths that each command has: its words that name files, and standard output.
 use Rattle.std.specs.Prelude.{ℕ, ◌<◌}
 use Rattle.ffv1_commands.specs.declared.path.CommandPath.{CommandPath}
-use Rattle.ffv1_commands.specs.declared.path.CommandPath.TheVariants.{Record, Frame, Copy, Hold, Inputs, Out, StandardOutput}
+use Rattle.ffv1_commands.specs.declared.path.CommandPath.TheVariants.{Record, Frame, Copy, Hold, Ranges, File, Inputs, Out, StandardOutput}
 
 abbrev pub IsChainPath : CommandPath → Type 0
 IsChainPath Frame = Unit {0}
@@ -27,6 +27,12 @@ IsSplicePath copies (Copy place) = place < copies
 IsSplicePath copies Out = Unit {0}
 IsSplicePath copies StandardOutput = Unit {0}
 IsSplicePath copies _ = ⊥
+
+abbrev pub IsScanPath : CommandPath → Type 0
+IsScanPath Ranges = Unit {0}
+IsScanPath File = Unit {0}
+IsScanPath StandardOutput = Unit {0}
+IsScanPath _ = ⊥
 
 -- `join` of so many holding files
 abbrev pub IsJoinPath : ℕ → CommandPath → Type 0

@@ -1,13 +1,13 @@
 //! The command `chain`: tells the links of a frame payload and how their chain ends (RFC 9043, section 4.9).
-ghost use Rattle.std.specs.Prelude.{◌≡◌, ◌+◌, ◌≤◌, List, ℕ, [], ◌∷◌, ◌++◌, length, IfErr, IsErrOf, OnOk, OnErr, IfSome, IfNone, string_bytes, string_len, string_capacity};
-ghost use Rattle.std.specs.Io.KnownBytes.{Appends};
+ghost use Rattle.std.specs.Prelude.{◌≡◌, ◌+◌, ◌≤◌, List, ℕ, [], ◌∷◌, ◌++◌, length, IfErr, OnOk, OnErr, IfSome, IfNone, string_bytes, string_len, string_capacity};
 ghost use Rattle.ffv1_bits.specs.Limits.{payload_limit};
-ghost use Rattle.ffv1_hold.specs.Streams.{HasGivenUp};
 ghost use Rattle.ffv1_commands.specs.Fault.{NamesPath};
 ghost use Rattle.ffv1_commands.specs.Paths.{IsChainPath};
-ghost use Rattle.ffv1_commands.specs.Devices.{UnlessWriting, WritesFront, TellsFailure, TellsFile};
+ghost use Rattle.ffv1_devices.specs.Logs.{StopsWriting};
+ghost use Rattle.ffv1_devices.specs.Results.{WritesAll};
+ghost use Rattle.ffv1_commands.specs.Devices.{UnlessWriting};
 ghost use Rattle.ffv1_commands.specs.Lines.{room, longest_line, PrintsFront};
-ghost use Rattle.ffv1_commands.specs.ChainText.{link_place, link_state, link_line, parity_word, end_line, IsChainText, PrintsChain, ChainStops};
+ghost use Rattle.ffv1_commands.specs.ChainText.{link_place, link_state, link_line, parity_word, end_line, IsChainText, PrintsChain, ChainStops, TellsChain};
 ghost use Rattle.ffv1_slice.specs.Chain.{IsFramed};
 
 use crate::devices::read_file;
@@ -45,24 +45,15 @@ pub fn run_chain<R: Read, W: Write>(
     )
 }
 
-/// The command over a source and a sink.
-fn chain_of<R: Source, W: Sink>(
+/// The command over a source and a sink, whose logs say how it went: at `Read` the source was given up or passed the limit,
+/// and at `Write` the sink was given up; no other failures came but interruptions.
+pub fn chain_of<R: Source, W: Sink>(
     alloc: Global,
     frame: &mut R,
     output: &mut W,
 ) -> Result<(), CliFault>
-    ensures ok { OnOk result (IfSome (R.remaining frame.old)
-        (λ payload. PrintsChain payload (W.contents output.old) (W.contents output.new))) }
-    ensures few { OnOk result (IfSome (R.remaining frame.old) (λ payload. length payload ≤ payload_limit)) }
-    ensures err { IfErr result (ChainStops (R.remaining frame.old) (W.contents output.old) (W.contents output.new)) }
+    ensures told { TellsChain result (R.log frame.old) (R.log frame.new) (W.log output.old) (W.log output.new) }
     ensures untouched { IfErr result (λ fault. UnlessWriting fault (output.new ≡ output.old)) }
-    ensures names { IfErr result (NamesPath IsChainPath) }
-
-    ensures frame_told { TellsFile (IsErrOf result (CliFault.Read CommandPath.Frame)) (R.failures frame.old) (R.failures frame.new)
-        (R.broken frame.old) (R.broken frame.new) (R.taken frame.old) (R.taken frame.new) }
-    ensures output_told { TellsFailure (IsErrOf result (CliFault.Write CommandPath.StandardOutput)) (W.failures output.old) (W.failures output.new)
-        (W.broken output.old) (W.broken output.new) }
-    ensures same_output { W.reference output.new ≡ W.reference output.old }
 {
     let payload = read_file(alloc, frame, CommandPath::Frame)?;
     let mut text = String::with_capacity(alloc, ROOM)?;
@@ -80,12 +71,7 @@ fn print_chain<W: Sink>(
 ) -> Result<(), WriteFailed>
     requires empty { string_bytes text.old ≡ [] }
     requires large { room ≤ string_capacity text.old }
-    ensures ok { OnOk result (PrintsChain payload.now (W.contents output.old) (W.contents output.new)) }
-    ensures err { OnErr result ((all : List ℕ) × IsChainText payload.now all × WritesFront (W.contents output.old) (W.contents output.new) all) }
-    ensures gave_up { OnErr result (HasGivenUp (W.failures output.old) (W.failures output.new) (W.broken output.old) (W.broken output.new)) }
-    ensures unbroken { OnOk result (W.broken output.new ≡ W.broken output.old) }
-    ensures broken_once { W.broken output.new ≤ W.broken output.old + 1 }
-    ensures same_reference { W.reference output.new ≡ W.reference output.old }
+    ensures { (all : List ℕ) × IsChainText payload.now all × WritesAll result (W.log output.old) (W.log output.new) all }
 {
     let mut chain = Chain::new(payload);
     let end = chain.end();
@@ -110,15 +96,10 @@ fn print_link<W: Sink>(
     output: &mut W,
 ) -> Result<(), WriteFailed>
     requires { room ≤ string_capacity text.old }
-    ensures ok { OnOk result (PrintsFront (W.contents output.old) (W.contents output.new) (string_bytes text.new)
+    ensures ok { OnOk result (PrintsFront (W.log output.old) (W.log output.new) (string_bytes text.new)
         (string_bytes text.old ++ link_line link.now)) }
-    ensures err { OnErr result (WritesFront (W.contents output.old) (W.contents output.new) (string_bytes text.old)) }
+    ensures err { OnErr result (StopsWriting (W.log output.old) (W.log output.new) (string_bytes text.old)) }
     ensures large { room ≤ string_capacity text.new }
-    ensures gave_up { OnErr result (HasGivenUp (W.failures output.old) (W.failures output.new) (W.broken output.old) (W.broken output.new)) }
-    ensures unbroken { OnOk result (W.broken output.new ≡ W.broken output.old) }
-    ensures broken_once { W.broken output.new ≤ W.broken output.old + 1 }
-    ensures counted { W.failures output.old ≤ W.failures output.new }
-    ensures same_reference { W.reference output.new ≡ W.reference output.old }
 {
     make_room(text, output)?;
     push_place(text, link);
@@ -165,12 +146,7 @@ fn parity_word(link: &Link<'_>) -> &'static str
 /// Adds the line of the chain's end to the text, and prints what waits there.
 fn print_end<W: Sink>(text: &mut String, end: ChainEnd, output: &mut W) -> Result<(), WriteFailed>
     requires { room ≤ string_capacity text.old }
-    ensures ok { OnOk result (Appends (W.contents output.old) (W.contents output.new) (string_bytes text.old ++ end_line end)) }
-    ensures err { OnErr result (WritesFront (W.contents output.old) (W.contents output.new) (string_bytes text.old ++ end_line end)) }
-    ensures gave_up { OnErr result (HasGivenUp (W.failures output.old) (W.failures output.new) (W.broken output.old) (W.broken output.new)) }
-    ensures unbroken { OnOk result (W.broken output.new ≡ W.broken output.old) }
-    ensures broken_once { W.broken output.new ≤ W.broken output.old + 1 }
-    ensures same_reference { W.reference output.new ≡ W.reference output.old }
+    ensures { WritesAll result (W.log output.old) (W.log output.new) (string_bytes text.old ++ end_line end) }
 {
     make_room(text, output)?;
     push_end(text, end);

@@ -60,24 +60,24 @@ fn decode_of<R: Source, F: Source, O: Sink, W: Sink>(
     out: &mut O,
     output: &mut W,
 ) -> Result<(), CliFault>
-    ensures ok { OnOk result (DecodesFile (R.remaining configuration.old) width height (F.remaining input.old)
-        (O.contents out.old) (O.contents out.new) (W.contents output.old) (W.contents output.new)) }
-    ensures err { IfErr result (DecodeStops (R.remaining configuration.old) width height (F.remaining input.old)
-        (O.contents out.old) (O.contents out.new) (W.contents output.old) (W.contents output.new)) }
+    ensures ok { OnOk result (DecodesFile (R.log configuration.old).remaining width height (F.log input.old).remaining
+        (O.log out.old).contents (O.log out.new).contents (W.log output.old).contents (W.log output.new).contents) }
+    ensures err { IfErr result (DecodeStops (R.log configuration.old).remaining width height (F.log input.old).remaining
+        (O.log out.old).contents (O.log out.new).contents (W.log output.old).contents (W.log output.new).contents) }
     ensures untouched { IfErr result (λ fault. UnlessWriting fault ((out.new ≡ out.old) × (output.new ≡ output.old))) }
     ensures in_turn { IfErr result (λ fault. IfOfRecord fault (input.new ≡ input.old)) }
     ensures names { IfErr result (NamesPath IsDecodePath) }
 
-    ensures record_told { TellsFile (IsErrOf result (CliFault.Read CommandPath.Record)) (R.failures configuration.old) (R.failures configuration.new)
-        (R.broken configuration.old) (R.broken configuration.new) (R.taken configuration.old) (R.taken configuration.new) }
-    ensures input_told { TellsFile (IsErrOf result (CliFault.Read CommandPath.Frame)) (F.failures input.old) (F.failures input.new)
-        (F.broken input.old) (F.broken input.new) (F.taken input.old) (F.taken input.new) }
-    ensures out_told { TellsFailure (IsErrOf result (CliFault.Write CommandPath.Out)) (O.failures out.old) (O.failures out.new)
-        (O.broken out.old) (O.broken out.new) }
-    ensures output_told { TellsFailure (IsErrOf result (CliFault.Write CommandPath.StandardOutput)) (W.failures output.old) (W.failures output.new)
-        (W.broken output.old) (W.broken output.new) }
-    ensures same_out { O.reference out.new ≡ O.reference out.old }
-    ensures same_output { W.reference output.new ≡ W.reference output.old }
+    ensures record_told { TellsFile (IsErrOf result (CliFault.Read CommandPath.Record)) (R.log configuration.old).tries.failures (R.log configuration.new).tries.failures
+        (R.log configuration.old).tries.broken (R.log configuration.new).tries.broken (R.log configuration.old).taken (R.log configuration.new).taken }
+    ensures input_told { TellsFile (IsErrOf result (CliFault.Read CommandPath.Frame)) (F.log input.old).tries.failures (F.log input.new).tries.failures
+        (F.log input.old).tries.broken (F.log input.new).tries.broken (F.log input.old).taken (F.log input.new).taken }
+    ensures out_told { TellsFailure (IsErrOf result (CliFault.Write CommandPath.Out)) (O.log out.old).tries.failures (O.log out.new).tries.failures
+        (O.log out.old).tries.broken (O.log out.new).tries.broken }
+    ensures output_told { TellsFailure (IsErrOf result (CliFault.Write CommandPath.StandardOutput)) (W.log output.old).tries.failures (W.log output.new).tries.failures
+        (W.log output.old).tries.broken (W.log output.new).tries.broken }
+    ensures same_out { (O.log out.new).reference ≡ (O.log out.old).reference }
+    ensures same_output { (W.log output.new).reference ≡ (W.log output.old).reference }
 {
     let config = read_file(alloc, configuration, CommandPath::Record)?;
     let decoder = Decoder::new(alloc, config.as_slice(), width, height)?;

@@ -2,8 +2,8 @@
 ghost use Rattle.std.specs.Prelude.{◌≡◌, ◌≤◌, ◌<◌, ◌+◌, IfOk, IfErr, IsErrOf, OnOk, OnErr};
 ghost use Rattle.std.specs.Io.KnownBytes.{Appends};
 ghost use Rattle.ffv1_bits.specs.Limits.{payload_limit};
-ghost use Rattle.ffv1_hold.specs.Streams.{HasCounted};
-ghost use Rattle.ffv1_commands.specs.Devices.{ReadsWhole, WritesFront, IsInputFault, IsCopyFault, WriteStops, TellsFailure, TellsFile};
+ghost use Rattle.ffv1_devices.specs.Logs.{HasCounted};
+ghost use Rattle.ffv1_commands.specs.Devices.{ReadsWhole, ReadsNamed, WritesFront, IsCopyFault, WriteStops, TellsFailure};
 
 use crate::fault::CliFault;
 use crate::path::CommandPath;
@@ -19,7 +19,7 @@ pub(crate) fn buffered<'a, R: Read>(
     alloc: Global,
     reader: &'a mut R,
 ) -> Result<FromRead<BufReader<&'a mut R>>, CliFault>
-    ensures ok { IfOk result (λ source. ⟦<FromRead<BufReader<&'a mut R>> as Source>⟧.remaining source ≡ R.remaining reader.old) }
+    ensures ok { IfOk result (λ source. (⟦<FromRead<BufReader<&'a mut R>> as Source>⟧.log source).remaining ≡ R.remaining reader.old) }
     ensures err { IfErr result (λ fault. fault ≡ CliFault.Memory) }
 {
     match BufReader::new(alloc, reader) {
@@ -37,14 +37,12 @@ pub(crate) fn read_file<S: Source>(
     source: &mut S,
     path: CommandPath,
 ) -> Result<Vec<u8>, CliFault>
-    ensures ok { IfOk result (λ v. ReadsWhole (S.remaining source.old) (S.remaining source.new) v.items) }
-    ensures err { IfErr result (IsInputFault path) }
-    ensures told { TellsFile (IsErrOf result (CliFault.Read path)) (S.failures source.old) (S.failures source.new)
-        (S.broken source.old) (S.broken source.new) (S.taken source.old) (S.taken source.new) }
+    ensures { ReadsNamed (λ v. v.items) path result (S.log source.old) (S.log source.new) }
 {
     match read_whole(alloc, source, PAYLOAD_LIMIT) {
         Ok(bytes) => Ok(bytes),
-        Err(WholeFault::Read | WholeFault::TooLong) => Err(CliFault::Read(path)),
+        Err(WholeFault::Read) => Err(CliFault::Read(path)),
+        Err(WholeFault::TooLong) => Err(CliFault::Read(path)),
         Err(WholeFault::Memory) => Err(CliFault::Memory),
     }
 }
@@ -58,12 +56,12 @@ pub(crate) fn read_copy<S: Source>(
     source: &mut S,
     path: CommandPath,
 ) -> Result<Vec<u8>, CliFault>
-    ensures ok { IfOk result (λ v. ReadsWhole (S.remaining source.old) (S.remaining source.new) v.items) }
-    ensures err { IfErr result (IsCopyFault path (S.remaining source.old)) }
-    ensures told { TellsFailure (IsErrOf result (CliFault.Read path)) (S.failures source.old) (S.failures source.new)
-        (S.broken source.old) (S.broken source.new) }
-    ensures too_long { IsErrOf result (CliFault.Hold HoldFault.PayloadTooLong) → HasCounted (payload_limit + 1) (S.taken source.old) (S.taken source.new) }
-    ensures within { (¬ IsErrOf result (CliFault.Hold HoldFault.PayloadTooLong)) → S.taken source.new ≤ S.taken source.old + payload_limit }
+    ensures ok { IfOk result (λ v. ReadsWhole (S.log source.old).remaining (S.log source.new).remaining v.items) }
+    ensures err { IfErr result (IsCopyFault path (S.log source.old).remaining) }
+    ensures told { TellsFailure (IsErrOf result (CliFault.Read path)) (S.log source.old).tries.failures (S.log source.new).tries.failures
+        (S.log source.old).tries.broken (S.log source.new).tries.broken }
+    ensures too_long { IsErrOf result (CliFault.Hold HoldFault.PayloadTooLong) → HasCounted (payload_limit + 1) (S.log source.old).taken (S.log source.new).taken }
+    ensures within { (¬ IsErrOf result (CliFault.Hold HoldFault.PayloadTooLong)) → (S.log source.new).taken ≤ (S.log source.old).taken + payload_limit }
 {
     match read_whole(alloc, source, PAYLOAD_LIMIT) {
         Ok(bytes) => Ok(bytes),
@@ -79,12 +77,12 @@ pub(crate) fn write_file<K: Sink>(
     path: CommandPath,
     bytes: &[u8],
 ) -> Result<(), CliFault>
-    ensures ok { OnOk result (Appends (K.contents sink.old) (K.contents sink.new) bytes.now) }
-    ensures err { OnErr result (WritesFront (K.contents sink.old) (K.contents sink.new) bytes.now) }
+    ensures ok { OnOk result (Appends (K.log sink.old).contents (K.log sink.new).contents bytes.now) }
+    ensures err { OnErr result (WritesFront (K.log sink.old).contents (K.log sink.new).contents bytes.now) }
     ensures fault { IfErr result (λ fault. fault ≡ CliFault.Write path) }
-    ensures told { TellsFailure (IsErrOf result (CliFault.Write path)) (K.failures sink.old) (K.failures sink.new)
-        (K.broken sink.old) (K.broken sink.new) }
-    ensures same_reference { K.reference sink.new ≡ K.reference sink.old }
+    ensures told { TellsFailure (IsErrOf result (CliFault.Write path)) (K.log sink.old).tries.failures (K.log sink.new).tries.failures
+        (K.log sink.old).tries.broken (K.log sink.new).tries.broken }
+    ensures same_reference { (K.log sink.new).reference ≡ (K.log sink.old).reference }
 {
     match write_field(sink, bytes) {
         Ok(()) => Ok(()),
@@ -99,16 +97,16 @@ pub(crate) fn write_both<O: Sink, W: Sink>(
     output: &mut W,
     text: &str,
 ) -> Result<(), CliFault>
-    ensures file { OnOk result (Appends (O.contents out.old) (O.contents out.new) file.now) }
-    ensures text { OnOk result (Appends (W.contents output.old) (W.contents output.new) text.now) }
+    ensures file { OnOk result (Appends (O.log out.old).contents (O.log out.new).contents file.now) }
+    ensures text { OnOk result (Appends (W.log output.old).contents (W.log output.new).contents text.now) }
     ensures err { IfErr result (WriteStops file.now text.now
-        (O.contents out.old) (O.contents out.new) (W.contents output.old) (W.contents output.new)) }
-    ensures out_told { TellsFailure (IsErrOf result (CliFault.Write CommandPath.Out)) (O.failures out.old) (O.failures out.new)
-        (O.broken out.old) (O.broken out.new) }
-    ensures output_told { TellsFailure (IsErrOf result (CliFault.Write CommandPath.StandardOutput)) (W.failures output.old) (W.failures output.new)
-        (W.broken output.old) (W.broken output.new) }
-    ensures same_out { O.reference out.new ≡ O.reference out.old }
-    ensures same_output { W.reference output.new ≡ W.reference output.old }
+        (O.log out.old).contents (O.log out.new).contents (W.log output.old).contents (W.log output.new).contents) }
+    ensures out_told { TellsFailure (IsErrOf result (CliFault.Write CommandPath.Out)) (O.log out.old).tries.failures (O.log out.new).tries.failures
+        (O.log out.old).tries.broken (O.log out.new).tries.broken }
+    ensures output_told { TellsFailure (IsErrOf result (CliFault.Write CommandPath.StandardOutput)) (W.log output.old).tries.failures (W.log output.new).tries.failures
+        (W.log output.old).tries.broken (W.log output.new).tries.broken }
+    ensures same_out { (O.log out.new).reference ≡ (O.log out.old).reference }
+    ensures same_output { (W.log output.new).reference ≡ (W.log output.old).reference }
 {
     write_file(out, CommandPath::Out, file)?;
     write_file(output, CommandPath::StandardOutput, text.as_bytes())

@@ -12,8 +12,8 @@ use thiserror::Error;
 /// A fault of a command. That of a device says which path of the command it is.
 #[derive(Debug, Drop, Error)]
 pub enum CliFault {
-    /// The file could not be opened or read; or it is a record, the payload of `chain` or `decode` or a copy of `splice`,
-    /// and longer than 2^30 bytes.
+    /// The file could not be opened or read; or it is a record, the payload of `chain` or `decode`, a copy of `splice` or the
+    /// list of ranges of `scan`, and longer than 2^30 bytes; or it is the file of `scan`, and ends before a range does.
     #[error("{0:?} was not read")]
     Read(CommandPath),
     /// The file could not be made or written; or it is the one that `merge` makes, and an input by the same word.
@@ -39,6 +39,10 @@ pub enum CliFault {
     /// Several slices of this tile have the least error_status, and every earlier tile is settled.
     #[error("disputed tile {0}")]
     Disputed(usize),
+    /// The line with this number, counted from 1, is the first of a list of ranges that is no range, or begins before the end of
+    /// the one before it.
+    #[error("ranges fault {0}")]
+    Ranges(usize),
     /// The copy is not as long as the first one.
     #[error("{0:?} was not spliced")]
     Splice(CommandPath),
@@ -85,6 +89,7 @@ impl CliFault {
             CliFault::Missing(tile) => format!(in alloc; "missing tile {tile}"),
             CliFault::Disputed(tile) => format!(in alloc; "disputed tile {tile}"),
             CliFault::Splice(_) => format!(in alloc; "cannot splice {path}"),
+            CliFault::Ranges(line) => format!(in alloc; "ranges fault {line}"),
             CliFault::Memory => String::from_str(alloc, "memory"),
             CliFault::Words => String::from_str(alloc, "words refused"),
         }

@@ -1,6 +1,6 @@
 //! The command `join`: makes the holding file of the union of holding files (own).
 ghost use Rattle.std.specs.Prelude.{◌≡◌, ◌+◌, ◌<◌, ◌≤◌, ◌^◌, [], ◌∷◌, ◌++◌, length, map, IfOk, IfErr, IsErrOf, OnOk, string_bytes};
-ghost use Rattle.ffv1_hold.specs.Streams.{HasFailed};
+ghost use Rattle.ffv1_devices.specs.Logs.{HasFailed};
 ghost use Rattle.ffv1_commands.specs.Fault.{NamesPath};
 ghost use Rattle.ffv1_commands.specs.Paths.{IsJoinPath};
 ghost use Rattle.ffv1_commands.specs.Devices.{UnlessWriting, TellsFailure};
@@ -58,20 +58,20 @@ fn join_of<F: Source, R: Read, O: Sink, W: Sink>(
     output: &mut W,
 ) -> Result<(), CliFault>
     requires { length others.old < 2 ^ 63 }
-    ensures ok { OnOk result (JoinsFiles (F.remaining first.old ∷ map R.remaining others.old)
-        (O.contents out.old) (O.contents out.new) (W.contents output.old) (W.contents output.new)) }
-    ensures err { IfErr result (JoinStops (F.remaining first.old ∷ map R.remaining others.old)
-        (O.contents out.old) (O.contents out.new) (W.contents output.old) (W.contents output.new)) }
+    ensures ok { OnOk result (JoinsFiles ((F.log first.old).remaining ∷ map R.remaining others.old)
+        (O.log out.old).contents (O.log out.new).contents (W.log output.old).contents (W.log output.new).contents) }
+    ensures err { IfErr result (JoinStops ((F.log first.old).remaining ∷ map R.remaining others.old)
+        (O.log out.old).contents (O.log out.new).contents (W.log output.old).contents (W.log output.new).contents) }
     ensures untouched { IfErr result (λ fault. UnlessWriting fault ((out.new ≡ out.old) × (output.new ≡ output.old))) }
     ensures names { IfErr result (NamesPath (IsJoinPath (length others.old + 1))) }
 
-    ensures first_failed { IsErrOf result (CliFault.Read (CommandPath.Hold 0)) → HasFailed (F.failures first.old) (F.failures first.new) }
-    ensures out_told { TellsFailure (IsErrOf result (CliFault.Write CommandPath.Out)) (O.failures out.old) (O.failures out.new)
-        (O.broken out.old) (O.broken out.new) }
-    ensures output_told { TellsFailure (IsErrOf result (CliFault.Write CommandPath.StandardOutput)) (W.failures output.old) (W.failures output.new)
-        (W.broken output.old) (W.broken output.new) }
-    ensures same_out { O.reference out.new ≡ O.reference out.old }
-    ensures same_output { W.reference output.new ≡ W.reference output.old }
+    ensures first_failed { IsErrOf result (CliFault.Read (CommandPath.Hold 0)) → HasFailed (F.log first.old).tries.failures (F.log first.new).tries.failures }
+    ensures out_told { TellsFailure (IsErrOf result (CliFault.Write CommandPath.Out)) (O.log out.old).tries.failures (O.log out.new).tries.failures
+        (O.log out.old).tries.broken (O.log out.new).tries.broken }
+    ensures output_told { TellsFailure (IsErrOf result (CliFault.Write CommandPath.StandardOutput)) (W.log output.old).tries.failures (W.log output.new).tries.failures
+        (W.log output.old).tries.broken (W.log output.new).tries.broken }
+    ensures same_out { (O.log out.new).reference ≡ (O.log out.old).reference }
+    ensures same_output { (W.log output.new).reference ≡ (W.log output.old).reference }
 {
     let mut lines = String::new(alloc);
     let whole = join_files(alloc, first, others, &mut lines)?;
@@ -87,9 +87,9 @@ fn join_files<F: Source, R: Read>(
 ) -> Result<Holding, CliFault>
     requires few { length others.old < 2 ^ 63 }
     requires none { string_bytes lines.old ≡ [] }
-    ensures ok { IfOk result (λ whole. JoinsEach (F.remaining first.old ∷ map R.remaining others.old) whole (string_bytes lines.new)) }
-    ensures err { IfErr result (IsFaultOfFiles (F.remaining first.old ∷ map R.remaining others.old)) }
-    ensures first_failed { IsErrOf result (CliFault.Read (CommandPath.Hold 0)) → HasFailed (F.failures first.old) (F.failures first.new) }
+    ensures ok { IfOk result (λ whole. JoinsEach ((F.log first.old).remaining ∷ map R.remaining others.old) whole (string_bytes lines.new)) }
+    ensures err { IfErr result (IsFaultOfFiles ((F.log first.old).remaining ∷ map R.remaining others.old)) }
+    ensures first_failed { IsErrOf result (CliFault.Read (CommandPath.Hold 0)) → HasFailed (F.log first.old).tries.failures (F.log first.new).tries.failures }
 {
     let mut whole = read_holding(alloc, first, CommandPath::Hold(0))?;
     push_file(lines, 1, whole.size())?;
@@ -124,9 +124,9 @@ fn join_file_of<R: Source>(
     lines: &mut String,
 ) -> Result<(), CliFault>
     requires { before < 2 ^ 63 }
-    ensures ok { OnOk result (JoinsOne (R.remaining file.old) (before + 1) whole.old whole.new (string_bytes lines.old) (string_bytes lines.new)) }
-    ensures err { IfErr result (IsJoinFault (CommandPath.Hold before) (R.remaining file.old) whole.old) }
-    ensures failed { IsErrOf result (CliFault.Read (CommandPath.Hold before)) → HasFailed (R.failures file.old) (R.failures file.new) }
+    ensures ok { OnOk result (JoinsOne (R.log file.old).remaining (before + 1) whole.old whole.new (string_bytes lines.old) (string_bytes lines.new)) }
+    ensures err { IfErr result (IsJoinFault (CommandPath.Hold before) (R.log file.old).remaining whole.old) }
+    ensures failed { IsErrOf result (CliFault.Read (CommandPath.Hold before)) → HasFailed (R.log file.old).tries.failures (R.log file.new).tries.failures }
 {
     let other = read_holding(alloc, file, CommandPath::Hold(before))?;
     let new = whole.join_with(&other)?;

@@ -2,8 +2,7 @@
 //! and so takes no memory but what it has from the start.
 ghost use Rattle.std.specs.Prelude.{◌≡◌, ◌+◌, ◌≤◌, ◌++◌, length, OnOk, OnErr, string_bytes, string_len, string_capacity};
 ghost use Rattle.std.specs.Fmt.{decimal};
-ghost use Rattle.ffv1_hold.specs.Streams.{HasGivenUp};
-ghost use Rattle.ffv1_commands.specs.Devices.{WritesFront};
+ghost use Rattle.ffv1_devices.specs.Logs.{StopsWriting};
 ghost use Rattle.ffv1_commands.specs.Lines.{room, longest_line, PrintsFront};
 
 use ffv1_hold::{Sink, WriteFailed, write_field};
@@ -18,15 +17,10 @@ const LONGEST_LINE: usize = 102;
 /// Prints what waits in a text where a line might not find room behind it.
 pub(crate) fn make_room<W: Sink>(text: &mut String, output: &mut W) -> Result<(), WriteFailed>
     requires { room ≤ string_capacity text.old }
-    ensures ok { OnOk result (PrintsFront (W.contents output.old) (W.contents output.new) (string_bytes text.new) (string_bytes text.old)) }
+    ensures ok { OnOk result (PrintsFront (W.log output.old) (W.log output.new) (string_bytes text.new) (string_bytes text.old)) }
     ensures free { OnOk result (string_len text.new + longest_line ≤ string_capacity text.new) }
-    ensures err { OnErr result (WritesFront (W.contents output.old) (W.contents output.new) (string_bytes text.old)) }
+    ensures err { OnErr result (StopsWriting (W.log output.old) (W.log output.new) (string_bytes text.old)) }
     ensures large { room ≤ string_capacity text.new }
-    ensures gave_up { OnErr result (HasGivenUp (W.failures output.old) (W.failures output.new) (W.broken output.old) (W.broken output.new)) }
-    ensures unbroken { OnOk result (W.broken output.new ≡ W.broken output.old) }
-    ensures broken_once { W.broken output.new ≤ W.broken output.old + 1 }
-    ensures counted { W.failures output.old ≤ W.failures output.new }
-    ensures same_reference { W.reference output.new ≡ W.reference output.old }
 {
     if text.len() <= ROOM - LONGEST_LINE {
         return Ok(());

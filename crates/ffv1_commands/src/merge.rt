@@ -1,7 +1,7 @@
 //! The command `merge`: makes the holding file of the union of two holding files, which are read as streams (own).
 ghost use Rattle.std.specs.Prelude.{◌≡◌, ◌⊎◌, IfErr, IsErrOf, OnOk};
 ghost use Rattle.ffv1_bits.specs.Limits.{file_limit};
-ghost use Rattle.ffv1_hold.specs.Streams.{HasFailed};
+ghost use Rattle.ffv1_devices.specs.Logs.{HasFailed};
 ghost use Rattle.ffv1_hold.specs.Reels.{Reel};
 ghost use Rattle.ffv1_hold.specs.Contents.{Contents, IsSameReel, joined};
 ghost use Rattle.ffv1_hold.specs.declared.version.Version.{Version};
@@ -57,22 +57,22 @@ fn merge_of<R: Source, Q: Source, O: Sink>(
     right: &mut Q,
     out: &mut O,
 ) -> Result<(), CliFault>
-    ensures ok { OnOk result (MergesFiles (R.remaining left.old) (Q.remaining right.old) (O.contents out.old) (O.contents out.new)) }
-    ensures err { IfErr result (IsMergeFault (R.remaining left.old) (Q.remaining right.old)) }
-    ensures leaves { IfErr result (MergeLeaves (R.remaining left.old) (Q.remaining right.old) (O.contents out.old) (O.contents out.new)) }
-    ensures most { WritesAtMost (O.contents out.old) (O.contents out.new) file_limit }
+    ensures ok { OnOk result (MergesFiles (R.log left.old).remaining (Q.log right.old).remaining (O.log out.old).contents (O.log out.new).contents) }
+    ensures err { IfErr result (IsMergeFault (R.log left.old).remaining (Q.log right.old).remaining) }
+    ensures leaves { IfErr result (MergeLeaves (R.log left.old).remaining (Q.log right.old).remaining (O.log out.old).contents (O.log out.new).contents) }
+    ensures most { WritesAtMost (O.log out.old).contents (O.log out.new).contents file_limit }
 
-    ensures only { (v w : Version) (g h : Contents) → IsSameReel g h → IsFileOf (R.remaining left.old) v g → IsFileOf (Q.remaining right.old) w h
+    ensures only { (v w : Version) (g h : Contents) → IsSameReel g h → IsFileOf (R.log left.old).remaining v g → IsFileOf (Q.log right.old).remaining w h
         → AnswersFiles (joined g h) result }
-    ensures other { (g h : Reel) → BeginsWithHead (R.remaining left.old) g → BeginsWithHead (Q.remaining right.old) h → ¬ (g ≡ h)
+    ensures other { (g h : Reel) → BeginsWithHead (R.log left.old).remaining g → BeginsWithHead (Q.log right.old).remaining h → ¬ (g ≡ h)
         → AnswersOtherHeads result }
     ensures untouched { IsErrOf result (CliFault.HoldFile HoldFileFault.OtherReel) → out.new ≡ out.old }
     ensures names { IfErr result (NamesPath IsMergePath) }
 
     ensures inputs_failed { IsErrOf result (CliFault.Read CommandPath.Inputs)
-        → HasFailed (R.failures left.old) (R.failures left.new) ⊎ HasFailed (Q.failures right.old) (Q.failures right.new) }
-    ensures out_failed { IsErrOf result (CliFault.Write CommandPath.Out) → HasFailed (O.failures out.old) (O.failures out.new) }
-    ensures same_out { O.reference out.new ≡ O.reference out.old }
+        → HasFailed (R.log left.old).tries.failures (R.log left.new).tries.failures ⊎ HasFailed (Q.log right.old).tries.failures (Q.log right.new).tries.failures }
+    ensures out_failed { IsErrOf result (CliFault.Write CommandPath.Out) → HasFailed (O.log out.old).tries.failures (O.log out.new).tries.failures }
+    ensures same_out { (O.log out.new).reference ≡ (O.log out.old).reference }
 {
     match join_streams(alloc, left, right, out) {
         Ok(()) => Ok(()),

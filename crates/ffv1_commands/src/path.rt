@@ -11,6 +11,10 @@ pub enum CommandPath {
     Copy(usize),
     /// The holding file before which stand so many others.
     Hold(usize),
+    /// The list of ranges of `scan`.
+    Ranges,
+    /// The file of which `scan` judges ranges.
+    File,
     /// Both holding files of `merge`, which are read together.
     Inputs,
     /// The file that is made.

@@ -1,6 +1,6 @@
 //! The command `picture`: writes what can be shown of a holding file (own).
 ghost use Rattle.std.specs.Prelude.{◌≡◌, ◌++◌, ◌<◌, ◌^◌, ◌↔◌, All, IsTrue, IfOk, IfErr, IsErrOf, OnOk, length, string_bytes};
-ghost use Rattle.ffv1_hold.specs.Streams.{HasFailed};
+ghost use Rattle.ffv1_devices.specs.Logs.{HasFailed};
 ghost use Rattle.ffv1_commands.specs.Fault.{NamesPath};
 ghost use Rattle.ffv1_commands.specs.Paths.{IsHoldPath};
 ghost use Rattle.ffv1_commands.specs.Devices.{UnlessWriting, TellsFailure};
@@ -52,18 +52,18 @@ fn picture_of<R: Source, O: Sink, W: Sink>(
     out: &mut O,
     output: &mut W,
 ) -> Result<bool, CliFault>
-    ensures ok { IfOk result (ShowsFile (R.remaining file.old) (O.contents out.old) (O.contents out.new) (W.contents output.old) (W.contents output.new)) }
-    ensures err { IfErr result (PictureStops (R.remaining file.old) (O.contents out.old) (O.contents out.new) (W.contents output.old) (W.contents output.new)) }
+    ensures ok { IfOk result (ShowsFile (R.log file.old).remaining (O.log out.old).contents (O.log out.new).contents (W.log output.old).contents (W.log output.new).contents) }
+    ensures err { IfErr result (PictureStops (R.log file.old).remaining (O.log out.old).contents (O.log out.new).contents (W.log output.old).contents (W.log output.new).contents) }
     ensures untouched { IfErr result (λ fault. UnlessWriting fault ((out.new ≡ out.old) × (output.new ≡ output.old))) }
     ensures names { IfErr result (NamesPath IsHoldPath) }
 
-    ensures file_failed { IsErrOf result (CliFault.Read (CommandPath.Hold 0)) → HasFailed (R.failures file.old) (R.failures file.new) }
-    ensures out_told { TellsFailure (IsErrOf result (CliFault.Write CommandPath.Out)) (O.failures out.old) (O.failures out.new)
-        (O.broken out.old) (O.broken out.new) }
-    ensures output_told { TellsFailure (IsErrOf result (CliFault.Write CommandPath.StandardOutput)) (W.failures output.old) (W.failures output.new)
-        (W.broken output.old) (W.broken output.new) }
-    ensures same_out { O.reference out.new ≡ O.reference out.old }
-    ensures same_output { W.reference output.new ≡ W.reference output.old }
+    ensures file_failed { IsErrOf result (CliFault.Read (CommandPath.Hold 0)) → HasFailed (R.log file.old).tries.failures (R.log file.new).tries.failures }
+    ensures out_told { TellsFailure (IsErrOf result (CliFault.Write CommandPath.Out)) (O.log out.old).tries.failures (O.log out.new).tries.failures
+        (O.log out.old).tries.broken (O.log out.new).tries.broken }
+    ensures output_told { TellsFailure (IsErrOf result (CliFault.Write CommandPath.StandardOutput)) (W.log output.old).tries.failures (W.log output.new).tries.failures
+        (W.log output.old).tries.broken (W.log output.new).tries.broken }
+    ensures same_out { (O.log out.new).reference ≡ (O.log out.old).reference }
+    ensures same_output { (W.log output.new).reference ≡ (W.log output.old).reference }
 {
     let holding = read_holding(alloc, file, CommandPath::Hold(0))?;
     let partial = picture(alloc, &holding)?;

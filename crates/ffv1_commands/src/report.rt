@@ -1,6 +1,6 @@
 //! The command `report`: prints the damage report of a holding file (own).
 ghost use Rattle.std.specs.Prelude.{◌≡◌, IfErr, IsErrOf, OnOk};
-ghost use Rattle.ffv1_hold.specs.Streams.{HasFailed};
+ghost use Rattle.ffv1_devices.specs.Logs.{HasFailed};
 ghost use Rattle.ffv1_commands.specs.Fault.{NamesPath};
 ghost use Rattle.ffv1_commands.specs.Paths.{IsReportPath};
 ghost use Rattle.ffv1_commands.specs.Devices.{UnlessWriting, TellsFailure};
@@ -41,15 +41,15 @@ fn report_of<R: Source, W: Sink>(
     file: &mut R,
     output: &mut W,
 ) -> Result<(), CliFault>
-    ensures ok { OnOk result (ReportsFile (R.remaining file.old) (W.contents output.old) (W.contents output.new)) }
-    ensures err { IfErr result (ReportStops (R.remaining file.old) (W.contents output.old) (W.contents output.new)) }
+    ensures ok { OnOk result (ReportsFile (R.log file.old).remaining (W.log output.old).contents (W.log output.new).contents) }
+    ensures err { IfErr result (ReportStops (R.log file.old).remaining (W.log output.old).contents (W.log output.new).contents) }
     ensures untouched { IfErr result (λ fault. UnlessWriting fault (output.new ≡ output.old)) }
     ensures names { IfErr result (NamesPath IsReportPath) }
 
-    ensures file_failed { IsErrOf result (CliFault.Read (CommandPath.Hold 0)) → HasFailed (R.failures file.old) (R.failures file.new) }
-    ensures output_told { TellsFailure (IsErrOf result (CliFault.Write CommandPath.StandardOutput)) (W.failures output.old) (W.failures output.new)
-        (W.broken output.old) (W.broken output.new) }
-    ensures same_output { W.reference output.new ≡ W.reference output.old }
+    ensures file_failed { IsErrOf result (CliFault.Read (CommandPath.Hold 0)) → HasFailed (R.log file.old).tries.failures (R.log file.new).tries.failures }
+    ensures output_told { TellsFailure (IsErrOf result (CliFault.Write CommandPath.StandardOutput)) (W.log output.old).tries.failures (W.log output.new).tries.failures
+        (W.log output.old).tries.broken (W.log output.new).tries.broken }
+    ensures same_output { (W.log output.new).reference ≡ (W.log output.old).reference }
 {
     let holding = read_holding(alloc, file, CommandPath::Hold(0))?;
     let text = report(alloc, &holding)?;

@@ -12,12 +12,12 @@ use ffv1_picture::{Frame, WriteFault, write_raw};
 
 /// Writes the samples of a frame to OUT, or a front of them where that fails.
 fn write_frame<O: Sink>(out: &mut O, frame: &Frame) -> Result<(), CliFault>
-    ensures ok { OnOk result (Appends (O.contents out.old) (O.contents out.new) (raw_bytes frame.now)) }
-    ensures err { OnErr result (WritesFront (O.contents out.old) (O.contents out.new) (raw_bytes frame.now)) }
+    ensures ok { OnOk result (Appends (O.log out.old).contents (O.log out.new).contents (raw_bytes frame.now)) }
+    ensures err { OnErr result (WritesFront (O.log out.old).contents (O.log out.new).contents (raw_bytes frame.now)) }
     ensures fault { IfErr result (λ fault. fault ≡ CliFault.Write CommandPath.Out) }
-    ensures told { TellsFailure (IsErrOf result (CliFault.Write CommandPath.Out)) (O.failures out.old) (O.failures out.new)
-        (O.broken out.old) (O.broken out.new) }
-    ensures same_reference { O.reference out.new ≡ O.reference out.old }
+    ensures told { TellsFailure (IsErrOf result (CliFault.Write CommandPath.Out)) (O.log out.old).tries.failures (O.log out.new).tries.failures
+        (O.log out.old).tries.broken (O.log out.new).tries.broken }
+    ensures same_reference { (O.log out.new).reference ≡ (O.log out.old).reference }
 {
     match write_raw(frame, out) {
         Ok(()) => Ok(()),
@@ -32,16 +32,16 @@ pub(crate) fn write_shown<O: Sink, W: Sink>(
     output: &mut W,
     text: &str,
 ) -> Result<(), CliFault>
-    ensures samples { OnOk result (Appends (O.contents out.old) (O.contents out.new) (raw_bytes frame.now)) }
-    ensures text { OnOk result (Appends (W.contents output.old) (W.contents output.new) text.now) }
+    ensures samples { OnOk result (Appends (O.log out.old).contents (O.log out.new).contents (raw_bytes frame.now)) }
+    ensures text { OnOk result (Appends (W.log output.old).contents (W.log output.new).contents text.now) }
     ensures err { IfErr result (WriteStops (raw_bytes frame.now) text.now
-        (O.contents out.old) (O.contents out.new) (W.contents output.old) (W.contents output.new)) }
-    ensures out_told { TellsFailure (IsErrOf result (CliFault.Write CommandPath.Out)) (O.failures out.old) (O.failures out.new)
-        (O.broken out.old) (O.broken out.new) }
-    ensures output_told { TellsFailure (IsErrOf result (CliFault.Write CommandPath.StandardOutput)) (W.failures output.old) (W.failures output.new)
-        (W.broken output.old) (W.broken output.new) }
-    ensures same_out { O.reference out.new ≡ O.reference out.old }
-    ensures same_output { W.reference output.new ≡ W.reference output.old }
+        (O.log out.old).contents (O.log out.new).contents (W.log output.old).contents (W.log output.new).contents) }
+    ensures out_told { TellsFailure (IsErrOf result (CliFault.Write CommandPath.Out)) (O.log out.old).tries.failures (O.log out.new).tries.failures
+        (O.log out.old).tries.broken (O.log out.new).tries.broken }
+    ensures output_told { TellsFailure (IsErrOf result (CliFault.Write CommandPath.StandardOutput)) (W.log output.old).tries.failures (W.log output.new).tries.failures
+        (W.log output.old).tries.broken (W.log output.new).tries.broken }
+    ensures same_out { (O.log out.new).reference ≡ (O.log out.old).reference }
+    ensures same_output { (W.log output.new).reference ≡ (W.log output.old).reference }
 {
     write_frame(out, frame)?;
     write_file(output, CommandPath::StandardOutput, text.as_bytes())

@@ -55,18 +55,18 @@ fn show_of<R: Source, W: Sink>(
     height: u32,
     output: &mut W,
 ) -> Result<(), CliFault>
-    ensures ok { OnOk result (IfSome (R.remaining input.old)
-        (λ config. PrintsSetup config width height (W.contents output.old) (W.contents output.new))) }
-    ensures few { OnOk result (IfSome (R.remaining input.old) (λ config. length config ≤ payload_limit)) }
-    ensures err { IfErr result (ShowStops width height (R.remaining input.old) (W.contents output.old) (W.contents output.new)) }
+    ensures ok { OnOk result (IfSome (R.log input.old).remaining
+        (λ config. PrintsSetup config width height (W.log output.old).contents (W.log output.new).contents)) }
+    ensures few { OnOk result (IfSome (R.log input.old).remaining (λ config. length config ≤ payload_limit)) }
+    ensures err { IfErr result (ShowStops width height (R.log input.old).remaining (W.log output.old).contents (W.log output.new).contents) }
     ensures untouched { IfErr result (λ fault. UnlessWriting fault (output.new ≡ output.old)) }
     ensures names { IfErr result (NamesPath IsShowPath) }
 
-    ensures input_told { TellsFile (IsErrOf result (CliFault.Read CommandPath.Record)) (R.failures input.old) (R.failures input.new)
-        (R.broken input.old) (R.broken input.new) (R.taken input.old) (R.taken input.new) }
-    ensures output_told { TellsFailure (IsErrOf result (CliFault.Write CommandPath.StandardOutput)) (W.failures output.old) (W.failures output.new)
-        (W.broken output.old) (W.broken output.new) }
-    ensures same_output { W.reference output.new ≡ W.reference output.old }
+    ensures input_told { TellsFile (IsErrOf result (CliFault.Read CommandPath.Record)) (R.log input.old).tries.failures (R.log input.new).tries.failures
+        (R.log input.old).tries.broken (R.log input.new).tries.broken (R.log input.old).taken (R.log input.new).taken }
+    ensures output_told { TellsFailure (IsErrOf result (CliFault.Write CommandPath.StandardOutput)) (W.log output.old).tries.failures (W.log output.new).tries.failures
+        (W.log output.old).tries.broken (W.log output.new).tries.broken }
+    ensures same_output { (W.log output.new).reference ≡ (W.log output.old).reference }
 {
     let config = read_file(alloc, input, CommandPath::Record)?;
     let setup = Setup::read(alloc, config.as_slice(), width, height)?;
@@ -75,13 +75,13 @@ fn show_of<R: Source, W: Sink>(
 
 /// Prints a setup.
 fn print_setup<W: Sink>(alloc: Global, setup: &Setup, output: &mut W) -> Result<(), CliFault>
-    ensures ok { OnOk result (Appends (W.contents output.old) (W.contents output.new) (show_text setup.now)) }
-    ensures err { IfErr result (PrintStops (show_text setup.now) (W.contents output.old) (W.contents output.new)) }
+    ensures ok { OnOk result (Appends (W.log output.old).contents (W.log output.new).contents (show_text setup.now)) }
+    ensures err { IfErr result (PrintStops (show_text setup.now) (W.log output.old).contents (W.log output.new).contents) }
     ensures untouched { IfErr result (λ fault. UnlessWriting fault (output.new ≡ output.old)) }
     ensures names { IfErr result (NamesPath IsShowPath) }
-    ensures told { TellsFailure (IsErrOf result (CliFault.Write CommandPath.StandardOutput)) (W.failures output.old) (W.failures output.new)
-        (W.broken output.old) (W.broken output.new) }
-    ensures same_output { W.reference output.new ≡ W.reference output.old }
+    ensures told { TellsFailure (IsErrOf result (CliFault.Write CommandPath.StandardOutput)) (W.log output.old).tries.failures (W.log output.new).tries.failures
+        (W.log output.old).tries.broken (W.log output.new).tries.broken }
+    ensures same_output { (W.log output.new).reference ≡ (W.log output.old).reference }
 {
     let text = setup_text(alloc, setup)?;
     write_file(output, CommandPath::StandardOutput, text.as_bytes())

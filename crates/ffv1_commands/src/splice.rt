@@ -54,18 +54,18 @@ fn splice_of<C: Read, O: Sink, W: Sink>(
 ) -> Result<bool, CliFault>
     requires { 0 < length copies.old }
     ensures ok { IfOk result (SplicesCopies (map C.remaining copies.old)
-        (O.contents out.old) (O.contents out.new) (W.contents output.old) (W.contents output.new)) }
+        (O.log out.old).contents (O.log out.new).contents (W.log output.old).contents (W.log output.new).contents) }
     ensures err { IfErr result (SpliceStops (map C.remaining copies.old)
-        (O.contents out.old) (O.contents out.new) (W.contents output.old) (W.contents output.new)) }
+        (O.log out.old).contents (O.log out.new).contents (W.log output.old).contents (W.log output.new).contents) }
     ensures untouched { IfErr result (λ fault. UnlessWriting fault ((out.new ≡ out.old) × (output.new ≡ output.old))) }
     ensures names { IfErr result (NamesPath (IsSplicePath (length copies.old))) }
 
-    ensures out_told { TellsFailure (IsErrOf result (CliFault.Write CommandPath.Out)) (O.failures out.old) (O.failures out.new)
-        (O.broken out.old) (O.broken out.new) }
-    ensures output_told { TellsFailure (IsErrOf result (CliFault.Write CommandPath.StandardOutput)) (W.failures output.old) (W.failures output.new)
-        (W.broken output.old) (W.broken output.new) }
-    ensures same_out { O.reference out.new ≡ O.reference out.old }
-    ensures same_output { W.reference output.new ≡ W.reference output.old }
+    ensures out_told { TellsFailure (IsErrOf result (CliFault.Write CommandPath.Out)) (O.log out.old).tries.failures (O.log out.new).tries.failures
+        (O.log out.old).tries.broken (O.log out.new).tries.broken }
+    ensures output_told { TellsFailure (IsErrOf result (CliFault.Write CommandPath.StandardOutput)) (W.log output.old).tries.failures (W.log output.new).tries.failures
+        (W.log output.old).tries.broken (W.log output.new).tries.broken }
+    ensures same_out { (O.log out.new).reference ≡ (O.log out.old).reference }
+    ensures same_output { (W.log output.new).reference ≡ (W.log output.old).reference }
 {
     let read = read_copies(alloc, copies)?;
     let spliced = spliced_of(alloc, read.as_slice())?;

@@ -3,7 +3,7 @@
 ghost use Rattle.std.specs.Prelude.{◌≡◌, ◌≢◌, ◌+◌, ◌<◌, ◌≤◌, ◌^◌, ◌++◌, length, map, IfOk, IfErr, IsErrOf, OnOk, string_bytes};
 ghost use Rattle.ffv1_bits.specs.Limits.{payload_limit};
 ghost use Rattle.ffv1_hold.specs.Contents.{no_slices};
-ghost use Rattle.ffv1_hold.specs.Streams.{HasCounted};
+ghost use Rattle.ffv1_devices.specs.Logs.{HasCounted};
 ghost use Rattle.ffv1_commands.specs.Fault.{NamesPath};
 ghost use Rattle.ffv1_commands.specs.Paths.{IsTakePath};
 ghost use Rattle.ffv1_commands.specs.Devices.{IfOfRecord, IsCopyFault, UnlessWriting, TellsFailure, TellsFile};
@@ -68,22 +68,22 @@ fn take_of<R: Source, C: Read, O: Sink, W: Sink>(
     output: &mut W,
 ) -> Result<(), CliFault>
     requires { length copies.old < 2 ^ 63 }
-    ensures ok { OnOk result (TakesCopies (R.remaining configuration.old) width height (map C.remaining copies.old)
-        (O.contents out.old) (O.contents out.new) (W.contents output.old) (W.contents output.new)) }
-    ensures err { IfErr result (TakeStops (R.remaining configuration.old) width height (map C.remaining copies.old)
-        (O.contents out.old) (O.contents out.new) (W.contents output.old) (W.contents output.new)) }
+    ensures ok { OnOk result (TakesCopies (R.log configuration.old).remaining width height (map C.remaining copies.old)
+        (O.log out.old).contents (O.log out.new).contents (W.log output.old).contents (W.log output.new).contents) }
+    ensures err { IfErr result (TakeStops (R.log configuration.old).remaining width height (map C.remaining copies.old)
+        (O.log out.old).contents (O.log out.new).contents (W.log output.old).contents (W.log output.new).contents) }
     ensures untouched { IfErr result (λ fault. UnlessWriting fault ((out.new ≡ out.old) × (output.new ≡ output.old))) }
     ensures in_turn { IfErr result (λ fault. IfOfRecord fault (copies.new ≡ copies.old)) }
     ensures names { IfErr result (NamesPath (IsTakePath (length copies.old))) }
 
-    ensures record_told { TellsFile (IsErrOf result (CliFault.Read CommandPath.Record)) (R.failures configuration.old) (R.failures configuration.new)
-        (R.broken configuration.old) (R.broken configuration.new) (R.taken configuration.old) (R.taken configuration.new) }
-    ensures out_told { TellsFailure (IsErrOf result (CliFault.Write CommandPath.Out)) (O.failures out.old) (O.failures out.new)
-        (O.broken out.old) (O.broken out.new) }
-    ensures output_told { TellsFailure (IsErrOf result (CliFault.Write CommandPath.StandardOutput)) (W.failures output.old) (W.failures output.new)
-        (W.broken output.old) (W.broken output.new) }
-    ensures same_out { O.reference out.new ≡ O.reference out.old }
-    ensures same_output { W.reference output.new ≡ W.reference output.old }
+    ensures record_told { TellsFile (IsErrOf result (CliFault.Read CommandPath.Record)) (R.log configuration.old).tries.failures (R.log configuration.new).tries.failures
+        (R.log configuration.old).tries.broken (R.log configuration.new).tries.broken (R.log configuration.old).taken (R.log configuration.new).taken }
+    ensures out_told { TellsFailure (IsErrOf result (CliFault.Write CommandPath.Out)) (O.log out.old).tries.failures (O.log out.new).tries.failures
+        (O.log out.old).tries.broken (O.log out.new).tries.broken }
+    ensures output_told { TellsFailure (IsErrOf result (CliFault.Write CommandPath.StandardOutput)) (W.log output.old).tries.failures (W.log output.new).tries.failures
+        (W.log output.old).tries.broken (W.log output.new).tries.broken }
+    ensures same_out { (O.log out.new).reference ≡ (O.log out.old).reference }
+    ensures same_output { (W.log output.new).reference ≡ (W.log output.old).reference }
 {
     let config = read_file(alloc, configuration, CommandPath::Record)?;
     let mut holding = Holding::new(alloc, config.as_slice(), width, height)?;
@@ -135,13 +135,13 @@ fn take_copy_of<C: Source>(
     lines: &mut String,
 ) -> Result<(), CliFault>
     requires { before < 2 ^ 63 }
-    ensures ok { OnOk result (TakesOne (C.remaining copy.old) (before + 1) holding.old holding.new (string_bytes lines.old) (string_bytes lines.new)) }
+    ensures ok { OnOk result (TakesOne (C.log copy.old).remaining (before + 1) holding.old holding.new (string_bytes lines.old) (string_bytes lines.new)) }
     ensures reel { holding.new.reel ≡ holding.old.reel }
-    ensures err { IfErr result (IsCopyFault (CommandPath.Copy before) (C.remaining copy.old)) }
-    ensures copy_told { TellsFailure (IsErrOf result (CliFault.Read (CommandPath.Copy before))) (C.failures copy.old) (C.failures copy.new)
-        (C.broken copy.old) (C.broken copy.new) }
-    ensures too_long { IsErrOf result (CliFault.Hold HoldFault.PayloadTooLong) → HasCounted (payload_limit + 1) (C.taken copy.old) (C.taken copy.new) }
-    ensures within { (¬ IsErrOf result (CliFault.Hold HoldFault.PayloadTooLong)) → C.taken copy.new ≤ C.taken copy.old + payload_limit }
+    ensures err { IfErr result (IsCopyFault (CommandPath.Copy before) (C.log copy.old).remaining) }
+    ensures copy_told { TellsFailure (IsErrOf result (CliFault.Read (CommandPath.Copy before))) (C.log copy.old).tries.failures (C.log copy.new).tries.failures
+        (C.log copy.old).tries.broken (C.log copy.new).tries.broken }
+    ensures too_long { IsErrOf result (CliFault.Hold HoldFault.PayloadTooLong) → HasCounted (payload_limit + 1) (C.log copy.old).taken (C.log copy.new).taken }
+    ensures within { (¬ IsErrOf result (CliFault.Hold HoldFault.PayloadTooLong)) → (C.log copy.new).taken ≤ (C.log copy.old).taken + payload_limit }
 {
     let payload = read_copy(alloc, copy, CommandPath::Copy(before))?;
     let taken = holding.take(payload.as_slice())?;

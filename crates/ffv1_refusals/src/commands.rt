@@ -1,11 +1,11 @@
-//! The functions of the commands, each on a recorded frame. After a refusal nothing was written, but by `run_merge` a
-//! front of its file.
+//! The functions of the commands, each on a recorded frame. After a refusal nothing was written, except by `run_merge`
+//! a front of its file.
 use crate::attempt::{Attempt, Outcome};
 use crate::buffer::Buffer;
 use crate::stock::{FRAME, RECORD, SIZE, Stock, first_copy, second_copy, torn_copies};
 use ffv1_commands::{
     CliFault, run_chain, run_decode, run_join, run_merge, run_picture, run_report, run_restore,
-    run_show, run_splice, run_take,
+    run_scan, run_show, run_splice, run_take,
 };
 use std::alloc::Global;
 
@@ -64,6 +64,8 @@ pub enum Command {
     Picture,
     /// `run_splice` of both torn copies.
     Splice,
+    /// `run_scan` of the frame as one range.
+    Scan,
     /// `run_decode` of the frame.
     Decode,
 }
@@ -122,6 +124,13 @@ impl<'a> Run<'a> {
             Command::Splice => {
                 let [one, other] = torn_copies();
                 match run_splice(alloc, &mut [one.as_slice(), &other], made, printed) {
+                    Ok(_) => Ok(()),
+                    Err(fault) => Err(fault),
+                }
+            }
+            Command::Scan => {
+                let mut ranges = b"0 336\n".as_slice();
+                match run_scan(alloc, &mut ranges, &mut frame, printed) {
                     Ok(_) => Ok(()),
                     Err(fault) => Err(fault),
                 }

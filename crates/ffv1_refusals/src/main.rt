@@ -86,6 +86,7 @@ fn tell_commands(rt: &HostRuntime, stock: &Stock) -> io::Result<()> {
     tell(rt, "run_restore", Run::new(Command::Restore, stock))?;
     tell(rt, "run_picture", Run::new(Command::Picture, stock))?;
     tell(rt, "run_splice", Run::new(Command::Splice, stock))?;
+    tell(rt, "run_scan", Run::new(Command::Scan, stock))?;
     tell(rt, "run_decode", Run::new(Command::Decode, stock))
 }
 

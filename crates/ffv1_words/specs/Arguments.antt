@@ -5,7 +5,7 @@ use Rattle.clap.specs.Matches.{found_of, first_value, matched_of, raw_values}
 use Rattle.clap.specs.declared.parser.matches.ArgMatches.{ArgMatches}
 use Rattle.ffv1_words.specs.declared.words.Recording.{Recording}
 use Rattle.ffv1_words.specs.declared.words.Words.{Words}
-use Rattle.ffv1_words.specs.declared.words.Words.TheVariants.{Chain, Show, Take, Join, Merge, Report, Restore, Picture, Splice, Decode}
+use Rattle.ffv1_words.specs.declared.words.Words.TheVariants.{Chain, Scan, Show, Take, Join, Merge, Report, Restore, Picture, Splice, Decode}
 
 -- The first value of this name.
 abbrev pub IsWord : ArgMatches → List ℕ → List ℕ → Type 0
@@ -29,6 +29,7 @@ pub record IsRecording (matches : ArgMatches) (recording : Recording) : Type 0 w
 -- The words of a command have the values of its names, those of which there are several in their order.
 abbrev pub AreRead : ArgMatches → Words → Type 0
 AreRead matches (Chain frame) = IsWord matches (codes "FRAME") frame.now
+AreRead matches (Scan ranges file) = IsWord matches (codes "RANGES") ranges.now × IsWord matches (codes "FILE") file.now
 AreRead matches (Show recording) = IsRecording matches recording
 AreRead matches (Take recording out copies) =
     IsRecording matches recording × IsWord matches (codes "OUT") out.now × AreWords matches (codes "COPY") (map (λ copy. copy.now) copies.items)
@@ -46,6 +47,7 @@ AreRead matches (Decode recording frame out) =
 -- the name of a command
 abbrev pub command_name : Words → List ℕ
 command_name (Chain frame) = codes "chain"
+command_name (Scan ranges file) = codes "scan"
 command_name (Show recording) = codes "show"
 command_name (Take recording out copies) = codes "take"
 command_name (Join out first others) = codes "join"

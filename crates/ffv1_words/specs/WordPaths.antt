@@ -1,15 +1,16 @@
 -- The paths that the command of the words has.
 use Rattle.std.specs.Prelude.{ℕ, zero, suc, ◌+◌, ◌-◌, ◌==◌, if◌then◌else◌, List, [], map, slice_index_or, vec_len, codes}
 use Rattle.std.specs.Borrow.{Bor}
-use Rattle.ffv1_commands.specs.Paths.{IsChainPath, IsShowPath, IsTakePath, IsJoinPath, IsMergePath, IsReportPath, IsHoldPath, IsSplicePath, IsDecodePath}
+use Rattle.ffv1_commands.specs.Paths.{IsChainPath, IsScanPath, IsShowPath, IsTakePath, IsJoinPath, IsMergePath, IsReportPath, IsHoldPath, IsSplicePath, IsDecodePath}
 use Rattle.ffv1_commands.specs.declared.path.CommandPath.{CommandPath}
-use Rattle.ffv1_commands.specs.declared.path.CommandPath.TheVariants.{Record, Frame, Copy, Hold, Inputs, Out, StandardOutput}
+use Rattle.ffv1_commands.specs.declared.path.CommandPath.TheVariants.{Record, Frame, Copy, Hold, Ranges, File, Inputs, Out, StandardOutput}
 use Rattle.ffv1_words.specs.declared.words.Words.{Words}
-use Rattle.ffv1_words.specs.declared.words.Words.TheVariants.{Chain, Show, Take, Join, Merge, Report, Restore, Picture, Splice, Decode}
+use Rattle.ffv1_words.specs.declared.words.Words.TheVariants.{Chain, Scan, Show, Take, Join, Merge, Report, Restore, Picture, Splice, Decode}
 
 -- The command of the words has this path.
 abbrev pub IsPathOf : Words → CommandPath → Type 0
 IsPathOf (Chain frame) path = IsChainPath path
+IsPathOf (Scan ranges file) path = IsScanPath path
 IsPathOf (Show recording) path = IsShowPath path
 IsPathOf (Take recording out copies) path = IsTakePath (vec_len copies) path
 IsPathOf (Join out first others) path = IsJoinPath (vec_len others + 1) path
@@ -27,6 +28,8 @@ word_at words place = slice_index_or (map (λ word. word.now) words) place []
 -- the word that names a path of the command of the words; `inputs` for both of `merge` together, and `standard output` for that
 unfoldable pub path_word : Words → CommandPath → List ℕ
 path_word (Chain frame) Frame = frame.now
+path_word (Scan ranges file) Ranges = ranges.now
+path_word (Scan ranges file) File = file.now
 path_word (Show recording) Record = recording.record.now
 path_word (Take recording out copies) Record = recording.record.now
 path_word (Take recording out copies) (Copy place) = word_at copies.items place

@@ -9,9 +9,10 @@ use clap::{Arg, ArgAction, ArgMatches, Command};
 use ffv1_commands::CliFault;
 use std::alloc::{AllocError, Global};
 
-/// The commands: the name of each, its words, and behind them the word of which there has to be one at least.
-const COMMANDS: [(&str, &[&str], Option<&str>); 10] = [
+/// The commands: the name of each, its words, and after them the word of which there has to be one at least.
+const COMMANDS: [(&str, &[&str], Option<&str>); 11] = [
     ("chain", &["FRAME"], None),
+    ("scan", &["RANGES", "FILE"], None),
     ("show", &["RECORD", "WIDTH", "HEIGHT"], None),
     ("take", &["RECORD", "WIDTH", "HEIGHT", "OUT"], Some("COPY")),
     ("join", &["OUT"], Some("HOLD")),
@@ -181,6 +182,10 @@ fn words_of<'a>(alloc: Global, name: &str, matches: &ArgMatches<'a>) -> Result<W
     match name {
         "chain" => Ok(Words::Chain {
             frame: word(matches, "FRAME")?,
+        }),
+        "scan" => Ok(Words::Scan {
+            ranges: word(matches, "RANGES")?,
+            file: word(matches, "FILE")?,
         }),
         "show" => Ok(Words::Show {
             recording: recording_words(matches)?,

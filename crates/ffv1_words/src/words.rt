@@ -15,13 +15,20 @@ pub struct Recording<'a> {
     pub height: u32,
 }
 
-/// A command and its words, each a path but for the numbers of a recording. No path is opened or judged yet.
+/// A command and its words, each a path except the numbers of a recording. No path is opened or judged yet.
 #[derive(Drop)]
 pub enum Words<'a> {
     /// Tells the chain of a frame payload.
     Chain {
         /// The payload.
         frame: &'a str,
+    },
+    /// Judges ranges of a file.
+    Scan {
+        /// The list of ranges.
+        ranges: &'a str,
+        /// The file.
+        file: &'a str,
     },
     /// Tells the setup of a configuration record, for frames of its size.
     Show {
@@ -43,7 +50,7 @@ pub enum Words<'a> {
         out: &'a str,
         /// The first holding file.
         first: &'a str,
-        /// Those behind it.
+        /// The others.
         others: Vec<&'a str>,
     },
     /// Makes the holding file of the union of two holding files, which are read as streams.
@@ -102,6 +109,8 @@ impl<'a> Words<'a> {
     {
         match (self, path) {
             (Words::Chain { frame }, CommandPath::Frame) => frame,
+            (Words::Scan { ranges, .. }, CommandPath::Ranges) => ranges,
+            (Words::Scan { file, .. }, CommandPath::File) => file,
             (Words::Show { recording }, CommandPath::Record) => recording.record,
             (Words::Take { recording, .. }, CommandPath::Record) => recording.record,
             (Words::Take { copies, .. }, CommandPath::Copy(place)) => copies[place],

@@ -11,7 +11,7 @@ mod files;
 
 pub use ffv1_commands::{
     CliFault, CommandPath, commands_restore_the_original, run_chain, run_decode, run_join,
-    run_merge, run_picture, run_report, run_restore, run_show, run_splice, run_take,
+    run_merge, run_picture, run_report, run_restore, run_scan, run_show, run_splice, run_take,
     same_copies_make_one_file, same_copies_make_one_splice, splice_gives_the_original,
     splice_tells_whole_frames, splice_weaves_the_original,
 };
@@ -137,7 +137,8 @@ fn decode_files(
 }
 
 /// Runs a command on the files that its words name. Answers `false` where `picture` wrote its file and some tile has no
-/// samples, or `splice` its own and not all of the frame is given back, else `true`.
+/// samples, or `splice` its own and not all of the frame is given back, or `scan` found a range that is not whole with all its
+/// links passing; else `true`.
 fn run(rt: &HostRuntime, words: &Words<'_>) -> Result<bool, CliFault>
     ensures { IfErr result (NamesPath (IsPathOf words.now)) }
 {
@@ -145,6 +146,10 @@ fn run(rt: &HostRuntime, words: &Words<'_>) -> Result<bool, CliFault>
     let mut output = io::writer(rt);
     match words {
         Words::Chain { frame } => run_chain(alloc, &mut InputFile::new(rt, frame), &mut output)?,
+        Words::Scan { ranges, file } => {
+            let (mut ranges, mut file) = (InputFile::new(rt, ranges), InputFile::new(rt, file));
+            return run_scan(alloc, &mut ranges, &mut file, &mut output);
+        }
         Words::Show { recording } => {
             let (width, height) = (recording.width, recording.height);
             let mut record = InputFile::new(rt, recording.record);

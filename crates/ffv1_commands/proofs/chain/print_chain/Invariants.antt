@@ -9,10 +9,7 @@ abbrev pub invariant-loop-link : goal.invariant-loop-link
 invariant-loop-link g l = record {
   large : room ≤ string_capacity l.text;
   told : (lines : List ℕ) × (lines ++ flat_map link_line l.chain.left ≡ flat_map link_line l.initial.chain.left)
-      × PrintsFront (g.W.Sink.contents l.initial.output) (g.W.Sink.contents l.output) (string_bytes l.text) lines;
-  counted : g.W.Sink.failures l.initial.output ≤ g.W.Sink.failures l.output;
-  unbroken : g.W.Sink.broken l.output ≡ g.W.Sink.broken l.initial.output;
-  same : g.W.Sink.reference l.output ≡ g.W.Sink.reference l.initial.output;
+      × PrintsFront (g.W.Sink.log l.initial.output) (g.W.Sink.log l.output) (string_bytes l.text) lines;
 }
 
 abbrev pub decreases-loop-link : goal.decreases-loop-link

@@ -1,5 +1,5 @@
 use Rattle.std.proofs.Common.{◌≡◌, ◌⊎◌, List, ℕ, refl, inl, inr, ap, ◌∙◌, subst}
-use Rattle.ffv1_hold.proofs.ReadCounts.{Err-at}
+use Rattle.ffv1_commands.proofs.Telling.{Err-at}
 use Rattle.std.proofs.lemmas.Result.{err_from_is_err_and}
 use Rattle.ffv1_range.specs.Setup.{IsSetupOf}
 use Rattle.ffv1_range.specs.SetupFaults.{FirstSetupFault}
@@ -17,20 +17,21 @@ use Rattle.ffv1_commands.proofs.InputLaws.{whole_input}
 use Rattle.ffv1_commands.proofs.WriteSteps.{setups, setups_first}
 use Rattle.ffv1_commands.proofs.InputFaults.{IsUnwritten, untouched_both, NamesNoPath-not_read, TellsFailure-unwritten, TellsFile-as, TellsFile-unread, WriteStops-not_read, WriteStops-untouched, WriteStops-in_turn, WriteStops-names, IsInputFault-says, IsInputFault-other}
 use Rattle.ffv1_commands.proofs.DecodeSteps.{of_frame-says, frame_refused, decoded, decode_stopped}
+use Rattle.ffv1_commands.proofs.Telling.{Reads-told, whole_of, stops_of}
 use Rattle.ffv1_commands.proofs.decode.decode_of.Goals as goal
 
 pub returns-in_err-config : goal.returns-in_err-config
 returns-in_err-config g c =
     let p = err_from_is_err_and c.from_residual.result c.from_residual.ensures.1 in
-    let e = c.in_err-config.ensures in
+    let e = stops_of paths.Record _ _ _ c.in_err-config.ensures in
     let f = c.in_err-config.field-0.0 in
-    let out = g.O.Sink.contents c.args.out.now in
-    let printed = g.W.Sink.contents c.args.output.now in
+    let out = (g.O.Sink.log c.args.out.now).contents in
+    let printed = (g.W.Sink.log c.args.output.now).contents in
     let none = IsInputFault-says IsUnwritten paths.Record f tt tt e.err in
     rw (p.1, p.2) (record {
       ok = tt;
-      err = IsInputFault-says (DecodeStops (g.R.Source.remaining c.args.configuration.now) c.args.width c.args.height
-          (g.F.Source.remaining c.args.input.now) out out printed printed) paths.Record f (inl refl) tt e.err;
+      err = IsInputFault-says (DecodeStops (g.R.Source.log c.args.configuration.now).remaining c.args.width c.args.height
+          (g.F.Source.log c.args.input.now).remaining out out printed printed) paths.Record f (inl refl) tt e.err;
       untouched = untouched_both c.args.out.now c.args.output.now f none;
       in_turn = IsInputFault-says (λ fault. IfOfRecord fault (c.args.input.now ≡ c.args.input.now)) paths.Record f (λ is. refl) tt e.err;
       names = IsInputFault-says (NamesPath IsDecodePath) paths.Record f tt tt e.err;
@@ -45,18 +46,18 @@ returns-in_err-config g c =
 pub returns-in_err-decoder : goal.returns-in_err-decoder
 returns-in_err-decoder g c =
     let p = err_from_is_err_and c.from_residual-in_err-decoder.result c.from_residual-in_err-decoder.ensures.1 in
-    let config = c.in_ok-config.ensures in
+    let config = whole_of paths.Record _ _ _ c.in_ok-config.ensures in
     let f = c.in_err-decoder.field-0.0 in
-    let out = g.O.Sink.contents c.args.out.now in
-    let printed = g.W.Sink.contents c.args.output.now in
+    let out = (g.O.Sink.log c.args.out.now).contents in
+    let printed = (g.W.Sink.log c.args.output.now).contents in
     let first = subst (λ (bytes : List ℕ). (f ≡ setup.Memory) ⊎ FirstSetupFault bytes c.args.width c.args.height f) c.as_slice.ensures.value
     c.in_err-decoder.ensures.fault in
     let none = setups IsUnwritten f tt tt in
     let nameless = setups NamesNoPath f tt tt in
     rw (p.1, p.2) (record {
       ok = tt;
-      err = setups_first (DecodeStops (g.R.Source.remaining c.args.configuration.now) c.args.width c.args.height
-          (g.F.Source.remaining c.args.input.now) out out printed printed)
+      err = setups_first (DecodeStops (g.R.Source.log c.args.configuration.now).remaining c.args.width c.args.height
+          (g.F.Source.log c.args.input.now).remaining out out printed printed)
           (FirstSetupFault c.in_ok-config.config.items c.args.width c.args.height f) f tt
           (λ met. (c.in_ok-config.config.items, whole_input _ _ _ config.ok, met)) first;
       untouched = untouched_both c.args.out.now c.args.output.now (of_setup f) none;
@@ -73,25 +74,26 @@ returns-in_err-decoder g c =
 pub returns-in_err-payload : goal.returns-in_err-payload
 returns-in_err-payload g c =
     let p = err_from_is_err_and c.from_residual-in_err-payload.result c.from_residual-in_err-payload.ensures.1 in
-    let config = c.in_ok-config.ensures in
-    let e = c.in_err-payload.ensures in
+    let config = whole_of paths.Record _ _ _ c.in_ok-config.ensures in
     let f = c.in_err-payload.field-0.0 in
-    let out = g.O.Sink.contents c.args.out.now in
-    let printed = g.W.Sink.contents c.args.output.now in
+    let e = stops_of paths.Frame f (g.F.Source.log c.args.input.now) (g.F.Source.log c.read_file-2.new.source) c.in_err-payload.ensures in
+    let out = (g.O.Sink.log c.args.out.now).contents in
+    let printed = (g.W.Sink.log c.args.output.now).contents in
     let none = IsInputFault-says IsUnwritten paths.Frame f tt tt e.err in
     let set = subst (λ (bytes : List ℕ). IsSetupOf bytes c.args.width c.args.height c.in_ok-decoder.decoder) c.as_slice.ensures.value
     c.in_ok-decoder.ensures.setup in
     rw (p.1, p.2) (record {
       ok = tt;
-      err = IsInputFault-says (DecodeStops (g.R.Source.remaining c.args.configuration.now) c.args.width c.args.height
-          (g.F.Source.remaining c.args.input.now) out out printed printed) paths.Frame f (inr (
+      err = IsInputFault-says (DecodeStops (g.R.Source.log c.args.configuration.now).remaining c.args.width c.args.height
+          (g.F.Source.log c.args.input.now).remaining out out printed printed) paths.Frame f (inr (
             refl,
             (c.in_ok-decoder.decoder, record { config = c.in_ok-config.config.items; read = whole_input _ _ _ config.ok; is_setup = set }),
           )) tt e.err;
       untouched = untouched_both c.args.out.now c.args.output.now f none;
-      in_turn = IsInputFault-says (λ fault. IfOfRecord fault (c.read_file-2.new.source ≡ c.args.input.now)) paths.Frame f (λ is. cc) tt e.err;
+      in_turn = IsInputFault-says (λ fault. IfOfRecord fault (c.read_file-2.new.source ≡ c.args.input.now)) paths.Frame f (λ is. absurd (cc)) tt e.err;
       names = IsInputFault-says (NamesPath IsDecodePath) paths.Frame f tt tt e.err;
-      record_told = TellsFile-as _ _ _ _ _ _ (λ is. absurd (IsInputFault-other paths.Frame paths.Record f (λ e. cc) e.err is)) (λ is. cc) config.told;
+      record_told = Reads-told _ _ _ (λ is. IsInputFault-other paths.Frame paths.Record f (λ same. cc) e.err is) c.in_ok-config.ensures.read
+          c.in_ok-config.ensures.few;
       input_told = TellsFile-as _ _ _ _ _ _ (Err-at f (faults.Read paths.Frame)) (Err-at f (faults.Read paths.Frame)) e.told;
       out_told = TellsFailure-unwritten f paths.Out _ _ none;
       output_told = TellsFailure-unwritten f paths.StandardOutput _ _ none;
@@ -102,8 +104,8 @@ returns-in_err-payload g c =
 pub returns-in_err-frame : goal.returns-in_err-frame
 returns-in_err-frame g c =
     let p = err_from_is_err_and c.from_residual-in_err-frame.result c.from_residual-in_err-frame.ensures.1 in
-    let config = c.in_ok-config.ensures in
-    let payload = c.in_ok-payload.ensures in
+    let config = whole_of paths.Record _ _ _ c.in_ok-config.ensures in
+    let payload = whole_of paths.Frame _ _ _ c.in_ok-payload.ensures in
     let f = c.in_err-frame.field-0.0 in
     let set = subst (λ (bytes : List ℕ). IsSetupOf bytes c.args.width c.args.height c.in_ok-decoder.decoder) c.as_slice.ensures.value
     c.in_ok-decoder.ensures.setup in
@@ -129,8 +131,8 @@ returns-in_err-frame g c =
 pub returns-in_err-line : goal.returns-in_err-line
 returns-in_err-line g c =
     let p = err_from_is_err_and c.from_residual-in_err-line.result c.from_residual-in_err-line.ensures.1 in
-    let config = c.in_ok-config.ensures in
-    let payload = c.in_ok-payload.ensures in
+    let config = whole_of paths.Record _ _ _ c.in_ok-config.ensures in
+    let payload = whole_of paths.Frame _ _ _ c.in_ok-payload.ensures in
     rw (p.1, p.2) (record {
       ok = tt;
       err = tt;
@@ -147,8 +149,8 @@ returns-in_err-line g c =
 
 pub returns : goal.returns
 returns g c =
-    let config = c.in_ok-config.ensures in
-    let payload = c.in_ok-payload.ensures in
+    let config = whole_of paths.Record _ _ _ c.in_ok-config.ensures in
+    let payload = whole_of paths.Frame _ _ _ c.in_ok-payload.ensures in
     let set = subst (λ (bytes : List ℕ). IsSetupOf bytes c.args.width c.args.height c.in_ok-decoder.decoder) c.as_slice.ensures.value
     c.in_ok-decoder.ensures.setup in
     let frame = c.in_ok-frame.frame in

@@ -1,5 +1,5 @@
 use Rattle.std.proofs.Common.{rules, ap}
-use Rattle.ffv1_hold.specs.Streams.{reader_of, writer_of}
+use Rattle.ffv1_devices.specs.Streams.{reader_of, writer_of}
 use Rattle.ffv1_commands.proofs.Wrapped.{unless_writing, if_of_record}
 use Rattle.ffv1_commands.proofs.decode.run_decode.Goals as goal
 

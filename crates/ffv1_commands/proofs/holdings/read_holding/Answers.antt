@@ -1,15 +1,29 @@
 use Rattle.std.proofs.Common.{◌≡◌, refl}
 use Rattle.std.proofs.KnownBytes.{Consumes-whole}
 use Rattle.ffv1_hold.specs.HoldingText.{file_text}
+use Rattle.ffv1_commands.proofs.Telling.{hold_refused, hold_failed}
 use Rattle.ffv1_commands.proofs.holdings.read_holding.Goals as goal
 
-pub returns-in-Ok-clause-ok : goal.returns-in-Ok-clause-ok
-returns-in-Ok-clause-ok g c =
-    let file = c.in-Ok.ensures.text in
-    let text = file_text file.version c.in-Ok.holding in
+pub returns-in-Ok : goal.returns-in-Ok
+returns-in-Ok g c =
+    let read = c.in-Ok.ensures.read in
+    let text = file_text read.file.version c.in-Ok.holding in
     record {
-      version = file.version;
-      text = Consumes-whole _ _ text (λ told. told ≡ text) file.taken c.in-Ok.ensures.end refl;
-      sound = c.in-Ok.ensures.sound;
-      fits = file.fits;
+      ok = record {
+        version = read.file.version;
+        text = Consumes-whole _ _ text (λ told. told ≡ text) read.file.taken read.at_end refl;
+        sound = read.sound;
+        fits = read.file.fits;
+      };
+      err = tt;
+      failed = λ is. absurd (cc);
     }
+
+pub returns-in-Err : goal.returns-in-Err
+returns-in-Err g c =
+    let stops = c.in-Err.ensures.read in
+    rw c.of_hold_file.ensures (record {
+      ok = tt;
+      err = hold_refused c.args.path _ _ c.in-Err.fault stops.fault;
+      failed = λ is. hold_failed c.args.path _ _ c.in-Err.fault stops.tries' is;
+    })

@@ -1,5 +1,5 @@
 use Rattle.std.proofs.Common.{◌≡◌, ◌≤◌, ◌<◌, ◌+◌, List, [], ◌∷◌, ◌++◌, Option, ℕ, map, length, take, subst, sym, ap, ◌∙◌, refl, arith}
-use Rattle.ffv1_hold.proofs.ReadCounts.{Err-at}
+use Rattle.ffv1_commands.proofs.Telling.{Err-at}
 use Rattle.std.proofs.lemmas.Result.{err_from_is_err_and}
 use Rattle.std.proofs.lemmas.List.{length-map}
 use Rattle.std.specs.String.{string_bytes}
@@ -14,7 +14,7 @@ pub loop-index-init : goal.loop-index-init
 loop-index-init g c =
     let told = c.in_ok-push_file.ensures ∙ ap (λ t. t ++ file_line 1 c.size.result) c.requires.none ∙ ap (file_line 1) c.size.ensures in
     record {
-      joined = subst (λ (text : List ℕ). JoinsEach (g.F.Source.remaining c.args.first.now ∷ []) c.in_ok-whole.whole text) (sym told)
+      joined = subst (λ (text : List ℕ). JoinsEach ((g.F.Source.log c.args.first.now).remaining ∷ []) c.in_ok-whole.whole text) (sym told)
           (joins_first _ _ c.in_ok-whole.ensures.ok);
       others = λ k d le. refl;
     }
@@ -24,7 +24,7 @@ loop-index-preserved g c =
     let i = c.loop-index.index in
     let old = c.args.others.now in
     let now = c.loop-index.others in
-    let first = g.F.Source.remaining c.args.first.now in
+    let first = (g.F.Source.log c.args.first.now).remaining in
     let lt : i < length old = omega arith in
     let le : i ≤ length old = omega arith in
     let d = c.index-others-index.result in
@@ -47,7 +47,7 @@ returns-in_err-whole g c =
     let f = c.in_err-whole.field-0.0 in
     rw (p.1, p.2) (record {
       ok = tt;
-      err = first_refused (g.F.Source.remaining c.args.first.now) (map g.R.Read.remaining c.args.others.now) f e.err;
+      err = first_refused (g.F.Source.log c.args.first.now).remaining (map g.R.Read.remaining c.args.others.now) f e.err;
       first_failed = λ is. e.failed (Err-at f (faults.Read (paths.Hold 0)) is);
     })
 
@@ -70,7 +70,7 @@ returns-in_err-join_file g c =
     let each = c.loop-index.invariant.joined in
     rw (p.1, p.2) (record {
       ok = tt;
-      err = other_refused (g.F.Source.remaining c.args.first.now) _ (map g.R.Read.remaining old) i few
+      err = other_refused (g.F.Source.log c.args.first.now).remaining _ (map g.R.Read.remaining old) i few
           (input_at g.R.Read.remaining old c.loop-index.others i d lt same)
           c.loop-index.whole each.first each.files.0 (joins_reel _ _ _ each) _ each f e.err;
       first_failed = λ is. absurd (IsJoinFault-not_first i _ c.loop-index.whole f e.err is);
@@ -78,7 +78,7 @@ returns-in_err-join_file g c =
 
 pub returns : goal.returns
 returns g c = record {
-  ok = subst (λ (inputs : List (Option (List ℕ))). JoinsEach (g.F.Source.remaining c.args.first.now ∷ inputs) c.loop-index.whole
+  ok = subst (λ (inputs : List (Option (List ℕ))). JoinsEach ((g.F.Source.log c.args.first.now).remaining ∷ inputs) c.loop-index.whole
       (string_bytes c.loop-index.lines))
       (inputs_all g.R.Read.remaining c.args.others.now c.loop-index.index (omega arith)) c.loop-index.invariant.joined;
   err = tt;

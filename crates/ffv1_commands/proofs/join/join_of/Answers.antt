@@ -1,5 +1,5 @@
 use Rattle.std.proofs.Common.{◌≡◌, ◌+◌, ◌∷◌, length, map, refl, sym, subst, arith}
-use Rattle.ffv1_hold.proofs.ReadCounts.{Err-at}
+use Rattle.ffv1_commands.proofs.Telling.{Err-at}
 use Rattle.std.proofs.lemmas.Result.{err_from_is_err_and}
 use Rattle.std.proofs.lemmas.List.{length-map}
 use Rattle.ffv1_commands.specs.JoinText.{JoinsEach}
@@ -15,10 +15,10 @@ returns-in_err-whole g c =
     let p = err_from_is_err_and c.from_residual.result c.from_residual.ensures.1 in
     let e = c.in_err-whole.ensures in
     let f = c.in_err-whole.field-0.0 in
-    let inputs = g.F.Source.remaining c.args.first.now ∷ map g.R.Read.remaining c.args.others.now in
+    let inputs = (g.F.Source.log c.args.first.now).remaining ∷ map g.R.Read.remaining c.args.others.now in
     let count : length inputs ≡ length c.args.others.now + 1 = omega (arith, length-map c.args.others.now g.R.Read.remaining) in
-    let out = g.O.Sink.contents c.args.out.now in
-    let printed = g.W.Sink.contents c.args.output.now in
+    let out = (g.O.Sink.log c.args.out.now).contents in
+    let printed = (g.W.Sink.log c.args.output.now).contents in
     let none = IsFaultOfFiles-unwritten inputs f e.err in
     rw (p.1, p.2) (record {
       ok = tt;

@@ -1,6 +1,6 @@
 use Rattle.std.proofs.Common.{◌≡◌, rules, refl, ap}
 use Rattle.std.proofs.lemmas.Result.{err_from_is_err_and}
-use Rattle.ffv1_hold.specs.Streams.{writer_of}
+use Rattle.ffv1_devices.specs.Streams.{writer_of}
 use Rattle.ffv1_commands.specs.declared.fault.CliFault.TheVariants.{Memory}
 use Rattle.ffv1_commands.proofs.Wrapped.{unless_writing}
 use Rattle.ffv1_commands.proofs.join.run_join.Goals as goal

@@ -1,13 +1,17 @@
-use Rattle.std.proofs.Common.{List, ℕ, Option, sym, subst}
+use Rattle.std.proofs.Common.{List, ℕ, Option, sym, subst, ap}
+use Rattle.ffv1_devices.specs.Logs.{ReadLog}
 use Rattle.ffv1_hold.specs.JoinedStreams.{BeginsWithHead, IsFileOf}
 use Rattle.ffv1_commands.proofs.merge.run_merge.Goals as goal
 
+abbrev remaining_of : ReadLog → Option (List ℕ)
+remaining_of log = log.remaining
+
 pub returns-clause-other : goal.returns-clause-other
 returns-clause-other g c one two left right other =
-    c.merge_of.ensures.other one two (subst (λ (o : Option (List ℕ)). BeginsWithHead o one) (sym c.new.ensures.bytes) left)
-    (subst (λ (o : Option (List ℕ)). BeginsWithHead o two) (sym c.new-2.ensures.bytes) right) other
+    c.merge_of.ensures.other one two (subst (λ (o : Option (List ℕ)). BeginsWithHead o one) (sym (ap remaining_of c.new.ensures.log)) left)
+    (subst (λ (o : Option (List ℕ)). BeginsWithHead o two) (sym (ap remaining_of c.new-2.ensures.log)) right) other
 
 pub returns-clause-only : goal.returns-clause-only
 returns-clause-only g c v w one two same left right =
-    c.merge_of.ensures.only v w one two same (subst (λ (o : Option (List ℕ)). IsFileOf o v one) (sym c.new.ensures.bytes) left)
-    (subst (λ (o : Option (List ℕ)). IsFileOf o w two) (sym c.new-2.ensures.bytes) right)
+    c.merge_of.ensures.only v w one two same (subst (λ (o : Option (List ℕ)). IsFileOf o v one) (sym (ap remaining_of c.new.ensures.log)) left)
+    (subst (λ (o : Option (List ℕ)). IsFileOf o w two) (sym (ap remaining_of c.new-2.ensures.log)) right)

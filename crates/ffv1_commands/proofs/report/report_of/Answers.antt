@@ -1,5 +1,5 @@
 use Rattle.std.proofs.Common.{refl, ◌∙◌, arith}
-use Rattle.ffv1_hold.proofs.ReadCounts.{Err-at}
+use Rattle.ffv1_commands.proofs.Telling.{Err-at}
 use Rattle.std.proofs.lemmas.Result.{err_from_is_err_and}
 use Rattle.ffv1_commands.specs.Fault.{NamesPath}
 use Rattle.ffv1_commands.specs.Paths.{IsReportPath}
@@ -15,8 +15,8 @@ returns-in_err-holding g c =
     let p = err_from_is_err_and c.from_residual.result c.from_residual.ensures.1 in
     let e = c.in_err-holding.ensures in
     let f = c.in_err-holding.field-0.0 in
-    let input = g.R.Source.remaining c.args.file.now in
-    let printed = g.W.Sink.contents c.args.output.now in
+    let input = (g.R.Source.log c.args.file.now).remaining in
+    let printed = (g.W.Sink.log c.args.output.now).contents in
     let none = IsHoldingFault-says IsUnwritten (paths.Hold 0) input f tt tt (λ file is. tt) e.err in
     rw (p.1, p.2) (record {
       ok = tt;

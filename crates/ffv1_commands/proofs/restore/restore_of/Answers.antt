@@ -1,5 +1,5 @@
 use Rattle.std.proofs.Common.{refl, sym, ap, ◌∙◌, arith}
-use Rattle.ffv1_hold.proofs.ReadCounts.{Err-at}
+use Rattle.ffv1_commands.proofs.Telling.{Err-at}
 use Rattle.std.proofs.lemmas.Result.{err_from_is_err_and}
 use Rattle.ffv1_commands.specs.Fault.{NamesPath, NamesNoPath, of_restore}
 use Rattle.ffv1_commands.specs.Paths.{IsHoldPath}
@@ -15,9 +15,9 @@ returns-in_err-holding g c =
     let p = err_from_is_err_and c.from_residual.result c.from_residual.ensures.1 in
     let e = c.in_err-holding.ensures in
     let f = c.in_err-holding.field-0.0 in
-    let input = g.R.Source.remaining c.args.file.now in
-    let out = g.O.Sink.contents c.args.out.now in
-    let printed = g.W.Sink.contents c.args.output.now in
+    let input = (g.R.Source.log c.args.file.now).remaining in
+    let out = (g.O.Sink.log c.args.out.now).contents in
+    let printed = (g.W.Sink.log c.args.output.now).contents in
     let none = IsHoldingFault-says IsUnwritten (paths.Hold 0) input f tt tt (λ file is. tt) e.err in
     rw (p.1, p.2) (record {
       ok = tt;

@@ -1,5 +1,5 @@
 use Rattle.std.proofs.Common.{rules, ap}
-use Rattle.ffv1_hold.specs.Streams.{writer_of}
+use Rattle.ffv1_devices.specs.Streams.{writer_of}
 use Rattle.ffv1_commands.proofs.Wrapped.{unless_writing}
 use Rattle.ffv1_commands.proofs.show.run_show.Goals as goal
 

@@ -1,7 +1,7 @@
 use Rattle.std.proofs.Common.{◌<◌, ℕ, List, Vec, Global, Result, Err, length, map, refl, ap, ◌∙◌, subst, arith}
 use Rattle.std.proofs.lemmas.Result.{err_from_is_err_and}
 use Rattle.std.proofs.lemmas.List.{length-map}
-use Rattle.ffv1_hold.proofs.ReadCounts.{Err-at}
+use Rattle.ffv1_commands.proofs.Telling.{Err-at}
 use Rattle.ffv1_splice.specs.Splice.{IsSpliceOf}
 use Rattle.ffv1_commands.specs.Paths.{IsSplicePath}
 use Rattle.ffv1_commands.specs.SpliceText.{IsLengthFault}
@@ -19,8 +19,8 @@ returns-in_err-read g c =
     let e = c.in_err-read.ensures in
     let f = c.in_err-read.field-0.0 in
     let copies = map g.C.Read.remaining c.args.copies.now in
-    let out = g.O.Sink.contents c.args.out.now in
-    let printed = g.W.Sink.contents c.args.output.now in
+    let out = (g.O.Sink.log c.args.out.now).contents in
+    let printed = (g.W.Sink.log c.args.output.now).contents in
     let none = read_says copies IsUnwritten f (λ index is. tt) tt e.err in
     rw (p.1, p.2) (record {
       ok = tt;
@@ -53,8 +53,8 @@ returns-in_err-spliced g c =
     let f = c.in_err-spliced.field-0.0 in
     let inputs = map g.C.Read.remaining c.args.copies.now in
     let copies = map (λ (copy : Vec ℕ Global). copy.items) c.in_ok-read.read.items in
-    let out = g.O.Sink.contents c.args.out.now in
-    let printed = g.W.Sink.contents c.args.output.now in
+    let out = (g.O.Sink.log c.args.out.now).contents in
+    let printed = (g.W.Sink.log c.args.output.now).contents in
     let stops : IsLengthFault (map (λ (copy : Vec ℕ Global). copy.items) c.in_ok-read.read.items) f =
     subst (λ (all : List (Vec ℕ Global)). IsLengthFault (map (λ copy. copy.items) all) f) c.as_slice.ensures.value c.in_err-spliced.ensures.err in
     let none = length_says copies IsUnwritten f (λ index is. tt) tt stops in

@@ -5,7 +5,7 @@ use Rattle.std.proofs.lemmas.List.{length-map}
 use Rattle.ffv1_range.specs.SetupFaults.{FirstSetupFault}
 use Rattle.ffv1_range.specs.declared.fault.SetupFault.TheVariants as setup
 use Rattle.ffv1_hold.specs.Headline.{IsReelOf}
-use Rattle.ffv1_hold.proofs.ReadCounts.{Err-at}
+use Rattle.ffv1_commands.proofs.Telling.{Err-at}
 use Rattle.ffv1_commands.specs.TakeText.{TakesEach, TakeStops}
 use Rattle.ffv1_commands.specs.Devices.{IfOfRecord}
 use Rattle.ffv1_commands.specs.Fault.{NamesPath, NamesNoPath, of_setup}
@@ -15,20 +15,21 @@ use Rattle.ffv1_commands.specs.declared.path.CommandPath.TheVariants as paths
 use Rattle.ffv1_commands.proofs.WriteSteps.{setups}
 use Rattle.ffv1_commands.proofs.InputFaults.{IsUnwritten, untouched_both, NamesNoPath-not_read, TellsFailure-unwritten, TellsFile-as, MadeStops-not_read, MadeStops-in_turn, MadeStops-names, IsInputFault-says}
 use Rattle.ffv1_commands.proofs.TakeSteps.{setup_refused, copies_refused, copies_name, IsFaultOfInputs-says, IsFaultOfInputs-not_record, taken, take_stopped}
+use Rattle.ffv1_commands.proofs.Telling.{whole_of, stops_of}
 use Rattle.ffv1_commands.proofs.take.take_of.Goals as goal
 
 pub returns-in_err-config : goal.returns-in_err-config
 returns-in_err-config g c =
     let p = err_from_is_err_and c.from_residual.result c.from_residual.ensures.1 in
-    let e = c.in_err-config.ensures in
+    let e = stops_of paths.Record _ _ _ c.in_err-config.ensures in
     let f = c.in_err-config.field-0.0 in
     let copies = map g.C.Read.remaining c.args.copies.now in
-    let out = g.O.Sink.contents c.args.out.now in
-    let printed = g.W.Sink.contents c.args.output.now in
+    let out = (g.O.Sink.log c.args.out.now).contents in
+    let printed = (g.W.Sink.log c.args.output.now).contents in
     let none = IsInputFault-says IsUnwritten paths.Record f tt tt e.err in
     rw (p.1, p.2) (record {
       ok = tt;
-      err = IsInputFault-says (TakeStops (g.R.Source.remaining c.args.configuration.now) c.args.width c.args.height copies out out printed printed)
+      err = IsInputFault-says (TakeStops (g.R.Source.log c.args.configuration.now).remaining c.args.width c.args.height copies out out printed printed)
           paths.Record f (inl refl) tt e.err;
       untouched = untouched_both c.args.out.now c.args.output.now f none;
       in_turn = IsInputFault-says (λ fault. IfOfRecord fault (c.args.copies.now ≡ c.args.copies.now)) paths.Record f (λ is. refl) tt e.err;
@@ -43,11 +44,11 @@ returns-in_err-config g c =
 pub returns-in_err-holding : goal.returns-in_err-holding
 returns-in_err-holding g c =
     let p = err_from_is_err_and c.from_residual-in_err-holding.result c.from_residual-in_err-holding.ensures.1 in
-    let config = c.in_ok-config.ensures in
+    let config = whole_of paths.Record _ _ _ c.in_ok-config.ensures in
     let f = c.in_err-holding.field-0.0 in
     let copies = map g.C.Read.remaining c.args.copies.now in
-    let out = g.O.Sink.contents c.args.out.now in
-    let printed = g.W.Sink.contents c.args.output.now in
+    let out = (g.O.Sink.log c.args.out.now).contents in
+    let printed = (g.W.Sink.log c.args.output.now).contents in
     let first = subst (λ (bytes : List ℕ). (f ≡ setup.Memory) ⊎ FirstSetupFault bytes c.args.width c.args.height f) c.as_slice.ensures.value
     c.in_err-holding.ensures.fault in
     let none = setups IsUnwritten f tt tt in
@@ -68,12 +69,12 @@ returns-in_err-holding g c =
 pub returns-in_err-lines : goal.returns-in_err-lines
 returns-in_err-lines g c =
     let p = err_from_is_err_and c.from_residual-in_err-lines.result c.from_residual-in_err-lines.ensures.1 in
-    let config = c.in_ok-config.ensures in
+    let config = whole_of paths.Record _ _ _ c.in_ok-config.ensures in
     let e = c.in_err-lines.ensures in
     let f = c.in_err-lines.field-0.0 in
     let copies = map g.C.Read.remaining c.args.copies.now in
-    let out = g.O.Sink.contents c.args.out.now in
-    let printed = g.W.Sink.contents c.args.output.now in
+    let out = (g.O.Sink.log c.args.out.now).contents in
+    let printed = (g.W.Sink.log c.args.output.now).contents in
     let reel = c.in_ok-holding.holding.reel in
     let is = subst (λ (bytes : List ℕ). IsReelOf bytes c.args.width c.args.height reel) c.as_slice.ensures.value
     (c.in_ok-holding.ensures.config, c.in_ok-holding.ensures.setup) in
@@ -94,7 +95,7 @@ returns-in_err-lines g c =
 
 pub returns : goal.returns
 returns g c =
-    let config = c.in_ok-config.ensures in
+    let config = whole_of paths.Record _ _ _ c.in_ok-config.ensures in
     let copies = map g.C.Read.remaining c.args.copies.now in
     let reel = c.in_ok-holding.holding.reel in
     let is = subst (λ (bytes : List ℕ). IsReelOf bytes c.args.width c.args.height reel) c.as_slice.ensures.value

@@ -1,0 +1,109 @@
+-- A scan over devices, told over the bytes of its inputs and its output.
+use Rattle.std.proofs.Common.{◌≡◌, ℕ, List, Option, None, Some, Bool, Result, Ok, Err, IfOk, IfErr, sym, subst, inl, inr, ⊎_elim}
+use Rattle.std.proofs.KnownBytes.{Keeps-refl}
+use Rattle.std.specs.Io.KnownBytes.{Appends, Consumes, IsAtEnd, Keeps}
+use Rattle.ffv1_devices.specs.Logs.{ReadLog, WriteLog, Reads, BreaksOff, Writes, StopsWriting}
+use Rattle.ffv1_scan.specs.declared.ranges.ByteRange.{ByteRange}
+use Rattle.ffv1_scan.specs.declared.scanning.ScanFault.TheVariants as scans
+use Rattle.ffv1_scan.specs.Ranges.{AreRanges, IsFirstWrong}
+use Rattle.ffv1_scan.specs.Scans.{ScansFront, ScansRanges, FirstEndsAfter}
+use Rattle.ffv1_commands.specs.Devices.{WritesFront, IsWholeInput}
+use Rattle.ffv1_commands.specs.ScanText.{ReadsList, ScansDevices, ScansListed, StopsAtRange, IsListFault, BeginsWith, IsList, ScansFile, ScansSome, ScanStops}
+use Rattle.ffv1_commands.specs.declared.fault.CliFault.{CliFault}
+use Rattle.ffv1_commands.specs.declared.fault.CliFault.TheVariants as faults
+use Rattle.ffv1_commands.specs.declared.path.CommandPath.TheVariants as paths
+use Rattle.ffv1_commands.proofs.InputLaws.{whole_input}
+
+-- what is read and written is told in another way
+abbrev told_as : (ranges front : List ByteRange) (Read Read' Wrote Wrote' : List ℕ → Type 0) → ((bytes : List ℕ) → Read bytes → Read' bytes)
+    → ((text : List ℕ) → Wrote text → Wrote' text) → ScansFront ranges front Read Wrote → ScansFront ranges front Read' Wrote'
+told_as ranges front Read Read' Wrote Wrote' read wrote scan = record {
+  rest = scan.rest;
+  split = scan.split;
+  bytes = scan.bytes;
+  read = read scan.bytes scan.read;
+  least = scan.least;
+  most = scan.most;
+  verdicts = scan.verdicts;
+  judged = scan.judged;
+  wrote = wrote _ scan.wrote;
+}
+
+begins : (a b : Option (List ℕ)) (bytes : List ℕ) → Consumes a b bytes → BeginsWith a bytes
+begins None b bytes taken = tt
+begins (Some all) None bytes taken = absurd taken
+begins (Some all) (Some rest) bytes taken = (rest, taken)
+
+-- the text of a list that was read to its end
+list_read : (P : List ℕ → Type 0) (a b : ReadLog) → (l : ReadsList P a b) → IsWholeInput a.remaining l.text
+list_read P a b l = whole_input a.remaining b.remaining l.text (record { taken = l.read.bytes'; end = l.at_end; few = l.few })
+
+listed : (ranges : List ByteRange) (a b : ReadLog) → ReadsList (λ text. AreRanges text ranges) a b → IsList a.remaining ranges
+listed ranges a b l = record { text = l.text; whole = list_read _ a b l; are = l.says }
+
+pub record ScanOfBytes (r : Result Bool CliFault) (list file before after : Option (List ℕ)) : Type 0 where
+  pub ok : IfOk r (ScansFile list file before after)
+  pub err : IfErr r (ScanStops list file before after)
+
+module _ (a b c d : ReadLog) (x y : WriteLog) where
+  kept : y ≡ x → Keeps x.contents y.contents
+  kept same = subst (λ (log : WriteLog). Keeps x.contents log.contents) (sym same) (Keeps-refl x.contents)
+
+  some : (Went : List ℕ → Type 0) → ((bytes : List ℕ) → Went bytes → BeginsWith c.remaining bytes) → (Wrote Prints : List ℕ → Type 0)
+      → ((text : List ℕ) → Wrote text → Prints text) → (ranges front : List ByteRange) → ReadsList (λ text. AreRanges text ranges) a b
+      → ScansFront ranges front Went Wrote → ScansSome a.remaining c.remaining Prints
+  some Went read Wrote Prints wrote ranges front list scan = record {
+    ranges = ranges;
+    list' = listed ranges a b list;
+    front = front;
+    scan = told_as ranges front Went (BeginsWith c.remaining) Wrote Prints read wrote scan;
+  }
+
+  stopped : ScansListed a b (λ ranges. ScansRanges ranges (Err scans.Read) c d x y) → ScansSome a.remaining c.remaining (Appends x.contents y.contents)
+  stopped (ranges, list, inl (front, scan)) =
+      some (BreaksOff c d) (λ bytes went. begins c.remaining d.remaining bytes went.bytes') (Writes x y) (Appends x.contents y.contents) (λ text wrote. wrote.bytes') ranges front list scan
+  stopped (ranges, list, inr (front, scan, ends, after)) =
+      some (Reads c d) (λ bytes went. begins c.remaining d.remaining bytes went.bytes') (Writes x y) (Appends x.contents y.contents) (λ text wrote. wrote.bytes') ranges front list scan
+
+  pub scan_of_bytes : (r : Result Bool CliFault) → ScansDevices r a b c d x y → ScanOfBytes r a.remaining c.remaining x.contents y.contents
+  scan_of_bytes (Ok sound) (ranges, list, (scan, answer)) = record {
+    ok = record {
+      ranges = ranges;
+      list' = listed ranges a b list;
+      scan = told_as ranges ranges (Reads c d) (BeginsWith c.remaining) (Writes x y) (Appends x.contents y.contents)
+          (λ bytes went. begins c.remaining d.remaining bytes went.bytes') (λ text wrote. wrote.bytes') scan;
+      answer = answer;
+    };
+    err = tt;
+  }
+  scan_of_bytes (Err (faults.Read path)) (inl (fault, same_file, same)) = record { ok = tt; err = inl (fault.0, kept same) }
+  scan_of_bytes (Err (faults.Read path)) (inr (named, stops)) = record { ok = tt; err = inr (named, stopped stops) }
+  scan_of_bytes (Err (faults.Ranges number)) (inl (list, same_file, same)) =
+      record { ok = tt; err = (list.text, list_read _ a b list, list.says, kept same) }
+  scan_of_bytes (Err (faults.Ranges number)) (inr stops) = absurd stops
+  scan_of_bytes (Err (faults.Write path)) (inl (fault, same_file, same)) = absurd fault
+  scan_of_bytes (Err (faults.Write path)) (inr (named, (ranges, list, (front, scan, long)))) = record {
+    ok = tt;
+    err = (named, some (Reads c d) (λ bytes went. begins c.remaining d.remaining bytes went.bytes') (StopsWriting x y) (WritesFront x.contents y.contents) (λ text wrote. wrote.front) ranges front list scan);
+  }
+  scan_of_bytes (Err faults.Memory) (inl (fault, same_file, same)) = record { ok = tt; err = inl (kept same) }
+  scan_of_bytes (Err faults.Memory) (inr (ranges, list, (front, scan))) = record {
+    ok = tt;
+    err = inr (some (Reads c d) (λ bytes went. begins c.remaining d.remaining bytes went.bytes') (Writes x y) (Appends x.contents y.contents) (λ text wrote. wrote.bytes') ranges front list scan);
+  }
+  scan_of_bytes (Err (faults.Setup fault)) (inl stops) = absurd stops.0
+  scan_of_bytes (Err (faults.Setup fault)) (inr stops) = absurd stops
+  scan_of_bytes (Err (faults.Hold fault)) (inl stops) = absurd stops.0
+  scan_of_bytes (Err (faults.Hold fault)) (inr stops) = absurd stops
+  scan_of_bytes (Err (faults.HoldFile fault)) (inl stops) = absurd stops.0
+  scan_of_bytes (Err (faults.HoldFile fault)) (inr stops) = absurd stops
+  scan_of_bytes (Err (faults.Frame fault)) (inl stops) = absurd stops.0
+  scan_of_bytes (Err (faults.Frame fault)) (inr stops) = absurd stops
+  scan_of_bytes (Err (faults.Missing tile)) (inl stops) = absurd stops.0
+  scan_of_bytes (Err (faults.Missing tile)) (inr stops) = absurd stops
+  scan_of_bytes (Err (faults.Disputed tile)) (inl stops) = absurd stops.0
+  scan_of_bytes (Err (faults.Disputed tile)) (inr stops) = absurd stops
+  scan_of_bytes (Err (faults.Splice other)) (inl stops) = absurd stops.0
+  scan_of_bytes (Err (faults.Splice other)) (inr stops) = absurd stops
+  scan_of_bytes (Err faults.Words) (inl stops) = absurd stops.0
+  scan_of_bytes (Err faults.Words) (inr stops) = absurd stops

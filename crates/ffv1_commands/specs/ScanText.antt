@@ -1,0 +1,106 @@
+-- What the command `scan` reads and prints: a list of ranges, the file from its start on, no further than to the end of the last range, and
+-- a line for each range.
+use Rattle.std.specs.Prelude.{ℕ, ◌≡◌, ◌+◌, ◌≤◌, ◌⊎◌, Bool, List, ◌++◌, length, Option, IfSome, Result, Ok, Err}
+use Rattle.std.specs.List.{list_all}
+use Rattle.std.specs.Io.KnownBytes.{Appends, IsAtEnd, Keeps}
+use Rattle.ffv1_bits.specs.Limits.{payload_limit}
+use Rattle.ffv1_devices.specs.Logs.{ReadLog, WriteLog, Reads, BreaksOff}
+use Rattle.ffv1_scan.specs.declared.ranges.ByteRange.{ByteRange}
+use Rattle.ffv1_scan.specs.declared.scanning.ScanFault.TheVariants as scans
+use Rattle.ffv1_scan.specs.Ranges.{AreRanges, IsFirstWrong}
+use Rattle.ffv1_scan.specs.Verdicts.{is_sound}
+use Rattle.ffv1_scan.specs.Scans.{ScansFront, ScansRanges}
+use Rattle.ffv1_commands.specs.Devices.{IsWholeInput, WritesFront}
+use Rattle.ffv1_commands.specs.declared.fault.CliFault.{CliFault}
+use Rattle.ffv1_commands.specs.declared.fault.CliFault.TheVariants as faults
+use Rattle.ffv1_commands.specs.declared.path.CommandPath.TheVariants as paths
+
+-- ---- over devices
+
+-- The list of ranges was read to its end; P is what its text says.
+pub record ReadsList (P : List ℕ → Type 0) (old new : ReadLog) : Type 0 where
+  pub text : List ℕ
+  pub read : Reads old new text
+  pub at_end : IsAtEnd new.remaining
+  pub few : length text ≤ payload_limit
+  pub says : P text
+
+-- The list was given up, or has more bytes than the limit.
+pub record StopsList (old new : ReadLog) : Type 0 where
+  pub text : List ℕ
+  pub stopped : (BreaksOff old new text × (length text ≤ payload_limit)) ⊎ (Reads old new text × (length text ≡ payload_limit + 1))
+
+-- why the list told no ranges
+abbrev pub IsListFault : (old new : ReadLog) → CliFault → Type 0
+IsListFault old new (faults.Read path) = (path ≡ paths.Ranges) × StopsList old new
+IsListFault old new (faults.Ranges number) = ReadsList (λ text. IsFirstWrong text number) old new
+IsListFault old new faults.Memory = Unit {0}
+IsListFault old new _ = ⊥
+
+-- The list told ranges, and this came of them.
+abbrev pub ScansListed : (list_old list_new : ReadLog) → (List ByteRange → Type 0) → Type 0
+ScansListed list_old list_new P = (ranges : List ByteRange) × ReadsList (λ text. AreRanges text ranges) list_old list_new × P ranges
+
+-- why a scan stopped at one of its ranges
+abbrev pub StopsAtRange : (list_old list_new file_old file_new : ReadLog) (out_old out_new : WriteLog) → CliFault → Type 0
+StopsAtRange list_old list_new file_old file_new out_old out_new (faults.Read path) =
+    (path ≡ paths.File) × ScansListed list_old list_new (λ ranges. ScansRanges ranges (Err scans.Read) file_old file_new out_old out_new)
+StopsAtRange list_old list_new file_old file_new out_old out_new (faults.Write path) =
+    (path ≡ paths.StandardOutput) × ScansListed list_old list_new (λ ranges. ScansRanges ranges (Err scans.Write) file_old file_new out_old out_new)
+StopsAtRange list_old list_new file_old file_new out_old out_new faults.Memory =
+    ScansListed list_old list_new (λ ranges. ScansRanges ranges (Err scans.Memory) file_old file_new out_old out_new)
+StopsAtRange list_old list_new file_old file_new out_old out_new _ = ⊥
+
+-- All ranges were scanned; or the list told none, and neither the file nor the output was touched; or the scan stopped at a range.
+abbrev pub ScansDevices : Result Bool CliFault → (list_old list_new file_old file_new : ReadLog) (out_old out_new : WriteLog) → Type 0
+ScansDevices (Ok sound) list_old list_new file_old file_new out_old out_new =
+    ScansListed list_old list_new (λ ranges. ScansRanges ranges (Ok sound) file_old file_new out_old out_new)
+ScansDevices (Err fault) list_old list_new file_old file_new out_old out_new =
+    (IsListFault list_old list_new fault × (file_new ≡ file_old) × (out_new ≡ out_old))
+    ⊎ StopsAtRange list_old list_new file_old file_new out_old out_new fault
+
+-- ---- over the bytes of inputs and outputs
+
+-- An input begins with these bytes, where it tells its bytes.
+abbrev pub BeginsWith : Option (List ℕ) → List ℕ → Type 0
+BeginsWith input bytes = IfSome input (λ told. (rest : List ℕ) × (told ≡ bytes ++ rest))
+
+-- The list tells these ranges.
+pub record IsList (list : Option (List ℕ)) (ranges : List ByteRange) : Type 0 where
+  pub text : List ℕ
+  pub whole : IsWholeInput list text
+  pub are : AreRanges text ranges
+
+-- The lines of all ranges were printed, each judged as its bytes alone, and the answer is whether each is whole, has a link and has all
+-- its links pass.
+pub record ScansFile (list file before after : Option (List ℕ)) (sound : Bool) : Type 0 where
+  pub ranges : List ByteRange
+  pub list' : IsList list ranges
+  pub scan : ScansFront ranges ranges (BeginsWith file) (Appends before after)
+  pub answer : sound ≡ list_all is_sound scan.verdicts
+
+-- The ranges of a front were judged, and this was printed.
+pub record ScansSome (list file : Option (List ℕ)) (Prints : List ℕ → Type 0) : Type 0 where
+  pub ranges : List ByteRange
+  pub list' : IsList list ranges
+  pub front : List ByteRange
+  pub scan : ScansFront ranges front (BeginsWith file) Prints
+
+-- What a fault left in the output: nothing where the list told no ranges; else the lines of the ranges before it, or a front of lines where
+-- printing them failed.
+abbrev pub ScanStops : (list file before after : Option (List ℕ)) → CliFault → Type 0
+ScanStops list file before after (faults.Read path) =
+    ((path ≡ paths.Ranges) × Keeps before after) ⊎ ((path ≡ paths.File) × ScansSome list file (Appends before after))
+ScanStops list file before after (faults.Ranges number) =
+    (text : List ℕ) × IsWholeInput list text × IsFirstWrong text number × Keeps before after
+ScanStops list file before after (faults.Write path) =
+    (path ≡ paths.StandardOutput) × ScansSome list file (WritesFront before after)
+ScanStops list file before after faults.Memory =
+    Keeps before after ⊎ ScansSome list file (Appends before after)
+ScanStops list file before after _ = ⊥
+
+-- What holds of a fault of the list, which is judged before the file is read.
+abbrev pub IfOfList : CliFault → Type 0 → Type 0
+IfOfList (faults.Read path) P = path ≡ paths.Ranges → P
+IfOfList (faults.Ranges number) P = P
+IfOfList _ P = Unit {0}
