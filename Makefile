@@ -3,14 +3,17 @@ PROGRAM := crates/ffv1restore/out/ffv1restore
 CALLS := crates/ffv1_refusals/out/ffv1_refusals
 PREFIX ?= $(HOME)/.local
 
-.PHONY: run test cases rot fuzz ffmpeg reel bench install
+.PHONY: all run test cases rot fuzz ffmpeg reel bench install dist
 
-# Proves and builds what is needed, runs the stored example, and restores a recorded frame from two damaged copies.
-run: $(PROGRAM)
-	cd crates/ffv1restore/data && ../out/ffv1restore chain f22.bin
+all: $(PROGRAM)
+
+# The main job at once: two damaged copies of a frame in, the frame out. Where the program is not built yet, the kit runs it without
+# a proof, in about a minute.
+run:
 	tests/example $(PROGRAM)
 
 $(PROGRAM): crates.txt $(shell find crates -path '*/out' -prune -o -type f -print)
+	@echo "proves and builds the program, which takes some 25 minutes on four processors"
 	cd crates/ffv1restore && rt run -- chain data/f22.bin > /dev/null
 
 # The gate, and then the cases of the program that the gate has built, growths that are refused, and rotten files.
@@ -58,6 +61,11 @@ reel: $(PROGRAM)
 # Times beside FFmpeg's decoder, zlib's crc32 and a plain copy.
 bench: $(PROGRAM)
 	tests/bench $(PROGRAM)
+
+# A tarball and a Debian package, with their SHA-256 sums, in the folder DIST.
+DIST ?= dist
+dist: $(PROGRAM)
+	tools/make-package $(PROGRAM) $(DIST)
 
 install: $(PROGRAM)
 	install -D $(PROGRAM) $(DESTDIR)$(PREFIX)/bin/ffv1restore
