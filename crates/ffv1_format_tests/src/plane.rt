@@ -2,10 +2,10 @@
 ghost use Rattle.std.specs.Prelude.{◌≤◌, length};
 
 use crate::recorded;
-use ffv1_bits::remainder;
+use ffv1_bits::{Bits, remainder};
 use ffv1_plane::{TileFault, TilePicture, decode_tile};
 use ffv1_range::{HeadFault, RangeFault, Setup};
-use ffv1_rice::CodeFault;
+use ffv1_rice::{CodeFault, RunIndex, RunWord, VlcState};
 use std::alloc::Global;
 use std::test::*;
 
@@ -199,6 +199,96 @@ fn contents_without_a_picture(rt: HostRuntime) -> Result<(), Fail> {
         assert_eq!(rt; decoded(alloc, &setup, 0, content)?.err(), Some(fault));
     }
     Ok(())
+}
+
+/// What is read of a tile's bits after its header: the word of a run with so many samples left, or a level.
+#[derive(Clone, Copy)]
+enum Step {
+    Word(u32, RunWord),
+    Level(i32),
+}
+
+/// Whether this is what is read next.
+fn is_next(bits: &mut Bits<'_>, state: &mut VlcState, index: &mut RunIndex, step: Step) -> bool {
+    match step {
+        Step::Word(left, word) => {
+            1 <= left && left <= 65535 && index.read(bits, left) == Ok(word)
+        }
+        Step::Level(value) => state.decode(bits, true) == Ok(value),
+    }
+}
+
+/// What the steps of a plane come to: the state and the run index after them, or `None` where others are read.
+fn read_plane(
+    bits: &mut Bits<'_>,
+    state: &mut VlcState,
+    steps: &[Step],
+) -> Option<((i32, u32, i32, u32), usize)> {
+    let mut index = RunIndex::start();
+    for step in steps {
+        if !is_next(bits, state, &mut index, *step) {
+            return None;
+        }
+    }
+    Some((state.parts(), index.index()))
+}
+
+#[test]
+fn a_worked_tile_ends_with_its_state(rt: HostRuntime) {
+    // rows 5 5 and 5 6
+    let steps = [
+        Step::Word(2, RunWord::Rest(0)),
+        Step::Level(5),
+        Step::Word(1, RunWord::Full(1)),
+        Step::Word(2, RunWord::Full(1)),
+        Step::Word(1, RunWord::Rest(0)),
+        Step::Level(1),
+    ];
+    for (count, state, index) in [(2, (0, 8, 1, 2), 0), (6, (-1, 9, 1, 3), 1)] {
+        let mut bits = Bits::new(&[0x13, 0x50]);
+        let read = read_plane(&mut bits, &mut VlcState::start(), &steps[..count]);
+        assert!(rt; read == Some((state, index)));
+    }
+}
+
+#[test]
+fn cr_goes_on_with_the_state_of_cb(rt: HostRuntime) {
+    // the samples 0, 5 and 5 of three planes
+    let mut bits = Bits::new(&[0x88, 0x60]);
+    let mut luma = VlcState::start();
+    let mut chroma = VlcState::start();
+    let run = [Step::Word(1, RunWord::Full(1))];
+    assert!(rt; read_plane(&mut bits, &mut luma, &run) == Some(((0, 4, 0, 1), 1)));
+    let five = [Step::Word(1, RunWord::Rest(0)), Step::Level(5)];
+    assert!(rt; read_plane(&mut bits, &mut chroma, &five) == Some(((0, 8, 1, 2), 0)));
+    assert!(rt; read_plane(&mut bits, &mut chroma, &five) == Some(((0, 11, 2, 3), 0)));
+    assert!(rt; bits.left() == 4);
+}
+
+/// The run index after a line of so many zeros, or `None` where it is no such line.
+fn index_after_line(bits: &mut Bits<'_>, index: &mut RunIndex, width: u32) -> Option<usize> {
+    let mut left = width;
+    for _ in 0..64 {
+        if left < 1 || left > 65535 {
+            break;
+        }
+        match index.read(bits, left).ok()? {
+            RunWord::Full(length) if length <= left => left -= length,
+            RunWord::ToEnd => left = 0,
+            _ => return None,
+        }
+    }
+    if left == 0 { Some(index.index()) } else { None }
+}
+
+#[test]
+fn three_lines_of_16384_zeros_reach_index_31(rt: HostRuntime) {
+    let mut bits = Bits::new(&[0xFF, 0xFF, 0xFF, 0xFF, 0x80]);
+    let mut index = RunIndex::start();
+    for reached in [29, 30, 31] {
+        assert!(rt; index_after_line(&mut bits, &mut index, 16384) == Some(reached));
+    }
+    assert!(rt; bits.left() == 7);
 }
 
 /// Whether a picture has one plane of so many zeros, and so many spare bits.

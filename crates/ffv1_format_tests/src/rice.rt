@@ -72,6 +72,44 @@ fn value_3_from_the_start(rt: HostRuntime) {
     assert!(rt; code == Ok(3) && state.parts() == (0, 7, 1, 2) && state.k() == 2);
 }
 
+/// The state after codes of a difference, all of them 0, or `None` where one of them is another.
+fn state_after_zeros(bits: &mut Bits<'_>, codes: u32) -> Option<(i32, u32, i32, u32)> {
+    let mut state = VlcState::start();
+    for _ in 0..codes {
+        if state.decode(bits, false) != Ok(0) {
+            return None;
+        }
+    }
+    Some(state.parts())
+}
+
+#[test]
+fn codes_of_128_zeros(rt: HostRuntime) {
+    // `100`, `10` twice, and 125 ones
+    let mut bytes = [0xFFu8; 17];
+    bytes[0] = 0x95;
+    bytes[16] = 0xF0;
+    let mut bits = Bits::new(&bytes);
+    assert!(rt; state_after_zeros(&mut bits, 128) == Some((0, 2, 0, 65)));
+    assert!(rt; bits.left() == 4);
+}
+
+#[test]
+fn parameters_of_7_and_6(rt: HostRuntime) {
+    // twelve zeros and `11110100`, and then `10000000`
+    let mut bits = Bits::new(&[0x00, 0x0F, 0x48, 0x00]);
+    let mut state = VlcState::start();
+    assert!(rt; state.decode(&mut bits, false) == Ok(-128));
+    assert!(rt; state.parts() == (-1, 132, -1, 2) && state.k() == 7);
+    // where the parameter is 7, what stands for 256 is refused in either form
+    let escape = state.decode(&mut Bits::new(&[0x00, 0x0F, 0x50]), false);
+    assert!(rt; escape == Err(CodeFault::EscapeNotNeeded));
+    let short = state.decode(&mut Bits::new(&[0x20, 0x00]), false);
+    assert!(rt; short == Err(CodeFault::CodeTooLarge));
+    assert!(rt; state.decode(&mut bits, false) == Ok(-1));
+    assert!(rt; state.parts() == (-1, 132, -1, 3) && state.k() == 6);
+}
+
 #[test]
 fn lines_of_zeros(rt: HostRuntime) {
     let mut bits = Bits::new(&[0xFC]);

@@ -176,6 +176,21 @@ fn links_that_are_no_slices_are_told(rt: HostRuntime) -> Result<(), Fail> {
     Ok(())
 }
 
+/// A gray record of one tile, its five tables of one run each.
+const ONE_TILE: [u8; 17] = [
+    0x56, 0x2B, 0x83, 0xBD, 0xC5, 0x3A, 0x74, 0xE9, 0xD3, 0xA7, 0x4E, 0x9D, 0x26, 0x60, 0x98, 0x8D,
+    0xE6,
+];
+
+#[test]
+fn tile_1_is_outside_a_grid_of_one(rt: HostRuntime) -> Result<(), Fail> {
+    let setup = Setup::read(rt.alloc(), &ONE_TILE, 1, 1)?;
+    let link = Chain::new(&FRAME).next().ok_or("a link")?;
+    assert!(rt; link.start() == 11);
+    assert!(rt; slice_of(&setup, &link).err() == Some(LinkFault::Head(HeadFault::OutsideGrid)));
+    Ok(())
+}
+
 #[test]
 fn bytes_without_their_parity_are_no_slice(rt: HostRuntime) -> Result<(), Fail> {
     let setup = Setup::read(rt.alloc(), &RECORD, 48, 32)?;

@@ -26,6 +26,9 @@ const DARK: [u8; 11] = [0xFD, 0xF6, 0x40, 0, 0, 3, 0, 0x17, 0x60, 0xA5, 0x79];
 /// The same of one sample 1, told as uncorrectable.
 const DARK_DAMAGED: [u8; 11] = [0xFD, 0xF6, 0x40, 0, 0, 3, 2, 0x1E, 0xE2, 0x9E, 0x17];
 
+/// The same of one sample 0 with the error status 1: it passes, and differs from `BLACK` within 33 bits.
+const BLACK_WITH_STATUS: [u8; 11] = [0xFD, 0xF6, 0x80, 0, 0, 3, 1, 0x18, 0xFF, 0xBD, 0x2C];
+
 /// Tile 1 of one sample 0.
 const RIGHT: [u8; 11] = [0x3F, 0x2B, 0x80, 0, 0, 3, 0, 0x56, 0x0F, 0xD7, 0x3B];
 
@@ -82,6 +85,24 @@ fn slices_are_kept_once_in_rising_order(rt: HostRuntime) -> Result<(), Fail> {
     let mut all = SliceSet::new(rt.alloc());
     let copy = set.copied()?;
     assert!(rt; join_all(&mut all, &[set, copy]) == Ok(2));
+    Ok(())
+}
+
+/// The set of one slice.
+fn set_of(alloc: Global, slice: &[u8]) -> Result<SliceSet, Fail> {
+    let mut set = SliceSet::new(alloc);
+    set.insert(slice)?;
+    Ok(set)
+}
+
+#[test]
+fn sets_that_differ_are_joined(rt: HostRuntime) -> Result<(), Fail> {
+    let mut black = set_of(rt.alloc(), &BLACK)?;
+    let dark = set_of(rt.alloc(), &DARK)?;
+    let mut all = SliceSet::new(rt.alloc());
+    assert!(rt; join_all(&mut all, &[black.copied()?, dark.copied()?]) == Ok(2));
+    assert!(rt; black.join_with(&dark) == Ok(1));
+    assert!(rt; black.join_with(&dark) == Ok(0));
     Ok(())
 }
 
@@ -161,11 +182,12 @@ fn restored(
 
 #[test]
 fn settled_tiles_are_restored(rt: HostRuntime) -> Result<(), Fail> {
-    let cases: [(u32, [&[u8]; 2], &[u8]); 4] = [
+    let cases: [(u32, [&[u8]; 2], &[u8]); 5] = [
         (2, [&LEFT_DAMAGED, &RIGHT_DAMAGED], &FRAME),
         (2, [&RIGHT_DAMAGED, &LEFT_DAMAGED], &FRAME),
         (2, [&LEFT_DAMAGED, &FRAME], &FRAME),
         (1, [&DARK_DAMAGED, &BLACK], &BLACK),
+        (1, [&BLACK_WITH_STATUS, &BLACK], &BLACK),
     ];
     for (tiles, copies, wanted) in cases {
         let payload = restored(rt.alloc(), tiles, copies)??;
@@ -212,11 +234,12 @@ fn tells(held: &Holding, tile: usize, (slices, status, bests): (usize, Option<u8
 
 #[test]
 fn tiles_tell_what_is_held_of_them(rt: HostRuntime) -> Result<(), Fail> {
-    let cases: [(u32, [&[u8]; 2], usize, usize, Option<u8>, usize); 5] = [
+    let cases: [(u32, [&[u8]; 2], usize, usize, Option<u8>, usize); 6] = [
         (2, [&LEFT_DAMAGED, &LEFT_DAMAGED], 0, 0, None, 0),
         (2, [&LEFT_DAMAGED, &LEFT_DAMAGED], 1, 1, Some(0), 1),
         (1, [&BLACK, &DARK], 0, 2, Some(0), 2),
         (1, [&BLACK, &DARK_DAMAGED], 0, 2, Some(0), 1),
+        (1, [&BLACK, &BLACK_WITH_STATUS], 0, 2, Some(0), 1),
         (1, [&DARK_DAMAGED, &DARK_DAMAGED], 0, 1, Some(2), 1),
     ];
     for (tiles, copies, tile, slices, status, bests) in cases {

@@ -226,6 +226,28 @@ fn deltas_are_written_for_each_context(rt: HostRuntime) -> Result<(), Fail> {
     Ok(())
 }
 
+/// The record of a gray recording of 666 contexts, with such a delta for each of their states, and its setup.
+fn of_666_contexts(alloc: Global, delta: Option<i32>) -> Result<(Vec<u8>, Setup), Fail> {
+    let mut spec = gray(alloc, &[SIX, SIX, SIX, ONE, ONE])?;
+    spec.delta = delta;
+    let record = make_record(alloc, &spec)?;
+    let setup = Setup::read(alloc, &record, 1, 1)?;
+    Ok((record, setup))
+}
+
+#[test]
+fn deltas_of_666_contexts_are_passed_over(rt: HostRuntime) -> Result<(), Fail> {
+    let (plain, without) = of_666_contexts(rt.alloc(), None)?;
+    let (longer, with) = of_666_contexts(rt.alloc(), Some(-3))?;
+    assert!(rt; plain.len() < longer.len());
+    for setup in [without, with] {
+        assert!(rt; (setup.sets(), setup.contexts(0)) == (1, 666));
+        assert!(rt; (setup.micro(), setup.ec(), setup.intra()) == (4, 1, 1));
+        assert!(rt; setup.entry(0, 2, 127) == 605 && setup.entry(0, 3, 127) == 0);
+    }
+    Ok(())
+}
+
 /// A record of which nearly nothing is of the profile, as an independent program makes it.
 const BEYOND: [u8; 26] = [
     0x60, 0xF4, 0xF3, 0x35, 0x9B, 0xDC, 0x98, 0xFD, 0x98, 0x77, 0x5E, 0xBD, 0x7A, 0xF5, 0xEB, 0xD7,

@@ -261,6 +261,61 @@ fn bursts_in_each_tile_are_restored_from_two_copies(rt: HostRuntime) -> Result<(
     Ok(())
 }
 
+/// A copy of a frame with one bit flipped in the content of each of these tiles.
+fn flipped_in(alloc: Global, payload: &[u8], tiles: &[usize]) -> Result<Vec<u8>, Fail> {
+    let mut links: Vec<Link<'_>> = Chain::new(payload).collect(alloc)?;
+    links.reverse();
+    let mut copy = payload.to_vec(alloc)?;
+    for tile in tiles {
+        let link = links.get(*tile).ok_or("a slice of the tile")?;
+        if let Some(byte) = copy.get_mut(link.start().wrapping_add(2)) {
+            *byte ^= 0x40;
+        }
+    }
+    Ok(copy)
+}
+
+#[test]
+fn a_flipped_bit_in_each_tile_is_restored(rt: HostRuntime) -> Result<(), Fail> {
+    let frame = four_tiles(rt.alloc())?;
+    let outer = flipped_in(rt.alloc(), &frame.payload, &[0, 3])?;
+    let inner = flipped_in(rt.alloc(), &frame.payload, &[1, 2])?;
+    let lines = "copy 1 links 4 slices 2 new 2\ncopy 2 links 4 slices 2 new 2\n";
+    assert!(rt; are_restored(rt.alloc(), &frame, [&outer, &inner], lines)?);
+    Ok(())
+}
+
+/// A frame of 64 x 64 tiles of one sample each.
+fn many_tiles(alloc: Global) -> Result<Made, Fail> {
+    let case = SuiteCase {
+        tables: SuiteTables::OneRun,
+        chroma: None,
+        grid: (64, 64),
+        content: SuiteContent::Rising,
+        size: (64, 64),
+    };
+    frame_of(alloc, &case)
+}
+
+/// Every other one of 4096 tiles, from the first or the second on.
+fn every_other(alloc: Global, first: usize) -> Result<Vec<usize>, Fail> {
+    let mut tiles = Vec::new(alloc);
+    for pair in 0..2048usize {
+        tiles.push(pair.wrapping_mul(2).wrapping_add(first))?;
+    }
+    Ok(tiles)
+}
+
+#[test]
+fn even_and_odd_tiles_of_4096_are_restored(rt: HostRuntime) -> Result<(), Fail> {
+    let frame = many_tiles(rt.alloc())?;
+    let even = flipped_in(rt.alloc(), &frame.payload, &every_other(rt.alloc(), 0)?)?;
+    let odd = flipped_in(rt.alloc(), &frame.payload, &every_other(rt.alloc(), 1)?)?;
+    let lines = "copy 1 links 4096 slices 2048 new 2048\ncopy 2 links 4096 slices 2048 new 2048\n";
+    assert!(rt; are_restored(rt.alloc(), &frame, [&even, &odd], lines)?);
+    Ok(())
+}
+
 #[test]
 fn a_size_too_great_hides_what_lies_before(rt: HostRuntime) -> Result<(), Fail> {
     let frame = four_tiles(rt.alloc())?;
