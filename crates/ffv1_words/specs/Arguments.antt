@@ -1,48 +1,53 @@
--- What a command's words are read from: the values that the parse of the program's arguments found under each name.
-use Rattle.std.specs.Prelude.{ℕ, ◌≡◌, ◌++◌, ◌∷◌, List, [], Some, map, option_map, codes}
+-- What a command's words are read from: the values that clap finds under each name, its rows.
+use Rattle.std.specs.Prelude.{ℕ, ◌≡◌, ◌∷◌, List, Some, map, codes}
 use Rattle.std.specs.Str.Parse.{digits_value, without_leading_plus}
-use Rattle.clap.specs.Matches.{found_of, first_value, matched_of, raw_values}
+use Rattle.clap.specs.Words.{Row, all_of, first_of, rows_of, found_of, subcommand_of}
 use Rattle.clap.specs.declared.parser.matches.ArgMatches.{ArgMatches}
+use Rattle.ffv1_words.specs.Grammar.{program_app}
 use Rattle.ffv1_words.specs.declared.words.Recording.{Recording}
 use Rattle.ffv1_words.specs.declared.words.Words.{Words}
 use Rattle.ffv1_words.specs.declared.words.Words.TheVariants.{Chain, Scan, Show, Take, Join, Merge, Report, Restore, Picture, Splice, Decode}
 
+-- what clap found under each name
+abbrev pub rows_in : ArgMatches → List Row
+rows_in matches = rows_of (found_of matches)
+
 -- The first value of this name.
-abbrev pub IsWord : ArgMatches → List ℕ → List ℕ → Type 0
-IsWord matches name word = first_value (found_of matches) name ≡ Some word
+abbrev pub IsWord : List Row → List ℕ → List ℕ → Type 0
+IsWord rows name word = first_of name rows ≡ Some word
 
 -- All values of this name.
-abbrev pub AreWords : ArgMatches → List ℕ → List (List ℕ) → Type 0
-AreWords matches name words = option_map raw_values (matched_of (found_of matches) name) ≡ Some words
+abbrev pub AreWords : List Row → List ℕ → List (List ℕ) → Type 0
+AreWords rows name words = all_of name rows ≡ Some words
 
 -- The first value of this name, as a number in decimal digits.
-abbrev pub IsNumber : ArgMatches → List ℕ → ℕ → Type 0
-IsNumber matches name number =
-    (word : List ℕ) × IsWord matches name word × (number ≡ digits_value 10 (without_leading_plus word))
+abbrev pub IsNumber : List Row → List ℕ → ℕ → Type 0
+IsNumber rows name number =
+    (word : List ℕ) × IsWord rows name word × (number ≡ digits_value 10 (without_leading_plus word))
 
 -- The recording has the values of RECORD, WIDTH and HEIGHT.
-pub record IsRecording (matches : ArgMatches) (recording : Recording) : Type 0 where
-  pub record' : IsWord matches (codes "RECORD") recording.record.now
-  pub width : IsNumber matches (codes "WIDTH") recording.width
-  pub height : IsNumber matches (codes "HEIGHT") recording.height
+pub record IsRecording (rows : List Row) (recording : Recording) : Type 0 where
+  pub record' : IsWord rows (codes "RECORD") recording.record.now
+  pub width : IsNumber rows (codes "WIDTH") recording.width
+  pub height : IsNumber rows (codes "HEIGHT") recording.height
 
 -- The words of a command have the values of its names, those of which there are several in their order.
-abbrev pub AreRead : ArgMatches → Words → Type 0
-AreRead matches (Chain frame) = IsWord matches (codes "FRAME") frame.now
-AreRead matches (Scan ranges file) = IsWord matches (codes "RANGES") ranges.now × IsWord matches (codes "FILE") file.now
-AreRead matches (Show recording) = IsRecording matches recording
-AreRead matches (Take recording out copies) =
-    IsRecording matches recording × IsWord matches (codes "OUT") out.now × AreWords matches (codes "COPY") (map (λ copy. copy.now) copies.items)
-AreRead matches (Join out first others) =
-    IsWord matches (codes "OUT") out.now × AreWords matches (codes "HOLD") (first.now ∷ map (λ other. other.now) others.items)
-AreRead matches (Merge out left right) =
-    IsWord matches (codes "OUT") out.now × IsWord matches (codes "A") left.now × IsWord matches (codes "B") right.now
-AreRead matches (Report file) = IsWord matches (codes "HOLD") file.now
-AreRead matches (Restore file out) = IsWord matches (codes "HOLD") file.now × IsWord matches (codes "OUT") out.now
-AreRead matches (Picture file out) = IsWord matches (codes "HOLD") file.now × IsWord matches (codes "OUT") out.now
-AreRead matches (Splice out copies) = IsWord matches (codes "OUT") out.now × AreWords matches (codes "COPY") (map (λ copy. copy.now) copies.items)
-AreRead matches (Decode recording frame out) =
-    IsRecording matches recording × IsWord matches (codes "FRAME") frame.now × IsWord matches (codes "OUT") out.now
+abbrev pub AreRead : List Row → Words → Type 0
+AreRead rows (Chain frame) = IsWord rows (codes "FRAME") frame.now
+AreRead rows (Scan ranges file) = IsWord rows (codes "RANGES") ranges.now × IsWord rows (codes "FILE") file.now
+AreRead rows (Show recording) = IsRecording rows recording
+AreRead rows (Take recording out copies) =
+    IsRecording rows recording × IsWord rows (codes "OUT") out.now × AreWords rows (codes "COPY") (map (λ copy. copy.now) copies.items)
+AreRead rows (Join out first others) =
+    IsWord rows (codes "OUT") out.now × AreWords rows (codes "HOLD") (first.now ∷ map (λ other. other.now) others.items)
+AreRead rows (Merge out left right) =
+    IsWord rows (codes "OUT") out.now × IsWord rows (codes "A") left.now × IsWord rows (codes "B") right.now
+AreRead rows (Report file) = IsWord rows (codes "HOLD") file.now
+AreRead rows (Restore file out) = IsWord rows (codes "HOLD") file.now × IsWord rows (codes "OUT") out.now
+AreRead rows (Picture file out) = IsWord rows (codes "HOLD") file.now × IsWord rows (codes "OUT") out.now
+AreRead rows (Splice out copies) = IsWord rows (codes "OUT") out.now × AreWords rows (codes "COPY") (map (λ copy. copy.now) copies.items)
+AreRead rows (Decode recording frame out) =
+    IsRecording rows recording × IsWord rows (codes "FRAME") frame.now × IsWord rows (codes "OUT") out.now
 
 -- the name of a command
 abbrev pub command_name : Words → List ℕ
@@ -57,3 +62,8 @@ command_name (Restore file out) = codes "restore"
 command_name (Picture file out) = codes "picture"
 command_name (Splice out copies) = codes "splice"
 command_name (Decode recording frame out) = codes "decode"
+
+-- These arguments, the first of which is the program's name, are read by clap as a command with these words.
+abbrev pub AreReadFrom : List (List ℕ) → Words → Type 0
+AreReadFrom arguments words =
+    (rows : List Row) × (subcommand_of program_app arguments ≡ Some (command_name words, rows)) × AreRead rows words

@@ -1,4 +1,5 @@
 pub mod WordPaths
+pub mod Grammar
 pub mod Arguments
 -- those that the paths and the faults of the words are told by
 pub use Rattle.ffv1_commands.specs.Paths

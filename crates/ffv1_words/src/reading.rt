@@ -1,7 +1,10 @@
 //! The words that the program is given (own): the first names a command, then come exactly its own.
-ghost use Rattle.std.specs.Prelude.{◌≡◌, map, IfOk, IfErr, codes};
+ghost use Rattle.std.specs.Prelude.{◌≡◌, map, option_map, false, IfOk, IfErr, codes, string_bytes};
 ghost use Rattle.ffv1_commands.specs.Fault.{NamesNoPath};
-ghost use Rattle.ffv1_words.specs.Arguments.{IsWord, AreWords, IsNumber, IsRecording, AreRead, command_name};
+ghost use Rattle.clap.specs.Words.{app_of, rule_of};
+ghost use Rattle.clap.specs.declared.builder.command.Command.TheViews.{out-Command};
+ghost use Rattle.ffv1_words.specs.Grammar.{word_rule, command_app, with_commands, program_app};
+ghost use Rattle.ffv1_words.specs.Arguments.{rows_in, IsWord, AreWords, IsNumber, IsRecording, AreRead, AreReadFrom, command_name};
 
 use crate::words::{Recording, Words};
 use clap::error::ErrorKind;
@@ -29,7 +32,10 @@ const COMMANDS: [(&str, &[&str], Option<&str>); 11] = [
 ];
 
 /// A word that has to be there, by this name.
-fn one<'a>(alloc: Global, name: &'a str) -> Arg<'a> {
+fn one<'a>(alloc: Global, name: &'a str) -> Arg<'a>
+    ensures rule { rule_of result ≡ word_rule name.now }
+    ensures local { result.global ≡ false }
+{
     Arg::new(alloc, name).required(true).action(ArgAction::Set)
 }
 
@@ -39,7 +45,10 @@ fn command<'a>(
     name: &'a str,
     words: &[&'a str],
     several: Option<&'a str>,
-) -> Result<Command<'a>, AllocError> {
+) -> Result<Command<'a>, AllocError>
+    ensures app { IfOk result (λ command. app_of command ≡ command_app name.now (map (λ word. word.now) words.now) (option_map (λ word. word.now) several.entry)) }
+    ensures local { IfOk result (λ command. (out-Command command).has_globals ≡ false) }
+{
     let mut command = Command::new(alloc, name);
     for word in words {
         command = command.arg(one(alloc, word))?;
@@ -50,18 +59,32 @@ fn command<'a>(
     }
 }
 
-/// The program's commands.
-fn program<'a>(alloc: Global) -> Result<Command<'a>, AllocError> {
-    let mut program = Command::new(alloc, "ffv1restore").subcommand_required(true);
-    for (name, words, several) in COMMANDS {
-        program = program.subcommand(command(alloc, name, words, several)?)?;
+/// A program with these commands after its own: the name of each, its words, and the word of which there has to be one at least.
+fn with_commands<'a>(
+    alloc: Global,
+    program: Command<'a>,
+    commands: &[(&'a str, &'a [&'a str], Option<&'a str>)],
+) -> Result<Command<'a>, AllocError>
+    ensures { IfOk result (λ r. app_of r ≡ with_commands (app_of program.entry) (map (λ command. (command.0.now, map (λ word. word.now) command.1.now, option_map (λ word. word.now) command.2)) commands.now)) }
+{
+    let mut program = program;
+    for (name, words, several) in commands {
+        program = program.subcommand(command(alloc, name, words, *several)?)?;
     }
     Ok(program)
 }
 
+/// The program's commands.
+fn program<'a>(alloc: Global) -> Result<Command<'a>, AllocError>
+    ensures { IfOk result (λ program. app_of program ≡ program_app) }
+{
+    let program = Command::new(alloc, "ffv1restore").subcommand_required(true);
+    with_commands(alloc, program, &COMMANDS)
+}
+
 /// The word of this name.
 fn word<'a>(matches: &ArgMatches<'a>, name: &str) -> Result<&'a str, CliFault>
-    ensures ok { IfOk result (λ word. IsWord matches.now name.now word.now) }
+    ensures ok { IfOk result (λ word. IsWord (rows_in matches.now) name.now word.now) }
     ensures err { IfErr result NamesNoPath }
 {
     matches.get_str(name).ok_or(CliFault::Words)
@@ -69,7 +92,7 @@ fn word<'a>(matches: &ArgMatches<'a>, name: &str) -> Result<&'a str, CliFault>
 
 /// The word of this name, as a number.
 fn number(matches: &ArgMatches, name: &str) -> Result<u32, CliFault>
-    ensures ok { IfOk result (IsNumber matches.now name.now) }
+    ensures ok { IfOk result (IsNumber (rows_in matches.now) name.now) }
     ensures err { IfErr result NamesNoPath }
 {
     match word(matches, name)?.parse::<u32>() {
@@ -80,7 +103,7 @@ fn number(matches: &ArgMatches, name: &str) -> Result<u32, CliFault>
 
 /// The words of this name.
 fn several<'m, 'a>(matches: &'m ArgMatches<'a>, name: &str) -> Result<&'m [&'a str], CliFault>
-    ensures ok { IfOk result (λ words. AreWords matches.now name.now (map (λ word. word.now) words.now)) }
+    ensures ok { IfOk result (λ words. AreWords (rows_in matches.now) name.now (map (λ word. word.now) words.now)) }
     ensures err { IfErr result NamesNoPath }
 {
     matches.get_strs(name).ok_or(CliFault::Words)
@@ -96,7 +119,7 @@ fn list<'a>(alloc: Global, words: &[&'a str]) -> Result<Vec<&'a str>, CliFault>
 
 /// The words of a recording: RECORD, WIDTH and HEIGHT.
 fn recording_words<'a>(matches: &ArgMatches<'a>) -> Result<Recording<'a>, CliFault>
-    ensures ok { IfOk result (IsRecording matches.now) }
+    ensures ok { IfOk result (IsRecording (rows_in matches.now)) }
     ensures err { IfErr result NamesNoPath }
 {
     Ok(Recording {
@@ -108,7 +131,7 @@ fn recording_words<'a>(matches: &ArgMatches<'a>) -> Result<Recording<'a>, CliFau
 
 /// The words of `take`.
 fn take_words<'a>(alloc: Global, matches: &ArgMatches<'a>) -> Result<Words<'a>, CliFault>
-    ensures ok { IfOk result (AreRead matches.now) }
+    ensures ok { IfOk result (AreRead (rows_in matches.now)) }
     ensures name { IfOk result (λ words. command_name words ≡ codes "take") }
     ensures err { IfErr result NamesNoPath }
 {
@@ -121,7 +144,7 @@ fn take_words<'a>(alloc: Global, matches: &ArgMatches<'a>) -> Result<Words<'a>, 
 
 /// The words of `join`.
 fn join_words<'a>(alloc: Global, matches: &ArgMatches<'a>) -> Result<Words<'a>, CliFault>
-    ensures ok { IfOk result (AreRead matches.now) }
+    ensures ok { IfOk result (AreRead (rows_in matches.now)) }
     ensures name { IfOk result (λ words. command_name words ≡ codes "join") }
     ensures err { IfErr result NamesNoPath }
 {
@@ -137,7 +160,7 @@ fn join_words<'a>(alloc: Global, matches: &ArgMatches<'a>) -> Result<Words<'a>, 
 
 /// The words of `merge`.
 fn merge_words<'a>(matches: &ArgMatches<'a>) -> Result<Words<'a>, CliFault>
-    ensures ok { IfOk result (AreRead matches.now) }
+    ensures ok { IfOk result (AreRead (rows_in matches.now)) }
     ensures name { IfOk result (λ words. command_name words ≡ codes "merge") }
     ensures err { IfErr result NamesNoPath }
 {
@@ -150,7 +173,7 @@ fn merge_words<'a>(matches: &ArgMatches<'a>) -> Result<Words<'a>, CliFault>
 
 /// The words of `splice`.
 fn splice_words<'a>(alloc: Global, matches: &ArgMatches<'a>) -> Result<Words<'a>, CliFault>
-    ensures ok { IfOk result (AreRead matches.now) }
+    ensures ok { IfOk result (AreRead (rows_in matches.now)) }
     ensures name { IfOk result (λ words. command_name words ≡ codes "splice") }
     ensures err { IfErr result NamesNoPath }
 {
@@ -162,7 +185,7 @@ fn splice_words<'a>(alloc: Global, matches: &ArgMatches<'a>) -> Result<Words<'a>
 
 /// The words of `decode`.
 fn decode_words<'a>(matches: &ArgMatches<'a>) -> Result<Words<'a>, CliFault>
-    ensures ok { IfOk result (AreRead matches.now) }
+    ensures ok { IfOk result (AreRead (rows_in matches.now)) }
     ensures name { IfOk result (λ words. command_name words ≡ codes "decode") }
     ensures err { IfErr result NamesNoPath }
 {
@@ -175,7 +198,7 @@ fn decode_words<'a>(matches: &ArgMatches<'a>) -> Result<Words<'a>, CliFault>
 
 /// The command of this name, with its words.
 fn words_of<'a>(alloc: Global, name: &str, matches: &ArgMatches<'a>) -> Result<Words<'a>, CliFault>
-    ensures ok { IfOk result (AreRead matches.now) }
+    ensures ok { IfOk result (AreRead (rows_in matches.now)) }
     ensures name { IfOk result (λ words. command_name words ≡ name.now) }
     ensures err { IfErr result NamesNoPath }
 {
@@ -210,10 +233,12 @@ fn words_of<'a>(alloc: Global, name: &str, matches: &ArgMatches<'a>) -> Result<W
     }
 }
 
-/// The command that the program's words name, the first of which is the program's own. All other words are refused with
-/// `Words`, those that ask for help among them; `Memory` comes where a growth is refused.
+/// The command that the program's words name, the first of which is the program's own: they are read as `clap` reads them, by the
+/// commands of `specs/Grammar.antt`. All other words are refused with `Words`, those that ask for help among them, and a width or
+/// height that is no number under 2^32; `Memory` comes where a growth is refused.
 pub fn read_words<'a>(alloc: Global, words: &'a [String]) -> Result<Words<'a>, CliFault>
-    ensures { IfErr result NamesNoPath }
+    ensures ok { IfOk result (AreReadFrom (map (λ word. string_bytes word) words.now)) }
+    ensures err { IfErr result NamesNoPath }
 {
     let Ok(program) = program(alloc) else {
         return Err(CliFault::Memory);

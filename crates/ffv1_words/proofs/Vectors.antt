@@ -1,0 +1,32 @@
+-- Arguments as clap reads them.
+use Rattle.std.proofs.Common.{◌≡◌, List, [], ◌∷◌, Option, Some, option_map, codes, true, false, refl}
+use Rattle.clap.specs.Words.{Row, Text, all_of, first_of, subcommand_of, takes}
+use Rattle.clap.proofs.OnLiterals.{clap_on_literals}
+use Rattle.ffv1_words.specs.Grammar.{program_app}
+
+-- the command, the first value of one name, and all values of another
+abbrev read_of : Text → Text → List Text → Option (Text × Option Text × Option (List Text))
+read_of one several arguments =
+    option_map (λ (p : Text × List Row). (p.0, first_of one p.1, all_of several p.1)) (subcommand_of program_app (codes "ffv1restore" ∷ arguments))
+
+join_is_read : read_of (codes "OUT") (codes "HOLD") (codes "join" ∷ codes "c" ∷ codes "a" ∷ codes "b" ∷ [])
+    ≡ Some (codes "join", Some (codes "c"), Some (codes "a" ∷ codes "b" ∷ []))
+unfolding clap_on_literals
+join_is_read = refl
+
+words_after_dashes_are_read : read_of (codes "OUT") (codes "COPY") (codes "splice" ∷ codes "--" ∷ codes "-c" ∷ codes "--" ∷ [])
+    ≡ Some (codes "splice", Some (codes "-c"), Some (codes "--" ∷ []))
+unfolding clap_on_literals
+words_after_dashes_are_read = refl
+
+one_file_is_taken : takes program_app (codes "ffv1restore" ∷ codes "chain" ∷ codes "a" ∷ []) ≡ true
+unfolding clap_on_literals
+one_file_is_taken = refl
+
+two_files_are_refused : takes program_app (codes "ffv1restore" ∷ codes "chain" ∷ codes "a" ∷ codes "b" ∷ []) ≡ false
+unfolding clap_on_literals
+two_files_are_refused = refl
+
+no_copy_is_refused : takes program_app (codes "ffv1restore" ∷ codes "splice" ∷ codes "c" ∷ []) ≡ false
+unfolding clap_on_literals
+no_copy_is_refused = refl
