@@ -63,12 +63,12 @@ impl From<AllocError> for RestorationFault {
 /// Carries a plan out, for a configuration record and the size of its frames in samples, and answers the restored
 /// payload, the report and the picture of what is held then.
 ///
-/// However the same copies are ordered, grouped or repeated, the holdings are equal in every tile, file byte and
-/// report line. Where every slice found in them is the original's for its tile, and each tile's is found in some
+/// However the same copies are ordered, grouped or repeated, the holdings are equal in every tile, origin, file byte and
+/// report line. If every slice found in them is the original's for its tile, and each tile's is found in some
 /// copy, the restored payload is the original byte for byte, and each sample is the one that the greatest decoded
 /// tile covering it spells.
 ///
-/// `Plan` comes with a refusal of one of the plan's steps, `Memory` where a growth is refused behind them.
+/// `Plan` comes with a refusal of one of the plan's steps, `Memory` where a growth is refused after them.
 pub fn restored(
     alloc: Global,
     plan: &Plan<'_>,
@@ -84,7 +84,8 @@ pub fn restored(
     ensures whole { (pictures : List (Option Planes)) → IfOk result (λ r. ArePicturesOf r.holding pictures
         → IsFrameOf r.holding.reel.setup pictures r.picture.frame) }
 
-    // However the same copies are ordered, grouped or repeated, the holdings are equal in every tile, file byte and report line.
+    // However the same copies are ordered, grouped or repeated, the holdings are equal in every tile, origin, file byte and
+    // report line.
     ensures same_copies { (other : Plan) (h : Contents) → IsHoldingOfPlan config.now width height other h
         → HasSameCopies (copies_of plan.now) (copies_of other) → IfOk result (λ r. AreEqualInAll r.holding h) }
 
