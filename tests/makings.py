@@ -40,9 +40,9 @@ class Encoder:
         return (-(-self.low // unit) * unit).to_bytes(self.used, "big").rstrip(b"\0").ljust(2, b"\0")
 
     def header(self):
-        """The bytes of a slice's header: any byte may stand behind them."""
+        """The bytes of a slice's header: any byte may come after them."""
         if self.range - self.range * 129 // 256 < 256:
-            # 0 brings a byte; else neither bit does, and which one it is depends on the byte behind
+            # 0 brings a byte; else neither bit does, and which one it is depends on the byte after it
             self.bit([129], 0, 0)
         front = -(-self.low // 256)
         assert front * 256 + 255 < self.low + self.range

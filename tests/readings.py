@@ -21,7 +21,7 @@ class Fault(Exception):
 
 
 def parity(piece):
-    """The remainder of some bytes with four bytes of 0 behind them: zlib's, whose bits are the other way round, from 0 and without
+    """The remainder of some bytes followed by four bytes of 0: zlib's, whose bits are the other way round, from 0 and without
     its inversions. It is 0 exactly where that of the bytes alone is."""
     register = zlib.crc32(piece.translate(REVERSED), 0xFFFFFFFF) ^ 0xFFFFFFFF
     return int(f"{register:032b}"[::-1], 2)
@@ -74,7 +74,7 @@ AFTER_ONE = transitions()
 
 
 class Coder:
-    """A range decoder. Behind a record's content it reads zeros, behind a slice's header nothing: then it is not closed."""
+    """A range decoder. After a record's content it reads zeros, after a slice's header nothing: then it is not closed."""
 
     def __init__(self, content, closed=False):
         if len(content) < 2 or content[0] == 0xFF:
@@ -117,7 +117,7 @@ class Coder:
 
 
 def table_runs(coder, scale):
-    """Reads a table of a set, and answers the scale behind it."""
+    """Reads a table of a set, and answers the scale after it."""
     row, filled, runs = [128] * 32, 0, 0
     while filled < 128:
         filled += coder.number(row) + 1
@@ -252,7 +252,7 @@ def best(pieces):
 
 
 def taken(setup, payload):
-    """What a copy adds to a holding: the slices found in it, each with its tile, and behind each the copy's digest."""
+    """What a copy adds to a holding: the slices found in it, each with its tile and the copy's digest."""
     digest = hashlib.sha256(payload).digest()
     return {each: {digest} for each in found_slices(setup, payload)}
 
@@ -355,7 +355,7 @@ def read_entries(setup, text, place):
 
 
 def read_origins(text, place):
-    """The digests behind an entry's slice, and the place behind them."""
+    """The digests after an entry's slice, and the place after them."""
     count = int.from_bytes(text[place : place + 4], "big")
     judge(len(text) >= place + 4, 3)
     judge(count <= ORIGINS_LIMIT, 11)
