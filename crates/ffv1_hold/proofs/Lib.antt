@@ -2,6 +2,7 @@ pub mod Numbers
 pub mod ReadRefusals
 pub mod TextReads
 pub mod Bodies
+pub mod HeldBytes
 pub mod NumberTexts
 pub mod SliceTexts
 pub mod DigestTexts

@@ -30,8 +30,8 @@ use std::cmp::Ordering;
 /// Joins two holding files of either version as streams: reads both, and writes the file of the union, of version 2.
 ///
 /// Both heads are read and judged before anything is written. Then the smaller of the inputs' next entries is
-/// written, once where both have its slice, and then with the digests of both, and its input is read on: one entry of
-/// each is held with its digests, and one more of an input while it is compared with the one before it. `OtherReel`
+/// written, once where both have its slice, and then with the digests of both, and its input is read on: at most one
+/// entry of each input is held, and the next one is read over it, piece by piece, and compared with it. `OtherReel`
 /// comes exactly where both heads were read and their record, width or height differ, before anything is written.
 /// `TooLong` comes where an input passes its limits, or where what is written would pass 2^31 bytes; each other fault is
 /// the one that `read_hold` tells of that input. The end tag is written only where both inputs were read to their ends
