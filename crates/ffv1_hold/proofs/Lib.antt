@@ -29,6 +29,7 @@ pub mod PlanSteps
 pub mod Weights
 pub mod MergeFacts
 pub mod MergeLeads
+pub mod ReadDigests
 pub mod OneLead
 pub mod MergeSteps
 pub mod MergeStarts
