@@ -27,7 +27,7 @@ use Rattle.ffv1_hold.proofs.HeldEntries.{entries-none, holding-joined}
 use Rattle.ffv1_hold.proofs.ReadSteps.{holding_none, told_none}
 use Rattle.ffv1_hold.proofs.TileTexts.{told_begun, fits_within}
 use Rattle.ffv1_hold.proofs.MergeSteps.{advanced, input_refuses, passed_part, passed_shows_none, held_shows_none, head_begins, part_begins}
-use Rattle.ffv1_hold.proofs.MergeFacts.{IsWithin, within-left, within-right}
+use Rattle.ffv1_hold.proofs.MergeFacts.{within-left, within-right}
 use Rattle.ffv1_hold.proofs.ReadDigests.{all_read_to, left_gives, right_gives, stays_beside}
 
 pub begun-none : (v : Version) (r : Reel) → begun_text v (part r no_facts) ≡ head_text v r

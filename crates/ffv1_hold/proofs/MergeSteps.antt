@@ -28,7 +28,7 @@ use Rattle.ffv1_hold.proofs.OriginReads.{origins_none}
 use Rattle.ffv1_hold.proofs.ReadSteps.{digests_in_version}
 use Rattle.ffv1_hold.proofs.DigestUnions.{union-rises}
 use Rattle.ffv1_hold.proofs.TileTexts.{told_begun}
-use Rattle.ffv1_hold.proofs.MergeFacts.{IsWithin, within-left, within-right, both-left, both-right, both-both, with_none, begun-with, last-with}
+use Rattle.ffv1_hold.proofs.MergeFacts.{within-left, within-right, both-left, both-right, both-both, with_none, begun-with, last-with}
 use Rattle.ffv1_hold.proofs.ReadDigests.{held_read, left_gives, right_gives, stays_beside}
 
 -- ---- one input

@@ -1,16 +1,16 @@
 -- The digests that a text gives a slice, by what was read of it: where the next entry follows the slice, the entries that were read tell
 -- all of them.
-use Rattle.std.proofs.Common.{◌≡◌, ℕ, zero, suc, ◌<◌, cond, Bool, true, false, ◌||◌, List, [], ◌∷◌, ◌++◌, length, map, get_or, Option, Some, None, IfSome, refl, sym, ap, ◌∙◌, subst, inr, arith, append-nil}
+use Rattle.std.proofs.Common.{◌≡◌, ℕ, suc, ◌<◌, cond, Bool, true, false, ◌||◌, List, [], ◌∷◌, ◌++◌, length, map, get_or, Option, Some, None, IfSome, refl, sym, ap, ◌∙◌, subst, inr, arith, append-nil}
 use mathlib.Core.Bool.{true≢false}
-use Rattle.std.specs.List.{list_any, AllByRecursion}
+use Rattle.std.specs.List.{list_any}
 use Rattle.std.specs.Io.KnownBytes.{Consumes}
 use Rattle.std.specs.Ordering.{is_eq, eq_by_cmp}
 use Rattle.std.specs.declared.cmp.Ordering.TheVariants.{Less}
 use Rattle.std.proofs.lemmas.Bool.{false_from_ne_true}
-use Rattle.ffv1_holding.specs.SliceOrder.{Entry, bytes_cmp, entry_cmp, origin_cmp, entries_total, origins_total, origins_antisymmetric}
+use Rattle.ffv1_holding.specs.SliceOrder.{Entry, entry_cmp, entries_total, origins_total, origins_antisymmetric}
 use Rattle.ffv1_holding.specs.Sets as set
 use Rattle.ffv1_holding.specs.Rising.{IsRising}
-use Rattle.ffv1_holding.specs.Reels.{Reel, IsReel}
+use Rattle.ffv1_holding.specs.Reels.{Reel}
 use Rattle.ffv1_holding.specs.TileSets.{digests_in}
 use Rattle.ffv1_holding.specs.Contents.{Contents, IsHolding, digests_of, joined}
 use Rattle.ffv1_holding.proofs.RisingSets.{rising_rest}
@@ -18,8 +18,8 @@ use Rattle.ffv1_holding.proofs.ItemsRise.{items-rising}
 use Rattle.ffv1_holding.proofs.EntrySteps.{or_cases}
 use Rattle.ffv1_hold.specs.declared.version.Version.{Version}
 use Rattle.ffv1_hold.specs.declared.version.Version.TheVariants.{Second}
-use Rattle.ffv1_hold.specs.HoldingText.{FileEntry, head_text, entry_text, body_text, entries_text, begun_text, file_entries, file_text, IsTold}
-use Rattle.ffv1_hold.specs.FileEntries.{last_of, Follows, IsFileEntryOf, file_entry_cmp, next_text}
+use Rattle.ffv1_hold.specs.HoldingText.{FileEntry, entry_text, body_text, entries_text, begun_text, file_entries, IsTold}
+use Rattle.ffv1_hold.specs.FileEntries.{IsFileEntryOf, file_entry_cmp, next_text}
 use Rattle.ffv1_hold.specs.FileFaults.{IsFileReel}
 use Rattle.ffv1_hold.specs.Leads.{AreAllDigests}
 use Rattle.ffv1_hold.specs.JoinedStreams.{IsFileOf, IsFileOfSome, ReadsAll}
@@ -27,7 +27,7 @@ use Rattle.ffv1_hold.specs.Merging.{Facts, part, both, IsHeld, IsBehind, StaysBe
 use Rattle.ffv1_hold.proofs.DigestSets.{has, entry_tie, has-digests_in, digests_rise, same_digests}
 use Rattle.ffv1_hold.proofs.HeldEntries.{above_all, are_entries}
 use Rattle.ffv1_hold.proofs.NumberTexts.{no_tag}
-use Rattle.ffv1_hold.proofs.TextLaws.{entries_behind, none_behind, AreFitting, fitting_all}
+use Rattle.ffv1_hold.proofs.TextLaws.{entries_behind, AreFitting, fitting_all}
 use Rattle.ffv1_hold.proofs.Slots.{entries_text-cons, entries_text-none}
 use Rattle.ffv1_hold.proofs.TileTexts.{own}
 use Rattle.ffv1_hold.proofs.MergeFacts.{IsWithin, own_digests}

@@ -70,14 +70,7 @@ impl HoldReader {
         ensures end { OnOk result (IfNone self.new.held (IsAtEnd (S.log source.new).remaining)) }
     {
         let last = self.held.take();
-        match read_entry(
-            alloc,
-            source,
-            &mut self.place,
-            self.version,
-            setup,
-            last,
-        )? {
+        match read_entry(alloc, source, &mut self.place, self.version, setup, last)? {
             Some(slice) => self.held = Some(slice),
             None => match next_byte(source)? {
                 Some(_) => return Err(HoldFileFault::Trailing),
