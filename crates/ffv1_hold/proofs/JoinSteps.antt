@@ -1,5 +1,5 @@
 -- Steps of both inputs and the sink, one after the other.
-use Rattle.std.proofs.Common.{◌≡◌, ℕ, ◌+◌, ◌≤◌, List, Option, Bool, true, false, Result, Ok, Err, arith, inl, inr, refl, sym, ap, ◌∙◌, subst}
+use Rattle.std.proofs.Common.{◌≡◌, ℕ, ◌≤◌, List, Option, Bool, false, Result, Ok, Err, arith, inl, inr, refl, sym, ◌∙◌, subst}
 use Rattle.std.specs.Prelude.{◌⊎◌}
 use Rattle.ffv1_bits.specs.Limits.{file_limit}
 use Rattle.ffv1_devices.specs.Logs.{Tries, ReadLog, WriteLog, GoesOn, Writes, StopsWriting}

@@ -2,6 +2,7 @@ pub mod Numbers
 pub mod ReadRefusals
 pub mod TextReads
 pub mod Bodies
+pub mod HeldBytes
 pub mod NumberTexts
 pub mod SliceTexts
 pub mod DigestTexts
@@ -28,6 +29,7 @@ pub mod PlanSteps
 pub mod Weights
 pub mod MergeFacts
 pub mod MergeLeads
+pub mod ReadDigests
 pub mod OneLead
 pub mod MergeSteps
 pub mod MergeStarts

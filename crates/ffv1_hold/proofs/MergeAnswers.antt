@@ -13,7 +13,7 @@ use Rattle.ffv1_hold.specs.declared.file_fault.HoldFileFault.TheVariants as faul
 use Rattle.ffv1_hold.specs.HoldingText.{be4, magic, sized_record, head_text, entries_text, begun_text, file_entries, file_text, holding_text, IsTold}
 use Rattle.ffv1_hold.specs.Reading.{Refuses, StopsIn}
 use Rattle.ffv1_hold.specs.FileFaults.{IsFileReel, IsPartOfReel, IsPartOfHead, HeadIsWhole, HeadShows, IsOutside}
-use Rattle.ffv1_hold.specs.JoinedStreams.{Inputs, IsFileOf, BeginsWith, BeginsWithHead, InputRefuses, ShowsNoFault, BothRefuse, JoinRefuses, EntriesPass, UnionPasses, ReadsPart, ReadsAll, ReadsOtherHeads, WritesUnion, AnswersUnion, AnswersOther, WritesAtMost, WritesNoEnd, StaysInLead}
+use Rattle.ffv1_hold.specs.JoinedStreams.{Inputs, IsFileOf, IsFileOfSome, BeginsWith, BeginsWithHead, InputRefuses, ShowsNoFault, BothRefuse, JoinRefuses, EntriesPass, UnionPasses, ReadsPart, ReadsAll, ReadsOtherHeads, WritesUnion, AnswersUnion, AnswersOther, WritesAtMost, WritesNoEnd, StaysInLead}
 use Rattle.ffv1_hold.specs.Merging.{Facts, both, HeadsRefuse, WriteStops, Stops, JoinStops, part}
 use Rattle.ffv1_hold.proofs.Bodies.{length-be4}
 use Rattle.ffv1_hold.proofs.TextLaws.{same_head, head_parts, behind_magic, text_parts, one_file, fitting_items}
@@ -279,13 +279,15 @@ module _ (i : Inputs) (w v : Option (List ℕ)) where
   write_stops (inl (heads, untouched)) = absurd (heads_write heads)
   write_stops (inr s) = (s.reel, s.is, s.write refl)
 
-  pub left_stays : (u : Version) (h : Contents) → IsFileOf i.left_old u h → JoinStops i w v faults.Write → StaysInLead u h i.left_old i.left_new w v
-  left_stays u h file stops = let s = write_stops stops in
-      stays_in_lead u s.2.left_version h s.0 s.1 i.left_old i.left_new w v s.2.done file s.2.left s.2.written
+  pub left_stays : (u : Version) (h : Contents) (other : Option Contents) → IsFileOf i.left_old u h → IsFileOfSome i.right_old other → JoinStops i w v faults.Write
+      → StaysInLead u h other i.left_old i.left_new w v
+  left_stays u h other file also stops = let s = write_stops stops in
+      stays_in_lead u s.2.left_version h other s.0 s.1 i.left_old i.left_new i.right_old w v s.2.done file also s.2.left s.2.written
 
-  pub right_stays : (u : Version) (h : Contents) → IsFileOf i.right_old u h → JoinStops i w v faults.Write → StaysInLead u h i.right_old i.right_new w v
-  right_stays u h file stops = let s = write_stops stops in
-      stays_in_lead u s.2.right_version h s.0 s.1 i.right_old i.right_new w v s.2.done file s.2.right s.2.written
+  pub right_stays : (u : Version) (h : Contents) (other : Option Contents) → IsFileOf i.right_old u h → IsFileOfSome i.left_old other → JoinStops i w v faults.Write
+      → StaysInLead u h other i.right_old i.right_new w v
+  right_stays u h other file also stops = let s = write_stops stops in
+      stays_in_lead u s.2.right_version h other s.0 s.1 i.right_old i.right_new i.left_old w v s.2.done file also s.2.right s.2.written
 
   pub says : (Q : HoldFileFault → Type 0) → ((f : HoldFileFault) → JoinStops i w v f → Q f) → (r : Result (Unit {0}) HoldFileFault)
       → IfErr r (JoinStops i w v) → IfErr r Q

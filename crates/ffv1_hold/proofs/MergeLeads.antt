@@ -12,8 +12,8 @@ use Rattle.ffv1_hold.specs.declared.version.Version.TheVariants.{Second}
 use Rattle.ffv1_hold.specs.HoldingText.{FileEntry, head_text, entry_text, body_text, entries_text, begun_text, file_entries, file_text, IsTold}
 use Rattle.ffv1_hold.specs.FileEntries.{IsFileEntryOf, next_text}
 use Rattle.ffv1_hold.specs.FileFaults.{IsFileReel}
-use Rattle.ffv1_hold.specs.Leads.{LiesWhole, IsLeadOf}
-use Rattle.ffv1_hold.specs.JoinedStreams.{IsFileOf, StaysInLead}
+use Rattle.ffv1_hold.specs.Leads.{LiesWhole, AreAllDigests, IsLeadOf}
+use Rattle.ffv1_hold.specs.JoinedStreams.{IsFileOf, IsFileOfSome, StaysInLead}
 use Rattle.ffv1_hold.specs.Merging.{Facts, part, StaysBehind}
 use Rattle.ffv1_holding.proofs.RisingSets.{contains_item}
 use Rattle.ffv1_hold.proofs.NumberTexts.{no_tag, rest_same}
@@ -22,7 +22,7 @@ use Rattle.ffv1_hold.proofs.TextLaws.{entries_behind, none_behind, AreFitting, f
 use Rattle.ffv1_hold.proofs.Slots.{entries_text-split, entries_text-cons, entries_text-none}
 use Rattle.ffv1_hold.proofs.Answered.{taken_front}
 use Rattle.ffv1_hold.proofs.TileTexts.{own}
-use Rattle.ffv1_hold.proofs.MergeFacts.{IsWithin, own_digests, entry_split}
+use Rattle.ffv1_hold.proofs.MergeFacts.{IsWithin, entry_split}
 
 -- ---- lists that are split in two ways
 
@@ -59,9 +59,11 @@ module _ (v : Version) where
       let more = front_entries es fs x y es_fit.1 fs_fit.1 one.1 in
       (more.0, (λ i. one.0 i ∷ more.1 i), more.2)
 
--- each entry of facts lies whole in the text of others that they are within
-module _ (r : Reel) (f g : Facts) (is : IsHolding (part r g)) (told : IsTold Second (part r g)) (within : IsWithin f g) (rest : List ℕ) where
-  lies_whole : (e : Entry) → set.contains f.0 e ≡ true → LiesWhole r (begun_text Second (part r g) ++ rest) (own (part r f) e)
+-- each entry of facts lies whole in the text of others that they are within, where these give its slice all digests
+module _ (r : Reel) (f g : Facts) (is : IsHolding (part r g)) (told : IsTold Second (part r g)) (within : IsWithin f g) (rest : List ℕ)
+    (AreAll : FileEntry → List (List ℕ) → Type 0)
+    (all : (e : Entry) → set.contains f.0 e ≡ true → AreAll (own (part r f) e) (digests_of (part r g) e)) where
+  lies_whole : (e : Entry) → set.contains f.0 e ≡ true → LiesWhole AreAll r (begun_text Second (part r g) ++ rest) (own (part r f) e)
   lies_whole e held =
       let split = entry_split (part r g) e (within.slices e held) in
       let before = split.0 in
@@ -78,19 +80,19 @@ module _ (r : Reel) (f g : Facts) (is : IsHolding (part r g)) (told : IsTold Sec
         rest = entries_text Second after ++ rest;
         entries = fitting_front Second before (whole ∷ after) fit;
         entry = (fitting_back Second before (whole ∷ after) fit).0;
-        own = own_digests r f g within e;
+        all = all e held;
         split = ap (λ t. head_text Second r ++ t ++ rest) text
             ∙ ap (λ t. t ++ rest) (sym (append_assoc (head_text Second r) (es ++ entry_text Second whole) (entries_text Second after))
             ∙ ap (λ t. t ++ entries_text Second after) (sym (append_assoc (head_text Second r) es (entry_text Second whole))))
             ∙ append_assoc (head_text Second r ++ es ++ entry_text Second whole) (entries_text Second after) rest;
       }
 
-  pub all_lie_whole : AllByRecursion (LiesWhole r (begun_text Second (part r g) ++ rest)) (file_entries (part r f))
+  pub all_lie_whole : AllByRecursion (LiesWhole AreAll r (begun_text Second (part r g) ++ rest)) (file_entries (part r f))
   unfolding file_entries
   all_lie_whole = each (set.items f.0) (λ i d lt. contains_item entries_total f.0 i d lt)
     where
       each : (xs : List Entry) → ((i : ℕ) (d : Entry) → i < length xs → set.contains f.0 (get_or xs i d) ≡ true)
-          → AllByRecursion (LiesWhole r (begun_text Second (part r g) ++ rest)) (map (own (part r f)) xs)
+          → AllByRecursion (LiesWhole AreAll r (begun_text Second (part r g) ++ rest)) (map (own (part r f)) xs)
       each [] held = tt
       each (x ∷ xs) held = (lies_whole x (held 0 x (omega arith)), each xs (λ i d lt. held (suc i) d (omega arith)))
 
@@ -128,44 +130,78 @@ module _ (v : Version) where
       let few = next_before x front.0 middle first after (sym front.1 ∙ split) in
       omega (arith, few, ap length is_next)
 
--- The text of a holding was read no further than its lead.
-module _ (v w : Version) (h : Contents) (r : Reel) (is : IsFileReel r) (old new a b : Option (List ℕ)) (done : List ℕ) (file : IsFileOf old v h)
-    (s : StaysBehind w r old new done) where
+-- What is left of a text of a holding after what was read of it: the entries after those that were read, and the end tag.
+pub record RestOf (v w : Version) (h : Contents) (r : Reel) (f : Facts) (more : List ℕ) : Type 0 where
+  pub same_version : v ≡ w
+  pub same_reel : h.reel ≡ r
+  pub rest : List FileEntry
+  pub bytes : List ℕ
+  pub split : file_entries h ≡ file_entries (part r f) ++ rest
+  pub fits : AreFitting w rest
+  pub text : entries_text w rest ++ 0 ∷ [] ≡ more ++ bytes
+  pub front : file_text v h ≡ (begun_text w (part r f) ++ more) ++ bytes
+
+module _ (v w : Version) (h : Contents) (r : Reel) (is : IsFileReel r) (old new : Option (List ℕ)) (file : IsFileOf old v h) (f : Facts) (more : List ℕ)
+    (sound : IsHolding (part r f)) (told : IsTold w (part r f)) (taken : Consumes old new (begun_text w (part r f) ++ more)) where
   abbrev some : Contents
-  some = part r s.facts
+  some = part r f
 
-  front : (rest : List ℕ) × (file_text v h ≡ (begun_text w some ++ s.more) ++ rest)
-  front = taken_front (file_text v h) (begun_text w some ++ s.more) new
-      (subst (λ (o : Option (List ℕ)). Consumes o new (begun_text w some ++ s.more)) file.text s.taken)
+  front : (rest : List ℕ) × (file_text v h ≡ (begun_text w some ++ more) ++ rest)
+  front = taken_front (file_text v h) (begun_text w some ++ more) new
+      (subst (λ (o : Option (List ℕ)). Consumes o new (begun_text w some ++ more)) file.text taken)
 
-  heads : (v ≡ w) × (h.reel ≡ r) × (entries_text v (file_entries h) ++ 0 ∷ [] ≡ entries_text w (file_entries some) ++ (s.more ++ front.0))
+  heads : (v ≡ w) × (h.reel ≡ r) × (entries_text v (file_entries h) ++ 0 ∷ [] ≡ entries_text w (file_entries some) ++ (more ++ front.0))
   heads = same_head v w h.reel r _ _ (record { reel = file.sound.reel; fits = file.fits.record' }) is
-      (sym (text_parts v h) ∙ front.1 ∙ append_assoc (begun_text w some) s.more front.0
-      ∙ append_assoc (head_text w r) (entries_text w (file_entries some)) (s.more ++ front.0))
+      (sym (text_parts v h) ∙ front.1 ∙ append_assoc (begun_text w some) more front.0
+      ∙ append_assoc (head_text w r) (entries_text w (file_entries some)) (more ++ front.0))
 
   all_fit : AreFitting w (file_entries h)
   all_fit = subst (λ (u : Version). AreFitting u (file_entries h)) heads.0 (fitting_items v h file.sound file.fits.told)
 
-  apart : (rest : List FileEntry) × (file_entries h ≡ file_entries some ++ rest) × (entries_text w rest ++ 0 ∷ [] ≡ s.more ++ front.0)
-  apart = front_entries w (file_entries h) (file_entries some) [] (s.more ++ front.0) all_fit (fitting_items w some s.sound s.told)
+  apart : (rest : List FileEntry) × (file_entries h ≡ file_entries some ++ rest) × (entries_text w rest ++ 0 ∷ [] ≡ more ++ front.0)
+  apart = front_entries w (file_entries h) (file_entries some) [] (more ++ front.0) all_fit (fitting_items w some sound told)
       (ap (λ (u : Version). entries_text u (file_entries h) ++ 0 ∷ []) (sym heads.0) ∙ heads.2)
 
-  all_whole : AllByRecursion (LiesWhole h.reel done) (file_entries some)
-  all_whole = subst (λ (q : Reel). AllByRecursion (LiesWhole q done) (file_entries some)) (sym heads.1) s.whole
+  pub rest_entries : RestOf v w h r f more
+  rest_entries = record {
+    same_version = heads.0;
+    same_reel = heads.1;
+    rest = apart.0;
+    bytes = front.0;
+    split = apart.1;
+    fits = fitting_back w (file_entries some) apart.0 (subst (AreFitting w) apart.1 all_fit);
+    text = apart.2;
+    front = front.1;
+  }
 
-  within : (lead : ℕ) → IsLeadOf v h done lead → length (begun_text w some ++ s.more) ≤ lead
-  within lead (inr (whole, is_lead)) = omega (arith, is_lead, ap length front.1, length-append (begun_text w some ++ s.more) front.0)
+-- The text of a holding was read no further than its lead.
+module _ (v w : Version) (h : Contents) (other : Option Contents) (r : Reel) (is : IsFileReel r) (old new beside a b : Option (List ℕ)) (done : List ℕ)
+    (file : IsFileOf old v h) (also : IsFileOfSome beside other) (s : StaysBehind w r old new beside done) where
+  abbrev read : Contents
+  read = part r s.facts
+
+  left : RestOf v w h r s.facts s.more
+  left = rest_entries v w h r is old new file s.facts s.more s.sound s.told s.taken
+
+  abbrev AreWhole : List FileEntry → Type 0
+  AreWhole = AllByRecursion (LiesWhole (AreAllDigests h other) h.reel done)
+
+  all_whole : AreWhole (file_entries read)
+  all_whole = subst (λ (q : Reel). AllByRecursion (LiesWhole (AreAllDigests h other) q done) (file_entries read)) (sym left.same_reel)
+      (s.whole v h other file also)
+
+  within : (lead : ℕ) → IsLeadOf v h other done lead → length (begun_text w read ++ s.more) ≤ lead
+  within lead (inr (whole, is_lead)) = omega (arith, is_lead, ap length left.front, length-append (begun_text w read ++ s.more) left.bytes)
   within lead (inl o) =
-      let es = entries_text w (file_entries some) in
-      let split = behind_all (LiesWhole h.reel done) (file_entries some) apart.0 o.before o.first o.after (sym apart.1 ∙ o.split) all_whole
-      o.not_whole in
-      let rest_fit = fitting_back w (file_entries some) apart.0 (subst (AreFitting w) apart.1 all_fit) in
-      let few = ends_before w r is.reel apart.0 rest_fit split.0 o.first o.after split.2 s.more front.0 apart.2 s.next in
+      let es = entries_text w (file_entries read) in
+      let split = behind_all (LiesWhole (AreAllDigests h other) h.reel done) (file_entries read) left.rest o.before o.first o.after
+      (sym left.split ∙ o.split) all_whole o.not_whole in
+      let few = ends_before w r is.reel left.rest left.fits split.0 o.first o.after split.2 s.more left.bytes left.text s.next in
       let text : entries_text w (o.before ++ o.first ∷ []) ≡ es ++ entries_text w (split.0 ++ o.first ∷ []) =
-      ap (λ xs. entries_text w (xs ++ o.first ∷ [])) split.1 ∙ ap (entries_text w) (append_assoc (file_entries some) split.0 (o.first ∷ []))
-      ∙ entries_text-split w (file_entries some) (split.0 ++ o.first ∷ []) in
-      let version = ap (λ (u : Version). length (head_text u h.reel ++ entries_text u (o.before ++ o.first ∷ []))) heads.0 in
-      let head = ap (λ (q : Reel). length (head_text w q)) heads.1 in
+      ap (λ xs. entries_text w (xs ++ o.first ∷ [])) split.1 ∙ ap (entries_text w) (append_assoc (file_entries read) split.0 (o.first ∷ []))
+      ∙ entries_text-split w (file_entries read) (split.0 ++ o.first ∷ []) in
+      let version = ap (λ (u : Version). length (head_text u h.reel ++ entries_text u (o.before ++ o.first ∷ []))) left.same_version in
+      let head = ap (λ (q : Reel). length (head_text w q)) left.same_reel in
       omega (
         arith,
         few,
@@ -175,9 +211,9 @@ module _ (v w : Version) (h : Contents) (r : Reel) (is : IsFileReel r) (old new 
         ap length text,
         length-append (head_text w h.reel) (entries_text w (o.before ++ o.first ∷ [])),
         length-append es (entries_text w (split.0 ++ o.first ∷ [])),
-        length-append (begun_text w some) s.more,
+        length-append (begun_text w read) s.more,
         length-append (head_text w r) es,
       )
 
-  pub stays_in_lead : Appends a b done → StaysInLead v h old new a b
-  stays_in_lead written = record { done = done; written = written; seen = begun_text w some ++ s.more; taken = s.taken; within = within }
+  pub stays_in_lead : Appends a b done → StaysInLead v h other old new a b
+  stays_in_lead written = record { done = done; written = written; seen = begun_text w read ++ s.more; taken = s.taken; within = within }

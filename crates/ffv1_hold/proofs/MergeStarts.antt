@@ -19,7 +19,7 @@ use Rattle.ffv1_hold.specs.HoldingText.{FileEntry, head_text, entries_text, begu
 use Rattle.ffv1_hold.specs.Reading.{Takes, Refuses}
 use Rattle.ffv1_hold.specs.FileEntries.{last_of, Follows, IsFileEntryOf, next_text}
 use Rattle.ffv1_hold.specs.FileFaults.{IsFileReel, IsPartOfEntry, EndIsWhole, EntryShows}
-use Rattle.ffv1_hold.specs.Leads.{LiesWhole}
+use Rattle.ffv1_hold.specs.Leads.{LiesWhole, AreAllDigests}
 use Rattle.ffv1_hold.specs.JoinedStreams.{BeginsWith, InputRefuses, OneRefuses, ShowsNoFault, ReadsAll, ReadsPart, ReadsSoFar, WritesUnion, WritesAtMost}
 use Rattle.ffv1_hold.specs.Merging.{Start, inputs_from, Facts, part, no_facts, both, IsBehind, IsPassed, IsHeld, StaysBehind, IsOpened, Stands, Stops, Ends}
 use Rattle.ffv1_hold.proofs.Slots.{entries_text-none, length-head_text}
@@ -27,8 +27,8 @@ use Rattle.ffv1_hold.proofs.HeldEntries.{entries-none, holding-joined}
 use Rattle.ffv1_hold.proofs.ReadSteps.{holding_none, told_none}
 use Rattle.ffv1_hold.proofs.TileTexts.{told_begun, fits_within}
 use Rattle.ffv1_hold.proofs.MergeSteps.{advanced, input_refuses, passed_part, passed_shows_none, held_shows_none, head_begins, part_begins}
-use Rattle.ffv1_hold.proofs.MergeFacts.{IsWithin, within-left, within-right}
-use Rattle.ffv1_hold.proofs.MergeLeads.{all_lie_whole}
+use Rattle.ffv1_hold.proofs.MergeFacts.{within-left, within-right}
+use Rattle.ffv1_hold.proofs.ReadDigests.{all_read_to, left_gives, right_gives, stays_beside}
 
 pub begun-none : (v : Version) (r : Reel) → begun_text v (part r no_facts) ≡ head_text v r
 begun-none v r = ap (λ es. head_text v r ++ entries_text v es) (entries-none r) ∙ ap (λ t. head_text v r ++ t) (entries_text-none v)
@@ -88,13 +88,13 @@ first_stands s l r w lp rp room ln rn is left right written room_left =
     }
 
 -- an input whose head alone was read
-head_behind : (old new : Option (List ℕ)) (v : Version) (r : Reel) (done : List ℕ) → IsFileReel r → Consumes old new (head_text v r)
-    → StaysBehind v r old new done
-head_behind old new v r done is taken = record {
+head_behind : (old new beside : Option (List ℕ)) (v : Version) (r : Reel) (done : List ℕ) → IsFileReel r → Consumes old new (head_text v r)
+    → StaysBehind v r old new beside done
+head_behind old new beside v r done is taken = record {
   facts = no_facts;
   sound = holding_none r is.reel;
   told = told_none v r;
-  whole = subst (AllByRecursion (LiesWhole r done)) (sym (entries-none r)) tt;
+  whole = λ u h other file other_file. subst (AllByRecursion (LiesWhole (AreAllDigests h other) r done)) (sym (entries-none r)) tt;
   more = [];
   next = inl refl;
   taken = subst (Consumes old new) (sym (append-nil (begun_text v (part r no_facts)) ∙ begun-none v r)) taken;
@@ -179,8 +179,8 @@ module _ (s : Start) (q : Reel) (l0 r0 w0 : Option (List ℕ)) (lp rp : ℕ) (o 
           written = w.written;
           left_version = s.left_version;
           right_version = s.right_version;
-          left = head_behind _ _ s.left_version s.reel w.done o.reel o.left_head.taken;
-          right = head_behind _ _ s.right_version s.reel w.done o.reel o.right_head.taken;
+          left = head_behind _ _ _ s.left_version s.reel w.done o.reel o.left_head.taken;
+          right = head_behind _ _ _ s.right_version s.reel w.done o.reel o.right_head.taken;
         };
         most = record {
           done = w.done;
@@ -304,22 +304,12 @@ module _ (s : Start) (left right sink : Option (List ℕ)) (room : ℕ) (e : End
     most = record { done = begun_text Second (part s.reel all); written = e.written; few = omega (arith, e.room_left) };
   }
 
-  ended_behind : (old new : Option (List ℕ)) (x : Facts) (rest : List ℕ) → IsWithin x all
-      → (a : ReadsAll old new (part s.reel x)) → StaysBehind a.file.version s.reel old new (begun_text Second (part s.reel all) ++ rest)
-  ended_behind old new x rest inside a = record {
-    facts = x;
-    sound = a.sound;
-    told = a.file.fits.told;
-    whole = all_lie_whole s.reel x all all_sound all_told inside rest;
-    more = 0 ∷ [];
-    next = inr (None, refl, tt);
-    taken = a.file.taken;
-  }
-
   -- the end tag could not be written
   pub end_stops : (new : Option (List ℕ)) → 1 ≤ room → WritesFront sink new (0 ∷ []) → Stops (inputs_from s left right) s.sink new faults.Write
   end_stops new some w =
       let begun = begun_text Second (part s.reel all) in
+      let left_read = all_read_to _ _ s.reel e.lefts e.read.left_read in
+      let right_read = all_read_to _ _ s.reel e.rights e.read.right_read in
       let done = begun ++ w.done in
       let written = Appends-trans s.sink sink new begun w.done e.written w.written in
       record {
@@ -343,8 +333,10 @@ module _ (s : Start) (left right sink : Option (List ℕ)) (room : ℕ) (e : End
           written = written;
           left_version = e.read.left_read.file.version;
           right_version = e.read.right_read.file.version;
-          left = ended_behind _ _ e.lefts w.done (within-left e.lefts e.rights) e.read.left_read;
-          right = ended_behind _ _ e.rights w.done (within-right e.lefts e.rights) e.read.right_read;
+          left = stays_beside s.reel e.is _ _ _ _ _ _ e.lefts e.rights all None None left_read right_read (within-left e.lefts e.rights) tt tt
+              (left_gives s.reel e.lefts e.rights) all_sound all_told w.done;
+          right = stays_beside s.reel e.is _ _ _ _ _ _ e.rights e.lefts all None None right_read left_read (within-right e.lefts e.rights) tt tt
+              (right_gives s.reel e.lefts e.rights) all_sound all_told w.done;
         };
         most = record {
           done = done;

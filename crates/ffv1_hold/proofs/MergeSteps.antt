@@ -19,7 +19,7 @@ use Rattle.ffv1_hold.specs.Reading.{Takes, Refuses}
 use Rattle.ffv1_hold.specs.FileEntries.{last_of, Follows, AreOrigins, AreDigestsIn, IsFileEntryOf, next_text}
 use Rattle.ffv1_hold.specs.FileFaults.{IsFileReel, IsPartOfFile, FileIsWhole, FileShows, IsPartOfEntry, EndIsWhole, EntryShows}
 use Rattle.ffv1_hold.specs.JoinedStreams.{ReadsPart, ReadsAll, ReadsSoFar, EntriesPass, InputRefuses, ShowsNoFault, OneRefuses, BeginsWith, BeginsWithPart, WritesEntries, WritesFrontSoFar}
-use Rattle.ffv1_hold.specs.Merging.{Start, inputs_from, Facts, part, with_file_entry, both, IsPassed, IsHeld, IsBehind, StaysBehind, Stands, Stops, Ends, with_digests, IsWritten, IsTurn, EntryStops}
+use Rattle.ffv1_hold.specs.Merging.{Start, inputs_from, Facts, part, with_file_entry, both, IsPassed, IsHeld, IsBehind, Stands, Stops, Ends, with_digests, IsWritten, IsTurn, EntryStops}
 use Rattle.ffv1_hold.proofs.ReadRefusals.{Takes-trans, Refuses-after}
 use Rattle.ffv1_hold.proofs.Entries.{part_of_entries, entries_show}
 use Rattle.ffv1_hold.proofs.Heads.{file_from_entries_part, file_from_whole_entries, file_from_entries_fault}
@@ -28,8 +28,8 @@ use Rattle.ffv1_hold.proofs.OriginReads.{origins_none}
 use Rattle.ffv1_hold.proofs.ReadSteps.{digests_in_version}
 use Rattle.ffv1_hold.proofs.DigestUnions.{union-rises}
 use Rattle.ffv1_hold.proofs.TileTexts.{told_begun}
-use Rattle.ffv1_hold.proofs.MergeFacts.{IsWithin, within-left, within-right, both-left, both-right, both-both, with_none, begun-with, last-with}
-use Rattle.ffv1_hold.proofs.MergeLeads.{all_lie_whole}
+use Rattle.ffv1_hold.proofs.MergeFacts.{within-left, within-right, both-left, both-right, both-both, with_none, begun-with, last-with}
+use Rattle.ffv1_hold.proofs.ReadDigests.{held_read, left_gives, right_gives, stays_beside}
 
 -- ---- one input
 
@@ -145,20 +145,6 @@ pub head_begins : (old new : Option (List ℕ)) (h : Contents) (p : ReadsPart ol
 head_begins old new h p =
     taken_begins old new (head_text p.version h.reel) (entries_text p.version (file_entries h) ++ p.more)
     (subst (Consumes old new) (append_assoc (head_text p.version h.reel) (entries_text p.version (file_entries h)) p.more) p.taken)
-
--- an input that was read up to its next entry, where those before it were written
-pub stays_behind : (old new : Option (List ℕ)) (v : Version) (r : Reel) (f all : Facts) (place : ℕ) (next : Option FileEntry) (rest : List ℕ)
-    → IsHolding (part r all) → IsTold Second (part r all) → IsWithin f all → IsHeld old new v r f place next
-    → StaysBehind v r old new (begun_text Second (part r all) ++ rest)
-stays_behind old new v r f all place next rest sound told inside h = record {
-  facts = f;
-  sound = h.sound;
-  told = h.told;
-  whole = all_lie_whole r f all sound told inside rest;
-  more = next_text v next;
-  next = inr (next, refl, h.entry);
-  taken = h.text.taken;
-}
 
 -- ---- one step of both
 
@@ -318,6 +304,8 @@ module _ (s : Start) (left right sink : Option (List ℕ)) (lp rp room : ℕ) (l
   entry_cut new e others o turn w fits =
       let t = turned e others o turn in
       let begun = begun_text Second (part s.reel all) in
+      let left_read = held_read _ _ s.left_version s.reel st.lefts lp ln st.left_held in
+      let right_read = held_read _ _ s.right_version s.reel st.rights rp rn st.right_held in
       let done = begun ++ w.done in
       let written = Appends-trans s.sink sink new begun w.done st.written w.written in
       let front : WritesFrontSoFar (inputs_from s left right) s.sink new = record {
@@ -343,8 +331,10 @@ module _ (s : Start) (left right sink : Option (List ℕ)) (lp rp room : ℕ) (l
           written = written;
           left_version = s.left_version;
           right_version = s.right_version;
-          left = stays_behind _ _ s.left_version s.reel st.lefts all lp ln w.done all_sound all_told (within-left st.lefts st.rights) st.left_held;
-          right = stays_behind _ _ s.right_version s.reel st.rights all rp rn w.done all_sound all_told (within-right st.lefts st.rights) st.right_held;
+          left = stays_beside s.reel st.reel _ _ _ _ s.left_version s.right_version st.lefts st.rights all ln rn left_read right_read
+              (within-left st.lefts st.rights) st.left_behind st.right_behind (left_gives s.reel st.lefts st.rights) all_sound all_told w.done;
+          right = stays_beside s.reel st.reel _ _ _ _ s.right_version s.left_version st.rights st.lefts all rn ln right_read left_read
+              (within-right st.lefts st.rights) st.right_behind st.left_behind (right_gives s.reel st.lefts st.rights) all_sound all_told w.done;
         };
         most = record {
           done = done;

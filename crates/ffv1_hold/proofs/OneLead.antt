@@ -1,5 +1,5 @@
 -- Each text and output has one lead.
-use Rattle.std.proofs.Common.{◌≡◌, ℕ, zero, suc, ◌<◌, ◌≤◌, ◌^◌, List, [], ◌∷◌, ◌++◌, length, take, drop, get_or, Contains, refl, sym, ap, ◌∙◌, subst, inl, inr, arith, append_assoc, append-nil, length-append, take-append-drop}
+use Rattle.std.proofs.Common.{◌≡◌, ℕ, zero, suc, ◌<◌, ◌≤◌, ◌^◌, List, [], ◌∷◌, ◌++◌, length, take, drop, get_or, Contains, Option, Some, None, refl, sym, ap, ◌∙◌, subst, inl, inr, arith, append_assoc, append-nil, length-append, take-append-drop}
 use Rattle.std.specs.Prelude.{◌⊎◌}
 use Rattle.std.specs.List.{AllByRecursion}
 use Rattle.std.specs.Int.{w16, w32, from_be_bytes}
@@ -11,12 +11,12 @@ use Rattle.std.proofs.Math.Seq.{take-append_seam, drop-append_seam}
 use Rattle.ffv1_bits.specs.Limits.{slice_limit}
 use Rattle.ffv1_holding.specs.SliceOrder.{Entry, bytes_cmp, bytes_total, bytes_antisymmetric}
 use Rattle.ffv1_holding.specs.Reels.{Reel}
-use Rattle.ffv1_holding.specs.Contents.{Contents}
+use Rattle.ffv1_holding.specs.Contents.{Contents, digests_of, joined}
 use Rattle.ffv1_hold.specs.declared.version.Version.{Version}
 use Rattle.ffv1_hold.specs.declared.version.Version.TheVariants.{Second}
 use Rattle.ffv1_hold.specs.HoldingText.{FileEntry, origins_limit, be2, be4, head_text, origins_text, body_text, entry_text, entries_text, file_entries, file_text}
 use Rattle.ffv1_hold.specs.FileEntries.{HasText, IsDigest}
-use Rattle.ffv1_hold.specs.Leads.{LiesWhole, EndsFirstOpen, IsLeadOf}
+use Rattle.ffv1_hold.specs.Leads.{LiesWhole, AreAllDigests, EndsFirstOpen, IsLeadOf}
 use Rattle.ffv1_hold.proofs.Bodies.{length-be2, length-be4}
 use Rattle.ffv1_hold.proofs.NumberTexts.{same_back, rest_same}
 use Rattle.ffv1_hold.proofs.SliceTexts.{slice_parts}
@@ -177,10 +177,19 @@ decide_among es (d ∷ ds) = elim (decide_contained es d) [
   | inl one ↦ elim (decide_among es ds) [ inl all ↦ inl (one, all) | inr none ↦ inr (λ all. none all.1) ]
 ]
 
--- an entry of this slice, with its digests among others
-record Shows (e f : FileEntry) : Type 0 where
+decide_same_list : (ds es : List (List ℕ)) → (ds ≡ es) ⊎ (¬ (ds ≡ es))
+decide_same_list [] [] = inl refl
+decide_same_list [] (e ∷ es) = inr (λ same. omega (arith, ap length same))
+decide_same_list (d ∷ ds) [] = inr (λ same. omega (arith, ap length same))
+decide_same_list (d ∷ ds) (e ∷ es) = elim (decide_same d e) [
+  | inr other ↦ inr (λ same. other (ap (λ xs. get_or xs 0 d) same))
+  | inl first ↦ elim (decide_same_list ds es) [ inl rest ↦ inl (λ i. first i ∷ rest i) | inr other ↦ inr (λ same. other (ap (drop 1) same)) ]
+]
+
+-- an entry of this slice, with all digests
+record Shows (AreAll : FileEntry → List (List ℕ) → Type 0) (e f : FileEntry) : Type 0 where
   slice : f.0 ≡ e.0
-  own : AllByRecursion (Contains f.1) e.1
+  all : AreAll e f.1
 
 decide_slice : (e f : Entry) → (f ≡ e) ⊎ (¬ (f ≡ e))
 decide_slice e f = elim (decide_equal f.0 e.0) [
@@ -188,106 +197,111 @@ decide_slice e f = elim (decide_equal f.0 e.0) [
   | inl tile ↦ elim (decide_same f.1 e.1) [ inl bytes ↦ inl (λ i. (tile i, bytes i)) | inr other ↦ inr (λ same. other (ap (λ (x : Entry). x.1) same)) ]
 ]
 
-decide_shows : (e f : FileEntry) → Shows e f ⊎ (¬ Shows e f)
-decide_shows e f = elim (decide_slice e.0 f.0) [
-  | inr other ↦ inr (λ s. other s.slice)
-  | inl same ↦ elim (decide_among f.1 e.1) [ inl all ↦ inl (record { slice = same; own = all }) | inr none ↦ inr (λ s. none s.own) ]
-]
-
--- entries, and behind them one that shows this one
-abbrev StandsIn : FileEntry → List ℕ → Type 0
-StandsIn e x = (before : List FileEntry) × (f : FileEntry) × (rest : List ℕ) × AllByRecursion (HasText Second) before × HasText Second f × Shows e f
-    × (x ≡ entries_text Second before ++ (entry_text Second f ++ rest))
-
--- an entry that is not the first stands behind the one that is
-stands_behind : (e : FileEntry) (f : FileEntry) → HasText Second f → (x y : List ℕ) → x ≡ entry_text Second f ++ y → ¬ Shows e f → StandsIn e x → StandsIn e y
-stands_behind e f fits x y is none ([], g, rest, all, has, shows, split) =
-    let one = same_body Second f g y rest fits has (rest_same _ _ 1 1 (sym is ∙ split ∙ none_behind Second (entry_text Second g ++ rest))) in
-    absurd (none (subst (Shows e) (sym one.0) shows))
-stands_behind e f fits x y is none (h ∷ before, g, rest, all, has, shows, split) =
-    let bodies = rest_same (body_text Second f ++ y) (body_text Second h ++ (entries_text Second before ++ (entry_text Second g ++ rest))) 1 1 (sym is ∙ split
-    ∙ entries_behind Second h before (entry_text Second g ++ rest)) in
-    (before, g, rest, all.1, has, shows, (same_body Second f h y (entries_text Second before ++ (entry_text Second g ++ rest)) fits all.0 bodies).1)
-
-none_stands : (e : FileEntry) (x : List ℕ) → (¬ HasEntry x) → StandsIn e x → ⊥
-none_stands e x other ([], g, rest, all, has, shows, split) = other (g, has, (rest, split ∙ none_behind Second (entry_text Second g ++ rest)))
-none_stands e x other (h ∷ before, g, rest, all, has, shows, split) =
-    other (h, all.0, (entries_text Second before ++ (entry_text Second g ++ rest), split ∙ entries_behind Second h before (entry_text Second g ++ rest)))
-
-one_more : (e f : FileEntry) → HasText Second f → (x y : List ℕ) → x ≡ entry_text Second f ++ y → StandsIn e y → StandsIn e x
-one_more e f fits x y is (before, g, rest, all, has, shows, split) = (
-  f ∷ before,
-  g,
-  rest,
-  (fits, all),
-  has,
-  shows,
-  is ∙ ap (λ z. entry_text Second f ++ z) split
-      ∙ sym (entries_behind Second f before (entry_text Second g ++ rest)),
-)
-
-decide_stands : (e : FileEntry) (n : ℕ) (x : List ℕ) → length x ≤ n → StandsIn e x ⊎ (¬ StandsIn e x)
-decide_stands e zero x few = elim (decide_entry x) [
-  | inl h ↦ let long = ap length h.2.1 in absurd (omega (arith, few, long))
-  | inr other ↦ inr (none_stands e x other)
-]
-decide_stands e (suc n) x few = elim (decide_entry x) [
-  | inr other ↦ inr (none_stands e x other)
-  | inl h ↦ elim (decide_shows e h.0) [
-    | inl shows ↦ inl ([], h.0, h.2.0, tt, h.1, shows, h.2.1 ∙ sym (none_behind Second (entry_text Second h.0 ++ h.2.0)))
-    | inr none ↦
-        let shorter : length h.2.0 ≤ n = omega (arith, few, ap length h.2.1, length-append (entry_text Second h.0) h.2.0) in
-        elim (decide_stands e n h.2.0 shorter) [
-          | inl s ↦ inl (one_more e h.0 h.1 x h.2.0 h.2.1 s)
-          | inr not ↦ inr (λ s. not (stands_behind e h.0 h.1 x h.2.0 h.2.1 none s))
-        ]
+module _ (AreAll : FileEntry → List (List ℕ) → Type 0) (decide_all : (e : FileEntry) (ds : List (List ℕ)) → AreAll e ds ⊎ (¬ AreAll e ds)) where
+  decide_shows : (e f : FileEntry) → Shows AreAll e f ⊎ (¬ Shows AreAll e f)
+  decide_shows e f = elim (decide_slice e.0 f.0) [
+    | inr other ↦ inr (λ s. other s.slice)
+    | inl same ↦ elim (decide_all e f.1) [ inl all ↦ inl (record { slice = same; all = all }) | inr none ↦ inr (λ s. none s.all) ]
   ]
-]
 
--- ---- an entry that lies whole
+  -- entries, and behind them one that shows this one
+  abbrev StandsIn : FileEntry → List ℕ → Type 0
+  StandsIn e x = (before : List FileEntry) × (f : FileEntry) × (rest : List ℕ) × AllByRecursion (HasText Second) before × HasText Second f × Shows AreAll e f
+      × (x ≡ entries_text Second before ++ (entry_text Second f ++ rest))
 
-whole_parts : (r : Reel) (f : FileEntry) (before : List FileEntry) (rest : List ℕ)
-    → head_text Second r ++ entries_text Second before ++ entry_text Second f ++ rest
-    ≡ head_text Second r ++ (entries_text Second before ++ (entry_text Second f ++ rest))
-whole_parts r f before rest =
-    append_assoc (head_text Second r ++ entries_text Second before) (entry_text Second f) rest
-    ∙ append_assoc (head_text Second r) (entries_text Second before) (entry_text Second f ++ rest)
+  -- an entry that is not the first stands behind the one that is
+  stands_behind : (e : FileEntry) (f : FileEntry) → HasText Second f → (x y : List ℕ) → x ≡ entry_text Second f ++ y → ¬ Shows AreAll e f → StandsIn e x → StandsIn e y
+  stands_behind e f fits x y is none ([], g, rest, all, has, shows, split) =
+      let one = same_body Second f g y rest fits has (rest_same _ _ 1 1 (sym is ∙ split ∙ none_behind Second (entry_text Second g ++ rest))) in
+      absurd (none (subst (Shows AreAll e) (sym one.0) shows))
+  stands_behind e f fits x y is none (h ∷ before, g, rest, all, has, shows, split) =
+      let bodies = rest_same (body_text Second f ++ y) (body_text Second h ++ (entries_text Second before ++ (entry_text Second g ++ rest))) 1 1 (sym is ∙ split
+      ∙ entries_behind Second h before (entry_text Second g ++ rest)) in
+      (before, g, rest, all.1, has, shows, (same_body Second f h y (entries_text Second before ++ (entry_text Second g ++ rest)) fits all.0 bodies).1)
 
-stands_whole : (r : Reel) (bytes : List ℕ) (e : FileEntry) (x : List ℕ) → bytes ≡ head_text Second r ++ x → StandsIn e x → LiesWhole r bytes e
-stands_whole r bytes e x is (before, f, rest, all, has, shows, split) =
-    let same : f ≡ (e.0, f.1) = λ i. (shows.slice i, f.1) in
-    record {
-      before = before;
-      digests = f.1;
-      rest = rest;
-      entries = all;
-      entry = subst (HasText Second) same has;
-      own = shows.own;
-      split = is ∙ ap (λ z. head_text Second r ++ z) (split ∙ ap (λ (g : FileEntry). entries_text Second before ++ (entry_text Second g ++ rest)) same)
-          ∙ sym (whole_parts r (e.0, f.1) before rest);
-    }
+  none_stands : (e : FileEntry) (x : List ℕ) → (¬ HasEntry x) → StandsIn e x → ⊥
+  none_stands e x other ([], g, rest, all, has, shows, split) = other (g, has, (rest, split ∙ none_behind Second (entry_text Second g ++ rest)))
+  none_stands e x other (h ∷ before, g, rest, all, has, shows, split) =
+      other (h, all.0, (entries_text Second before ++ (entry_text Second g ++ rest), split ∙ entries_behind Second h before (entry_text Second g ++ rest)))
 
-whole_stands : (r : Reel) (bytes : List ℕ) (e : FileEntry) (x : List ℕ) → bytes ≡ head_text Second r ++ x → LiesWhole r bytes e → StandsIn e x
-whole_stands r bytes e x is w = (
-  w.before,
-  (e.0, w.digests),
-  w.rest,
-  w.entries,
-  w.entry,
-  record { slice = refl; own = w.own },
-  same_back (head_text Second r) (head_text Second r) x (entries_text Second w.before ++ (entry_text Second (e.0, w.digests) ++ w.rest)) refl
-      (sym is ∙ w.split ∙ whole_parts r (e.0, w.digests) w.before w.rest),
-)
+  one_more : (e f : FileEntry) → HasText Second f → (x y : List ℕ) → x ≡ entry_text Second f ++ y → StandsIn e y → StandsIn e x
+  one_more e f fits x y is (before, g, rest, all, has, shows, split) = (
+    f ∷ before,
+    g,
+    rest,
+    (fits, all),
+    has,
+    shows,
+    is ∙ ap (λ z. entry_text Second f ++ z) split
+        ∙ sym (entries_behind Second f before (entry_text Second g ++ rest)),
+  )
 
-decide_whole : (r : Reel) (bytes : List ℕ) (e : FileEntry) → LiesWhole r bytes e ⊎ (¬ LiesWhole r bytes e)
-decide_whole r bytes e = elim (starts (head_text Second r) bytes) [
-  | inr none ↦ inr (λ w. none (entries_text Second w.before ++ (entry_text Second (e.0, w.digests) ++ w.rest))
-      (w.split ∙ whole_parts r (e.0, w.digests) w.before w.rest))
-  | inl s ↦ elim (decide_stands e (length s.0) s.0 (omega arith)) [
-    | inl t ↦ inl (stands_whole r bytes e s.0 s.1 t)
-    | inr none ↦ inr (λ w. none (whole_stands r bytes e s.0 s.1 w))
+  decide_stands : (e : FileEntry) (n : ℕ) (x : List ℕ) → length x ≤ n → StandsIn e x ⊎ (¬ StandsIn e x)
+  decide_stands e zero x few = elim (decide_entry x) [
+    | inl h ↦ let long = ap length h.2.1 in absurd (omega (arith, few, long))
+    | inr other ↦ inr (none_stands e x other)
   ]
-]
+  decide_stands e (suc n) x few = elim (decide_entry x) [
+    | inr other ↦ inr (none_stands e x other)
+    | inl h ↦ elim (decide_shows e h.0) [
+      | inl shows ↦ inl ([], h.0, h.2.0, tt, h.1, shows, h.2.1 ∙ sym (none_behind Second (entry_text Second h.0 ++ h.2.0)))
+      | inr none ↦
+          let shorter : length h.2.0 ≤ n = omega (arith, few, ap length h.2.1, length-append (entry_text Second h.0) h.2.0) in
+          elim (decide_stands e n h.2.0 shorter) [
+            | inl s ↦ inl (one_more e h.0 h.1 x h.2.0 h.2.1 s)
+            | inr not ↦ inr (λ s. not (stands_behind e h.0 h.1 x h.2.0 h.2.1 none s))
+          ]
+    ]
+  ]
+
+  -- ---- an entry that lies whole
+
+  whole_parts : (r : Reel) (f : FileEntry) (before : List FileEntry) (rest : List ℕ)
+      → head_text Second r ++ entries_text Second before ++ entry_text Second f ++ rest
+      ≡ head_text Second r ++ (entries_text Second before ++ (entry_text Second f ++ rest))
+  whole_parts r f before rest =
+      append_assoc (head_text Second r ++ entries_text Second before) (entry_text Second f) rest
+      ∙ append_assoc (head_text Second r) (entries_text Second before) (entry_text Second f ++ rest)
+
+  stands_whole : (r : Reel) (bytes : List ℕ) (e : FileEntry) (x : List ℕ) → bytes ≡ head_text Second r ++ x → StandsIn e x → LiesWhole AreAll r bytes e
+  stands_whole r bytes e x is (before, f, rest, all, has, shows, split) =
+      let same : f ≡ (e.0, f.1) = λ i. (shows.slice i, f.1) in
+      record {
+        before = before;
+        digests = f.1;
+        rest = rest;
+        entries = all;
+        entry = subst (HasText Second) same has;
+        all = shows.all;
+        split = is ∙ ap (λ z. head_text Second r ++ z) (split ∙ ap (λ (g : FileEntry). entries_text Second before ++ (entry_text Second g ++ rest)) same)
+            ∙ sym (whole_parts r (e.0, f.1) before rest);
+      }
+
+  whole_stands : (r : Reel) (bytes : List ℕ) (e : FileEntry) (x : List ℕ) → bytes ≡ head_text Second r ++ x → LiesWhole AreAll r bytes e → StandsIn e x
+  whole_stands r bytes e x is w = (
+    w.before,
+    (e.0, w.digests),
+    w.rest,
+    w.entries,
+    w.entry,
+    record { slice = refl; all = w.all },
+    same_back (head_text Second r) (head_text Second r) x (entries_text Second w.before ++ (entry_text Second (e.0, w.digests) ++ w.rest)) refl
+        (sym is ∙ w.split ∙ whole_parts r (e.0, w.digests) w.before w.rest),
+  )
+
+  decide_whole : (r : Reel) (bytes : List ℕ) (e : FileEntry) → LiesWhole AreAll r bytes e ⊎ (¬ LiesWhole AreAll r bytes e)
+  decide_whole r bytes e = elim (starts (head_text Second r) bytes) [
+    | inr none ↦ inr (λ w. none (entries_text Second w.before ++ (entry_text Second (e.0, w.digests) ++ w.rest))
+        (w.split ∙ whole_parts r (e.0, w.digests) w.before w.rest))
+    | inl s ↦ elim (decide_stands e (length s.0) s.0 (omega arith)) [
+      | inl t ↦ inl (stands_whole r bytes e s.0 s.1 t)
+      | inr none ↦ inr (λ w. none (whole_stands r bytes e s.0 s.1 w))
+    ]
+  ]
+
+decide_all_digests : (h : Contents) (other : Option Contents) (e : FileEntry) (ds : List (List ℕ)) → AreAllDigests h other e ds ⊎ (¬ AreAllDigests h other e ds)
+decide_all_digests h None e ds = decide_among ds e.1
+decide_all_digests h (Some other) e ds = decide_same_list ds (digests_of (joined h other) e.0)
 
 -- ---- the first that is open
 
@@ -312,11 +326,11 @@ all_middle P [] e after all = all.0
 all_middle P (b ∷ before) e after all = all_middle P before e after all.1
 
 -- the first that is open is one
-one_place : (v : Version) (h : Contents) (bytes : List ℕ) (m n : ℕ) → EndsFirstOpen v h bytes m → EndsFirstOpen v h bytes n → m ≡ n
-one_place v h bytes m n a b = go split.0 split.1 split.2
+one_place : (v : Version) (h : Contents) (other : Option Contents) (bytes : List ℕ) (m n : ℕ) → EndsFirstOpen v h other bytes m → EndsFirstOpen v h other bytes n → m ≡ n
+one_place v h other bytes m n a b = go split.0 split.1 split.2
   where
     split : (middle : List FileEntry) × (b.before ≡ a.before ++ middle) × (a.first ∷ a.after ≡ middle ++ b.first ∷ b.after)
-    split = behind_all (LiesWhole h.reel bytes) a.before (a.first ∷ a.after) b.before b.first b.after (sym a.split ∙ b.split) a.whole b.not_whole
+    split = behind_all (LiesWhole (AreAllDigests h other) h.reel bytes) a.before (a.first ∷ a.after) b.before b.first b.after (sym a.split ∙ b.split) a.whole b.not_whole
 
     go : (middle : List FileEntry) → b.before ≡ a.before ++ middle → a.first ∷ a.after ≡ middle ++ b.first ∷ b.after → m ≡ n
     go [] same rest =
@@ -326,21 +340,21 @@ one_place v h bytes m n a b = go split.0 split.1 split.2
         ∙ ap (λ (es : List FileEntry). length (head_text v h.reel ++ entries_text v (es ++ b.first ∷ []))) (sym front) ∙ sym b.is_end
     go (x ∷ middle) same rest =
         let one : a.first ≡ x = ap (λ xs. get_or xs 0 a.first) rest in
-        absurd (a.not_whole (subst (LiesWhole h.reel bytes) (sym one)
-        (all_middle (LiesWhole h.reel bytes) a.before x middle (subst (AllByRecursion (LiesWhole h.reel bytes)) same b.whole))))
+        absurd (a.not_whole (subst (LiesWhole (AreAllDigests h other) h.reel bytes) (sym one)
+        (all_middle (LiesWhole (AreAllDigests h other) h.reel bytes) a.before x middle (subst (AllByRecursion (LiesWhole (AreAllDigests h other) h.reel bytes)) same b.whole))))
 
-open_not_all : (v : Version) (h : Contents) (bytes : List ℕ) (m : ℕ) → EndsFirstOpen v h bytes m → AllByRecursion (LiesWhole h.reel bytes) (file_entries h) → ⊥
-open_not_all v h bytes m a all =
-    a.not_whole (all_middle (LiesWhole h.reel bytes) a.before a.first a.after (subst (AllByRecursion (LiesWhole h.reel bytes)) a.split all))
+open_not_all : (v : Version) (h : Contents) (other : Option Contents) (bytes : List ℕ) (m : ℕ) → EndsFirstOpen v h other bytes m → AllByRecursion (LiesWhole (AreAllDigests h other) h.reel bytes) (file_entries h) → ⊥
+open_not_all v h other bytes m a all =
+    a.not_whole (all_middle (LiesWhole (AreAllDigests h other) h.reel bytes) a.before a.first a.after (subst (AllByRecursion (LiesWhole (AreAllDigests h other) h.reel bytes)) a.split all))
 
-same_lead : (v : Version) (h : Contents) (bytes : List ℕ) (m n : ℕ) → IsLeadOf v h bytes m → IsLeadOf v h bytes n → m ≡ n
-same_lead v h bytes m n (inl a) (inl b) = one_place v h bytes m n a b
-same_lead v h bytes m n (inl a) (inr b) = absurd (open_not_all v h bytes m a b.0)
-same_lead v h bytes m n (inr a) (inl b) = absurd (open_not_all v h bytes n b a.0)
-same_lead v h bytes m n (inr a) (inr b) = a.1 ∙ sym b.1
+same_lead : (v : Version) (h : Contents) (other : Option Contents) (bytes : List ℕ) (m n : ℕ) → IsLeadOf v h other bytes m → IsLeadOf v h other bytes n → m ≡ n
+same_lead v h other bytes m n (inl a) (inl b) = one_place v h other bytes m n a b
+same_lead v h other bytes m n (inl a) (inr b) = absurd (open_not_all v h other bytes m a b.0)
+same_lead v h other bytes m n (inr a) (inl b) = absurd (open_not_all v h other bytes n b a.0)
+same_lead v h other bytes m n (inr a) (inr b) = a.1 ∙ sym b.1
 
-has_lead : (v : Version) (h : Contents) (bytes : List ℕ) → (lead : ℕ) × IsLeadOf v h bytes lead
-has_lead v h bytes = elim (first_open (LiesWhole h.reel bytes) (decide_whole h.reel bytes) (file_entries h)) [
+has_lead : (v : Version) (h : Contents) (other : Option Contents) (bytes : List ℕ) → (lead : ℕ) × IsLeadOf v h other bytes lead
+has_lead v h other bytes = elim (first_open (LiesWhole (AreAllDigests h other) h.reel bytes) (decide_whole (AreAllDigests h other) (decide_all_digests h other) h.reel bytes) (file_entries h)) [
   | inl all ↦ (length (file_text v h), inr (all, refl))
   | inr o ↦ (
     length (head_text v h.reel ++ entries_text v (o.0 ++ o.1 ∷ [])),
@@ -356,5 +370,5 @@ has_lead v h bytes = elim (first_open (LiesWhole h.reel bytes) (decide_whole h.r
   )
 ]
 
-pub one_lead : (v : Version) (h : Contents) (bytes : List ℕ) → (lead : ℕ) × IsLeadOf v h bytes lead × ((other : ℕ) → IsLeadOf v h bytes other → other ≡ lead)
-one_lead v h bytes = let has = has_lead v h bytes in (has.0, has.1, λ other is. same_lead v h bytes other has.0 is has.1)
+pub one_lead : (v : Version) (h : Contents) (other : Option Contents) (bytes : List ℕ) → (lead : ℕ) × IsLeadOf v h other bytes lead × ((also : ℕ) → IsLeadOf v h other bytes also → also ≡ lead)
+one_lead v h other bytes = let has = has_lead v h other bytes in (has.0, has.1, λ also is. same_lead v h other bytes also has.0 is has.1)

@@ -1,5 +1,5 @@
 -- How joining two holding files as streams moves the logs of its devices (own).
-use Rattle.std.specs.Prelude.{ℕ, ◌≡◌, ◌+◌, ◌≤◌, ◌⊎◌, Bool, true, false, Option, Result, Ok, Err, List, length}
+use Rattle.std.specs.Prelude.{ℕ, ◌≡◌, ◌+◌, ◌≤◌, ◌⊎◌, Bool, true, false, Result, Ok, Err, length}
 use Rattle.ffv1_bits.specs.Limits.{file_limit}
 use Rattle.ffv1_devices.specs.Logs.{ReadLog, WriteLog, GoesOn, Writes}
 use Rattle.ffv1_hold.specs.declared.file_fault.HoldFileFault.{HoldFileFault}

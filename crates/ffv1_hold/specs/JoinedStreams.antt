@@ -29,6 +29,11 @@ pub record IsFileOf (input : Option (List ℕ)) (v : Version) (h : Contents) : T
   pub fits : FitsInFile v h
   pub text : input ≡ Some (file_text v h)
 
+-- the input is the file of the holding, where one is told
+abbrev pub IsFileOfSome : Option (List ℕ) → Option Contents → Type 0
+IsFileOfSome input None = Unit {0}
+IsFileOfSome input (Some h) = (v : Version) × IsFileOf input v h
+
 -- the input was read to its end, and was a file of the holding
 pub record ReadsAll (old new : Option (List ℕ)) (h : Contents) : Type 0 where
   pub sound : IsHolding h
@@ -180,10 +185,11 @@ pub record WritesAtMost (old new : Option (List ℕ)) (most : ℕ) : Type 0 wher
   pub written : Appends old new done
   pub few : length done ≤ most
 
--- The bytes `done` were written, and no more was taken of the holding's text than up to its lead over them.
-pub record StaysInLead (v : Version) (h : Contents) (input_old input_new old new : Option (List ℕ)) : Type 0 where
+-- The bytes `done` were written, and no more was taken of the holding's text than up to its lead over them, with the other holding's
+-- digests.
+pub record StaysInLead (v : Version) (h : Contents) (other : Option Contents) (input_old input_new old new : Option (List ℕ)) : Type 0 where
   pub done : List ℕ
   pub written : Appends old new done
   pub seen : List ℕ
   pub taken : Consumes input_old input_new seen
-  pub within : (lead : ℕ) → IsLeadOf v h done lead → length seen ≤ lead
+  pub within : (lead : ℕ) → IsLeadOf v h other done lead → length seen ≤ lead

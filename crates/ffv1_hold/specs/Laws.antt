@@ -1,5 +1,5 @@
 -- Laws of holding files, each the contract of a public function.
-use Rattle.std.specs.Prelude.{◌≡◌, ℕ, ◌++◌, ◌≤◌, List, length}
+use Rattle.std.specs.Prelude.{◌≡◌, ℕ, ◌++◌, ◌≤◌, List, length, Option}
 use Rattle.ffv1_bits.specs.Limits.{record_limit}
 use Rattle.ffv1_holding.specs.Contents.{Contents, IsHolding}
 use Rattle.ffv1_hold.specs.declared.file_fault.HoldFileFault.{HoldFileFault}
@@ -28,9 +28,10 @@ PartShowsNoFault = (part seen rest : List ℕ) (fault : HoldFileFault) → IsPar
 abbrev pub TextHasNoFault : Type 0
 TextHasNoFault = (v : Version) (h : Contents) → IsHolding h → FitsInFile v h → (fault : HoldFileFault) → ¬ IsFaultOf (file_text v h) fault
 
--- Each text and each bytes that were written have exactly one lead.
+-- Each text, beside another holding or none, and each bytes that were written have exactly one lead.
 abbrev pub OneLead : Type 0
-OneLead = (v : Version) (h : Contents) (bytes : List ℕ) → (lead : ℕ) × IsLeadOf v h bytes lead × ((other : ℕ) → IsLeadOf v h bytes other → other ≡ lead)
+OneLead = (v : Version) (h : Contents) (other : Option Contents) (bytes : List ℕ) → (lead : ℕ) × IsLeadOf v h other bytes lead
+    × ((also : ℕ) → IsLeadOf v h other bytes also → also ≡ lead)
 
 -- An input has one fault at most.
 abbrev pub OneFault : Type 0

@@ -18,8 +18,8 @@ use Rattle.ffv1_hold.specs.HoldingText.{FileEntry, origins_limit, head_text, ent
 use Rattle.ffv1_hold.specs.Reading.{Takes, Refuses}
 use Rattle.ffv1_hold.specs.FileEntries.{last_of, Follows, AreOrigins, IsFileEntryOf, next_text}
 use Rattle.ffv1_hold.specs.FileFaults.{IsFileReel, IsPartOfHead, HeadIsWhole, HeadShows}
-use Rattle.ffv1_hold.specs.Leads.{LiesWhole}
-use Rattle.ffv1_hold.specs.JoinedStreams.{Inputs, ReadsOtherHeads, JoinRefuses, WritesNoEnd, WritesFrontSoFar, WritesAtMost, ReadsBoth, BeginsWith}
+use Rattle.ffv1_hold.specs.Leads.{LiesWhole, AreAllDigests}
+use Rattle.ffv1_hold.specs.JoinedStreams.{Inputs, IsFileOf, IsFileOfSome, ReadsOtherHeads, JoinRefuses, WritesNoEnd, WritesFrontSoFar, WritesAtMost, ReadsBoth, BeginsWith}
 
 -- what both inputs had left and the sink held at first, the reel of both heads, and their versions
 pub record Start : Type 0 where
@@ -76,12 +76,14 @@ pub record IsHeld (old new : Option (List ℕ)) (v : Version) (r : Reel) (facts 
   pub behind : IsBehind r facts next
   pub at_end : IfNone next (IsAtEnd new)
 
--- What was read of an input: entries that lie whole in what was written, and at most the next one, or the end, behind them.
-pub record StaysBehind (v : Version) (r : Reel) (old new : Option (List ℕ)) (done : List ℕ) : Type 0 where
+-- What was read of an input beside another: entries that lie whole in what was written, where it is a text, and at most the next one, or
+-- the end, after them.
+pub record StaysBehind (v : Version) (r : Reel) (old new beside : Option (List ℕ)) (done : List ℕ) : Type 0 where
   pub facts : Facts
   pub sound : IsHolding (part r facts)
   pub told : IsTold v (part r facts)
-  pub whole : AllByRecursion (LiesWhole r done) (file_entries (part r facts))
+  pub whole : (u : Version) (h : Contents) (other : Option Contents) → IsFileOf old u h → IsFileOfSome beside other
+      → AllByRecursion (LiesWhole (AreAllDigests h other) r done) (file_entries (part r facts))
   pub more : List ℕ
   pub next : (more ≡ []) ⊎ ((next : Option FileEntry) × (more ≡ next_text v next) × IfSome next (IsFileEntryOf v r.setup))
   pub taken : Consumes old new (begun_text v (part r facts) ++ more)
@@ -138,8 +140,8 @@ pub record WriteStops (i : Inputs) (r : Reel) (old new : Option (List ℕ)) : Ty
   pub written : Appends old new done
   pub left_version : Version
   pub right_version : Version
-  pub left : StaysBehind left_version r i.left_old i.left_new done
-  pub right : StaysBehind right_version r i.right_old i.right_new done
+  pub left : StaysBehind left_version r i.left_old i.left_new i.right_old done
+  pub right : StaysBehind right_version r i.right_old i.right_new i.left_old done
 
 -- What a refusal behind two heads of one reel says of all that was read and written.
 pub record Stops (i : Inputs) (old new : Option (List ℕ)) (f : HoldFileFault) : Type 0 where

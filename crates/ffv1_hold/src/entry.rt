@@ -1,16 +1,17 @@
 //! The entries of a holding file (own): slices with their footers (RFC 9043, section 4.9), their tiles, and their origins.
-ghost use Rattle.std.specs.Prelude.{◌≡◌, ◌^◌, ◌<◌, ◌≤◌, ◌↔◌, ◌==◌, length, IsTrue, IfSome, OnOk, IfOk, IfErr};
+ghost use Rattle.std.specs.Prelude.{◌≡◌, ◌^◌, ◌<◌, ◌≤◌, ◌↔◌, ◌==◌, length, IsTrue, Option, IfSome, OnOk, IfOk, IfErr};
 ghost use Rattle.ffv1_bits.specs.Limits.{slice_limit, file_limit};
 ghost use Rattle.ffv1_slice.specs.Slices.{IsSliceOf};
 ghost use Rattle.ffv1_hold.specs.Reading.{ReadsText, Never};
-ghost use Rattle.ffv1_hold.specs.HoldingText.{slice_text};
+ghost use Rattle.ffv1_hold.specs.HoldingText.{FileEntry, slice_text};
 ghost use Rattle.ffv1_hold.specs.FileEntries.{Follows, IsFileEntryOf, next_text};
 ghost use Rattle.ffv1_hold.specs.FileFaults.{IsPartOfSlice, SliceIsTooLong, IsWrong, IsPartOfEntry, EntryShows};
 
 use crate::fields::read_field;
 use crate::file_fault::HoldFileFault;
-use crate::number::{read_bytes, read_u16, read_u32};
+use crate::number::{read_u16, read_u32};
 use crate::origins::read_behind_slice;
+use crate::pieces::read_over;
 use crate::version::Version;
 use ffv1_bits::SLICE_LIMIT;
 use ffv1_devices::Source;
@@ -48,26 +49,40 @@ impl TileSlice {
         by_tile.then_with(|| self.bytes.as_slice().cmp(other.bytes.as_slice()))
     }
 
-    /// Whether it stands behind the last one, if there is one.
-    fn follows(&self, last: &Option<HeldSlice>) -> bool
-        ensures { IsTrue result ↔ Follows last.now self.now }
+    /// Reads the next slice over this one, after its tag, and answers how this one stood to it.
+    fn read_next<S: Source>(
+        &mut self,
+        source: &mut S,
+        place: &mut u32,
+    ) -> Result<Ordering, HoldFileFault>
+        requires { place.old ≤ file_limit }
+        ensures read { ReadsText (λ _. slice_text self.new) IsPartOfSlice Never SliceIsTooLong
+            (S.log source.old) (S.log source.new) place.old place.new result }
+        ensures tile { OnOk result (self.new.0 < 2 ^ 16) }
+        ensures fits { OnOk result (length self.new.1 ≤ slice_limit) }
+        ensures order { IfOk result (λ o. o ≡ entry_cmp self.old self.new) }
     {
-        match last {
-            Some(last) => last.slice.compare(self) == Ordering::Less,
-            None => true,
+        let tile = read_u16(source, place)?;
+        let length = read_u32(source, place)?;
+        if length > SLICE_LIMIT {
+            return Err(HoldFileFault::TooLong);
         }
+        let by_bytes = read_over(source, place, &mut self.bytes, length)?;
+        let by_tile = self.tile.cmp(&tile);
+        self.tile = tile;
+        Ok(by_tile.then(by_bytes))
     }
 
-    /// Whether it is a slice of its tile that stands behind the last one.
-    fn judge(&self, setup: &Setup, last: &Option<HeldSlice>) -> Result<(), HoldFileFault>
+    /// Whether it is a slice of its tile, and then whether it follows the last one, which is told.
+    fn judge(&self, setup: &Setup, follows: bool) -> Result<(), HoldFileFault>
         ensures slice { OnOk result (IsSliceOf setup.now self.now.1 (self.now.0 == 0) self.now.0) }
-        ensures place { OnOk result (Follows last.now self.now) }
-        ensures err { IfErr result (IsWrong setup.now last.now self.now) }
+        ensures place { OnOk result (IsTrue follows) }
+        ensures err { (last : Option FileEntry) → (IsTrue follows ↔ Follows last self.now) → IfErr result (IsWrong setup.now last self.now) }
     {
         if read_slice(setup, &self.bytes, self.tile == 0) != Ok(self.tile as usize) {
             return Err(HoldFileFault::NotASlice);
         }
-        if !self.follows(last) {
+        if !follows {
             return Err(HoldFileFault::Order);
         }
         Ok(())
@@ -93,48 +108,66 @@ impl Model for HeldSlice {
     ghost view = { λ s. (s.slice, s.origins.items) };
 }
 
-/// Reads a slice behind its tag.
+impl HeldSlice {
+    /// The slice alone: the digests are let go.
+    fn into_slice(self) -> TileSlice
+        ensures { result ≡ self.0 }
+    {
+        self.slice
+    }
+}
+
+/// Reads a slice after its tag, over that of the last entry, and answers with it whether it follows that one. The last
+/// entry's digests are let go first.
 fn read_tile_slice<S: Source>(
     alloc: Global,
     source: &mut S,
     place: &mut u32,
-) -> Result<TileSlice, HoldFileFault>
+    last: Option<HeldSlice>,
+) -> Result<(TileSlice, bool), HoldFileFault>
     requires { place.old ≤ file_limit }
-    ensures read { ReadsText slice_text IsPartOfSlice Never SliceIsTooLong
+    ensures read { ReadsText (λ r. slice_text r.0) IsPartOfSlice Never SliceIsTooLong
         (S.log source.old) (S.log source.new) place.old place.new result }
-    ensures tile { IfOk result (λ e. e.0 < 2 ^ 16) }
-    ensures fits { IfOk result (λ e. length e.1 ≤ slice_limit) }
+    ensures tile { IfOk result (λ r. r.0.0 < 2 ^ 16) }
+    ensures fits { IfOk result (λ r. length r.0.1 ≤ slice_limit) }
+    ensures follows { IfOk result (λ r. IsTrue r.1 ↔ Follows last r.0) }
 {
-    let tile = read_u16(source, place)?;
-    let length = read_u32(source, place)?;
-    if length > SLICE_LIMIT {
-        return Err(HoldFileFault::TooLong);
+    match last {
+        Some(held) => {
+            let mut slice = held.into_slice();
+            let order = slice.read_next(source, place)?;
+            Ok((slice, order == Ordering::Less))
+        }
+        None => {
+            let bytes = Vec::new(alloc);
+            let mut slice = TileSlice { tile: 0, bytes };
+            slice.read_next(source, place)?;
+            Ok((slice, true))
+        }
     }
-    let bytes = read_bytes(alloc, source, place, length)?;
-    Ok(TileSlice { tile, bytes })
 }
 
-/// Reads the next entry, which follows the last one, or `None` at the end tag.
+/// Reads the next entry over the last one, which it follows, or answers `None` at the end tag.
 pub(crate) fn read_entry<S: Source>(
     alloc: Global,
     source: &mut S,
     place: &mut u32,
     version: Version,
     setup: &Setup,
-    last: &Option<HeldSlice>,
+    last: Option<HeldSlice>,
 ) -> Result<Option<HeldSlice>, HoldFileFault>
     requires { place.old ≤ file_limit }
-    ensures read { ReadsText (next_text version) (IsPartOfEntry version setup.now last.now) Never (EntryShows version setup.now last.now)
+    ensures read { ReadsText (next_text version) (IsPartOfEntry version setup.now last) Never (EntryShows version setup.now last)
         (S.log source.old) (S.log source.new) place.old place.new result }
-    ensures entry { IfOk result (λ r. IfSome r (λ e. IsFileEntryOf version setup.now e × Follows last.now e.0)) }
+    ensures entry { IfOk result (λ r. IfSome r (λ e. IsFileEntryOf version setup.now e × Follows last e.0)) }
 {
     let mut tag = [0u8; 1];
     read_field(source, place, &mut tag)?;
     match tag[0] {
         0 => Ok(None),
         1 => {
-            let slice = read_tile_slice(alloc, source, place)?;
-            slice.judge(setup, last)?;
+            let (slice, follows) = read_tile_slice(alloc, source, place, last)?;
+            slice.judge(setup, follows)?;
             let origins = read_behind_slice(alloc, source, place, version)?;
             Ok(Some(HeldSlice { slice, origins }))
         }

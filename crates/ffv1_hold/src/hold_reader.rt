@@ -54,7 +54,7 @@ impl HoldReader {
         read_reel(alloc, source, &mut self.place)
     }
 
-    /// Reads the next entry in place of the one that is held, or the end tag and the end of the input.
+    /// Reads the next entry over the one that is held, or the end tag and the end of the input.
     pub(crate) fn advance<S: Source>(
         &mut self,
         alloc: Global,
@@ -69,14 +69,8 @@ impl HoldReader {
         ensures version { self.new.version ≡ self.old.version }
         ensures end { OnOk result (IfNone self.new.held (IsAtEnd (S.log source.new).remaining)) }
     {
-        match read_entry(
-            alloc,
-            source,
-            &mut self.place,
-            self.version,
-            setup,
-            &self.held,
-        )? {
+        let last = self.held.take();
+        match read_entry(alloc, source, &mut self.place, self.version, setup, last)? {
             Some(slice) => self.held = Some(slice),
             None => match next_byte(source)? {
                 Some(_) => return Err(HoldFileFault::Trailing),

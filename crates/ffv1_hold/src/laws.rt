@@ -21,8 +21,8 @@ pub fn one_fault()
     ensures beginnings { OneShownFault }
 {}
 
-/// However far the text of a holding may be read where a write fails, that is one place: each text and each bytes
-/// that were written have exactly one lead.
+/// However far the text of a holding may be read where a write fails, that is one place: each text, beside another
+/// holding or none, and each bytes that were written have exactly one lead.
 pub fn one_lead()
     ensures { OneLead }
 {}

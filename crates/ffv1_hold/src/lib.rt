@@ -12,6 +12,7 @@ mod laws;
 mod merging;
 mod number;
 mod origins;
+mod pieces;
 mod plan;
 mod reading;
 mod saving;

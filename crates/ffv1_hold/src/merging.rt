@@ -1,5 +1,5 @@
 //! Joining two holding files as streams (own).
-ghost use Rattle.std.specs.Prelude.{◌≡◌, ◌≢◌, ◌+◌, ◌≤◌, ◌⊎◌, None, length, OnOk, IfOk, IfErr, IsErrOf, IfSome, IfNone};
+ghost use Rattle.std.specs.Prelude.{◌≡◌, ◌≢◌, ◌+◌, ◌≤◌, ◌⊎◌, Option, None, length, OnOk, IfOk, IfErr, IsErrOf, IfSome, IfNone};
 ghost use Rattle.std.specs.Io.KnownBytes.{Appends};
 ghost use Rattle.ffv1_bits.specs.Limits.{record_limit, file_limit};
 ghost use Rattle.ffv1_devices.specs.Logs.{WriteLog};
@@ -10,7 +10,7 @@ ghost use Rattle.ffv1_hold.specs.declared.version.Version.{Version};
 ghost use Rattle.ffv1_hold.specs.FileEntries.{IsFileEntryOf};
 ghost use Rattle.ffv1_hold.specs.Reading.{Takes};
 ghost use Rattle.ffv1_hold.specs.FileFaults.{IsFileReel};
-ghost use Rattle.ffv1_hold.specs.JoinedStreams.{IsFileOf, WritesUnion, AnswersUnion, BeginsWithHead, AnswersOther, JoinRefuses, WritesNoEnd, WritesFrontSoFar, WritesAtMost, StaysInLead};
+ghost use Rattle.ffv1_hold.specs.JoinedStreams.{IsFileOf, IsFileOfSome, WritesUnion, AnswersUnion, BeginsWithHead, AnswersOther, JoinRefuses, WritesNoEnd, WritesFrontSoFar, WritesAtMost, StaysInLead};
 ghost use Rattle.ffv1_hold.specs.Merging.{Start, AreVersions, inputs_from, IsOpened, Stands, Stops, JoinStops, HeadsRefuse, Ends, IsTurn, IsWritten, with_digests};
 ghost use Rattle.ffv1_hold.specs.JoinLogs.{JoinWent, WritesEntry};
 
@@ -30,15 +30,16 @@ use std::cmp::Ordering;
 /// Joins two holding files of either version as streams: reads both, and writes the file of the union, of version 2.
 ///
 /// Both heads are read and judged before anything is written. Then the smaller of the inputs' next entries is
-/// written, once where both have its slice, and then with the digests of both, and its input is read on: one entry of
-/// each is held with its digests, and one more of an input while it is compared with the one before it. `OtherReel`
+/// written, once where both have its slice, and then with the digests of both, and its input is read on: at most one
+/// entry of each input is held, and the next one is read over it, piece by piece, and compared with it. `OtherReel`
 /// comes exactly where both heads were read and their record, width or height differ, before anything is written.
 /// `TooLong` comes where an input passes its limits, or where what is written would pass 2^31 bytes; each other fault is
 /// the one that `read_hold` tells of that input. The end tag is written only where both inputs were read to their ends
 /// and show no fault. `Read` and `Write` come only where a source or the sink counted a failure: an interrupted try is
 /// made again, and 65 in a row are a failure. After `Write` each input that is a text was read at most to the end of its
 /// first entry that is not whole in what was written, or to its own end where all are whole: an entry is whole there
-/// once its slice stands there with its digests among others. `Memory` comes where a growth is refused.
+/// once its slice stands there with exactly the digests that both inputs give it, where the other one is a text too, and
+/// else with its own among others. `Memory` comes where a growth is refused.
 pub fn join_streams<R: Source, Q: Source, W: Sink>(
     alloc: Global,
     left: &mut R,
@@ -70,11 +71,14 @@ pub fn join_streams<R: Source, Q: Source, W: Sink>(
       right_new = (Q.log right.new).remaining;
     })) }
 
-    // After `Write` no more was taken of an input that is a text than up to its lead.
-    ensures left_lead { (v : Version) (h : Contents) → IsFileOf (R.log left.old).remaining v h → IsErrOf result HoldFileFault.Write
-        → StaysInLead v h (R.log left.old).remaining (R.log left.new).remaining (W.log sink.old).contents (W.log sink.new).contents }
-    ensures right_lead { (v : Version) (h : Contents) → IsFileOf (Q.log right.old).remaining v h → IsErrOf result HoldFileFault.Write
-        → StaysInLead v h (Q.log right.old).remaining (Q.log right.new).remaining (W.log sink.old).contents (W.log sink.new).contents }
+    // After `Write` no more was taken of an input that is a text than up to its lead: where the other one is a text too, with the
+    // digests of both.
+    ensures left_lead { (v : Version) (h : Contents) (other : Option Contents) → IsFileOf (R.log left.old).remaining v h
+        → IsFileOfSome (Q.log right.old).remaining other → IsErrOf result HoldFileFault.Write
+        → StaysInLead v h other (R.log left.old).remaining (R.log left.new).remaining (W.log sink.old).contents (W.log sink.new).contents }
+    ensures right_lead { (v : Version) (h : Contents) (other : Option Contents) → IsFileOf (Q.log right.old).remaining v h
+        → IsFileOfSome (R.log left.old).remaining other → IsErrOf result HoldFileFault.Write
+        → StaysInLead v h other (Q.log right.old).remaining (Q.log right.new).remaining (W.log sink.old).contents (W.log sink.new).contents }
 
     // What was written: after `Write` a front of a text, after another refusal no end tag.
     ensures write { IsErrOf result HoldFileFault.Write → WritesFrontSoFar (record {

@@ -7,6 +7,7 @@ ghost use Rattle.ffv1_hold.specs.HoldingText.{be2, be4};
 
 use crate::fields::read_field;
 use crate::file_fault::HoldFileFault;
+use crate::pieces::read_over;
 use ffv1_devices::Source;
 use std::alloc::Global;
 
@@ -30,7 +31,7 @@ pub(crate) fn read_u32<S: Source>(source: &mut S, place: &mut u32) -> Result<u32
     Ok(u32::from_be_bytes(bytes))
 }
 
-/// Reads that many bytes.
+/// Reads that many bytes. Memory grows with the bytes that are read: a count alone asks for none.
 pub(crate) fn read_bytes<S: Source>(
     alloc: Global,
     source: &mut S,
@@ -42,8 +43,7 @@ pub(crate) fn read_bytes<S: Source>(
         (S.log source.old) (S.log source.new) place.old place.new result }
     ensures count { IfOk result (λ v. length v.items ≡ count) }
 {
-    let mut bytes = Vec::with_capacity(alloc, count as usize)?;
-    bytes.resize(count as usize, 0)?;
-    read_field(source, place, bytes.as_mut_slice())?;
+    let mut bytes = Vec::new(alloc);
+    read_over(source, place, &mut bytes, count)?;
     Ok(bytes)
 }

@@ -10,7 +10,7 @@ use Rattle.ffv1_hold.proofs.entry.read_entry.Goals as goal
 pub returns-in_err-read_field-clause-read : goal.returns-in_err-read_field-clause-read
 returns-in_err-read_field-clause-read g c =
     let p = err_from_is_err_and c.from_residual.result c.from_residual.ensures.1 in
-    rw (p.1, p.2) (StopsAt-part _ _ _ _ _ _ _ c.requires c.in_err-read_field.ensures.read (part_of_tag c.args.version c.args.setup.now c.args.last.now))
+    rw (p.1, p.2) (StopsAt-part _ _ _ _ _ _ _ c.requires c.in_err-read_field.ensures.read (part_of_tag c.args.version c.args.setup.now c.args.last))
 
 pub returns-in-0-clause-read : goal.returns-in-0-clause-read
 returns-in-0-clause-read g c = subst (TakesText _ _ _ _) (single c.read_field.new.buf 0 (search rules) c.in-0.is) c.in_ok-read_field.ensures.read
@@ -20,7 +20,7 @@ returns-in_err-slice-in-1-clause-read g c =
     let p = err_from_is_err_and c.from_residual-in_err-slice-in-1.result c.from_residual-in_err-slice-in-1.ensures.1 in
     let v = c.args.version in
     let setup = c.args.setup.now in
-    let last = c.args.last.now in
+    let last = c.args.last in
     let tag = subst (TakesText _ _ _ _) (single c.read_field.new.buf 1 (search rules) c.in-1.is) c.in_ok-read_field.ensures.read in
     rw (p.1, p.2) (StopsAt-after IsPartOfSlice (IsPartOfEntry v setup last) Never Never SliceIsTooLong (EntryShows v setup last) _ _ _ _ _ (1 ∷ []) tag _
     c.in_err-slice-in-1.ensures.read (part_of_slice v setup last) (λ f s h. h) (slice_shows v setup last))
@@ -31,21 +31,21 @@ returns-in_err-judge-in-1-clause-read g c =
     let tag = subst (TakesText _ _ _ _) (single c.read_field.new.buf 1 (search rules) c.in-1.is) c.in_ok-read_field.ensures.read in
     let slice = c.in_ok-slice-in-1.ensures in
     let whole = TakesText-trans _ _ _ _ _ _ _ _ tag slice.read in
-    rw (p.1, p.2) (wrong_stops c.args.version c.args.setup.now c.args.last.now _ _ c.in_ok-slice-in-1.slice _ _ _ _ _ whole slice.tile slice.fits
-    c.in_err-judge-in-1.ensures.err)
+    rw (p.1, p.2) (wrong_stops c.args.version c.args.setup.now c.args.last _ _ c.in_ok-slice-in-1.slice _ _ _ _ _ whole slice.tile slice.fits
+    (c.in_err-judge-in-1.ensures.err c.args.last slice.follows))
 
 pub returns-in_err-origins-in-1-clause-read : goal.returns-in_err-origins-in-1-clause-read
 returns-in_err-origins-in-1-clause-read g c =
     let p = err_from_is_err_and c.from_residual-in_err-origins-in-1.result c.from_residual-in_err-origins-in-1.ensures.1 in
     let v = c.args.version in
     let setup = c.args.setup.now in
-    let last = c.args.last.now in
+    let last = c.args.last in
     let tag = subst (TakesText _ _ _ _) (single c.read_field.new.buf 1 (search rules) c.in-1.is) c.in_ok-read_field.ensures.read in
     let slice = c.in_ok-slice-in-1.ensures in
     let whole = TakesText-trans _ _ _ _ _ _ _ _ tag slice.read in
     let e = c.in_ok-slice-in-1.slice in
     let judged = c.in_ok-judge-in-1.ensures in
-    let right : IsRight setup last e = (record { slice = judged.slice; fits = slice.fits }, judged.place, slice.tile) in
+    let right : IsRight setup last e = (record { slice = judged.slice; fits = slice.fits }, slice.follows.0 judged.place, slice.tile) in
     rw (p.1, p.2) (StopsAt-after (IsPartBehind v) (IsPartOfEntry v setup last) Never Never (ShowsBehind v) (EntryShows v setup last) _ _ _ _ _
     (1 ∷ slice_text e) whole _ c.in_err-origins-in-1.ensures.read (part_behind_slice v setup last e right) (λ f s h. h) (behind_shows v setup last e right))
 
@@ -58,7 +58,7 @@ returns-in_ok-origins-in-1 g c =
     let all = TakesText-trans _ _ _ _ _ _ _ _ (TakesText-trans _ _ _ _ _ _ _ _ tag slice.read) more.read in
     record {
       read = subst (TakesText _ _ _ _) (entry_text-of c.args.version (c.in_ok-slice-in-1.slice, c.in_ok-origins-in-1.origins.items)) all;
-      entry = (record { slice = record { slice = judged.slice; fits = slice.fits }; origins = more.digests }, judged.place);
+      entry = (record { slice = record { slice = judged.slice; fits = slice.fits }; origins = more.digests }, slice.follows.0 judged.place);
     }
 
 pub returns-in_default-clause-read : goal.returns-in_default-clause-read

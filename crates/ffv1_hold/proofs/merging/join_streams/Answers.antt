@@ -12,10 +12,10 @@ pub returns-clause-fault : goal.returns-clause-fault
 returns-clause-fault g c = says _ _ _ _ (join_refuses _ _ _) c.merge_files.result c.merge_files.ensures.err
 
 pub returns-clause-left_lead : goal.returns-clause-left_lead
-returns-clause-left_lead g c v h file = says_write _ _ _ _ (left_stays _ _ _ v h file) c.merge_files.result c.merge_files.ensures.err
+returns-clause-left_lead g c v h other file also = says_write _ _ _ _ (left_stays _ _ _ v h other file also) c.merge_files.result c.merge_files.ensures.err
 
 pub returns-clause-right_lead : goal.returns-clause-right_lead
-returns-clause-right_lead g c v h file = says_write _ _ _ _ (right_stays _ _ _ v h file) c.merge_files.result c.merge_files.ensures.err
+returns-clause-right_lead g c v h other file also = says_write _ _ _ _ (right_stays _ _ _ v h other file also) c.merge_files.result c.merge_files.ensures.err
 
 pub returns-clause-write : goal.returns-clause-write
 returns-clause-write g c = says_write _ _ _ _ (λ stops. (write_stops _ _ _ stops).2.front) c.merge_files.result c.merge_files.ensures.err

@@ -1,9 +1,7 @@
-use Rattle.std.proofs.Common.{[], arith, inl}
 use Rattle.std.proofs.lemmas.Result.{err_from_is_err_and}
-use Rattle.ffv1_hold.proofs.TextReads.{TakesText-nil, memory_stops}
 use Rattle.ffv1_hold.proofs.number.read_bytes.Goals as goal
 
-pub returns-in_err-bytes-clause-read : goal.returns-in_err-bytes-clause-read
-returns-in_err-bytes-clause-read g c =
+pub returns-in_err-read_over-clause-read : goal.returns-in_err-read_over-clause-read
+returns-in_err-read_over-clause-read g c =
     let p = err_from_is_err_and c.from_residual.result c.from_residual.ensures.1 in
-    rw (p.1, p.2) (memory_stops _ _ _ _ _ _ _ [] (TakesText-nil _ _ c.requires) (inl (grind arith)))
+    rw (p.1, p.2) c.in_err-read_over.ensures.read

@@ -10,7 +10,8 @@ returns-in_err-slice-clause-read g c =
     let p = err_from_is_err_and c.from_residual.result c.from_residual.ensures.1 in
     let part = IsPartOfEntry c.args.self.now.version c.args.setup.now c.args.self.now.held in
     let shows = EntryShows c.args.self.now.version c.args.setup.now c.args.self.now.held in
-    rw (p.1, p.2) (StopsAt-after part part Never EndIsWhole shows shows _ _ _ _ _ [] (TakesText-nil _ _ c.requires) _ c.in_err-slice.ensures.read
+    let stops = rw c.take-last.ensures.value at c.in_err-slice.ensures.read in
+    rw (p.1, p.2) (StopsAt-after part part Never EndIsWhole shows shows _ _ _ _ _ [] (TakesText-nil _ _ c.requires) _ stops
     (λ s h. h) (λ f s h. absurd h) (λ f s h. h))
 
 pub returns-in_err-next_byte-in-None-clause-read : goal.returns-in_err-next_byte-in-None-clause-read

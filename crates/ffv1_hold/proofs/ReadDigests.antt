@@ -1,0 +1,193 @@
+-- The digests that a text gives a slice, by what was read of it: where the next entry follows the slice, the entries that were read tell
+-- all of them.
+use Rattle.std.proofs.Common.{◌≡◌, ℕ, suc, ◌<◌, cond, Bool, true, false, ◌||◌, List, [], ◌∷◌, ◌++◌, length, map, get_or, Option, Some, None, IfSome, refl, sym, ap, ◌∙◌, subst, inr, arith, append-nil}
+use mathlib.Core.Bool.{true≢false}
+use Rattle.std.specs.List.{list_any}
+use Rattle.std.specs.Io.KnownBytes.{Consumes}
+use Rattle.std.specs.Ordering.{is_eq, eq_by_cmp}
+use Rattle.std.specs.declared.cmp.Ordering.TheVariants.{Less}
+use Rattle.std.proofs.lemmas.Bool.{false_from_ne_true}
+use Rattle.ffv1_holding.specs.SliceOrder.{Entry, entry_cmp, entries_total, origins_total, origins_antisymmetric}
+use Rattle.ffv1_holding.specs.Sets as set
+use Rattle.ffv1_holding.specs.Rising.{IsRising}
+use Rattle.ffv1_holding.specs.Reels.{Reel}
+use Rattle.ffv1_holding.specs.TileSets.{digests_in}
+use Rattle.ffv1_holding.specs.Contents.{Contents, IsHolding, digests_of, joined}
+use Rattle.ffv1_holding.proofs.RisingSets.{rising_rest}
+use Rattle.ffv1_holding.proofs.ItemsRise.{items-rising}
+use Rattle.ffv1_holding.proofs.EntrySteps.{or_cases}
+use Rattle.ffv1_hold.specs.declared.version.Version.{Version}
+use Rattle.ffv1_hold.specs.declared.version.Version.TheVariants.{Second}
+use Rattle.ffv1_hold.specs.HoldingText.{FileEntry, entry_text, body_text, entries_text, begun_text, file_entries, IsTold}
+use Rattle.ffv1_hold.specs.FileEntries.{IsFileEntryOf, file_entry_cmp, next_text}
+use Rattle.ffv1_hold.specs.FileFaults.{IsFileReel}
+use Rattle.ffv1_hold.specs.Leads.{AreAllDigests}
+use Rattle.ffv1_hold.specs.JoinedStreams.{IsFileOf, IsFileOfSome, ReadsAll}
+use Rattle.ffv1_hold.specs.Merging.{Facts, part, both, IsHeld, IsBehind, StaysBehind}
+use Rattle.ffv1_hold.proofs.DigestSets.{has, entry_tie, has-digests_in, digests_rise, same_digests}
+use Rattle.ffv1_hold.proofs.HeldEntries.{above_all, are_entries}
+use Rattle.ffv1_hold.proofs.NumberTexts.{no_tag}
+use Rattle.ffv1_hold.proofs.TextLaws.{entries_behind, AreFitting, fitting_all}
+use Rattle.ffv1_hold.proofs.Slots.{entries_text-cons, entries_text-none}
+use Rattle.ffv1_hold.proofs.TileTexts.{own}
+use Rattle.ffv1_hold.proofs.MergeFacts.{IsWithin, own_digests}
+use Rattle.ffv1_hold.proofs.MergeLeads.{front_entries, rest_entries, all_lie_whole}
+
+-- ---- the digests that entries tell
+
+-- those of the entry of this slice, and none where there is no such entry
+abbrev pub told_in : List FileEntry → Entry → List (List ℕ)
+told_in [] e = []
+told_in (x ∷ xs) e = cond (eq_by_cmp entry_cmp e x.0) x.1 (told_in xs e)
+
+told_own : (h : Contents) (e : Entry) (xs : List Entry) → told_in (map (own h) xs) e ≡ cond (list_any (eq_by_cmp entry_cmp e) xs) (digests_of h e) []
+told_own h e [] = refl
+told_own h e (x ∷ xs) = elim (eq_by_cmp entry_cmp e x) as (λ b. eq_by_cmp entry_cmp e x ≡ b
+    → cond b (digests_of h x) (told_in (map (own h) xs) e) ≡ cond (b || list_any (eq_by_cmp entry_cmp e) xs) (digests_of h e) []) [
+      | true ↦ λ tie. ap (digests_of h) (sym (entry_tie e x tie))
+      | false ↦ λ none. told_own h e xs
+    ] refl
+
+-- a slice that is not held has no digests
+none_told : (h : Contents) → IsHolding h → (e : Entry) → set.contains h.slices e ≡ false → digests_of h e ≡ []
+none_told h is e none =
+    same_digests (digests_of h e) [] (digests_rise h.origins e) (λ i j d lt in_range. absurd (omega arith)) (λ d.
+    has-digests_in h.origins e d
+    ∙ false_from_ne_true (set.contains h.origins (e, d)) (λ there. true≢false (sym (is.origins_held (e, d) there) ∙ none)))
+
+if_held : (b : Bool) (ds : List (List ℕ)) → (b ≡ false → ds ≡ []) → cond b ds [] ≡ ds
+if_held true ds none = refl
+if_held false ds none = sym (none refl)
+
+told_digests : (h : Contents) → IsHolding h → (e : Entry) → told_in (file_entries h) e ≡ digests_of h e
+unfolding file_entries
+told_digests h is e =
+    told_own h e (set.items h.slices)
+    ∙ if_held (list_any (eq_by_cmp entry_cmp e) (set.items h.slices)) (digests_of h e)
+    (λ none. none_told h is e (set.contains-items h.slices e ∙ none))
+
+told_front : (xs rest : List FileEntry) (e : Entry) → told_in rest e ≡ [] → told_in (xs ++ rest) e ≡ told_in xs e
+told_front [] rest e none = none
+told_front (x ∷ xs) rest e none = ap (cond (eq_by_cmp entry_cmp e x.0) x.1) (told_front xs rest e none)
+
+-- entries that all follow the slice tell none
+told_above : (x : FileEntry) (rest : List FileEntry) (e : Entry) → IsRising file_entry_cmp (x ∷ rest) → entry_cmp e x.0 ≡ Less → told_in (x ∷ rest) e ≡ []
+told_above x [] e up less = ap (λ o. cond (is_eq o) x.1 []) less
+told_above x (y ∷ rest) e up less =
+    ap (λ o. cond (is_eq o) x.1 (told_in (y ∷ rest) e)) less
+    ∙ told_above y rest e (rising_rest file_entry_cmp x (y ∷ rest) up)
+    (entries_total.trans e x.0 y.0 less (up 0 1 x (omega arith) (omega arith)))
+
+rising_back : (xs rest : List FileEntry) → IsRising file_entry_cmp (xs ++ rest) → IsRising file_entry_cmp rest
+rising_back [] rest up = up
+rising_back (x ∷ xs) rest up = rising_back xs rest (rising_rest file_entry_cmp x (xs ++ rest) up)
+
+-- ---- what was read of a text
+
+-- An input was read up to these entries, and after them the next one, or the end.
+pub record IsReadTo (old new : Option (List ℕ)) (v : Version) (r : Reel) (f : Facts) (next : Option FileEntry) : Type 0 where
+  pub sound : IsHolding (part r f)
+  pub told : IsTold v (part r f)
+  pub entry : IfSome next (IsFileEntryOf v r.setup)
+  pub taken : Consumes old new (begun_text v (part r f) ++ next_text v next)
+
+pub held_read : (old new : Option (List ℕ)) (v : Version) (r : Reel) (f : Facts) (place : ℕ) (next : Option FileEntry) → IsHeld old new v r f place next
+    → IsReadTo old new v r f next
+held_read old new v r f place next h = record { sound = h.sound; told = h.told; entry = h.entry; taken = h.text.taken }
+
+pub all_read_to : (old new : Option (List ℕ)) (r : Reel) (f : Facts) (a : ReadsAll old new (part r f)) → IsReadTo old new a.file.version r f None
+all_read_to old new r f a = record { sound = a.sound; told = a.file.fits.told; entry = tt; taken = a.file.taken }
+
+-- what follows the entries that were read, the next one and others, tells nothing of a slice before it
+rest_tells_none : (w : Version) (r : Reel) → IsFileReel r → (e : Entry) (rest : List FileEntry) (bytes : List ℕ) (next : Option FileEntry)
+    → IfSome next (IsFileEntryOf w r.setup) → IfSome next (λ n. entry_cmp e n.0 ≡ Less) → AreFitting w rest → IsRising file_entry_cmp rest
+    → entries_text w rest ++ 0 ∷ [] ≡ next_text w next ++ bytes → told_in rest e ≡ []
+rest_tells_none w r is e [] bytes None entry below fit up same = refl
+rest_tells_none w r is e (g ∷ gs) bytes None entry below fit up same =
+    absurd (no_tag (body_text w g ++ (entries_text w gs ++ 0 ∷ [])) bytes 1 0 (sym (entries_behind w g gs (0 ∷ [])) ∙ same) (λ e. omega arith))
+rest_tells_none w r is e rest bytes (Some x) entry below fit up same =
+    let one = ap (λ t. t ++ bytes) (entries_text-cons w x [] ∙ ap (λ t. entry_text w x ++ t) (entries_text-none w) ∙ append-nil (entry_text w x)) in
+    let front = front_entries w rest (x ∷ []) [] bytes fit (fitting_all w r is.reel (x ∷ []) (entry, tt)) (same ∙ sym one) in
+    ap (λ (es : List FileEntry). told_in es e) front.1
+    ∙ told_above x front.0 e (subst (IsRising file_entry_cmp) front.1 up) below
+
+-- the entries that were read tell all digests of a slice before the next one
+digests_read : (v w : Version) (h : Contents) (r : Reel) (is : IsFileReel r) (old new : Option (List ℕ)) (f : Facts) (next : Option FileEntry) → IsFileOf old v h
+    → IsReadTo old new w r f next → (e : Entry) → IfSome next (λ n. entry_cmp e n.0 ≡ Less) → digests_of h e ≡ digests_of (part r f) e
+digests_read v w h r is old new f next file read e below =
+    let some = file_entries (part r f) in
+    let left = rest_entries v w h r is old new file f (next_text w next) read.sound read.told read.taken in
+    let up = rising_back some left.rest (subst (IsRising file_entry_cmp) left.split (are_entries v h file.sound file.fits.told).rising) in
+    sym (told_digests h file.sound e) ∙ ap (λ (es : List FileEntry). told_in es e) left.split
+    ∙ told_front some left.rest e (rest_tells_none w r is e left.rest left.bytes next read.entry below left.fits up left.text)
+    ∙ told_digests (part r f) read.sound e
+
+-- ---- both
+
+-- what is so of each entry is so of one that is held
+any_each : (P : Entry → Type 0) (xs : List Entry) → ((i : ℕ) (d : Entry) → i < length xs → P (get_or xs i d)) → (q : Entry)
+    → list_any (eq_by_cmp entry_cmp q) xs ≡ true → P q
+any_each P [] each q there = absurd (true≢false (sym there))
+any_each P (x ∷ xs) each q there =
+    or_cases (eq_by_cmp entry_cmp q x) (list_any (eq_by_cmp entry_cmp q) xs) (P q) there (λ tie. subst P (sym (entry_tie q x tie)) (each 0 x (omega arith)))
+    (any_each P xs (λ i d lt. each (suc i) d (omega arith)) q)
+
+-- what follows all facts follows each slice
+pub behind_each : (r : Reel) (all : Facts) (next : Option FileEntry) → IsBehind r all next → (e : Entry) → set.contains all.0 e ≡ true
+    → IfSome next (λ n. entry_cmp e n.0 ≡ Less)
+unfolding file_entries
+behind_each r all None behind e held = tt
+behind_each r all (Some n) behind e held =
+    any_each (λ q. entry_cmp q n.0 ≡ Less) (set.items all.0)
+    (above_all (digests_of (part r all)) (set.items all.0) n.0 (items-rising all.0) behind) e (sym (set.contains-items all.0 e) ∙ held)
+
+-- the digests of both are those of what was read of both
+pub digests_both : (r : Reel) (f g : Facts) (h k : Contents) (e : Entry) → digests_of h e ≡ digests_of (part r f) e → digests_of k e ≡ digests_of (part r g) e
+    → digests_of (part r (both f g)) e ≡ digests_of (joined h k) e
+digests_both r f g h k e left right =
+    same_digests (digests_of (part r (both f g)) e) (digests_of (joined h k) e) (digests_rise (set.union f.1 g.1) e)
+    (digests_rise (set.union h.origins k.origins) e) (λ d.
+    has-digests_in (set.union f.1 g.1) e d ∙ set.contains-union origins_total f.1 g.1 (e, d)
+    ∙ (λ i. held f h left d i || held g k right d i)
+    ∙ sym (has-digests_in (set.union h.origins k.origins) e d ∙ set.contains-union origins_total h.origins k.origins (e, d)))
+  where
+    held : (x : Facts) (c : Contents) → digests_of c e ≡ digests_of (part r x) e → (d : List ℕ) → set.contains x.1 (e, d) ≡ set.contains c.origins (e, d)
+    held x c same d = sym (has-digests_in x.1 e d) ∙ ap (λ ds. has ds d) (sym same) ∙ has-digests_in c.origins e d
+
+pub digests-swap : (h k : Contents) (e : Entry) → digests_of (joined h k) e ≡ digests_of (joined k h) e
+digests-swap h k e = ap (λ o. digests_in o e) (set.union_comm origins_total origins_antisymmetric h.origins k.origins)
+
+-- ---- an input beside another
+
+-- All facts give a slice the digests of both inputs, of which one was read to the facts f, and the other one to g.
+abbrev pub GiveBoth : Reel → (f g all : Facts) → Type 0
+GiveBoth r f g all = (h k : Contents) (e : Entry) → digests_of h e ≡ digests_of (part r f) e → digests_of k e ≡ digests_of (part r g) e
+    → digests_of (part r all) e ≡ digests_of (joined h k) e
+
+pub left_gives : (r : Reel) (f g : Facts) → GiveBoth r f g (both f g)
+left_gives r f g h k e left right = digests_both r f g h k e left right
+
+pub right_gives : (r : Reel) (f g : Facts) → GiveBoth r g f (both f g)
+right_gives r f g h k e right left = digests_both r f g k h e left right ∙ digests-swap k h e
+
+module _ (r : Reel) (is : IsFileReel r) (old new beside now : Option (List ℕ)) (v w : Version) (f g all : Facts) (next also : Option FileEntry)
+    (read : IsReadTo old new v r f next) (other_read : IsReadTo beside now w r g also) (inside : IsWithin f all) (follows : IsBehind r all next)
+    (also_follows : IsBehind r all also) (give : GiveBoth r f g all) where
+  are_all : (u : Version) (h : Contents) (other : Option Contents) → IsFileOf old u h → IsFileOfSome beside other → (e : Entry) → set.contains f.0 e ≡ true
+      → AreAllDigests h other (own (part r f) e) (digests_of (part r all) e)
+  are_all u h None file other_file e held = own_digests r f all inside e
+  are_all u h (Some k) file other_file e held =
+      let there = inside.slices e held in
+      give h k e (digests_read u v h r is old new f next file read e (behind_each r all next follows e there))
+      (digests_read other_file.0 w k r is beside now g also other_file.1 other_read e (behind_each r all also also_follows e there))
+
+  pub stays_beside : IsHolding (part r all) → IsTold Second (part r all) → (rest : List ℕ) → StaysBehind v r old new beside (begun_text Second (part r all) ++ rest)
+  stays_beside sound told rest = record {
+    facts = f;
+    sound = read.sound;
+    told = read.told;
+    whole = λ u h other file other_file. all_lie_whole r f all sound told inside rest (AreAllDigests h other) (are_all u h other file other_file);
+    more = next_text v next;
+    next = inr (next, refl, read.entry);
+    taken = read.taken;
+  }
