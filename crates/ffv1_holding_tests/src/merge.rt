@@ -18,10 +18,10 @@ const ONE_TILE: [u8; 17] = [
 /// Tile 0 of one sample 0, first in its payload.
 const BLACK: [u8; 11] = [0xFD, 0xF6, 0x80, 0, 0, 3, 0, 0x1C, 0x3E, 0xA0, 0x9B];
 
-/// The same of one sample 1, which stands before it in a file.
+/// The same of one sample 1, which comes before it in a file.
 const DARK: [u8; 11] = [0xFD, 0xF6, 0x40, 0, 0, 3, 0, 0x17, 0x60, 0xA5, 0x79];
 
-/// Another copy with the first of them, and junk behind it.
+/// Another copy with the first of them, and junk after it.
 const TWICE: [u8; 19] = [
     0xFD, 0xF6, 0x80, 0, 0, 3, 0, 0x1C, 0x3E, 0xA0, 0x9B, 0, 0, 0, 0, 0, 0, 0, 0,
 ];
@@ -141,7 +141,7 @@ fn a_changed_byte_leaves_no_file(rt: HostRuntime) -> Result<(), Fail> {
     Ok(())
 }
 
-/// Whether a sink that fails behind so many bytes of a file of 146 has that front of it, and no more of its entries, which
+/// Whether a sink that fails after so many bytes of a file of 146 has that front of it, and no more of its entries, which
 /// end at 91 and 145, was read than is needed.
 fn has_front(alloc: Global, file: &[u8], right: &[u8], room: usize) -> bool {
     let mut sink = FromWrite::new(Narrow {
@@ -162,7 +162,7 @@ fn has_front(alloc: Global, file: &[u8], right: &[u8], room: usize) -> bool {
         && Some(sink.into_inner().bytes.as_slice()) == file.get(..room)
 }
 
-/// Whether it does so behind any number of them.
+/// Whether it does so after any number of them.
 fn each_front_is_left(alloc: Global, file: &[u8], right: &[u8]) -> bool {
     for room in 0..file.len() {
         if !has_front(alloc, file, right, room) {
@@ -181,7 +181,51 @@ fn a_failed_write_leaves_a_front_and_reads_no_further(rt: HostRuntime) -> Result
     Ok(())
 }
 
-/// What joining a file, behind which tries are interrupted so many times in a row, with itself answers.
+/// What a file that fails after its bytes comes to with another one, as the first or the second input, and what was written.
+fn failed(
+    alloc: Global,
+    file: &[u8],
+    other: &[u8],
+    is_second: bool,
+) -> (Result<(), HoldFileFault>, Vec<u8>) {
+    let mut failing = FromRead::new(Failing {
+        bytes: file,
+        kind: ErrorKind::Other,
+        times: 1,
+    });
+    let mut whole = FromRead::new(other);
+    let mut sink = FromWrite::new(Vec::new(alloc));
+    let answer = if is_second {
+        join_streams(alloc, &mut whole, &mut failing, &mut sink)
+    } else {
+        join_streams(alloc, &mut failing, &mut whole, &mut sink)
+    };
+    (answer, sink.into_inner())
+}
+
+/// Whether that is told, and what was written is a front of their union's file, without its end.
+fn is_failure_told(alloc: Global, file: &[u8], other: &[u8], union: &[u8]) -> bool {
+    for is_second in [false, true] {
+        let (answer, front) = failed(alloc, file, other, is_second);
+        if answer != Err(HoldFileFault::Read) || front.as_slice() == union || !union.starts_with(&front) {
+            return false;
+        }
+    }
+    true
+}
+
+#[test]
+fn an_input_that_fails_is_told_and_leaves_no_end(rt: HostRuntime) -> Result<(), Fail> {
+    let alloc = rt.alloc();
+    let both = file_of(alloc, &[&BLACK, &DARK], 1)?;
+    let dark = file_of(alloc, &[&DARK], 1)?;
+    for place in 0..=both.len() {
+        assert!(rt; is_failure_told(alloc, &both[..place], &dark, &both));
+    }
+    Ok(())
+}
+
+/// What joining a file, after which tries are interrupted so many times in a row, with itself answers.
 fn interrupted(alloc: Global, file: &[u8], times: u32) -> Result<(), HoldFileFault> {
     let mut left = FromRead::new(Failing {
         bytes: file,

@@ -1,7 +1,7 @@
-//! The commands on devices that fail behind any number of bytes: which path is told, and what is left in the outputs.
+//! The commands on devices that fail after any number of bytes: which path is told, and what is left in the outputs.
 use ffv1_commands::{
-    CliFault, CommandPath, run_chain, run_decode, run_join, run_picture, run_report, run_restore,
-    run_show, run_splice, run_take,
+    CliFault, CommandPath, run_chain, run_decode, run_join, run_merge, run_picture, run_report,
+    run_restore, run_show, run_splice, run_take,
 };
 use ffv1_hold::HoldFileFault;
 use std::alloc::Global;
@@ -21,9 +21,9 @@ const FRAME: [u8; 22] = [
     0xD7, 0x3B,
 ];
 
-/// What an input does behind its bytes.
+/// What an input does after its bytes.
 #[derive(Clone, Copy, Debug, PartialEq, Eq)]
-enum Behind {
+enum After {
     /// It ends.
     End,
     /// It fails.
@@ -37,7 +37,7 @@ enum Behind {
 struct Input<'a> {
     bytes: &'a [u8],
     interruptions: u32,
-    behind: Behind,
+    after: After,
 }
 
 impl<'a> Input<'a> {
@@ -45,14 +45,14 @@ impl<'a> Input<'a> {
         Input {
             bytes,
             interruptions: 0,
-            behind: Behind::End,
+            after: After::End,
         }
     }
 
-    /// Has it fail behind so many bytes.
-    fn fail_behind(&mut self, room: usize) {
+    /// Has it fail after so many bytes.
+    fn fail_after(&mut self, room: usize) {
         self.bytes = self.bytes.get(..room).unwrap_or(&[]);
-        self.behind = Behind::Failure;
+        self.after = After::Failure;
     }
 }
 
@@ -65,9 +65,9 @@ impl Read for Input<'_> {
         let mut left = self.bytes;
         let count = left.read(buf)?;
         self.bytes = left;
-        match self.behind {
-            Behind::Failure if count == 0 => Err(io::Error::from(ErrorKind::Other)),
-            Behind::Zeros if count == 0 => {
+        match self.after {
+            After::Failure if count == 0 => Err(io::Error::from(ErrorKind::Other)),
+            After::Zeros if count == 0 => {
                 buf.fill(0);
                 Ok(buf.len())
             }
@@ -123,6 +123,7 @@ enum Command {
     Show,
     Take,
     Join,
+    Merge,
     Report,
     Restore,
     Picture,
@@ -130,11 +131,12 @@ enum Command {
     Decode,
 }
 
-const COMMANDS: [Command; 9] = [
+const COMMANDS: [Command; 10] = [
     Command::Chain,
     Command::Show,
     Command::Take,
     Command::Join,
+    Command::Merge,
     Command::Report,
     Command::Restore,
     Command::Picture,
@@ -152,6 +154,7 @@ impl Command {
             Command::Splice => (CommandPath::Copy(0), Some(CommandPath::Copy(1))),
             Command::Decode => (CommandPath::Record, Some(CommandPath::Frame)),
             Command::Join => (CommandPath::Hold(0), Some(CommandPath::Hold(1))),
+            Command::Merge => (CommandPath::Inputs, Some(CommandPath::Inputs)),
             Command::Report | Command::Restore | Command::Picture => (CommandPath::Hold(0), None),
         }
     }
@@ -163,18 +166,19 @@ impl Command {
             Command::Show => (&RECORD, &[]),
             Command::Take | Command::Decode => (&RECORD, &FRAME),
             Command::Splice => (&FRAME, &FRAME),
-            Command::Join => (&files.part, &files.whole),
+            Command::Join | Command::Merge => (&files.part, &files.whole),
             Command::Report | Command::Restore => (&files.whole, &[]),
             Command::Picture => (&files.part, &[]),
         }
     }
 }
 
-/// The holding files of the second tile, and of both.
+/// The holding files of the second tile, of both, and of the union of these two.
 #[derive(Drop)]
 struct Files {
     part: Vec<u8>,
     whole: Vec<u8>,
+    union: Vec<u8>,
 }
 
 /// Runs a command; the second input is left alone where it has one alone.
@@ -191,6 +195,7 @@ fn run<'a>(
         Command::Show => run_show(alloc, &mut first, 2, 1, printed),
         Command::Take => run_take(alloc, &mut first, 2, 1, &mut [second], out, printed),
         Command::Join => run_join(alloc, &mut first, &mut [second], out, printed),
+        Command::Merge => run_merge(alloc, &mut first, &mut second, out),
         Command::Report => run_report(alloc, &mut first, printed),
         Command::Restore => run_restore(alloc, &mut first, out, printed),
         Command::Picture => match run_picture(alloc, &mut first, out, printed) {
@@ -224,14 +229,24 @@ fn held(alloc: Global, copy: &[u8]) -> Result<Vec<u8>, Fail> {
     Ok(file)
 }
 
+/// The file that `merge` makes of two.
+fn merged(alloc: Global, left: &[u8], right: &[u8]) -> Result<Vec<u8>, Fail> {
+    let (mut left, mut right) = (left, right);
+    let mut file = Vec::new(alloc);
+    run_merge(alloc, &mut left, &mut right, &mut file)
+        .ok()
+        .ok_or("ample memory")?;
+    Ok(file)
+}
+
 /// The files of the frame: of a copy with a damaged tile 0, and of the frame as it is.
 fn holding_files(alloc: Global) -> Result<Files, Fail> {
     let mut copy = FRAME;
     copy[2] = 0;
-    Ok(Files {
-        part: held(alloc, &copy)?,
-        whole: held(alloc, &FRAME)?,
-    })
+    let part = held(alloc, &copy)?;
+    let whole = held(alloc, &FRAME)?;
+    let union = merged(alloc, &part, &whole)?;
+    Ok(Files { part, whole, union })
 }
 
 /// Whether a command's answer is that this path was not read.
@@ -244,7 +259,13 @@ fn is_unwritten(answer: &Result<(), CliFault>, path: CommandPath) -> bool {
     matches!(answer, Err(CliFault::Write(told)) if *told == path)
 }
 
-/// Whether a failure behind so many bytes of the first or the second input is told as that, and nothing is written.
+/// Whether OUT has what a command may leave there where an input fails: nothing, or of `merge` a front of its file.
+fn is_left(command: Command, files: &Files, out: &[u8]) -> bool {
+    let front = command == Command::Merge && files.union.starts_with(out);
+    out.is_empty() || front && out.len() < files.union.len()
+}
+
+/// Whether a failure after so many bytes of the first or the second input is told as that, and no more is written.
 fn input_is_told(
     alloc: Global,
     command: Command,
@@ -256,15 +277,15 @@ fn input_is_told(
     let (first_path, second_path) = command.paths();
     let (mut first, mut second) = (Input::new(first_bytes), Input::new(second_bytes));
     let path = if is_second {
-        second.fail_behind(room);
+        second.fail_after(room);
         second_path
     } else {
-        first.fail_behind(room);
+        first.fail_after(room);
         Some(first_path)
     };
     let (mut out, mut printed) = (Output::new(alloc), Output::new(alloc));
     let answer = run(alloc, command, first, second, &mut out, &mut printed);
-    is_unread(&answer, path) && out.bytes.is_empty() && printed.bytes.is_empty()
+    is_unread(&answer, path) && is_left(command, files, &out.bytes) && printed.bytes.is_empty()
 }
 
 #[test]
@@ -307,7 +328,7 @@ fn ran_with_room(
     (answer, out.bytes, output.bytes)
 }
 
-/// Whether an OUT that fails behind so many bytes has just these, and nothing is printed.
+/// Whether an OUT that fails after so many bytes has just these, and nothing is printed.
 fn out_has_front(alloc: Global, command: Command, files: &Files, made: &[u8], room: usize) -> bool {
     let (answer, front, printed) = ran_with_room(alloc, command, files, room, usize::MAX);
     is_unwritten(&answer, CommandPath::Out)
@@ -315,7 +336,7 @@ fn out_has_front(alloc: Global, command: Command, files: &Files, made: &[u8], ro
         && printed.is_empty()
 }
 
-/// Whether a standard output that fails behind so many bytes has just these, and the file was made.
+/// Whether a standard output that fails after so many bytes has just these, and the file was made.
 fn output_has_front(
     alloc: Global,
     command: Command,
@@ -386,7 +407,9 @@ fn interruptions_are_told(alloc: Global, command: Command, files: &Files, device
             0 => is_unread(&told, Some(first)),
             1 if second.is_some() => is_unread(&told, second),
             2 if makes => is_unwritten(&told, CommandPath::Out),
-            3 => is_unwritten(&told, CommandPath::StandardOutput),
+            3 if command != Command::Merge => {
+                is_unwritten(&told, CommandPath::StandardOutput)
+            }
             _ => true,
         }
 }
@@ -406,7 +429,7 @@ fn sixty_five_interruptions_in_a_row_are_told(rt: HostRuntime) -> Result<(), Fai
 /// The fault of a holding file that never ends, as `restore` tells it.
 fn fault_of_endless(alloc: Global, file: &[u8]) -> Option<CliFault> {
     let mut input = Input::new(file);
-    input.behind = Behind::Zeros;
+    input.after = After::Zeros;
     let (mut out, mut printed) = (Output::new(alloc), Output::new(alloc));
     run_restore(alloc, &mut input, &mut out, &mut printed).err()
 }
@@ -416,7 +439,7 @@ fn files_that_never_end_show_their_first_fault(rt: HostRuntime) -> Result<(), Fa
     let files = holding_files(rt.alloc())?;
     let zeros = fault_of_endless(rt.alloc(), &[]);
     assert!(rt; matches!(zeros, Some(CliFault::HoldFile(HoldFileFault::Magic))));
-    let behind = fault_of_endless(rt.alloc(), &files.whole);
-    assert!(rt; matches!(behind, Some(CliFault::HoldFile(HoldFileFault::Trailing))));
+    let trailing = fault_of_endless(rt.alloc(), &files.whole);
+    assert!(rt; matches!(trailing, Some(CliFault::HoldFile(HoldFileFault::Trailing))));
     Ok(())
 }
