@@ -1,13 +1,11 @@
 -- What a fault that comes before anything is written says: which path it names, and that it tells nothing of the outputs.
-use Rattle.std.proofs.Common.{◌≡◌, ◌≢◌, ℕ, List, Option, Result, Ok, Err, IfSome, IfErr, inl, inr, refl, sym, arith, subst}
+use Rattle.std.proofs.Common.{◌≡◌, ◌≢◌, ℕ, List, Option, Result, Err, IfSome, IfErr, inl, inr, refl, sym, arith, subst}
 use Rattle.std.specs.Prelude.{IsErrOf}
-use Rattle.ffv1_hold.specs.Contents.{Contents}
-use Rattle.ffv1_hold.specs.HoldingText.{holding_text}
 use Rattle.ffv1_hold.specs.FileFaults.{IsFaultOf}
 use Rattle.ffv1_hold.specs.declared.file_fault.HoldFileFault.{HoldFileFault}
-use Rattle.ffv1_commands.specs.Devices.{IsInputFault, UnlessWriting, IfOfRecord, WriteStops, PrintStops, TellsFailure, TellsFile}
+use Rattle.ffv1_commands.specs.Devices.{IsInputFault, UnlessWriting, IfOfRecord, WriteStops, TellsFailure, TellsFile}
 use Rattle.ffv1_commands.specs.Fault.{NamesPath, NamesNoPath}
-use Rattle.ffv1_commands.specs.Holdings.{IsHoldingFault, MadeStops}
+use Rattle.ffv1_commands.specs.Holdings.{IsHoldingFault}
 use Rattle.ffv1_commands.specs.declared.fault.CliFault.{CliFault}
 use Rattle.ffv1_commands.specs.declared.fault.CliFault.TheVariants as faults
 use Rattle.ffv1_commands.specs.declared.path.CommandPath.{CommandPath}
@@ -109,60 +107,6 @@ module _ (file text : List ℕ) (ob oa pb pa : Option (List ℕ)) where
       → IfErr r (WriteStops file text ob oa pb pa) → IfErr r (NamesPath IsPath)
   WriteStops-names IsPath r out printed =
       writing file text ob oa pb pa (NamesPath IsPath) (λ named stops. names_one IsPath named out printed stops) r
-
-module _ (text : List ℕ) (pb pa : Option (List ℕ)) where
-  pub PrintStops-not_read : (r : Result (Unit {0}) CliFault) (path : CommandPath) → IfErr r (PrintStops text pb pa) → IsErrOf r (faults.Read path) → ⊥
-  PrintStops-not_read r path stops is = subst (λ (x : Result (Unit {0}) CliFault). IfErr x (PrintStops text pb pa)) is stops
-
--- ---- a fault of writing one output
-
-module _ (path : CommandPath) where
-  pub written-says : (P : CliFault → Type 0) (r : Result (Unit {0}) CliFault) → P (faults.Write path) → IfErr r (λ fault. fault ≡ faults.Write path)
-      → IfErr r P
-  written-says P (Ok done) own is = tt
-  written-says P (Err fault) own is = subst P (sym is) own
-
-  pub written-untouched : (P : Type 0) (r : Result (Unit {0}) CliFault) → IfErr r (λ fault. fault ≡ faults.Write path)
-      → IfErr r (λ fault. UnlessWriting fault P)
-  written-untouched P r = written-says (λ fault. UnlessWriting fault P) r tt
-
-  pub written-not_read : (r : Result (Unit {0}) CliFault) (named : CommandPath) → IfErr r (λ fault. fault ≡ faults.Write path)
-      → IsErrOf r (faults.Read named) → ⊥
-  written-not_read r named stops is =
-      let same : faults.Read named ≡ faults.Write path = subst (λ (x : Result (Unit {0}) CliFault). IfErr x (λ fault. fault ≡ faults.Write path)) is stops in
-      cc
-
--- ---- a fault of writing a holding's file and printing a text
-
-module _ (h : Contents) (text : List ℕ) (ob oa pb pa : Option (List ℕ)) where
-  made_says : (P : CliFault → Type 0) (r : Result (Unit {0}) CliFault) → ((named : CommandPath)
-      → WriteStops (holding_text h) text ob oa pb pa (faults.Write named) → P (faults.Write named))
-      → ((fault : HoldFileFault) → P (faults.HoldFile fault)) → IfErr r (MadeStops h text ob oa pb pa) → IfErr r P
-  made_says P (Ok done) write file stops = tt
-  made_says P (Err (faults.Read named)) write file stops = absurd stops
-  made_says P (Err (faults.Write named)) write file stops = write named stops
-  made_says P (Err (faults.Setup fault)) write file stops = absurd stops
-  made_says P (Err (faults.Hold fault)) write file stops = absurd stops
-  made_says P (Err (faults.HoldFile fault)) write file stops = file fault
-  made_says P (Err (faults.Frame fault)) write file stops = absurd stops
-  made_says P (Err (faults.Missing tile)) write file stops = absurd stops
-  made_says P (Err (faults.Disputed tile)) write file stops = absurd stops
-  made_says P (Err faults.Memory) write file stops = absurd stops
-  made_says P (Err (faults.Splice other)) write file stops = absurd stops
-  made_says P (Err (faults.Ranges line)) write file stops = absurd stops
-  made_says P (Err faults.Words) write file stops = absurd stops
-
-  pub MadeStops-not_read : (r : Result (Unit {0}) CliFault) (path : CommandPath) → IfErr r (MadeStops h text ob oa pb pa) → IsErrOf r (faults.Read path)
-      → ⊥
-  MadeStops-not_read r path stops is = subst (λ (x : Result (Unit {0}) CliFault). IfErr x (MadeStops h text ob oa pb pa)) is stops
-
-  pub MadeStops-in_turn : (P : Type 0) (r : Result (Unit {0}) CliFault) → IfErr r (MadeStops h text ob oa pb pa) → IfErr r (λ fault. IfOfRecord fault P)
-  MadeStops-in_turn P r = made_says (λ fault. IfOfRecord fault P) r (λ named stops. tt) (λ fault. tt)
-
-  pub MadeStops-names : (IsPath : CommandPath → Type 0) (r : Result (Unit {0}) CliFault) → IsPath paths.Out → IsPath paths.StandardOutput
-      → IfErr r (MadeStops h text ob oa pb pa) → IfErr r (NamesPath IsPath)
-  MadeStops-names IsPath r out printed = made_says (NamesPath IsPath) r
-      (λ named stops. names_one (holding_text h) text ob oa pb pa IsPath named out printed stops) (λ fault. tt)
 
 -- ---- what any fault of an input says, if that of each form says so
 

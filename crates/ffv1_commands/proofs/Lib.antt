@@ -17,6 +17,12 @@ pub mod CommandLaws
 pub mod SpliceCommandLaws
 pub mod WholeFrames
 pub mod Wrapped
+pub mod HeldFiles
+pub mod NamedFiles
+pub mod MadeFiles
+pub mod LaterInputs
+pub mod TakeTold
+pub mod JoinedFiles
 pub mod MergedFiles
 pub mod JoinTold
 pub mod ScanCommandSteps

@@ -1,21 +1,57 @@
 -- What printing a report does to the output.
-use Rattle.std.proofs.Common.{◌≡◌, ℕ, List, Option, Result, Ok, Err, OnOk, OnErr, IfErr, refl, sym, subst}
-use Rattle.std.specs.Io.KnownBytes.{Appends}
+use Rattle.std.proofs.Common.{ℕ, List, Option, Result, Ok, Err, OnOk, IfErr, inl, inr, refl, sym, subst, arith}
+use Rattle.ffv1_devices.specs.Logs.{ReadLog, WriteLog}
 use Rattle.ffv1_hold.specs.Contents.{Contents}
+use Rattle.ffv1_hold.specs.FileFaults.{ReadsHolding}
 use Rattle.ffv1_picture.specs.ReportText.{report_text}
-use Rattle.ffv1_commands.specs.Devices.{WritesFront}
-use Rattle.ffv1_commands.specs.Holdings.{IsHoldingFile}
-use Rattle.ffv1_commands.specs.ReportedText.{ReportsFile, ReportStops}
+use Rattle.ffv1_commands.specs.Devices.{WritesNamed}
+use Rattle.ffv1_commands.specs.Fault.{NamesPath}
+use Rattle.ffv1_commands.specs.Paths.{IsReportPath}
+use Rattle.ffv1_commands.specs.ReportedText.{ReportsFile, ReportStops, ReportBreaks, TellsReport}
 use Rattle.ffv1_commands.specs.declared.fault.CliFault.{CliFault}
 use Rattle.ffv1_commands.specs.declared.fault.CliFault.TheVariants as faults
 use Rattle.ffv1_commands.specs.declared.path.CommandPath.TheVariants as paths
+use Rattle.ffv1_commands.proofs.InputFaults.{IsHoldingFault-says}
+use Rattle.ffv1_commands.proofs.HeldFiles.{held_file, unread_file}
 
-module _ (input pb pa : Option (List ℕ)) (h : Contents) (text : List ℕ) (file : IsHoldingFile input h) (is : text ≡ report_text h) where
-  pub reported : (r : Result (Unit {0}) CliFault) → OnOk r (Appends pb pa text) → OnOk r (ReportsFile input pb pa)
-  reported (Ok done) printed = record { held = h; file = file; printed = subst (Appends pb pa) is printed }
-  reported (Err fault) printed = tt
+-- the report was printed once the file was read, or was not
+pub reported : {T : Type 0} (a b : ReadLog) (old new : WriteLog) (h : Contents) → ReadsHolding a b h → (r : Result T CliFault)
+    → WritesNamed paths.StandardOutput r old new (report_text h) → TellsReport r a b old new
+reported a b old new h read (Ok x) wrote = (h, read, wrote)
+reported a b old new h read (Err fault) (is, stopped) = inr (h, read, subst (ReportBreaks h old new) (sym is) (refl, stopped))
 
-  pub report_stopped : (r : Result (Unit {0}) CliFault) → OnErr r (WritesFront pb pa text)
-      → IfErr r (λ fault. fault ≡ faults.Write paths.StandardOutput) → IfErr r (ReportStops input pb pa)
-  report_stopped (Ok done) front named = tt
-  report_stopped (Err fault) front named = subst (ReportStops input pb pa) (sym named) (refl, (h, file, subst (WritesFront pb pa) is front))
+-- ---- the same of bytes
+
+pub record ReportOfBytes {T : Type 0} (r : Result T CliFault) (input old new : Option (List ℕ)) : Type 0 where
+  pub ok : OnOk r (ReportsFile input old new)
+  pub err : IfErr r (ReportStops input old new)
+  pub names : IfErr r (NamesPath IsReportPath)
+
+module _ {T : Type 0} (a b : ReadLog) (old new : WriteLog) where
+  unreported : (h : Contents) → ReadsHolding a b h → (fault : CliFault) → ReportBreaks h old new fault
+      → ReportOfBytes {T = T} (Err fault) a.remaining old.contents new.contents
+  unreported h read faults.Memory kept = record { ok = tt; err = tt; names = tt }
+  unreported h read (faults.Write path) (same, stopped) =
+      record { ok = tt; err = (same, (h, held_file a b h read, stopped.front)); names = subst IsReportPath (sym same) tt }
+  unreported h read (faults.Read path) stops = absurd stops
+  unreported h read (faults.Setup fault) stops = absurd stops
+  unreported h read (faults.Hold fault) stops = absurd stops
+  unreported h read (faults.HoldFile fault) stops = absurd stops
+  unreported h read (faults.Frame fault) stops = absurd stops
+  unreported h read (faults.Missing tile) stops = absurd stops
+  unreported h read (faults.Disputed tile) stops = absurd stops
+  unreported h read (faults.Splice other) stops = absurd stops
+  unreported h read (faults.Ranges line) stops = absurd stops
+  unreported h read faults.Words stops = absurd stops
+
+  pub report_of_bytes : (r : Result T CliFault) → TellsReport r a b old new → ReportOfBytes r a.remaining old.contents new.contents
+  report_of_bytes (Ok x) (h, read, wrote) =
+      record { ok = record { held = h; file = held_file a b h read; printed = wrote.bytes' }; err = tt; names = tt }
+  report_of_bytes (Err fault) (inl (stops, kept)) =
+      let unread = unread_file a b (paths.Hold 0) fault stops in
+      record {
+        ok = tt;
+        err = IsHoldingFault-says (ReportStops a.remaining old.contents new.contents) (paths.Hold 0) a.remaining fault refl tt (λ file is. is) unread;
+        names = IsHoldingFault-says (NamesPath IsReportPath) (paths.Hold 0) a.remaining fault (omega arith) tt (λ file is. tt) unread;
+      }
+  report_of_bytes (Err fault) (inr (h, read, breaks)) = unreported h read fault breaks

@@ -1,44 +1,80 @@
--- What printing a setup does to the output, once the record was read to its end.
-use Rattle.std.proofs.Common.{ℕ, ◌≤◌, List, length, Option, IfSome, Result, Ok, Err, OnOk, IfErr}
-use Rattle.std.specs.Io.KnownBytes.{Appends}
-use Rattle.std.proofs.KnownBytes.{Consumes-whole}
+-- What telling a setup does to the output, and what it says of the bytes.
+use Rattle.std.proofs.Common.{◌≡◌, ℕ, ◌≤◌, List, length, Option, IfSome, Result, Ok, Err, OnOk, IfErr, refl, sym, subst}
+use Rattle.std.specs.Prelude.{Bool}
+use Rattle.std.specs.Io.KnownBytes.{Keeps}
+use Rattle.std.proofs.KnownBytes.{Consumes-whole, Keeps-refl}
 use Rattle.ffv1_bits.specs.Limits.{payload_limit}
 use Rattle.ffv1_range.specs.Setup.{SetupValue, IsSetupOf}
-use Rattle.ffv1_commands.specs.Devices.{ReadsWhole, WritesFront, PrintStops}
-use Rattle.ffv1_commands.specs.ShowText.{show_text, PrintsSetup, ShowStops}
+use Rattle.ffv1_range.specs.SetupForms.{setup_read}
+use Rattle.ffv1_devices.specs.Logs.{ReadLog, WriteLog}
+use Rattle.ffv1_commands.specs.Devices.{WritesFront, TakesWhole, WritesNamed}
+use Rattle.ffv1_commands.specs.Fault.{NamesPath}
+use Rattle.ffv1_commands.specs.Paths.{IsShowPath}
+use Rattle.ffv1_commands.specs.ShowText.{show_text, PrintsSetup, ShowStops, ReadsSetup, ShowBreaks, TellsShow}
 use Rattle.ffv1_commands.specs.declared.fault.CliFault.{CliFault}
 use Rattle.ffv1_commands.specs.declared.fault.CliFault.TheVariants as faults
+use Rattle.ffv1_commands.specs.declared.path.CommandPath.TheVariants as paths
+use Rattle.ffv1_commands.proofs.Telling.{whole_of}
 
-module _ (before after old new : Option (List ℕ)) (config : List ℕ) (width height : ℕ) (setup : SetupValue) (whole : ReadsWhole before after config)
-    (is : IsSetupOf config width height setup) where
-  pub setup_printed : (r : Result (Unit {0}) CliFault) → OnOk r (Appends old new (show_text setup))
-      → OnOk r (IfSome before (λ bytes. PrintsSetup bytes width height old new))
-  setup_printed (Ok done) printed = Consumes-whole before after config
-      (λ bytes. PrintsSetup bytes width height old new) whole.taken whole.end (setup, is, printed)
-  setup_printed (Err fault) printed = tt
+-- the setup was printed once the record was read, or was not
+pub setup_printed : {T : Type 0} (width height : ℕ) (a b : ReadLog) (old new : WriteLog) (setup : SetupValue) → ReadsSetup width height a b setup
+    → (r : Result T CliFault) → WritesNamed paths.StandardOutput r old new (show_text setup) → TellsShow r width height a b old new
+setup_printed width height a b old new setup read (Ok x) wrote = (setup, read, wrote)
+setup_printed width height a b old new setup read (Err fault) (is, stopped) =
+    subst (ShowBreaks width height a b old new) (sym is) (refl, (setup, read, stopped))
 
-  pub setup_few : (r : Result (Unit {0}) CliFault) → OnOk r (IfSome before (λ bytes. length bytes ≤ payload_limit))
-  setup_few (Ok done) = Consumes-whole before after config (λ bytes. length bytes ≤ payload_limit) whole.taken whole.end whole.few
-  setup_few (Err fault) = tt
+-- ---- the same of bytes
 
-  setup_stopped_at : (fault : CliFault) → PrintStops (show_text setup) old new fault → ShowStops width height before old new fault
-  setup_stopped_at (faults.Read path) stops = absurd stops
-  setup_stopped_at (faults.Write path) stops = (
-    stops.0,
-    Consumes-whole before after config (λ bytes. (value : SetupValue) × IsSetupOf bytes width height value
-        × WritesFront old new (show_text value)) whole.taken whole.end (setup, is, stops.1),
-  )
-  setup_stopped_at (faults.Setup fault) stops = absurd stops
-  setup_stopped_at faults.Memory stops = stops
-  setup_stopped_at (faults.Hold fault) stops = absurd stops
-  setup_stopped_at (faults.HoldFile fault) stops = absurd stops
-  setup_stopped_at (faults.Frame fault) stops = absurd stops
-  setup_stopped_at (faults.Missing tile) stops = absurd stops
-  setup_stopped_at (faults.Disputed tile) stops = absurd stops
-  setup_stopped_at (faults.Splice other) stops = absurd stops
-  setup_stopped_at (faults.Ranges line) stops = absurd stops
-  setup_stopped_at faults.Words stops = absurd stops
+pub record ShowOfBytes {T : Type 0} (r : Result T CliFault) (width height : ℕ) (config old new : Option (List ℕ)) : Type 0 where
+  pub ok : OnOk r (IfSome config (λ bytes. PrintsSetup bytes width height old new))
+  pub few : OnOk r (IfSome config (λ bytes. length bytes ≤ payload_limit))
+  pub err : IfErr r (ShowStops width height config old new)
+  pub names : IfErr r (NamesPath IsShowPath)
 
-  pub setup_stopped : (r : Result (Unit {0}) CliFault) → IfErr r (PrintStops (show_text setup) old new) → IfErr r (ShowStops width height before old new)
-  setup_stopped (Ok done) stops = tt
-  setup_stopped (Err fault) stops = setup_stopped_at fault stops
+module _ (a b : ReadLog) (config : List ℕ) (took : TakesWhole a b config) where
+  -- what holds of the bytes that were read holds of those that the input tells
+  of_input : (P : List ℕ → Type 0) → P config → IfSome a.remaining P
+  of_input P here = let whole = (whole_of paths.Record a b config took).ok in Consumes-whole _ _ config P whole.taken whole.end here
+
+module _ (width height : ℕ) (a b : ReadLog) (old new : WriteLog) where
+  kept : new ≡ old → Keeps old.contents new.contents
+  kept same = subst (λ (log : WriteLog). Keeps old.contents log.contents) (sym same) (Keeps-refl old.contents)
+
+  pub show_of_bytes : {T : Type 0} (r : Result T CliFault) → TellsShow r width height a b old new
+      → ShowOfBytes r width height a.remaining old.contents new.contents
+  show_of_bytes (Ok x) (setup, read, wrote) = record {
+    ok = of_input a b read.config read.taken (λ bytes. PrintsSetup bytes width height old.contents new.contents) (setup, read.is_setup, wrote.bytes');
+    few = of_input a b read.config read.taken (λ bytes. length bytes ≤ payload_limit) read.taken.few;
+    err = tt;
+    names = tt;
+  }
+  show_of_bytes (Err (faults.Read path)) (same, unread, same_output) =
+      record { ok = tt; few = tt; err = (same, kept same_output); names = subst IsShowPath (sym same) tt }
+  show_of_bytes (Err (faults.Setup fault)) ((config, granted, took, met), same_output) = record {
+    ok = tt;
+    few = tt;
+    err = (
+      of_input a b config took (λ bytes. (granted : Bool) × (setup_read granted bytes width height ≡ Err fault)) (granted, met),
+      kept same_output,
+    );
+    names = tt;
+  }
+  show_of_bytes (Err faults.Memory) (within, same_output) = record { ok = tt; few = tt; err = kept same_output; names = tt }
+  show_of_bytes (Err (faults.Write path)) (same, (setup, read, stopped)) = record {
+    ok = tt;
+    few = tt;
+    err = (
+      same,
+      of_input a b read.config read.taken (λ bytes. (value : SetupValue) × IsSetupOf bytes width height value
+          × WritesFront old.contents new.contents (show_text value)) (setup, read.is_setup, stopped.front),
+    );
+    names = subst IsShowPath (sym same) tt;
+  }
+  show_of_bytes (Err (faults.Hold fault)) stops = absurd stops
+  show_of_bytes (Err (faults.HoldFile fault)) stops = absurd stops
+  show_of_bytes (Err (faults.Frame fault)) stops = absurd stops
+  show_of_bytes (Err (faults.Missing tile)) stops = absurd stops
+  show_of_bytes (Err (faults.Disputed tile)) stops = absurd stops
+  show_of_bytes (Err (faults.Splice other)) stops = absurd stops
+  show_of_bytes (Err (faults.Ranges line)) stops = absurd stops
+  show_of_bytes (Err faults.Words) stops = absurd stops

@@ -1,15 +1,12 @@
 -- How a device is told, by how its tries went.
-use Rattle.std.proofs.Common.{◌≡◌, ◌≢◌, ◌<◌, ◌≤◌, ℕ, ◌+◌, List, length, Option, None, Some, IfSome, Result, Ok, Err, IfOk, IfErr, sym, refl, ◌⊎◌, inl, inr, ⊎_elim, ap, subst, arith, length-append}
+use Rattle.std.proofs.Common.{◌≡◌, ◌<◌, ◌≤◌, ℕ, ◌+◌, List, length, Option, None, Some, IfSome, Result, Ok, Err, IfOk, IfErr, sym, refl, inl, inr, ⊎_elim, ap, subst, arith, length-append}
 use Rattle.std.specs.Result.{IsErrOf}
 use Rattle.std.specs.Io.KnownBytes.{Consumes}
 use Rattle.ffv1_bits.specs.Limits.{payload_limit}
-use Rattle.ffv1_devices.specs.Logs.{Tries, ReadLog, WriteLog, GoesOn, GivesUp, Reads, BreaksOff, StopsWriting, HasFailed, HasCounted, most_tries}
+use Rattle.ffv1_devices.specs.Logs.{Tries, ReadLog, WriteLog, GoesOn, GivesUp, Reads, BreaksOff, HasFailed, HasCounted, most_tries}
 use Rattle.ffv1_devices.proofs.Steps.{GoesOn-refl}
-use Rattle.ffv1_hold.specs.Contents.{Contents}
-use Rattle.ffv1_hold.specs.HoldingText.{holding_text}
 use Rattle.ffv1_hold.specs.Reading.{Refuses, WentBefore, is_read}
 use Rattle.ffv1_hold.specs.FileFaults.{IsPartOfFile, FileIsWhole, FileShows, IsOutside, IsFaultOf}
-use Rattle.ffv1_hold.specs.Saving.{SavesFile}
 use Rattle.ffv1_hold.specs.declared.file_fault.HoldFileFault.{HoldFileFault}
 use Rattle.ffv1_hold.specs.declared.file_fault.HoldFileFault.TheVariants as files
 use Rattle.ffv1_commands.specs.Devices.{ReadsWhole, TakesWhole, FileStops, ReadsNamed, IsInputFault, IsWholeInput, HasGivenUp, TellsFailure, TellsFile}
@@ -167,19 +164,3 @@ hold_failed path a b (files.Setup f) went is = absurd (cc)
 hold_failed path a b files.Tag went is = absurd (cc)
 hold_failed path a b files.Order went is = absurd (cc)
 hold_failed path a b files.NotASlice went is = absurd (cc)
-
--- what stopped writing a holding file, but that it has none, is the sink
-pub save_stopped : (T : Type 0) (f : HoldFileFault) (h : Contents) (a b : WriteLog) → f ≢ files.TooLong → SavesFile {T = T} (Err f) h a b
-    → StopsWriting a b (holding_text h)
-save_stopped T files.Write h a b other saved = saved.1
-save_stopped T files.TooLong h a b other saved = absurd (other refl)
-save_stopped T files.Read h a b other saved = absurd saved
-save_stopped T files.Memory h a b other saved = absurd saved
-save_stopped T files.OtherReel h a b other saved = absurd saved
-save_stopped T files.Truncated h a b other saved = absurd saved
-save_stopped T files.Trailing h a b other saved = absurd saved
-save_stopped T files.Magic h a b other saved = absurd saved
-save_stopped T (files.Setup f) h a b other saved = absurd saved
-save_stopped T files.Tag h a b other saved = absurd saved
-save_stopped T files.Order h a b other saved = absurd saved
-save_stopped T files.NotASlice h a b other saved = absurd saved

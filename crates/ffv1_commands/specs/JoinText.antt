@@ -1,14 +1,16 @@
 -- What the command `join` makes and prints: the union of holding files, and a line for each file.
-use Rattle.std.specs.Prelude.{ℕ, ◌≡◌, ◌+◌, ◌-◌, ◌<◌, ◌++◌, ◌⊎◌, List, [], ◌∷◌, length, take, Option, slice_index_or, None, codes}
+use Rattle.std.specs.Prelude.{ℕ, ◌≡◌, ◌+◌, ◌-◌, ◌<◌, ◌++◌, ◌⊎◌, List, [], ◌∷◌, length, map, take, drop, Option, slice_index_or, None, Result, Ok, Err, codes}
 use Rattle.std.specs.Fmt.{decimal}
 use Rattle.std.specs.Io.KnownBytes.{Appends}
 use Rattle.ffv1_hold.specs.Sets as set
 use Rattle.ffv1_hold.specs.Contents.{Contents, IsSameReel, joined}
 use Rattle.ffv1_hold.specs.Joins.{joined_all, AreJoinable}
+use Rattle.ffv1_hold.specs.FileFaults.{ReadsHolding}
 use Rattle.ffv1_hold.specs.HoldingText.{holding_text}
+use Rattle.ffv1_devices.specs.Logs.{ReadLog, WriteLog}
 use Rattle.ffv1_holding.specs.declared.fault.HoldFault.TheVariants as holds
-use Rattle.ffv1_commands.specs.Devices.{WriteStops}
-use Rattle.ffv1_commands.specs.Holdings.{IsHoldingFile, HasFile, IsHoldingFault, IsFileFault}
+use Rattle.ffv1_commands.specs.Devices.{WriteStops, BothKept}
+use Rattle.ffv1_commands.specs.Holdings.{IsHoldingFile, HasFile, IsHoldingFault, IsFileFault, HoldingStops, IsMade, MadeBreaks}
 use Rattle.ffv1_commands.specs.declared.fault.CliFault.{CliFault}
 use Rattle.ffv1_commands.specs.declared.fault.CliFault.TheVariants as faults
 use Rattle.ffv1_commands.specs.declared.path.CommandPath.{CommandPath}
@@ -47,10 +49,10 @@ pub record JoinsEach (inputs : List (Option (List ℕ))) (whole : Contents) (tex
   pub held : whole ≡ joined_all joined first others
   pub lines : text ≡ join_text first others
 
--- The holding of a file was joined into another, and told with this number.
-pub record JoinsOne (input : Option (List ℕ)) (number : ℕ) (old new : Contents) (before after : List ℕ) : Type 0 where
+-- The holding of a file, which was read so, was joined into another, and told with this number.
+pub record JoinsOne (IsRead : Contents → Type 0) (number : ℕ) (old new : Contents) (before after : List ℕ) : Type 0 where
   pub other : Contents
-  pub file : IsHoldingFile input other
+  pub file : IsRead other
   pub same : IsSameReel old other
   pub held : new ≡ joined old other
   pub line : after ≡ before ++ line_of_join number old other
@@ -93,3 +95,67 @@ JoinStops inputs out_before out_after printed_before printed_after (faults.Write
     × WriteStops (holding_text whole) text out_before out_after printed_before printed_after (faults.Write path)
 JoinStops inputs out_before out_after printed_before printed_after faults.Memory = Unit {0}
 JoinStops inputs out_before out_after printed_before printed_after fault = IsFaultOfFiles inputs fault
+
+-- why the file at this place gave no holding, or one of another record or size than the first
+abbrev pub IsFaultOfFile : List (Option (List ℕ)) → ℕ → CliFault → Type 0
+IsFaultOfFile inputs i (faults.Hold fault) =
+    (fault ≡ holds.OtherReel) × ((first other : Contents) × IsHoldingFile (slice_index_or inputs 0 None) first
+    × IsHoldingFile (slice_index_or inputs i None) other × (¬ IsSameReel first other))
+IsFaultOfFile inputs i fault = IsHoldingFault (paths.Hold i) (slice_index_or inputs i None) fault
+
+-- One of the files was not joined; those before it were, and those after it are as they were. Old and new are those after the first.
+abbrev pub StopsAtPlace : {R : Type 0} → List (Option (List ℕ)) → (old new : List R) → CliFault → Type 0
+StopsAtPlace inputs old new fault =
+    (i : ℕ) × (i < length inputs) × AreJoinedBefore inputs i × IsFaultOfFile inputs i fault × (drop i new ≡ drop i old)
+
+-- What a fault of a file leaves: the files after it, as they were. That the union has no file is a fault of none.
+abbrev pub LaterFilesKept : {R : Type 0} → List (Option (List ℕ)) → (old new : List R) → CliFault → Type 0
+LaterFilesKept inputs old new (faults.Read (paths.Hold place)) = drop place new ≡ drop place old
+LaterFilesKept inputs old new (faults.Hold fault) = StopsAtPlace inputs old new (faults.Hold fault)
+LaterFilesKept inputs old new (faults.HoldFile fault) =
+    StopsAtPlace inputs old new (faults.HoldFile fault)
+    ⊎ ((whole : Contents) × (text : List ℕ) × JoinsEach inputs whole text × IsFileFault whole (faults.HoldFile fault))
+LaterFilesKept inputs old new _ = Unit {0}
+
+-- ---- over the logs of the devices
+
+-- a file was not joined, since it was not read, or since memory was refused once it was
+abbrev pub FileBreaks : CommandPath → CliFault → (old new : ReadLog) → Type 0
+FileBreaks path fault old new = HoldingStops path fault old new ⊎ ((fault ≡ faults.Memory) × ((h : Contents) × ReadsHolding old new h))
+
+-- A file was read, joined into a holding and told, after so many others; or it was not, or is of another record or size.
+abbrev pub JoinsFile : {T : Type 0} → Result T CliFault → (before : ℕ) → (whole_old whole_new : Contents) → (lines_old lines_new : List ℕ)
+    → (file_old file_new : ReadLog) → Type 0
+JoinsFile (Ok x) before whole_old whole_new lines_old lines_new file_old file_new =
+    JoinsOne (ReadsHolding file_old file_new) (before + 1) whole_old whole_new lines_old lines_new
+JoinsFile (Err fault) before whole_old whole_new lines_old lines_new file_old file_new =
+    FileBreaks (paths.Hold before) fault file_old file_new
+    ⊎ ((fault ≡ faults.Hold holds.OtherReel)
+    × ((other : Contents) × ReadsHolding file_old file_new other × (¬ IsSameReel whole_old other)))
+
+-- The first file was read, and the holdings of all were joined, and told.
+pub record JoinsAll (inputs : List (Option (List ℕ))) (old new : ReadLog) (whole : Contents) (text : List ℕ) : Type 0 where
+  pub each : JoinsEach (old.remaining ∷ inputs) whole text
+  pub first : ReadsHolding old new each.first
+
+-- How one of the files was not joined: the first was not, and the others are as they were; or one of those was not, those before it were,
+-- and those after it are as they were.
+abbrev pub StopsAtFile : {R : Type 0} → (R → Option (List ℕ)) → (first_old first_new : ReadLog) → (old new : List R) → CliFault → Type 0
+StopsAtFile tells first_old first_new old new fault =
+    (FileBreaks (paths.Hold 0) fault first_old first_new × (new ≡ old))
+    ⊎ ((i : ℕ) × (i < length old)
+    × ((whole : Contents) × (text : List ℕ) × JoinsAll (take i (map tells old)) first_old first_new whole text
+    × IsJoinFault (paths.Hold (i + 1)) (slice_index_or (map tells old) i None) whole fault)
+    × (drop (i + 1) new ≡ drop (i + 1) old))
+
+-- The files were joined, and the file of their union and the lines were written; or one was not joined, and both outputs are as they were;
+-- or all were, and the file and the lines were not written whole.
+abbrev pub TellsJoin : {T R : Type 0} → Result T CliFault → (R → Option (List ℕ)) → (first_old first_new : ReadLog) → (others_old others_new : List R)
+    → (out_old out_new output_old output_new : WriteLog) → Type 0
+TellsJoin (Ok x) tells first_old first_new others_old others_new out_old out_new output_old output_new =
+    (whole : Contents) × (text : List ℕ) × JoinsAll (map tells others_old) first_old first_new whole text
+    × IsMade whole text out_old out_new output_old output_new
+TellsJoin (Err fault) tells first_old first_new others_old others_new out_old out_new output_old output_new =
+    (StopsAtFile tells first_old first_new others_old others_new fault × BothKept out_old out_new output_old output_new)
+    ⊎ ((whole : Contents) × (text : List ℕ) × JoinsAll (map tells others_old) first_old first_new whole text
+    × MadeBreaks whole text out_old out_new output_old output_new fault)

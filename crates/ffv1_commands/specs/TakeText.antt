@@ -1,7 +1,8 @@
 -- What the command `take` makes and prints: the holding of all copies, and a line for each copy.
-use Rattle.std.specs.Prelude.{ℕ, ◌≡◌, ◌+◌, ◌-◌, ◌<◌, ◌++◌, ◌⊎◌, List, [], ◌∷◌, length, take, Option, slice_index_or, None, codes}
+use Rattle.std.specs.Prelude.{ℕ, ◌≡◌, ◌+◌, ◌-◌, ◌<◌, ◌++◌, ◌⊎◌, List, [], ◌∷◌, length, map, take, drop, Option, slice_index_or, None, Result, Ok, Err, codes}
 use Rattle.std.specs.Fmt.{decimal}
 use Rattle.std.specs.Io.KnownBytes.{Appends}
+use Rattle.ffv1_range.specs.Setup.{IsSetupOf}
 use Rattle.ffv1_range.specs.SetupFaults.{FirstSetupFault}
 use Rattle.ffv1_slice.specs.Walk.{links_of}
 use Rattle.ffv1_slice.specs.Slices.{found_slices}
@@ -9,8 +10,9 @@ use Rattle.ffv1_hold.specs.Sets as set
 use Rattle.ffv1_hold.specs.Reels.{Reel}
 use Rattle.ffv1_hold.specs.Contents.{Contents, with_found, holding_of}
 use Rattle.ffv1_hold.specs.HoldingText.{holding_text}
-use Rattle.ffv1_commands.specs.Devices.{IsWholeInput, AreWholeInputs, WriteStops, IsCopyFault}
-use Rattle.ffv1_commands.specs.Holdings.{HasFile, IsFileFault}
+use Rattle.ffv1_devices.specs.Logs.{ReadLog, WriteLog}
+use Rattle.ffv1_commands.specs.Devices.{IsWholeInput, AreWholeInputs, WriteStops, IsCopyFault, TakesWhole, FileStops, CopyStops, BothKept}
+use Rattle.ffv1_commands.specs.Holdings.{HasFile, IsFileFault, IsMade, MadeBreaks}
 use Rattle.ffv1_commands.specs.RecordInputs.{IsReelInput}
 use Rattle.ffv1_commands.specs.declared.fault.CliFault.{CliFault}
 use Rattle.ffv1_commands.specs.declared.fault.CliFault.TheVariants as faults
@@ -25,19 +27,19 @@ copy_line number links slices new =
 abbrev pub held_of : Reel → List (List ℕ) → ℕ
 held_of reel copies = set.size (holding_of reel copies).slices
 
--- the line of a copy that is taken behind others
-unfoldable pub line_behind : Reel → List (List ℕ) → List ℕ → List ℕ
-line_behind reel before copy =
+-- the line of a copy that is taken after others
+unfoldable pub line_after : Reel → List (List ℕ) → List ℕ → List ℕ
+line_after reel before copy =
     copy_line (length before + 1) (length (links_of copy)) (length (found_slices reel.setup copy)) (held_of reel (before ++ copy ∷ []) - held_of reel before)
 
--- the lines of copies that are taken behind others
-abbrev pub lines_behind : Reel → List (List ℕ) → List (List ℕ) → List ℕ
-lines_behind reel before [] = []
-lines_behind reel before (copy ∷ copies) = line_behind reel before copy ++ lines_behind reel (before ++ copy ∷ []) copies
+-- the lines of copies that are taken after others
+abbrev pub lines_after : Reel → List (List ℕ) → List (List ℕ) → List ℕ
+lines_after reel before [] = []
+lines_after reel before (copy ∷ copies) = line_after reel before copy ++ lines_after reel (before ++ copy ∷ []) copies
 
 -- a line for each copy
 abbrev pub take_text : Reel → List (List ℕ) → List ℕ
-take_text reel copies = lines_behind reel [] copies
+take_text reel copies = lines_after reel [] copies
 
 -- The copies were taken into an empty holding, and told.
 pub record TakesEach (inputs : List (Option (List ℕ))) (reel : Reel) (h : Contents) (text : List ℕ) : Type 0 where
@@ -46,10 +48,10 @@ pub record TakesEach (inputs : List (Option (List ℕ))) (reel : Reel) (h : Cont
   pub held : h ≡ holding_of reel copies
   pub lines : text ≡ take_text reel copies
 
--- A copy was taken, and told with this number.
-pub record TakesOne (input : Option (List ℕ)) (number : ℕ) (old new : Contents) (before after : List ℕ) : Type 0 where
+-- A copy, which was read so, was taken, and told with this number.
+pub record TakesOne (IsRead : List ℕ → Type 0) (number : ℕ) (old new : Contents) (before after : List ℕ) : Type 0 where
   pub copy : List ℕ
-  pub read : IsWholeInput input copy
+  pub read : IsRead copy
   pub held : new ≡ with_found old copy
   pub line : after ≡ before ++ copy_line number (length (links_of copy)) (length (found_slices old.reel.setup copy)) (set.size new.slices - set.size old.slices)
 
@@ -64,11 +66,25 @@ pub record TakesCopies (record' : Option (List ℕ)) (width height : ℕ) (input
   pub file : Appends out_before out_after (holding_text (holding_of reel copies))
   pub printed : Appends printed_before printed_after (take_text reel copies)
 
--- why one of the copies was not taken; those before it were read
-abbrev pub IsFaultOfInputs : List (Option (List ℕ)) → CliFault → Type 0
-IsFaultOfInputs inputs fault =
-    (i : ℕ) × (i < length inputs) × ((before : List (List ℕ)) × AreWholeInputs (take i inputs) before)
+-- why the copy at this place was not taken; those before it were read
+abbrev pub IsFaultAt : List (Option (List ℕ)) → ℕ → CliFault → Type 0
+IsFaultAt inputs i fault =
+    (i < length inputs) × ((before : List (List ℕ)) × AreWholeInputs (take i inputs) before)
     × IsCopyFault (paths.Copy i) (slice_index_or inputs i None) fault
+
+-- why one of the copies was not taken
+abbrev pub IsFaultOfInputs : List (Option (List ℕ)) → CliFault → Type 0
+IsFaultOfInputs inputs fault = (i : ℕ) × IsFaultAt inputs i fault
+
+-- The same, and the copies after it are as they were.
+abbrev pub StopsAtCopy : {C : Type 0} → (C → Option (List ℕ)) → (old new : List C) → CliFault → Type 0
+StopsAtCopy tells old new fault = (i : ℕ) × IsFaultAt (map tells old) i fault × (drop (i + 1) new ≡ drop (i + 1) old)
+
+-- What a fault of a copy, which was not read or is too long, leaves: the copies after it, as they were.
+abbrev pub LaterKept : {C : Type 0} → (C → Option (List ℕ)) → (old new : List C) → CliFault → Type 0
+LaterKept tells old new (faults.Read (paths.Copy place)) = drop (place + 1) new ≡ drop (place + 1) old
+LaterKept tells old new (faults.Hold fault) = StopsAtCopy tells old new (faults.Hold fault)
+LaterKept tells old new _ = Unit {0}
 
 -- What a fault says, and what it left in the outputs where writing failed: the record's fault, that of a copy, that the holding
 -- of the copies has no file, or a front of what is written.
@@ -88,3 +104,43 @@ TakeStops record' width height inputs out_before out_after printed_before printe
     × WriteStops (holding_text (holding_of reel copies)) (take_text reel copies) out_before out_after printed_before printed_after (faults.Write path)
 TakeStops record' width height inputs out_before out_after printed_before printed_after faults.Memory = Unit {0}
 TakeStops record' width height inputs out_before out_after printed_before printed_after _ = ⊥
+
+-- ---- over the logs of the devices
+
+-- A copy was read whole, taken and told, after so many others, or it was not read.
+abbrev pub TakesCopy : {T : Type 0} → Result T CliFault → (before : ℕ) → (held_old held_new : Contents) → (lines_old lines_new : List ℕ)
+    → (copy_old copy_new : ReadLog) → Type 0
+TakesCopy (Ok x) before held_old held_new lines_old lines_new copy_old copy_new =
+    TakesOne (TakesWhole copy_old copy_new) (before + 1) held_old held_new lines_old lines_new
+TakesCopy (Err fault) before held_old held_new lines_old lines_new copy_old copy_new = CopyStops (paths.Copy before) fault copy_old copy_new
+
+-- The record was read whole, and is that of the reel.
+pub record ReadsReel (width height : ℕ) (old new : ReadLog) (reel : Reel) : Type 0 where
+  pub taken : TakesWhole old new reel.config
+  pub is_setup : IsSetupOf reel.config width height reel.setup
+
+-- why the record gave no reel: it was not read, it gives no setup, or memory was refused
+abbrev pub RecordRefuses : (width height : ℕ) → (old new : ReadLog) → CliFault → Type 0
+RecordRefuses width height old new (faults.Setup fault) = (config : List ℕ) × TakesWhole old new config × FirstSetupFault config width height fault
+RecordRefuses width height old new fault = FileStops paths.Record fault old new
+
+-- The record was read, and the copies were taken, and told.
+pub record TakesAll (width height : ℕ) (inputs : List (Option (List ℕ))) (old new : ReadLog) (held : Contents) (text : List ℕ) : Type 0 where
+  pub reel : Reel
+  pub of_record : ReadsReel width height old new reel
+  pub each : TakesEach inputs reel held text
+
+-- The record and the copies were taken, and the file and the lines were written; or the record gave no reel, and all else is as it was; or
+-- a copy was not taken, and those after it and both outputs are as they were; or all were taken, and the file and the lines were not
+-- written whole.
+abbrev pub TellsTake : {T C : Type 0} → Result T CliFault → (C → Option (List ℕ)) → (width height : ℕ) → (record_old record_new : ReadLog)
+    → (copies_old copies_new : List C) → (out_old out_new output_old output_new : WriteLog) → Type 0
+TellsTake (Ok x) tells width height record_old record_new copies_old copies_new out_old out_new output_old output_new =
+    (held : Contents) × (text : List ℕ) × TakesAll width height (map tells copies_old) record_old record_new held text
+    × IsMade held text out_old out_new output_old output_new
+TellsTake (Err fault) tells width height record_old record_new copies_old copies_new out_old out_new output_old output_new =
+    (RecordRefuses width height record_old record_new fault × (copies_new ≡ copies_old) × BothKept out_old out_new output_old output_new)
+    ⊎ ((reel : Reel) × ReadsReel width height record_old record_new reel × StopsAtCopy tells copies_old copies_new fault
+    × BothKept out_old out_new output_old output_new)
+    ⊎ ((held : Contents) × (text : List ℕ) × TakesAll width height (map tells copies_old) record_old record_new held text
+    × MadeBreaks held text out_old out_new output_old output_new fault)

@@ -1,9 +1,7 @@
 //! Whole files, read from a source and written to a sink, and which path of the command a fault names.
 ghost use Rattle.std.specs.Prelude.{◌≡◌, ◌≤◌, ◌<◌, ◌+◌, IfOk, IfErr, IsErrOf, OnOk, OnErr};
 ghost use Rattle.std.specs.Io.KnownBytes.{Appends};
-ghost use Rattle.ffv1_bits.specs.Limits.{payload_limit};
-ghost use Rattle.ffv1_devices.specs.Logs.{HasCounted};
-ghost use Rattle.ffv1_commands.specs.Devices.{ReadsWhole, ReadsNamed, WritesFront, IsCopyFault, WriteStops, TellsFailure};
+ghost use Rattle.ffv1_commands.specs.Devices.{ReadsCopy, ReadsNamed, WritesNamed, WritesFront, WriteStops, TellsFailure};
 
 use crate::fault::CliFault;
 use crate::path::CommandPath;
@@ -56,12 +54,7 @@ pub(crate) fn read_copy<S: Source>(
     source: &mut S,
     path: CommandPath,
 ) -> Result<Vec<u8>, CliFault>
-    ensures ok { IfOk result (λ v. ReadsWhole (S.log source.old).remaining (S.log source.new).remaining v.items) }
-    ensures err { IfErr result (IsCopyFault path (S.log source.old).remaining) }
-    ensures told { TellsFailure (IsErrOf result (CliFault.Read path)) (S.log source.old).tries.failures (S.log source.new).tries.failures
-        (S.log source.old).tries.broken (S.log source.new).tries.broken }
-    ensures too_long { IsErrOf result (CliFault.Hold HoldFault.PayloadTooLong) → HasCounted (payload_limit + 1) (S.log source.old).taken (S.log source.new).taken }
-    ensures within { (¬ IsErrOf result (CliFault.Hold HoldFault.PayloadTooLong)) → (S.log source.new).taken ≤ (S.log source.old).taken + payload_limit }
+    ensures { ReadsCopy (λ v. v.items) path result (S.log source.old) (S.log source.new) }
 {
     match read_whole(alloc, source, PAYLOAD_LIMIT) {
         Ok(bytes) => Ok(bytes),
@@ -77,6 +70,7 @@ pub(crate) fn write_file<K: Sink>(
     path: CommandPath,
     bytes: &[u8],
 ) -> Result<(), CliFault>
+    ensures wrote { WritesNamed path result (K.log sink.old) (K.log sink.new) bytes.now }
     ensures ok { OnOk result (Appends (K.log sink.old).contents (K.log sink.new).contents bytes.now) }
     ensures err { OnErr result (WritesFront (K.log sink.old).contents (K.log sink.new).contents bytes.now) }
     ensures fault { IfErr result (λ fault. fault ≡ CliFault.Write path) }

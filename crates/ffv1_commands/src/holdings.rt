@@ -1,10 +1,8 @@
 //! Holding files, read from a source and written to OUT.
-ghost use Rattle.std.specs.Prelude.{◌≡◌, IfOk, IfErr, IsErrOf, OnOk};
-ghost use Rattle.std.specs.Io.KnownBytes.{Appends};
+ghost use Rattle.std.specs.Prelude.{◌≡◌, IfOk, IfErr, IsErrOf};
 ghost use Rattle.ffv1_devices.specs.Logs.{HasFailed};
-ghost use Rattle.ffv1_hold.specs.HoldingText.{holding_text};
-ghost use Rattle.ffv1_commands.specs.Devices.{UnlessWriting, TellsFailure};
-ghost use Rattle.ffv1_commands.specs.Holdings.{IsHoldingFile, HasFile, IsHoldingFault, IsSavingFault, MadeStops};
+ghost use Rattle.ffv1_commands.specs.Devices.{UnlessWriting};
+ghost use Rattle.ffv1_commands.specs.Holdings.{ReadsHeld, IsHoldingFile, IsHoldingFault, SavesNamed, WritesMade};
 
 use crate::devices::write_file;
 use crate::fault::{CliFault, of_hold_file};
@@ -18,6 +16,7 @@ pub(crate) fn read_holding<S: Source>(
     source: &mut S,
     path: CommandPath,
 ) -> Result<Holding, CliFault>
+    ensures read { ReadsHeld path result (S.log source.old) (S.log source.new) }
     ensures ok { IfOk result (IsHoldingFile (S.log source.old).remaining) }
     ensures err { IfErr result (IsHoldingFault path (S.log source.old).remaining) }
     ensures failed { IsErrOf result (CliFault.Read path) → HasFailed (S.log source.old).tries.failures (S.log source.new).tries.failures }
@@ -30,13 +29,8 @@ pub(crate) fn read_holding<S: Source>(
 
 /// Writes the file of a holding to OUT. `HoldFile` comes where the holding has none, and then OUT is not touched.
 fn write_holding<O: Sink>(out: &mut O, holding: &Holding) -> Result<(), CliFault>
-    ensures ok { OnOk result (Appends (O.log out.old).contents (O.log out.new).contents (holding_text holding.now)) }
-    ensures has_file { OnOk result (HasFile holding.now) }
-    ensures err { IfErr result (IsSavingFault holding.now (O.log out.old).contents (O.log out.new).contents) }
+    ensures told { SavesNamed result holding.now (O.log out.old) (O.log out.new) }
     ensures untouched { IfErr result (λ fault. UnlessWriting fault (out.new ≡ out.old)) }
-    ensures told { TellsFailure (IsErrOf result (CliFault.Write CommandPath.Out)) (O.log out.old).tries.failures (O.log out.new).tries.failures
-        (O.log out.old).tries.broken (O.log out.new).tries.broken }
-    ensures same_reference { (O.log out.new).reference ≡ (O.log out.old).reference }
 {
     match write_hold(holding, out) {
         Ok(()) => Ok(()),
@@ -53,18 +47,8 @@ pub(crate) fn write_made<O: Sink, W: Sink>(
     output: &mut W,
     text: &str,
 ) -> Result<(), CliFault>
-    ensures file { OnOk result (Appends (O.log out.old).contents (O.log out.new).contents (holding_text holding.now)) }
-    ensures has_file { OnOk result (HasFile holding.now) }
-    ensures text { OnOk result (Appends (W.log output.old).contents (W.log output.new).contents text.now) }
-    ensures err { IfErr result (MadeStops holding.now text.now
-        (O.log out.old).contents (O.log out.new).contents (W.log output.old).contents (W.log output.new).contents) }
+    ensures told { WritesMade result holding.now text.now (O.log out.old) (O.log out.new) (W.log output.old) (W.log output.new) }
     ensures untouched { IfErr result (λ fault. UnlessWriting fault ((out.new ≡ out.old) × (output.new ≡ output.old))) }
-    ensures out_told { TellsFailure (IsErrOf result (CliFault.Write CommandPath.Out)) (O.log out.old).tries.failures (O.log out.new).tries.failures
-        (O.log out.old).tries.broken (O.log out.new).tries.broken }
-    ensures output_told { TellsFailure (IsErrOf result (CliFault.Write CommandPath.StandardOutput)) (W.log output.old).tries.failures (W.log output.new).tries.failures
-        (W.log output.old).tries.broken (W.log output.new).tries.broken }
-    ensures same_out { (O.log out.new).reference ≡ (O.log out.old).reference }
-    ensures same_output { (W.log output.new).reference ≡ (W.log output.old).reference }
 {
     write_holding(out, holding)?;
     write_file(output, CommandPath::StandardOutput, text.as_bytes())

@@ -1,10 +1,10 @@
 //! The command `join`: makes the holding file of the union of holding files (own).
-ghost use Rattle.std.specs.Prelude.{◌≡◌, ◌+◌, ◌<◌, ◌≤◌, ◌^◌, [], ◌∷◌, ◌++◌, length, map, IfOk, IfErr, IsErrOf, OnOk, string_bytes};
-ghost use Rattle.ffv1_devices.specs.Logs.{HasFailed};
+ghost use Rattle.std.specs.Prelude.{◌≡◌, ◌+◌, ◌<◌, ◌^◌, [], ◌∷◌, ◌++◌, length, map, IfOk, IfErr, OnOk, string_bytes};
 ghost use Rattle.ffv1_commands.specs.Fault.{NamesPath};
 ghost use Rattle.ffv1_commands.specs.Paths.{IsJoinPath};
-ghost use Rattle.ffv1_commands.specs.Devices.{UnlessWriting, TellsFailure};
-ghost use Rattle.ffv1_commands.specs.JoinText.{file_line, JoinsEach, JoinsOne, JoinsFiles, IsJoinFault, IsFaultOfFiles, JoinStops};
+ghost use Rattle.ffv1_commands.specs.Devices.{UnlessWriting};
+ghost use Rattle.ffv1_commands.specs.Holdings.{IsHoldingFile};
+ghost use Rattle.ffv1_commands.specs.JoinText.{file_line, JoinsOne, JoinsFile, JoinsAll, JoinsFiles, IsJoinFault, StopsAtFile, LaterFilesKept, JoinStops, TellsJoin};
 
 use crate::devices::buffered;
 use crate::fault::CliFault;
@@ -17,11 +17,11 @@ use std::io::{Read, Write};
 /// Joins the holdings of files, one after the other; writes the file of their union to `out`, and then prints a line
 /// for each file, as `file 1 new 1`: how many of its slices no earlier file had.
 ///
-/// Each file is joined before the next is read. `Read` comes where a file can't be read; `HoldFile` with the first
-/// fault of a file in the order of its bytes, or where the union's file would pass its limit; `Hold` where a file is
-/// of another record or size than the first; `Memory` where a growth is refused: then nothing was written, and `out`
-/// was not touched. `Write` comes where `out` or the output fails: a front of the file was written, or the whole file
-/// and a front of the lines.
+/// Each file is joined before the next is read: at a fault of one those after it are as they were. `Read` comes where a
+/// file can't be read; `HoldFile` with the first fault of a file in the order of its bytes, or where the union's file would
+/// pass its limit; `Hold` where a file is of another record or size than the first; `Memory` where a growth is refused:
+/// then nothing was written, and `out` was not touched. `Write` comes where `out` or the output fails: a front of the file
+/// was written, or the whole file and a front of the lines.
 ///
 /// The other files are fewer than 2^63, as those of a `Vec` always are, so that each has a number.
 pub fn run_join<R: Read, O: Write, W: Write>(
@@ -37,6 +37,7 @@ pub fn run_join<R: Read, O: Write, W: Write>(
     ensures err { IfErr result (JoinStops (R.remaining first.old ∷ map R.remaining others.old)
         (O.contents out.old) (O.contents out.new) (W.contents output.old) (W.contents output.new)) }
     ensures untouched { IfErr result (λ fault. UnlessWriting fault ((out.new ≡ out.old) × (output.new ≡ output.old))) }
+    ensures later_kept { IfErr result (LaterFilesKept (R.remaining first.old ∷ map R.remaining others.old) others.old others.new) }
     ensures names { IfErr result (NamesPath (IsJoinPath (length others.old + 1))) }
 {
     let mut first = buffered(alloc, first)?;
@@ -49,8 +50,9 @@ pub fn run_join<R: Read, O: Write, W: Write>(
     )
 }
 
-/// The command over a source, readers of the other files, and sinks.
-fn join_of<F: Source, R: Read, O: Sink, W: Sink>(
+/// The command over a source, readers of the other files, and sinks. The logs say how it went: at `Read` of the first file its source
+/// was given up, and at `Write` the sink that is named; no other failures of them came but interruptions.
+pub fn join_of<F: Source, R: Read, O: Sink, W: Sink>(
     alloc: Global,
     first: &mut F,
     others: &mut [R],
@@ -58,20 +60,9 @@ fn join_of<F: Source, R: Read, O: Sink, W: Sink>(
     output: &mut W,
 ) -> Result<(), CliFault>
     requires { length others.old < 2 ^ 63 }
-    ensures ok { OnOk result (JoinsFiles ((F.log first.old).remaining ∷ map R.remaining others.old)
-        (O.log out.old).contents (O.log out.new).contents (W.log output.old).contents (W.log output.new).contents) }
-    ensures err { IfErr result (JoinStops ((F.log first.old).remaining ∷ map R.remaining others.old)
-        (O.log out.old).contents (O.log out.new).contents (W.log output.old).contents (W.log output.new).contents) }
+    ensures told { TellsJoin result R.remaining (F.log first.old) (F.log first.new) others.old others.new
+        (O.log out.old) (O.log out.new) (W.log output.old) (W.log output.new) }
     ensures untouched { IfErr result (λ fault. UnlessWriting fault ((out.new ≡ out.old) × (output.new ≡ output.old))) }
-    ensures names { IfErr result (NamesPath (IsJoinPath (length others.old + 1))) }
-
-    ensures first_failed { IsErrOf result (CliFault.Read (CommandPath.Hold 0)) → HasFailed (F.log first.old).tries.failures (F.log first.new).tries.failures }
-    ensures out_told { TellsFailure (IsErrOf result (CliFault.Write CommandPath.Out)) (O.log out.old).tries.failures (O.log out.new).tries.failures
-        (O.log out.old).tries.broken (O.log out.new).tries.broken }
-    ensures output_told { TellsFailure (IsErrOf result (CliFault.Write CommandPath.StandardOutput)) (W.log output.old).tries.failures (W.log output.new).tries.failures
-        (W.log output.old).tries.broken (W.log output.new).tries.broken }
-    ensures same_out { (O.log out.new).reference ≡ (O.log out.old).reference }
-    ensures same_output { (W.log output.new).reference ≡ (W.log output.old).reference }
 {
     let mut lines = String::new(alloc);
     let whole = join_files(alloc, first, others, &mut lines)?;
@@ -87,14 +78,15 @@ fn join_files<F: Source, R: Read>(
 ) -> Result<Holding, CliFault>
     requires few { length others.old < 2 ^ 63 }
     requires none { string_bytes lines.old ≡ [] }
-    ensures ok { IfOk result (λ whole. JoinsEach ((F.log first.old).remaining ∷ map R.remaining others.old) whole (string_bytes lines.new)) }
-    ensures err { IfErr result (IsFaultOfFiles ((F.log first.old).remaining ∷ map R.remaining others.old)) }
-    ensures first_failed { IsErrOf result (CliFault.Read (CommandPath.Hold 0)) → HasFailed (F.log first.old).tries.failures (F.log first.new).tries.failures }
+    ensures ok { IfOk result (λ whole. JoinsAll (map R.remaining others.old) (F.log first.old) (F.log first.new) whole (string_bytes lines.new)) }
+    ensures err { IfErr result (StopsAtFile R.remaining (F.log first.old) (F.log first.new) others.old others.new) }
 {
     let mut whole = read_holding(alloc, first, CommandPath::Hold(0))?;
     push_file(lines, 1, whole.size())?;
     for index in 0..others.len() {
-        join_file(alloc, &mut whole, &mut others[index], index + 1, lines)?;
+        if let Err(fault) = join_file(alloc, &mut whole, &mut others[index], index + 1, lines) {
+            return Err(fault);
+        }
     }
     Ok(whole)
 }
@@ -108,7 +100,7 @@ fn join_file<R: Read>(
     lines: &mut String,
 ) -> Result<(), CliFault>
     requires { before < 2 ^ 63 }
-    ensures ok { OnOk result (JoinsOne (R.remaining file.old) (before + 1) whole.old whole.new (string_bytes lines.old) (string_bytes lines.new)) }
+    ensures ok { OnOk result (JoinsOne (IsHoldingFile (R.remaining file.old)) (before + 1) whole.old whole.new (string_bytes lines.old) (string_bytes lines.new)) }
     ensures err { IfErr result (IsJoinFault (CommandPath.Hold before) (R.remaining file.old) whole.old) }
 {
     let mut file = buffered(alloc, file)?;
@@ -124,9 +116,7 @@ fn join_file_of<R: Source>(
     lines: &mut String,
 ) -> Result<(), CliFault>
     requires { before < 2 ^ 63 }
-    ensures ok { OnOk result (JoinsOne (R.log file.old).remaining (before + 1) whole.old whole.new (string_bytes lines.old) (string_bytes lines.new)) }
-    ensures err { IfErr result (IsJoinFault (CommandPath.Hold before) (R.log file.old).remaining whole.old) }
-    ensures failed { IsErrOf result (CliFault.Read (CommandPath.Hold before)) → HasFailed (R.log file.old).tries.failures (R.log file.new).tries.failures }
+    ensures { JoinsFile result before whole.old whole.new (string_bytes lines.old) (string_bytes lines.new) (R.log file.old) (R.log file.new) }
 {
     let other = read_holding(alloc, file, CommandPath::Hold(before))?;
     let new = whole.join_with(&other)?;

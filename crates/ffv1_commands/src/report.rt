@@ -1,10 +1,9 @@
 //! The command `report`: prints the damage report of a holding file (own).
-ghost use Rattle.std.specs.Prelude.{◌≡◌, IfErr, IsErrOf, OnOk};
-ghost use Rattle.ffv1_devices.specs.Logs.{HasFailed};
+ghost use Rattle.std.specs.Prelude.{◌≡◌, IfErr, OnOk};
 ghost use Rattle.ffv1_commands.specs.Fault.{NamesPath};
 ghost use Rattle.ffv1_commands.specs.Paths.{IsReportPath};
-ghost use Rattle.ffv1_commands.specs.Devices.{UnlessWriting, TellsFailure};
-ghost use Rattle.ffv1_commands.specs.ReportedText.{ReportsFile, ReportStops};
+ghost use Rattle.ffv1_commands.specs.Devices.{UnlessWriting};
+ghost use Rattle.ffv1_commands.specs.ReportedText.{ReportsFile, ReportStops, TellsReport};
 
 use crate::devices::{buffered, write_file};
 use crate::fault::CliFault;
@@ -35,21 +34,15 @@ pub fn run_report<R: Read, W: Write>(
     report_of(alloc, &mut file, &mut ThroughWrite::new(output))
 }
 
-/// The command over a source and a sink.
-fn report_of<R: Source, W: Sink>(
+/// The command over a source and a sink, whose logs say how it went: at `Read` the source was given up, and at `Write` the sink;
+/// no other failures came but interruptions.
+pub fn report_of<R: Source, W: Sink>(
     alloc: Global,
     file: &mut R,
     output: &mut W,
 ) -> Result<(), CliFault>
-    ensures ok { OnOk result (ReportsFile (R.log file.old).remaining (W.log output.old).contents (W.log output.new).contents) }
-    ensures err { IfErr result (ReportStops (R.log file.old).remaining (W.log output.old).contents (W.log output.new).contents) }
+    ensures told { TellsReport result (R.log file.old) (R.log file.new) (W.log output.old) (W.log output.new) }
     ensures untouched { IfErr result (λ fault. UnlessWriting fault (output.new ≡ output.old)) }
-    ensures names { IfErr result (NamesPath IsReportPath) }
-
-    ensures file_failed { IsErrOf result (CliFault.Read (CommandPath.Hold 0)) → HasFailed (R.log file.old).tries.failures (R.log file.new).tries.failures }
-    ensures output_told { TellsFailure (IsErrOf result (CliFault.Write CommandPath.StandardOutput)) (W.log output.old).tries.failures (W.log output.new).tries.failures
-        (W.log output.old).tries.broken (W.log output.new).tries.broken }
-    ensures same_output { (W.log output.new).reference ≡ (W.log output.old).reference }
 {
     let holding = read_holding(alloc, file, CommandPath::Hold(0))?;
     let text = report(alloc, &holding)?;

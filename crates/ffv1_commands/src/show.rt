@@ -1,13 +1,12 @@
 //! The command `show`: tells the setup that a configuration record gives for frames of one size (RFC 9043,
 //! section 4.3).
-ghost use Rattle.std.specs.Prelude.{◌≡◌, ◌≤◌, ◌++◌, length, IfOk, IfErr, IsErrOf, OnOk, IfSome, string_bytes};
+ghost use Rattle.std.specs.Prelude.{◌≡◌, ◌≤◌, ◌++◌, length, IfOk, IfErr, OnOk, IfSome, string_bytes};
 ghost use Rattle.ffv1_bits.specs.Limits.{payload_limit};
 ghost use Rattle.ffv1_commands.specs.Fault.{NamesPath};
 ghost use Rattle.ffv1_commands.specs.Paths.{IsShowPath};
-ghost use Rattle.ffv1_commands.specs.ShowText.{version_lines, planes_line, grid_line, contexts_word, tables_line, end_lines, show_text, PrintsSetup, ShowStops};
+ghost use Rattle.ffv1_commands.specs.ShowText.{version_lines, planes_line, grid_line, contexts_word, tables_line, end_lines, show_text, PrintsSetup, ShowStops, TellsShow};
 ghost use Rattle.std.specs.List.{flat_map};
-ghost use Rattle.std.specs.Io.KnownBytes.{Appends};
-ghost use Rattle.ffv1_commands.specs.Devices.{PrintStops, UnlessWriting, TellsFailure, TellsFile};
+ghost use Rattle.ffv1_commands.specs.Devices.{UnlessWriting};
 
 use crate::devices::{read_file, write_file};
 use crate::fault::CliFault;
@@ -47,43 +46,21 @@ pub fn run_show<R: Read, W: Write>(
     )
 }
 
-/// The command over a source and a sink.
-fn show_of<R: Source, W: Sink>(
+/// The command over a source and a sink, whose logs say how it went: at `Read` the source was given up or passed the limit, and at
+/// `Write` the sink was given up; no other failures came but interruptions.
+pub fn show_of<R: Source, W: Sink>(
     alloc: Global,
     input: &mut R,
     width: u32,
     height: u32,
     output: &mut W,
 ) -> Result<(), CliFault>
-    ensures ok { OnOk result (IfSome (R.log input.old).remaining
-        (λ config. PrintsSetup config width height (W.log output.old).contents (W.log output.new).contents)) }
-    ensures few { OnOk result (IfSome (R.log input.old).remaining (λ config. length config ≤ payload_limit)) }
-    ensures err { IfErr result (ShowStops width height (R.log input.old).remaining (W.log output.old).contents (W.log output.new).contents) }
+    ensures told { TellsShow result width height (R.log input.old) (R.log input.new) (W.log output.old) (W.log output.new) }
     ensures untouched { IfErr result (λ fault. UnlessWriting fault (output.new ≡ output.old)) }
-    ensures names { IfErr result (NamesPath IsShowPath) }
-
-    ensures input_told { TellsFile (IsErrOf result (CliFault.Read CommandPath.Record)) (R.log input.old).tries.failures (R.log input.new).tries.failures
-        (R.log input.old).tries.broken (R.log input.new).tries.broken (R.log input.old).taken (R.log input.new).taken }
-    ensures output_told { TellsFailure (IsErrOf result (CliFault.Write CommandPath.StandardOutput)) (W.log output.old).tries.failures (W.log output.new).tries.failures
-        (W.log output.old).tries.broken (W.log output.new).tries.broken }
-    ensures same_output { (W.log output.new).reference ≡ (W.log output.old).reference }
 {
     let config = read_file(alloc, input, CommandPath::Record)?;
     let setup = Setup::read(alloc, config.as_slice(), width, height)?;
-    print_setup(alloc, &setup, output)
-}
-
-/// Prints a setup.
-fn print_setup<W: Sink>(alloc: Global, setup: &Setup, output: &mut W) -> Result<(), CliFault>
-    ensures ok { OnOk result (Appends (W.log output.old).contents (W.log output.new).contents (show_text setup.now)) }
-    ensures err { IfErr result (PrintStops (show_text setup.now) (W.log output.old).contents (W.log output.new).contents) }
-    ensures untouched { IfErr result (λ fault. UnlessWriting fault (output.new ≡ output.old)) }
-    ensures names { IfErr result (NamesPath IsShowPath) }
-    ensures told { TellsFailure (IsErrOf result (CliFault.Write CommandPath.StandardOutput)) (W.log output.old).tries.failures (W.log output.new).tries.failures
-        (W.log output.old).tries.broken (W.log output.new).tries.broken }
-    ensures same_output { (W.log output.new).reference ≡ (W.log output.old).reference }
-{
-    let text = setup_text(alloc, setup)?;
+    let text = setup_text(alloc, &setup)?;
     write_file(output, CommandPath::StandardOutput, text.as_bytes())
 }
 
@@ -153,7 +130,7 @@ fn push_context(text: &mut String, contexts: u32) -> Result<(), AllocError>
     write!(text, " {contexts}")
 }
 
-/// Adds the lines behind the tables.
+/// Adds the lines after the tables.
 fn push_end(text: &mut String, setup: &Setup) -> Result<(), AllocError>
     ensures { OnOk result (string_bytes text.new ≡ string_bytes text.old ++ end_lines setup.now) }
 {

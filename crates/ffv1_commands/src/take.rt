@@ -1,19 +1,17 @@
 //! The command `take`: makes the holding file of all slices that are found in copies of one frame (own;
 //! slices are those of RFC 9043, sections 4.5 and 4.9).
-ghost use Rattle.std.specs.Prelude.{◌≡◌, ◌≢◌, ◌+◌, ◌<◌, ◌≤◌, ◌^◌, ◌++◌, length, map, IfOk, IfErr, IsErrOf, OnOk, string_bytes};
-ghost use Rattle.ffv1_bits.specs.Limits.{payload_limit};
+ghost use Rattle.std.specs.Prelude.{◌≡◌, ◌+◌, ◌<◌, ◌^◌, ◌++◌, length, map, IfOk, IfErr, OnOk, string_bytes};
 ghost use Rattle.ffv1_hold.specs.Contents.{no_slices};
-ghost use Rattle.ffv1_devices.specs.Logs.{HasCounted};
 ghost use Rattle.ffv1_commands.specs.Fault.{NamesPath};
 ghost use Rattle.ffv1_commands.specs.Paths.{IsTakePath};
-ghost use Rattle.ffv1_commands.specs.Devices.{IfOfRecord, IsCopyFault, UnlessWriting, TellsFailure, TellsFile};
-ghost use Rattle.ffv1_commands.specs.TakeText.{copy_line, TakesEach, TakesOne, TakesCopies, IsFaultOfInputs, TakeStops};
+ghost use Rattle.ffv1_commands.specs.Devices.{IfOfRecord, IsWholeInput, IsCopyFault, UnlessWriting};
+ghost use Rattle.ffv1_commands.specs.TakeText.{copy_line, TakesEach, TakesOne, TakesCopy, TakesCopies, StopsAtCopy, LaterKept, TakeStops, TellsTake};
 
 use crate::devices::{read_copy, read_file};
 use crate::fault::CliFault;
 use crate::holdings::write_made;
 use crate::path::CommandPath;
-use ffv1_hold::{FromRead, HoldFault, Holding, Sink, Source, Taken, ThroughWrite};
+use ffv1_hold::{FromRead, Holding, Sink, Source, Taken, ThroughWrite};
 use std::alloc::{AllocError, Global};
 use std::io::{Read, Write};
 
@@ -21,11 +19,12 @@ use std::io::{Read, Write};
 /// frame in samples; writes the holding's file to `out`, and then prints a line for each copy, as
 /// `copy 1 links 2 slices 1 new 1`: its links, those that are slices, and the slices that no earlier copy gave.
 ///
-/// The record is judged before the first copy is read, and each copy is taken before the next is read. `Read` comes where the
-/// record or a copy can't be read, or the record is longer than 2^30 bytes; `Setup` with the record's first fault; `Hold`
-/// where a copy is longer than 2^30 bytes; `HoldFile` where the holding's file would pass its limit; `Memory` where a
-/// growth is refused: then nothing was written, and `out` was not touched. `Write` comes where `out` or the output fails:
-/// a front of the file was written, or the whole file and a front of the lines.
+/// The record is judged before the first copy is read, and each copy is taken before the next is read: at a fault of one
+/// those after it are as they were. `Read` comes where the record or a copy can't be read, or the record is longer than
+/// 2^30 bytes; `Setup` with the record's first fault; `Hold` where a copy is longer than 2^30 bytes; `HoldFile` where the
+/// holding's file would pass its limit; `Memory` where a growth is refused: then nothing was written, and `out` was not
+/// touched. `Write` comes where `out` or the output fails: a front of the file was written, or the whole file and a front
+/// of the lines.
 ///
 /// The copies are fewer than 2^63, as those of a `Vec` always are, so that each has a number.
 pub fn run_take<R: Read, C: Read, O: Write, W: Write>(
@@ -44,6 +43,7 @@ pub fn run_take<R: Read, C: Read, O: Write, W: Write>(
         (O.contents out.old) (O.contents out.new) (W.contents output.old) (W.contents output.new)) }
     ensures untouched { IfErr result (λ fault. UnlessWriting fault ((out.new ≡ out.old) × (output.new ≡ output.old))) }
     ensures in_turn { IfErr result (λ fault. IfOfRecord fault (copies.new ≡ copies.old)) }
+    ensures later_kept { IfErr result (LaterKept C.remaining copies.old copies.new) }
     ensures names { IfErr result (NamesPath (IsTakePath (length copies.old))) }
 {
     take_of(
@@ -57,8 +57,9 @@ pub fn run_take<R: Read, C: Read, O: Write, W: Write>(
     )
 }
 
-/// The command over a source, readers of copies, and sinks.
-fn take_of<R: Source, C: Read, O: Sink, W: Sink>(
+/// The command over a source, readers of copies, and sinks. The logs say how it went: at `Read` of the record its source was given up
+/// or passed the limit, and at `Write` the sink that is named was given up; no other failures of them came but interruptions.
+pub fn take_of<R: Source, C: Read, O: Sink, W: Sink>(
     alloc: Global,
     configuration: &mut R,
     width: u32,
@@ -68,22 +69,9 @@ fn take_of<R: Source, C: Read, O: Sink, W: Sink>(
     output: &mut W,
 ) -> Result<(), CliFault>
     requires { length copies.old < 2 ^ 63 }
-    ensures ok { OnOk result (TakesCopies (R.log configuration.old).remaining width height (map C.remaining copies.old)
-        (O.log out.old).contents (O.log out.new).contents (W.log output.old).contents (W.log output.new).contents) }
-    ensures err { IfErr result (TakeStops (R.log configuration.old).remaining width height (map C.remaining copies.old)
-        (O.log out.old).contents (O.log out.new).contents (W.log output.old).contents (W.log output.new).contents) }
+    ensures told { TellsTake result C.remaining width height (R.log configuration.old) (R.log configuration.new) copies.old copies.new
+        (O.log out.old) (O.log out.new) (W.log output.old) (W.log output.new) }
     ensures untouched { IfErr result (λ fault. UnlessWriting fault ((out.new ≡ out.old) × (output.new ≡ output.old))) }
-    ensures in_turn { IfErr result (λ fault. IfOfRecord fault (copies.new ≡ copies.old)) }
-    ensures names { IfErr result (NamesPath (IsTakePath (length copies.old))) }
-
-    ensures record_told { TellsFile (IsErrOf result (CliFault.Read CommandPath.Record)) (R.log configuration.old).tries.failures (R.log configuration.new).tries.failures
-        (R.log configuration.old).tries.broken (R.log configuration.new).tries.broken (R.log configuration.old).taken (R.log configuration.new).taken }
-    ensures out_told { TellsFailure (IsErrOf result (CliFault.Write CommandPath.Out)) (O.log out.old).tries.failures (O.log out.new).tries.failures
-        (O.log out.old).tries.broken (O.log out.new).tries.broken }
-    ensures output_told { TellsFailure (IsErrOf result (CliFault.Write CommandPath.StandardOutput)) (W.log output.old).tries.failures (W.log output.new).tries.failures
-        (W.log output.old).tries.broken (W.log output.new).tries.broken }
-    ensures same_out { (O.log out.new).reference ≡ (O.log out.old).reference }
-    ensures same_output { (W.log output.new).reference ≡ (W.log output.old).reference }
 {
     let config = read_file(alloc, configuration, CommandPath::Record)?;
     let mut holding = Holding::new(alloc, config.as_slice(), width, height)?;
@@ -101,11 +89,13 @@ fn take_copies<C: Read>(
     requires few { length copies.old < 2 ^ 63 }
     ensures ok { IfOk result (λ lines. TakesEach (map C.remaining copies.old) holding.old.reel holding.new (string_bytes lines)) }
     ensures reel { holding.new.reel ≡ holding.old.reel }
-    ensures err { IfErr result (IsFaultOfInputs (map C.remaining copies.old)) }
+    ensures err { IfErr result (StopsAtCopy C.remaining copies.old copies.new) }
 {
     let mut lines = String::new(alloc);
     for index in 0..copies.len() {
-        take_copy(alloc, holding, &mut copies[index], index, &mut lines)?;
+        if let Err(fault) = take_copy(alloc, holding, &mut copies[index], index, &mut lines) {
+            return Err(fault);
+        }
     }
     Ok(lines)
 }
@@ -119,7 +109,7 @@ fn take_copy<C: Read>(
     lines: &mut String,
 ) -> Result<(), CliFault>
     requires { before < 2 ^ 63 }
-    ensures ok { OnOk result (TakesOne (C.remaining copy.old) (before + 1) holding.old holding.new (string_bytes lines.old) (string_bytes lines.new)) }
+    ensures ok { OnOk result (TakesOne (IsWholeInput (C.remaining copy.old)) (before + 1) holding.old holding.new (string_bytes lines.old) (string_bytes lines.new)) }
     ensures reel { holding.new.reel ≡ holding.old.reel }
     ensures err { IfErr result (IsCopyFault (CommandPath.Copy before) (C.remaining copy.old)) }
 {
@@ -135,13 +125,8 @@ fn take_copy_of<C: Source>(
     lines: &mut String,
 ) -> Result<(), CliFault>
     requires { before < 2 ^ 63 }
-    ensures ok { OnOk result (TakesOne (C.log copy.old).remaining (before + 1) holding.old holding.new (string_bytes lines.old) (string_bytes lines.new)) }
+    ensures told { TakesCopy result before holding.old holding.new (string_bytes lines.old) (string_bytes lines.new) (C.log copy.old) (C.log copy.new) }
     ensures reel { holding.new.reel ≡ holding.old.reel }
-    ensures err { IfErr result (IsCopyFault (CommandPath.Copy before) (C.log copy.old).remaining) }
-    ensures copy_told { TellsFailure (IsErrOf result (CliFault.Read (CommandPath.Copy before))) (C.log copy.old).tries.failures (C.log copy.new).tries.failures
-        (C.log copy.old).tries.broken (C.log copy.new).tries.broken }
-    ensures too_long { IsErrOf result (CliFault.Hold HoldFault.PayloadTooLong) → HasCounted (payload_limit + 1) (C.log copy.old).taken (C.log copy.new).taken }
-    ensures within { (¬ IsErrOf result (CliFault.Hold HoldFault.PayloadTooLong)) → (C.log copy.new).taken ≤ (C.log copy.old).taken + payload_limit }
 {
     let payload = read_copy(alloc, copy, CommandPath::Copy(before))?;
     let taken = holding.take(payload.as_slice())?;

@@ -1,19 +1,30 @@
-use Rattle.std.proofs.Common.{◌++◌, ap, ◌∙◌}
+use Rattle.std.proofs.Common.{◌++◌, ap, ◌∙◌, inl, inr, refl}
 use Rattle.std.proofs.lemmas.Result.{err_from_is_err_and}
 use Rattle.std.specs.String.{string_bytes}
-use Rattle.ffv1_commands.proofs.JoinSteps.{join_refused, line_of_join-from}
+use Rattle.ffv1_commands.proofs.JoinSteps.{line_of_join-from}
+use Rattle.ffv1_commands.proofs.JoinedFiles.{join_refused}
 use Rattle.ffv1_commands.proofs.join.join_file_of.Goals as goal
 
-pub returns-in_err-new-clause-err : goal.returns-in_err-new-clause-err
-returns-in_err-new-clause-err g c =
-    let p = err_from_is_err_and c.from_residual-in_err-new.result c.from_residual-in_err-new.ensures.1 in
-    rw (p.1, p.2) (join_refused _ _ c.args.whole.now c.in_ok-other.other c.in_ok-other.ensures.ok c.join_with.result c.in_err-new.field-0.0 c.in_err-new.was
-    c.join_with.ensures.other_reel c.join_with.ensures.too_long)
+pub returns-in_err-other : goal.returns-in_err-other
+returns-in_err-other g c =
+    let p = err_from_is_err_and c.from_residual.result c.from_residual.ensures.1 in
+    rw (p.1, p.2) (inl (inl c.in_err-other.ensures.read))
 
-pub returns-clause-ok : goal.returns-clause-ok
-returns-clause-ok g c = record {
+pub returns-in_err-new : goal.returns-in_err-new
+returns-in_err-new g c =
+    let p = err_from_is_err_and c.from_residual-in_err-new.result c.from_residual-in_err-new.ensures.1 in
+    rw (p.1, p.2) (join_refused c.args.before _ _ c.args.whole.now c.in_ok-other.other c.in_ok-other.ensures.read c.join_with.result
+    c.in_err-new.field-0.0 c.in_err-new.was c.join_with.ensures.other_reel c.join_with.ensures.too_long)
+
+pub returns-in_err-push_file : goal.returns-in_err-push_file
+returns-in_err-push_file g c =
+    let p = err_from_is_err_and c.from_residual-in_err-push_file.result c.from_residual-in_err-push_file.ensures.1 in
+    rw (p.1, p.2) (inl (inr (refl, (c.in_ok-other.other, c.in_ok-other.ensures.read))))
+
+pub returns : goal.returns
+returns g c = record {
   other = c.in_ok-other.other;
-  file = c.in_ok-other.ensures.ok;
+  file = c.in_ok-other.ensures.read;
   same = c.in_ok-new.ensures.joinable;
   held = c.in_ok-new.ensures.joined;
   line = c.in_ok-push_file.ensures ∙ ap (λ t. string_bytes c.args.lines.now ++ t)

@@ -1,17 +1,19 @@
-use Rattle.std.proofs.Common.{◌≤◌, ◌<◌, List, Option, ℕ, map, length, take, subst, ◌∙◌, refl, arith}
-use Rattle.std.proofs.lemmas.Result.{err_from_is_err_and}
+use Rattle.std.proofs.Common.{◌≤◌, ◌<◌, List, Option, ℕ, map, length, take, sym, subst, ◌∙◌, refl, arith}
 use Rattle.std.proofs.lemmas.List.{length-map}
 use Rattle.std.specs.String.{string_bytes}
+use Rattle.ffv1_commands.specs.Devices.{IsCopyFault}
 use Rattle.ffv1_commands.specs.TakeText.{TakesEach}
-use Rattle.ffv1_commands.proofs.InputLaws.{inputs_more, input_at, length-inputs, inputs_all, others_kept}
-use Rattle.ffv1_commands.proofs.TakeSteps.{takes_none, takes_more, takes_reel, copy_refused}
+use Rattle.ffv1_commands.specs.declared.path.CommandPath.TheVariants as paths
+use Rattle.ffv1_commands.proofs.InputLaws.{inputs_more, input_at, length-inputs, inputs_all}
+use Rattle.ffv1_commands.proofs.LaterInputs.{next_kept, rest_kept}
+use Rattle.ffv1_commands.proofs.TakeSteps.{takes_none, takes_more, takes_reel}
 use Rattle.ffv1_commands.proofs.take.take_copies.Goals as goal
 
 pub loop-index-init : goal.loop-index-init
 loop-index-init g c = record {
   taken = takes_none c.args.holding.now.reel c.args.holding.now
       (string_bytes c.new-lines.result) c.requires.empty c.new-lines.ensures.bytes;
-  others = λ k d le. refl;
+  others = refl;
 }
 
 pub loop-index-preserved : goal.loop-index-preserved
@@ -22,14 +24,14 @@ loop-index-preserved g c =
     let lt : i < length old = omega arith in
     let le : i ≤ length old = omega arith in
     let d = c.index-copies-index.result in
-    let same = c.loop-index.invariant.others i d (omega arith) in
+    let same = next_kept old now i c.loop-index.invariant.others d in
     let more = takes_more (take i (map g.C.Read.remaining old)) c.args.holding.now.reel c.loop-index.holding c.take_copy.new.holding
     (string_bytes c.loop-index.lines) (string_bytes c.take_copy.new.lines)
-    _ i c.loop-index.invariant.taken (length-inputs g.C.Read.remaining old i le) c.in_ok-take_copy.ensures.ok in
+    _ i c.loop-index.invariant.taken (length-inputs g.C.Read.remaining old i le) c.in_default.ensures.ok in
     record {
       taken = subst (λ (inputs : List (Option (List ℕ))). TakesEach inputs c.args.holding.now.reel c.take_copy.new.holding
           (string_bytes c.take_copy.new.lines)) (inputs_more g.C.Read.remaining old now i d lt same) more;
-      others = others_kept old now i c.take_copy.new.copy c.loop-index.invariant.others;
+      others = rest_kept old now i c.loop-index.invariant.others c.take_copy.new.copy;
     }
 
 pub returns-clause-ok : goal.returns-clause-ok
@@ -40,17 +42,20 @@ returns-clause-ok g c =
 pub returns-clause-reel : goal.returns-clause-reel
 returns-clause-reel g c = takes_reel _ _ _ _ c.loop-index.invariant.taken
 
-pub returns-in_err-take_copy-clause-reel : goal.returns-in_err-take_copy-clause-reel
-returns-in_err-take_copy-clause-reel g c = c.take_copy.ensures.reel ∙ takes_reel _ _ _ _ c.loop-index.invariant.taken
+pub returns-in-Err-clause-reel : goal.returns-in-Err-clause-reel
+returns-in-Err-clause-reel g c = c.take_copy.ensures.reel ∙ takes_reel _ _ _ _ c.loop-index.invariant.taken
 
-pub returns-in_err-take_copy-clause-err : goal.returns-in_err-take_copy-clause-err
-returns-in_err-take_copy-clause-err g c =
-    let p = err_from_is_err_and c.from_residual.result c.from_residual.ensures.1 in
+pub returns-in-Err-clause-err : goal.returns-in-Err-clause-err
+returns-in-Err-clause-err g c =
     let i = c.loop-index.index in
     let old = c.args.copies.now in
+    let now = c.loop-index.copies in
     let d = c.index-copies-index.result in
     let lt : i < length old = omega arith in
     let few : i < length (map g.C.Read.remaining old) = omega (arith, length-map old g.C.Read.remaining) in
-    let same = c.loop-index.invariant.others i d (omega arith) in
-    rw (p.1, p.2) (copy_refused (map g.C.Read.remaining old) i _ few (input_at g.C.Read.remaining old c.loop-index.copies i d lt same)
-    c.loop-index.invariant.taken.copies c.loop-index.invariant.taken.read c.in_err-take_copy.field-0.0 c.in_err-take_copy.ensures.err)
+    let same = next_kept old now i c.loop-index.invariant.others d in
+    let each = c.loop-index.invariant.taken in
+    let f = c.in-Err.fault in
+    let stops = subst (λ (input : Option (List ℕ)). IsCopyFault (paths.Copy i) input f) (sym (input_at g.C.Read.remaining old now i d lt same))
+    c.in-Err.ensures.err in
+    (i, (few, (each.copies, each.read), stops), rest_kept old now i c.loop-index.invariant.others c.take_copy.new.copy)

@@ -1,4 +1,4 @@
-use Rattle.std.proofs.Common.{◌≡◌, ℕ, ◌≤◌, get_or, take, map}
+use Rattle.std.proofs.Common.{◌≡◌, drop, take, map}
 use Rattle.std.specs.String.{string_bytes}
 use Rattle.ffv1_commands.specs.TakeText.{TakesEach}
 use Rattle.ffv1_commands.proofs.take.take_copies.Given as goal
@@ -7,5 +7,5 @@ use Rattle.ffv1_commands.proofs.take.take_copies.Given as goal
 abbrev pub invariant-loop-index : goal.invariant-loop-index
 invariant-loop-index g l = record {
   taken : TakesEach (take l.index (map g.C.Read.remaining l.initial.copies)) l.initial.holding.reel l.holding (string_bytes l.lines);
-  others : (k : ℕ) (d : g.row.C.Denot) → l.index ≤ k → get_or l.copies k d ≡ get_or l.initial.copies k d;
+  others : drop l.index l.copies ≡ drop l.index l.initial.copies;
 }

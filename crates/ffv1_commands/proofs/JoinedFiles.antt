@@ -1,0 +1,293 @@
+-- What joining files tells of them and of the outputs.
+use Rattle.std.proofs.Common.{◌≡◌, ◌≢◌, ℕ, suc, ◌+◌, ◌<◌, List, [], ◌∷◌, ◌++◌, length, map, drop, get_or, Option, None, IfSome, Result, Ok, Err, OnOk, IfErr, refl, sym, ap, ◌∙◌, subst, inl, inr, arith}
+use Rattle.std.specs.Prelude.{◌⊎◌}
+use Rattle.std.proofs.lemmas.List.{length-map}
+use Rattle.ffv1_holding.specs.declared.fault.HoldFault.{HoldFault}
+use Rattle.ffv1_holding.specs.declared.fault.HoldFault.TheVariants as holds
+use Rattle.ffv1_devices.specs.Logs.{ReadLog, WriteLog}
+use Rattle.ffv1_hold.specs.Sets as set
+use Rattle.ffv1_hold.specs.Contents.{Contents, IsSameReel}
+use Rattle.ffv1_hold.specs.FileFaults.{IsFaultOf, ReadsHolding}
+use Rattle.ffv1_commands.specs.Fault.{NamesPath, of_hold}
+use Rattle.ffv1_commands.specs.Paths.{IsJoinPath}
+use Rattle.ffv1_commands.specs.Holdings.{IsHoldingFile, MadeStops, WritesMade}
+use Rattle.ffv1_commands.specs.JoinText.{file_line, JoinsEach, JoinsOne, JoinsFiles, IsJoinFault, IsFaultOfFiles, IsFaultOfFile, StopsAtPlace, LaterFilesKept, JoinStops, FileBreaks, JoinsFile, JoinsAll, StopsAtFile, TellsJoin}
+use Rattle.ffv1_commands.specs.declared.fault.CliFault.{CliFault}
+use Rattle.ffv1_commands.specs.declared.fault.CliFault.TheVariants as faults
+use Rattle.ffv1_commands.specs.declared.path.CommandPath.{CommandPath}
+use Rattle.ffv1_commands.specs.declared.path.CommandPath.TheVariants as paths
+use Rattle.ffv1_commands.proofs.InputFaults.{IsUnwritten, IsHoldingFault-says}
+use Rattle.ffv1_commands.proofs.HeldFiles.{held_file, unread_file}
+use Rattle.ffv1_commands.proofs.JoinSteps.{joins_first, joins_more, joins_reel}
+use Rattle.ffv1_commands.proofs.MadeFiles.{made_says, made_bytes}
+
+-- ---- one file
+
+module _ (before : ℕ) (a b : ReadLog) (old new : Contents) (lines lines' : List ℕ) where
+  -- a file that was read and joined is joined as its input tells
+  pub file_joined : {T : Type 0} (r : Result T CliFault) → JoinsFile r before old new lines lines' a b
+      → OnOk r (JoinsOne (IsHoldingFile a.remaining) (before + 1) old new lines lines')
+  file_joined (Ok x) one = record {
+    other = one.other;
+    file = held_file a b one.other one.file;
+    same = one.same;
+    held = one.held;
+    line = one.line;
+  }
+  file_joined (Err fault) breaks = tt
+
+  pub file_unjoined : {T : Type 0} (r : Result T CliFault) → JoinsFile r before old new lines lines' a b
+      → IfErr r (IsJoinFault (paths.Hold before) a.remaining old)
+  file_unjoined (Ok x) one = tt
+  file_unjoined (Err fault) (inl (inl stops)) =
+      IsHoldingFault-says (IsJoinFault (paths.Hold before) a.remaining old) (paths.Hold before) a.remaining fault refl tt (λ file is. is)
+      (unread_file a b (paths.Hold before) fault stops)
+  file_unjoined (Err fault) (inl (inr (is, read))) = subst (IsJoinFault (paths.Hold before) a.remaining old) (sym is) tt
+  file_unjoined (Err fault) (inr (is, (other, read, differs))) =
+      subst (IsJoinFault (paths.Hold before) a.remaining old) (sym is) (refl, (other, held_file a b other read, differs))
+
+-- a file that was read is refused for its reel, or memory was
+pub join_refused : (before : ℕ) (a b : ReadLog) (whole other : Contents) → ReadsHolding a b other → (r : Result ℕ HoldFault) (fault : HoldFault)
+    → r ≡ Err fault → (r ≡ Err holds.OtherReel → ¬ IsSameReel whole other) → r ≢ Err holds.PayloadTooLong
+    → FileBreaks (paths.Hold before) (of_hold fault) a b
+    ⊎ ((of_hold fault ≡ faults.Hold holds.OtherReel) × ((other : Contents) × ReadsHolding a b other × (¬ IsSameReel whole other)))
+join_refused before a b whole other read r holds.OtherReel was differs short = inr (refl, (other, read, differs was))
+join_refused before a b whole other read r holds.PayloadTooLong was differs short = absurd (short was)
+join_refused before a b whole other read r holds.Memory was differs short = inl (inr (refl, (other, read)))
+
+-- ---- all files
+
+pub all_first : (a b : ReadLog) (h : Contents) (text : List ℕ) → text ≡ file_line 1 (set.size h.slices) → ReadsHolding a b h
+    → JoinsAll [] a b h text
+all_first a b h text told read = record { each = joins_first a.remaining h text told (held_file a b h read); first = read }
+
+pub all_more : (inputs : List (Option (List ℕ))) (a b : ReadLog) (old new : Contents) (before after : List ℕ) (input : Option (List ℕ)) (i : ℕ)
+    → JoinsAll inputs a b old before → i ≡ length inputs → JoinsOne (IsHoldingFile input) (i + 1 + 1) old new before after
+    → JoinsAll (inputs ++ input ∷ []) a b new after
+all_more inputs a b old new before after input i all n one = record {
+  each = joins_more (a.remaining ∷ inputs) old new before after input (i + 1) all.each (omega (arith, n)) one;
+  first = all.first;
+}
+
+-- the same inputs, written otherwise
+pub all_as : (inputs others : List (Option (List ℕ))) (a b : ReadLog) (whole : Contents) (text : List ℕ) → inputs ≡ others
+    → JoinsAll inputs a b whole text → JoinsAll others a b whole text
+all_as inputs others a b whole text same all = subst (λ (i : List (Option (List ℕ))). JoinsAll i a b whole text) same all
+
+-- ---- the places of faults
+
+-- a later file's fault, where those before it were joined
+module _ (first input : Option (List ℕ)) (rest : List (Option (List ℕ))) (i : ℕ) (at : get_or rest i None ≡ input)
+    (whole of_first : Contents) (file : IsHoldingFile first of_first) (same : whole.reel ≡ of_first.reel) where
+  other_refused : (fault : CliFault) → IsJoinFault (paths.Hold (i + 1)) input whole fault → IsFaultOfFile (first ∷ rest) (suc i) fault
+  other_refused (faults.Read path) stops = let next : i + 1 ≡ suc i = omega arith in stops ∙ ap paths.Hold next
+  other_refused (faults.Hold fault) (is, (other, other_file, differs)) = (
+    is,
+    (
+      of_first,
+      other,
+      file,
+      subst (λ (x : Option (List ℕ)). IsHoldingFile x other) (sym at) other_file,
+      λ e. differs (same ∙ e),
+    ),
+  )
+  other_refused (faults.HoldFile fault) stops = subst (λ (x : Option (List ℕ)). IfSome x (λ bytes. IsFaultOf bytes fault)) (sym at) stops
+  other_refused faults.Memory stops = tt
+  other_refused (faults.Write path) stops = absurd stops
+  other_refused (faults.Setup fault) stops = absurd stops
+  other_refused (faults.Frame fault) stops = absurd stops
+  other_refused (faults.Missing tile) stops = absurd stops
+  other_refused (faults.Disputed tile) stops = absurd stops
+  other_refused (faults.Splice other) stops = absurd stops
+  other_refused (faults.Ranges line) stops = absurd stops
+  other_refused faults.Words stops = absurd stops
+
+module _ {R : Type 0} (tells : R → Option (List ℕ)) (a b : ReadLog) (old new : List R) where
+  first_refused : (fault : CliFault) → FileBreaks (paths.Hold 0) fault a b → IsFaultOfFile (a.remaining ∷ map tells old) 0 fault
+  first_refused fault (inl stops) =
+      IsHoldingFault-says (IsFaultOfFile (a.remaining ∷ map tells old) 0) (paths.Hold 0) a.remaining fault refl tt (λ file is. is)
+      (unread_file a b (paths.Hold 0) fault stops)
+  first_refused fault (inr (is, read)) = subst (IsFaultOfFile (a.remaining ∷ map tells old) 0) (sym is) tt
+
+  at_place : (fault : CliFault) → StopsAtFile tells a b old new fault → StopsAtPlace (a.remaining ∷ map tells old) old new fault
+  at_place fault (inl (breaks, same)) = (0, omega arith, inl refl, first_refused fault breaks, same)
+  at_place fault (inr (i, lt, (whole, text, all, stops), later)) =
+      let few : suc i < length (a.remaining ∷ map tells old) = omega (arith, length-map old tells) in
+      let next : i + 1 ≡ suc i = omega arith in (
+        suc i,
+        few,
+        inr (whole, text, all.each),
+        other_refused a.remaining (get_or (map tells old) i None) (map tells old) i refl whole all.each.first all.each.files.0
+            (joins_reel _ _ _ all.each) fault stops,
+        subst (λ n. drop n new ≡ drop n old) next later,
+      )
+
+-- a fault at a place is one of the files
+of_files : {R : Type 0} (inputs : List (Option (List ℕ))) (old new : List R) (fault : CliFault) → StopsAtPlace inputs old new fault
+    → IsFaultOfFiles inputs fault
+of_files inputs old new (faults.Read path) (i, lt, before, stops, later) = (i, lt, before, stops)
+of_files inputs old new (faults.Hold fault) (i, lt, before, (is, stops), later) = (is, (i, lt, before, stops))
+of_files inputs old new (faults.HoldFile fault) (i, lt, before, stops, later) = (i, lt, before, stops)
+of_files inputs old new faults.Memory stops = tt
+of_files inputs old new (faults.Write path) (i, lt, before, stops, later) = absurd stops
+of_files inputs old new (faults.Setup fault) (i, lt, before, stops, later) = absurd stops
+of_files inputs old new (faults.Frame fault) (i, lt, before, stops, later) = absurd stops
+of_files inputs old new (faults.Missing tile) (i, lt, before, stops, later) = absurd stops
+of_files inputs old new (faults.Disputed tile) (i, lt, before, stops, later) = absurd stops
+of_files inputs old new (faults.Splice other) (i, lt, before, stops, later) = absurd stops
+of_files inputs old new (faults.Ranges line) (i, lt, before, stops, later) = absurd stops
+of_files inputs old new faults.Words (i, lt, before, stops, later) = absurd stops
+
+-- and leaves those after it
+later_kept : {R : Type 0} (inputs : List (Option (List ℕ))) (old new : List R) (fault : CliFault) → StopsAtPlace inputs old new fault
+    → LaterFilesKept inputs old new fault
+later_kept inputs old new (faults.Read path) (i, lt, before, same, later) =
+    subst (λ (p : CommandPath). LaterFilesKept inputs old new (faults.Read p)) (sym same) later
+later_kept inputs old new (faults.Hold fault) stops = stops
+later_kept inputs old new (faults.HoldFile fault) stops = inl stops
+later_kept inputs old new (faults.Write path) stops = tt
+later_kept inputs old new (faults.Setup fault) stops = tt
+later_kept inputs old new (faults.Frame fault) stops = tt
+later_kept inputs old new (faults.Missing tile) stops = tt
+later_kept inputs old new (faults.Disputed tile) stops = tt
+later_kept inputs old new faults.Memory stops = tt
+later_kept inputs old new (faults.Splice other) stops = tt
+later_kept inputs old new (faults.Ranges line) stops = tt
+later_kept inputs old new faults.Words stops = tt
+
+-- ---- what is told over the logs
+
+IsFaultOfFiles-unwritten : (inputs : List (Option (List ℕ))) (fault : CliFault) → IsFaultOfFiles inputs fault → IsUnwritten fault
+IsFaultOfFiles-unwritten inputs (faults.Read path) stops = tt
+IsFaultOfFiles-unwritten inputs (faults.Write path) (i, lt, before, stops) = absurd stops
+IsFaultOfFiles-unwritten inputs (faults.Setup fault) stops = tt
+IsFaultOfFiles-unwritten inputs (faults.Hold fault) stops = tt
+IsFaultOfFiles-unwritten inputs (faults.HoldFile fault) stops = tt
+IsFaultOfFiles-unwritten inputs (faults.Frame fault) stops = tt
+IsFaultOfFiles-unwritten inputs (faults.Missing tile) stops = tt
+IsFaultOfFiles-unwritten inputs (faults.Disputed tile) stops = tt
+IsFaultOfFiles-unwritten inputs faults.Memory stops = tt
+IsFaultOfFiles-unwritten inputs (faults.Splice other) stops = tt
+IsFaultOfFiles-unwritten inputs (faults.Ranges line) stops = tt
+IsFaultOfFiles-unwritten inputs faults.Words stops = tt
+
+-- where a file was not joined nothing was written
+pub files-unwritten : {R : Type 0} (tells : R → Option (List ℕ)) (a b : ReadLog) (old new : List R) (fault : CliFault) → StopsAtFile tells a b old new fault
+    → IsUnwritten fault
+files-unwritten tells a b old new fault stops =
+    IsFaultOfFiles-unwritten (a.remaining ∷ map tells old) fault (of_files _ old new fault (at_place tells a b old new fault stops))
+
+-- the file and the lines were written once all was joined, or were not
+pub made_joined : {T R : Type 0} (tells : R → Option (List ℕ)) (a b : ReadLog) (old new : List R) (out out' output output' : WriteLog)
+    (whole : Contents) (text : List ℕ) → JoinsAll (map tells old) a b whole text → (r : Result T CliFault)
+    → WritesMade r whole text out out' output output' → TellsJoin r tells a b old new out out' output output'
+made_joined tells a b old new out out' output output' whole text all (Ok x) made = (whole, text, all, made)
+made_joined tells a b old new out out' output output' whole text all (Err fault) breaks = inr (whole, text, all, breaks)
+
+-- ---- the same of bytes
+
+-- it names one of the paths
+files_name : (inputs : List (Option (List ℕ))) (n : ℕ) → length inputs ≡ n + 1 → (fault : CliFault) → IsFaultOfFiles inputs fault
+    → NamesPath (IsJoinPath (n + 1)) fault
+files_name inputs n is (faults.Read path) (i, lt, before, same) = subst (IsJoinPath (n + 1)) (sym same) (omega (arith, lt, is))
+files_name inputs n is (faults.Write path) (i, lt, before, stops) = absurd stops
+files_name inputs n is (faults.Setup fault) (i, lt, before, stops) = absurd stops
+files_name inputs n is (faults.Hold fault) stops = tt
+files_name inputs n is (faults.HoldFile fault) stops = tt
+files_name inputs n is (faults.Frame fault) (i, lt, before, stops) = absurd stops
+files_name inputs n is (faults.Missing tile) (i, lt, before, stops) = absurd stops
+files_name inputs n is (faults.Disputed tile) (i, lt, before, stops) = absurd stops
+files_name inputs n is faults.Memory stops = tt
+files_name inputs n is (faults.Splice other) (i, lt, before, stops) = absurd stops
+files_name inputs n is (faults.Ranges line) (i, lt, before, stops) = absurd stops
+files_name inputs n is faults.Words (i, lt, before, stops) = absurd stops
+
+module _ (inputs : List (Option (List ℕ))) (ob oa pb pa : Option (List ℕ)) where
+  files_refused : (fault : CliFault) → IsFaultOfFiles inputs fault → JoinStops inputs ob oa pb pa fault
+  files_refused (faults.Read path) stops = stops
+  files_refused (faults.Write path) (i, lt, before, stops) = absurd stops
+  files_refused (faults.Setup fault) stops = stops
+  files_refused (faults.Hold fault) stops = stops
+  files_refused (faults.HoldFile fault) stops = inl stops
+  files_refused (faults.Frame fault) stops = stops
+  files_refused (faults.Missing tile) stops = stops
+  files_refused (faults.Disputed tile) stops = stops
+  files_refused faults.Memory stops = tt
+  files_refused (faults.Splice other) stops = stops
+  files_refused (faults.Ranges line) stops = stops
+  files_refused faults.Words stops = stops
+
+  module _ (whole : Contents) (lines : List ℕ) (each : JoinsEach inputs whole lines) where
+    made_refused : (fault : CliFault) → MadeStops whole lines ob oa pb pa fault → JoinStops inputs ob oa pb pa fault
+    made_refused (faults.Write named) stops = (whole, lines, each, stops)
+    made_refused (faults.HoldFile fault) stops = inr (whole, lines, each, stops)
+    made_refused (faults.Read path) stops = absurd stops
+    made_refused (faults.Setup fault) stops = absurd stops
+    made_refused (faults.Hold fault) stops = absurd stops
+    made_refused (faults.Frame fault) stops = absurd stops
+    made_refused (faults.Missing tile) stops = absurd stops
+    made_refused (faults.Disputed tile) stops = absurd stops
+    made_refused faults.Memory stops = absurd stops
+    made_refused (faults.Splice other) stops = absurd stops
+    made_refused (faults.Ranges line) stops = absurd stops
+    made_refused faults.Words stops = absurd stops
+
+    -- that the union has no file is a fault of none
+    made_later : {R : Type 0} (old new : List R) (fault : CliFault) → MadeStops whole lines ob oa pb pa fault → LaterFilesKept inputs old new fault
+    made_later old new (faults.HoldFile fault) stops = inr (whole, lines, each, stops)
+    made_later old new (faults.Read path) stops = absurd stops
+    made_later old new (faults.Hold fault) stops = absurd stops
+    made_later old new (faults.Write named) stops = tt
+    made_later old new (faults.Setup fault) stops = tt
+    made_later old new (faults.Frame fault) stops = tt
+    made_later old new (faults.Missing tile) stops = tt
+    made_later old new (faults.Disputed tile) stops = tt
+    made_later old new faults.Memory stops = tt
+    made_later old new (faults.Splice other) stops = tt
+    made_later old new (faults.Ranges line) stops = tt
+    made_later old new faults.Words stops = tt
+
+pub record JoinOfBytes {T R : Type 0} (r : Result T CliFault) (inputs : List (Option (List ℕ))) (old new : List R) (ob oa pb pa : Option (List ℕ))
+    : Type 0 where
+  pub ok : OnOk r (JoinsFiles inputs ob oa pb pa)
+  pub err : IfErr r (JoinStops inputs ob oa pb pa)
+  pub later : IfErr r (LaterFilesKept inputs old new)
+  pub names : IfErr r (NamesPath (IsJoinPath (length old + 1)))
+
+module _ {R : Type 0} (tells : R → Option (List ℕ)) (a b : ReadLog) (old new : List R) (out out' output output' : WriteLog) where
+  abbrev of_bytes : {T : Type 0} → Result T CliFault → Type 0
+  of_bytes r = JoinOfBytes r (a.remaining ∷ map tells old) old new out.contents out'.contents output.contents output'.contents
+
+  pub join_of_bytes : {T : Type 0} (r : Result T CliFault) → TellsJoin r tells a b old new out out' output output' → of_bytes r
+  join_of_bytes (Ok x) (whole, text, all, made) = record {
+    ok = record {
+      whole = whole;
+      text = text;
+      each = all.each;
+      has_file = made.has_file;
+      file = made.file.bytes';
+      printed = made.printed.bytes';
+    };
+    err = tt;
+    later = tt;
+    names = tt;
+  }
+  join_of_bytes (Err fault) (inl (stops, kept)) =
+      let inputs = a.remaining ∷ map tells old in
+      let place = at_place tells a b old new fault stops in
+      let refused = of_files inputs old new fault place in
+      record {
+        ok = tt;
+        err = files_refused inputs out.contents out'.contents output.contents output'.contents fault refused;
+        later = later_kept inputs old new fault place;
+        names = files_name inputs (length old) (omega (arith, length-map old tells)) fault refused;
+      }
+  join_of_bytes (Err fault) (inr (whole, text, all, breaks)) =
+      let inputs = a.remaining ∷ map tells old in
+      let stops = made_bytes whole text out out' output output' fault breaks in
+      record {
+        ok = tt;
+        err = made_refused inputs out.contents out'.contents output.contents output'.contents whole text all.each fault stops;
+        later = made_later inputs out.contents out'.contents output.contents output'.contents whole text all.each old new fault stops;
+        names = made_says whole text out out' output output' (NamesPath (IsJoinPath (length old + 1))) (λ file. tt) tt tt fault breaks;
+      }

@@ -1,0 +1,69 @@
+-- What writing the file of a holding and then a text says of both.
+use Rattle.std.proofs.Common.{◌≡◌, ◌≢◌, ℕ, List, Result, Ok, Err, inl, inr, refl, sym, subst}
+use Rattle.std.specs.Io.KnownBytes.{Keeps}
+use Rattle.std.proofs.KnownBytes.{Keeps-refl}
+use Rattle.ffv1_devices.specs.Logs.{WriteLog, Writes, StopsWriting}
+use Rattle.ffv1_hold.specs.Contents.{Contents}
+use Rattle.ffv1_hold.specs.HoldingText.{holding_text}
+use Rattle.ffv1_hold.specs.declared.file_fault.HoldFileFault.{HoldFileFault}
+use Rattle.ffv1_hold.specs.declared.file_fault.HoldFileFault.TheVariants as files
+use Rattle.ffv1_hold.specs.Saving.{IsTooLong, SavesFile}
+use Rattle.ffv1_commands.specs.Devices.{WritesNamed}
+use Rattle.ffv1_commands.specs.Holdings.{HasFile, IsFileFault, MadeStops, SavingBreaks, MadeBreaks, WritesMade}
+use Rattle.ffv1_commands.specs.declared.fault.CliFault.{CliFault}
+use Rattle.ffv1_commands.specs.declared.fault.CliFault.TheVariants as faults
+use Rattle.ffv1_commands.specs.declared.path.CommandPath.TheVariants as paths
+
+-- what any fault of writing a holding's file says, if that of each form says so
+SavingBreaks-says : (P : CliFault → Type 0) (h : Contents) (old new : WriteLog) (fault : CliFault)
+    → ((file : HoldFileFault) → IsFileFault h (faults.HoldFile file) → new ≡ old → P (faults.HoldFile file))
+    → (StopsWriting old new (holding_text h) → P (faults.Write paths.Out)) → SavingBreaks h old new fault → P fault
+SavingBreaks-says P h old new (faults.HoldFile file) none stopped (is, kept) = none file is kept
+SavingBreaks-says P h old new (faults.Write path) none stopped (same, fits, stops) = subst (λ p. P (faults.Write p)) (sym same) (stopped stops)
+SavingBreaks-says P h old new (faults.Read path) none stopped breaks = absurd breaks
+SavingBreaks-says P h old new (faults.Setup fault) none stopped breaks = absurd breaks
+SavingBreaks-says P h old new (faults.Hold fault) none stopped breaks = absurd breaks
+SavingBreaks-says P h old new (faults.Frame fault) none stopped breaks = absurd breaks
+SavingBreaks-says P h old new (faults.Missing tile) none stopped breaks = absurd breaks
+SavingBreaks-says P h old new (faults.Disputed tile) none stopped breaks = absurd breaks
+SavingBreaks-says P h old new faults.Memory none stopped breaks = absurd breaks
+SavingBreaks-says P h old new (faults.Splice other) none stopped breaks = absurd breaks
+SavingBreaks-says P h old new (faults.Ranges line) none stopped breaks = absurd breaks
+SavingBreaks-says P h old new faults.Words none stopped breaks = absurd breaks
+
+-- what stopped writing a holding's file, but that it has none, is the sink
+pub save_stopped : (T : Type 0) (f : HoldFileFault) (h : Contents) (a b : WriteLog) → f ≢ files.TooLong → SavesFile {T = T} (Err f) h a b
+    → (¬ IsTooLong h) × StopsWriting a b (holding_text h)
+save_stopped T files.Write h a b other saved = saved
+save_stopped T files.TooLong h a b other saved = absurd (other refl)
+save_stopped T files.Read h a b other saved = absurd saved
+save_stopped T files.Memory h a b other saved = absurd saved
+save_stopped T files.OtherReel h a b other saved = absurd saved
+save_stopped T files.Truncated h a b other saved = absurd saved
+save_stopped T files.Trailing h a b other saved = absurd saved
+save_stopped T files.Magic h a b other saved = absurd saved
+save_stopped T (files.Setup f) h a b other saved = absurd saved
+save_stopped T files.Tag h a b other saved = absurd saved
+save_stopped T files.Order h a b other saved = absurd saved
+save_stopped T files.NotASlice h a b other saved = absurd saved
+
+module _ (h : Contents) (text : List ℕ) (a b c d : WriteLog) where
+  -- the file was written, and then the text or a front of it
+  pub then_printed : {T : Type 0} (r : Result T CliFault) → HasFile h → Writes a b (holding_text h) → WritesNamed paths.StandardOutput r c d text
+      → WritesMade r h text a b c d
+  then_printed (Ok x) has wrote printed = record { has_file = has; file = wrote; printed = printed }
+  then_printed (Err fault) has wrote (is, stopped) = inr (is, has, wrote, stopped)
+
+  -- what any fault says, if those of the file and of both outputs say so
+  pub made_says : (P : CliFault → Type 0) → ((file : HoldFileFault) → P (faults.HoldFile file)) → P (faults.Write paths.Out)
+      → P (faults.Write paths.StandardOutput) → (fault : CliFault) → MadeBreaks h text a b c d fault → P fault
+  made_says P none out printed fault (inl (saving, kept)) = SavingBreaks-says P h a b fault (λ file is same. none file) (λ stopped. out) saving
+  made_says P none out printed fault (inr stops) = subst P (sym stops.0) printed
+
+  -- the same fault by the bytes of both
+  pub made_bytes : (fault : CliFault) → MadeBreaks h text a b c d fault → MadeStops h text a.contents b.contents c.contents d.contents fault
+  made_bytes fault (inl (saving, kept)) =
+      SavingBreaks-says (MadeStops h text a.contents b.contents c.contents d.contents) h a b fault (λ file is same. is)
+      (λ stopped. inl (refl, stopped.front, subst (λ (log : WriteLog). Keeps c.contents log.contents) (sym kept) (Keeps-refl c.contents))) saving
+  made_bytes fault (inr (is, has, wrote, stopped)) =
+      subst (MadeStops h text a.contents b.contents c.contents d.contents) (sym is) (inr (refl, wrote.bytes', stopped.front))

@@ -1,0 +1,282 @@
+-- What taking copies tells of the record, the copies and the outputs.
+use Rattle.std.proofs.Common.{◌≡◌, ℕ, ◌+◌, List, length, map, Option, Result, Ok, Err, OnOk, IfErr, refl, sym, ap, subst, inl, inr, arith}
+use Rattle.std.specs.Io.KnownBytes.{Appends}
+use Rattle.std.proofs.lemmas.List.{length-map}
+use Rattle.ffv1_bits.specs.Limits.{payload_limit}
+use Rattle.ffv1_range.specs.Setup.{IsSetupOf}
+use Rattle.ffv1_range.specs.SetupFaults.{FirstSetupFault}
+use Rattle.ffv1_range.specs.declared.fault.SetupFault.{SetupFault}
+use Rattle.ffv1_devices.specs.Logs.{ReadLog, WriteLog, Reads}
+use Rattle.ffv1_hold.specs.Reels.{Reel}
+use Rattle.ffv1_hold.specs.Contents.{Contents, holding_of}
+use Rattle.ffv1_hold.specs.Headline.{IsReelOf}
+use Rattle.ffv1_hold.specs.HoldingText.{holding_text}
+use Rattle.ffv1_holding.specs.TakeFaults.{IsTakeFault}
+use Rattle.ffv1_holding.specs.declared.fault.HoldFault.{HoldFault}
+use Rattle.ffv1_holding.specs.declared.fault.HoldFault.TheVariants as holds
+use Rattle.ffv1_commands.specs.Devices.{IsWholeInput, IsCopyFault, IfOfRecord, WriteStops, TakesWhole, CopyStops}
+use Rattle.ffv1_commands.specs.RecordInputs.{IsReelInput}
+use Rattle.ffv1_commands.specs.Fault.{NamesPath, of_hold}
+use Rattle.ffv1_commands.specs.Paths.{IsTakePath}
+use Rattle.ffv1_commands.specs.Holdings.{HasFile, IsFileFault, MadeStops, WritesMade}
+use Rattle.ffv1_commands.specs.TakeText.{TakesEach, TakesOne, TakesCopies, IsFaultOfInputs, StopsAtCopy, LaterKept, TakeStops, TakesCopy, ReadsReel, RecordRefuses, TakesAll, TellsTake}
+use Rattle.ffv1_commands.specs.declared.fault.CliFault.{CliFault}
+use Rattle.ffv1_commands.specs.declared.fault.CliFault.TheVariants as faults
+use Rattle.ffv1_commands.specs.declared.path.CommandPath.{CommandPath}
+use Rattle.ffv1_commands.specs.declared.path.CommandPath.TheVariants as paths
+use Rattle.ffv1_commands.proofs.InputFaults.{IsUnwritten}
+use Rattle.ffv1_commands.proofs.InputLaws.{whole_input}
+use Rattle.ffv1_commands.proofs.Telling.{whole_of, Consumes-longer}
+use Rattle.ffv1_commands.proofs.MadeFiles.{made_says, made_bytes}
+
+-- ---- what a refusal says
+
+-- a copy's fault is none of the record
+IsFaultOfInputs-in_turn : (P : Type 0) (inputs : List (Option (List ℕ))) (fault : CliFault) → IsFaultOfInputs inputs fault → IfOfRecord fault P
+IsFaultOfInputs-in_turn P inputs (faults.Read path) (i, (lt, before, same)) = λ is. absurd (cc)
+IsFaultOfInputs-in_turn P inputs (faults.Setup fault) (i, (lt, before, stops)) = absurd stops
+IsFaultOfInputs-in_turn P inputs (faults.Write path) stops = tt
+IsFaultOfInputs-in_turn P inputs (faults.Hold fault) stops = tt
+IsFaultOfInputs-in_turn P inputs (faults.HoldFile fault) stops = tt
+IsFaultOfInputs-in_turn P inputs (faults.Frame fault) stops = tt
+IsFaultOfInputs-in_turn P inputs (faults.Missing tile) stops = tt
+IsFaultOfInputs-in_turn P inputs (faults.Disputed tile) stops = tt
+IsFaultOfInputs-in_turn P inputs faults.Memory stops = tt
+IsFaultOfInputs-in_turn P inputs (faults.Splice other) stops = tt
+IsFaultOfInputs-in_turn P inputs (faults.Ranges line) stops = tt
+IsFaultOfInputs-in_turn P inputs faults.Words stops = tt
+
+-- it names one of the paths
+copies_name : (inputs : List (Option (List ℕ))) (n : ℕ) → length inputs ≡ n → (fault : CliFault) → IsFaultOfInputs inputs fault
+    → NamesPath (IsTakePath n) fault
+copies_name inputs n is (faults.Read path) (i, (lt, before, same)) = subst (IsTakePath n) (sym same) (omega (arith, lt, is))
+copies_name inputs n is (faults.Write path) (i, (lt, before, stops)) = absurd stops
+copies_name inputs n is (faults.Setup fault) (i, (lt, before, stops)) = absurd stops
+copies_name inputs n is (faults.Hold fault) stops = tt
+copies_name inputs n is (faults.HoldFile fault) (i, (lt, before, stops)) = absurd stops
+copies_name inputs n is (faults.Frame fault) (i, (lt, before, stops)) = absurd stops
+copies_name inputs n is (faults.Missing tile) (i, (lt, before, stops)) = absurd stops
+copies_name inputs n is (faults.Disputed tile) (i, (lt, before, stops)) = absurd stops
+copies_name inputs n is faults.Memory stops = tt
+copies_name inputs n is (faults.Splice other) (i, (lt, before, stops)) = absurd stops
+copies_name inputs n is (faults.Ranges line) (i, (lt, before, stops)) = absurd stops
+copies_name inputs n is faults.Words (i, (lt, before, stops)) = absurd stops
+
+-- ---- one copy
+
+-- a copy that was read and taken is taken as its input tells
+pub copy_taken : {T : Type 0} (a b : ReadLog) (before : ℕ) (old new : Contents) (lines lines' : List ℕ) (r : Result T CliFault)
+    → TakesCopy r before old new lines lines' a b → OnOk r (TakesOne (IsWholeInput a.remaining) (before + 1) old new lines lines')
+copy_taken a b before old new lines lines' (Ok x) one = record {
+  copy = one.copy;
+  read = whole_input a.remaining b.remaining one.copy (whole_of (paths.Copy before) a b one.copy one.read).ok;
+  held = one.held;
+  line = one.line;
+}
+copy_taken a b before old new lines lines' (Err fault) stops = tt
+
+-- what any fault of a copy says, if that of each form says so
+pub CopyStops-says : (P : CliFault → Type 0) (path : CommandPath) (fault : CliFault) (a b : ReadLog) → P (faults.Read path)
+    → ((bytes : List ℕ) → Reads a b bytes → length bytes ≡ payload_limit + 1 → P (faults.Hold holds.PayloadTooLong)) → P faults.Memory
+    → CopyStops path fault a b → P fault
+CopyStops-says P path (faults.Read named) a b read long memory (same, stopped) = subst (λ n. P (faults.Read n)) (sym same) read
+CopyStops-says P path (faults.Hold fault) a b read long memory (same, (bytes, took, more)) =
+    subst (λ (f : HoldFault). P (faults.Hold f)) (sym same) (long bytes took more)
+CopyStops-says P path faults.Memory a b read long memory within = memory
+CopyStops-says P path (faults.Write named) a b read long memory stops = absurd stops
+CopyStops-says P path (faults.Setup fault) a b read long memory stops = absurd stops
+CopyStops-says P path (faults.HoldFile fault) a b read long memory stops = absurd stops
+CopyStops-says P path (faults.Frame fault) a b read long memory stops = absurd stops
+CopyStops-says P path (faults.Missing tile) a b read long memory stops = absurd stops
+CopyStops-says P path (faults.Disputed tile) a b read long memory stops = absurd stops
+CopyStops-says P path (faults.Splice other) a b read long memory stops = absurd stops
+CopyStops-says P path (faults.Ranges line) a b read long memory stops = absurd stops
+CopyStops-says P path faults.Words a b read long memory stops = absurd stops
+
+pub copy_unread : {T : Type 0} (a b : ReadLog) (before : ℕ) (old new : Contents) (lines lines' : List ℕ) (r : Result T CliFault)
+    → TakesCopy r before old new lines lines' a b → IfErr r (IsCopyFault (paths.Copy before) a.remaining)
+copy_unread a b before old new lines lines' (Ok x) one = tt
+copy_unread a b before old new lines lines' (Err fault) stops = CopyStops-says (IsCopyFault (paths.Copy before) a.remaining) (paths.Copy before) fault a b
+    refl (λ bytes took more. (refl, Consumes-longer a.remaining b.remaining bytes payload_limit took.bytes' (omega arith))) tt stops
+
+-- a copy that was read, and so is within the limit, is refused for memory alone
+pub copy_untaken : (before : ℕ) (a b : ReadLog) (copy : List ℕ) → TakesWhole a b copy → (fault : HoldFault) → IsTakeFault copy fault
+    → CopyStops (paths.Copy before) (of_hold fault) a b
+copy_untaken before a b copy took holds.Memory short = (copy, took.read, took.few)
+copy_untaken before a b copy took holds.PayloadTooLong long = absurd (omega (arith, took.few, long))
+copy_untaken before a b copy took holds.OtherReel none = absurd none
+
+-- ---- what is told over the logs
+
+-- the record is that of its reel
+pub reel_read : (a b : ReadLog) (config : List ℕ) (width height : ℕ) (reel : Reel) → TakesWhole a b config → IsReelOf config width height reel
+    → ReadsReel width height a b reel
+reel_read a b config width height reel took is = record {
+  taken = subst (TakesWhole a b) (sym is.0) took;
+  is_setup = subst (λ (c : List ℕ). IsSetupOf c width height reel.setup) (sym is.0) is.1;
+}
+
+-- at a fault of the copies nothing was written
+pub copies-unwritten : {C : Type 0} (tells : C → Option (List ℕ)) (old new : List C) (fault : CliFault) → StopsAtCopy tells old new fault
+    → IsUnwritten fault
+copies-unwritten tells old new (faults.Write path) (i, (lt, before, stops), later) = absurd stops
+copies-unwritten tells old new (faults.Read path) stops = tt
+copies-unwritten tells old new (faults.Setup fault) stops = tt
+copies-unwritten tells old new (faults.Hold fault) stops = tt
+copies-unwritten tells old new (faults.HoldFile fault) stops = tt
+copies-unwritten tells old new (faults.Frame fault) stops = tt
+copies-unwritten tells old new (faults.Missing tile) stops = tt
+copies-unwritten tells old new (faults.Disputed tile) stops = tt
+copies-unwritten tells old new faults.Memory stops = tt
+copies-unwritten tells old new (faults.Splice other) stops = tt
+copies-unwritten tells old new (faults.Ranges line) stops = tt
+copies-unwritten tells old new faults.Words stops = tt
+
+-- the file and the lines were written once all was taken, or were not
+pub made_told : {T C : Type 0} (tells : C → Option (List ℕ)) (width height : ℕ) (a b : ReadLog) (old new : List C) (out out' output output' : WriteLog)
+    (held : Contents) (text : List ℕ) → TakesAll width height (map tells old) a b held text → (r : Result T CliFault)
+    → WritesMade r held text out out' output output' → TellsTake r tells width height a b old new out out' output output'
+made_told tells width height a b old new out out' output output' held text all (Ok x) made = (held, text, all, made)
+made_told tells width height a b old new out out' output output' held text all (Err fault) breaks = inr (inr (held, text, all, breaks))
+
+-- ---- the same of bytes
+
+module _ (record' : Option (List ℕ)) (width height : ℕ) (inputs : List (Option (List ℕ))) (ob oa pb pa : Option (List ℕ)) (reel : Reel)
+    (of_record : IsReelInput record' width height reel) where
+  copies_refused : (fault : CliFault) → IsFaultOfInputs inputs fault → TakeStops record' width height inputs ob oa pb pa fault
+  copies_refused (faults.Read path) stops = inr (reel, of_record, stops)
+  copies_refused (faults.Hold fault) stops = (reel, of_record, stops)
+  copies_refused faults.Memory stops = tt
+  copies_refused (faults.Write path) (i, (lt, before, stops)) = absurd stops
+  copies_refused (faults.Setup fault) (i, (lt, before, stops)) = absurd stops
+  copies_refused (faults.HoldFile fault) (i, (lt, before, stops)) = absurd stops
+  copies_refused (faults.Frame fault) (i, (lt, before, stops)) = absurd stops
+  copies_refused (faults.Missing tile) (i, (lt, before, stops)) = absurd stops
+  copies_refused (faults.Disputed tile) (i, (lt, before, stops)) = absurd stops
+  copies_refused (faults.Splice other) (i, (lt, before, stops)) = absurd stops
+  copies_refused (faults.Ranges line) (i, (lt, before, stops)) = absurd stops
+  copies_refused faults.Words (i, (lt, before, stops)) = absurd stops
+
+  module _ (held : Contents) (lines : List ℕ) (each : TakesEach inputs reel held lines) where
+    text : holding_text held ≡ holding_text (holding_of reel each.copies)
+    text = ap holding_text each.held
+
+    made_refused : (fault : CliFault) → MadeStops held lines ob oa pb pa fault → TakeStops record' width height inputs ob oa pb pa fault
+    made_refused (faults.HoldFile fault) stops = (
+      reel,
+      each.copies,
+      of_record,
+      each.read,
+      subst (λ (h : Contents). IsFileFault h (faults.HoldFile fault)) each.held stops,
+    )
+    made_refused (faults.Write named) stops =
+        let whole_file = subst (λ (f : List ℕ). WriteStops f lines ob oa pb pa (faults.Write named)) text stops in (
+          reel,
+          each.copies,
+          of_record,
+          each.read,
+          subst (λ (l : List ℕ). WriteStops (holding_text (holding_of reel each.copies)) l ob oa pb pa (faults.Write named)) each.lines whole_file,
+        )
+    made_refused (faults.Read path) stops = absurd stops
+    made_refused (faults.Setup fault) stops = absurd stops
+    made_refused (faults.Hold fault) stops = absurd stops
+    made_refused (faults.Frame fault) stops = absurd stops
+    made_refused (faults.Missing tile) stops = absurd stops
+    made_refused (faults.Disputed tile) stops = absurd stops
+    made_refused faults.Memory stops = absurd stops
+    made_refused (faults.Splice other) stops = absurd stops
+    made_refused (faults.Ranges line) stops = absurd stops
+    made_refused faults.Words stops = absurd stops
+
+-- what any fault of the record says, if that of each form says so
+pub RecordRefuses-says : (P : CliFault → Type 0) (width height : ℕ) (a b : ReadLog) (fault : CliFault) → P (faults.Read paths.Record) → P faults.Memory
+    → ((setup : SetupFault) (config : List ℕ) → TakesWhole a b config → FirstSetupFault config width height setup → P (faults.Setup setup))
+    → RecordRefuses width height a b fault → P fault
+RecordRefuses-says P width height a b (faults.Read named) read memory first (same, unread) = subst (λ n. P (faults.Read n)) (sym same) read
+RecordRefuses-says P width height a b faults.Memory read memory first within = memory
+RecordRefuses-says P width height a b (faults.Setup setup) read memory first (config, took, is) = first setup config took is
+RecordRefuses-says P width height a b (faults.Write named) read memory first stops = absurd stops
+RecordRefuses-says P width height a b (faults.Hold fault) read memory first stops = absurd stops
+RecordRefuses-says P width height a b (faults.HoldFile fault) read memory first stops = absurd stops
+RecordRefuses-says P width height a b (faults.Frame fault) read memory first stops = absurd stops
+RecordRefuses-says P width height a b (faults.Missing tile) read memory first stops = absurd stops
+RecordRefuses-says P width height a b (faults.Disputed tile) read memory first stops = absurd stops
+RecordRefuses-says P width height a b (faults.Splice other) read memory first stops = absurd stops
+RecordRefuses-says P width height a b (faults.Ranges line) read memory first stops = absurd stops
+RecordRefuses-says P width height a b faults.Words read memory first stops = absurd stops
+
+-- a fault of the copies leaves those after it
+later_kept : {C : Type 0} (tells : C → Option (List ℕ)) (old new : List C) (fault : CliFault) → StopsAtCopy tells old new fault → LaterKept tells old new fault
+later_kept tells old new (faults.Read path) (i, (lt, before, same), later) =
+    subst (λ (p : CommandPath). LaterKept tells old new (faults.Read p)) (sym same) later
+later_kept tells old new (faults.Hold fault) stops = stops
+later_kept tells old new (faults.Write path) stops = tt
+later_kept tells old new (faults.Setup fault) stops = tt
+later_kept tells old new (faults.HoldFile fault) stops = tt
+later_kept tells old new (faults.Frame fault) stops = tt
+later_kept tells old new (faults.Missing tile) stops = tt
+later_kept tells old new (faults.Disputed tile) stops = tt
+later_kept tells old new faults.Memory stops = tt
+later_kept tells old new (faults.Splice other) stops = tt
+later_kept tells old new (faults.Ranges line) stops = tt
+later_kept tells old new faults.Words stops = tt
+
+pub record TakeOfBytes {T C : Type 0} (r : Result T CliFault) (tells : C → Option (List ℕ)) (record' : Option (List ℕ)) (width height : ℕ) (old new : List C)
+    (ob oa pb pa : Option (List ℕ)) : Type 0 where
+  pub ok : OnOk r (TakesCopies record' width height (map tells old) ob oa pb pa)
+  pub err : IfErr r (TakeStops record' width height (map tells old) ob oa pb pa)
+  pub in_turn : IfErr r (λ fault. IfOfRecord fault (new ≡ old))
+  pub later : IfErr r (LaterKept tells old new)
+  pub names : IfErr r (NamesPath (IsTakePath (length old)))
+
+module _ {C : Type 0} (tells : C → Option (List ℕ)) (width height : ℕ) (a b : ReadLog) (old new : List C) (out out' output output' : WriteLog) where
+  reel_input : (reel : Reel) → ReadsReel width height a b reel → IsReelInput a.remaining width height reel
+  reel_input reel read = record {
+    read = whole_input a.remaining b.remaining reel.config (whole_of paths.Record a b reel.config read.taken).ok;
+    is_setup = read.is_setup;
+  }
+
+  abbrev of_bytes : {T : Type 0} → Result T CliFault → Type 0
+  of_bytes r = TakeOfBytes r tells a.remaining width height old new out.contents out'.contents output.contents output'.contents
+
+  pub take_of_bytes : {T : Type 0} (r : Result T CliFault) → TellsTake r tells width height a b old new out out' output output' → of_bytes r
+  take_of_bytes (Ok x) (held, lines, all, made) = record {
+    ok = record {
+      reel = all.reel;
+      of_record = reel_input all.reel all.of_record;
+      copies = all.each.copies;
+      read = all.each.read;
+      has_file = subst HasFile all.each.held made.has_file;
+      file = subst (Appends out.contents out'.contents) (ap holding_text all.each.held) made.file.bytes';
+      printed = subst (Appends output.contents output'.contents) all.each.lines made.printed.bytes';
+    };
+    err = tt;
+    in_turn = tt;
+    later = tt;
+    names = tt;
+  }
+  take_of_bytes (Err fault) (inl (refuses, same, kept)) = record {
+    ok = tt;
+    err = RecordRefuses-says (TakeStops a.remaining width height (map tells old) out.contents out'.contents output.contents output'.contents)
+        width height a b fault (inl refl) tt
+        (λ setup config took first. (config, whole_input a.remaining b.remaining config (whole_of paths.Record a b config took).ok, first)) refuses;
+    in_turn = RecordRefuses-says (λ f. IfOfRecord f (new ≡ old)) width height a b fault (λ is. same) tt (λ setup config took first. same) refuses;
+    later = RecordRefuses-says (LaterKept tells old new) width height a b fault tt tt (λ setup config took first. tt) refuses;
+    names = RecordRefuses-says (NamesPath (IsTakePath (length old))) width height a b fault tt tt (λ setup config took first. tt) refuses;
+  }
+  take_of_bytes (Err fault) (inr (inl (reel, read, (i, at, later), kept))) = record {
+    ok = tt;
+    err = copies_refused a.remaining width height (map tells old) out.contents out'.contents output.contents output'.contents reel (reel_input reel read)
+        fault (i, at);
+    in_turn = IsFaultOfInputs-in_turn (new ≡ old) (map tells old) fault (i, at);
+    later = later_kept tells old new fault (i, at, later);
+    names = copies_name (map tells old) (length old) (length-map old tells) fault (i, at);
+  }
+  take_of_bytes (Err fault) (inr (inr (held, lines, all, breaks))) = record {
+    ok = tt;
+    err = made_refused a.remaining width height (map tells old) out.contents out'.contents output.contents output'.contents all.reel
+        (reel_input all.reel all.of_record) held lines all.each fault (made_bytes held lines out out' output output' fault breaks);
+    in_turn = made_says held lines out out' output output' (λ f. IfOfRecord f (new ≡ old)) (λ file. tt) tt tt fault breaks;
+    later = made_says held lines out out' output output' (LaterKept tells old new) (λ file. tt) tt tt fault breaks;
+    names = made_says held lines out out' output output' (NamesPath (IsTakePath (length old))) (λ file. tt) tt tt fault breaks;
+  }
