@@ -3,6 +3,9 @@ pub mod InputLaws
 pub mod Telling
 pub mod WriteSteps
 pub mod InputFaults
+pub mod WrittenBoth
+pub mod HeldFiles
+pub mod UnreadFiles
 pub mod PrintSteps
 pub mod ChainSteps
 pub mod TakeSteps
@@ -18,5 +21,4 @@ pub mod SpliceCommandLaws
 pub mod WholeFrames
 pub mod Wrapped
 pub mod MergedFiles
-pub mod JoinTold
 pub mod ScanCommandSteps

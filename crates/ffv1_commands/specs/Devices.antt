@@ -2,7 +2,7 @@
 use Rattle.std.specs.Prelude.{ℕ, ◌≡◌, ◌+◌, ◌<◌, ◌≤◌, List, [], ◌∷◌, length, Option, IfSome, ◌⊎◌, Result, Ok, Err}
 use Rattle.std.specs.Io.KnownBytes.{Appends, Consumes, IsAtEnd, Keeps}
 use Rattle.ffv1_bits.specs.Limits.{payload_limit}
-use Rattle.ffv1_devices.specs.Logs.{ReadLog, Reads, BreaksOff, HasFailed, HasCounted, most_tries}
+use Rattle.ffv1_devices.specs.Logs.{ReadLog, WriteLog, Reads, BreaksOff, Writes, StopsWriting, HasFailed, HasCounted, most_tries}
 pub use Rattle.ffv1_devices.specs.Writing.{WritesFront}
 use Rattle.ffv1_holding.specs.declared.fault.HoldFault.TheVariants as holds
 use Rattle.ffv1_commands.specs.declared.fault.CliFault.{CliFault}
@@ -118,3 +118,26 @@ pub record TellsFile (told : Type 0) (failures_old failures_new broken_old broke
   pub unbroken : (¬ told) → broken_new ≡ broken_old
   pub broken_once : broken_new ≤ broken_old + 1
   pub within : (¬ told) → taken_new ≤ taken_old + payload_limit
+
+-- ---- what is written, over the logs of the devices
+
+-- the bytes were written to what is this path of the command, or a front of them
+abbrev pub WritesNamed : {T : Type 0} → CommandPath → Result T CliFault → WriteLog → WriteLog → List ℕ → Type 0
+WritesNamed path (Ok x) old new bytes = Writes old new bytes
+WritesNamed path (Err fault) old new bytes = (fault ≡ faults.Write path) × StopsWriting old new bytes
+
+-- how the file OUT and then a text were not written whole: a front of the file was, or the file and a front of the text
+abbrev pub BothStop : CliFault → (file text : List ℕ) → (out_old out_new output_old output_new : WriteLog) → Type 0
+BothStop (faults.Write path) file text out_old out_new output_old output_new =
+    ((path ≡ paths.Out) × StopsWriting out_old out_new file × (output_new ≡ output_old))
+    ⊎ ((path ≡ paths.StandardOutput) × Writes out_old out_new file × StopsWriting output_old output_new text)
+BothStop _ file text out_old out_new output_old output_new = ⊥
+
+-- the file OUT was written and then the text, or they were not written whole
+abbrev pub WritesBoth : {T : Type 0} → Result T CliFault → (file text : List ℕ) → (out_old out_new output_old output_new : WriteLog) → Type 0
+WritesBoth (Ok x) file text out_old out_new output_old output_new = Writes out_old out_new file × Writes output_old output_new text
+WritesBoth (Err fault) file text out_old out_new output_old output_new = BothStop fault file text out_old out_new output_old output_new
+
+-- both outputs are as they were
+abbrev pub BothKept : (out_old out_new output_old output_new : WriteLog) → Type 0
+BothKept out_old out_new output_old output_new = (out_new ≡ out_old) × (output_new ≡ output_old)

@@ -1,13 +1,16 @@
 -- Holding files as a command reads and writes them.
-use Rattle.std.specs.Prelude.{ℕ, ◌≡◌, List, Option, IfSome}
+use Rattle.std.specs.Prelude.{ℕ, ◌≡◌, List, Option, IfSome, Result, Ok, Err}
 use Rattle.ffv1_hold.specs.Contents.{Contents, IsHolding}
 use Rattle.ffv1_hold.specs.HoldingText.{file_text, holding_text, FitsInFile}
 use Rattle.ffv1_hold.specs.declared.version.Version.{Version}
 use Rattle.ffv1_hold.specs.declared.version.Version.TheVariants.{Second}
-use Rattle.ffv1_hold.specs.FileFaults.{IsFaultOf}
+use Rattle.ffv1_devices.specs.Logs.{ReadLog}
+use Rattle.ffv1_hold.specs.FileFaults.{IsFaultOf, ReadsHolding, ReadsFile}
 use Rattle.ffv1_hold.specs.Saving.{IsTooLong}
+use Rattle.ffv1_hold.specs.declared.file_fault.HoldFileFault.{HoldFileFault}
 use Rattle.ffv1_hold.specs.declared.file_fault.HoldFileFault.TheVariants as files
 use Rattle.ffv1_commands.specs.Devices.{Tells, WritesFront, WriteStops}
+use Rattle.ffv1_commands.specs.Fault.{of_hold_file}
 use Rattle.ffv1_commands.specs.declared.fault.CliFault.{CliFault}
 use Rattle.ffv1_commands.specs.declared.fault.CliFault.TheVariants as faults
 use Rattle.ffv1_commands.specs.declared.path.CommandPath.{CommandPath}
@@ -47,3 +50,14 @@ abbrev pub MadeStops : Contents → List ℕ → (out_before out_after text_befo
 MadeStops h text out_before out_after text_before text_after (faults.Write path) =
     WriteStops (holding_text h) text out_before out_after text_before text_after (faults.Write path)
 MadeStops h text out_before out_after text_before text_after fault = IsFileFault h fault
+
+-- ---- over the log of the file
+
+-- The file that is this path of the command was not read as that of a holding: a fault of reading it is told as one of the command.
+abbrev pub HoldingStops : CommandPath → CliFault → ReadLog → ReadLog → Type 0
+HoldingStops path fault old new = (f : HoldFileFault) × (fault ≡ of_hold_file path f) × ReadsFile (Err f) old new
+
+-- the file was read to its end and is that of the holding, or it was not
+abbrev pub ReadsHeld : CommandPath → Result Contents CliFault → ReadLog → ReadLog → Type 0
+ReadsHeld path (Ok h) old new = ReadsHolding old new h
+ReadsHeld path (Err fault) old new = HoldingStops path fault old new

@@ -4,7 +4,7 @@ ghost use Rattle.std.specs.Io.KnownBytes.{Appends};
 ghost use Rattle.ffv1_devices.specs.Logs.{HasFailed};
 ghost use Rattle.ffv1_hold.specs.HoldingText.{holding_text};
 ghost use Rattle.ffv1_commands.specs.Devices.{UnlessWriting, TellsFailure};
-ghost use Rattle.ffv1_commands.specs.Holdings.{IsHoldingFile, HasFile, IsHoldingFault, IsSavingFault, MadeStops};
+ghost use Rattle.ffv1_commands.specs.Holdings.{ReadsHeld, IsHoldingFile, HasFile, IsHoldingFault, IsSavingFault, MadeStops};
 
 use crate::devices::write_file;
 use crate::fault::{CliFault, of_hold_file};
@@ -18,6 +18,7 @@ pub(crate) fn read_holding<S: Source>(
     source: &mut S,
     path: CommandPath,
 ) -> Result<Holding, CliFault>
+    ensures read { ReadsHeld path result (S.log source.old) (S.log source.new) }
     ensures ok { IfOk result (IsHoldingFile (S.log source.old).remaining) }
     ensures err { IfErr result (IsHoldingFault path (S.log source.old).remaining) }
     ensures failed { IsErrOf result (CliFault.Read path) → HasFailed (S.log source.old).tries.failures (S.log source.new).tries.failures }

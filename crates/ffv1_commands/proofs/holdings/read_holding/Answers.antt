@@ -9,6 +9,7 @@ returns-in-Ok g c =
     let read = c.in-Ok.ensures.read in
     let text = file_text read.file.version c.in-Ok.holding in
     record {
+      read = read;
       ok = record {
         version = read.file.version;
         text = Consumes-whole _ _ text (λ told. told ≡ text) read.file.taken read.at_end refl;
@@ -23,6 +24,7 @@ pub returns-in-Err : goal.returns-in-Err
 returns-in-Err g c =
     let stops = c.in-Err.ensures.read in
     rw c.of_hold_file.ensures (record {
+      read = (c.in-Err.fault, refl, stops);
       ok = tt;
       err = hold_refused c.args.path _ _ c.in-Err.fault stops.fault;
       failed = λ is. hold_failed c.args.path _ _ c.in-Err.fault stops.tries' is;

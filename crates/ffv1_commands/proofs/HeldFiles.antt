@@ -1,0 +1,28 @@
+-- What reading a holding file says of its bytes.
+use Rattle.std.proofs.Common.{◌≡◌, refl, sym, subst}
+use Rattle.std.proofs.KnownBytes.{Consumes-whole}
+use Rattle.ffv1_devices.specs.Logs.{ReadLog}
+use Rattle.ffv1_hold.specs.Contents.{Contents}
+use Rattle.ffv1_hold.specs.HoldingText.{file_text}
+use Rattle.ffv1_hold.specs.FileFaults.{ReadsHolding}
+use Rattle.ffv1_commands.specs.Holdings.{IsHoldingFile, IsHoldingFault, HoldingStops}
+use Rattle.ffv1_commands.specs.declared.fault.CliFault.{CliFault}
+use Rattle.ffv1_commands.specs.declared.path.CommandPath.{CommandPath}
+use Rattle.ffv1_commands.proofs.Telling.{hold_refused}
+
+module _ (a b : ReadLog) where
+  -- a file that was read whole is that of its holding
+  pub held_file : (h : Contents) → ReadsHolding a b h → IsHoldingFile a.remaining h
+  held_file h read =
+      let text = file_text read.file.version h in
+      record {
+        version = read.file.version;
+        text = Consumes-whole _ _ text (λ told. told ≡ text) read.file.taken read.at_end refl;
+        sound = read.sound;
+        fits = read.file.fits;
+      }
+
+  -- the fault of one that was not read
+  pub unread_file : (path : CommandPath) (fault : CliFault) → HoldingStops path fault a b → IsHoldingFault path a.remaining fault
+  unread_file path fault (f, is, stops) =
+      subst (IsHoldingFault path a.remaining) (sym is) (hold_refused path a.remaining b.remaining f stops.fault)
