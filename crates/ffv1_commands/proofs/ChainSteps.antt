@@ -13,7 +13,7 @@ use Rattle.ffv1_devices.specs.Results.{WritesAll}
 use Rattle.ffv1_devices.proofs.Steps.{StopsWriting-of}
 use Rattle.ffv1_commands.specs.Lines.{PrintsFront}
 use Rattle.ffv1_commands.specs.ChainText.{link_line, end_line, IsChainText, PrintsChain, ChainStops, ChainBreaks, TellsChain}
-use Rattle.ffv1_commands.specs.Devices.{UnlessWriting, WritesFront, FileStops, TellsFailure, TellsFile}
+use Rattle.ffv1_commands.specs.Devices.{UnlessWriting, WritesFront, FileStops}
 use Rattle.ffv1_commands.specs.Fault.{NamesPath}
 use Rattle.ffv1_commands.specs.Paths.{IsChainPath}
 use Rattle.ffv1_commands.specs.declared.fault.CliFault.{CliFault}
@@ -21,7 +21,7 @@ use Rattle.ffv1_commands.specs.declared.fault.CliFault.TheVariants as faults
 use Rattle.ffv1_commands.specs.declared.path.CommandPath.{CommandPath}
 use Rattle.ffv1_commands.specs.declared.path.CommandPath.TheVariants as paths
 use Rattle.ffv1_commands.proofs.InputFaults.{IsUnwritten, untouched_one, IsInputFault-says}
-use Rattle.ffv1_commands.proofs.Telling.{GoesOn-told, GivesUp-told, kept-told, Reads-told, BreaksOff-told, TooLong-told, whole_of, stops_of}
+use Rattle.ffv1_commands.proofs.Telling.{whole_of, stops_of}
 use Rattle.ffv1_commands.proofs.PrintSteps.{front_rest, front-fails}
 
 -- one link more
@@ -80,7 +80,7 @@ module _ (f : CliFault) (a b : ReadLog) where
       unread_at faults.Words stops = absurd stops
 
   pub payload_untouched : {W : Type 0} (output : W) → FileStops paths.Frame f a b → UnlessWriting f (output ≡ output)
-  payload_untouched output stops = untouched_one output f (IsInputFault-says IsUnwritten paths.Frame f tt tt (stops_of paths.Frame f a b stops).err)
+  payload_untouched output stops = untouched_one output f (IsInputFault-says IsUnwritten paths.Frame f tt tt (stops_of paths.Frame f a b stops))
 
 -- ---- the same of bytes
 
@@ -93,7 +93,7 @@ pub record ChainOfBytes {T : Type 0} (r : Result T CliFault) (frame old new : Op
 module _ {T : Type 0} (a b : ReadLog) (old new : WriteLog) where
   pub chain_of_bytes : (r : Result T CliFault) → TellsChain r a b old new → ChainOfBytes r a.remaining old.contents new.contents
   chain_of_bytes (Ok x) (payload, text, took, told, wrote) =
-      let whole = (whole_of paths.Frame a b payload took).ok in
+      let whole = whole_of a b payload took in
       record {
         ok = Consumes-whole _ _ payload (λ bytes. PrintsChain bytes old.contents new.contents) whole.taken whole.end (text, told, wrote.bytes');
         few = Consumes-whole _ _ payload (λ bytes. length bytes ≤ payload_limit) whole.taken whole.end whole.few;
@@ -107,7 +107,7 @@ module _ {T : Type 0} (a b : ReadLog) (old new : WriteLog) where
     names = subst IsChainPath (sym same) tt;
   }
   chain_of_bytes (Err (faults.Write path)) (same, (payload, text, took, told, stopped)) =
-      let whole = (whole_of paths.Frame a b payload took).ok in
+      let whole = whole_of a b payload took in
       record {
         ok = tt;
         few = tt;
@@ -133,47 +133,3 @@ module _ {T : Type 0} (a b : ReadLog) (old new : WriteLog) where
   chain_of_bytes (Err (faults.Splice other)) stops = absurd stops
   chain_of_bytes (Err (faults.Ranges line)) stops = absurd stops
   chain_of_bytes (Err faults.Words) stops = absurd stops
-
--- ---- and of counts
-
-pub record ChainCounts {T : Type 0} (r : Result T CliFault) (a b : ReadLog) (old new : WriteLog) : Type 0 where
-  pub frame_told : TellsFile (IsErrOf r (faults.Read paths.Frame)) a.tries.failures b.tries.failures a.tries.broken b.tries.broken a.taken b.taken
-  pub output_told : TellsFailure (IsErrOf r (faults.Write paths.StandardOutput)) old.tries.failures new.tries.failures old.tries.broken new.tries.broken
-  pub same_output : new.reference ≡ old.reference
-
-module _ {T : Type 0} (a b : ReadLog) (old new : WriteLog) where
-  pub chain_counts : (r : Result T CliFault) → TellsChain r a b old new → ChainCounts r a b old new
-  chain_counts (Ok x) (payload, text, took, told, wrote) = record {
-    frame_told = Reads-told a b payload (λ is. cc) took.read took.few;
-    output_told = GoesOn-told old.tries new.tries (λ is. cc) wrote.tries';
-    same_output = wrote.same;
-  }
-  chain_counts (Err (faults.Read path)) (same, inl (bytes, broke, few), kept) = record {
-    frame_told = BreaksOff-told a b bytes (ap (λ (p : CommandPath). Err (faults.Read p)) same) broke;
-    output_told = kept-told old new (λ is. cc) kept;
-    same_output = ap (λ (log : WriteLog). log.reference) kept;
-  }
-  chain_counts (Err (faults.Read path)) (same, inr (bytes, read, more), kept) = record {
-    frame_told = TooLong-told a b bytes (ap (λ (p : CommandPath). Err (faults.Read p)) same) read more;
-    output_told = kept-told old new (λ is. cc) kept;
-    same_output = ap (λ (log : WriteLog). log.reference) kept;
-  }
-  chain_counts (Err (faults.Write path)) (same, (payload, text, took, told, stopped)) = record {
-    frame_told = Reads-told a b payload (λ is. cc) took.read took.few;
-    output_told = GivesUp-told old.tries new.tries (ap (λ (p : CommandPath). Err (faults.Write p)) same) stopped.tries';
-    same_output = stopped.same;
-  }
-  chain_counts (Err faults.Memory) ((bytes, read, few), kept) = record {
-    frame_told = Reads-told a b bytes (λ is. cc) read few;
-    output_told = kept-told old new (λ is. cc) kept;
-    same_output = ap (λ (log : WriteLog). log.reference) kept;
-  }
-  chain_counts (Err (faults.Setup fault)) stops = absurd stops
-  chain_counts (Err (faults.Hold fault)) stops = absurd stops
-  chain_counts (Err (faults.HoldFile fault)) stops = absurd stops
-  chain_counts (Err (faults.Frame fault)) stops = absurd stops
-  chain_counts (Err (faults.Missing tile)) stops = absurd stops
-  chain_counts (Err (faults.Disputed tile)) stops = absurd stops
-  chain_counts (Err (faults.Splice other)) stops = absurd stops
-  chain_counts (Err (faults.Ranges line)) stops = absurd stops
-  chain_counts (Err faults.Words) stops = absurd stops

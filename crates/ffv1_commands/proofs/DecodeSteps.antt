@@ -1,20 +1,21 @@
 -- What decoding a frame does to the outputs.
-use Rattle.std.proofs.Common.{◌≡◌, ℕ, List, Option, Result, Ok, Err, OnOk, IfErr, sym, subst}
-use Rattle.std.specs.Io.KnownBytes.{Appends}
+use Rattle.std.proofs.Common.{◌≡◌, ℕ, List, Option, Result, Ok, Err, OnOk, IfErr, inl, inr, sym, subst}
+use Rattle.ffv1_devices.specs.Logs.{ReadLog, WriteLog, Writes}
 use Rattle.ffv1_range.specs.Setup.{SetupValue}
-use Rattle.ffv1_picture.specs.Frames.{IsDecodedFrame}
 use Rattle.ffv1_picture.specs.FrameFaults.{IsFirstFault}
 use Rattle.ffv1_picture.specs.declared.frame.Frame.{Frame}
 use Rattle.ffv1_picture.specs.declared.fault.FrameFault.{FrameFault}
 use Rattle.ffv1_picture.specs.declared.fault.FrameFault.TheVariants as frames
-use Rattle.ffv1_commands.specs.Devices.{IsWholeInput, WriteStops}
+use Rattle.ffv1_commands.specs.Devices.{TakesWhole, IsWholeInput, BothStop, WritesBoth}
 use Rattle.ffv1_commands.specs.RecordInputs.{IsSetupInput}
-use Rattle.ffv1_commands.specs.Fault.{of_frame}
+use Rattle.ffv1_commands.specs.Fault.{NamesPath, of_frame}
+use Rattle.ffv1_commands.specs.Paths.{IsDecodePath}
 use Rattle.ffv1_commands.specs.SamplesText.{raw_bytes, frame_line}
-use Rattle.ffv1_commands.specs.DecodeText.{IsFrameInput, DecodesFile, DecodeStops}
+use Rattle.ffv1_commands.specs.DecodeText.{IsFrameInput, DecodesFile, DecodeStops, TakesSetup, RecordStops, TakesFrame, FrameStops, TellsDecode}
 use Rattle.ffv1_commands.specs.declared.fault.CliFault.{CliFault}
 use Rattle.ffv1_commands.specs.declared.fault.CliFault.TheVariants as faults
-use Rattle.ffv1_commands.proofs.WriteSteps.{writing}
+use Rattle.ffv1_commands.proofs.InputLaws.{whole_input}
+use Rattle.ffv1_commands.proofs.WrittenBoth.{both_says, both_stop_bytes, both_name}
 
 pub of_frame-says : (P : CliFault → Type 0) (fault : FrameFault) → P faults.Memory → P (faults.Frame fault) → P (of_frame fault)
 of_frame-says P frames.Chain memory other = other
@@ -28,31 +29,101 @@ abbrev IsMemory : FrameFault → Type 0
 IsMemory frames.Memory = Unit {0}
 IsMemory fault = ⊥
 
-module _ (record' : Option (List ℕ)) (width height : ℕ) (input ob oa pb pa : Option (List ℕ)) (setup : SetupValue)
-    (of_record : IsSetupInput record' width height setup) (payload : List ℕ) (read : IsWholeInput input payload) where
-  -- a payload's fault is told as such, and want of memory as its own
-  pub frame_refused : (fault : FrameFault) → IsFirstFault setup payload fault → DecodeStops record' width height input ob oa pb pa (of_frame fault)
-  frame_refused frames.Chain first = (setup, of_record, (payload, read, first), λ e. subst IsMemory (sym e) tt)
-  frame_refused (frames.Slice place cause) first = (setup, of_record, (payload, read, first), λ e. subst IsMemory (sym e) tt)
-  frame_refused (frames.Order place) first = (setup, of_record, (payload, read, first), λ e. subst IsMemory (sym e) tt)
-  frame_refused (frames.Tile tile cause) first = (setup, of_record, (payload, read, first), λ e. subst IsMemory (sym e) tt)
-  frame_refused frames.Memory first = tt
+-- a payload's fault is told as such, and want of memory as its own
+pub frame_refused : (setup : SetupValue) (a b : ReadLog) (payload : List ℕ) → TakesWhole a b payload → (fault : FrameFault)
+    → IsFirstFault setup payload fault → FrameStops setup a b (of_frame fault)
+frame_refused setup a b payload read frames.Chain first = (payload, read, first, λ e. subst IsMemory (sym e) tt)
+frame_refused setup a b payload read (frames.Slice place cause) first = (payload, read, first, λ e. subst IsMemory (sym e) tt)
+frame_refused setup a b payload read (frames.Order place) first = (payload, read, first, λ e. subst IsMemory (sym e) tt)
+frame_refused setup a b payload read (frames.Tile tile cause) first = (payload, read, first, λ e. subst IsMemory (sym e) tt)
+frame_refused setup a b payload read frames.Memory first = (payload, read.read, read.few)
 
-  module _ (frame : Frame) (is : IsDecodedFrame setup payload frame) (line : List ℕ) (size : line ≡ frame_line frame) where
-    is_input : IsFrameInput record' width height input frame
-    is_input = record { setup = setup; of_record = of_record; payload = payload; read = read; decoded = is }
+module _ (width height : ℕ) (config config' input input' : ReadLog) (out out' output output' : WriteLog) (setup : SetupValue)
+    (set : TakesSetup config config' width height setup) (frame : Frame) (is : TakesFrame setup input input' frame) (line : List ℕ)
+    (size : line ≡ frame_line frame) where
+  -- the samples and the size were written, or not whole
+  pub decoded : {T : Type 0} (r : Result T CliFault) → WritesBoth r (raw_bytes frame) line out out' output output'
+      → TellsDecode r width height config config' input input' out out' output output'
+  decoded (Ok x) (wrote, printed) = (setup, frame, set, is, wrote, subst (Writes output output') size printed)
+  decoded (Err f) stops =
+      inr (setup, set, inr (frame, is, subst (λ (l : List ℕ). BothStop f (raw_bytes frame) l out out' output output') size stops))
 
-    pub decoded : (r : Result (Unit {0}) CliFault) → OnOk r (Appends ob oa (raw_bytes frame)) → OnOk r (Appends pb pa line)
-        → OnOk r (DecodesFile record' width height input ob oa pb pa)
-    decoded (Ok done) wrote printed = record {
-      frame = frame;
-      is_frame = is_input;
-      samples = wrote;
-      printed = subst (Appends pb pa) size printed;
+-- ---- the same of bytes
+
+pub record DecodeOfBytes {T : Type 0} (r : Result T CliFault) (record' : Option (List ℕ)) (width height : ℕ) (input ob oa pb pa : Option (List ℕ)) :
+    Type 0 where
+  pub ok : OnOk r (DecodesFile record' width height input ob oa pb pa)
+  pub err : IfErr r (DecodeStops record' width height input ob oa pb pa)
+  pub names : IfErr r (NamesPath IsDecodePath)
+
+whole : (a b : ReadLog) (bytes : List ℕ) → TakesWhole a b bytes → IsWholeInput a.remaining bytes
+whole a b bytes t = whole_input a.remaining b.remaining bytes (record { taken = t.read.bytes'; end = t.end; few = t.few })
+
+setup_input : (a b : ReadLog) (width height : ℕ) (setup : SetupValue) → TakesSetup a b width height setup → IsSetupInput a.remaining width height setup
+setup_input a b width height setup set = record { config = set.config; read = whole a b set.config set.read; is_setup = set.is_setup }
+
+frame_input : (width height : ℕ) (config config' input input' : ReadLog) (setup : SetupValue) → TakesSetup config config' width height setup
+    → (frame : Frame) → TakesFrame setup input input' frame → IsFrameInput config.remaining width height input.remaining frame
+frame_input width height config config' input input' setup set frame is = record {
+  setup = setup;
+  of_record = setup_input config config' width height setup set;
+  payload = is.payload;
+  read = whole input input' is.payload is.read;
+  decoded = is.decoded;
+}
+
+module _ {T : Type 0} (width height : ℕ) (config config' input input' : ReadLog) (out out' output output' : WriteLog) where
+  abbrev OfBytes : Result T CliFault → Type 0
+  OfBytes r = DecodeOfBytes r config.remaining width height input.remaining out.contents out'.contents output.contents output'.contents
+
+  record_bytes : (f : CliFault) → RecordStops config config' width height f → OfBytes (Err f)
+  record_bytes (faults.Read path) (is, unread) = record { ok = tt; err = inl is; names = subst IsDecodePath (sym is) tt }
+  record_bytes (faults.Setup fault) (bytes, read, first) = record { ok = tt; err = (bytes, whole config config' bytes read, first); names = tt }
+  record_bytes faults.Memory stops = record { ok = tt; err = tt; names = tt }
+  record_bytes (faults.Write named) stops = absurd stops
+  record_bytes (faults.Hold fault) stops = absurd stops
+  record_bytes (faults.HoldFile fault) stops = absurd stops
+  record_bytes (faults.Frame fault) stops = absurd stops
+  record_bytes (faults.Missing tile) stops = absurd stops
+  record_bytes (faults.Disputed tile) stops = absurd stops
+  record_bytes (faults.Splice other) stops = absurd stops
+  record_bytes (faults.Ranges line) stops = absurd stops
+  record_bytes faults.Words stops = absurd stops
+
+  module _ (setup : SetupValue) (set : TakesSetup config config' width height setup) where
+    frame_bytes : (f : CliFault) → FrameStops setup input input' f → OfBytes (Err f)
+    frame_bytes (faults.Read path) (is, unread) =
+        record { ok = tt; err = inr (is, (setup, setup_input config config' width height setup set)); names = subst IsDecodePath (sym is) tt }
+    frame_bytes (faults.Frame fault) (payload, read, first, other) = record {
+      ok = tt;
+      err = (setup, setup_input config config' width height setup set, (payload, whole input input' payload read, first), other);
+      names = tt;
     }
-    decoded (Err fault) wrote printed = tt
+    frame_bytes faults.Memory stops = record { ok = tt; err = tt; names = tt }
+    frame_bytes (faults.Write named) stops = absurd stops
+    frame_bytes (faults.Setup fault) stops = absurd stops
+    frame_bytes (faults.Hold fault) stops = absurd stops
+    frame_bytes (faults.HoldFile fault) stops = absurd stops
+    frame_bytes (faults.Missing tile) stops = absurd stops
+    frame_bytes (faults.Disputed tile) stops = absurd stops
+    frame_bytes (faults.Splice other) stops = absurd stops
+    frame_bytes (faults.Ranges line) stops = absurd stops
+    frame_bytes faults.Words stops = absurd stops
 
-    pub decode_stopped : (r : Result (Unit {0}) CliFault) → IfErr r (WriteStops (raw_bytes frame) line ob oa pb pa)
-        → IfErr r (DecodeStops record' width height input ob oa pb pa)
-    decode_stopped = writing (raw_bytes frame) line ob oa pb pa (DecodeStops record' width height input ob oa pb pa) (λ named stops.
-        (frame, is_input, subst (λ (l : List ℕ). WriteStops (raw_bytes frame) l ob oa pb pa (faults.Write named)) size stops))
+    writing_bytes : (frame : Frame) → TakesFrame setup input input' frame → (f : CliFault)
+        → BothStop f (raw_bytes frame) (frame_line frame) out out' output output' → OfBytes (Err f)
+    writing_bytes frame is = both_says (raw_bytes frame) (frame_line frame) out out' output output' (λ f. OfBytes (Err f)) (λ named stops. record {
+      ok = tt;
+      err = (frame, frame_input width height config config' input input' setup set frame is, both_stop_bytes (raw_bytes frame) (frame_line frame) out out' output output' named stops);
+      names = both_name (raw_bytes frame) (frame_line frame) out out' output output' IsDecodePath tt tt named stops;
+    })
+
+  pub decode_of_bytes : (r : Result T CliFault) → TellsDecode r width height config config' input input' out out' output output' → OfBytes r
+  decode_of_bytes (Ok x) (setup, frame, set, is, wrote, printed) = record {
+    ok = record { frame = frame; is_frame = frame_input width height config config' input input' setup set frame is; samples = wrote.bytes'; printed = printed.bytes' };
+    err = tt;
+    names = tt;
+  }
+  decode_of_bytes (Err f) (inl (stops, same, kept)) = record_bytes f stops
+  decode_of_bytes (Err f) (inr (setup, set, inl (stops, kept))) = frame_bytes setup set f stops
+  decode_of_bytes (Err f) (inr (setup, set, inr (frame, is, stops))) = writing_bytes setup set frame is f stops

@@ -3,7 +3,7 @@ use Rattle.std.proofs.Common.{◌≡◌, ◌≢◌, ℕ, List, Option, Result, E
 use Rattle.std.specs.Prelude.{IsErrOf}
 use Rattle.ffv1_hold.specs.FileFaults.{IsFaultOf}
 use Rattle.ffv1_hold.specs.declared.file_fault.HoldFileFault.{HoldFileFault}
-use Rattle.ffv1_commands.specs.Devices.{IsInputFault, UnlessWriting, IfOfRecord, WriteStops, TellsFailure, TellsFile}
+use Rattle.ffv1_commands.specs.Devices.{IsInputFault, UnlessWriting, IfOfRecord, WriteStops}
 use Rattle.ffv1_commands.specs.Fault.{NamesPath, NamesNoPath}
 use Rattle.ffv1_commands.specs.Holdings.{IsHoldingFault}
 use Rattle.ffv1_commands.specs.declared.fault.CliFault.{CliFault}
@@ -41,72 +41,12 @@ untouched_both out output fault none = UnlessWriting-unwritten ((out ≡ out) ×
 
 -- ---- what is told of devices
 
-pub NamesNoPath-not_read : {T : Type 0} (fault : CliFault) (path : CommandPath) → NamesNoPath fault → IsErrOf {T = T} (Err fault) (faults.Read path) → ⊥
-NamesNoPath-not_read fault path none is =
-    let same : fault ≡ faults.Read path = cc in
-    subst NamesNoPath same none
-
--- an output that was not touched
-pub TellsFailure-unwritten : {T : Type 0} (fault : CliFault) (path : CommandPath) (failures broken : ℕ) → IsUnwritten fault
-    → TellsFailure (IsErrOf {T = T} (Err fault) (faults.Write path)) failures failures broken broken
-TellsFailure-unwritten fault path failures broken none = record {
-  gave_up = λ is.
-      let same : fault ≡ faults.Write path = cc in
-      absurd (subst IsUnwritten same none);
-  unbroken = λ is_not. refl;
-  broken_once = omega arith;
-}
-
--- a device that is told of in another result
-pub TellsFailure-as : {A B : Type 0} (f1 f2 b1 b2 : ℕ) → (B → A) → (A → B) → TellsFailure A f1 f2 b1 b2 → TellsFailure B f1 f2 b1 b2
-TellsFailure-as f1 f2 b1 b2 back forth told = record {
-  gave_up = λ is. told.gave_up (back is);
-  unbroken = λ is_not. told.unbroken (λ is. is_not (forth is));
-  broken_once = told.broken_once;
-}
-
-pub TellsFile-as : {A B : Type 0} (f1 f2 b1 b2 t1 t2 : ℕ) → (B → A) → (A → B) → TellsFile A f1 f2 b1 b2 t1 t2 → TellsFile B f1 f2 b1 b2 t1 t2
-TellsFile-as f1 f2 b1 b2 t1 t2 back forth told = record {
-  stopped = λ is. told.stopped (back is);
-  unbroken = λ is_not. told.unbroken (λ is. is_not (forth is));
-  broken_once = told.broken_once;
-  within = λ is_not. told.within (λ is. is_not (forth is));
-}
-
--- an input that was not read
-pub TellsFile-unread : {A : Type 0} (failures broken taken : ℕ) → (¬ A) → TellsFile A failures failures broken broken taken taken
-TellsFile-unread failures broken taken none = record {
-  stopped = λ is. absurd (none is);
-  unbroken = λ is_not. refl;
-  broken_once = omega arith;
-  within = λ is_not. omega arith;
-}
-
 -- ---- a fault of writing both outputs
 
 module _ (file text : List ℕ) (ob oa pb pa : Option (List ℕ)) where
   pub WriteStops-not_read : (r : Result (Unit {0}) CliFault) (path : CommandPath) → IfErr r (WriteStops file text ob oa pb pa) → IsErrOf r (faults.Read path)
       → ⊥
   WriteStops-not_read r path stops is = subst (λ (x : Result (Unit {0}) CliFault). IfErr x (WriteStops file text ob oa pb pa)) is stops
-
-  pub WriteStops-untouched : (P : Type 0) (r : Result (Unit {0}) CliFault) → IfErr r (WriteStops file text ob oa pb pa)
-      → IfErr r (λ fault. UnlessWriting fault P)
-  WriteStops-untouched P = writing file text ob oa pb pa (λ fault. UnlessWriting fault P) (λ named stops. tt)
-
-  pub WriteStops-in_turn : (P : Type 0) (r : Result (Unit {0}) CliFault) → IfErr r (WriteStops file text ob oa pb pa)
-      → IfErr r (λ fault. IfOfRecord fault P)
-  WriteStops-in_turn P = writing file text ob oa pb pa (λ fault. IfOfRecord fault P) (λ named stops. tt)
-
-  -- it names one of them
-  names_one : (IsPath : CommandPath → Type 0) (named : CommandPath) → IsPath paths.Out → IsPath paths.StandardOutput
-      → WriteStops file text ob oa pb pa (faults.Write named) → IsPath named
-  names_one IsPath named out printed (inl stops) = subst IsPath (sym stops.0) out
-  names_one IsPath named out printed (inr stops) = subst IsPath (sym stops.0) printed
-
-  pub WriteStops-names : (IsPath : CommandPath → Type 0) (r : Result (Unit {0}) CliFault) → IsPath paths.Out → IsPath paths.StandardOutput
-      → IfErr r (WriteStops file text ob oa pb pa) → IfErr r (NamesPath IsPath)
-  WriteStops-names IsPath r out printed =
-      writing file text ob oa pb pa (NamesPath IsPath) (λ named stops. names_one IsPath named out printed stops) r
 
 -- ---- what any fault of an input says, if that of each form says so
 
@@ -139,10 +79,3 @@ module _ (P : CliFault → Type 0) where
   IsInputFault-says path (faults.Splice other) read memory is = absurd is
   IsInputFault-says path (faults.Ranges line) read memory is = absurd is
   IsInputFault-says path faults.Words read memory is = absurd is
-
--- another path than the one that was to be read was not told
-pub IsInputFault-other : {T : Type 0} (path other : CommandPath) (fault : CliFault) → other ≢ path → IsInputFault path fault
-    → IsErrOf {T = T} (Err fault) (faults.Read other) → ⊥
-IsInputFault-other path other fault differs stops is =
-    let same : fault ≡ faults.Read other = cc in
-    differs (subst (IsInputFault path) same stops)

@@ -3,6 +3,9 @@ pub mod InputLaws
 pub mod Telling
 pub mod WriteSteps
 pub mod InputFaults
+pub mod WrittenBoth
+pub mod HeldFiles
+pub mod UnreadFiles
 pub mod PrintSteps
 pub mod ChainSteps
 pub mod TakeSteps
@@ -24,5 +27,4 @@ pub mod LaterInputs
 pub mod TakeTold
 pub mod JoinedFiles
 pub mod MergedFiles
-pub mod JoinTold
 pub mod ScanCommandSteps

@@ -31,22 +31,6 @@ SavingBreaks-says P h old new (faults.Splice other) none stopped breaks = absurd
 SavingBreaks-says P h old new (faults.Ranges line) none stopped breaks = absurd breaks
 SavingBreaks-says P h old new faults.Words none stopped breaks = absurd breaks
 
--- what stopped writing a holding's file, but that it has none, is the sink
-pub save_stopped : (T : Type 0) (f : HoldFileFault) (h : Contents) (a b : WriteLog) → f ≢ files.TooLong → SavesFile {T = T} (Err f) h a b
-    → (¬ IsTooLong h) × StopsWriting a b (holding_text h)
-save_stopped T files.Write h a b other saved = saved
-save_stopped T files.TooLong h a b other saved = absurd (other refl)
-save_stopped T files.Read h a b other saved = absurd saved
-save_stopped T files.Memory h a b other saved = absurd saved
-save_stopped T files.OtherReel h a b other saved = absurd saved
-save_stopped T files.Truncated h a b other saved = absurd saved
-save_stopped T files.Trailing h a b other saved = absurd saved
-save_stopped T files.Magic h a b other saved = absurd saved
-save_stopped T (files.Setup f) h a b other saved = absurd saved
-save_stopped T files.Tag h a b other saved = absurd saved
-save_stopped T files.Order h a b other saved = absurd saved
-save_stopped T files.NotASlice h a b other saved = absurd saved
-
 module _ (h : Contents) (text : List ℕ) (a b c d : WriteLog) where
   -- the file was written, and then the text or a front of it
   pub then_printed : {T : Type 0} (r : Result T CliFault) → HasFile h → Writes a b (holding_text h) → WritesNamed paths.StandardOutput r c d text

@@ -1,5 +1,5 @@
 -- What two files that are joined as streams say of the command that joins them.
-use Rattle.std.proofs.Common.{◌≡◌, ℕ, ◌<◌, List, [], ◌∷◌, length, Option, Some, None, IfSome, Err, refl, sym, subst, inl, inr, arith, length-append}
+use Rattle.std.proofs.Common.{◌≡◌, ℕ, ◌<◌, List, [], ◌∷◌, length, Option, Some, None, IfSome, Result, Ok, Err, OnOk, IfErr, refl, sym, subst, inl, inr, arith, length-append}
 use Rattle.std.specs.Prelude.{◌≢◌}
 use Rattle.std.specs.Io.KnownBytes.{Consumes}
 use Rattle.std.proofs.KnownBytes.{Consumes-whole}
@@ -10,13 +10,16 @@ use Rattle.ffv1_hold.specs.HoldingText.{head_text, begun_text, file_text, holdin
 use Rattle.ffv1_hold.specs.declared.version.Version.TheVariants.{Second}
 use Rattle.ffv1_hold.specs.FileFaults.{IsOutside, IsFaultOf}
 use Rattle.ffv1_hold.specs.JoinedStreams.{Inputs, InputRefuses, OneRefuses, JoinRefuses, EntriesPass, UnionPasses, ReadsAll, ReadsSoFar, ReadsOtherHeads, WritesUnion, WritesNoEnd, WritesFrontSoFar, AnswersOther, BeginsWith}
+use Rattle.ffv1_hold.specs.JoinLogs.{Devices}
 use Rattle.ffv1_hold.specs.declared.file_fault.HoldFileFault.{HoldFileFault}
 use Rattle.ffv1_hold.specs.declared.file_fault.HoldFileFault.TheVariants as files
 use Rattle.ffv1_hold.proofs.MergeSteps.{part_begins}
 use Rattle.ffv1_hold.proofs.MergeStarts.{all_part}
-use Rattle.ffv1_commands.specs.Fault.{of_merge}
+use Rattle.ffv1_commands.specs.Fault.{NamesPath, of_merge}
+use Rattle.ffv1_commands.specs.Paths.{IsMergePath}
 use Rattle.ffv1_commands.specs.Holdings.{IsHoldingFile}
-use Rattle.ffv1_commands.specs.MergeText.{MergesFiles, BeginsUnion, HeadsDiffer, IsFaultOfEither, IsMergeFault, LeavesEntries, MergeLeaves, AnswersOtherHeads}
+use Rattle.ffv1_commands.specs.MergeText.{MergesFiles, BeginsUnion, HeadsDiffer, IsFaultOfEither, IsMergeFault, LeavesEntries, MergeLeaves, AnswersOtherHeads, inputs_of, LeavesFront, TellsMerge}
+use Rattle.ffv1_commands.specs.declared.fault.CliFault.{CliFault}
 
 holding_file : (old new : Option (List ℕ)) (h : Contents) → ReadsAll old new h → IsHoldingFile old h
 holding_file old new h a = record {
@@ -135,20 +138,72 @@ module _ (i : Inputs) (w v : Option (List ℕ)) where
     e.written,
   )
 
-  pub merge_leaves : (f : HoldFileFault) → (f ≢ files.Write → WritesNoEnd i w v) → (f ≡ files.Write → WritesFrontSoFar i w v)
-      → MergeLeaves i.left_old i.right_old w v (of_merge f)
-  merge_leaves files.Write none front = let r = front refl in (joined r.left r.right, so_far r.left r.right r.read, r.front)
-  merge_leaves files.Read none front = entries_left (none (λ is. absurd (cc)))
-  merge_leaves files.Memory none front = entries_left (none (λ is. absurd (cc)))
-  merge_leaves files.OtherReel none front = entries_left (none (λ is. absurd (cc)))
-  merge_leaves files.TooLong none front = entries_left (none (λ is. absurd (cc)))
-  merge_leaves files.Magic none front = entries_left (none (λ is. absurd (cc)))
-  merge_leaves (files.Setup f) none front = entries_left (none (λ is. absurd (cc)))
-  merge_leaves files.Truncated none front = entries_left (none (λ is. absurd (cc)))
-  merge_leaves files.Tag none front = entries_left (none (λ is. absurd (cc)))
-  merge_leaves files.Order none front = entries_left (none (λ is. absurd (cc)))
-  merge_leaves files.NotASlice none front = entries_left (none (λ is. absurd (cc)))
-  merge_leaves files.Trailing none front = entries_left (none (λ is. absurd (cc)))
+-- ---- by the logs of the devices
+
+-- what a fault left
+pub leaves_front : (old new : Devices) (f : HoldFileFault) → (f ≢ files.Write → WritesNoEnd (inputs_of old new) old.sink.contents new.sink.contents)
+    → (f ≡ files.Write → WritesFrontSoFar (inputs_of old new) old.sink.contents new.sink.contents) → LeavesFront f old new
+leaves_front old new files.Read none front = none (λ is. absurd (cc))
+leaves_front old new files.Memory none front = none (λ is. absurd (cc))
+leaves_front old new files.Write none front = front refl
+leaves_front old new files.OtherReel none front = none (λ is. absurd (cc))
+leaves_front old new files.Truncated none front = none (λ is. absurd (cc))
+leaves_front old new files.TooLong none front = none (λ is. absurd (cc))
+leaves_front old new files.Trailing none front = none (λ is. absurd (cc))
+leaves_front old new files.Magic none front = none (λ is. absurd (cc))
+leaves_front old new (files.Setup s) none front = none (λ is. absurd (cc))
+leaves_front old new files.Tag none front = none (λ is. absurd (cc))
+leaves_front old new files.Order none front = none (λ is. absurd (cc))
+leaves_front old new files.NotASlice none front = none (λ is. absurd (cc))
+
+merge_names : (f : HoldFileFault) → NamesPath IsMergePath (of_merge f)
+merge_names files.Read = tt
+merge_names files.Memory = tt
+merge_names files.Write = tt
+merge_names files.OtherReel = tt
+merge_names files.Truncated = tt
+merge_names files.TooLong = tt
+merge_names files.Trailing = tt
+merge_names files.Magic = tt
+merge_names (files.Setup s) = tt
+merge_names files.Tag = tt
+merge_names files.Order = tt
+merge_names files.NotASlice = tt
+
+-- what is told over bytes
+pub record MergeOfBytes {T : Type 0} (r : Result T CliFault) (left right before after : Option (List ℕ)) : Type 0 where
+  pub ok : OnOk r (MergesFiles left right before after)
+  pub err : IfErr r (IsMergeFault left right)
+  pub leaves : IfErr r (MergeLeaves left right before after)
+  pub names : IfErr r (NamesPath IsMergePath)
+
+merge_leaves : (old new : Devices) (f : HoldFileFault) → LeavesFront f old new
+    → MergeLeaves old.left.remaining old.right.remaining old.sink.contents new.sink.contents (of_merge f)
+merge_leaves old new files.Read left = entries_left (inputs_of old new) old.sink.contents new.sink.contents left
+merge_leaves old new files.Memory left = entries_left (inputs_of old new) old.sink.contents new.sink.contents left
+merge_leaves old new files.Write left = (joined left.left left.right, so_far (inputs_of old new) old.sink.contents new.sink.contents left.left left.right left.read, left.front)
+merge_leaves old new files.OtherReel left = entries_left (inputs_of old new) old.sink.contents new.sink.contents left
+merge_leaves old new files.Truncated left = entries_left (inputs_of old new) old.sink.contents new.sink.contents left
+merge_leaves old new files.TooLong left = entries_left (inputs_of old new) old.sink.contents new.sink.contents left
+merge_leaves old new files.Trailing left = entries_left (inputs_of old new) old.sink.contents new.sink.contents left
+merge_leaves old new files.Magic left = entries_left (inputs_of old new) old.sink.contents new.sink.contents left
+merge_leaves old new (files.Setup s) left = entries_left (inputs_of old new) old.sink.contents new.sink.contents left
+merge_leaves old new files.Tag left = entries_left (inputs_of old new) old.sink.contents new.sink.contents left
+merge_leaves old new files.Order left = entries_left (inputs_of old new) old.sink.contents new.sink.contents left
+merge_leaves old new files.NotASlice left = entries_left (inputs_of old new) old.sink.contents new.sink.contents left
+
+module _ {T : Type 0} (old new : Devices) where
+  abbrev OfBytes : Result T CliFault → Type 0
+  OfBytes r = MergeOfBytes r old.left.remaining old.right.remaining old.sink.contents new.sink.contents
+
+  pub merge_of_bytes : (r : Result T CliFault) → TellsMerge r old new → OfBytes r
+  merge_of_bytes (Ok x) (union, went) = record { ok = merges (inputs_of old new) old.sink.contents new.sink.contents union; err = tt; leaves = tt; names = tt }
+  merge_of_bytes (Err fault) (f, is, stops) = subst (λ (g : CliFault). OfBytes (Err g)) (sym is) (record {
+    ok = tt;
+    err = merge_fault (inputs_of old new) old.sink.contents new.sink.contents f stops.shown;
+    leaves = merge_leaves old new f stops.leaves;
+    names = merge_names f;
+  })
 
 -- ---- answers
 

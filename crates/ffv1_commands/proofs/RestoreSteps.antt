@@ -1,18 +1,22 @@
 -- What restoring a holding file does to the outputs.
-use Rattle.std.proofs.Common.{◌≡◌, ℕ, List, length, Option, Result, Ok, Err, OnOk, IfErr, ap, ◌∙◌, subst}
-use Rattle.std.specs.Io.KnownBytes.{Appends}
+use Rattle.std.proofs.Common.{◌≡◌, ℕ, List, length, Option, Result, Ok, Err, OnOk, IfErr, inl, inr, refl, ap, ◌∙◌, subst, arith}
+use Rattle.ffv1_devices.specs.Logs.{ReadLog, WriteLog, Writes}
 use Rattle.ffv1_hold.specs.Contents.{Contents}
+use Rattle.ffv1_hold.specs.FileFaults.{ReadsHolding}
 use Rattle.ffv1_hold.specs.Standing.{AreSettled, restored_payload}
 use Rattle.ffv1_hold.specs.Refusals.{IsRefusal}
 use Rattle.ffv1_holding.specs.declared.restore.RestoreFault.{RestoreFault}
 use Rattle.ffv1_holding.specs.declared.restore.RestoreFault.TheVariants as refusals
-use Rattle.ffv1_commands.specs.Devices.{WriteStops}
-use Rattle.ffv1_commands.specs.Fault.{of_restore}
-use Rattle.ffv1_commands.specs.Holdings.{IsHoldingFile}
-use Rattle.ffv1_commands.specs.RestoreText.{restored_line, RestoresFile, RestoreStops}
+use Rattle.ffv1_commands.specs.Devices.{BothStop, WritesBoth}
+use Rattle.ffv1_commands.specs.Fault.{NamesPath, of_restore}
+use Rattle.ffv1_commands.specs.Paths.{IsHoldPath}
+use Rattle.ffv1_commands.specs.RestoreText.{restored_line, RestoresFile, RestoreStops, RestoreRefuses, TellsRestore}
 use Rattle.ffv1_commands.specs.declared.fault.CliFault.{CliFault}
 use Rattle.ffv1_commands.specs.declared.fault.CliFault.TheVariants as faults
-use Rattle.ffv1_commands.proofs.WriteSteps.{writing}
+use Rattle.ffv1_commands.specs.declared.path.CommandPath.TheVariants as paths
+use Rattle.ffv1_commands.proofs.InputFaults.{IsHoldingFault-says}
+use Rattle.ffv1_commands.proofs.HeldFiles.{held_file, unread_file}
+use Rattle.ffv1_commands.proofs.WrittenBoth.{both_says, both_stop_bytes, both_name}
 
 pub of_restore-says : (P : CliFault → Type 0) (fault : RestoreFault) → ((tile : ℕ) → P (faults.Missing tile)) → ((tile : ℕ) → P (faults.Disputed tile))
     → P faults.Memory → P (of_restore fault)
@@ -21,28 +25,74 @@ of_restore-says P (refusals.Disputed tile) missing disputed memory = disputed ti
 of_restore-says P refusals.Memory missing disputed memory = memory
 
 -- a holding that isn't settled is refused as it stands
-pub refused_at : (input ob oa pb pa : Option (List ℕ)) (h : Contents) (fault : RestoreFault) → IsHoldingFile input h → IsRefusal h fault
-    → RestoreStops input ob oa pb pa (of_restore fault)
-refused_at input ob oa pb pa h (refusals.Missing tile) file refused = (h, file, refused)
-refused_at input ob oa pb pa h (refusals.Disputed tile) file refused = (h, file, refused)
-refused_at input ob oa pb pa h refusals.Memory file refused = tt
+pub refused_at : (h : Contents) (out output : WriteLog) (fault : RestoreFault) → IsRefusal h fault → RestoreRefuses h out out output output (of_restore fault)
+refused_at h out output (refusals.Missing tile) refused = (refused, (refl, refl))
+refused_at h out output (refusals.Disputed tile) refused = (refused, (refl, refl))
+refused_at h out output refusals.Memory refused = (refused, (refl, refl))
 
-module _ (input ob oa pb pa : Option (List ℕ)) (h : Contents) (payload line : List ℕ) (file : IsHoldingFile input h) (settled : AreSettled h)
-    (is : payload ≡ restored_payload h) (told : line ≡ restored_line (length payload)) where
+module _ (file file' : ReadLog) (out out' output output' : WriteLog) (h : Contents) (payload line : List ℕ) (read : ReadsHolding file file' h)
+    (settled : AreSettled h) (is : payload ≡ restored_payload h) (told : line ≡ restored_line (length payload)) where
   line_is : line ≡ restored_line (length (restored_payload h))
   line_is = told ∙ ap (λ p. restored_line (length p)) is
 
-  pub restored : (r : Result (Unit {0}) CliFault) → OnOk r (Appends ob oa payload) → OnOk r (Appends pb pa line) → OnOk r (RestoresFile input ob oa pb pa)
-  restored (Ok done) wrote printed = record {
-    held = h;
-    file = file;
-    settled = settled;
-    payload = subst (Appends ob oa) is wrote;
-    printed = subst (Appends pb pa) line_is printed;
-  }
-  restored (Err fault) wrote printed = tt
+  -- the payload and the line were written, or not whole
+  pub restored : {T : Type 0} (r : Result T CliFault) → WritesBoth r payload line out out' output output'
+      → TellsRestore r file file' out out' output output'
+  restored (Ok x) (wrote, printed) =
+      (h, read, settled, subst (Writes out out') is wrote, subst (Writes output output') line_is printed)
+  restored (Err f) stops = inr (
+    h,
+    read,
+    both_says payload line out out' output output' (RestoreRefuses h out out' output output') (λ named at.
+        let whole = subst (λ (p : List ℕ). BothStop (faults.Write named) p line out out' output output') is at in
+        (settled, subst (λ (l : List ℕ). BothStop (faults.Write named) (restored_payload h) l out out' output output') line_is whole)) f stops,
+  )
 
-  pub restore_stopped : (r : Result (Unit {0}) CliFault) → IfErr r (WriteStops payload line ob oa pb pa) → IfErr r (RestoreStops input ob oa pb pa)
-  restore_stopped = writing payload line ob oa pb pa (RestoreStops input ob oa pb pa) (λ named stops.
-      let whole = subst (λ (p : List ℕ). WriteStops p line ob oa pb pa (faults.Write named)) is stops in
-      (h, file, settled, subst (λ (l : List ℕ). WriteStops (restored_payload h) l ob oa pb pa (faults.Write named)) line_is whole))
+-- ---- the same of bytes
+
+pub record RestoreOfBytes {T : Type 0} (r : Result T CliFault) (input ob oa pb pa : Option (List ℕ)) : Type 0 where
+  pub ok : OnOk r (RestoresFile input ob oa pb pa)
+  pub err : IfErr r (RestoreStops input ob oa pb pa)
+  pub names : IfErr r (NamesPath IsHoldPath)
+
+module _ {T : Type 0} (file file' : ReadLog) (out out' output output' : WriteLog) where
+  refused_bytes : (h : Contents) → ReadsHolding file file' h → (f : CliFault) → RestoreRefuses h out out' output output' f
+      → RestoreOfBytes {T = T} (Err f) file.remaining out.contents out'.contents output.contents output'.contents
+  refused_bytes h read (faults.Missing tile) (refused, kept) =
+      record { ok = tt; err = (h, held_file file file' h read, refused); names = tt }
+  refused_bytes h read (faults.Disputed tile) (refused, kept) =
+      record { ok = tt; err = (h, held_file file file' h read, refused); names = tt }
+  refused_bytes h read faults.Memory (settled, kept) = record { ok = tt; err = tt; names = tt }
+  refused_bytes h read (faults.Write named) (settled, stops) =
+      let payload = restored_payload h in
+      let line = restored_line (length payload) in
+      record {
+        ok = tt;
+        err = (h, held_file file file' h read, settled, both_stop_bytes payload line out out' output output' named stops);
+        names = both_name payload line out out' output output' IsHoldPath tt tt named stops;
+      }
+  refused_bytes h read (faults.Read named) stops = absurd stops
+  refused_bytes h read (faults.Setup fault) stops = absurd stops
+  refused_bytes h read (faults.Hold fault) stops = absurd stops
+  refused_bytes h read (faults.HoldFile fault) stops = absurd stops
+  refused_bytes h read (faults.Frame fault) stops = absurd stops
+  refused_bytes h read (faults.Splice other) stops = absurd stops
+  refused_bytes h read (faults.Ranges line) stops = absurd stops
+  refused_bytes h read faults.Words stops = absurd stops
+
+  pub restore_of_bytes : (r : Result T CliFault) → TellsRestore r file file' out out' output output'
+      → RestoreOfBytes r file.remaining out.contents out'.contents output.contents output'.contents
+  restore_of_bytes (Ok x) (h, read, settled, wrote, printed) = record {
+    ok = record { held = h; file = held_file file file' h read; settled = settled; payload = wrote.bytes'; printed = printed.bytes' };
+    err = tt;
+    names = tt;
+  }
+  restore_of_bytes (Err f) (inl (stops, kept)) =
+      let unread = unread_file file file' (paths.Hold 0) f stops in
+      record {
+        ok = tt;
+        err = IsHoldingFault-says (RestoreStops file.remaining out.contents out'.contents output.contents output'.contents) (paths.Hold 0)
+            file.remaining f refl tt (λ shown is. is) unread;
+        names = IsHoldingFault-says (NamesPath IsHoldPath) (paths.Hold 0) file.remaining f (omega arith) tt (λ shown is. tt) unread;
+      }
+  restore_of_bytes (Err f) (inr (h, read, refuses)) = refused_bytes h read f refuses

@@ -34,7 +34,7 @@ pub record ShowOfBytes {T : Type 0} (r : Result T CliFault) (width height : ℕ)
 module _ (a b : ReadLog) (config : List ℕ) (took : TakesWhole a b config) where
   -- what holds of the bytes that were read holds of those that the input tells
   of_input : (P : List ℕ → Type 0) → P config → IfSome a.remaining P
-  of_input P here = let whole = (whole_of paths.Record a b config took).ok in Consumes-whole _ _ config P whole.taken whole.end here
+  of_input P here = let whole = whole_of a b config took in Consumes-whole _ _ config P whole.taken whole.end here
 
 module _ (width height : ℕ) (a b : ReadLog) (old new : WriteLog) where
   kept : new ≡ old → Keeps old.contents new.contents

@@ -1,20 +1,21 @@
 -- Copies that are read and spliced, and what a fault of the command `splice` says.
-use Rattle.std.proofs.Common.{◌≡◌, ℕ, ◌+◌, ◌<◌, Bool, List, [], ◌∷◌, ◌++◌, length, get_or, take, map, Option, Result, IfErr, refl, sym, ap, ◌∙◌, subst, arith}
+use Rattle.std.proofs.Common.{◌≡◌, ℕ, ◌+◌, ◌<◌, Bool, List, [], ◌∷◌, ◌++◌, length, get_or, take, map, Option, Result, Ok, Err, IfOk, IfErr, inl, inr, refl, sym, ap, ◌∙◌, subst, arith}
 use Rattle.std.specs.Prelude.{◌↔◌, IsTrue}
-use Rattle.std.specs.Io.KnownBytes.{Appends}
 use Rattle.std.proofs.lemmas.List.{get_or-map, take_more, length-map, map-append}
+use Rattle.ffv1_devices.specs.Logs.{ReadLog, WriteLog, Writes}
 use Rattle.ffv1_splice.specs.Splice.{SplicedValue, IsSpliceOf, IsGivenBack}
 use Rattle.ffv1_splice.specs.Faults.{IsOfOtherLength}
-use Rattle.ffv1_commands.specs.Devices.{AreWholeInputs, IsInputFault, WriteStops}
+use Rattle.ffv1_commands.specs.Devices.{AreWholeInputs, ReadsNamed, BothStop}
 use Rattle.ffv1_commands.specs.Fault.{NamesPath}
 use Rattle.ffv1_commands.specs.Paths.{IsSplicePath}
-use Rattle.ffv1_commands.specs.SpliceText.{splice_text, IsFirstUnread, IsReadFault, IsLengthFault, SplicesCopies, SpliceStops}
+use Rattle.ffv1_commands.specs.SpliceText.{splice_text, IsLengthFault, SplicesCopies, SpliceStops, LaterKept, log_of, ReadsCopy, IsTaken, AreTaken, StopsAtCopy, WritesSplice, SpliceRefuses, TellsSplice}
 use Rattle.ffv1_commands.specs.declared.fault.CliFault.{CliFault}
 use Rattle.ffv1_commands.specs.declared.fault.CliFault.TheVariants as faults
+use Rattle.ffv1_commands.specs.declared.path.CommandPath.{CommandPath}
 use Rattle.ffv1_commands.specs.declared.path.CommandPath.TheVariants as paths
-use Rattle.ffv1_commands.proofs.InputFaults.{IsInputFault-says}
-use Rattle.ffv1_commands.proofs.InputLaws.{length-AreWholeInputs}
-use Rattle.ffv1_commands.proofs.WriteSteps.{writing}
+use Rattle.ffv1_commands.proofs.InputLaws.{whole_input, length-AreWholeInputs}
+use Rattle.ffv1_commands.proofs.UnreadFiles.{file_says}
+use Rattle.ffv1_commands.proofs.WrittenBoth.{both_says, both_stop_bytes, both_name}
 
 -- what a function gives of the first elements, and of the next
 pub map_more : {X Y : Type 0} (f : X → Y) (xs : List X) (i : ℕ) (d : X) → i < length xs → take i (map f xs) ++ f (get_or xs i d) ∷ [] ≡ take (i + 1) (map f xs)
@@ -25,39 +26,28 @@ map_more f xs i d lt =
 pub map_push : {X Y : Type 0} (f : X → Y) (xs ys : List X) (x : X) → ys ≡ xs ++ x ∷ [] → map f xs ++ f x ∷ [] ≡ map f ys
 map_push f xs ys x same = sym (ap (map f) same ∙ map-append f xs (x ∷ []))
 
+-- ---- copies that were read
+
+-- one was read by a source that began so
+pub copy_read : {T : Type 0} (items : T → List ℕ) (path : CommandPath) (r : Result T CliFault) (input : Option (List ℕ)) (a b : ReadLog) → a ≡ log_of input
+    → ReadsNamed items path r a b → ReadsCopy items path r input
+copy_read items path r input a b same read = (b, subst (λ (log : ReadLog). ReadsNamed items path r log b) same read)
+
+pub AreTaken-push : (inputs : List (Option (List ℕ))) (all : List (List ℕ)) (input : Option (List ℕ)) (bytes : List ℕ) → AreTaken inputs all
+    → IsTaken input bytes → AreTaken (inputs ++ input ∷ []) (all ++ bytes ∷ [])
+AreTaken-push [] [] input bytes each one = (one, tt)
+AreTaken-push [] (b ∷ bs) input bytes each one = absurd each
+AreTaken-push (i ∷ is) [] input bytes each one = absurd each
+AreTaken-push (i ∷ is) (b ∷ bs) input bytes each one = (each.0, AreTaken-push is bs input bytes each.1 one)
+
+pub taken_whole : (inputs : List (Option (List ℕ))) (all : List (List ℕ)) → AreTaken inputs all → AreWholeInputs inputs all
+taken_whole [] [] each = tt
+taken_whole [] (b ∷ bs) each = absurd each
+taken_whole (i ∷ is) [] each = absurd each
+taken_whole (i ∷ is) (b ∷ bs) ((log, took), rest) =
+    (whole_input i log.remaining b (record { taken = took.read.bytes'; end = took.end; few = took.few }), taken_whole is bs rest)
+
 -- ---- what a fault says
-
--- any fact of a copy that was not read, and of want of memory
-pub read_says : (inputs : List (Option (List ℕ))) (P : CliFault → Type 0) (fault : CliFault)
-    → ((index : ℕ) → IsFirstUnread inputs index → P (faults.Read (paths.Copy index))) → P faults.Memory → IsReadFault inputs fault → P fault
-read_says inputs P (faults.Read path) unread memory stops = subst (λ p. P (faults.Read p)) (sym stops.2) (unread stops.0 stops.1)
-read_says inputs P (faults.Write path) unread memory stops = absurd stops
-read_says inputs P (faults.Setup fault) unread memory stops = absurd stops
-read_says inputs P (faults.Hold fault) unread memory stops = absurd stops
-read_says inputs P (faults.HoldFile fault) unread memory stops = absurd stops
-read_says inputs P (faults.Frame fault) unread memory stops = absurd stops
-read_says inputs P (faults.Missing tile) unread memory stops = absurd stops
-read_says inputs P (faults.Ranges line) unread memory stops = absurd stops
-read_says inputs P (faults.Disputed tile) unread memory stops = absurd stops
-read_says inputs P (faults.Splice path) unread memory stops = absurd stops
-read_says inputs P faults.Memory unread memory stops = memory
-read_says inputs P faults.Words unread memory stops = absurd stops
-
-pub inputs_stop : (inputs : List (Option (List ℕ))) (ob oa pb pa : Option (List ℕ)) (fault : CliFault) → IsReadFault inputs fault
-    → SpliceStops inputs ob oa pb pa fault
-inputs_stop inputs ob oa pb pa fault = read_says inputs (SpliceStops inputs ob oa pb pa) fault (λ index is. (index, is, refl)) tt
-
-pub inputs_name : (inputs : List (Option (List ℕ))) (n : ℕ) → length inputs ≡ n → (fault : CliFault) → IsReadFault inputs fault
-    → NamesPath (IsSplicePath n) fault
-inputs_name inputs n is fault =
-    read_says inputs (NamesPath (IsSplicePath n)) fault (λ index unread. let there : index < length inputs = unread.there in omega arith) tt
-
--- the fault of a copy before which all were read
-pub first_unread : (inputs : List (Option (List ℕ))) (index : ℕ) (copies : List (List ℕ)) → index < length inputs
-    → AreWholeInputs (take index inputs) copies → (fault : CliFault) → IsInputFault (paths.Copy index) fault → IsReadFault inputs fault
-first_unread inputs index copies there earlier fault =
-    IsInputFault-says (IsReadFault inputs) (paths.Copy index) fault
-    (index, record { there = there; copies = copies; earlier = earlier }, refl) tt
 
 -- any fact of a copy of another length, and of want of memory
 pub length_says : (copies : List (List ℕ)) (P : CliFault → Type 0) (fault : CliFault)
@@ -75,35 +65,102 @@ length_says copies P (faults.Splice path) other memory stops = subst (λ p. P (f
 length_says copies P faults.Memory other memory stops = memory
 length_says copies P faults.Words other memory stops = absurd stops
 
-module _ (inputs : List (Option (List ℕ))) (copies : List (List ℕ)) (ob oa pb pa : Option (List ℕ)) (read : AreWholeInputs inputs copies) where
-  pub length_stops : (fault : CliFault) → IsLengthFault copies fault → SpliceStops inputs ob oa pb pa fault
-  length_stops fault = length_says copies (SpliceStops inputs ob oa pb pa) fault (λ index is. (copies, read, (index, is, refl))) tt
+-- a copy of another length, or want of memory, leaves both outputs
+pub length_refused : (copies : List (List ℕ)) (out output : WriteLog) (f : CliFault) → IsLengthFault copies f
+    → SpliceRefuses copies out out output output f
+length_refused copies out output f =
+    length_says copies (SpliceRefuses copies out out output output) f (λ index is. ((index, is, refl), (refl, refl))) (refl, refl)
 
-  pub length_names : (n : ℕ) → length inputs ≡ n → (fault : CliFault) → IsLengthFault copies fault → NamesPath (IsSplicePath n) fault
-  length_names n is fault =
-      length_says copies (NamesPath (IsSplicePath n)) fault
-      (λ index other. let there : index < length copies = other.there in omega (arith, length-AreWholeInputs inputs copies read)) tt
+module _ (copies : List (List ℕ)) (out out' output output' : WriteLog) (spliced : SplicedValue) (is : IsSpliceOf copies spliced) (file text : List ℕ)
+    (whole : file ≡ spliced.payload) (lines : text ≡ splice_text spliced) where
+  -- the splice and its lines were written
+  pub splices : (answer : Bool) → IsTrue answer ↔ IsGivenBack spliced → Writes out out' file → Writes output output' text
+      → WritesSplice copies out out' output output' answer
+  splices answer given wrote printed = record {
+    spliced = spliced;
+    is_splice = is;
+    payload = subst (Writes out out') whole wrote;
+    printed = subst (Writes output output') lines printed;
+    given_back = given;
+  }
 
-  module _ (spliced : SplicedValue) (is : IsSpliceOf copies spliced) (file text : List ℕ) (whole : file ≡ spliced.payload)
-      (lines : text ≡ splice_text spliced) where
-    pub write_stops : (r : Result (Unit {0}) CliFault) → IfErr r (WriteStops file text ob oa pb pa) → IfErr r (SpliceStops inputs ob oa pb pa)
-    write_stops = writing file text ob oa pb pa (SpliceStops inputs ob oa pb pa) (λ named stops. (
-      copies,
-      spliced,
-      read,
-      is,
-      subst (λ t. WriteStops spliced.payload t ob oa pb pa (faults.Write named)) lines
-          (subst (λ f. WriteStops f text ob oa pb pa (faults.Write named)) whole stops),
-    ))
+  -- or not whole
+  pub splice_stopped : (f : CliFault) → BothStop f file text out out' output output' → SpliceRefuses copies out out' output output' f
+  splice_stopped = both_says file text out out' output output' (SpliceRefuses copies out out' output output') (λ named stops.
+      let first = subst (λ (t : List ℕ). BothStop (faults.Write named) t text out out' output output') whole stops in
+      (spliced, is, subst (λ (t : List ℕ). BothStop (faults.Write named) spliced.payload t out out' output output') lines first))
 
-    pub splices : (answer : Bool) → IsTrue answer ↔ IsGivenBack spliced → Appends ob oa file → Appends pb pa text
-        → SplicesCopies inputs ob oa pb pa answer
-    splices answer given wrote printed = record {
-      copies = copies;
-      spliced = spliced;
-      read = read;
-      is_splice = is;
-      payload = subst (Appends ob oa) whole wrote;
-      printed = subst (Appends pb pa) lines printed;
-      given_back = given;
+-- ---- the same of bytes
+
+pub record SpliceOfBytes {C : Type 0} (r : Result Bool CliFault) (inputs : List (Option (List ℕ))) (old new : List C) (ob oa pb pa : Option (List ℕ)) :
+    Type 0 where
+  pub ok : IfOk r (SplicesCopies inputs ob oa pb pa)
+  pub err : IfErr r (SpliceStops inputs ob oa pb pa)
+  pub names : IfErr r (NamesPath (IsSplicePath (length old)))
+  pub later_kept : IfErr r (LaterKept old new)
+
+module _ {C : Type 0} (remaining : C → Option (List ℕ)) (old new : List C) (out out' output output' : WriteLog) where
+  abbrev OfBytes : Result Bool CliFault → Type 0
+  OfBytes r = SpliceOfBytes r (map remaining old) old new out.contents out'.contents output.contents output'.contents
+
+  copy_bytes : (f : CliFault) → StopsAtCopy remaining old new f → OfBytes (Err f)
+  copy_bytes f stops =
+      let few : stops.index < length (map remaining old) = omega (arith, stops.there, length-map old remaining) in
+      file_says (λ f. OfBytes (Err f)) (paths.Copy stops.index) _ stops.log
+      (λ unread. record {
+        ok = tt;
+        err = (stops.index, record { there = few; copies = stops.copies; earlier = taken_whole _ stops.copies stops.earlier }, refl);
+        names = stops.there;
+        later_kept = record { index = stops.index; named = refl; later = stops.later };
+      })
+      (λ within. record { ok = tt; err = tt; names = tt; later_kept = tt }) f stops.stopped
+
+  module _ (copies : List (List ℕ)) (taken : AreTaken (map remaining old) copies) where
+    read : AreWholeInputs (map remaining old) copies
+    read = taken_whole (map remaining old) copies taken
+
+    refused_bytes : (f : CliFault) → SpliceRefuses copies out out' output output' f → OfBytes (Err f)
+    refused_bytes (faults.Splice path) ((index, other, is), kept) = record {
+      ok = tt;
+      err = (copies, read, (index, other, is));
+      names = subst (IsSplicePath (length old)) (sym is)
+          (let there : index < length copies = other.there in
+          omega (arith, length-AreWholeInputs (map remaining old) copies read, length-map old remaining));
+      later_kept = tt;
     }
+    refused_bytes faults.Memory kept = record { ok = tt; err = tt; names = tt; later_kept = tt }
+    refused_bytes (faults.Write named) (spliced, is, stops) =
+        let text = splice_text spliced in
+        record {
+          ok = tt;
+          err = (copies, spliced, read, is, both_stop_bytes spliced.payload text out out' output output' named stops);
+          names = both_name spliced.payload text out out' output output' (IsSplicePath (length old)) tt tt named stops;
+          later_kept = tt;
+        }
+    refused_bytes (faults.Read named) stops = absurd stops
+    refused_bytes (faults.Setup fault) stops = absurd stops
+    refused_bytes (faults.Hold fault) stops = absurd stops
+    refused_bytes (faults.HoldFile fault) stops = absurd stops
+    refused_bytes (faults.Frame fault) stops = absurd stops
+    refused_bytes (faults.Missing tile) stops = absurd stops
+    refused_bytes (faults.Disputed tile) stops = absurd stops
+    refused_bytes (faults.Ranges line) stops = absurd stops
+    refused_bytes faults.Words stops = absurd stops
+
+  pub splice_of_bytes : (r : Result Bool CliFault) → TellsSplice remaining r old new out out' output output' → OfBytes r
+  splice_of_bytes (Ok answer) (copies, taken, wrote) = record {
+    ok = record {
+      copies = copies;
+      spliced = wrote.spliced;
+      read = taken_whole (map remaining old) copies taken;
+      is_splice = wrote.is_splice;
+      payload = wrote.payload.bytes';
+      printed = wrote.printed.bytes';
+      given_back = wrote.given_back;
+    };
+    err = tt;
+    names = tt;
+    later_kept = tt;
+  }
+  splice_of_bytes (Err f) (inl (stops, kept)) = copy_bytes f stops
+  splice_of_bytes (Err f) (inr (copies, taken, refuses)) = refused_bytes copies taken f refuses

@@ -69,7 +69,7 @@ pub copy_taken : {T : Type 0} (a b : ReadLog) (before : ℕ) (old new : Contents
     → TakesCopy r before old new lines lines' a b → OnOk r (TakesOne (IsWholeInput a.remaining) (before + 1) old new lines lines')
 copy_taken a b before old new lines lines' (Ok x) one = record {
   copy = one.copy;
-  read = whole_input a.remaining b.remaining one.copy (whole_of (paths.Copy before) a b one.copy one.read).ok;
+  read = whole_input a.remaining b.remaining one.copy (whole_of a b one.copy one.read);
   held = one.held;
   line = one.line;
 }
@@ -232,7 +232,7 @@ pub record TakeOfBytes {T C : Type 0} (r : Result T CliFault) (tells : C → Opt
 module _ {C : Type 0} (tells : C → Option (List ℕ)) (width height : ℕ) (a b : ReadLog) (old new : List C) (out out' output output' : WriteLog) where
   reel_input : (reel : Reel) → ReadsReel width height a b reel → IsReelInput a.remaining width height reel
   reel_input reel read = record {
-    read = whole_input a.remaining b.remaining reel.config (whole_of paths.Record a b reel.config read.taken).ok;
+    read = whole_input a.remaining b.remaining reel.config (whole_of a b reel.config read.taken);
     is_setup = read.is_setup;
   }
 
@@ -259,7 +259,7 @@ module _ {C : Type 0} (tells : C → Option (List ℕ)) (width height : ℕ) (a 
     ok = tt;
     err = RecordRefuses-says (TakeStops a.remaining width height (map tells old) out.contents out'.contents output.contents output'.contents)
         width height a b fault (inl refl) tt
-        (λ setup config took first. (config, whole_input a.remaining b.remaining config (whole_of paths.Record a b config took).ok, first)) refuses;
+        (λ setup config took first. (config, whole_input a.remaining b.remaining config (whole_of a b config took), first)) refuses;
     in_turn = RecordRefuses-says (λ f. IfOfRecord f (new ≡ old)) width height a b fault (λ is. same) tt (λ setup config took first. same) refuses;
     later = RecordRefuses-says (LaterKept tells old new) width height a b fault tt tt (λ setup config took first. tt) refuses;
     names = RecordRefuses-says (NamesPath (IsTakePath (length old))) width height a b fault tt tt (λ setup config took first. tt) refuses;

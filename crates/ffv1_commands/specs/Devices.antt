@@ -2,7 +2,7 @@
 use Rattle.std.specs.Prelude.{ℕ, ◌≡◌, ◌+◌, ◌<◌, ◌≤◌, List, [], ◌∷◌, length, Option, IfSome, ◌⊎◌, Result, Ok, Err}
 use Rattle.std.specs.Io.KnownBytes.{Appends, Consumes, IsAtEnd, Keeps}
 use Rattle.ffv1_bits.specs.Limits.{payload_limit}
-use Rattle.ffv1_devices.specs.Logs.{ReadLog, WriteLog, Reads, BreaksOff, Writes, StopsWriting, HasFailed, HasCounted, most_tries}
+use Rattle.ffv1_devices.specs.Logs.{ReadLog, WriteLog, Reads, BreaksOff, Writes, StopsWriting}
 pub use Rattle.ffv1_devices.specs.Writing.{WritesFront}
 use Rattle.ffv1_holding.specs.declared.fault.HoldFault.TheVariants as holds
 use Rattle.ffv1_commands.specs.declared.fault.CliFault.{CliFault}
@@ -106,25 +106,6 @@ WriteStops file text file_before file_after text_before text_after (faults.Write
     ((named ≡ paths.Out) × WritesFront file_before file_after file × Keeps text_before text_after)
     ⊎ ((named ≡ paths.StandardOutput) × Appends file_before file_after file × WritesFront text_before text_after text)
 WriteStops file text file_before file_after text_before text_after _ = ⊥
-
--- A device gave up: a failure that was no interruption was counted, or that many failures.
-abbrev pub HasGivenUp : (failures_old failures_new broken_old broken_new : ℕ) → Type 0
-HasGivenUp failures_old failures_new broken_old broken_new = HasFailed broken_old broken_new ⊎ HasCounted most_tries failures_old failures_new
-
--- How a device is told, by the counts of its failures and of those that were no interruption: it gave up where it is told, and else
--- no failure but interruptions came.
-pub record TellsFailure (told : Type 0) (failures_old failures_new broken_old broken_new : ℕ) : Type 0 where
-  pub gave_up : told → HasGivenUp failures_old failures_new broken_old broken_new
-  pub unbroken : (¬ told) → broken_new ≡ broken_old
-  pub broken_once : broken_new ≤ broken_old + 1
-
--- How an input with a limit is told, by the same counts and that of its bytes: it gave up or passed the limit where it is told, and
--- else did neither.
-pub record TellsFile (told : Type 0) (failures_old failures_new broken_old broken_new taken_old taken_new : ℕ) : Type 0 where
-  pub stopped : told → HasGivenUp failures_old failures_new broken_old broken_new ⊎ HasCounted (payload_limit + 1) taken_old taken_new
-  pub unbroken : (¬ told) → broken_new ≡ broken_old
-  pub broken_once : broken_new ≤ broken_old + 1
-  pub within : (¬ told) → taken_new ≤ taken_old + payload_limit
 
 -- ---- what is written, over the logs of the devices
 

@@ -7,11 +7,13 @@ use Rattle.ffv1_hold.specs.Reels.{Reel}
 use Rattle.ffv1_hold.specs.Contents.{Contents, IsSameReel, joined}
 use Rattle.ffv1_hold.specs.HoldingText.{head_text, begun_text, holding_text}
 use Rattle.ffv1_hold.specs.FileFaults.{IsFileReel, IsFaultOf}
-use Rattle.ffv1_hold.specs.JoinedStreams.{BeginsWith, BeginsWithPart}
+use Rattle.ffv1_hold.specs.JoinedStreams.{Inputs, BeginsWith, BeginsWithPart, JoinRefuses, WritesUnion, WritesNoEnd, WritesFrontSoFar}
+use Rattle.ffv1_hold.specs.JoinLogs.{Devices, AllGoOn, OneStops}
 use Rattle.ffv1_hold.specs.declared.version.Version.{Version}
 use Rattle.ffv1_hold.specs.declared.version.Version.TheVariants.{Second}
 use Rattle.ffv1_hold.specs.declared.file_fault.HoldFileFault.{HoldFileFault}
 use Rattle.ffv1_hold.specs.declared.file_fault.HoldFileFault.TheVariants as files
+use Rattle.ffv1_commands.specs.Fault.{of_merge}
 use Rattle.ffv1_commands.specs.Holdings.{IsHoldingFile, HasFile}
 use Rattle.ffv1_commands.specs.declared.fault.CliFault.{CliFault}
 use Rattle.ffv1_commands.specs.declared.fault.CliFault.TheVariants as faults
@@ -97,3 +99,31 @@ AnswersOtherHeads (Err (faults.HoldFile fault)) = fault ≡ files.OtherReel
 AnswersOtherHeads (Err (faults.Read path)) = Unit {0}
 AnswersOtherHeads (Err faults.Memory) = Unit {0}
 AnswersOtherHeads _ = ⊥
+
+-- ---- over the logs of the devices
+
+-- what both inputs have left, before and after
+abbrev pub inputs_of : Devices → Devices → Inputs
+inputs_of old new = record {
+  left_old = old.left.remaining;
+  left_new = new.left.remaining;
+  right_old = old.right.remaining;
+  right_new = new.right.remaining;
+}
+
+-- after a failed write a front of the text of what was read, and after another fault no end tag
+abbrev pub LeavesFront : HoldFileFault → Devices → Devices → Type 0
+LeavesFront files.Write old new = WritesFrontSoFar (inputs_of old new) old.sink.contents new.sink.contents
+LeavesFront _ old new = WritesNoEnd (inputs_of old new) old.sink.contents new.sink.contents
+
+-- Joining both files as streams stopped: what was taken of them shows the fault, and only the device that is the fault was given up.
+pub record MergeStops (f : HoldFileFault) (old new : Devices) : Type 0 where
+  pub shown : JoinRefuses (inputs_of old new) f
+  pub leaves : LeavesFront f old new
+  pub went : OneStops f old new (0, 0)
+
+-- The file of the union was written; or joining stopped at a fault, which is told as one of the command.
+abbrev pub TellsMerge : {T : Type 0} → Result T CliFault → Devices → Devices → Type 0
+TellsMerge (Ok x) old new =
+    WritesUnion (inputs_of old new) old.sink.contents new.sink.contents × AllGoOn old new (0, 0) (file_limit, file_limit)
+TellsMerge (Err fault) old new = (f : HoldFileFault) × (fault ≡ of_merge f) × MergeStops f old new

@@ -1,17 +1,19 @@
 -- What the command `picture` makes and prints: the samples of a holding's partial picture, and a line for each tile that has none.
-use Rattle.std.specs.Prelude.{ℕ, ◌++◌, ◌↔◌, Bool, IsTrue, All, List, [], length, Option, slice_index_or, codes}
+use Rattle.std.specs.Prelude.{ℕ, ◌++◌, ◌↔◌, ◌⊎◌, Bool, IsTrue, All, List, [], length, Option, Result, Ok, Err, slice_index_or, codes}
 use Rattle.std.specs.List.{flat_map, range_with_len}
 use Rattle.std.specs.Fmt.{decimal}
 use Rattle.std.specs.Io.KnownBytes.{Appends}
+use Rattle.ffv1_devices.specs.Logs.{ReadLog, WriteLog, Writes}
 use Rattle.ffv1_hold.specs.Contents.{Contents}
+use Rattle.ffv1_hold.specs.FileFaults.{ReadsHolding}
 use Rattle.ffv1_plane.specs.declared.tile.TileFault.{TileFault}
 use Rattle.ffv1_plane.specs.declared.tile.TileFault.TheVariants as tiles
 use Rattle.ffv1_picture.specs.PartialPictures.{IsPartialPicture}
 use Rattle.ffv1_picture.specs.declared.partial.Partial.{Partial}
 use Rattle.ffv1_picture.specs.declared.partial.TileOutcome.{TileOutcome}
 use Rattle.ffv1_picture.specs.declared.partial.TileOutcome.TheVariants.{Decoded, Missing, Disputed, Fault}
-use Rattle.ffv1_commands.specs.Devices.{WriteStops}
-use Rattle.ffv1_commands.specs.Holdings.{IsHoldingFile, IsHoldingFault}
+use Rattle.ffv1_commands.specs.Devices.{WriteStops, BothStop, BothKept}
+use Rattle.ffv1_commands.specs.Holdings.{IsHoldingFile, IsHoldingFault, HoldingStops}
 use Rattle.ffv1_commands.specs.SamplesText.{raw_bytes}
 use Rattle.ffv1_commands.specs.declared.fault.CliFault.{CliFault}
 use Rattle.ffv1_commands.specs.declared.fault.CliFault.TheVariants as faults
@@ -69,3 +71,30 @@ PictureStops input out_before out_after printed_before printed_after (faults.Wri
     (h : Contents) × (partial : Partial) × IsHoldingFile input h × IsPartialPicture h partial
     × WriteStops (raw_bytes partial.frame) (picture_text partial.tiles.items) out_before out_after printed_before printed_after (faults.Write path)
 PictureStops input out_before out_after printed_before printed_after fault = IsHoldingFault (paths.Hold 0) input fault
+
+-- ---- over the logs of the devices
+
+-- what stopped the command once the file was read: want of memory, or writing
+abbrev pub PictureRefuses : Contents → (out_old out_new output_old output_new : WriteLog) → CliFault → Type 0
+PictureRefuses h out_old out_new output_old output_new faults.Memory = BothKept out_old out_new output_old output_new
+PictureRefuses h out_old out_new output_old output_new (faults.Write path) =
+    (partial : Partial) × IsPartialPicture h partial
+    × BothStop (faults.Write path) (raw_bytes partial.frame) (picture_text partial.tiles.items) out_old out_new output_old output_new
+PictureRefuses h out_old out_new output_old output_new _ = ⊥
+
+-- The samples of a partial picture of the holding and then its lines were written, and it is whole where each tile has samples.
+pub record WritesPicture (h : Contents) (out_old out_new output_old output_new : WriteLog) (whole : Bool) : Type 0 where
+  pub partial : Partial
+  pub picture : IsPartialPicture h partial
+  pub samples : Writes out_old out_new (raw_bytes partial.frame)
+  pub printed : Writes output_old output_new (picture_text partial.tiles.items)
+  pub is_whole : IsTrue whole ↔ All IsDecoded partial.tiles.items
+
+-- The file was read, and its picture was written; or it was not read, and both outputs are as they were; or it was, and the command
+-- stopped after that.
+abbrev pub TellsPicture : Result Bool CliFault → (file_old file_new : ReadLog) → (out_old out_new output_old output_new : WriteLog) → Type 0
+TellsPicture (Ok whole) file_old file_new out_old out_new output_old output_new =
+    (h : Contents) × ReadsHolding file_old file_new h × WritesPicture h out_old out_new output_old output_new whole
+TellsPicture (Err fault) file_old file_new out_old out_new output_old output_new =
+    (HoldingStops (paths.Hold 0) fault file_old file_new × BothKept out_old out_new output_old output_new)
+    ⊎ ((h : Contents) × ReadsHolding file_old file_new h × PictureRefuses h out_old out_new output_old output_new fault)

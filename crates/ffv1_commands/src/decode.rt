@@ -1,10 +1,10 @@
 //! The command `decode`: writes the samples of a frame (RFC 9043, sections 4.4 to 4.9).
-ghost use Rattle.std.specs.Prelude.{◌≡◌, IfOk, IfErr, IsErrOf, OnOk, string_bytes};
+ghost use Rattle.std.specs.Prelude.{◌≡◌, IfOk, IfErr, OnOk, string_bytes};
 ghost use Rattle.ffv1_commands.specs.Fault.{NamesPath};
 ghost use Rattle.ffv1_commands.specs.Paths.{IsDecodePath};
-ghost use Rattle.ffv1_commands.specs.Devices.{UnlessWriting, IfOfRecord, TellsFailure, TellsFile};
+ghost use Rattle.ffv1_commands.specs.Devices.{UnlessWriting, IfOfRecord};
 ghost use Rattle.ffv1_commands.specs.SamplesText.{decoded_line};
-ghost use Rattle.ffv1_commands.specs.DecodeText.{DecodesFile, DecodeStops};
+ghost use Rattle.ffv1_commands.specs.DecodeText.{DecodesFile, DecodeStops, TellsDecode};
 
 use crate::devices::read_file;
 use crate::fault::CliFault;
@@ -50,8 +50,9 @@ pub fn run_decode<R: Read, F: Read, O: Write, W: Write>(
     )
 }
 
-/// The command over sources and sinks.
-fn decode_of<R: Source, F: Source, O: Sink, W: Sink>(
+/// The command over sources and sinks, whose logs say how it went: at `Read` the source that is named was given up or passed the
+/// limit, and at `Write` the sink that is named was given up; no other failures came but interruptions.
+pub fn decode_of<R: Source, F: Source, O: Sink, W: Sink>(
     alloc: Global,
     configuration: &mut R,
     width: u32,
@@ -60,24 +61,10 @@ fn decode_of<R: Source, F: Source, O: Sink, W: Sink>(
     out: &mut O,
     output: &mut W,
 ) -> Result<(), CliFault>
-    ensures ok { OnOk result (DecodesFile (R.log configuration.old).remaining width height (F.log input.old).remaining
-        (O.log out.old).contents (O.log out.new).contents (W.log output.old).contents (W.log output.new).contents) }
-    ensures err { IfErr result (DecodeStops (R.log configuration.old).remaining width height (F.log input.old).remaining
-        (O.log out.old).contents (O.log out.new).contents (W.log output.old).contents (W.log output.new).contents) }
+    ensures told { TellsDecode result width height (R.log configuration.old) (R.log configuration.new) (F.log input.old) (F.log input.new)
+        (O.log out.old) (O.log out.new) (W.log output.old) (W.log output.new) }
     ensures untouched { IfErr result (λ fault. UnlessWriting fault ((out.new ≡ out.old) × (output.new ≡ output.old))) }
     ensures in_turn { IfErr result (λ fault. IfOfRecord fault (input.new ≡ input.old)) }
-    ensures names { IfErr result (NamesPath IsDecodePath) }
-
-    ensures record_told { TellsFile (IsErrOf result (CliFault.Read CommandPath.Record)) (R.log configuration.old).tries.failures (R.log configuration.new).tries.failures
-        (R.log configuration.old).tries.broken (R.log configuration.new).tries.broken (R.log configuration.old).taken (R.log configuration.new).taken }
-    ensures input_told { TellsFile (IsErrOf result (CliFault.Read CommandPath.Frame)) (F.log input.old).tries.failures (F.log input.new).tries.failures
-        (F.log input.old).tries.broken (F.log input.new).tries.broken (F.log input.old).taken (F.log input.new).taken }
-    ensures out_told { TellsFailure (IsErrOf result (CliFault.Write CommandPath.Out)) (O.log out.old).tries.failures (O.log out.new).tries.failures
-        (O.log out.old).tries.broken (O.log out.new).tries.broken }
-    ensures output_told { TellsFailure (IsErrOf result (CliFault.Write CommandPath.StandardOutput)) (W.log output.old).tries.failures (W.log output.new).tries.failures
-        (W.log output.old).tries.broken (W.log output.new).tries.broken }
-    ensures same_out { (O.log out.new).reference ≡ (O.log out.old).reference }
-    ensures same_output { (W.log output.new).reference ≡ (W.log output.old).reference }
 {
     let config = read_file(alloc, configuration, CommandPath::Record)?;
     let decoder = Decoder::new(alloc, config.as_slice(), width, height)?;

@@ -1,7 +1,6 @@
 //! Whole files, read from a source and written to a sink, and which path of the command a fault names.
-ghost use Rattle.std.specs.Prelude.{◌≡◌, ◌≤◌, ◌<◌, ◌+◌, IfOk, IfErr, IsErrOf, OnOk, OnErr};
-ghost use Rattle.std.specs.Io.KnownBytes.{Appends};
-ghost use Rattle.ffv1_commands.specs.Devices.{ReadsCopy, ReadsNamed, WritesNamed, WritesFront, WriteStops, TellsFailure};
+ghost use Rattle.std.specs.Prelude.{◌≡◌, IfOk, IfErr};
+ghost use Rattle.ffv1_commands.specs.Devices.{ReadsCopy, ReadsNamed, WritesNamed, WritesBoth};
 
 use crate::fault::CliFault;
 use crate::path::CommandPath;
@@ -71,12 +70,6 @@ pub(crate) fn write_file<K: Sink>(
     bytes: &[u8],
 ) -> Result<(), CliFault>
     ensures wrote { WritesNamed path result (K.log sink.old) (K.log sink.new) bytes.now }
-    ensures ok { OnOk result (Appends (K.log sink.old).contents (K.log sink.new).contents bytes.now) }
-    ensures err { OnErr result (WritesFront (K.log sink.old).contents (K.log sink.new).contents bytes.now) }
-    ensures fault { IfErr result (λ fault. fault ≡ CliFault.Write path) }
-    ensures told { TellsFailure (IsErrOf result (CliFault.Write path)) (K.log sink.old).tries.failures (K.log sink.new).tries.failures
-        (K.log sink.old).tries.broken (K.log sink.new).tries.broken }
-    ensures same_reference { (K.log sink.new).reference ≡ (K.log sink.old).reference }
 {
     match write_field(sink, bytes) {
         Ok(()) => Ok(()),
@@ -91,16 +84,7 @@ pub(crate) fn write_both<O: Sink, W: Sink>(
     output: &mut W,
     text: &str,
 ) -> Result<(), CliFault>
-    ensures file { OnOk result (Appends (O.log out.old).contents (O.log out.new).contents file.now) }
-    ensures text { OnOk result (Appends (W.log output.old).contents (W.log output.new).contents text.now) }
-    ensures err { IfErr result (WriteStops file.now text.now
-        (O.log out.old).contents (O.log out.new).contents (W.log output.old).contents (W.log output.new).contents) }
-    ensures out_told { TellsFailure (IsErrOf result (CliFault.Write CommandPath.Out)) (O.log out.old).tries.failures (O.log out.new).tries.failures
-        (O.log out.old).tries.broken (O.log out.new).tries.broken }
-    ensures output_told { TellsFailure (IsErrOf result (CliFault.Write CommandPath.StandardOutput)) (W.log output.old).tries.failures (W.log output.new).tries.failures
-        (W.log output.old).tries.broken (W.log output.new).tries.broken }
-    ensures same_out { (O.log out.new).reference ≡ (O.log out.old).reference }
-    ensures same_output { (W.log output.new).reference ≡ (W.log output.old).reference }
+    ensures { WritesBoth result file.now text.now (O.log out.old) (O.log out.new) (W.log output.old) (W.log output.new) }
 {
     write_file(out, CommandPath::Out, file)?;
     write_file(output, CommandPath::StandardOutput, text.as_bytes())

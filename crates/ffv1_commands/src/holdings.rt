@@ -1,8 +1,7 @@
 //! Holding files, read from a source and written to OUT.
-ghost use Rattle.std.specs.Prelude.{◌≡◌, IfOk, IfErr, IsErrOf};
-ghost use Rattle.ffv1_devices.specs.Logs.{HasFailed};
+ghost use Rattle.std.specs.Prelude.{◌≡◌, IfErr};
 ghost use Rattle.ffv1_commands.specs.Devices.{UnlessWriting};
-ghost use Rattle.ffv1_commands.specs.Holdings.{ReadsHeld, IsHoldingFile, IsHoldingFault, SavesNamed, WritesMade};
+ghost use Rattle.ffv1_commands.specs.Holdings.{ReadsHeld, SavesNamed, WritesMade};
 
 use crate::devices::write_file;
 use crate::fault::{CliFault, of_hold_file};
@@ -17,9 +16,6 @@ pub(crate) fn read_holding<S: Source>(
     path: CommandPath,
 ) -> Result<Holding, CliFault>
     ensures read { ReadsHeld path result (S.log source.old) (S.log source.new) }
-    ensures ok { IfOk result (IsHoldingFile (S.log source.old).remaining) }
-    ensures err { IfErr result (IsHoldingFault path (S.log source.old).remaining) }
-    ensures failed { IsErrOf result (CliFault.Read path) → HasFailed (S.log source.old).tries.failures (S.log source.new).tries.failures }
 {
     match read_hold(alloc, source) {
         Ok(holding) => Ok(holding),

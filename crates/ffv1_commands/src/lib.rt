@@ -22,19 +22,19 @@ mod splice;
 mod take;
 
 pub use chain::{chain_of, run_chain};
-pub use decode::run_decode;
+pub use decode::{decode_of, run_decode};
 pub use fault::CliFault;
 pub use join::run_join;
 pub use laws::{
     commands_restore_the_original, same_copies_make_one_file, same_copies_make_one_splice,
     splice_gives_the_original, splice_tells_whole_frames, splice_weaves_the_original,
 };
-pub use merge::run_merge;
+pub use merge::{merge_of, run_merge};
 pub use path::CommandPath;
-pub use picture::run_picture;
+pub use picture::{picture_of, run_picture};
 pub use report::run_report;
-pub use restore::run_restore;
+pub use restore::{restore_of, run_restore};
 pub use scan::run_scan;
 pub use show::run_show;
-pub use splice::run_splice;
+pub use splice::{run_splice, splice_of};
 pub use take::run_take;

@@ -1,14 +1,13 @@
 //! The command `merge`: makes the holding file of the union of two holding files, which are read as streams (own).
-ghost use Rattle.std.specs.Prelude.{◌≡◌, ◌⊎◌, IfErr, IsErrOf, OnOk};
+ghost use Rattle.std.specs.Prelude.{◌≡◌, IfErr, IsErrOf, OnOk};
 ghost use Rattle.ffv1_bits.specs.Limits.{file_limit};
-ghost use Rattle.ffv1_devices.specs.Logs.{HasFailed};
 ghost use Rattle.ffv1_hold.specs.Reels.{Reel};
 ghost use Rattle.ffv1_hold.specs.Contents.{Contents, IsSameReel, joined};
 ghost use Rattle.ffv1_hold.specs.declared.version.Version.{Version};
 ghost use Rattle.ffv1_hold.specs.JoinedStreams.{IsFileOf, BeginsWithHead, WritesAtMost};
-ghost use Rattle.ffv1_commands.specs.Fault.{NamesPath, of_merge};
+ghost use Rattle.ffv1_commands.specs.Fault.{NamesPath};
 ghost use Rattle.ffv1_commands.specs.Paths.{IsMergePath};
-ghost use Rattle.ffv1_commands.specs.MergeText.{MergesFiles, IsMergeFault, MergeLeaves, AnswersFiles, AnswersOtherHeads};
+ghost use Rattle.ffv1_commands.specs.MergeText.{MergesFiles, IsMergeFault, MergeLeaves, AnswersFiles, AnswersOtherHeads, TellsMerge};
 
 use crate::fault::{CliFault, of_merge};
 use crate::path::CommandPath;
@@ -50,16 +49,16 @@ pub fn run_merge<R: Read, Q: Read, O: Write>(
     )
 }
 
-/// The command over sources and a sink.
-fn merge_of<R: Source, Q: Source, O: Sink>(
+/// The command over sources and a sink, whose logs say how it went: at `Read` one of the sources was given up, and at `Write` the
+/// sink was; no other failures came but interruptions.
+pub fn merge_of<R: Source, Q: Source, O: Sink>(
     alloc: Global,
     left: &mut R,
     right: &mut Q,
     out: &mut O,
 ) -> Result<(), CliFault>
-    ensures ok { OnOk result (MergesFiles (R.log left.old).remaining (Q.log right.old).remaining (O.log out.old).contents (O.log out.new).contents) }
-    ensures err { IfErr result (IsMergeFault (R.log left.old).remaining (Q.log right.old).remaining) }
-    ensures leaves { IfErr result (MergeLeaves (R.log left.old).remaining (Q.log right.old).remaining (O.log out.old).contents (O.log out.new).contents) }
+    ensures told { TellsMerge result (record { left = R.log left.old; right = Q.log right.old; sink = O.log out.old })
+        (record { left = R.log left.new; right = Q.log right.new; sink = O.log out.new }) }
     ensures most { WritesAtMost (O.log out.old).contents (O.log out.new).contents file_limit }
 
     ensures only { (v w : Version) (g h : Contents) → IsSameReel g h → IsFileOf (R.log left.old).remaining v g → IsFileOf (Q.log right.old).remaining w h
@@ -67,12 +66,6 @@ fn merge_of<R: Source, Q: Source, O: Sink>(
     ensures other { (g h : Reel) → BeginsWithHead (R.log left.old).remaining g → BeginsWithHead (Q.log right.old).remaining h → ¬ (g ≡ h)
         → AnswersOtherHeads result }
     ensures untouched { IsErrOf result (CliFault.HoldFile HoldFileFault.OtherReel) → out.new ≡ out.old }
-    ensures names { IfErr result (NamesPath IsMergePath) }
-
-    ensures inputs_failed { IsErrOf result (CliFault.Read CommandPath.Inputs)
-        → HasFailed (R.log left.old).tries.failures (R.log left.new).tries.failures ⊎ HasFailed (Q.log right.old).tries.failures (Q.log right.new).tries.failures }
-    ensures out_failed { IsErrOf result (CliFault.Write CommandPath.Out) → HasFailed (O.log out.old).tries.failures (O.log out.new).tries.failures }
-    ensures same_out { (O.log out.new).reference ≡ (O.log out.old).reference }
 {
     match join_streams(alloc, left, right, out) {
         Ok(()) => Ok(()),

@@ -1,10 +1,9 @@
 //! The command `picture`: writes what can be shown of a holding file (own).
-ghost use Rattle.std.specs.Prelude.{◌≡◌, ◌++◌, ◌<◌, ◌^◌, ◌↔◌, All, IsTrue, IfOk, IfErr, IsErrOf, OnOk, length, string_bytes};
-ghost use Rattle.ffv1_devices.specs.Logs.{HasFailed};
+ghost use Rattle.std.specs.Prelude.{◌≡◌, ◌++◌, ◌<◌, ◌^◌, ◌↔◌, All, IsTrue, IfOk, IfErr, OnOk, length, string_bytes};
 ghost use Rattle.ffv1_commands.specs.Fault.{NamesPath};
 ghost use Rattle.ffv1_commands.specs.Paths.{IsHoldPath};
-ghost use Rattle.ffv1_commands.specs.Devices.{UnlessWriting, TellsFailure};
-ghost use Rattle.ffv1_commands.specs.PictureText.{place_line, header_line, unreadable_line, outcome_line, picture_text, IsDecoded, ShowsFile, PictureStops};
+ghost use Rattle.ffv1_commands.specs.Devices.{UnlessWriting};
+ghost use Rattle.ffv1_commands.specs.PictureText.{place_line, header_line, unreadable_line, outcome_line, picture_text, IsDecoded, ShowsFile, PictureStops, TellsPicture};
 
 use crate::devices::buffered;
 use crate::fault::CliFault;
@@ -45,25 +44,16 @@ pub fn run_picture<R: Read, O: Write, W: Write>(
     )
 }
 
-/// The command over a source and sinks.
-fn picture_of<R: Source, O: Sink, W: Sink>(
+/// The command over a source and sinks, whose logs say how it went: at `Read` the source was given up, and at `Write` the sink
+/// that is named; no other failures came but interruptions.
+pub fn picture_of<R: Source, O: Sink, W: Sink>(
     alloc: Global,
     file: &mut R,
     out: &mut O,
     output: &mut W,
 ) -> Result<bool, CliFault>
-    ensures ok { IfOk result (ShowsFile (R.log file.old).remaining (O.log out.old).contents (O.log out.new).contents (W.log output.old).contents (W.log output.new).contents) }
-    ensures err { IfErr result (PictureStops (R.log file.old).remaining (O.log out.old).contents (O.log out.new).contents (W.log output.old).contents (W.log output.new).contents) }
+    ensures told { TellsPicture result (R.log file.old) (R.log file.new) (O.log out.old) (O.log out.new) (W.log output.old) (W.log output.new) }
     ensures untouched { IfErr result (λ fault. UnlessWriting fault ((out.new ≡ out.old) × (output.new ≡ output.old))) }
-    ensures names { IfErr result (NamesPath IsHoldPath) }
-
-    ensures file_failed { IsErrOf result (CliFault.Read (CommandPath.Hold 0)) → HasFailed (R.log file.old).tries.failures (R.log file.new).tries.failures }
-    ensures out_told { TellsFailure (IsErrOf result (CliFault.Write CommandPath.Out)) (O.log out.old).tries.failures (O.log out.new).tries.failures
-        (O.log out.old).tries.broken (O.log out.new).tries.broken }
-    ensures output_told { TellsFailure (IsErrOf result (CliFault.Write CommandPath.StandardOutput)) (W.log output.old).tries.failures (W.log output.new).tries.failures
-        (W.log output.old).tries.broken (W.log output.new).tries.broken }
-    ensures same_out { (O.log out.new).reference ≡ (O.log out.old).reference }
-    ensures same_output { (W.log output.new).reference ≡ (W.log output.old).reference }
 {
     let holding = read_holding(alloc, file, CommandPath::Hold(0))?;
     let partial = picture(alloc, &holding)?;

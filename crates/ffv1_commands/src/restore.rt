@@ -1,10 +1,9 @@
 //! The command `restore`: writes the frame payload that a holding file restores (own).
-ghost use Rattle.std.specs.Prelude.{◌≡◌, IfOk, IfErr, IsErrOf, OnOk, string_bytes};
-ghost use Rattle.ffv1_devices.specs.Logs.{HasFailed};
+ghost use Rattle.std.specs.Prelude.{◌≡◌, IfOk, IfErr, OnOk, string_bytes};
 ghost use Rattle.ffv1_commands.specs.Fault.{NamesPath};
 ghost use Rattle.ffv1_commands.specs.Paths.{IsHoldPath};
-ghost use Rattle.ffv1_commands.specs.Devices.{UnlessWriting, TellsFailure};
-ghost use Rattle.ffv1_commands.specs.RestoreText.{restored_line, RestoresFile, RestoreStops};
+ghost use Rattle.ffv1_commands.specs.Devices.{UnlessWriting};
+ghost use Rattle.ffv1_commands.specs.RestoreText.{restored_line, RestoresFile, RestoreStops, TellsRestore};
 
 use crate::devices::{buffered, write_both};
 use crate::fault::CliFault;
@@ -41,25 +40,16 @@ pub fn run_restore<R: Read, O: Write, W: Write>(
     )
 }
 
-/// The command over a source and sinks.
-fn restore_of<R: Source, O: Sink, W: Sink>(
+/// The command over a source and sinks, whose logs say how it went: at `Read` the source was given up, and at `Write` the sink
+/// that is named; no other failures came but interruptions.
+pub fn restore_of<R: Source, O: Sink, W: Sink>(
     alloc: Global,
     file: &mut R,
     out: &mut O,
     output: &mut W,
 ) -> Result<(), CliFault>
-    ensures ok { OnOk result (RestoresFile (R.log file.old).remaining (O.log out.old).contents (O.log out.new).contents (W.log output.old).contents (W.log output.new).contents) }
-    ensures err { IfErr result (RestoreStops (R.log file.old).remaining (O.log out.old).contents (O.log out.new).contents (W.log output.old).contents (W.log output.new).contents) }
+    ensures told { TellsRestore result (R.log file.old) (R.log file.new) (O.log out.old) (O.log out.new) (W.log output.old) (W.log output.new) }
     ensures untouched { IfErr result (λ fault. UnlessWriting fault ((out.new ≡ out.old) × (output.new ≡ output.old))) }
-    ensures names { IfErr result (NamesPath IsHoldPath) }
-
-    ensures file_failed { IsErrOf result (CliFault.Read (CommandPath.Hold 0)) → HasFailed (R.log file.old).tries.failures (R.log file.new).tries.failures }
-    ensures out_told { TellsFailure (IsErrOf result (CliFault.Write CommandPath.Out)) (O.log out.old).tries.failures (O.log out.new).tries.failures
-        (O.log out.old).tries.broken (O.log out.new).tries.broken }
-    ensures output_told { TellsFailure (IsErrOf result (CliFault.Write CommandPath.StandardOutput)) (W.log output.old).tries.failures (W.log output.new).tries.failures
-        (W.log output.old).tries.broken (W.log output.new).tries.broken }
-    ensures same_out { (O.log out.new).reference ≡ (O.log out.old).reference }
-    ensures same_output { (W.log output.new).reference ≡ (W.log output.old).reference }
 {
     let holding = read_holding(alloc, file, CommandPath::Hold(0))?;
     let payload = holding.restore()?;

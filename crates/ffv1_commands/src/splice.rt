@@ -1,11 +1,11 @@
 //! The command `splice`: splices copies of one frame by the footers of their slices alone (own; footers are those of RFC
 //! 9043, section 4.9).
-ghost use Rattle.std.specs.Prelude.{◌≡◌, ◌<◌, ◌++◌, length, map, IfOk, IfErr, IsErrOf, OnOk, string_bytes};
+ghost use Rattle.std.specs.Prelude.{◌≡◌, ◌<◌, ◌++◌, length, map, IfOk, IfErr, OnOk, string_bytes};
 ghost use Rattle.ffv1_splice.specs.Splice.{IsSpliceOf};
 ghost use Rattle.ffv1_commands.specs.Fault.{NamesPath};
 ghost use Rattle.ffv1_commands.specs.Paths.{IsSplicePath};
-ghost use Rattle.ffv1_commands.specs.Devices.{IsWholeInput, AreWholeInputs, IsInputFault, UnlessWriting, TellsFailure};
-ghost use Rattle.ffv1_commands.specs.SpliceText.{standing_line, front_line, splice_text, IsReadFault, IsLengthFault, SplicesCopies, SpliceStops};
+ghost use Rattle.ffv1_commands.specs.Devices.{UnlessWriting};
+ghost use Rattle.ffv1_commands.specs.SpliceText.{standing_line, front_line, splice_text, IsLengthFault, SplicesCopies, SpliceStops, LaterKept, ReadsCopy, AreTaken, StopsAtCopy, TellsSplice};
 
 use crate::devices::{read_file, write_both};
 use crate::fault::CliFault;
@@ -20,7 +20,7 @@ use std::io::{Read, Write};
 /// `3698..4515 woven 4`; and last `end whole`, or `end broken at 1833` where the front before that place can't be divided.
 /// Answers whether all of the frame is given back: the places cover it, and each is settled or woven.
 ///
-/// `Read` comes with the first copy that can't be read, or is longer than 2^30 bytes; `Splice`, where all are read, with the first
+/// `Read` comes with the first copy that can't be read, or is longer than 2^30 bytes, and no copy after it is read; `Splice`, where all are read, with the first
 /// copy that is not as long as the first one; `Memory` where a growth is refused: then nothing was written, and `out` was not
 /// touched. `Write` comes where `out` or the output fails: a front of the splice was written, or the whole and a front of the lines.
 pub fn run_splice<C: Read, O: Write, W: Write>(
@@ -36,6 +36,7 @@ pub fn run_splice<C: Read, O: Write, W: Write>(
         (O.contents out.old) (O.contents out.new) (W.contents output.old) (W.contents output.new)) }
     ensures untouched { IfErr result (λ fault. UnlessWriting fault ((out.new ≡ out.old) × (output.new ≡ output.old))) }
     ensures names { IfErr result (NamesPath (IsSplicePath (length copies.old))) }
+    ensures later_kept { IfErr result (LaterKept copies.old copies.new) }
 {
     splice_of(
         alloc,
@@ -45,27 +46,18 @@ pub fn run_splice<C: Read, O: Write, W: Write>(
     )
 }
 
-/// The command over readers of copies, and sinks.
-fn splice_of<C: Read, O: Sink, W: Sink>(
+/// The command over readers of copies, each of which is read by a source of its own, and sinks. The logs say how it went: at `Read`
+/// the source of the copy that is named was given up or passed the limit, and at `Write` the sink that is named was given up;
+/// no other failures came but interruptions.
+pub fn splice_of<C: Read, O: Sink, W: Sink>(
     alloc: Global,
     copies: &mut [C],
     out: &mut O,
     output: &mut W,
 ) -> Result<bool, CliFault>
     requires { 0 < length copies.old }
-    ensures ok { IfOk result (SplicesCopies (map C.remaining copies.old)
-        (O.log out.old).contents (O.log out.new).contents (W.log output.old).contents (W.log output.new).contents) }
-    ensures err { IfErr result (SpliceStops (map C.remaining copies.old)
-        (O.log out.old).contents (O.log out.new).contents (W.log output.old).contents (W.log output.new).contents) }
+    ensures told { TellsSplice C.remaining result copies.old copies.new (O.log out.old) (O.log out.new) (W.log output.old) (W.log output.new) }
     ensures untouched { IfErr result (λ fault. UnlessWriting fault ((out.new ≡ out.old) × (output.new ≡ output.old))) }
-    ensures names { IfErr result (NamesPath (IsSplicePath (length copies.old))) }
-
-    ensures out_told { TellsFailure (IsErrOf result (CliFault.Write CommandPath.Out)) (O.log out.old).tries.failures (O.log out.new).tries.failures
-        (O.log out.old).tries.broken (O.log out.new).tries.broken }
-    ensures output_told { TellsFailure (IsErrOf result (CliFault.Write CommandPath.StandardOutput)) (W.log output.old).tries.failures (W.log output.new).tries.failures
-        (W.log output.old).tries.broken (W.log output.new).tries.broken }
-    ensures same_out { (O.log out.new).reference ≡ (O.log out.old).reference }
-    ensures same_output { (W.log output.new).reference ≡ (W.log output.old).reference }
 {
     let read = read_copies(alloc, copies)?;
     let spliced = spliced_of(alloc, read.as_slice())?;
@@ -74,10 +66,10 @@ fn splice_of<C: Read, O: Sink, W: Sink>(
     Ok(spliced.is_given_back())
 }
 
-/// The bytes of all copies.
+/// The bytes of all copies, which are read in turn, up to the first that can't be read.
 fn read_copies<C: Read>(alloc: Global, copies: &mut [C]) -> Result<Vec<Vec<u8>>, CliFault>
-    ensures ok { IfOk result (λ read. AreWholeInputs (map C.remaining copies.old) (map (λ copy. copy.items) read.items)) }
-    ensures err { IfErr result (IsReadFault (map C.remaining copies.old)) }
+    ensures ok { IfOk result (λ read. AreTaken (map C.remaining copies.old) (map (λ copy. copy.items) read.items)) }
+    ensures err { IfErr result (StopsAtCopy C.remaining copies.old copies.new) }
 {
     let mut read = Vec::new(alloc);
     for index in 0..copies.len() {
@@ -89,8 +81,7 @@ fn read_copies<C: Read>(alloc: Global, copies: &mut [C]) -> Result<Vec<Vec<u8>>,
 
 /// The bytes of a copy, before which stand so many others; at most 2^30.
 fn read_one<C: Read>(alloc: Global, copy: &mut C, before: usize) -> Result<Vec<u8>, CliFault>
-    ensures ok { IfOk result (λ read. IsWholeInput (C.remaining copy.old) read.items) }
-    ensures err { IfErr result (IsInputFault (CommandPath.Copy before)) }
+    ensures { ReadsCopy (λ v. v.items) (CommandPath.Copy before) result (C.remaining copy.old) }
 {
     read_file(alloc, &mut FromRead::new(copy), CommandPath::Copy(before))
 }

@@ -1,6 +1,7 @@
-use Rattle.std.proofs.Common.{List, ℕ, Option, sym, subst, ap}
+use Rattle.std.proofs.Common.{rules, List, ℕ, Option, sym, subst, ap}
 use Rattle.ffv1_devices.specs.Logs.{ReadLog}
 use Rattle.ffv1_hold.specs.JoinedStreams.{BeginsWithHead, IsFileOf}
+use Rattle.ffv1_commands.proofs.MergedFiles.{merge_of_bytes}
 use Rattle.ffv1_commands.proofs.merge.run_merge.Goals as goal
 
 abbrev remaining_of : ReadLog → Option (List ℕ)
@@ -15,3 +16,21 @@ pub returns-clause-only : goal.returns-clause-only
 returns-clause-only g c v w one two same left right =
     c.merge_of.ensures.only v w one two same (subst (λ (o : Option (List ℕ)). IsFileOf o v one) (sym (ap remaining_of c.new.ensures.log)) left)
     (subst (λ (o : Option (List ℕ)). IsFileOf o w two) (sym (ap remaining_of c.new-2.ensures.log)) right)
+
+pub returns-clause-ok : goal.returns-clause-ok
+returns-clause-ok g c =
+    let bytes = merge_of_bytes _ _ c.merge_of.result c.merge_of.ensures.told in
+    search (rules, bytes.ok)
+
+pub returns-clause-err : goal.returns-clause-err
+returns-clause-err g c =
+    let bytes = merge_of_bytes _ _ c.merge_of.result c.merge_of.ensures.told in
+    search (rules, bytes.err)
+
+pub returns-clause-leaves : goal.returns-clause-leaves
+returns-clause-leaves g c =
+    let bytes = merge_of_bytes _ _ c.merge_of.result c.merge_of.ensures.told in
+    search (rules, bytes.leaves)
+
+pub returns-clause-names : goal.returns-clause-names
+returns-clause-names g c = (merge_of_bytes _ _ c.merge_of.result c.merge_of.ensures.told).names
