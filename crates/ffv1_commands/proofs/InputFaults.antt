@@ -39,15 +39,6 @@ pub untouched_both : {O W : Type 0} (out : O) (output : W) (fault : CliFault) �
     → UnlessWriting fault ((out ≡ out) × (output ≡ output))
 untouched_both out output fault none = UnlessWriting-unwritten ((out ≡ out) × (output ≡ output)) fault none (refl, refl)
 
--- ---- what is told of devices
-
--- ---- a fault of writing both outputs
-
-module _ (file text : List ℕ) (ob oa pb pa : Option (List ℕ)) where
-  pub WriteStops-not_read : (r : Result (Unit {0}) CliFault) (path : CommandPath) → IfErr r (WriteStops file text ob oa pb pa) → IsErrOf r (faults.Read path)
-      → ⊥
-  WriteStops-not_read r path stops is = subst (λ (x : Result (Unit {0}) CliFault). IfErr x (WriteStops file text ob oa pb pa)) is stops
-
 -- ---- what any fault of an input says, if that of each form says so
 
 module _ (P : CliFault → Type 0) where

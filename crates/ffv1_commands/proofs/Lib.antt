@@ -20,7 +20,6 @@ pub mod CommandLaws
 pub mod SpliceCommandLaws
 pub mod WholeFrames
 pub mod Wrapped
-pub mod HeldFiles
 pub mod NamedFiles
 pub mod MadeFiles
 pub mod LaterInputs
