@@ -1,6 +1,5 @@
 -- The text of a chain, printed link by link.
 use Rattle.std.proofs.Common.{◌≡◌, ◌≤◌, ℕ, List, [], ◌∷◌, ◌++◌, length, Option, IfSome, Result, Ok, Err, OnOk, IfErr, inl, inr, refl, sym, ap, subst, ◌∙◌, append_assoc}
-use Rattle.std.specs.Result.{IsErrOf}
 use Rattle.std.specs.Io.KnownBytes.{Keeps}
 use Rattle.std.proofs.KnownBytes.{Consumes-whole, Keeps-refl}
 use Rattle.ffv1_bits.specs.Limits.{payload_limit}
@@ -20,8 +19,8 @@ use Rattle.ffv1_commands.specs.declared.fault.CliFault.{CliFault}
 use Rattle.ffv1_commands.specs.declared.fault.CliFault.TheVariants as faults
 use Rattle.ffv1_commands.specs.declared.path.CommandPath.{CommandPath}
 use Rattle.ffv1_commands.specs.declared.path.CommandPath.TheVariants as paths
-use Rattle.ffv1_commands.proofs.InputFaults.{IsUnwritten, untouched_one, IsInputFault-says}
-use Rattle.ffv1_commands.proofs.Telling.{whole_of, stops_of}
+use Rattle.ffv1_commands.proofs.UnreadFiles.{file_says}
+use Rattle.ffv1_commands.proofs.Telling.{whole_of}
 use Rattle.ffv1_commands.proofs.PrintSteps.{front_rest, front-fails}
 
 -- one link more
@@ -63,24 +62,10 @@ module _ (a b c : WriteLog) (waits lines : List ℕ) (links left : List Piece) (
 
 module _ (f : CliFault) (a b : ReadLog) where
   pub payload_unread : (output : WriteLog) → FileStops paths.Frame f a b → ChainBreaks a b output output f
-  payload_unread output = unread_at f
-    where
-      unread_at : (f : CliFault) → FileStops paths.Frame f a b → ChainBreaks a b output output f
-      unread_at (faults.Read named) (same, unread) = (same, unread, refl)
-      unread_at faults.Memory stops = (stops, refl)
-      unread_at (faults.Write named) stops = absurd stops
-      unread_at (faults.Setup fault) stops = absurd stops
-      unread_at (faults.Hold fault) stops = absurd stops
-      unread_at (faults.HoldFile fault) stops = absurd stops
-      unread_at (faults.Frame fault) stops = absurd stops
-      unread_at (faults.Missing tile) stops = absurd stops
-      unread_at (faults.Disputed tile) stops = absurd stops
-      unread_at (faults.Splice other) stops = absurd stops
-      unread_at (faults.Ranges line) stops = absurd stops
-      unread_at faults.Words stops = absurd stops
+  payload_unread output = file_says (ChainBreaks a b output output) paths.Frame a b (λ unread. (refl, unread, refl)) (λ within. (within, refl)) f
 
   pub payload_untouched : {W : Type 0} (output : W) → FileStops paths.Frame f a b → UnlessWriting f (output ≡ output)
-  payload_untouched output stops = untouched_one output f (IsInputFault-says IsUnwritten paths.Frame f tt tt (stops_of paths.Frame f a b stops))
+  payload_untouched output = file_says (λ fault. UnlessWriting fault (output ≡ output)) paths.Frame a b (λ unread. refl) (λ within. refl) f
 
 -- ---- the same of bytes
 

@@ -1,16 +1,12 @@
 -- What a fault that comes before anything is written says: which path it names, and that it tells nothing of the outputs.
-use Rattle.std.proofs.Common.{◌≡◌, ◌≢◌, ℕ, List, Option, Result, Err, IfSome, IfErr, inl, inr, refl, sym, arith, subst}
-use Rattle.std.specs.Prelude.{IsErrOf}
+use Rattle.std.proofs.Common.{◌≡◌, ℕ, List, Option, IfSome, refl, sym, subst}
 use Rattle.ffv1_hold.specs.FileFaults.{IsFaultOf}
 use Rattle.ffv1_hold.specs.declared.file_fault.HoldFileFault.{HoldFileFault}
-use Rattle.ffv1_commands.specs.Devices.{IsInputFault, UnlessWriting, IfOfRecord, WriteStops}
-use Rattle.ffv1_commands.specs.Fault.{NamesPath, NamesNoPath}
+use Rattle.ffv1_commands.specs.Devices.{UnlessWriting}
 use Rattle.ffv1_commands.specs.Holdings.{IsHoldingFault}
 use Rattle.ffv1_commands.specs.declared.fault.CliFault.{CliFault}
 use Rattle.ffv1_commands.specs.declared.fault.CliFault.TheVariants as faults
 use Rattle.ffv1_commands.specs.declared.path.CommandPath.{CommandPath}
-use Rattle.ffv1_commands.specs.declared.path.CommandPath.TheVariants as paths
-use Rattle.ffv1_commands.proofs.WriteSteps.{writing}
 
 -- The fault comes before anything is written.
 abbrev pub IsUnwritten : CliFault → Type 0
@@ -39,7 +35,7 @@ pub untouched_both : {O W : Type 0} (out : O) (output : W) (fault : CliFault) �
     → UnlessWriting fault ((out ≡ out) × (output ≡ output))
 untouched_both out output fault none = UnlessWriting-unwritten ((out ≡ out) × (output ≡ output)) fault none (refl, refl)
 
--- ---- what any fault of an input says, if that of each form says so
+-- ---- what any fault of a holding file says, if that of each form says so
 
 module _ (P : CliFault → Type 0) where
   pub IsHoldingFault-says : (path : CommandPath) (input : Option (List ℕ)) (fault : CliFault) → P (faults.Read path) → P faults.Memory
@@ -56,17 +52,3 @@ module _ (P : CliFault → Type 0) where
   IsHoldingFault-says path input (faults.Splice other) read memory file is = absurd is
   IsHoldingFault-says path input (faults.Ranges line) read memory file is = absurd is
   IsHoldingFault-says path input faults.Words read memory file is = absurd is
-
-  pub IsInputFault-says : (path : CommandPath) (fault : CliFault) → P (faults.Read path) → P faults.Memory → IsInputFault path fault → P fault
-  IsInputFault-says path (faults.Read named) read memory is = subst (λ n. P (faults.Read n)) (sym is) read
-  IsInputFault-says path (faults.Write named) read memory is = absurd is
-  IsInputFault-says path (faults.Setup fault) read memory is = absurd is
-  IsInputFault-says path (faults.Hold fault) read memory is = absurd is
-  IsInputFault-says path (faults.HoldFile fault) read memory is = absurd is
-  IsInputFault-says path (faults.Frame fault) read memory is = absurd is
-  IsInputFault-says path (faults.Missing tile) read memory is = absurd is
-  IsInputFault-says path (faults.Disputed tile) read memory is = absurd is
-  IsInputFault-says path faults.Memory read memory is = memory
-  IsInputFault-says path (faults.Splice other) read memory is = absurd is
-  IsInputFault-says path (faults.Ranges line) read memory is = absurd is
-  IsInputFault-says path faults.Words read memory is = absurd is

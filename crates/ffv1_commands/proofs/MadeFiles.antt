@@ -1,13 +1,11 @@
 -- What writing the file of a holding and then a text says of both.
-use Rattle.std.proofs.Common.{◌≡◌, ◌≢◌, ℕ, List, Result, Ok, Err, inl, inr, refl, sym, subst}
+use Rattle.std.proofs.Common.{◌≡◌, ℕ, List, Result, Ok, Err, inl, inr, refl, sym, subst}
 use Rattle.std.specs.Io.KnownBytes.{Keeps}
 use Rattle.std.proofs.KnownBytes.{Keeps-refl}
 use Rattle.ffv1_devices.specs.Logs.{WriteLog, Writes, StopsWriting}
 use Rattle.ffv1_hold.specs.Contents.{Contents}
 use Rattle.ffv1_hold.specs.HoldingText.{holding_text}
 use Rattle.ffv1_hold.specs.declared.file_fault.HoldFileFault.{HoldFileFault}
-use Rattle.ffv1_hold.specs.declared.file_fault.HoldFileFault.TheVariants as files
-use Rattle.ffv1_hold.specs.Saving.{IsTooLong, SavesFile}
 use Rattle.ffv1_commands.specs.Devices.{WritesNamed}
 use Rattle.ffv1_commands.specs.Holdings.{HasFile, IsFileFault, MadeStops, SavingBreaks, MadeBreaks, WritesMade}
 use Rattle.ffv1_commands.specs.declared.fault.CliFault.{CliFault}

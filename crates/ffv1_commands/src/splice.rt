@@ -73,8 +73,10 @@ fn read_copies<C: Read>(alloc: Global, copies: &mut [C]) -> Result<Vec<Vec<u8>>,
 {
     let mut read = Vec::new(alloc);
     for index in 0..copies.len() {
-        let copy = read_one(alloc, &mut copies[index], index)?;
-        read.push(copy)?;
+        match read_one(alloc, &mut copies[index], index) {
+            Ok(copy) => read.push(copy)?,
+            Err(fault) => return Err(fault),
+        }
     }
     Ok(read)
 }

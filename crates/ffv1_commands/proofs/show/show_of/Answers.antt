@@ -6,7 +6,8 @@ use Rattle.ffv1_commands.specs.Devices.{UnlessWriting, WritesNamed}
 use Rattle.ffv1_commands.specs.ShowText.{ShowBreaks}
 use Rattle.ffv1_commands.specs.declared.path.CommandPath.TheVariants as paths
 use Rattle.ffv1_commands.proofs.WriteSteps.{setups}
-use Rattle.ffv1_commands.proofs.NamedFiles.{FileStops-says, named-untouched}
+use Rattle.ffv1_commands.proofs.NamedFiles.{named-untouched}
+use Rattle.ffv1_commands.proofs.UnreadFiles.{file_says}
 use Rattle.ffv1_commands.proofs.Shows.{setup_printed}
 use Rattle.ffv1_commands.proofs.show.show_of.Goals as goal
 
@@ -18,8 +19,8 @@ returns-in_err-config g c =
     let printed = g.W.Sink.log output in
     let breaks = ShowBreaks c.args.width c.args.height (g.R.Source.log c.args.input.now) (g.R.Source.log c.read_file.new.source) printed printed in
     rw (p.1, p.2) (record {
-      told = FileStops-says breaks paths.Record f _ _ (λ unread. (refl, unread, refl)) (λ within. (within, refl)) c.in_err-config.ensures;
-      untouched = FileStops-says (λ fault. UnlessWriting fault (output ≡ output)) paths.Record f _ _ (λ unread. refl) (λ within. refl)
+      told = file_says breaks paths.Record _ _ (λ unread. (refl, unread, refl)) (λ within. (within, refl)) f c.in_err-config.ensures;
+      untouched = file_says (λ fault. UnlessWriting fault (output ≡ output)) paths.Record _ _ (λ unread. refl) (λ within. refl) f
           c.in_err-config.ensures;
     })
 

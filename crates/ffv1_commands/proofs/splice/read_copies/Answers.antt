@@ -16,27 +16,26 @@ loop-index-preserved g c =
     let lt : i < length old = omega arith in
     let d = c.index-copies-index.result in
     let same = c.loop-index.invariant.others i d (omega arith) in
-    let more = AreTaken-push (take i (map g.C.Read.remaining old)) (map (λ copy. copy.items) c.loop-index.read.items) _ c.in_ok-copy.copy.items
-    c.loop-index.invariant.read c.in_ok-copy.ensures in
+    let more = AreTaken-push (take i (map g.C.Read.remaining old)) (map (λ copy. copy.items) c.loop-index.read.items) _ c.in-Ok.copy.items
+    c.loop-index.invariant.read c.in-Ok.ensures in
     record {
       read = subst (λ (inputs : List (Option (List ℕ))). AreTaken inputs (map (λ copy. copy.items) c.push.new.self.items))
           (inputs_more g.C.Read.remaining old now i d lt same)
-          (subst (AreTaken _) (map_push (λ copy. copy.items) c.loop-index.read.items c.push.new.self.items c.in_ok-copy.copy c.in_ok-push.ensures.items) more);
+          (subst (AreTaken _) (map_push (λ copy. copy.items) c.loop-index.read.items c.push.new.self.items c.in-Ok.copy c.in_ok-push-in-Ok.ensures.items) more);
       others = others_kept old now i c.read_one.new.copy c.loop-index.invariant.others;
     }
 
-pub returns-in_err-copy-clause-err : goal.returns-in_err-copy-clause-err
-returns-in_err-copy-clause-err g c =
-    let p = err_from_is_err_and c.from_residual.result c.from_residual.ensures.1 in
-    let f = c.in_err-copy.field-0.0 in
+pub returns-in-Err-clause-err : goal.returns-in-Err-clause-err
+returns-in-Err-clause-err g c =
+    let f = c.in-Err.fault in
     let i = c.loop-index.index in
     let old = c.args.copies.now in
     let now = c.loop-index.copies in
     let lt : i < length old = omega arith in
     let d = c.index-copies-index.result in
     let same = c.loop-index.invariant.others i d (omega arith) in
-    let (log, stopped) = c.in_err-copy.ensures in
-    rw (p.1, p.2) (record {
+    let (log, stopped) = c.in-Err.ensures in
+    record {
       index = i;
       there = lt;
       copies = map (λ copy. copy.items) c.loop-index.read.items;
@@ -44,18 +43,18 @@ returns-in_err-copy-clause-err g c =
       log = log;
       stopped = subst (λ (input : Option (List ℕ)). FileStops (paths.Copy i) f (log_of input) log) (sym (input_at g.C.Read.remaining old now i d lt same)) stopped;
       later = λ k e le. others_kept old now i c.read_one.new.copy c.loop-index.invariant.others k e (omega arith);
-    })
+    }
 
-pub returns-in_err-push-clause-err : goal.returns-in_err-push-clause-err
-returns-in_err-push-clause-err g c =
-    let p = err_from_is_err_and c.from_residual-in_err-push.result c.from_residual-in_err-push.ensures.1 in
+pub returns-in_err-push-in-Ok-clause-err : goal.returns-in_err-push-in-Ok-clause-err
+returns-in_err-push-in-Ok-clause-err g c =
+    let p = err_from_is_err_and c.from_residual.result c.from_residual.ensures.1 in
     let i = c.loop-index.index in
     let old = c.args.copies.now in
     let now = c.loop-index.copies in
     let lt : i < length old = omega arith in
     let d = c.index-copies-index.result in
     let same = c.loop-index.invariant.others i d (omega arith) in
-    let (log, took) = c.in_ok-copy.ensures in
+    let (log, took) = c.in-Ok.ensures in
     rw (p.1, p.2) (record {
       index = i;
       there = lt;
@@ -63,6 +62,6 @@ returns-in_err-push-clause-err g c =
       earlier = c.loop-index.invariant.read;
       log = log;
       stopped = subst (λ (input : Option (List ℕ)). FileStops (paths.Copy i) faults.Memory (log_of input) log)
-          (sym (input_at g.C.Read.remaining old now i d lt same)) (c.in_ok-copy.copy.items, took.read, took.few);
+          (sym (input_at g.C.Read.remaining old now i d lt same)) (c.in-Ok.copy.items, took.read, took.few);
       later = λ k e le. others_kept old now i c.read_one.new.copy c.loop-index.invariant.others k e (omega arith);
     })

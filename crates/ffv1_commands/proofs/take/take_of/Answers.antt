@@ -9,7 +9,7 @@ use Rattle.ffv1_commands.specs.TakeText.{TakesEach, RecordRefuses}
 use Rattle.ffv1_commands.specs.declared.path.CommandPath.TheVariants as paths
 use Rattle.ffv1_commands.proofs.WriteSteps.{setups, setups_first}
 use Rattle.ffv1_commands.proofs.InputFaults.{untouched_both}
-use Rattle.ffv1_commands.proofs.NamedFiles.{FileStops-says}
+use Rattle.ffv1_commands.proofs.UnreadFiles.{file_says}
 use Rattle.ffv1_commands.proofs.TakeTold.{reel_read, copies-unwritten, made_told}
 use Rattle.ffv1_commands.proofs.take.take_of.Goals as goal
 
@@ -23,13 +23,13 @@ returns-in_err-config g c =
     let record_new = g.R.Source.log c.read_file.new.source in
     rw (p.1, p.2) (record {
       told = inl (
-        FileStops-says (RecordRefuses c.args.width c.args.height record_old record_new) paths.Record f _ _ (λ unread. (refl, unread)) (λ within. within)
+        file_says (RecordRefuses c.args.width c.args.height record_old record_new) paths.Record _ _ (λ unread. (refl, unread)) (λ within. within) f
             c.in_err-config.ensures,
         refl,
         (refl, refl),
       );
-      untouched = FileStops-says (λ fault. UnlessWriting fault ((out ≡ out) × (output ≡ output))) paths.Record f _ _ (λ unread. (refl, refl))
-          (λ within. (refl, refl)) c.in_err-config.ensures;
+      untouched = file_says (λ fault. UnlessWriting fault ((out ≡ out) × (output ≡ output))) paths.Record _ _ (λ unread. (refl, refl))
+          (λ within. (refl, refl)) f c.in_err-config.ensures;
     })
 
 pub returns-in_err-holding : goal.returns-in_err-holding
