@@ -23,7 +23,7 @@ taken_all xs bs None gone end = absurd gone
 taken_all xs bs (Some rest) is end = is ∙ ap (λ r. bs ++ r) end ∙ append-nil bs
 
 module _ (v : Version) (h : Contents) (is : IsHolding h) (fits : FitsInFile v h) where
-  -- no text goes on behind another
+  -- no text goes on after another
   text_ends : (w : Version) (g : Contents) → IsHolding g → length g.reel.config ≤ record_limit → IsTold w g → (more : ℕ) (rest : List ℕ)
       → file_text v h ≡ file_text w g ++ more ∷ rest → ⊥
   text_ends w g g_is g_fits g_told more rest same =

@@ -1,4 +1,4 @@
--- The parts of a slice behind its tag.
+-- The parts of a slice after its tag.
 use Rattle.std.proofs.Common.{◌≡◌, ℕ, ◌<◌, ◌≤◌, List, ◌++◌, length, arith, inl, inr, refl, ap, length-append}
 use Rattle.ffv1_bits.specs.Limits.{slice_limit}
 use Rattle.ffv1_holding.specs.SliceOrder.{Entry}

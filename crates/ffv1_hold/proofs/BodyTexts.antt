@@ -1,48 +1,48 @@
--- Entries behind their tags are read in one way only, and show one fault at most.
+-- Entries after their tags are read in one way only, and show one fault at most.
 use Rattle.std.proofs.Common.{◌≡◌, ℕ, List, ◌++◌, Option, sym, ap, ◌∙◌, subst, inl, inr, append_assoc}
 use Rattle.ffv1_range.specs.Setup.{SetupValue}
 use Rattle.ffv1_holding.specs.SliceOrder.{Entry}
 use Rattle.ffv1_hold.specs.declared.file_fault.HoldFileFault.{HoldFileFault}
 use Rattle.ffv1_hold.specs.declared.version.Version.{Version}
-use Rattle.ffv1_hold.specs.HoldingText.{FileEntry, slice_text, text_behind_slice, body_text}
+use Rattle.ffv1_hold.specs.HoldingText.{FileEntry, slice_text, text_after_slice, body_text}
 use Rattle.ffv1_hold.specs.FileEntries.{AreDigestsIn, HasText}
-use Rattle.ffv1_hold.specs.FileFaults.{IsRight, IsPartOfSlice, IsPartBehind, IsPartOfBody, BodyShows}
-use Rattle.ffv1_hold.proofs.SliceTexts.{same_slice, behind_slice, slice_cut, slice_none, slice_one, part_slice_none}
-use Rattle.ffv1_hold.proofs.DigestTexts.{same_behind, behind_none, behind_cut, behind_one, part_behind_none}
+use Rattle.ffv1_hold.specs.FileFaults.{IsRight, IsPartOfSlice, IsPartAfter, IsPartOfBody, BodyShows}
+use Rattle.ffv1_hold.proofs.SliceTexts.{same_slice, after_slice, slice_cut, slice_none, slice_one, part_slice_none}
+use Rattle.ffv1_hold.proofs.DigestTexts.{same_after, after_none, after_cut, after_one, part_after_none}
 
 module _ (v : Version) where
-  -- its slice, and what stands behind it, before more bytes
-  pub body_parts : (e : FileEntry) (x : List ℕ) → body_text v e ++ x ≡ slice_text e.0 ++ (text_behind_slice v e.1 ++ x)
+  -- its slice, and what stands after it, before more bytes
+  pub body_parts : (e : FileEntry) (x : List ℕ) → body_text v e ++ x ≡ slice_text e.0 ++ (text_after_slice v e.1 ++ x)
   unfolding body_text
-  body_parts e x = append_assoc (slice_text e.0) (text_behind_slice v e.1) x
+  body_parts e x = append_assoc (slice_text e.0) (text_after_slice v e.1) x
 
   -- two entries that begin the same bytes are the same
   pub same_body : (e f : FileEntry) (x y : List ℕ) → HasText v e → HasText v f → body_text v e ++ x ≡ body_text v f ++ y → (e ≡ f) × (x ≡ y)
   same_body e f x y e_has f_has same =
       let parts = sym (body_parts e x) ∙ same ∙ body_parts f y in
       let slice = same_slice e.0 f.0 _ _ (e_has.0, e_has.1) (f_has.0, f_has.1) parts in
-      let behind = same_behind v e.1 f.1 x y e_has.2 f_has.2 (behind_slice e.0 f.0 _ _ (e_has.0, e_has.1) (f_has.0, f_has.1) parts) in
-      ((λ i. (slice i, behind.0 i)), behind.1)
+      let after = same_after v e.1 f.1 x y e_has.2 f_has.2 (after_slice e.0 f.0 _ _ (e_has.0, e_has.1) (f_has.0, f_has.1) parts) in
+      ((λ i. (slice i, after.0 i)), after.1)
 
   module _ (setup : SetupValue) (last : Option FileEntry) where
     -- a slice that is right, before other bytes
     right_same : (e f : Entry) (x y : List ℕ) → IsRight setup last e → IsRight setup last f → slice_text e ++ x ≡ slice_text f ++ y → x ≡ y
-    right_same e f x y e_is f_is same = behind_slice e f x y (e_is.2, e_is.0.fits) (f_is.2, f_is.0.fits) same
+    right_same e f x y e_is f_is same = after_slice e f x y (e_is.2, e_is.0.fits) (f_is.2, f_is.0.fits) same
 
     -- a whole entry is not cut by the end
     pub body_cut : (e : FileEntry) (x : List ℕ) → HasText v e → IsPartOfBody v setup last (body_text v e ++ x) → ⊥
-    body_cut e x has (inl part) = slice_cut e.0 (text_behind_slice v e.1 ++ x) has.1 (subst IsPartOfSlice (body_parts e x) part)
+    body_cut e x has (inl part) = slice_cut e.0 (text_after_slice v e.1 ++ x) has.1 (subst IsPartOfSlice (body_parts e x) part)
     body_cut e x has (inr (f, part, split, right, cut)) =
-        let rest = behind_slice e.0 f _ part (has.0, has.1) (right.2, right.0.fits) (sym (body_parts e x) ∙ split) in
-        behind_cut v e.1 x has.2 (subst (IsPartBehind v) (sym rest) cut)
+        let rest = after_slice e.0 f _ part (has.0, has.1) (right.2, right.0.fits) (sym (body_parts e x) ∙ split) in
+        after_cut v e.1 x has.2 (subst (IsPartAfter v) (sym rest) cut)
 
     -- an entry that is right shows no fault
     pub body_none : (e : FileEntry) (x y : List ℕ) → IsRight setup last e.0 → AreDigestsIn v e.1 → (f : HoldFileFault) (s : List ℕ)
         → body_text v e ++ x ≡ s ++ y → BodyShows v setup last f s → ⊥
     body_none e x y right are f s same (inl shown) =
-        slice_none setup last e.0 (text_behind_slice v e.1 ++ x) y right f s (sym (body_parts e x) ∙ same) shown
+        slice_none setup last e.0 (text_after_slice v e.1 ++ x) y right f s (sym (body_parts e x) ∙ same) shown
     body_none e x y right are f s same (inr (d, seen, split, also, shown)) =
-        behind_none v e.1 x seen y f are (right_same e.0 d _ (seen ++ y) right also
+        after_none v e.1 x seen y f are (right_same e.0 d _ (seen ++ y) right also
         (sym (body_parts e x) ∙ same ∙ ap (λ q. q ++ y) split ∙ append_assoc (slice_text d) seen y)) shown
 
     -- two faults of one entry
@@ -53,7 +53,7 @@ module _ (v : Version) where
     body_one f g s t y z same (inr (d, seen, split, right, a)) (inl b) =
         absurd (slice_none setup last d (seen ++ y) z right g t (sym (append_assoc (slice_text d) seen y) ∙ sym (ap (λ q. q ++ y) split) ∙ same) b)
     body_one f g s t y z same (inr (d, seen, split, right, a)) (inr (e, other, apart, also, b)) =
-        behind_one v f g seen other y z (right_same d e (seen ++ y) (other ++ z) right also (sym (append_assoc (slice_text d) seen y)
+        after_one v f g seen other y z (right_same d e (seen ++ y) (other ++ z) right also (sym (append_assoc (slice_text d) seen y)
         ∙ sym (ap (λ q. q ++ y) split) ∙ same ∙ ap (λ q. q ++ z) apart ∙ append_assoc (slice_text e) other z)) a b
 
     -- no beginning of a part of an entry shows a fault
@@ -63,5 +63,5 @@ module _ (v : Version) where
         slice_cut d (seen ++ y) right.0.fits (subst IsPartOfSlice (same ∙ ap (λ q. q ++ y) split ∙ append_assoc (slice_text d) seen y) part)
     part_body_none f p s y same (inr (d, part, split, right, cut)) (inl shown) = slice_none setup last d part y right f s (sym split ∙ same) shown
     part_body_none f p s y same (inr (d, part, split, right, cut)) (inr (e, seen, apart, also, shown)) =
-        part_behind_none v f part seen y (right_same d e part (seen ++ y) right also (sym split ∙ same ∙ ap (λ q. q ++ y) apart
+        part_after_none v f part seen y (right_same d e part (seen ++ y) right also (sym split ∙ same ∙ ap (λ q. q ++ y) apart
         ∙ append_assoc (slice_text e) seen y)) cut shown

@@ -1,4 +1,4 @@
--- What stands behind slices is read in one way only, and shows one fault at most.
+-- What stands after slices is read in one way only, and shows one fault at most.
 use Rattle.std.proofs.Common.{◌≡◌, ℕ, ◌*◌, ◌<◌, ◌≤◌, ◌^◌, List, [], ◌∷◌, ◌++◌, length, refl, sym, ap, ◌∙◌, subst, inl, inr, arith, append_assoc, append-nil, length-append}
 use Rattle.std.specs.Prelude.{◌⊎◌}
 use Rattle.std.specs.List.{AllByRecursion, flat_map}
@@ -10,11 +10,11 @@ use Rattle.ffv1_hold.specs.declared.file_fault.HoldFileFault.{HoldFileFault}
 use Rattle.ffv1_hold.specs.declared.file_fault.HoldFileFault.TheVariants as faults
 use Rattle.ffv1_hold.specs.declared.version.Version.{Version}
 use Rattle.ffv1_hold.specs.declared.version.Version.TheVariants.{First, Second}
-use Rattle.ffv1_hold.specs.HoldingText.{origins_limit, be4, origins_text, text_behind_slice}
-use Rattle.ffv1_hold.specs.FileEntries.{last_of, FollowsDigest, IsDigest, AreOrigins, AreDigestsIn, HasTextBehind}
-use Rattle.ffv1_hold.specs.FileFaults.{IsPartOfOrigins, OriginsShow, IsPartBehind, ShowsBehind}
+use Rattle.ffv1_hold.specs.HoldingText.{origins_limit, be4, origins_text, text_after_slice}
+use Rattle.ffv1_hold.specs.FileEntries.{last_of, FollowsDigest, IsDigest, AreOrigins, AreDigestsIn, HasTextAfter}
+use Rattle.ffv1_hold.specs.FileFaults.{IsPartOfOrigins, OriginsShow, IsPartAfter, ShowsAfter}
 use Rattle.ffv1_hold.proofs.Bodies.{length-be4}
-use Rattle.ffv1_hold.proofs.NumberTexts.{same_front, same_back, number_same, behind_number}
+use Rattle.ffv1_hold.proofs.NumberTexts.{same_front, same_back, number_same, after_number}
 
 -- digests, one after the other
 abbrev pub whole : List (List ℕ) → List ℕ
@@ -43,7 +43,7 @@ chunks_begin (d ∷ ds) (e ∷ es) x y ds_all es_all few same =
     let rest = chunks_begin ds es x y ds_all.1 es_all.1 (omega arith) (same_back d e _ _ long all) in
     (rest.0, (λ i. sym one i ∷ rest.1 i), rest.2)
 
--- a digest in a rising list stands behind those before it
+-- a digest in a rising list stands after those before it
 rising_last : (xs : List (List ℕ)) (d : List ℕ) (rest : List (List ℕ)) → IsRising bytes_cmp ((xs ++ d ∷ []) ++ rest) → FollowsDigest (last_of xs) d
 rising_last [] d rest up = tt
 rising_last (x ∷ []) d rest up = up 0 1 d (omega arith) (omega arith)
@@ -62,7 +62,7 @@ same_origins : (ds es : List (List ℕ)) (x y : List ℕ) → AreAll ds → AreA
 same_origins ds es x y ds_all es_all ds_few es_few same =
     let all = sym (origins_parts ds x) ∙ same ∙ origins_parts es y in
     let count = number_same (length ds) (length es) _ _ all (omega arith) (omega arith) in
-    let more = chunks_begin ds es x y ds_all es_all (omega arith) (behind_number (length ds) (length es) _ _ all) in
+    let more = chunks_begin ds es x y ds_all es_all (omega arith) (after_number (length ds) (length es) _ _ all) in
     none more.0 more.1 more.2 count
   where
     none : (more : List (List ℕ)) → es ≡ ds ++ more → x ≡ whole more ++ y → length ds ≡ length es → (ds ≡ es) × (x ≡ y)
@@ -92,7 +92,7 @@ origin_kinds faults.Write s shown = absurd shown
 origin_kinds faults.Memory s shown = absurd shown
 origin_kinds faults.OtherReel s shown = absurd shown
 
--- what a digest in the wrong place stands behind, before more bytes
+-- what a digest in the wrong place stands after, before more bytes
 wrong_parts : (n : ℕ) (ds : List (List ℕ)) (d y : List ℕ) → (be4 n ++ whole ds ++ d) ++ y ≡ be4 n ++ (whole (ds ++ d ∷ []) ++ y)
 wrong_parts n ds d y =
     append_assoc (be4 n ++ whole ds) d y ∙ append_assoc (be4 n) (whole ds) (d ++ y)
@@ -119,7 +119,7 @@ origins_none es x s y f are few same shown = elim (origin_kinds f s shown) [
       let small = w.5 in
       let is = number_same (length es) w.0 _ _ all (omega arith) (omega arith) in
       let less = w.7 in
-      wrong_none es w.1 w.2 x y are w.6 w.8 w.9 (omega arith) (behind_number (length es) w.0 _ _ all)
+      wrong_none es w.1 w.2 x y are w.6 w.8 w.9 (omega arith) (after_number (length es) w.0 _ _ all)
 ]
 
 -- whole digests are not cut by the end
@@ -129,7 +129,7 @@ origins_cut es x are few (inl short) =
 origins_cut es x are few (inr (n, ds, cut, split, small, all, less, short)) =
     let parts = sym (origins_parts es x) ∙ split ∙ append_assoc (be4 n) (whole ds) cut in
     let is = number_same (length es) n _ _ parts (omega arith) (omega arith) in
-    let rest = behind_number (length es) n _ _ parts in
+    let rest = after_number (length es) n _ _ parts in
     omega (
       arith,
       is,
@@ -184,7 +184,7 @@ part_origins_none f p s y same (inr (n, ds, cut, split, small, all, less, short)
       | inr w ↦
           let spelled = sym (append_assoc (be4 n) (whole ds) cut) ∙ parts ∙ ap (λ q. q ++ y) w.4 ∙ wrong_parts w.0 w.1 w.2 y in
           let few = w.5 in
-          let rest = behind_number n w.0 _ _ spelled in
+          let rest = after_number n w.0 _ _ spelled in
           let push = length-whole (w.1 ++ w.2 ∷ []) (all_push w.1 w.2 w.6.each w.8) in
           let fewer : length w.1 < length ds = omega (
             arith,
@@ -201,28 +201,28 @@ part_origins_none f p s y same (inr (n, ds, cut, split, small, all, less, short)
 
 -- ---- by the version
 
-pub has_text_behind : (v : Version) (ds : List (List ℕ)) → AreDigestsIn v ds → HasTextBehind v ds
-has_text_behind First ds are = are
-has_text_behind Second ds are = (are.0.each, are.1)
+pub has_text_after : (v : Version) (ds : List (List ℕ)) → AreDigestsIn v ds → HasTextAfter v ds
+has_text_after First ds are = are
+has_text_after Second ds are = (are.0.each, are.1)
 
-pub same_behind : (v : Version) (ds es : List (List ℕ)) (x y : List ℕ) → HasTextBehind v ds → HasTextBehind v es
-    → text_behind_slice v ds ++ x ≡ text_behind_slice v es ++ y → (ds ≡ es) × (x ≡ y)
-same_behind First ds es x y a b same = (a ∙ sym b, same)
-same_behind Second ds es x y a b same = same_origins ds es x y a.0 b.0 a.1 b.1 same
+pub same_after : (v : Version) (ds es : List (List ℕ)) (x y : List ℕ) → HasTextAfter v ds → HasTextAfter v es
+    → text_after_slice v ds ++ x ≡ text_after_slice v es ++ y → (ds ≡ es) × (x ≡ y)
+same_after First ds es x y a b same = (a ∙ sym b, same)
+same_after Second ds es x y a b same = same_origins ds es x y a.0 b.0 a.1 b.1 same
 
-pub behind_none : (v : Version) (ds : List (List ℕ)) (x s y : List ℕ) (f : HoldFileFault) → AreDigestsIn v ds → text_behind_slice v ds ++ x ≡ s ++ y
-    → ShowsBehind v f s → ⊥
-behind_none First ds x s y f are same shown = shown
-behind_none Second ds x s y f are same shown = origins_none ds x s y f are.0 are.1 same shown
+pub after_none : (v : Version) (ds : List (List ℕ)) (x s y : List ℕ) (f : HoldFileFault) → AreDigestsIn v ds → text_after_slice v ds ++ x ≡ s ++ y
+    → ShowsAfter v f s → ⊥
+after_none First ds x s y f are same shown = shown
+after_none Second ds x s y f are same shown = origins_none ds x s y f are.0 are.1 same shown
 
-pub behind_cut : (v : Version) (ds : List (List ℕ)) (x : List ℕ) → HasTextBehind v ds → IsPartBehind v (text_behind_slice v ds ++ x) → ⊥
-behind_cut First ds x are part = part
-behind_cut Second ds x are part = origins_cut ds x are.0 are.1 part
+pub after_cut : (v : Version) (ds : List (List ℕ)) (x : List ℕ) → HasTextAfter v ds → IsPartAfter v (text_after_slice v ds ++ x) → ⊥
+after_cut First ds x are part = part
+after_cut Second ds x are part = origins_cut ds x are.0 are.1 part
 
-pub behind_one : (v : Version) (f g : HoldFileFault) (s t y z : List ℕ) → s ++ y ≡ t ++ z → ShowsBehind v f s → ShowsBehind v g t → f ≡ g
-behind_one First f g s t y z same a b = absurd a
-behind_one Second f g s t y z same a b = origins_one f g s t y z same a b
+pub after_one : (v : Version) (f g : HoldFileFault) (s t y z : List ℕ) → s ++ y ≡ t ++ z → ShowsAfter v f s → ShowsAfter v g t → f ≡ g
+after_one First f g s t y z same a b = absurd a
+after_one Second f g s t y z same a b = origins_one f g s t y z same a b
 
-pub part_behind_none : (v : Version) (f : HoldFileFault) (p s y : List ℕ) → p ≡ s ++ y → IsPartBehind v p → ShowsBehind v f s → ⊥
-part_behind_none First f p s y same part shown = shown
-part_behind_none Second f p s y same part shown = part_origins_none f p s y same part shown
+pub part_after_none : (v : Version) (f : HoldFileFault) (p s y : List ℕ) → p ≡ s ++ y → IsPartAfter v p → ShowsAfter v f s → ⊥
+part_after_none First f p s y same part shown = shown
+part_after_none Second f p s y same part shown = part_origins_none f p s y same part shown

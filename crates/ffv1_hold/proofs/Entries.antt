@@ -1,4 +1,4 @@
--- What an entry that fails behind its tag says.
+-- What an entry that fails after its tag says.
 use Rattle.std.proofs.Common.{◌≡◌, ℕ, List, [], ◌∷◌, ◌++◌, length, get_or, Option, ◌<◌, ◌^◌, ◌≤◌, arith, inl, inr, refl, ap}
 use Rattle.ffv1_bits.specs.Limits.{slice_limit}
 use Rattle.ffv1_hold.specs.declared.file_fault.HoldFileFault.{HoldFileFault}
@@ -8,10 +8,10 @@ use Rattle.ffv1_hold.specs.declared.version.Version.TheVariants.{First, Second}
 use Rattle.ffv1_range.specs.Setup.{SetupValue}
 use Rattle.ffv1_holding.specs.SliceOrder.{Entry}
 use Rattle.ffv1_hold.specs.FileEntries.{last_of, AreEntries}
-use Rattle.ffv1_hold.specs.HoldingText.{FileEntry, slice_text, text_behind_slice, body_text, entry_text, entries_text}
+use Rattle.ffv1_hold.specs.HoldingText.{FileEntry, slice_text, text_after_slice, body_text, entry_text, entries_text}
 use Rattle.ffv1_devices.specs.Logs.{ReadLog}
 use Rattle.ffv1_hold.specs.Reading.{TakesText, StopsAt}
-use Rattle.ffv1_hold.specs.FileFaults.{IsPartOfSlice, SliceIsTooLong, IsWrong, IsRight, IsPartBehind, ShowsBehind, IsPartOfEntry, EntryShows, IsPartOfEntries, EntriesShow}
+use Rattle.ffv1_hold.specs.FileFaults.{IsPartOfSlice, SliceIsTooLong, IsWrong, IsRight, IsPartAfter, ShowsAfter, IsPartOfEntry, EntryShows, IsPartOfEntries, EntriesShow}
 use Rattle.ffv1_hold.proofs.TextReads.{shown}
 
 pub single : (xs : List ℕ) (v : ℕ) → length xs ≡ 1 → get_or xs 0 0 ≡ v → xs ≡ v ∷ []
@@ -19,7 +19,7 @@ single [] v len at = absurd (omega arith)
 single (x ∷ []) v len at = ap (λ k. k ∷ []) at
 single (x ∷ y ∷ zs) v len at = absurd (omega arith)
 
-pub entry_text-of : (v : Version) (e : FileEntry) → (1 ∷ slice_text e.0) ++ text_behind_slice v e.1 ≡ entry_text v e
+pub entry_text-of : (v : Version) (e : FileEntry) → (1 ∷ slice_text e.0) ++ text_after_slice v e.1 ≡ entry_text v e
 unfolding body_text
 entry_text-of v e = refl
 
@@ -33,9 +33,9 @@ module _ (v : Version) (setup : SetupValue) (last : Option FileEntry) where
   pub part_of_slice : (s : List ℕ) → IsPartOfSlice s → IsPartOfEntry v setup last (1 ∷ [] ++ s)
   part_of_slice s h = inr (s, refl, inl h)
 
-  -- and so is a right slice, and a part of what stands behind it
-  pub part_behind_slice : (e : Entry) → IsRight setup last e → (s : List ℕ) → IsPartBehind v s → IsPartOfEntry v setup last ((1 ∷ slice_text e) ++ s)
-  part_behind_slice e right s h = inr (slice_text e ++ s, refl, inr (e, s, refl, right, h))
+  -- and so is a right slice, and a part of what stands after it
+  pub part_after_slice : (e : Entry) → IsRight setup last e → (s : List ℕ) → IsPartAfter v s → IsPartOfEntry v setup last ((1 ∷ slice_text e) ++ s)
+  part_after_slice e right s h = inr (slice_text e ++ s, refl, inr (e, s, refl, right, h))
 
   pub slice_shows : (f : HoldFileFault) (s : List ℕ) → SliceIsTooLong f s → EntryShows v setup last f (1 ∷ [] ++ s)
   slice_shows faults.TooLong s h = (s, refl, inl h)
@@ -51,24 +51,24 @@ module _ (v : Version) (setup : SetupValue) (last : Option FileEntry) where
   slice_shows faults.Memory s h = absurd h
   slice_shows faults.OtherReel s h = absurd h
 
-  pub behind_shows : (e : Entry) → IsRight setup last e → (f : HoldFileFault) (s : List ℕ) → ShowsBehind v f s
+  pub after_shows : (e : Entry) → IsRight setup last e → (f : HoldFileFault) (s : List ℕ) → ShowsAfter v f s
       → EntryShows v setup last f ((1 ∷ slice_text e) ++ s)
-  behind_shows e right faults.Tag s h = absurd (no_tag_behind v s h)
+  after_shows e right faults.Tag s h = absurd (no_tag_after v s h)
     where
-      no_tag_behind : (v : Version) (s : List ℕ) → ShowsBehind v faults.Tag s → ⊥
-      no_tag_behind First s h = h
-      no_tag_behind Second s h = h
-  behind_shows e right faults.TooLong s h = (slice_text e ++ s, refl, inr (e, s, refl, right, h))
-  behind_shows e right faults.Magic s h = (slice_text e ++ s, refl, inr (e, s, refl, right, h))
-  behind_shows e right (faults.Setup f) s h = (slice_text e ++ s, refl, inr (e, s, refl, right, h))
-  behind_shows e right faults.Truncated s h = (slice_text e ++ s, refl, inr (e, s, refl, right, h))
-  behind_shows e right faults.Order s h = (slice_text e ++ s, refl, inr (e, s, refl, right, h))
-  behind_shows e right faults.NotASlice s h = (slice_text e ++ s, refl, inr (e, s, refl, right, h))
-  behind_shows e right faults.Trailing s h = (slice_text e ++ s, refl, inr (e, s, refl, right, h))
-  behind_shows e right faults.Read s h = (slice_text e ++ s, refl, inr (e, s, refl, right, h))
-  behind_shows e right faults.Write s h = (slice_text e ++ s, refl, inr (e, s, refl, right, h))
-  behind_shows e right faults.Memory s h = (slice_text e ++ s, refl, inr (e, s, refl, right, h))
-  behind_shows e right faults.OtherReel s h = (slice_text e ++ s, refl, inr (e, s, refl, right, h))
+      no_tag_after : (v : Version) (s : List ℕ) → ShowsAfter v faults.Tag s → ⊥
+      no_tag_after First s h = h
+      no_tag_after Second s h = h
+  after_shows e right faults.TooLong s h = (slice_text e ++ s, refl, inr (e, s, refl, right, h))
+  after_shows e right faults.Magic s h = (slice_text e ++ s, refl, inr (e, s, refl, right, h))
+  after_shows e right (faults.Setup f) s h = (slice_text e ++ s, refl, inr (e, s, refl, right, h))
+  after_shows e right faults.Truncated s h = (slice_text e ++ s, refl, inr (e, s, refl, right, h))
+  after_shows e right faults.Order s h = (slice_text e ++ s, refl, inr (e, s, refl, right, h))
+  after_shows e right faults.NotASlice s h = (slice_text e ++ s, refl, inr (e, s, refl, right, h))
+  after_shows e right faults.Trailing s h = (slice_text e ++ s, refl, inr (e, s, refl, right, h))
+  after_shows e right faults.Read s h = (slice_text e ++ s, refl, inr (e, s, refl, right, h))
+  after_shows e right faults.Write s h = (slice_text e ++ s, refl, inr (e, s, refl, right, h))
+  after_shows e right faults.Memory s h = (slice_text e ++ s, refl, inr (e, s, refl, right, h))
+  after_shows e right faults.OtherReel s h = (slice_text e ++ s, refl, inr (e, s, refl, right, h))
 
   -- a slice that was read whole, and is wrong
   pub wrong_stops : (P : List ℕ → Type 0) (W : HoldFileFault → List ℕ → Type 0) (e : Entry) (a b : ReadLog) (i j : ℕ) (f : HoldFileFault)

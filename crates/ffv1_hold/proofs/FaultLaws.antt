@@ -17,12 +17,12 @@ use Rattle.ffv1_hold.specs.FileEntries.{last_of, Follows, IsFileEntryOf, file_en
 use Rattle.ffv1_hold.specs.FileFaults.{IsFileReel, IsPartOfBody, BodyShows, IsPartOfEntry, EntryShows, IsPartOfReel, ReelShows, MagicShows, IsPartOfFile, FileShows}
 use Rattle.ffv1_holding.proofs.RisingSets.{rising_rest}
 use Rattle.ffv1_hold.proofs.Bodies.{length-be4}
-use Rattle.ffv1_hold.proofs.NumberTexts.{no_tag, rest_same, number_same, behind_number}
+use Rattle.ffv1_hold.proofs.NumberTexts.{no_tag, rest_same, number_same, after_number}
 use Rattle.ffv1_hold.proofs.BodyTexts.{same_body, body_cut, body_none}
 use Rattle.ffv1_hold.proofs.HeldEntries.{are_entries}
-use Rattle.ffv1_hold.proofs.TextLaws.{entries_behind, none_behind, AreFitting, fitting_all, fitting_items, same_sized, same_head, behind_magic, head_parts, sized_parts, text_parts}
+use Rattle.ffv1_hold.proofs.TextLaws.{entries_after, none_after, AreFitting, fitting_all, fitting_items, same_sized, same_head, after_magic, head_parts, sized_parts, text_parts}
 
--- ---- entries behind a last one
+-- ---- entries after a last one
 
 abbrev pub last_from : Option FileEntry → List FileEntry → Option FileEntry
 last_from last [] = last
@@ -37,19 +37,19 @@ last_of-none [] = refl
 last_of-none (e ∷ es) = last_of-from e es
 
 module _ (v : Version) (setup : SetupValue) where
-  -- slices of their tiles, each behind the one before it
+  -- slices of their tiles, each after the one before it
   abbrev pub AreValid : Option FileEntry → List FileEntry → Type 0
   AreValid last [] = Unit {0}
   AreValid last (e ∷ es) = (IsFileEntryOf v setup e × Follows last e.0) × AreValid (Some e) es
 
-  valid_behind : (x : FileEntry) (es : List FileEntry) → IsRising file_entry_cmp (x ∷ es) → AllByRecursion (IsFileEntryOf v setup) es → AreValid (Some x) es
-  valid_behind x [] up each = tt
-  valid_behind x (e ∷ es) up each =
-      ((each.0, up 0 1 e (omega arith) (omega arith)), valid_behind e es (rising_rest file_entry_cmp x (e ∷ es) up) each.1)
+  valid_after : (x : FileEntry) (es : List FileEntry) → IsRising file_entry_cmp (x ∷ es) → AllByRecursion (IsFileEntryOf v setup) es → AreValid (Some x) es
+  valid_after x [] up each = tt
+  valid_after x (e ∷ es) up each =
+      ((each.0, up 0 1 e (omega arith) (omega arith)), valid_after e es (rising_rest file_entry_cmp x (e ∷ es) up) each.1)
 
   valid : (es : List FileEntry) → IsRising file_entry_cmp es → AllByRecursion (IsFileEntryOf v setup) es → AreValid None es
   valid [] up each = tt
-  valid (e ∷ es) up each = ((each.0, tt), valid_behind e es up each.1)
+  valid (e ∷ es) up each = ((each.0, tt), valid_after e es up each.1)
 
   pub valid_list : (es : List FileEntry) → AreEntries v setup es → AreValid None es
   valid_list es all = valid es all.rising all.each
@@ -93,29 +93,29 @@ module _ (v : Version) (setup : SetupValue) where
 
   shows_none : (last : Option FileEntry) (es : List FileEntry) (x y : List ℕ) → AreValid last es → AreFitting v es → (fault : HoldFileFault) (s : List ℕ)
       → entries_text v es ++ 0 ∷ x ≡ s ++ y → EntryShows v setup last fault s → ⊥
-  shows_none last [] x y all fit fault s same shown = end_none last x y fault s (sym (none_behind v (0 ∷ x)) ∙ same) shown
+  shows_none last [] x y all fit fault s same shown = end_none last x y fault s (sym (none_after v (0 ∷ x)) ∙ same) shown
   shows_none last (e ∷ es) x y all fit fault s same shown =
-      right_none last e (entries_text v es ++ 0 ∷ x) y all.0.0 fit.0 all.0.1 fault s (sym (entries_behind v e es (0 ∷ x)) ∙ same) shown
+      right_none last e (entries_text v es ++ 0 ∷ x) y all.0.0 fit.0 all.0.1 fault s (sym (entries_after v e es (0 ∷ x)) ∙ same) shown
 
-  -- behind entries that both begin with
+  -- after entries that both begin with
   entries_none : (last : Option FileEntry) (es fs : List FileEntry) (x y : List ℕ) → AreValid last es → AreFitting v es → AreFitting v fs
       → (fault : HoldFileFault) (s : List ℕ) → entries_text v es ++ 0 ∷ x ≡ (entries_text v fs ++ s) ++ y → EntryShows v setup (last_from last fs) fault s → ⊥
-  entries_none last es [] x y all fit fs_fit fault s same shown = shows_none last es x y all fit fault s (same ∙ ap (λ z. z ++ y) (none_behind v s)) shown
+  entries_none last es [] x y all fit fs_fit fault s same shown = shows_none last es x y all fit fault s (same ∙ ap (λ z. z ++ y) (none_after v s)) shown
   entries_none last [] (f ∷ fs) x y all fit fs_fit fault s same shown =
-      absurd (no_tag x ((body_text v f ++ (entries_text v fs ++ s)) ++ y) 0 1 (sym (none_behind v (0 ∷ x)) ∙ same
-      ∙ ap (λ z. z ++ y) (entries_behind v f fs s)) (λ e. omega arith))
+      absurd (no_tag x ((body_text v f ++ (entries_text v fs ++ s)) ++ y) 0 1 (sym (none_after v (0 ∷ x)) ∙ same
+      ∙ ap (λ z. z ++ y) (entries_after v f fs s)) (λ e. omega arith))
   entries_none last (e ∷ es) (f ∷ fs) x y all fit fs_fit fault s same shown =
       let bodies = rest_same (body_text v e ++ (entries_text v es ++ 0 ∷ x)) ((body_text v f ++ (entries_text v fs ++ s)) ++ y) 1 1
-      (sym (entries_behind v e es (0 ∷ x)) ∙ same ∙ ap (λ z. z ++ y) (entries_behind v f fs s)) in
+      (sym (entries_after v e es (0 ∷ x)) ∙ same ∙ ap (λ z. z ++ y) (entries_after v f fs s)) in
       let apart = bodies ∙ append_assoc (body_text v f) (entries_text v fs ++ s) y in
       let one = same_body v e f (entries_text v es ++ 0 ∷ x) ((entries_text v fs ++ s) ++ y) fit.0 fs_fit.0 apart in
       entries_none (Some e) es fs x y all.1 fit.1 fs_fit.1 fault s one.1
       (subst (λ (g : FileEntry). EntryShows v setup (last_from (Some g) fs) fault s) (sym one.0) shown)
 
-  -- what is behind a tag 1 in a part of an entry
-  pub part_behind : (last : Option FileEntry) (body : List ℕ) → IsPartOfEntry v setup last (1 ∷ body) → IsPartOfBody v setup last body
-  part_behind last body (inl none) = let long = ap length none in absurd (omega arith)
-  part_behind last body (inr (other, is, part)) = subst (IsPartOfBody v setup last) (sym (rest_same body other 1 1 is)) part
+  -- what is after a tag 1 in a part of an entry
+  pub part_after : (last : Option FileEntry) (body : List ℕ) → IsPartOfEntry v setup last (1 ∷ body) → IsPartOfBody v setup last body
+  part_after last body (inl none) = let long = ap length none in absurd (omega arith)
+  part_after last body (inr (other, is, part)) = subst (IsPartOfBody v setup last) (sym (rest_same body other 1 1 is)) part
 
   pub part_tag : (last : Option FileEntry) (tag : ℕ) (y : List ℕ) → IsPartOfEntry v setup last (tag ∷ y) → tag ≡ 1
   part_tag last tag y (inl none) = let long = ap length none in absurd (omega arith)
@@ -125,19 +125,19 @@ module _ (v : Version) (setup : SetupValue) where
   part_none : (last : Option FileEntry) (es : List FileEntry) (x s : List ℕ) → AreFitting v es → entries_text v es ++ 0 ∷ x ≡ s → IsPartOfEntry v setup last s
       → ⊥
   part_none last [] x s fit same part =
-      let tag = part_tag last 0 x (subst (IsPartOfEntry v setup last) (sym same ∙ none_behind v (0 ∷ x)) part) in omega arith
+      let tag = part_tag last 0 x (subst (IsPartOfEntry v setup last) (sym same ∙ none_after v (0 ∷ x)) part) in omega arith
   part_none last (e ∷ es) x s fit same part =
       body_cut v setup last e (entries_text v es ++ 0 ∷ x) fit.0
-      (part_behind last _ (subst (IsPartOfEntry v setup last) (sym same ∙ entries_behind v e es (0 ∷ x)) part))
+      (part_after last _ (subst (IsPartOfEntry v setup last) (sym same ∙ entries_after v e es (0 ∷ x)) part))
 
   entries_whole : (last : Option FileEntry) (es fs : List FileEntry) (x s : List ℕ) → AreFitting v es → AreFitting v fs
       → entries_text v es ++ 0 ∷ x ≡ entries_text v fs ++ s → IsPartOfEntry v setup last s → ⊥
-  entries_whole last es [] x s fit fs_fit same part = part_none last es x s fit (same ∙ none_behind v s) part
+  entries_whole last es [] x s fit fs_fit same part = part_none last es x s fit (same ∙ none_after v s) part
   entries_whole last [] (f ∷ fs) x s fit fs_fit same part =
-      no_tag x (body_text v f ++ (entries_text v fs ++ s)) 0 1 (sym (none_behind v (0 ∷ x)) ∙ same ∙ entries_behind v f fs s) (λ e. omega arith)
+      no_tag x (body_text v f ++ (entries_text v fs ++ s)) 0 1 (sym (none_after v (0 ∷ x)) ∙ same ∙ entries_after v f fs s) (λ e. omega arith)
   entries_whole last (e ∷ es) (f ∷ fs) x s fit fs_fit same part =
       let bodies = rest_same (body_text v e ++ (entries_text v es ++ 0 ∷ x)) (body_text v f ++ (entries_text v fs ++ s)) 1 1
-      (sym (entries_behind v e es (0 ∷ x)) ∙ same ∙ entries_behind v f fs s) in
+      (sym (entries_after v e es (0 ∷ x)) ∙ same ∙ entries_after v f fs s) in
       let one = same_body v e f (entries_text v es ++ 0 ∷ x) (entries_text v fs ++ s) fit.0 fs_fit.0 bodies in
       entries_whole last es fs x s fit.1 fs_fit.1 one.1 part
 
@@ -170,8 +170,8 @@ module _ (r : Reel) (is : IsFileReel r) (x y : List ℕ) where
       let n = shown.2 in
       let all = sym (sized_parts r.config r.setup.width r.setup.height x) ∙ same
       ∙ ap (λ z. z ++ y) shown.3 ∙ append_assoc (be4 w ++ be4 h) (be4 n) y ∙ append_assoc (be4 w) (be4 h) (be4 n ++ y) in
-      let one = behind_number r.setup.width w _ _ all in
-      let two = behind_number r.setup.height h _ _ one in
+      let one = after_number r.setup.width w _ _ all in
+      let two = after_number r.setup.height h _ _ one in
       let fits = is.fits in
       let long = number_same (length r.config) n _ _ two (omega arith) shown.5 in
       let over = shown.4 in
@@ -220,11 +220,11 @@ sized_cut config width height x fits (inr part) =
     let n = part.2 in
     let bytes = part.3 in
     let all = sym (sized_parts config width height x) ∙ part.4 ∙ append_assoc (be4 w ++ be4 h) (be4 n) bytes ∙ append_assoc (be4 w) (be4 h) (be4 n ++ bytes) in
-    let one = behind_number width w _ _ all in
-    let two = behind_number height h _ _ one in
+    let one = after_number width w _ _ all in
+    let two = after_number height h _ _ one in
     let few = part.5 in
     let long = number_same (length config) n _ _ two (omega arith) (omega arith) in
-    let rest = behind_number (length config) n _ _ two in
+    let rest = after_number (length config) n _ _ two in
     omega (arith, part.6, long, ap length rest, length-append config x)
 
 module _ (v : Version) (h : Contents) (is : IsHolding h) (fits : length h.reel.config ≤ record_limit) (told : IsTold v h) where
@@ -250,12 +250,12 @@ module _ (v : Version) (h : Contents) (is : IsHolding h) (fits : length h.reel.c
       (entries_text v es ++ 0 ∷ z))
   from_magic z = text_before z ∙ head_parts v h.reel (entries_text v es ++ 0 ∷ z)
 
-  -- no beginning of a text, or of what goes on behind it, shows a fault
+  -- no beginning of a text, or of what goes on after it, shows a fault
   pub text_none : (z seen rest : List ℕ) (fault : HoldFileFault) → file_text v h ++ z ≡ seen ++ rest → FileShows fault seen → ⊥
   text_none z seen rest fault same (inl shown) = magic_none v _ rest seen fault (sym (from_magic z) ∙ same) shown
   text_none z seen rest fault same (inr (inl (w, s, split, shown))) =
       reel_none h.reel file_reel (entries_text v es ++ 0 ∷ z) rest fault s
-      (behind_magic v w _ _ (sym (from_magic z) ∙ same ∙ ap (λ t. t ++ rest) split ∙ append_assoc (magic w) s rest)) shown
+      (after_magic v w _ _ (sym (from_magic z) ∙ same ∙ ap (λ t. t ++ rest) split ∙ append_assoc (magic w) s rest)) shown
   text_none z seen rest fault same (inr (inr (w, r, s, r_is, split, (fs, t, entries, inner, shown)))) =
       let heads = same_head v w h.reel r (entries_text v es ++ 0 ∷ z) (s ++ rest) file_reel r_is (sym (text_before z) ∙ same
       ∙ ap (λ t. t ++ rest) split ∙ append_assoc (head_text w r) s rest) in
@@ -273,7 +273,7 @@ module _ (v : Version) (h : Contents) (is : IsHolding h) (fits : length h.reel.c
       (sized_record h.reel.config h.reel.setup.width h.reel.setup.height ++ (entries_text v es ++ 0 ∷ z)) in omega (arith, part.0, all)
   text_whole z (inr (inl (w, s, split, part))) =
       sized_cut h.reel.config h.reel.setup.width h.reel.setup.height (entries_text v es ++ 0 ∷ z) fits
-      (subst IsPartOfReel (sym (behind_magic v w _ _ (sym (from_magic z) ∙ split))) part)
+      (subst IsPartOfReel (sym (after_magic v w _ _ (sym (from_magic z) ∙ split))) part)
   text_whole z (inr (inr (w, r, s, r_is, split, (fs, t, entries, inner, part)))) =
       let heads = same_head v w h.reel r (entries_text v es ++ 0 ∷ z) s file_reel r_is (sym (text_before z) ∙ split) in
       let entries_v = subst (λ (u : Version). AreEntries u r.setup fs) (sym heads.0) entries in

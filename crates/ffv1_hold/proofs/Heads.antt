@@ -71,7 +71,7 @@ pub whole_name : (s : List ℕ) → length s < 1 → IsPartOfMagic (name ++ s)
 whole_name [] short = (omega arith, refl)
 whole_name (x ∷ s) short = absurd (omega arith)
 
--- a byte behind the name that is the number of no version
+-- a byte after the name that is the number of no version
 pub wrong_version : (n : ℕ) → (n ≡ 1 → ⊥) → (n ≡ 2 → ⊥) → MagicShows faults.Magic (name ++ n ∷ [])
 wrong_version n one two = (name, n, refl, whole_name [] (omega arith), wrong)
   where
@@ -184,7 +184,7 @@ head_is_part v r is =
     let none : AreEntries v r.setup [] = record { each = tt; rising = λ i j d lt short. absurd (omega arith) } in
     inr (inr (v, r, [], is, sym (append-nil (head_text v r)), ([], [], none, refl, inl refl)))
 
--- a size and a record that were read, or refused, behind the magic
+-- a size and a record that were read, or refused, after the magic
 module _ (v : Version) (a b c : ReadLog) (i j k : ℕ) (t : TakesText a b i j (magic v)) where
   pub head_read : (r : Result Reel HoldFileFault)
       → ReadsText (λ r. sized_record r.config r.setup.width r.setup.height) IsPartOfReel ReelIsWhole ReelShows b c j k r

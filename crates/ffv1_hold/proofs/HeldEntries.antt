@@ -47,7 +47,7 @@ same_at f g (x ∷ xs) same q there =
     (λ tie. let is = entry_tie q x tie in ap f is ∙ ap (λ es. (get_or es 0 (told f x)).1) same ∙ ap g (sym is))
     (λ rest. same_at f g xs (ap (drop 1) same) q rest)
 
--- what stands behind the last entry is above all
+-- what stands after the last entry is above all
 pub above_all : (f : Entry → List (List ℕ)) (xs : List Entry) (e : Entry) → IsRising entry_cmp xs → Follows (last_of (map (told f) xs)) e → (i : ℕ) (d : Entry)
     → i < length xs → entry_cmp (get_or xs i d) e ≡ Less
 above_all f [] e up follows i d lt = absurd (omega arith)

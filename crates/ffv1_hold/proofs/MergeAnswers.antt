@@ -16,7 +16,7 @@ use Rattle.ffv1_hold.specs.FileFaults.{IsFileReel, IsPartOfReel, IsPartOfHead, H
 use Rattle.ffv1_hold.specs.JoinedStreams.{Inputs, IsFileOf, IsFileOfSome, BeginsWith, BeginsWithHead, InputRefuses, ShowsNoFault, BothRefuse, JoinRefuses, EntriesPass, UnionPasses, ReadsPart, ReadsAll, ReadsOtherHeads, WritesUnion, AnswersUnion, AnswersOther, WritesAtMost, WritesNoEnd, StaysInLead}
 use Rattle.ffv1_hold.specs.Merging.{Facts, both, HeadsRefuse, WriteStops, Stops, JoinStops, part}
 use Rattle.ffv1_hold.proofs.Bodies.{length-be4}
-use Rattle.ffv1_hold.proofs.TextLaws.{same_head, head_parts, behind_magic, text_parts, one_file, fitting_items}
+use Rattle.ffv1_hold.proofs.TextLaws.{same_head, head_parts, after_magic, text_parts, one_file, fitting_items}
 use Rattle.ffv1_hold.proofs.HeldEntries.{holding-joined}
 use Rattle.ffv1_hold.proofs.FaultLaws.{magic_none, reel_none, sized_cut}
 use Rattle.ffv1_hold.proofs.Answered.{taken_front, taken_all, refused_outside}
@@ -28,18 +28,18 @@ use Rattle.ffv1_hold.proofs.MergeSteps.{taken_begins}
 
 -- ---- a head that is there is not refused
 
--- no beginning of what goes on behind a head shows a fault of a head
+-- no beginning of what goes on after a head shows a fault of a head
 head_none : (v : Version) (r : Reel) → IsFileReel r → (x seen y : List ℕ) (f : HoldFileFault) → head_text v r ++ x ≡ seen ++ y → HeadShows f seen → ⊥
 head_none v r is x seen y f same (inl shown) = magic_none v _ y seen f (sym (head_parts v r x) ∙ same) shown
 head_none v r is x seen y f same (inr (w, s, split, shown)) =
-    reel_none r is x y f s (behind_magic v w _ _ (sym (head_parts v r x) ∙ same ∙ ap (λ t. t ++ y) split ∙ append_assoc (magic w) s y)) shown
+    reel_none r is x y f s (after_magic v w _ _ (sym (head_parts v r x) ∙ same ∙ ap (λ t. t ++ y) split ∙ append_assoc (magic w) s y)) shown
 
 -- what has a head is no part of one
 head_whole : (v : Version) (r : Reel) → IsFileReel r → (x : List ℕ) → IsPartOfHead (head_text v r ++ x) → ⊥
 head_whole v r is x (inl part) =
     omega (arith, part.0, ap length (head_parts v r x), length-append (magic v) (sized_record r.config r.setup.width r.setup.height ++ x))
 head_whole v r is x (inr (w, s, split, part)) =
-    sized_cut r.config r.setup.width r.setup.height x is.fits (subst IsPartOfReel (sym (behind_magic v w _ _ (sym (head_parts v r x) ∙ split))) part)
+    sized_cut r.config r.setup.width r.setup.height x is.fits (subst IsPartOfReel (sym (after_magic v w _ _ (sym (head_parts v r x) ∙ split))) part)
 
 -- a part of a head is short
 part_short : (s : List ℕ) → IsPartOfHead s → length s < file_limit
@@ -305,10 +305,10 @@ module _ (i : Inputs) (w v : Option (List ℕ)) where
   at_most (Ok x) ok err = ok
   at_most (Err f) ok err = writes_at_most f err
 
-  -- a refusal behind the heads
-  pub behind_heads : (r : Result (Unit {0}) HoldFileFault) → IfErr r (Stops i w v) → IfErr r (JoinStops i w v)
-  behind_heads (Ok x) err = tt
-  behind_heads (Err f) err = inr err
+  -- a refusal after the heads
+  pub after_heads : (r : Result (Unit {0}) HoldFileFault) → IfErr r (Stops i w v) → IfErr r (JoinStops i w v)
+  after_heads (Ok x) err = tt
+  after_heads (Err f) err = inr err
 
   pub never_other : (Q : Type 0) (r : Result (Unit {0}) HoldFileFault) → IfErr r (Stops i w v) → IsErrOf r faults.OtherReel → Q
   never_other Q (Ok x) err is = absurd (search rules)

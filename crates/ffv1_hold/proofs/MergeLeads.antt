@@ -14,11 +14,11 @@ use Rattle.ffv1_hold.specs.FileEntries.{IsFileEntryOf, next_text}
 use Rattle.ffv1_hold.specs.FileFaults.{IsFileReel}
 use Rattle.ffv1_hold.specs.Leads.{LiesWhole, AreAllDigests, IsLeadOf}
 use Rattle.ffv1_hold.specs.JoinedStreams.{IsFileOf, IsFileOfSome, StaysInLead}
-use Rattle.ffv1_hold.specs.Merging.{Facts, part, StaysBehind}
+use Rattle.ffv1_hold.specs.Merging.{Facts, part, ReadsToNext}
 use Rattle.ffv1_holding.proofs.RisingSets.{contains_item}
 use Rattle.ffv1_hold.proofs.NumberTexts.{no_tag, rest_same}
 use Rattle.ffv1_hold.proofs.BodyTexts.{same_body}
-use Rattle.ffv1_hold.proofs.TextLaws.{entries_behind, none_behind, AreFitting, fitting_all, fitting_items, same_head, text_parts}
+use Rattle.ffv1_hold.proofs.TextLaws.{entries_after, none_after, AreFitting, fitting_all, fitting_items, same_head, text_parts}
 use Rattle.ffv1_hold.proofs.Slots.{entries_text-split, entries_text-cons, entries_text-none}
 use Rattle.ffv1_hold.proofs.Answered.{taken_front}
 use Rattle.ffv1_hold.proofs.TileTexts.{own}
@@ -26,13 +26,13 @@ use Rattle.ffv1_hold.proofs.MergeFacts.{IsWithin, entry_split}
 
 -- ---- lists that are split in two ways
 
--- what holds of all of a front, and not of an item, puts the item behind it
-pub behind_all : (P : FileEntry → Type 0) (fs rs before : List FileEntry) (first : FileEntry) (after : List FileEntry) → fs ++ rs ≡ before ++ first ∷ after
+-- what holds of all of a front, and not of an item, puts the item after it
+pub after_all : (P : FileEntry → Type 0) (fs rs before : List FileEntry) (first : FileEntry) (after : List FileEntry) → fs ++ rs ≡ before ++ first ∷ after
     → AllByRecursion P fs → ¬ P first → (middle : List FileEntry) × (before ≡ fs ++ middle) × (rs ≡ middle ++ first ∷ after)
-behind_all P [] rs before first after same all none = (before, refl, same)
-behind_all P (f ∷ fs) rs [] first after same all none = absurd (none (subst P (ap (λ xs. get_or xs 0 f) same) all.0))
-behind_all P (f ∷ fs) rs (b ∷ before) first after same all none =
-    let more = behind_all P fs rs before first after (ap (drop 1) same) all.1 none in
+after_all P [] rs before first after same all none = (before, refl, same)
+after_all P (f ∷ fs) rs [] first after same all none = absurd (none (subst P (ap (λ xs. get_or xs 0 f) same) all.0))
+after_all P (f ∷ fs) rs (b ∷ before) first after same all none =
+    let more = after_all P fs rs before first after (ap (drop 1) same) all.1 none in
     (more.0, (λ i. get_or (sym same i) 0 f ∷ more.1 i), more.2)
 
 -- ---- entries that begin a text
@@ -49,12 +49,12 @@ module _ (v : Version) where
   -- entries that begin what entries and the end tag spell are the first of those
   pub front_entries : (es fs : List FileEntry) (x y : List ℕ) → AreFitting v es → AreFitting v fs → entries_text v es ++ 0 ∷ x ≡ entries_text v fs ++ y
       → (rest : List FileEntry) × (es ≡ fs ++ rest) × (entries_text v rest ++ 0 ∷ x ≡ y)
-  front_entries es [] x y es_fit fs_fit same = (es, refl, same ∙ none_behind v y)
+  front_entries es [] x y es_fit fs_fit same = (es, refl, same ∙ none_after v y)
   front_entries [] (f ∷ fs) x y es_fit fs_fit same =
-      absurd (no_tag x (body_text v f ++ (entries_text v fs ++ y)) 0 1 (sym (none_behind v (0 ∷ x)) ∙ same ∙ entries_behind v f fs y) (λ e. omega arith))
+      absurd (no_tag x (body_text v f ++ (entries_text v fs ++ y)) 0 1 (sym (none_after v (0 ∷ x)) ∙ same ∙ entries_after v f fs y) (λ e. omega arith))
   front_entries (e ∷ es) (f ∷ fs) x y es_fit fs_fit same =
       let bodies = rest_same (body_text v e ++ (entries_text v es ++ 0 ∷ x)) (body_text v f ++ (entries_text v fs ++ y)) 1 1
-      (sym (entries_behind v e es (0 ∷ x)) ∙ same ∙ entries_behind v f fs y) in
+      (sym (entries_after v e es (0 ∷ x)) ∙ same ∙ entries_after v f fs y) in
       let one = same_body v e f (entries_text v es ++ 0 ∷ x) (entries_text v fs ++ y) es_fit.0 fs_fit.0 bodies in
       let more = front_entries es fs x y es_fit.1 fs_fit.1 one.1 in
       (more.0, (λ i. one.0 i ∷ more.1 i), more.2)
@@ -108,14 +108,14 @@ module _ (v : Version) where
   next_before x rest (m ∷ middle) first after same =
       omega (arith, text-cons m (middle ++ first ∷ []), ap (λ xs. length (entry_text v (get_or xs 0 x))) same)
 
-  -- behind the end tag no entry stands
+  -- after the end tag no entry stands
   end_before : (rs : List FileEntry) (rest : List ℕ) (middle : List FileEntry) (first : FileEntry) (after : List FileEntry) → rs ≡ middle ++ first ∷ after
       → entries_text v rs ++ 0 ∷ [] ≡ 0 ∷ rest → ⊥
   end_before [] rest middle first after split same = omega (arith, ap length split, length-append middle (first ∷ after))
   end_before (g ∷ gs) rest middle first after split same =
-      no_tag (body_text v g ++ (entries_text v gs ++ 0 ∷ [])) rest 1 0 (sym (entries_behind v g gs (0 ∷ [])) ∙ same) (λ e. omega arith)
+      no_tag (body_text v g ++ (entries_text v gs ++ 0 ∷ [])) rest 1 0 (sym (entries_after v g gs (0 ∷ [])) ∙ same) (λ e. omega arith)
 
-  -- what was read behind whole entries ends with the first that is open
+  -- what was read after whole entries ends with the first that is open
   ends_before : (r : Reel) → IsReel r → (rs : List FileEntry) → AreFitting v rs → (middle : List FileEntry) (first : FileEntry) (after : List FileEntry)
       → rs ≡ middle ++ first ∷ after
       → (more rest : List ℕ) → entries_text v rs ++ 0 ∷ [] ≡ more ++ rest → (more ≡ []) ⊎ ((next : Option FileEntry) × (more ≡ next_text v next)
@@ -176,7 +176,7 @@ module _ (v w : Version) (h : Contents) (r : Reel) (is : IsFileReel r) (old new 
 
 -- The text of a holding was read no further than its lead.
 module _ (v w : Version) (h : Contents) (other : Option Contents) (r : Reel) (is : IsFileReel r) (old new beside a b : Option (List ℕ)) (done : List ℕ)
-    (file : IsFileOf old v h) (also : IsFileOfSome beside other) (s : StaysBehind w r old new beside done) where
+    (file : IsFileOf old v h) (also : IsFileOfSome beside other) (s : ReadsToNext w r old new beside done) where
   abbrev read : Contents
   read = part r s.facts
 
@@ -194,7 +194,7 @@ module _ (v w : Version) (h : Contents) (other : Option Contents) (r : Reel) (is
   within lead (inr (whole, is_lead)) = omega (arith, is_lead, ap length left.front, length-append (begun_text w read ++ s.more) left.bytes)
   within lead (inl o) =
       let es = entries_text w (file_entries read) in
-      let split = behind_all (LiesWhole (AreAllDigests h other) h.reel done) (file_entries read) left.rest o.before o.first o.after
+      let split = after_all (LiesWhole (AreAllDigests h other) h.reel done) (file_entries read) left.rest o.before o.first o.after
       (sym left.split ∙ o.split) all_whole o.not_whole in
       let few = ends_before w r is.reel left.rest left.fits split.0 o.first o.after split.2 s.more left.bytes left.text s.next in
       let text : entries_text w (o.before ++ o.first ∷ []) ≡ es ++ entries_text w (split.0 ++ o.first ∷ []) =

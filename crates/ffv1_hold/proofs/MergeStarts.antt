@@ -1,4 +1,4 @@
--- Where joining two files stands before the first entries, and behind the last ones.
+-- Where joining two files stands before the first entries, and after the last ones.
 use Rattle.std.proofs.Common.{◌≡◌, ℕ, ◌+◌, ◌≤◌, List, [], ◌∷◌, ◌++◌, length, Option, Some, None, IfSome, IfNone, refl, sym, ap, ◌∙◌, subst, inl, inr, arith, append-nil, length-append}
 use Rattle.std.specs.Io.KnownBytes.{Consumes, Appends, IsAtEnd}
 use Rattle.std.specs.List.{AllByRecursion}
@@ -21,7 +21,7 @@ use Rattle.ffv1_hold.specs.FileEntries.{last_of, Follows, IsFileEntryOf, next_te
 use Rattle.ffv1_hold.specs.FileFaults.{IsFileReel, IsPartOfEntry, EndIsWhole, EntryShows}
 use Rattle.ffv1_hold.specs.Leads.{LiesWhole, AreAllDigests}
 use Rattle.ffv1_hold.specs.JoinedStreams.{BeginsWith, InputRefuses, OneRefuses, ShowsNoFault, ReadsAll, ReadsPart, ReadsSoFar, WritesUnion, WritesAtMost}
-use Rattle.ffv1_hold.specs.Merging.{Start, inputs_from, Facts, part, no_facts, both, IsBehind, IsPassed, IsHeld, StaysBehind, IsOpened, Stands, Stops, Ends}
+use Rattle.ffv1_hold.specs.Merging.{Start, inputs_from, Facts, part, no_facts, both, FollowsAll, IsPassed, IsHeld, ReadsToNext, IsOpened, Stands, Stops, Ends}
 use Rattle.ffv1_hold.proofs.Slots.{entries_text-none, length-head_text}
 use Rattle.ffv1_hold.proofs.HeldEntries.{entries-none, holding-joined}
 use Rattle.ffv1_hold.proofs.ReadSteps.{holding_none, told_none}
@@ -50,7 +50,7 @@ first_passed old new v r place is t = record {
   last' = sym (ap last_of (entries-none r));
 }
 
--- the head was read, and the first entry or the end behind it
+-- the head was read, and the first entry or the end after it
 pub head_held : (old now new : Option (List ℕ)) (v w : Version) (r : Reel) (from to : ℕ) (last next : Option FileEntry) (setup : SetupValue) → IsFileReel r
     → last ≡ None → w ≡ v → setup ≡ r.setup → Takes old now 0 from (head_text v r) → Takes now new from to (next_text w next)
     → IfSome next (IsFileEntryOf w setup) → IfSome next (λ e. Follows last e.0) → IfNone next (IsAtEnd new) → IsHeld old new v r no_facts to next
@@ -66,9 +66,9 @@ first_refuses old now new v w r from last setup f none version same is head refu
     input_refuses old now new v w r no_facts from last setup f version same is
     (subst (λ (l : Option FileEntry). IsPassed old now v r no_facts from l) (sym none) (first_passed old now v r from is head)) refused
 
-behind_none : (r : Reel) (next : Option FileEntry) → IsBehind r no_facts next
-behind_none r None = tt
-behind_none r (Some e) = subst (λ (l : Option FileEntry). Follows l e.0) (sym (ap last_of (entries-none r))) tt
+after_none : (r : Reel) (next : Option FileEntry) → FollowsAll r no_facts next
+after_none r None = tt
+after_none r (Some e) = subst (λ (l : Option FileEntry). Follows l e.0) (sym (ap last_of (entries-none r))) tt
 
 pub first_stands : (s : Start) (l r w : Option (List ℕ)) (lp rp room : ℕ) (ln rn : Option FileEntry) → IsFileReel s.reel
     → IsHeld s.left l s.left_version s.reel no_facts lp ln → IsHeld s.right r s.right_version s.reel no_facts rp rn → Appends s.sink w (head_text Second s.reel)
@@ -82,15 +82,15 @@ first_stands s l r w lp rp room ln rn is left right written room_left =
       left_held = left;
       right_held = right;
       written = subst (Appends s.sink w) (sym text) written;
-      left_behind = subst (λ x. IsBehind s.reel x ln) (sym both-none) (behind_none s.reel ln);
-      right_behind = subst (λ x. IsBehind s.reel x rn) (sym both-none) (behind_none s.reel rn);
+      left_after = subst (λ x. FollowsAll s.reel x ln) (sym both-none) (after_none s.reel ln);
+      right_after = subst (λ x. FollowsAll s.reel x rn) (sym both-none) (after_none s.reel rn);
       room_left = omega (arith, room_left, ap length text, length-head_text Second s.reel);
     }
 
 -- an input whose head alone was read
-head_behind : (old new beside : Option (List ℕ)) (v : Version) (r : Reel) (done : List ℕ) → IsFileReel r → Consumes old new (head_text v r)
-    → StaysBehind v r old new beside done
-head_behind old new beside v r done is taken = record {
+head_after : (old new beside : Option (List ℕ)) (v : Version) (r : Reel) (done : List ℕ) → IsFileReel r → Consumes old new (head_text v r)
+    → ReadsToNext v r old new beside done
+head_after old new beside v r done is taken = record {
   facts = no_facts;
   sound = holding_none r is.reel;
   told = told_none v r;
@@ -179,8 +179,8 @@ module _ (s : Start) (q : Reel) (l0 r0 w0 : Option (List ℕ)) (lp rp : ℕ) (o 
           written = w.written;
           left_version = s.left_version;
           right_version = s.right_version;
-          left = head_behind _ _ _ s.left_version s.reel w.done o.reel o.left_head.taken;
-          right = head_behind _ _ _ s.right_version s.reel w.done o.reel o.right_head.taken;
+          left = head_after _ _ _ s.left_version s.reel w.done o.reel o.left_head.taken;
+          right = head_after _ _ _ s.right_version s.reel w.done o.reel o.right_head.taken;
         };
         most = record {
           done = w.done;
@@ -230,7 +230,7 @@ module _ (s : Start) (q : Reel) (l0 r0 w0 : Option (List ℕ)) (lp rp : ℕ) (o 
       first_stops l r new f (inr (input, held_shows_none _ _ s.left_version s.reel no_facts to ln o.reel held))
       (λ is. subst (InputRefuses s.right r) is input) (λ is. subst (InputRefuses s.right r) is input) wrote
 
--- ---- behind the last entries
+-- ---- after the last entries
 
 pub all_part : (old new : Option (List ℕ)) (h : Contents) → ReadsAll old new h → ReadsPart old new h
 all_part old new h a = record {

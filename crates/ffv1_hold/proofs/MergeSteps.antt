@@ -19,7 +19,7 @@ use Rattle.ffv1_hold.specs.Reading.{Takes, Refuses}
 use Rattle.ffv1_hold.specs.FileEntries.{last_of, Follows, AreOrigins, AreDigestsIn, IsFileEntryOf, next_text}
 use Rattle.ffv1_hold.specs.FileFaults.{IsFileReel, IsPartOfFile, FileIsWhole, FileShows, IsPartOfEntry, EndIsWhole, EntryShows}
 use Rattle.ffv1_hold.specs.JoinedStreams.{ReadsPart, ReadsAll, ReadsSoFar, EntriesPass, InputRefuses, ShowsNoFault, OneRefuses, BeginsWith, BeginsWithPart, WritesEntries, WritesFrontSoFar}
-use Rattle.ffv1_hold.specs.Merging.{Start, inputs_from, Facts, part, with_file_entry, both, IsPassed, IsHeld, IsBehind, Stands, Stops, Ends, with_digests, IsWritten, IsTurn, EntryStops}
+use Rattle.ffv1_hold.specs.Merging.{Start, inputs_from, Facts, part, with_file_entry, both, IsPassed, IsHeld, FollowsAll, Stands, Stops, Ends, with_digests, IsWritten, IsTurn, EntryStops}
 use Rattle.ffv1_hold.proofs.ReadRefusals.{Takes-trans, Refuses-after}
 use Rattle.ffv1_hold.proofs.Entries.{part_of_entries, entries_show}
 use Rattle.ffv1_hold.proofs.Heads.{file_from_entries_part, file_from_whole_entries, file_from_entries_fault}
@@ -33,11 +33,11 @@ use Rattle.ffv1_hold.proofs.ReadDigests.{held_read, left_gives, right_gives, sta
 
 -- ---- one input
 
--- what follows an entry stands behind what it ends
-pub behind-more : (r : Reel) (f : Facts) (e : FileEntry) (next : Option FileEntry) → IsHolding (part r f) → AreDigests e.1
-    → Follows (last_of (file_entries (part r f))) e.0 → IfSome next (λ n. Follows (Some e) n.0) → IsBehind r (with_file_entry f e) next
-behind-more r f e None is up follows h = tt
-behind-more r f e (Some n) is up follows h = subst (λ (l : Option FileEntry). Follows l n.0) (sym (last-with Second r f e is up follows)) h
+-- what follows an entry stands after what it ends
+pub after-more : (r : Reel) (f : Facts) (e : FileEntry) (next : Option FileEntry) → IsHolding (part r f) → AreDigests e.1
+    → Follows (last_of (file_entries (part r f))) e.0 → IfSome next (λ n. Follows (Some e) n.0) → FollowsAll r (with_file_entry f e) next
+after-more r f e None is up follows h = tt
+after-more r f e (Some n) is up follows h = subst (λ (l : Option FileEntry). Follows l n.0) (sym (last-with Second r f e is up follows)) h
 
 pub passed : (old new : Option (List ℕ)) (v : Version) (r : Reel) (f : Facts) (place : ℕ) (e : FileEntry) → IsHeld old new v r f place (Some e)
     → IsPassed old new v r (with_file_entry f e) place (Some e)
@@ -45,9 +45,9 @@ passed old new v r f place e h =
     let digests = digests_in_version v e.1 h.entry.origins in
     record {
       sound = holding-with_entry (part r f) e.0 e.1 h.sound h.entry.slice digests.each;
-      told = told-with_entry (part r f) e.0 e.1 h.behind v h.sound h.entry.origins h.told;
-      text = subst (Takes old new 0 place) (sym (begun-with v r f e h.sound digests.rising h.behind)) h.text;
-      last' = sym (last-with v r f e h.sound digests.rising h.behind);
+      told = told-with_entry (part r f) e.0 e.1 h.after v h.sound h.entry.origins h.told;
+      text = subst (Takes old new 0 place) (sym (begun-with v r f e h.sound digests.rising h.after)) h.text;
+      last' = sym (last-with v r f e h.sound digests.rising h.after);
     }
 
 pub advanced : (old now new : Option (List ℕ)) (v w : Version) (r : Reel) (f : Facts) (from to : ℕ) (last next : Option FileEntry) (setup : SetupValue)
@@ -58,7 +58,7 @@ advanced old now new v w r f from to last next setup version same p text entry f
   told = p.told;
   text = Takes-trans _ _ _ _ _ _ _ _ p.text (subst (λ (u : Version). Takes now new from to (next_text u next)) version text);
   entry = subst (λ (x : SetupValue). IfSome next (IsFileEntryOf v x)) same (subst (λ (u : Version). IfSome next (IsFileEntryOf u setup)) version entry);
-  behind = subst (λ (l : Option FileEntry). IfSome next (λ e. Follows l e.0)) p.last' follows;
+  after = subst (λ (l : Option FileEntry). IfSome next (λ e. Follows l e.0)) p.last' follows;
   at_end = end;
 }
 
@@ -211,7 +211,7 @@ module _ (s : Start) (left right sink : Option (List ℕ)) (lp rp room : ℕ) (l
     left_read = passed_part _ _ s.left_version s.reel _ lp (Some e) st.reel (passed _ _ s.left_version s.reel st.lefts lp e (left_at e t.0));
     right_read = held_part _ _ s.right_version s.reel st.rights rp rn st.reel st.right_held;
     union = both-left st.lefts st.rights e ∙ ap (with_file_entry all) (sym (left_alone e others t.0 t.1));
-    follows = subst (λ (n : Option FileEntry). IsBehind s.reel all n) t.0 st.left_behind;
+    follows = subst (λ (n : Option FileEntry). FollowsAll s.reel all n) t.0 st.left_after;
   }
   turned e others Greater t = record {
     lefts = st.lefts;
@@ -219,7 +219,7 @@ module _ (s : Start) (left right sink : Option (List ℕ)) (lp rp room : ℕ) (l
     left_read = held_part _ _ s.left_version s.reel st.lefts lp ln st.reel st.left_held;
     right_read = passed_part _ _ s.right_version s.reel _ rp (Some e) st.reel (passed _ _ s.right_version s.reel st.rights rp e (right_at e t.0));
     union = both-right st.lefts st.rights e ∙ ap (with_file_entry all) (sym (right_alone e others t.0 t.1));
-    follows = subst (λ (n : Option FileEntry). IsBehind s.reel all n) t.0 st.right_behind;
+    follows = subst (λ (n : Option FileEntry). FollowsAll s.reel all n) t.0 st.right_after;
   }
   turned e others Equal t = record {
     lefts = with_file_entry st.lefts e;
@@ -228,7 +228,7 @@ module _ (s : Start) (left right sink : Option (List ℕ)) (lp rp room : ℕ) (l
     right_read = passed_part _ _ s.right_version s.reel _ rp (Some (e.0, others)) st.reel
         (passed _ _ s.right_version s.reel st.rights rp (e.0, others) (right_at (e.0, others) t.1));
     union = both-both st.lefts st.rights e others;
-    follows = subst (λ (n : Option FileEntry). IsBehind s.reel all n) t.0 st.left_behind;
+    follows = subst (λ (n : Option FileEntry). FollowsAll s.reel all n) t.0 st.left_after;
   }
 
   written_so_far : WritesEntries (inputs_from s left right) s.sink sink
@@ -332,9 +332,9 @@ module _ (s : Start) (left right sink : Option (List ℕ)) (lp rp room : ℕ) (l
           left_version = s.left_version;
           right_version = s.right_version;
           left = stays_beside s.reel st.reel _ _ _ _ s.left_version s.right_version st.lefts st.rights all ln rn left_read right_read
-              (within-left st.lefts st.rights) st.left_behind st.right_behind (left_gives s.reel st.lefts st.rights) all_sound all_told w.done;
+              (within-left st.lefts st.rights) st.left_after st.right_after (left_gives s.reel st.lefts st.rights) all_sound all_told w.done;
           right = stays_beside s.reel st.reel _ _ _ _ s.right_version s.left_version st.rights st.lefts all rn ln right_read left_read
-              (within-right st.lefts st.rights) st.right_behind st.left_behind (right_gives s.reel st.lefts st.rights) all_sound all_told w.done;
+              (within-right st.lefts st.rights) st.right_after st.left_after (right_gives s.reel st.lefts st.rights) all_sound all_told w.done;
         };
         most = record {
           done = done;
@@ -359,7 +359,7 @@ module _ (s : Start) (left right sink : Option (List ℕ)) (lp rp room : ℕ) (l
   entry_stops new e others o faults.Memory turn stop = absurd stop
   entry_stops new e others o faults.OtherReel turn stop = absurd stop
 
-  -- ---- behind an entry that was written
+  -- ---- after an entry that was written
   module _ (e : FileEntry) (others : List (List ℕ)) (o : Ordering) (turn : IsTurn ln rn e others o) (new : Option (List ℕ)) (room' : ℕ)
       (wrote : Appends sink new (entry_text Second (with_digests e others))) (less : room' + length (entry_text Second (with_digests e others)) ≡ room) where
     abbrev t : Turned s left right all e others
@@ -385,9 +385,9 @@ module _ (s : Start) (left right sink : Option (List ℕ)) (lp rp room : ℕ) (l
     )
 
     -- reading on failed
-    stops_behind : (l r : Option (List ℕ)) (f : HoldFileFault) → OneRefuses (inputs_from s l r) f → (f ≡ faults.Write → ⊥) → (f ≡ faults.OtherReel → ⊥)
+    stops_after : (l r : Option (List ℕ)) (f : HoldFileFault) → OneRefuses (inputs_from s l r) f → (f ≡ faults.Write → ⊥) → (f ≡ faults.OtherReel → ⊥)
         → Stops (inputs_from s l r) s.sink new f
-    stops_behind l r f fault not_write not_other = record {
+    stops_after l r f fault not_write not_other = record {
       reel = s.reel;
       is = st.reel;
       left_version = s.left_version;
@@ -411,28 +411,28 @@ module _ (s : Start) (left right sink : Option (List ℕ)) (lp rp room : ℕ) (l
     pub stops_at_left : (l r : Option (List ℕ)) (f : HoldFileFault) → InputRefuses s.left l f → ShowsNoFault s.right r
         → Stops (inputs_from s l r) s.sink new f
     stops_at_left l r f input other =
-        stops_behind l r f (inl (input, other)) (λ is. subst (InputRefuses s.left l) is input) (λ is. subst (InputRefuses s.left l) is input)
+        stops_after l r f (inl (input, other)) (λ is. subst (InputRefuses s.left l) is input) (λ is. subst (InputRefuses s.left l) is input)
 
     pub stops_at_right : (l r : Option (List ℕ)) (f : HoldFileFault) → InputRefuses s.right r f → ShowsNoFault s.left l
         → Stops (inputs_from s l r) s.sink new f
     stops_at_right l r f input other =
-        stops_behind l r f (inr (input, other)) (λ is. subst (InputRefuses s.right r) is input) (λ is. subst (InputRefuses s.right r) is input)
+        stops_after l r f (inr (input, other)) (λ is. subst (InputRefuses s.right r) is input) (λ is. subst (InputRefuses s.right r) is input)
 
-    -- both stand behind it
-    pub stands_behind : (l r : Option (List ℕ)) (lp' rp' : ℕ) (ln' rn' : Option FileEntry)
+    -- both stand after it
+    pub stands_after : (l r : Option (List ℕ)) (lp' rp' : ℕ) (ln' rn' : Option FileEntry)
         → IsHeld s.left l s.left_version s.reel t.lefts lp' ln' → IsHeld s.right r s.right_version s.reel t.rights rp' rn'
         → IfSome ln' (λ n. Follows (Some e) n.0) → IfSome rn' (λ n. Follows (Some e) n.0) → Stands s l r new lp' rp' room' ln' rn'
-    stands_behind l r lp' rp' ln' rn' left_held right_held left_follows right_follows = record {
+    stands_after l r lp' rp' ln' rn' left_held right_held left_follows right_follows = record {
       reel = st.reel;
       lefts = t.lefts;
       rights = t.rights;
       left_held = left_held;
       right_held = right_held;
       written = now_written;
-      left_behind = subst (λ x. IsBehind s.reel x ln') (sym t.union)
-          (behind-more s.reel all written_entry ln' all_sound (union-rises e.1 others) t.follows left_follows);
-      right_behind = subst (λ x. IsBehind s.reel x rn') (sym t.union)
-          (behind-more s.reel all written_entry rn' all_sound (union-rises e.1 others) t.follows right_follows);
+      left_after = subst (λ x. FollowsAll s.reel x ln') (sym t.union)
+          (after-more s.reel all written_entry ln' all_sound (union-rises e.1 others) t.follows left_follows);
+      right_after = subst (λ x. FollowsAll s.reel x rn') (sym t.union)
+          (after-more s.reel all written_entry rn' all_sound (union-rises e.1 others) t.follows right_follows);
       room_left = now_left;
     }
 

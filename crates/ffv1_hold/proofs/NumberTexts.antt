@@ -35,5 +35,5 @@ module _ (m n : ℕ) (x y : List ℕ) (e : be4 m ++ x ≡ be4 n ++ y) where
   pub number_same : m < 2 ^ 32 → n < 2 ^ 32 → m ≡ n
   number_same p q = be4_same m n p q (same_front (be4 m) (be4 n) x y (length-be4 m ∙ sym (length-be4 n)) e)
 
-  pub behind_number : x ≡ y
-  behind_number = same_back (be4 m) (be4 n) x y (length-be4 m ∙ sym (length-be4 n)) e
+  pub after_number : x ≡ y
+  after_number = same_back (be4 m) (be4 n) x y (length-be4 m ∙ sym (length-be4 n)) e

@@ -13,9 +13,9 @@ use Rattle.ffv1_holding.specs.Reels.{Reel}
 use Rattle.ffv1_hold.specs.HoldingText.{FileEntry, be4, magic, sized_record, head_text, body_text, entries_text}
 use Rattle.ffv1_hold.specs.FileEntries.{last_of, AreEntries}
 use Rattle.ffv1_hold.specs.FileFaults.{EntryShows, ReelShows, MagicShows, FileShows}
-use Rattle.ffv1_hold.proofs.NumberTexts.{no_tag, rest_same, number_same, behind_number}
+use Rattle.ffv1_hold.proofs.NumberTexts.{no_tag, rest_same, number_same, after_number}
 use Rattle.ffv1_hold.proofs.BodyTexts.{same_body, body_one}
-use Rattle.ffv1_hold.proofs.TextLaws.{entries_behind, none_behind, AreFitting, fitting_all, same_sized, same_head, behind_magic, head_parts, sized_parts}
+use Rattle.ffv1_hold.proofs.TextLaws.{entries_after, none_after, AreFitting, fitting_all, same_sized, same_head, after_magic, head_parts, sized_parts}
 use Rattle.ffv1_hold.proofs.FaultLaws.{last_from, last_of-none, AreValid, valid_list, entry_kinds, right_none, magic_none, reel_none}
 
 module _ (v : Version) (setup : SetupValue) where
@@ -37,17 +37,17 @@ module _ (v : Version) (setup : SetupValue) where
       → (f g : HoldFileFault) (s t y z : List ℕ) → (entries_text v fs ++ s) ++ y ≡ (entries_text v gs ++ t) ++ z
       → EntryShows v setup (last_from last fs) f s → EntryShows v setup (last_from last gs) g t → f ≡ g
   entries_one last [] [] a b c d f g s t y z same p q = entry_one last f g s t y z
-      (sym (ap (λ x. x ++ y) (none_behind v s)) ∙ same ∙ ap (λ x. x ++ z) (none_behind v t)) p q
+      (sym (ap (λ x. x ++ y) (none_after v s)) ∙ same ∙ ap (λ x. x ++ z) (none_after v t)) p q
   entries_one last [] (e ∷ gs) a b c d f g s t y z same p q =
       absurd (right_none v setup last e ((entries_text v gs ++ t) ++ z) y b.0.0 d.0 b.0.1 f s
-      (ap (λ w. 1 ∷ w) (sym (append_assoc (body_text v e) (entries_text v gs ++ t) z)) ∙ sym (ap (λ x. x ++ z) (entries_behind v e gs t)) ∙ sym same
-      ∙ ap (λ x. x ++ y) (none_behind v s)) p)
+      (ap (λ w. 1 ∷ w) (sym (append_assoc (body_text v e) (entries_text v gs ++ t) z)) ∙ sym (ap (λ x. x ++ z) (entries_after v e gs t)) ∙ sym same
+      ∙ ap (λ x. x ++ y) (none_after v s)) p)
   entries_one last (e ∷ fs) [] a b c d f g s t y z same p q =
       absurd (right_none v setup last e ((entries_text v fs ++ s) ++ y) z a.0.0 c.0 a.0.1 g t
-      (ap (λ w. 1 ∷ w) (sym (append_assoc (body_text v e) (entries_text v fs ++ s) y)) ∙ sym (ap (λ x. x ++ y) (entries_behind v e fs s)) ∙ same
-      ∙ ap (λ x. x ++ z) (none_behind v t)) q)
+      (ap (λ w. 1 ∷ w) (sym (append_assoc (body_text v e) (entries_text v fs ++ s) y)) ∙ sym (ap (λ x. x ++ y) (entries_after v e fs s)) ∙ same
+      ∙ ap (λ x. x ++ z) (none_after v t)) q)
   entries_one last (e ∷ fs) (h ∷ gs) a b c d f g s t y z same p q =
-      let bodies = rest_same _ _ 1 1 (sym (ap (λ x. x ++ y) (entries_behind v e fs s)) ∙ same ∙ ap (λ x. x ++ z) (entries_behind v h gs t)) in
+      let bodies = rest_same _ _ 1 1 (sym (ap (λ x. x ++ y) (entries_after v e fs s)) ∙ same ∙ ap (λ x. x ++ z) (entries_after v h gs t)) in
       let apart = sym (append_assoc (body_text v e) (entries_text v fs ++ s) y) ∙ bodies ∙ append_assoc (body_text v h) (entries_text v gs ++ t) z in
       let one = same_body v e h ((entries_text v fs ++ s) ++ y) ((entries_text v gs ++ t) ++ z) c.0 d.0 apart in
       entries_one (Some h) fs gs (subst (λ (x : FileEntry). AreValid v setup (Some x) fs) one.0 a.1) b.1 c.1 d.1 f g s t y z one.1
@@ -80,8 +80,8 @@ record_apart : (w h n : ℕ) (config : List ℕ) (v k : ℕ) (y z : List ℕ) �
     → (be4 w ++ be4 h ++ be4 n) ++ y ≡ sized_record config v k ++ z → ⊥
 record_apart w h n config v k y z over small fits same =
     let all = sym (append_assoc (be4 w) (be4 h) (be4 n ++ y)) ∙ sym (append_assoc (be4 w ++ be4 h) (be4 n) y) ∙ same ∙ sized_parts config v k z in
-    let one = behind_number w v _ _ all in
-    let two = behind_number h k _ _ one in
+    let one = after_number w v _ _ all in
+    let two = after_number h k _ _ one in
     let is = number_same n (length config) _ _ two small (omega arith) in
     omega arith
 
@@ -131,13 +131,13 @@ one_fault f g s t y z same (inr (inl (w, u, split, a))) (inl b) = absurd
 one_fault f g s t y z same (inr (inr (w, r, u, r_is, split, a))) (inl b) =
     absurd (magic_none w _ z t g (sym (head_on w r u y) ∙ sym (ap (λ q. q ++ y) split) ∙ same) b)
 one_fault f g s t y z same (inr (inl (w, u, u_split, a))) (inr (inl (x, v, v_split, b))) =
-    reel_one f g u v y z (behind_magic w x _ _ (sym (append_assoc (magic w) u y)
+    reel_one f g u v y z (after_magic w x _ _ (sym (append_assoc (magic w) u y)
     ∙ sym (ap (λ q. q ++ y) u_split) ∙ same ∙ ap (λ q. q ++ z) v_split ∙ append_assoc (magic x) v z)) a b
 one_fault f g s t y z same (inr (inl (w, u, u_split, a))) (inr (inr (x, r, v, r_is, v_split, b))) =
-    absurd (reel_none r r_is (v ++ z) y f u (behind_magic x w _ _ (sym (head_on x r v z)
+    absurd (reel_none r r_is (v ++ z) y f u (after_magic x w _ _ (sym (head_on x r v z)
     ∙ sym (ap (λ q. q ++ z) v_split) ∙ sym same ∙ ap (λ q. q ++ y) u_split ∙ append_assoc (magic w) u y)) a)
 one_fault f g s t y z same (inr (inr (w, r, u, r_is, u_split, a))) (inr (inl (x, v, v_split, b))) =
-    absurd (reel_none r r_is (u ++ y) z g v (behind_magic w x _ _ (sym (head_on w r u y)
+    absurd (reel_none r r_is (u ++ y) z g v (after_magic w x _ _ (sym (head_on w r u y)
     ∙ sym (ap (λ q. q ++ y) u_split) ∙ same ∙ ap (λ q. q ++ z) v_split ∙ append_assoc (magic x) v z)) b)
 one_fault f g s t y z same (inr (inr (w, r, u, r_is, u_split, (fs, p, f_all, f_inner, a)))) (inr (inr (x, q, v, q_is, v_split, (gs, o, g_all, g_inner, b)))) =
     let heads = same_head w x r q (u ++ y) (v ++ z) r_is q_is (sym (append_assoc (head_text w r) u y)

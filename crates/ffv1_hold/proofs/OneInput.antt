@@ -40,7 +40,7 @@ record IsOverLimit (input : List ℕ) (f : HoldFileFault) : Type 0 where
   at_limit : length seen ≡ file_limit
 
 -- a text goes on
-record IsBehindText (input : List ℕ) (f : HoldFileFault) : Type 0 where
+record IsAfterText (input : List ℕ) (f : HoldFileFault) : Type 0 where
   is : f ≡ faults.Trailing
   seen : List ℕ
   more : ℕ
@@ -50,7 +50,7 @@ record IsBehindText (input : List ℕ) (f : HoldFileFault) : Type 0 where
   within : length seen ≤ file_limit
 
 abbrev Kinds : List ℕ → HoldFileFault → Type 0
-Kinds input f = IsShown input f ⊎ (IsCutOff input f ⊎ (IsOverLimit input f ⊎ IsBehindText input f))
+Kinds input f = IsShown input f ⊎ (IsCutOff input f ⊎ (IsOverLimit input f ⊎ IsAfterText input f))
 
 shown_kind : (input : List ℕ) (f : HoldFileFault) (left : Option (List ℕ)) → StopsIn (FileShows f) (Some input) left 0 → Kinds input f
 shown_kind input f left r =
@@ -118,7 +118,7 @@ module _ (input : List ℕ) (f g : HoldFileFault) where
       let few = a.within in
       part_shows_none f b.seen a.seen _ (begins a.seen b.seen a.rest (b.more ∷ b.rest) (sym a.split ∙ b.split) (omega arith)) b.unfinished a.shown
 
-  shown_before : IsShown input f → IsBehindText input g → ⊥
+  shown_before : IsShown input f → IsAfterText input g → ⊥
   shown_before a b =
       let h = b.whole in
       text_none h.3.0 h.0 h.1 h.2 h.3.1 (b.more ∷ b.rest) a.seen a.rest f (sym (ap (λ q. q ++ b.more ∷ b.rest) h.3.2) ∙ sym b.split ∙ a.split) a.shown
@@ -126,10 +126,10 @@ module _ (input : List ℕ) (f g : HoldFileFault) where
   cut_within : IsCutOff input f → IsOverLimit input g → ⊥
   cut_within a b = omega (arith, a.within, b.at_limit, ap length b.split, length-append b.seen (b.more ∷ b.rest))
 
-  cut_before : IsCutOff input f → IsBehindText input g → ⊥
+  cut_before : IsCutOff input f → IsAfterText input g → ⊥
   cut_before a b = text_apart b.seen input (b.more ∷ b.rest) b.whole b.split a.unfinished
 
-  over_before : IsOverLimit input f → IsBehindText input g → ⊥
+  over_before : IsOverLimit input f → IsAfterText input g → ⊥
   over_before a b =
       let end = a.at_limit in
       let few = b.within in

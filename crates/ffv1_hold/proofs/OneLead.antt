@@ -22,8 +22,8 @@ use Rattle.ffv1_hold.proofs.NumberTexts.{same_back, rest_same}
 use Rattle.ffv1_hold.proofs.SliceTexts.{slice_parts}
 use Rattle.ffv1_hold.proofs.DigestTexts.{whole, origins_parts}
 use Rattle.ffv1_hold.proofs.BodyTexts.{body_parts, same_body}
-use Rattle.ffv1_hold.proofs.TextLaws.{entries_behind, none_behind}
-use Rattle.ffv1_hold.proofs.MergeLeads.{behind_all}
+use Rattle.ffv1_hold.proofs.TextLaws.{entries_after, none_after}
+use Rattle.ffv1_hold.proofs.MergeLeads.{after_all}
 use Rattle.ffv1_hold.proofs.DigestSets.{has}
 
 -- ---- decisions on bytes
@@ -79,7 +79,7 @@ told_length x = from_be_bytes w32 (take 4 (drop 2 (drop 1 x)))
 abbrev told_slice : List ℕ → Entry
 told_slice x = (from_be_bytes w16 (take 2 (drop 1 x)), take (told_length x) (drop 4 (drop 2 (drop 1 x))))
 
--- what stands behind its slice
+-- what stands after its slice
 abbrev told_rest : List ℕ → List ℕ
 told_rest x = drop (told_length x) (drop 4 (drop 2 (drop 1 x)))
 
@@ -93,17 +93,17 @@ told_is : (f : FileEntry) → HasText Second f → (x y : List ℕ) → x ≡ en
 told_is f fits x y is =
     let s = f.0 in
     let ds = f.1 in
-    let behind = origins_text ds ++ y in
-    let one = ap (drop 1) is ∙ body_parts Second f y ∙ slice_parts s behind in
+    let after = origins_text ds ++ y in
+    let one = ap (drop 1) is ∙ body_parts Second f y ∙ slice_parts s after in
     let two = ap (drop 2) one ∙ back_of (be2 s.0) 2 _ (length-be2 s.0) in
     let three = ap (drop 4) two ∙ back_of (be4 (length s.1)) 4 _ (length-be4 (length s.1)) in
     let few = fits.1 in
     let tile = ap (λ z. from_be_bytes w16 (take 2 z)) one ∙ ap (from_be_bytes w16) (front_of (be2 s.0) 2 _ (length-be2 s.0)) ∙ be2_back s.0 fits.0 in
     let long : told_length x ≡ length s.1 = ap (λ z. from_be_bytes w32 (take 4 z)) two
     ∙ ap (from_be_bytes w32) (front_of (be4 (length s.1)) 4 _ (length-be4 (length s.1))) ∙ be4_back (length s.1) (omega arith) in
-    let bytes = ap (take (told_length x)) three ∙ ap (λ n. take n (s.1 ++ behind)) long ∙ take-append_seam s.1 behind in
-    let rest : told_rest x ≡ be4 (length ds) ++ (whole ds ++ y) = ap (drop (told_length x)) three ∙ ap (λ n. drop n (s.1 ++ behind)) long
-    ∙ drop-append_seam s.1 behind ∙ origins_parts ds y in
+    let bytes = ap (take (told_length x)) three ∙ ap (λ n. take n (s.1 ++ after)) long ∙ take-append_seam s.1 after in
+    let rest : told_rest x ≡ be4 (length ds) ++ (whole ds ++ y) = ap (drop (told_length x)) three ∙ ap (λ n. drop n (s.1 ++ after)) long
+    ∙ drop-append_seam s.1 after ∙ origins_parts ds y in
     let some = fits.2.1 in
     let count : told_count x ≡ length ds = ap (λ z. from_be_bytes w32 (take 4 z)) rest
     ∙ ap (from_be_bytes w32) (front_of (be4 (length ds)) 4 _ (length-be4 (length ds))) ∙ be4_back (length ds) (omega arith) in
@@ -153,7 +153,7 @@ decide_entry x =
       ]
     ]
 
--- ---- an entry behind others
+-- ---- an entry after others
 
 -- a digest among others, of which the first is another
 elsewhere : (x : List ℕ) (ds : List (List ℕ)) (d : List ℕ) → ¬ (x ≡ d) → ¬ Contains ds d → (i : ℕ) → i < length (x ∷ ds) → get_or (x ∷ ds) i d ≡ d → ⊥
@@ -204,25 +204,25 @@ module _ (AreAll : FileEntry → List (List ℕ) → Type 0) (decide_all : (e : 
     | inl same ↦ elim (decide_all e f.1) [ inl all ↦ inl (record { slice = same; all = all }) | inr none ↦ inr (λ s. none s.all) ]
   ]
 
-  -- entries, and behind them one that shows this one
+  -- entries, and after them one that shows this one
   abbrev StandsIn : FileEntry → List ℕ → Type 0
   StandsIn e x = (before : List FileEntry) × (f : FileEntry) × (rest : List ℕ) × AllByRecursion (HasText Second) before × HasText Second f × Shows AreAll e f
       × (x ≡ entries_text Second before ++ (entry_text Second f ++ rest))
 
-  -- an entry that is not the first stands behind the one that is
-  stands_behind : (e : FileEntry) (f : FileEntry) → HasText Second f → (x y : List ℕ) → x ≡ entry_text Second f ++ y → ¬ Shows AreAll e f → StandsIn e x → StandsIn e y
-  stands_behind e f fits x y is none ([], g, rest, all, has, shows, split) =
-      let one = same_body Second f g y rest fits has (rest_same _ _ 1 1 (sym is ∙ split ∙ none_behind Second (entry_text Second g ++ rest))) in
+  -- an entry that is not the first stands after the one that is
+  stands_after : (e : FileEntry) (f : FileEntry) → HasText Second f → (x y : List ℕ) → x ≡ entry_text Second f ++ y → ¬ Shows AreAll e f → StandsIn e x → StandsIn e y
+  stands_after e f fits x y is none ([], g, rest, all, has, shows, split) =
+      let one = same_body Second f g y rest fits has (rest_same _ _ 1 1 (sym is ∙ split ∙ none_after Second (entry_text Second g ++ rest))) in
       absurd (none (subst (Shows AreAll e) (sym one.0) shows))
-  stands_behind e f fits x y is none (h ∷ before, g, rest, all, has, shows, split) =
+  stands_after e f fits x y is none (h ∷ before, g, rest, all, has, shows, split) =
       let bodies = rest_same (body_text Second f ++ y) (body_text Second h ++ (entries_text Second before ++ (entry_text Second g ++ rest))) 1 1 (sym is ∙ split
-      ∙ entries_behind Second h before (entry_text Second g ++ rest)) in
+      ∙ entries_after Second h before (entry_text Second g ++ rest)) in
       (before, g, rest, all.1, has, shows, (same_body Second f h y (entries_text Second before ++ (entry_text Second g ++ rest)) fits all.0 bodies).1)
 
   none_stands : (e : FileEntry) (x : List ℕ) → (¬ HasEntry x) → StandsIn e x → ⊥
-  none_stands e x other ([], g, rest, all, has, shows, split) = other (g, has, (rest, split ∙ none_behind Second (entry_text Second g ++ rest)))
+  none_stands e x other ([], g, rest, all, has, shows, split) = other (g, has, (rest, split ∙ none_after Second (entry_text Second g ++ rest)))
   none_stands e x other (h ∷ before, g, rest, all, has, shows, split) =
-      other (h, all.0, (entries_text Second before ++ (entry_text Second g ++ rest), split ∙ entries_behind Second h before (entry_text Second g ++ rest)))
+      other (h, all.0, (entries_text Second before ++ (entry_text Second g ++ rest), split ∙ entries_after Second h before (entry_text Second g ++ rest)))
 
   one_more : (e f : FileEntry) → HasText Second f → (x y : List ℕ) → x ≡ entry_text Second f ++ y → StandsIn e y → StandsIn e x
   one_more e f fits x y is (before, g, rest, all, has, shows, split) = (
@@ -233,7 +233,7 @@ module _ (AreAll : FileEntry → List (List ℕ) → Type 0) (decide_all : (e : 
     has,
     shows,
     is ∙ ap (λ z. entry_text Second f ++ z) split
-        ∙ sym (entries_behind Second f before (entry_text Second g ++ rest)),
+        ∙ sym (entries_after Second f before (entry_text Second g ++ rest)),
   )
 
   decide_stands : (e : FileEntry) (n : ℕ) (x : List ℕ) → length x ≤ n → StandsIn e x ⊎ (¬ StandsIn e x)
@@ -244,12 +244,12 @@ module _ (AreAll : FileEntry → List (List ℕ) → Type 0) (decide_all : (e : 
   decide_stands e (suc n) x few = elim (decide_entry x) [
     | inr other ↦ inr (none_stands e x other)
     | inl h ↦ elim (decide_shows e h.0) [
-      | inl shows ↦ inl ([], h.0, h.2.0, tt, h.1, shows, h.2.1 ∙ sym (none_behind Second (entry_text Second h.0 ++ h.2.0)))
+      | inl shows ↦ inl ([], h.0, h.2.0, tt, h.1, shows, h.2.1 ∙ sym (none_after Second (entry_text Second h.0 ++ h.2.0)))
       | inr none ↦
           let shorter : length h.2.0 ≤ n = omega (arith, few, ap length h.2.1, length-append (entry_text Second h.0) h.2.0) in
           elim (decide_stands e n h.2.0 shorter) [
             | inl s ↦ inl (one_more e h.0 h.1 x h.2.0 h.2.1 s)
-            | inr not ↦ inr (λ s. not (stands_behind e h.0 h.1 x h.2.0 h.2.1 none s))
+            | inr not ↦ inr (λ s. not (stands_after e h.0 h.1 x h.2.0 h.2.1 none s))
           ]
     ]
   ]
@@ -330,7 +330,7 @@ one_place : (v : Version) (h : Contents) (other : Option Contents) (bytes : List
 one_place v h other bytes m n a b = go split.0 split.1 split.2
   where
     split : (middle : List FileEntry) × (b.before ≡ a.before ++ middle) × (a.first ∷ a.after ≡ middle ++ b.first ∷ b.after)
-    split = behind_all (LiesWhole (AreAllDigests h other) h.reel bytes) a.before (a.first ∷ a.after) b.before b.first b.after (sym a.split ∙ b.split) a.whole b.not_whole
+    split = after_all (LiesWhole (AreAllDigests h other) h.reel bytes) a.before (a.first ∷ a.after) b.before b.first b.after (sym a.split ∙ b.split) a.whole b.not_whole
 
     go : (middle : List FileEntry) → b.before ≡ a.before ++ middle → a.first ∷ a.after ≡ middle ++ b.first ∷ b.after → m ≡ n
     go [] same rest =

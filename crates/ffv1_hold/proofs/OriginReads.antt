@@ -1,4 +1,4 @@
--- How reading the digests behind a slice goes on behind those that were read.
+-- How reading the digests after a slice goes on after those that were read.
 use Rattle.std.proofs.Common.{◌≡◌, ℕ, zero, suc, ◌-◌, ◌<◌, ◌≤◌, ◌==◌, IsTrue, rules, slice_get, List, [], ◌∷◌, ◌++◌, length, get_or, Some, refl, sym, ap, ◌∙◌, subst, inr, arith, append_assoc}
 use Rattle.std.specs.Ordering.{ordering_index}
 use Rattle.std.specs.declared.cmp.Ordering.{Ordering}
@@ -18,7 +18,7 @@ use Rattle.ffv1_hold.specs.Reading.{TakesText, StopsAt, IsShorter, Never}
 use Rattle.ffv1_hold.proofs.TextReads.{TakesText-trans, StopsAt-after}
 use Rattle.ffv1_hold.proofs.DigestTexts.{whole, whole-push, all_push}
 
--- what stands behind the last digest is above all
+-- what stands after the last digest is above all
 above_digests : (xs : List (List ℕ)) (e : List ℕ) → IsRising bytes_cmp xs → FollowsDigest (last_of xs) e → (i : ℕ) (d : List ℕ) → i < length xs
     → bytes_cmp (get_or xs i d) e ≡ Less
 above_digests [] e up follows i d lt = absurd (omega arith)

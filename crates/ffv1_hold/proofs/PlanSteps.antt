@@ -52,7 +52,7 @@ near_of_meaning r original slices copies meaning =
     IfOk-weaker r (λ h. h ≡ holding_of h.reel copies) (λ h. AreNear h.reel.setup original slices copies → HoldsExactly h slices)
     (λ h is near. near_exact h original slices copies near (ap (λ (k : Contents). k.slices) is)) meaning
 
--- what holds of the reel before a step that keeps it holds of the reel behind
+-- what holds of the reel before a step that keeps it holds of the reel after
 pub of_kept_reel : {E : Type 0} (r : Result Contents E) (Took : Contents → Type 0) (reel : Reel) → ((h : Contents) → Took h → h.reel ≡ reel)
     → (P : Reel → Type 0) → P reel → IfOk r Took → IfOk r (λ h. P h.reel)
 of_kept_reel r Took reel keeps P holds = IfOk-weaker r Took (λ h. P h.reel) (λ h took. subst P (sym (keeps h took)) holds)

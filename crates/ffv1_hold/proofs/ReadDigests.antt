@@ -23,11 +23,11 @@ use Rattle.ffv1_hold.specs.FileEntries.{IsFileEntryOf, file_entry_cmp, next_text
 use Rattle.ffv1_hold.specs.FileFaults.{IsFileReel}
 use Rattle.ffv1_hold.specs.Leads.{AreAllDigests}
 use Rattle.ffv1_hold.specs.JoinedStreams.{IsFileOf, IsFileOfSome, ReadsAll}
-use Rattle.ffv1_hold.specs.Merging.{Facts, part, both, IsHeld, IsBehind, StaysBehind}
+use Rattle.ffv1_hold.specs.Merging.{Facts, part, both, IsHeld, FollowsAll, ReadsToNext}
 use Rattle.ffv1_hold.proofs.DigestSets.{has, entry_tie, has-digests_in, digests_rise, same_digests}
 use Rattle.ffv1_hold.proofs.HeldEntries.{above_all, are_entries}
 use Rattle.ffv1_hold.proofs.NumberTexts.{no_tag}
-use Rattle.ffv1_hold.proofs.TextLaws.{entries_behind, AreFitting, fitting_all}
+use Rattle.ffv1_hold.proofs.TextLaws.{entries_after, AreFitting, fitting_all}
 use Rattle.ffv1_hold.proofs.Slots.{entries_text-cons, entries_text-none}
 use Rattle.ffv1_hold.proofs.TileTexts.{own}
 use Rattle.ffv1_hold.proofs.MergeFacts.{IsWithin, own_digests}
@@ -104,7 +104,7 @@ rest_tells_none : (w : Version) (r : Reel) → IsFileReel r → (e : Entry) (res
     → entries_text w rest ++ 0 ∷ [] ≡ next_text w next ++ bytes → told_in rest e ≡ []
 rest_tells_none w r is e [] bytes None entry below fit up same = refl
 rest_tells_none w r is e (g ∷ gs) bytes None entry below fit up same =
-    absurd (no_tag (body_text w g ++ (entries_text w gs ++ 0 ∷ [])) bytes 1 0 (sym (entries_behind w g gs (0 ∷ [])) ∙ same) (λ e. omega arith))
+    absurd (no_tag (body_text w g ++ (entries_text w gs ++ 0 ∷ [])) bytes 1 0 (sym (entries_after w g gs (0 ∷ [])) ∙ same) (λ e. omega arith))
 rest_tells_none w r is e rest bytes (Some x) entry below fit up same =
     let one = ap (λ t. t ++ bytes) (entries_text-cons w x [] ∙ ap (λ t. entry_text w x ++ t) (entries_text-none w) ∙ append-nil (entry_text w x)) in
     let front = front_entries w rest (x ∷ []) [] bytes fit (fitting_all w r is.reel (x ∷ []) (entry, tt)) (same ∙ sym one) in
@@ -133,13 +133,13 @@ any_each P (x ∷ xs) each q there =
     (any_each P xs (λ i d lt. each (suc i) d (omega arith)) q)
 
 -- what follows all facts follows each slice
-pub behind_each : (r : Reel) (all : Facts) (next : Option FileEntry) → IsBehind r all next → (e : Entry) → set.contains all.0 e ≡ true
+pub after_each : (r : Reel) (all : Facts) (next : Option FileEntry) → FollowsAll r all next → (e : Entry) → set.contains all.0 e ≡ true
     → IfSome next (λ n. entry_cmp e n.0 ≡ Less)
 unfolding file_entries
-behind_each r all None behind e held = tt
-behind_each r all (Some n) behind e held =
+after_each r all None after e held = tt
+after_each r all (Some n) after e held =
     any_each (λ q. entry_cmp q n.0 ≡ Less) (set.items all.0)
-    (above_all (digests_of (part r all)) (set.items all.0) n.0 (items-rising all.0) behind) e (sym (set.contains-items all.0 e) ∙ held)
+    (above_all (digests_of (part r all)) (set.items all.0) n.0 (items-rising all.0) after) e (sym (set.contains-items all.0 e) ∙ held)
 
 -- the digests of both are those of what was read of both
 pub digests_both : (r : Reel) (f g : Facts) (h k : Contents) (e : Entry) → digests_of h e ≡ digests_of (part r f) e → digests_of k e ≡ digests_of (part r g) e
@@ -171,17 +171,17 @@ pub right_gives : (r : Reel) (f g : Facts) → GiveBoth r g f (both f g)
 right_gives r f g h k e right left = digests_both r f g k h e left right ∙ digests-swap k h e
 
 module _ (r : Reel) (is : IsFileReel r) (old new beside now : Option (List ℕ)) (v w : Version) (f g all : Facts) (next also : Option FileEntry)
-    (read : IsReadTo old new v r f next) (other_read : IsReadTo beside now w r g also) (inside : IsWithin f all) (follows : IsBehind r all next)
-    (also_follows : IsBehind r all also) (give : GiveBoth r f g all) where
+    (read : IsReadTo old new v r f next) (other_read : IsReadTo beside now w r g also) (inside : IsWithin f all) (follows : FollowsAll r all next)
+    (also_follows : FollowsAll r all also) (give : GiveBoth r f g all) where
   are_all : (u : Version) (h : Contents) (other : Option Contents) → IsFileOf old u h → IsFileOfSome beside other → (e : Entry) → set.contains f.0 e ≡ true
       → AreAllDigests h other (own (part r f) e) (digests_of (part r all) e)
   are_all u h None file other_file e held = own_digests r f all inside e
   are_all u h (Some k) file other_file e held =
       let there = inside.slices e held in
-      give h k e (digests_read u v h r is old new f next file read e (behind_each r all next follows e there))
-      (digests_read other_file.0 w k r is beside now g also other_file.1 other_read e (behind_each r all also also_follows e there))
+      give h k e (digests_read u v h r is old new f next file read e (after_each r all next follows e there))
+      (digests_read other_file.0 w k r is beside now g also other_file.1 other_read e (after_each r all also also_follows e there))
 
-  pub stays_beside : IsHolding (part r all) → IsTold Second (part r all) → (rest : List ℕ) → StaysBehind v r old new beside (begun_text Second (part r all) ++ rest)
+  pub stays_beside : IsHolding (part r all) → IsTold Second (part r all) → (rest : List ℕ) → ReadsToNext v r old new beside (begun_text Second (part r all) ++ rest)
   stays_beside sound told rest = record {
     facts = f;
     sound = read.sound;

@@ -64,7 +64,7 @@ either : (P P' W W' : Type 0) → P ⊎ W → (P → P') → (W → W') → P' �
 either P P' W W' (inl x) p w = inl (p x)
 either P P' W W' (inr x) p w = inr (w x)
 
--- an earlier call took xs, and behind it the faults are those of P, W and Q
+-- an earlier call took xs, and after it the faults are those of P, W and Q
 pub Refuses-after : (P P' : List ℕ → Type 0) (W W' Q Q' : HoldFileFault → List ℕ → Type 0) (a b c : Option (List ℕ)) (i j : ℕ) (xs : List ℕ) (f : HoldFileFault)
     → Takes a b i j xs → Refuses P W Q b c j f
     → ((s : List ℕ) → P s → P' (xs ++ s)) → ((f : HoldFileFault) (s : List ℕ) → W f s → W' f (xs ++ s))

@@ -1,4 +1,4 @@
--- How reading the entries of a file goes on behind those that were read.
+-- How reading the entries of a file goes on after those that were read.
 use Rattle.std.proofs.Common.{◌≡◌, ℕ, ◌≤◌, List, [], ◌++◌, Option, Some, None, IfSome, inl, refl, sym, ap, ◌∙◌, subst, append-nil}
 use mathlib.Core.Bool.{true≢false}
 use Rattle.ffv1_bits.specs.Limits.{file_limit}
@@ -69,7 +69,7 @@ module _ (v : Version) (reel : Reel) (a b : ReadLog) (i j : ℕ) (h grown : Cont
   digests : AreOrigins e.1
   digests = digests_in_version v e.1 entry.origins
 
-  -- the entry that is held behind these is one of them
+  -- the entry that is held after these is one of them
   pub one_more : (held : Option FileEntry) → held ≡ Some e → grown ≡ with_entry h e.0 e.1 → TakesText a b i j (entries_text v (file_entries h) ++ next_text v held)
       → AreRead v reel a b i j grown held
   one_more held at added text =
@@ -87,7 +87,7 @@ module _ (v : Version) (reel : Reel) (a b : ReadLog) (i j : ℕ) (h : Contents) 
   entries : AreEntries v reel.setup (file_entries h)
   entries = subst (λ (r : Reel). AreEntries v r.setup (file_entries h)) read.reel' (are_entries v h read.sound read.told)
 
-  -- what comes behind them is refused, under the same version and setup
+  -- what comes after them is refused, under the same version and setup
   pub next_refused : (w : Version) (x : SetupValue) → w ≡ v → x ≡ reel.setup → (c : ReadLog) (f : HoldFileFault)
       → StopsAt (IsPartOfEntry w x last) EndIsWhole (EntryShows w x last) b c j f
       → StopsAt (IsPartOfEntries v reel.setup) (EntriesAreWhole v reel) (EntriesShow v reel.setup) a c i f
@@ -108,11 +108,11 @@ module _ (v : Version) (reel : Reel) (a b : ReadLog) (i j : ℕ) (h : Contents) 
       (inl (subst (IsPartOfEntries v reel.setup) (append-nil (entries_text v (file_entries h)))
       (part_of_entries v reel.setup (file_entries h) entries [] (inl refl))))
 
-  -- what was read behind them stands behind the last one
+  -- what was read after them stands after the last one
   pub next_follows : (next : Option FileEntry) → IfSome next (λ e. Follows last e.0) → IfSome next (λ e. Follows (last_of (file_entries h)) e.0)
   next_follows next follows = subst (λ (l : Option FileEntry). IfSome next (λ e. Follows l e.0)) read.last' follows
 
--- the next entry, or the end, behind other bytes, where the versions are the same
+-- the next entry, or the end, after other bytes, where the versions are the same
 pub next_taken : (v w : Version) (a b c : ReadLog) (i j k : ℕ) (xs : List ℕ) (next : Option FileEntry) → w ≡ v → TakesText a b i j xs
     → TakesText b c j k (next_text w next) → TakesText a c i k (xs ++ next_text v next)
 next_taken v w a b c i j k xs next same t more =

@@ -1,4 +1,4 @@
--- Slices behind their tags are read in one way only, and show one fault at most.
+-- Slices after their tags are read in one way only, and show one fault at most.
 use Rattle.std.proofs.Common.{◌≡◌, ℕ, ◌<◌, ◌≤◌, ◌^◌, ◌==◌, List, ◌++◌, length, Option, refl, sym, ap, ◌∙◌, subst, inl, inr, arith, append_assoc, length-append}
 use Rattle.std.specs.Prelude.{◌⊎◌}
 use Rattle.ffv1_bits.specs.Limits.{slice_limit}
@@ -11,7 +11,7 @@ use Rattle.ffv1_hold.specs.HoldingText.{FileEntry, be2, be4, slice_text}
 use Rattle.ffv1_hold.specs.FileEntries.{Follows}
 use Rattle.ffv1_hold.specs.FileFaults.{IsPartOfSlice, IsWrong, SliceShows, IsRight}
 use Rattle.ffv1_hold.proofs.Bodies.{length-be2, length-be4}
-use Rattle.ffv1_hold.proofs.NumberTexts.{same_front, same_back, be2_same, number_same, behind_number}
+use Rattle.ffv1_hold.proofs.NumberTexts.{same_front, same_back, be2_same, number_same, after_number}
 
 -- its parts, before more bytes
 pub slice_parts : (e : Entry) (x : List ℕ) → slice_text e ++ x ≡ be2 e.0 ++ (be4 (length e.1) ++ (e.1 ++ x))
@@ -22,17 +22,17 @@ module _ (t u : ℕ) (m n : ℕ) (x y : List ℕ) (e : be2 t ++ (be4 m ++ x) ≡
   tile_bytes : be2 t ≡ be2 u
   tile_bytes = same_front (be2 t) (be2 u) (be4 m ++ x) (be4 n ++ y) (length-be2 t ∙ sym (length-be2 u)) e
 
-  behind_tile : be4 m ++ x ≡ be4 n ++ y
-  behind_tile = same_back (be2 t) (be2 u) (be4 m ++ x) (be4 n ++ y) (length-be2 t ∙ sym (length-be2 u)) e
+  after_tile : be4 m ++ x ≡ be4 n ++ y
+  after_tile = same_back (be2 t) (be2 u) (be4 m ++ x) (be4 n ++ y) (length-be2 t ∙ sym (length-be2 u)) e
 
   same_tile_number : t < 2 ^ 16 → u < 2 ^ 16 → t ≡ u
   same_tile_number p q = be2_same t u p q tile_bytes
 
   same_length_number : m < 2 ^ 32 → n < 2 ^ 32 → m ≡ n
-  same_length_number p q = number_same m n x y behind_tile p q
+  same_length_number p q = number_same m n x y after_tile p q
 
   same_rest : x ≡ y
-  same_rest = behind_number m n x y behind_tile
+  same_rest = after_number m n x y after_tile
 
 -- a slice whose tile takes two bytes, and that is within its limit
 abbrev pub Fits : Entry → Type 0
@@ -55,8 +55,8 @@ module _ (e f : Entry) (x y : List ℕ) (e_fits : Fits e) (f_fits : Fits f) (sam
       let bytes = same_front e.1 f.1 x y long (same_rest e.0 f.0 (length e.1) (length f.1) (e.1 ++ x) (f.1 ++ y) parts) in
       λ i. (tile i, bytes i)
 
-  pub behind_slice : x ≡ y
-  behind_slice = same_back e.1 f.1 x y long (same_rest e.0 f.0 (length e.1) (length f.1) (e.1 ++ x) (f.1 ++ y) parts)
+  pub after_slice : x ≡ y
+  after_slice = same_back e.1 f.1 x y long (same_rest e.0 f.0 (length e.1) (length f.1) (e.1 ++ x) (f.1 ++ y) parts)
 
 -- a whole slice is not cut by the end
 pub slice_cut : (e : Entry) (x : List ℕ) → length e.1 ≤ slice_limit → IsPartOfSlice (slice_text e ++ x) → ⊥

@@ -30,7 +30,7 @@ module _ (v : Version) where
   unfolding entries_text
   entries_text-push es e = flat_map-append (entry_text v) es (e ∷ []) ∙ ap (λ t. entries_text v es ++ t) (append-nil (entry_text v e))
 
-  -- the entry at i stands behind those before it, and before the rest
+  -- the entry at i stands after those before it, and before the rest
   pub entries_text-at : (es : List FileEntry) (i : ℕ) (e : FileEntry) → i < length es
       → entries_text v es ≡ entries_text v (take i es) ++ (entry_text v (get_or es i e) ++ entries_text v (drop (i + 1) es))
   entries_text-at es i e h =

@@ -12,8 +12,8 @@ use Rattle.ffv1_hold.specs.HoldingText.{FileEntry, be4, magic, version_number, s
 use Rattle.ffv1_hold.specs.FileEntries.{HasText, IsFileEntryOf}
 use Rattle.ffv1_hold.specs.FileFaults.{IsFileReel}
 use Rattle.ffv1_holding.proofs.Reels.{same_reel}
-use Rattle.ffv1_hold.proofs.NumberTexts.{same_front, same_back, no_tag, rest_same, number_same, behind_number}
-use Rattle.ffv1_hold.proofs.DigestTexts.{has_text_behind}
+use Rattle.ffv1_hold.proofs.NumberTexts.{same_front, same_back, no_tag, rest_same, number_same, after_number}
+use Rattle.ffv1_hold.proofs.DigestTexts.{has_text_after}
 use Rattle.ffv1_hold.proofs.BodyTexts.{same_body}
 use Rattle.ffv1_hold.proofs.Slots.{entries_text-none, entries_text-cons}
 use Rattle.ffv1_hold.proofs.HeldEntries.{are_entries, same_contents}
@@ -26,23 +26,23 @@ AreFitting v es = AllByRecursion (HasText v) es
 
 module _ (v : Version) where
   -- the text of an entry and more
-  pub entries_behind : (e : FileEntry) (es : List FileEntry) (x : List ℕ) → entries_text v (e ∷ es) ++ x ≡ 1 ∷ (body_text v e ++ (entries_text v es ++ x))
-  entries_behind e es x = ap (λ t. t ++ x) (entries_text-cons v e es) ∙ append_assoc (entry_text v e) (entries_text v es) x
+  pub entries_after : (e : FileEntry) (es : List FileEntry) (x : List ℕ) → entries_text v (e ∷ es) ++ x ≡ 1 ∷ (body_text v e ++ (entries_text v es ++ x))
+  entries_after e es x = ap (λ t. t ++ x) (entries_text-cons v e es) ∙ append_assoc (entry_text v e) (entries_text v es) x
 
-  pub none_behind : (x : List ℕ) → entries_text v [] ++ x ≡ x
-  none_behind x = ap (λ t. t ++ x) (entries_text-none v)
+  pub none_after : (x : List ℕ) → entries_text v [] ++ x ≡ x
+  none_after x = ap (λ t. t ++ x) (entries_text-none v)
 
   -- a list of entries and the end tag are read in one way
   pub same_entries : (es fs : List FileEntry) (x y : List ℕ) → AreFitting v es → AreFitting v fs
       → entries_text v es ++ 0 ∷ x ≡ entries_text v fs ++ 0 ∷ y → es ≡ fs
   same_entries [] [] x y es_fit fs_fit e = refl
-  same_entries [] (f ∷ fs) x y es_fit fs_fit e = absurd (no_tag x (body_text v f ++ (entries_text v fs ++ 0 ∷ y)) 0 1 (sym (none_behind (0 ∷ x)) ∙ e
-      ∙ entries_behind f fs (0 ∷ y)) (λ same. omega arith))
-  same_entries (g ∷ es) [] x y es_fit fs_fit e = absurd (no_tag (body_text v g ++ (entries_text v es ++ 0 ∷ x)) y 1 0 (sym (entries_behind g es (0 ∷ x)) ∙ e
-      ∙ none_behind (0 ∷ y)) (λ same. omega arith))
+  same_entries [] (f ∷ fs) x y es_fit fs_fit e = absurd (no_tag x (body_text v f ++ (entries_text v fs ++ 0 ∷ y)) 0 1 (sym (none_after (0 ∷ x)) ∙ e
+      ∙ entries_after f fs (0 ∷ y)) (λ same. omega arith))
+  same_entries (g ∷ es) [] x y es_fit fs_fit e = absurd (no_tag (body_text v g ++ (entries_text v es ++ 0 ∷ x)) y 1 0 (sym (entries_after g es (0 ∷ x)) ∙ e
+      ∙ none_after (0 ∷ y)) (λ same. omega arith))
   same_entries (g ∷ es) (f ∷ fs) x y es_fit fs_fit e =
       let bodies = rest_same (body_text v g ++ (entries_text v es ++ 0 ∷ x)) (body_text v f ++ (entries_text v fs ++ 0 ∷ y)) 1 1
-      (sym (entries_behind g es (0 ∷ x)) ∙ e ∙ entries_behind f fs (0 ∷ y)) in
+      (sym (entries_after g es (0 ∷ x)) ∙ e ∙ entries_after f fs (0 ∷ y)) in
       let one = same_body v g f (entries_text v es ++ 0 ∷ x) (entries_text v fs ++ 0 ∷ y) es_fit.0 fs_fit.0 bodies in
       let others = same_entries es fs x y es_fit.1 fs_fit.1 one.1 in
       λ i. one.0 i ∷ others i
@@ -52,7 +52,7 @@ module _ (v : Version) where
   entry_has_text r is e entry =
       let grid = slice_in_grid r.setup e.0.1 (e.0.0 == 0) e.0.0 entry.slice.slice in
       let few = setup_tiles r.config r.setup.width r.setup.height r.setup is in
-      (omega arith, entry.slice.fits, has_text_behind v e.1 entry.origins)
+      (omega arith, entry.slice.fits, has_text_after v e.1 entry.origins)
 
   pub fitting_all : (r : Reel) → IsReel r → (es : List FileEntry) → AllByRecursion (IsFileEntryOf v r.setup) es → AreFitting v es
   fitting_all r is [] each = tt
@@ -76,10 +76,10 @@ pub same_sized : (c d : List ℕ) (w h v k : ℕ) (x y : List ℕ) → length c 
     → sized_record c w h ++ x ≡ sized_record d v k ++ y → record { width : w ≡ v; height : h ≡ k; config : c ≡ d; rest : x ≡ y }
 same_sized c d w h v k x y c_fits d_fits w_fits h_fits v_fits k_fits e =
     let all = sym (sized_parts c w h x) ∙ e ∙ sized_parts d v k y in
-    let one = behind_number w v _ _ all in
-    let two = behind_number h k _ _ one in
+    let one = after_number w v _ _ all in
+    let two = after_number h k _ _ one in
     let long = number_same (length c) (length d) _ _ two (omega arith) (omega arith) in
-    let three = behind_number (length c) (length d) _ _ two in
+    let three = after_number (length c) (length d) _ _ two in
     record {
       width = number_same w v _ _ all w_fits v_fits;
       height = number_same h k _ _ one h_fits k_fits;
@@ -101,8 +101,8 @@ same_number Second Second e = refl
 pub same_version : (v w : Version) (x y : List ℕ) → magic v ++ x ≡ magic w ++ y → v ≡ w
 same_version v w x y e = same_number v w (ap (λ z. get_or z 7 0) e)
 
-pub behind_magic : (v w : Version) (x y : List ℕ) → magic v ++ x ≡ magic w ++ y → x ≡ y
-behind_magic v w x y e = same_back (magic v) (magic w) x y refl e
+pub after_magic : (v w : Version) (x y : List ℕ) → magic v ++ x ≡ magic w ++ y → x ≡ y
+after_magic v w x y e = same_back (magic v) (magic w) x y refl e
 
 -- two heads that begin the same bytes are the same
 pub same_head : (v w : Version) (r s : Reel) (x y : List ℕ) → IsFileReel r → IsFileReel s → head_text v r ++ x ≡ head_text w s ++ y
@@ -111,7 +111,7 @@ same_head v w r s x y r_is s_is e =
     let r_small = setup_small r.config r.setup.width r.setup.height r.setup r_is.reel in
     let s_small = setup_small s.config s.setup.width s.setup.height s.setup s_is.reel in
     let parts = sym (head_parts v r x) ∙ e ∙ head_parts w s y in
-    let sized = behind_magic v w _ _ parts in
+    let sized = after_magic v w _ _ parts in
     let same = same_sized r.config s.config r.setup.width r.setup.height s.setup.width s.setup.height x y r_is.fits s_is.fits r_small.0 r_small.1 s_small.0
     s_small.1 sized in
     (same_version v w _ _ parts, same_reel r s r_is.reel s_is.reel same.config same.width same.height, same.rest)

@@ -27,7 +27,7 @@ TakesText-trans a b c i j k xs ys p q = record {
 pub TakesText-from : (a b : ReadLog) (i j k : ℕ) (xs : List ℕ) → i ≡ j → TakesText a b i k xs → TakesText a b j k xs
 TakesText-from a b i j k xs same t = subst (λ n. TakesText a b n k xs) same t
 
--- nothing more was read behind it
+-- nothing more was read after it
 pub TakesText-then_none : (a b c : ReadLog) (i j : ℕ) (xs : List ℕ) → TakesText a b i j xs → Reads b c [] → TakesText a c i j xs
 TakesText-then_none a b c i j xs t r = record {
   text = record { taken = subst (Consumes _ _) (append-nil xs) (Consumes-trans _ _ _ xs [] t.text.taken r.bytes'); moved = t.text.moved; within = t.text.within };
@@ -42,7 +42,7 @@ went-before true a b c p q = GivesUp-after a b c p q
 went-before false a b c p q = GoesOn-trans a b c p q
 
 module _ (P P' : List ℕ → Type 0) (W W' Q Q' : HoldFileFault → List ℕ → Type 0) (a b c : ReadLog) (i j : ℕ) (xs : List ℕ) (t : TakesText a b i j xs) where
-  -- an earlier call read xs, and behind it the faults are those of P, W and Q
+  -- an earlier call read xs, and after it the faults are those of P, W and Q
   pub StopsAt-after : (f : HoldFileFault) → StopsAt P W Q b c j f
       → ((s : List ℕ) → P s → P' (xs ++ s)) → ((f : HoldFileFault) (s : List ℕ) → W f s → W' f (xs ++ s))
       → ((f : HoldFileFault) (s : List ℕ) → Q f s → Q' f (xs ++ s))
@@ -78,7 +78,7 @@ module _ (P : List ℕ → Type 0) (W Q : HoldFileFault → List ℕ → Type 0)
   shown faults.Memory is q = absurd is
   shown faults.OtherReel is q = absurd is
 
-  -- no memory was granted behind it
+  -- no memory was granted after it
   pub memory_stops : P xs ⊎ W faults.Memory xs → StopsAt P W Q a b i faults.Memory
   memory_stops is = record {
     fault = record { seen = xs; is = is; taken = t.text.taken; within = omega (arith, t.text.moved, t.text.within) };
@@ -86,7 +86,7 @@ module _ (P : List ℕ → Type 0) (W Q : HoldFileFault → List ℕ → Type 0)
     few = omega (arith, t.few, t.text.within);
   }
 
--- the source was given up behind bytes that were read within the limit
+-- the source was given up after bytes that were read within the limit
 pub broke_off : (P : List ℕ → Type 0) (W Q : HoldFileFault → List ℕ → Type 0) (a b : ReadLog) (i : ℕ) (xs : List ℕ) → BreaksOff a b xs
     → i + length xs ≤ file_limit → P xs ⊎ W faults.Read xs → StopsAt P W Q a b i faults.Read
 broke_off P W Q a b i xs r within is = record {
@@ -95,7 +95,7 @@ broke_off P W Q a b i xs r within is = record {
   few = omega (arith, r.taken'.most);
 }
 
--- the next byte was asked for behind a text
+-- the next byte was asked for after a text
 module _ (P : List ℕ → Type 0) (W Q : HoldFileFault → List ℕ → Type 0) (a b c : ReadLog) (i j : ℕ) (xs : List ℕ) (t : TakesText a b i j xs) where
   within : i + length xs ≤ file_limit
   within = omega (arith, t.text.moved, t.text.within)
@@ -103,15 +103,15 @@ module _ (P : List ℕ → Type 0) (W Q : HoldFileFault → List ℕ → Type 0)
   none : Consumes b.remaining c.remaining [] → Consumes a.remaining c.remaining xs
   none more = subst (Consumes _ _) (append-nil xs) (Consumes-trans _ _ _ xs [] t.text.taken more)
 
-  pub broke_behind : BreaksOff b c [] → P xs ⊎ W faults.Read xs → StopsAt P W Q a c i faults.Read
-  broke_behind r is = record {
+  pub broke_after : BreaksOff b c [] → P xs ⊎ W faults.Read xs → StopsAt P W Q a c i faults.Read
+  broke_after r is = record {
     fault = record { seen = xs; is = is; taken = none r.bytes'; within = within };
     tries' = GivesUp-after _ _ _ t.tries' r.tries';
     few = omega (arith, t.few, t.text.within, r.taken'.most);
   }
 
-  pub ended_behind : Reads b c [] × IsAtEnd c.remaining → P xs → StopsAt P W Q a c i faults.Truncated
-  ended_behind (r, end) is = record {
+  pub ended_after : Reads b c [] × IsAtEnd c.remaining → P xs → StopsAt P W Q a c i faults.Truncated
+  ended_after (r, end) is = record {
     fault = record { seen = xs; unfinished = is; taken = none r.bytes'; at_end = end; within = within };
     tries' = GoesOn-trans _ _ _ t.tries' r.tries';
     few = omega (arith, t.few, t.text.within, r.taken'.most);
@@ -131,7 +131,7 @@ module _ (P : List ℕ → Type 0) (W Q : HoldFileFault → List ℕ → Type 0)
     few = omega (arith, t.few, t.text.within, r.taken'.most);
   }
 
--- ---- calls that read behind another
+-- ---- calls that read after another
 
 pub ReadsText-after : {T : Type 0} (text : T → List ℕ) (P P' : List ℕ → Type 0) (W W' Q Q' : HoldFileFault → List ℕ → Type 0) (a b c : ReadLog) (i j k : ℕ)
     (xs : List ℕ) (r : Result T HoldFileFault) → TakesText a b i j xs → ReadsText text P W Q b c j k r

@@ -57,10 +57,10 @@ module _ (h : Contents) where
             ∙ append_assoc (file_entries_below h (t + 1)) before.0 (tile_file_entries h (t + 1 + k)),
       )
 
-  -- the text of all goes on behind that of a tile
-  pub text_behind : (t n : ℕ) → t < n → (rest : List ℕ) × (entries_text Second (file_entries_below h n) ≡ entries_text Second (file_entries_below h t) ++
+  -- the text of all goes on after that of a tile
+  pub text_goes_on : (t n : ℕ) → t < n → (rest : List ℕ) × (entries_text Second (file_entries_below h n) ≡ entries_text Second (file_entries_below h t) ++
       (entries_text Second (tile_file_entries h t) ++ rest))
-  text_behind t n lt =
+  text_goes_on t n lt =
       let before = rest_below t (n - (t + 1)) n (omega arith) in (
         entries_text Second before.0,
         ap (entries_text Second) before.1 ∙ entries_text-split Second (file_entries_below h (t + 1)) before.0

@@ -10,10 +10,10 @@ use Rattle.ffv1_hold.specs.HoldingText.{FileEntry, be4, magic, sized_record, hea
 use Rattle.ffv1_hold.specs.FileEntries.{last_of, AreEntries}
 use Rattle.ffv1_hold.specs.FileFaults.{IsPartOfEntry, EntryShows, IsPartOfReel, ReelShows, IsPartOfFile, FileShows}
 use Rattle.ffv1_hold.proofs.Bodies.{length-be4}
-use Rattle.ffv1_hold.proofs.NumberTexts.{rest_same, number_same, behind_number}
+use Rattle.ffv1_hold.proofs.NumberTexts.{rest_same, number_same, after_number}
 use Rattle.ffv1_hold.proofs.BodyTexts.{same_body, body_cut, part_body_none}
-use Rattle.ffv1_hold.proofs.TextLaws.{entries_behind, none_behind, AreFitting, fitting_all, same_head, behind_magic, head_parts}
-use Rattle.ffv1_hold.proofs.FaultLaws.{last_from, last_of-none, AreValid, valid_list, entry_kinds, right_none, part_behind, part_tag, magic_none, reel_none, sized_cut}
+use Rattle.ffv1_hold.proofs.TextLaws.{entries_after, none_after, AreFitting, fitting_all, same_head, after_magic, head_parts}
+use Rattle.ffv1_hold.proofs.FaultLaws.{last_from, last_of-none, AreValid, valid_list, entry_kinds, right_none, part_after, part_tag, magic_none, reel_none, sized_cut}
 use Rattle.ffv1_hold.proofs.OneFault.{reel_kinds, head_on}
 
 -- ---- entries
@@ -22,7 +22,7 @@ module _ (v : Version) (setup : SetupValue) where
   part_entry_none : (last : Option FileEntry) (f : HoldFileFault) (p s y : List ℕ) → p ≡ s ++ y → IsPartOfEntry v setup last p → EntryShows v setup last f s → ⊥
   part_entry_none last f p s y same part shown = elim (entry_kinds v setup last f s shown) [
     | inl w ↦ let one = part_tag v setup last w.0 y (subst (IsPartOfEntry v setup last) (same ∙ ap (λ q. q ++ y) w.2) part) in let over = w.3 in omega arith
-    | inr w ↦ part_body_none v setup last f (w.0 ++ y) w.0 y refl (part_behind v setup last (w.0 ++ y) (subst (IsPartOfEntry v setup last)
+    | inr w ↦ part_body_none v setup last f (w.0 ++ y) w.0 y refl (part_after v setup last (w.0 ++ y) (subst (IsPartOfEntry v setup last)
         (same ∙ ap (λ q. q ++ y) w.1) part)) w.2
   ]
 
@@ -30,17 +30,17 @@ module _ (v : Version) (setup : SetupValue) where
       → AreFitting v fs → entries_text v es ++ p ≡ (entries_text v fs ++ t) ++ y → IsPartOfEntry v setup (last_from last es) p
       → EntryShows v setup (last_from last fs) f t → ⊥
   entries_unfinished last [] [] f p t y valid fit fs_fit same part shown =
-      part_entry_none last f p t y (sym (none_behind v p) ∙ same ∙ ap (λ q. q ++ y) (none_behind v t)) part shown
+      part_entry_none last f p t y (sym (none_after v p) ∙ same ∙ ap (λ q. q ++ y) (none_after v t)) part shown
   entries_unfinished last [] (g ∷ fs) f p t y valid fit fs_fit same part shown =
-      let all = sym (none_behind v p) ∙ same ∙ ap (λ q. q ++ y) (entries_behind v g fs t)
+      let all = sym (none_after v p) ∙ same ∙ ap (λ q. q ++ y) (entries_after v g fs t)
       ∙ ap (λ q. 1 ∷ q) (append_assoc (body_text v g) (entries_text v fs ++ t) y) in
-      body_cut v setup last g ((entries_text v fs ++ t) ++ y) fs_fit.0 (part_behind v setup last _ (subst (IsPartOfEntry v setup last) all part))
+      body_cut v setup last g ((entries_text v fs ++ t) ++ y) fs_fit.0 (part_after v setup last _ (subst (IsPartOfEntry v setup last) all part))
   entries_unfinished last (e ∷ es) [] f p t y valid fit fs_fit same part shown =
-      right_none v setup last e (entries_text v es ++ p) y valid.0.0 fit.0 valid.0.1 f t (sym (entries_behind v e es p) ∙ same
-      ∙ ap (λ q. q ++ y) (none_behind v t)) shown
+      right_none v setup last e (entries_text v es ++ p) y valid.0.0 fit.0 valid.0.1 f t (sym (entries_after v e es p) ∙ same
+      ∙ ap (λ q. q ++ y) (none_after v t)) shown
   entries_unfinished last (e ∷ es) (g ∷ fs) f p t y valid fit fs_fit same part shown =
-      let bodies = rest_same (body_text v e ++ (entries_text v es ++ p)) ((body_text v g ++ (entries_text v fs ++ t)) ++ y) 1 1 (sym (entries_behind v e es p)
-      ∙ same ∙ ap (λ q. q ++ y) (entries_behind v g fs t)) in
+      let bodies = rest_same (body_text v e ++ (entries_text v es ++ p)) ((body_text v g ++ (entries_text v fs ++ t)) ++ y) 1 1 (sym (entries_after v e es p)
+      ∙ same ∙ ap (λ q. q ++ y) (entries_after v g fs t)) in
       let apart = bodies ∙ append_assoc (body_text v g) (entries_text v fs ++ t) y in
       let one = same_body v e g (entries_text v es ++ p) ((entries_text v fs ++ t) ++ y) fit.0 fs_fit.0 apart in
       entries_unfinished (Some e) es fs f p t y valid.1 fit.1 fs_fit.1 one.1 part
@@ -65,8 +65,8 @@ record_cut w h n y over small (inl short) =
 record_cut w h n y over small (inr (v, k, m, config, split, few, cut)) =
     let all = sym (append_assoc (be4 w) (be4 h) (be4 n ++ y)) ∙ sym (append_assoc (be4 w ++ be4 h) (be4 n) y) ∙ split
     ∙ append_assoc (be4 v ++ be4 k) (be4 m) config ∙ append_assoc (be4 v) (be4 k) (be4 m ++ config) in
-    let one = behind_number w v _ _ all in
-    let two = behind_number h k _ _ one in
+    let one = after_number w v _ _ all in
+    let two = after_number h k _ _ one in
     let is = number_same n m _ _ two small (omega arith) in
     omega arith
 
@@ -93,20 +93,20 @@ part_shows_none f s t y same (inl (few, is)) (inr (inr (w, r, u, r_is, split, a)
     omega (arith, few, ap length same, length-append t y, ap length (split ∙ head_parts w r u), length-append (magic w) (sized ++ u))
 part_shows_none f s t y same (inr (inl (x, p, s_split, part))) (inl a) = magic_none x p y t f (sym s_split ∙ same) a
 part_shows_none f s t y same (inr (inl (x, p, s_split, part))) (inr (inl (w, u, split, a))) =
-    part_reel_none f p u y (behind_magic x w _ _ (sym s_split ∙ same ∙ ap (λ q. q ++ y) split ∙ append_assoc (magic w) u y)) part a
+    part_reel_none f p u y (after_magic x w _ _ (sym s_split ∙ same ∙ ap (λ q. q ++ y) split ∙ append_assoc (magic w) u y)) part a
 part_shows_none f s t y same (inr (inl (x, p, s_split, part))) (inr (inr (w, r, u, r_is, split, a))) =
     sized_cut r.config r.setup.width r.setup.height (u ++ y) r_is.fits
-    (subst IsPartOfReel (behind_magic x w _ _ (sym s_split ∙ same ∙ ap (λ q. q ++ y) split ∙ head_on w r u y)) part)
+    (subst IsPartOfReel (after_magic x w _ _ (sym s_split ∙ same ∙ ap (λ q. q ++ y) split ∙ head_on w r u y)) part)
 part_shows_none f s t y same (inr (inr (x, q, p, q_is, s_split, part))) (inl a) = magic_none x _ y t f (sym (head_parts x q p) ∙ sym s_split ∙ same) a
 part_shows_none f s t y same (inr (inr (x, q, p, q_is, s_split, part))) (inr (inl (w, u, split, a))) =
-    reel_none q q_is p y f u (behind_magic x w _ _ (sym (head_parts x q p) ∙ sym s_split ∙ same ∙ ap (λ z. z ++ y) split ∙ append_assoc (magic w) u y)) a
-part_shows_none f s t y same (inr (inr (x, q, p, q_is, s_split, (es, m, entries, inner, part)))) (inr (inr (w, r, u, r_is, split, (fs, n, more, behind, a)))) =
+    reel_none q q_is p y f u (after_magic x w _ _ (sym (head_parts x q p) ∙ sym s_split ∙ same ∙ ap (λ z. z ++ y) split ∙ append_assoc (magic w) u y)) a
+part_shows_none f s t y same (inr (inr (x, q, p, q_is, s_split, (es, m, entries, inner, part)))) (inr (inr (w, r, u, r_is, split, (fs, n, more, after, a)))) =
     let heads = same_head x w q r p (u ++ y) q_is r_is (sym s_split ∙ same ∙ ap (λ z. z ++ y) split ∙ append_assoc (head_text w r) u y) in
     let setup = ap (λ (x : Reel). x.setup) heads.1 in
     let fs_all = subst (λ (k : Version). AreEntries k r.setup fs) (sym heads.0) more in
     entries_unfinished x q.setup None es fs f m n y (valid_list x q.setup es entries) (fitting_all x q q_is.reel es entries.each)
     (fitting_all x r r_is.reel fs fs_all.each)
-    (sym inner ∙ heads.2 ∙ ap (λ z. z ++ y) (behind ∙ ap (λ (k : Version). entries_text k fs ++ n) (sym heads.0)))
+    (sym inner ∙ heads.2 ∙ ap (λ z. z ++ y) (after ∙ ap (λ (k : Version). entries_text k fs ++ n) (sym heads.0)))
     (subst (λ (l : Option FileEntry). IsPartOfEntry x q.setup l m) (last_of-none es) part)
     (subst (λ (l : Option FileEntry). EntryShows x q.setup l f n) (last_of-none fs) (subst (λ (k : SetupValue). EntryShows x k (last_of fs) f n) (sym setup)
     (subst (λ (k : Version). EntryShows k r.setup (last_of fs) f n) (sym heads.0) a)))

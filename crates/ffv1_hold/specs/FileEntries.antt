@@ -18,12 +18,12 @@ last_of [] = None
 last_of (x ∷ []) = Some x
 last_of (x ∷ y ∷ ys) = last_of (y ∷ ys)
 
--- a slice stands behind the last entry, if there is one
+-- a slice stands after the last entry, if there is one
 abbrev pub Follows : Option FileEntry → Entry → Type 0
 Follows None e = Unit {0}
 Follows (Some last) e = entry_cmp last.0 e ≡ Less
 
--- a digest stands behind the last one, if there is one
+-- a digest stands after the last one, if there is one
 abbrev pub FollowsDigest : Option (List ℕ) → List ℕ → Type 0
 FollowsDigest None digest = Unit {0}
 FollowsDigest (Some last) digest = bytes_cmp last digest ≡ Less
@@ -37,12 +37,12 @@ pub record AreOrigins (digests : List (List ℕ)) : Type 0 where
   pub each : AllByRecursion IsDigest digests
   pub rising : AreDigests digests
 
--- what can stand behind a slice: nothing in version 1, rising digests in version 2
+-- what can stand after a slice: nothing in version 1, rising digests in version 2
 abbrev pub AreDigestsIn : Version → List (List ℕ) → Type 0
 AreDigestsIn First digests = digests ≡ []
 AreDigestsIn Second digests = AreOrigins digests × (length digests ≤ origins_limit)
 
--- A slice of its tile, and what can stand behind it.
+-- A slice of its tile, and what can stand after it.
 pub record IsFileEntryOf (v : Version) (setup : SetupValue) (e : FileEntry) : Type 0 where
   pub slice : IsEntryOf setup e.0
   pub origins : AreDigestsIn v e.1
@@ -55,16 +55,16 @@ pub record AreEntries (v : Version) (setup : SetupValue) (es : List FileEntry) :
   pub each : AllByRecursion (IsFileEntryOf v setup) es
   pub rising : IsRising file_entry_cmp es
 
--- the text of what is read behind an entry: the next one, or the end tag
+-- the text of what is read after an entry: the next one, or the end tag
 abbrev pub next_text : Version → Option FileEntry → List ℕ
 next_text v None = 0 ∷ []
 next_text v (Some e) = entry_text v e
 
--- what has a text behind a slice, in whatever order
-abbrev pub HasTextBehind : Version → List (List ℕ) → Type 0
-HasTextBehind First digests = digests ≡ []
-HasTextBehind Second digests = AllByRecursion IsDigest digests × (length digests ≤ origins_limit)
+-- what has a text after a slice, in whatever order
+abbrev pub HasTextAfter : Version → List (List ℕ) → Type 0
+HasTextAfter First digests = digests ≡ []
+HasTextAfter Second digests = AllByRecursion IsDigest digests × (length digests ≤ origins_limit)
 
 -- An entry that has a text: its tile's number takes two bytes, its slice is within its limit, and so are its digests.
 abbrev pub HasText : Version → FileEntry → Type 0
-HasText v e = (e.0.0 < 2 ^ 16) × (length e.0.1 ≤ slice_limit) × HasTextBehind v e.1
+HasText v e = (e.0.0 < 2 ^ 16) × (length e.0.1 ≤ slice_limit) × HasTextAfter v e.1

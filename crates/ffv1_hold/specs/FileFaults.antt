@@ -1,5 +1,5 @@
 -- Which bytes begin a holding file, and which show a fault in it. Judged are, in byte order: the magic, which tells the version; the
--- record's length; the setup, behind the record; each tag; each slice's length; behind a slice's bytes whether they are a slice of its
+-- record's length; the setup, after the record; each tag; each slice's length; after a slice's bytes whether they are a slice of its
 -- tile, and then whether it stands in order; and in version 2 the count of its digests, and each digest, whether it stands in order.
 use Rattle.std.specs.Prelude.{ℕ, ◌≡◌, ◌≢◌, ◌==◌, ◌+◌, ◌^◌, ◌<◌, ◌≤◌, ◌⊎◌, List, [], ◌∷◌, ◌++◌, length, take, Option, Some, Result, Ok, Err}
 use Rattle.std.specs.List.{flat_map}
@@ -20,7 +20,7 @@ use Rattle.ffv1_hold.specs.HoldingText.{TakesFile, FileEntry, origins_limit, mag
 use Rattle.ffv1_hold.specs.Reading.{Refuses, StopsAt}
 use Rattle.ffv1_hold.specs.FileEntries.{last_of, Follows, FollowsDigest, IsDigest, AreOrigins, AreEntries}
 
--- ---- a slice behind its tag
+-- ---- a slice after its tag
 
 -- a beginning of one: some of its tile and its length, or both and some of its bytes
 abbrev pub IsPartOfSlice : List ℕ → Type 0
@@ -31,7 +31,7 @@ abbrev pub SliceIsTooLong : HoldFileFault → List ℕ → Type 0
 SliceIsTooLong faults.TooLong s = (tile n : ℕ) × (s ≡ be2 tile ++ be4 n) × (slice_limit < n) × (n < 2 ^ 32)
 SliceIsTooLong _ s = ⊥
 
--- an entry behind the last one is no slice of its tile, or it is one in the wrong place
+-- an entry after the last one is no slice of its tile, or it is one in the wrong place
 abbrev pub IsWrong : SetupValue → Option FileEntry → Entry → HoldFileFault → Type 0
 IsWrong setup last e faults.NotASlice = ¬ IsSliceOf setup e.1 (e.0 == 0) e.0
 IsWrong setup last e faults.Order = IsSliceOf setup e.1 (e.0 == 0) e.0 × (¬ Follows last e)
@@ -41,7 +41,7 @@ abbrev pub SliceShows : SetupValue → Option FileEntry → HoldFileFault → Li
 SliceShows setup last faults.TooLong s = SliceIsTooLong faults.TooLong s
 SliceShows setup last f s = (e : Entry) × (s ≡ slice_text e) × (e.0 < 2 ^ 16) × (length e.1 ≤ slice_limit) × IsWrong setup last e f
 
--- ---- the digests behind a slice
+-- ---- the digests after a slice
 
 -- a beginning of them: some of their count, or that and fewer digests, and some of the next
 abbrev pub IsPartOfOrigins : List ℕ → Type 0
@@ -55,29 +55,29 @@ OriginsShow faults.Order s = (n : ℕ) × (digests : List (List ℕ)) × (digest
     × (n ≤ origins_limit) × AreOrigins digests × (length digests < n) × IsDigest digest × (¬ FollowsDigest (last_of digests) digest)
 OriginsShow _ s = ⊥
 
--- what stands behind a slice in a version: in version 1 nothing is read there
-abbrev pub IsPartBehind : Version → List ℕ → Type 0
-IsPartBehind First s = ⊥
-IsPartBehind Second s = IsPartOfOrigins s
+-- what stands after a slice in a version: in version 1 nothing is read there
+abbrev pub IsPartAfter : Version → List ℕ → Type 0
+IsPartAfter First s = ⊥
+IsPartAfter Second s = IsPartOfOrigins s
 
-abbrev pub ShowsBehind : Version → HoldFileFault → List ℕ → Type 0
-ShowsBehind First f s = ⊥
-ShowsBehind Second f s = OriginsShow f s
+abbrev pub ShowsAfter : Version → HoldFileFault → List ℕ → Type 0
+ShowsAfter First f s = ⊥
+ShowsAfter Second f s = OriginsShow f s
 
--- ---- an entry behind its tag
+-- ---- an entry after its tag
 
 -- a slice of its tile, in its place
 abbrev pub IsRight : SetupValue → Option FileEntry → Entry → Type 0
 IsRight setup last e = IsEntryOf setup e × Follows last e × (e.0 < 2 ^ 16)
 
--- a beginning of its slice, or the slice, which is right, and a beginning of what stands behind it
+-- a beginning of its slice, or the slice, which is right, and a beginning of what stands after it
 abbrev pub IsPartOfBody : Version → SetupValue → Option FileEntry → List ℕ → Type 0
 IsPartOfBody v setup last s = IsPartOfSlice s
-    ⊎ ((e : Entry) × (part : List ℕ) × (s ≡ slice_text e ++ part) × IsRight setup last e × IsPartBehind v part)
+    ⊎ ((e : Entry) × (part : List ℕ) × (s ≡ slice_text e ++ part) × IsRight setup last e × IsPartAfter v part)
 
 abbrev pub BodyShows : Version → SetupValue → Option FileEntry → HoldFileFault → List ℕ → Type 0
 BodyShows v setup last f s = SliceShows setup last f s
-    ⊎ ((e : Entry) × (seen : List ℕ) × (s ≡ slice_text e ++ seen) × IsRight setup last e × ShowsBehind v f seen)
+    ⊎ ((e : Entry) × (seen : List ℕ) × (s ≡ slice_text e ++ seen) × IsRight setup last e × ShowsAfter v f seen)
 
 -- ---- entries in rising order
 
@@ -97,13 +97,13 @@ abbrev pub EntriesShow : Version → SetupValue → HoldFileFault → List ℕ �
 EntriesShow v setup f s = (es : List FileEntry) × (seen : List ℕ) × AreEntries v setup es × (s ≡ entries_text v es ++ seen)
     × EntryShows v setup (last_of es) f seen
 
--- the end tag, behind which the end is looked for
+-- the end tag, after which the end is looked for
 abbrev pub EndIsWhole : HoldFileFault → List ℕ → Type 0
 EndIsWhole faults.Read s = s ≡ 0 ∷ []
 EndIsWhole faults.Trailing s = s ≡ 0 ∷ []
 EndIsWhole _ s = ⊥
 
--- all entries of a holding of the reel, and the end tag behind them
+-- all entries of a holding of the reel, and the end tag after them
 abbrev pub EntriesAreWhole : Version → Reel → HoldFileFault → List ℕ → Type 0
 EntriesAreWhole v reel f s = (h : Contents) × (tag : List ℕ) × IsHolding h × IsTold v h × (h.reel ≡ reel) × (s ≡ entries_text v (file_entries h) ++ tag)
     × EndIsWhole f tag
@@ -125,7 +125,7 @@ ReelShows (faults.Setup f) s = (config : List ℕ) × (w h : ℕ) × (s ≡ size
     × FirstSetupFault config w h f
 ReelShows _ s = ⊥
 
--- the size and the record are whole, behind which memory for the setup is wanted
+-- the size and the record are whole, after which memory for the setup is wanted
 abbrev pub ReelIsWhole : HoldFileFault → List ℕ → Type 0
 ReelIsWhole faults.Memory s = (config : List ℕ) × (w h : ℕ) × (s ≡ sized_record config w h) × (length config ≤ record_limit) × (w < 2 ^ 32) × (h < 2 ^ 32)
     × WantsMemory config w h
@@ -149,7 +149,7 @@ IsPartOfHead s = IsPartOfMagic s ⊎ ((v : Version) × (part : List ℕ) × (s �
 abbrev pub HeadShows : HoldFileFault → List ℕ → Type 0
 HeadShows f s = MagicShows f s ⊎ ((v : Version) × (seen : List ℕ) × (s ≡ magic v ++ seen) × ReelShows f seen)
 
--- they are whole, behind which memory for the setup is wanted
+-- they are whole, after which memory for the setup is wanted
 abbrev pub HeadIsWhole : HoldFileFault → List ℕ → Type 0
 HeadIsWhole f s = (v : Version) × (reel : List ℕ) × (s ≡ magic v ++ reel) × ReelIsWhole f reel
 

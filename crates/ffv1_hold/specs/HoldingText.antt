@@ -23,7 +23,7 @@ be4 n = to_be_bytes w32 n
 abbrev pub origins_limit : ℕ
 origins_limit = ORIGINS_LIMIT
 
--- a slice with its tile, and the digests that stand behind it
+-- a slice with its tile, and the digests that stand after it
 abbrev pub FileEntry : Type 0
 FileEntry = Entry × List (List ℕ)
 
@@ -55,14 +55,14 @@ slice_text e = be2 e.0 ++ be4 (length e.1) ++ e.1
 unfoldable pub origins_text : List (List ℕ) → List ℕ
 origins_text digests = be4 (length digests) ++ flat_map (λ digest. digest) digests
 
--- what stands behind a slice: nothing in version 1, its digests in version 2
-abbrev pub text_behind_slice : Version → List (List ℕ) → List ℕ
-text_behind_slice First digests = []
-text_behind_slice Second digests = origins_text digests
+-- what stands after a slice: nothing in version 1, its digests in version 2
+abbrev pub text_after_slice : Version → List (List ℕ) → List ℕ
+text_after_slice First digests = []
+text_after_slice Second digests = origins_text digests
 
--- an entry behind its tag
+-- an entry after its tag
 unfoldable pub body_text : Version → FileEntry → List ℕ
-body_text v e = slice_text e.0 ++ text_behind_slice v e.1
+body_text v e = slice_text e.0 ++ text_after_slice v e.1
 
 abbrev pub entry_text : Version → FileEntry → List ℕ
 entry_text v e = 1 ∷ body_text v e

@@ -61,7 +61,7 @@ AnswersUnion union (Err f) = IsOutside f ⊎ ((f ≡ faults.Write) ⊎ ((f ≡ f
 
 -- ---- heads
 
--- both heads were read, and nothing behind them, and they are of two reels
+-- both heads were read, and nothing after them, and they are of two reels
 pub record ReadsOtherHeads (i : Inputs) : Type 0 where
   pub left : Reel
   pub right : Reel
@@ -87,7 +87,7 @@ AnswersOther (Err f) = IsOutside f ⊎ (f ≡ faults.OtherReel)
 
 -- ---- entries so far
 
--- The head and the entries of this holding were read, and perhaps more behind them.
+-- The head and the entries of this holding were read, and perhaps more after them.
 pub record ReadsPart (old new : Option (List ℕ)) (h : Contents) : Type 0 where
   pub sound : IsHolding h
   pub record' : length h.reel.config ≤ record_limit

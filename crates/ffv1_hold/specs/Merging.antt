@@ -63,22 +63,22 @@ pub record IsPassed (old new : Option (List ℕ)) (v : Version) (r : Reel) (fact
   pub text : Takes old new 0 place (begun_text v (part r facts))
   pub last' : last ≡ last_of (file_entries (part r facts))
 
--- the entry stands behind these
-abbrev pub IsBehind : Reel → Facts → Option FileEntry → Type 0
-IsBehind r facts next = IfSome next (λ e. Follows (last_of (file_entries (part r facts))) e.0)
+-- the entry stands after these
+abbrev pub FollowsAll : Reel → Facts → Option FileEntry → Type 0
+FollowsAll r facts next = IfSome next (λ e. Follows (last_of (file_entries (part r facts))) e.0)
 
--- An input was read up to these entries, and behind them the next one, or to the end.
+-- An input was read up to these entries, and after them the next one, or to the end.
 pub record IsHeld (old new : Option (List ℕ)) (v : Version) (r : Reel) (facts : Facts) (place : ℕ) (next : Option FileEntry) : Type 0 where
   pub sound : IsHolding (part r facts)
   pub told : IsTold v (part r facts)
   pub text : Takes old new 0 place (begun_text v (part r facts) ++ next_text v next)
   pub entry : IfSome next (IsFileEntryOf v r.setup)
-  pub behind : IsBehind r facts next
+  pub after : FollowsAll r facts next
   pub at_end : IfNone next (IsAtEnd new)
 
 -- What was read of an input beside another: entries that lie whole in what was written, where it is a text, and at most the next one, or
 -- the end, after them.
-pub record StaysBehind (v : Version) (r : Reel) (old new beside : Option (List ℕ)) (done : List ℕ) : Type 0 where
+pub record ReadsToNext (v : Version) (r : Reel) (old new beside : Option (List ℕ)) (done : List ℕ) : Type 0 where
   pub facts : Facts
   pub sound : IsHolding (part r facts)
   pub told : IsTold v (part r facts)
@@ -103,7 +103,7 @@ pub record IsOpened (s : Start) (r : Reel) (left right sink : Option (List ℕ))
   pub right_head : Takes s.right right 0 right_place (head_text s.right_version s.reel)
   pub unwritten : sink ≡ s.sink
 
--- The entries of both inputs so far were written, each once, and what both hold next stands behind them.
+-- The entries of both inputs so far were written, each once, and what both hold next stands after them.
 pub record Stands (s : Start) (left right sink : Option (List ℕ)) (left_place right_place room : ℕ) (left_next right_next : Option FileEntry) : Type 0 where
   pub reel : IsFileReel s.reel
   pub lefts : Facts
@@ -111,8 +111,8 @@ pub record Stands (s : Start) (left right sink : Option (List ℕ)) (left_place 
   pub left_held : IsHeld s.left left s.left_version s.reel lefts left_place left_next
   pub right_held : IsHeld s.right right s.right_version s.reel rights right_place right_next
   pub written : Appends s.sink sink (begun_text Second (part s.reel (both lefts rights)))
-  pub left_behind : IsBehind s.reel (both lefts rights) left_next
-  pub right_behind : IsBehind s.reel (both lefts rights) right_next
+  pub left_after : FollowsAll s.reel (both lefts rights) left_next
+  pub right_after : FollowsAll s.reel (both lefts rights) right_next
   pub room_left : room + length (begun_text Second (part s.reel (both lefts rights))) ≡ file_limit
 
 -- Both inputs were read to their ends, and their entries were written, each once.
@@ -126,7 +126,7 @@ pub record Ends (s : Start) (left right sink : Option (List ℕ)) (room : ℕ) :
 
 -- ---- refusals
 
--- A head was refused, of the left input or behind the left one of the right, or both are of two reels.
+-- A head was refused, of the left input or after the left one of the right, or both are of two reels.
 abbrev pub HeadsRefuse : Inputs → HoldFileFault → Type 0
 HeadsRefuse i f = (Refuses IsPartOfHead HeadIsWhole HeadShows i.left_old i.left_new 0 f × (i.right_new ≡ i.right_old))
     ⊎ (((v : Version) × (r : Reel) × IsFileReel r × Consumes i.left_old i.left_new (head_text v r))
@@ -140,10 +140,10 @@ pub record WriteStops (i : Inputs) (r : Reel) (old new : Option (List ℕ)) : Ty
   pub written : Appends old new done
   pub left_version : Version
   pub right_version : Version
-  pub left : StaysBehind left_version r i.left_old i.left_new i.right_old done
-  pub right : StaysBehind right_version r i.right_old i.right_new i.left_old done
+  pub left : ReadsToNext left_version r i.left_old i.left_new i.right_old done
+  pub right : ReadsToNext right_version r i.right_old i.right_new i.left_old done
 
--- What a refusal behind two heads of one reel says of all that was read and written.
+-- What a refusal after two heads of one reel says of all that was read and written.
 pub record Stops (i : Inputs) (old new : Option (List ℕ)) (f : HoldFileFault) : Type 0 where
   pub reel : Reel
   pub is : IsFileReel reel
@@ -176,7 +176,7 @@ abbrev pub IsWritten : FileEntry → Type 0
 IsWritten e = (length e.0.1 ≤ slice_limit) × AreOrigins e.1 × (length e.1 ≤ origins_limit)
 
 -- The smaller of two next entries, with the digests of the other where their slices are equal, and how the left one stands to the
--- right one, where an end is behind all.
+-- right one, where an end comes after all.
 abbrev pub IsTurn : Option FileEntry → Option FileEntry → FileEntry → List (List ℕ) → Ordering → Type 0
 IsTurn left right e others Less = (left ≡ Some e) × (others ≡ []) × IfSome right (λ f. entry_cmp e.0 f.0 ≡ Less)
 IsTurn left right e others Greater = (right ≡ Some e) × (others ≡ []) × IfSome left (λ f. entry_cmp e.0 f.0 ≡ Less)

@@ -11,12 +11,12 @@ abbrev pub VersionShows : HoldFileFault → List ℕ → Type 0
 VersionShows faults.Magic s = (n : ℕ) × (s ≡ n ∷ []) × (n ≢ 1) × (n ≢ 2)
 VersionShows _ s = ⊥
 
--- a digest that does not stand behind the last one
+-- a digest that does not stand after the last one
 abbrev pub DigestShows : Option (List ℕ) → HoldFileFault → List ℕ → Type 0
 DigestShows last faults.Order s = IsDigest s × (¬ FollowsDigest last s)
 DigestShows last _ s = ⊥
 
--- A digest that stands behind the last one was taken, and stands behind the others.
+-- A digest that stands after the last one was taken, and stands after the others.
 pub record TakesDigest (old new : ReadLog) (from to : ℕ) (before after : List (List ℕ)) : Type 0 where
   pub digest : List ℕ
   pub is : IsDigest digest

@@ -44,7 +44,7 @@ pub record GoesOnIn (P : List ℕ → Type 0) (old new : Option (List ℕ)) (fro
   pub within : from + length seen ≤ file_limit
 
 -- What a fault says of the bytes that were taken. P: they are unfinished, and show no fault. W: they are whole, and the fault comes
--- behind them. Q: they show the fault.
+-- after them. Q: they show the fault.
 abbrev pub Refuses : (List ℕ → Type 0) → (W Q : HoldFileFault → List ℕ → Type 0) → Option (List ℕ) → Option (List ℕ) → ℕ → HoldFileFault → Type 0
 Refuses P W Q old new from faults.Read = StopsIn (λ s. P s ⊎ W faults.Read s) old new from
 Refuses P W Q old new from faults.Memory = StopsIn (λ s. P s ⊎ W faults.Memory s) old new from

@@ -10,7 +10,7 @@ ghost use Rattle.ffv1_hold.specs.FileFaults.{IsPartOfSlice, SliceIsTooLong, IsWr
 use crate::fields::read_field;
 use crate::file_fault::HoldFileFault;
 use crate::number::{read_u16, read_u32};
-use crate::origins::read_behind_slice;
+use crate::origins::read_after_slice;
 use crate::pieces::read_over;
 use crate::version::Version;
 use ffv1_bits::SLICE_LIMIT;
@@ -168,7 +168,7 @@ pub(crate) fn read_entry<S: Source>(
         1 => {
             let (slice, follows) = read_tile_slice(alloc, source, place, last)?;
             slice.judge(setup, follows)?;
-            let origins = read_behind_slice(alloc, source, place, version)?;
+            let origins = read_after_slice(alloc, source, place, version)?;
             Ok(Some(HeldSlice { slice, origins }))
         }
         _ => Err(HoldFileFault::Tag),

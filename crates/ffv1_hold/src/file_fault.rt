@@ -17,12 +17,12 @@ pub enum HoldFileFault {
     Truncated,
     /// A tag is neither 0 nor 1.
     Tag,
-    /// An entry does not stand behind the one before it, in the order of tile and bytes, or a digest does not stand behind
+    /// An entry does not stand after the one before it, in the order of tile and bytes, or a digest does not stand after
     /// the one before it.
     Order,
     /// An entry's bytes are no slice of its tile.
     NotASlice,
-    /// A byte stands behind the end tag.
+    /// A byte stands after the end tag.
     Trailing,
     /// The source failed, before a fault was met.
     Read,

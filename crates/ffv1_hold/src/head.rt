@@ -20,7 +20,7 @@ use std::alloc::Global;
 /// What a holding file begins with, before its version.
 const NAME: [u8; 7] = *b"FFV1HLD";
 
-/// Reads the name and the version, byte by byte: a wrong byte is told whatever the device would do behind it.
+/// Reads the name and the version, byte by byte: a wrong byte is told whatever the device would do after it.
 pub(crate) fn read_magic<S: Source>(
     source: &mut S,
     place: &mut u32,
@@ -49,7 +49,7 @@ fn read_name<S: Source>(source: &mut S, place: &mut u32) -> Result<(), HoldFileF
     Ok(())
 }
 
-/// Reads the version behind the name.
+/// Reads the version after the name.
 fn read_version<S: Source>(source: &mut S, place: &mut u32) -> Result<Version, HoldFileFault>
     requires { place.old ≤ file_limit }
     ensures { ReadsText (λ v. version_number v ∷ []) (IsShorter 1) Never VersionShows

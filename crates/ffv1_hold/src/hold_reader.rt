@@ -17,7 +17,7 @@ use ffv1_range::Setup;
 use std::alloc::Global;
 
 /// How far a holding file was read, its version, which the magic tells, and the entry that was read last: none before
-/// the first, and none behind the end tag.
+/// the first, and none after the end tag.
 #[derive(Drop)]
 pub(crate) struct HoldReader {
     place: u32,

@@ -15,7 +15,7 @@ pub fn text_shows_no_fault()
     ensures unfinished { PartShowsNoFault }
 {}
 
-/// An input has one fault at most: it shows one, ends too early, passes the limit or goes on behind a text.
+/// An input has one fault at most: it shows one, ends too early, passes the limit or goes on after a text.
 pub fn one_fault()
     ensures input { OneFault }
     ensures beginnings { OneShownFault }

@@ -17,7 +17,7 @@ ghost use Rattle.ffv1_hold.specs.JoinLogs.{JoinWent, WritesEntry};
 use crate::entry::HeldSlice;
 use crate::file_fault::HoldFileFault;
 use crate::hold_reader::HoldReader;
-use crate::saving::{room_behind_entry, write_head, write_origins, write_slice};
+use crate::saving::{room_after_entry, write_head, write_origins, write_slice};
 use crate::union::union_count;
 use crate::version::Version;
 use ffv1_bits::FILE_LIMIT;
@@ -101,7 +101,7 @@ pub fn join_streams<R: Source, Q: Source, W: Sink>(
     merge_files(alloc, left, right, sink)
 }
 
-/// Reads both heads, and then joins what is behind them.
+/// Reads both heads, and then joins what is after them.
 fn merge_files<R: Source, Q: Source, W: Sink>(
     alloc: Global,
     left: &mut R,
@@ -127,7 +127,7 @@ fn merge_files<R: Source, Q: Source, W: Sink>(
 {
     let mut merge = Merge::new();
     let reel = merge.read_heads(alloc, left, right)?;
-    merge.join_behind(alloc, &reel, left, right, sink)
+    merge.join_after_heads(alloc, &reel, left, right, sink)
 }
 
 /// How far both inputs were read, the next entry of each, and how many bytes the file still has room for.
@@ -187,7 +187,7 @@ impl Merge {
     }
 
     /// Writes the head of the reel, the entries of both inputs in their order, each once, and then the end tag.
-    fn join_behind<R: Source, Q: Source, W: Sink>(
+    fn join_after_heads<R: Source, Q: Source, W: Sink>(
         &mut self,
         alloc: Global,
         reel: &Reel,
@@ -229,7 +229,7 @@ impl Merge {
         Ok(())
     }
 
-    /// Writes the entries of both inputs in their order, each slice once, and reads both to their ends. The tag behind an
+    /// Writes the entries of both inputs in their order, each slice once, and reads both to their ends. The tag after an
     /// entry is read only after that entry was written.
     fn join_entries<R: Source, Q: Source, W: Sink>(
         &mut self,
@@ -271,7 +271,7 @@ impl Merge {
 }
 
 /// The smaller of the next entries of both inputs, with the digests of the other where their slices are equal, and how the
-/// left one's slice stands to the right one's, where an end is behind all.
+/// left one's slice stands to the right one's, where an end comes after all.
 fn next_entry<'a>(
     left: &'a Option<HeldSlice>,
     right: &'a Option<HeldSlice>,
@@ -309,7 +309,7 @@ fn write_entry<W: Sink>(
 {
     let count = union_count(&entry.origins, others);
     let slice = entry.slice.bytes.as_slice();
-    let Some(left) = room_behind_entry(*room, slice.len(), count as usize) else {
+    let Some(left) = room_after_entry(*room, slice.len(), count as usize) else {
         return Err(HoldFileFault::TooLong);
     };
     write_slice(sink, entry.slice.tile, slice)?;

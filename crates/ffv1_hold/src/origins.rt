@@ -1,11 +1,11 @@
-//! The digests behind a slice of a holding file (own): their count, and then each, in rising order.
+//! The digests after a slice of a holding file (own): their count, and then each, in rising order.
 ghost use Rattle.std.specs.Prelude.{◌≤◌, ◌↔◌, IsTrue, OnOk, IfOk, IfErr, length};
 ghost use Rattle.ffv1_bits.specs.Limits.{file_limit};
 ghost use Rattle.ffv1_hold.specs.Reading.{ReadsText, StopsAt, IsShorter, Never};
-ghost use Rattle.ffv1_hold.specs.HoldingText.{origins_limit, origins_text, text_behind_slice};
+ghost use Rattle.ffv1_hold.specs.HoldingText.{origins_limit, origins_text, text_after_slice};
 ghost use Rattle.ffv1_hold.specs.FileEntries.{last_of, FollowsDigest, AreOrigins, AreDigestsIn};
 ghost use Rattle.ffv1_hold.specs.ReadOrigins.{DigestShows, TakesDigest};
-ghost use Rattle.ffv1_hold.specs.FileFaults.{IsPartOfOrigins, OriginsShow, IsPartBehind, ShowsBehind};
+ghost use Rattle.ffv1_hold.specs.FileFaults.{IsPartOfOrigins, OriginsShow, IsPartAfter, ShowsAfter};
 
 use crate::fields::read_field;
 use crate::file_fault::HoldFileFault;
@@ -18,15 +18,15 @@ use std::cmp::Ordering;
 /// The greatest count of one slice's digests: 2^26.
 pub(crate) const ORIGINS_LIMIT: u32 = 1 << 26;
 
-/// Reads what stands behind a slice: nothing in the first version, its digests in the second.
-pub(crate) fn read_behind_slice<S: Source>(
+/// Reads what stands after a slice: nothing in the first version, its digests in the second.
+pub(crate) fn read_after_slice<S: Source>(
     alloc: Global,
     source: &mut S,
     place: &mut u32,
     version: Version,
 ) -> Result<Vec<[u8; 32]>, HoldFileFault>
     requires { place.old ≤ file_limit }
-    ensures read { ReadsText (λ v. text_behind_slice version v.items) (IsPartBehind version) Never (ShowsBehind version)
+    ensures read { ReadsText (λ v. text_after_slice version v.items) (IsPartAfter version) Never (ShowsAfter version)
         (S.log source.old) (S.log source.new) place.old place.new result }
     ensures digests { IfOk result (λ v. AreDigestsIn version v.items) }
 {
@@ -59,7 +59,7 @@ fn read_origins<S: Source>(
     Ok(origins)
 }
 
-/// Reads a digest that stands behind the last one, and puts it behind the others.
+/// Reads a digest that stands after the last one, and puts it after the others.
 fn read_digest<S: Source>(
     source: &mut S,
     place: &mut u32,
@@ -80,7 +80,7 @@ fn read_digest<S: Source>(
     Ok(())
 }
 
-/// Whether a digest stands behind the last one, if there is one.
+/// Whether a digest stands after the last one, if there is one.
 fn follows(origins: &[[u8; 32]], digest: &[u8; 32]) -> bool
     ensures { IsTrue result ↔ FollowsDigest (last_of origins.now) digest.now }
 {

@@ -166,14 +166,14 @@ fn fits_in_file(holding: &Holding) -> bool
         return false;
     }
     let head = 20 + config.len() as u32;
-    match room_behind(holding, FILE_LIMIT - head - 1) {
+    match room_after(holding, FILE_LIMIT - head - 1) {
         Some(_) => true,
         None => false,
     }
 }
 
-/// What is left of the room behind the entries of all tiles, or `None` where they pass it.
-fn room_behind(holding: &Holding, room: u32) -> Option<u32>
+/// What is left of the room after the entries of all tiles, or `None` where they pass it.
+fn room_after(holding: &Holding, room: u32) -> Option<u32>
     requires sound { IsHolding holding.now }
     requires entries { AreWritable holding.now }
     requires room { room ≤ file_limit }
@@ -182,13 +182,13 @@ fn room_behind(holding: &Holding, room: u32) -> Option<u32>
 {
     let mut left = room;
     for tile in 0..holding.reel().tiles() {
-        left = room_behind_tile(holding, tile, left)?;
+        left = room_after_tile(holding, tile, left)?;
     }
     Some(left)
 }
 
-/// What is left of the room behind the entries of one tile, or `None` where they pass it.
-fn room_behind_tile(holding: &Holding, tile: usize, room: u32) -> Option<u32>
+/// What is left of the room after the entries of one tile, or `None` where they pass it.
+fn room_after_tile(holding: &Holding, tile: usize, room: u32) -> Option<u32>
     requires tile { tile < reel_tiles holding.now.reel }
     requires fits { AreWithinLimit (tile_slices holding.now.slices tile) }
     requires room { room ≤ file_limit }
@@ -199,13 +199,13 @@ fn room_behind_tile(holding: &Holding, tile: usize, room: u32) -> Option<u32>
     for place in 0..holding.held(tile) {
         let slice = holding.slice(tile, place);
         let origins = holding.origins_at(tile, place);
-        left = room_behind_entry(left, slice.len(), origins.len())?;
+        left = room_after_entry(left, slice.len(), origins.len())?;
     }
     Some(left)
 }
 
-/// What is left of the room behind an entry of a slice and a count of digests, or `None` where it passes it.
-pub(crate) fn room_behind_entry(room: u32, slice: usize, digests: usize) -> Option<u32>
+/// What is left of the room after an entry of a slice and a count of digests, or `None` where it passes it.
+pub(crate) fn room_after_entry(room: u32, slice: usize, digests: usize) -> Option<u32>
     requires slice { slice ≤ slice_limit }
     requires room { room ≤ file_limit }
     ensures some { IfSome result (λ left. left + (11 + slice + 32 * digests) ≡ room) }

@@ -8,7 +8,7 @@ ghost use Rattle.ffv1_hold.specs.Merging.{digests_union};
 use ffv1_devices::{Sink, WriteFailed, write_field};
 use std::cmp::Ordering;
 
-/// The least digest of both, and what stands behind it in each, or `None` where both are empty.
+/// The least digest of both, and what stands after it in each, or `None` where both are empty.
 fn next_digest<'a>(
     left: &'a [[u8; 32]],
     right: &'a [[u8; 32]],
@@ -16,8 +16,8 @@ fn next_digest<'a>(
     requires left { AreDigests left.now }
     requires right { AreDigests right.now }
     ensures some { IfSome result (λ t. digests_union left.now right.now ≡ t.0.now ∷ digests_union t.1.now t.2.now) }
-    ensures left_behind { IfSome result (λ t. AreDigests t.1.now) }
-    ensures right_behind { IfSome result (λ t. AreDigests t.2.now) }
+    ensures left_after { IfSome result (λ t. AreDigests t.1.now) }
+    ensures right_after { IfSome result (λ t. AreDigests t.2.now) }
     ensures fewer { IfSome result (λ t. length t.1.now + length t.2.now < length left.now + length right.now) }
     ensures none { IfNone result (digests_union left.now right.now ≡ []) }
 {
@@ -47,10 +47,10 @@ pub(crate) fn union_count(left: &[[u8; 32]], right: &[[u8; 32]]) -> u32
     let mut count = 0u32;
     let mut lefts = left;
     let mut rights = right;
-    while let Some((_digest, left_behind, right_behind)) = next_digest(lefts, rights) {
+    while let Some((_digest, left_after, right_after)) = next_digest(lefts, rights) {
         count += 1;
-        lefts = left_behind;
-        rights = right_behind;
+        lefts = left_after;
+        rights = right_after;
     }
     count
 }
@@ -67,10 +67,10 @@ pub(crate) fn write_union<S: Sink>(
 {
     let mut lefts = left;
     let mut rights = right;
-    while let Some((digest, left_behind, right_behind)) = next_digest(lefts, rights) {
+    while let Some((digest, left_after, right_after)) = next_digest(lefts, rights) {
         write_field(sink, digest)?;
-        lefts = left_behind;
-        rights = right_behind;
+        lefts = left_after;
+        rights = right_after;
     }
     Ok(())
 }

@@ -1,7 +1,7 @@
 use Rattle.std.proofs.Common.{rules, refl, inl}
 use Rattle.std.proofs.lemmas.Result.{err_from_is_err_and}
 use Rattle.ffv1_hold.specs.Merging.{Start}
-use Rattle.ffv1_hold.proofs.MergeAnswers.{behind_heads, never_other}
+use Rattle.ffv1_hold.proofs.MergeAnswers.{after_heads, never_other}
 use Rattle.ffv1_hold.proofs.JoinSteps.{JoinWent-after}
 use Rattle.ffv1_hold.proofs.merging.merge_files.Goals as goal
 
@@ -28,7 +28,7 @@ returns-clause-ok g c =
       right_version = c.read_heads.new.self.rights.version;
     } in
     let o = c.in_ok-reel.ensures in
-    c.join_behind.ensures.ok s (record { left_is = refl; right_is = refl })
+    c.join_after_heads.ensures.ok s (record { left_is = refl; right_is = refl })
     (record { reel = o.reel; same = search rules; left_head = o.left; right_head = o.right; unwritten = refl })
 
 pub returns-clause-most : goal.returns-clause-most
@@ -42,7 +42,7 @@ returns-clause-most g c =
       right_version = c.read_heads.new.self.rights.version;
     } in
     let o = c.in_ok-reel.ensures in
-    c.join_behind.ensures.most s (record { left_is = refl; right_is = refl })
+    c.join_after_heads.ensures.most s (record { left_is = refl; right_is = refl })
     (record { reel = o.reel; same = search rules; left_head = o.left; right_head = o.right; unwritten = refl })
 
 pub returns-clause-err : goal.returns-clause-err
@@ -56,8 +56,8 @@ returns-clause-err g c =
       right_version = c.read_heads.new.self.rights.version;
     } in
     let o = c.in_ok-reel.ensures in
-    behind_heads _ _ _ c.join_behind.result
-    (c.join_behind.ensures.err s (record { left_is = refl; right_is = refl })
+    after_heads _ _ _ c.join_after_heads.result
+    (c.join_after_heads.ensures.err s (record { left_is = refl; right_is = refl })
     (record { reel = o.reel; same = search rules; left_head = o.left; right_head = o.right; unwritten = refl }))
 
 pub returns-clause-untouched : goal.returns-clause-untouched
@@ -71,9 +71,9 @@ returns-clause-untouched g c =
       right_version = c.read_heads.new.self.rights.version;
     } in
     let o = c.in_ok-reel.ensures in
-    never_other _ _ _ _ c.join_behind.result
-    (c.join_behind.ensures.err s (record { left_is = refl; right_is = refl })
+    never_other _ _ _ _ c.join_after_heads.result
+    (c.join_after_heads.ensures.err s (record { left_is = refl; right_is = refl })
     (record { reel = o.reel; same = search rules; left_head = o.left; right_head = o.right; unwritten = refl }))
 
 pub returns-clause-went : goal.returns-clause-went
-returns-clause-went g c = JoinWent-after c.join_behind.result _ _ _ _ _ _ (c.in_ok-reel.ensures.went (g.W.Sink.log c.args.sink.now)) c.join_behind.ensures.went
+returns-clause-went g c = JoinWent-after c.join_after_heads.result _ _ _ _ _ _ (c.in_ok-reel.ensures.went (g.W.Sink.log c.args.sink.now)) c.join_after_heads.ensures.went

@@ -7,7 +7,7 @@ use Rattle.ffv1_hold.specs.HoldingText.{entries_text, file_entries, IsTold}
 use Rattle.ffv1_hold.specs.FileEntries.{last_of, Follows, IsFileEntryOf, next_text}
 use Rattle.ffv1_hold.proofs.reading.read_entries.Given as goal
 
--- What was taken is the text of the entries so far, and of the one that is held behind the last of them, or of the end tag.
+-- What was taken is the text of the entries so far, and of the one that is held after the last of them, or of the end tag.
 abbrev pub invariant-loop-reader : goal.invariant-loop-reader
 invariant-loop-reader g l = record {
   text : TakesText (g.R.Source.log l.fn.source) (g.R.Source.log l.source) l.fn.reader.place l.reader.place

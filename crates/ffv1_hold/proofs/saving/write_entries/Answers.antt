@@ -7,7 +7,7 @@ use Rattle.ffv1_hold.specs.declared.version.Version.TheVariants.{Second}
 use Rattle.ffv1_hold.specs.Saving.{file_entries_below}
 use Rattle.ffv1_hold.specs.HoldingText.{entries_text}
 use Rattle.ffv1_hold.proofs.Slots.{entries_text-none}
-use Rattle.ffv1_hold.proofs.TileTexts.{text_below-more, text_behind, file_entries_below-all}
+use Rattle.ffv1_hold.proofs.TileTexts.{text_below-more, text_goes_on, file_entries_below-all}
 use Rattle.ffv1_hold.proofs.SavedTiles.{tile_within_limit}
 use Rattle.ffv1_hold.proofs.saving.write_entries.Goals as goal
 
@@ -35,9 +35,9 @@ returns-in_err-write_tile g c =
     let t = c.loop-tile.tile in
     let n = reel_tiles h.reel in
     let lt : t < n = omega (arith, c.loop-tile-test.true, c.tiles-tile-end.ensures.count, ap reel_tiles c.reel.ensures.value) in
-    let behind = text_behind h t n lt in
-    let more = StopsWriting-of _ _ _ behind.0 c.in_err-write_tile.ensures in
-    rw p.1 (subst (StopsWriting _ _) (sym behind.1 ∙ ap (entries_text Second) (file_entries_below-all h n c.requires.entries.tile))
+    let after = text_goes_on h t n lt in
+    let more = StopsWriting-of _ _ _ after.0 c.in_err-write_tile.ensures in
+    rw p.1 (subst (StopsWriting _ _) (sym after.1 ∙ ap (entries_text Second) (file_entries_below-all h n c.requires.entries.tile))
     (StopsWriting-after _ _ _ (entries_text Second (file_entries_below h t)) _ c.loop-tile.invariant more))
 
 pub returns : goal.returns

@@ -9,8 +9,8 @@ returns-in-Less-clause-some c =
     first_less _ _ c.in-Some.a.now c.in-Some-split_first.b.now c.in-Some.lefts.now c.in-Some-split_first.rights.now
     c.in-Some.ensures.cases.0 c.in-Some-split_first.ensures.cases.0 c.requires.left c.requires.right (sym c.cmp.ensures ∙ c.in-Less.is)
 
-pub returns-in-Less-clause-left_behind : goal.returns-in-Less-clause-left_behind
-returns-in-Less-clause-left_behind c =
+pub returns-in-Less-clause-left_after : goal.returns-in-Less-clause-left_after
+returns-in-Less-clause-left_after c =
     rest_rises _ _ _ c.in-Some.ensures.cases.0 c.requires.left
 
 pub returns-in-Equal-clause-some : goal.returns-in-Equal-clause-some
@@ -18,12 +18,12 @@ returns-in-Equal-clause-some c =
     first_equal _ _ c.in-Some.a.now c.in-Some-split_first.b.now c.in-Some.lefts.now c.in-Some-split_first.rights.now
     c.in-Some.ensures.cases.0 c.in-Some-split_first.ensures.cases.0 c.requires.left c.requires.right (sym c.cmp.ensures ∙ c.in-Equal.is)
 
-pub returns-in-Equal-clause-left_behind : goal.returns-in-Equal-clause-left_behind
-returns-in-Equal-clause-left_behind c =
+pub returns-in-Equal-clause-left_after : goal.returns-in-Equal-clause-left_after
+returns-in-Equal-clause-left_after c =
     rest_rises _ _ _ c.in-Some.ensures.cases.0 c.requires.left
 
-pub returns-in-Equal-clause-right_behind : goal.returns-in-Equal-clause-right_behind
-returns-in-Equal-clause-right_behind c =
+pub returns-in-Equal-clause-right_after : goal.returns-in-Equal-clause-right_after
+returns-in-Equal-clause-right_after c =
     rest_rises _ _ _ c.in-Some-split_first.ensures.cases.0 c.requires.right
 
 pub returns-in-Greater-clause-some : goal.returns-in-Greater-clause-some
@@ -31,24 +31,24 @@ returns-in-Greater-clause-some c =
     first_greater _ _ c.in-Some.a.now c.in-Some-split_first.b.now c.in-Some.lefts.now c.in-Some-split_first.rights.now
     c.in-Some.ensures.cases.0 c.in-Some-split_first.ensures.cases.0 c.requires.left c.requires.right (sym c.cmp.ensures ∙ c.in-Greater.is)
 
-pub returns-in-Greater-clause-right_behind : goal.returns-in-Greater-clause-right_behind
-returns-in-Greater-clause-right_behind c =
+pub returns-in-Greater-clause-right_after : goal.returns-in-Greater-clause-right_after
+returns-in-Greater-clause-right_after c =
     rest_rises _ _ _ c.in-Some-split_first.ensures.cases.0 c.requires.right
 
 pub returns-in-None-split_first-clause-some : goal.returns-in-None-split_first-clause-some
 returns-in-None-split_first-clause-some c =
     first_alone _ _ c.in-Some.lefts.now _ c.in-Some.ensures.cases.0 (nil_from_length _ c.in-None-split_first.ensures.cases) c.requires.left
 
-pub returns-in-None-split_first-clause-left_behind : goal.returns-in-None-split_first-clause-left_behind
-returns-in-None-split_first-clause-left_behind c =
+pub returns-in-None-split_first-clause-left_after : goal.returns-in-None-split_first-clause-left_after
+returns-in-None-split_first-clause-left_after c =
     rest_rises _ _ _ c.in-Some.ensures.cases.0 c.requires.left
 
 pub returns-in-Some-split_first-2-clause-some : goal.returns-in-Some-split_first-2-clause-some
 returns-in-Some-split_first-2-clause-some c =
     first_other _ _ c.in-Some-split_first-2.rights.now _ c.in-Some-split_first-2.ensures.cases.0 (nil_from_length _ c.in-None.ensures.cases) c.requires.right
 
-pub returns-in-Some-split_first-2-clause-right_behind : goal.returns-in-Some-split_first-2-clause-right_behind
-returns-in-Some-split_first-2-clause-right_behind c =
+pub returns-in-Some-split_first-2-clause-right_after : goal.returns-in-Some-split_first-2-clause-right_after
+returns-in-Some-split_first-2-clause-right_after c =
     rest_rises _ _ _ c.in-Some-split_first-2.ensures.cases.0 c.requires.right
 
 pub returns-in-None-split_first-2-clause-none : goal.returns-in-None-split_first-2-clause-none

@@ -2,7 +2,7 @@ use Rattle.std.proofs.Common.{[], refl, inr}
 use Rattle.std.proofs.lemmas.Result.{err_from_is_err_and}
 use Rattle.ffv1_hold.specs.Reading.{Never}
 use Rattle.ffv1_hold.specs.FileFaults.{IsPartOfEntry, EndIsWhole, EntryShows}
-use Rattle.ffv1_hold.proofs.TextReads.{TakesText-nil, StopsAt-after, broke_behind}
+use Rattle.ffv1_hold.proofs.TextReads.{TakesText-nil, StopsAt-after, broke_after}
 use Rattle.ffv1_hold.proofs.hold_reader.HoldReader.advance.Goals as goal
 
 pub returns-in_err-slice-clause-read : goal.returns-in_err-slice-clause-read
@@ -18,4 +18,4 @@ pub returns-in_err-next_byte-in-None-clause-read : goal.returns-in_err-next_byte
 returns-in_err-next_byte-in-None-clause-read g c =
     let p = err_from_is_err_and c.from_residual-in_err-next_byte-in-None.result c.from_residual-in_err-next_byte-in-None.ensures.1 in
     let none = rw c.in-None.is at c.in_ok-slice.ensures.read in
-    rw (p.1, p.2) (broke_behind _ _ _ _ _ _ _ _ _ none c.in_err-next_byte-in-None.ensures (inr refl))
+    rw (p.1, p.2) (broke_after _ _ _ _ _ _ _ _ _ none c.in_err-next_byte-in-None.ensures (inr refl))

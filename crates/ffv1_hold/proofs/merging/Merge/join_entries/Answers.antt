@@ -5,7 +5,7 @@ use Rattle.ffv1_hold.specs.HoldingText.{FileEntry}
 use Rattle.ffv1_hold.specs.FileEntries.{Follows}
 use Rattle.ffv1_hold.specs.Merging.{IsTurn}
 use Rattle.ffv1_hold.proofs.JoinSteps.{AllGoOn-trans, AllGoOn-to, OneStops-after, left_read, right_read, left_stops, right_stops, wrote, entry_stopped}
-use Rattle.ffv1_hold.proofs.MergeSteps.{entry_stops, left_shows_none, right_shows_none, held_shows_none, stops_at_left, stops_at_right, stands_behind, ends, left_passed, right_passed, advanced, input_refuses, same_version_entry, turn_written}
+use Rattle.ffv1_hold.proofs.MergeSteps.{entry_stops, left_shows_none, right_shows_none, held_shows_none, stops_at_left, stops_at_right, stands_after, ends, left_passed, right_passed, advanced, input_refuses, same_version_entry, turn_written}
 use Rattle.ffv1_hold.proofs.merging.Merge.join_entries.Goals as goal
 
 pub returns-in_err-write_entry : goal.returns-in_err-write_entry
@@ -36,7 +36,7 @@ loop-entry-preserved-in-Continue-branch-2 g c =
           let st = inv.stands start same is first in
           let held = advanced _ _ _ start.left_version _ start.reel _ _ _ _ _ c.args.setup.now (inv.left_version ∙ is.left_is) same
           (left_passed start _ _ _ _ _ _ _ _ st e turn.0) read.read.text read.entry read.follows read.end in
-          stands_behind start _ _ _ _ _ _ _ _ st e others Less turn _ _ done.0.bytes' done.1 _ _ _ _ _ _ held st.right_held follows turn.2;
+          stands_after start _ _ _ _ _ _ _ _ st e others Less turn _ _ done.0.bytes' done.1 _ _ _ _ _ _ held st.right_held follows turn.2;
       room = omega (arith, inv.room, done.1);
       left_place = read.read.text.within;
       right_place = inv.right_place;
@@ -82,7 +82,7 @@ loop-entry-preserved-in-Continue-branch-3 g c =
           let st = inv.stands start same is first in
           let held = advanced _ _ _ start.right_version _ start.reel _ _ _ _ _ c.args.setup.now (inv.right_version ∙ is.right_is) same
           (right_passed start _ _ _ _ _ _ _ _ st e turn.0) read.read.text read.entry read.follows read.end in
-          stands_behind start _ _ _ _ _ _ _ _ st e others Greater turn _ _ done.0.bytes' done.1 _ _ _ _ _ _ st.left_held held turn.2 follows;
+          stands_after start _ _ _ _ _ _ _ _ st e others Greater turn _ _ done.0.bytes' done.1 _ _ _ _ _ _ st.left_held held turn.2 follows;
       room = omega (arith, inv.room, done.1);
       left_place = inv.left_place;
       right_place = read.read.text.within;
@@ -171,7 +171,7 @@ loop-entry-preserved g c =
     let also = c.in_ok-advance-in-Equal-2.ensures in
     let done = c.in_ok-write_entry.ensures in
     let follows = subst (λ (l : Option FileEntry). IfSome c.advance-in-Equal.new.self.held (λ n. Follows l n.0)) turn.0 read.follows in
-    let behind = subst (λ (l : Option FileEntry). IfSome c.advance-in-Equal-2.new.self.held (λ n. Follows l n.0)) turn.1 also.follows in
+    let after = subst (λ (l : Option FileEntry). IfSome c.advance-in-Equal-2.new.self.held (λ n. Follows l n.0)) turn.1 also.follows in
     record {
       stands = λ start same is first.
           let st = inv.stands start same is first in
@@ -179,7 +179,7 @@ loop-entry-preserved g c =
           (left_passed start _ _ _ _ _ _ _ _ st e turn.0) read.read.text read.entry read.follows read.end in
           let other = advanced _ _ _ start.right_version _ start.reel _ _ _ _ _ c.args.setup.now (inv.right_version ∙ is.right_is) same
           (right_passed start _ _ _ _ _ _ _ _ st (e.0, others) turn.1) also.read.text also.entry also.follows also.end in
-          stands_behind start _ _ _ _ _ _ _ _ st e others Equal turn _ _ done.0.bytes' done.1 _ _ _ _ _ _ held other follows behind;
+          stands_after start _ _ _ _ _ _ _ _ st e others Equal turn _ _ done.0.bytes' done.1 _ _ _ _ _ _ held other follows after;
       room = omega (arith, inv.room, done.1);
       left_place = read.read.text.within;
       right_place = also.read.text.within;

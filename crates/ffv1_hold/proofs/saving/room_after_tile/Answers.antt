@@ -6,7 +6,7 @@ use Rattle.ffv1_holding.specs.Contents.{digests_of}
 use Rattle.ffv1_holding.proofs.RisingSets.{size-items}
 use Rattle.ffv1_hold.specs.Saving.{tile_file_entries, entries_length}
 use Rattle.ffv1_hold.proofs.TileTexts.{own, entry_at, tile_count, entries_length-more, entries_length-part}
-use Rattle.ffv1_hold.proofs.saving.room_behind_tile.Goals as goal
+use Rattle.ffv1_hold.proofs.saving.room_after_tile.Goals as goal
 
 pub returns-in_err-left-clause-none : goal.returns-in_err-left-clause-none
 returns-in_err-left-clause-none c =

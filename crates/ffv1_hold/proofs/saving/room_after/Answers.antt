@@ -5,18 +5,18 @@ use Rattle.ffv1_holding.specs.TileSets.{tile_entries}
 use Rattle.ffv1_hold.specs.Saving.{tile_file_entries, file_entries_below}
 use Rattle.ffv1_hold.specs.HoldingText.{entries_text}
 use Rattle.ffv1_hold.proofs.Slots.{entries_text-none}
-use Rattle.ffv1_hold.proofs.TileTexts.{text_below-more, text_behind, length-entries_text, file_entries_below-all}
+use Rattle.ffv1_hold.proofs.TileTexts.{text_below-more, text_goes_on, length-entries_text, file_entries_below-all}
 use Rattle.ffv1_hold.proofs.SavedTiles.{tile_within_limit}
-use Rattle.ffv1_hold.proofs.saving.room_behind.Goals as goal
+use Rattle.ffv1_hold.proofs.saving.room_after.Goals as goal
 
 pub loop-tile-init : goal.loop-tile-init
 loop-tile-init c = omega (arith, ap length (entries_text-none Second))
 
-pub room_behind_tile-requires-clause-tile : goal.room_behind_tile-requires-clause-tile
-room_behind_tile-requires-clause-tile c = omega (arith, c.loop-tile-test.true, c.tiles-tile-end.ensures.count, ap reel_tiles c.reel.ensures.value)
+pub room_after_tile-requires-clause-tile : goal.room_after_tile-requires-clause-tile
+room_after_tile-requires-clause-tile c = omega (arith, c.loop-tile-test.true, c.tiles-tile-end.ensures.count, ap reel_tiles c.reel.ensures.value)
 
-pub room_behind_tile-requires-clause-fits : goal.room_behind_tile-requires-clause-fits
-room_behind_tile-requires-clause-fits c = tile_within_limit c.args.holding.now c.requires.entries c.loop-tile.tile
+pub room_after_tile-requires-clause-fits : goal.room_after_tile-requires-clause-fits
+room_after_tile-requires-clause-fits c = tile_within_limit c.args.holding.now c.requires.entries c.loop-tile.tile
 
 pub loop-tile-preserved : goal.loop-tile-preserved
 loop-tile-preserved c =
@@ -33,10 +33,10 @@ returns-in_err-left-clause-none c =
     let t = c.loop-tile.tile in
     let lt : t < n = omega (arith, c.loop-tile-test.true, c.tiles-tile-end.ensures.count, ap reel_tiles c.reel.ensures.value) in
     let block = length-entries_text h c.requires.sound (tile_entries h.slices t) in
-    let behind = text_behind h t n lt in
-    let whole = ap length (sym (ap (entries_text Second) (file_entries_below-all h n c.requires.entries.tile)) ∙ behind.1)
-    ∙ length-append (entries_text Second (file_entries_below h t)) (entries_text Second (tile_file_entries h t) ++ behind.0)
-    ∙ ap (λ n. length (entries_text Second (file_entries_below h t)) + n) (length-append (entries_text Second (tile_file_entries h t)) behind.0) in
+    let after = text_goes_on h t n lt in
+    let whole = ap length (sym (ap (entries_text Second) (file_entries_below-all h n c.requires.entries.tile)) ∙ after.1)
+    ∙ length-append (entries_text Second (file_entries_below h t)) (entries_text Second (tile_file_entries h t) ++ after.0)
+    ∙ ap (λ n. length (entries_text Second (file_entries_below h t)) + n) (length-append (entries_text Second (tile_file_entries h t)) after.0) in
     rw c.from_residual.ensures (omega (arith, block, whole, c.loop-tile.invariant, c.in_err-left.ensures.none))
 
 pub returns-clause-some : goal.returns-clause-some

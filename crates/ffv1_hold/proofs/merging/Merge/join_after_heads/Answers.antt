@@ -5,7 +5,7 @@ use Rattle.ffv1_holding.specs.Reels.{Reel}
 use Rattle.ffv1_hold.specs.Merging.{AreVersions}
 use Rattle.ffv1_hold.proofs.JoinSteps.{AllGoOn-trans, OneStops-after, left_read, right_read, left_stops, right_stops, wrote, sink_stops, inside}
 use Rattle.ffv1_hold.proofs.MergeStarts.{head_stops, first_left_stops, first_right_stops, left_held, right_held, opened_stands, full_stops, end_stops, union_written, union_within}
-use Rattle.ffv1_hold.proofs.merging.Merge.join_behind.Goals as goal
+use Rattle.ffv1_hold.proofs.merging.Merge.join_after_heads.Goals as goal
 
 pub returns-in_err-write_head : goal.returns-in_err-write_head
 returns-in_err-write_head g c =
