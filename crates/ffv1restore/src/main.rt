@@ -2,7 +2,7 @@
 //! line on standard error.
 #![tactic(auto)]
 
-ghost use Rattle.std.specs.Prelude.{◌≡◌, ◌+◌, length, vec_len, IfOk, IfErr};
+ghost use Rattle.std.specs.Prelude.{◌≡◌, ◌+◌, length, map, vec_len, IfOk, IfErr};
 ghost use Rattle.ffv1_commands.specs.Fault.{NamesPath, NamesNoPath};
 ghost use Rattle.ffv1_commands.specs.Paths.{IsTakePath, IsJoinPath, IsMergePath, IsSplicePath, IsDecodePath};
 ghost use Rattle.ffv1_words.specs.WordPaths.{IsPathOf};
@@ -27,7 +27,8 @@ fn input_files<'a>(
     rt: &'a HostRuntime,
     paths: &[&'a str],
 ) -> Result<Vec<InputFile<'a, HostRuntime>>, AllocError>
-    ensures { IfOk result (λ files. vec_len files ≡ length paths.now) }
+    ensures paths { IfOk result (λ files. map (λ file. file.path.now) files.items ≡ map (λ path. path.now) paths.now) }
+    ensures count { IfOk result (λ files. vec_len files ≡ length paths.now) }
 {
     let mut files = Vec::with_capacity(rt.alloc(), paths.len())?;
     for path in paths {
