@@ -1,17 +1,16 @@
 -- A scan over devices, told over the bytes of its inputs and its output.
-use Rattle.std.proofs.Common.{◌≡◌, ℕ, List, Option, None, Some, Bool, Result, Ok, Err, IfOk, IfErr, sym, subst, inl, inr, ⊎_elim}
+use Rattle.std.proofs.Common.{◌≡◌, ℕ, List, Option, None, Some, Bool, Result, Ok, Err, IfOk, IfErr, sym, subst, inl, inr}
 use Rattle.std.proofs.KnownBytes.{Keeps-refl}
-use Rattle.std.specs.Io.KnownBytes.{Appends, Consumes, IsAtEnd, Keeps}
+use Rattle.std.specs.Io.KnownBytes.{Appends, Consumes, Keeps}
 use Rattle.ffv1_devices.specs.Logs.{ReadLog, WriteLog, Reads, BreaksOff, Writes, StopsWriting}
 use Rattle.ffv1_scan.specs.declared.ranges.ByteRange.{ByteRange}
 use Rattle.ffv1_scan.specs.declared.scanning.ScanFault.TheVariants as scans
-use Rattle.ffv1_scan.specs.Ranges.{AreRanges, IsFirstWrong}
-use Rattle.ffv1_scan.specs.Scans.{ScansFront, ScansRanges, FirstEndsAfter}
+use Rattle.ffv1_scan.specs.Ranges.{AreRanges}
+use Rattle.ffv1_scan.specs.Scans.{ScansFront, ScansRanges}
 use Rattle.ffv1_commands.specs.Devices.{WritesFront, IsWholeInput}
-use Rattle.ffv1_commands.specs.ScanText.{ReadsList, ScansDevices, ScansListed, StopsAtRange, IsListFault, BeginsWith, IsList, ScansFile, ScansSome, ScanStops}
+use Rattle.ffv1_commands.specs.ScanText.{ReadsList, ScansDevices, ScansListed, BeginsWith, IsList, ScansFile, ScansSome, ScanStops}
 use Rattle.ffv1_commands.specs.declared.fault.CliFault.{CliFault}
 use Rattle.ffv1_commands.specs.declared.fault.CliFault.TheVariants as faults
-use Rattle.ffv1_commands.specs.declared.path.CommandPath.TheVariants as paths
 use Rattle.ffv1_commands.proofs.InputLaws.{whole_input}
 
 -- what is read and written is told in another way

@@ -1,5 +1,6 @@
 //! The commands over readers and writers: what each reads and makes, what it prints, and why it stops. Who calls them
-//! reads the words and opens the files.
+//! reads the words and opens the files. Each calls its own form over sources and sinks, as `run_chain` calls `chain_of`: that
+//! says of the devices, too, how their tries went.
 #![tactic(auto)]
 
 mod chain;
@@ -24,7 +25,7 @@ mod take;
 pub use chain::{chain_of, run_chain};
 pub use decode::{decode_of, run_decode};
 pub use fault::CliFault;
-pub use join::run_join;
+pub use join::{join_of, run_join};
 pub use laws::{
     commands_restore_the_original, same_copies_make_one_file, same_copies_make_one_splice,
     splice_gives_the_original, splice_tells_whole_frames, splice_weaves_the_original,
@@ -32,9 +33,9 @@ pub use laws::{
 pub use merge::{merge_of, run_merge};
 pub use path::CommandPath;
 pub use picture::{picture_of, run_picture};
-pub use report::run_report;
+pub use report::{report_of, run_report};
 pub use restore::{restore_of, run_restore};
-pub use scan::run_scan;
-pub use show::run_show;
+pub use scan::{run_scan, scan_of};
+pub use show::{run_show, show_of};
 pub use splice::{run_splice, splice_of};
-pub use take::run_take;
+pub use take::{run_take, take_of};
