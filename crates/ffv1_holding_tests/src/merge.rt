@@ -207,7 +207,10 @@ fn failed(
 fn is_failure_told(alloc: Global, file: &[u8], other: &[u8], union: &[u8]) -> bool {
     for is_second in [false, true] {
         let (answer, front) = failed(alloc, file, other, is_second);
-        if answer != Err(HoldFileFault::Read) || front.as_slice() == union || !union.starts_with(&front) {
+        if answer != Err(HoldFileFault::Read)
+            || front.as_slice() == union
+            || !union.starts_with(&front)
+        {
             return false;
         }
     }

@@ -407,9 +407,7 @@ fn interruptions_are_told(alloc: Global, command: Command, files: &Files, device
             0 => is_unread(&told, Some(first)),
             1 if second.is_some() => is_unread(&told, second),
             2 if makes => is_unwritten(&told, CommandPath::Out),
-            3 if command != Command::Merge => {
-                is_unwritten(&told, CommandPath::StandardOutput)
-            }
+            3 if command != Command::Merge => { is_unwritten(&told, CommandPath::StandardOutput) }
             _ => true,
         }
 }
