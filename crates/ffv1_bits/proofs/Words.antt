@@ -276,32 +276,32 @@ peeked : (n j : ℕ) (more : List Bool) → j < 8
 peeked n j more h =
     let before : number_bits 64 n ≡ number_bits j (n / 2 ^ (64 - j)) ++ number_bits (64 - j) n =
     ap (λ c. number_bits c n) (let e : 64 ≡ j + (64 - j) = omega arith in e) ∙ number_bits-split j (64 - j) n in
-    let behind : number_bits (64 - j) n ≡ number_bits 56 (n / 2 ^ (8 - j)) ++ number_bits (8 - j) n =
+    let later : number_bits (64 - j) n ≡ number_bits 56 (n / 2 ^ (8 - j)) ++ number_bits (8 - j) n =
     ap (λ c. number_bits c n) (let e : 64 - j ≡ 56 + (8 - j) = omega arith in e) ∙ number_bits-split 56 (8 - j) n in
     let window : number_bits 56 (n / 2 ^ (8 - j)) ≡ number_bits 56 (n * 2 ^ j % 2 ^ 64 / 2 ^ 8) =
     sym (number_bits-low 56 (n / 2 ^ (8 - j))) ∙ ap (number_bits 56) (sym (window_of n j h)) in
     ap (λ bits. drop j (bits ++ more)) before
     ∙ ap (drop j) (append_assoc (number_bits j (n / 2 ^ (64 - j))) (number_bits (64 - j) n) more)
     ∙ drop_at (number_bits j (n / 2 ^ (64 - j))) (number_bits (64 - j) n ++ more) j (length-number_bits j (n / 2 ^ (64 - j)))
-    ∙ ap (λ bits. bits ++ more) behind
+    ∙ ap (λ bits. bits ++ more) later
     ∙ append_assoc (number_bits 56 (n / 2 ^ (8 - j))) (number_bits (8 - j) n) more
     ∙ ap (λ bits. bits ++ (number_bits (8 - j) n ++ more)) window
 
-bits_behind : (i : ℕ) (bytes : List ℕ) → drop (8 * i) (bits_of bytes) ≡ bits_of (drop i bytes)
+bits_after : (i : ℕ) (bytes : List ℕ) → drop (8 * i) (bits_of bytes) ≡ bits_of (drop i bytes)
 unfolding bits_of number_bits
-bits_behind zero bytes = refl
-bits_behind (suc i) [] = drop_all (8 * suc i) [] (omega arith)
-bits_behind (suc i) (b ∷ bytes) =
+bits_after zero bytes = refl
+bits_after (suc i) [] = drop_all (8 * suc i) [] (omega arith)
+bits_after (suc i) (b ∷ bytes) =
     ap (λ n. drop n (bits_of (b ∷ bytes))) (let e : 8 * suc i ≡ 8 + 8 * i = omega arith in e)
-    ∙ sym (drop-drop (8 * i) 8 (bits_of (b ∷ bytes))) ∙ bits_behind i bytes
+    ∙ sym (drop-drop (8 * i) 8 (bits_of (b ∷ bytes))) ∙ bits_after i bytes
 
 pub word_there : (bytes rest word : List ℕ) (place end n : ℕ) → AreBytes bytes → end ≡ place + 8 → rest ≡ slice_range bytes place end → IsFirstChunk rest word 8
     → n ≡ from_be_bytes w64 word → bits_of (take 8 (drop place bytes)) ≡ number_bits 64 n
 word_there bytes rest word place end n small ends is front value =
-    let behind : rest ≡ take 8 (drop place bytes) = is ∙ ap (λ m. take m (drop place bytes)) (let e : end - place ≡ 8 = omega (arith, ends) in e) in
-    let eight : length rest ≡ 8 = omega (arith, front.enough, ap length behind, length-take 8 (drop place bytes)) in
+    let later : rest ≡ take 8 (drop place bytes) = is ∙ ap (λ m. take m (drop place bytes)) (let e : end - place ≡ 8 = omega (arith, ends) in e) in
+    let eight : length rest ≡ 8 = omega (arith, front.enough, ap length later, length-take 8 (drop place bytes)) in
     let all : take 8 rest ≡ rest = ap (λ m. take m rest) (sym eight) ∙ take-length rest in
-    let whole : take 8 (drop place bytes) ≡ word = sym behind ∙ sym all ∙ sym front.same in
+    let whole : take 8 (drop place bytes) ≡ word = sym later ∙ sym all ∙ sym front.same in
     let long : length word ≡ 8 = ap length (front.same ∙ all) ∙ eight in
     let each : AreBytes word = subst AreBytes whole (AreBytes-take 8 (drop place bytes) (AreBytes-drop place bytes small)) in
     ap bits_of whole ∙ bits_of-word word n long each value
@@ -310,11 +310,11 @@ pub peek_some : (bytes : List ℕ) (place n : ℕ) → bits_of (take 8 (drop (pl
     → (rest : List Bool) × (drop place (bits_of bytes) ≡ number_bits 56 (n * 2 ^ (place % 8) % 2 ^ 64 / 2 ^ 8) ++ rest)
 unfolding bits_of
 peek_some bytes place n is =
-    let behind : List ℕ = drop 8 (drop (place / 8) bytes) in (
-      number_bits (8 - place % 8) n ++ bits_of behind,
+    let later : List ℕ = drop 8 (drop (place / 8) bytes) in (
+      number_bits (8 - place % 8) n ++ bits_of later,
       ap (λ m. drop m (bits_of bytes)) (let e : place ≡ 8 * (place / 8) + place % 8 = omega arith in e)
           ∙ sym (drop-drop (place % 8) (8 * (place / 8)) (bits_of bytes))
-          ∙ ap (drop (place % 8)) (bits_behind (place / 8) bytes ∙ ap bits_of (sym (take-append-drop 8 (drop (place / 8) bytes)))
-          ∙ flat_map-append (number_bits 8) (take 8 (drop (place / 8) bytes)) behind ∙ ap (λ bits. bits ++ bits_of behind) is)
-          ∙ peeked n (place % 8) (bits_of behind) (omega arith),
+          ∙ ap (drop (place % 8)) (bits_after (place / 8) bytes ∙ ap bits_of (sym (take-append-drop 8 (drop (place / 8) bytes)))
+          ∙ flat_map-append (number_bits 8) (take 8 (drop (place / 8) bytes)) later ∙ ap (λ bits. bits ++ bits_of later) is)
+          ∙ peeked n (place % 8) (bits_of later) (omega arith),
     )

@@ -62,12 +62,12 @@ fn with_word(register: u32, word: &[u8; 8]) -> u32
 {
     let [a, b, c, d] = register.to_be_bytes();
     let [e, f, g, h, i, j, k, l] = *word;
-    let behind = moved_remainder(e, 3)
+    let later = moved_remainder(e, 3)
         ^ moved_remainder(f, 2)
         ^ moved_remainder(g, 1)
         ^ moved_remainder(h, 0)
         ^ u32::from_be_bytes([i, j, k, l]);
     let first_pair = moved_remainder(a, 7) ^ moved_remainder(b, 6);
     let second_pair = moved_remainder(c, 5) ^ moved_remainder(d, 4);
-    behind ^ (first_pair ^ second_pair)
+    later ^ (first_pair ^ second_pair)
 }

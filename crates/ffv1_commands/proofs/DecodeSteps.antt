@@ -1,5 +1,5 @@
 -- What decoding a frame does to the outputs.
-use Rattle.std.proofs.Common.{◌≡◌, ℕ, List, Option, Result, Ok, Err, OnOk, IfErr, inl, inr, sym, subst}
+use Rattle.std.proofs.Common.{◌≡◌, ℕ, List, Option, Result, Ok, Err, OnOk, IfErr, refl, inl, inr, sym, subst}
 use Rattle.ffv1_devices.specs.Logs.{ReadLog, WriteLog, Writes}
 use Rattle.ffv1_range.specs.Setup.{SetupValue}
 use Rattle.ffv1_picture.specs.FrameFaults.{IsFirstFault}
@@ -7,14 +7,15 @@ use Rattle.ffv1_picture.specs.declared.frame.Frame.{Frame}
 use Rattle.ffv1_picture.specs.declared.fault.FrameFault.{FrameFault}
 use Rattle.ffv1_picture.specs.declared.fault.FrameFault.TheVariants as frames
 use Rattle.ffv1_commands.specs.Devices.{TakesWhole, IsWholeInput, BothStop, WritesBoth}
-use Rattle.ffv1_commands.specs.RecordInputs.{IsSetupInput}
+use Rattle.ffv1_commands.specs.RecordInputs.{IsSetupInput, TakesSetup, RecordStops}
 use Rattle.ffv1_commands.specs.Fault.{NamesPath, of_frame}
 use Rattle.ffv1_commands.specs.Paths.{IsDecodePath}
 use Rattle.ffv1_commands.specs.SamplesText.{raw_bytes, frame_line}
-use Rattle.ffv1_commands.specs.DecodeText.{IsFrameInput, DecodesFile, DecodeStops, TakesSetup, RecordStops, TakesFrame, FrameStops, TellsDecode}
+use Rattle.ffv1_commands.specs.DecodeText.{IsFrameInput, DecodesFile, DecodeStops, TakesFrame, FrameStops, TellsDecode}
 use Rattle.ffv1_commands.specs.declared.fault.CliFault.{CliFault}
 use Rattle.ffv1_commands.specs.declared.fault.CliFault.TheVariants as faults
 use Rattle.ffv1_commands.proofs.InputLaws.{whole_input}
+use Rattle.ffv1_commands.proofs.RecordFaults.{RecordStops-says}
 use Rattle.ffv1_commands.proofs.WrittenBoth.{both_says, both_stop_bytes, both_name}
 
 pub of_frame-says : (P : CliFault → Type 0) (fault : FrameFault) → P faults.Memory → P (faults.Frame fault) → P (of_frame fault)
@@ -24,12 +25,12 @@ of_frame-says P (frames.Order place) memory other = other
 of_frame-says P (frames.Tile tile cause) memory other = other
 of_frame-says P frames.Memory memory other = memory
 
--- want of memory, and nothing else
+-- Memory, and nothing else
 abbrev IsMemory : FrameFault → Type 0
 IsMemory frames.Memory = Unit {0}
 IsMemory fault = ⊥
 
--- a payload's fault is told as such, and want of memory as its own
+-- a payload's fault is told as such, and Memory as its own
 pub frame_refused : (setup : SetupValue) (a b : ReadLog) (payload : List ℕ) → TakesWhole a b payload → (fault : FrameFault)
     → IsFirstFault setup payload fault → FrameStops setup a b (of_frame fault)
 frame_refused setup a b payload read frames.Chain first = (payload, read, first, λ e. subst IsMemory (sym e) tt)
@@ -39,7 +40,7 @@ frame_refused setup a b payload read (frames.Tile tile cause) first = (payload, 
 frame_refused setup a b payload read frames.Memory first = (payload, read.read, read.few)
 
 module _ (width height : ℕ) (config config' input input' : ReadLog) (out out' output output' : WriteLog) (setup : SetupValue)
-    (set : TakesSetup config config' width height setup) (frame : Frame) (is : TakesFrame setup input input' frame) (line : List ℕ)
+    (set : TakesSetup width height config config' setup) (frame : Frame) (is : TakesFrame setup input input' frame) (line : List ℕ)
     (size : line ≡ frame_line frame) where
   -- the samples and the size were written, or not whole
   pub decoded : {T : Type 0} (r : Result T CliFault) → WritesBoth r (raw_bytes frame) line out out' output output'
@@ -59,10 +60,10 @@ pub record DecodeOfBytes {T : Type 0} (r : Result T CliFault) (record' : Option 
 whole : (a b : ReadLog) (bytes : List ℕ) → TakesWhole a b bytes → IsWholeInput a.remaining bytes
 whole a b bytes t = whole_input a.remaining b.remaining bytes (record { taken = t.read.bytes'; end = t.end; few = t.few })
 
-setup_input : (a b : ReadLog) (width height : ℕ) (setup : SetupValue) → TakesSetup a b width height setup → IsSetupInput a.remaining width height setup
+setup_input : (a b : ReadLog) (width height : ℕ) (setup : SetupValue) → TakesSetup width height a b setup → IsSetupInput a.remaining width height setup
 setup_input a b width height setup set = record { config = set.config; read = whole a b set.config set.read; is_setup = set.is_setup }
 
-frame_input : (width height : ℕ) (config config' input input' : ReadLog) (setup : SetupValue) → TakesSetup config config' width height setup
+frame_input : (width height : ℕ) (config config' input input' : ReadLog) (setup : SetupValue) → TakesSetup width height config config' setup
     → (frame : Frame) → TakesFrame setup input input' frame → IsFrameInput config.remaining width height input.remaining frame
 frame_input width height config config' input input' setup set frame is = record {
   setup = setup;
@@ -76,21 +77,13 @@ module _ {T : Type 0} (width height : ℕ) (config config' input input' : ReadLo
   abbrev OfBytes : Result T CliFault → Type 0
   OfBytes r = DecodeOfBytes r config.remaining width height input.remaining out.contents out'.contents output.contents output'.contents
 
-  record_bytes : (f : CliFault) → RecordStops config config' width height f → OfBytes (Err f)
-  record_bytes (faults.Read path) (is, unread) = record { ok = tt; err = inl is; names = subst IsDecodePath (sym is) tt }
-  record_bytes (faults.Setup fault) (bytes, read, first) = record { ok = tt; err = (bytes, whole config config' bytes read, first); names = tt }
-  record_bytes faults.Memory stops = record { ok = tt; err = tt; names = tt }
-  record_bytes (faults.Write named) stops = absurd stops
-  record_bytes (faults.Hold fault) stops = absurd stops
-  record_bytes (faults.HoldFile fault) stops = absurd stops
-  record_bytes (faults.Frame fault) stops = absurd stops
-  record_bytes (faults.Missing tile) stops = absurd stops
-  record_bytes (faults.Disputed tile) stops = absurd stops
-  record_bytes (faults.Splice other) stops = absurd stops
-  record_bytes (faults.Ranges line) stops = absurd stops
-  record_bytes faults.Words stops = absurd stops
+  record_bytes : (f : CliFault) → RecordStops width height config config' f → OfBytes (Err f)
+  record_bytes f stops =
+      RecordStops-says (λ f. OfBytes (Err f)) width height config config' f (record { ok = tt; err = inl refl; names = tt })
+          (record { ok = tt; err = tt; names = tt })
+          (λ fault bytes read first. record { ok = tt; err = (bytes, whole config config' bytes read, first); names = tt }) stops
 
-  module _ (setup : SetupValue) (set : TakesSetup config config' width height setup) where
+  module _ (setup : SetupValue) (set : TakesSetup width height config config' setup) where
     frame_bytes : (f : CliFault) → FrameStops setup input input' f → OfBytes (Err f)
     frame_bytes (faults.Read path) (is, unread) =
         record { ok = tt; err = inr (is, (setup, setup_input config config' width height setup set)); names = subst IsDecodePath (sym is) tt }

@@ -45,7 +45,7 @@ module _ {C : Type 0} (tells : C → Option (List ℕ)) where
   pub inputs_all : (old : List C) (i : ℕ) → length old ≤ i → take i (map tells old) ≡ map tells old
   inputs_all old i le = let few : length (map tells old) ≤ i = omega (arith, length-map old tells) in take_all i (map tells old) few
 
--- those behind the one that was read are as they were
+-- those after the one that was read are as they were
 pub others_kept : {C : Type 0} (old now : List C) (i : ℕ) (new : C) → ((k : ℕ) (d : C) → i ≤ k → get_or now k d ≡ get_or old k d) → (k : ℕ) (d : C)
     → i + 1 ≤ k → get_or (set now i new) k d ≡ get_or old k d
 others_kept old now i new same k d le = let other : k ≢ i = λ e. omega arith in get_or-set_other now i k new d other ∙ same k d (omega arith)

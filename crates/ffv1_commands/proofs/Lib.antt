@@ -2,6 +2,7 @@ pub mod Shows
 pub mod InputLaws
 pub mod Telling
 pub mod WriteSteps
+pub mod RecordFaults
 pub mod InputFaults
 pub mod WrittenBoth
 pub mod HeldFiles

@@ -8,7 +8,7 @@ use Rattle.ffv1_commands.specs.TakeText.{copy_line}
 use Rattle.ffv1_commands.specs.JoinText.{file_line}
 use Rattle.ffv1_commands.specs.RestoreText.{restored_line}
 
--- nine pieces grouped from the right, as they are written one behind the other
+-- nine pieces grouped from the right, as they are written one after the other
 append-nine : (a b c d e f g h i : List ℕ) → a ++ b ++ c ++ d ++ e ++ f ++ g ++ h ++ i ≡ a ++ (b ++ (c ++ (d ++ (e ++ (f ++ (g ++ (h ++ i)))))))
 append-nine a b c d e f g h i =
     append_assoc (a ++ b ++ c ++ d ++ e ++ f ++ g) h i ∙ append_assoc (a ++ b ++ c ++ d ++ e ++ f) g (h ++ i)

@@ -1,23 +1,23 @@
 -- What telling a setup does to the output, and what it says of the bytes.
 use Rattle.std.proofs.Common.{◌≡◌, ℕ, ◌≤◌, List, length, Option, IfSome, Result, Ok, Err, OnOk, IfErr, refl, sym, subst}
-use Rattle.std.specs.Prelude.{Bool}
 use Rattle.std.specs.Io.KnownBytes.{Keeps}
 use Rattle.std.proofs.KnownBytes.{Consumes-whole, Keeps-refl}
 use Rattle.ffv1_bits.specs.Limits.{payload_limit}
 use Rattle.ffv1_range.specs.Setup.{SetupValue, IsSetupOf}
-use Rattle.ffv1_range.specs.SetupForms.{setup_read}
+use Rattle.ffv1_range.specs.SetupFaults.{FirstSetupFault}
 use Rattle.ffv1_devices.specs.Logs.{ReadLog, WriteLog}
 use Rattle.ffv1_commands.specs.Devices.{WritesFront, TakesWhole, WritesNamed}
 use Rattle.ffv1_commands.specs.Fault.{NamesPath}
 use Rattle.ffv1_commands.specs.Paths.{IsShowPath}
-use Rattle.ffv1_commands.specs.ShowText.{show_text, PrintsSetup, ShowStops, ReadsSetup, ShowBreaks, TellsShow}
+use Rattle.ffv1_commands.specs.RecordInputs.{TakesSetup}
+use Rattle.ffv1_commands.specs.ShowText.{show_text, PrintsSetup, ShowStops, ShowBreaks, TellsShow}
 use Rattle.ffv1_commands.specs.declared.fault.CliFault.{CliFault}
 use Rattle.ffv1_commands.specs.declared.fault.CliFault.TheVariants as faults
 use Rattle.ffv1_commands.specs.declared.path.CommandPath.TheVariants as paths
 use Rattle.ffv1_commands.proofs.Telling.{whole_of}
 
 -- the setup was printed once the record was read, or was not
-pub setup_printed : {T : Type 0} (width height : ℕ) (a b : ReadLog) (old new : WriteLog) (setup : SetupValue) → ReadsSetup width height a b setup
+pub setup_printed : {T : Type 0} (width height : ℕ) (a b : ReadLog) (old new : WriteLog) (setup : SetupValue) → TakesSetup width height a b setup
     → (r : Result T CliFault) → WritesNamed paths.StandardOutput r old new (show_text setup) → TellsShow r width height a b old new
 setup_printed width height a b old new setup read (Ok x) wrote = (setup, read, wrote)
 setup_printed width height a b old new setup read (Err fault) (is, stopped) =
@@ -43,18 +43,18 @@ module _ (width height : ℕ) (a b : ReadLog) (old new : WriteLog) where
   pub show_of_bytes : {T : Type 0} (r : Result T CliFault) → TellsShow r width height a b old new
       → ShowOfBytes r width height a.remaining old.contents new.contents
   show_of_bytes (Ok x) (setup, read, wrote) = record {
-    ok = of_input a b read.config read.taken (λ bytes. PrintsSetup bytes width height old.contents new.contents) (setup, read.is_setup, wrote.bytes');
-    few = of_input a b read.config read.taken (λ bytes. length bytes ≤ payload_limit) read.taken.few;
+    ok = of_input a b read.config read.read (λ bytes. PrintsSetup bytes width height old.contents new.contents) (setup, read.is_setup, wrote.bytes');
+    few = of_input a b read.config read.read (λ bytes. length bytes ≤ payload_limit) read.read.few;
     err = tt;
     names = tt;
   }
-  show_of_bytes (Err (faults.Read path)) (same, unread, same_output) =
+  show_of_bytes (Err (faults.Read path)) ((same, unread), same_output) =
       record { ok = tt; few = tt; err = (same, kept same_output); names = subst IsShowPath (sym same) tt }
-  show_of_bytes (Err (faults.Setup fault)) ((config, granted, took, met), same_output) = record {
+  show_of_bytes (Err (faults.Setup fault)) ((config, took, first), same_output) = record {
     ok = tt;
     few = tt;
     err = (
-      of_input a b config took (λ bytes. (granted : Bool) × (setup_read granted bytes width height ≡ Err fault)) (granted, met),
+      of_input a b config took (λ bytes. FirstSetupFault bytes width height fault) first,
       kept same_output,
     );
     names = tt;
@@ -65,16 +65,16 @@ module _ (width height : ℕ) (a b : ReadLog) (old new : WriteLog) where
     few = tt;
     err = (
       same,
-      of_input a b read.config read.taken (λ bytes. (value : SetupValue) × IsSetupOf bytes width height value
+      of_input a b read.config read.read (λ bytes. (value : SetupValue) × IsSetupOf bytes width height value
           × WritesFront old.contents new.contents (show_text value)) (setup, read.is_setup, stopped.front),
     );
     names = subst IsShowPath (sym same) tt;
   }
-  show_of_bytes (Err (faults.Hold fault)) stops = absurd stops
-  show_of_bytes (Err (faults.HoldFile fault)) stops = absurd stops
-  show_of_bytes (Err (faults.Frame fault)) stops = absurd stops
-  show_of_bytes (Err (faults.Missing tile)) stops = absurd stops
-  show_of_bytes (Err (faults.Disputed tile)) stops = absurd stops
-  show_of_bytes (Err (faults.Splice other)) stops = absurd stops
-  show_of_bytes (Err (faults.Ranges line)) stops = absurd stops
-  show_of_bytes (Err faults.Words) stops = absurd stops
+  show_of_bytes (Err (faults.Hold fault)) stops = absurd stops.0
+  show_of_bytes (Err (faults.HoldFile fault)) stops = absurd stops.0
+  show_of_bytes (Err (faults.Frame fault)) stops = absurd stops.0
+  show_of_bytes (Err (faults.Missing tile)) stops = absurd stops.0
+  show_of_bytes (Err (faults.Disputed tile)) stops = absurd stops.0
+  show_of_bytes (Err (faults.Splice other)) stops = absurd stops.0
+  show_of_bytes (Err (faults.Ranges line)) stops = absurd stops.0
+  show_of_bytes (Err faults.Words) stops = absurd stops.0

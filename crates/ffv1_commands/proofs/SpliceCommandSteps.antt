@@ -49,7 +49,7 @@ taken_whole (i ∷ is) (b ∷ bs) ((log, took), rest) =
 
 -- ---- what a fault says
 
--- any fact of a copy of another length, and of want of memory
+-- any fact of a copy of another length, and of Memory
 pub length_says : (copies : List (List ℕ)) (P : CliFault → Type 0) (fault : CliFault)
     → ((index : ℕ) → IsOfOtherLength copies index → P (faults.Splice (paths.Copy index))) → P faults.Memory → IsLengthFault copies fault → P fault
 length_says copies P (faults.Read path) other memory stops = absurd stops
@@ -65,7 +65,7 @@ length_says copies P (faults.Splice path) other memory stops = subst (λ p. P (f
 length_says copies P faults.Memory other memory stops = memory
 length_says copies P faults.Words other memory stops = absurd stops
 
--- a copy of another length, or want of memory, leaves both outputs
+-- a copy of another length, or Memory, leaves both outputs
 pub length_refused : (copies : List (List ℕ)) (out output : WriteLog) (f : CliFault) → IsLengthFault copies f
     → SpliceRefuses copies out out output output f
 length_refused copies out output f =

@@ -2,10 +2,10 @@
 use Rattle.std.proofs.Common.{◌≡◌, ℕ, ◌+◌, ◌-◌, List, [], ◌∷◌, ◌++◌, length, Option, sym, ap, ◌∙◌, append_assoc, append-nil}
 use Rattle.ffv1_slice.specs.Walk.{links_of}
 use Rattle.ffv1_slice.specs.Slices.{found_slices}
-use Rattle.ffv1_hold.specs.Sets as set
-use Rattle.ffv1_hold.specs.Reels.{Reel}
-use Rattle.ffv1_hold.specs.Contents.{Contents, with_found, holding_of, no_slices}
-use Rattle.ffv1_hold.specs.ContentsLaws.{with_found-holding_of}
+use Rattle.ffv1_pool.specs.Sets as set
+use Rattle.ffv1_pool.specs.Reels.{Reel}
+use Rattle.ffv1_pool.specs.Contents.{Contents, with_found, holding_of, no_slices}
+use Rattle.ffv1_pool.specs.ContentsLaws.{with_found-holding_of}
 use Rattle.ffv1_commands.specs.Devices.{IsWholeInput}
 use Rattle.ffv1_commands.specs.TakeText.{copy_line, held_of, line_after, lines_after, TakesEach, TakesOne}
 use Rattle.ffv1_commands.proofs.InputLaws.{AreWholeInputs-push, length-AreWholeInputs}

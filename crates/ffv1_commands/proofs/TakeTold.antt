@@ -7,25 +7,26 @@ use Rattle.ffv1_range.specs.Setup.{IsSetupOf}
 use Rattle.ffv1_range.specs.SetupFaults.{FirstSetupFault}
 use Rattle.ffv1_range.specs.declared.fault.SetupFault.{SetupFault}
 use Rattle.ffv1_devices.specs.Logs.{ReadLog, WriteLog, Reads}
-use Rattle.ffv1_hold.specs.Reels.{Reel}
-use Rattle.ffv1_hold.specs.Contents.{Contents, holding_of}
+use Rattle.ffv1_pool.specs.Reels.{Reel}
+use Rattle.ffv1_pool.specs.Contents.{Contents, holding_of}
 use Rattle.ffv1_hold.specs.Headline.{IsReelOf}
 use Rattle.ffv1_hold.specs.HoldingText.{holding_text}
-use Rattle.ffv1_holding.specs.TakeFaults.{IsTakeFault}
-use Rattle.ffv1_holding.specs.declared.fault.HoldFault.{HoldFault}
-use Rattle.ffv1_holding.specs.declared.fault.HoldFault.TheVariants as holds
+use Rattle.ffv1_pool.specs.TakeFaults.{IsTakeFault}
+use Rattle.ffv1_pool.specs.declared.fault.HoldFault.{HoldFault}
+use Rattle.ffv1_pool.specs.declared.fault.HoldFault.TheVariants as holds
 use Rattle.ffv1_commands.specs.Devices.{IsWholeInput, IsCopyFault, IfOfRecord, WriteStops, TakesWhole, CopyStops}
-use Rattle.ffv1_commands.specs.RecordInputs.{IsReelInput}
+use Rattle.ffv1_commands.specs.RecordInputs.{IsReelInput, TakesReel}
 use Rattle.ffv1_commands.specs.Fault.{NamesPath, of_hold}
 use Rattle.ffv1_commands.specs.Paths.{IsTakePath}
 use Rattle.ffv1_commands.specs.Holdings.{HasFile, IsFileFault, MadeStops, WritesMade}
-use Rattle.ffv1_commands.specs.TakeText.{TakesEach, TakesOne, TakesCopies, IsFaultOfInputs, StopsAtCopy, LaterKept, TakeStops, TakesCopy, ReadsReel, RecordRefuses, TakesAll, TellsTake}
+use Rattle.ffv1_commands.specs.TakeText.{TakesEach, TakesOne, TakesCopies, IsFaultOfInputs, StopsAtCopy, LaterKept, TakeStops, TakesCopy, TakesAll, TellsTake}
 use Rattle.ffv1_commands.specs.declared.fault.CliFault.{CliFault}
 use Rattle.ffv1_commands.specs.declared.fault.CliFault.TheVariants as faults
 use Rattle.ffv1_commands.specs.declared.path.CommandPath.{CommandPath}
 use Rattle.ffv1_commands.specs.declared.path.CommandPath.TheVariants as paths
 use Rattle.ffv1_commands.proofs.InputFaults.{IsUnwritten}
 use Rattle.ffv1_commands.proofs.InputLaws.{whole_input}
+use Rattle.ffv1_commands.proofs.RecordFaults.{RecordStops-says}
 use Rattle.ffv1_commands.proofs.Telling.{whole_of, Consumes-longer}
 use Rattle.ffv1_commands.proofs.MadeFiles.{made_says, made_bytes}
 
@@ -110,9 +111,9 @@ copy_untaken before a b copy took holds.OtherReel none = absurd none
 
 -- the record is that of its reel
 pub reel_read : (a b : ReadLog) (config : List ℕ) (width height : ℕ) (reel : Reel) → TakesWhole a b config → IsReelOf config width height reel
-    → ReadsReel width height a b reel
+    → TakesReel width height a b reel
 reel_read a b config width height reel took is = record {
-  taken = subst (TakesWhole a b) (sym is.0) took;
+  read = subst (TakesWhole a b) (sym is.0) took;
   is_setup = subst (λ (c : List ℕ). IsSetupOf c width height reel.setup) (sym is.0) is.1;
 }
 
@@ -188,23 +189,6 @@ module _ (record' : Option (List ℕ)) (width height : ℕ) (inputs : List (Opti
     made_refused (faults.Ranges line) stops = absurd stops
     made_refused faults.Words stops = absurd stops
 
--- what any fault of the record says, if that of each form says so
-pub RecordRefuses-says : (P : CliFault → Type 0) (width height : ℕ) (a b : ReadLog) (fault : CliFault) → P (faults.Read paths.Record) → P faults.Memory
-    → ((setup : SetupFault) (config : List ℕ) → TakesWhole a b config → FirstSetupFault config width height setup → P (faults.Setup setup))
-    → RecordRefuses width height a b fault → P fault
-RecordRefuses-says P width height a b (faults.Read named) read memory first (same, unread) = subst (λ n. P (faults.Read n)) (sym same) read
-RecordRefuses-says P width height a b faults.Memory read memory first within = memory
-RecordRefuses-says P width height a b (faults.Setup setup) read memory first (config, took, is) = first setup config took is
-RecordRefuses-says P width height a b (faults.Write named) read memory first stops = absurd stops
-RecordRefuses-says P width height a b (faults.Hold fault) read memory first stops = absurd stops
-RecordRefuses-says P width height a b (faults.HoldFile fault) read memory first stops = absurd stops
-RecordRefuses-says P width height a b (faults.Frame fault) read memory first stops = absurd stops
-RecordRefuses-says P width height a b (faults.Missing tile) read memory first stops = absurd stops
-RecordRefuses-says P width height a b (faults.Disputed tile) read memory first stops = absurd stops
-RecordRefuses-says P width height a b (faults.Splice other) read memory first stops = absurd stops
-RecordRefuses-says P width height a b (faults.Ranges line) read memory first stops = absurd stops
-RecordRefuses-says P width height a b faults.Words read memory first stops = absurd stops
-
 -- a fault of the copies leaves those after it
 later_kept : {C : Type 0} (tells : C → Option (List ℕ)) (old new : List C) (fault : CliFault) → StopsAtCopy tells old new fault → LaterKept tells old new fault
 later_kept tells old new (faults.Read path) (i, (lt, before, same), later) =
@@ -230,9 +214,9 @@ pub record TakeOfBytes {T C : Type 0} (r : Result T CliFault) (tells : C → Opt
   pub names : IfErr r (NamesPath (IsTakePath (length old)))
 
 module _ {C : Type 0} (tells : C → Option (List ℕ)) (width height : ℕ) (a b : ReadLog) (old new : List C) (out out' output output' : WriteLog) where
-  reel_input : (reel : Reel) → ReadsReel width height a b reel → IsReelInput a.remaining width height reel
+  reel_input : (reel : Reel) → TakesReel width height a b reel → IsReelInput a.remaining width height reel
   reel_input reel read = record {
-    read = whole_input a.remaining b.remaining reel.config (whole_of a b reel.config read.taken);
+    read = whole_input a.remaining b.remaining reel.config (whole_of a b reel.config read.read);
     is_setup = read.is_setup;
   }
 
@@ -257,12 +241,12 @@ module _ {C : Type 0} (tells : C → Option (List ℕ)) (width height : ℕ) (a 
   }
   take_of_bytes (Err fault) (inl (refuses, same, kept)) = record {
     ok = tt;
-    err = RecordRefuses-says (TakeStops a.remaining width height (map tells old) out.contents out'.contents output.contents output'.contents)
+    err = RecordStops-says (TakeStops a.remaining width height (map tells old) out.contents out'.contents output.contents output'.contents)
         width height a b fault (inl refl) tt
         (λ setup config took first. (config, whole_input a.remaining b.remaining config (whole_of a b config took), first)) refuses;
-    in_turn = RecordRefuses-says (λ f. IfOfRecord f (new ≡ old)) width height a b fault (λ is. same) tt (λ setup config took first. same) refuses;
-    later = RecordRefuses-says (LaterKept tells old new) width height a b fault tt tt (λ setup config took first. tt) refuses;
-    names = RecordRefuses-says (NamesPath (IsTakePath (length old))) width height a b fault tt tt (λ setup config took first. tt) refuses;
+    in_turn = RecordStops-says (λ f. IfOfRecord f (new ≡ old)) width height a b fault (λ is. same) tt (λ setup config took first. same) refuses;
+    later = RecordStops-says (LaterKept tells old new) width height a b fault tt tt (λ setup config took first. tt) refuses;
+    names = RecordStops-says (NamesPath (IsTakePath (length old))) width height a b fault tt tt (λ setup config took first. tt) refuses;
   }
   take_of_bytes (Err fault) (inr (inl (reel, read, (i, at, later), kept))) = record {
     ok = tt;

@@ -7,7 +7,7 @@ use Rattle.ffv1_commands.specs.declared.fault.CliFault.TheVariants as faults
 use Rattle.ffv1_commands.specs.declared.path.CommandPath.{CommandPath}
 
 module _ (P : CliFault → Type 0) (path : CommandPath) (a b : ReadLog) where
-  -- any fact of a path that was not read, and of want of memory
+  -- any fact of a path that was not read, and of Memory
   pub file_says : (IsUnread a b → P (faults.Read path)) → (StopsWithin a b → P faults.Memory) → (f : CliFault) → FileStops path f a b → P f
   file_says unread memory (faults.Read named) stops = subst (λ (p : CommandPath). P (faults.Read p)) (sym stops.0) (unread stops.1)
   file_says unread memory (faults.Write named) stops = absurd stops

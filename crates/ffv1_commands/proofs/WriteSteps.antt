@@ -7,7 +7,7 @@ use Rattle.ffv1_commands.specs.Fault.{of_setup}
 use Rattle.ffv1_commands.specs.declared.fault.CliFault.{CliFault}
 use Rattle.ffv1_commands.specs.declared.fault.CliFault.TheVariants as faults
 
--- a setup's fault is want of memory, or told as its own
+-- a setup's fault is Memory, or told as its own
 pub setups : (P : CliFault → Type 0) (fault : SetupFault) → P faults.Memory → P (faults.Setup fault) → P (of_setup fault)
 setups P setup.Memory memory other = memory
 setups P setup.TooShort memory other = other
@@ -28,7 +28,7 @@ setups P setup.Contexts memory other = other
 setups P setup.ParityMode memory other = other
 setups P setup.Size memory other = other
 
--- a record's fault is want of memory, or the one that reading it meets first
+-- a record's fault is Memory, or the one that reading it meets first
 pub setups_first : (P : CliFault → Type 0) (First : Type 0) (fault : SetupFault) → P faults.Memory → (First → P (faults.Setup fault))
     → (fault ≡ setup.Memory) ⊎ First → P (of_setup fault)
 setups_first P First fault memory other (inl is) = subst (λ f. P (of_setup f)) (sym is) memory

@@ -5,10 +5,10 @@ use Rattle.std.specs.List.{flat_map}
 use Rattle.std.specs.Io.KnownBytes.{Appends}
 use Rattle.ffv1_range.specs.Setup.{SetupValue, IsSetupOf}
 use Rattle.ffv1_slice.specs.Slices.{IsOriginal}
-use Rattle.ffv1_hold.specs.Reels.{Reel}
-use Rattle.ffv1_hold.specs.Contents.{Contents, holding_of, HasSameCopies}
+use Rattle.ffv1_pool.specs.Reels.{Reel}
+use Rattle.ffv1_pool.specs.Contents.{Contents, holding_of, HasSameCopies}
 use Rattle.ffv1_hold.specs.Headline.{IsReelOf}
-use Rattle.ffv1_hold.specs.Originals.{AreCopiesOf, AreNear}
+use Rattle.ffv1_pool.specs.Originals.{AreCopiesOf, AreNear}
 use Rattle.ffv1_picture.specs.Headline.{AreEqualInAll, ShowsSlices}
 use Rattle.ffv1_picture.specs.declared.frame.Frame.{Frame}
 use Rattle.ffv1_commands.specs.Holdings.{IsHoldingFile}
@@ -38,7 +38,7 @@ pub data IsMadeOf (config : List ℕ) (width height : ℕ) : List (List ℕ) →
       → MergesFiles (Some left) (Some right) (Some []) (Some file)
       → IsMadeOf config width height (lefts ++ rights) file
 
--- a fault that a device or want of memory gave
+-- a fault that a device or Memory gave
 abbrev pub IsOfDevices : CliFault → Type 0
 IsOfDevices (faults.Read path) = Unit {0}
 IsOfDevices (faults.Write path) = Unit {0}

@@ -2,14 +2,14 @@
 use Rattle.std.specs.Prelude.{ℕ, ◌≡◌, ◌≢◌, ◌⊎◌, List, Option, Result, Ok, Err}
 use Rattle.std.specs.Io.KnownBytes.{Appends}
 use Rattle.ffv1_devices.specs.Logs.{ReadLog, WriteLog, Writes}
-use Rattle.ffv1_range.specs.Setup.{SetupValue, IsSetupOf}
+use Rattle.ffv1_range.specs.Setup.{SetupValue}
 use Rattle.ffv1_range.specs.SetupFaults.{FirstSetupFault}
 use Rattle.ffv1_picture.specs.Frames.{IsDecodedFrame}
 use Rattle.ffv1_picture.specs.FrameFaults.{IsFirstFault}
 use Rattle.ffv1_picture.specs.declared.frame.Frame.{Frame}
 use Rattle.ffv1_picture.specs.declared.fault.FrameFault.TheVariants as frames
 use Rattle.ffv1_commands.specs.Devices.{IsWholeInput, WriteStops, TakesWhole, IsUnread, StopsWithin, BothStop, BothKept}
-use Rattle.ffv1_commands.specs.RecordInputs.{IsSetupInput}
+use Rattle.ffv1_commands.specs.RecordInputs.{IsSetupInput, TakesSetup, RecordStops}
 use Rattle.ffv1_commands.specs.SamplesText.{raw_bytes, frame_line}
 use Rattle.ffv1_commands.specs.declared.fault.CliFault.{CliFault}
 use Rattle.ffv1_commands.specs.declared.fault.CliFault.TheVariants as faults
@@ -48,19 +48,6 @@ DecodeStops record' width height input out_before out_after printed_before print
 
 -- ---- over the logs of the devices
 
--- The record was read whole, and gives this setup.
-pub record TakesSetup (old new : ReadLog) (width height : ℕ) (setup : SetupValue) : Type 0 where
-  pub config : List ℕ
-  pub read : TakesWhole old new config
-  pub is_setup : IsSetupOf config width height setup
-
--- why the record gave no setup
-abbrev pub RecordStops : (old new : ReadLog) (width height : ℕ) → CliFault → Type 0
-RecordStops old new width height (faults.Read path) = (path ≡ paths.Record) × IsUnread old new
-RecordStops old new width height (faults.Setup fault) = (config : List ℕ) × TakesWhole old new config × FirstSetupFault config width height fault
-RecordStops old new width height faults.Memory = StopsWithin old new
-RecordStops old new width height _ = ⊥
-
 -- The payload was read whole, and spells this frame.
 pub record TakesFrame (setup : SetupValue) (old new : ReadLog) (frame : Frame) : Type 0 where
   pub payload : List ℕ
@@ -87,9 +74,9 @@ DecodeRefuses setup input_old input_new out_old out_new output_old output_new fa
 abbrev pub TellsDecode : {T : Type 0} → Result T CliFault → (width height : ℕ) → (record_old record_new input_old input_new : ReadLog)
     → (out_old out_new output_old output_new : WriteLog) → Type 0
 TellsDecode (Ok x) width height record_old record_new input_old input_new out_old out_new output_old output_new =
-    (setup : SetupValue) × (frame : Frame) × TakesSetup record_old record_new width height setup × TakesFrame setup input_old input_new frame
+    (setup : SetupValue) × (frame : Frame) × TakesSetup width height record_old record_new setup × TakesFrame setup input_old input_new frame
     × Writes out_old out_new (raw_bytes frame) × Writes output_old output_new (frame_line frame)
 TellsDecode (Err fault) width height record_old record_new input_old input_new out_old out_new output_old output_new =
-    (RecordStops record_old record_new width height fault × (input_new ≡ input_old) × BothKept out_old out_new output_old output_new)
-    ⊎ ((setup : SetupValue) × TakesSetup record_old record_new width height setup
+    (RecordStops width height record_old record_new fault × (input_new ≡ input_old) × BothKept out_old out_new output_old output_new)
+    ⊎ ((setup : SetupValue) × TakesSetup width height record_old record_new setup
     × DecodeRefuses setup input_old input_new out_old out_new output_old output_new fault)

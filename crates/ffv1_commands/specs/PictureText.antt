@@ -4,7 +4,7 @@ use Rattle.std.specs.List.{flat_map, range_with_len}
 use Rattle.std.specs.Fmt.{decimal}
 use Rattle.std.specs.Io.KnownBytes.{Appends}
 use Rattle.ffv1_devices.specs.Logs.{ReadLog, WriteLog, Writes}
-use Rattle.ffv1_hold.specs.Contents.{Contents}
+use Rattle.ffv1_pool.specs.Contents.{Contents}
 use Rattle.ffv1_hold.specs.FileFaults.{ReadsHolding}
 use Rattle.ffv1_plane.specs.declared.tile.TileFault.{TileFault}
 use Rattle.ffv1_plane.specs.declared.tile.TileFault.TheVariants as tiles
@@ -74,7 +74,7 @@ PictureStops input out_before out_after printed_before printed_after fault = IsH
 
 -- ---- over the logs of the devices
 
--- what stopped the command once the file was read: want of memory, or writing
+-- what stopped the command once the file was read: Memory, or writing
 abbrev pub PictureRefuses : Contents → (out_old out_new output_old output_new : WriteLog) → CliFault → Type 0
 PictureRefuses h out_old out_new output_old output_new faults.Memory = BothKept out_old out_new output_old output_new
 PictureRefuses h out_old out_new output_old output_new (faults.Write path) =

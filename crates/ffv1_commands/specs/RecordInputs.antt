@@ -1,8 +1,13 @@
 -- Configuration records as a command reads them.
 use Rattle.std.specs.Prelude.{ℕ, List, Option}
 use Rattle.ffv1_range.specs.Setup.{SetupValue, IsSetupOf}
-use Rattle.ffv1_hold.specs.Reels.{Reel}
-use Rattle.ffv1_commands.specs.Devices.{IsWholeInput}
+use Rattle.ffv1_range.specs.SetupFaults.{FirstSetupFault}
+use Rattle.ffv1_pool.specs.Reels.{Reel}
+use Rattle.ffv1_devices.specs.Logs.{ReadLog}
+use Rattle.ffv1_commands.specs.Devices.{IsWholeInput, TakesWhole, FileStops}
+use Rattle.ffv1_commands.specs.declared.fault.CliFault.{CliFault}
+use Rattle.ffv1_commands.specs.declared.fault.CliFault.TheVariants as faults
+use Rattle.ffv1_commands.specs.declared.path.CommandPath.TheVariants as paths
 
 -- The input is read whole as a record that gives this setup for frames of this size.
 pub record IsSetupInput (input : Option (List ℕ)) (width height : ℕ) (setup : SetupValue) : Type 0 where
@@ -14,3 +19,21 @@ pub record IsSetupInput (input : Option (List ℕ)) (width height : ℕ) (setup 
 pub record IsReelInput (input : Option (List ℕ)) (width height : ℕ) (reel : Reel) : Type 0 where
   pub read : IsWholeInput input reel.config
   pub is_setup : IsSetupOf reel.config width height reel.setup
+
+-- ---- over the logs of the devices
+
+-- The record was read whole, and gives this setup for frames of this size.
+pub record TakesSetup (width height : ℕ) (old new : ReadLog) (setup : SetupValue) : Type 0 where
+  pub config : List ℕ
+  pub read : TakesWhole old new config
+  pub is_setup : IsSetupOf config width height setup
+
+-- The same for a reel, which keeps the record beside its setup.
+pub record TakesReel (width height : ℕ) (old new : ReadLog) (reel : Reel) : Type 0 where
+  pub read : TakesWhole old new reel.config
+  pub is_setup : IsSetupOf reel.config width height reel.setup
+
+-- why the record gave no setup: it was not read, reading it meets this fault first, or memory ran out
+abbrev pub RecordStops : (width height : ℕ) → (old new : ReadLog) → CliFault → Type 0
+RecordStops width height old new (faults.Setup fault) = (config : List ℕ) × TakesWhole old new config × FirstSetupFault config width height fault
+RecordStops width height old new fault = FileStops paths.Record fault old new

@@ -3,11 +3,11 @@ use Rattle.std.specs.Prelude.{ℕ, ◌⊎◌, ◌++◌, List, length, Option, Re
 use Rattle.std.specs.Fmt.{decimal}
 use Rattle.std.specs.Io.KnownBytes.{Appends}
 use Rattle.ffv1_devices.specs.Logs.{ReadLog, WriteLog, Writes}
-use Rattle.ffv1_hold.specs.Contents.{Contents}
-use Rattle.ffv1_hold.specs.Standing.{AreSettled, restored_payload}
-use Rattle.ffv1_hold.specs.Refusals.{IsRefusal}
+use Rattle.ffv1_pool.specs.Contents.{Contents}
+use Rattle.ffv1_pool.specs.Standing.{AreSettled, restored_payload}
+use Rattle.ffv1_pool.specs.Refusals.{IsRefusal}
 use Rattle.ffv1_hold.specs.FileFaults.{ReadsHolding}
-use Rattle.ffv1_holding.specs.declared.restore.RestoreFault.TheVariants as refusals
+use Rattle.ffv1_pool.specs.declared.restore.RestoreFault.TheVariants as refusals
 use Rattle.ffv1_commands.specs.Devices.{WriteStops, BothStop, BothKept}
 use Rattle.ffv1_commands.specs.Holdings.{IsHoldingFile, IsHoldingFault, HoldingStops}
 use Rattle.ffv1_commands.specs.declared.fault.CliFault.{CliFault}
@@ -40,7 +40,7 @@ RestoreStops input out_before out_after printed_before printed_after fault = IsH
 
 -- ---- over the logs of the devices
 
--- What stopped the command once the file was read: the first tile that isn't settled, or, where all are, want of memory or writing.
+-- What stopped the command once the file was read: the first tile that isn't settled, or, where all are, Memory or writing.
 abbrev pub RestoreRefuses : Contents → (out_old out_new output_old output_new : WriteLog) → CliFault → Type 0
 RestoreRefuses h out_old out_new output_old output_new (faults.Missing tile) =
     IsRefusal h (refusals.Missing tile) × BothKept out_old out_new output_old output_new

@@ -1,12 +1,13 @@
 -- The text that tells a setup.
-use Rattle.std.specs.Prelude.{ℕ, ◌*◌, ◌≡◌, ◌++◌, Bool, List, length, Option, IfSome, Result, Ok, Err, codes, if◌then◌else◌}
+use Rattle.std.specs.Prelude.{ℕ, ◌*◌, ◌≡◌, ◌++◌, List, length, Option, IfSome, Result, Ok, Err, codes, if◌then◌else◌}
 use Rattle.std.specs.List.{flat_map}
 use Rattle.std.specs.Fmt.{decimal}
 use Rattle.std.specs.Io.KnownBytes.{Appends, Keeps}
 use Rattle.ffv1_range.specs.Setup.{SetupValue, IsSetupOf}
-use Rattle.ffv1_range.specs.SetupForms.{setup_read}
+use Rattle.ffv1_range.specs.SetupFaults.{FirstSetupFault}
 use Rattle.ffv1_devices.specs.Logs.{ReadLog, WriteLog, Writes, StopsWriting}
-use Rattle.ffv1_commands.specs.Devices.{WritesFront, TakesWhole, StopsWithin, IsUnread}
+use Rattle.ffv1_commands.specs.Devices.{WritesFront}
+use Rattle.ffv1_commands.specs.RecordInputs.{TakesSetup, RecordStops}
 use Rattle.ffv1_commands.specs.declared.fault.CliFault.{CliFault}
 use Rattle.ffv1_commands.specs.declared.fault.CliFault.TheVariants as faults
 use Rattle.ffv1_commands.specs.declared.path.CommandPath.TheVariants as paths
@@ -50,36 +51,24 @@ ShowStops width height config before after (faults.Write path) =
     (path ≡ paths.StandardOutput) × IfSome config (λ bytes. (setup : SetupValue) × IsSetupOf bytes width height setup
     × WritesFront before after (show_text setup))
 ShowStops width height config before after (faults.Setup fault) =
-    IfSome config (λ bytes. (granted : Bool) × (setup_read granted bytes width height ≡ Err fault)) × Keeps before after
+    IfSome config (λ bytes. FirstSetupFault bytes width height fault) × Keeps before after
 ShowStops width height config before after faults.Memory = Keeps before after
 ShowStops width height config before after _ = ⊥
 
 -- ---- over the logs of the devices
 
--- The record was read whole, and gives this setup.
-pub record ReadsSetup (width height : ℕ) (old new : ReadLog) (setup : SetupValue) : Type 0 where
-  pub config : List ℕ
-  pub taken : TakesWhole old new config
-  pub is_setup : IsSetupOf config width height setup
-
--- How a fault stopped the command: the record was not read, or gives no setup, or memory was refused, which leaves the output as it was; or
--- the text was not written whole. A setup fault is the first that reading the record meets.
+-- How a fault stopped the command: the record gave no setup, which leaves the output as it was; or the text was not written whole.
 abbrev pub ShowBreaks : (width height : ℕ) → (input_old input_new : ReadLog) → (output_old output_new : WriteLog) → CliFault → Type 0
-ShowBreaks width height input_old input_new output_old output_new (faults.Read path) =
-    (path ≡ paths.Record) × IsUnread input_old input_new × (output_new ≡ output_old)
-ShowBreaks width height input_old input_new output_old output_new (faults.Setup fault) =
-    ((config : List ℕ) × (granted : Bool) × TakesWhole input_old input_new config × (setup_read granted config width height ≡ Err fault))
-    × (output_new ≡ output_old)
-ShowBreaks width height input_old input_new output_old output_new faults.Memory = StopsWithin input_old input_new × (output_new ≡ output_old)
 ShowBreaks width height input_old input_new output_old output_new (faults.Write path) =
     (path ≡ paths.StandardOutput)
-    × ((setup : SetupValue) × ReadsSetup width height input_old input_new setup × StopsWriting output_old output_new (show_text setup))
-ShowBreaks width height input_old input_new output_old output_new _ = ⊥
+    × ((setup : SetupValue) × TakesSetup width height input_old input_new setup × StopsWriting output_old output_new (show_text setup))
+ShowBreaks width height input_old input_new output_old output_new fault =
+    RecordStops width height input_old input_new fault × (output_new ≡ output_old)
 
 -- The setup of the record was told, or a fault stopped the command.
 abbrev pub TellsShow : {T : Type 0} → Result T CliFault → (width height : ℕ) → (input_old input_new : ReadLog) → (output_old output_new : WriteLog)
     → Type 0
 TellsShow (Ok x) width height input_old input_new output_old output_new =
-    (setup : SetupValue) × ReadsSetup width height input_old input_new setup × Writes output_old output_new (show_text setup)
+    (setup : SetupValue) × TakesSetup width height input_old input_new setup × Writes output_old output_new (show_text setup)
 TellsShow (Err fault) width height input_old input_new output_old output_new =
     ShowBreaks width height input_old input_new output_old output_new fault

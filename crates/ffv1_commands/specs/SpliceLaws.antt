@@ -31,13 +31,13 @@ settled_line link = standing_line (record { start = link.start; end = link.start
 abbrev pub whole_of : List ℕ → Made
 whole_of original = record { file = original; printed = flat_map settled_line (links_of original) ++ codes "end whole\n"; answer = true }
 
--- The command makes the original of the copies, and is refused only by a device or for want of memory.
+-- The command makes the original of the copies, and is refused only by a device or because memory ran out.
 pub record GiveOnly (copies : List (List ℕ)) (original : List ℕ) : Type 0 where
   pub made : (made : Made) → SplicesTo copies made → made ≡ whole_of original
   pub refused : (out_before out_after printed_before printed_after : Option (List ℕ)) (fault : CliFault)
       → SpliceStops (map Some copies) out_before out_after printed_before printed_after fault → IsOfDevices fault
 
--- Where the command answers `true`, it made the original of the copies; and it is refused only by a device or for want of memory.
+-- Where the command answers `true`, it made the original of the copies; and it is refused only by a device or because memory ran out.
 pub record GiveOnlyIfTrue (copies : List (List ℕ)) (original : List ℕ) : Type 0 where
   pub made : (made : Made) → SplicesTo copies made → made.answer ≡ true → made.file ≡ original
   pub refused : (out_before out_after printed_before printed_after : Option (List ℕ)) (fault : CliFault)

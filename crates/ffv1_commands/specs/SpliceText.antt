@@ -127,7 +127,7 @@ pub record WritesSplice (copies : List (List ℕ)) (out_old out_new output_old o
   pub printed : Writes output_old output_new (splice_text spliced)
   pub given_back : IsTrue answer ↔ IsGivenBack spliced
 
--- what stopped the command once all copies were read: one of another length, want of memory, or writing
+-- what stopped the command once all copies were read: one of another length, Memory, or writing
 abbrev pub SpliceRefuses : List (List ℕ) → (out_old out_new output_old output_new : WriteLog) → CliFault → Type 0
 SpliceRefuses copies out_old out_new output_old output_new (faults.Splice path) =
     IsLengthFault copies (faults.Splice path) × BothKept out_old out_new output_old output_new

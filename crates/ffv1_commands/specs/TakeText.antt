@@ -2,18 +2,17 @@
 use Rattle.std.specs.Prelude.{ℕ, ◌≡◌, ◌+◌, ◌-◌, ◌<◌, ◌++◌, ◌⊎◌, List, [], ◌∷◌, length, map, take, drop, Option, slice_index_or, None, Result, Ok, Err, codes}
 use Rattle.std.specs.Fmt.{decimal}
 use Rattle.std.specs.Io.KnownBytes.{Appends}
-use Rattle.ffv1_range.specs.Setup.{IsSetupOf}
 use Rattle.ffv1_range.specs.SetupFaults.{FirstSetupFault}
 use Rattle.ffv1_slice.specs.Walk.{links_of}
 use Rattle.ffv1_slice.specs.Slices.{found_slices}
-use Rattle.ffv1_hold.specs.Sets as set
-use Rattle.ffv1_hold.specs.Reels.{Reel}
-use Rattle.ffv1_hold.specs.Contents.{Contents, with_found, holding_of}
+use Rattle.ffv1_pool.specs.Sets as set
+use Rattle.ffv1_pool.specs.Reels.{Reel}
+use Rattle.ffv1_pool.specs.Contents.{Contents, with_found, holding_of}
 use Rattle.ffv1_hold.specs.HoldingText.{holding_text}
 use Rattle.ffv1_devices.specs.Logs.{ReadLog, WriteLog}
-use Rattle.ffv1_commands.specs.Devices.{IsWholeInput, AreWholeInputs, WriteStops, IsCopyFault, TakesWhole, FileStops, CopyStops, BothKept}
+use Rattle.ffv1_commands.specs.Devices.{IsWholeInput, AreWholeInputs, WriteStops, IsCopyFault, TakesWhole, CopyStops, BothKept}
 use Rattle.ffv1_commands.specs.Holdings.{HasFile, IsFileFault, IsMade, MadeBreaks}
-use Rattle.ffv1_commands.specs.RecordInputs.{IsReelInput}
+use Rattle.ffv1_commands.specs.RecordInputs.{IsReelInput, TakesReel, RecordStops}
 use Rattle.ffv1_commands.specs.declared.fault.CliFault.{CliFault}
 use Rattle.ffv1_commands.specs.declared.fault.CliFault.TheVariants as faults
 use Rattle.ffv1_commands.specs.declared.path.CommandPath.TheVariants as paths
@@ -114,20 +113,10 @@ TakesCopy (Ok x) before held_old held_new lines_old lines_new copy_old copy_new 
     TakesOne (TakesWhole copy_old copy_new) (before + 1) held_old held_new lines_old lines_new
 TakesCopy (Err fault) before held_old held_new lines_old lines_new copy_old copy_new = CopyStops (paths.Copy before) fault copy_old copy_new
 
--- The record was read whole, and is that of the reel.
-pub record ReadsReel (width height : ℕ) (old new : ReadLog) (reel : Reel) : Type 0 where
-  pub taken : TakesWhole old new reel.config
-  pub is_setup : IsSetupOf reel.config width height reel.setup
-
--- why the record gave no reel: it was not read, it gives no setup, or memory was refused
-abbrev pub RecordRefuses : (width height : ℕ) → (old new : ReadLog) → CliFault → Type 0
-RecordRefuses width height old new (faults.Setup fault) = (config : List ℕ) × TakesWhole old new config × FirstSetupFault config width height fault
-RecordRefuses width height old new fault = FileStops paths.Record fault old new
-
 -- The record was read, and the copies were taken, and told.
 pub record TakesAll (width height : ℕ) (inputs : List (Option (List ℕ))) (old new : ReadLog) (held : Contents) (text : List ℕ) : Type 0 where
   pub reel : Reel
-  pub of_record : ReadsReel width height old new reel
+  pub of_record : TakesReel width height old new reel
   pub each : TakesEach inputs reel held text
 
 -- The record and the copies were taken, and the file and the lines were written; or the record gave no reel, and all else is as it was; or
@@ -139,8 +128,8 @@ TellsTake (Ok x) tells width height record_old record_new copies_old copies_new 
     (held : Contents) × (text : List ℕ) × TakesAll width height (map tells copies_old) record_old record_new held text
     × IsMade held text out_old out_new output_old output_new
 TellsTake (Err fault) tells width height record_old record_new copies_old copies_new out_old out_new output_old output_new =
-    (RecordRefuses width height record_old record_new fault × (copies_new ≡ copies_old) × BothKept out_old out_new output_old output_new)
-    ⊎ ((reel : Reel) × ReadsReel width height record_old record_new reel × StopsAtCopy tells copies_old copies_new fault
+    (RecordStops width height record_old record_new fault × (copies_new ≡ copies_old) × BothKept out_old out_new output_old output_new)
+    ⊎ ((reel : Reel) × TakesReel width height record_old record_new reel × StopsAtCopy tells copies_old copies_new fault
     × BothKept out_old out_new output_old output_new)
     ⊎ ((held : Contents) × (text : List ℕ) × TakesAll width height (map tells copies_old) record_old record_new held text
     × MadeBreaks held text out_old out_new output_old output_new fault)

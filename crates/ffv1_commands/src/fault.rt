@@ -112,7 +112,7 @@ impl From<SetupFault> for CliFault {
 
     ghost from_gives = { λ fault result. result ≡ of_setup fault };
 
-    /// Want of memory is told as such.
+    /// Memory is told as such.
     fn from(fault: SetupFault) -> CliFault {
         match fault {
             SetupFault::Memory => CliFault::Memory,
@@ -127,7 +127,7 @@ impl From<HoldFault> for CliFault {
 
     ghost from_gives = { λ fault result. result ≡ of_hold fault };
 
-    /// Want of memory is told as such.
+    /// Memory is told as such.
     fn from(fault: HoldFault) -> CliFault {
         match fault {
             HoldFault::Memory => CliFault::Memory,
@@ -142,7 +142,7 @@ impl From<FrameFault> for CliFault {
 
     ghost from_gives = { λ fault result. result ≡ of_frame fault };
 
-    /// Want of memory is told as such.
+    /// Memory is told as such.
     fn from(fault: FrameFault) -> CliFault {
         match fault {
             FrameFault::Memory => CliFault::Memory,
@@ -157,7 +157,7 @@ impl From<RestoreFault> for CliFault {
 
     ghost from_gives = { λ fault result. result ≡ of_restore fault };
 
-    /// Want of memory is told as such.
+    /// Memory is told as such.
     fn from(fault: RestoreFault) -> CliFault {
         match fault {
             RestoreFault::Missing(tile) => CliFault::Missing(tile),
@@ -189,7 +189,7 @@ impl<T: Drop> From<AllocFailed<T>> for CliFault {
     }
 }
 
-/// The fault of the holding file that is this path of the command: those of its device and want of memory are told as
+/// The fault of the holding file that is this path of the command: those of its device and Memory are told as
 /// such.
 pub(crate) fn of_hold_file(path: CommandPath, fault: HoldFileFault) -> CliFault
     ensures { result ≡ of_hold_file path fault }
@@ -202,7 +202,7 @@ pub(crate) fn of_hold_file(path: CommandPath, fault: HoldFileFault) -> CliFault
     }
 }
 
-/// The fault of two holding files that are joined as streams: those of the devices and want of memory are told as such.
+/// The fault of two holding files that are joined as streams: those of the devices and Memory are told as such.
 pub(crate) fn of_merge(fault: HoldFileFault) -> CliFault
     ensures { result ≡ of_merge fault }
 {

@@ -15,7 +15,7 @@ pub fn same_copies_make_one_file()
 
 /// Whatever trees of `take`, `join` and `merge` lead from copies to a holding file, for one record and size: where
 /// every slice found in the copies is the original's for its tile, and each tile's is found in some copy, `restore`
-/// of the file writes the original byte for byte, or is refused by a device or for want of memory, and `picture` of
+/// of the file writes the original byte for byte, or is refused by a device or because memory ran out, and `picture` of
 /// it shows what the original's slices spell. So it is where all copies differ from the original only within 32 bits
 /// of each slice, its size field unhurt, and each of its slices is intact in one of them.
 pub fn commands_restore_the_original()
@@ -31,7 +31,7 @@ pub fn same_copies_make_one_splice()
 
 /// Where each slice with content that passes its parity and ends at an end of an original is the original's there, and
 /// each of the original's slices is found so in some copy, `splice` writes the original byte for byte, prints that each
-/// of its slices is settled, and answers `true`; or it is refused by a device or for want of memory. So it is where all
+/// of its slices is settled, and answers `true`; or it is refused by a device or because memory ran out. So it is where all
 /// copies differ from the original only within 32 bits of each slice, its size field unhurt, and each of its slices is
 /// intact in one of them.
 pub fn splice_gives_the_original()
@@ -42,7 +42,7 @@ pub fn splice_gives_the_original()
 /// Where some of the original's slices are intact in no copy, but the start of each is told by a footer of some copy, and
 /// each is a combination of what the copies have there (so it is where each region in which they differ is intact in
 /// some copy): where `splice` answers `true`, what it wrote is the original byte for byte; and it is refused only by a
-/// device or for want of memory. Of near copies the starts need not be asked for.
+/// device or because memory ran out. Of near copies the starts need not be asked for.
 pub fn splice_weaves_the_original()
     ensures original { SpliceGivesWovenCopies }
     ensures near { SpliceGivesNearWovenCopies }

@@ -14,7 +14,7 @@ pub(crate) const ROOM: usize = 65536;
 /// No line is longer: it has four numbers of 20 digits at most, and 22 bytes beside them.
 const LONGEST_LINE: usize = 102;
 
-/// Prints what waits in a text where a line might not find room behind it.
+/// Prints what waits in a text where a line might not find room after it.
 pub(crate) fn make_room<W: Sink>(text: &mut String, output: &mut W) -> Result<(), WriteFailed>
     requires { room ≤ string_capacity text.old }
     ensures ok { OnOk result (PrintsFront (W.log output.old) (W.log output.new) (string_bytes text.new) (string_bytes text.old)) }

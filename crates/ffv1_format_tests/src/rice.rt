@@ -7,7 +7,7 @@ use std::test::*;
 
 /// What reading a word of a line with so many samples left answers, after `skipped` bits and `words` whole words, and
 /// the index and the place after it.
-fn word_behind(
+fn word_after(
     bytes: &[u8],
     skipped: u32,
     words: u32,
@@ -147,11 +147,11 @@ const WORDS: [Word; 10] = [
 ];
 
 #[test]
-fn words_behind_whole_ones(rt: HostRuntime) {
+fn words_after_whole_ones(rt: HostRuntime) {
     for (bytes, skipped, words, left, word, index, place) in WORDS {
         assert!(rt; bytes.len() <= 8 && skipped <= 8 && 1 <= left && left <= 65535);
-        let (read, reached, behind) = word_behind(bytes, skipped, words, left);
-        assert!(rt; read == word && reached == index && behind == place);
+        let (read, reached, later) = word_after(bytes, skipped, words, left);
+        assert!(rt; read == word && reached == index && later == place);
     }
 }
 

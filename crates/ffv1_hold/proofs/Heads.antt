@@ -8,11 +8,11 @@ use Rattle.ffv1_range.specs.declared.fault.SetupFault.TheVariants.{Memory as no_
 use Rattle.ffv1_range.specs.SetupFaults.{FirstSetupFault}
 use Rattle.ffv1_hold.specs.declared.file_fault.HoldFileFault.{HoldFileFault}
 use Rattle.ffv1_hold.specs.declared.file_fault.HoldFileFault.TheVariants as faults
-use Rattle.ffv1_holding.specs.Reels.{Reel}
+use Rattle.ffv1_pool.specs.Reels.{Reel}
 use Rattle.ffv1_hold.specs.declared.version.Version.{Version}
 use Rattle.ffv1_hold.specs.declared.version.Version.TheVariants.{First, Second}
 use Rattle.ffv1_hold.specs.HoldingText.{name, version_number, magic, be4, sized_record, head_text, entries_text, file_entries, IsTold}
-use Rattle.ffv1_holding.specs.Contents.{Contents, IsHolding}
+use Rattle.ffv1_pool.specs.Contents.{Contents, IsHolding}
 use Rattle.ffv1_devices.specs.Logs.{ReadLog}
 use Rattle.ffv1_hold.specs.Reading.{Refuses, TakesText, ReadsText}
 use Rattle.ffv1_hold.specs.FileEntries.{AreEntries}
@@ -193,7 +193,7 @@ module _ (v : Version) (a b c : ReadLog) (i j k : ℕ) (t : TakesText a b i j (m
   head_read (Err f) more = StopsAt-after IsPartOfReel IsPartOfHead ReelIsWhole HeadIsWhole ReelShows HeadShows a b c i j (magic v) t f more
       (head_from_reel_part v) (head_from_whole_reel v) (head_from_reel_fault v)
 
--- a refusal that isn't want of memory is the first fault of the record
+-- a refusal that isn't Memory is the first fault of the record
 pub first_fault : (config : List ℕ) (w h : ℕ) (f : SetupFault) → (f ≡ no_memory) ⊎ FirstSetupFault config w h f → (f ≡ no_memory → ⊥)
     → FirstSetupFault config w h f
 first_fault config w h f (inl memory) other = absurd (other memory)

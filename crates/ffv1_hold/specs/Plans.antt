@@ -3,15 +3,15 @@ use Rattle.std.specs.Prelude.{◌≡◌, ◌⊎◌, ◌<◌, ℕ, List, [], ◌�
 use Rattle.ffv1_hold.specs.Headline.{IsReelOf}
 use Rattle.ffv1_range.specs.SetupFaults.{FirstSetupFault}
 use Rattle.ffv1_range.specs.declared.fault.SetupFault.TheVariants as setups
-use Rattle.ffv1_holding.specs.declared.fault.HoldFault.TheVariants as holds
+use Rattle.ffv1_pool.specs.declared.fault.HoldFault.TheVariants as holds
 use Rattle.ffv1_hold.specs.declared.file_fault.HoldFileFault.{HoldFileFault}
 use Rattle.ffv1_hold.specs.declared.file_fault.HoldFileFault.TheVariants as files
 use Rattle.ffv1_hold.specs.declared.plan.Plan.{Plan, New, Take', TakeAll', Join', Reread'}
 use Rattle.ffv1_hold.specs.declared.plan.PlanFault.{PlanFault}
 use Rattle.ffv1_hold.specs.declared.plan.PlanFault.TheVariants.{Setup, Hold, File}
-use Rattle.ffv1_holding.specs.Reels.{Reel}
-use Rattle.ffv1_holding.specs.Contents.{Contents, holding_of}
-use Rattle.ffv1_holding.specs.TakeFaults.{IsTakeFault, AreShort}
+use Rattle.ffv1_pool.specs.Reels.{Reel}
+use Rattle.ffv1_pool.specs.Contents.{Contents, holding_of}
+use Rattle.ffv1_pool.specs.TakeFaults.{IsTakeFault, AreShort}
 use Rattle.ffv1_hold.specs.Saving.{IsTooLong}
 
 abbrev pub copies_of : Plan → List (List ℕ)
@@ -31,13 +31,13 @@ RereadsFit reel (Reread' p before) = RereadsFit reel before × (¬ IsTooLong (ho
 
 -- ---- refusals
 
--- want of memory, or the record's first fault at the size
+-- Memory, or the record's first fault at the size
 abbrev pub IsNewFault : List ℕ → ℕ → ℕ → PlanFault → Type 0
 IsNewFault config width height (Setup f) = (f ≡ setups.Memory) ⊎ FirstSetupFault config width height f
 IsNewFault config width height (Hold f) = ⊥
 IsNewFault config width height (File f) = ⊥
 
--- a copy that is too long, or want of memory at one that isn't
+-- a copy that is too long, or Memory at one that isn't
 abbrev pub IsFaultOfCopy : List ℕ → PlanFault → Type 0
 IsFaultOfCopy copy (Hold f) = IsTakeFault copy f
 IsFaultOfCopy copy (Setup f) = ⊥
@@ -47,7 +47,7 @@ IsFaultOfCopy copy (File f) = ⊥
 abbrev pub IsFaultOfCopies : List (List ℕ) → PlanFault → Type 0
 IsFaultOfCopies copies fault = (i : ℕ) × (i < length copies) × AreShort (take i copies) × IsFaultOfCopy (slice_index_or copies i []) fault
 
--- what keeps a holding from going through a file: it has none, or want of memory where it has one
+-- what keeps a holding from going through a file: it has none, or Memory where it has one
 abbrev pub IsRereadFault : Contents → HoldFileFault → Type 0
 IsRereadFault h files.TooLong = IsTooLong h
 IsRereadFault h files.Memory = ¬ IsTooLong h
@@ -59,7 +59,7 @@ IsFaultOfFile config width height copies (File f) = (reel : Reel) × IsReelOf co
 IsFaultOfFile config width height copies (Setup f) = ⊥
 IsFaultOfFile config width height copies (Hold f) = ⊥
 
--- nothing keeps the plan from being carried out but want of memory: the record has a setup at the size, the copies are short
+-- nothing keeps the plan from being carried out but Memory: the record has a setup at the size, the copies are short
 -- enough, and what goes through a file has one
 abbrev pub IsCarriedOut : List ℕ → ℕ → ℕ → Plan → Type 0
 IsCarriedOut config width height plan = (reel : Reel) × IsReelOf config width height reel × AreShort (copies_of plan) × RereadsFit reel plan

@@ -2,14 +2,14 @@
 use Rattle.std.specs.Prelude.{ℕ, ◌≡◌, ◌+◌, ◌*◌, ◌<◌, ◌≤◌, ◌⊎◌, true, List, [], ◌∷◌, length, map, slice_index_or, Result, Ok, Err}
 use Rattle.ffv1_bits.specs.Limits.{slice_limit, record_limit, file_limit}
 use Rattle.ffv1_devices.specs.Logs.{WriteLog, Writes, StopsWriting}
-use Rattle.ffv1_holding.specs.SliceOrder.{Entry, bytes_cmp}
-use Rattle.ffv1_holding.specs.Sets as set
-use Rattle.ffv1_holding.specs.Reels.{reel_tiles}
-use Rattle.ffv1_holding.specs.Contents.{Contents, digests_of}
+use Rattle.ffv1_pool.specs.SliceOrder.{Entry, bytes_cmp}
+use Rattle.ffv1_pool.specs.Sets as set
+use Rattle.ffv1_pool.specs.Reels.{reel_tiles}
+use Rattle.ffv1_pool.specs.Contents.{Contents, digests_of}
 use Rattle.ffv1_hold.specs.declared.version.Version.TheVariants.{Second}
 use Rattle.ffv1_hold.specs.declared.file_fault.HoldFileFault.{HoldFileFault}
 use Rattle.ffv1_hold.specs.declared.file_fault.HoldFileFault.TheVariants as faults
-use Rattle.ffv1_holding.specs.TileSets.{tile_entries, entries_below}
+use Rattle.ffv1_pool.specs.TileSets.{tile_entries, entries_below}
 use Rattle.ffv1_hold.specs.HoldingText.{FileEntry, holding_text, FitsInFile}
 
 -- no slice passes its limit

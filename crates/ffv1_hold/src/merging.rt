@@ -3,8 +3,8 @@ ghost use Rattle.std.specs.Prelude.{◌≡◌, ◌≢◌, ◌+◌, ◌≤◌, �
 ghost use Rattle.std.specs.Io.KnownBytes.{Appends};
 ghost use Rattle.ffv1_bits.specs.Limits.{record_limit, file_limit};
 ghost use Rattle.ffv1_devices.specs.Logs.{WriteLog};
-ghost use Rattle.ffv1_holding.specs.Reels.{Reel};
-ghost use Rattle.ffv1_holding.specs.Contents.{Contents, IsSameReel, joined};
+ghost use Rattle.ffv1_pool.specs.Reels.{Reel};
+ghost use Rattle.ffv1_pool.specs.Contents.{Contents, IsSameReel, joined};
 ghost use Rattle.ffv1_hold.specs.HoldingText.{head_text, entry_text};
 ghost use Rattle.ffv1_hold.specs.declared.version.Version.{Version};
 ghost use Rattle.ffv1_hold.specs.FileEntries.{IsFileEntryOf};
@@ -22,7 +22,7 @@ use crate::union::union_count;
 use crate::version::Version;
 use ffv1_bits::FILE_LIMIT;
 use ffv1_devices::{Sink, Source, write_field};
-use ffv1_holding::Reel;
+use ffv1_pool::Reel;
 use ffv1_range::Setup;
 use std::alloc::Global;
 use std::cmp::Ordering;
@@ -127,7 +127,7 @@ fn merge_files<R: Source, Q: Source, W: Sink>(
 {
     let mut merge = Merge::new();
     let reel = merge.read_heads(alloc, left, right)?;
-    merge.join_after_heads(alloc, &reel, left, right, sink)
+    merge.merge_after_heads(alloc, &reel, left, right, sink)
 }
 
 /// How far both inputs were read, the next entry of each, and how many bytes the file still has room for.
@@ -187,7 +187,7 @@ impl Merge {
     }
 
     /// Writes the head of the reel, the entries of both inputs in their order, each once, and then the end tag.
-    fn join_after_heads<R: Source, Q: Source, W: Sink>(
+    fn merge_after_heads<R: Source, Q: Source, W: Sink>(
         &mut self,
         alloc: Global,
         reel: &Reel,
@@ -216,12 +216,8 @@ impl Merge {
         ensures went { JoinWent result (record { left = R.log left.old; right = Q.log right.old; sink = W.log sink.old })
             (record { left = R.log left.new; right = Q.log right.new; sink = W.log sink.new }) (self.old.lefts.place, self.old.rights.place) (file_limit, file_limit) }
     {
-        write_head(sink, reel)?;
-        self.room -= 20 + reel.config().len() as u32;
-        let setup = reel.setup();
-        self.lefts.advance(alloc, left, setup)?;
-        self.rights.advance(alloc, right, setup)?;
-        self.join_entries(alloc, setup, left, right, sink)?;
+        self.begin(alloc, reel, left, right, sink)?;
+        self.merge_entries(alloc, reel.setup(), left, right, sink)?;
         if self.room == 0 {
             return Err(HoldFileFault::TooLong);
         }
@@ -229,9 +225,48 @@ impl Merge {
         Ok(())
     }
 
+    /// Writes the head of the reel, and reads the first entry of each input.
+    fn begin<R: Source, Q: Source, W: Sink>(
+        &mut self,
+        alloc: Global,
+        reel: &Reel,
+        left: &mut R,
+        right: &mut Q,
+        sink: &mut W,
+    ) -> Result<(), HoldFileFault>
+        requires left_place { self.old.lefts.place ≤ file_limit }
+        requires right_place { self.old.rights.place ≤ file_limit }
+        requires left_held { self.old.lefts.held ≡ None }
+        requires right_held { self.old.rights.held ≡ None }
+        requires room { self.old.room ≡ file_limit }
+        requires reel { length reel.now.config ≤ record_limit }
+        ensures left_place { OnOk result (self.new.lefts.place ≤ file_limit) }
+        ensures right_place { OnOk result (self.new.rights.place ≤ file_limit) }
+        ensures left_entry { OnOk result (IfSome self.new.lefts.held (IsFileEntryOf self.new.lefts.version reel.now.setup)) }
+        ensures right_entry { OnOk result (IfSome self.new.rights.held (IsFileEntryOf self.new.rights.version reel.now.setup)) }
+        ensures room { OnOk result (self.new.room ≤ file_limit) }
+        ensures ok { (s : Start) → AreVersions s self.old.lefts.version self.old.rights.version
+            → IsOpened s reel.now (R.log left.old).remaining (Q.log right.old).remaining (W.log sink.old).contents
+            self.old.lefts.place self.old.rights.place
+            → OnOk result (AreVersions s self.new.lefts.version self.new.rights.version × Stands s (R.log left.new).remaining (Q.log right.new).remaining (W.log sink.new).contents
+            self.new.lefts.place self.new.rights.place self.new.room self.new.lefts.held self.new.rights.held) }
+        ensures err { (s : Start) → AreVersions s self.old.lefts.version self.old.rights.version
+            → IsOpened s reel.now (R.log left.old).remaining (Q.log right.old).remaining (W.log sink.old).contents
+            self.old.lefts.place self.old.rights.place
+            → IfErr result (Stops (inputs_from s (R.log left.new).remaining (Q.log right.new).remaining) s.sink (W.log sink.new).contents) }
+        ensures went { JoinWent result (record { left = R.log left.old; right = Q.log right.old; sink = W.log sink.old })
+            (record { left = R.log left.new; right = Q.log right.new; sink = W.log sink.new }) (self.old.lefts.place, self.old.rights.place) (self.new.lefts.place, self.new.rights.place) }
+    {
+        write_head(sink, reel)?;
+        self.room -= 20 + reel.config().len() as u32;
+        self.lefts.advance(alloc, left, reel.setup())?;
+        self.rights.advance(alloc, right, reel.setup())?;
+        Ok(())
+    }
+
     /// Writes the entries of both inputs in their order, each slice once, and reads both to their ends. The tag after an
     /// entry is read only after that entry was written.
-    fn join_entries<R: Source, Q: Source, W: Sink>(
+    fn merge_entries<R: Source, Q: Source, W: Sink>(
         &mut self,
         alloc: Global,
         setup: &Setup,

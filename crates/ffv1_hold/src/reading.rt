@@ -3,7 +3,7 @@ ghost use Rattle.std.specs.Prelude.{◌≡◌, ◌≤◌, [], ◌∷◌, ◌++�
 ghost use Rattle.std.specs.Io.KnownBytes.{IsAtEnd};
 ghost use Rattle.ffv1_bits.specs.Limits.{file_limit};
 ghost use Rattle.ffv1_hold.specs.Reading.{ReadsText};
-ghost use Rattle.ffv1_holding.specs.Contents.{Contents, IsEntryOf, IsHolding, AreDigests, no_slices, with_entry};
+ghost use Rattle.ffv1_pool.specs.Contents.{Contents, IsEntryOf, IsHolding, AreDigests, no_slices, with_entry};
 ghost use Rattle.ffv1_hold.specs.declared.version.Version.{Version};
 ghost use Rattle.ffv1_hold.specs.HoldingText.{entries_text, file_entries, file_text, IsTold, FitsInFile};
 ghost use Rattle.ffv1_hold.specs.FileFaults.{ReadsFile, IsPartOfEntries, EntriesAreWhole, EntriesShow, Answers};
@@ -12,7 +12,7 @@ use crate::entry::HeldSlice;
 use crate::file_fault::HoldFileFault;
 use crate::hold_reader::HoldReader;
 use ffv1_devices::Source;
-use ffv1_holding::Holding;
+use ffv1_pool::Holding;
 use std::alloc::Global;
 
 /// Reads a holding file of either version, to the end of the input. One of version 1 tells no origins.
@@ -24,7 +24,7 @@ use std::alloc::Global;
 pub fn read_hold<R: Source>(alloc: Global, source: &mut R) -> Result<Holding, HoldFileFault>
     // The whole input is the holding's text of version 2, or, where it has no origins, that of version 1. Or the bytes that were
     // read show the fault; at `Read` and `Memory` they show none: they are unfinished, or a text whose end was looked for, or a head
-    // whose setup wants memory before a fault.
+    // whose setup needs memory before a fault.
     ensures read { ReadsFile result (R.log source.old) (R.log source.new) }
 
     // An input that is such a text of a holding is answered by that holding, or by `Read` or `Memory`.

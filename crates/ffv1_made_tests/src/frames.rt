@@ -1,7 +1,7 @@
 //! Frames and damage made to measure.
 use ffv1_bits::passes;
 use ffv1_range::Setup;
-use ffv1_slice::find_slices;
+use ffv1_slice::{Chain, slice_of};
 use ffv1_vectors::{
     FrameSpec, MakeFault, SuiteCase, SuiteContent, SuiteTables, TileSpec, burst, cut, flip,
     make_frame, make_record, put_front, suite_record, zero,
@@ -104,23 +104,20 @@ fn four_tiles(alloc: Global) -> Result<FrameSpec, Fail> {
 /// The tiles whose slices are found in a payload, from its end, each with the status before its parity.
 fn found_tiles(alloc: Global, setup: &Setup, payload: &[u8]) -> Result<Vec<(usize, u8)>, Fail> {
     let mut tiles = Vec::new(alloc);
-    for slice in find_slices(alloc, setup, payload)? {
-        let bytes = slice.bytes();
-        let status = bytes
-            .len()
-            .checked_sub(5)
-            .and_then(|place| bytes.get(place));
-        tiles.push((slice.tile(), status.copied().unwrap_or(255)))?;
+    for link in Chain::new(payload) {
+        if let Ok(tile) = slice_of(setup, &link) {
+            tiles.push((tile, link.status()))?;
+        }
     }
     Ok(tiles)
 }
 
 /// The frame of these tiles, after some bytes, and its setup.
-fn four_tiles_behind(alloc: Global, front: &[u8]) -> Result<(Setup, Vec<u8>), Fail> {
+fn four_tiles_after(alloc: Global, front: &[u8]) -> Result<(Setup, Vec<u8>), Fail> {
     let setup = setup_of(alloc, SuiteTables::OneRun, None, (2, 2), (2, 2))?;
     let frame = make_frame(alloc, &setup, &four_tiles(alloc)?)?;
-    let behind = put_front(alloc, front, &frame)?;
-    Ok((setup, behind))
+    let later = put_front(alloc, front, &frame)?;
+    Ok((setup, later))
 }
 
 #[test]
@@ -130,7 +127,7 @@ fn made_frames_are_found_tile_by_tile(rt: HostRuntime) -> Result<(), Fail> {
         (&[0xFF], &[(3, 3), (2, 2), (1, 1)]),
     ];
     for (front, tiles) in cases {
-        let (setup, frame) = four_tiles_behind(rt.alloc(), front)?;
+        let (setup, frame) = four_tiles_after(rt.alloc(), front)?;
         assert!(rt; found_tiles(rt.alloc(), &setup, &frame)?.as_slice() == tiles);
     }
     Ok(())

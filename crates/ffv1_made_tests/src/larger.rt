@@ -132,7 +132,7 @@ fn line_of_zeros(index: &mut RunIndex, bits: &mut Bits<'_>) -> Option<(RunWord, 
 }
 
 #[test]
-fn run_index_reaches_32_behind_two_lines(rt: HostRuntime) {
+fn run_index_reaches_32_after_two_lines(rt: HostRuntime) {
     let bytes = [0xFF, 0xFF, 0xFF, 0xFF, 0xC0];
     let mut bits = Bits::new(&bytes);
     let mut index = RunIndex::start();

@@ -494,8 +494,8 @@ fn recorded_records_are_made(rt: HostRuntime) -> Result<(), Fail> {
         let spec = recorded(alloc, [across, down, shift_h, shift_v], width != 48)?;
         let made = make_record(alloc, &spec)?;
         // FFmpeg wrote a zero byte more after one of them.
-        let (front, behind) = record.split_at(made.len().min(record.len()));
-        assert!(rt; made.as_slice() == front && behind.iter().all(|byte| *byte == 0));
+        let (front, later) = record.split_at(made.len().min(record.len()));
+        assert!(rt; made.as_slice() == front && later.iter().all(|byte| *byte == 0));
     }
     Ok(())
 }

@@ -8,7 +8,7 @@ use Rattle.ffv1_range.specs.Tiles.{GridValue, grid_of, tile_count, plane_count, 
 use Rattle.ffv1_slice.specs.Slices.{content_of}
 use Rattle.ffv1_plane.proofs.OneStuck.{one_answer}
 use Rattle.ffv1_plane.proofs.Pictures.{one_reading_is}
-use Rattle.ffv1_hold.specs.Standing.{Standing, missing, settled, disputed, tile_state}
+use Rattle.ffv1_pool.specs.Standing.{Standing, missing, settled, disputed, tile_state}
 use Rattle.ffv1_picture.specs.WholePicture.{Planes, covers, sample_in, sample_of_tile, greatest_sample, whole_sample, whole_plane}
 use Rattle.ffv1_picture.specs.Frames.{IsFrameOf}
 use Rattle.ffv1_picture.specs.PartialPictures.{IsShown}
@@ -64,10 +64,10 @@ module _ (g : GridValue) (plane x y : ℕ) where
   unfolding greatest_sample
   none_greatest [] first h = refl
   none_greatest (picture ∷ pictures) first h =
-      let behind : greatest_sample g plane x y (first + 1) pictures ≡ None =
+      let later : greatest_sample g plane x y (first + 1) pictures ≡ None =
       none_greatest pictures (first + 1) (λ o low high. h o (omega arith) (omega arith)) in
       let here : sample_of_tile g plane x y first picture ≡ None = uncovered first picture (h first (omega arith) (omega arith)) in
-      rw (behind, here) refl
+      rw (later, here) refl
 
   alone_greatest : (pictures : List (Option Planes)) (first tile : ℕ) → first ≤ tile → tile < first + length pictures
       → ((o : ℕ) → first ≤ o → o < first + length pictures → o ≢ tile → covers (plane_rect g o plane) x y ≡ false)
@@ -76,15 +76,15 @@ module _ (g : GridValue) (plane x y : ℕ) where
   alone_greatest [] first tile low high h = absurd (omega arith)
   alone_greatest (picture ∷ pictures) first tile low high h = ⊎_elim
       (λ same.
-      let behind : greatest_sample g plane x y (first + 1) pictures ≡ None =
+      let later : greatest_sample g plane x y (first + 1) pictures ≡ None =
       none_greatest pictures (first + 1) (λ o above below. h o (omega arith) (omega arith) (λ e. absurd (omega (arith, e, same, above)))) in
       let none : tile - first ≡ zero = omega (arith, same) in
-      rw (behind, none) (ap (λ t. sample_of_tile g plane x y t picture) same))
+      rw (later, none) (ap (λ t. sample_of_tile g plane x y t picture) same))
       (λ other.
-      let behind = alone_greatest pictures (first + 1) tile (omega arith) (omega arith) (λ o above below differs. h o (omega arith) (omega arith) differs) in
+      let later = alone_greatest pictures (first + 1) tile (omega arith) (omega arith) (λ o above below differs. h o (omega arith) (omega arith) differs) in
       let here : sample_of_tile g plane x y first picture ≡ None = uncovered first picture (h first (omega arith) (omega arith) other) in
       let more : tile - first ≡ suc (tile - (first + 1)) = omega arith in
-      rw (here, more) (or_else_none (greatest_sample g plane x y (first + 1) pictures) ∙ behind))
+      rw (here, more) (or_else_none (greatest_sample g plane x y (first + 1) pictures) ∙ later))
       (cases_eq first tile)
 
 frame_sample_is : (setup : SetupValue) (pictures : List (Option Planes)) (frame : Frame) (plane x y : ℕ) → IsFrameOf setup pictures frame

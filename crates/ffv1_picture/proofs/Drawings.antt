@@ -42,15 +42,15 @@ module _ (a w : ℕ) (old piece : List ℕ) (fits : a + w ≤ length old) (long 
       get_or_append_left (take a old) (piece ++ drop w (drop a old)) 0 k (omega (arith, length-take-le a old (omega arith)))
       ∙ get_or-take a old k 0 lt
 
-  behind_start : (k : ℕ) → a ≤ k → get_or with_piece k 0 ≡ get_or (piece ++ drop w (drop a old)) (k - a) 0
-  behind_start k le = get_or-append_right (take a old) (piece ++ drop w (drop a old)) a k 0 (length-take-le a old (omega arith)) le
+  from_start : (k : ℕ) → a ≤ k → get_or with_piece k 0 ≡ get_or (piece ++ drop w (drop a old)) (k - a) 0
+  from_start k le = get_or-append_right (take a old) (piece ++ drop w (drop a old)) a k 0 (length-take-le a old (omega arith)) le
 
   in_piece : (k : ℕ) → a ≤ k → k < a + w → get_or with_piece k 0 ≡ get_or piece (k - a) 0
-  in_piece k le lt = behind_start k le ∙ get_or_append_left piece (drop w (drop a old)) 0 (k - a) (omega (arith, long))
+  in_piece k le lt = from_start k le ∙ get_or_append_left piece (drop w (drop a old)) 0 (k - a) (omega (arith, long))
 
-  behind_piece : (k : ℕ) → a + w ≤ k → get_or with_piece k 0 ≡ get_or old k 0
-  behind_piece k le =
-      behind_start k (omega arith) ∙ get_or-append_right piece (drop w (drop a old)) w (k - a) 0 long (omega arith)
+  after_piece : (k : ℕ) → a + w ≤ k → get_or with_piece k 0 ≡ get_or old k 0
+  after_piece k le =
+      from_start k (omega arith) ∙ get_or-append_right piece (drop w (drop a old)) w (k - a) 0 long (omega arith)
       ∙ get_or-drop w (drop a old) (k - a - w) 0 ∙ get_or-drop a old (w + (k - a - w)) 0
       ∙ ap (λ i. get_or old i 0) {x = a + (w + (k - a - w))} {y = k} (omega arith)
 
@@ -111,9 +111,9 @@ module _ (width : ℕ) (r : TileRect) (n : ℕ) (samples old mid piece : List �
           ∙ ap (λ i. get_or samples (i * r.w + (x - r.x)) 0) {x = n} {y = y - r.y} (omega arith)
           ∙ sym (ap (λ b. cond b (sample_in (first_rows r (n + 1)) samples x y) (get_or old (y * width + x) 0))
           (covers_here (first_rows r (n + 1)) x y right here (omega arith) (omega arith)))
-      | inr behind ↦
-          as_before x y inside within (behind_piece from r.w mid piece fits long (y * width + x) (rw same (omega arith)))
-          (right_of (first_rows r n) x y behind ∙ sym (right_of (first_rows r (n + 1)) x y behind))
+      | inr later ↦
+          as_before x y inside within (after_piece from r.w mid piece fits long (y * width + x) (rw same (omega arith)))
+          (right_of (first_rows r n) x y later ∙ sym (right_of (first_rows r (n + 1)) x y later))
     ]
   ]
 
@@ -127,7 +127,7 @@ module _ (width : ℕ) (r : TileRect) (n : ℕ) (samples old mid piece : List �
           (omega (arith, let up : y + 1 ≤ r.y + n = omega arith in mul-le-mul_right width up)))
           (other_row r n x y (inl above))
       | inr (inr below) ↦
-          as_before x y inside within (behind_piece from r.w mid piece fits long (y * width + x)
+          as_before x y inside within (after_piece from r.w mid piece fits long (y * width + x)
           (omega (arith, let up : r.y + n + 1 ≤ y = omega arith in mul-le-mul_right width up)))
           (other_row r n x y (inr below))
     ];

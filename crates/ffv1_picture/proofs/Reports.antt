@@ -4,9 +4,9 @@ use Rattle.std.specs.List.{flat_map, range_with_len, sum_by}
 use Rattle.std.proofs.lemmas.List.{take_more, append-nil}
 use Rattle.std.proofs.lemmas.Grind.{flat_map-append}
 use Rattle.std.proofs.lemmas.List.Sums.{sum_by-append}
-use Rattle.ffv1_hold.specs.Contents.{Contents}
-use Rattle.ffv1_hold.specs.Standing.{Standing, status_of, tile_state, IsLeastStatus}
-use Rattle.ffv1_holding.proofs.Lists.{range_more}
+use Rattle.ffv1_pool.specs.Contents.{Contents}
+use Rattle.ffv1_pool.specs.Standing.{Standing, status_of, tile_state, IsLeastStatus}
+use Rattle.ffv1_pool.proofs.Lists.{range_more}
 use Rattle.ffv1_picture.specs.ReportText.{least_status}
 
 -- ---- the least error_status
@@ -52,7 +52,7 @@ module _ (h : Contents) (stands : Standing → Bool) (n count : ℕ) (so_far : c
 
 -- ---- text that is added
 
--- a piece behind a piece
+-- a piece after a piece
 pub then_pushed : {E : Type 0} (r : Result (Unit {0}) E) (old mid new first second second' : List ℕ) → mid ≡ old ++ first → OnOk r (new ≡ mid ++ second)
     → second ≡ second'
     → OnOk r (new ≡ old ++ (first ++ second'))

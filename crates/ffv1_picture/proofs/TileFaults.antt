@@ -15,7 +15,7 @@ pub record IsToldOf (setup : SetupValue) (tile : ℕ) (content : List ℕ) (caus
 no_memory : (setup : SetupValue) (tile : ℕ) (content : List ℕ) (cause : TileFault) → IsRefusedFor setup tile content cause → cause ≡ Memory → ⊥
 no_memory setup tile content cause is memory = subst (IsRefusedFor setup tile content) memory is
 
--- want of memory, or why there is no picture
+-- Memory, or why there is no picture
 pub unreadable : (setup : SetupValue) (tile : ℕ) (content : List ℕ) (cause : TileFault) → IsToldOf setup tile content cause → (cause ≡ Memory)
     ⊎ IsUnreadable setup tile content cause
 unreadable setup tile content cause told = ⊎_elim

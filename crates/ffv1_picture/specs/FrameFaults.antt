@@ -29,7 +29,7 @@ abbrev pub fault_of_tile : ℕ → TileFault → FrameFault
 fault_of_tile tile tiles.Memory = Memory
 fault_of_tile tile cause = Tile tile cause
 
--- The first tile whose slice spells no picture, or want of memory.
+-- The first tile whose slice spells no picture, or Memory.
 abbrev pub IsFirstUnreadable : SetupValue → List Piece → FrameFault → Type 0
 IsFirstUnreadable setup links (Tile tile cause) =
     (tile < length links) × ((t : ℕ) → t < tile → HasPicture setup links t) × IsUnreadable setup tile (content_at links tile) cause
@@ -37,8 +37,8 @@ IsFirstUnreadable setup links Memory = Unit {0}
 IsFirstUnreadable setup links fault = ⊥
 
 -- The first fault of a payload: its chain; then for each place upwards whether there is a slice, of the tile of that number; then
--- for each tile upwards whether its slice spells a picture. As the slice has a header of its tile, a code behind that can't be read.
--- Want of memory is told of no payload whose chain is at fault.
+-- for each tile upwards whether its slice spells a picture. As the slice has a header of its tile, a code after that can't be read.
+-- Memory is told of no payload whose chain is at fault.
 abbrev pub IsFirstFault : SetupValue → List ℕ → FrameFault → Type 0
 IsFirstFault setup payload Chain = ¬ HasWholeChain setup payload
 IsFirstFault setup payload (Slice place cause) = HasWholeChain setup payload × IsFirstDisorder setup (links_from_front payload) (Slice place cause)

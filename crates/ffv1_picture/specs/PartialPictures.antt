@@ -4,9 +4,9 @@ use Rattle.ffv1_range.specs.Setup.{SetupValue}
 use Rattle.ffv1_range.specs.Tiles.{grid_of}
 use Rattle.ffv1_slice.specs.Slices.{content_of}
 use Rattle.ffv1_picture.specs.TilePictures.{SpellsPlanes, IsPictureOfSlice, IsUnreadable}
-use Rattle.ffv1_hold.specs.Reels.{reel_tiles}
-use Rattle.ffv1_hold.specs.Contents.{Contents}
-use Rattle.ffv1_hold.specs.Standing.{Standing, missing, settled, disputed, tile_state}
+use Rattle.ffv1_pool.specs.Reels.{reel_tiles}
+use Rattle.ffv1_pool.specs.Contents.{Contents}
+use Rattle.ffv1_pool.specs.Standing.{Standing, missing, settled, disputed, tile_state}
 use Rattle.ffv1_picture.specs.WholePicture.{Planes}
 use Rattle.ffv1_picture.specs.Frames.{IsFrameOf}
 use Rattle.ffv1_picture.specs.Drawing.{DrawsAny}

@@ -1,14 +1,14 @@
--- The damage report of a holding: a line for each tile, behind that of a settled one a line for each copy that gave its slice, and
+-- The damage report of a holding: a line for each tile, after that of a settled one a line for each copy that gave its slice, and
 -- what the whole frame comes to.
 use Rattle.std.specs.Prelude.{ℕ, ◌/◌, ◌%◌, ◌==◌, ◌++◌, Bool, true, false, List, [], ◌∷◌, length, min, codes, count_by, if◌then◌else◌}
 use Rattle.std.specs.List.{flat_map, range_with_len}
 use Rattle.std.specs.Fmt.{decimal, digit_glyph}
 use Rattle.sha2.specs.Sha256.{sha256}
-use Rattle.ffv1_hold.specs.Sets as set
-use Rattle.ffv1_hold.specs.Reels.{reel_tiles}
-use Rattle.ffv1_hold.specs.TileSets.{tile_slices}
-use Rattle.ffv1_hold.specs.Contents.{Contents, digests_of}
-use Rattle.ffv1_hold.specs.Standing.{Standing, missing, settled, disputed, status_of, tile_state, restored_payload}
+use Rattle.ffv1_pool.specs.Sets as set
+use Rattle.ffv1_pool.specs.Reels.{reel_tiles}
+use Rattle.ffv1_pool.specs.TileSets.{tile_slices}
+use Rattle.ffv1_pool.specs.Contents.{Contents, digests_of}
+use Rattle.ffv1_pool.specs.Standing.{Standing, missing, settled, disputed, status_of, tile_state, restored_payload}
 
 -- a byte as two lower-case digits
 abbrev pub hex_byte : ℕ → List ℕ
@@ -45,7 +45,7 @@ settled_words slice held = settled_numbers slice held ++ digest_text slice
 abbrev pub disputed_words : ℕ → ℕ → ℕ → List ℕ
 disputed_words slices status held = codes " disputed " ++ decimal slices ++ codes " status " ++ decimal status ++ codes " held " ++ decimal held
 
--- how a tile stands, behind its number
+-- how a tile stands, after its number
 abbrev pub state_words : List (List ℕ) → Standing → List ℕ
 state_words held missing = codes " missing"
 state_words held (settled slice) = settled_words slice (length held)

@@ -43,11 +43,11 @@ impl Decoder {
     pub fn new(alloc: Global, config: &[u8], width: u32, height: u32) -> Result<Decoder, SetupFault>
         ensures setup { IfOk result (λ decoder. IsSetupOf config.now width height decoder) }
 
-        // A record that has a setup is answered with its decoder, or for want of memory.
+        // A record that has a setup is answered with its decoder, or because memory ran out.
         ensures only { (s : SetupValue) → IsSetupOf config.now width height s
             → MatchResult result (λ decoder. decoder ≡ s) (λ fault. fault ≡ SetupFault.Memory) }
 
-        // A refusal is the first that reading meets, or want of memory, which stands behind the fields before the sets.
+        // A refusal is the first that reading meets, or Memory, which stands after the fields before the sets.
         ensures fault { IfErr result (λ fault. (fault ≡ SetupFault.Memory) ⊎ FirstSetupFault config.now width height fault) }
         ensures memory { IfErr result (λ fault. (granted : Bool) × (setup_read granted config.now width height ≡ Err fault)) }
     {
@@ -63,7 +63,7 @@ impl Decoder {
     pub fn decode_frame(&self, payload: &[u8]) -> Result<Frame, FrameFault>
         ensures frame { IfOk result (IsDecodedFrame self.now payload.now) }
 
-        // Wherever the payload spells pictures, the answer is the frame of them, or want of memory.
+        // Wherever the payload spells pictures, the answer is the frame of them, or Memory.
         ensures found { (pictures : List Planes) → SpellsPictures self.now payload.now pictures
             → MatchResult result (IsFrameOf self.now (map Some pictures)) (λ fault. fault ≡ FrameFault.Memory) }
 

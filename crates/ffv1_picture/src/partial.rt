@@ -1,7 +1,7 @@
 //! What can be shown of a holding (own).
 ghost use Rattle.std.specs.Prelude.{◌≡◌, IfOk, ◌<◌, List, Option};
 ghost use Rattle.ffv1_range.specs.Tiles.{grid_of};
-ghost use Rattle.ffv1_hold.specs.Reels.{reel_tiles};
+ghost use Rattle.ffv1_pool.specs.Reels.{reel_tiles};
 ghost use Rattle.ffv1_picture.specs.Drawing.{HasSizes};
 ghost use Rattle.ffv1_picture.specs.Frames.{planes_of, IsFrameOf};
 ghost use Rattle.ffv1_picture.specs.WholePicture.{Planes};
@@ -28,7 +28,7 @@ pub struct Partial {
 pub enum TileOutcome {
     /// Its settled slice spells a picture.
     Decoded {
-        /// The bits of the slice behind its last sample.
+        /// The bits of the slice after its last sample.
         spare_bits: usize,
     },
     /// No slice of it is held.

@@ -2,9 +2,9 @@
 ghost use Rattle.std.specs.Prelude.{◌≡◌, ◌++◌, ◌<◌, ◌≤◌, length, IfOk, OnOk, string_bytes};
 ghost use Rattle.std.specs.List.{flat_map, range_with_len};
 ghost use Rattle.sha2.specs.Sha256.{sha256};
-ghost use Rattle.ffv1_hold.specs.Reels.{reel_tiles};
-ghost use Rattle.ffv1_hold.specs.Contents.{IsHolding};
-ghost use Rattle.ffv1_hold.specs.Standing.{status_of, tile_state, restored_payload};
+ghost use Rattle.ffv1_pool.specs.Reels.{reel_tiles};
+ghost use Rattle.ffv1_pool.specs.Contents.{IsHolding};
+ghost use Rattle.ffv1_pool.specs.Standing.{status_of, tile_state, restored_payload};
 ghost use Rattle.ffv1_picture.specs.ReportText.{hex_byte, reel_line, slices_held, least_status, settled_numbers, settled_words, disputed_words, state_words, tile_line, origin_line, origin_lines, tile_lines, is_missing, is_settled, is_disputed, tiles_that, count_words, length_words, whole_words, frame_line, report_text};
 
 use ffv1_hold::{Holding, TileState};
@@ -13,7 +13,7 @@ use sha2::{Digest, Sha256};
 use std::alloc::{AllocError, Global};
 
 /// The damage report of a holding: a line for the recording, one for each tile, one that counts them, and one for the whole
-/// frame. A settled slice and a whole frame are told by their length in bytes and their SHA-256 digest. Behind the line of a
+/// frame. A settled slice and a whole frame are told by their length in bytes and their SHA-256 digest. After the line of a
 /// settled tile stands one for each copy that is known to have given its slice, by the copy's SHA-256 digest, in rising order.
 ///
 /// It fails where memory is refused.

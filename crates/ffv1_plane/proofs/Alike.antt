@@ -116,10 +116,10 @@ first_skipped r q s count m n is same =
     same_test _ _ _ _ opened
 
 -- .. and how long it is after it
-length_behind : (r q : Residuals) (s count m : ℕ) → count ≡ suc m → is_skipped r s ≡ true → is_skipped q s ≡ true
+length_after : (r q : Residuals) (s count m : ℕ) → count ≡ suc m → is_skipped r s ≡ true → is_skipped q s ≡ true
     → skipped_among r count s ≡ skipped_among q count s → skipped_among r m (s + 1) ≡ skipped_among q m (s + 1)
 unfolding skipped_among
-length_behind r q s count m is a b same =
+length_after r q s count m is a b same =
     let opened : skipped_among r (suc m) s ≡ skipped_among q (suc m) s = ap (λ k. skipped_among r k s) (sym is) ∙ same ∙ ap (λ k. skipped_among q k s) is in
     let left : skipped_among r (suc m) s ≡ suc (skipped_among r m (s + 1)) = ap (λ t. cond t (suc (skipped_among r m (s + 1))) 0) a in
     let right : skipped_among q (suc m) s ≡ suc (skipped_among q m (s + 1)) = ap (λ t. cond t (suc (skipped_among q m (s + 1))) 0) b in
@@ -144,7 +144,7 @@ module _ (earlier : ℕ → List ℤ) (w : ℕ) (c e d f : ℕ → ℤ) (some : 
   -- sample n, after what was read alike
   pub record AfterRun (n next then : ℕ) (rest more : List Bool) : Type 0 where
     pub index : next ≡ then
-    pub behind : rest ≡ more
+    pub later : rest ≡ more
     pub lengths : is_in_run (residuals w c d) n ≡ true → run_length (residuals w c d) n ≡ run_length (residuals w e f) n
 
   -- runs that stand there are one
@@ -163,13 +163,13 @@ module _ (earlier : ℕ → List ℤ) (w : ℕ) (c e d f : ℕ → ℤ) (some : 
       (λ yes.
       let P : ℕ → Type 0 = λ i. SpellsRun (run_length (residuals w e f) n) (left_in_line (residuals w e f) n) i words last in
       let one = one_run _ _ _ _ _ _ run words rest more (a_starts yes) (subst P (sym same) (b_starts (sym starts ∙ yes))) joined in
-      record { index = one.1; behind = one.2; lengths = λ h. one.0 })
+      record { index = one.1; later = one.2; lengths = λ h. one.0 })
       (λ no.
       let p = a_none no in
       let q = b_none (sym starts ∙ no) in
       record {
         index = p.1 ∙ same ∙ sym q.1;
-        behind = ap (λ l. l ++ rest) (sym p.0) ∙ joined ∙ ap (λ l. l ++ more) q.0;
+        later = ap (λ l. l ++ rest) (sym p.0) ∙ joined ∙ ap (λ l. l ++ more) q.0;
         lengths = λ h. alike.runs (follows_of (is_in_run (residuals w c d) n) _ h no);
       })
       (cases_Bool (starts_run (residuals w c d) n))
@@ -210,7 +210,7 @@ module _ (earlier : ℕ → List ℤ) (w : ℕ) (c e d f : ℕ → ℤ) (some : 
       let un' : is_coded (residuals w e f) n ≡ false = ap not (sym skipped ∙ yes) in (
         zero_of (d n) p.1 ∙ sym (zero_of (f n) q.1),
         after.index,
-        ap (λ l. l ++ rest) (sym (a.not_coded un)) ∙ after.behind ∙ ap (λ l. l ++ more) (b.not_coded un'),
+        ap (λ l. l ++ rest) (sym (a.not_coded un)) ∙ after.later ∙ ap (λ l. l ++ more) (b.not_coded un'),
       ))
       (λ no.
       let co : is_coded (residuals w c d) n ≡ true = ap not no in
@@ -220,7 +220,7 @@ module _ (earlier : ℕ → List ℤ) (w : ℕ) (c e d f : ℕ → ℤ) (some : 
       let states : state_before earlier (residuals w e f) (nat_abs (e n)) n ≡ state_before earlier (residuals w c d) (nat_abs (c n)) n =
       sym (states_alike n (nat_abs (e n)) alike.differences) ∙ ap (λ z. state_before earlier (residuals w c d) (nat_abs z) n) (sym here) in
       let second' : SpellsValue (state_before earlier (residuals w c d) (nat_abs (c n)) n) (value_at (residuals w e f) n) b.code = rw (← states) second in
-      let one = one_value _ _ _ a.code b.code rest more (value_range _ _ (range n)) (value_range _ _ (also n)) first second' after.behind in
+      let one = one_value _ _ _ a.code b.code rest more (value_range _ _ (range n)) (value_range _ _ (also n)) first second' after.later in
       let values : decoded_value (is_in_run (residuals w c d) n) (d n) ≡ decoded_value (is_in_run (residuals w c d) n) (f n) = one.0
       ∙ ap (λ l. decoded_value l (f n)) (sym runs) in (
         one_difference (is_in_run (residuals w c d) n) (d n) (f n)
@@ -252,7 +252,7 @@ module _ (earlier : ℕ → List ℤ) (w : ℕ) (c e d f : ℕ → ℤ) (some : 
         let inside : eqb ((n + 1) % w) 0 ≡ false = ap (λ j. eqb (j % w) 0) (sym k) ∙ not-true (begins_line (residuals w c d) (suc n)) both.0 in
         let column : (n + 1) % w ≡ n % w + 1 = next_column n w some inside in
         let left : left_in_line (residuals w c d) n ≡ suc (w - (n + 1) % w) = omega arith in
-        length_behind (residuals w c d) (residuals w e f) n (left_in_line (residuals w c d) n) (w - (n + 1) % w) left skip skip' length;
+        length_after (residuals w c d) (residuals w e f) n (left_in_line (residuals w c d) n) (w - (n + 1) % w) left skip skip' length;
   }
 
   pub one_reading : (n : ℕ) (front words rest more : List Bool) (next last : ℕ) → SamplesSpell earlier (residuals w c d) n front next

@@ -11,7 +11,7 @@ use Rattle.ffv1_rice.specs.declared.code.CodeFault.{CodeFault}
 use Rattle.ffv1_plane.specs.Spelling.{Residuals, residuals_of, left_in_line, run_length, SamplesSpell, PlaneSpells}
 use Rattle.ffv1_plane.specs.Picture.{ArePlanesOf, tile_plane, samples_of, plane_groups, GroupsSpell, PictureSpells}
 use Rattle.ffv1_plane.specs.Stuck.{SpellsFront, no_word, one_word, IsRunWordDue, IsCodeDue, IsWordRefused, values_before, PlanesBelow, scan_place, AreBitsStuck}
-use Rattle.ffv1_plane.proofs.Totals.{run_of, length_low, behind_run, spells_on, plane_bits, differ}
+use Rattle.ffv1_plane.proofs.Totals.{run_of, length_low, past_run, spells_on, plane_bits, differ}
 
 -- ---- planes below a number, and whole pictures
 
@@ -166,7 +166,7 @@ module _ (earlier : ℕ → List ℤ) (r : Residuals) (s count : ℕ) (part : Li
   code_on : IsCodeDue earlier r s part → GoesOn earlier r count part
   unfolding SamplesSpell
   code_on due =
-      let all = behind_run earlier r s due.index due.next due.run due.run_starts due.no_run_starts in
+      let all = past_run earlier r s due.index due.next due.run due.run_starts due.no_run_starts in
       let read : SamplesSpell earlier r (suc s) (due.before ++ (due.run ++ all.0)) due.next =
       (due.before, due.run ++ all.0, due.index, refl, due.spells, all.1) in
       let on = spells_on earlier r count (suc s) (due.before ++ (due.run ++ all.0)) due.next (omega arith) read in
@@ -185,27 +185,27 @@ module _ (earlier : ℕ → List ℤ) (r : Residuals) (s count : ℕ) (part : Li
       let n = run_length r due.start in
       let left = left_in_line r due.start in
       let low = length_low r left due.start in
-      let behind = run_of (n - due.skipped) (left - due.skipped) index (omega (arith, low, due.in_run, due.in_line)) in
+      let later = run_of (n - due.skipped) (left - due.skipped) index (omega (arith, low, due.in_run, due.in_line)) in
       let n_is : due.skipped + (n - due.skipped) ≡ n = omega (arith, due.in_run) in
       let left_is : due.skipped + (left - due.skipped) ≡ left = omega (arith, due.in_line) in
-      let whole_run = front_on (n - due.skipped) (left - due.skipped) behind.1 behind.0 due.front behind.2 in
-      let P : ℕ → Type 0 = λ k. SpellsRun k (due.skipped + (left - due.skipped)) due.begun (due.words ++ behind.0) behind.1 in
-      let Q : ℕ → Type 0 = λ k. SpellsRun n k due.begun (due.words ++ behind.0) behind.1 in
-      let spelled : SpellsRun n left due.begun (due.words ++ behind.0) behind.1 = subst Q left_is (subst P n_is whole_run) in
-      let all = behind_run earlier r due.start due.begun behind.1 (due.words ++ behind.0) (λ h. spelled) (λ h. absurd (differ due.starts h)) in
-      let piece : List Bool = (due.words ++ behind.0) ++ all.0 in
-      let read : SamplesSpell earlier r (suc due.start) (due.before ++ piece) behind.1 = (due.before, piece, due.begun, refl, due.spells, all.1) in
-      let on = spells_on earlier r count (suc due.start) (due.before ++ piece) behind.1 (omega (arith, due.place)) read in
+      let whole_run = front_on (n - due.skipped) (left - due.skipped) later.1 later.0 due.front later.2 in
+      let P : ℕ → Type 0 = λ k. SpellsRun k (due.skipped + (left - due.skipped)) due.begun (due.words ++ later.0) later.1 in
+      let Q : ℕ → Type 0 = λ k. SpellsRun n k due.begun (due.words ++ later.0) later.1 in
+      let spelled : SpellsRun n left due.begun (due.words ++ later.0) later.1 = subst Q left_is (subst P n_is whole_run) in
+      let all = past_run earlier r due.start due.begun later.1 (due.words ++ later.0) (λ h. spelled) (λ h. absurd (differ due.starts h)) in
+      let piece : List Bool = (due.words ++ later.0) ++ all.0 in
+      let read : SamplesSpell earlier r (suc due.start) (due.before ++ piece) later.1 = (due.before, piece, due.begun, refl, due.spells, all.1) in
+      let on = spells_on earlier r count (suc due.start) (due.before ++ piece) later.1 (omega (arith, due.place)) read in
       record {
         bits = (due.before ++ piece) ++ on.0;
-        tail = behind.0 ++ (all.0 ++ on.0);
+        tail = later.0 ++ (all.0 ++ on.0);
         last = on.1;
         joined =
-            ap (λ l. (due.before ++ l) ++ on.0) (append_assoc due.words behind.0 all.0)
-            ∙ ap (λ l. l ++ on.0) (sym (append_assoc due.before due.words (behind.0 ++ all.0)))
-            ∙ append_assoc (due.before ++ due.words) (behind.0 ++ all.0) on.0
-            ∙ ap (λ l. (due.before ++ due.words) ++ l) (append_assoc behind.0 all.0 on.0)
-            ∙ ap (λ l. l ++ (behind.0 ++ (all.0 ++ on.0))) (sym due.joined);
+            ap (λ l. (due.before ++ l) ++ on.0) (append_assoc due.words later.0 all.0)
+            ∙ ap (λ l. l ++ on.0) (sym (append_assoc due.before due.words (later.0 ++ all.0)))
+            ∙ append_assoc (due.before ++ due.words) (later.0 ++ all.0) on.0
+            ∙ ap (λ l. (due.before ++ due.words) ++ l) (append_assoc later.0 all.0 on.0)
+            ∙ ap (λ l. l ++ (later.0 ++ (all.0 ++ on.0))) (sym due.joined);
         spells = on.2;
       }
 
@@ -222,9 +222,9 @@ place_below w h y x low narrow =
 -- the spelling of a picture that begins with what stands before a refused word
 pub record FrontOf (setup : SetupValue) (head : SliceHead) (planes : List (List ℕ)) (front : List Bool) : Type 0 where
   pub words : List Bool
-  pub behind : List Bool
+  pub later : List Bool
   pub spells : PictureSpells setup head planes words
-  pub begins : words ≡ front ++ behind
+  pub begins : words ≡ front ++ later
 
 pub stuck_on : (setup : SetupValue) (head : SliceHead) (planes : List (List ℕ)) (bits : List Bool) (fault : CodeFault) (plane y x : ℕ) (front : List Bool)
     → ArePlanesOf setup head.tile planes
@@ -241,7 +241,7 @@ stuck_on setup head planes bits fault plane y x front sizes stuck =
     omega arith) more in
     record {
       words = (stuck.whole ++ on.bits) ++ all.0;
-      behind = on.tail ++ all.0;
+      later = on.tail ++ all.0;
       spells = picture_of_below setup head planes ((stuck.whole ++ on.bits) ++ all.0) all.1;
       begins =
           ap (λ l. (stuck.whole ++ l) ++ all.0) on.joined

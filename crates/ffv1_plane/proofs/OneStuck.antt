@@ -97,8 +97,8 @@ module _ (setup : SetupValue) (head : SliceHead) (profile : IsInProfile setup) (
       (samples_same w entry (some_columns setup head profile inside n) xs ys small tiny k alike))
       s t part rest more tail fault other refused refused_too same
 
-  behind_whole : (bits front whole part others : List Bool) → bits ≡ front ++ others → front ≡ whole ++ part → bits ≡ whole ++ (part ++ others)
-  behind_whole bits front whole part others begins joined = begins ∙ ap (λ l. l ++ others) joined ∙ append_assoc whole part others
+  after_whole : (bits front whole part others : List Bool) → bits ≡ front ++ others → front ≡ whole ++ part → bits ≡ whole ++ (part ++ others)
+  after_whole bits front whole part others begins joined = begins ∙ ap (λ l. l ++ others) joined ∙ append_assoc whole part others
 
   -- bits that are stuck in a plane begin with no picture's planes up to that one
   pub stuck_excludes : (planes others : List (List ℕ)) (bits words spare front : List Bool) (fault : CodeFault) (plane y x count : ℕ)
@@ -109,7 +109,7 @@ module _ (setup : SetupValue) (head : SliceHead) (profile : IsInProfile setup) (
       let rect = plane_rect (grid_of setup) head.tile plane in
       let p = below_front setup head others count plane words low below in
       let joined : stuck.whole ++ (stuck.part ++ stuck.others) ≡ p.front ++ (p.back ++ (p.tail ++ spare)) =
-      sym (behind_whole bits front stuck.whole stuck.part stuck.others stuck.begins stuck.joined) ∙ begins ∙ ap (λ l. l ++ spare) p.joined
+      sym (after_whole bits front stuck.whole stuck.part stuck.others stuck.begins stuck.joined) ∙ begins ∙ ap (λ l. l ++ spare) p.joined
       ∙ append_assoc p.front (p.back ++ p.tail) spare ∙ ap (λ l. p.front ++ l) (append_assoc p.back p.tail spare) in
       let one = below_one plane planes others stuck.whole p.front (stuck.part ++ stuck.others) (p.back ++ (p.tail ++ spare))
       (omega arith) a b stuck.below p.below joined in
@@ -129,8 +129,8 @@ module _ (setup : SetupValue) (head : SliceHead) (profile : IsInProfile setup) (
       let there = stuck.place.plane_there in
       let w = (plane_rect (grid_of setup) head.tile plane).w in
       let joined : stuck.whole ++ (stuck.part ++ stuck.others) ≡ stuck_too.whole ++ (stuck_too.part ++ stuck_too.others) =
-      sym (behind_whole bits front stuck.whole stuck.part stuck.others stuck.begins stuck.joined)
-      ∙ behind_whole bits more stuck_too.whole stuck_too.part stuck_too.others stuck_too.begins stuck_too.joined in
+      sym (after_whole bits front stuck.whole stuck.part stuck.others stuck.begins stuck.joined)
+      ∙ after_whole bits more stuck_too.whole stuck_too.part stuck_too.others stuck_too.begins stuck_too.joined in
       let one = below_one plane planes others stuck.whole stuck_too.whole (stuck.part ++ stuck.others) (stuck_too.part ++ stuck_too.others)
       (omega arith) a b stuck.below stuck_too.below joined in
       let P : (ℕ → List ℤ) → Type 0 = λ e. IsWordRefused e (residuals_of (tile_plane setup head others plane))
@@ -150,10 +150,10 @@ module _ (setup : SetupValue) (head : SliceHead) (profile : IsInProfile setup) (
   stuck_one planes others bits front more fault other plane level y v x u a b stuck stuck_too = ⊎_elim
       (λ less. absurd (stuck_excludes planes others bits stuck_too.whole
       (stuck_too.part ++ stuck_too.others) front fault plane y x level a b stuck less stuck_too.below
-      (behind_whole bits more stuck_too.whole stuck_too.part stuck_too.others stuck_too.begins stuck_too.joined)))
+      (after_whole bits more stuck_too.whole stuck_too.part stuck_too.others stuck_too.begins stuck_too.joined)))
       (λ more_or. ⊎_elim
       (λ past. absurd (stuck_excludes others planes bits stuck.whole (stuck.part ++ stuck.others) more other level v u plane b a stuck_too past stuck.below
-      (behind_whole bits front stuck.whole stuck.part stuck.others stuck.begins stuck.joined)))
+      (after_whole bits front stuck.whole stuck.part stuck.others stuck.begins stuck.joined)))
       (λ most.
       let level_is : level ≡ plane = omega arith in
       let P : ℕ → Type 0 = λ k. AreBitsStuck setup head others bits other k v u more in
@@ -165,25 +165,25 @@ module _ (setup : SetupValue) (head : SliceHead) (profile : IsInProfile setup) (
 -- ---- contents
 
 -- what stands after one header
-record Behind (setup : SetupValue) (head : SliceHead) (place tile : ℕ) (content : List ℕ) (fault : CodeFault) (plane y x : ℕ) : Type 0 where
+record StuckAfterHead (setup : SetupValue) (head : SliceHead) (place tile : ℕ) (content : List ℕ) (fault : CodeFault) (plane y x : ℕ) : Type 0 where
   planes : List (List ℕ)
   sizes : ArePlanesOf setup head.tile planes
   front : List Bool
   stuck : AreBitsStuck setup head planes (bits_of (drop place content)) fault plane y x front
 
-behind : (setup : SetupValue) (tile : ℕ) (content : List ℕ) (fault : CodeFault) (plane y x : ℕ) (head : SliceHead) (place : ℕ)
+stuck_after_head : (setup : SetupValue) (tile : ℕ) (content : List ℕ) (fault : CodeFault) (plane y x : ℕ) (head : SliceHead) (place : ℕ)
     → IsHeadOf (header_limits setup) content (tile == 0) head place
-    → IsStuckAt setup tile content fault plane y x → Behind setup head place tile content fault plane y x
-behind setup tile content fault plane y x head place is_head a =
+    → IsStuckAt setup tile content fault plane y x → StuckAfterHead setup head place tile content fault plane y x
+stuck_after_head setup tile content fault plane y x head place is_head a =
     let one = head_is_one (header_limits setup) content (tile == 0) a.head head a.place place a.is_head is_head in
-    let here : Behind setup a.head a.place tile content fault plane y x =
+    let here : StuckAfterHead setup a.head a.place tile content fault plane y x =
     record { planes = a.planes; sizes = subst (λ (t : ℕ). ArePlanesOf setup t a.planes) (sym a.of_tile) a.sizes; front = a.front; stuck = a.stuck } in
-    subst (λ (h : SliceHead). Behind setup h place tile content fault plane y x) one.0
-    (subst (λ (k : ℕ). Behind setup a.head k tile content fault plane y x) one.1 here)
+    subst (λ (h : SliceHead). StuckAfterHead setup h place tile content fault plane y x) one.0
+    (subst (λ (k : ℕ). StuckAfterHead setup a.head k tile content fault plane y x) one.1 here)
 
 pub stuck_spells_nothing : StuckSpellsNothing
 stuck_spells_nothing setup tile content fault plane y x picture profile inside stuck p =
-    let a = behind setup tile content fault plane y x p.head p.place p.is_head stuck in
+    let a = stuck_after_head setup tile content fault plane y x p.head p.place p.is_head stuck in
     let there : p.head.tile < tile_count (grid_of setup) = subst (λ (t : ℕ). t < tile_count (grid_of setup)) (sym p.of_tile) inside in
     stuck_excludes setup p.head profile there a.planes picture.planes (bits_of (drop p.place content)) p.words p.spare a.front fault plane y x
     (plane_count (grid_of setup)) a.sizes
@@ -192,8 +192,8 @@ stuck_spells_nothing setup tile content fault plane y x picture profile inside s
 
 pub stuck_is_one : StuckIsOne
 stuck_is_one setup tile content fault other plane level y v x u profile inside stuck p =
-    let a = behind setup tile content fault plane y x p.head p.place p.is_head stuck in
-    let b = behind setup tile content other level v u p.head p.place p.is_head p in
+    let a = stuck_after_head setup tile content fault plane y x p.head p.place p.is_head stuck in
+    let b = stuck_after_head setup tile content other level v u p.head p.place p.is_head p in
     let there : p.head.tile < tile_count (grid_of setup) = subst (λ (t : ℕ). t < tile_count (grid_of setup)) (sym p.of_tile) inside in
     stuck_one setup p.head profile there a.planes b.planes (bits_of (drop p.place content)) a.front b.front fault other plane level y v x u a.sizes b.sizes
     a.stuck b.stuck

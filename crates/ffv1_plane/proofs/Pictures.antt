@@ -277,8 +277,8 @@ head_is_one limits content first a b place other h k =
     (ap (λ z. z.0) same, ap (λ z. z.1) same)
 
 -- what stands after a place
-pub behind_place : (k : ℕ) (content : List ℕ) → take (length content - k) (drop k content) ≡ drop k content
-behind_place k content = take_all (length content - k) (drop k content) (omega (arith, length-drop k content))
+pub after_place : (k : ℕ) (content : List ℕ) → take (length content - k) (drop k content) ≡ drop k content
+after_place k content = take_all (length content - k) (drop k content) (omega (arith, length-drop k content))
 
 abbrev pub picture : List (List ℕ) → ℕ → PictureValue
 picture planes spare_bits = record { planes = planes; spare_bits = spare_bits }
@@ -288,7 +288,7 @@ pub picture_is : (setup : SetupValue) (tile : ℕ) (content : List ℕ) (head : 
     (spare_bits : ℕ) → IsHeadOf (header_limits setup) content (tile == 0) head place → head.tile ≡ tile
     → bits ≡ bits_of (drop place content) → ArePlanesRead setup head bits planes rest → spare_bits ≡ length rest
     → IsPictureOf setup tile content (picture planes spare_bits)
-picture_is setup tile content head place bits rest planes spare_bits is_head of_tile behind read spare = record {
+picture_is setup tile content head place bits rest planes spare_bits is_head of_tile later read spare = record {
   head = head;
   place = place;
   is_head = is_head;
@@ -296,7 +296,7 @@ picture_is setup tile content head place bits rest planes spare_bits is_head of_
   planes = subst (λ (t : ℕ). ArePlanesOf setup t planes) of_tile read.sizes;
   words = read.words;
   spare = rest;
-  begins = sym behind ∙ read.begins;
+  begins = sym later ∙ read.begins;
   spells = read.spells;
   spare_bits = spare;
 }

@@ -331,7 +331,7 @@ skip_on width entry old mid new n m first second =
           let lists : mid ++ (second.samples ++ more) ≡ new ++ more = sym (append_assoc mid second.samples more) ∙ ap (λ l. l ++ more) (sym second.pushed) in
           let P : List ℕ → Type 0 = λ l. is_zero ((residuals_of (plane_of width entry l)).difference (length old + j)) ≡ true in
           subst P lists (first.zero_differences (second.samples ++ more) j less))
-          (λ behind.
+          (λ later.
           let place : length mid + (j - n) ≡ length old + j = omega (arith, longer) in
           let P : ℕ → Type 0 = λ i. is_zero ((residuals_of (plane_of width entry (new ++ more))).difference i) ≡ true in
           subst P place (second.zero_differences more (j - n) (omega arith)))

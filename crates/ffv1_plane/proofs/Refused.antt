@@ -11,7 +11,7 @@ use Rattle.ffv1_plane.specs.Spelling.{Residuals, is_in_run, is_skipped, is_coded
 use Rattle.ffv1_plane.specs.Stuck.{SpellsFront, no_word, one_word, IsCodeDue, IsRunWordCut, IsCodeRefused, IsWordRefused}
 use Rattle.ffv1_plane.proofs.Alike.{residuals, Alike, in_run_alike, follows_alike, contexts_to, states_alike, runs_alike, skipped_alike, one_reading, nonzero_of, not_both}
 use Rattle.ffv1_plane.proofs.Prefixes.{prefix_spells}
-use Rattle.ffv1_plane.proofs.Runs.{behind_whole}
+use Rattle.ffv1_plane.proofs.Runs.{after_whole}
 
 -- ---- words of a run
 
@@ -23,8 +23,8 @@ front_no_run {i = i} {next = next} n left last others run tail (no_word a b c) i
     no_run_when_cut.no_run n left i last others run tail (omega (arith, inside)) (subst P c cut) spells (ap (λ l. l ++ others) (sym b) ∙ same)
 front_no_run {i = i} n left last others run tail (one_word m more a b c) inside cut spells same =
     let joined : run ++ tail ≡ true ∷ (more ++ others) = sym same ∙ ap (λ l. l ++ others) b in
-    let behind = behind_whole left i n last (whole_length i) run tail (more ++ others) spells refl (omega (arith, a, inside)) joined in
-    front_no_run behind.0 (left - whole_length i) last others behind.1 tail c (omega (arith, a, inside)) cut behind.2 behind.3
+    let later = after_whole left i n last (whole_length i) run tail (more ++ others) spells refl (omega (arith, a, inside)) joined in
+    front_no_run later.0 (left - whole_length i) last others later.1 tail c (omega (arith, a, inside)) cut later.2 later.3
 
 no_cut_one : (i : ℕ) (bits others : List Bool) → bits ≡ true ∷ others → IsCutWord i bits → ⊥
 no_cut_one i [] others is cut = cc
@@ -41,7 +41,7 @@ front_one others tail (one_word m rest a b c) (no_word p q r) cut cut_too same =
     absurd (no_cut_one _ tail (rest ++ others) (ap (λ l. l ++ tail) (sym q) ∙ sym same ∙ ap (λ l. l ++ others) b) cut_too)
 front_one {i = i} others tail (one_word m rest a b c) (one_word k more p q r) cut cut_too same =
     let joined : true ∷ (rest ++ others) ≡ true ∷ (more ++ tail) = ap (λ l. l ++ others) (sym b) ∙ same ∙ ap (λ l. l ++ tail) q in
-    let one : m ≡ k = front_one others tail c r cut cut_too (let behind : rest ++ others ≡ more ++ tail = cc in behind) in
+    let one : m ≡ k = front_one others tail c r cut cut_too (let later : rest ++ others ≡ more ++ tail = cc in later) in
     a ∙ ap (λ j. whole_length i + j) one ∙ sym p
 
 -- ---- against another spelling
@@ -56,15 +56,15 @@ pub record IsPastRun (earlier : ℕ → List ℤ) (r : Residuals) (s : ℕ) (bit
   pub next : ℕ
   pub run_starts : starts_run r s ≡ true → SpellsRun (run_length r s) (left_in_line r s) index run next
   pub no_run_starts : starts_run r s ≡ false → (run ≡ []) × (next ≡ index)
-  pub behind : List Bool
-  pub joined : bits ≡ before ++ (run ++ behind)
+  pub later : List Bool
+  pub joined : bits ≡ before ++ (run ++ later)
 
 pub record IsPastCode (earlier : ℕ → List ℤ) (r : Residuals) (s : ℕ) (bits : List Bool) : Type 0 where
   pub past : IsPastRun earlier r s bits
   pub code : List Bool
   pub tail : List Bool
   pub coded : is_coded r s ≡ true → SpellsValue (state_before earlier r (context_number r s) s) (value_at r s) code
-  pub joined : past.behind ≡ code ++ tail
+  pub joined : past.later ≡ code ++ tail
 
 -- a longer spelling has been
 pub past_code : (earlier : ℕ → List ℤ) (r : Residuals) (s count last : ℕ) (bits front tail : List Bool) → s < count → SamplesSpell earlier r count front last
@@ -83,7 +83,7 @@ past_code earlier r s count last bits front tail inside spells same =
         next = p.2;
         run_starts = piece.run_starts;
         no_run_starts = piece.no_run_starts;
-        behind = piece.code ++ (p.1 ++ tail);
+        later = piece.code ++ (p.1 ++ tail);
         joined =
             same ∙ ap (λ l. l ++ tail) p.3 ∙ append_assoc p.0 p.1 tail ∙ ap (λ l. l ++ (p.1 ++ tail)) h.3 ∙ append_assoc h.0 h.1 (p.1 ++ tail)
             ∙ ap (λ l. h.0 ++ (l ++ (p.1 ++ tail))) piece.joined ∙ ap (λ l. h.0 ++ l) (append_assoc piece.run piece.code (p.1 ++ tail));
@@ -105,7 +105,7 @@ past_due earlier r s part others bits due same = record {
   next = due.next;
   run_starts = due.run_starts;
   no_run_starts = due.no_run_starts;
-  behind = others;
+  later = others;
   joined = same ∙ ap (λ l. l ++ others) due.joined ∙ append_assoc due.before due.run others;
 }
 
@@ -113,30 +113,30 @@ module _ (earlier : ℕ → List ℤ) (w : ℕ) (c e d f : ℕ → ℤ) (some : 
     (range : (j : ℕ) → IsDifference (d j)) (also : (j : ℕ) → IsDifference (f j))
     (determined : (n : ℕ) → ((j : ℕ) → j < n → d j ≡ f j) → c n ≡ e n) where
   -- two that are read past the run of a sample are alike there
-  record BothPast (s : ℕ) (behind after : List Bool) : Type 0 where
+  record BothPast (s : ℕ) (later after : List Bool) : Type 0 where
     alike : Alike w c e d f s
     in_run : is_in_run (residuals w c d) s ≡ is_in_run (residuals w e f) s
     skipped : is_skipped (residuals w c d) s ≡ is_skipped (residuals w e f) s
     state : state_before earlier (residuals w c d) (context_number (residuals w c d) s) s ≡ state_before earlier (residuals w e f)
         (context_number (residuals w e f) s) s
-    same : behind ≡ after
+    same : later ≡ after
 
   both_past : (s : ℕ) (bits : List Bool) → (a : IsPastRun earlier (residuals w c d) s bits) → (b : IsPastRun earlier (residuals w e f) s bits)
-      → BothPast s a.behind b.behind
+      → BothPast s a.later b.later
   both_past s bits a b =
-      let read = one_reading earlier w c e d f some range also determined s a.before b.before (a.run ++ a.behind)
-      (b.run ++ b.behind) a.index b.index a.spells b.spells (sym a.joined ∙ b.joined) in
-      let after = runs_alike earlier w c e d f some range also determined s a.index b.index a.next b.next a.run b.run a.behind b.behind read.0 read.1 read.2
+      let read = one_reading earlier w c e d f some range also determined s a.before b.before (a.run ++ a.later)
+      (b.run ++ b.later) a.index b.index a.spells b.spells (sym a.joined ∙ b.joined) in
+      let after = runs_alike earlier w c e d f some range also determined s a.index b.index a.next b.next a.run b.run a.later b.later read.0 read.1 read.2
       a.run_starts a.no_run_starts b.run_starts b.no_run_starts in
       let differences = read.0.differences in
       let context : c s ≡ e s = determined s differences in
       record {
         alike = read.0;
         in_run = in_run_alike w c e d f s (contexts_to earlier w c e d f some range also determined s differences) differences;
-        skipped = skipped_alike earlier w c e d f some range also determined s a.next b.next a.behind b.behind read.0 after;
+        skipped = skipped_alike earlier w c e d f some range also determined s a.next b.next a.later b.later read.0 after;
         state = states_alike earlier w c e d f some range also determined s (nat_abs (c s)) differences
             ∙ ap (λ z. state_before earlier (residuals w e f) (nat_abs z) s) context;
-        same = after.behind;
+        same = after.later;
       }
 
   -- a refused code excludes a spelling that has one there
@@ -172,10 +172,10 @@ module _ (earlier : ℕ → List ℤ) (w : ℕ) (c e d f : ℕ → ℤ) (some : 
       → IsPastRun earlier (residuals w e f) cut.1.start bits → ⊥
   run_excludes s part others bits cut begins past =
       let due = cut.1 in
-      let joined : due.before ++ (due.words ++ others) ≡ past.before ++ (past.run ++ past.behind) = sym (append_assoc due.before due.words others)
+      let joined : due.before ++ (due.words ++ others) ≡ past.before ++ (past.run ++ past.later) = sym (append_assoc due.before due.words others)
       ∙ ap (λ l. l ++ others) (sym due.joined) ∙ sym begins ∙ past.joined in
       let read = one_reading earlier w c e d f some range also determined due.start due.before past.before (due.words ++ others)
-      (past.run ++ past.behind) due.begun past.index due.spells past.spells joined in
+      (past.run ++ past.later) due.begun past.index due.spells past.spells joined in
       let differences = read.0.differences in
       let contexts = contexts_to earlier w c e d f some range also determined due.start differences in
       let runs : is_in_run (residuals w c d) due.start ≡ is_in_run (residuals w e f) due.start = in_run_alike w c e d f due.start contexts differences in
@@ -184,7 +184,7 @@ module _ (earlier : ℕ → List ℤ) (w : ℕ) (c e d f : ℕ → ℤ) (some : 
       let starts : starts_run (residuals w c d) due.start ≡ starts_run (residuals w e f) due.start = rw (runs, follows) refl in
       let spelled = past.run_starts (sym starts ∙ due.starts) in
       let P : ℕ → Type 0 = λ i. SpellsRun (run_length (residuals w e f) due.start) (left_in_line (residuals w e f) due.start) i past.run past.next in
-      front_no_run (run_length (residuals w e f) due.start) (left_in_line (residuals w e f) due.start) past.next others past.run past.behind due.front
+      front_no_run (run_length (residuals w e f) due.start) (left_in_line (residuals w e f) due.start) past.next others past.run past.later due.front
       due.in_line cut.2 (subst P (sym read.1) spelled) read.2
 
   -- two cut words of a run that starts at one sample are one

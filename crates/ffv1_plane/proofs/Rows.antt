@@ -58,14 +58,14 @@ module _ (w x : ℕ) (rows line above far : List ℕ) (h : AreLines w x rows lin
       let row : length rows / w + 2 - 2 ≡ length rows / w = omega arith in
       let start : (length rows / w + 2 - 2) * w ≡ length rows = ap (λ k. k * w) row ∙ sym (rows_are w (length rows) h.whole) in
       let place : (length rows / w + 2 - 2) * w + (column - 2) ≡ length rows + (column - 2) = ap (λ k. k + (column - 2)) start in
-      let behind : get_or (rows ++ take x (drop 2 line)) (length rows + (column - 2)) 0 ≡ get_or (take x (drop 2 line)) (column - 2) 0 =
+      let later : get_or (rows ++ take x (drop 2 line)) (length rows + (column - 2)) 0 ≡ get_or (take x (drop 2 line)) (column - 2) 0 =
       get_or-append_right rows (take x (drop 2 line)) (length rows + (column - 2)) 0 (omega arith)
       ∙ ap (λ i. get_or (take x (drop 2 line)) i 0) (let e : length rows + (column - 2) - length rows ≡ column - 2 = omega arith in e) in
       let cell : get_or (take x (drop 2 line)) (column - 2) 0 ≡ get_or line column 0 =
       get_or-take x (drop 2 line) (column - 2) 0 (omega arith) ∙ get_or-drop 2 line (column - 2) 0
       ∙ ap (λ i. get_or line i 0) (let e : 2 + (column - 2) ≡ column = omega arith in e) in
       rw (no, nor, stays) (rw (le-ltb (length rows / w + 2) 2 (omega arith))
-      (sym cell ∙ sym behind ∙ ap (λ i. get_or (rows ++ take x (drop 2 line)) i 0) (sym place)))
+      (sym cell ∙ sym later ∙ ap (λ i. get_or (rows ++ take x (drop 2 line)) i 0) (sym place)))
 
   line_is : (column : ℕ) → column < x + 2 → get_or line column 0 ≡ sample_at w (samples_so_far x rows line) column (length rows / w + 2)
   line_is column less = ⊎_elim

@@ -23,16 +23,16 @@ pub full_length : (left i n next : ℕ) (bits others : Reading) → IsRead left 
 full_length left i n next bits others h = let p = whole_length_pos i in (omega (arith, h.is_word.0), h.is_word.1)
 
 -- a run that begins with a whole length goes on after it
-pub behind_whole : (left i m last n : ℕ) (run tail bits : List Bool) → SpellsRun m left i run last → n ≡ whole_length i → n ≤ left → run ++ tail ≡ true ∷ bits
+pub after_whole : (left i m last n : ℕ) (run tail bits : List Bool) → SpellsRun m left i run last → n ≡ whole_length i → n ≤ left → run ++ tail ≡ true ∷ bits
     → (k : ℕ) × (others : List Bool) × SpellsRun k (left - n) (i + 1) others last × (bits ≡ others ++ tail)
-behind_whole left i m last n run tail bits (line_end a b c d) is fits same = absurd (let p = whole_length_pos i in omega arith)
-behind_whole left i m last n run tail bits (whole k room others a b c d) is fits same =
+after_whole left i m last n run tail bits (line_end a b c d) is fits same = absurd (let p = whole_length_pos i in omega arith)
+after_whole left i m last n run tail bits (whole k room others a b c d) is fits same =
     let left_is : room ≡ left - n = omega arith in
     let joined : true ∷ (others ++ tail) ≡ true ∷ bits = ap (λ l. l ++ tail) (sym c) ∙ same in
     (k, others, subst (λ (r : ℕ). SpellsRun k r (i + 1) others last) left_is d, cc)
-behind_whole left i m last n run tail bits (rest a b c d) is fits same = absurd (let joined = ap (λ l. l ++ tail) (sym c) ∙ same in cc)
-behind_whole left i m last n run tail bits (over_end a b c d e) is fits same = absurd (omega arith)
-behind_whole left i m last n run tail bits (long_rest told a b c d e f) is fits same = absurd (omega arith)
+after_whole left i m last n run tail bits (rest a b c d) is fits same = absurd (let joined = ap (λ l. l ++ tail) (sym c) ∙ same in cc)
+after_whole left i m last n run tail bits (over_end a b c d e) is fits same = absurd (omega arith)
+after_whole left i m last n run tail bits (long_rest told a b c d e f) is fits same = absurd (omega arith)
 
 -- one whole length more
 front_more : {done i next : ℕ} {words : List Bool} → SpellsFront done i words next → SpellsFront (done + whole_length next) i (words ++ (true ∷ [])) (next + 1)

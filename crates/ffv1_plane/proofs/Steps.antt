@@ -19,9 +19,9 @@ unfolding is_in_run follows_skipped
 in_run_is r zero = grind arith
 in_run_is r (suc s) = refl
 
-not_skipped_behind : (r : Residuals) (s : ℕ) → is_skipped r s ≡ false → follows_skipped r (suc s) ≡ false
+not_skipped_after : (r : Residuals) (s : ℕ) → is_skipped r s ≡ false → follows_skipped r (suc s) ≡ false
 unfolding follows_skipped
-not_skipped_behind r s coded = rw coded (and-false (not (begins_line r (suc s))))
+not_skipped_after r s coded = rw coded (and-false (not (begins_line r (suc s))))
 
 pub scalar_step : (earlier : ℕ → List ℤ) (r : Residuals) (s index : ℕ) (bits code left rest : List Bool) → Progress earlier r s bits index left
     → is_zero (r.context s) ≡ false
@@ -51,7 +51,7 @@ scalar_step earlier r s index bits code left rest p scalar coded is =
           not_coded = λ h. absurd (let no : is_coded r s ≡ true = ap not skip in cc);
         },
       );
-      fresh = not_skipped_behind r s skip;
+      fresh = not_skipped_after r s skip;
     }
 
 -- ---- the states, one sample further
@@ -285,5 +285,5 @@ module _ (earlier : ℕ → List ℤ) (r : Residuals) (some : 0 < r.width) (s n 
           front = p.front ++ (run ++ code);
           begins = p.begins ∙ ap (λ l. p.front ++ l) (is ∙ sym (append_assoc run code rest)) ∙ sym (append_assoc p.front (run ++ code) rest);
           spells = level_piece code inside level coded p.front p.spells;
-          fresh = not_skipped_behind r (s + n) (rw (in_it, level) refl);
+          fresh = not_skipped_after r (s + n) (rw (in_it, level) refl);
         }

@@ -200,7 +200,7 @@ module _ (setup : SetupValue) (head : SliceHead) (profile : IsInProfile setup) (
 pub planes_refused : (setup : SetupValue) (tile : ℕ) (content : List ℕ) (head : SliceHead) (place : ℕ) (bits : List Bool)
     → IsHeadOf (header_limits setup) content (tile == 0) head place → head.tile ≡ tile → bits ≡ bits_of (drop place content)
     → (fault : TileFault) → ArePlanesHalted setup head bits fault → (fault ≡ Memory) ⊎ IsRefusedFor setup tile content fault
-planes_refused setup tile content head place bits is_head of_tile behind (Code fault plane y x) h =
+planes_refused setup tile content head place bits is_head of_tile later (Code fault plane y x) h =
     let all = stuck_on setup head h.planes bits fault plane y x h.front h.sizes h.stuck in
     inr
     (record {
@@ -213,10 +213,10 @@ planes_refused setup tile content head place bits is_head of_tile behind (Code f
       words = all.words;
       spells = all.spells;
       front = h.front;
-      behind = all.behind;
+      later = all.later;
       begins = all.begins;
-      stuck = subst (λ (l : List Bool). AreBitsStuck setup head h.planes l fault plane y x h.front) behind h.stuck;
+      stuck = subst (λ (l : List Bool). AreBitsStuck setup head h.planes l fault plane y x h.front) later h.stuck;
     })
-planes_refused setup tile content head place bits is_head of_tile behind Memory h = inl refl
-planes_refused setup tile content head place bits is_head of_tile behind (Head fault) h = absurd h
-planes_refused setup tile content head place bits is_head of_tile behind OtherTile h = absurd h
+planes_refused setup tile content head place bits is_head of_tile later Memory h = inl refl
+planes_refused setup tile content head place bits is_head of_tile later (Head fault) h = absurd h
+planes_refused setup tile content head place bits is_head of_tile later OtherTile h = absurd h

@@ -111,10 +111,10 @@ code_part earlier r s = ⊎_elim
     (cases_Bool (is_coded r s))
 
 -- what follows the run of a sample
-pub behind_run : (earlier : ℕ → List ℤ) (r : Residuals) (s index next : ℕ) (run : List Bool)
+pub past_run : (earlier : ℕ → List ℤ) (r : Residuals) (s index next : ℕ) (run : List Bool)
     → (starts_run r s ≡ true → SpellsRun (run_length r s) (left_in_line r s) index run next) → (starts_run r s ≡ false → (run ≡ []) × (next ≡ index))
     → (code : List Bool) × SampleSpells earlier r s index (run ++ code) next
-behind_run earlier r s index next run starts none =
+past_run earlier r s index next run starts none =
     let c = code_part earlier r s in
     (c.0, record { run = run; code = c.0; joined = refl; run_starts = starts; no_run_starts = none; coded = c.1.coded; not_coded = c.1.not_coded })
 
@@ -122,9 +122,9 @@ sample_of : (earlier : ℕ → List ℤ) (r : Residuals) (s index : ℕ) → (pi
 sample_of earlier r s index = ⊎_elim
     (λ yes.
     let run = run_of (run_length r s) (left_in_line r s) index (length_low r (left_in_line r s) s) in
-    let all = behind_run earlier r s index run.1 run.0 (λ h. run.2) (λ h. absurd (differ yes h)) in
+    let all = past_run earlier r s index run.1 run.0 (λ h. run.2) (λ h. absurd (differ yes h)) in
     (run.0 ++ all.0, run.1, all.1))
-    (λ no. let all = behind_run earlier r s index index [] (λ h. absurd (differ h no)) (λ h. (refl, refl)) in ([] ++ all.0, index, all.1))
+    (λ no. let all = past_run earlier r s index index [] (λ h. absurd (differ h no)) (λ h. (refl, refl)) in ([] ++ all.0, index, all.1))
     (cases_Bool (starts_run r s))
 
 pub spells_on : (earlier : ℕ → List ℤ) (r : Residuals) (count n : ℕ) (front : List Bool) (index : ℕ) → n ≤ count → SamplesSpell earlier r n front index

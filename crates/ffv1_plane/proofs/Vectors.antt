@@ -14,7 +14,7 @@ unfolding neighbours_at sample_at sample_inside
 column_around = refl
 
 -- the second row of 1 2 3 above 4 5 6: after the last column its last sample stands again
-behind_last_column : neighbours_at 3 (1 ∷ 2 ∷ 3 ∷ 4 ∷ 5 ∷ 6 ∷ []) 5 ≡ record {
+after_last_column : neighbours_at 3 (1 ∷ 2 ∷ 3 ∷ 4 ∷ 5 ∷ 6 ∷ []) 5 ≡ record {
   left = 5;
   top = 3;
   top_left = 2;
@@ -23,7 +23,7 @@ behind_last_column : neighbours_at 3 (1 ∷ 2 ∷ 3 ∷ 4 ∷ 5 ∷ 6 ∷ []) 5 
   top_of_top = 0;
 }
 unfolding neighbours_at sample_at sample_inside
-behind_last_column = refl
+after_last_column = refl
 
 -- the median of 10, 20 and 10 + 20 - 25, and of 3, 4 and 3 + 4 - 9
 between : prediction_of (record { left = 10; top = 20; top_left = 25; top_right = 0; left_of_left = 0; top_of_top = 0 }) ≡ 10

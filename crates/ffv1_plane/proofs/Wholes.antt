@@ -32,7 +32,7 @@ filled width height samples small fits = record {
   count = omega (arith, length-append samples (replicate (width * height - length samples) 0), length-replicate {A = ℕ} (width * height - length samples) 0);
   bytes = λ s. ⊎_elim
       (λ inside. let e = get_or_append_left samples (replicate (width * height - length samples) 0) 0 s inside in let h = small s in omega (arith, e, h))
-      (λ behind. let e = get_or-append_right samples (replicate (width * height - length samples) 0) s 0 behind in
+      (λ later. let e = get_or-append_right samples (replicate (width * height - length samples) 0) s 0 later in
       let z = get_or-zeros (width * height - length samples) (s - length samples) in omega (arith, e, z))
       (cases_lt s (length samples));
 }

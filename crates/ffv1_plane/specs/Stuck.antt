@@ -120,6 +120,6 @@ pub record IsStuckAt (setup : SetupValue) (tile : ℕ) (content : List ℕ) (fau
   pub words : List Bool
   pub spells : PictureSpells setup head planes words
   pub front : List Bool
-  pub behind : List Bool
-  pub begins : words ≡ front ++ behind
+  pub later : List Bool
+  pub begins : words ≡ front ++ later
   pub stuck : AreBitsStuck setup head planes (bits_of (drop place content)) fault plane y x front

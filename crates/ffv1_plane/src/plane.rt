@@ -194,8 +194,8 @@ pub(crate) fn decode_plane(
         tables: _,
         states,
         index: _,
-        bits: behind,
+        bits: later,
     } = reader;
-    *bits = behind;
+    *bits = later;
     Ok((lines.into_rows(), states))
 }

@@ -106,7 +106,7 @@ pub fn decode_tile(
     // The answer is the picture that the content spells.
     ensures ok { IfOk result (λ picture. IsPictureOf setup.now index content.now (picture_value picture)) }
 
-    // Wherever the content spells a picture, that is the answer, or want of memory.
+    // Wherever the content spells a picture, that is the answer, or Memory.
     ensures found { (picture : PictureValue) → IsPictureOf setup.now index content.now picture
         → MatchResult result (λ read. picture_value read ≡ picture) (λ fault. fault ≡ TileFault.Memory) }
 
@@ -117,11 +117,11 @@ pub fn decode_tile(
     ensures other { (head : SliceHead) (place : ℕ) → IsHeadOf (header_limits setup.now) content.now (index == 0) head place → head.tile ≢ index
         → result ≡ Err TileFault.OtherTile }
 
-    // .. and each refusal but want of memory is the one that the content gives: with a header of this tile, a fault of a run
+    // .. and each refusal but Memory is the one that the content gives: with a header of this tile, a fault of a run
     // word or a code, which tells where the content is stuck ..
     ensures refused { IfErr result (λ fault. (fault ≡ TileFault.Memory) ⊎ IsRefusedFor setup.now index content.now fault) }
 
-    // .. and wherever it is stuck, that is the answer, or want of memory.
+    // .. and wherever it is stuck, that is the answer, or Memory.
     ensures stuck { (fault : CodeFault) (plane y x : ℕ) → IsStuckAt setup.now index content.now fault plane y x
         → MatchResult result (λ read. ⊥) (λ told. (told ≡ TileFault.Memory) ⊎ (told ≡ TileFault.Code fault plane y x)) }
 {

@@ -25,8 +25,8 @@ last_not_ended from (len ∷ []) k h some =
     rw later (omega arith)
 last_not_ended from (len ∷ next ∷ runs) k h some =
     let whole : sum (len ∷ next ∷ runs) ≡ len + sum (next ∷ runs) = sum_by-cons (λ x. x) len (next ∷ runs) in
-    let behind : runs_ended (from + len) (next ∷ runs) k ≤ length (next ∷ runs) - 1 = last_not_ended (from + len) (next ∷ runs) k (omega arith) (omega arith) in
-    let more = ended_or (nat_le (from + len) k) (runs_ended (from + len) (next ∷ runs) k) (length (next ∷ runs) - 1) behind in
+    let beyond : runs_ended (from + len) (next ∷ runs) k ≤ length (next ∷ runs) - 1 = last_not_ended (from + len) (next ∷ runs) k (omega arith) (omega arith) in
+    let more = ended_or (nat_le (from + len) k) (runs_ended (from + len) (next ∷ runs) k) (length (next ∷ runs) - 1) beyond in
     omega arith
 
 some_runs : (runs : List ℕ) → IsTable runs → 0 < length runs

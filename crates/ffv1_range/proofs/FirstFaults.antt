@@ -1,4 +1,4 @@
--- A refusal of a record is the first fault that it has, or want of memory.
+-- A refusal of a record is the first fault that it has, or Memory.
 use Rattle.std.proofs.Common.{◌≡◌, ℕ, Bool, true, false, List, Result, Ok, Err, sym, ap, ◌∙◌, refl, inl, inr}
 use Rattle.std.specs.Prelude.{◌⊎◌, ◌&&◌, if◌then◌else◌}
 use Rattle.ffv1_range.specs.Results.{◌>>=◌ as ◌>>>◌}

@@ -308,20 +308,20 @@ tables-found width height front p y h =
     record { sets = d.0.0; after = d.0.1; read = d.1; rest = ap (λ z. sets_rest width height front z.0 true z.1) pair ∙ x.2 }
 
 -- the pieces of a record, one part after the other
-pieces_coded : (r : RecordFields) (c : Coder) (front last : Place) (tables deltas : Coder) (middle behind : Rows)
+pieces_coded : (r : RecordFields) (c : Coder) (front last : Place) (tables deltas : Coder) (middle later : Rows)
     → IsRangeRun true (place_of c fresh_row) (fields_bits (front_fields r)) front
     → IsRowsRun true (place_of front.coder (first_rows front.states)) (table_pieces 0 (flat_map (λ set. set.tables) r.sets)) (place_of tables middle)
-    → IsRowsRun true (place_of tables middle) (flat_map (λ set. deltas_pieces set.deltas) r.sets) (place_of deltas behind)
-    → IsRangeRun true (place_of deltas (behind 0)) (fields_bits (back_fields r)) last
-    → IsRowsRun true (place_of c fresh_states) (record_pieces r) (place_of last.coder (with_row behind 0 last.states))
+    → IsRowsRun true (place_of tables middle) (flat_map (λ set. deltas_pieces set.deltas) r.sets) (place_of deltas later)
+    → IsRangeRun true (place_of deltas (later 0)) (fields_bits (back_fields r)) last
+    → IsRowsRun true (place_of c fresh_states) (record_pieces r) (place_of last.coder (with_row later 0 last.states))
 unfolding first_rows
-pieces_coded r c front last tables deltas middle behind h k l m =
+pieces_coded r c front last tables deltas middle later h k l m =
     rows_append true ((0, fields_bits (front_fields r)) ∷ []) _ (place_of c fresh_states) (place_of front.coder (first_rows front.states)) _
     (one_piece true c fresh_states 0 fresh_row (fields_bits (front_fields r)) front refl h)
     (rows_append true (table_pieces 0 (flat_map (λ set. set.tables) r.sets)) _ (place_of front.coder (first_rows front.states)) (place_of tables middle) _ k
     (rows_append true (flat_map (λ set. deltas_pieces set.deltas) r.sets) ((0, fields_bits (back_fields r)) ∷ []) (place_of tables middle)
-    (place_of deltas behind) _ l
-    (one_piece true deltas behind 0 (behind 0) (fields_bits (back_fields r)) last refl m)))
+    (place_of deltas later) _ l
+    (one_piece true deltas later 0 (later 0) (fields_bits (back_fields r)) last refl m)))
 
 tables_count : (sets : List SetFields) → length (map (λ set. set.tables) sets) ≡ length sets
 tables_count [] = refl

@@ -75,10 +75,10 @@ more_runs : (closed : Bool) (n filled : ℕ) (got : List ℕ) (p : Place) (y : L
     → RunsAt closed (filled + (less + 1)) (got ++ (less + 1) ∷ []) q y)
     → RunsAt closed filled got p y
 unfolding run_rest fit_rest
-more_runs closed n filled got p y room h behind =
+more_runs closed n filled got p y room h later =
     let s = number_step closed p (run_rest n filled got) y (sym (ap (λ f. f closed p) (runs_from-open n filled got room)) ∙ h) in
     let t = accepted_step closed s.place (nat_le (filled + (s.value + 1)) 128) TableRun (fit_rest n filled got s.value) y s.rest in
-    one_run closed filled s.value got p s.place y s.coded (behind s.value s.place (leb-true (filled + (s.value + 1)) 128 t.0) t.1)
+    one_run closed filled s.value got p s.place y s.coded (later s.value s.place (leb-true (filled + (s.value + 1)) 128 t.0) t.1)
 
 runs-found : (closed : Bool) (n filled : ℕ) (got : List ℕ) (p : Place) (y : List ℕ × Place) → 128 ≤ filled + n → filled ≤ 128
     → runs_from n filled got closed p ≡ Ok y
@@ -171,10 +171,10 @@ no_tables closed c m rows fresh = record { after = rows; coded = refl; fresh = �
 more_tables : (closed : Bool) (runs : List ℕ) (tables : List (List ℕ)) (c d e : Coder) → IsTableRun closed c runs d → AreTablesCoded closed tables d e
     → AreTablesCoded closed (runs ∷ tables) c e
 unfolding table_pieces
-more_tables closed runs tables c d e h behind m rows fresh =
+more_tables closed runs tables c d e h later m rows fresh =
     let next : Rows = with_row rows (33 + m) h.0 in
     let r : TablesRun closed (m + 1) tables d e next =
-    behind (m + 1) next (λ j l. let apart : 33 + j ≢ 33 + m = omega arith in with_row-other rows (33 + m) (33 + j) h.0 apart ∙ fresh j (omega arith)) in
+    later (m + 1) next (λ j l. let apart : 33 + j ≢ 33 + m = omega arith in with_row-other rows (33 + m) (33 + j) h.0 apart ∙ fresh j (omega arith)) in
     record {
       after = r.after;
       coded =

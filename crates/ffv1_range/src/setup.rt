@@ -78,10 +78,10 @@ impl Setup {
         // The answer is the record's setup.
         ensures found { IfOk result (IsSetupOf config.now width height) }
 
-        // A record that has a setup is answered with it, or for want of memory.
+        // A record that has a setup is answered with it, or because memory ran out.
         ensures only { (setup : SetupValue) → IsSetupOf config.now width height setup → MatchResult result (λ read. read ≡ setup) (λ fault. fault ≡ Memory) }
 
-        // A refusal is the first that reading meets, or want of memory ..
+        // A refusal is the first that reading meets, or Memory ..
         ensures first { IfErr result (λ fault. (fault ≡ Memory) ⊎ FirstSetupFault config.now width height fault) }
 
         // .. which stands after the fields before the sets.

@@ -1,10 +1,9 @@
 //! The calls of the libraries, each on a recorded frame.
 use crate::attempt::{Attempt, Outcome};
 use crate::buffer::Buffer;
-use crate::stock::{
-    FRAME, RECORD, SIZE, Stock, file_of, first_copy, holding_of, second_copy, torn_copies,
-};
+use crate::stock::{SIZE, Stock, file_of, first_copy, holding_of, second_copy, torn_copies};
 use ffv1_bits::remainder;
+use ffv1_frames::{RECORDED, RECORDED_RECORD};
 use ffv1_hold::{
     FromRead, FromWrite, HoldFault, HoldFileFault, Holding, Join, RestoreFault, TakeAllFault,
     join_streams, read_hold, write_hold,
@@ -47,7 +46,7 @@ pub struct ReadSetup;
 
 impl Attempt for ReadSetup {
     fn attempt(&mut self, alloc: Global) -> Outcome {
-        match Setup::read(alloc, &RECORD, SIZE.0, SIZE.1) {
+        match Setup::read(alloc, &RECORDED_RECORD, SIZE.0, SIZE.1) {
             Ok(setup) => setup_told(&setup),
             Err(SetupFault::Memory) => Outcome::Memory,
             Err(_) => Outcome::Wrong,
@@ -61,7 +60,7 @@ pub struct MakeHolding;
 
 impl Attempt for MakeHolding {
     fn attempt(&mut self, alloc: Global) -> Outcome {
-        match Holding::new(alloc, &RECORD, SIZE.0, SIZE.1) {
+        match Holding::new(alloc, &RECORDED_RECORD, SIZE.0, SIZE.1) {
             Ok(holding) => Outcome::Answer(file_of(&holding).remainder()),
             Err(SetupFault::Memory) => Outcome::Memory,
             Err(_) => Outcome::Wrong,
@@ -186,7 +185,7 @@ pub struct Restore<'a> {
 impl Attempt for Restore<'_> {
     fn attempt(&mut self, _alloc: Global) -> Outcome {
         match self.held.restore() {
-            Ok(payload) if payload.as_slice() == FRAME.as_slice() => {
+            Ok(payload) if payload.as_slice() == RECORDED.as_slice() => {
                 Outcome::Answer(remainder(&payload))
             }
             Err(RestoreFault::Memory) => Outcome::Memory,
@@ -282,7 +281,7 @@ impl Attempt for DecodeTile<'_> {
         if self.setup.grid().tiles() < 4 {
             return Outcome::Wrong;
         }
-        match decode_tile(alloc, self.setup, 3, content_of(&FRAME[LAST_SLICE..])) {
+        match decode_tile(alloc, self.setup, 3, content_of(&RECORDED[LAST_SLICE..])) {
             Ok(tile) => match tile.planes.first() {
                 Some(plane) => Outcome::Answer(remainder(plane) ^ (tile.spare_bits % 256) as u32),
                 None => Outcome::Wrong,
@@ -299,7 +298,7 @@ pub struct MakeDecoder;
 
 impl Attempt for MakeDecoder {
     fn attempt(&mut self, alloc: Global) -> Outcome {
-        match Decoder::new(alloc, &RECORD, SIZE.0, SIZE.1) {
+        match Decoder::new(alloc, &RECORDED_RECORD, SIZE.0, SIZE.1) {
             Ok(_) => Outcome::Answer(0),
             Err(SetupFault::Memory) => Outcome::Memory,
             Err(_) => Outcome::Wrong,
@@ -316,7 +315,7 @@ pub struct DecodeFrame<'a> {
 
 impl Attempt for DecodeFrame<'_> {
     fn attempt(&mut self, _alloc: Global) -> Outcome {
-        match self.decoder.decode_frame(&FRAME) {
+        match self.decoder.decode_frame(&RECORDED) {
             Ok(frame) => samples_of(&frame),
             Err(FrameFault::Memory) => Outcome::Memory,
             Err(_) => Outcome::Wrong,
@@ -372,7 +371,7 @@ impl Attempt for Weave {
     fn attempt(&mut self, alloc: Global) -> Outcome {
         let [one, other] = torn_copies();
         match weave(alloc, &[&one[LAST_SLICE..], &other[LAST_SLICE..]]) {
-            Ok(Woven::Woven(bytes, 4)) if bytes.as_slice() == &FRAME[LAST_SLICE..] => {
+            Ok(Woven::Woven(bytes, 4)) if bytes.as_slice() == &RECORDED[LAST_SLICE..] => {
                 Outcome::Answer(remainder(&bytes))
             }
             Ok(_) => Outcome::Wrong,
@@ -389,7 +388,7 @@ impl Attempt for Splice {
     fn attempt(&mut self, alloc: Global) -> Outcome {
         let [one, other] = torn_copies();
         match splice(alloc, &[&one, &other]) {
-            Ok(spliced) if spliced.payload() == FRAME.as_slice() => {
+            Ok(spliced) if spliced.payload() == RECORDED.as_slice() => {
                 Outcome::Answer(remainder(spliced.payload()))
             }
             Err(SpliceFault::Memory) => Outcome::Memory,

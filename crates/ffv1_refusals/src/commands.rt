@@ -2,11 +2,12 @@
 //! a front of its file.
 use crate::attempt::{Attempt, Outcome};
 use crate::buffer::Buffer;
-use crate::stock::{FRAME, RECORD, SIZE, Stock, first_copy, second_copy, torn_copies};
+use crate::stock::{SIZE, Stock, first_copy, second_copy, torn_copies};
 use ffv1_commands::{
     CliFault, run_chain, run_decode, run_join, run_merge, run_picture, run_report, run_restore,
     run_scan, run_show, run_splice, run_take,
 };
+use ffv1_frames::{RECORDED, RECORDED_RECORD};
 use std::alloc::Global;
 
 /// What a command made and printed.
@@ -95,7 +96,7 @@ impl<'a> Run<'a> {
         let (width, height) = SIZE;
         let (one, other) = (first_copy(), second_copy());
         let mut copies = [one.as_slice(), other.as_slice()];
-        let (mut record, mut frame) = (RECORD.as_slice(), FRAME.as_slice());
+        let (mut record, mut frame) = (RECORDED_RECORD.as_slice(), RECORDED.as_slice());
         let (mut first, mut both) = (self.first_file, self.both_file);
         let command = self.command;
         let Outputs { made, printed } = &mut self.outputs;

@@ -20,14 +20,14 @@ large_parts k bits fault = parts_of k fault.number fault.fits
 no_shape_cut : (k ones low : ℕ) (bits rest : List Bool) → ones ≤ 12 → bits ≡ shape_bits k ones low ++ rest → IsCutCode k bits → ⊥
 unfolding shape_bits
 no_shape_cut k ones low bits rest few is cut =
-    let behind : List Bool = rest ++ (cut.missing ∷ cut.rest) in
-    let whole : shape_bits k cut.zeros cut.suffix ≡ shape_bits k ones low ++ behind =
+    let later : List Bool = rest ++ (cut.missing ∷ cut.rest) in
+    let whole : shape_bits k cut.zeros cut.suffix ≡ shape_bits k ones low ++ later =
     cut.cut ∙ ap (λ l. l ++ (cut.missing ∷ cut.rest)) is ∙ append_assoc (shape_bits k ones low) rest (cut.missing ∷ cut.rest) in
     let joined : prefix_bits cut.zeros ++ number_bits (suffix_length k cut.zeros) cut.suffix ≡ prefix_bits ones ++
-    (number_bits (suffix_length k ones) low ++ behind) =
-    whole ∙ append_assoc (prefix_bits ones) (number_bits (suffix_length k ones) low) behind in
+    (number_bits (suffix_length k ones) low ++ later) =
+    whole ∙ append_assoc (prefix_bits ones) (number_bits (suffix_length k ones) low) later in
     let one = one_prefix cut.zeros ones _ _ cut.few few joined in
-    let lengths : length (number_bits (suffix_length k cut.zeros) cut.suffix) ≡ length (number_bits (suffix_length k ones) low ++ behind) = ap length one.1 in
+    let lengths : length (number_bits (suffix_length k cut.zeros) cut.suffix) ≡ length (number_bits (suffix_length k ones) low ++ later) = ap length one.1 in
     let widths : suffix_length k cut.zeros ≡ suffix_length k ones = ap (suffix_length k) one.0 in
     omega (
       arith,
@@ -35,7 +35,7 @@ no_shape_cut k ones low bits rest few is cut =
       widths,
       length-number_bits (suffix_length k cut.zeros) cut.suffix,
       length-number_bits (suffix_length k ones) low,
-      length-append (number_bits (suffix_length k ones) low) behind,
+      length-append (number_bits (suffix_length k ones) low) later,
       length-append rest (cut.missing ∷ cut.rest),
     )
 

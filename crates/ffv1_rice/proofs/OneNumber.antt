@@ -96,10 +96,10 @@ one_shape k m n low less rest more below also fits fit same =
     sym (append_assoc (prefix_bits m) (number_bits (suffix_length k m) low) rest) ∙ same
     ∙ append_assoc (prefix_bits n) (number_bits (suffix_length k n) less) more in
     let first = one_prefix m n _ _ below also joined in
-    let behind : number_bits (suffix_length k m) low ++ rest ≡ number_bits (suffix_length k m) less ++ more = first.1
+    let later : number_bits (suffix_length k m) low ++ rest ≡ number_bits (suffix_length k m) less ++ more = first.1
     ∙ ap (λ z. number_bits (suffix_length k z) less ++ more) (sym first.0) in
     let fit' : less < 2 ^ suffix_length k m = rw first.0 fit in
-    let second = one_number (suffix_length k m) low less rest more fits fit' behind in
+    let second = one_number (suffix_length k m) low less rest more fits fit' later in
     (first.0, second.0, second.1)
 
 pub one_number_code_of : (k m n : ℕ) (rest more : List Bool) → Parts k m → Parts k n → code_bits m k ++ rest ≡ code_bits n k ++ more → (m ≡ n) × (rest ≡ more)

@@ -20,8 +20,8 @@ run_alike others more e (line_end a b c d) (over_end p q r s t) same = absurd (o
 run_alike others more e (line_end a b c d) (long_rest told p q r s t u) same = absurd (omega arith)
 run_alike {i = i} others more e (whole m room tail a b c d) (line_end p q r s) same = absurd (omega (arith, whole_length_pos i))
 run_alike others more e (whole m room tail a b c d) (whole n place words p q r s) same =
-    let behind : tail ++ others ≡ words ++ more = cc in
-    let ind = run_alike others more (let h : room ≡ place = omega arith in h) d s behind in
+    let later : tail ++ others ≡ words ++ more = cc in
+    let ind = run_alike others more (let h : room ≡ place = omega arith in h) d s later in
     (omega (arith, ind.0), ind.1, ind.2)
 run_alike others more e (whole m room tail a b c d) (rest p q r s) same = absurd cc
 run_alike others more e (whole m room tail a b c d) (over_end p q r s t) same = absurd (omega arith)
@@ -29,13 +29,13 @@ run_alike others more e (whole m room tail a b c d) (long_rest told p q r s t u)
 run_alike others more e (rest a b c d) (line_end p q r s) same = absurd (omega arith)
 run_alike others more e (rest a b c d) (whole m room tail p q r s) same = absurd cc
 run_alike {m = m} {n = n} {i = i} others more e (rest a b c d) (rest p q r s) same =
-    let behind : number_bits (run_exponent i) m ++ others ≡ number_bits (run_exponent i) n ++ more = cc in
-    let one = one_number (run_exponent i) m n others more a p behind in
+    let later : number_bits (run_exponent i) m ++ others ≡ number_bits (run_exponent i) n ++ more = cc in
+    let one = one_number (run_exponent i) m n others more a p later in
     (one.0, omega arith, one.1)
 run_alike others more e (rest a b c d) (over_end p q r s t) same = absurd cc
 run_alike {m = m} {i = i} others more e (rest a b c d) (long_rest told p q r s t u) same =
-    let behind : number_bits (run_exponent i) m ++ others ≡ number_bits (run_exponent i) told ++ more = cc in
-    let one = one_number (run_exponent i) m told others more a q behind in
+    let later : number_bits (run_exponent i) m ++ others ≡ number_bits (run_exponent i) told ++ more = cc in
+    let one = one_number (run_exponent i) m told others more a q later in
     absurd (omega (arith, one.0))
 run_alike others more e (over_end a b c d f) (line_end p q r s) same = absurd (omega arith)
 run_alike others more e (over_end a b c d f) (whole m room tail p q r s) same = absurd (omega arith)
@@ -45,13 +45,13 @@ run_alike others more e (over_end a b c d f) (long_rest told p q r s t u) same =
 run_alike others more e (long_rest told a b c d f g) (line_end p q r s) same = absurd (omega arith)
 run_alike others more e (long_rest told a b c d f g) (whole m room tail p q r s) same = absurd cc
 run_alike {n = n} {i = i} others more e (long_rest told a b c d f g) (rest p q r s) same =
-    let behind : number_bits (run_exponent i) told ++ others ≡ number_bits (run_exponent i) n ++ more = cc in
-    let one = one_number (run_exponent i) told n others more b p behind in
+    let later : number_bits (run_exponent i) told ++ others ≡ number_bits (run_exponent i) n ++ more = cc in
+    let one = one_number (run_exponent i) told n others more b p later in
     absurd (omega (arith, one.0))
 run_alike others more e (long_rest told a b c d f g) (over_end p q r s t) same = absurd cc
 run_alike {i = i} others more e (long_rest told a b c d f g) (long_rest most p q r s t u) same =
-    let behind : number_bits (run_exponent i) told ++ others ≡ number_bits (run_exponent i) most ++ more = cc in
-    let one = one_number (run_exponent i) told most others more b q behind in
+    let later : number_bits (run_exponent i) told ++ others ≡ number_bits (run_exponent i) most ++ more = cc in
+    let one = one_number (run_exponent i) told most others more b q later in
     (omega arith, omega arith, one.1)
 
 cut_no_run : {n left i next : ℕ} {run : List Bool} (bits others : List Bool) → 0 < left → SpellsRun n left i run next → bits ≡ run ++ others
@@ -65,12 +65,12 @@ cut_no_run (true ∷ bits) others some run is cut = cut
 cut_no_run (false ∷ bits) others some (line_end a b c d) is cut = omega arith
 cut_no_run (false ∷ bits) others some (whole m room tail a b c d) is cut = cc
 cut_no_run {n = n} {i = i} (false ∷ bits) others some (rest a b c d) is cut =
-    let behind : bits ≡ number_bits (run_exponent i) n ++ others = cc in
-    omega (arith, cut, ap length behind, length-append (number_bits (run_exponent i) n) others, length-number_bits (run_exponent i) n)
+    let later : bits ≡ number_bits (run_exponent i) n ++ others = cc in
+    omega (arith, cut, ap length later, length-append (number_bits (run_exponent i) n) others, length-number_bits (run_exponent i) n)
 cut_no_run (false ∷ bits) others some (over_end a b c d e) is cut = cc
 cut_no_run {i = i} (false ∷ bits) others some (long_rest told a b c d e f) is cut =
-    let behind : bits ≡ number_bits (run_exponent i) told ++ others = cc in
-    omega (arith, cut, ap length behind, length-append (number_bits (run_exponent i) told) others, length-number_bits (run_exponent i) told)
+    let later : bits ≡ number_bits (run_exponent i) told ++ others = cc in
+    omega (arith, cut, ap length later, length-append (number_bits (run_exponent i) told) others, length-number_bits (run_exponent i) told)
 
 pub one_run : RunsAreOne
 one_run m n left i next last bits other after more run also same = run_alike after more refl run also same
@@ -106,22 +106,22 @@ one_form left i next last word another bits other after more (end_one a b c d) (
 one_form left i next last word another bits other after more (rest_told m a b c d e) (full_one p q r s) same = absurd cc
 one_form left i next last word another bits other after more (rest_told m a b c d e) (end_one p q r s) same = absurd cc
 one_form left i next last word another bits other after more (rest_told m a b c d e) (rest_told n p q r s t) same =
-    let behind : number_bits (run_exponent i) m ++ after ≡ number_bits (run_exponent i) n ++ more = cc in
-    let one = one_number (run_exponent i) m n after more a p behind in
+    let later : number_bits (run_exponent i) m ++ after ≡ number_bits (run_exponent i) n ++ more = cc in
+    let one = one_number (run_exponent i) m n after more a p later in
     (c ∙ ap Rest one.0 ∙ sym r, omega arith, one.1)
 one_form left i next last word another bits other after more (rest_told m a b c d e) (end_told n p q r s t) same =
-    let behind : number_bits (run_exponent i) m ++ after ≡ number_bits (run_exponent i) n ++ more = cc in
-    let one = one_number (run_exponent i) m n after more a p behind in
+    let later : number_bits (run_exponent i) m ++ after ≡ number_bits (run_exponent i) n ++ more = cc in
+    let one = one_number (run_exponent i) m n after more a p later in
     absurd (omega (arith, one.0))
 one_form left i next last word another bits other after more (end_told m a b c d e) (full_one p q r s) same = absurd cc
 one_form left i next last word another bits other after more (end_told m a b c d e) (end_one p q r s) same = absurd cc
 one_form left i next last word another bits other after more (end_told m a b c d e) (rest_told n p q r s t) same =
-    let behind : number_bits (run_exponent i) m ++ after ≡ number_bits (run_exponent i) n ++ more = cc in
-    let one = one_number (run_exponent i) m n after more a p behind in
+    let later : number_bits (run_exponent i) m ++ after ≡ number_bits (run_exponent i) n ++ more = cc in
+    let one = one_number (run_exponent i) m n after more a p later in
     absurd (omega (arith, one.0))
 one_form left i next last word another bits other after more (end_told m a b c d e) (end_told n p q r s t) same =
-    let behind : number_bits (run_exponent i) m ++ after ≡ number_bits (run_exponent i) n ++ more = cc in
-    let one = one_number (run_exponent i) m n after more a p behind in
+    let later : number_bits (run_exponent i) m ++ after ≡ number_bits (run_exponent i) n ++ more = cc in
+    let one = one_number (run_exponent i) m n after more a p later in
     (c ∙ sym r, omega arith, one.1)
 
 pub one_word : WordsAreOne
@@ -131,8 +131,8 @@ one_word left i next last word another bits other after more is also same =
 -- ---- cut words
 
 too_few : (i told : ℕ) (bits after : List Bool) → bits ≡ number_bits (run_exponent i) told ++ after → length bits < run_exponent i → ⊥
-too_few i told bits after behind cut =
-    omega (arith, cut, ap length behind, length-append (number_bits (run_exponent i) told) after, length-number_bits (run_exponent i) told)
+too_few i told bits after later cut =
+    omega (arith, cut, ap length later, length-append (number_bits (run_exponent i) told) after, length-number_bits (run_exponent i) told)
 
 no_form_when_cut : (left i next : ℕ) (word : RunWord) (bits spelled after : List Bool) → IsCutWord i bits → IsFormOf left i word spelled next
     → bits ≡ spelled ++ after → ⊥
@@ -144,9 +144,9 @@ no_form_when_cut left i next word (true ∷ bits) spelled after cut form is = cu
 no_form_when_cut left i next word (false ∷ bits) spelled after cut (full_one a b c d) is = cc
 no_form_when_cut left i next word (false ∷ bits) spelled after cut (end_one a b c d) is = cc
 no_form_when_cut left i next word (false ∷ bits) spelled after cut (rest_told n a b c d e) is =
-    too_few i n bits after (let behind : bits ≡ number_bits (run_exponent i) n ++ after = cc in behind) cut
+    too_few i n bits after (let later : bits ≡ number_bits (run_exponent i) n ++ after = cc in later) cut
 no_form_when_cut left i next word (false ∷ bits) spelled after cut (end_told n a b c d e) is =
-    too_few i n bits after (let behind : bits ≡ number_bits (run_exponent i) n ++ after = cc in behind) cut
+    too_few i n bits after (let later : bits ≡ number_bits (run_exponent i) n ++ after = cc in later) cut
 
 pub no_run_when_cut : CutsExcludeRuns
 no_run_when_cut = record {

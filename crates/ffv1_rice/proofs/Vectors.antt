@@ -116,9 +116,9 @@ six_ones : List Bool
 six_ones = replicate 6 true
 
 -- four whole lengths of 1 and what follows them at the index 4
-behind_four : (n left next : ℕ) (bits : List Bool) → SpellsRun n left 4 bits next → SpellsRun (4 + n) (4 + left) 0 (true ∷ true ∷ true ∷ true ∷ bits) next
+after_four : (n left next : ℕ) (bits : List Bool) → SpellsRun n left 4 bits next → SpellsRun (4 + n) (4 + left) 0 (true ∷ true ∷ true ∷ true ∷ bits) next
 unfolding run_exponent
-behind_four n left next bits run =
+after_four n left next bits run =
     whole (3 + n) (3 + left) (true ∷ true ∷ true ∷ bits) (omega arith) (omega arith) refl
     (whole (2 + n) (2 + left) (true ∷ true ∷ bits) (omega arith) (omega arith) refl
     (whole (1 + n) (1 + left) (true ∷ bits) (omega arith) (omega arith) refl
@@ -127,19 +127,19 @@ behind_four n left next bits run =
 line_of_8 : SpellsRun 8 8 0 six_ones 6
 unfolding run_exponent six_ones
 line_of_8 =
-    behind_four 4 4 6 (true ∷ true ∷ [])
+    after_four 4 4 6 (true ∷ true ∷ [])
     (whole 2 2 (true ∷ []) refl refl refl (whole 0 0 [] refl refl refl (line_end refl refl refl refl)))
 
 line_of_7 : SpellsRun 7 7 0 six_ones 5
 unfolding run_exponent six_ones
 line_of_7 =
-    behind_four 3 3 5 (true ∷ true ∷ [])
+    after_four 3 3 5 (true ∷ true ∷ [])
     (whole 1 1 (true ∷ []) refl refl refl (over_end (lit< tt) (lit< tt) refl refl refl))
 
 line_of_7_by_rest : SpellsRun 7 7 0 (true ∷ true ∷ true ∷ true ∷ true ∷ false ∷ true ∷ []) 4
 unfolding run_exponent number_bits
 line_of_7_by_rest =
-    behind_four 3 3 4 (true ∷ false ∷ true ∷ [])
+    after_four 3 3 4 (true ∷ false ∷ true ∷ [])
     (whole 1 1 (false ∷ true ∷ []) refl refl refl (long_rest 1 (lit≤ tt) (lit< tt) (lit< tt) refl refl refl))
 
 rest_of_1 : IsRunWord 5 4 (Rest 1) (false ∷ true ∷ []) 3

@@ -56,12 +56,12 @@ zeros_and_one z few = number_bits-split z 1 1 ∙ ap (λ bits. bits ++ (true ∷
 pub suffix_at : (window z k : ℕ) → z < 12 → k ≤ 7 → 2 ^ (55 - z) ≤ window → window < 2 ^ (56 - z)
     → (2 ^ k ≤ window / 2 ^ (55 - z - k)) × (window / 2 ^ (55 - z - k) < 2 ^ k * 2)
 suffix_at window z k few small low high =
-    let behind : ℕ = 55 - z - k in
-    let whole : 2 ^ k * 2 ^ behind ≤ window =
-    rw (← pow-add 2 k behind) (subst (λ m. 2 ^ m ≤ window) (let e : 55 - z ≡ k + behind = omega arith in e) low) in
-    let below : window < 2 ^ (suc k + behind) = subst (λ m. window < 2 ^ m) (let e : 56 - z ≡ suc k + behind = omega arith in e) high in
-    let narrow : window / 2 ^ behind < 2 ^ suc k = shr_below window (suc k) behind below in
-    (le-div (2 ^ k) window (2 ^ behind) (pow_pos behind) whole, omega (arith, narrow, pow-suc 2 k))
+    let later : ℕ = 55 - z - k in
+    let whole : 2 ^ k * 2 ^ later ≤ window =
+    rw (← pow-add 2 k later) (subst (λ m. 2 ^ m ≤ window) (let e : 55 - z ≡ k + later = omega arith in e) low) in
+    let below : window < 2 ^ (suc k + later) = subst (λ m. window < 2 ^ m) (let e : 56 - z ≡ suc k + later = omega arith in e) high in
+    let narrow : window / 2 ^ later < 2 ^ suc k = shr_below window (suc k) later below in
+    (le-div (2 ^ k) window (2 ^ later) (pow_pos later) whole, omega (arith, narrow, pow-suc 2 k))
 
 pub small_place : (window z k : ℕ) → z < 12 → k ≤ 7 → 2 ^ (55 - z) ≤ window → window < 2 ^ (56 - z) → window / 2 ^ (55 - z - k) < 2 ^ 8
 small_place window z k few small low high =
@@ -102,11 +102,11 @@ short_begins window z k suffix number few small low high is value =
     let whole : window / 2 ^ r ≡ 1 * 2 ^ k + suffix = omega (arith, bounds.0) in
     let low_bits : number_bits k (window / 2 ^ r) ≡ number_bits k suffix =
     ap (number_bits k) whole ∙ sym (number_bits-low k (1 * 2 ^ k + suffix)) ∙ ap (number_bits k) (short_suffix k 1 suffix fits) in
-    let behind : number_bits (k + r) window ≡ number_bits k suffix ++ number_bits r window =
+    let later : number_bits (k + r) window ≡ number_bits k suffix ++ number_bits r window =
     number_bits-split k r window ∙ ap (λ bits. bits ++ number_bits r window) low_bits in
     let parts : number_bits 56 window ≡ prefix_bits z ++ (number_bits k suffix ++ number_bits r window) =
     ap (λ n. number_bits n window) (let e : 56 ≡ z + 1 + (k + r) = omega arith in e) ∙ number_bits-split (z + 1) (k + r) window
-    ∙ ap (λ bits. bits ++ number_bits (k + r) window) high_bits ∙ ap (λ bits. prefix_bits z ++ bits) behind in
+    ∙ ap (λ bits. bits ++ number_bits (k + r) window) high_bits ∙ ap (λ bits. prefix_bits z ++ bits) later in
     let same : number_bits 56 window ≡ code_bits number k ++ number_bits r window =
     parts ∙ short_code k z suffix number (number_bits k suffix ++ number_bits r window) (number_bits r window) few fits value refl in
     record {

@@ -83,8 +83,8 @@ cut_number i e old mid is first short =
 full_first : (m n left i mid next : ℕ) (bits more : List Bool) → IsRunWord left i (Full m) bits mid → SpellsRun n (left - m) mid more next
     → SpellsRun (m + n) left i (bits ++ more) next
 full_first m n left i mid next bits more is run =
-    let behind : SpellsRun n (left - m) (i + 1) more next = rw is.3 at run in
-    whole n (left - m) more (ap (λ k. k + n) is.0) (omega (arith, is.0, is.1)) (ap (λ l. l ++ more) is.2) behind
+    let later : SpellsRun n (left - m) (i + 1) more next = rw is.3 at run in
+    whole n (left - m) more (ap (λ k. k + n) is.0) (omega (arith, is.0, is.1)) (ap (λ l. l ++ more) is.2) later
 
 end_of_run : (left i next : ℕ) (bits : List Bool) → 0 < left → IsRunWord left i ToEnd bits next → SpellsRun left left i bits next
 end_of_run left i next bits some is =

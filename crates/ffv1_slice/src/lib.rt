@@ -10,6 +10,6 @@ mod slice;
 
 pub use chain::{Chain, ChainEnd, slice_start};
 pub use footer::{FOOTER_LENGTH, content_of, is_framed, status_of};
-pub use found::{FoundSlice, find_slices, found_slices_are_found, near_found, original_is_found};
+pub use found::{found_slices_are_found, near_found, original_is_found};
 pub use link::Link;
 pub use slice::{LinkFault, read_slice, slice_of, slice_read_is_slice};

@@ -1,15 +1,10 @@
 //! The commands over readers that are interrupted or hold much, and over changed holding files.
 use ffv1_commands::{CliFault, CommandPath, run_chain, run_join, run_restore, run_take};
+use ffv1_frames::{FRAME, TWO_TILES};
 use std::alloc::Global;
 use std::io;
 use std::io::{ErrorKind, Read};
 use std::test::Fail;
-
-/// A gray frame of 2 x 1 samples in two tiles.
-const FRAME: [u8; 22] = [
-    0xFD, 0xF6, 0x80, 0, 0, 3, 0, 0x1C, 0x3E, 0xA0, 0x9B, 0x3F, 0x2B, 0x80, 0, 0, 3, 0, 0x56, 0x0F,
-    0xD7, 0x3B,
-];
 
 const FRAME_TEXT: &str = "11..22 size 3 status 0 pass\n0..11 size 3 status 0 pass\nend whole\n";
 
@@ -57,12 +52,6 @@ fn interrupted_reads_are_tried_again(rt: HostRuntime) {
     }
 }
 
-/// A gray record of two tiles beside each other, of micro version 4, its five tables of one run each.
-const RECORD: [u8; 17] = [
-    0x56, 0x2B, 0x83, 0x32, 0x5C, 0xCD, 0x9B, 0x36, 0x6C, 0xD9, 0xB3, 0x66, 0xC4, 0x90, 0xE4, 0xD4,
-    0x86,
-];
-
 /// The frame with a damaged tile 0.
 fn left_damaged() -> [u8; 22] {
     let mut copy = FRAME;
@@ -79,7 +68,7 @@ fn right_damaged() -> [u8; 22] {
 
 /// The holding file of copies, and what was printed of them.
 fn taken(alloc: Global, mut copies: [&[u8]; 2]) -> Result<(Vec<u8>, Vec<u8>), Fail> {
-    let mut record = RECORD.as_slice();
+    let mut record = TWO_TILES.as_slice();
     let mut out = Vec::new(alloc);
     let mut output = Vec::new(alloc);
     run_take(alloc, &mut record, 2, 1, &mut copies, &mut out, &mut output)

@@ -3,23 +3,12 @@ use ffv1_commands::{
     CliFault, CommandPath, run_chain, run_decode, run_join, run_merge, run_picture, run_report,
     run_restore, run_show, run_splice, run_take,
 };
+use ffv1_frames::{FRAME, TWO_TILES};
 use ffv1_hold::HoldFileFault;
 use std::alloc::Global;
 use std::io;
 use std::io::{ErrorKind, Read, Write};
 use std::test::Fail;
-
-/// A gray record of two tiles beside each other, of micro version 4, its five tables of one run each.
-const RECORD: [u8; 17] = [
-    0x56, 0x2B, 0x83, 0x32, 0x5C, 0xCD, 0x9B, 0x36, 0x6C, 0xD9, 0xB3, 0x66, 0xC4, 0x90, 0xE4, 0xD4,
-    0x86,
-];
-
-/// A frame of it, of 2 x 1 samples.
-const FRAME: [u8; 22] = [
-    0xFD, 0xF6, 0x80, 0, 0, 3, 0, 0x1C, 0x3E, 0xA0, 0x9B, 0x3F, 0x2B, 0x80, 0, 0, 3, 0, 0x56, 0x0F,
-    0xD7, 0x3B,
-];
 
 /// What an input does after its bytes.
 #[derive(Clone, Copy, Debug, PartialEq, Eq)]
@@ -163,8 +152,8 @@ impl Command {
     fn inputs<'a>(self, files: &'a Files) -> (&'a [u8], &'a [u8]) {
         match self {
             Command::Chain => (&FRAME, &[]),
-            Command::Show => (&RECORD, &[]),
-            Command::Take | Command::Decode => (&RECORD, &FRAME),
+            Command::Show => (&TWO_TILES, &[]),
+            Command::Take | Command::Decode => (&TWO_TILES, &FRAME),
             Command::Splice => (&FRAME, &FRAME),
             Command::Join | Command::Merge => (&files.part, &files.whole),
             Command::Report | Command::Restore => (&files.whole, &[]),
@@ -212,7 +201,7 @@ fn run<'a>(
 
 /// The holding file of a copy.
 fn held(alloc: Global, copy: &[u8]) -> Result<Vec<u8>, Fail> {
-    let mut record = RECORD.as_slice();
+    let mut record = TWO_TILES.as_slice();
     let mut file = Vec::new(alloc);
     let mut printed: Vec<u8> = Vec::new(alloc);
     run_take(

@@ -5,7 +5,7 @@ use sha2::{Digest, Sha256};
 use std::alloc::Global;
 use std::test::Fail;
 
-/// A case whose frame is stored, and the SHA-256 digest of its record, payload and planes, one behind the other.
+/// A case whose frame is stored, and the SHA-256 digest of its record, payload and planes, one after the other.
 type Stored = (
     SuiteTables,
     Option<(u32, u32)>,

@@ -3,7 +3,7 @@
 use ffv1_hold::{FromRead, FromWrite, HoldFileFault, Holding, TileState, read_hold, write_hold};
 use ffv1_picture::{Decoder, Partial, TileOutcome, picture};
 use ffv1_range::{Setup, SetupFault};
-use ffv1_slice::{FoundSlice, find_slices};
+use ffv1_slice::{Chain, slice_of};
 use ffv1_vectors::{
     SUITE_NUMBERS, SuiteCase, SuiteTables, cut, make_frame, make_record, suite_case, suite_frame,
     suite_record, zero,
@@ -63,27 +63,25 @@ fn rotten(
     Ok(None)
 }
 
-/// The slice of a tile among those found in a payload.
-fn slice_of_tile<'a, 'b>(found: &'a [FoundSlice<'b>], tile: usize) -> Option<&'b [u8]> {
-    found
-        .iter()
-        .find(|slice| slice.tile() == tile)
-        .map(|slice| slice.bytes())
+/// The slice of a tile that is found in a payload, the last one.
+fn slice_of_tile<'a>(setup: &Setup, payload: &'a [u8], tile: usize) -> Option<&'a [u8]> {
+    for link in Chain::new(payload) {
+        if slice_of(setup, &link) == Ok(tile) {
+            return Some(link.bytes());
+        }
+    }
+    None
 }
 
 /// Whether each tile of a holding is missing, or settled by the original's slice and then decoded.
-fn holds_of_original(
-    alloc: Global,
-    holding: &Holding,
-    original: &[FoundSlice<'_>],
-) -> Result<bool, Fail> {
+fn holds_of_original(alloc: Global, made: &Made, holding: &Holding) -> Result<bool, Fail> {
     let Partial { tiles, .. } = picture(alloc, holding)?;
     for tile in 0..holding.reel().tiles() {
         let outcome = tiles.get(tile).copied();
         let right = match holding.state(tile) {
             TileState::Missing => outcome == Some(TileOutcome::Missing),
             TileState::Settled(bytes) => {
-                Some(bytes) == slice_of_tile(original, tile)
+                Some(bytes) == slice_of_tile(&made.setup, &made.payload, tile)
                     && matches!(outcome, Some(TileOutcome::Decoded { .. }))
             }
             TileState::Disputed(_) => false,
@@ -103,27 +101,17 @@ fn is_decoded_as_original(alloc: Global, made: &Made, rotten: &[u8]) -> Result<b
 }
 
 /// Whether a rotten payload gives only slices of the original.
-fn gives_slices_of_original(
-    alloc: Global,
-    made: &Made,
-    original: &[FoundSlice<'_>],
-    rotten: &[u8],
-) -> Result<bool, Fail> {
+fn gives_slices_of_original(alloc: Global, made: &Made, rotten: &[u8]) -> Result<bool, Fail> {
     let mut holding = Holding::new(alloc, &made.record, made.size.0, made.size.1)?;
     let taken = holding.take(rotten).ok().ok_or("ample memory")?;
-    let is_original = holds_of_original(alloc, &holding, original)?;
+    let is_original = holds_of_original(alloc, made, &holding)?;
     Ok(is_original && taken.links <= rotten.len() / 8)
 }
 
 /// Whether a rotten payload gives only slices of the original, and is decoded exactly where it is the original.
-fn payload_is_judged(
-    alloc: Global,
-    made: &Made,
-    original: &[FoundSlice<'_>],
-    rotten: &[u8],
-) -> Result<bool, Fail> {
+fn payload_is_judged(alloc: Global, made: &Made, rotten: &[u8]) -> Result<bool, Fail> {
     Ok(
-        gives_slices_of_original(alloc, made, original, rotten)?
+        gives_slices_of_original(alloc, made, rotten)?
             && is_decoded_as_original(alloc, made, rotten)?,
     )
 }
@@ -167,10 +155,9 @@ fn file_of(alloc: Global, made: &Made) -> Result<Vec<u8>, Fail> {
 
 /// Whether a frame is judged rightly wherever it is cut or zeroed.
 fn frame_is_judged(alloc: Global, made: &Made, is_cut: bool) -> Result<bool, Fail> {
-    let original = find_slices(alloc, &made.setup, &made.payload)?;
     for place in 0..made.payload.len() {
         if let Some(bytes) = rotten(alloc, &made.payload, place, is_cut)? {
-            if !payload_is_judged(alloc, made, &original, &bytes)? {
+            if !payload_is_judged(alloc, made, &bytes)? {
                 return Ok(false);
             }
         }

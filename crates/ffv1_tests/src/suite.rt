@@ -205,7 +205,7 @@ fn four_tiles(alloc: Global) -> Result<Made, Fail> {
     frame_of(alloc, &case)
 }
 
-/// Where the slice of a tile stands in a payload: its first byte, and that behind its last.
+/// Where the slice of a tile stands in a payload: its first byte, and that after its last.
 fn place_of(alloc: Global, payload: &[u8], tile: usize) -> Result<(usize, usize), Fail> {
     let mut links: Vec<Link<'_>> = Chain::new(payload).collect(alloc)?;
     links.reverse();
@@ -232,7 +232,7 @@ fn hurt_in(alloc: Global, payload: &[u8], tiles: &[usize]) -> Result<Vec<u8>, Fa
 }
 
 /// A copy of a frame with a burst in the error status and the parity of tile 0.
-fn hurt_behind_first(alloc: Global, payload: &[u8]) -> Result<Vec<u8>, Fail> {
+fn hurt_after_first(alloc: Global, payload: &[u8]) -> Result<Vec<u8>, Fail> {
     let (_start, end) = place_of(alloc, payload, 0)?;
     burst_at(alloc, payload, end.wrapping_sub(5))
 }
@@ -253,7 +253,7 @@ fn are_restored(
 fn bursts_in_each_tile_are_restored_from_two_copies(rt: HostRuntime) -> Result<(), Fail> {
     let frame = four_tiles(rt.alloc())?;
     let one = hurt_in(rt.alloc(), &frame.payload, &[1, 2, 3])?;
-    let three = hurt_behind_first(rt.alloc(), &frame.payload)?;
+    let three = hurt_after_first(rt.alloc(), &frame.payload)?;
     let lines = "copy 1 links 4 slices 1 new 1\ncopy 2 links 4 slices 3 new 3\n";
     assert!(rt; are_restored(rt.alloc(), &frame, [&one, &three], lines)?);
     let lines = "copy 1 links 4 slices 3 new 3\ncopy 2 links 4 slices 1 new 1\n";

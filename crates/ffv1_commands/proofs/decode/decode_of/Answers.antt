@@ -8,7 +8,8 @@ use Rattle.ffv1_picture.specs.FrameFaults.{IsFirstFault}
 use Rattle.ffv1_commands.specs.Devices.{IfOfRecord}
 use Rattle.ffv1_commands.specs.Fault.{of_setup, of_frame}
 use Rattle.ffv1_commands.specs.SamplesText.{raw_bytes, decoded_line}
-use Rattle.ffv1_commands.specs.DecodeText.{RecordStops, FrameStops}
+use Rattle.ffv1_commands.specs.RecordInputs.{RecordStops}
+use Rattle.ffv1_commands.specs.DecodeText.{FrameStops}
 use Rattle.ffv1_commands.specs.declared.path.CommandPath.TheVariants as paths
 use Rattle.ffv1_commands.proofs.WriteSteps.{setups, setups_first}
 use Rattle.ffv1_commands.proofs.InputFaults.{IsUnwritten, untouched_both}
@@ -25,7 +26,7 @@ returns-in_err-config g c =
     let b = g.R.Source.log c.read_file.new.source in
     let stops = c.in_err-config.ensures in
     rw (p.1, p.2) (record {
-      told = inl (file_says (RecordStops a b c.args.width c.args.height) paths.Record a b (λ unread. (refl, unread)) (λ within. within) f stops, refl, (refl, refl));
+      told = inl (file_says (RecordStops c.args.width c.args.height a b) paths.Record a b (λ unread. (refl, unread)) (λ within. within) f stops, refl, (refl, refl));
       untouched = untouched_both c.args.out.now c.args.output.now f (file_says IsUnwritten paths.Record a b (λ unread. tt) (λ within. tt) f stops);
       in_turn = file_says (λ fault. IfOfRecord fault (c.args.input.now ≡ c.args.input.now)) paths.Record a b (λ unread is. refl) (λ within. tt) f stops;
     })
@@ -40,7 +41,7 @@ returns-in_err-decoder g c =
     let read = c.in_ok-config.ensures in
     let first = subst (λ (bytes : List ℕ). (f ≡ setup.Memory) ⊎ FirstSetupFault bytes c.args.width c.args.height f) c.as_slice.ensures.value
     c.in_err-decoder.ensures.fault in
-    let stops = setups_first (RecordStops a b c.args.width c.args.height) (FirstSetupFault config c.args.width c.args.height f) f
+    let stops = setups_first (RecordStops c.args.width c.args.height a b) (FirstSetupFault config c.args.width c.args.height f) f
     (config, read.read, read.few) (λ met. (config, read, met)) first in
     rw (p.1, p.2) (record {
       told = inl (stops, refl, (refl, refl));

@@ -6,7 +6,7 @@ use Rattle.ffv1_range.specs.Tables.{SetValue}
 use Rattle.ffv1_commands.specs.ShowText.{contexts_word}
 use Rattle.ffv1_commands.proofs.show.push_contexts.Goals as goal
 
--- the loop ends behind the last set
+-- the loop ends after the last set
 pub returns : goal.returns
 returns c =
     let words = flat_map (λ (set : SetValue). contexts_word set.contexts) in

@@ -1,11 +1,12 @@
-use Rattle.std.proofs.Common.{◌≡◌, List, ℕ, Bool, Err, refl, subst, ◌∙◌}
+use Rattle.std.proofs.Common.{◌≡◌, ◌⊎◌, List, ℕ, refl, subst, ◌∙◌}
 use Rattle.std.proofs.lemmas.Result.{err_from_is_err_and}
 use Rattle.ffv1_range.specs.Setup.{IsSetupOf}
-use Rattle.ffv1_range.specs.SetupForms.{setup_read}
+use Rattle.ffv1_range.specs.SetupFaults.{FirstSetupFault}
+use Rattle.ffv1_range.specs.declared.fault.SetupFault.TheVariants as refused
 use Rattle.ffv1_commands.specs.Devices.{UnlessWriting, WritesNamed}
 use Rattle.ffv1_commands.specs.ShowText.{ShowBreaks}
 use Rattle.ffv1_commands.specs.declared.path.CommandPath.TheVariants as paths
-use Rattle.ffv1_commands.proofs.WriteSteps.{setups}
+use Rattle.ffv1_commands.proofs.WriteSteps.{setups, setups_first}
 use Rattle.ffv1_commands.proofs.NamedFiles.{named-untouched}
 use Rattle.ffv1_commands.proofs.UnreadFiles.{file_says}
 use Rattle.ffv1_commands.proofs.Shows.{setup_printed}
@@ -19,7 +20,7 @@ returns-in_err-config g c =
     let printed = g.W.Sink.log output in
     let breaks = ShowBreaks c.args.width c.args.height (g.R.Source.log c.args.input.now) (g.R.Source.log c.read_file.new.source) printed printed in
     rw (p.1, p.2) (record {
-      told = file_says breaks paths.Record _ _ (λ unread. (refl, unread, refl)) (λ within. (within, refl)) f c.in_err-config.ensures;
+      told = file_says breaks paths.Record _ _ (λ unread. ((refl, unread), refl)) (λ within. (within, refl)) f c.in_err-config.ensures;
       untouched = file_says (λ fault. UnlessWriting fault (output ≡ output)) paths.Record _ _ (λ unread. refl) (λ within. refl) f
           c.in_err-config.ensures;
     })
@@ -30,13 +31,14 @@ returns-in_err-setup g c =
     let f = c.in_err-setup.field-0.0 in
     let config = c.in_ok-config.config.items in
     let took = c.in_ok-config.ensures in
-    let met = subst (λ (bytes : List ℕ). (granted : Bool) × (setup_read granted bytes c.args.width c.args.height ≡ Err f)) c.as_slice.ensures.value
-    c.in_err-setup.ensures.fault in
+    let first = subst (λ (bytes : List ℕ). (f ≡ refused.Memory) ⊎ FirstSetupFault bytes c.args.width c.args.height f) c.as_slice.ensures.value
+    c.in_err-setup.ensures.first in
     let output = c.args.output.now in
     let printed = g.W.Sink.log output in
     let breaks = ShowBreaks c.args.width c.args.height (g.R.Source.log c.args.input.now) (g.R.Source.log c.read_file.new.source) printed printed in
     rw (p.1, p.2) (record {
-      told = setups breaks f ((config, took.read, took.few), refl) ((config, met.0, took, met.1), refl);
+      told = setups_first breaks (FirstSetupFault config c.args.width c.args.height f) f ((config, took.read, took.few), refl)
+          (λ is. ((config, took, is), refl)) first;
       untouched = setups (λ fault. UnlessWriting fault (output ≡ output)) f refl refl;
     })
 
@@ -54,6 +56,6 @@ returns g c =
     let wrote = subst (WritesNamed paths.StandardOutput r _ _) (c.as_bytes.ensures.value ∙ c.in_ok-text.ensures) c.write_file.ensures.wrote in
     record {
       told = setup_printed c.args.width c.args.height _ _ _ _ setup
-          (record { config = c.in_ok-config.config.items; taken = c.in_ok-config.ensures; is_setup = is }) r wrote;
+          (record { config = c.in_ok-config.config.items; read = c.in_ok-config.ensures; is_setup = is }) r wrote;
       untouched = named-untouched paths.StandardOutput _ _ _ _ r wrote;
     }

@@ -5,7 +5,8 @@ use Rattle.ffv1_range.specs.SetupFaults.{FirstSetupFault}
 use Rattle.ffv1_range.specs.declared.fault.SetupFault.TheVariants as setup
 use Rattle.ffv1_hold.specs.Headline.{IsReelOf}
 use Rattle.ffv1_commands.specs.Devices.{UnlessWriting}
-use Rattle.ffv1_commands.specs.TakeText.{TakesEach, RecordRefuses}
+use Rattle.ffv1_commands.specs.RecordInputs.{RecordStops}
+use Rattle.ffv1_commands.specs.TakeText.{TakesEach}
 use Rattle.ffv1_commands.specs.declared.path.CommandPath.TheVariants as paths
 use Rattle.ffv1_commands.proofs.WriteSteps.{setups, setups_first}
 use Rattle.ffv1_commands.proofs.InputFaults.{untouched_both}
@@ -23,7 +24,7 @@ returns-in_err-config g c =
     let record_new = g.R.Source.log c.read_file.new.source in
     rw (p.1, p.2) (record {
       told = inl (
-        file_says (RecordRefuses c.args.width c.args.height record_old record_new) paths.Record _ _ (λ unread. (refl, unread)) (λ within. within) f
+        file_says (RecordStops c.args.width c.args.height record_old record_new) paths.Record _ _ (λ unread. (refl, unread)) (λ within. within) f
             c.in_err-config.ensures,
         refl,
         (refl, refl),
@@ -46,7 +47,7 @@ returns-in_err-holding g c =
     c.in_err-holding.ensures.fault in
     rw (p.1, p.2) (record {
       told = inl (
-        setups_first (RecordRefuses c.args.width c.args.height record_old record_new) (FirstSetupFault config c.args.width c.args.height f) f
+        setups_first (RecordStops c.args.width c.args.height record_old record_new) (FirstSetupFault config c.args.width c.args.height f) f
             (config, took.read, took.few) (λ is. (config, took, is)) first,
         refl,
         (refl, refl),

@@ -1,6 +1,6 @@
 use Rattle.std.proofs.Common.{rules, refl, inl}
 use Rattle.std.proofs.lemmas.Result.{err_from_is_err_and}
-use Rattle.ffv1_hold.specs.Merging.{Start}
+use Rattle.ffv1_hold.specs.Merging.{Start, AreVersions, IsOpened}
 use Rattle.ffv1_hold.proofs.MergeAnswers.{after_heads, never_other}
 use Rattle.ffv1_hold.proofs.JoinSteps.{JoinWent-after}
 use Rattle.ffv1_hold.proofs.merging.merge_files.Goals as goal
@@ -17,8 +17,8 @@ returns-in_err-reel g c =
       went = e.went (g.W.Sink.log c.args.sink.now);
     })
 
-pub returns-clause-ok : goal.returns-clause-ok
-returns-clause-ok g c =
+pub returns : goal.returns
+returns g c =
     let s : Start = record {
       left = (g.R.Source.log c.args.left.now).remaining;
       right = (g.Q.Source.log c.args.right.now).remaining;
@@ -28,52 +28,15 @@ returns-clause-ok g c =
       right_version = c.read_heads.new.self.rights.version;
     } in
     let o = c.in_ok-reel.ensures in
-    c.join_after_heads.ensures.ok s (record { left_is = refl; right_is = refl })
-    (record { reel = o.reel; same = search rules; left_head = o.left; right_head = o.right; unwritten = refl })
-
-pub returns-clause-most : goal.returns-clause-most
-returns-clause-most g c =
-    let s : Start = record {
-      left = (g.R.Source.log c.args.left.now).remaining;
-      right = (g.Q.Source.log c.args.right.now).remaining;
-      sink = (g.W.Sink.log c.args.sink.now).contents;
-      reel = c.in_ok-reel.reel;
-      left_version = c.read_heads.new.self.lefts.version;
-      right_version = c.read_heads.new.self.rights.version;
-    } in
-    let o = c.in_ok-reel.ensures in
-    c.join_after_heads.ensures.most s (record { left_is = refl; right_is = refl })
-    (record { reel = o.reel; same = search rules; left_head = o.left; right_head = o.right; unwritten = refl })
-
-pub returns-clause-err : goal.returns-clause-err
-returns-clause-err g c =
-    let s : Start = record {
-      left = (g.R.Source.log c.args.left.now).remaining;
-      right = (g.Q.Source.log c.args.right.now).remaining;
-      sink = (g.W.Sink.log c.args.sink.now).contents;
-      reel = c.in_ok-reel.reel;
-      left_version = c.read_heads.new.self.lefts.version;
-      right_version = c.read_heads.new.self.rights.version;
-    } in
-    let o = c.in_ok-reel.ensures in
-    after_heads _ _ _ c.join_after_heads.result
-    (c.join_after_heads.ensures.err s (record { left_is = refl; right_is = refl })
-    (record { reel = o.reel; same = search rules; left_head = o.left; right_head = o.right; unwritten = refl }))
-
-pub returns-clause-untouched : goal.returns-clause-untouched
-returns-clause-untouched g c =
-    let s : Start = record {
-      left = (g.R.Source.log c.args.left.now).remaining;
-      right = (g.Q.Source.log c.args.right.now).remaining;
-      sink = (g.W.Sink.log c.args.sink.now).contents;
-      reel = c.in_ok-reel.reel;
-      left_version = c.read_heads.new.self.lefts.version;
-      right_version = c.read_heads.new.self.rights.version;
-    } in
-    let o = c.in_ok-reel.ensures in
-    never_other _ _ _ _ c.join_after_heads.result
-    (c.join_after_heads.ensures.err s (record { left_is = refl; right_is = refl })
-    (record { reel = o.reel; same = search rules; left_head = o.left; right_head = o.right; unwritten = refl }))
-
-pub returns-clause-went : goal.returns-clause-went
-returns-clause-went g c = JoinWent-after c.join_after_heads.result _ _ _ _ _ _ (c.in_ok-reel.ensures.went (g.W.Sink.log c.args.sink.now)) c.join_after_heads.ensures.went
+    let versions : AreVersions s _ _ = record { left_is = refl; right_is = refl } in
+    let opened : IsOpened s c.in_ok-reel.reel _ _ _ _ _ =
+    record { reel = o.reel; same = search rules; left_head = o.left; right_head = o.right; unwritten = refl } in
+    let r = c.merge_after_heads.result in
+    let done = c.merge_after_heads.ensures in
+    record {
+      ok = done.ok s versions opened;
+      most = done.most s versions opened;
+      err = after_heads _ _ _ r (done.err s versions opened);
+      untouched = never_other _ _ _ _ r (done.err s versions opened);
+      went = JoinWent-after r _ _ _ _ _ _ (o.went (g.W.Sink.log c.args.sink.now)) done.went;
+    }

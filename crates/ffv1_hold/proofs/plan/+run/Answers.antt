@@ -1,14 +1,14 @@
 use Rattle.std.proofs.Common.{rules, ◌≡◌, sym, ap, ◌∙◌, subst, map, inl, inr, [], ◌∷◌}
 use Rattle.std.proofs.lemmas.Result.{IfOk-weaker, IfErr-weaker, on_ok_weaker, err_from_is_err_and}
 use Rattle.ffv1_range.specs.Setup.{IsSetupOf}
-use Rattle.ffv1_holding.specs.Contents.{Contents, holding_of, IsHolding, with_found, with_copies, joined}
-use Rattle.ffv1_holding.specs.TakeFaults.{AreShort}
+use Rattle.ffv1_pool.specs.Contents.{Contents, holding_of, IsHolding, with_found, with_copies, joined}
+use Rattle.ffv1_pool.specs.TakeFaults.{AreShort}
 use Rattle.ffv1_hold.specs.Plans.{copies_of, IsCarriedOut, IsPlanFault, IsFaultOfCopy, IsFaultOfCopies, IsRereadFault, RereadsFit}
 use Rattle.ffv1_hold.specs.Saving.{IsTooLong}
 use Rattle.ffv1_hold.specs.declared.plan.Plan.{Plan}
 use Rattle.ffv1_hold.specs.declared.plan.PlanFault.TheVariants.{Hold, Setup, File}
-use Rattle.ffv1_holding.specs.declared.fault.HoldFault.TheVariants.{Memory}
-use Rattle.ffv1_holding.proofs.ExactlyHeld.{near_exact}
+use Rattle.ffv1_pool.specs.declared.fault.HoldFault.TheVariants.{Memory}
+use Rattle.ffv1_pool.proofs.ExactlyHeld.{near_exact}
 use Rattle.ffv1_hold.proofs.PlanSteps.{after_same, after_found, after_copies, after_joined, AreShort-both, of_kept_reel, one_reel, near_of_meaning}
 use Rattle.ffv1_hold.proofs.plan.+run.Goals as goal
 

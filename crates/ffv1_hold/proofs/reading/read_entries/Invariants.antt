@@ -2,7 +2,7 @@ use Rattle.std.proofs.Common.{◌≡◌, ◌-◌, ◌++◌, IfSome, IfNone}
 use Rattle.std.specs.Io.KnownBytes.{IsAtEnd}
 use Rattle.ffv1_bits.specs.Limits.{file_limit}
 use Rattle.ffv1_hold.specs.Reading.{TakesText}
-use Rattle.ffv1_holding.specs.Contents.{IsHolding}
+use Rattle.ffv1_pool.specs.Contents.{IsHolding}
 use Rattle.ffv1_hold.specs.HoldingText.{entries_text, file_entries, IsTold}
 use Rattle.ffv1_hold.specs.FileEntries.{last_of, Follows, IsFileEntryOf, next_text}
 use Rattle.ffv1_hold.proofs.reading.read_entries.Given as goal

@@ -1,6 +1,6 @@
 use Rattle.std.proofs.Common.{length, rules, arith, ap, ◌∙◌}
 use Rattle.ffv1_hold.specs.declared.version.Version.TheVariants.{Second}
-use Rattle.ffv1_holding.specs.Reels.{Reel}
+use Rattle.ffv1_pool.specs.Reels.{Reel}
 use Rattle.ffv1_hold.specs.HoldingText.{entries_text, file_entries}
 use Rattle.ffv1_hold.proofs.Slots.{length-text}
 use Rattle.ffv1_hold.proofs.saving.fits_in_file.Goals as goal

@@ -1,5 +1,5 @@
 use Rattle.std.proofs.Common.{refl, sym, ap, ◌∙◌, arith}
-use Rattle.ffv1_hold.specs.TileStates.{standing_shown}
+use Rattle.ffv1_pool.specs.TileStates.{standing_shown}
 use Rattle.ffv1_picture.specs.ReportText.{is_settled, is_disputed, is_missing}
 use Rattle.ffv1_picture.specs.declared.reporting.Counts.{Counts}
 use Rattle.ffv1_picture.proofs.Reports.{one_more, none_more}

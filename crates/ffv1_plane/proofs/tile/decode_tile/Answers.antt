@@ -4,7 +4,7 @@ use Rattle.std.proofs.lemmas.Result.{err_from_is_err_and}
 use Rattle.ffv1_bits.specs.Bits.{bits_of}
 use Rattle.ffv1_range.proofs.Spelling.{same_ok}
 use Rattle.ffv1_plane.proofs.OneStuck.{one_answer}
-use Rattle.ffv1_plane.proofs.Pictures.{one_reading_is, picture_is, behind_place}
+use Rattle.ffv1_plane.proofs.Pictures.{one_reading_is, picture_is, after_place}
 use Rattle.ffv1_plane.proofs.Stops.{planes_refused}
 use Rattle.ffv1_plane.proofs.tile.decode_tile.Goals as goal
 
@@ -21,7 +21,7 @@ returns-in_err-planes-clause-refused c =
     let p = err_from_is_err_and c.from_residual-in_err-planes.result c.from_residual-in_err-planes.ensures.1 in
     let tile : c.in_ok-head.head.tile ≡ c.args.index = omega arith in
     let left : c.new-bits.result.left ≡ bits_of (drop c.in_ok-head.place c.args.content.now) = c.new-bits.ensures.left
-    ∙ ap bits_of (behind_place c.in_ok-head.place c.args.content.now) in
+    ∙ ap bits_of (after_place c.in_ok-head.place c.args.content.now) in
     rw (p.1, p.2)
     (planes_refused c.args.setup.now c.args.index c.args.content.now c.in_ok-head.head c.in_ok-head.place c.new-bits.result.left c.in_ok-head.ensures.found
     tile left _ c.in_err-planes.ensures.err)
@@ -31,7 +31,7 @@ returns-in_err-planes-clause-found c = λ picture is.
     let p = err_from_is_err_and c.from_residual-in_err-planes.result c.from_residual-in_err-planes.ensures.1 in
     let tile : c.in_ok-head.head.tile ≡ c.args.index = omega arith in
     let left : c.new-bits.result.left ≡ bits_of (drop c.in_ok-head.place c.args.content.now) = c.new-bits.ensures.left
-    ∙ ap bits_of (behind_place c.in_ok-head.place c.args.content.now) in
+    ∙ ap bits_of (after_place c.in_ok-head.place c.args.content.now) in
     let told = planes_refused c.args.setup.now c.args.index c.args.content.now c.in_ok-head.head c.in_ok-head.place c.new-bits.result.left
     c.in_ok-head.ensures.found tile left _ c.in_err-planes.ensures.err in
     rw (p.1, p.2) (⊎_elim (λ memory. memory) (λ refused. absurd (one_answer.no_picture c.args.setup.now c.args.index c.args.content.now _ picture
@@ -41,7 +41,7 @@ pub returns-clause-ok : goal.returns-clause-ok
 returns-clause-ok c =
     let tile : c.in_ok-head.head.tile ≡ c.args.index = omega arith in
     let left : c.new-bits.result.left ≡ bits_of (drop c.in_ok-head.place c.args.content.now) = c.new-bits.ensures.left
-    ∙ ap bits_of (behind_place c.in_ok-head.place c.args.content.now) in
+    ∙ ap bits_of (after_place c.in_ok-head.place c.args.content.now) in
     picture_is c.args.setup.now c.args.index c.args.content.now c.in_ok-head.head c.in_ok-head.place c.new-bits.result.left c.decode_planes.new.bits.left _
     c.left-spare_bits.result
     c.in_ok-head.ensures.found tile left c.in_ok-planes.ensures.ok c.left-spare_bits.ensures.value
@@ -78,7 +78,7 @@ returns-in_err-planes-clause-stuck c = λ fault plane y x is.
     let p = err_from_is_err_and c.from_residual-in_err-planes.result c.from_residual-in_err-planes.ensures.1 in
     let tile : c.in_ok-head.head.tile ≡ c.args.index = omega arith in
     let left : c.new-bits.result.left ≡ bits_of (drop c.in_ok-head.place c.args.content.now) = c.new-bits.ensures.left
-    ∙ ap bits_of (behind_place c.in_ok-head.place c.args.content.now) in
+    ∙ ap bits_of (after_place c.in_ok-head.place c.args.content.now) in
     let told = planes_refused c.args.setup.now c.args.index c.args.content.now c.in_ok-head.head c.in_ok-head.place c.new-bits.result.left
     c.in_ok-head.ensures.found tile left _ c.in_err-planes.ensures.err in
     rw (p.1, p.2)

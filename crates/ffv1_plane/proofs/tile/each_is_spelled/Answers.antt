@@ -19,7 +19,7 @@ returns-clause-fronts c = λ setup tile content head place planes fault plane y 
       words = all.words;
       spells = all.spells;
       front = front;
-      behind = all.behind;
+      later = all.later;
       begins = all.begins;
       stuck = stuck;
     }

@@ -23,6 +23,6 @@ escaped_in-requires-clause-window c = leading_escape c.in_ok-window.window _ c.i
 
 pub returns-in_ok-number-2-clause-some : goal.returns-in_ok-number-2-clause-some
 returns-in_ok-number-2-clause-some c =
-    let behind = c.in_ok-window.ensures.some in
+    let later = c.in_ok-window.ensures.some in
     begun_read c.args.bits.now c.skip-else-zeros-lt-ESCAPE_ZEROS.new.self (number_bits 56 c.in_ok-window.window)
-    (code_bits c.in_ok-number-2.number c.args.k) behind.0 20 behind.1 c.in_ok-number-2.ensures.some c.skip-else-zeros-lt-ESCAPE_ZEROS.ensures
+    (code_bits c.in_ok-number-2.number c.args.k) later.0 20 later.1 c.in_ok-number-2.ensures.some c.skip-else-zeros-lt-ESCAPE_ZEROS.ensures

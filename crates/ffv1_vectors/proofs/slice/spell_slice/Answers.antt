@@ -30,7 +30,7 @@ returns c =
     let head : List ℕ = c.in_ok-head.head.items in
     let codes : List ℕ = c.args.codes.now in
     let footer : List ℕ = c.in_ok-slice.ensures.0 in
-    let behind = c.in_ok-slice.ensures.1 in
+    let later = c.in_ok-slice.ensures.1 in
     let size = c.in_ok-slice.ensures.2 in
     let whole = c.in_ok-extend_from_slice.ensures.items in
     let place : c.len-place.result ≡ length head = c.len-place.ensures ∙ c.in_ok-head.head.ok.0 in
@@ -42,7 +42,7 @@ returns c =
       spelled = record {
         head = head;
         footer = footer;
-        joined = behind ∙ ap (λ z. z ++ footer) whole;
+        joined = later ∙ ap (λ z. z ++ footer) whole;
         footer_length = size;
         some_codes = omega (arith, header.at, length-append head codes);
         header = header;
@@ -52,7 +52,7 @@ returns c =
       };
       short = omega (
         arith,
-        ap length behind,
+        ap length later,
         length-append c.extend_from_slice.new.self.items footer,
         size,
         c.len.ensures,

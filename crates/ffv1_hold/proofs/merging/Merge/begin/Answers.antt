@@ -1,0 +1,90 @@
+use Rattle.std.proofs.Common.{◌≡◌, ◌+◌, ◌-◌, ◌<◌, length, arith, refl, ap, ◌∙◌, rules}
+use Rattle.ffv1_bits.specs.Limits.{file_limit}
+use Rattle.std.proofs.lemmas.Result.{err_from_is_err_and}
+use Rattle.ffv1_pool.specs.Reels.{Reel}
+use Rattle.ffv1_hold.proofs.JoinSteps.{AllGoOn-trans, OneStops-after, left_read, right_read, left_stops, right_stops, wrote, sink_stops}
+use Rattle.ffv1_hold.proofs.MergeStarts.{head_stops, first_left_stops, first_right_stops, left_held, right_held, opened_stands}
+use Rattle.ffv1_hold.proofs.merging.Merge.begin.Goals as goal
+
+pub returns-in_err-write_head : goal.returns-in_err-write_head
+returns-in_err-write_head g c =
+    let p = err_from_is_err_and c.from_residual.result c.from_residual.ensures.1 in
+    let e = c.in_err-write_head.ensures in
+    rw (p.1, p.2) (record {
+      left_place = tt;
+      right_place = tt;
+      left_entry = tt;
+      right_entry = tt;
+      room = tt;
+      ok = λ s is o. tt;
+      err = λ s is o.
+          head_stops s _ _ _ _ _ _ o _ c.in_err-write_head.ensures.front;
+      went = sink_stops _ _ _ _ _ _ e c.requires.left_place c.requires.right_place;
+    })
+
+pub returns-in_err-advance : goal.returns-in_err-advance
+returns-in_err-advance g c =
+    let p = err_from_is_err_and c.from_residual-in_err-advance.result c.from_residual-in_err-advance.ensures.1 in
+    let head = c.in_ok-write_head.ensures in
+    let e = c.in_err-advance.ensures in
+    rw (p.1, p.2) (record {
+      left_place = tt;
+      right_place = tt;
+      left_entry = tt;
+      right_entry = tt;
+      room = tt;
+      ok = λ s is o. tt;
+      err = λ s is o.
+          first_left_stops s _ _ _ _ _ _ o _ _ _ _ c.setup.result.now _ c.requires.left_held is.left_is c.setup.ensures.value
+          c.in_err-advance.ensures.read.fault c.in_ok-write_head.ensures.bytes';
+      went = OneStops-after _ _ _ _ _ _ (wrote _ _ _ _ _ _ head) (left_stops _ _ _ _ _ _ _ _ _ _ c.requires.right_place e.read);
+    })
+
+pub returns-in_err-advance-2 : goal.returns-in_err-advance-2
+returns-in_err-advance-2 g c =
+    let p = err_from_is_err_and c.from_residual-in_err-advance-2.result c.from_residual-in_err-advance-2.ensures.1 in
+    let head = c.in_ok-write_head.ensures in
+    let first = c.in_ok-advance.ensures in
+    let e = c.in_err-advance-2.ensures in
+    rw (p.1, p.2) (record {
+      left_place = tt;
+      right_place = tt;
+      left_entry = tt;
+      right_entry = tt;
+      room = tt;
+      ok = λ s is o. tt;
+      err = λ s is o.
+          let one = c.in_ok-advance.ensures in
+          let setup = c.setup.ensures.value in
+          let held = left_held s _ _ _ _ _ _ o _ _ _ _ _ c.setup.result.now c.requires.left_held is.left_is
+          setup one.read.text one.entry one.follows one.end in
+          first_right_stops s _ _ _ _ _ _ o _ _ _ _ _ _ _ c.setup-2.result.now _ c.requires.right_held is.right_is c.setup-2.ensures.value
+          c.in_err-advance-2.ensures.read.fault held c.in_ok-write_head.ensures.bytes';
+      went = OneStops-after _ _ _ _ _ _ (AllGoOn-trans _ _ _ _ _ _ (wrote _ _ _ _ _ _ head) (left_read _ _ _ _ _ _ _ _ first.read)) (right_stops _ _ _ _ _ _ _ _ _ _ first.read.text.within e.read);
+    })
+
+pub returns : goal.returns
+returns g c =
+    let head = c.in_ok-write_head.ensures in
+    let one = c.in_ok-advance.ensures in
+    let two = c.in_ok-advance-2.ensures in
+    let room : c.args.self.now.room - (20 + length c.config.result.now) + (20 + length c.args.reel.now.config) ≡ file_limit =
+    omega (arith, c.requires.room, ap length c.config.ensures) in
+    record {
+      left_place = one.read.text.within;
+      right_place = two.read.text.within;
+      left_entry = search rules;
+      right_entry = search rules;
+      room = omega (arith, room);
+      ok = λ s is o.
+          let left = left_held s _ _ _ _ _ _ o _ _ _ _ _ c.setup.result.now c.requires.left_held is.left_is
+          c.setup.ensures.value one.read.text one.entry one.follows one.end in
+          let right = right_held s _ _ _ _ _ _ o _ _ _ _ _ c.setup-2.result.now c.requires.right_held
+          is.right_is c.setup-2.ensures.value two.read.text two.entry two.follows two.end in (
+            record { left_is = one.version ∙ is.left_is; right_is = two.version ∙ is.right_is },
+            opened_stands s _ _ _ _ _ _ o _ _ _ _ _ _ _ _ left right head.bytes' room,
+          );
+      err = λ s is o. tt;
+      went = AllGoOn-trans _ _ _ _ _ _ (AllGoOn-trans _ _ _ _ _ _ (wrote _ _ _ _ _ _ head) (left_read _ _ _ _ _ _ _ _ one.read))
+          (right_read _ _ _ _ _ _ _ _ two.read);
+    }

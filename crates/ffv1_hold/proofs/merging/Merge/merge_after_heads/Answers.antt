@@ -1,0 +1,72 @@
+use Rattle.std.proofs.Common.{◌≡◌, ◌<◌, arith, ap, le_refl, refl, ◌∙◌}
+use Rattle.std.proofs.lemmas.Result.{err_from_is_err_and}
+use Rattle.ffv1_pool.specs.Reels.{Reel}
+use Rattle.ffv1_hold.proofs.JoinSteps.{AllGoOn-trans, OneStops-after, wrote, sink_stops, inside}
+use Rattle.ffv1_hold.proofs.MergeStarts.{full_stops, end_stops, union_written, union_within}
+use Rattle.ffv1_hold.proofs.merging.Merge.merge_after_heads.Goals as goal
+
+pub returns-in_err-begin : goal.returns-in_err-begin
+returns-in_err-begin g c =
+    let p = err_from_is_err_and c.from_residual.result c.from_residual.ensures.1 in
+    let e = c.in_err-begin.ensures in
+    rw (p.1, p.2) (record { ok = λ s is o. tt; most = λ s is o. tt; err = e.err; went = e.went })
+
+pub returns-in_err-merge_entries : goal.returns-in_err-merge_entries
+returns-in_err-merge_entries g c =
+    let p = err_from_is_err_and c.from_residual-in_err-merge_entries.result c.from_residual-in_err-merge_entries.ensures.1 in
+    let begun = c.in_ok-begin.ensures in
+    let e = c.in_err-merge_entries.ensures in
+    rw (p.1, p.2) (record {
+      ok = λ s is o. tt;
+      most = λ s is o. tt;
+      err = λ s is o.
+          let at = begun.ok s is o in
+          e.err s (c.setup.ensures.value ∙ ap (λ (x : Reel). x.setup) o.same) at.0 at.1;
+      went = OneStops-after _ _ _ _ _ _ begun.went e.went;
+    })
+
+pub returns-then-self-eq0 : goal.returns-then-self-eq0
+returns-then-self-eq0 g c =
+    let begun = c.in_ok-begin.ensures in
+    let merged = c.in_ok-merge_entries.ensures in
+    record {
+      ok = λ s is o. tt;
+      most = λ s is o. tt;
+      err = λ s is o.
+          let at = begun.ok s is o in
+          full_stops s _ _ _ _ (merged.ok s (c.setup.ensures.value ∙ ap (λ (x : Reel). x.setup) o.same) at.0 at.1) c.if-self-eq0.true;
+      went = inside _ _ _ _ _ (AllGoOn-trans _ _ _ _ _ _ begun.went merged.went) (le_refl _) (le_refl _) refl refl;
+    }
+
+pub returns-in_err-write_field : goal.returns-in_err-write_field
+returns-in_err-write_field g c =
+    let p = err_from_is_err_and c.from_residual-in_err-write_field.result c.from_residual-in_err-write_field.ensures.1 in
+    let begun = c.in_ok-begin.ensures in
+    let merged = c.in_ok-merge_entries.ensures in
+    let e = c.in_err-write_field.ensures in
+    rw (p.1, p.2) (record {
+      ok = λ s is o. tt;
+      most = λ s is o. tt;
+      err = λ s is o.
+          let at = begun.ok s is o in
+          end_stops s _ _ _ _ (merged.ok s (c.setup.ensures.value ∙ ap (λ (x : Reel). x.setup) o.same) at.0 at.1) _ (omega (arith, c.if-self-eq0.false))
+          e.front;
+      went = OneStops-after _ _ _ _ _ _ (AllGoOn-trans _ _ _ _ _ _ begun.went merged.went) (sink_stops _ _ _ _ _ _ e (le_refl _) (le_refl _));
+    })
+
+pub returns : goal.returns
+returns g c =
+    let begun = c.in_ok-begin.ensures in
+    let merged = c.in_ok-merge_entries.ensures in
+    let last = c.in_ok-write_field.ensures in
+    let some : 0 < c.merge_entries.new.self.room = omega (arith, c.if-self-eq0.false) in
+    record {
+      ok = λ s is o.
+          let at = begun.ok s is o in
+          union_written s _ _ _ _ (merged.ok s (c.setup.ensures.value ∙ ap (λ (x : Reel). x.setup) o.same) at.0 at.1) _ some last.bytes';
+      most = λ s is o.
+          let at = begun.ok s is o in
+          union_within s _ _ _ _ (merged.ok s (c.setup.ensures.value ∙ ap (λ (x : Reel). x.setup) o.same) at.0 at.1) _ some last.bytes';
+      err = λ s is o. tt;
+      went = AllGoOn-trans _ _ _ _ _ _ (AllGoOn-trans _ _ _ _ _ _ begun.went merged.went) (wrote _ _ _ _ _ _ last);
+    }

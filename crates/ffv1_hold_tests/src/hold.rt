@@ -1,0 +1,251 @@
+//! A holding file byte for byte, devices that fail after any part of it, and plans.
+use crate::streams::{Failing, Narrow};
+use ffv1_frames::{BLACK, DARK, ONE_TILE};
+use ffv1_hold::{
+    FromRead, FromWrite, HoldFileFault, Holding, Join, Plan, Sink, Source, read_hold, run,
+    write_hold,
+};
+use ffv1_range::SetupFault;
+use std::alloc::Global;
+use std::io;
+use std::io::{ErrorKind, Read};
+use std::test::Fail;
+
+/// The holding file of both of version 1: the name and the version, the size 1 x 1 and the record, an entry for each,
+/// which rise, and the end.
+const FILE: [u8; 74] = [
+    0x46, 0x46, 0x56, 0x31, 0x48, 0x4C, 0x44, 1, 0, 0, 0, 1, 0, 0, 0, 1, 0, 0, 0, 17, 0x56, 0x2B,
+    0x83, 0xBD, 0xC5, 0x3A, 0x74, 0xE9, 0xD3, 0xA7, 0x4E, 0x9D, 0x26, 0x60, 0x98, 0x8D, 0xE6, 1, 0,
+    0, 0, 0, 0, 11, 0xFD, 0xF6, 0x40, 0, 0, 3, 0, 0x17, 0x60, 0xA5, 0x79, 1, 0, 0, 0, 0, 0, 11,
+    0xFD, 0xF6, 0x80, 0, 0, 3, 0, 0x1C, 0x3E, 0xA0, 0x9B, 0,
+];
+
+/// The file of version 2 of what it means: after each slice stands that it has no origins.
+const AGAIN: [u8; 82] = [
+    0x46, 0x46, 0x56, 0x31, 0x48, 0x4C, 0x44, 2, 0, 0, 0, 1, 0, 0, 0, 1, 0, 0, 0, 0x11, 0x56, 0x2B,
+    0x83, 0xBD, 0xC5, 0x3A, 0x74, 0xE9, 0xD3, 0xA7, 0x4E, 0x9D, 0x26, 0x60, 0x98, 0x8D, 0xE6, 1, 0,
+    0, 0, 0, 0, 0x0B, 0xFD, 0xF6, 0x40, 0, 0, 3, 0, 0x17, 0x60, 0xA5, 0x79, 0, 0, 0, 0, 1, 0, 0, 0,
+    0, 0, 0x0B, 0xFD, 0xF6, 0x80, 0, 0, 3, 0, 0x1C, 0x3E, 0xA0, 0x9B, 0, 0, 0, 0, 0,
+];
+
+/// The file of a holding that took both as copies: after each slice stands the SHA-256 digest of its copy, which is the
+/// slice alone.
+const SECOND: [u8; 146] = [
+    0x46, 0x46, 0x56, 0x31, 0x48, 0x4C, 0x44, 2, 0, 0, 0, 1, 0, 0, 0, 1, 0, 0, 0, 0x11, 0x56, 0x2B,
+    0x83, 0xBD, 0xC5, 0x3A, 0x74, 0xE9, 0xD3, 0xA7, 0x4E, 0x9D, 0x26, 0x60, 0x98, 0x8D, 0xE6, 1, 0,
+    0, 0, 0, 0, 0x0B, 0xFD, 0xF6, 0x40, 0, 0, 3, 0, 0x17, 0x60, 0xA5, 0x79, 0, 0, 0, 1, 0xB0, 0xB4,
+    0xFB, 0x47, 0x52, 0x55, 0x16, 3, 0xCD, 0x48, 0x56, 0x4E, 0x7B, 0xAA, 0x85, 0xF4, 0x58, 0x19,
+    0xA1, 0xC2, 0x9D, 0xC1, 0xCC, 0x7C, 0x47, 0x23, 9, 0xD0, 0x8D, 0x5E, 0x88, 0, 1, 0, 0, 0, 0, 0,
+    0x0B, 0xFD, 0xF6, 0x80, 0, 0, 3, 0, 0x1C, 0x3E, 0xA0, 0x9B, 0, 0, 0, 1, 0x2D, 0x75, 0x79, 0xBA,
+    0xF4, 0x7B, 0x64, 0xE0, 0xC7, 0x63, 0xD9, 0x78, 0xA7, 0x60, 0x4F, 0xAA, 0x13, 0x4C, 0x6B, 0x5B,
+    0xAD, 0x2D, 0x5D, 0xE9, 0x19, 0xE8, 0xD5, 0xE7, 0x1D, 0x94, 0x7F, 0x53, 0,
+];
+
+/// A reader of bytes that goes on with zeros and never ends.
+#[derive(Drop)]
+struct Endless<'a> {
+    bytes: &'a [u8],
+}
+
+impl<'a> Read for Endless<'a> {
+    fn read(&mut self, buf: &mut [u8]) -> io::Result<usize> {
+        let mut left = self.bytes;
+        let count = left.read(buf)?;
+        self.bytes = left;
+        if count > 0 {
+            return Ok(count);
+        }
+        for byte in buf.iter_mut() {
+            *byte = 0;
+        }
+        Ok(buf.len())
+    }
+}
+
+/// The file of a holding.
+pub(crate) fn written(alloc: Global, holding: &Holding) -> Result<Vec<u8>, Fail> {
+    let mut sink = FromWrite::new(Vec::new(alloc));
+    write_hold(holding, &mut sink)?;
+    Ok(sink.into_inner())
+}
+
+/// Whether a plan for frames of one sample makes the holding of this file.
+fn makes(alloc: Global, plan: &Plan<'_>, file: &[u8]) -> Result<bool, Fail> {
+    let holding = run(alloc, plan, &ONE_TILE, 1, 1)?;
+    Ok(written(alloc, &holding)?.as_slice() == file)
+}
+
+/// Why these bytes are refused where the device after them ends, or fails first.
+fn fault_after(alloc: Global, bytes: &[u8], fails: bool) -> Option<HoldFileFault> {
+    let mut source = FromRead::new(Failing {
+        bytes,
+        kind: ErrorKind::Other,
+        times: u32::from(fails),
+    });
+    read_hold(alloc, &mut source).err()
+}
+
+/// Whether a file that is cut is told as that, and a device that fails there as that, at every place.
+fn each_front_is_told(alloc: Global, file: &[u8]) -> bool {
+    for length in 0..file.len() {
+        let front = &file[..length];
+        if fault_after(alloc, front, false) != Some(HoldFileFault::Truncated)
+            || fault_after(alloc, front, true) != Some(HoldFileFault::Read)
+        {
+            return false;
+        }
+    }
+    true
+}
+
+/// Whether a device that fails after these bytes shows this fault of them, and one that fails a byte before only itself.
+fn ends_in(alloc: Global, bytes: &[u8], fault: HoldFileFault) -> bool {
+    let Some((_, front)) = bytes.split_last() else {
+        return false;
+    };
+    fault_after(alloc, bytes, true) == Some(fault)
+        && fault_after(alloc, front, true) == Some(HoldFileFault::Read)
+}
+
+#[test]
+fn fronts_of_files_are_told(rt: HostRuntime) {
+    assert!(rt; each_front_is_told(rt.alloc(), &FILE));
+    assert!(rt; each_front_is_told(rt.alloc(), &SECOND));
+}
+
+/// Whether a sink that fails after so many bytes has that front of the file, and its failure is told and counted.
+fn has_front(alloc: Global, holding: &Holding, room: usize, file: &[u8]) -> bool {
+    let mut sink = FromWrite::new(Narrow {
+        room,
+        bytes: Vec::new(alloc),
+    });
+    let failed = write_hold(holding, &mut sink) == Err(HoldFileFault::Write);
+    let counted = sink.failures() == 1;
+    failed && counted && Some(sink.into_inner().bytes.as_slice()) == file.get(..room)
+}
+
+/// Whether a sink that fails after any number of a file's bytes does.
+fn each_front_is_left(alloc: Global, holding: &Holding, file: &[u8]) -> bool {
+    for room in 0..file.len() {
+        if !has_front(alloc, holding, room, file) {
+            return false;
+        }
+    }
+    true
+}
+
+#[test]
+fn a_failing_sink_is_told_as_that(rt: HostRuntime) -> Result<(), Fail> {
+    let holding = read_hold(rt.alloc(), &mut FromRead::new(SECOND.as_slice()))?;
+    assert!(rt; each_front_is_left(rt.alloc(), &holding, &SECOND));
+    Ok(())
+}
+
+/// Whether the holding of a file is written as this one.
+fn is_written_as(alloc: Global, file: &[u8], wanted: &[u8]) -> Result<bool, Fail> {
+    let holding = read_hold(alloc, &mut FromRead::new(file))?;
+    Ok(written(alloc, &holding)?.as_slice() == wanted)
+}
+
+#[test]
+fn a_file_of_either_version_is_written_as_one_of_the_second(rt: HostRuntime) -> Result<(), Fail> {
+    let cases: [(&[u8], &[u8]); 3] = [(&FILE, &AGAIN), (&AGAIN, &AGAIN), (&SECOND, &SECOND)];
+    for (file, wanted) in cases {
+        assert!(rt; is_written_as(rt.alloc(), file, wanted)?);
+    }
+    Ok(())
+}
+
+#[test]
+fn a_fault_that_was_read_comes_before_the_device(rt: HostRuntime) {
+    let cases = [
+        (0, 0x45, 1, HoldFileFault::Magic),
+        (3, 0, 4, HoldFileFault::Magic),
+        (7, 3, 8, HoldFileFault::Magic),
+        (16, 2, 20, HoldFileFault::TooLong),
+        (11, 0, 37, HoldFileFault::Setup(SetupFault::Size)),
+        (37, 5, 38, HoldFileFault::Tag),
+        (40, 2, 44, HoldFileFault::TooLong),
+        (39, 1, 55, HoldFileFault::NotASlice),
+        (44, 0, 55, HoldFileFault::NotASlice),
+        (64, 0x40, 73, HoldFileFault::NotASlice),
+    ];
+    for (place, value, end, fault) in cases {
+        assert!(rt; place < end && end <= FILE.len());
+        let mut changed = FILE;
+        changed[place] = value;
+        assert!(rt; ends_in(rt.alloc(), &changed[..end], fault), "at {place}");
+    }
+}
+
+#[test]
+fn an_entry_out_of_order_comes_before_the_device(rt: HostRuntime) {
+    for (second, first) in [(37, 55), (55, 55)] {
+        let mut changed = FILE;
+        changed[37..55].copy_from_slice(&FILE[first..first + 18]);
+        changed[55..73].copy_from_slice(&FILE[second..second + 18]);
+        assert!(rt; ends_in(rt.alloc(), &changed[..73], HoldFileFault::Order));
+    }
+}
+
+#[test]
+fn too_many_digests_come_before_the_device(rt: HostRuntime) {
+    // 2^26 are not too many, and one more are.
+    let mut changed = SECOND;
+    changed[55] = 4;
+    changed[58] = 0;
+    let fault = fault_after(rt.alloc(), &changed[..59], true);
+    assert!(rt; fault == Some(HoldFileFault::Read));
+    changed[58] = 1;
+    assert!(rt; ends_in(rt.alloc(), &changed[..59], HoldFileFault::TooLong));
+}
+
+#[test]
+fn a_digest_out_of_order_comes_before_the_device(rt: HostRuntime) {
+    // Both digests after the first slice, with the greater one first, or one of them twice.
+    for (first, second) in [(59, 113), (59, 59)] {
+        let mut changed = SECOND;
+        changed[58] = 2;
+        changed[59..91].copy_from_slice(&SECOND[first..first + 32]);
+        changed[91..123].copy_from_slice(&SECOND[second..second + 32]);
+        assert!(rt; ends_in(rt.alloc(), &changed[..123], HoldFileFault::Order));
+    }
+}
+
+#[test]
+fn a_reader_that_never_ends_shows_its_first_fault(rt: HostRuntime) {
+    let cases = [
+        (0, HoldFileFault::Magic, 1),
+        (74, HoldFileFault::Trailing, 75),
+    ];
+    for (length, fault, taken) in cases {
+        let mut endless = FromRead::new(Endless {
+            bytes: &FILE[..length],
+        });
+        let shown = read_hold(rt.alloc(), &mut endless).err();
+        assert!(rt; shown == Some(fault) && endless.taken() == taken);
+    }
+}
+
+/// Two copies, one after the other.
+fn one_by_one<'a>(alloc: Global, first: &'a [u8], second: &'a [u8]) -> Result<Plan<'a>, Fail> {
+    let only_first = Plan::Take(Box::new(alloc, Plan::New)?, first);
+    Ok(Plan::Take(Box::new(alloc, only_first)?, second))
+}
+
+/// A list of copies, through a file, joined with nothing.
+fn through_a_file<'a>(alloc: Global, copies: &'a [&'a [u8]]) -> Result<Plan<'a>, Fail> {
+    let all = Plan::TakeAll(Box::new(alloc, Plan::New)?, copies);
+    let read = Plan::Reread(Box::new(alloc, all)?);
+    Ok(Plan::Join(Box::new(alloc, read)?, Box::new(alloc, Plan::New)?))
+}
+
+#[test]
+fn plans_of_the_same_copies_give_one_file(rt: HostRuntime) -> Result<(), Fail> {
+    let copies: [&[u8]; 3] = [&DARK, &BLACK, &DARK];
+    let one = one_by_one(rt.alloc(), &BLACK, &DARK)?;
+    assert!(rt; makes(rt.alloc(), &one, &SECOND)?);
+    let other = through_a_file(rt.alloc(), &copies)?;
+    assert!(rt; makes(rt.alloc(), &other, &SECOND)?);
+    Ok(())
+}

@@ -1,0 +1,247 @@
+//! Two holding files that are joined as streams: beside `join`, cut and changed at every byte, on devices that fail.
+use crate::hold::written;
+use crate::holding::held_of;
+use crate::streams::{Failing, Narrow};
+use ffv1_frames::{BLACK, DARK, ONE_TILE};
+use ffv1_hold::{
+    FromRead, FromWrite, HoldFileFault, Holding, Join, Sink, Source, join_streams, read_hold,
+};
+use std::alloc::Global;
+use std::io::ErrorKind;
+use std::test::Fail;
+
+/// Another copy with the first of them, and junk after it.
+const TWICE: [u8; 19] = [
+    0xFD, 0xF6, 0x80, 0, 0, 3, 0, 0x1C, 0x3E, 0xA0, 0x9B, 0, 0, 0, 0, 0, 0, 0, 0,
+];
+
+/// The file of version 1 of the first of them.
+const FIRST: [u8; 56] = [
+    0x46, 0x46, 0x56, 0x31, 0x48, 0x4C, 0x44, 1, 0, 0, 0, 1, 0, 0, 0, 1, 0, 0, 0, 0x11, 0x56, 0x2B,
+    0x83, 0xBD, 0xC5, 0x3A, 0x74, 0xE9, 0xD3, 0xA7, 0x4E, 0x9D, 0x26, 0x60, 0x98, 0x8D, 0xE6, 1, 0,
+    0, 0, 0, 0, 0x0B, 0xFD, 0xF6, 0x80, 0, 0, 3, 0, 0x1C, 0x3E, 0xA0, 0x9B, 0,
+];
+
+/// The file of the holding of these copies, of frames of this width and one line.
+fn file_of(alloc: Global, copies: &[&[u8]], width: u32) -> Result<Vec<u8>, Fail> {
+    written(alloc, &held_of(alloc, &ONE_TILE, (width, 1), copies)?)
+}
+
+/// What two files come to as streams, and what was written.
+fn merged(alloc: Global, left: &[u8], right: &[u8]) -> (Result<(), HoldFileFault>, Vec<u8>) {
+    let mut sink = FromWrite::new(Vec::new(alloc));
+    let answer = join_streams(
+        alloc,
+        &mut FromRead::new(left),
+        &mut FromRead::new(right),
+        &mut sink,
+    );
+    (answer, sink.into_inner())
+}
+
+/// Joins the holding of a file to another.
+fn join_file(alloc: Global, whole: &mut Holding, file: &[u8]) -> Result<(), Fail> {
+    let other = read_hold(alloc, &mut FromRead::new(file))?;
+    whole.join_with(&other)?;
+    Ok(())
+}
+
+/// The file of the union of two files' holdings.
+fn joined(alloc: Global, left: &[u8], right: &[u8]) -> Result<Vec<u8>, Fail> {
+    let mut whole = read_hold(alloc, &mut FromRead::new(left))?;
+    join_file(alloc, &mut whole, right)?;
+    written(alloc, &whole)
+}
+
+/// The files of no slice, of each of two, of both, of one with two origins, and of one without.
+fn files(alloc: Global) -> Result<Vec<Vec<u8>>, Fail> {
+    let mut files = Vec::new(alloc);
+    files.push(file_of(alloc, &[], 1)?)?;
+    files.push(file_of(alloc, &[&BLACK], 1)?)?;
+    files.push(file_of(alloc, &[&DARK], 1)?)?;
+    files.push(file_of(alloc, &[&BLACK, &DARK], 1)?)?;
+    // A slice in two copies, and one of version 1.
+    files.push(file_of(alloc, &[&BLACK, &TWICE], 1)?)?;
+    files.push(Vec::from_slice(alloc, &FIRST)?)?;
+    Ok(files)
+}
+
+/// Whether two files are refused as streams, and leave no file. Where they are not, they have to come to what `join` makes.
+fn is_refused(alloc: Global, left: &[u8], right: &[u8]) -> Result<bool, Fail> {
+    let (answer, file) = merged(alloc, left, right);
+    if answer.is_err() {
+        if read_hold(alloc, &mut FromRead::new(file.as_slice())).is_ok() {
+            return Err(Fail::from("a file beside a fault"));
+        }
+        return Ok(true);
+    }
+    if file != joined(alloc, left, right)? {
+        return Err(Fail::from("another file than join's"));
+    }
+    Ok(false)
+}
+
+#[test]
+fn streams_come_to_what_join_makes(rt: HostRuntime) -> Result<(), Fail> {
+    let alloc = rt.alloc();
+    let files = files(alloc)?;
+    for left in &files {
+        for right in &files {
+            assert!(rt; !is_refused(alloc, left, right)?);
+        }
+    }
+    Ok(())
+}
+
+/// Whether a cut file among two is told, and what was written is a front of their union's file, without its end.
+fn is_cut_off(alloc: Global, left: &[u8], right: &[u8], union: &[u8]) -> bool {
+    let (answer, file) = merged(alloc, left, right);
+    answer == Err(HoldFileFault::Truncated) && file.len() < union.len() && union.starts_with(&file)
+}
+
+#[test]
+fn a_cut_input_leaves_no_end(rt: HostRuntime) -> Result<(), Fail> {
+    let alloc = rt.alloc();
+    let both = file_of(alloc, &[&BLACK, &DARK], 1)?;
+    let dark = file_of(alloc, &[&DARK], 1)?;
+    for place in 0..both.len() {
+        assert!(rt; is_cut_off(alloc, &both[..place], &dark, &both));
+        assert!(rt; is_cut_off(alloc, &dark, &both[..place], &both));
+    }
+    Ok(())
+}
+
+#[test]
+fn a_changed_byte_leaves_no_file(rt: HostRuntime) -> Result<(), Fail> {
+    let alloc = rt.alloc();
+    let both = file_of(alloc, &[&BLACK, &DARK], 1)?;
+    let dark = file_of(alloc, &[&DARK], 1)?;
+    let mut refused = 0usize;
+    for place in 0..both.len() {
+        let mut changed = both.clone()?;
+        changed[place] ^= 0xFF;
+        let is_first = is_refused(alloc, &changed, &dark)?;
+        let is_second = is_refused(alloc, &dark, &changed)?;
+        assert!(rt; is_first == is_second);
+        refused = refused.saturating_add(usize::from(is_first));
+    }
+    // A changed digest is another copy's: there are two of 32 bytes.
+    assert!(rt; refused == both.len().saturating_sub(64));
+    Ok(())
+}
+
+/// Whether a sink that fails after so many bytes of a file of 146 has that front of it, and no more of its entries, which
+/// end at 91 and 145, was read than is needed.
+fn has_front(alloc: Global, file: &[u8], right: &[u8], room: usize) -> bool {
+    let mut sink = FromWrite::new(Narrow {
+        room,
+        bytes: Vec::new(alloc),
+    });
+    let mut left = FromRead::new(file);
+    let answer = join_streams(alloc, &mut left, &mut FromRead::new(right), &mut sink);
+    let lead = if room < 91 {
+        91
+    } else if room < 145 {
+        145
+    } else {
+        146
+    };
+    answer == Err(HoldFileFault::Write)
+        && left.taken() <= lead
+        && Some(sink.into_inner().bytes.as_slice()) == file.get(..room)
+}
+
+/// Whether it does so after any number of them.
+fn each_front_is_left(alloc: Global, file: &[u8], right: &[u8]) -> bool {
+    for room in 0..file.len() {
+        if !has_front(alloc, file, right, room) {
+            return false;
+        }
+    }
+    file.len() == 146
+}
+
+#[test]
+fn a_failed_write_leaves_a_front_and_reads_no_further(rt: HostRuntime) -> Result<(), Fail> {
+    let alloc = rt.alloc();
+    let both = file_of(alloc, &[&BLACK, &DARK], 1)?;
+    let black = file_of(alloc, &[&BLACK], 1)?;
+    assert!(rt; each_front_is_left(alloc, &both, &black));
+    Ok(())
+}
+
+/// What a file that fails after its bytes comes to with another one, as the first or the second input, and what was written.
+fn failed(
+    alloc: Global,
+    file: &[u8],
+    other: &[u8],
+    is_second: bool,
+) -> (Result<(), HoldFileFault>, Vec<u8>) {
+    let mut failing = FromRead::new(Failing {
+        bytes: file,
+        kind: ErrorKind::Other,
+        times: 1,
+    });
+    let mut whole = FromRead::new(other);
+    let mut sink = FromWrite::new(Vec::new(alloc));
+    let answer = if is_second {
+        join_streams(alloc, &mut whole, &mut failing, &mut sink)
+    } else {
+        join_streams(alloc, &mut failing, &mut whole, &mut sink)
+    };
+    (answer, sink.into_inner())
+}
+
+/// Whether that is told, and what was written is a front of their union's file, without its end.
+fn is_failure_told(alloc: Global, file: &[u8], other: &[u8], union: &[u8]) -> bool {
+    for is_second in [false, true] {
+        let (answer, front) = failed(alloc, file, other, is_second);
+        if answer != Err(HoldFileFault::Read)
+            || front.as_slice() == union
+            || !union.starts_with(&front)
+        {
+            return false;
+        }
+    }
+    true
+}
+
+#[test]
+fn an_input_that_fails_is_told_and_leaves_no_end(rt: HostRuntime) -> Result<(), Fail> {
+    let alloc = rt.alloc();
+    let both = file_of(alloc, &[&BLACK, &DARK], 1)?;
+    let dark = file_of(alloc, &[&DARK], 1)?;
+    for place in 0..=both.len() {
+        assert!(rt; is_failure_told(alloc, &both[..place], &dark, &both));
+    }
+    Ok(())
+}
+
+/// What joining a file, after which tries are interrupted so many times in a row, with itself answers.
+fn interrupted(alloc: Global, file: &[u8], times: u32) -> Result<(), HoldFileFault> {
+    let mut left = FromRead::new(Failing {
+        bytes: file,
+        kind: ErrorKind::Interrupted,
+        times,
+    });
+    let mut sink = FromWrite::new(Vec::new(alloc));
+    join_streams(alloc, &mut left, &mut FromRead::new(file), &mut sink)
+}
+
+#[test]
+fn interrupted_streams_are_tried_again(rt: HostRuntime) -> Result<(), Fail> {
+    let black = file_of(rt.alloc(), &[&BLACK], 1)?;
+    assert!(rt; interrupted(rt.alloc(), &black, 64).is_ok());
+    assert!(rt; interrupted(rt.alloc(), &black, 65) == Err(HoldFileFault::Read));
+    Ok(())
+}
+
+#[test]
+fn heads_of_two_reels_are_told_before_anything_is_written(rt: HostRuntime) -> Result<(), Fail> {
+    let alloc = rt.alloc();
+    let black = file_of(alloc, &[&BLACK], 1)?;
+    let other = file_of(alloc, &[], 2)?;
+    let (answer, file) = merged(alloc, &black, &other);
+    assert!(rt; answer == Err(HoldFileFault::OtherReel) && file.is_empty());
+    Ok(())
+}

@@ -1,0 +1,148 @@
+use Rattle.std.proofs.Common.{◌≡◌, List, ℕ, map, ap, sym, ◌∙◌, subst, refl, arith}
+use Rattle.std.proofs.lemmas.Result.{err_from_is_err_and}
+use Rattle.sha2.specs.Sha256.{sha256}
+use Rattle.ffv1_range.specs.Setup.{SetupValue}
+use Rattle.ffv1_slice.specs.Slices.{found_slices}
+use Rattle.ffv1_pool.specs.Sets as set
+use Rattle.ffv1_pool.specs.SliceOrder.{entry_cmp, origin_cmp, entries_total, entries_antisymmetric}
+use Rattle.ffv1_pool.specs.TileSets.{TileSlices, with_more}
+use Rattle.ffv1_pool.specs.PoolEntries.{entry_in, IsPool}
+use Rattle.ffv1_pool.specs.declared.pool_entry.PoolEntry.{PoolEntry}
+use Rattle.ffv1_pool.specs.Contents.{Contents, IsEntryOf, AreEntriesOf, AreHeld, AreWhole, origins_of_copy, with_facts, with_found}
+use Rattle.ffv1_pool.specs.HoldingParts.{IsKept}
+use Rattle.ffv1_pool.specs.declared.holding.Holding.TheInside.{Inside}
+use Rattle.ffv1_pool.proofs.Errors.{error_is}
+use Rattle.ffv1_pool.proofs.EntrySteps.{all-union}
+use Rattle.ffv1_pool.proofs.Digests.{length-sha256}
+use Rattle.ffv1_pool.proofs.OriginSteps.{held_union, whole_union, held_marked, whole_marked, marked_same}
+use Rattle.ffv1_pool.proofs.TileUnions.{tiles-grown, slices-grown, origins-grown, size_grown}
+use Rattle.ffv1_pool.proofs.holding.Holding.take.Goals as goal
+
+pub returns-then-payload-gt-PAYLOAD_LIMIT : goal.returns-then-payload-gt-PAYLOAD_LIMIT
+returns-then-payload-gt-PAYLOAD_LIMIT c = record { ok = tt; short = tt; links = tt; slices = tt; new = tt; fault = omega arith; err = refl }
+
+pub returns-in_err-links : goal.returns-in_err-links
+returns-in_err-links c =
+    let p = err_from_is_err_and c.from_residual.result c.from_residual.ensures.1 in
+    let memory = error_is c.in_err-links.ensures.memory in
+    rw (p.1, p.2, memory) (record { ok = tt; short = tt; links = tt; slices = tt; new = tt; fault = omega arith; err = refl })
+
+pub returns-in_err-put_in_order : goal.returns-in_err-put_in_order
+returns-in_err-put_in_order c =
+    let p = err_from_is_err_and c.from_residual-in_err-put_in_order.result c.from_residual-in_err-put_in_order.ensures.1 in
+    rw (p.1, p.2) (record { ok = tt; short = tt; links = tt; slices = tt; new = tt; fault = omega arith; err = refl })
+
+pub insert_copy-requires : goal.insert_copy-requires
+insert_copy-requires c = subst (IsPool c.args.payload.now) (sym c.deref.ensures.value) c.in_ok-put_in_order.ensures.ok
+
+pub invariant_of-self : goal.invariant_of-self
+invariant_of-self c =
+    let kept = λ (held : TileSlices). let a : Inside = record { reel = c.self.inside.reel; held = held } in IsKept a in
+    subst kept (sym c.in_err-insert_copy.ensures.err) c.self.invariant
+
+pub returns-in_err-insert_copy : goal.returns-in_err-insert_copy
+returns-in_err-insert_copy c =
+    let p = err_from_is_err_and c.from_residual-in_err-insert_copy.result c.from_residual-in_err-insert_copy.ensures.1 in
+    let memory = error_is c.in_err-insert_copy.ensures.memory in
+    let whole = λ (held : TileSlices). let h : Contents = record { reel = c.self.inside.reel; slices = held.slices; origins = held.origins } in h in
+    rw (p.1, p.2, memory) (record {
+      ok = tt;
+      short = tt;
+      links = tt;
+      slices = tt;
+      new = tt;
+      fault = omega arith;
+      err = ap whole c.in_err-insert_copy.ensures.err ∙ c.self.view_is;
+    })
+
+abbrev slices_in : SetupValue → List ℕ → set.SetOf entry_cmp
+slices_in setup copy = set.from_list (found_slices setup copy)
+
+abbrev origins_in : SetupValue → List ℕ → set.SetOf origin_cmp
+origins_in setup copy = set.from_list (origins_of_copy setup copy)
+
+-- a pool with the entries of a copy has what is found in it
+grown : (old new : TileSlices) (setup : SetupValue) (copy : List ℕ) (found listed : List PoolEntry)
+    → new ≡ with_more old (set.from_list (map (entry_in copy) found)) (set.from_list (map (λ e. (e, sha256 copy)) (map (entry_in copy) found)))
+    → set.from_list {R = entry_cmp} (map (entry_in copy) found) ≡ set.from_list (map (entry_in copy) listed)
+    → map (entry_in copy) listed ≡ found_slices setup copy → new ≡ with_more old (slices_in setup copy) (origins_in setup copy)
+grown old new setup copy found listed added same is =
+    let all = same ∙ ap set.from_list is in
+    let marked = marked_same (sha256 copy) (map (entry_in copy) found) (found_slices setup copy) all in
+    added ∙ (λ i. with_more old (all i) (marked i))
+
+grown_first : (c : goal.After-size) → c.insert_copy.new.self ≡ with_more c.self.inside.held (slices_in c.setup.result.now c.args.payload.now)
+    (origins_in c.setup.result.now c.args.payload.now)
+grown_first c =
+    let copy = c.args.payload.now in
+    let origins = λ (es : List PoolEntry). set.from_list {R = origin_cmp} (map (λ e. (e, sha256 copy)) (map (entry_in copy) es)) in
+    grown c.self.inside.held c.insert_copy.new.self c.setup.result.now copy c.put_in_order.new.entries.items c.list_found.new.found.items
+    (c.in_ok-insert_copy.ensures.ok
+    ∙ (λ i. with_more c.self.inside.held (set.from_list (map (entry_in copy) (c.deref.ensures.value i))) (origins (c.deref.ensures.value i))))
+    c.in_ok-put_in_order.ensures.same c.in_ok-links.ensures.found
+
+pub overflow_sub-new : goal.overflow_sub-new
+overflow_sub-new c =
+    let setup = c.setup.result.now in
+    let more = size_grown c.self.inside.held c.insert_copy.new.self (slices_in setup c.args.payload.now)
+    (origins_in setup c.args.payload.now) (grown_first c) in
+    omega (arith, more, c.size.ensures, c.size-before.ensures)
+
+grown_last : (c : goal.After-drop-found-2) → c.insert_copy.new.self ≡ with_more c.self.inside.held (slices_in c.setup.result.now c.args.payload.now)
+    (origins_in c.setup.result.now c.args.payload.now)
+grown_last c =
+    let copy = c.args.payload.now in
+    let origins = λ (es : List PoolEntry). set.from_list {R = origin_cmp} (map (λ e. (e, sha256 copy)) (map (entry_in copy) es)) in
+    grown c.self.inside.held c.insert_copy.new.self c.setup.result.now copy c.put_in_order.new.entries.items c.list_found.new.found.items
+    (c.in_ok-insert_copy.ensures.ok
+    ∙ (λ i. with_more c.self.inside.held (set.from_list (map (entry_in copy) (c.deref.ensures.value i))) (origins (c.deref.ensures.value i))))
+    c.in_ok-put_in_order.ensures.same c.in_ok-links.ensures.found
+
+pub invariant_of-self-2 : goal.invariant_of-self-2
+invariant_of-self-2 c =
+    let setup = c.setup.result.now in
+    let copy = c.args.payload.now in
+    let old = c.self.inside.held in
+    let new = grown_last c in
+    let slices = slices_in setup copy in
+    let origins = origins_in setup copy in
+    let held = held_union old.slices slices old.origins origins c.self.invariant.origins_held (held_marked (sha256 copy) (found_slices setup copy)) in
+    let whole = whole_union old.origins origins c.self.invariant.digests_whole (whole_marked (sha256 copy) (found_slices setup copy) (length-sha256 copy)) in
+    record {
+      reel = c.self.invariant.reel;
+      tiles = tiles-grown old c.insert_copy.new.self slices origins new ∙ c.self.invariant.tiles;
+      slices = subst (AreEntriesOf c.self.inside.reel.setup) (sym (slices-grown old c.insert_copy.new.self slices origins new))
+          (all-union entries_total entries_antisymmetric (IsEntryOf c.self.inside.reel.setup) old.slices slices c.self.invariant.slices
+          (subst (λ (s : SetupValue). AreEntriesOf s slices) c.setup.ensures.value c.in_ok-links.ensures.sound));
+      origins_held = subst (λ (h : TileSlices). AreHeld h.slices h.origins) (sym new) held;
+      digests_whole = subst AreWhole (sym (origins-grown old c.insert_copy.new.self slices origins new)) whole;
+    }
+
+pub returns-clause-new : goal.returns-clause-new
+returns-clause-new c =
+    let setup = c.setup.result.now in
+    let more = size_grown c.self.inside.held c.insert_copy.new.self (slices_in setup c.args.payload.now) (origins_in setup c.args.payload.now) (grown_last c) in
+    omega (arith, more, c.size.ensures, c.size-before.ensures, ap (λ (h : Contents). set.size h.slices) c.self.view_is)
+
+pub returns-clause-ok : goal.returns-clause-ok
+returns-clause-ok c =
+    let copy = c.args.payload.now in
+    let whole = λ (held : TileSlices). let h : Contents = record { reel = c.self.inside.reel; slices = held.slices; origins = held.origins } in h in
+    ap whole (grown_last c)
+    ∙ ap (λ (setup : SetupValue). with_facts (whole c.self.inside.held) (slices_in setup copy) (origins_in setup copy)) c.setup.ensures.value
+    ∙ ap (λ (h : Contents). with_found h copy) c.self.view_is
+
+pub list_found-requires-clause-short : goal.list_found-requires-clause-short
+list_found-requires-clause-short c = omega arith
+
+pub returns-clause-links : goal.returns-clause-links
+returns-clause-links c = c.in_ok-links.ensures.links
+
+pub returns-clause-short : goal.returns-clause-short
+returns-clause-short c = omega arith
+
+pub returns-clause-fault : goal.returns-clause-fault
+returns-clause-fault c = tt
+
+pub returns-clause-err : goal.returns-clause-err
+returns-clause-err c = tt

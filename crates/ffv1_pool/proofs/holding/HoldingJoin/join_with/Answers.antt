@@ -1,0 +1,86 @@
+use Rattle.std.proofs.Common.{◌≡◌, Result, Err, rules, sym, ap, ◌∙◌, subst, arith}
+use Rattle.std.proofs.lemmas.Result.{err_from_is_err_and}
+use Rattle.ffv1_pool.specs.declared.fault.HoldFault.{HoldFault}
+use Rattle.ffv1_pool.specs.declared.fault.HoldFault.TheVariants.{OtherReel, PayloadTooLong, Memory}
+use Rattle.ffv1_pool.specs.Sets as set
+use Rattle.ffv1_pool.specs.SliceOrder.{entries_total, entries_antisymmetric}
+use Rattle.ffv1_pool.specs.Reels.{Reel}
+use Rattle.ffv1_pool.specs.TileSets.{TileSlices}
+use Rattle.ffv1_pool.specs.Contents.{Contents, joined, IsEntryOf, AreEntriesOf, AreHeld, AreWhole}
+use Rattle.ffv1_pool.specs.HoldingParts.{contents, IsKept}
+use Rattle.ffv1_pool.specs.declared.holding.Holding.TheInside.{Inside}
+use Rattle.ffv1_pool.proofs.Errors.{error_is}
+use Rattle.ffv1_pool.proofs.EntrySteps.{all-union}
+use Rattle.ffv1_pool.proofs.OriginSteps.{held_union, whole_union}
+use Rattle.ffv1_pool.proofs.TileUnions.{tiles-grown, slices-grown, origins-grown, size_grown}
+use Rattle.ffv1_pool.proofs.holding.HoldingJoin.join_with.Goals as goal
+
+memory_is_no_other : {T : Type 0} → (let r : Result T HoldFault = Err Memory in r) ≡ Err OtherReel → ⊥
+memory_is_no_other same = cc
+
+memory_is_not_long : {T : Type 0} → (let r : Result T HoldFault = Err Memory in r) ≡ Err PayloadTooLong → ⊥
+memory_is_not_long same = cc
+
+-- what is shown is of one reel where what is kept is
+reels_shown : (a b : Inside) {x y : Contents} → contents a ≡ x → contents b ≡ y → a.reel ≡ b.reel → x.reel ≡ y.reel
+reels_shown a b x y same = ap (λ (h : Contents). h.reel) (sym x) ∙ same ∙ ap (λ (h : Contents). h.reel) y
+
+pub invariant_of-self : goal.invariant_of-self
+invariant_of-self c =
+    let kept = λ (held : TileSlices). let a : Inside = record { reel = c.self.inside.reel; held = held } in IsKept a in
+    subst kept (sym c.in_err-join.ensures.err) c.self.invariant
+
+pub returns-in_err-join : goal.returns-in_err-join
+returns-in_err-join c =
+    let p = err_from_is_err_and c.from_residual.result c.from_residual.ensures.1 in
+    let memory = error_is c.in_err-join.ensures.memory in
+    let whole = λ (held : TileSlices). let h : Contents = record { reel = c.self.inside.reel; slices = held.slices; origins = held.origins } in h in
+    rw (p.1, p.2, memory) (record {
+      joined = tt;
+      growth = tt;
+      fits = tt;
+      joinable = tt;
+      other_reel = λ e. absurd (memory_is_no_other e);
+      memory = λ _. reels_shown c.self.inside c.other.inside c.self.view_is c.other.view_is (search rules);
+      too_long = memory_is_not_long;
+      err = ap whole c.in_err-join.ensures.err ∙ c.self.view_is;
+    })
+
+pub returns-clause-joined : goal.returns-clause-joined
+returns-clause-joined c =
+    let whole = λ (held : TileSlices). let h : Contents = record { reel = c.self.inside.reel; slices = held.slices; origins = held.origins } in h in
+    ap whole c.in_ok-join.ensures.ok ∙ (λ i. joined (c.self.view_is i) (c.other.view_is i))
+
+pub returns-clause-fits : goal.returns-clause-fits
+returns-clause-fits c = omega (arith, c.size.ensures, c.size.type_inv)
+
+pub returns-clause-joinable : goal.returns-clause-joinable
+returns-clause-joinable c = reels_shown c.self.inside c.other.inside c.self.view_is c.other.view_is (search rules)
+
+pub overflow_sub-result : goal.overflow_sub-result
+overflow_sub-result c =
+    let more = size_grown c.self.inside.held c.join.new.self c.other.inside.held.slices c.other.inside.held.origins c.in_ok-join.ensures.ok in
+    omega (arith, more, c.size.ensures, c.size-before.ensures)
+
+pub invariant_of-self-2 : goal.invariant_of-self-2
+invariant_of-self-2 c =
+    let same : c.self.inside.reel ≡ c.other.inside.reel = search rules in
+    let old = c.self.inside.held in
+    let more = c.other.inside.held in
+    let slices = slices-grown old c.join.new.self more.slices more.origins c.in_ok-join.ensures.ok in
+    let origins = origins-grown old c.join.new.self more.slices more.origins c.in_ok-join.ensures.ok in
+    let held = held_union old.slices more.slices old.origins more.origins c.self.invariant.origins_held c.other.invariant.origins_held in
+    record {
+      reel = c.self.invariant.reel;
+      tiles = tiles-grown old c.join.new.self more.slices more.origins c.in_ok-join.ensures.ok ∙ c.self.invariant.tiles;
+      slices = subst (AreEntriesOf c.self.inside.reel.setup) (sym slices)
+          (all-union entries_total entries_antisymmetric (IsEntryOf c.self.inside.reel.setup) old.slices more.slices c.self.invariant.slices
+          (subst (λ (r : Reel). AreEntriesOf r.setup more.slices) (sym same) c.other.invariant.slices));
+      origins_held = subst (λ (h : TileSlices). AreHeld h.slices h.origins) (sym c.in_ok-join.ensures.ok) held;
+      digests_whole = subst AreWhole (sym origins) (whole_union old.origins more.origins c.self.invariant.digests_whole c.other.invariant.digests_whole);
+    }
+
+pub returns-clause-growth : goal.returns-clause-growth
+returns-clause-growth c =
+    let more = size_grown c.self.inside.held c.join.new.self c.other.inside.held.slices c.other.inside.held.origins c.in_ok-join.ensures.ok in
+    omega (arith, more, c.size.ensures, c.size-before.ensures, ap (λ (h : Contents). set.size h.slices) c.self.view_is)

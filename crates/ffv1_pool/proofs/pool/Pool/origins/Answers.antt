@@ -1,0 +1,41 @@
+use Rattle.std.proofs.Common.{◌≡◌, ◌<◌, length, map, get_or, sym, ap, ◌∙◌, arith}
+use Rattle.std.proofs.lemmas.List.{length-map, get_or-map}
+use Rattle.ffv1_pool.specs.Sets as set
+use Rattle.ffv1_pool.specs.SliceOrder.{Entry, entry_cmp, entries_total}
+use Rattle.ffv1_pool.specs.TileSets.{TileSlices, digests_in}
+use Rattle.ffv1_pool.specs.PoolEntries.{entry_in}
+use Rattle.ffv1_pool.specs.Rows.{rows_in}
+use Rattle.ffv1_pool.proofs.RisingSets.{contains_placed, contains_gap}
+use Rattle.ffv1_pool.proofs.pool.Pool.origins.Goals as goal
+
+pub returns-in-Ok-clause-digests : goal.returns-in-Ok-clause-digests
+returns-in-Ok-clause-digests c =
+    let kept = c.self.inside in
+    let key : Entry = (c.args.tile, c.args.slice.now) in
+    let at = c.in-Ok.ensures.found in
+    let lt : c.in-Ok.place < length c.deref-2.result.now =
+    omega (arith, at.in_range, length-map c.deref-2.result.now (entry_in c.deref.result.now)) in
+    let listed : entry_in c.deref.result.now (get_or c.deref-2.result.now c.in-Ok.place c.index.result.now) ≡ key =
+    sym (get_or-map (entry_in c.deref.result.now) c.deref-2.result.now c.in-Ok.place c.index.result.now key lt) ∙ at.is_there key in
+    let entry : entry_in kept.bytes.items c.index.result.now ≡ key =
+    ap (entry_in kept.bytes.items) c.index.ensures
+    ∙ (λ i. entry_in (sym c.deref.ensures.value i) (get_or (sym c.deref-2.ensures.value i) c.in-Ok.place c.index.result.now)) ∙ listed in
+    let origins = ap (λ (h : TileSlices). h.origins) c.self.view_is in
+    c.digests_of.ensures.digests
+    ∙ (λ i. digests_in (set.from_list (rows_in (c.deref-in-Ok.ensures.value i) (c.deref-in-Ok-2.ensures.value i) (c.deref-in-Ok-3.ensures.value i)))
+    (entry_in (c.deref-in-Ok.ensures.value i) c.index.result.now))
+    ∙ (λ i. digests_in (origins i) (entry i))
+
+pub returns-in-Ok-clause-held : goal.returns-in-Ok-clause-held
+returns-in-Ok-clause-held c =
+    let key : Entry = (c.args.tile, c.args.slice.now) in
+    ap (λ (h : TileSlices). set.contains h.slices key) (sym c.self.view_is)
+    ∙ (λ i. set.contains (set.from_list {R = entry_cmp} (map (entry_in (sym c.deref.ensures.value i)) (sym c.deref-2.ensures.value i))) key)
+    ∙ contains_placed entries_total _ key _ c.in-Ok.ensures.found
+
+pub returns-in-Err-clause-absent : goal.returns-in-Err-clause-absent
+returns-in-Err-clause-absent c =
+    let key : Entry = (c.args.tile, c.args.slice.now) in
+    ap (λ (h : TileSlices). set.contains h.slices key) (sym c.self.view_is)
+    ∙ (λ i. set.contains (set.from_list {R = entry_cmp} (map (entry_in (sym c.deref.ensures.value i)) (sym c.deref-2.ensures.value i))) key)
+    ∙ contains_gap entries_total _ key _ c.in-Err.ensures.absent

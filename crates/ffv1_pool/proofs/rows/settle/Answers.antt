@@ -1,0 +1,53 @@
+use Rattle.std.proofs.Common.{ℕ, ◌<◌, List, length, map, get_or, sym, ap, refl, ◌∙◌, subst, arith}
+use mathlib.Core.Bool.{true≢false}
+use Rattle.std.proofs.lemmas.List.{length-set}
+use Rattle.ffv1_pool.specs.Sets as set
+use Rattle.ffv1_pool.specs.SliceOrder.{Entry, entry_cmp, entries_total}
+use Rattle.ffv1_pool.specs.Rising.{IsGapFor, IsPlaceOf}
+use Rattle.ffv1_pool.specs.PoolEntries.{entry_in}
+use Rattle.ffv1_pool.specs.declared.fresh.Fresh.{Fresh}
+use Rattle.ffv1_pool.specs.declared.pool_entry.PoolEntry.{PoolEntry}
+use Rattle.ffv1_pool.proofs.RisingSets.{contains_gap}
+use Rattle.ffv1_pool.proofs.Settling.{settled_more, settled_left}
+use Rattle.ffv1_pool.proofs.rows.settle.Goals as goal
+use Rattle.ffv1_pool.proofs.rows.settle.Goals.{in-Ok, in_default}
+
+abbrev no_entry : PoolEntry
+no_entry = record { tile = 0; start = 0; length = 0; status = 0 }
+
+abbrev nothing : Fresh PoolEntry
+nothing = record { place = 0; item = no_entry }
+
+pub loop-index-init : goal.loop-index-init
+loop-index-init c = record { long = refl; done = λ i d lt. absurd (omega arith); left = λ i d ge. refl }
+
+pub loop-index-preserved : goal.loop-index-preserved
+loop-index-preserved c =
+    let inv = c.loop-index.invariant in
+    let from = c.args.from.now in
+    let bytes = c.args.bytes.now in
+    let es = c.args.entries.now in
+    let old = c.args.owners.now in
+    let now = c.loop-index.owners in
+    let i = c.loop-index.index in
+    let f = get_or now i nothing in
+    let lt : i < length now = omega (arith, c.loop-index-test.true, inv.long) in
+    let entry = λ (b : List ℕ). let x : Entry = (f.item.tile, b) in x in
+    elim c.match-place_of.branch [
+      | in-Ok w ↦
+          let found = subst (λ b. IsPlaceOf (map (entry_in bytes) es) (entry b) w.in-Ok.at) c.slice.ensures w.in-Ok.ensures.found in
+          rw w.owners-is (record {
+            long = length-set now i (record { place = f.place; item = get_or es w.in-Ok.at no_entry }) ∙ inv.long;
+            done = settled_more from bytes es c.requires.pool.each old now i lt inv.long inv.done inv.left nothing w.in-Ok.at no_entry found;
+            left = settled_left from bytes es c.requires.pool.each old now i lt inv.long inv.done inv.left nothing w.in-Ok.at no_entry found;
+          })
+      | in_default w ↦
+          let key = entry_in from f.item in
+          let gap = subst (λ b. IsGapFor entry_cmp (map (entry_in bytes) es) (entry b) w.in_default.field-0) c.slice.ensures w.in_default.ensures.absent in
+          let held = ap (λ (g : Fresh PoolEntry). set.contains (set.from_list {R = entry_cmp} (map (entry_in bytes) es)) (entry_in from g.item))
+          (inv.left i nothing (omega arith)) ∙ c.requires.held i nothing (omega (arith, inv.long)) in
+          absurd (true≢false (sym held ∙ contains_gap entries_total (map (entry_in bytes) es) key w.in_default.field-0 gap))
+    ]
+
+pub returns : goal.returns
+returns c = let inv = c.loop-index.invariant in record { long = inv.long; each = λ i d lt. inv.done i d (omega (arith, c.loop-index-test.false)) }

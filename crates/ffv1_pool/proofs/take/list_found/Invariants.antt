@@ -1,0 +1,24 @@
+use Rattle.std.proofs.Common.{◌≡◌, ℕ, ◌<◌, ◌++◌, List, length, map, get_or}
+use Rattle.std.specs.List.{filter_map, AllByRecursion}
+use Rattle.ffv1_slice.specs.Chain.{Piece, IsLinkOf, piece_of}
+use Rattle.ffv1_slice.specs.Slices.{slice_at}
+use Rattle.ffv1_slice.specs.Walk.{links_of}
+use Rattle.ffv1_pool.specs.Contents.{IsEntryOf}
+use Rattle.ffv1_pool.specs.PoolEntries.{entry_in, AreEntriesIn}
+use Rattle.ffv1_pool.specs.declared.pool_entry.PoolEntry.{PoolEntry}
+use Rattle.ffv1_pool.proofs.take.list_found.Given as goal
+
+-- the slices among the links passed so far are listed
+abbrev pub invariant-loop-link : goal.invariant-loop-link
+invariant-loop-link l = record {
+  passed : List Piece;
+  whole : passed ++ l.chain.left ≡ links_of l.payload;
+  links : l.links ≡ length passed;
+  pieces : AllByRecursion (λ piece. (q : ℕ) × IsLinkOf l.payload piece.start q × (piece ≡ piece_of l.payload piece.start q)) l.chain.left;
+  listed : map (entry_in l.payload) l.found.items ≡ filter_map (slice_at l.setup) passed;
+  lie : AreEntriesIn l.payload l.found.items;
+  sound : (i : ℕ) (d : PoolEntry) → i < length l.found.items → IsEntryOf l.setup (entry_in l.payload (get_or l.found.items i d));
+}
+
+abbrev pub decreases-loop-link : goal.decreases-loop-link
+decreases-loop-link l = length l.chain.left

@@ -1,0 +1,163 @@
+//! Which copies gave the slices of a pool (own): rows of a slice's entry, the owner, and the SHA-256 digest of a copy.
+ghost use Rattle.std.specs.Prelude.{◌≡◌, ℕ, ◌+◌, ◌<◌, ◌≤◌, true, length, map, slice_index_or, vec_len, vec_capacity, IfOk, IfErr, OnErr};
+ghost use Rattle.ffv1_pool.specs.Sets as set;
+ghost use Rattle.ffv1_pool.specs.SliceOrder.{entry_cmp, origin_cmp};
+ghost use Rattle.ffv1_pool.specs.Rising.{IsPlaceOf, IsGapFor};
+ghost use Rattle.ffv1_pool.specs.PoolEntries.{entry_in, IsPool};
+ghost use Rattle.ffv1_pool.specs.TileSets.{digests_in};
+ghost use Rattle.ffv1_pool.specs.Contents.{AreHeld, AreDigests};
+ghost use Rattle.ffv1_pool.specs.Fresh.{AreAllFresh};
+ghost use Rattle.ffv1_pool.specs.Rows.{rows_in, rows_of, IsRows, AreRows, IsRowPart, fresh_rows_in, AreFreshRows, AreSettled};
+
+use crate::fault::HoldFault;
+use crate::fresh::{Fresh, place_of, spread};
+use crate::pool_entry::PoolEntry;
+use std::alloc::Global;
+
+/// Rows, which rise by the owner's slice and then by digest.
+#[derive(Clone, Copy)]
+pub(crate) struct Rows<'a> {
+    /// Where the slices of the owners lie.
+    pub(crate) bytes: &'a [u8],
+    pub(crate) owners: &'a [PoolEntry],
+    /// As many digests, each at its owner's place.
+    pub(crate) digests: &'a [[u8; 32]],
+}
+
+/// Rows that are not held, and the places of the rows before which they go, among those that are held.
+#[derive(Drop)]
+pub(crate) struct FreshRows {
+    pub(crate) owners: Vec<Fresh<PoolEntry>>,
+    /// As many digests, each with its owner's place.
+    pub(crate) digests: Vec<Fresh<[u8; 32]>>,
+}
+
+/// From where and up to where the rows of a slice stand.
+fn row_part(rows: Rows<'_>, tile: usize, slice: &[u8]) -> (usize, usize)
+    requires { AreRows rows }
+    ensures { IsRowPart rows.entry.bytes.now rows.entry.owners.now (tile, slice.now) result.0 result.1 }
+{
+    let Rows { bytes, owners, .. } = rows;
+    let start = owners.partition_point(|owner| owner.compare(bytes, tile, slice).is_lt());
+    let end = owners.partition_point(|owner| owner.compare(bytes, tile, slice).is_le());
+    (start, end)
+}
+
+/// From where and up to where the rows of an entry's slice stand. The entry lies in the bytes of the rows; where it is
+/// their owner, no byte of the slice is looked at.
+fn part_of(rows: Rows<'_>, entry: PoolEntry) -> (usize, usize)
+    requires { AreRows rows }
+    ensures { IsRowPart rows.entry.bytes.now rows.entry.owners.now (entry_in rows.entry.bytes.now entry) result.0 result.1 }
+{
+    let Rows { bytes, owners, .. } = rows;
+    let start = owners.partition_point(|owner| owner.compare_to(bytes, entry).is_lt());
+    let end = owners.partition_point(|owner| owner.compare_to(bytes, entry).is_le());
+    (start, end)
+}
+
+/// The digests of the rows of an entry's slice, which lies in the bytes of the rows.
+pub(crate) fn digests_of<'a>(rows: Rows<'a>, entry: PoolEntry) -> &'a [[u8; 32]]
+    requires { AreRows rows }
+    ensures digests { result.now ≡ digests_in (set.from_list (rows_of rows.entry)) (entry_in rows.entry.bytes.now entry) }
+    ensures rising { AreDigests result.now }
+{
+    let (start, end) = part_of(rows, entry);
+    &rows.digests[start..end]
+}
+
+/// Where the row of a slice and a digest is, or where it would go.
+fn place_of_row(
+    rows: Rows<'_>,
+    tile: usize,
+    slice: &[u8],
+    digest: &[u8; 32],
+) -> Result<usize, usize>
+    requires { AreRows rows }
+    ensures found { IfOk result (IsPlaceOf (rows_of rows.entry) ((tile, slice.now), digest.now)) }
+    ensures absent { IfErr result (IsGapFor origin_cmp (rows_of rows.entry) ((tile, slice.now), digest.now)) }
+{
+    let (start, end) = row_part(rows, tile, slice);
+    let digests = rows.digests;
+    let part = &digests[start..end];
+    match part.binary_search_by(|held| held.as_slice().cmp(digest.as_slice())) {
+        Ok(place) => Ok(start + place),
+        Err(place) => Err(start + place),
+    }
+}
+
+/// Of rows that come, those that are not among the held ones.
+pub(crate) fn fresh_rows(
+    alloc: Global,
+    held: Rows<'_>,
+    coming: Rows<'_>,
+) -> Result<FreshRows, HoldFault>
+    requires held { AreRows held }
+    requires coming { AreRows coming }
+    ensures fresh { IfOk result (λ fresh. AreFreshRows (rows_of held.entry) coming.entry.bytes.now fresh.owners.items fresh.digests.items) }
+    ensures all { IfOk result (λ fresh. AreAllFresh origin_cmp (rows_of held.entry) (rows_of coming.entry)
+        (fresh_rows_in coming.entry.bytes.now fresh.owners.items fresh.digests.items)) }
+    ensures memory { OnErr result (result ≡ Err HoldFault.Memory) }
+{
+    let mut owners = Vec::new(alloc);
+    let mut digests = Vec::new(alloc);
+    for (index, owner) in coming.owners.iter().enumerate() {
+        let digest = coming.digests[index];
+        let found = place_of_row(held, owner.tile, owner.slice(coming.bytes), &digest);
+        if let Err(place) = found {
+            owners.push(Fresh {
+                place,
+                item: *owner,
+            })?;
+            digests.push(Fresh {
+                place,
+                item: digest,
+            })?;
+        }
+    }
+    Ok(FreshRows { owners, digests })
+}
+
+/// Puts new rows, whose owners' slices lie in `from`, among the others, with the entries of the same slices in `bytes`
+/// as their owners. Each of these slices has to be there, and there has to be room.
+pub(crate) fn put_rows(
+    from: &[u8],
+    bytes: &[u8],
+    entries: &[PoolEntry],
+    owners: &mut Vec<PoolEntry>,
+    digests: &mut Vec<[u8; 32]>,
+    fresh: &mut FreshRows,
+)
+    requires pool { IsPool bytes.now entries.now }
+    requires rows { IsRows bytes.now owners.old.items digests.old.items }
+    requires fresh { AreFreshRows (rows_in bytes.now owners.old.items digests.old.items) from.now fresh.old.owners.items fresh.old.digests.items }
+    requires held { AreHeld (set.from_list (map (entry_in bytes.now) entries.now))
+        (set.from_list (fresh_rows_in from.now fresh.old.owners.items fresh.old.digests.items)) }
+    requires room { vec_len owners.old + length fresh.old.owners.items ≤ vec_capacity owners.old }
+    requires places { vec_len digests.old + length fresh.old.digests.items ≤ vec_capacity digests.old }
+    ensures rows { IsRows bytes.now owners.new.items digests.new.items }
+    ensures origins { set.from_list {R = origin_cmp} (rows_in bytes.now owners.new.items digests.new.items)
+        ≡ set.union (set.from_list (rows_in bytes.now owners.old.items digests.old.items))
+        (set.from_list (fresh_rows_in from.now fresh.old.owners.items fresh.old.digests.items)) }
+{
+    settle(from, bytes, entries, &mut fresh.owners);
+    spread(owners, &fresh.owners);
+    spread(digests, &fresh.digests);
+}
+
+/// Puts in place of new owners, whose slices lie in `from`, the entries of the same slices, which all have to be there.
+fn settle(from: &[u8], bytes: &[u8], entries: &[PoolEntry], owners: &mut [Fresh<PoolEntry>])
+    requires pool { IsPool bytes.now entries.now }
+    requires held { (i : ℕ) (d : Fresh PoolEntry) → i < length owners.old
+        → set.contains (set.from_list {R = entry_cmp} (map (entry_in bytes.now) entries.now)) (entry_in from.now (slice_index_or owners.old i d).item) ≡ true }
+    ensures { AreSettled from.now bytes.now owners.old owners.new }
+{
+    for index in 0..owners.len() {
+        let Fresh { place, item } = owners[index];
+        if let Ok(at) = place_of(bytes, entries, item.tile, item.slice(from)) {
+            owners[index] = Fresh {
+                place,
+                item: entries[at],
+            };
+        }
+    }
+}
