@@ -15,8 +15,8 @@ use ffv1_hold::{FromRead, HoldFileFault, Sink, Source, ThroughWrite, join_stream
 use std::alloc::Global;
 use std::io::{Read, Write};
 
-/// Joins two holding files as streams, and writes the file of their union to `out`: an entry of each is held, and one
-/// more while it is compared with the one before it, however long the files are. Nothing is printed.
+/// Joins two holding files as streams, and writes the file of their union to `out`. At most one entry of each input is
+/// held, however long the files are: the next one is read over it. Nothing is printed.
 ///
 /// The file is the one that `join` writes of both. `Read` of the inputs comes where one of them fails; `HoldFile`
 /// with the first fault of one of them, with `OtherReel` where their heads are of another record, width or height,
