@@ -80,8 +80,8 @@ module _ {T : Type 0} (width height : ℕ) (config config' input input' : ReadLo
   record_bytes : (f : CliFault) → RecordStops width height config config' f → OfBytes (Err f)
   record_bytes f stops =
       RecordStops-says (λ f. OfBytes (Err f)) width height config config' f (record { ok = tt; err = inl refl; names = tt })
-          (record { ok = tt; err = tt; names = tt })
-          (λ fault bytes read first. record { ok = tt; err = (bytes, whole config config' bytes read, first); names = tt }) stops
+      (record { ok = tt; err = tt; names = tt })
+      (λ fault bytes read first. record { ok = tt; err = (bytes, whole config config' bytes read, first); names = tt }) stops
 
   module _ (setup : SetupValue) (set : TakesSetup width height config config' setup) where
     frame_bytes : (f : CliFault) → FrameStops setup input input' f → OfBytes (Err f)

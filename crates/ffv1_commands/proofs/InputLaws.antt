@@ -1,8 +1,10 @@
 -- What is told of inputs that were read.
-use Rattle.std.proofs.Common.{◌≡◌, ℕ, ◌<◌, List, [], ◌∷◌, ◌++◌, ◌+◌, ◌≤◌, ◌≢◌, length, get_or, set, take, map, Option, None, refl, sym, ap, ◌∙◌, arith}
-use Rattle.std.proofs.lemmas.List.{get_or-map, take_more, length-map, length-take-le, get_or-set_other, take_all}
+use Rattle.std.proofs.Common.{◌≡◌, ℕ, ◌<◌, List, [], ◌∷◌, ◌++◌, ◌+◌, ◌≤◌, length, get_or, take, map, Option, None, refl, sym, ap, ◌∙◌, subst, arith}
+use Rattle.std.proofs.lemmas.List.{get_or-map, take_more, length-map, length-take-le, take_all}
 use Rattle.std.proofs.KnownBytes.{Consumes-whole}
+use Rattle.ffv1_devices.specs.Logs.{ReadLog}
 use Rattle.ffv1_commands.specs.Devices.{ReadsWhole, Tells, IsWholeInput, AreWholeInputs}
+use Rattle.ffv1_commands.specs.InTurn.{log_of, ReadsAlone, IsTaken, AreTaken}
 
 -- what was read to the end is what the input has
 pub tells_whole : (before after : Option (List ℕ)) (bytes : List ℕ) → ReadsWhole before after bytes → Tells before bytes
@@ -11,18 +13,31 @@ tells_whole before after bytes whole = Consumes-whole before after bytes (λ tol
 pub whole_input : (before after : Option (List ℕ)) (bytes : List ℕ) → ReadsWhole before after bytes → IsWholeInput before bytes
 whole_input before after bytes whole = record { told = tells_whole before after bytes whole; few = whole.few }
 
-pub AreWholeInputs-push : (inputs : List (Option (List ℕ))) (all : List (List ℕ)) (input : Option (List ℕ)) (bytes : List ℕ) → AreWholeInputs inputs all
-    → IsWholeInput input bytes → AreWholeInputs (inputs ++ input ∷ []) (all ++ bytes ∷ [])
-AreWholeInputs-push [] [] input bytes each one = (one, tt)
-AreWholeInputs-push [] (b ∷ bs) input bytes each one = absurd each
-AreWholeInputs-push (i ∷ is) [] input bytes each one = absurd each
-AreWholeInputs-push (i ∷ is) (b ∷ bs) input bytes each one = (each.0, AreWholeInputs-push is bs input bytes each.1 one)
-
 pub length-AreWholeInputs : (inputs : List (Option (List ℕ))) (all : List (List ℕ)) → AreWholeInputs inputs all → length inputs ≡ length all
 length-AreWholeInputs [] [] each = refl
 length-AreWholeInputs [] (b ∷ bs) each = absurd each
 length-AreWholeInputs (i ∷ is) [] each = absurd each
 length-AreWholeInputs (i ∷ is) (b ∷ bs) each = let rest = length-AreWholeInputs is bs each.1 in omega arith
+
+-- ---- inputs that were read, each by a source of its own
+
+-- one was read by a source that began so
+pub read_alone : (Went : ReadLog → ReadLog → Type 0) (input : Option (List ℕ)) (a b : ReadLog) → a ≡ log_of input → Went a b → ReadsAlone Went input
+read_alone Went input a b same went = (b, subst (λ (log : ReadLog). Went log b) same went)
+
+pub AreTaken-push : (inputs : List (Option (List ℕ))) (all : List (List ℕ)) (input : Option (List ℕ)) (bytes : List ℕ) → AreTaken inputs all
+    → IsTaken input bytes → AreTaken (inputs ++ input ∷ []) (all ++ bytes ∷ [])
+AreTaken-push [] [] input bytes each one = (one, tt)
+AreTaken-push [] (b ∷ bs) input bytes each one = absurd each
+AreTaken-push (i ∷ is) [] input bytes each one = absurd each
+AreTaken-push (i ∷ is) (b ∷ bs) input bytes each one = (each.0, AreTaken-push is bs input bytes each.1 one)
+
+pub taken_whole : (inputs : List (Option (List ℕ))) (all : List (List ℕ)) → AreTaken inputs all → AreWholeInputs inputs all
+taken_whole [] [] each = tt
+taken_whole [] (b ∷ bs) each = absurd each
+taken_whole (i ∷ is) [] each = absurd each
+taken_whole (i ∷ is) (b ∷ bs) ((log, took), rest) =
+    (whole_input i log.remaining b (record { taken = took.read.bytes'; end = took.end; few = took.few }), taken_whole is bs rest)
 
 -- ---- a list of inputs that are read in turn
 
@@ -44,8 +59,3 @@ module _ {C : Type 0} (tells : C → Option (List ℕ)) where
 
   pub inputs_all : (old : List C) (i : ℕ) → length old ≤ i → take i (map tells old) ≡ map tells old
   inputs_all old i le = let few : length (map tells old) ≤ i = omega (arith, length-map old tells) in take_all i (map tells old) few
-
--- those after the one that was read are as they were
-pub others_kept : {C : Type 0} (old now : List C) (i : ℕ) (new : C) → ((k : ℕ) (d : C) → i ≤ k → get_or now k d ≡ get_or old k d) → (k : ℕ) (d : C)
-    → i + 1 ≤ k → get_or (set now i new) k d ≡ get_or old k d
-others_kept old now i new same k d le = let other : k ≢ i = λ e. omega arith in get_or-set_other now i k new d other ∙ same k d (omega arith)

@@ -1,6 +1,6 @@
 -- What joining files tells of them and of the outputs.
-use Rattle.std.proofs.Common.{◌≡◌, ◌≢◌, ℕ, suc, ◌+◌, ◌<◌, List, [], ◌∷◌, ◌++◌, length, map, drop, get_or, Option, None, IfSome, Result, Ok, Err, OnOk, IfErr, refl, sym, ap, ◌∙◌, subst, inl, inr, arith}
-use Rattle.std.specs.Prelude.{◌⊎◌}
+use Rattle.std.proofs.Common.{◌≡◌, ◌≢◌, ℕ, suc, ◌+◌, ◌<◌, List, [], ◌∷◌, ◌++◌, length, map, get_or, Option, None, IfSome, Result, Ok, Err, OnOk, IfErr, refl, sym, ap, ◌∙◌, subst, inl, inr, arith}
+use Rattle.std.proofs.KnownBytes.{Consumes-nil}
 use Rattle.std.proofs.lemmas.List.{length-map}
 use Rattle.ffv1_pool.specs.declared.fault.HoldFault.{HoldFault}
 use Rattle.ffv1_pool.specs.declared.fault.HoldFault.TheVariants as holds
@@ -8,10 +8,12 @@ use Rattle.ffv1_devices.specs.Logs.{ReadLog, WriteLog}
 use Rattle.ffv1_pool.specs.Sets as set
 use Rattle.ffv1_pool.specs.Contents.{Contents, IsSameReel}
 use Rattle.ffv1_hold.specs.FileFaults.{IsFaultOf, ReadsHolding}
+use Rattle.ffv1_hold.specs.declared.file_fault.HoldFileFault.TheVariants as files
 use Rattle.ffv1_commands.specs.Fault.{NamesPath, of_hold}
 use Rattle.ffv1_commands.specs.Paths.{IsJoinPath}
+use Rattle.ffv1_commands.specs.InTurn.{AreKeptFrom, log_of, ReadsAlone}
 use Rattle.ffv1_commands.specs.Holdings.{IsHoldingFile, MadeStops, WritesMade}
-use Rattle.ffv1_commands.specs.JoinText.{file_line, JoinsEach, JoinsOne, JoinsFiles, IsJoinFault, IsFaultOfFiles, IsFaultOfFile, StopsAtPlace, LaterFilesKept, JoinStops, FileBreaks, JoinsFile, JoinsAll, StopsAtFile, TellsJoin}
+use Rattle.ffv1_commands.specs.JoinText.{file_line, JoinsEach, JoinsOne, JoinsFiles, IsFaultOfFiles, IsFaultOfFile, StopsAtPlace, LaterFilesKept, JoinStops, IsHeld, AreHeld, FileBreaks, JoinBreaks, JoinsAll, StopsAtFile, TellsJoin}
 use Rattle.ffv1_commands.specs.declared.fault.CliFault.{CliFault}
 use Rattle.ffv1_commands.specs.declared.fault.CliFault.TheVariants as faults
 use Rattle.ffv1_commands.specs.declared.path.CommandPath.{CommandPath}
@@ -23,34 +25,36 @@ use Rattle.ffv1_commands.proofs.MadeFiles.{made_says, made_bytes}
 
 -- ---- one file
 
-module _ (before : ℕ) (a b : ReadLog) (old new : Contents) (lines lines' : List ℕ) where
-  -- a file that was read and joined is joined as its input tells
-  pub file_joined : {T : Type 0} (r : Result T CliFault) → JoinsFile r before old new lines lines' a b
-      → OnOk r (JoinsOne (IsHoldingFile a.remaining) (before + 1) old new lines lines')
-  file_joined (Ok x) one = record {
-    other = one.other;
-    file = held_file a b one.other one.file;
-    same = one.same;
-    held = one.held;
-    line = one.line;
-  }
-  file_joined (Err fault) breaks = tt
+-- a file that was read and joined is joined as its input tells
+abbrev file_joined : (a b : ReadLog) (number : ℕ) (old new : Contents) (lines lines' : List ℕ) → JoinsOne (ReadsHolding a b) number old new lines lines'
+    → JoinsOne (IsHoldingFile a.remaining) number old new lines lines'
+file_joined a b number old new lines lines' one = record {
+  other = one.other;
+  file = held_file a b one.other one.file;
+  same = one.same;
+  held = one.held;
+  line = one.line;
+}
 
-  pub file_unjoined : {T : Type 0} (r : Result T CliFault) → JoinsFile r before old new lines lines' a b
-      → IfErr r (IsJoinFault (paths.Hold before) a.remaining old)
-  file_unjoined (Ok x) one = tt
-  file_unjoined (Err fault) (inl (inl stops)) =
-      IsHoldingFault-says (IsJoinFault (paths.Hold before) a.remaining old) (paths.Hold before) a.remaining fault refl tt (λ file is. is)
-      (unread_file a b (paths.Hold before) fault stops)
-  file_unjoined (Err fault) (inl (inr (is, read))) = subst (IsJoinFault (paths.Hold before) a.remaining old) (sym is) tt
-  file_unjoined (Err fault) (inr (is, (other, read, differs))) =
-      subst (IsJoinFault (paths.Hold before) a.remaining old) (sym is) (refl, (other, held_file a b other read, differs))
+-- where the buffer of a file is refused nothing is read
+pub unbuffered : (path : CommandPath) (whole : Contents) (input : Option (List ℕ)) → ReadsAlone (JoinBreaks path whole faults.Memory) input
+unbuffered path whole input = (
+  log_of input,
+  inl (inl (
+    files.Memory,
+    refl,
+    record {
+      fault = record { seen = []; is = inl (inl (omega arith, refl)); taken = Consumes-nil input; within = omega arith };
+      tries' = record { counted = omega arith; unbroken = refl; last = inr refl };
+      few = omega arith;
+    },
+  )),
+)
 
 -- a file that was read is refused for its reel, or memory was
 pub join_refused : (before : ℕ) (a b : ReadLog) (whole other : Contents) → ReadsHolding a b other → (r : Result ℕ HoldFault) (fault : HoldFault)
     → r ≡ Err fault → (r ≡ Err holds.OtherReel → ¬ IsSameReel whole other) → r ≢ Err holds.PayloadTooLong
-    → FileBreaks (paths.Hold before) (of_hold fault) a b
-    ⊎ ((of_hold fault ≡ faults.Hold holds.OtherReel) × ((other : Contents) × ReadsHolding a b other × (¬ IsSameReel whole other)))
+    → JoinBreaks (paths.Hold before) whole (of_hold fault) a b
 join_refused before a b whole other read r holds.OtherReel was differs short = inr (refl, (other, read, differs was))
 join_refused before a b whole other read r holds.PayloadTooLong was differs short = absurd (short was)
 join_refused before a b whole other read r holds.Memory was differs short = inl (inr (refl, (other, read)))
@@ -59,14 +63,23 @@ join_refused before a b whole other read r holds.Memory was differs short = inl 
 
 pub all_first : (a b : ReadLog) (h : Contents) (text : List ℕ) → text ≡ file_line 1 (set.size h.slices) → ReadsHolding a b h
     → JoinsAll [] a b h text
-all_first a b h text told read = record { each = joins_first a.remaining h text told (held_file a b h read); first = read }
+all_first a b h text told read = record { each = joins_first a.remaining h text told (held_file a b h read); first = read; others = tt }
+
+AreHeld-push : (inputs : List (Option (List ℕ))) (hs : List Contents) (input : Option (List ℕ)) (h : Contents) → AreHeld inputs hs → IsHeld input h
+    → AreHeld (inputs ++ input ∷ []) (hs ++ h ∷ [])
+AreHeld-push [] [] input h each one = (one, tt)
+AreHeld-push [] (g ∷ gs) input h each one = absurd each
+AreHeld-push (i ∷ is) [] input h each one = absurd each
+AreHeld-push (i ∷ is) (g ∷ gs) input h each one = (each.0, AreHeld-push is gs input h each.1 one)
 
 pub all_more : (inputs : List (Option (List ℕ))) (a b : ReadLog) (old new : Contents) (before after : List ℕ) (input : Option (List ℕ)) (i : ℕ)
-    → JoinsAll inputs a b old before → i ≡ length inputs → JoinsOne (IsHoldingFile input) (i + 1 + 1) old new before after
+    (log : ReadLog) → JoinsAll inputs a b old before → i ≡ length inputs → JoinsOne (ReadsHolding (log_of input) log) (i + 1 + 1) old new before after
     → JoinsAll (inputs ++ input ∷ []) a b new after
-all_more inputs a b old new before after input i all n one = record {
-  each = joins_more (a.remaining ∷ inputs) old new before after input (i + 1) all.each (omega (arith, n)) one;
+all_more inputs a b old new before after input i log all n one = record {
+  each = joins_more (a.remaining ∷ inputs) old new before after input (i + 1) all.each (omega (arith, n))
+      (file_joined (log_of input) log (i + 1 + 1) old new before after one);
   first = all.first;
+  others = AreHeld-push inputs all.each.others input one.other all.others (log, one.file);
 }
 
 -- the same inputs, written otherwise
@@ -79,28 +92,23 @@ all_as inputs others a b whole text same all = subst (λ (i : List (Option (List
 -- a later file's fault, where those before it were joined
 module _ (first input : Option (List ℕ)) (rest : List (Option (List ℕ))) (i : ℕ) (at : get_or rest i None ≡ input)
     (whole of_first : Contents) (file : IsHoldingFile first of_first) (same : whole.reel ≡ of_first.reel) where
-  other_refused : (fault : CliFault) → IsJoinFault (paths.Hold (i + 1)) input whole fault → IsFaultOfFile (first ∷ rest) (suc i) fault
-  other_refused (faults.Read path) stops = let next : i + 1 ≡ suc i = omega arith in stops ∙ ap paths.Hold next
-  other_refused (faults.Hold fault) (is, (other, other_file, differs)) = (
-    is,
+  other_refused : (fault : CliFault) → ReadsAlone (JoinBreaks (paths.Hold (i + 1)) whole fault) input → IsFaultOfFile (first ∷ rest) (suc i) fault
+  other_refused fault (log, inl (inl stops)) =
+      let next : i + 1 ≡ suc i = omega arith in
+      IsHoldingFault-says (IsFaultOfFile (first ∷ rest) (suc i)) (paths.Hold (i + 1)) input fault (ap paths.Hold next) tt
+      (λ file is. subst (λ (x : Option (List ℕ)). IfSome x (λ bytes. IsFaultOf bytes file)) (sym at) is)
+      (unread_file (log_of input) log (paths.Hold (i + 1)) fault stops)
+  other_refused fault (log, inl (inr (is, read))) = subst (IsFaultOfFile (first ∷ rest) (suc i)) (sym is) tt
+  other_refused fault (log, inr (is, (other, read, differs))) = subst (IsFaultOfFile (first ∷ rest) (suc i)) (sym is) (
+    refl,
     (
       of_first,
       other,
       file,
-      subst (λ (x : Option (List ℕ)). IsHoldingFile x other) (sym at) other_file,
+      subst (λ (x : Option (List ℕ)). IsHoldingFile x other) (sym at) (held_file (log_of input) log other read),
       λ e. differs (same ∙ e),
     ),
   )
-  other_refused (faults.HoldFile fault) stops = subst (λ (x : Option (List ℕ)). IfSome x (λ bytes. IsFaultOf bytes fault)) (sym at) stops
-  other_refused faults.Memory stops = tt
-  other_refused (faults.Write path) stops = absurd stops
-  other_refused (faults.Setup fault) stops = absurd stops
-  other_refused (faults.Frame fault) stops = absurd stops
-  other_refused (faults.Missing tile) stops = absurd stops
-  other_refused (faults.Disputed tile) stops = absurd stops
-  other_refused (faults.Splice other) stops = absurd stops
-  other_refused (faults.Ranges line) stops = absurd stops
-  other_refused faults.Words stops = absurd stops
 
 module _ {R : Type 0} (tells : R → Option (List ℕ)) (a b : ReadLog) (old new : List R) where
   first_refused : (fault : CliFault) → FileBreaks (paths.Hold 0) fault a b → IsFaultOfFile (a.remaining ∷ map tells old) 0 fault
@@ -119,7 +127,7 @@ module _ {R : Type 0} (tells : R → Option (List ℕ)) (a b : ReadLog) (old new
         inr (whole, text, all.each),
         other_refused a.remaining (get_or (map tells old) i None) (map tells old) i refl whole all.each.first all.each.files.0
             (joins_reel _ _ _ all.each) fault stops,
-        subst (λ n. drop n new ≡ drop n old) next later,
+        subst (λ n. AreKeptFrom n old new) next later,
       )
 
 -- a fault at a place is one of the files

@@ -2,18 +2,18 @@
 use Rattle.std.proofs.Common.{◌≡◌, ℕ, ◌+◌, ◌<◌, Bool, List, [], ◌∷◌, ◌++◌, length, get_or, take, map, Option, Result, Ok, Err, IfOk, IfErr, inl, inr, refl, sym, ap, ◌∙◌, subst, arith}
 use Rattle.std.specs.Prelude.{◌↔◌, IsTrue}
 use Rattle.std.proofs.lemmas.List.{get_or-map, take_more, length-map, map-append}
-use Rattle.ffv1_devices.specs.Logs.{ReadLog, WriteLog, Writes}
+use Rattle.ffv1_devices.specs.Logs.{WriteLog, Writes}
 use Rattle.ffv1_splice.specs.Splice.{SplicedValue, IsSpliceOf, IsGivenBack}
 use Rattle.ffv1_splice.specs.Faults.{IsOfOtherLength}
-use Rattle.ffv1_commands.specs.Devices.{AreWholeInputs, ReadsNamed, BothStop}
+use Rattle.ffv1_commands.specs.Devices.{AreWholeInputs, FileStops, BothStop}
+use Rattle.ffv1_commands.specs.InTurn.{AreTaken, StopsAtCopy}
 use Rattle.ffv1_commands.specs.Fault.{NamesPath}
 use Rattle.ffv1_commands.specs.Paths.{IsSplicePath}
-use Rattle.ffv1_commands.specs.SpliceText.{splice_text, IsLengthFault, SplicesCopies, SpliceStops, LaterKept, log_of, ReadsCopy, IsTaken, AreTaken, StopsAtCopy, WritesSplice, SpliceRefuses, TellsSplice}
+use Rattle.ffv1_commands.specs.SpliceText.{splice_text, IsLengthFault, SplicesCopies, SpliceStops, LaterCopiesKept, WritesSplice, SpliceRefuses, TellsSplice}
 use Rattle.ffv1_commands.specs.declared.fault.CliFault.{CliFault}
 use Rattle.ffv1_commands.specs.declared.fault.CliFault.TheVariants as faults
-use Rattle.ffv1_commands.specs.declared.path.CommandPath.{CommandPath}
 use Rattle.ffv1_commands.specs.declared.path.CommandPath.TheVariants as paths
-use Rattle.ffv1_commands.proofs.InputLaws.{whole_input, length-AreWholeInputs}
+use Rattle.ffv1_commands.proofs.InputLaws.{taken_whole, length-AreWholeInputs}
 use Rattle.ffv1_commands.proofs.UnreadFiles.{file_says}
 use Rattle.ffv1_commands.proofs.WrittenBoth.{both_says, both_stop_bytes, both_name}
 
@@ -25,27 +25,6 @@ map_more f xs i d lt =
 
 pub map_push : {X Y : Type 0} (f : X → Y) (xs ys : List X) (x : X) → ys ≡ xs ++ x ∷ [] → map f xs ++ f x ∷ [] ≡ map f ys
 map_push f xs ys x same = sym (ap (map f) same ∙ map-append f xs (x ∷ []))
-
--- ---- copies that were read
-
--- one was read by a source that began so
-pub copy_read : {T : Type 0} (items : T → List ℕ) (path : CommandPath) (r : Result T CliFault) (input : Option (List ℕ)) (a b : ReadLog) → a ≡ log_of input
-    → ReadsNamed items path r a b → ReadsCopy items path r input
-copy_read items path r input a b same read = (b, subst (λ (log : ReadLog). ReadsNamed items path r log b) same read)
-
-pub AreTaken-push : (inputs : List (Option (List ℕ))) (all : List (List ℕ)) (input : Option (List ℕ)) (bytes : List ℕ) → AreTaken inputs all
-    → IsTaken input bytes → AreTaken (inputs ++ input ∷ []) (all ++ bytes ∷ [])
-AreTaken-push [] [] input bytes each one = (one, tt)
-AreTaken-push [] (b ∷ bs) input bytes each one = absurd each
-AreTaken-push (i ∷ is) [] input bytes each one = absurd each
-AreTaken-push (i ∷ is) (b ∷ bs) input bytes each one = (each.0, AreTaken-push is bs input bytes each.1 one)
-
-pub taken_whole : (inputs : List (Option (List ℕ))) (all : List (List ℕ)) → AreTaken inputs all → AreWholeInputs inputs all
-taken_whole [] [] each = tt
-taken_whole [] (b ∷ bs) each = absurd each
-taken_whole (i ∷ is) [] each = absurd each
-taken_whole (i ∷ is) (b ∷ bs) ((log, took), rest) =
-    (whole_input i log.remaining b (record { taken = took.read.bytes'; end = took.end; few = took.few }), taken_whole is bs rest)
 
 -- ---- what a fault says
 
@@ -97,23 +76,23 @@ pub record SpliceOfBytes {C : Type 0} (r : Result Bool CliFault) (inputs : List 
   pub ok : IfOk r (SplicesCopies inputs ob oa pb pa)
   pub err : IfErr r (SpliceStops inputs ob oa pb pa)
   pub names : IfErr r (NamesPath (IsSplicePath (length old)))
-  pub later_kept : IfErr r (LaterKept old new)
+  pub later_kept : IfErr r (LaterCopiesKept old new)
 
 module _ {C : Type 0} (remaining : C → Option (List ℕ)) (old new : List C) (out out' output output' : WriteLog) where
   abbrev OfBytes : Result Bool CliFault → Type 0
   OfBytes r = SpliceOfBytes r (map remaining old) old new out.contents out'.contents output.contents output'.contents
 
-  copy_bytes : (f : CliFault) → StopsAtCopy remaining old new f → OfBytes (Err f)
+  copy_bytes : (f : CliFault) → StopsAtCopy FileStops remaining old new f → OfBytes (Err f)
   copy_bytes f stops =
       let few : stops.index < length (map remaining old) = omega (arith, stops.there, length-map old remaining) in
-      file_says (λ f. OfBytes (Err f)) (paths.Copy stops.index) _ stops.log
+      file_says (λ f. OfBytes (Err f)) (paths.Copy stops.index) _ stops.stopped.0
       (λ unread. record {
         ok = tt;
         err = (stops.index, record { there = few; copies = stops.copies; earlier = taken_whole _ stops.copies stops.earlier }, refl);
         names = stops.there;
-        later_kept = record { index = stops.index; named = refl; later = stops.later };
+        later_kept = (stops.index, refl, stops.later);
       })
-      (λ within. record { ok = tt; err = tt; names = tt; later_kept = tt }) f stops.stopped
+      (λ within. record { ok = tt; err = tt; names = tt; later_kept = tt }) f stops.stopped.1
 
   module _ (copies : List (List ℕ)) (taken : AreTaken (map remaining old) copies) where
     read : AreWholeInputs (map remaining old) copies

@@ -6,9 +6,11 @@ use Rattle.ffv1_pool.specs.Sets as set
 use Rattle.ffv1_pool.specs.Reels.{Reel}
 use Rattle.ffv1_pool.specs.Contents.{Contents, with_found, holding_of, no_slices}
 use Rattle.ffv1_pool.specs.ContentsLaws.{with_found-holding_of}
-use Rattle.ffv1_commands.specs.Devices.{IsWholeInput}
+use Rattle.ffv1_devices.specs.Logs.{ReadLog}
+use Rattle.ffv1_commands.specs.Devices.{TakesWhole}
+use Rattle.ffv1_commands.specs.InTurn.{log_of}
 use Rattle.ffv1_commands.specs.TakeText.{copy_line, held_of, line_after, lines_after, TakesEach, TakesOne}
-use Rattle.ffv1_commands.proofs.InputLaws.{AreWholeInputs-push, length-AreWholeInputs}
+use Rattle.ffv1_commands.proofs.InputLaws.{AreTaken-push, taken_whole, length-AreWholeInputs}
 
 lines_after-push : (reel : Reel) (before copies : List (List ℕ)) (copy : List ℕ)
     → lines_after reel before (copies ++ copy ∷ []) ≡ lines_after reel before copies ++ line_after reel (before ++ copies) copy
@@ -38,18 +40,18 @@ pub takes_reel : (inputs : List (Option (List ℕ))) (reel : Reel) (h : Contents
 takes_reel inputs reel h text each = ap (λ (x : Contents). x.reel) each.held
 
 pub takes_more : (inputs : List (Option (List ℕ))) (reel : Reel) (old new : Contents) (before after : List ℕ) (input : Option (List ℕ)) (number : ℕ)
-    → TakesEach inputs reel old before → number ≡ length inputs → TakesOne (IsWholeInput input) (number + 1) old new before after
+    (log : ReadLog) → TakesEach inputs reel old before → number ≡ length inputs → TakesOne (TakesWhole (log_of input) log) (number + 1) old new before after
     → TakesEach (inputs ++ input ∷ []) reel new after
-takes_more inputs reel old new before after input number each n one =
+takes_more inputs reel old new before after input number log each n one =
     let held : new ≡ holding_of reel (each.copies ++ one.copy ∷ []) = one.held
     ∙ ap (λ h. with_found h one.copy) each.held ∙ with_found-holding_of reel each.copies one.copy in
     record {
       copies = each.copies ++ one.copy ∷ [];
-      read = AreWholeInputs-push inputs each.copies input one.copy each.read one.read;
+      read = AreTaken-push inputs each.copies input one.copy each.read (log, one.read);
       held = held;
       lines = one.line ∙ ap (λ t. t ++ copy_line (number + 1) (length (links_of one.copy)) (length (found_slices old.reel.setup one.copy))
           (set.size new.slices - set.size old.slices)) each.lines
           ∙ ap (λ t. lines_after reel [] each.copies ++ t) (line_after-from reel each.copies one.copy number old new
-          (n ∙ length-AreWholeInputs inputs each.copies each.read) each.held held)
+          (n ∙ length-AreWholeInputs inputs each.copies (taken_whole inputs each.copies each.read)) each.held held)
           ∙ sym (lines_after-push reel [] each.copies one.copy);
     }

@@ -1,11 +1,9 @@
 -- What taking copies tells of the record, the copies and the outputs.
-use Rattle.std.proofs.Common.{◌≡◌, ℕ, ◌+◌, List, length, map, Option, Result, Ok, Err, OnOk, IfErr, refl, sym, ap, subst, inl, inr, arith}
+use Rattle.std.proofs.Common.{◌≡◌, ℕ, ◌+◌, ◌<◌, List, length, map, take, Option, Result, Ok, Err, OnOk, IfErr, refl, sym, ap, subst, inl, inr, arith}
 use Rattle.std.specs.Io.KnownBytes.{Appends}
 use Rattle.std.proofs.lemmas.List.{length-map}
 use Rattle.ffv1_bits.specs.Limits.{payload_limit}
 use Rattle.ffv1_range.specs.Setup.{IsSetupOf}
-use Rattle.ffv1_range.specs.SetupFaults.{FirstSetupFault}
-use Rattle.ffv1_range.specs.declared.fault.SetupFault.{SetupFault}
 use Rattle.ffv1_devices.specs.Logs.{ReadLog, WriteLog, Reads}
 use Rattle.ffv1_pool.specs.Reels.{Reel}
 use Rattle.ffv1_pool.specs.Contents.{Contents, holding_of}
@@ -14,18 +12,19 @@ use Rattle.ffv1_hold.specs.HoldingText.{holding_text}
 use Rattle.ffv1_pool.specs.TakeFaults.{IsTakeFault}
 use Rattle.ffv1_pool.specs.declared.fault.HoldFault.{HoldFault}
 use Rattle.ffv1_pool.specs.declared.fault.HoldFault.TheVariants as holds
-use Rattle.ffv1_commands.specs.Devices.{IsWholeInput, IsCopyFault, IfOfRecord, WriteStops, TakesWhole, CopyStops}
+use Rattle.ffv1_commands.specs.Devices.{IsCopyFault, IfOfRecord, WriteStops, TakesWhole, CopyStops}
+use Rattle.ffv1_commands.specs.InTurn.{StopsAtCopy}
 use Rattle.ffv1_commands.specs.RecordInputs.{IsReelInput, TakesReel}
 use Rattle.ffv1_commands.specs.Fault.{NamesPath, of_hold}
 use Rattle.ffv1_commands.specs.Paths.{IsTakePath}
 use Rattle.ffv1_commands.specs.Holdings.{HasFile, IsFileFault, MadeStops, WritesMade}
-use Rattle.ffv1_commands.specs.TakeText.{TakesEach, TakesOne, TakesCopies, IsFaultOfInputs, StopsAtCopy, LaterKept, TakeStops, TakesCopy, TakesAll, TellsTake}
+use Rattle.ffv1_commands.specs.TakeText.{TakesEach, TakesCopies, IsFaultOfInputs, FaultKeepsLater, LaterKept, TakeStops, TakesAll, TellsTake}
 use Rattle.ffv1_commands.specs.declared.fault.CliFault.{CliFault}
 use Rattle.ffv1_commands.specs.declared.fault.CliFault.TheVariants as faults
 use Rattle.ffv1_commands.specs.declared.path.CommandPath.{CommandPath}
 use Rattle.ffv1_commands.specs.declared.path.CommandPath.TheVariants as paths
 use Rattle.ffv1_commands.proofs.InputFaults.{IsUnwritten}
-use Rattle.ffv1_commands.proofs.InputLaws.{whole_input}
+use Rattle.ffv1_commands.proofs.InputLaws.{whole_input, taken_whole}
 use Rattle.ffv1_commands.proofs.RecordFaults.{RecordStops-says}
 use Rattle.ffv1_commands.proofs.Telling.{whole_of, Consumes-longer}
 use Rattle.ffv1_commands.proofs.MadeFiles.{made_says, made_bytes}
@@ -65,17 +64,6 @@ copies_name inputs n is faults.Words (i, (lt, before, stops)) = absurd stops
 
 -- ---- one copy
 
--- a copy that was read and taken is taken as its input tells
-pub copy_taken : {T : Type 0} (a b : ReadLog) (before : ℕ) (old new : Contents) (lines lines' : List ℕ) (r : Result T CliFault)
-    → TakesCopy r before old new lines lines' a b → OnOk r (TakesOne (IsWholeInput a.remaining) (before + 1) old new lines lines')
-copy_taken a b before old new lines lines' (Ok x) one = record {
-  copy = one.copy;
-  read = whole_input a.remaining b.remaining one.copy (whole_of a b one.copy one.read);
-  held = one.held;
-  line = one.line;
-}
-copy_taken a b before old new lines lines' (Err fault) stops = tt
-
 -- what any fault of a copy says, if that of each form says so
 pub CopyStops-says : (P : CliFault → Type 0) (path : CommandPath) (fault : CliFault) (a b : ReadLog) → P (faults.Read path)
     → ((bytes : List ℕ) → Reads a b bytes → length bytes ≡ payload_limit + 1 → P (faults.Hold holds.PayloadTooLong)) → P faults.Memory
@@ -94,11 +82,10 @@ CopyStops-says P path (faults.Splice other) a b read long memory stops = absurd 
 CopyStops-says P path (faults.Ranges line) a b read long memory stops = absurd stops
 CopyStops-says P path faults.Words a b read long memory stops = absurd stops
 
-pub copy_unread : {T : Type 0} (a b : ReadLog) (before : ℕ) (old new : Contents) (lines lines' : List ℕ) (r : Result T CliFault)
-    → TakesCopy r before old new lines lines' a b → IfErr r (IsCopyFault (paths.Copy before) a.remaining)
-copy_unread a b before old new lines lines' (Ok x) one = tt
-copy_unread a b before old new lines lines' (Err fault) stops = CopyStops-says (IsCopyFault (paths.Copy before) a.remaining) (paths.Copy before) fault a b
-    refl (λ bytes took more. (refl, Consumes-longer a.remaining b.remaining bytes payload_limit took.bytes' (omega arith))) tt stops
+-- why a copy was not read, by its bytes
+copy_unread : (path : CommandPath) (fault : CliFault) (a b : ReadLog) → CopyStops path fault a b → IsCopyFault path a.remaining fault
+copy_unread path fault a b stops = CopyStops-says (IsCopyFault path a.remaining) path fault a b refl
+    (λ bytes took more. (refl, Consumes-longer a.remaining b.remaining bytes payload_limit took.bytes' (omega arith))) tt stops
 
 -- a copy that was read, and so is within the limit, is refused for memory alone
 pub copy_untaken : (before : ℕ) (a b : ReadLog) (copy : List ℕ) → TakesWhole a b copy → (fault : HoldFault) → IsTakeFault copy fault
@@ -118,20 +105,10 @@ reel_read a b config width height reel took is = record {
 }
 
 -- at a fault of the copies nothing was written
-pub copies-unwritten : {C : Type 0} (tells : C → Option (List ℕ)) (old new : List C) (fault : CliFault) → StopsAtCopy tells old new fault
+pub copies-unwritten : {C : Type 0} (tells : C → Option (List ℕ)) (old new : List C) (fault : CliFault) → StopsAtCopy CopyStops tells old new fault
     → IsUnwritten fault
-copies-unwritten tells old new (faults.Write path) (i, (lt, before, stops), later) = absurd stops
-copies-unwritten tells old new (faults.Read path) stops = tt
-copies-unwritten tells old new (faults.Setup fault) stops = tt
-copies-unwritten tells old new (faults.Hold fault) stops = tt
-copies-unwritten tells old new (faults.HoldFile fault) stops = tt
-copies-unwritten tells old new (faults.Frame fault) stops = tt
-copies-unwritten tells old new (faults.Missing tile) stops = tt
-copies-unwritten tells old new (faults.Disputed tile) stops = tt
-copies-unwritten tells old new faults.Memory stops = tt
-copies-unwritten tells old new (faults.Splice other) stops = tt
-copies-unwritten tells old new (faults.Ranges line) stops = tt
-copies-unwritten tells old new faults.Words stops = tt
+copies-unwritten tells old new fault stops =
+    CopyStops-says IsUnwritten (paths.Copy stops.index) fault _ stops.stopped.0 tt (λ bytes took more. tt) tt stops.stopped.1
 
 -- the file and the lines were written once all was taken, or were not
 pub made_told : {T C : Type 0} (tells : C → Option (List ℕ)) (width height : ℕ) (a b : ReadLog) (old new : List C) (out out' output output' : WriteLog)
@@ -167,7 +144,7 @@ module _ (record' : Option (List ℕ)) (width height : ℕ) (inputs : List (Opti
       reel,
       each.copies,
       of_record,
-      each.read,
+      taken_whole inputs each.copies each.read,
       subst (λ (h : Contents). IsFileFault h (faults.HoldFile fault)) each.held stops,
     )
     made_refused (faults.Write named) stops =
@@ -175,7 +152,7 @@ module _ (record' : Option (List ℕ)) (width height : ℕ) (inputs : List (Opti
           reel,
           each.copies,
           of_record,
-          each.read,
+          taken_whole inputs each.copies each.read,
           subst (λ (l : List ℕ). WriteStops (holding_text (holding_of reel each.copies)) l ob oa pb pa (faults.Write named)) each.lines whole_file,
         )
     made_refused (faults.Read path) stops = absurd stops
@@ -189,8 +166,17 @@ module _ (record' : Option (List ℕ)) (width height : ℕ) (inputs : List (Opti
     made_refused (faults.Ranges line) stops = absurd stops
     made_refused faults.Words stops = absurd stops
 
+-- where a copy was not taken, its fault is one of the inputs, and those after it are as they were
+copy_refused : {C : Type 0} (tells : C → Option (List ℕ)) (old new : List C) (fault : CliFault) → StopsAtCopy CopyStops tells old new fault
+    → FaultKeepsLater tells old new fault
+copy_refused tells old new fault stops =
+    let few : stops.index < length (map tells old) = omega (arith, stops.there, length-map old tells) in
+    let earlier = taken_whole (take stops.index (map tells old)) stops.copies stops.earlier in
+    let refused = copy_unread (paths.Copy stops.index) fault _ stops.stopped.0 stops.stopped.1 in
+    (stops.index, (few, (stops.copies, earlier), refused), stops.later)
+
 -- a fault of the copies leaves those after it
-later_kept : {C : Type 0} (tells : C → Option (List ℕ)) (old new : List C) (fault : CliFault) → StopsAtCopy tells old new fault → LaterKept tells old new fault
+later_kept : {C : Type 0} (tells : C → Option (List ℕ)) (old new : List C) (fault : CliFault) → FaultKeepsLater tells old new fault → LaterKept tells old new fault
 later_kept tells old new (faults.Read path) (i, (lt, before, same), later) =
     subst (λ (p : CommandPath). LaterKept tells old new (faults.Read p)) (sym same) later
 later_kept tells old new (faults.Hold fault) stops = stops
@@ -229,7 +215,7 @@ module _ {C : Type 0} (tells : C → Option (List ℕ)) (width height : ℕ) (a 
       reel = all.reel;
       of_record = reel_input all.reel all.of_record;
       copies = all.each.copies;
-      read = all.each.read;
+      read = taken_whole (map tells old) all.each.copies all.each.read;
       has_file = subst HasFile all.each.held made.has_file;
       file = subst (Appends out.contents out'.contents) (ap holding_text all.each.held) made.file.bytes';
       printed = subst (Appends output.contents output'.contents) all.each.lines made.printed.bytes';
@@ -248,14 +234,16 @@ module _ {C : Type 0} (tells : C → Option (List ℕ)) (width height : ℕ) (a 
     later = RecordStops-says (LaterKept tells old new) width height a b fault tt tt (λ setup config took first. tt) refuses;
     names = RecordStops-says (NamesPath (IsTakePath (length old))) width height a b fault tt tt (λ setup config took first. tt) refuses;
   }
-  take_of_bytes (Err fault) (inr (inl (reel, read, (i, at, later), kept))) = record {
-    ok = tt;
-    err = copies_refused a.remaining width height (map tells old) out.contents out'.contents output.contents output'.contents reel (reel_input reel read)
-        fault (i, at);
-    in_turn = IsFaultOfInputs-in_turn (new ≡ old) (map tells old) fault (i, at);
-    later = later_kept tells old new fault (i, at, later);
-    names = copies_name (map tells old) (length old) (length-map old tells) fault (i, at);
-  }
+  take_of_bytes (Err fault) (inr (inl (reel, read, stops, kept))) =
+      let (i, at, later) = copy_refused tells old new fault stops in
+      record {
+        ok = tt;
+        err = copies_refused a.remaining width height (map tells old) out.contents out'.contents output.contents output'.contents reel
+            (reel_input reel read) fault (i, at);
+        in_turn = IsFaultOfInputs-in_turn (new ≡ old) (map tells old) fault (i, at);
+        later = later_kept tells old new fault (i, at, later);
+        names = copies_name (map tells old) (length old) (length-map old tells) fault (i, at);
+      }
   take_of_bytes (Err fault) (inr (inr (held, lines, all, breaks))) = record {
     ok = tt;
     err = made_refused a.remaining width height (map tells old) out.contents out'.contents output.contents output'.contents all.reel

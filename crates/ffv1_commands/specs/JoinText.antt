@@ -1,5 +1,5 @@
 -- What the command `join` makes and prints: the union of holding files, and a line for each file.
-use Rattle.std.specs.Prelude.{ℕ, ◌≡◌, ◌+◌, ◌-◌, ◌<◌, ◌++◌, ◌⊎◌, List, [], ◌∷◌, length, map, take, drop, Option, slice_index_or, None, Result, Ok, Err, codes}
+use Rattle.std.specs.Prelude.{ℕ, ◌≡◌, ◌+◌, ◌-◌, ◌<◌, ◌++◌, ◌⊎◌, List, [], ◌∷◌, length, map, take, Option, slice_index_or, None, Result, Ok, Err, codes}
 use Rattle.std.specs.Fmt.{decimal}
 use Rattle.std.specs.Io.KnownBytes.{Appends}
 use Rattle.ffv1_pool.specs.Sets as set
@@ -10,6 +10,7 @@ use Rattle.ffv1_hold.specs.HoldingText.{holding_text}
 use Rattle.ffv1_devices.specs.Logs.{ReadLog, WriteLog}
 use Rattle.ffv1_pool.specs.declared.fault.HoldFault.TheVariants as holds
 use Rattle.ffv1_commands.specs.Devices.{WriteStops, BothKept}
+use Rattle.ffv1_commands.specs.InTurn.{AreKeptFrom, ReadsAlone}
 use Rattle.ffv1_commands.specs.Holdings.{IsHoldingFile, HasFile, IsHoldingFault, IsFileFault, HoldingStops, IsMade, MadeBreaks}
 use Rattle.ffv1_commands.specs.declared.fault.CliFault.{CliFault}
 use Rattle.ffv1_commands.specs.declared.fault.CliFault.TheVariants as faults
@@ -57,11 +58,6 @@ pub record JoinsOne (IsRead : Contents → Type 0) (number : ℕ) (old new : Con
   pub held : new ≡ joined old other
   pub line : after ≡ before ++ line_of_join number old other
 
--- why the file that is this path of the command was not joined into a holding
-abbrev pub IsJoinFault : CommandPath → Option (List ℕ) → Contents → CliFault → Type 0
-IsJoinFault path input whole (faults.Hold fault) = (fault ≡ holds.OtherReel) × ((other : Contents) × IsHoldingFile input other × (¬ IsSameReel whole other))
-IsJoinFault path input whole fault = IsHoldingFault path input fault
-
 -- The file of the union was written, and then the lines were printed.
 pub record JoinsFiles (inputs : List (Option (List ℕ))) (out_before out_after printed_before printed_after : Option (List ℕ)) : Type 0 where
   pub whole : Contents
@@ -106,11 +102,11 @@ IsFaultOfFile inputs i fault = IsHoldingFault (paths.Hold i) (slice_index_or inp
 -- One of the files was not joined; those before it were, and those after it are as they were. Old and new are those after the first.
 abbrev pub StopsAtPlace : {R : Type 0} → List (Option (List ℕ)) → (old new : List R) → CliFault → Type 0
 StopsAtPlace inputs old new fault =
-    (i : ℕ) × (i < length inputs) × AreJoinedBefore inputs i × IsFaultOfFile inputs i fault × (drop i new ≡ drop i old)
+    (i : ℕ) × (i < length inputs) × AreJoinedBefore inputs i × IsFaultOfFile inputs i fault × AreKeptFrom i old new
 
 -- What a fault of a file leaves: the files after it, as they were. That the union has no file is a fault of none.
 abbrev pub LaterFilesKept : {R : Type 0} → List (Option (List ℕ)) → (old new : List R) → CliFault → Type 0
-LaterFilesKept inputs old new (faults.Read (paths.Hold place)) = drop place new ≡ drop place old
+LaterFilesKept inputs old new (faults.Read (paths.Hold place)) = AreKeptFrom place old new
 LaterFilesKept inputs old new (faults.Hold fault) = StopsAtPlace inputs old new (faults.Hold fault)
 LaterFilesKept inputs old new (faults.HoldFile fault) =
     StopsAtPlace inputs old new (faults.HoldFile fault)
@@ -119,24 +115,40 @@ LaterFilesKept inputs old new _ = Unit {0}
 
 -- ---- over the logs of the devices
 
+-- the input was read as the file of this holding, by a source of its own
+abbrev pub IsHeld : Option (List ℕ) → Contents → Type 0
+IsHeld input h = ReadsAlone (λ old new. ReadsHolding old new h) input
+
+-- so was each of the inputs
+abbrev pub AreHeld : List (Option (List ℕ)) → List Contents → Type 0
+AreHeld [] [] = Unit {0}
+AreHeld [] (h ∷ hs) = ⊥
+AreHeld (input ∷ inputs) [] = ⊥
+AreHeld (input ∷ inputs) (h ∷ hs) = IsHeld input h × AreHeld inputs hs
+
 -- a file was not joined, since it was not read, or since memory was refused once it was
 abbrev pub FileBreaks : CommandPath → CliFault → (old new : ReadLog) → Type 0
 FileBreaks path fault old new = HoldingStops path fault old new ⊎ ((fault ≡ faults.Memory) × ((h : Contents) × ReadsHolding old new h))
 
--- A file was read, joined into a holding and told, after so many others; or it was not, or is of another record or size.
+-- a file was not joined into a holding: for that, or since it is of another record or size
+abbrev pub JoinBreaks : CommandPath → Contents → CliFault → (old new : ReadLog) → Type 0
+JoinBreaks path whole fault old new =
+    FileBreaks path fault old new
+    ⊎ ((fault ≡ faults.Hold holds.OtherReel) × ((other : Contents) × ReadsHolding old new other × (¬ IsSameReel whole other)))
+
+-- A file was read, joined into a holding and told, after so many others; or it was not joined.
 abbrev pub JoinsFile : {T : Type 0} → Result T CliFault → (before : ℕ) → (whole_old whole_new : Contents) → (lines_old lines_new : List ℕ)
     → (file_old file_new : ReadLog) → Type 0
 JoinsFile (Ok x) before whole_old whole_new lines_old lines_new file_old file_new =
     JoinsOne (ReadsHolding file_old file_new) (before + 1) whole_old whole_new lines_old lines_new
 JoinsFile (Err fault) before whole_old whole_new lines_old lines_new file_old file_new =
-    FileBreaks (paths.Hold before) fault file_old file_new
-    ⊎ ((fault ≡ faults.Hold holds.OtherReel)
-    × ((other : Contents) × ReadsHolding file_old file_new other × (¬ IsSameReel whole_old other)))
+    JoinBreaks (paths.Hold before) whole_old fault file_old file_new
 
--- The first file was read, and the holdings of all were joined, and told.
+-- The first file was read, and each other one by a source of its own; their holdings were joined, and told.
 pub record JoinsAll (inputs : List (Option (List ℕ))) (old new : ReadLog) (whole : Contents) (text : List ℕ) : Type 0 where
   pub each : JoinsEach (old.remaining ∷ inputs) whole text
   pub first : ReadsHolding old new each.first
+  pub others : AreHeld inputs each.others
 
 -- How one of the files was not joined: the first was not, and the others are as they were; or one of those was not, those before it were,
 -- and those after it are as they were.
@@ -145,8 +157,8 @@ StopsAtFile tells first_old first_new old new fault =
     (FileBreaks (paths.Hold 0) fault first_old first_new × (new ≡ old))
     ⊎ ((i : ℕ) × (i < length old)
     × ((whole : Contents) × (text : List ℕ) × JoinsAll (take i (map tells old)) first_old first_new whole text
-    × IsJoinFault (paths.Hold (i + 1)) (slice_index_or (map tells old) i None) whole fault)
-    × (drop (i + 1) new ≡ drop (i + 1) old))
+    × ReadsAlone (JoinBreaks (paths.Hold (i + 1)) whole fault) (slice_index_or (map tells old) i None))
+    × AreKeptFrom (i + 1) old new)
 
 -- The files were joined, and the file of their union and the lines were written; or one was not joined, and both outputs are as they were;
 -- or all were, and the file and the lines were not written whole.

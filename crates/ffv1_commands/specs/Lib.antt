@@ -1,6 +1,7 @@
 pub mod Paths
 pub mod Fault
 pub mod Devices
+pub mod InTurn
 pub mod Lines
 pub mod ChainText
 pub mod ShowText

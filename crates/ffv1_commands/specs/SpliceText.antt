@@ -1,19 +1,18 @@
 -- What the command `splice` makes and prints: the splice of all copies, a line for each of its places from its end, and a line for its front.
-use Rattle.std.specs.Prelude.{ℕ, ◌≡◌, ◌<◌, ◌==◌, ◌++◌, ◌↔◌, ◌⊎◌, Bool, IsTrue, List, [], ◌∷◌, length, map, take, slice_index_or, Option, None, Result, Ok, Err, codes, if◌then◌else◌}
+use Rattle.std.specs.Prelude.{ℕ, ◌≡◌, ◌+◌, ◌<◌, ◌==◌, ◌++◌, ◌↔◌, ◌⊎◌, Bool, IsTrue, List, length, map, take, Option, Result, Ok, Err, codes, if◌then◌else◌}
 use Rattle.std.specs.List.{flat_map}
 use Rattle.std.specs.Fmt.{decimal}
 use Rattle.std.specs.Io.KnownBytes.{Appends}
-use Rattle.ffv1_devices.specs.Logs.{ReadLog, WriteLog, Writes}
-use Rattle.ffv1_devices.specs.Streams.{no_failures}
+use Rattle.ffv1_devices.specs.Logs.{WriteLog, Writes}
 use Rattle.ffv1_splice.specs.Splice.{SplicedValue, IsSpliceOf, IsGivenBack}
 use Rattle.ffv1_splice.specs.Faults.{IsOfOtherLength}
 use Rattle.ffv1_splice.specs.declared.place.Standing.{Standing}
 use Rattle.ffv1_splice.specs.declared.place.Standing.TheVariants.{Settled, Woven, Disputed, Missing}
 use Rattle.ffv1_splice.specs.declared.place.Place.{Place}
-use Rattle.ffv1_commands.specs.Devices.{AreWholeInputs, WriteStops, TakesWhole, FileStops, ReadsNamed, BothStop, BothKept}
+use Rattle.ffv1_commands.specs.Devices.{AreWholeInputs, WriteStops, FileStops, BothStop, BothKept}
+use Rattle.ffv1_commands.specs.InTurn.{AreKeptFrom, AreTaken, StopsAtCopy}
 use Rattle.ffv1_commands.specs.declared.fault.CliFault.{CliFault}
 use Rattle.ffv1_commands.specs.declared.fault.CliFault.TheVariants as faults
-use Rattle.ffv1_commands.specs.declared.path.CommandPath.{CommandPath}
 use Rattle.ffv1_commands.specs.declared.path.CommandPath.TheVariants as paths
 
 -- how a place stands, and where it is woven, among how many combinations
@@ -77,47 +76,12 @@ SpliceStops inputs out_before out_after printed_before printed_after (faults.Wri
 SpliceStops inputs out_before out_after printed_before printed_after faults.Memory = Unit {0}
 SpliceStops inputs out_before out_after printed_before printed_after _ = ⊥
 
--- The copy that this path names was not read, and those after it are as they were.
-pub record KeepsLater {C : Type 0} (path : CommandPath) (old new : List C) : Type 0 where
-  pub index : ℕ
-  pub named : path ≡ paths.Copy index
-  pub later : (k : ℕ) (d : C) → index < k → slice_index_or new k d ≡ slice_index_or old k d
-
--- At a copy that was not read, those after it are as they were.
-abbrev pub LaterKept : {C : Type 0} → (old new : List C) → CliFault → Type 0
-LaterKept old new (faults.Read path) = KeepsLater path old new
-LaterKept old new _ = Unit {0}
+-- What a fault of a copy that was not read leaves: the copies after it, as they were.
+abbrev pub LaterCopiesKept : {C : Type 0} → (old new : List C) → CliFault → Type 0
+LaterCopiesKept old new (faults.Read path) = (index : ℕ) × (path ≡ paths.Copy index) × AreKeptFrom (index + 1) old new
+LaterCopiesKept old new _ = Unit {0}
 
 -- ---- over the logs of the devices
-
--- the log of a source of an input, of which no failure and no byte was counted yet
-abbrev pub log_of : Option (List ℕ) → ReadLog
-log_of input = record { remaining = input; tries = no_failures; taken = 0 }
-
--- the copy that is this path of the command was read whole by a source of its own, or it was not
-abbrev pub ReadsCopy : {T : Type 0} → (T → List ℕ) → CommandPath → Result T CliFault → Option (List ℕ) → Type 0
-ReadsCopy items path result input = (log : ReadLog) × ReadsNamed items path result (log_of input) log
-
--- the input was read whole as these bytes by a source of its own
-abbrev pub IsTaken : Option (List ℕ) → List ℕ → Type 0
-IsTaken input bytes = (log : ReadLog) × TakesWhole (log_of input) log bytes
-
--- so was each of the inputs
-abbrev pub AreTaken : List (Option (List ℕ)) → List (List ℕ) → Type 0
-AreTaken [] [] = Unit {0}
-AreTaken [] (bytes ∷ rest) = ⊥
-AreTaken (input ∷ inputs) [] = ⊥
-AreTaken (input ∷ inputs) (bytes ∷ rest) = IsTaken input bytes × AreTaken inputs rest
-
--- The copies were read in turn up to one that was not read, or at which memory was refused; those after it are as they were.
-pub record StopsAtCopy {C : Type 0} (remaining : C → Option (List ℕ)) (old new : List C) (fault : CliFault) : Type 0 where
-  pub index : ℕ
-  pub there : index < length old
-  pub copies : List (List ℕ)
-  pub earlier : AreTaken (take index (map remaining old)) copies
-  pub log : ReadLog
-  pub stopped : FileStops (paths.Copy index) fault (log_of (slice_index_or (map remaining old) index None)) log
-  pub later : (k : ℕ) (d : C) → index < k → slice_index_or new k d ≡ slice_index_or old k d
 
 -- The splice of the copies and then its lines were written.
 pub record WritesSplice (copies : List (List ℕ)) (out_old out_new output_old output_new : WriteLog) (answer : Bool) : Type 0 where
@@ -144,5 +108,5 @@ abbrev pub TellsSplice : {C : Type 0} → (C → Option (List ℕ)) → Result B
 TellsSplice remaining (Ok answer) copies_old copies_new out_old out_new output_old output_new =
     (copies : List (List ℕ)) × AreTaken (map remaining copies_old) copies × WritesSplice copies out_old out_new output_old output_new answer
 TellsSplice remaining (Err fault) copies_old copies_new out_old out_new output_old output_new =
-    (StopsAtCopy remaining copies_old copies_new fault × BothKept out_old out_new output_old output_new)
+    (StopsAtCopy FileStops remaining copies_old copies_new fault × BothKept out_old out_new output_old output_new)
     ⊎ ((copies : List (List ℕ)) × AreTaken (map remaining copies_old) copies × SpliceRefuses copies out_old out_new output_old output_new fault)

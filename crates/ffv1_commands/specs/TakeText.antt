@@ -1,5 +1,5 @@
 -- What the command `take` makes and prints: the holding of all copies, and a line for each copy.
-use Rattle.std.specs.Prelude.{ℕ, ◌≡◌, ◌+◌, ◌-◌, ◌<◌, ◌++◌, ◌⊎◌, List, [], ◌∷◌, length, map, take, drop, Option, slice_index_or, None, Result, Ok, Err, codes}
+use Rattle.std.specs.Prelude.{ℕ, ◌≡◌, ◌+◌, ◌-◌, ◌<◌, ◌++◌, ◌⊎◌, List, [], ◌∷◌, length, map, take, Option, slice_index_or, None, Result, Ok, Err, codes}
 use Rattle.std.specs.Fmt.{decimal}
 use Rattle.std.specs.Io.KnownBytes.{Appends}
 use Rattle.ffv1_range.specs.SetupFaults.{FirstSetupFault}
@@ -11,6 +11,7 @@ use Rattle.ffv1_pool.specs.Contents.{Contents, with_found, holding_of}
 use Rattle.ffv1_hold.specs.HoldingText.{holding_text}
 use Rattle.ffv1_devices.specs.Logs.{ReadLog, WriteLog}
 use Rattle.ffv1_commands.specs.Devices.{IsWholeInput, AreWholeInputs, WriteStops, IsCopyFault, TakesWhole, CopyStops, BothKept}
+use Rattle.ffv1_commands.specs.InTurn.{AreKeptFrom, AreTaken, StopsAtCopy}
 use Rattle.ffv1_commands.specs.Holdings.{HasFile, IsFileFault, IsMade, MadeBreaks}
 use Rattle.ffv1_commands.specs.RecordInputs.{IsReelInput, TakesReel, RecordStops}
 use Rattle.ffv1_commands.specs.declared.fault.CliFault.{CliFault}
@@ -40,10 +41,10 @@ lines_after reel before (copy ∷ copies) = line_after reel before copy ++ lines
 abbrev pub take_text : Reel → List (List ℕ) → List ℕ
 take_text reel copies = lines_after reel [] copies
 
--- The copies were taken into an empty holding, and told.
+-- The copies were read, each by a source of its own, taken into an empty holding, and told.
 pub record TakesEach (inputs : List (Option (List ℕ))) (reel : Reel) (h : Contents) (text : List ℕ) : Type 0 where
   pub copies : List (List ℕ)
-  pub read : AreWholeInputs inputs copies
+  pub read : AreTaken inputs copies
   pub held : h ≡ holding_of reel copies
   pub lines : text ≡ take_text reel copies
 
@@ -76,13 +77,13 @@ abbrev pub IsFaultOfInputs : List (Option (List ℕ)) → CliFault → Type 0
 IsFaultOfInputs inputs fault = (i : ℕ) × IsFaultAt inputs i fault
 
 -- The same, and the copies after it are as they were.
-abbrev pub StopsAtCopy : {C : Type 0} → (C → Option (List ℕ)) → (old new : List C) → CliFault → Type 0
-StopsAtCopy tells old new fault = (i : ℕ) × IsFaultAt (map tells old) i fault × (drop (i + 1) new ≡ drop (i + 1) old)
+abbrev pub FaultKeepsLater : {C : Type 0} → (C → Option (List ℕ)) → (old new : List C) → CliFault → Type 0
+FaultKeepsLater tells old new fault = (i : ℕ) × IsFaultAt (map tells old) i fault × AreKeptFrom (i + 1) old new
 
 -- What a fault of a copy, which was not read or is too long, leaves: the copies after it, as they were.
 abbrev pub LaterKept : {C : Type 0} → (C → Option (List ℕ)) → (old new : List C) → CliFault → Type 0
-LaterKept tells old new (faults.Read (paths.Copy place)) = drop (place + 1) new ≡ drop (place + 1) old
-LaterKept tells old new (faults.Hold fault) = StopsAtCopy tells old new (faults.Hold fault)
+LaterKept tells old new (faults.Read (paths.Copy place)) = AreKeptFrom (place + 1) old new
+LaterKept tells old new (faults.Hold fault) = FaultKeepsLater tells old new (faults.Hold fault)
 LaterKept tells old new _ = Unit {0}
 
 -- What a fault says, and what it left in the outputs where writing failed: the record's fault, that of a copy, that the holding
@@ -129,7 +130,7 @@ TellsTake (Ok x) tells width height record_old record_new copies_old copies_new 
     × IsMade held text out_old out_new output_old output_new
 TellsTake (Err fault) tells width height record_old record_new copies_old copies_new out_old out_new output_old output_new =
     (RecordStops width height record_old record_new fault × (copies_new ≡ copies_old) × BothKept out_old out_new output_old output_new)
-    ⊎ ((reel : Reel) × TakesReel width height record_old record_new reel × StopsAtCopy tells copies_old copies_new fault
+    ⊎ ((reel : Reel) × TakesReel width height record_old record_new reel × StopsAtCopy CopyStops tells copies_old copies_new fault
     × BothKept out_old out_new output_old output_new)
     ⊎ ((held : Contents) × (text : List ℕ) × TakesAll width height (map tells copies_old) record_old record_new held text
     × MadeBreaks held text out_old out_new output_old output_new fault)

@@ -1,6 +1,7 @@
 //! Whole files, read from a source and written to a sink, and which path of the command a fault names.
 ghost use Rattle.std.specs.Prelude.{◌≡◌, IfOk, IfErr};
 ghost use Rattle.ffv1_commands.specs.Devices.{ReadsCopy, ReadsNamed, WritesNamed, WritesBoth};
+ghost use Rattle.ffv1_commands.specs.InTurn.{log_of};
 
 use crate::fault::CliFault;
 use crate::path::CommandPath;
@@ -16,7 +17,7 @@ pub(crate) fn buffered<'a, R: Read>(
     alloc: Global,
     reader: &'a mut R,
 ) -> Result<FromRead<BufReader<&'a mut R>>, CliFault>
-    ensures ok { IfOk result (λ source. (⟦<FromRead<BufReader<&'a mut R>> as Source>⟧.log source).remaining ≡ R.remaining reader.old) }
+    ensures ok { IfOk result (λ source. ⟦<FromRead<BufReader<&'a mut R>> as Source>⟧.log source ≡ log_of (R.remaining reader.old)) }
     ensures err { IfErr result (λ fault. fault ≡ CliFault.Memory) }
 {
     match BufReader::new(alloc, reader) {

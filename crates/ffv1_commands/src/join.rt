@@ -3,8 +3,8 @@ ghost use Rattle.std.specs.Prelude.{◌≡◌, ◌+◌, ◌<◌, ◌^◌, [], �
 ghost use Rattle.ffv1_commands.specs.Fault.{NamesPath};
 ghost use Rattle.ffv1_commands.specs.Paths.{IsJoinPath};
 ghost use Rattle.ffv1_commands.specs.Devices.{UnlessWriting};
-ghost use Rattle.ffv1_commands.specs.Holdings.{IsHoldingFile};
-ghost use Rattle.ffv1_commands.specs.JoinText.{file_line, JoinsOne, JoinsFile, JoinsAll, JoinsFiles, IsJoinFault, StopsAtFile, LaterFilesKept, JoinStops, TellsJoin};
+ghost use Rattle.ffv1_commands.specs.InTurn.{ReadsAlone};
+ghost use Rattle.ffv1_commands.specs.JoinText.{file_line, JoinsFile, JoinsAll, JoinsFiles, StopsAtFile, LaterFilesKept, JoinStops, TellsJoin};
 
 use crate::devices::buffered;
 use crate::fault::CliFault;
@@ -51,7 +51,8 @@ pub fn run_join<R: Read, O: Write, W: Write>(
 }
 
 /// The command over a source, readers of the other files, and sinks. The logs say how it went: at `Read` of the first file its source
-/// was given up, and at `Write` the sink that is named; no other failures of them came but interruptions.
+/// was given up, and at `Write` the sink that is named; no other failures of them came but interruptions. Each other file is read by a
+/// source of its own, which begins without a failure and is gone once the call ends: at `Read` of that file it was given up.
 pub fn join_of<F: Source, R: Read, O: Sink, W: Sink>(
     alloc: Global,
     first: &mut F,
@@ -100,8 +101,7 @@ fn join_file<R: Read>(
     lines: &mut String,
 ) -> Result<(), CliFault>
     requires { before < 2 ^ 63 }
-    ensures ok { OnOk result (JoinsOne (IsHoldingFile (R.remaining file.old)) (before + 1) whole.old whole.new (string_bytes lines.old) (string_bytes lines.new)) }
-    ensures err { IfErr result (IsJoinFault (CommandPath.Hold before) (R.remaining file.old) whole.old) }
+    ensures { ReadsAlone (JoinsFile result before whole.old whole.new (string_bytes lines.old) (string_bytes lines.new)) (R.remaining file.old) }
 {
     let mut file = buffered(alloc, file)?;
     join_file_of(alloc, whole, &mut file, before, lines)

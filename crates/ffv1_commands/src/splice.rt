@@ -4,8 +4,9 @@ ghost use Rattle.std.specs.Prelude.{◌≡◌, ◌<◌, ◌++◌, length, map, I
 ghost use Rattle.ffv1_splice.specs.Splice.{IsSpliceOf};
 ghost use Rattle.ffv1_commands.specs.Fault.{NamesPath};
 ghost use Rattle.ffv1_commands.specs.Paths.{IsSplicePath};
-ghost use Rattle.ffv1_commands.specs.Devices.{UnlessWriting};
-ghost use Rattle.ffv1_commands.specs.SpliceText.{standing_line, front_line, splice_text, IsLengthFault, SplicesCopies, SpliceStops, LaterKept, ReadsCopy, AreTaken, StopsAtCopy, TellsSplice};
+ghost use Rattle.ffv1_commands.specs.Devices.{UnlessWriting, FileStops, ReadsNamed};
+ghost use Rattle.ffv1_commands.specs.InTurn.{ReadsAlone, AreTaken, StopsAtCopy};
+ghost use Rattle.ffv1_commands.specs.SpliceText.{standing_line, front_line, splice_text, IsLengthFault, SplicesCopies, SpliceStops, LaterCopiesKept, TellsSplice};
 
 use crate::devices::{read_file, write_both};
 use crate::fault::CliFault;
@@ -36,7 +37,7 @@ pub fn run_splice<C: Read, O: Write, W: Write>(
         (O.contents out.old) (O.contents out.new) (W.contents output.old) (W.contents output.new)) }
     ensures untouched { IfErr result (λ fault. UnlessWriting fault ((out.new ≡ out.old) × (output.new ≡ output.old))) }
     ensures names { IfErr result (NamesPath (IsSplicePath (length copies.old))) }
-    ensures later_kept { IfErr result (LaterKept copies.old copies.new) }
+    ensures later_kept { IfErr result (LaterCopiesKept copies.old copies.new) }
 {
     splice_of(
         alloc,
@@ -69,7 +70,7 @@ pub fn splice_of<C: Read, O: Sink, W: Sink>(
 /// The bytes of all copies, which are read in turn, up to the first that can't be read.
 fn read_copies<C: Read>(alloc: Global, copies: &mut [C]) -> Result<Vec<Vec<u8>>, CliFault>
     ensures ok { IfOk result (λ read. AreTaken (map C.remaining copies.old) (map (λ copy. copy.items) read.items)) }
-    ensures err { IfErr result (StopsAtCopy C.remaining copies.old copies.new) }
+    ensures err { IfErr result (StopsAtCopy FileStops C.remaining copies.old copies.new) }
 {
     let mut read = Vec::new(alloc);
     for index in 0..copies.len() {
@@ -83,7 +84,7 @@ fn read_copies<C: Read>(alloc: Global, copies: &mut [C]) -> Result<Vec<Vec<u8>>,
 
 /// The bytes of a copy, before which stand so many others; at most 2^30.
 fn read_one<C: Read>(alloc: Global, copy: &mut C, before: usize) -> Result<Vec<u8>, CliFault>
-    ensures { ReadsCopy (λ v. v.items) (CommandPath.Copy before) result (C.remaining copy.old) }
+    ensures { ReadsAlone (ReadsNamed (λ v. v.items) (CommandPath.Copy before) result) (C.remaining copy.old) }
 {
     read_file(alloc, &mut FromRead::new(copy), CommandPath::Copy(before))
 }

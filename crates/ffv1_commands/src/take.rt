@@ -4,8 +4,9 @@ ghost use Rattle.std.specs.Prelude.{◌≡◌, ◌+◌, ◌<◌, ◌^◌, ◌++�
 ghost use Rattle.ffv1_pool.specs.Contents.{no_slices};
 ghost use Rattle.ffv1_commands.specs.Fault.{NamesPath};
 ghost use Rattle.ffv1_commands.specs.Paths.{IsTakePath};
-ghost use Rattle.ffv1_commands.specs.Devices.{IfOfRecord, IsWholeInput, IsCopyFault, UnlessWriting};
-ghost use Rattle.ffv1_commands.specs.TakeText.{copy_line, TakesEach, TakesOne, TakesCopy, TakesCopies, StopsAtCopy, LaterKept, TakeStops, TellsTake};
+ghost use Rattle.ffv1_commands.specs.Devices.{IfOfRecord, CopyStops, UnlessWriting};
+ghost use Rattle.ffv1_commands.specs.InTurn.{ReadsAlone, StopsAtCopy};
+ghost use Rattle.ffv1_commands.specs.TakeText.{copy_line, TakesEach, TakesCopy, TakesCopies, LaterKept, TakeStops, TellsTake};
 
 use crate::devices::{read_copy, read_file};
 use crate::fault::CliFault;
@@ -58,7 +59,9 @@ pub fn run_take<R: Read, C: Read, O: Write, W: Write>(
 }
 
 /// The command over a source, readers of copies, and sinks. The logs say how it went: at `Read` of the record its source was given up
-/// or passed the limit, and at `Write` the sink that is named was given up; no other failures of them came but interruptions.
+/// or passed the limit, and at `Write` the sink that is named was given up; no other failures of them came but interruptions. Each copy
+/// is read by a source of its own, which begins without a failure and is gone once the call ends: at `Read` of a copy it was given up,
+/// and at `Hold` it passed the limit by one byte.
 pub fn take_of<R: Source, C: Read, O: Sink, W: Sink>(
     alloc: Global,
     configuration: &mut R,
@@ -89,7 +92,7 @@ fn take_copies<C: Read>(
     requires few { length copies.old < 2 ^ 63 }
     ensures ok { IfOk result (λ lines. TakesEach (map C.remaining copies.old) holding.old.reel holding.new (string_bytes lines)) }
     ensures reel { holding.new.reel ≡ holding.old.reel }
-    ensures err { IfErr result (StopsAtCopy C.remaining copies.old copies.new) }
+    ensures err { IfErr result (StopsAtCopy CopyStops C.remaining copies.old copies.new) }
 {
     let mut lines = String::new(alloc);
     for index in 0..copies.len() {
@@ -109,9 +112,8 @@ fn take_copy<C: Read>(
     lines: &mut String,
 ) -> Result<(), CliFault>
     requires { before < 2 ^ 63 }
-    ensures ok { OnOk result (TakesOne (IsWholeInput (C.remaining copy.old)) (before + 1) holding.old holding.new (string_bytes lines.old) (string_bytes lines.new)) }
+    ensures told { ReadsAlone (TakesCopy result before holding.old holding.new (string_bytes lines.old) (string_bytes lines.new)) (C.remaining copy.old) }
     ensures reel { holding.new.reel ≡ holding.old.reel }
-    ensures err { IfErr result (IsCopyFault (CommandPath.Copy before) (C.remaining copy.old)) }
 {
     take_copy_of(alloc, holding, &mut FromRead::new(copy), before, lines)
 }

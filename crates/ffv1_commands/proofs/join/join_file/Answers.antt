@@ -1,13 +1,17 @@
-use Rattle.std.proofs.Common.{rules}
-use Rattle.ffv1_commands.proofs.JoinedFiles.{file_joined, file_unjoined}
+use Rattle.std.proofs.Common.{◌≡◌}
+use Rattle.std.proofs.lemmas.Result.{err_from_is_err_and}
+use Rattle.ffv1_commands.specs.JoinText.{JoinsFile}
+use Rattle.ffv1_commands.specs.declared.fault.CliFault.TheVariants.{Memory}
+use Rattle.ffv1_commands.specs.declared.path.CommandPath.TheVariants as paths
+use Rattle.ffv1_commands.proofs.InputLaws.{read_alone}
+use Rattle.ffv1_commands.proofs.JoinedFiles.{unbuffered}
 use Rattle.ffv1_commands.proofs.join.join_file.Goals as goal
 
-pub returns-clause-ok : goal.returns-clause-ok
-returns-clause-ok g c =
-    let one = file_joined c.args.before _ _ _ _ _ _ c.join_file_of.result c.join_file_of.ensures in
-    search (rules, one)
+pub returns-in_err-file : goal.returns-in_err-file
+returns-in_err-file g c =
+    let p = err_from_is_err_and c.from_residual.result c.from_residual.ensures.1 in
+    let memory : c.in_err-file.field-0.0 ≡ Memory = c.in_err-file.ensures.err in
+    rw (p.1, p.2, memory) (unbuffered (paths.Hold c.args.before) c.args.whole.now (g.R.Read.remaining c.args.file.now))
 
-pub returns-clause-err : goal.returns-clause-err
-returns-clause-err g c =
-    let stops = file_unjoined c.args.before _ _ _ _ _ _ c.join_file_of.result c.join_file_of.ensures in
-    search (rules, stops)
+pub returns : goal.returns
+returns g c = read_alone (JoinsFile c.join_file_of.result c.args.before _ _ _ _) _ _ _ c.in_ok-file.ensures.ok c.join_file_of.ensures

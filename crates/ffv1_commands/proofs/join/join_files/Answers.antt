@@ -1,7 +1,8 @@
-use Rattle.std.proofs.Common.{◌≤◌, ◌<◌, ◌+◌, List, ◌++◌, Option, ℕ, map, length, take, inl, inr, subst, sym, ap, ◌∙◌, refl, arith}
+use Rattle.std.proofs.Common.{◌≤◌, ◌<◌, ◌+◌, ◌++◌, map, length, take, inl, inr, subst, sym, ap, ◌∙◌, refl, arith}
 use Rattle.std.proofs.lemmas.Result.{err_from_is_err_and}
 use Rattle.std.specs.String.{string_bytes}
-use Rattle.ffv1_commands.specs.JoinText.{file_line, IsJoinFault}
+use Rattle.ffv1_commands.specs.InTurn.{ReadsAlone}
+use Rattle.ffv1_commands.specs.JoinText.{file_line, JoinBreaks}
 use Rattle.ffv1_commands.specs.declared.path.CommandPath.TheVariants as paths
 use Rattle.ffv1_commands.proofs.InputLaws.{inputs_more, input_at, length-inputs, inputs_all}
 use Rattle.ffv1_commands.proofs.LaterInputs.{next_kept, rest_kept}
@@ -22,8 +23,9 @@ loop-index-preserved g c =
     let le : i ≤ length old = omega arith in
     let d = c.index-others-index.result in
     let same = next_kept old now i c.loop-index.invariant.others d in
+    let (log, one) = c.in_default.ensures in
     let more = all_more (take i (map g.R.Read.remaining old)) _ _ c.loop-index.whole c.join_file.new.whole (string_bytes c.loop-index.lines)
-    (string_bytes c.join_file.new.lines) _ i c.loop-index.invariant.joined (length-inputs g.R.Read.remaining old i le) c.in_default.ensures.ok in
+    (string_bytes c.join_file.new.lines) _ i log c.loop-index.invariant.joined (length-inputs g.R.Read.remaining old i le) one in
     record {
       joined = all_as _ _ _ _ _ _ (inputs_more g.R.Read.remaining old now i d lt same) more;
       others = rest_kept old now i c.loop-index.invariant.others c.join_file.new.file;
@@ -48,8 +50,8 @@ returns-in-Err g c =
     let lt : i < length old = omega arith in
     let same = next_kept old now i c.loop-index.invariant.others d in
     let f = c.in-Err.fault in
-    let stops = subst (λ (input : Option (List ℕ)). IsJoinFault (paths.Hold (i + 1)) input c.loop-index.whole f)
-    (sym (input_at g.R.Read.remaining old now i d lt same)) c.in-Err.ensures.err in
+    let stops = subst (ReadsAlone (JoinBreaks (paths.Hold (i + 1)) c.loop-index.whole f)) (sym (input_at g.R.Read.remaining old now i d lt same))
+    c.in-Err.ensures in
     record {
       ok = tt;
       err = inr (

@@ -1,5 +1,6 @@
-use Rattle.std.proofs.Common.{◌≡◌, drop, take, map}
+use Rattle.std.proofs.Common.{take, map}
 use Rattle.std.specs.String.{string_bytes}
+use Rattle.ffv1_commands.specs.InTurn.{AreKeptFrom}
 use Rattle.ffv1_commands.specs.JoinText.{JoinsAll}
 use Rattle.ffv1_commands.proofs.join.join_files.Given as goal
 
@@ -8,5 +9,5 @@ abbrev pub invariant-loop-index : goal.invariant-loop-index
 invariant-loop-index g l = record {
   joined : JoinsAll (take l.index (map g.R.Read.remaining l.initial.others)) (g.F.Source.log l.fn.first) (g.F.Source.log l.first) l.whole
       (string_bytes l.lines);
-  others : drop l.index l.others ≡ drop l.index l.initial.others;
+  others : AreKeptFrom l.index l.initial.others l.others;
 }

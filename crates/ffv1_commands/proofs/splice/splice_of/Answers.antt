@@ -5,10 +5,10 @@ use Rattle.ffv1_splice.specs.Splice.{IsSpliceOf}
 use Rattle.ffv1_commands.specs.SpliceText.{IsLengthFault}
 use Rattle.ffv1_commands.specs.declared.path.CommandPath.TheVariants as paths
 use Rattle.ffv1_commands.proofs.InputFaults.{IsUnwritten, untouched_both}
-use Rattle.ffv1_commands.proofs.InputLaws.{length-AreWholeInputs}
+use Rattle.ffv1_commands.proofs.InputLaws.{taken_whole, length-AreWholeInputs}
 use Rattle.ffv1_commands.proofs.UnreadFiles.{file_says}
 use Rattle.ffv1_commands.proofs.WrittenBoth.{both_untouched}
-use Rattle.ffv1_commands.proofs.SpliceCommandSteps.{taken_whole, length_says, length_refused, splices, splice_stopped}
+use Rattle.ffv1_commands.proofs.SpliceCommandSteps.{length_says, length_refused, splices, splice_stopped}
 use Rattle.ffv1_commands.proofs.splice.splice_of.Goals as goal
 
 pub returns-in_err-read : goal.returns-in_err-read
@@ -16,7 +16,7 @@ returns-in_err-read g c =
     let p = err_from_is_err_and c.from_residual.result c.from_residual.ensures.1 in
     let f = c.in_err-read.field-0.0 in
     let stops = c.in_err-read.ensures.err in
-    let none = file_says IsUnwritten (paths.Copy stops.index) _ stops.log (λ unread. tt) (λ within. tt) f stops.stopped in
+    let none = file_says IsUnwritten (paths.Copy stops.index) _ stops.stopped.0 (λ unread. tt) (λ within. tt) f stops.stopped.1 in
     rw (p.1, p.2) (record { told = inl (stops, (refl, refl)); untouched = untouched_both c.args.out.now c.args.output.now f none })
 
 pub spliced_of-requires : goal.spliced_of-requires

@@ -1,7 +1,7 @@
 use Rattle.std.proofs.Common.{◌≤◌, ◌<◌, List, Option, ℕ, map, length, take, sym, subst, ◌∙◌, refl, arith}
-use Rattle.std.proofs.lemmas.List.{length-map}
 use Rattle.std.specs.String.{string_bytes}
-use Rattle.ffv1_commands.specs.Devices.{IsCopyFault}
+use Rattle.ffv1_commands.specs.Devices.{CopyStops}
+use Rattle.ffv1_commands.specs.InTurn.{ReadsAlone}
 use Rattle.ffv1_commands.specs.TakeText.{TakesEach}
 use Rattle.ffv1_commands.specs.declared.path.CommandPath.TheVariants as paths
 use Rattle.ffv1_commands.proofs.InputLaws.{inputs_more, input_at, length-inputs, inputs_all}
@@ -25,9 +25,10 @@ loop-index-preserved g c =
     let le : i ≤ length old = omega arith in
     let d = c.index-copies-index.result in
     let same = next_kept old now i c.loop-index.invariant.others d in
+    let (log, one) = c.in_default.ensures.told in
     let more = takes_more (take i (map g.C.Read.remaining old)) c.args.holding.now.reel c.loop-index.holding c.take_copy.new.holding
     (string_bytes c.loop-index.lines) (string_bytes c.take_copy.new.lines)
-    _ i c.loop-index.invariant.taken (length-inputs g.C.Read.remaining old i le) c.in_default.ensures.ok in
+    _ i log c.loop-index.invariant.taken (length-inputs g.C.Read.remaining old i le) one in
     record {
       taken = subst (λ (inputs : List (Option (List ℕ))). TakesEach inputs c.args.holding.now.reel c.take_copy.new.holding
           (string_bytes c.take_copy.new.lines)) (inputs_more g.C.Read.remaining old now i d lt same) more;
@@ -52,10 +53,14 @@ returns-in-Err-clause-err g c =
     let now = c.loop-index.copies in
     let d = c.index-copies-index.result in
     let lt : i < length old = omega arith in
-    let few : i < length (map g.C.Read.remaining old) = omega (arith, length-map old g.C.Read.remaining) in
     let same = next_kept old now i c.loop-index.invariant.others d in
     let each = c.loop-index.invariant.taken in
     let f = c.in-Err.fault in
-    let stops = subst (λ (input : Option (List ℕ)). IsCopyFault (paths.Copy i) input f) (sym (input_at g.C.Read.remaining old now i d lt same))
-    c.in-Err.ensures.err in
-    (i, (few, (each.copies, each.read), stops), rest_kept old now i c.loop-index.invariant.others c.take_copy.new.copy)
+    record {
+      index = i;
+      there = lt;
+      copies = each.copies;
+      earlier = each.read;
+      stopped = subst (ReadsAlone (CopyStops (paths.Copy i) f)) (sym (input_at g.C.Read.remaining old now i d lt same)) c.in-Err.ensures.told;
+      later = rest_kept old now i c.loop-index.invariant.others c.take_copy.new.copy;
+    }

@@ -1,5 +1,6 @@
-use Rattle.std.proofs.Common.{◌≡◌, drop, take, map}
+use Rattle.std.proofs.Common.{take, map}
 use Rattle.std.specs.String.{string_bytes}
+use Rattle.ffv1_commands.specs.InTurn.{AreKeptFrom}
 use Rattle.ffv1_commands.specs.TakeText.{TakesEach}
 use Rattle.ffv1_commands.proofs.take.take_copies.Given as goal
 
@@ -7,5 +8,5 @@ use Rattle.ffv1_commands.proofs.take.take_copies.Given as goal
 abbrev pub invariant-loop-index : goal.invariant-loop-index
 invariant-loop-index g l = record {
   taken : TakesEach (take l.index (map g.C.Read.remaining l.initial.copies)) l.initial.holding.reel l.holding (string_bytes l.lines);
-  others : drop l.index l.copies ≡ drop l.index l.initial.copies;
+  others : AreKeptFrom l.index l.initial.copies l.copies;
 }
