@@ -1,5 +1,5 @@
 -- No bits begin with the codes of two values, nor with those of two differences.
-use Rattle.std.proofs.Common.{List, ◌≡◌, ℕ, ◌≤◌, Bool, true, false, ◌++◌, ◌≢◌, refl, sym, ap, ◌∙◌, arith, cond, ⊎_elim, ℤ, pos, negsuc, ◌-ℤ◌, ◌≤ℤ◌, neg_ℤ}
+use Rattle.std.proofs.Common.{List, ◌≡◌, ℕ, ◌≤◌, Bool, true, false, ◌++◌, ◌≢◌, refl, sym, ap, subst, ◌∙◌, arith, cond, ⊎_elim, ℤ, pos, negsuc, ◌-ℤ◌, ◌≤ℤ◌, neg_ℤ}
 use Rattle.std.proofs.lemmas.Bool.{cases_lt}
 use Rattle.std.proofs.lemmas.Int.{ints}
 use Rattle.ffv1_bits.specs.Reader.{Reading, Reads}
@@ -93,6 +93,15 @@ value_read s number k coded value old new parameter is back range reads = record
   range = range;
   spells = record { parameter = k; is_parameter = parameter; same = ap (λ n. code_bits n k) (sym (ap (λ v. sign_number (flipped s v)) back ∙ is)) };
   reads = reads;
+}
+
+-- It is that of the difference whose decoded value it is.
+pub coded_read : (s : ContextState) (level : Bool) (value difference : ℤ) (old new : Reading) → IsValueRead s value old new
+    → decoded_value level difference ≡ value → IsCoded s level difference old new
+coded_read s level value difference old new read same = record {
+  code = read.code;
+  spells = subst (λ v. SpellsValue s v read.code) (sym same) read.spells;
+  reads = read.reads;
 }
 
 -- It is the decoded value of each difference that has its code there.

@@ -1,7 +1,7 @@
 -- Codes in a window of 56 bits.
-use Rattle.std.proofs.Common.{◌≡◌, ℕ, zero, suc, ◌+◌, ◌-◌, ◌*◌, ◌/◌, ◌%◌, ◌^◌, ◌<◌, ◌≤◌, true, false, eqb, [], ◌∷◌, ◌++◌, length, take, replicate, List, Bool, append_assoc, refl, sym, ap, subst, ◌∙◌, arith, lit<, length-append, ⊎_elim}
+use Rattle.std.proofs.Common.{◌≡◌, ℕ, zero, suc, ◌+◌, ◌-◌, ◌*◌, ◌/◌, ◌%◌, ◌^◌, ◌<◌, ◌≤◌, true, false, eqb, [], ◌∷◌, ◌++◌, length, take, replicate, List, Bool, append_assoc, refl, sym, ap, subst, ◌∙◌, arith, lit<, length-append}
 use Rattle.std.specs.Int.Count.{count_leading_zeros}
-use Rattle.std.proofs.lemmas.Bool.{lt-ltb, cases_lt}
+use Rattle.std.proofs.lemmas.Bool.{lt-ltb}
 use Rattle.std.proofs.lemmas.Nat.{leading_length, le-div, pow-add, pow_pos, shr_below}
 use Rattle.std.proofs.lemmas.Nat.Bits.{bit_at_above}
 use Rattle.std.proofs.Math.Nat.{pow-suc}
@@ -15,31 +15,14 @@ use Rattle.ffv1_rice.proofs.Shapes.{short_code, escape_code, short_suffix}
 
 -- ---- leading zeros
 
--- a number below 2 ^ 56 has at least 8 in 64 bits
-pub some_leading : (n : ℕ) → n < 2 ^ 56 → 8 ≤ count_leading_zeros 64 n
-some_leading n small =
-    let lead = leading_length 64 n (omega arith) in
-    ⊎_elim
-    (λ long. let e : 57 ≤ lead.0 = omega arith in let p : 2 ^ 57 ≤ 2 ^ lead.0 = pow_mono e in omega (arith, p, lead.3))
-    (λ short. omega (arith, lead.1, short))
-    (cases_lt 56 lead.0)
-
--- after fewer than 56 more stands a one
-pub leading_one : (n z : ℕ) → n < 2 ^ 56 → z ≡ count_leading_zeros 64 n - 8 → z < 56 → (2 ^ (55 - z) ≤ n) × (n < 2 ^ (56 - z))
+-- after fewer than 32 stands a one
+pub leading_one : (n z : ℕ) → n < 2 ^ 32 → z ≡ count_leading_zeros 32 n → z < 32 → (2 ^ (31 - z) ≤ n) × (n < 2 ^ (32 - z))
 leading_one n z small is few =
-    let lead = leading_length 64 n (omega arith) in
-    let width : lead.0 ≡ suc (55 - z) = omega (arith, lead.1, some_leading n small) in
-    let power : 2 ^ lead.0 ≡ 2 ^ (55 - z) * 2 = ap (λ m. 2 ^ m) width ∙ pow-suc 2 (55 - z) in
-    let same : 2 ^ lead.0 ≡ 2 ^ (56 - z) = ap (λ m. 2 ^ m) (width ∙ omega arith) in
+    let lead = leading_length 32 n small in
+    let width : lead.0 ≡ suc (31 - z) = omega (arith, lead.1, is, few) in
+    let power : 2 ^ lead.0 ≡ 2 ^ (31 - z) * 2 = ap (λ m. 2 ^ m) width ∙ pow-suc 2 (31 - z) in
+    let same : 2 ^ lead.0 ≡ 2 ^ (32 - z) = ap (λ m. 2 ^ m) (width ∙ omega arith) in
     (omega (arith, power, lead.3), omega (arith, same, lead.2))
-
--- twelve of them
-pub leading_escape : (n z : ℕ) → n < 2 ^ 56 → z ≡ count_leading_zeros 64 n - 8 → 12 ≤ z → n < 2 ^ 44
-leading_escape n z small is many =
-    let lead = leading_length 64 n (omega arith) in
-    let narrow : lead.0 ≤ 44 = omega (arith, lead.1, some_leading n small) in
-    let power : 2 ^ lead.0 ≤ 2 ^ 44 = pow_mono narrow in
-    omega (arith, power, lead.2)
 
 -- ---- the parts of a window
 
@@ -53,17 +36,17 @@ unfolding number_bits prefix_bits
 zeros_and_one z few = number_bits-split z 1 1 ∙ ap (λ bits. bits ++ (true ∷ [])) (no_ones z) ∙ rw (lt-ltb z 12 few) refl
 
 -- the bits after the prefix's zeros: a one and the suffix
-pub suffix_at : (window z k : ℕ) → z < 12 → k ≤ 7 → 2 ^ (55 - z) ≤ window → window < 2 ^ (56 - z)
-    → (2 ^ k ≤ window / 2 ^ (55 - z - k)) × (window / 2 ^ (55 - z - k) < 2 ^ k * 2)
+pub suffix_at : (window z k : ℕ) → z < 12 → k ≤ 7 → 2 ^ (31 - z) ≤ window → window < 2 ^ (32 - z)
+    → (2 ^ k ≤ window / 2 ^ (31 - (z + k))) × (window / 2 ^ (31 - (z + k)) < 2 ^ k * 2)
 suffix_at window z k few small low high =
-    let later : ℕ = 55 - z - k in
+    let later : ℕ = 31 - (z + k) in
     let whole : 2 ^ k * 2 ^ later ≤ window =
-    rw (← pow-add 2 k later) (subst (λ m. 2 ^ m ≤ window) (let e : 55 - z ≡ k + later = omega arith in e) low) in
-    let below : window < 2 ^ (suc k + later) = subst (λ m. window < 2 ^ m) (let e : 56 - z ≡ suc k + later = omega arith in e) high in
+    rw (← pow-add 2 k later) (subst (λ m. 2 ^ m ≤ window) (let e : 31 - z ≡ k + later = omega arith in e) low) in
+    let below : window < 2 ^ (suc k + later) = subst (λ m. window < 2 ^ m) (let e : 32 - z ≡ suc k + later = omega arith in e) high in
     let narrow : window / 2 ^ later < 2 ^ suc k = shr_below window (suc k) later below in
     (le-div (2 ^ k) window (2 ^ later) (pow_pos later) whole, omega (arith, narrow, pow-suc 2 k))
 
-pub small_place : (window z k : ℕ) → z < 12 → k ≤ 7 → 2 ^ (55 - z) ≤ window → window < 2 ^ (56 - z) → window / 2 ^ (55 - z - k) < 2 ^ 8
+pub small_place : (window z k : ℕ) → z < 12 → k ≤ 7 → 2 ^ (31 - z) ≤ window → window < 2 ^ (32 - z) → window / 2 ^ (31 - (z + k)) < 2 ^ 8
 small_place window z k few small low high =
     let bounds = suffix_at window z k few small low high in
     let power : 2 ^ k ≤ 2 ^ 7 = pow_mono small in
@@ -88,26 +71,26 @@ window_one window width low high =
     let few : window / 2 ^ width < 2 ^ 1 = shr_below window 1 width high in
     omega arith
 
-pub short_begins : (window z k suffix number : ℕ) → z < 12 → k ≤ 7 → 2 ^ (55 - z) ≤ window → window < 2 ^ (56 - z)
-    → suffix ≡ window / 2 ^ (55 - z - k) - 2 ^ k → number ≡ z * 2 ^ k + suffix
-    → BeginsWith (number_bits 56 window) (code_bits number k) (z + 1 + k)
+pub short_begins : (window z k suffix number : ℕ) → z < 12 → k ≤ 7 → 2 ^ (31 - z) ≤ window → window < 2 ^ (32 - z)
+    → suffix ≡ window / 2 ^ (31 - (z + k)) - 2 ^ k → number ≡ z * 2 ^ k + suffix
+    → BeginsWith (number_bits 32 window) (code_bits number k) (z + 1 + k)
 short_begins window z k suffix number few small low high is value =
-    let r : ℕ = 55 - z - k in
+    let r : ℕ = 31 - (z + k) in
     let bounds = suffix_at window z k few small low high in
     let fits : suffix < 2 ^ k = omega (arith, bounds.0, bounds.1) in
     let one : window / 2 ^ (k + r) ≡ 1 =
-    window_one window (k + r) (subst (λ m. 2 ^ m ≤ window) (let e : 55 - z ≡ k + r = omega arith in e) low)
-    (subst (λ m. window < 2 ^ m) (let e : 56 - z ≡ 1 + (k + r) = omega arith in e) high) in
+    window_one window (k + r) (subst (λ m. 2 ^ m ≤ window) (let e : 31 - z ≡ k + r = omega arith in e) low)
+    (subst (λ m. window < 2 ^ m) (let e : 32 - z ≡ 1 + (k + r) = omega arith in e) high) in
     let high_bits : number_bits (z + 1) (window / 2 ^ (k + r)) ≡ prefix_bits z = ap (number_bits (z + 1)) one ∙ zeros_and_one z few in
     let whole : window / 2 ^ r ≡ 1 * 2 ^ k + suffix = omega (arith, bounds.0) in
     let low_bits : number_bits k (window / 2 ^ r) ≡ number_bits k suffix =
     ap (number_bits k) whole ∙ sym (number_bits-low k (1 * 2 ^ k + suffix)) ∙ ap (number_bits k) (short_suffix k 1 suffix fits) in
     let later : number_bits (k + r) window ≡ number_bits k suffix ++ number_bits r window =
     number_bits-split k r window ∙ ap (λ bits. bits ++ number_bits r window) low_bits in
-    let parts : number_bits 56 window ≡ prefix_bits z ++ (number_bits k suffix ++ number_bits r window) =
-    ap (λ n. number_bits n window) (let e : 56 ≡ z + 1 + (k + r) = omega arith in e) ∙ number_bits-split (z + 1) (k + r) window
+    let parts : number_bits 32 window ≡ prefix_bits z ++ (number_bits k suffix ++ number_bits r window) =
+    ap (λ n. number_bits n window) (let e : 32 ≡ z + 1 + (k + r) = omega arith in e) ∙ number_bits-split (z + 1) (k + r) window
     ∙ ap (λ bits. bits ++ number_bits (k + r) window) high_bits ∙ ap (λ bits. prefix_bits z ++ bits) later in
-    let same : number_bits 56 window ≡ code_bits number k ++ number_bits r window =
+    let same : number_bits 32 window ≡ code_bits number k ++ number_bits r window =
     parts ∙ short_code k z suffix number (number_bits k suffix ++ number_bits r window) (number_bits r window) few fits value refl in
     record {
       rest = number_bits r window;
@@ -115,20 +98,49 @@ short_begins window z k suffix number few small low high is value =
       long = omega (
         arith,
         ap length same,
-        length-number_bits 56 window,
+        length-number_bits 32 window,
         length-append (code_bits number k) (number_bits r window),
         length-number_bits r window,
       );
     }
 
+-- the front of a window is its first 32 bits
+pub front_parts : (window : ℕ) → number_bits 56 window ≡ number_bits 32 (window / 2 ^ 24) ++ number_bits 24 window
+front_parts window = number_bits-split 32 24 window
+
+-- what a window begins with, the bits of which it is the front begin with
+pub begins_later : (bits window rest code : List Bool) (count : ℕ) → bits ≡ window ++ rest → BeginsWith window code count → BeginsWith bits code count
+begins_later bits window rest code count parts begins = record {
+  rest = begins.rest ++ rest;
+  same = parts ∙ ap (λ l. l ++ rest) begins.same ∙ append_assoc code begins.rest rest;
+  long = begins.long;
+}
+
+-- bits that are read stand at the front, and are as many as the place moves
+pub read_begins : (old new : Reading) (code : List Bool) (count : ℕ) → count ≡ new.place - old.place → Reads old code new → BeginsWith old.left code count
+read_begins old new code count is reads = record {
+  rest = new.left;
+  same = reads.begins;
+  long = omega (arith, reads.moves, is);
+}
+
+-- what bits begin with is no longer than they are
+pub begun_fits : (bits code : List Bool) (count : ℕ) → BeginsWith bits code count → count ≤ length bits
+begun_fits bits code count begins = omega (arith, ap length begins.same, length-append code begins.rest, begins.long)
+
 -- a code that is passed over is read
-pub begun_read : (old new : Reading) (window code rest : List Bool) (count : ℕ) → old.left ≡ window ++ rest → BeginsWith window code count
-    → Reads old (take count old.left) new → Reads old code new
-begun_read old new window code rest count left begins passed =
-    let parts : old.left ≡ code ++ (begins.rest ++ rest) =
-    left ∙ ap (λ l. l ++ rest) begins.same ∙ append_assoc code begins.rest rest in
-    let front : take count old.left ≡ code = ap (take count) parts ∙ take_at code (begins.rest ++ rest) count begins.long in
+pub begun_read : (old new : Reading) (code : List Bool) (count : ℕ) → BeginsWith old.left code count → Reads old (take count old.left) new → Reads old code new
+begun_read old new code count begins passed =
+    let front : take count old.left ≡ code = ap (take count) begins.same ∙ take_at code begins.rest count begins.long in
     subst (λ l. Reads old l new) front passed
+
+-- the reading once it is passed over
+pub reading_after : (old : Reading) (code : List Bool) (count : ℕ) → BeginsWith old.left code count → Reading
+reading_after old code count begins = record { place = old.place + length code; left = begins.rest }
+
+pub begun_after : (old : Reading) (code : List Bool) (count : ℕ) (begins : BeginsWith old.left code count) → Reads old code (reading_after old code count begins)
+unfolding reading_after
+begun_after old code count begins = record { begins = begins.same; moves = refl }
 
 pub escape_begins : (window k number : ℕ) → window < 2 ^ 44 → number ≡ window / 2 ^ 36 + 11 → 12 ≤ number / 2 ^ k
     → BeginsWith (number_bits 56 window) (code_bits number k) 20

@@ -1,7 +1,7 @@
 //! Golomb-Rice codes: a prefix of zeros, and a suffix of bits (RFC 9043, section 3.8.2.1).
 //!
 //! A code that stands whole in the next 56 bits is read from them at once. Near the end, and where there is a fault, it is
-//! read bit by bit.
+//! read bit by bit. Its number comes together with its length, and the bits are passed over once all is known.
 ghost use Rattle.std.specs.Prelude.{◌≡◌, ℕ, ◌+◌, ◌/◌, ◌%◌, ◌-◌, ◌^◌, ◌≤◌, ◌<◌, ◌++◌, ℤ, false, true, pos, replicate, IfOk, IfErr, IfSome, IfNone, OnErr};
 ghost use Rattle.ffv1_bits.specs.Bits.{number_bits};
 ghost use Rattle.ffv1_bits.specs.Reader.{Reading, Reads};
@@ -52,59 +52,104 @@ fn read_prefix(bits: &mut Bits) -> Option<u32>
     Some(ESCAPE_ZEROS)
 }
 
-/// The number whose code at the parameter `k` comes next. After a fault the bits stand at any place.
+/// A code that comes next: its number, and how many bits it has.
+#[derive(Clone, Copy)]
+struct NumberAhead {
+    number: u32,
+    length: usize,
+}
+
+/// The number whose code at the parameter `k` comes next. Nothing is read.
 #[inline(always)]
-fn read_number(bits: &mut Bits, k: u32) -> Result<u32, CodeFault>
+fn number_ahead(bits: &Bits, k: u32) -> Result<NumberAhead, CodeFault>
     requires { k ≤ 7 }
-    ensures byte { IfOk result (λ u. u ≤ 255) }
-    ensures ok { IfOk result (λ u. Reads bits.old (code_bits u k) bits.new) }
-    ensures err { IfErr result (λ fault. IsNumberFault k bits.old.left fault) }
+    ensures byte { IfOk result (λ ahead. ahead.number ≤ 255) }
+    ensures ok { IfOk result (λ ahead. BeginsWith bits.now.left (code_bits ahead.number k) ahead.length) }
+    ensures err { IfErr result (λ fault. IsNumberFault k bits.now.left fault) }
 {
-    match read_at_once(bits, k) {
-        Some(number) => Ok(number),
-        None => {
-            // A reader of its own, so that the other one can stay in registers; of it the place alone changes.
-            let mut slow = bits.fork();
-            let number = read_bit_by_bit(&mut slow, k)?;
-            bits.skip(slow.place() - bits.place());
-            Ok(number)
-        }
+    match short_ahead(bits, k) {
+        Some(ahead) => Ok(ahead),
+        None => held_ahead(bits, k),
     }
 }
 
-/// The number whose code comes next, where it stands whole in the next 56 bits and has no fault; else nothing is read.
+/// `long_ahead`, whose answer has a place of its own in memory. It is made here, so that it costs nothing where the code is
+/// short.
 #[inline(always)]
-fn read_at_once(bits: &mut Bits, k: u32) -> Option<u32>
+fn held_ahead(bits: &Bits, k: u32) -> Result<NumberAhead, CodeFault>
     requires { k ≤ 7 }
-    ensures byte { IfSome result (λ u. u ≤ 255) }
-    ensures some { IfSome result (λ u. Reads bits.old (code_bits u k) bits.new) }
-    ensures none { IfNone result (bits.new ≡ bits.old) }
+    ensures byte { IfOk result (λ ahead. ahead.number ≤ 255) }
+    ensures ok { IfOk result (λ ahead. BeginsWith bits.now.left (code_bits ahead.number k) ahead.length) }
+    ensures err { IfErr result (λ fault. IsNumberFault k bits.now.left fault) }
+{
+    let NumberAhead { number, length } = long_ahead(bits, k)?;
+    Ok(NumberAhead { number, length })
+}
+
+/// The number whose code comes next, where the code stands whole in the next 56 bits, is no escape and has no fault.
+#[inline(always)]
+fn short_ahead(bits: &Bits, k: u32) -> Option<NumberAhead>
+    requires { k ≤ 7 }
+    ensures byte { IfSome result (λ ahead. ahead.number ≤ 255) }
+    ensures some { IfSome result (λ ahead. BeginsWith bits.now.left (code_bits ahead.number k) ahead.length) }
 {
     let window = bits.peek()?;
-    let zeros = window.leading_zeros() - 8;
-    if zeros < ESCAPE_ZEROS {
-        let number = short_in(window, k, zeros)?;
-        bits.skip((zeros + 1 + k) as usize);
-        Some(number)
-    } else {
-        let number = escaped_in(window, k)?;
-        bits.skip((ESCAPE_ZEROS + ESCAPE_BITS) as usize);
-        Some(number)
+    // Such a code has at most 19 bits.
+    let front = (window >> 24) as u32;
+    let zeros = front.leading_zeros();
+    if zeros >= ESCAPE_ZEROS {
+        return None;
     }
+    let number = short_in(front, k, zeros)?;
+    let length = zeros as usize + 1 + k as usize;
+    Some(NumberAhead { number, length })
+}
+
+/// The number whose code comes next, escape or not. Few codes come here.
+#[cold]
+#[inline(never)]
+fn long_ahead(bits: &Bits, k: u32) -> Result<NumberAhead, CodeFault>
+    requires { k ≤ 7 }
+    ensures byte { IfOk result (λ ahead. ahead.number ≤ 255) }
+    ensures ok { IfOk result (λ ahead. BeginsWith bits.now.left (code_bits ahead.number k) ahead.length) }
+    ensures err { IfErr result (λ fault. IsNumberFault k bits.now.left fault) }
+{
+    if let Some(number) = escape_ahead(bits, k) {
+        let length = (ESCAPE_ZEROS + ESCAPE_BITS) as usize;
+        return Ok(NumberAhead { number, length });
+    }
+    let mut later = bits.fork();
+    let number = read_bit_by_bit(&mut later, k)?;
+    let length = later.place() - bits.place();
+    Ok(NumberAhead { number, length })
+}
+
+/// The number of an escape that stands whole in the next 56 bits and has no fault.
+fn escape_ahead(bits: &Bits, k: u32) -> Option<u32>
+    requires { k ≤ 7 }
+    ensures byte { IfSome result (λ u. u ≤ 255) }
+    ensures some { IfSome result (λ u. BeginsWith bits.now.left (code_bits u k) 20) }
+{
+    let window = bits.peek()?;
+    if window >= 1 << 44 {
+        return None;
+    }
+    let number = escaped_in(window, k)?;
+    Some(number)
 }
 
 /// The number, where the prefix has fewer than 12 zeros.
 #[inline(always)]
-fn short_in(window: u64, k: u32, zeros: u32) -> Option<u32>
+fn short_in(front: u32, k: u32, zeros: u32) -> Option<u32>
     requires parameter { k ≤ 7 }
     requires zeros { zeros < 12 }
-    requires low { 2 ^ (55 - zeros) ≤ window }
-    requires high { window < 2 ^ (56 - zeros) }
+    requires low { 2 ^ (31 - zeros) ≤ front }
+    requires high { front < 2 ^ (32 - zeros) }
     ensures byte { IfSome result (λ u. u ≤ 255) }
-    ensures some { IfSome result (λ u. BeginsWith (number_bits 56 window) (code_bits u k) (zeros + 1 + k)) }
+    ensures some { IfSome result (λ u. BeginsWith (number_bits 32 front) (code_bits u k) (zeros + 1 + k)) }
 {
     // The one that ends the prefix stands before the suffix, so that one zero less is counted.
-    let low = (window >> (55 - zeros - k)) as u32;
+    let low = front >> (31 - (zeros + k));
     let number = (zeros.wrapping_sub(1) << k).wrapping_add(low);
     if number > LARGEST_NUMBER {
         return None;
@@ -113,8 +158,6 @@ fn short_in(window: u64, k: u32, zeros: u32) -> Option<u32>
 }
 
 /// The number, where the prefix is an escape.
-#[cold]
-#[inline(never)]
 fn escaped_in(window: u64, k: u32) -> Option<u32>
     requires parameter { k ≤ 7 }
     requires window { window < 2 ^ 44 }
@@ -220,13 +263,11 @@ impl VlcState {
         ensures err { IfErr result (IsCodeFault self.old level bits.old.left) }
         ensures unchanged { OnErr result ((self.new ≡ self.old) × (bits.new ≡ bits.old)) }
     {
-        let mut ahead = bits.fork();
-        let number = read_number(&mut ahead, self.k())?;
-        let coded = self.coded(number);
+        let ahead = number_ahead(bits, self.k())?;
+        let coded = self.coded(ahead.number);
         let difference = difference_of(self.value(coded), level)?;
-        let next = self.updated(coded);
-        *bits = ahead;
-        *self = next;
+        self.update(coded);
+        bits.skip(ahead.length);
         Ok(difference)
     }
 }

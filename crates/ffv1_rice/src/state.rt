@@ -164,8 +164,24 @@ impl VlcState {
         (sums.drift, sums.error_sum, sums.bias, sums.count)
     }
 
+    /// Adds a coded value.
+    #[inline(always)]
+    pub(crate) fn update(&mut self, value: i32)
+        requires { IsDifference value }
+        ensures { self.new ≡ updated self.old value }
+    {
+        let next = self.updated(value).sums;
+        // Few values move the bias. Where it stays, it is not written.
+        if next.bias != self.sums.bias {
+            self.sums.bias = next.bias;
+        }
+        self.sums.drift = next.drift;
+        self.sums.error_sum = next.error_sum;
+        self.sums.count = next.count;
+    }
+
     /// The state once a coded value was added.
-    pub(crate) fn updated(self, value: i32) -> Self
+    fn updated(self, value: i32) -> Self
         requires { IsDifference value }
         ensures { result ≡ updated self value }
     {

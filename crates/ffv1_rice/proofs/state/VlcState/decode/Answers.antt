@@ -3,18 +3,21 @@ use Rattle.std.specs.Prelude.{Ok}
 use Rattle.std.proofs.lemmas.Int.{ints}
 use Rattle.ffv1_rice.specs.Codes.{IsCodedDifference}
 use Rattle.ffv1_rice.proofs.Sums.{IsDifference-of_z, to_z-of_z-difference}
-use Rattle.ffv1_rice.proofs.OneCode.{IsValueRead, value_read, same_difference}
+use Rattle.ffv1_rice.proofs.OneCode.{IsValueRead, value_read, coded_read, same_difference}
+use Rattle.ffv1_bits.specs.Reader.{Reading, Reads}
+use Rattle.ffv1_rice.specs.Codes.{code_bits, IsCoded}
+use Rattle.ffv1_rice.proofs.Windows.{begun_fits, begun_read, begun_after, reading_after}
 use Rattle.ffv1_rice.proofs.Faults.{no_level_above, no_difference_at_fault}
 use Rattle.ffv1_rice.proofs.state.VlcState.decode.Goals as goal
 
 IsCodedDifference-of_z : (level : Bool) (d : ℤ) → IsCodedDifference level d → IsCodedDifference level (to_z w32 (of_z w32 d))
 IsCodedDifference-of_z level d coded = subst (IsCodedDifference level) (sym (to_z-of_z-difference d coded.0)) coded
 
-pub read_number-requires : goal.read_number-requires
-read_number-requires c = c.k.ensures.bound
+pub number_ahead-requires : goal.number_ahead-requires
+number_ahead-requires c = c.k.ensures.bound
 
 pub coded-coded-requires : goal.coded-coded-requires
-coded-coded-requires c = c.in_ok-number.ensures.byte
+coded-coded-requires c = c.in_ok-ahead.ensures.byte
 
 pub value-requires : goal.value-requires
 value-requires c = IsDifference-of_z c.coded-coded.result c.coded-coded.ensures.range
@@ -22,35 +25,56 @@ value-requires c = IsDifference-of_z c.coded-coded.result c.coded-coded.ensures.
 pub difference_of-requires : goal.difference_of-requires
 difference_of-requires c = IsDifference-of_z c.value.result c.value.ensures.range
 
-pub updated-next-requires : goal.updated-next-requires
-updated-next-requires c = IsDifference-of_z c.coded-coded.result c.coded-coded.ensures.range
+pub skip-requires : goal.skip-requires
+skip-requires c = begun_fits _ _ _ c.in_ok-ahead.ensures.ok
+
+pub update-requires : goal.update-requires
+update-requires c = IsDifference-of_z c.coded-coded.result c.coded-coded.ensures.range
 
 pub returns-clause-range : goal.returns-clause-range
 returns-clause-range c = IsCodedDifference-of_z c.args.level c.in_ok-difference.difference c.in_ok-difference.ensures.range
 
-pub returns-in_err-number-clause-found : goal.returns-in_err-number-clause-found
-returns-in_err-number-clause-found c = λ difference after told spelled.
-    absurd (no_difference_at_fault c.args.self.now c.args.level c.in_err-number.field-0.0 c.k.result difference c.args.bits.now after
-    c.k.ensures.parameter (rw c.fork-ahead.ensures at c.in_err-number.ensures.err) spelled)
+pub returns-in_err-ahead-clause-found : goal.returns-in_err-ahead-clause-found
+returns-in_err-ahead-clause-found c = λ difference after told spelled.
+    absurd (no_difference_at_fault c.args.self.now c.args.level c.in_err-ahead.field-0.0 c.k.result difference c.args.bits.now after
+    c.k.ensures.parameter c.in_err-ahead.ensures.err spelled)
 
 pub returns-in_err-difference-clause-found : goal.returns-in_err-difference-clause-found
 returns-in_err-difference-clause-found c = λ difference after told spelled.
     let coded : to_z w32 (of_z w32 c.coded-coded.result) ≡ c.coded-coded.result = omega (arith, ints) in
     let value : to_z w32 (of_z w32 c.value.result) ≡ c.value.result = omega (arith, ints) in
-    let read : IsValueRead c.args.self.now c.value.result c.args.bits.now c.read_number.new.bits =
-    value_read c.args.self.now c.in_ok-number.number c.k.result c.coded-coded.result c.value.result c.args.bits.now c.read_number.new.bits c.k.ensures.parameter
-    c.coded-coded.ensures.number (c.value.ensures.coded ∙ coded) c.value.ensures.range (rw c.fork-ahead.ensures at c.in_ok-number.ensures.ok) in
-    absurd (no_level_above c.args.self.now c.args.level c.value.result difference c.args.bits.now c.read_number.new.bits after read
+    let begins = c.in_ok-ahead.ensures.ok in
+    let later : Reading = reading_after c.args.bits.now _ _ begins in
+    let read : IsValueRead c.args.self.now c.value.result c.args.bits.now later =
+    value_read c.args.self.now c.in_ok-ahead.ahead.number c.k.result c.coded-coded.result c.value.result c.args.bits.now later c.k.ensures.parameter
+    c.coded-coded.ensures.number (c.value.ensures.coded ∙ coded) c.value.ensures.range (begun_after c.args.bits.now _ _ begins) in
+    absurd (no_level_above c.args.self.now c.args.level c.value.result difference c.args.bits.now later after read
     c.in_err-difference.ensures.err.0 (sym value ∙ c.in_err-difference.ensures.err.2) told spelled)
 
 pub returns-clause-found : goal.returns-clause-found
 returns-clause-found c = λ difference after told spelled.
     let coded : to_z w32 (of_z w32 c.coded-coded.result) ≡ c.coded-coded.result = omega (arith, ints) in
     let value : to_z w32 (of_z w32 c.value.result) ≡ c.value.result = omega (arith, ints) in
-    let read : IsValueRead c.args.self.now c.value.result c.args.bits.now c.read_number.new.bits =
-    value_read c.args.self.now c.in_ok-number.number c.k.result c.coded-coded.result c.value.result c.args.bits.now c.read_number.new.bits c.k.ensures.parameter
-    c.coded-coded.ensures.number (c.value.ensures.coded ∙ coded) c.value.ensures.range (rw c.fork-ahead.ensures at c.in_ok-number.ensures.ok) in
+    let reads : Reads c.args.bits.now (code_bits c.in_ok-ahead.ahead.number c.k.result) c.skip.new.self =
+    begun_read c.args.bits.now c.skip.new.self _ _ c.in_ok-ahead.ensures.ok c.skip.ensures in
+    let read : IsValueRead c.args.self.now c.value.result c.args.bits.now c.skip.new.self =
+    value_read c.args.self.now c.in_ok-ahead.ahead.number c.k.result c.coded-coded.result c.value.result c.args.bits.now c.skip.new.self c.k.ensures.parameter
+    c.coded-coded.ensures.number (c.value.ensures.coded ∙ coded) c.value.ensures.range reads in
     let same : c.in_ok-difference.difference ≡ difference =
-    same_difference c.args.self.now c.args.level c.value.result c.in_ok-difference.difference difference c.args.bits.now c.read_number.new.bits after read
+    same_difference c.args.self.now c.args.level c.value.result c.in_ok-difference.difference difference c.args.bits.now c.skip.new.self after read
     c.in_ok-difference.ensures.range (c.in_ok-difference.ensures.ok ∙ value) told spelled in
     ap Ok (omega (arith, ints, same, told.0.low, told.0.high))
+
+pub returns-clause-ok : goal.returns-clause-ok
+returns-clause-ok c =
+    let coded : to_z w32 (of_z w32 c.coded-coded.result) ≡ c.coded-coded.result = omega (arith, ints) in
+    let value : to_z w32 (of_z w32 c.value.result) ≡ c.value.result = omega (arith, ints) in
+    let reads : Reads c.args.bits.now (code_bits c.in_ok-ahead.ahead.number c.k.result) c.skip.new.self =
+    begun_read c.args.bits.now c.skip.new.self _ _ c.in_ok-ahead.ensures.ok c.skip.ensures in
+    let read : IsValueRead c.args.self.now c.value.result c.args.bits.now c.skip.new.self =
+    value_read c.args.self.now c.in_ok-ahead.ahead.number c.k.result c.coded-coded.result c.value.result c.args.bits.now c.skip.new.self c.k.ensures.parameter
+    c.coded-coded.ensures.number (c.value.ensures.coded ∙ coded) c.value.ensures.range reads in
+    subst (λ d. IsCoded c.args.self.now c.args.level d c.args.bits.now c.skip.new.self)
+    (sym (to_z-of_z-difference c.in_ok-difference.difference c.in_ok-difference.ensures.range.0))
+    (coded_read c.args.self.now c.args.level c.value.result c.in_ok-difference.difference c.args.bits.now c.skip.new.self read
+    (c.in_ok-difference.ensures.ok ∙ value))
