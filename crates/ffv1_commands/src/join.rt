@@ -50,8 +50,10 @@ pub fn run_join<R: Read, O: Write, W: Write>(
     )
 }
 
-/// The command over a source, readers of the other files, each of which is read by a source of its own, and sinks. The logs say how it
-/// went: at `Read` of a file its source was given up, and at `Write` the sink that is named; no other failures came but interruptions.
+/// The command over a source, readers of the other files, and sinks. The logs say how it went: at `Read` of the first file its source
+/// was given up, and at `Write` the sink that is named; no other failures of them came but interruptions. Each other file is read by a
+/// source of its own, which begins without a failure: at `Read` of that file it was given up. It is gone once the call ends, so the caller
+/// can't see its tries.
 pub fn join_of<F: Source, R: Read, O: Sink, W: Sink>(
     alloc: Global,
     first: &mut F,

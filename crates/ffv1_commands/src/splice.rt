@@ -47,9 +47,9 @@ pub fn run_splice<C: Read, O: Write, W: Write>(
     )
 }
 
-/// The command over readers of copies, each of which is read by a source of its own, and sinks. The logs say how it went: at `Read`
-/// the source of the copy that is named was given up or passed the limit, and at `Write` the sink that is named was given up;
-/// no other failures came but interruptions.
+/// The command over readers of copies, and sinks. The logs say how it went: at `Write` the sink that is named was given up, and no other
+/// failures of them came but interruptions. Each copy is read by a source of its own, which begins without a failure: at `Read` of a copy
+/// it was given up or passed the limit. It is gone once the call ends, so the caller can't see its tries.
 pub fn splice_of<C: Read, O: Sink, W: Sink>(
     alloc: Global,
     copies: &mut [C],

@@ -58,9 +58,10 @@ pub fn run_take<R: Read, C: Read, O: Write, W: Write>(
     )
 }
 
-/// The command over a source, readers of copies, each of which is read by a source of its own, and sinks. The logs say how it went: at
-/// `Read` of the record its source was given up or passed the limit; at `Read` of a copy its source was given up, and at `Hold` it passed
-/// the limit by one byte; at `Write` the sink that is named was given up; no other failures came but interruptions.
+/// The command over a source, readers of copies, and sinks. The logs say how it went: at `Read` of the record its source was given up
+/// or passed the limit, and at `Write` the sink that is named was given up; no other failures of them came but interruptions. Each copy
+/// is read by a source of its own, which begins without a failure: at `Read` of a copy it was given up, and at `Hold` it passed the limit
+/// by one byte. It is gone once the call ends, so the caller can't see its tries.
 pub fn take_of<R: Source, C: Read, O: Sink, W: Sink>(
     alloc: Global,
     configuration: &mut R,
