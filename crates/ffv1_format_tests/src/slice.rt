@@ -65,9 +65,12 @@ fn after_junk(alloc: Global) -> Result<Vec<u8>, Fail> {
 fn are_tiles_of(alloc: Global, payload: &[u8], tiles: &[usize]) -> Result<bool, Fail> {
     let setup = Setup::read(alloc, &RECORDED_RECORD, 48, 32)?;
     let mut found = Vec::new(alloc);
-    for link in Chain::new(payload) {
-        if let Ok(tile) = slice_of(&setup, &link) {
-            found.push(tile)?;
+    let mut chain = Chain::new(payload);
+    for _ in 0..payload.len() {
+        if let Some(link) = chain.next() {
+            if let Ok(tile) = slice_of(&setup, &link) {
+                found.push(tile)?;
+            }
         }
     }
     Ok(found.as_slice() == tiles)

@@ -104,9 +104,12 @@ fn four_tiles(alloc: Global) -> Result<FrameSpec, Fail> {
 /// The tiles whose slices are found in a payload, from its end, each with the status before its parity.
 fn found_tiles(alloc: Global, setup: &Setup, payload: &[u8]) -> Result<Vec<(usize, u8)>, Fail> {
     let mut tiles = Vec::new(alloc);
-    for link in Chain::new(payload) {
-        if let Ok(tile) = slice_of(setup, &link) {
-            tiles.push((tile, link.status()))?;
+    let mut chain = Chain::new(payload);
+    for _ in 0..payload.len() {
+        if let Some(link) = chain.next() {
+            if let Ok(tile) = slice_of(setup, &link) {
+                tiles.push((tile, link.status()))?;
+            }
         }
     }
     Ok(tiles)

@@ -65,9 +65,12 @@ fn rotten(
 
 /// The slice of a tile that is found in a payload, the last one.
 fn slice_of_tile<'a>(setup: &Setup, payload: &'a [u8], tile: usize) -> Option<&'a [u8]> {
-    for link in Chain::new(payload) {
-        if slice_of(setup, &link) == Ok(tile) {
-            return Some(link.bytes());
+    let mut chain = Chain::new(payload);
+    for _ in 0..payload.len() {
+        if let Some(link) = chain.next() {
+            if slice_of(setup, &link) == Ok(tile) {
+                return Some(link.bytes());
+            }
         }
     }
     None
