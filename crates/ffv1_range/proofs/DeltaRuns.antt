@@ -7,7 +7,7 @@ use Rattle.std.proofs.lemmas.List.{length-set}
 use Rattle.std.proofs.lemmas.List.Elements.{All-cons, All-nil, All-head, All-tail}
 use Rattle.ffv1_range.specs.Coding.{Coder, PlaceOf, Place, IsRangeRun}
 use Rattle.ffv1_range.specs.Rows.{Rows, with_row, Piece, IsRowsRun}
-use Rattle.ffv1_range.specs.Forms.{Form, on, lifted, lifted_result, slot_form}
+use Rattle.ffv1_range.specs.Forms.{Form, on, lifted, lifted_result}
 use Rattle.ffv1_range.specs.Reading.{signed_symbol_form}
 use Rattle.ffv1_range.specs.Symbols.{signed_symbol_bits}
 use Rattle.ffv1_range.specs.Fields.{flag}
@@ -18,7 +18,7 @@ use Rattle.ffv1_range.specs.declared.fault.SetupFault.{SetupFault}
 use Rattle.ffv1_range.specs.declared.fault.SetupFault.TheVariants.{Range}
 use Rattle.ffv1_range.proofs.Forms.{place_of, bind_ok}
 use Rattle.ffv1_range.proofs.Spelling.{signed_symbol_is_spelled, bind_is_ok, same_ok}
-use Rattle.ffv1_range.proofs.FieldRuns.{lifted_ok, flag_run}
+use Rattle.ffv1_range.proofs.FieldRuns.{lifted_ok, flag-found, flag-run}
 use Rattle.ffv1_range.proofs.RowRuns.{rows_append, rows_split, with_row-same, with_row-other, one_piece}
 use Rattle.ffv1_range.proofs.DeltaSteps.{context_rest, contexts_rest, coded_rest, sets_rest}
 
@@ -251,18 +251,9 @@ flag_coded closed c main deltas b q run rows r =
 abbrev coded_flag_at : Bool → PlaceOf TwoRows → Result (Bool × PlaceOf TwoRows) SetupFault
 coded_flag_at closed p = on record_row with_record_row flag closed p
 
--- no fields are coded from a place to itself
-run_nothing : (closed : Bool) (p q : Place) → IsRangeRun closed p (fields_bits []) q → p ≡ q
-unfolding IsRangeRun fields_bits
-run_nothing closed p q h = h
-
 -- where states_coded leads
 SetDeltasAt : Bool → ℕ → PlaceOf TwoRows → PlaceOf TwoRows → Type 0
 SetDeltasAt closed contexts p q = (deltas : Option (List (List ℤ))) × AreDeltas contexts deltas × AreCoded closed (deltas_pieces deltas) p q
-
-flag_bits : (closed : Bool) (p q : Place) (b : Bool) → flag closed p ≡ Ok (b, q) → IsRangeRun closed p (fields_bits (bit b ∷ [])) q
-unfolding IsRangeRun fields_bits
-flag_bits closed p q b h = (q, lifted_ok Range (slot_form 0 closed p) (b, q) h, refl)
 
 set_rest_found : (closed : Bool) (contexts : ℕ) (c : Coder) (main : List ℕ) (deltas : List (List ℕ)) (b : Bool) (q : Place) (y : Unit {0} × PlaceOf TwoRows)
     → IsRangeRun closed (place_of c main) (fields_bits (bit b ∷ [])) q → coded_rest contexts b closed (place_of q.coder (q.states, deltas)) ≡ Ok y
@@ -295,7 +286,7 @@ set-deltas-found closed contexts p y h =
     let x = bind_is_ok (coded_flag_at closed p) (λ x. coded_rest contexts x.0 closed x.1) y h in
     let f = bind_is_ok (flag closed row) (λ x. Ok (x.0, place_of x.1.coder (x.1.states, p.states.1))) x.0 x.1 in
     let pair = same_ok (f.0.0, place_of f.0.1.coder (f.0.1.states, p.states.1)) x.0 f.2 in
-    set_rest_found closed contexts p.coder p.states.0 p.states.1 f.0.0 f.0.1 y (flag_bits closed row f.0.1 f.0.0 f.1)
+    set_rest_found closed contexts p.coder p.states.0 p.states.1 f.0.0 f.0.1 y (flag-found closed row f.0 f.1)
     (ap (λ z. coded_rest contexts z.0 closed z.1) pair ∙ x.2)
 
 -- What is read up to z, with the record's row.
@@ -310,22 +301,18 @@ set_rest_run : (closed : Bool) (contexts : ℕ) (deltas : Option (List (List ℤ
 unfolding coded_rest IsRowsRun
 set_rest_run closed contexts None p rows z are r run =
     let here = subst (λ w. IsRangeRun closed (place_of p.coder w) (fields_bits (bit false ∷ [])) run.0) r.main run.1 in
-    let f = flag_run closed (place_of p.coder p.states.0) false [] run.0 here in
-    let end : f.place ≡ run.0 = run_nothing closed f.place run.0 f.left in
     let same : place_of run.0.coder (with_row rows 0 run.0.states) ≡ z = run.2 in
     record {
       after = (run.0.states, p.states.1);
       read =
           bind_ok (coded_flag_at closed p) (λ x. coded_rest contexts x.0 closed x.1) (false, place_of run.0.coder (run.0.states, p.states.1))
           (bind_ok (flag closed (place_of p.coder p.states.0)) (λ x. Ok (x.0, place_of x.1.coder (x.1.states, p.states.1))) (false, run.0)
-          (f.read ∙ ap (λ w. Ok (false, w)) end))
+          (flag-run closed false (place_of p.coder p.states.0) run.0 here))
           ∙ ap (λ w. Ok (tt, place_of w.coder (run.0.states, p.states.1))) same;
       matches = subst (λ w. AreRowsOf w.states (run.0.states, p.states.1)) same (with_main_row rows p.states.0 run.0.states p.states.1 r);
     }
 set_rest_run closed contexts (Some values) p rows z are r run =
     let here = subst (λ w. IsRangeRun closed (place_of p.coder w) (fields_bits (bit true ∷ [])) run.0) r.main run.1 in
-    let f = flag_run closed (place_of p.coder p.states.0) true [] run.0 here in
-    let end : f.place ≡ run.0 = run_nothing closed f.place run.0 f.left in
     let d = contexts-run closed contexts values run.0.coder run.0.states p.states.1 (with_row rows 0 run.0.states) z are.0 are.1
     (with_main_row rows p.states.0 run.0.states p.states.1 r) run.2 in
     record {
@@ -333,7 +320,7 @@ set_rest_run closed contexts (Some values) p rows z are r run =
       read =
           bind_ok (coded_flag_at closed p) (λ x. coded_rest contexts x.0 closed x.1) (true, place_of run.0.coder (run.0.states, p.states.1))
           (bind_ok (flag closed (place_of p.coder p.states.0)) (λ x. Ok (x.0, place_of x.1.coder (x.1.states, p.states.1))) (true, run.0)
-          (f.read ∙ ap (λ w. Ok (true, w)) end))
+          (flag-run closed true (place_of p.coder p.states.0) run.0 here))
           ∙ bind_ok (contexts_deltas contexts closed (place_of run.0.coder p.states.1))
           (λ x. Ok (x.0, place_of x.1.coder (run.0.states, x.1.states))) (tt, place_of z.coder d.after) d.read;
       matches = d.matches;

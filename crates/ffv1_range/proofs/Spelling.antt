@@ -10,7 +10,7 @@ use Rattle.ffv1_range.specs.Symbols.{symbol_bits, signed_symbol_bits, counting_o
 use Rattle.ffv1_range.specs.Forms.{Form, ◌>>=◌, giving}
 use Rattle.ffv1_range.specs.Reading.{exponent_form, low_form, symbol_form, signed_symbol_form, SymbolIsSpelled, SignedSymbolIsSpelled}
 use Rattle.ffv1_range.specs.declared.coding.RangeFault.{RangeFault}
-use Rattle.std.specs.Prelude.{ℤ, pos, negsuc, unsigned_abs, if◌then◌else◌}
+use Rattle.std.specs.Prelude.{ℤ, pos, negsuc, unsigned_abs}
 use Rattle.ffv1_range.proofs.Forms.{bind_ok}
 use Rattle.ffv1_range.proofs.SymbolForms.{sign_rest, magnitude_rest, signed_exponent_rest, signed_rest}
 

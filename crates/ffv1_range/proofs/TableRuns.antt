@@ -1,5 +1,5 @@
 -- Tables are read where they are coded, and nowhere else.
-use Rattle.std.proofs.Common.{◌≡◌, ◌≢◌, ℕ, suc, zero, ◌+◌, ◌-◌, ◌/◌, ◌<◌, ◌≤◌, Bool, true, false, List, [], ◌∷◌, ◌++◌, length, map, Result, Ok, refl, sym, ap, ◌∙◌, subst, arith, append-nil, append_assoc, length-append, inl, inr}
+use Rattle.std.proofs.Common.{◌≡◌, ◌≢◌, ℕ, suc, zero, ◌+◌, ◌-◌, ◌/◌, ◌<◌, ◌≤◌, Bool, List, [], ◌∷◌, ◌++◌, length, map, Result, Ok, refl, sym, ap, ◌∙◌, subst, arith, append-nil, append_assoc, length-append, inl, inr}
 use Rattle.std.specs.Prelude.{nat_le, sum}
 use Rattle.std.specs.List.{All, flat_map}
 use Rattle.std.proofs.lemmas.Bool.{le-leb, leb-true, cases_lt}
@@ -7,30 +7,22 @@ use Rattle.std.proofs.lemmas.List.Sums.{sum_by-cons}
 use Rattle.std.proofs.lemmas.List.Elements.{All-cons, All-nil, All-head, All-tail}
 use Rattle.ffv1_range.specs.Coding.{Coder, PlaceOf, Place, IsRangeRun}
 use Rattle.ffv1_range.specs.Rows.{Rows, with_row, IsRowsRun}
-use Rattle.ffv1_range.specs.Forms.{Form, ◌>>=◌, accepted}
+use Rattle.ffv1_range.specs.Forms.{Form}
+use Rattle.ffv1_range.specs.Fields.{number}
+use Rattle.ffv1_range.specs.Symbols.{symbol_bits}
 use Rattle.ffv1_range.specs.Tables.{SetValue, IsTable, IsTableSet, AreScalesSmall, half_of, halves_of, scale_after, scale_after_all, set_of}
 use Rattle.ffv1_range.specs.TableForms.{fresh_row, runs_from, table_form, tables_from, sets_from}
 use Rattle.ffv1_range.specs.Setup.{symbol, fields_bits, run_fields, table_pieces, IsSymbol}
 use Rattle.ffv1_range.specs.declared.fault.SetupFault.{SetupFault}
 use Rattle.ffv1_range.specs.declared.fault.SetupFault.TheVariants.{TableRun, Contexts}
 use Rattle.ffv1_range.proofs.Forms.{place_of, bind_ok}
-use Rattle.ffv1_range.proofs.Spelling.{bind_is_ok, same_ok}
-use Rattle.ffv1_range.proofs.FieldRuns.{Extends, number_step, accepted_step, number_run, number_then, accepted_then}
+use Rattle.ffv1_range.proofs.Spelling.{bind_is_ok, same_ok, run_append, run_split}
+use Rattle.ffv1_range.proofs.FieldRuns.{number-found, number-run, accepted-found, accepted-run}
 use Rattle.ffv1_range.proofs.RowRuns.{rows_append, rows_split, with_row-other, one_piece, table_pieces-append}
 use Rattle.ffv1_range.proofs.TableSteps.{run_rest, fit_rest, runs_from-open, runs_from-filled, set_rest, set_fit_rest, sets_rest}
 
 small_symbol : (n : ℕ) → n ≤ 128 → IsSymbol n
 small_symbol n h = omega arith
-
-pub accepted_is : {X A : Type 0} (closed : Bool) (p : PlaceOf X) (t : Bool) (f : SetupFault) (k : Bool → Form X A SetupFault) (y : A × PlaceOf X)
-    → (accepted t f >>= k) closed p ≡ Ok y
-    → (t ≡ true) × (k true closed p ≡ Ok y)
-accepted_is closed p true f k y h = (refl, h)
-accepted_is closed p false f k y h = absurd cc
-
-pub accepted_as : {X A : Type 0} (closed : Bool) (p : PlaceOf X) (t : Bool) (f : SetupFault) (k : Bool → Form X A SetupFault) → t ≡ true
-    → (accepted t f >>= k) closed p ≡ k true closed p
-accepted_as closed p t f k e = ap (λ b. (accepted b f >>= k) closed p) e
 
 -- ---- the runs of a table
 
@@ -55,9 +47,10 @@ no_runs closed filled got p y e h =
       coded = ap (λ z. z.1) pair;
     }
 
-one_run : (closed : Bool) (filled less : ℕ) (got : List ℕ) (p q : Place) (y : List ℕ × Place) → Extends closed p q (symbol less ∷ [])
+one_run : (closed : Bool) (filled less : ℕ) (got : List ℕ) (p q : Place) (y : List ℕ × Place) → IsRangeRun closed p (symbol_bits less) q
     → RunsAt closed (filled + (less + 1)) (got ++ (less + 1) ∷ []) q y → RunsAt closed filled got p y
-one_run closed filled less got p q y coded r =
+unfolding fields_bits
+one_run closed filled less got p q y run r =
     let same : less ≡ less + 1 - 1 = omega arith in
     let more : sum ((less + 1) ∷ r.runs) ≡ less + 1 + sum r.runs = sum_by-cons (λ x. x) (less + 1) r.runs in
     let some : 1 ≤ less + 1 = omega arith in
@@ -66,7 +59,8 @@ one_run closed filled less got p q y coded r =
       is = r.is ∙ append_assoc got ((less + 1) ∷ []) r.runs;
       not_empty = All-cons (λ len. 1 ≤ len) (less + 1) r.runs some r.not_empty;
       whole = omega (arith, r.whole);
-      coded = subst (λ z. IsRangeRun closed p (fields_bits (symbol z ∷ run_fields r.runs)) y.1) same (coded (run_fields r.runs) y.1 r.coded);
+      coded = subst (λ z. IsRangeRun closed p (fields_bits (symbol z ∷ run_fields r.runs)) y.1) same
+          (run_append closed (symbol_bits less) (fields_bits (run_fields r.runs)) p q y.1 run r.coded);
     }
 
 -- a run that is read, and then those after it
@@ -76,9 +70,10 @@ more_runs : (closed : Bool) (n filled : ℕ) (got : List ℕ) (p : Place) (y : L
     → RunsAt closed filled got p y
 unfolding run_rest fit_rest
 more_runs closed n filled got p y room h later =
-    let s = number_step closed p (run_rest n filled got) y (sym (ap (λ f. f closed p) (runs_from-open n filled got room)) ∙ h) in
-    let t = accepted_step closed s.place (nat_le (filled + (s.value + 1)) 128) TableRun (fit_rest n filled got s.value) y s.rest in
-    one_run closed filled s.value got p s.place y s.coded (later s.value s.place (leb-true (filled + (s.value + 1)) 128 t.0) t.1)
+    let x = bind_is_ok (number closed p) (λ x. run_rest n filled got x.0 closed x.1) y (sym (ap (λ f. f closed p) (runs_from-open n filled got room)) ∙ h) in
+    let less : ℕ = x.0.0 in
+    let t = accepted-found closed x.0.1 (nat_le (filled + (less + 1)) 128) TableRun (fit_rest n filled got less) y x.2 in
+    one_run closed filled less got p x.0.1 y (number-found closed p x.0 x.1).1 (later less x.0.1 (leb-true (filled + (less + 1)) 128 t.0) t.1)
 
 runs-found : (closed : Bool) (n filled : ℕ) (got : List ℕ) (p : Place) (y : List ℕ × Place) → 128 ≤ filled + n → filled ≤ 128
     → runs_from n filled got closed p ≡ Ok y
@@ -106,13 +101,14 @@ runs-run closed (suc n) filled got (len ∷ runs) p q enough some whole run =
     let first : 1 ≤ len = All-head (λ z. 1 ≤ z) len runs some in
     let same : len - 1 + 1 ≡ len = omega arith in
     let small : len - 1 ≤ 128 = omega arith in
-    let s = number_run closed p (len - 1) (run_fields runs) q (small_symbol (len - 1) small) run in
+    let s = run_split closed (symbol_bits (len - 1)) (fields_bits (run_fields runs)) p q run in
     ap (λ f. f closed p) (runs_from-open n filled got (omega arith))
-    ∙ number_then closed p s.place (len - 1) (run_rest n filled got) s.read
-    ∙ accepted_then closed s.place (nat_le (filled + (len - 1 + 1)) 128) TableRun (fit_rest n filled got (len - 1))
+    ∙ bind_ok (number closed p) (λ x. run_rest n filled got x.0 closed x.1) (len - 1, s.0)
+    (number-run closed (len - 1) p s.0 (small_symbol (len - 1) small) s.1)
+    ∙ accepted-run closed s.0 (nat_le (filled + (len - 1 + 1)) 128) TableRun (fit_rest n filled got (len - 1))
     (le-leb (filled + (len - 1 + 1)) 128 (omega arith))
-    ∙ runs-run closed n (filled + (len - 1 + 1)) (got ++ (len - 1 + 1) ∷ []) runs s.place q (omega arith)
-    (All-tail (λ z. 1 ≤ z) len runs some) (omega arith) s.left
+    ∙ runs-run closed n (filled + (len - 1 + 1)) (got ++ (len - 1 + 1) ∷ []) runs s.0 q (omega arith)
+    (All-tail (λ z. 1 ≤ z) len runs some) (omega arith) s.2
     ∙ ap (λ z. Ok (z, q)) (append_assoc got ((len - 1 + 1) ∷ []) runs ∙ ap (λ z. got ++ z ∷ runs) same)
 
 -- ---- a table, at a row of its own
@@ -214,7 +210,7 @@ tables-found closed zero scale halves c y h =
 tables-found closed (suc n) scale halves c y h =
     let x = bind_is_ok (table_form closed (place_of c tt)) (λ x. set_rest n scale halves x.0 closed x.1) y h in
     let t = table-found closed c x.0.0 x.0.1 x.1 in
-    let fits = accepted_is closed x.0.1 (nat_le (scale_after scale x.0.0) 65535) Contexts (set_fit_rest n scale halves x.0.0) y x.2 in
+    let fits = accepted-found closed x.0.1 (nat_le (scale_after scale x.0.0) 65535) Contexts (set_fit_rest n scale halves x.0.0) y x.2 in
     let r = tables-found closed n (scale_after scale x.0.0) (halves ++ half_of scale x.0.0 ∷ []) x.0.1.coder y fits.1 in
     record {
       tables = x.0.0 ∷ r.tables;
@@ -264,7 +260,7 @@ tables-run closed (suc n) scale halves (runs ∷ tables) m c rows q size each sm
       read =
           bind_ok (table_form closed (place_of c tt)) (λ x. set_rest n scale halves x.0 closed x.1) (runs, place_of run.0.coder tt)
           (table-run closed c run.0.coder runs (All-head IsTable runs tables each) here)
-          ∙ accepted_as closed (place_of run.0.coder tt) (nat_le (scale_after scale runs) 65535) Contexts (set_fit_rest n scale halves runs)
+          ∙ accepted-run closed (place_of run.0.coder tt) (nat_le (scale_after scale runs) 65535) Contexts (set_fit_rest n scale halves runs)
           (le-leb (scale_after scale runs) 65535 small.0)
           ∙ r.read
           ∙ ap (λ z. Ok (record { halves = z; contexts = (scale_after_all (scale_after scale runs) tables + 1) / 2 }, place_of q.coder tt))
