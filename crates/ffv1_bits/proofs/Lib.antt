@@ -8,4 +8,4 @@ pub mod Multiples
 pub mod Numbers
 pub mod Places
 pub mod Remainders
-pub mod Words
+pub mod EightBytes

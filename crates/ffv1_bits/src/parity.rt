@@ -10,21 +10,21 @@ use crate::table::{byte_remainder, moved_remainder};
 pub fn remainder(bytes: &[u8]) -> u32
     ensures { result ≡ remainder_of (bits_of bytes.now) }
 {
-    let (words, rest) = bytes.as_chunks::<8>();
-    let mut register = words_remainder(words);
+    let (chunks, rest) = bytes.as_chunks::<8>();
+    let mut register = chunks_remainder(chunks);
     for byte in rest {
         register = with_byte(register, *byte);
     }
     register
 }
 
-/// What is left of the bytes of all words.
-fn words_remainder(words: &[[u8; 8]]) -> u32
-    ensures { result ≡ remainder_of (bits_of (concat words.now)) }
+/// What is left of the bytes of all chunks of eight.
+fn chunks_remainder(chunks: &[[u8; 8]]) -> u32
+    ensures { result ≡ remainder_of (bits_of (concat chunks.now)) }
 {
     let mut register = 0;
-    for word in words {
-        register = with_word(register, word);
+    for chunk in chunks {
+        register = with_eight(register, chunk);
     }
     register
 }
@@ -57,11 +57,11 @@ fn with_byte(register: u32, byte: u8) -> u32
 
 /// The remainder of more bits: eight bytes come in at the low end, and a table takes away each byte that leaves at the top.
 /// What does not wait for the register is summed first, and the register's bytes come last, in pairs.
-fn with_word(register: u32, word: &[u8; 8]) -> u32
-    ensures { result ≡ divided 64 (register * 2 ^ 64 + polynomial_of (bits_of word.now)) }
+fn with_eight(register: u32, eight: &[u8; 8]) -> u32
+    ensures { result ≡ divided 64 (register * 2 ^ 64 + polynomial_of (bits_of eight.now)) }
 {
     let [a, b, c, d] = register.to_be_bytes();
-    let [e, f, g, h, i, j, k, l] = *word;
+    let [e, f, g, h, i, j, k, l] = *eight;
     let later = moved_remainder(e, 3)
         ^ moved_remainder(f, 2)
         ^ moved_remainder(g, 1)

@@ -84,8 +84,8 @@ impl<'a> Bits<'a> {
         ensures fits { IfSome result (λ number. number < 2 ^ 56) }
         ensures none { IfNone result (length self.now.left < 64) }
     {
-        let word = word_at(self.bytes, self.place / 8)?;
-        Some((word << (self.place % 8)) >> 8)
+        let eight = eight_bytes_at(self.bytes, self.place / 8)?;
+        Some((eight << (self.place % 8)) >> 8)
     }
 
     /// Passes over this many of the bits that are left.
@@ -118,8 +118,8 @@ impl<'a> Bits<'a> {
 
 /// The bits of eight bytes from a place on as a number, the first of them highest; None where fewer bytes are there.
 #[inline(always)]
-fn word_at(bytes: &[u8], place: usize) -> Option<u64>
-    ensures some { IfSome result (λ word. bits_of (take 8 (drop place bytes.now)) ≡ number_bits 64 word) }
+fn eight_bytes_at(bytes: &[u8], place: usize) -> Option<u64>
+    ensures some { IfSome result (λ number. bits_of (take 8 (drop place bytes.now)) ≡ number_bits 64 number) }
     ensures none { IfNone result (length bytes.now < place + 8) }
 {
     let end = place.checked_add(8)?;

@@ -5,12 +5,12 @@ use Rattle.std.specs.Simd.{first_chunks}
 use Rattle.ffv1_bits.specs.Bits.{bits_of}
 use Rattle.ffv1_bits.specs.Parity.{remainder_of}
 use Rattle.ffv1_bits.proofs.Register.{remainder_turn}
-use Rattle.ffv1_bits.proofs.Words.{words_and_rest}
+use Rattle.ffv1_bits.proofs.EightBytes.{chunks_and_rest}
 use Rattle.ffv1_bits.proofs.parity.remainder.Goals as goal
 
 pub loop-byte-init : goal.loop-byte-init
 loop-byte-init c =
-    c.words_remainder-register.ensures ∙ ap (λ words. remainder_of (bits_of (concat words))) c.as_chunks.ensures.front
+    c.chunks_remainder-register.ensures ∙ ap (λ chunks. remainder_of (bits_of (concat chunks))) c.as_chunks.ensures.front
     ∙ ap (λ bytes. remainder_of (bits_of bytes)) (sym (append-nil (concat (first_chunks 8 (length c.args.bytes.now / 8) c.args.bytes.now))))
 
 pub loop-byte-preserved : goal.loop-byte-preserved
@@ -25,4 +25,4 @@ returns c =
     let all : take c.loop-byte.byte-index rest ≡ rest = take_all c.loop-byte.byte-index rest c.loop-byte-test.false in
     c.loop-byte.invariant
     ∙ ap (λ bytes. remainder_of (bits_of bytes))
-    (ap (λ back. front ++ back) (all ∙ c.as_chunks.ensures.back) ∙ words_and_rest c.args.bytes.now)
+    (ap (λ back. front ++ back) (all ∙ c.as_chunks.ensures.back) ∙ chunks_and_rest c.args.bytes.now)

@@ -1,6 +1,6 @@
 use Rattle.std.proofs.Common.{rules, ◌≡◌, ◌/◌, ◌%◌, ◌^◌, get_or, ap, ◌∙◌}
-use Rattle.ffv1_bits.proofs.Words.{moved_entry, word_taken}
-use Rattle.ffv1_bits.proofs.parity.with_word.Goals as goal
+use Rattle.ffv1_bits.proofs.EightBytes.{moved_entry, eight_taken}
+use Rattle.ffv1_bits.proofs.parity.with_eight.Goals as goal
 
 pub returns : goal.returns
 returns c =
@@ -14,4 +14,4 @@ returns c =
     c.moved_remainder-8.ensures ∙ ap (λ bytes. moved_entry 4 (get_or bytes 3 0)) c.to_be_bytes.ensures in
     rw
     (c.moved_remainder.ensures, c.moved_remainder-2.ensures, c.moved_remainder-3.ensures, c.moved_remainder-4.ensures, first, second, third, fourth)
-    (word_taken c.args.register c.from_be_bytes.result c.args.word.now (search rules) c.told-word c.fits-word c.from_be_bytes.ensures)
+    (eight_taken c.args.register c.from_be_bytes.result c.args.eight.now (search rules) c.told-eight c.fits-eight c.from_be_bytes.ensures)

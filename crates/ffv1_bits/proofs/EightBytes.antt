@@ -1,4 +1,4 @@
--- The parity of eight bytes at once: what each byte of the register and of a word leaves, far from the end.
+-- The parity of eight bytes at once: what each byte of the register and of the eight leaves, far from the end.
 use Rattle.std.proofs.Math.Seq.{take-length}
 use Rattle.std.proofs.Common.{◌≡◌, ℕ, zero, suc, ◌+◌, ◌-◌, ◌*◌, ◌/◌, ◌%◌, ◌^◌, ◌<◌, Bool, true, false, nat_eq, cond, eqb, get_or, List, [], ◌∷◌, ◌++◌, length, take, drop, replicate, refl, sym, ap, subst, ◌∙◌, arith, lit<, length-append, length-take, append-nil, append_assoc}
 use Rattle.std.specs.Prelude.{bit_xor}
@@ -53,10 +53,10 @@ no_polynomial (suc n) =
     polynomial_of-bytes 0 (replicate n 0) (lit< tt) in
     head ∙ omega (arith, no_polynomial n)
 
--- ---- a word's bytes as a number
+-- ---- eight bytes as a number
 
-length-bits_of-word : (word : List ℕ) → length word ≡ 8 → length (bits_of word) ≡ 64
-length-bits_of-word word long = length-bits word ∙ ap (λ m. 8 * m) long
+length-bits_of-eight : (eight : List ℕ) → length eight ≡ 8 → length (bits_of eight) ≡ 64
+length-bits_of-eight eight long = length-bits eight ∙ ap (λ m. 8 * m) long
 
 pow_of_256 : (k : ℕ) → 256 ^ k ≡ 2 ^ (8 * k)
 pow_of_256 zero = refl
@@ -83,11 +83,11 @@ polynomial_of-high_first (suc k) n =
     ∙ ap (λ b. b * 2 ^ (8 * k) + n % 2 ^ (8 * k)) (byte_at_is k n)
     ∙ sym (mod-pow-add n 8 (8 * k)) ∙ ap (λ m. n % 2 ^ m) (let e : 8 + 8 * k ≡ 8 * suc k = omega arith in e)
 
-polynomial_of-word : (word : List ℕ) → length word ≡ 8 → AreBytes word → polynomial_of (bits_of word) ≡ from_be_bytes w64 word
-polynomial_of-word word long small =
-    let n : ℕ = from_be_bytes w64 word in
+polynomial_of-eight : (eight : List ℕ) → length eight ≡ 8 → AreBytes eight → polynomial_of (bits_of eight) ≡ from_be_bytes w64 eight
+polynomial_of-eight eight long small =
+    let n : ℕ = from_be_bytes w64 eight in
     let fits : n < 2 ^ 64 = omega (arith, small 0, small 1, small 2, small 3, small 4, small 5, small 6, small 7) in
-    ap (λ bytes. polynomial_of (bits_of bytes)) (sym (be_bytes_8 word n long small refl)) ∙ polynomial_of-high_first 8 n ∙ mod-eq_of_lt fits
+    ap (λ bytes. polynomial_of (bits_of bytes)) (sym (be_bytes_8 eight n long small refl)) ∙ polynomial_of-high_first 8 n ∙ mod-eq_of_lt fits
 
 -- ---- a byte far from the end
 
@@ -150,7 +150,7 @@ tables_have more b few small =
     eqb-true (get_or (get_or REMAINDERS more []) b 0) (divided (8 + 8 * more) (b * 2 ^ (32 + 8 * more)))
     (rw (which, entry) at (agrees place (omega arith))) ∙ sym (moved_entry_is more b small)
 
--- ---- a word
+-- ---- the register and eight bytes
 
 -- two parts of a number leave the sum of what each leaves
 divided-add : (high k low : ℕ) → low < 2 ^ k → divided 64 (high * 2 ^ k + low) ≡ bit_xor (divided 64 (high * 2 ^ k)) (divided 64 low)
@@ -182,53 +182,53 @@ divided-register r small =
     ∙ peeled _ 5 c _ (lit< tt) (omega arith) (omega arith) ∙ ap (bit_xor _) (moved_entry_in_twelve 4 d (lit< tt) (omega arith))
     ∙ xor_assoc (bit_xor (moved_entry 7 a) (moved_entry 6 b)) (moved_entry 5 c) (moved_entry 4 d)
 
--- the entries of the word's first four bytes
+-- the entries of the first four bytes
 abbrev front_entries : List ℕ → ℕ
-front_entries word =
-    bit_xor (bit_xor (bit_xor (moved_entry 3 (get_or word 0 0)) (moved_entry 2 (get_or word 1 0))) (moved_entry 1 (get_or word 2 0)))
-    (moved_entry 0 (get_or word 3 0))
+front_entries eight =
+    bit_xor (bit_xor (bit_xor (moved_entry 3 (get_or eight 0 0)) (moved_entry 2 (get_or eight 1 0))) (moved_entry 1 (get_or eight 2 0)))
+    (moved_entry 0 (get_or eight 3 0))
 
 -- its last four as a number
 abbrev back_of : List ℕ → ℕ
-back_of word = from_be_bytes w32 (get_or word 4 0 ∷ get_or word 5 0 ∷ get_or word 6 0 ∷ get_or word 7 0 ∷ [])
+back_of eight = from_be_bytes w32 (get_or eight 4 0 ∷ get_or eight 5 0 ∷ get_or eight 6 0 ∷ get_or eight 7 0 ∷ [])
 
-divided-word : (word : List ℕ) (low : ℕ) → length word ≡ 8 → AreBytes word → low ≡ back_of word
-    → divided 64 (polynomial_of (bits_of word)) ≡ bit_xor (front_entries word) low
-divided-word word low long small is =
-    let e : ℕ = get_or word 0 0 in
-    let f : ℕ = get_or word 1 0 in
-    let g : ℕ = get_or word 2 0 in
-    let h : ℕ = get_or word 3 0 in
+divided-eight : (eight : List ℕ) (low : ℕ) → length eight ≡ 8 → AreBytes eight → low ≡ back_of eight
+    → divided 64 (polynomial_of (bits_of eight)) ≡ bit_xor (front_entries eight) low
+divided-eight eight low long small is =
+    let e : ℕ = get_or eight 0 0 in
+    let f : ℕ = get_or eight 1 0 in
+    let g : ℕ = get_or eight 2 0 in
+    let h : ℕ = get_or eight 3 0 in
     let fits : low < 2 ^ 32 = omega (arith, small 4, small 5, small 6, small 7) in
-    let parts : polynomial_of (bits_of word) ≡ e * 2 ^ 56 + (f * 2 ^ 48 + (g * 2 ^ 40 + (h * 2 ^ 32 + low))) =
-    polynomial_of-word word long small ∙ omega arith in
+    let parts : polynomial_of (bits_of eight) ≡ e * 2 ^ 56 + (f * 2 ^ 48 + (g * 2 ^ 40 + (h * 2 ^ 32 + low))) =
+    polynomial_of-eight eight long small ∙ omega arith in
     ap (divided 64) parts
     ∙ peeled 0 3 e _ (lit< tt) (small 0) (omega (arith, small 1, small 2, small 3)) ∙ peeled _ 2 f _ (lit< tt) (small 1) (omega (arith, small 2, small 3))
     ∙ peeled _ 1 g _ (lit< tt) (small 2) (omega (arith, small 3)) ∙ peeled _ 0 h low (lit< tt) (small 3) fits ∙ ap (bit_xor _) (divided_low 64 low fits)
 
--- the register and the word
-pub word_taken : (r low : ℕ) (word : List ℕ) → r < 2 ^ 32 → length word ≡ 8 → AreBytes word → low ≡ back_of word
-    → bit_xor (bit_xor (front_entries word) low) (register_entries r) ≡ divided 64 (r * 2 ^ 64 + polynomial_of (bits_of word))
-word_taken r low word below long small is =
-    let p : ℕ = polynomial_of (bits_of word) in
-    let fits : p < 2 ^ 64 = subst (λ n. p < 2 ^ n) (length-bits_of-word word long) (polynomial_small (bits_of word)) in
-    ap (bit_xor (bit_xor (front_entries word) low)) (sym (divided-register r below))
-    ∙ ap (λ q. bit_xor q (divided 64 (r * 2 ^ 64))) (sym (divided-word word low long small is))
+-- what both leave together
+pub eight_taken : (r low : ℕ) (eight : List ℕ) → r < 2 ^ 32 → length eight ≡ 8 → AreBytes eight → low ≡ back_of eight
+    → bit_xor (bit_xor (front_entries eight) low) (register_entries r) ≡ divided 64 (r * 2 ^ 64 + polynomial_of (bits_of eight))
+eight_taken r low eight below long small is =
+    let p : ℕ = polynomial_of (bits_of eight) in
+    let fits : p < 2 ^ 64 = subst (λ n. p < 2 ^ n) (length-bits_of-eight eight long) (polynomial_small (bits_of eight)) in
+    ap (bit_xor (bit_xor (front_entries eight) low)) (sym (divided-register r below))
+    ∙ ap (λ q. bit_xor q (divided 64 (r * 2 ^ 64))) (sym (divided-eight eight low long small is))
     ∙ xor_comm (divided 64 p) (divided 64 (r * 2 ^ 64)) ∙ sym (divided-add r 64 p fits)
 
--- ---- a word after other bytes
+-- ---- eight bytes after others
 
-remainder_word : (bytes word : List ℕ) → length word ≡ 8
-    → remainder_of (bits_of (bytes ++ word)) ≡ divided 64 (remainder_of (bits_of bytes) * 2 ^ 64 + polynomial_of (bits_of word))
+remainder_eight : (bytes eight : List ℕ) → length eight ≡ 8
+    → remainder_of (bits_of (bytes ++ eight)) ≡ divided 64 (remainder_of (bits_of bytes) * 2 ^ 64 + polynomial_of (bits_of eight))
 unfolding bits_of
-remainder_word bytes word long =
+remainder_eight bytes eight long =
     let register : ℕ = fold shifted 0 (bits_of bytes) in
-    remainder_is_fold (bits_of (bytes ++ word)) ∙ ap (fold shifted 0) (flat_map-append (number_bits 8) bytes word)
-    ∙ fold-append shifted 0 (bits_of bytes) (bits_of word) ∙ sym (divided_is_fold register (bits_of word))
-    ∙ ap (λ m. divided m (register * 2 ^ m + polynomial_of (bits_of word))) (length-bits_of-word word long)
-    ∙ ap (λ r. divided 64 (r * 2 ^ 64 + polynomial_of (bits_of word))) (sym (remainder_is_fold (bits_of bytes)))
+    remainder_is_fold (bits_of (bytes ++ eight)) ∙ ap (fold shifted 0) (flat_map-append (number_bits 8) bytes eight)
+    ∙ fold-append shifted 0 (bits_of bytes) (bits_of eight) ∙ sym (divided_is_fold register (bits_of eight))
+    ∙ ap (λ m. divided m (register * 2 ^ m + polynomial_of (bits_of eight))) (length-bits_of-eight eight long)
+    ∙ ap (λ r. divided 64 (r * 2 ^ 64 + polynomial_of (bits_of eight))) (sym (remainder_is_fold (bits_of bytes)))
 
--- ---- words in order
+-- ---- chunks of eight bytes in order
 
 concat_chunks : (n k : ℕ) (xs : List ℕ) → concat (first_chunks n k xs) ≡ take (k * n) xs
 concat_chunks n zero xs = ap (λ m. take m xs) (let e : 0 ≡ 0 * n = omega arith in e)
@@ -236,22 +236,22 @@ concat_chunks n (suc k) xs =
     ap (λ more. take n xs ++ more) (concat_chunks n k (drop n xs)) ∙ sym (take-add n (k * n) xs)
     ∙ ap (λ m. take m xs) (let e : n + k * n ≡ suc k * n = omega arith in e)
 
-pub word_turn : (words : List (List ℕ)) (i register next : ℕ) → i < length words → length (get_or words i []) ≡ 8
-    → register ≡ remainder_of (bits_of (concat (take i words)))
-    → next ≡ divided 64 (register * 2 ^ 64 + polynomial_of (bits_of (get_or words i []))) → next ≡ remainder_of (bits_of (concat (take (i + 1) words)))
-word_turn words i register next within long now e =
-    let word : List ℕ = get_or words i [] in
-    let more : concat (take (i + 1) words) ≡ concat (take i words) ++ word =
-    ap concat (take_more words i [] within) ∙ concat-append (take i words) (word ∷ [])
-    ∙ ap (λ last. concat (take i words) ++ last) (append-nil word) in
-    e ∙ ap (λ r. divided 64 (r * 2 ^ 64 + polynomial_of (bits_of word))) now
-    ∙ sym (remainder_word (concat (take i words)) word long) ∙ ap (λ bytes. remainder_of (bits_of bytes)) (sym more)
+pub chunk_turn : (chunks : List (List ℕ)) (i register next : ℕ) → i < length chunks → length (get_or chunks i []) ≡ 8
+    → register ≡ remainder_of (bits_of (concat (take i chunks)))
+    → next ≡ divided 64 (register * 2 ^ 64 + polynomial_of (bits_of (get_or chunks i []))) → next ≡ remainder_of (bits_of (concat (take (i + 1) chunks)))
+chunk_turn chunks i register next within long now e =
+    let chunk : List ℕ = get_or chunks i [] in
+    let more : concat (take (i + 1) chunks) ≡ concat (take i chunks) ++ chunk =
+    ap concat (take_more chunks i [] within) ∙ concat-append (take i chunks) (chunk ∷ [])
+    ∙ ap (λ last. concat (take i chunks) ++ last) (append-nil chunk) in
+    e ∙ ap (λ r. divided 64 (r * 2 ^ 64 + polynomial_of (bits_of chunk))) now
+    ∙ sym (remainder_eight (concat (take i chunks)) chunk long) ∙ ap (λ bytes. remainder_of (bits_of bytes)) (sym more)
 
-pub words_and_rest : (bytes : List ℕ) → concat (first_chunks 8 (length bytes / 8) bytes) ++ drop (length bytes / 8 * 8) bytes ≡ bytes
-words_and_rest bytes =
+pub chunks_and_rest : (bytes : List ℕ) → concat (first_chunks 8 (length bytes / 8) bytes) ++ drop (length bytes / 8 * 8) bytes ≡ bytes
+chunks_and_rest bytes =
     ap (λ front. front ++ drop (length bytes / 8 * 8) bytes) (concat_chunks 8 (length bytes / 8) bytes) ∙ take-append-drop (length bytes / 8 * 8) bytes
 
--- ---- a word read as bits
+-- ---- eight bytes read as bits
 
 -- the 56 bits from one of the first eight on
 window_of : (n j : ℕ) → j < 8 → n * 2 ^ j % 2 ^ 64 / 2 ^ 8 ≡ n / 2 ^ (8 - j) % 2 ^ 56
@@ -265,11 +265,11 @@ window_of n (suc (suc (suc (suc (suc (suc zero)))))) h = omega arith
 window_of n (suc (suc (suc (suc (suc (suc (suc zero))))))) h = omega arith
 window_of n (suc (suc (suc (suc (suc (suc (suc (suc j)))))))) h = absurd (omega arith)
 
-bits_of-word : (word : List ℕ) (n : ℕ) → length word ≡ 8 → AreBytes word → n ≡ from_be_bytes w64 word → bits_of word ≡ number_bits 64 n
-bits_of-word word n long small is =
-    sym (number_bits-polynomial_of (bits_of word))
-    ∙ ap (λ c. number_bits c (polynomial_of (bits_of word))) (length-bits_of-word word long)
-    ∙ ap (number_bits 64) (polynomial_of-word word long small ∙ sym is)
+bits_of-eight : (eight : List ℕ) (n : ℕ) → length eight ≡ 8 → AreBytes eight → n ≡ from_be_bytes w64 eight → bits_of eight ≡ number_bits 64 n
+bits_of-eight eight n long small is =
+    sym (number_bits-polynomial_of (bits_of eight))
+    ∙ ap (λ c. number_bits c (polynomial_of (bits_of eight))) (length-bits_of-eight eight long)
+    ∙ ap (number_bits 64) (polynomial_of-eight eight long small ∙ sym is)
 
 peeked : (n j : ℕ) (more : List Bool) → j < 8
     → drop j (number_bits 64 n ++ more) ≡ number_bits 56 (n * 2 ^ j % 2 ^ 64 / 2 ^ 8) ++ (number_bits (8 - j) n ++ more)
@@ -295,16 +295,16 @@ bits_after (suc i) (b ∷ bytes) =
     ap (λ n. drop n (bits_of (b ∷ bytes))) (let e : 8 * suc i ≡ 8 + 8 * i = omega arith in e)
     ∙ sym (drop-drop (8 * i) 8 (bits_of (b ∷ bytes))) ∙ bits_after i bytes
 
-pub word_there : (bytes rest word : List ℕ) (place end n : ℕ) → AreBytes bytes → end ≡ place + 8 → rest ≡ slice_range bytes place end → IsFirstChunk rest word 8
-    → n ≡ from_be_bytes w64 word → bits_of (take 8 (drop place bytes)) ≡ number_bits 64 n
-word_there bytes rest word place end n small ends is front value =
+pub eight_there : (bytes rest eight : List ℕ) (place end n : ℕ) → AreBytes bytes → end ≡ place + 8 → rest ≡ slice_range bytes place end → IsFirstChunk rest eight 8
+    → n ≡ from_be_bytes w64 eight → bits_of (take 8 (drop place bytes)) ≡ number_bits 64 n
+eight_there bytes rest eight place end n small ends is front value =
     let later : rest ≡ take 8 (drop place bytes) = is ∙ ap (λ m. take m (drop place bytes)) (let e : end - place ≡ 8 = omega (arith, ends) in e) in
-    let eight : length rest ≡ 8 = omega (arith, front.enough, ap length later, length-take 8 (drop place bytes)) in
-    let all : take 8 rest ≡ rest = ap (λ m. take m rest) (sym eight) ∙ take-length rest in
-    let whole : take 8 (drop place bytes) ≡ word = sym later ∙ sym all ∙ sym front.same in
-    let long : length word ≡ 8 = ap length (front.same ∙ all) ∙ eight in
-    let each : AreBytes word = subst AreBytes whole (AreBytes-take 8 (drop place bytes) (AreBytes-drop place bytes small)) in
-    ap bits_of whole ∙ bits_of-word word n long each value
+    let size : length rest ≡ 8 = omega (arith, front.enough, ap length later, length-take 8 (drop place bytes)) in
+    let all : take 8 rest ≡ rest = ap (λ m. take m rest) (sym size) ∙ take-length rest in
+    let whole : take 8 (drop place bytes) ≡ eight = sym later ∙ sym all ∙ sym front.same in
+    let long : length eight ≡ 8 = ap length (front.same ∙ all) ∙ size in
+    let each : AreBytes eight = subst AreBytes whole (AreBytes-take 8 (drop place bytes) (AreBytes-drop place bytes small)) in
+    ap bits_of whole ∙ bits_of-eight eight n long each value
 
 pub peek_some : (bytes : List ℕ) (place n : ℕ) → bits_of (take 8 (drop (place / 8) bytes)) ≡ number_bits 64 n
     → (rest : List Bool) × (drop place (bits_of bytes) ≡ number_bits 56 (n * 2 ^ (place % 8) % 2 ^ 64 / 2 ^ 8) ++ rest)
