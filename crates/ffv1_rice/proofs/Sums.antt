@@ -279,24 +279,6 @@ corrected_range_at : (s : ContextState) → IsUncorrected s → (low high : Bool
     if low then record s { drift = int_max (s.drift +ℤ pos s.count) (pos 1 -ℤ pos s.count); bias = int_max (s.bias -ℤ pos 1) (neg_ℤ (pos 128)) }
     else if high then record s { drift = int_min (s.drift -ℤ pos s.count) (pos 0); bias = int_min (s.bias +ℤ pos 1) (pos 127) } else s in
     IsState r
-corrected_range_at s bounds true high is above = record {
-  some_counted = omega arith;
-  few_counted = bounds.few_counted;
-  drift_low = omega (arith, ints, clamps);
-  drift_high = omega (arith, ints, clamps);
-  errors = bounds.errors;
-  bias_low = omega (arith, ints, clamps);
-  bias_high = omega (arith, ints, clamps);
-}
-corrected_range_at s bounds false true is above = record {
-  some_counted = omega arith;
-  few_counted = bounds.few_counted;
-  drift_low = omega (arith, ints, clamps);
-  drift_high = omega (arith, ints, clamps);
-  errors = bounds.errors;
-  bias_low = omega (arith, ints, clamps);
-  bias_high = omega (arith, ints, clamps);
-}
 corrected_range_at s bounds false false is above = record {
   some_counted = omega arith;
   few_counted = bounds.few_counted;
@@ -305,6 +287,15 @@ corrected_range_at s bounds false false is above = record {
   errors = bounds.errors;
   bias_low = bounds.bias_low;
   bias_high = bounds.bias_high;
+}
+corrected_range_at s bounds low high is above = record {
+  some_counted = omega arith;
+  few_counted = bounds.few_counted;
+  drift_low = omega (arith, ints, clamps);
+  drift_high = omega (arith, ints, clamps);
+  errors = bounds.errors;
+  bias_low = omega (arith, ints, clamps);
+  bias_high = omega (arith, ints, clamps);
 }
 
 pub corrected_range : (s : ContextState) → IsUncorrected s → IsState (corrected s)

@@ -1,5 +1,5 @@
 -- Copies near the frame of two slices, and one that is not.
-use Rattle.std.proofs.Common.{◌≡◌, ℕ, suc, zero, ◌<◌, ltb, true, false, List, [], ◌∷◌, ◌++◌, Ok, get_or, refl, ap, ◌∙◌, arith, inl, inr}
+use Rattle.std.proofs.Common.{◌≡◌, ℕ, suc, zero, ◌<◌, ltb, true, false, List, [], ◌∷◌, ◌++◌, length, Ok, get_or, refl, ap, ◌∙◌, arith, inl, inr}
 use Rattle.std.specs.Prelude.{◌⊎◌, ◌==◌}
 use Rattle.std.specs.List.{list_all}
 use Rattle.std.proofs.lemmas.Bool.{and_parts, ltb-true}
@@ -107,31 +107,26 @@ is_original = record { count = refl; joined = refl; short = omega arith; each = 
     each (suc zero) d lt = slice_found setup second_slice false 1 second_read
     each (suc (suc tile)) d lt = absurd (omega arith)
 
+-- a copy of the frame's length, from each of its two slices
+near_by : (copy : List ℕ) → AreBytes copy → length copy ≡ length frame
+    → (piece_at slices copy 0 ≡ first_slice) ⊎ IsHurtWithin32 first_slice (piece_at slices copy 0)
+    → (piece_at slices copy 1 ≡ second_slice) ⊎ IsHurtWithin32 second_slice (piece_at slices copy 1) → IsNear setup frame slices copy
+near_by copy bytes size first second =
+    record { is_original = is_original; original_bytes = bytes_from frame refl; copy_bytes = bytes; same_length = size; each = each }
+  where
+    each : (tile : ℕ) (d : List ℕ) → tile < 2 → (piece_at slices copy tile ≡ get_or slices tile d)
+        ⊎ IsHurtWithin32 (get_or slices tile d) (piece_at slices copy tile)
+    each zero d lt = first
+    each (suc zero) d lt = second
+    each (suc (suc tile)) d lt = absurd (omega arith)
+
 pub near : IsNear setup frame slices hurt_frame
 unfolding starts_at
-near = record { is_original = is_original; original_bytes = bytes_from frame refl; copy_bytes = bytes_from hurt_frame refl; same_length = refl; each = each }
-  where
-    each : (tile : ℕ) (d : List ℕ) → tile < 2 → (piece_at slices hurt_frame tile ≡ get_or slices tile d)
-        ⊎ IsHurtWithin32 (get_or slices tile d) (piece_at slices hurt_frame tile)
-    each zero d lt = inr hurt
-    each (suc zero) d lt = inl refl
-    each (suc (suc tile)) d lt = absurd (omega arith)
+near = near_by hurt_frame (bytes_from hurt_frame refl) refl (inr hurt) (inl refl)
 
 pub other_near : IsNear setup frame slices other_frame
 unfolding starts_at
-other_near = record {
-  is_original = is_original;
-  original_bytes = bytes_from frame refl;
-  copy_bytes = bytes_from other_frame refl;
-  same_length = refl;
-  each = each;
-}
-  where
-    each : (tile : ℕ) (d : List ℕ) → tile < 2 → (piece_at slices other_frame tile ≡ get_or slices tile d)
-        ⊎ IsHurtWithin32 (get_or slices tile d) (piece_at slices other_frame tile)
-    each zero d lt = inl refl
-    each (suc zero) d lt = inr other_hurt
-    each (suc (suc tile)) d lt = absurd (omega arith)
+other_near = near_by other_frame (bytes_from other_frame refl) refl (inl refl) (inr other_hurt)
 
 -- each copy has one slice intact
 pub second_intact : IsIntactIn slices hurt_frame 1 second_slice
