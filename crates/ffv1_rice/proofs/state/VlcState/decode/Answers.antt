@@ -1,4 +1,4 @@
-use Rattle.std.proofs.Common.{Bool, ℤ, subst, ◌≡◌, ap, sym, arith, ◌∙◌, to_z, of_z, w32}
+use Rattle.std.proofs.Common.{rules, Bool, ℕ, ℤ, subst, ◌≡◌, ap, sym, arith, ◌∙◌, to_z, of_z, w32}
 use Rattle.std.specs.Prelude.{Ok}
 use Rattle.std.proofs.lemmas.Int.{ints}
 use Rattle.ffv1_rice.specs.Codes.{IsCodedDifference}
@@ -6,12 +6,20 @@ use Rattle.ffv1_rice.proofs.Sums.{IsDifference-of_z, to_z-of_z-difference}
 use Rattle.ffv1_rice.proofs.OneCode.{IsValueRead, value_read, coded_read, same_difference}
 use Rattle.ffv1_bits.specs.Reader.{Reading, Reads}
 use Rattle.ffv1_rice.specs.Codes.{code_bits, IsCoded}
+use Rattle.ffv1_rice.specs.States.{ContextState, sign_number, flipped, coded_value, IsDifference, IsParameter}
 use Rattle.ffv1_rice.proofs.Windows.{begun_fits, begun_read, begun_after, reading_after}
 use Rattle.ffv1_rice.proofs.Faults.{no_level_above, no_difference_at_fault}
 use Rattle.ffv1_rice.proofs.state.VlcState.decode.Goals as goal
 
 IsCodedDifference-of_z : (level : Bool) (d : ℤ) → IsCodedDifference level d → IsCodedDifference level (to_z w32 (of_z w32 d))
 IsCodedDifference-of_z level d coded = subst (IsCodedDifference level) (sym (to_z-of_z-difference d coded.0)) coded
+
+-- the value that a number gives, as the code has computed it
+value_taken : (s : ContextState) (number k : ℕ) (coded value : ℤ) (old new : Reading) → IsParameter s k → sign_number (flipped s coded) ≡ number
+    → IsDifference coded → coded_value s value ≡ to_z w32 (of_z w32 coded) → IsDifference value → Reads old (code_bits number k) new
+    → IsValueRead s value old new
+value_taken s number k coded value old new parameter is small back range reads =
+    value_read s number k coded value old new parameter is (back ∙ to_z-of_z-difference coded small) range reads
 
 pub number_ahead-requires : goal.number_ahead-requires
 number_ahead-requires c = c.k.ensures.bound
@@ -31,9 +39,6 @@ skip-requires c = begun_fits _ _ _ c.in_ok-ahead.ensures.ok
 pub update-requires : goal.update-requires
 update-requires c = IsDifference-of_z c.coded-coded.result c.coded-coded.ensures.range
 
-pub returns-clause-range : goal.returns-clause-range
-returns-clause-range c = IsCodedDifference-of_z c.args.level c.in_ok-difference.difference c.in_ok-difference.ensures.range
-
 pub returns-in_err-ahead-clause-found : goal.returns-in_err-ahead-clause-found
 returns-in_err-ahead-clause-found c = λ difference after told spelled.
     absurd (no_difference_at_fault c.args.self.now c.args.level c.in_err-ahead.field-0.0 c.k.result difference c.args.bits.now after
@@ -41,40 +46,32 @@ returns-in_err-ahead-clause-found c = λ difference after told spelled.
 
 pub returns-in_err-difference-clause-found : goal.returns-in_err-difference-clause-found
 returns-in_err-difference-clause-found c = λ difference after told spelled.
-    let coded : to_z w32 (of_z w32 c.coded-coded.result) ≡ c.coded-coded.result = omega (arith, ints) in
-    let value : to_z w32 (of_z w32 c.value.result) ≡ c.value.result = omega (arith, ints) in
     let begins = c.in_ok-ahead.ensures.ok in
     let later : Reading = reading_after c.args.bits.now _ _ begins in
-    let read : IsValueRead c.args.self.now c.value.result c.args.bits.now later =
-    value_read c.args.self.now c.in_ok-ahead.ahead.number c.k.result c.coded-coded.result c.value.result c.args.bits.now later c.k.ensures.parameter
-    c.coded-coded.ensures.number (c.value.ensures.coded ∙ coded) c.value.ensures.range (begun_after c.args.bits.now _ _ begins) in
+    let read = value_taken _ _ _ _ _ c.args.bits.now later c.k.ensures.parameter c.coded-coded.ensures.number c.coded-coded.ensures.range
+    c.value.ensures.coded c.value.ensures.range (begun_after c.args.bits.now _ _ begins) in
     absurd (no_level_above c.args.self.now c.args.level c.value.result difference c.args.bits.now later after read
-    c.in_err-difference.ensures.err.0 (sym value ∙ c.in_err-difference.ensures.err.2) told spelled)
+    c.in_err-difference.ensures.err.0 (sym (to_z-of_z-difference c.value.result c.value.ensures.range) ∙ c.in_err-difference.ensures.err.2) told spelled)
 
-pub returns-clause-found : goal.returns-clause-found
-returns-clause-found c = λ difference after told spelled.
-    let coded : to_z w32 (of_z w32 c.coded-coded.result) ≡ c.coded-coded.result = omega (arith, ints) in
-    let value : to_z w32 (of_z w32 c.value.result) ≡ c.value.result = omega (arith, ints) in
-    let reads : Reads c.args.bits.now (code_bits c.in_ok-ahead.ahead.number c.k.result) c.skip.new.self =
-    begun_read c.args.bits.now c.skip.new.self _ _ c.in_ok-ahead.ensures.ok c.skip.ensures in
-    let read : IsValueRead c.args.self.now c.value.result c.args.bits.now c.skip.new.self =
-    value_read c.args.self.now c.in_ok-ahead.ahead.number c.k.result c.coded-coded.result c.value.result c.args.bits.now c.skip.new.self c.k.ensures.parameter
-    c.coded-coded.ensures.number (c.value.ensures.coded ∙ coded) c.value.ensures.range reads in
-    let same : c.in_ok-difference.difference ≡ difference =
-    same_difference c.args.self.now c.args.level c.value.result c.in_ok-difference.difference difference c.args.bits.now c.skip.new.self after read
-    c.in_ok-difference.ensures.range (c.in_ok-difference.ensures.ok ∙ value) told spelled in
-    ap Ok (omega (arith, ints, same, told.0.low, told.0.high))
-
-pub returns-clause-ok : goal.returns-clause-ok
-returns-clause-ok c =
-    let coded : to_z w32 (of_z w32 c.coded-coded.result) ≡ c.coded-coded.result = omega (arith, ints) in
-    let value : to_z w32 (of_z w32 c.value.result) ≡ c.value.result = omega (arith, ints) in
-    let reads : Reads c.args.bits.now (code_bits c.in_ok-ahead.ahead.number c.k.result) c.skip.new.self =
-    begun_read c.args.bits.now c.skip.new.self _ _ c.in_ok-ahead.ensures.ok c.skip.ensures in
-    let read : IsValueRead c.args.self.now c.value.result c.args.bits.now c.skip.new.self =
-    value_read c.args.self.now c.in_ok-ahead.ahead.number c.k.result c.coded-coded.result c.value.result c.args.bits.now c.skip.new.self c.k.ensures.parameter
-    c.coded-coded.ensures.number (c.value.ensures.coded ∙ coded) c.value.ensures.range reads in
-    subst (λ d. IsCoded c.args.self.now c.args.level d c.args.bits.now c.skip.new.self)
-    (sym (to_z-of_z-difference c.in_ok-difference.difference c.in_ok-difference.ensures.range.0))
-    (coded_read c.args.self.now c.args.level c.value.result c.in_ok-difference.difference c.args.bits.now c.skip.new.self read
-    (c.in_ok-difference.ensures.ok ∙ value))
+-- the difference is read, and it is each that has its code there
+pub returns : goal.returns
+returns c =
+    let value = to_z-of_z-difference c.value.result c.value.ensures.range in
+    let read = value_taken _ _ _ _ _ c.args.bits.now c.skip.new.self c.k.ensures.parameter c.coded-coded.ensures.number c.coded-coded.ensures.range
+    c.value.ensures.coded c.value.ensures.range (begun_read c.args.bits.now c.skip.new.self _ _ c.in_ok-ahead.ensures.ok c.skip.ensures) in
+    record {
+      range = IsCodedDifference-of_z c.args.level c.in_ok-difference.difference c.in_ok-difference.ensures.range;
+      ok =
+          subst (λ d. IsCoded c.args.self.now c.args.level d c.args.bits.now c.skip.new.self)
+          (sym (to_z-of_z-difference c.in_ok-difference.difference c.in_ok-difference.ensures.range.0))
+          (coded_read c.args.self.now c.args.level c.value.result c.in_ok-difference.difference c.args.bits.now c.skip.new.self read
+          (c.in_ok-difference.ensures.ok ∙ value));
+      state = search rules;
+      found = λ difference after told spelled.
+          let same : c.in_ok-difference.difference ≡ difference =
+          same_difference c.args.self.now c.args.level c.value.result c.in_ok-difference.difference difference c.args.bits.now c.skip.new.self after read
+          c.in_ok-difference.ensures.range (c.in_ok-difference.ensures.ok ∙ value) told spelled in
+          ap Ok (omega (arith, ints, same, told.0.low, told.0.high));
+      err = tt;
+      unchanged = tt;
+    }
