@@ -8,7 +8,7 @@ use Rattle.std.proofs.lemmas.Slice.{put_mid-paste}
 use Rattle.std.specs.Vec.{with_items}
 use borrow.Rule.Slice.PartMut.{put_mid}
 use Rattle.ffv1_plane.specs.Samples.{SamplesAbout, prediction_of, neighbours_at}
-use Rattle.ffv1_plane.specs.Rows.{IsLeftAsAbove, AreLines, samples_so_far}
+use Rattle.ffv1_plane.specs.Rows.{IsLeftAsAbove, AreLines, samples_so_far, RowsRead}
 use Rattle.ffv1_plane.specs.Progress.{AreSkipped}
 use Rattle.ffv1_plane.proofs.Halting.{prediction_byte}
 use Rattle.ffv1_plane.proofs.Reading.{none_skipped, skip_more}
@@ -100,10 +100,10 @@ abbrev pub with_cells : Vec ℕ Global → ℕ → ℕ → List ℕ → List ℕ
 with_cells line x n lent written = with_items line (put_mid (x + 2) (x + 2 + n - (x + 2)) lent written)
 
 pub row_copied : (w x n : ℕ) (rows far : List ℕ) (line : Vec ℕ Global) (above source lent written : List ℕ) → AreLines w x rows line.items above far
-    → 1 ≤ n → x + n ≤ w → IsLeftAsAbove (record { width = w; x = x; samples = samples_so_far x rows line.items })
+    → 1 ≤ n → x + n ≤ w → (seen : RowsRead) → record { width = w; x = x; samples = samples_so_far x rows line.items } ≡ seen → IsLeftAsAbove seen
     → lent ≡ line.items → source ≡ above → written ≡ take (x + 2 + n - (x + 2)) (drop (x + 2) source)
     → AreCopied w x rows line.items above far (with_cells line x n lent written).items n
-row_copied w x n rows far line above source lent written h some inside level lent_is source_is written_is =
+row_copied w x n rows far line above source lent written h some inside seen seen_is level lent_is source_is written_is =
     let long = h.line_long in
     let above_long = h.above_long in
     let cells = take n (drop (x + 2) above) in
@@ -115,4 +115,4 @@ row_copied w x n rows far line above source lent written h some inside level len
     put_mid-paste (x + 2) (x + 2 + n - (x + 2)) lent written cells n cells_are (sym span) count ∙ ap (λ l. paste l (x + 2) cells n) lent_is in
     let same_length : length whole ≡ line.len = ap length pasted ∙ length-paste line.items (x + 2) cells n (omega arith) (omega arith) ∙ sym line.ok.0 in
     subst (λ (l : List ℕ). AreCopied w x rows line.items above far l n) (sym (with_items_is line whole same_length ∙ pasted))
-    (run_copied w x n rows line.items above far h some inside level)
+    (run_copied w x n rows line.items above far h some inside (subst IsLeftAsAbove (sym seen_is) level))

@@ -69,6 +69,11 @@ plane_within setup tile plane h less =
       few_rows = omega (arith, t.in_height, h.low);
     })
 
+-- the same of a rectangle that is a plane's
+pub plane_within_is : (setup : SetupValue) (tile plane : ℕ) (rect : TileRect) → IsInProfile setup → tile < tile_count (grid_of setup)
+    → rect ≡ plane_rect (grid_of setup) tile plane → IsWithinLimits rect
+plane_within_is setup tile plane rect profile there is = subst IsWithinLimits (sym is) (plane_within setup tile plane profile there)
+
 -- ---- one plane
 
 pub same_plane : (rect : TileRect) (entry : ℕ → ℕ → ℤ) (earlier : ℕ → List ℤ) (samples others : List ℕ) (front words rest more : List Bool) → 1 ≤ rect.w
@@ -286,7 +291,7 @@ picture planes spare_bits = record { planes = planes; spare_bits = spare_bits }
 -- what is read after a header is a picture of its tile
 pub picture_is : (setup : SetupValue) (tile : ℕ) (content : List ℕ) (head : SliceHead) (place : ℕ) (bits rest : List Bool) (planes : List (List ℕ))
     (spare_bits : ℕ) → IsHeadOf (header_limits setup) content (tile == 0) head place → head.tile ≡ tile
-    → bits ≡ bits_of (drop place content) → ArePlanesRead setup head bits planes rest → spare_bits ≡ length rest
+    → bits ≡ bits_of (take (length content - place) (drop place content)) → ArePlanesRead setup head bits planes rest → spare_bits ≡ length rest
     → IsPictureOf setup tile content (picture planes spare_bits)
 picture_is setup tile content head place bits rest planes spare_bits is_head of_tile later read spare = record {
   head = head;
@@ -296,7 +301,7 @@ picture_is setup tile content head place bits rest planes spare_bits is_head of_
   planes = subst (λ (t : ℕ). ArePlanesOf setup t planes) of_tile read.sizes;
   words = read.words;
   spare = rest;
-  begins = sym later ∙ read.begins;
+  begins = sym (later ∙ ap bits_of (after_place place content)) ∙ read.begins;
   spells = read.spells;
   spare_bits = spare;
 }

@@ -87,6 +87,10 @@ states_step earlier r s k j states value below coded is value_is before inside =
     ∙ sym (more ∙ ap (λ t. cond t (after_value (state_before earlier r j s) (value_at r s)) (state_before earlier r j s)) test))
     (cases_eq k j)
 
+-- a state that is there after one of them was set was there before
+within_before : (states after : List ContextState) (j k : ℕ) (state : ContextState) → k < length after → after ≡ set states j state → k < length states
+within_before states after j k state h stepped = omega (arith, h, ap length stepped, length-set states j state)
+
 -- ---- one scalar further
 
 pub scalar_read : (earlier : ℕ → List ℤ) (width : ℕ) (entry : ℕ → ℕ → ℤ) (bits left rest : List Bool) (old new : List ℕ) (index : ℕ)
@@ -120,13 +124,7 @@ scalar_read earlier width entry bits left rest old new index states after so_far
           let run : is_in_run r s ≡ false = in_run_is r s ∙ or_from _ _ (outside more) ((before more).fresh) in
           let coded : is_coded r s ≡ true = rw run refl in
           let value : value_at r s ≡ decoded_value false read.difference = ap (λ l. decoded_value l (r.difference s)) run ∙ read.is_difference more in
-          let inside : k < length states = omega (
-            arith,
-            h,
-            ap length read.stepped,
-            length-set states read.context
-                (after_value (get_or states read.context start_state) (decoded_value false read.difference)),
-          ) in
+          let inside = within_before states after read.context k _ h read.stepped in
           let step = states_step earlier r s read.context k states (decoded_value false read.difference) read.below coded (read.is_context more) value
           (states_before more) inside in
           ap (λ l. get_or l k start_state) read.stepped ∙ step ∙ ap (λ n. state_before earlier r k n) longer;
@@ -242,13 +240,7 @@ module _ (earlier : ℕ → List ℤ) (width : ℕ) (entry : ℕ → ℕ → ℤ
           let coded : is_coded r (s + n) ≡ true = rw (in_it, level) refl in
           let value : value_at r (s + n) ≡ decoded_value true read.difference =
           ap (λ l. decoded_value l (r.difference (s + n))) in_it ∙ ap (decoded_value true) (ap r.difference (sym longer_mid) ∙ read.is_difference more) in
-          let small : k < length states = omega (
-            arith,
-            h,
-            ap length read.stepped,
-            length-set states read.context
-                (after_value (get_or states read.context start_state) (decoded_value true read.difference)),
-          ) in
+          let small = within_before states after read.context k _ h read.stepped in
           let step = states_step earlier r (s + n) read.context k states (decoded_value true read.difference) read.below coded
           (ap (context_number r) (sym longer_mid) ∙ read.is_context more) value (states_new more) small in
           ap (λ l. get_or l k start_state) read.stepped ∙ step ∙ ap (λ i. state_before earlier r k i) longer_new;

@@ -7,7 +7,7 @@ use Rattle.std.proofs.Math.Nat.{mul-add-mod_self_right, mod_self}
 use Rattle.std.proofs.lemmas.List.{append-nil}
 use Rattle.ffv1_rice.specs.Codes.{SpellsValue, decoded_value}
 use Rattle.ffv1_rice.specs.Runs.{SpellsRun}
-use Rattle.ffv1_plane.specs.Spelling.{Residuals, begins_line, is_zero, is_in_run, is_skipped, is_coded, follows_skipped, starts_run, left_in_line, skipped_among, run_length, value_at, context_number, samples_before, values_before, state_before, SamplesSpell}
+use Rattle.ffv1_plane.specs.Spelling.{Residuals, begins_line, is_zero, is_in_run, is_skipped, is_coded, follows_skipped, starts_run, left_in_line, skipped_among, run_length, value_at, context_number, samples_before, values_before, state_before, SamplesSpell, SampleSpells}
 use Rattle.std.proofs.lemmas.List.{map-append}
 use Rattle.std.proofs.lemmas.List.Elements.{filter-append}
 use Rattle.std.proofs.lemmas.List.Sums.{fold-append}
@@ -22,6 +22,20 @@ in_run_is r (suc s) = refl
 not_skipped_after : (r : Residuals) (s : ℕ) → is_skipped r s ≡ false → follows_skipped r (suc s) ≡ false
 unfolding follows_skipped
 not_skipped_after r s coded = rw coded (and-false (not (begins_line r (suc s))))
+
+-- a sample that is coded where no run starts
+code_alone : (earlier : ℕ → List ℤ) (r : Residuals) (s index : ℕ) (code : List Bool) → starts_run r s ≡ false → is_skipped r s ≡ false
+    → SpellsValue (state_before earlier r (context_number r s) s) (value_at r s) code → SampleSpells earlier r s index code index
+code_alone earlier r s index code start skip coded =
+    record {
+      run = [];
+      code = code;
+      joined = refl;
+      run_starts = λ h. absurd cc;
+      no_run_starts = λ h. (refl, refl);
+      coded = λ h. coded;
+      not_coded = λ h. absurd (let no : is_coded r s ≡ true = ap not skip in cc);
+    }
 
 pub scalar_step : (earlier : ℕ → List ℤ) (r : Residuals) (s index : ℕ) (bits code left rest : List Bool) → Progress earlier r s bits index left
     → is_zero (r.context s) ≡ false
@@ -40,16 +54,9 @@ scalar_step earlier r s index bits code left rest p scalar coded is =
         index,
         refl,
         p.spells,
-        record {
-          run = [];
-          code = code;
-          joined = refl;
-          run_starts = λ h. absurd cc;
-          no_run_starts = λ h. (refl, refl);
-          coded = λ h. let value : r.difference s ≡ value_at r s = rw outside refl in
-              subst (λ (v : ℤ). SpellsValue (state_before earlier r (context_number r s) s) v code) value coded;
-          not_coded = λ h. absurd (let no : is_coded r s ≡ true = ap not skip in cc);
-        },
+        code_alone earlier r s index code start skip
+            (let value : r.difference s ≡ value_at r s = rw outside refl in
+            subst (λ (v : ℤ). SpellsValue (state_before earlier r (context_number r s) s) v code) value coded),
       );
       fresh = not_skipped_after r s skip;
     }
@@ -263,15 +270,7 @@ module _ (earlier : ℕ → List ℤ) (r : Residuals) (some : 0 < r.width) (s n 
           next,
           sym (append_assoc front run code),
           subst (λ (i : ℕ). SamplesSpell earlier r i (front ++ run) next) k spelled_on,
-          record {
-            run = [];
-            code = code;
-            joined = refl;
-            run_starts = λ t. absurd cc;
-            no_run_starts = λ t. (refl, refl);
-            coded = λ t. coded';
-            not_coded = λ t. absurd (let is : is_coded r (s + n) ≡ true = ap not skip in cc);
-          },
+          code_alone earlier r (s + n) next code no_start skip coded',
         ))
         (let some_or : (n < 1) ⊎ (1 ≤ n) = cases_lt n 1 in some_or)
 

@@ -1,11 +1,11 @@
 -- Where the planes of a tile stop at a word that can't be read, the content is stuck there.
-use Rattle.std.proofs.Common.{◌≡◌, ℕ, ◌+◌, ◌-◌, ◌*◌, ◌/◌, ◌%◌, ◌<◌, ◌≤◌, Bool, true, false, List, [], ◌∷◌, ◌++◌, replicate, drop, length, refl, sym, ap, ◌∙◌, subst, arith, append_assoc, inl, inr, ⊎_elim, ◌⊎◌}
+use Rattle.std.proofs.Common.{◌≡◌, ℕ, ◌+◌, ◌-◌, ◌*◌, ◌/◌, ◌%◌, ◌<◌, ◌≤◌, Bool, true, false, List, [], ◌∷◌, ◌++◌, replicate, take, drop, length, refl, sym, ap, ◌∙◌, subst, arith, append_assoc, inl, inr, ⊎_elim, ◌⊎◌}
 use Rattle.std.specs.Prelude.{◌==◌}
 use Rattle.std.proofs.lemmas.Nat.{div-add-mod', div_below}
 use Rattle.ffv1_bits.specs.Bits.{bits_of}
 use Rattle.ffv1_range.specs.Header.{IsHeadOf, header_limits}
 use Rattle.ffv1_range.specs.Setup.{SetupValue, IsInProfile, set_entry}
-use Rattle.ffv1_range.specs.Tiles.{grid_of, tile_count, plane_rect}
+use Rattle.ffv1_range.specs.Tiles.{grid_of, tile_count, plane_count, plane_rect}
 use Rattle.ffv1_range.specs.declared.grid.TileRect.{TileRect}
 use Rattle.ffv1_range.specs.declared.head.SliceHead.{SliceHead}
 use Rattle.ffv1_rice.specs.States.{ContextState}
@@ -21,7 +21,7 @@ use Rattle.ffv1_plane.specs.declared.plane.PlaneFault.TheVariants as plane_fault
 use Rattle.ffv1_plane.specs.declared.tile.TileFault.{TileFault}
 use Rattle.ffv1_plane.specs.declared.tile.TileFault.TheVariants.{Head, OtherTile, Code, Memory}
 use Rattle.ffv1_plane.proofs.Fronts.{stuck_on}
-use Rattle.ffv1_plane.proofs.Pictures.{gray_sizes, colour_sizes, count_of}
+use Rattle.ffv1_plane.proofs.Pictures.{gray_sizes, colour_sizes, count_of, after_place}
 use Rattle.ffv1_plane.proofs.Wholes.{filled}
 
 -- a sample by its row and its column
@@ -95,6 +95,21 @@ module _ (setup : SetupValue) (head : SliceHead) (profile : IsInProfile setup) (
   unfolding PlanesBelow
   luma_stuck bits fault y x h = either setup.has_chroma refl
     where
+      -- it is so whatever the planes after Y are
+      stuck_first : (later : List (List ℕ)) → 0 < plane_count (grid_of setup)
+          → AreBitsStuck setup head (h.halted.samples ∷ later) bits fault 0 y x h.halted.halted.part
+      stuck_first later some =
+          record {
+            place = record { plane_there = some; row_there = h.row_there; column_there = h.column_there };
+            whole = [];
+            below = refl;
+            part = h.halted.halted.part;
+            joined = refl;
+            others = h.halted.halted.others;
+            begins = h.halted.halted.begins;
+            refused = h.halted.halted.refused;
+          }
+
       either : (b : Bool) → setup.has_chroma ≡ b → ArePlanesStuck setup head bits fault 0 y x
       either false gray =
           let count = count_of setup head profile inside false gray in
@@ -102,16 +117,7 @@ module _ (setup : SetupValue) (head : SliceHead) (profile : IsInProfile setup) (
             planes = h.halted.samples ∷ [];
             sizes = gray_sizes setup head profile inside h.halted.samples count h.halted.size;
             front = h.halted.halted.part;
-            stuck = record {
-              place = record { plane_there = omega (arith, count); row_there = h.row_there; column_there = h.column_there };
-              whole = [];
-              below = refl;
-              part = h.halted.halted.part;
-              joined = refl;
-              others = h.halted.halted.others;
-              begins = h.halted.halted.begins;
-              refused = h.halted.halted.refused;
-            };
+            stuck = stuck_first [] (omega (arith, count));
           }
       either true colour =
           let count = count_of setup head profile inside true colour in
@@ -121,16 +127,7 @@ module _ (setup : SetupValue) (head : SliceHead) (profile : IsInProfile setup) (
             planes = h.halted.samples ∷ blank cb ∷ blank cr ∷ [];
             sizes = colour_sizes setup head profile inside h.halted.samples (blank cb) (blank cr) count h.halted.size (blank_in cb) (blank_in cr);
             front = h.halted.halted.part;
-            stuck = record {
-              place = record { plane_there = omega (arith, count); row_there = h.row_there; column_there = h.column_there };
-              whole = [];
-              below = refl;
-              part = h.halted.halted.part;
-              joined = refl;
-              others = h.halted.halted.others;
-              begins = h.halted.halted.begins;
-              refused = h.halted.halted.refused;
-            };
+            stuck = stuck_first (blank cb ∷ blank cr ∷ []) (omega (arith, count));
           }
 
   pub luma_planes : (bits : List Bool) (fault : TileFault) → IsLumaHalted setup head bits fault → ArePlanesHalted setup head bits fault
@@ -198,7 +195,8 @@ module _ (setup : SetupValue) (head : SliceHead) (profile : IsInProfile setup) (
 -- ---- the content
 
 pub planes_refused : (setup : SetupValue) (tile : ℕ) (content : List ℕ) (head : SliceHead) (place : ℕ) (bits : List Bool)
-    → IsHeadOf (header_limits setup) content (tile == 0) head place → head.tile ≡ tile → bits ≡ bits_of (drop place content)
+    → IsHeadOf (header_limits setup) content (tile == 0) head place → head.tile ≡ tile
+    → bits ≡ bits_of (take (length content - place) (drop place content))
     → (fault : TileFault) → ArePlanesHalted setup head bits fault → (fault ≡ Memory) ⊎ IsRefusedFor setup tile content fault
 planes_refused setup tile content head place bits is_head of_tile later (Code fault plane y x) h =
     let all = stuck_on setup head h.planes bits fault plane y x h.front h.sizes h.stuck in
@@ -215,7 +213,8 @@ planes_refused setup tile content head place bits is_head of_tile later (Code fa
       front = h.front;
       later = all.later;
       begins = all.begins;
-      stuck = subst (λ (l : List Bool). AreBitsStuck setup head h.planes l fault plane y x h.front) later h.stuck;
+      stuck = subst (λ (l : List Bool). AreBitsStuck setup head h.planes l fault plane y x h.front)
+          (later ∙ ap bits_of (after_place place content)) h.stuck;
     })
 planes_refused setup tile content head place bits is_head of_tile later Memory h = inl refl
 planes_refused setup tile content head place bits is_head of_tile later (Head fault) h = absurd h

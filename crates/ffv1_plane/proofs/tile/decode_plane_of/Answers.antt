@@ -1,5 +1,4 @@
-use Rattle.std.proofs.Common.{◌≡◌, ◌≤◌, ◌<◌, ◌/◌, ◌%◌, sym, subst, rules}
-use Rattle.ffv1_bits.specs.Limits.{greatest_side}
+use Rattle.std.proofs.Common.{◌≡◌, ◌/◌, ◌%◌, sym, subst, rules}
 use Rattle.ffv1_range.specs.Setup.{set_entry}
 use Rattle.ffv1_range.specs.Tiles.{grid_of, plane_rect}
 use Rattle.ffv1_range.specs.declared.grid.TileRect.{TileRect}
@@ -9,44 +8,29 @@ use Rattle.ffv1_plane.specs.SetTables.{SetTables}
 use Rattle.ffv1_plane.specs.declared.plane.PlaneFault.{PlaneFault}
 use Rattle.ffv1_plane.specs.declared.plane.PlaneFault.TheVariants as plane_faults
 use Rattle.ffv1_plane.specs.declared.tile.TileFault.TheVariants.{Code}
-use Rattle.ffv1_plane.proofs.Pictures.{plane_within}
+use Rattle.ffv1_plane.proofs.Pictures.{plane_within, plane_within_is}
 use Rattle.ffv1_plane.proofs.Stops.{tile_plane_stops}
 use Rattle.ffv1_plane.proofs.tile.decode_plane_of.Goals as goal
 
 pub decode_plane-requires-clause-some : goal.decode_plane-requires-clause-some
 decode_plane-requires-clause-some c =
-    let within = plane_within c.args.setup.now c.args.head.now.tile c.args.plane c.requires.profile c.requires.tile in
-    let rect : c.plane_rect-rect.result ≡ plane_rect (grid_of c.args.setup.now) c.args.head.now.tile c.args.plane = search rules in
-    let P : TileRect → Type 0 = λ r. 1 ≤ r.w in
-    subst P (sym rect) within.some_columns
+    (plane_within_is c.args.setup.now c.args.head.now.tile c.args.plane c.plane_rect-rect.result c.requires.profile c.requires.tile (search rules)).some_columns
 
 pub decode_plane-requires-clause-width : goal.decode_plane-requires-clause-width
 decode_plane-requires-clause-width c =
-    let within = plane_within c.args.setup.now c.args.head.now.tile c.args.plane c.requires.profile c.requires.tile in
-    let rect : c.plane_rect-rect.result ≡ plane_rect (grid_of c.args.setup.now) c.args.head.now.tile c.args.plane = search rules in
-    let P : TileRect → Type 0 = λ r. r.w ≤ greatest_side in
-    subst P (sym rect) within.few_columns
+    (plane_within_is c.args.setup.now c.args.head.now.tile c.args.plane c.plane_rect-rect.result c.requires.profile c.requires.tile (search rules)).few_columns
 
 pub decode_plane-requires-clause-height : goal.decode_plane-requires-clause-height
 decode_plane-requires-clause-height c =
-    let within = plane_within c.args.setup.now c.args.head.now.tile c.args.plane c.requires.profile c.requires.tile in
-    let rect : c.plane_rect-rect.result ≡ plane_rect (grid_of c.args.setup.now) c.args.head.now.tile c.args.plane = search rules in
-    let P : TileRect → Type 0 = λ r. r.h ≤ greatest_side in
-    subst P (sym rect) within.few_rows
+    (plane_within_is c.args.setup.now c.args.head.now.tile c.args.plane c.plane_rect-rect.result c.requires.profile c.requires.tile (search rules)).few_rows
 
 pub nonzero_div-result : goal.nonzero_div-result
 nonzero_div-result c =
-    let within = plane_within c.args.setup.now c.args.head.now.tile c.args.plane c.requires.profile c.requires.tile in
-    let rect : c.plane_rect-rect.result ≡ plane_rect (grid_of c.args.setup.now) c.args.head.now.tile c.args.plane = search rules in
-    let P : TileRect → Type 0 = λ r. 0 < r.w in
-    subst P (sym rect) within.some_columns
+    (plane_within_is c.args.setup.now c.args.head.now.tile c.args.plane c.plane_rect-rect.result c.requires.profile c.requires.tile (search rules)).some_columns
 
 pub nonzero_rem-result : goal.nonzero_rem-result
 nonzero_rem-result c =
-    let within = plane_within c.args.setup.now c.args.head.now.tile c.args.plane c.requires.profile c.requires.tile in
-    let rect : c.plane_rect-rect.result ≡ plane_rect (grid_of c.args.setup.now) c.args.head.now.tile c.args.plane = search rules in
-    let P : TileRect → Type 0 = λ r. 0 < r.w in
-    subst P (sym rect) within.some_columns
+    (plane_within_is c.args.setup.now c.args.head.now.tile c.args.plane c.plane_rect-rect.result c.requires.profile c.requires.tile (search rules)).some_columns
 
 pub returns-in-Ok-clause-read : goal.returns-in-Ok-clause-read
 returns-in-Ok-clause-read c =

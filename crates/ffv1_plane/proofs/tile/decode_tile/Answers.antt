@@ -1,10 +1,9 @@
-use Rattle.std.proofs.Common.{◌≡◌, drop, sym, ap, ◌∙◌, inl, inr, ⊎_elim, arith}
+use Rattle.std.proofs.Common.{◌≡◌, sym, ap, ◌∙◌, inl, inr, ⊎_elim, arith}
 use Rattle.ffv1_plane.specs.declared.tile.TileFault.TheVariants.{Code}
 use Rattle.std.proofs.lemmas.Result.{err_from_is_err_and}
-use Rattle.ffv1_bits.specs.Bits.{bits_of}
 use Rattle.ffv1_range.proofs.Spelling.{same_ok}
 use Rattle.ffv1_plane.proofs.OneStuck.{one_answer}
-use Rattle.ffv1_plane.proofs.Pictures.{one_reading_is, picture_is, after_place}
+use Rattle.ffv1_plane.proofs.Pictures.{one_reading_is, picture_is}
 use Rattle.ffv1_plane.proofs.Stops.{planes_refused}
 use Rattle.ffv1_plane.proofs.tile.decode_tile.Goals as goal
 
@@ -20,31 +19,25 @@ pub returns-in_err-planes-clause-refused : goal.returns-in_err-planes-clause-ref
 returns-in_err-planes-clause-refused c =
     let p = err_from_is_err_and c.from_residual-in_err-planes.result c.from_residual-in_err-planes.ensures.1 in
     let tile : c.in_ok-head.head.tile ≡ c.args.index = omega arith in
-    let left : c.new-bits.result.left ≡ bits_of (drop c.in_ok-head.place c.args.content.now) = c.new-bits.ensures.left
-    ∙ ap bits_of (after_place c.in_ok-head.place c.args.content.now) in
     rw (p.1, p.2)
     (planes_refused c.args.setup.now c.args.index c.args.content.now c.in_ok-head.head c.in_ok-head.place c.new-bits.result.left c.in_ok-head.ensures.found
-    tile left _ c.in_err-planes.ensures.err)
+    tile c.new-bits.ensures.left _ c.in_err-planes.ensures.err)
 
 pub returns-in_err-planes-clause-found : goal.returns-in_err-planes-clause-found
 returns-in_err-planes-clause-found c = λ picture is.
     let p = err_from_is_err_and c.from_residual-in_err-planes.result c.from_residual-in_err-planes.ensures.1 in
     let tile : c.in_ok-head.head.tile ≡ c.args.index = omega arith in
-    let left : c.new-bits.result.left ≡ bits_of (drop c.in_ok-head.place c.args.content.now) = c.new-bits.ensures.left
-    ∙ ap bits_of (after_place c.in_ok-head.place c.args.content.now) in
     let told = planes_refused c.args.setup.now c.args.index c.args.content.now c.in_ok-head.head c.in_ok-head.place c.new-bits.result.left
-    c.in_ok-head.ensures.found tile left _ c.in_err-planes.ensures.err in
+    c.in_ok-head.ensures.found tile c.new-bits.ensures.left _ c.in_err-planes.ensures.err in
     rw (p.1, p.2) (⊎_elim (λ memory. memory) (λ refused. absurd (one_answer.no_picture c.args.setup.now c.args.index c.args.content.now _ picture
     c.keeps_profile.ensures c.requires.tile refused is)) told)
 
 pub returns-clause-ok : goal.returns-clause-ok
 returns-clause-ok c =
     let tile : c.in_ok-head.head.tile ≡ c.args.index = omega arith in
-    let left : c.new-bits.result.left ≡ bits_of (drop c.in_ok-head.place c.args.content.now) = c.new-bits.ensures.left
-    ∙ ap bits_of (after_place c.in_ok-head.place c.args.content.now) in
     picture_is c.args.setup.now c.args.index c.args.content.now c.in_ok-head.head c.in_ok-head.place c.new-bits.result.left c.decode_planes.new.bits.left _
     c.left-spare_bits.result
-    c.in_ok-head.ensures.found tile left c.in_ok-planes.ensures.ok c.left-spare_bits.ensures.value
+    c.in_ok-head.ensures.found tile c.new-bits.ensures.left c.in_ok-planes.ensures.ok c.left-spare_bits.ensures.value
 
 pub returns-clause-found : goal.returns-clause-found
 returns-clause-found c = λ picture is.
@@ -77,10 +70,8 @@ pub returns-in_err-planes-clause-stuck : goal.returns-in_err-planes-clause-stuck
 returns-in_err-planes-clause-stuck c = λ fault plane y x is.
     let p = err_from_is_err_and c.from_residual-in_err-planes.result c.from_residual-in_err-planes.ensures.1 in
     let tile : c.in_ok-head.head.tile ≡ c.args.index = omega arith in
-    let left : c.new-bits.result.left ≡ bits_of (drop c.in_ok-head.place c.args.content.now) = c.new-bits.ensures.left
-    ∙ ap bits_of (after_place c.in_ok-head.place c.args.content.now) in
     let told = planes_refused c.args.setup.now c.args.index c.args.content.now c.in_ok-head.head c.in_ok-head.place c.new-bits.result.left
-    c.in_ok-head.ensures.found tile left _ c.in_err-planes.ensures.err in
+    c.in_ok-head.ensures.found tile c.new-bits.ensures.left _ c.in_err-planes.ensures.err in
     rw (p.1, p.2)
     (⊎_elim (λ memory. inl memory) (λ refused. inr (one_answer.one_fault c.args.setup.now c.args.index c.args.content.now _
     (Code fault plane y x) c.keeps_profile.ensures c.requires.tile refused is)) told)

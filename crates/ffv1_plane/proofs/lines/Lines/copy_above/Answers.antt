@@ -1,41 +1,25 @@
-use Rattle.std.proofs.Common.{◌+◌, ◌≤◌, sym, subst, rules}
-use Rattle.ffv1_plane.specs.Rows.{IsLeftAsAbove, samples_so_far}
+use Rattle.std.proofs.Common.{◌+◌, ◌≤◌, rules}
 use Rattle.ffv1_plane.proofs.Copies.{row_copied}
 use Rattle.ffv1_plane.proofs.lines.Lines.copy_above.Goals as goal
 
 pub invariant_of-self : goal.invariant_of-self
 invariant_of-self c =
     let inside : c.self.inside.x + c.args.count ≤ c.self.inside.width = search rules in
-    let left : IsLeftAsAbove (record {
-      width = c.self.inside.width;
-      x = c.self.inside.x;
-      samples = samples_so_far c.self.inside.x c.self.inside.rows.items c.self.inside.line.items;
-    }) = subst IsLeftAsAbove (sym c.self.view_is) c.requires.same in
     (row_copied c.self.inside.width c.self.inside.x c.args.count c.self.inside.rows.items c.self.inside.far_above.items c.self.inside.line
     c.self.inside.above.items c.deref.result.now c.deref_mut.result.now c.copy_from_slice.new.self
-    c.self.invariant c.requires.some inside left c.deref_mut.ensures.value c.deref.ensures.value c.copy_from_slice.ensures.after).lines
+    c.self.invariant c.requires.some inside _ c.self.view_is c.requires.same c.deref_mut.ensures.value c.deref.ensures.value c.copy_from_slice.ensures.after).lines
 
 pub returns-clause-bytes : goal.returns-clause-bytes
 returns-clause-bytes c =
     let inside : c.self.inside.x + c.args.count ≤ c.self.inside.width = search rules in
-    let left : IsLeftAsAbove (record {
-      width = c.self.inside.width;
-      x = c.self.inside.x;
-      samples = samples_so_far c.self.inside.x c.self.inside.rows.items c.self.inside.line.items;
-    }) = subst IsLeftAsAbove (sym c.self.view_is) c.requires.same in
     (row_copied c.self.inside.width c.self.inside.x c.args.count c.self.inside.rows.items c.self.inside.far_above.items c.self.inside.line
     c.self.inside.above.items c.deref.result.now c.deref_mut.result.now c.copy_from_slice.new.self
-    c.self.invariant c.requires.some inside left c.deref_mut.ensures.value c.deref.ensures.value c.copy_from_slice.ensures.after).lines.bytes
+    c.self.invariant c.requires.some inside _ c.self.view_is c.requires.same c.deref_mut.ensures.value c.deref.ensures.value c.copy_from_slice.ensures.after).lines.bytes
 
 pub returns-clause-skipped : goal.returns-clause-skipped
 returns-clause-skipped c =
     let inside : c.self.inside.x + c.args.count ≤ c.self.inside.width = search rules in
-    let left : IsLeftAsAbove (record {
-      width = c.self.inside.width;
-      x = c.self.inside.x;
-      samples = samples_so_far c.self.inside.x c.self.inside.rows.items c.self.inside.line.items;
-    }) = subst IsLeftAsAbove (sym c.self.view_is) c.requires.same in
     rw (← c.self.view_is)
     (row_copied c.self.inside.width c.self.inside.x c.args.count c.self.inside.rows.items c.self.inside.far_above.items c.self.inside.line
     c.self.inside.above.items c.deref.result.now c.deref_mut.result.now c.copy_from_slice.new.self
-    c.self.invariant c.requires.some inside left c.deref_mut.ensures.value c.deref.ensures.value c.copy_from_slice.ensures.after).skipped
+    c.self.invariant c.requires.some inside _ c.self.view_is c.requires.same c.deref_mut.ensures.value c.deref.ensures.value c.copy_from_slice.ensures.after).skipped

@@ -1,7 +1,7 @@
 use Rattle.std.proofs.Common.{◌≡◌, ◌≤◌, ◌<◌, ◌-◌, ◌%◌, ℕ, true, pos, length, arith, rules, subst, refl, ◌∙◌}
 use Rattle.std.proofs.lemmas.Int.{ints}
 use Rattle.std.proofs.lemmas.Result.{on_ok_weaker, IfErr-weaker}
-use Rattle.ffv1_plane.specs.Progress.{IsRunRead, IsSampleRead}
+use Rattle.ffv1_plane.specs.Progress.{IsSampleRead}
 use Rattle.ffv1_plane.specs.Readers.{entry_of}
 use Rattle.ffv1_plane.proofs.Reading.{scalar_read_at, zero_here, run_end_read, run_level_read}
 use Rattle.ffv1_plane.proofs.Halting.{scalar_stops, word_halted, level_stops}
@@ -63,10 +63,7 @@ returns-then-count-most c =
     let place = c.column.ensures.place (omega (arith, c.requires.inside, c.column.ensures.value)) in
     let left_is : c.width.result - c.column.result ≡ c.args.self.now.lines.width - length c.args.self.now.lines.samples % c.args.self.now.lines.width =
     omega (arith, place, c.width.ensures.value) in
-    let run : IsRunRead (c.args.self.now.lines.width - length c.args.self.now.lines.samples % c.args.self.now.lines.width) c.args.self.now.index
-    c.args.self.now.bits.left c.in-Ok.count c.read_run.new.index c.read_run.new.bits.left =
-    subst (λ (n : ℕ). IsRunRead n c.args.self.now.index c.args.self.now.bits.left c.in-Ok.count c.read_run.new.index c.read_run.new.bits.left) left_is
-    c.in-Ok.ensures.ok in
+    let run = rw left_is at c.in-Ok.ensures.ok in
     let less : c.in-Ok.count < c.args.self.now.lines.width - length c.args.self.now.lines.samples % c.args.self.now.lines.width =
     omega (arith, left_is, c.if-count-most.true) in
     let same = c.read_level.ensures.same in
@@ -108,10 +105,7 @@ returns-else-count-most c =
     let place = c.column.ensures.place (omega (arith, c.requires.inside, c.column.ensures.value)) in
     let left_is : c.width.result - c.column.result ≡ c.args.self.now.lines.width - length c.args.self.now.lines.samples % c.args.self.now.lines.width =
     omega (arith, place, c.width.ensures.value) in
-    let run : IsRunRead (c.args.self.now.lines.width - length c.args.self.now.lines.samples % c.args.self.now.lines.width) c.args.self.now.index
-    c.args.self.now.bits.left c.in-Ok.count c.read_run.new.index c.read_run.new.bits.left =
-    subst (λ (n : ℕ). IsRunRead n c.args.self.now.index c.args.self.now.bits.left c.in-Ok.count c.read_run.new.index c.read_run.new.bits.left) left_is
-    c.in-Ok.ensures.ok in
+    let run = rw left_is at c.in-Ok.ensures.ok in
     let whole_row : c.args.self.now.lines.width - length c.args.self.now.lines.samples % c.args.self.now.lines.width ≡ c.in-Ok.count =
     (let enough = c.if-count-most.false in omega (arith, left_is, enough, run.fits)) in
     record {
