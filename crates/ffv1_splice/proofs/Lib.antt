@@ -1,4 +1,3 @@
-pub mod CopyLists
 pub mod ToldSteps
 pub mod LeastSteps
 pub mod PlaceSteps

@@ -10,7 +10,7 @@ use Rattle.ffv1_splice.proofs.Walks.{IsSpliceBefore}
 use Rattle.ffv1_splice.proofs.Walks.IsSpliceBefore.{stops, goes}
 use Rattle.ffv1_splice.specs.Faults.{length_at, HasOneLength}
 use Rattle.ffv1_splice.specs.declared.place.Place.{Place}
-use Rattle.ffv1_splice.proofs.CopyLists.{bytes_at, length-bytes_of}
+use Rattle.ffv1_weave.proofs.References.{value_at, length-values_of}
 
 -- ---- bytes written over others
 
@@ -78,12 +78,12 @@ module _ (copies : List (List ℕ)) where
 
 module _ (copies : List (Bor (List ℕ))) (some : 0 < length copies) (one : HasOneLength (map (λ copy. copy.now) copies)) where
   length_of_first : (i : ℕ) (d : Bor (List ℕ)) → i < length copies → length (get_or copies i d).now ≡ length_at (map (λ copy. copy.now) copies) 0
-  length_of_first i d h = sym (ap length (bytes_at copies i d [] h)) ∙ one i (omega (arith, length-bytes_of copies))
+  length_of_first i d h = sym (ap length (value_at copies i d [] h)) ∙ one i (omega (arith, length-values_of copies))
 
   pub all_reach : (end : ℕ) (first : Bor (List ℕ)) → end ≤ length (get_or copies 0 first).now → All (λ copy. end ≤ length copy.now) copies
   all_reach end first h k d lt = omega (arith, length_of_first k d lt, length_of_first 0 first some)
 
   pub one_length : (first : Bor (List ℕ)) (other : List ℕ) → Contains (map (λ copy. copy.now) copies) other → length other ≡ length (get_or copies 0 first).now
   one_length first other there =
-      let lt : there.0 < length copies = omega (arith, there.1, length-bytes_of copies) in
-      sym (ap length there.2) ∙ ap length (bytes_at copies there.0 first other lt) ∙ length_of_first there.0 first lt ∙ sym (length_of_first 0 first some)
+      let lt : there.0 < length copies = omega (arith, there.1, length-values_of copies) in
+      sym (ap length there.2) ∙ ap length (value_at copies there.0 first other lt) ∙ length_of_first there.0 first lt ∙ sym (length_of_first 0 first some)

@@ -10,7 +10,7 @@ use Rattle.ffv1_weave.specs.Weave.{Weave, IsWeaveOf, AreFew}
 use Rattle.ffv1_weave.specs.Weave.Weave.{woven, disputed, missing, too_many}
 use Rattle.ffv1_weave.proofs.WeaveLaws.{combination_as, valid_as}
 use Rattle.ffv1_splice.specs.Standings.{versions_at, IsWeaveAt}
-use Rattle.ffv1_splice.proofs.CopyLists.{bytes_at, length-bytes_of, there_at}
+use Rattle.ffv1_weave.proofs.References.{value_at, length-values_of, value_there}
 use Rattle.ffv1_splice.proofs.PlaceSteps.{AllReach, told_below}
 
 module _ (copies : List (List ℕ)) (start end : ℕ) where
@@ -110,8 +110,8 @@ module _ (copies : List (Bor (List ℕ))) (start end : ℕ) where
       ≡ take (i + 1) (versions_at (map (λ copy. copy.now) copies) start end)
   next_version i d h =
       ap (λ x. take i (versions_at (map (λ copy. copy.now) copies) start end) ++ x ∷ [])
-      (sym (get_or-map (λ copy. slice_range copy start end) (map (λ copy. copy.now) copies) i [] [] (omega (arith, length-bytes_of copies))
-      ∙ ap (λ copy. slice_range copy start end) (bytes_at copies i d [] h)))
+      (sym (get_or-map (λ copy. slice_range copy start end) (map (λ copy. copy.now) copies) i [] [] (omega (arith, length-values_of copies))
+      ∙ ap (λ copy. slice_range copy start end) (value_at copies i d [] h)))
       ∙ sym (take_more (versions_at (map (λ copy. copy.now) copies) start end) i [] (omega (arith, length-versions)))
 
   pub all_versions : (n : ℕ) → length copies ≤ n
@@ -129,13 +129,13 @@ module _ (copies : List (List ℕ)) (start end : ℕ) (order : start ≤ end) (r
   module _ (versions : List (Bor (List ℕ))) (are : map (λ version. version.now) versions ≡ versions_at copies start end) where
     length_of : (k : ℕ) (d : Bor (List ℕ)) → k < length versions → length (get_or versions k d).now ≡ end - start
     length_of k d lt =
-        version_length (get_or versions k d).now (subst (λ vs. Contains vs (get_or versions k d).now) are (there_at versions k d lt))
+        version_length (get_or versions k d).now (subst (λ vs. Contains vs (get_or versions k d).now) are (value_there versions k d lt))
 
     length_of_first : 0 < length versions → length (get_or (map (λ version. version.now) versions) 0 []) ≡ end - start
     length_of_first lt =
         version_length (get_or (map (λ version. version.now) versions) 0 [])
         (subst (λ vs. Contains vs (get_or (map (λ version. version.now) versions) 0 [])) are
-        (Contains-get_or (map (λ version. version.now) versions) 0 [] (omega (arith, length-bytes_of versions))))
+        (Contains-get_or (map (λ version. version.now) versions) 0 [] (omega (arith, length-values_of versions))))
 
     -- all are as long as the first
     pub one_length : All (λ version. length version.now ≡ length (get_or (map (λ version. version.now) versions) 0 [])) versions

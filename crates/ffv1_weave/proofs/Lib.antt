@@ -1,4 +1,4 @@
-pub mod VersionLists
+pub mod References
 pub mod Agreeing
 pub mod RegionSteps
 pub mod PieceSteps

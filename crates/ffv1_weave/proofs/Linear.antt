@@ -14,7 +14,7 @@ use Rattle.ffv1_bits.proofs.Division.{divided-xor, polynomial_small}
 use Rattle.ffv1_bits.proofs.Sums.{xor_twice}
 use Rattle.ffv1_weave.specs.Parts.{Part, ArePartsFrom, IsFit, chosen, written}
 use Rattle.ffv1_weave.specs.Changes.{remainder_in, change_of, changes_of, changed}
-use Rattle.ffv1_weave.proofs.VersionLists.{bytes_of, bytes_at, length-bytes_of}
+use Rattle.ffv1_weave.proofs.References.{values_of, value_at, length-values_of}
 use Rattle.ffv1_weave.proofs.Choices.{length-written, written_after, same_range, piece_of, piece_size, digit_below, fit_as, fit_head, fit_tail, fits_in}
 
 -- ---- the polynomial of bits with others in a window
@@ -141,10 +141,10 @@ module _ (versions : List (List ℕ)) (first : List ℕ) where
 
 -- ---- the pieces of a part, as the code has them
 
-pub piece_there : (pieces : List (Bor (List ℕ))) (part : Part) (i : ℕ) (d : Bor (List ℕ)) → bytes_of pieces ≡ part.pieces → i < length pieces
+pub piece_there : (pieces : List (Bor (List ℕ))) (part : Part) (i : ℕ) (d : Bor (List ℕ)) → values_of pieces ≡ part.pieces → i < length pieces
     → (i < length part.pieces) × ((get_or pieces i d).now ≡ piece_of part i)
 piece_there pieces part i d is lt =
-    (omega (arith, length-bytes_of pieces, ap length is), sym (bytes_at pieces i d [] lt) ∙ ap (λ ps. get_or ps i []) is)
+    (omega (arith, length-values_of pieces, ap length is), sym (value_at pieces i d [] lt) ∙ ap (λ ps. get_or ps i []) is)
 
 pub changes_more : (first : List ℕ) (part : Part) (i : ℕ) → i < length part.pieces
     → take i (changes_of first part) ++ change_of first part.start (piece_of part i) ∷ [] ≡ take (i + 1) (changes_of first part)

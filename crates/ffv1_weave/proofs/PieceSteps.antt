@@ -10,6 +10,7 @@ use Rattle.std.proofs.lemmas.Slice.Eq.{slice_eq-Decides}
 use Rattle.std.proofs.lemmas.Bool.Decides.{Decides-eqb}
 use lib.Pointwise.{pointwise}
 use Rattle.ffv1_weave.specs.Regions.{HaveLength}
+use Rattle.ffv1_weave.proofs.References.{nowhere}
 use Rattle.ffv1_weave.specs.Parts.{ArePieces, IsFit}
 
 alone : (version other : List ℕ) → Contains (version ∷ []) other → other ≡ version
@@ -93,9 +94,6 @@ module _ (start end : ℕ) where
 -- some reference is to the same bytes
 abbrev pub IsAsked : List (Bor (List ℕ)) → List ℕ → Bool → Type 0
 IsAsked pieces piece answer = IsAnyAnswer (λ other b. pointwise eqb other.now piece ≡ b) pieces answer
-
-nowhere : Bor (List ℕ)
-nowhere = record { ref_ptr = (0, 0); now = [] }
 
 pub pieces_have : (pieces : List (Bor (List ℕ))) (piece : List ℕ) → IsAsked pieces piece true → Contains (map (λ p. p.now) pieces) piece
 pieces_have pieces piece h =

@@ -7,8 +7,9 @@ use Rattle.std.proofs.lemmas.List.Elements.{Contains-get_or}
 use Rattle.ffv1_weave.specs.Regions.{HaveLength}
 use Rattle.ffv1_weave.specs.Combinations.{IsCombination, IsValid, AreNumbered}
 use Rattle.ffv1_weave.specs.Parts.{Part, ArePartsFrom, IsFit, count_of, chosen}
+use Rattle.ffv1_slice.specs.Chain.{IsFramed}
 use Rattle.ffv1_slice.specs.Members.{IsOnly, IsOfTwo, IsOfNone}
-use Rattle.ffv1_weave.proofs.VersionLists.{bytes_of, bytes_at, length-bytes_of, each_version}
+use Rattle.ffv1_weave.proofs.References.{nowhere, values_of, value_at, length-values_of, each_value}
 use Rattle.ffv1_weave.specs.Changes.{remainder_in, changes_of, changed}
 use Rattle.ffv1_weave.proofs.Linear.{changed_is}
 use Rattle.ffv1_weave.proofs.Choices.{IsAlike, numbered, chosen_alike, combination_alike}
@@ -120,25 +121,58 @@ none_of None h = refl
 none_of (Some x) h = absurd (cc)
 
 -- as the code has them
-pub have_parts : (versions : List (Bor (List ℕ))) (parts : List Part) (d : Bor (List ℕ)) → 0 < length versions
-    → All (λ version. length version.now ≡ length (get_or (bytes_of versions) 0 [])) versions → ArePartsFrom (bytes_of versions) 0 parts
-    → All (IsFit (length (get_or versions 0 d).now)) parts → HaveParts (bytes_of versions) parts
-have_parts versions parts d some long are fit =
+pub have_parts : (versions : List (Bor (List ℕ))) (parts : List Part) → 0 < length versions
+    → All (λ version. length version.now ≡ length (get_or (values_of versions) 0 [])) versions → ArePartsFrom (values_of versions) 0 parts
+    → All (IsFit (length (get_or versions 0 nowhere).now)) parts → HaveParts (values_of versions) parts
+have_parts versions parts some long are fit =
     record {
-      some = omega (arith, length-bytes_of versions);
-      long = each_version versions (λ version. length version ≡ length (get_or (bytes_of versions) 0 [])) long;
+      some = omega (arith, length-values_of versions);
+      long = each_value versions (λ version. length version ≡ length (get_or (values_of versions) 0 [])) long;
       are = are;
-      fit = subst (λ z. All (IsFit (length z)) parts) (sym (bytes_at versions 0 d [] some)) fit;
+      fit = subst (λ z. All (IsFit (length z)) parts) (sym (value_at versions 0 nowhere [] some)) fit;
     }
 
 pub absent : (o : Option ℕ) → ((x : ℕ) → o ≡ Some x → ⊥) → o ≡ None
 absent None h = refl
 absent (Some x) h = absurd (h x refl)
 
--- ---- the remainder of a combination, as it is summed
+-- ---- a combination that is tried, as the code has it
 
-pub summed : (versions : List (List ℕ)) (parts : List Part) (have : HaveParts versions parts) (code : ℕ)
-    → changed (map (changes_of (get_or versions 0 [])) parts) code (remainder_in (get_or versions 0 [])) ≡ remainder_in
-    (chosen parts code (get_or versions 0 []))
-summed versions parts have code =
-    changed_is versions (get_or versions 0 []) 0 parts code (get_or versions 0 []) have.are have.fit refl (λ i low. refl)
+module _ (versions : List (Bor (List ℕ))) (parts : List Part) (have : HaveParts (values_of versions) parts) where
+  abbrev first : List ℕ
+  first = get_or (values_of versions) 0 []
+
+  first_is : (get_or versions 0 nowhere).now ≡ first
+  first_is = sym (value_at versions 0 nowhere [] (omega (arith, have.some, length-values_of versions)))
+
+  pub tables_are : (tables : List (List ℕ)) (regions : List Part) → tables ≡ map (changes_of (get_or versions 0 nowhere).now) regions → regions ≡ parts
+      → tables ≡ map (changes_of first) parts
+  tables_are tables regions made is = made ∙ ap (map (changes_of (get_or versions 0 nowhere).now)) is ∙ ap (λ f. map (changes_of f) parts) first_is
+
+  -- what the tables leave is the remainder of the combination
+  pub left_is : (code base left : ℕ) (tables : List (List ℕ)) (regions : List Part) → tables ≡ map (changes_of (get_or versions 0 nowhere).now) regions
+      → regions ≡ parts → base ≡ remainder_in (get_or versions 0 nowhere).now → left ≡ changed tables code base → left ≡ remainder_in (chosen parts code first)
+  left_is code base left tables regions made is base_is told =
+      told ∙ ap (λ ts. changed ts code base) (tables_are tables regions made is)
+      ∙ ap (changed (map (changes_of first) parts) code) (base_is ∙ ap remainder_in first_is)
+      ∙ changed_is (values_of versions) first 0 parts code first have.are have.fit refl (λ i low. refl)
+
+  -- The bytes are those of the combination.
+  pub record AreChosen (code : ℕ) (bytes : List ℕ) : Type 0 where
+    pub are : bytes ≡ chosen parts code first
+    pub alike : IsAlike (values_of versions) 0 bytes first
+
+  pub written_over : (code len : ℕ) (new lent items : List ℕ) (regions : List Part) → code < count_of parts → new ≡ chosen regions code lent
+      → regions ≡ parts → lent ≡ items → IsAlike (values_of versions) 0 items first → len ≡ length items
+      → AreChosen code (take len (new ++ drop (length new) items))
+  written_over code len new lent items regions low made is lent_is alike size =
+      let new_is : new ≡ chosen parts code first =
+      made ∙ ap (λ ps. chosen ps code lent) is ∙ ap (chosen parts code) lent_is ∙ chosen_over (values_of versions) parts have code items alike in
+      let there = alike_at (values_of versions) parts have code low in
+      let now = put_back len new items size (ap length new_is ∙ there.size ∙ sym alike.size) ∙ new_is in
+      record { are = now; alike = subst (λ b. IsAlike (values_of versions) 0 b first) (sym now) there }
+
+  pub valid_at : (code left : ℕ) → code < count_of parts → IsFramed (chosen parts code first) → left ≡ remainder_in (chosen parts code first) → left ≡ 0
+      → IsValid (values_of versions) (chosen parts code first)
+  valid_at code left low framed is zero =
+      record { combination = (all_numbered (values_of versions) parts have).are code low; framed = framed; passes = (framed.footer, sym is ∙ zero) }

@@ -5,7 +5,7 @@ use Rattle.ffv1_weave.specs.declared.weaving.Outcome.{Outcome}
 use Rattle.ffv1_weave.specs.declared.weaving.Outcome.TheVariants as outcome
 use Rattle.ffv1_splice.specs.Placing.{written}
 use Rattle.ffv1_splice.specs.Standings.{versions_at, IsWeaveAt, IsGap, StandsAs}
-use Rattle.ffv1_splice.proofs.CopyLists.{bytes_of, each_copy}
+use Rattle.ffv1_weave.proofs.References.{values_of, each_value}
 use Rattle.ffv1_splice.proofs.PlaceSteps.{told_below, least_size, stands_weave, placed_as}
 use Rattle.ffv1_splice.proofs.Versions.{one_length, weave_size}
 use Rattle.ffv1_splice.proofs.placing.weave_at.Goals as goal
@@ -13,19 +13,19 @@ use Rattle.ffv1_splice.proofs.placing.weave_at.Goals.{in-Disputed, in-Missing}
 
 pub weave-requires-clause-lengths : goal.weave-requires-clause-lengths
 weave-requires-clause-lengths c =
-    let below = told_below (bytes_of c.args.copies.now) c.args.start c.args.end c.requires.told.there in
-    one_length (bytes_of c.args.copies.now) c.args.start c.args.end (omega arith)
-    (each_copy c.args.copies.now (λ copy. c.args.end ≤ length copy) c.requires.within) c.as_slice.result.now
-    (ap bytes_of c.as_slice.ensures.value ∙ c.in_ok-versions.ensures)
+    let below = told_below (values_of c.args.copies.now) c.args.start c.args.end c.requires.told.there in
+    one_length (values_of c.args.copies.now) c.args.start c.args.end (omega arith)
+    (each_value c.args.copies.now (λ copy. c.args.end ≤ length copy) c.requires.within) c.as_slice.result.now
+    (ap values_of c.as_slice.ensures.value ∙ c.in_ok-versions.ensures)
 
 pub write_at-requires : goal.write_at-requires
 write_at-requires c =
-    let is : bytes_of c.as_slice.result.now ≡ versions_at (bytes_of c.args.copies.now) c.args.start c.args.end =
-    ap bytes_of c.as_slice.ensures.value ∙ c.in_ok-versions.ensures in
-    let weave : IsWeaveOf (bytes_of c.as_slice.result.now) (woven c.in-Woven.bytes.items c.in-Woven.count) =
-    subst (λ o. IsWeaveOf (bytes_of c.as_slice.result.now) (weave_told o)) c.in-Woven.is c.in_ok-bytes.ensures in
-    let size = weave_size (bytes_of c.args.copies.now) c.args.start c.args.end c.in-Woven.bytes.items c.in-Woven.count
-    (each_copy c.args.copies.now (λ copy. c.args.end ≤ length copy) c.requires.within)
+    let is : values_of c.as_slice.result.now ≡ versions_at (values_of c.args.copies.now) c.args.start c.args.end =
+    ap values_of c.as_slice.ensures.value ∙ c.in_ok-versions.ensures in
+    let weave : IsWeaveOf (values_of c.as_slice.result.now) (woven c.in-Woven.bytes.items c.in-Woven.count) =
+    subst (λ o. IsWeaveOf (values_of c.as_slice.result.now) (weave_told o)) c.in-Woven.is c.in_ok-bytes.ensures in
+    let size = weave_size (values_of c.args.copies.now) c.args.start c.args.end c.in-Woven.bytes.items c.in-Woven.count
+    (each_value c.args.copies.now (λ copy. c.args.end ≤ length copy) c.requires.within)
     (record {
       none = c.requires.none;
       told = c.requires.told;
@@ -36,11 +36,11 @@ write_at-requires c =
 
 pub returns-in-Woven : goal.returns-in-Woven
 returns-in-Woven c =
-    let is : bytes_of c.as_slice.result.now ≡ versions_at (bytes_of c.args.copies.now) c.args.start c.args.end =
-    ap bytes_of c.as_slice.ensures.value ∙ c.in_ok-versions.ensures in
-    let weave : IsWeaveOf (bytes_of c.as_slice.result.now) (woven c.in-Woven.bytes.items c.in-Woven.count) =
-    subst (λ o. IsWeaveOf (bytes_of c.as_slice.result.now) (weave_told o)) c.in-Woven.is c.in_ok-bytes.ensures in
-    let at : IsWeaveAt (bytes_of c.args.copies.now) c.args.start c.args.end (woven c.in-Woven.bytes.items c.in-Woven.count) = record {
+    let is : values_of c.as_slice.result.now ≡ versions_at (values_of c.args.copies.now) c.args.start c.args.end =
+    ap values_of c.as_slice.ensures.value ∙ c.in_ok-versions.ensures in
+    let weave : IsWeaveOf (values_of c.as_slice.result.now) (woven c.in-Woven.bytes.items c.in-Woven.count) =
+    subst (λ o. IsWeaveOf (values_of c.as_slice.result.now) (weave_told o)) c.in-Woven.is c.in_ok-bytes.ensures in
+    let at : IsWeaveAt (values_of c.args.copies.now) c.args.start c.args.end (woven c.in-Woven.bytes.items c.in-Woven.count) = record {
       none = c.requires.none;
       told = c.requires.told;
       weave' = subst (λ vs. IsWeaveOf vs (woven c.in-Woven.bytes.items c.in-Woven.count)) is weave;
@@ -49,43 +49,43 @@ returns-in-Woven c =
       bytes = c.in-Woven.bytes.items;
       ends = refl;
       stands = at;
-      size = weave_size (bytes_of c.args.copies.now) c.args.start c.args.end c.in-Woven.bytes.items c.in-Woven.count
-          (each_copy c.args.copies.now (λ copy. c.args.end ≤ length copy) c.requires.within) at;
+      size = weave_size (values_of c.args.copies.now) c.args.start c.args.end c.in-Woven.bytes.items c.in-Woven.count
+          (each_value c.args.copies.now (λ copy. c.args.end ≤ length copy) c.requires.within) at;
       written' = c.write_at.ensures ∙ ap (written c.args.payload.now c.args.start) c.as_slice-in-Woven.ensures.value;
     }
 
 pub least_at-requires-clause-order : goal.least_at-requires-clause-order
 least_at-requires-clause-order c =
-    let below = told_below (bytes_of c.args.copies.now) c.args.start c.args.end c.requires.told.there in omega arith
+    let below = told_below (values_of c.args.copies.now) c.args.start c.args.end c.requires.told.there in omega arith
 
 pub write_at-requires-2 : goal.write_at-requires-2
 write_at-requires-2 c =
-    let below = told_below (bytes_of c.args.copies.now) c.args.start c.args.end c.requires.told.there in
-    let size = least_size (bytes_of c.args.copies.now) c.args.start c.args.end c.least_at.result.now
-    (each_copy c.args.copies.now (λ copy. c.args.end ≤ length copy) c.requires.within) (omega arith) c.least_at.ensures in
+    let below = told_below (values_of c.args.copies.now) c.args.start c.args.end c.requires.told.there in
+    let size = least_size (values_of c.args.copies.now) c.args.start c.args.end c.least_at.result.now
+    (each_value c.args.copies.now (λ copy. c.args.end ≤ length copy) c.requires.within) (omega arith) c.least_at.ensures in
     omega arith
 
 pub returns : goal.returns
 returns c =
-    let is : bytes_of c.as_slice.result.now ≡ versions_at (bytes_of c.args.copies.now) c.args.start c.args.end =
-    ap bytes_of c.as_slice.ensures.value ∙ c.in_ok-versions.ensures in
-    let at = λ (w : Weave) (h : IsWeaveOf (bytes_of c.as_slice.result.now) w).
-    stands_weave (bytes_of c.args.copies.now) c.args.start c.args.end w c.requires.none c.requires.told (subst (λ vs. IsWeaveOf vs w) is h) in
-    let below = told_below (bytes_of c.args.copies.now) c.args.start c.args.end c.requires.told.there in
-    let gap : IsGap (bytes_of c.args.copies.now) c.args.start c.args.end c.least_at.result.now =
+    let is : values_of c.as_slice.result.now ≡ versions_at (values_of c.args.copies.now) c.args.start c.args.end =
+    ap values_of c.as_slice.ensures.value ∙ c.in_ok-versions.ensures in
+    let at = λ (w : Weave) (h : IsWeaveOf (values_of c.as_slice.result.now) w).
+    stands_weave (values_of c.args.copies.now) c.args.start c.args.end w c.requires.none c.requires.told (subst (λ vs. IsWeaveOf vs w) is h) in
+    let below = told_below (values_of c.args.copies.now) c.args.start c.args.end c.requires.told.there in
+    let gap : IsGap (values_of c.args.copies.now) c.args.start c.args.end c.least_at.result.now =
     record { told = c.requires.told; least = c.least_at.ensures } in
-    let size = least_size (bytes_of c.args.copies.now) c.args.start c.args.end c.least_at.result.now
-    (each_copy c.args.copies.now (λ copy. c.args.end ≤ length copy) c.requires.within) (omega arith) c.least_at.ensures in
-    let weave = λ (o : Outcome) (is : c.in_ok-bytes.field-0 ≡ o). let P : Outcome → Type 0 = λ o. IsWeaveOf (bytes_of c.as_slice.result.now) (weave_told o) in
+    let size = least_size (values_of c.args.copies.now) c.args.start c.args.end c.least_at.result.now
+    (each_value c.args.copies.now (λ copy. c.args.end ≤ length copy) c.requires.within) (omega arith) c.least_at.ensures in
+    let weave = λ (o : Outcome) (is : c.in_ok-bytes.field-0 ≡ o). let P : Outcome → Type 0 = λ o. IsWeaveOf (values_of c.as_slice.result.now) (weave_told o) in
     subst P is c.in_ok-bytes.ensures in
     elim c.match-branch-3.branch [
-      | in-Disputed w ↦ placed_as (bytes_of c.args.copies.now) c.args.start c.args.end c.args.payload.now c.write_at-2.new.payload c.least_at.result.now
+      | in-Disputed w ↦ placed_as (values_of c.args.copies.now) c.args.start c.args.end c.args.payload.now c.write_at-2.new.payload c.least_at.result.now
           c.match-branch-3.standing
-          (subst (StandsAs (bytes_of c.args.copies.now) c.args.start c.args.end c.least_at.result.now) (sym w.standing-is)
+          (subst (StandsAs (values_of c.args.copies.now) c.args.start c.args.end c.least_at.result.now) (sym w.standing-is)
           (inr (at disputed (weave outcome.Disputed w.in-Disputed.is)), gap)) size c.write_at-2.ensures
-      | in-Missing w ↦ placed_as (bytes_of c.args.copies.now) c.args.start c.args.end c.args.payload.now c.write_at-2.new.payload c.least_at.result.now
+      | in-Missing w ↦ placed_as (values_of c.args.copies.now) c.args.start c.args.end c.args.payload.now c.write_at-2.new.payload c.least_at.result.now
           c.match-branch-3.standing
-          (subst (StandsAs (bytes_of c.args.copies.now) c.args.start c.args.end c.least_at.result.now) (sym w.standing-is) (
+          (subst (StandsAs (values_of c.args.copies.now) c.args.start c.args.end c.least_at.result.now) (sym w.standing-is) (
             elim w.in-Missing.is [
               | inl e ↦ inl (at missing (weave outcome.Missing e))
               | inr e ↦ inr (at too_many (weave outcome.TooMany e))

@@ -4,16 +4,16 @@ use Rattle.ffv1_bits.specs.Parity.{PassesParity}
 use Rattle.ffv1_slice.specs.Chain.{IsCut}
 use Rattle.ffv1_splice.specs.Pieces.{HasContent, IsPiece, IsToldStart}
 use Rattle.ffv1_splice.specs.Told.{Tells, pieces_told, starts_told}
-use Rattle.ffv1_splice.proofs.CopyLists.{bytes_of, next_copy, all_copies}
+use Rattle.ffv1_weave.proofs.References.{values_of, next_value, all_values, nowhere}
 use Rattle.ffv1_splice.proofs.ToldSteps.{pieces-uncut, starts-uncut, pieces-failed, pieces-passed, starts-cut}
 use Rattle.ffv1_splice.proofs.told.told_at.Goals as goal
 use Rattle.ffv1_splice.proofs.told.told_at.Goals.{in-Some+then-passes, in-Some+else-passes, in_default}
 
 pub loop-copy-preserved : goal.loop-copy-preserved
 loop-copy-preserved c =
-    let copy : List ℕ = (get_or c.args.copies.now c.loop-copy.copy-index (record { ref_ptr = (0, 0); now = [] })).now in
-    let before : List (List ℕ) = take c.loop-copy.copy-index (bytes_of c.args.copies.now) in
-    let more = next_copy c.args.copies.now c.loop-copy.copy-index (record { ref_ptr = (0, 0); now = [] }) (omega arith) in
+    let copy : List ℕ = (get_or c.args.copies.now c.loop-copy.copy-index nowhere).now in
+    let before : List (List ℕ) = take c.loop-copy.copy-index (values_of c.args.copies.now) in
+    let more = next_value c.args.copies.now c.loop-copy.copy-index nowhere (omega arith) in
     elim c.match-told_start.branch [
       | in-Some+then-passes w ↦
           let cut : IsCut copy w.in-Some.start c.args.end = w.in-Some.ensures.0 in
@@ -57,10 +57,10 @@ loop-copy-preserved c =
 
 pub returns-clause-pieces : goal.returns-clause-pieces
 returns-clause-pieces c =
-    subst (λ z. Tells (IsPiece z c.args.end) (pieces_told c.loop-copy.pieces)) (all_copies c.args.copies.now c.loop-copy.copy-index (omega arith))
+    subst (λ z. Tells (IsPiece z c.args.end) (pieces_told c.loop-copy.pieces)) (all_values c.args.copies.now c.loop-copy.copy-index (omega arith))
     c.loop-copy.invariant.pieces
 
 pub returns-clause-starts : goal.returns-clause-starts
 returns-clause-starts c =
-    subst (λ z. Tells (IsToldStart z c.args.end) (starts_told c.loop-copy.starts)) (all_copies c.args.copies.now c.loop-copy.copy-index (omega arith))
+    subst (λ z. Tells (IsToldStart z c.args.end) (starts_told c.loop-copy.starts)) (all_values c.args.copies.now c.loop-copy.copy-index (omega arith))
     c.loop-copy.invariant.starts

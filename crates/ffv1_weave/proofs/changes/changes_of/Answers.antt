@@ -1,17 +1,17 @@
-use Rattle.std.proofs.Common.{◌≡◌, ◌++◌, ℕ, List, [], ◌∷◌, Bor, length, take, get_or, arith, ap, ◌∙◌}
+use Rattle.std.proofs.Common.{◌≡◌, ◌++◌, ℕ, [], ◌∷◌, length, take, get_or, arith, ap, ◌∙◌}
 use Rattle.ffv1_weave.specs.Parts.{Part}
 use Rattle.ffv1_weave.specs.Changes.{change_of, changes_of}
-use Rattle.ffv1_weave.proofs.VersionLists.{bytes_of}
+use Rattle.ffv1_weave.proofs.References.{values_of}
 use Rattle.ffv1_weave.proofs.Choices.{piece_size}
 use Rattle.ffv1_weave.proofs.Linear.{piece_there, changes_more}
+use Rattle.ffv1_weave.proofs.References.{nowhere}
 use Rattle.ffv1_weave.proofs.changes.changes_of.Goals as goal
 
 pub change_of-requires-clause-fits : goal.change_of-requires-clause-fits
 change_of-requires-clause-fits c =
     let part : Part = c.args.region.now in
     let i : ℕ = c.loop-piece.piece-index in
-    let pieces : List (Bor (List ℕ)) = c.as_slice-piece-items.result.now in
-    let there = piece_there pieces part i (record { ref_ptr = (0, 0); now = [] }) (ap bytes_of c.as_slice-piece-items.ensures.value
+    let there = piece_there c.as_slice-piece-items.result.now part i nowhere (ap values_of c.as_slice-piece-items.ensures.value
     ∙ ap (λ p. p.pieces) c.region.view_is) (omega arith) in
     let start : c.region.inside.start ≡ part.start = ap (λ p. p.start) c.region.view_is in
     let size = piece_size (length c.args.first.now) part c.requires.fits i there.0 in
@@ -22,12 +22,11 @@ pub loop-piece-preserved : goal.loop-piece-preserved
 loop-piece-preserved c =
     let part : Part = c.args.region.now in
     let i : ℕ = c.loop-piece.piece-index in
-    let pieces : List (Bor (List ℕ)) = c.as_slice-piece-items.result.now in
-    let there = piece_there pieces part i (record { ref_ptr = (0, 0); now = [] }) (ap bytes_of c.as_slice-piece-items.ensures.value
+    let there = piece_there c.as_slice-piece-items.result.now part i nowhere (ap values_of c.as_slice-piece-items.ensures.value
     ∙ ap (λ p. p.pieces) c.region.view_is) (omega arith) in
     let start : c.region.inside.start ≡ part.start = ap (λ p. p.start) c.region.view_is in
     let is : c.change_of.result ≡ change_of c.args.first.now part.start (get_or part.pieces i []) =
-    c.change_of.ensures ∙ ap (λ s. change_of c.args.first.now s (get_or pieces i (record { ref_ptr = (0, 0); now = [] })).now) start
+    c.change_of.ensures ∙ ap (λ s. change_of c.args.first.now s (get_or c.as_slice-piece-items.result.now i nowhere).now) start
     ∙ ap (change_of c.args.first.now part.start) there.1 in
     record {
       same_length = let kept = c.change_of.auto.scratch in let same = c.loop-piece.invariant.same_length in omega arith;

@@ -2,18 +2,18 @@ use Rattle.std.proofs.Common.{◌≡◌, List, ℕ, ◌+◌, arith, sym, subst, 
 use Rattle.std.specs.Prelude.{MatchBool}
 use Rattle.std.proofs.lemmas.Bool.{cases_lt}
 use Rattle.ffv1_weave.specs.Regions.{AgreeAt, DifferAt}
-use Rattle.ffv1_weave.proofs.VersionLists.{bytes_of, each_version}
+use Rattle.ffv1_weave.proofs.References.{values_of, each_value}
 use Rattle.ffv1_weave.proofs.Agreeing.{agree_past}
 use Rattle.ffv1_weave.proofs.RegionSteps.{IsEndSoFar, end_begins, end_stays, end_moves}
 use Rattle.ffv1_weave.proofs.regions.end_from.Goals as goal
 use Rattle.ffv1_weave.proofs.regions.end_from.Goals.{then-differ_at, else-differ_at}
 
 pub loop-place-init : goal.loop-place-init
-loop-place-init c = end_begins (bytes_of c.args.versions.now) c.args.start c.args.size c.requires.within c.requires.first
+loop-place-init c = end_begins (values_of c.args.versions.now) c.args.start c.args.size c.requires.within c.requires.first
 
 pub loop-place-preserved : goal.loop-place-preserved
 loop-place-preserved c =
-    let versions : List (List ℕ) = bytes_of c.args.versions.now in
+    let versions : List (List ℕ) = values_of c.args.versions.now in
     elim c.if-differ_at.branch [
       | then-differ_at w ↦
           let differ : DifferAt versions c.loop-place.place =
@@ -31,6 +31,6 @@ pub returns-after-loop-place-clause-after : goal.returns-after-loop-place-clause
 returns-after-loop-place-clause-after c = λ i low near.
     elim (cases_lt i c.loop-place.place) [
       | inl below ↦ c.loop-place.invariant.quiet i low below
-      | inr above ↦ agree_past (bytes_of c.args.versions.now) c.args.size i
-          (each_version c.args.versions.now (λ version. length version ≡ c.args.size) c.requires.lengths) (omega arith)
+      | inr above ↦ agree_past (values_of c.args.versions.now) c.args.size i
+          (each_value c.args.versions.now (λ version. length version ≡ c.args.size) c.requires.lengths) (omega arith)
     ]
