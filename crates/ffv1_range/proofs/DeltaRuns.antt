@@ -149,18 +149,24 @@ pub record DeltasRead (closed : Bool) (form : Form (List (List ℕ)) (Unit {0}) 
   pub read : form closed (place_of c deltas) ≡ Ok (tt, place_of z.coder after)
   pub matches : AreRowsOf z.states (main, after)
 
+-- where no pieces are coded, a form that ends at once reads up to there
+nothing_read : (closed : Bool) (form : Form (List (List ℕ)) (Unit {0}) SetupFault) (c : Coder) (main : List ℕ) (deltas : List (List ℕ)) (rows : Rows)
+    (z : PlaceOf Rows) → form closed (place_of c deltas) ≡ Ok (tt, place_of c deltas) → AreRowsOf rows (main, deltas) → place_of c rows ≡ z
+    → DeltasRead closed form c main deltas z
+nothing_read closed form c main deltas rows z ends r same =
+    record {
+      after = deltas;
+      read = ends ∙ ap (λ w. Ok (tt, place_of w.coder deltas)) same;
+      matches = subst (λ w. AreRowsOf w.states (main, deltas)) same r;
+    }
+
 context-run : (closed : Bool) (n k : ℕ) (values : List ℤ) (c : Coder) (main : List ℕ) (deltas : List (List ℕ)) (rows : Rows) (z : PlaceOf Rows)
     → length values ≡ n → k + n ≡ 32
     → All (λ delta. IsSymbol (unsigned_abs delta)) values → AreRowsOf rows (main, deltas) → IsRowsRun closed (place_of c rows) (context_pieces k values) z
     → DeltasRead closed (context_deltas n k) c main deltas z
 unfolding context_deltas context_rest context_pieces IsRowsRun
 context-run closed n k [] c main deltas rows z size e small r run =
-    let same : place_of c rows ≡ z = run in
-    record {
-      after = deltas;
-      read = ap (λ m. context_deltas m k closed (place_of c deltas)) (sym size) ∙ ap (λ w. Ok (tt, place_of w.coder deltas)) same;
-      matches = subst (λ w. AreRowsOf w.states (main, deltas)) same r;
-    }
+    nothing_read closed (context_deltas n k) c main deltas rows z (ap (λ m. context_deltas m k closed (place_of c deltas)) (sym size)) r run
 context-run closed zero k (delta ∷ values) c main deltas rows z size e small r run = absurd (omega (arith, size))
 context-run closed (suc n) k (delta ∷ values) c main deltas rows z size e small r run =
     let within : k < 32 = omega arith in
@@ -220,12 +226,7 @@ contexts-run : (closed : Bool) (n : ℕ) (values : List (List ℤ)) (c : Coder) 
     → DeltasRead closed (contexts_deltas n) c main deltas z
 unfolding contexts_deltas contexts_rest IsRowsRun
 contexts-run closed n [] c main deltas rows z size each r run =
-    let same : place_of c rows ≡ z = run in
-    record {
-      after = deltas;
-      read = ap (λ m. contexts_deltas m closed (place_of c deltas)) (sym size) ∙ ap (λ w. Ok (tt, place_of w.coder deltas)) same;
-      matches = subst (λ w. AreRowsOf w.states (main, deltas)) same r;
-    }
+    nothing_read closed (contexts_deltas n) c main deltas rows z (ap (λ m. contexts_deltas m closed (place_of c deltas)) (sym size)) r run
 contexts-run closed zero (values ∷ others) c main deltas rows z size each r run = absurd (omega (arith, size))
 contexts-run closed (suc n) (values ∷ others) c main deltas rows z size each r run =
     let s = rows_split closed (context_pieces 0 values) (flat_map (context_pieces 0) others) (place_of c rows) z run in

@@ -6,7 +6,8 @@ use Rattle.ffv1_bits.specs.Limits.{greatest_side}
 use Rattle.ffv1_bits.specs.Bits.{bits_of}
 use Rattle.ffv1_bits.specs.Parity.{RecordPassesParity, remainder_of}
 use Rattle.ffv1_range.specs.Coding.{Coder, Place, start_of}
-use Rattle.ffv1_range.specs.Forms.{from_place}
+use Rattle.ffv1_range.specs.Decoder.{Reader, Starts}
+use Rattle.ffv1_range.specs.Forms.{from_place, form_at}
 use Rattle.ffv1_range.specs.TableForms.{fresh_row}
 use Rattle.ffv1_range.specs.Setup.{SetupValue, SetFields, RecordFields, IsSize, record_content, IsSetupOf, IsInProfile, SetupIsOne, SetupIsInProfile}
 use Rattle.ffv1_range.specs.Tables.{set_of}
@@ -16,7 +17,7 @@ use Rattle.ffv1_range.specs.declared.fault.SetupFault.{SetupFault}
 use Rattle.ffv1_range.specs.declared.fault.SetupFault.TheVariants.{TooShort, Parity, Range, Memory}
 use Rattle.ffv1_range.proofs.Forms.{place_of, bind_ok}
 use Rattle.ffv1_range.proofs.Spelling.{bind_is_ok, same_ok}
-use Rattle.ffv1_range.proofs.SetupSteps.{value_of, fields_read, sized, sized_read, front_rest, memory_rest, sets_rest, deltas_rest, last_rest}
+use Rattle.ffv1_range.proofs.SetupSteps.{IsOpened, opened, opened_read, value_of, fields_read, sized, sized_read, front_rest, memory_rest, sets_rest, deltas_rest, last_rest}
 use Rattle.ffv1_range.proofs.SetupRuns.{setup_form-found, setup_form-run}
 use Rattle.ffv1_range.specs.SetupFaults.{FirstSetupFault}
 use Rattle.ffv1_range.proofs.FirstFaults.{first_fault}
@@ -212,3 +213,17 @@ refused_by config width height granted e h =
       first = first_fault config width height granted e h;
       fault = (granted, h);
     }
+
+-- ---- the same once length, parity and size were found right, where the decoder has the content
+
+module _ (config content : List ℕ) (width height : ℕ) (r : Reader) (checked : checked_content config ≡ Ok content) (is_width : true ≡ is_size width)
+    (is_height : true ≡ is_size height) (starts : Starts true content (Ok r)) where
+  abbrev is_opened : IsOpened config width height r
+  is_opened = opened config content width height r checked (sym is_width) (sym is_height) starts
+
+  pub refused_in : (granted : Bool) (e : SetupFault) → form_at Range (setup_form granted width height) r fresh_row ≡ Err e → Answered config width height (Err e)
+  refused_in granted e h = refused_by config width height granted e (opened_read granted config width height r (Err e) is_opened h)
+
+  pub read_in : (value : SetupValue) (place : Place) → form_at Range (setup_form true width height) r fresh_row ≡ Ok (value, place)
+      → setup_read true config width height ≡ Ok value
+  read_in value place h = opened_read true config width height r (Ok (value, place)) is_opened h

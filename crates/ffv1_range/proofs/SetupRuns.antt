@@ -21,7 +21,7 @@ use Rattle.ffv1_range.proofs.FieldRuns.{Plan, form_of, followed, Taken, fields_o
 use Rattle.ffv1_range.proofs.RowRuns.{rows_append, rows_split, with_row-same, with_row-other, one_piece}
 use Rattle.ffv1_range.proofs.TableRuns.{SetsAt, sets-found, sets-run}
 use Rattle.ffv1_range.proofs.DeltaRuns.{AreRowsOf, SetsDeltasAt, sets-deltas-found, sets-deltas-run}
-use Rattle.ffv1_range.proofs.SetupSteps.{front_rest, memory_rest, sets_rest, deltas_rest, last_rest}
+use Rattle.ffv1_range.proofs.SetupSteps.{setup_from, front_rest, memory_rest, sets_rest, deltas_rest, last_rest}
 
 -- ---- tests as facts
 
@@ -79,23 +79,6 @@ pub record SetupAt (width height : ℕ) (c : Coder) (value : SetupValue) : Type 
   pub end : PlaceOf Rows
   pub coded : IsRowsRun true (place_of c fresh_states) (record_pieces fields) end
   pub is : value ≡ setup_value width height fields
-
--- a setup from its parts
-abbrev setup_from : FrontValue → List SetValue → ℕ → ℕ → ℕ → ℕ → SetupValue
-setup_from front sets ec intra width height =
-    record {
-      micro = front.micro;
-      has_chroma = front.planes.has_chroma;
-      shift_h = front.planes.shift_h;
-      shift_v = front.planes.shift_v;
-      across = front.tiles.across;
-      down = front.tiles.down;
-      sets = sets;
-      ec = ec;
-      intra = intra;
-      width = width;
-      height = height;
-    }
 
 -- the sets, read at rows of their own
 abbrev sets_apart : ℕ → Place → Result (List SetValue × Place) SetupFault

@@ -11,7 +11,7 @@ use Rattle.ffv1_range.specs.TableForms.{fresh_row, sets_from, deltas_form}
 use Rattle.ffv1_range.specs.Setup.{SetupValue}
 use Rattle.ffv1_range.specs.Views.{set_values, contexts_of}
 use Rattle.ffv1_range.specs.declared.tables.TableSet.{TableSet}
-use Rattle.ffv1_range.specs.SetupForms.{FrontValue, front_form, setup_form, checked_content, is_size, setup_read}
+use Rattle.ffv1_range.specs.SetupForms.{FrontValue, front_form, setup_of, setup_form, checked_content, is_size, setup_read}
 use Rattle.ffv1_range.specs.declared.coding.RangeFault.{RangeFault}
 use Rattle.ffv1_range.specs.declared.fault.SetupFault.{SetupFault}
 use Rattle.ffv1_range.specs.declared.fault.SetupFault.TheVariants.{Range, Memory, Size}
@@ -92,21 +92,13 @@ opened_read granted config width height r outcome o h =
 abbrev pub Setups : Type 0
 Setups = Form (List ℕ) SetupValue SetupFault
 
+-- a setup from what was read before its sets, the sets, and what was read after them
+abbrev pub setup_from : FrontValue → List SetValue → ℕ → ℕ → ℕ → ℕ → SetupValue
+setup_from front sets ec intra width height = setup_of front.micro front.planes front.tiles sets ec intra width height
+
 unfoldable pub last_rest : ℕ → ℕ → FrontValue → List SetValue → ℕ → Setups
 last_rest width height front sets intra =
-    giving (record {
-      micro = front.micro;
-      has_chroma = front.planes.has_chroma;
-      shift_h = front.planes.shift_h;
-      shift_v = front.planes.shift_v;
-      across = front.tiles.across;
-      down = front.tiles.down;
-      sets = sets;
-      ec = 1;
-      intra = intra;
-      width = width;
-      height = height;
-    })
+    giving (setup_from front sets 1 intra width height)
 
 unfoldable pub deltas_rest : ℕ → ℕ → FrontValue → List SetValue → Unit {0} → Setups
 deltas_rest width height front sets done = last_fields >>= last_rest width height front sets
@@ -125,10 +117,10 @@ setup_form-open : (granted : Bool) (width height : ℕ) (r : Reader) (row : List
 unfolding front_rest memory_rest sets_rest deltas_rest last_rest
 setup_form-open granted width height r row = continue_start Range (setup_form granted width height) r row
 
-pub front_fails : (granted : Bool) (width height : ℕ) (e : SetupFault) (r s : Reader) (row a : List ℕ) → Reads Range (front_form width height) r row (Err e) s a
+pub front_fails : (granted : Bool) (width height : ℕ) (e : SetupFault) (r : Reader) (row : List ℕ) → form_at Range (front_form width height) r row ≡ Err e
     → form_at Range (setup_form granted width height) r row ≡ Err e
-front_fails granted width height e r s row a h =
-    continue_stop Range (setup_form granted width height) (front_form width height) (front_rest granted width height) r r s row row a e
+front_fails granted width height e r row h =
+    continue_stop Range (setup_form granted width height) (front_form width height) (front_rest granted width height) r r r row row row e
     (setup_form-open granted width height r row) h
 
 front_read : (granted : Bool) (width height : ℕ) (f : FrontValue) (r s : Reader) (row a : List ℕ) → Reads Range (front_form width height) r row (Ok f) s a
@@ -150,12 +142,12 @@ unfolding front_rest memory_rest
 memory_granted width height f r s row a h =
     continue_accepted Range (setup_form true width height) true Memory (memory_rest width height f) r s row a refl (front_read true width height f r s row a h)
 
-pub sets_fail : (width height : ℕ) (f : FrontValue) (e : SetupFault) (r s t : Reader) (row a : List ℕ) → Reads Range (front_form width height) r row (Ok f) s a
-    → Reads Range (sets_from f.sets []) s tt (Err e) t tt → form_at Range (setup_form true width height) r row ≡ Err e
-sets_fail width height f e r s t row a h k =
-    continue_stop Range (setup_form true width height) (apart tt (sets_from f.sets [])) (sets_rest width height f) r s t row a a e
+pub sets_fail : (width height : ℕ) (f : FrontValue) (e : SetupFault) (r s : Reader) (row a : List ℕ) → Reads Range (front_form width height) r row (Ok f) s a
+    → form_at Range (sets_from f.sets []) s tt ≡ Err e → form_at Range (setup_form true width height) r row ≡ Err e
+sets_fail width height f e r s row a h k =
+    continue_stop Range (setup_form true width height) (apart tt (sets_from f.sets [])) (sets_rest width height f) r s s row a a e
     (memory_granted width height f r s row a h)
-    (read_on Range (λ at_hand. tt) (λ at_hand used. at_hand) (sets_from f.sets []) s t a tt (Err e) k)
+    (read_on Range (λ at_hand. tt) (λ at_hand used. at_hand) (sets_from f.sets []) s s a tt (Err e) k)
 
 sets_read : (width height : ℕ) (f : FrontValue) (sets : List SetValue) (r s t : Reader) (row a : List ℕ)
     → Reads Range (front_form width height) r row (Ok f) s a
@@ -167,14 +159,14 @@ sets_read width height f sets r s t row a h k =
     (memory_granted width height f r s row a h)
     (read_on Range (λ at_hand. tt) (λ at_hand used. at_hand) (sets_from f.sets []) s t a tt (Ok sets) k)
 
-pub deltas_fail : (width height : ℕ) (f : FrontValue) (sets : List SetValue) (contexts : List ℕ) (e : SetupFault) (r s t u : Reader) (row a b : List ℕ)
+pub deltas_fail : (width height : ℕ) (f : FrontValue) (sets : List SetValue) (contexts : List ℕ) (e : SetupFault) (r s t : Reader) (row a : List ℕ)
     → contexts ≡ map (λ set. set.contexts) sets
     → Reads Range (front_form width height) r row (Ok f) s a → Reads Range (sets_from f.sets []) s tt (Ok sets) t tt
-    → Reads Range (deltas_form contexts) t a (Err e) u b → form_at Range (setup_form true width height) r row ≡ Err e
-deltas_fail width height f sets contexts e r s t u row a b same h k l =
-    continue_stop Range (setup_form true width height) (deltas_form (map (λ set. set.contexts) sets)) (deltas_rest width height f sets) r t u row a b e
+    → form_at Range (deltas_form contexts) t a ≡ Err e → form_at Range (setup_form true width height) r row ≡ Err e
+deltas_fail width height f sets contexts e r s t row a same h k l =
+    continue_stop Range (setup_form true width height) (deltas_form (map (λ set. set.contexts) sets)) (deltas_rest width height f sets) r t t row a a e
     (sets_read width height f sets r s t row a h k)
-    (subst (λ z. Reads Range (deltas_form z) t a (Err e) u b) same l)
+    (subst (λ z. form_at Range (deltas_form z) t a ≡ Err e) same l)
 
 deltas_read : (width height : ℕ) (f : FrontValue) (sets : List SetValue) (contexts : List ℕ) (r s t u : Reader) (row a b : List ℕ)
     → contexts ≡ map (λ set. set.contexts) sets
@@ -187,13 +179,13 @@ deltas_read width height f sets contexts r s t u row a b same h k l =
     (sets_read width height f sets r s t row a h k)
     (subst (λ z. Reads Range (deltas_form z) t a (Ok tt) u b) same l)
 
-pub last_fails : (width height : ℕ) (f : FrontValue) (sets : List SetValue) (contexts : List ℕ) (e : SetupFault) (r s t u v : Reader) (row a b d : List ℕ)
+pub last_fails : (width height : ℕ) (f : FrontValue) (sets : List SetValue) (contexts : List ℕ) (e : SetupFault) (r s t u : Reader) (row a b : List ℕ)
     → contexts ≡ map (λ set. set.contexts) sets
     → Reads Range (front_form width height) r row (Ok f) s a → Reads Range (sets_from f.sets []) s tt (Ok sets) t tt
-    → Reads Range (deltas_form contexts) t a (Ok tt) u b → Reads Range last_fields u b (Err e) v d
+    → Reads Range (deltas_form contexts) t a (Ok tt) u b → form_at Range last_fields u b ≡ Err e
     → form_at Range (setup_form true width height) r row ≡ Err e
-last_fails width height f sets contexts e r s t u v row a b d same h k l m =
-    continue_stop Range (setup_form true width height) last_fields (last_rest width height f sets) r u v row b d e
+last_fails width height f sets contexts e r s t u row a b same h k l m =
+    continue_stop Range (setup_form true width height) last_fields (last_rest width height f sets) r u u row b b e
     (deltas_read width height f sets contexts r s t u row a b same h k l) m
 
 pub all_read : (width height : ℕ) (f : FrontValue) (sets : List SetValue) (contexts : List ℕ) (intra : ℕ) (r s t u v : Reader) (row a b d : List ℕ)
@@ -201,35 +193,11 @@ pub all_read : (width height : ℕ) (f : FrontValue) (sets : List SetValue) (con
     → Reads Range (front_form width height) r row (Ok f) s a → Reads Range (sets_from f.sets []) s tt (Ok sets) t tt
     → Reads Range (deltas_form contexts) t a (Ok tt) u b → Reads Range last_fields u b (Ok intra) v d
     → Reads Range (setup_form true width height) r row
-    (Ok (record {
-      micro = f.micro;
-      has_chroma = f.planes.has_chroma;
-      shift_h = f.planes.shift_h;
-      shift_v = f.planes.shift_v;
-      across = f.tiles.across;
-      down = f.tiles.down;
-      sets = sets;
-      ec = 1;
-      intra = intra;
-      width = width;
-      height = height;
-    })) v d
+    (Ok (setup_from f sets 1 intra width height)) v d
 unfolding last_rest
 all_read width height f sets contexts intra r s t u v row a b d same h k l m =
     continue_end Range (setup_form true width height) (last_rest width height f sets intra) r v v row d d
-    (Ok (record {
-      micro = f.micro;
-      has_chroma = f.planes.has_chroma;
-      shift_h = f.planes.shift_h;
-      shift_v = f.planes.shift_v;
-      across = f.tiles.across;
-      down = f.tiles.down;
-      sets = sets;
-      ec = 1;
-      intra = intra;
-      width = width;
-      height = height;
-    }))
+    (Ok (setup_from f sets 1 intra width height))
     (continue_next Range (setup_form true width height) last_fields (last_rest width height f sets) r u v row b d intra
     (deltas_read width height f sets contexts r s t u row a b same h k l) m)
     (continue_give Range v m.0 d _ (last_rest width height f sets intra) (at_ok u v m.0 m.2) refl)

@@ -8,6 +8,7 @@ use Rattle.ffv1_range.specs.Results.{◌>>=◌ as ◌>>>◌}
 use Rattle.ffv1_range.specs.Coding.{start_of}
 use Rattle.ffv1_range.specs.Forms.{Form, ◌>>=◌, giving, accepted, apart, from_place}
 use Rattle.ffv1_range.specs.Fields.{PlanesValue, TileCounts, versions, planes, tile_counts, last_fields}
+use Rattle.ffv1_range.specs.Tables.{SetValue}
 use Rattle.ffv1_range.specs.TableForms.{fresh_row, set_count, sets_from, deltas_form}
 use Rattle.ffv1_range.specs.Setup.{SetupValue, record_content}
 use Rattle.ffv1_range.specs.declared.fault.SetupFault.{SetupFault}
@@ -28,6 +29,23 @@ front_form width height = do
   sets ← set_count
   giving (record { micro = micro; planes = shape; tiles = tiles; sets = sets })
 
+-- a setup from its parts
+abbrev pub setup_of : ℕ → PlanesValue → TileCounts → List SetValue → ℕ → ℕ → ℕ → ℕ → SetupValue
+setup_of micro shape tiles sets ec intra width height =
+    record {
+      micro = micro;
+      has_chroma = shape.has_chroma;
+      shift_h = shape.shift_h;
+      shift_v = shape.shift_v;
+      across = tiles.across;
+      down = tiles.down;
+      sets = sets;
+      ec = ec;
+      intra = intra;
+      width = width;
+      height = height;
+    }
+
 -- The record's fields; after quant_table_set_count memory for the sets is wanted, which is granted or refused.
 abbrev pub setup_form : Bool → ℕ → ℕ → Form (List ℕ) SetupValue SetupFault
 setup_form granted width height = do
@@ -36,19 +54,7 @@ setup_form granted width height = do
   sets ← apart tt (sets_from front.sets [])
   done ← deltas_form (map (λ set. set.contexts) sets)
   intra ← last_fields
-  giving (record {
-    micro = front.micro;
-    has_chroma = front.planes.has_chroma;
-    shift_h = front.planes.shift_h;
-    shift_v = front.planes.shift_v;
-    across = front.tiles.across;
-    down = front.tiles.down;
-    sets = sets;
-    ec = 1;
-    intra = intra;
-    width = width;
-    height = height;
-  })
+  giving (setup_of front.micro front.planes front.tiles sets 1 intra width height)
 
 -- the bytes before the parity, where that passes
 abbrev pub checked_content : List ℕ → Result (List ℕ) SetupFault

@@ -34,37 +34,14 @@ pub struct Setup {
 
 impl Model for Setup {
     ghost use Rattle.ffv1_range.specs.Setup.{SetupValue, IsInProfile};
-    ghost use Rattle.ffv1_range.specs.Views.{set_values};
+    ghost use Rattle.ffv1_range.specs.SetupForms.{setup_of};
+    ghost use Rattle.ffv1_range.specs.Views.{planes_of, counts_of, set_values};
 
     ghost Value = { SetupValue };
 
-    ghost view = { λ x. record {
-      micro = x.micro;
-      has_chroma = x.planes.has_chroma;
-      shift_h = x.planes.shift_h;
-      shift_v = x.planes.shift_v;
-      across = x.counts.across;
-      down = x.counts.down;
-      sets = set_values x.sets.items;
-      ec = 1;
-      intra = x.intra;
-      width = x.width;
-      height = x.height;
-    } };
+    ghost view = { λ x. setup_of x.micro (planes_of x.planes) (counts_of x.counts) (set_values x.sets.items) 1 x.intra x.width x.height };
 
-    ghost invariant = { λ x. IsInProfile (record {
-      micro = x.micro;
-      has_chroma = x.planes.has_chroma;
-      shift_h = x.planes.shift_h;
-      shift_v = x.planes.shift_v;
-      across = x.counts.across;
-      down = x.counts.down;
-      sets = set_values x.sets.items;
-      ec = 1;
-      intra = x.intra;
-      width = x.width;
-      height = x.height;
-    }) };
+    ghost invariant = { λ x. IsInProfile (setup_of x.micro (planes_of x.planes) (counts_of x.counts) (set_values x.sets.items) 1 x.intra x.width x.height) };
 }
 
 impl Setup {

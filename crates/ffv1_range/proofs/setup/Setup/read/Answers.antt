@@ -1,11 +1,10 @@
-use Rattle.std.proofs.Common.{true, false, Err, sym, ap, ◌∙◌}
+use Rattle.std.proofs.Common.{true, false, sym, ap, ◌∙◌}
 use Rattle.std.proofs.lemmas.Result.{err_from_is_err_and}
 use Rattle.ffv1_range.specs.Views.{set_values, contexts_of, front_of}
-use Rattle.ffv1_range.specs.TableForms.{fresh_row}
-use Rattle.ffv1_range.specs.declared.fault.SetupFault.TheVariants.{Range, Memory, Size}
+use Rattle.ffv1_range.specs.declared.fault.SetupFault.TheVariants.{Range, Size}
 use Rattle.ffv1_range.proofs.TableSteps.{fresh_row-states}
-use Rattle.ffv1_range.proofs.SetupSteps.{not_checked, width_refused, height_refused, start_refused, opened, opened_read, front_fails, memory_refused, sets_fail, deltas_fail, last_fails, all_read, contexts_of-values}
-use Rattle.ffv1_range.proofs.SetupLaws.{answered, refused_by, read_in_profile}
+use Rattle.ffv1_range.proofs.SetupSteps.{not_checked, width_refused, height_refused, start_refused, front_fails, memory_refused, sets_fail, deltas_fail, last_fails, all_read, contexts_of-values}
+use Rattle.ffv1_range.proofs.SetupLaws.{answered, refused_by, read_in_profile, refused_in, read_in}
 use Rattle.ffv1_range.proofs.setup.Setup.read.Goals as goal
 use Rattle.ffv1_range.proofs.setup.Setup.read.Goals.{then-not-is_size-via-then-not-is_size, then-not-is_size-via-else-not-is_size+then-not-is_size-2}
 
@@ -42,84 +41,53 @@ pub returns-in_err-front : goal.returns-in_err-front
 returns-in_err-front c =
     let p = err_from_is_err_and c.from_residual-in_err-front.result c.from_residual-in_err-front.ensures.1 in
     rw (p.1, p.2)
-    (refused_by c.args.config.now c.args.width c.args.height true c.in_err-front.field-0.0
-    (opened_read true c.args.config.now c.args.width c.args.height c.in_ok-decoder.decoder (Err c.in_err-front.field-0.0)
-    (opened c.args.config.now c.in_ok-content.content.now c.args.width c.args.height c.in_ok-decoder.decoder c.in_ok-content.ensures
-    (sym c.if-not-is_size.ensures) (sym c.if-not-is_size-2.ensures) c.in_ok-decoder.ensures)
-    (front_fails true c.args.width c.args.height c.in_err-front.field-0.0 c.in_ok-decoder.decoder c.read_front.new.decoder fresh_row c.read_front.new.states
-    c.in_err-front.ensures.read)))
+    (refused_in _ _ _ _ _ c.in_ok-content.ensures c.if-not-is_size.ensures c.if-not-is_size-2.ensures c.in_ok-decoder.ensures true _
+    (front_fails true _ _ _ c.in_ok-decoder.decoder _ c.in_err-front.ensures.read))
 
 pub returns-in_err-sets : goal.returns-in_err-sets
 returns-in_err-sets c =
     let p = err_from_is_err_and c.from_residual-in_err-sets.result c.from_residual-in_err-sets.ensures.1 in
     rw (p.1, p.2)
-    (refused_by c.args.config.now c.args.width c.args.height false Memory
-    (opened_read false c.args.config.now c.args.width c.args.height c.in_ok-decoder.decoder (Err Memory)
-    (opened c.args.config.now c.in_ok-content.content.now c.args.width c.args.height c.in_ok-decoder.decoder c.in_ok-content.ensures
-    (sym c.if-not-is_size.ensures) (sym c.if-not-is_size-2.ensures) c.in_ok-decoder.ensures)
-    (memory_refused c.args.width c.args.height (front_of c.in_ok-front.front) c.in_ok-decoder.decoder c.read_front.new.decoder fresh_row
-    c.read_front.new.states c.in_ok-front.ensures.read)))
+    (refused_in _ _ _ _ _ c.in_ok-content.ensures c.if-not-is_size.ensures c.if-not-is_size-2.ensures c.in_ok-decoder.ensures false _
+    (memory_refused _ _ (front_of c.in_ok-front.front) _ _ _ _ c.in_ok-front.ensures.read))
 
 pub returns-in_err-read_sets : goal.returns-in_err-read_sets
 returns-in_err-read_sets c =
     let p = err_from_is_err_and c.from_residual-in_err-read_sets.result c.from_residual-in_err-read_sets.ensures.1 in
     rw (p.1, p.2)
-    (refused_by c.args.config.now c.args.width c.args.height true c.in_err-read_sets.field-0.0
-    (opened_read true c.args.config.now c.args.width c.args.height c.in_ok-decoder.decoder (Err c.in_err-read_sets.field-0.0)
-    (opened c.args.config.now c.in_ok-content.content.now c.args.width c.args.height c.in_ok-decoder.decoder c.in_ok-content.ensures
-    (sym c.if-not-is_size.ensures) (sym c.if-not-is_size-2.ensures) c.in_ok-decoder.ensures)
-    (sets_fail c.args.width c.args.height (front_of c.in_ok-front.front) c.in_err-read_sets.field-0.0 c.in_ok-decoder.decoder c.read_front.new.decoder
-    c.read_sets.new.decoder fresh_row c.read_front.new.states c.in_ok-front.ensures.read c.in_err-read_sets.ensures.read)))
+    (refused_in _ _ _ _ _ c.in_ok-content.ensures c.if-not-is_size.ensures c.if-not-is_size-2.ensures c.in_ok-decoder.ensures true _
+    (sets_fail _ _ (front_of c.in_ok-front.front) _ _ _ _ _ c.in_ok-front.ensures.read c.in_err-read_sets.ensures.read))
 
 pub returns-in_err-read_deltas : goal.returns-in_err-read_deltas
 returns-in_err-read_deltas c =
     let p = err_from_is_err_and c.from_residual-in_err-read_deltas.result c.from_residual-in_err-read_deltas.ensures.1 in
     rw (p.1, p.2)
-    (refused_by c.args.config.now c.args.width c.args.height true c.in_err-read_deltas.field-0.0
-    (opened_read true c.args.config.now c.args.width c.args.height c.in_ok-decoder.decoder (Err c.in_err-read_deltas.field-0.0)
-    (opened c.args.config.now c.in_ok-content.content.now c.args.width c.args.height c.in_ok-decoder.decoder c.in_ok-content.ensures
-    (sym c.if-not-is_size.ensures) (sym c.if-not-is_size-2.ensures) c.in_ok-decoder.ensures)
-    (deltas_fail c.args.width c.args.height (front_of c.in_ok-front.front) (set_values c.read_sets.new.sets.items)
-    (contexts_of c.deref.result.now) c.in_err-read_deltas.field-0.0 c.in_ok-decoder.decoder c.read_front.new.decoder c.read_sets.new.decoder
-    c.read_deltas.new.decoder fresh_row c.read_front.new.states c.read_deltas.new.states (ap contexts_of c.deref.ensures.value
-    ∙ contexts_of-values c.read_sets.new.sets.items) c.in_ok-front.ensures.read c.in_ok-read_sets.ensures.read c.in_err-read_deltas.ensures.read)))
+    (refused_in _ _ _ _ _ c.in_ok-content.ensures c.if-not-is_size.ensures c.if-not-is_size-2.ensures c.in_ok-decoder.ensures true _
+    (deltas_fail _ _ (front_of c.in_ok-front.front) (set_values c.read_sets.new.sets.items) _ _ _ _ _ _ _
+    (ap contexts_of c.deref.ensures.value ∙ contexts_of-values c.read_sets.new.sets.items)
+    c.in_ok-front.ensures.read c.in_ok-read_sets.ensures.read c.in_err-read_deltas.ensures.read))
 
 pub returns-in_err-intra : goal.returns-in_err-intra
 returns-in_err-intra c =
     let p = err_from_is_err_and c.from_residual-in_err-intra.result c.from_residual-in_err-intra.ensures.1 in
     rw (p.1, p.2)
-    (refused_by c.args.config.now c.args.width c.args.height true c.in_err-intra.field-0.0
-    (opened_read true c.args.config.now c.args.width c.args.height c.in_ok-decoder.decoder (Err c.in_err-intra.field-0.0)
-    (opened c.args.config.now c.in_ok-content.content.now c.args.width c.args.height c.in_ok-decoder.decoder c.in_ok-content.ensures
-    (sym c.if-not-is_size.ensures) (sym c.if-not-is_size-2.ensures) c.in_ok-decoder.ensures)
-    (last_fails c.args.width c.args.height (front_of c.in_ok-front.front) (set_values c.read_sets.new.sets.items)
-    (contexts_of c.deref.result.now) c.in_err-intra.field-0.0 c.in_ok-decoder.decoder c.read_front.new.decoder c.read_sets.new.decoder
-    c.read_deltas.new.decoder c.read_last_fields.new.decoder fresh_row c.read_front.new.states c.read_deltas.new.states c.read_last_fields.new.states
-    (ap contexts_of c.deref.ensures.value ∙ contexts_of-values c.read_sets.new.sets.items) c.in_ok-front.ensures.read c.in_ok-read_sets.ensures.read
-    c.in_ok-read_deltas.ensures.read c.in_err-intra.ensures.read)))
+    (refused_in _ _ _ _ _ c.in_ok-content.ensures c.if-not-is_size.ensures c.if-not-is_size-2.ensures c.in_ok-decoder.ensures true _
+    (last_fails _ _ (front_of c.in_ok-front.front) (set_values c.read_sets.new.sets.items) _ _ _ _ _ _ _ _ _
+    (ap contexts_of c.deref.ensures.value ∙ contexts_of-values c.read_sets.new.sets.items)
+    c.in_ok-front.ensures.read c.in_ok-read_sets.ensures.read c.in_ok-read_deltas.ensures.read c.in_err-intra.ensures.read))
 
 pub invariant_of-result : goal.invariant_of-result
 invariant_of-result c =
-    let read = all_read c.args.width c.args.height (front_of c.in_ok-front.front) (set_values c.read_sets.new.sets.items)
-    (contexts_of c.deref.result.now) c.in_ok-intra.intra c.in_ok-decoder.decoder c.read_front.new.decoder c.read_sets.new.decoder c.read_deltas.new.decoder
-    c.read_last_fields.new.decoder fresh_row c.read_front.new.states c.read_deltas.new.states c.read_last_fields.new.states
-    (ap contexts_of c.deref.ensures.value ∙ contexts_of-values c.read_sets.new.sets.items) c.in_ok-front.ensures.read c.in_ok-read_sets.ensures.read
-    c.in_ok-read_deltas.ensures.read c.in_ok-intra.ensures.read in
+    let read = all_read _ _ (front_of c.in_ok-front.front) (set_values c.read_sets.new.sets.items) _ _ _ _ _ _ _ _ _ _ _
+    (ap contexts_of c.deref.ensures.value ∙ contexts_of-values c.read_sets.new.sets.items)
+    c.in_ok-front.ensures.read c.in_ok-read_sets.ensures.read c.in_ok-read_deltas.ensures.read c.in_ok-intra.ensures.read in
     read_in_profile c.args.config.now c.args.width c.args.height _
-    (opened_read true c.args.config.now c.args.width c.args.height c.in_ok-decoder.decoder _
-    (opened c.args.config.now c.in_ok-content.content.now c.args.width c.args.height c.in_ok-decoder.decoder c.in_ok-content.ensures
-    (sym c.if-not-is_size.ensures) (sym c.if-not-is_size-2.ensures) c.in_ok-decoder.ensures)
-    read.1)
+    (read_in _ _ _ _ _ c.in_ok-content.ensures c.if-not-is_size.ensures c.if-not-is_size-2.ensures c.in_ok-decoder.ensures _ _ read.1)
 
 pub returns : goal.returns
 returns c =
-    let read = all_read c.args.width c.args.height (front_of c.in_ok-front.front) (set_values c.read_sets.new.sets.items)
-    (contexts_of c.deref.result.now) c.in_ok-intra.intra c.in_ok-decoder.decoder c.read_front.new.decoder c.read_sets.new.decoder c.read_deltas.new.decoder
-    c.read_last_fields.new.decoder fresh_row c.read_front.new.states c.read_deltas.new.states c.read_last_fields.new.states
-    (ap contexts_of c.deref.ensures.value ∙ contexts_of-values c.read_sets.new.sets.items) c.in_ok-front.ensures.read c.in_ok-read_sets.ensures.read
-    c.in_ok-read_deltas.ensures.read c.in_ok-intra.ensures.read in
+    let read = all_read _ _ (front_of c.in_ok-front.front) (set_values c.read_sets.new.sets.items) _ _ _ _ _ _ _ _ _ _ _
+    (ap contexts_of c.deref.ensures.value ∙ contexts_of-values c.read_sets.new.sets.items)
+    c.in_ok-front.ensures.read c.in_ok-read_sets.ensures.read c.in_ok-read_deltas.ensures.read c.in_ok-intra.ensures.read in
     answered c.args.config.now c.args.width c.args.height _
-    (opened_read true c.args.config.now c.args.width c.args.height c.in_ok-decoder.decoder _
-    (opened c.args.config.now c.in_ok-content.content.now c.args.width c.args.height c.in_ok-decoder.decoder c.in_ok-content.ensures
-    (sym c.if-not-is_size.ensures) (sym c.if-not-is_size-2.ensures) c.in_ok-decoder.ensures)
-    read.1)
+    (read_in _ _ _ _ _ c.in_ok-content.ensures c.if-not-is_size.ensures c.if-not-is_size-2.ensures c.in_ok-decoder.ensures _ _ read.1)
