@@ -8,6 +8,7 @@ use Rattle.std.proofs.lemmas.List.FromFn.{fill_by_all, length-map-range_with_len
 use Rattle.std.proofs.lemmas.List.Elements.{All-head, All-tail}
 use Rattle.ffv1_bits.specs.Limits.{greatest_side}
 use Rattle.ffv1_range.specs.Setup.{SetupValue, SetFields, IsSetFields, IsSetupOf, no_set}
+use Rattle.ffv1_range.specs.SetupForms.{setup_of}
 use Rattle.ffv1_range.specs.Tables.{half_of, halves_of, runs_ended, scale_after, scale_after_all, set_of, SetValue, table_entry}
 use Rattle.ffv1_vectors.specs.Asked.{HasAskedFields, HasTables, HasSet, HasSets, asked_sets, asked_setup}
 use Rattle.ffv1_vectors.specs.declared.record.RecordSpec.{RecordSpec}
@@ -80,19 +81,8 @@ same_sets setup n (s ∷ sets) (a ∷ asked) e each size h =
 
 setup_with : ℕ → Bool → ℕ → ℕ → ℕ → ℕ → List SetValue → ℕ → ℕ → ℕ → ℕ → SetupValue
 setup_with micro has_chroma shift_h shift_v across down sets ec intra width height =
-    record {
-      micro = micro;
-      has_chroma = has_chroma;
-      shift_h = shift_h;
-      shift_v = shift_v;
-      across = across;
-      down = down;
-      sets = sets;
-      ec = ec;
-      intra = intra;
-      width = width;
-      height = height;
-    }
+    setup_of micro (record { has_chroma = has_chroma; shift_h = shift_h; shift_v = shift_v }) (record { across = across; down = down })
+    sets ec intra width height
 
 same_setup : (m n : ℕ) (c d : Bool) (h i v w a b e f : ℕ) (s t : List SetValue) (p q x y g k l o : ℕ) → m ≡ n → c ≡ d → h ≡ i → v ≡ w → a ≡ b → e ≡ f
     → s ≡ t → p ≡ q → x ≡ y → g ≡ k → l ≡ o → setup_with m c h v a e s p x g l ≡ setup_with n d i w b f t q y k o
