@@ -113,140 +113,127 @@ fn values_that_cannot_be_read_are_refused(rt: HostRuntime) {
 
 #[test]
 fn other_codings_are_refused(rt: HostRuntime) {
-    assert!(rt;
-        refused(
-            rt.alloc(),
+    let refusals: [(&[u8], SetupFault); 5] = [
+        (
             &[
                 0x61, 0x36, 0x56, 0x1D, 0x79, 0xDF, 0xBF, 0x7E, 0xFD, 0xFB, 0xF7, 0xEF, 0xD8, 0xD4,
-                0xE6, 0x3B, 0x90
-            ]
-        ) == Some(SetupFault::Version)
-    );
-    assert!(rt;
-        refused(
-            rt.alloc(),
+                0xE6, 0x3B, 0x90,
+            ],
+            SetupFault::Version,
+        ),
+        (
             &[
                 0x55, 0xCE, 0x64, 0x67, 0xB5, 0xEB, 0xD7, 0xAF, 0x5E, 0xBD, 0x7A, 0xF5, 0x99, 0x73,
-                0xA7, 0xA9, 0x97
-            ]
-        ) == Some(SetupFault::Micro)
-    );
-    assert!(rt;
-        refused(
-            rt.alloc(),
+                0xA7, 0xA9, 0x97,
+            ],
+            SetupFault::Micro,
+        ),
+        (
             &[
                 0x56, 0x00, 0x30, 0x28, 0x49, 0xCD, 0x9B, 0x36, 0x6C, 0xD9, 0xB3, 0x66, 0xC4, 0xA5,
-                0x75, 0xC8, 0x85
-            ]
-        ) == Some(SetupFault::Coder)
-    );
-    assert!(rt;
-        refused(
-            rt.alloc(),
+                0x75, 0xC8, 0x85,
+            ],
+            SetupFault::Coder,
+        ),
+        (
             &[
                 0x56, 0x19, 0xE5, 0x28, 0x49, 0xCD, 0x9B, 0x36, 0x6C, 0xD9, 0xB3, 0x66, 0xC4, 0xD2,
-                0xE6, 0x39, 0x98
-            ]
-        ) == Some(SetupFault::ColorSpace)
-    );
-    assert!(rt;
-        refused(
-            rt.alloc(),
+                0xE6, 0x39, 0x98,
+            ],
+            SetupFault::ColorSpace,
+        ),
+        (
             &[
                 0x56, 0x2B, 0xA0, 0xF9, 0x03, 0x2C, 0x58, 0xB1, 0x62, 0xC5, 0x8B, 0x16, 0x19, 0x1A,
-                0x97, 0xEF, 0xA5
-            ]
-        ) == Some(SetupFault::Depth)
-    );
+                0x97, 0xEF, 0xA5,
+            ],
+            SetupFault::Depth,
+        ),
+    ];
+    for (record, fault) in refusals {
+        assert!(rt; refused(rt.alloc(), record) == Some(fault));
+    }
 }
 
 #[test]
 fn other_planes_and_grids_are_refused(rt: HostRuntime) {
-    assert!(rt;
-        refused(
-            rt.alloc(),
+    let refusals: [(&[u8], SetupFault); 4] = [
+        (
             &[
                 0x56, 0x2B, 0x84, 0x92, 0x76, 0xC7, 0x8F, 0x1E, 0x3C, 0x78, 0xF1, 0xE3, 0xB0, 0x82,
-                0x38, 0x9A, 0x6C
-            ]
-        ) == Some(SetupFault::ExtraPlane)
-    );
-    assert!(rt;
-        refused(
-            rt.alloc(),
+                0x38, 0x9A, 0x6C,
+            ],
+            SetupFault::ExtraPlane,
+        ),
+        (
             &[
                 0x56, 0x2B, 0x87, 0x2B, 0x8F, 0xB5, 0x6A, 0xD5, 0xAB, 0x56, 0xAD, 0x5A, 0xB3, 0xBF,
-                0x94, 0x6B, 0xD4
-            ]
-        ) == Some(SetupFault::Subsampling)
-    );
-    assert!(rt;
-        refused(
-            rt.alloc(),
+                0x94, 0x6B, 0xD4,
+            ],
+            SetupFault::Subsampling,
+        ),
+        (
             &[
                 0x56, 0x2B, 0x89, 0x70, 0xE7, 0xB3, 0x66, 0xCD, 0x9B, 0x36, 0x6C, 0xD9, 0xB0, 0xD8,
-                0xE2, 0x6A, 0x74, 0xDE
-            ]
-        ) == Some(SetupFault::Subsampling)
-    );
-    assert!(rt;
-        refused(
-            rt.alloc(),
+                0xE2, 0x6A, 0x74, 0xDE,
+            ],
+            SetupFault::Subsampling,
+        ),
+        (
             &[
                 0x56, 0x2B, 0x83, 0x83, 0x57, 0xD4, 0x1D, 0xEE, 0xEF, 0xDF, 0xBF, 0x7E, 0xFD, 0xFB,
-                0xF7, 0xD1, 0xA1, 0x57, 0x95, 0x50
-            ]
-        ) == Some(SetupFault::TooManyTiles)
-    );
+                0xF7, 0xD1, 0xA1, 0x57, 0x95, 0x50,
+            ],
+            SetupFault::TooManyTiles,
+        ),
+    ];
+    for (record, fault) in refusals {
+        assert!(rt; refused(rt.alloc(), record) == Some(fault));
+    }
 }
 
 #[test]
 fn other_tables_are_refused(rt: HostRuntime) {
-    assert!(rt;
-        refused(
-            rt.alloc(),
+    let refusals: [(&[u8], SetupFault); 5] = [
+        (
             &[
                 0x56, 0x2B, 0x83, 0xDF, 0x90, 0x26, 0x4C, 0x99, 0x32, 0x64, 0xC9, 0x92, 0xEE, 0xF0,
-                0x71, 0xFB, 0x68
-            ]
-        ) == Some(SetupFault::TableCount)
-    );
-    assert!(rt;
-        refused(
-            rt.alloc(),
+                0x71, 0xFB, 0x68,
+            ],
+            SetupFault::TableCount,
+        ),
+        (
             &[
                 0x56, 0x2B, 0x83, 0xCE, 0x04, 0x76, 0xF5, 0xEB, 0xD7, 0xAF, 0x5E, 0xBD, 0x7A, 0x6E,
-                0x63, 0x85, 0x51, 0xAF
-            ]
-        ) == Some(SetupFault::TableCount)
-    );
-    assert!(rt;
-        refused(
-            rt.alloc(),
+                0x63, 0x85, 0x51, 0xAF,
+            ],
+            SetupFault::TableCount,
+        ),
+        (
             &[
                 0x56, 0x2B, 0x83, 0xBD, 0xC5, 0x55, 0x4D, 0x55, 0x4D, 0x55, 0x4D, 0x55, 0x4D, 0x50,
-                0x94, 0x04, 0xE6, 0x28
-            ]
-        ) == Some(SetupFault::TableRun)
-    );
-    assert!(rt;
-        refused(
-            rt.alloc(),
+                0x94, 0x04, 0xE6, 0x28,
+            ],
+            SetupFault::TableRun,
+        ),
+        (
             &[
                 0x56, 0x2B, 0x83, 0xC3, 0x28, 0xFF, 0xFF, 0xFF, 0xF2, 0x19, 0xAC, 0x9F, 0x40, 0xA1,
-                0x41, 0x10, 0xC8, 0x6B, 0xA3, 0x4D
-            ]
-        ) == Some(SetupFault::Contexts)
-    );
-    assert!(rt;
-        refused(
-            rt.alloc(),
+                0x41, 0x10, 0xC8, 0x6B, 0xA3, 0x4D,
+            ],
+            SetupFault::Contexts,
+        ),
+        (
             &[
                 0x56, 0x2B, 0x83, 0xBD, 0xC5, 0x3A, 0x74, 0xE9, 0xD3, 0xA7, 0x4E, 0x9D, 0x31, 0x32,
-                0xCE, 0x06, 0x93
-            ]
-        ) == Some(SetupFault::ParityMode)
-    );
+                0xCE, 0x06, 0x93,
+            ],
+            SetupFault::ParityMode,
+        ),
+    ];
+    for (record, fault) in refusals {
+        assert!(rt; refused(rt.alloc(), record) == Some(fault));
+    }
 }
 
 /// A record of 4:2:0 frames of 720 x 576 samples in 6 x 4 tiles.
