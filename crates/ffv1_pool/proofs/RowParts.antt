@@ -1,17 +1,18 @@
 -- The rows of one slice are a part of all rows.
-use Rattle.std.proofs.Common.{◌≡◌, ℕ, ◌+◌, ◌-◌, ◌<◌, ◌≤◌, true, false, List, length, take, drop, get_or, sym, refl, ap, subst, ◌∙◌, inl, inr, arith}
-use Rattle.std.specs.List.Sorted.{IsPartitionedBy, IsPartitionPoint}
+use Rattle.std.proofs.Common.{◌≡◌, ℕ, ◌+◌, ◌-◌, ◌<◌, ◌≤◌, true, false, List, length, take, drop, get_or, sym, refl, ap, subst, ◌∙◌, inl, inr, arith, Result, Ok, Err, IfOk, IfErr}
+use Rattle.std.specs.List.Sorted.{IsPartitionedBy, IsPartitionPoint, IsSearchInRange, IsBinarySearchResult}
 use Rattle.std.specs.Ordering.{ordering_then, is_lt, is_le}
 use Rattle.std.specs.Cmp.{tied_itself}
 use Rattle.std.specs.declared.cmp.Ordering.{Ordering}
 use Rattle.std.specs.declared.cmp.Ordering.TheVariants.{Less, Equal, Greater}
 use Rattle.std.proofs.lemmas.Bool.{cases_order, cases_lt}
 use Rattle.std.proofs.lemmas.List.{get_or-take, get_or-drop, length-take-le, length-drop}
-use Rattle.ffv1_pool.specs.SliceOrder.{Entry, Origin, entry_cmp, bytes_cmp, origin_cmp, entries_total, entries_antisymmetric}
+use Rattle.ffv1_pool.specs.SliceOrder.{Entry, Origin, entry_cmp, bytes_cmp, origin_cmp, bytes_total, bytes_antisymmetric, entries_total, entries_antisymmetric}
 use Rattle.ffv1_pool.specs.Rising.{IsRising, IsPlaceOf, IsGapFor}
 use Rattle.ffv1_pool.specs.PoolEntries.{entry_in}
 use Rattle.ffv1_pool.specs.Rows.{rows_in, IsRows, IsRowPart}
 use Rattle.ffv1_pool.specs.declared.pool_entry.PoolEntry.{PoolEntry}
+use Rattle.ffv1_pool.proofs.Searches.{searched_items}
 use Rattle.ffv1_pool.proofs.RowLists.{length-rows, get_or-rows, owners_rise, digests_rise}
 
 abbrev some_entry : PoolEntry
@@ -94,7 +95,7 @@ module _ (bytes : List ℕ) (os : List PoolEntry) (ds : List (List ℕ)) (rows :
     abbrev part : List (List ℕ)
     part = take (b - a) (drop a ds)
 
-    pub part_long : length (take (b - a) (drop a ds)) ≡ b - a
+    part_long : length (take (b - a) (drop a ds)) ≡ b - a
     part_long = length-take-le (b - a) (drop a ds) (omega (arith, length-drop a ds, is.ends, rows.long))
 
     part_at : (i : ℕ) (x : List ℕ) → i < b - a → get_or (take (b - a) (drop a ds)) i x ≡ get_or ds (a + i) x
@@ -117,7 +118,7 @@ module _ (bytes : List ℕ) (os : List PoolEntry) (ds : List (List ℕ)) (rows :
         get_or-rows bytes os ds rows.long (a + i) d some_entry x (omega (arith, is.ends)) ∙ (λ k. (owner k, digest k))
 
     -- a digest of the part is one of the slice's rows
-    pub place_in_part : (x : List ℕ) (i : ℕ) → IsPlaceOf (take (b - a) (drop a ds)) x i → IsPlaceOf (rows_in bytes os ds) (q, x) (a + i)
+    place_in_part : (x : List ℕ) (i : ℕ) → IsPlaceOf (take (b - a) (drop a ds)) x i → IsPlaceOf (rows_in bytes os ds) (q, x) (a + i)
     place_in_part x i at =
         let long = part_long in
         let size = length-rows bytes os ds rows.long in
@@ -133,7 +134,7 @@ module _ (bytes : List ℕ) (os : List PoolEntry) (ds : List (List ℕ)) (rows :
     tie x y = ap (λ r. ordering_then r (bytes_cmp x y)) (tied_itself entries_total q)
 
     -- and a gap of the part is one of the rows
-    pub gap_in_part : (x : List ℕ) (i : ℕ) → IsGapFor bytes_cmp (take (b - a) (drop a ds)) x i → IsGapFor origin_cmp (rows_in bytes os ds) (q, x) (a + i)
+    gap_in_part : (x : List ℕ) (i : ℕ) → IsGapFor bytes_cmp (take (b - a) (drop a ds)) x i → IsGapFor origin_cmp (rows_in bytes os ds) (q, x) (a + i)
     gap_in_part x i gap =
         let long = part_long in
         let size = length-rows bytes os ds rows.long in
@@ -153,3 +154,16 @@ module _ (bytes : List ℕ) (os : List PoolEntry) (ds : List (List ℕ)) (rows :
                 (side (entry_in bytes (get_or os j some_entry)) (get_or ds j x) x Greater (is.after j some_entry after (omega arith)) refl)
           ];
         }
+
+    -- a search of the part by digest finds the row, or the gap for it
+    pub row_searched : (x : List ℕ) (r : Result ℕ ℕ) → IsSearchInRange r (length (take (b - a) (drop a ds)))
+        → IsBinarySearchResult (λ y. bytes_cmp y x) (take (b - a) (drop a ds)) r → record {
+          found : IfOk r (λ i. IsPlaceOf (rows_in bytes os ds) (q, x) (a + i));
+          absent : IfErr r (λ i. IsGapFor origin_cmp (rows_in bytes os ds) (q, x) (a + i));
+        }
+    row_searched x (Ok i) in_range found =
+        let both = searched_items bytes_total bytes_antisymmetric part x part_rising (Ok i) in_range found in
+        record { found = place_in_part x i both.found; absent = tt }
+    row_searched x (Err i) in_range found =
+        let both = searched_items bytes_total bytes_antisymmetric part x part_rising (Err i) in_range found in
+        record { found = tt; absent = gap_in_part x i both.absent }
