@@ -17,6 +17,11 @@ use Rattle.ffv1_pool.proofs.Insertions.{places_rise, rising-with_inserted, from_
 pub take-written : {X : Type 0} (xs ys : List X) (n : ℕ) → length xs ≡ n → take n (xs ++ drop (length xs) ys) ≡ xs
 take-written xs ys n long = ap (λ k. take k (xs ++ drop (length xs) ys)) (sym long) ∙ take-append_seam xs (drop (length xs) ys)
 
+-- entries that were moved through a borrow are those that it lent
+pub moved_of : (from old_bytes bytes : List ℕ) (lent old new : List (Fresh PoolEntry)) → lent ≡ old → AreMoved from old_bytes bytes lent new
+    → AreMoved from old_bytes bytes old new
+moved_of from old_bytes bytes lent old new same is = rw (← same) is
+
 some_fresh : Fresh PoolEntry
 some_fresh = record { place = 0; item = record { tile = 0; start = 0; length = 0; status = 0 } }
 

@@ -24,6 +24,10 @@ some_fresh = record { place = 0; item = record { tile = 0; start = 0; length = 0
 some_digest : Fresh (List ℕ)
 some_digest = record { place = 0; item = [] }
 
+-- owners that were settled through a borrow are those that it lent
+pub settled_of : (from bytes : List ℕ) (lent old new : List (Fresh PoolEntry)) → lent ≡ old → AreSettled from bytes lent new → AreSettled from bytes old new
+settled_of from bytes lent old new same is = rw (← same) is
+
 -- bytes after those of the pool change no row
 module _ (bytes : List ℕ) (os : List PoolEntry) (ds : List (List ℕ)) (rows : IsRows bytes os ds) (next : List ℕ)
     (later : (more : List ℕ) × (next ≡ bytes ++ more)) where

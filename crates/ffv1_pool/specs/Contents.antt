@@ -1,6 +1,6 @@
 -- What a holding means (own): a recording, a set of slices with their footers (RFC 9043, section 4.9) and their tiles, and for each
 -- of them the SHA-256 digests of the whole copies that gave it.
-use Rattle.std.specs.Prelude.{◌≡◌, ◌==◌, ◌≤◌, ℕ, true, List, Contains, length, map}
+use Rattle.std.specs.Prelude.{◌≡◌, ◌==◌, ◌≤◌, ℕ, true, List, length, map}
 use Rattle.std.specs.List.{flat_map}
 use Rattle.std.proofs.Common.{refl}
 use Rattle.std.specs.Coded.{Coded, code_by, coded×}

@@ -1,5 +1,5 @@
 //! The slices that are held of all tiles (own), in one piece of memory.
-ghost use Rattle.std.specs.Prelude.{◌≡◌, ℕ, ◌<◌, true, false, List, map, slice_index_or, IfSome, IfNone, IfOk, OnOk, OnErr};
+ghost use Rattle.std.specs.Prelude.{◌≡◌, ℕ, ◌<◌, true, false, List, map, replicate, slice_index_or, IfSome, IfNone, IfOk, OnOk, OnErr};
 ghost use Rattle.std.specs.List.Sorted.{IsNonDecreasingBy};
 ghost use Rattle.sha2.specs.Sha256.{sha256};
 ghost use Rattle.ffv1_slice.specs.Chain.{IsFramed};
@@ -152,8 +152,7 @@ impl Pool {
             length: slice.len(),
             status: status_of(slice),
         };
-        let mut owners = Vec::new(self.alloc);
-        owners.resize(digests.len(), entry)?;
+        let owners = repeated(self.alloc, entry, digests.len())?;
         let rows = Rows {
             bytes: slice,
             owners: &owners,
@@ -171,8 +170,7 @@ impl Pool {
         ensures err { OnErr result (self.new ≡ self.old) }
     {
         let digest = Sha256::digest(copy);
-        let mut digests = Vec::new(self.alloc);
-        digests.resize(found.len(), digest)?;
+        let digests = repeated(self.alloc, digest, found.len())?;
         let rows = Rows {
             bytes: copy,
             owners: found,
@@ -243,4 +241,13 @@ fn tile_part(entries: &[PoolEntry], tile: usize) -> (usize, usize)
     let start = entries.partition_point(|entry| entry.tile < tile);
     let end = entries.partition_point(|entry| entry.tile <= tile);
     (start, end)
+}
+
+/// An item, so many times.
+fn repeated<T: Copy>(alloc: Global, item: T, count: usize) -> Result<Vec<T>, AllocError>
+    ensures { IfOk result (λ items. items.items ≡ replicate count item) }
+{
+    let mut items = Vec::new(alloc);
+    items.resize(count, item)?;
+    Ok(items)
 }

@@ -1,19 +1,14 @@
-use Rattle.std.proofs.Common.{◌≡◌, List, map, ap, ◌∙◌, subst, arith}
+use Rattle.std.proofs.Common.{◌≡◌, map, ap, ◌∙◌, arith}
 use Rattle.ffv1_pool.specs.Sets as set
 use Rattle.ffv1_pool.specs.SliceOrder.{entry_cmp}
 use Rattle.ffv1_pool.specs.PoolEntries.{entry_in}
 use Rattle.ffv1_pool.specs.Fresh.{AreMoved, with_fresh}
-use Rattle.ffv1_pool.specs.declared.fresh.Fresh.{Fresh}
-use Rattle.ffv1_pool.specs.declared.pool_entry.PoolEntry.{PoolEntry}
-use Rattle.ffv1_pool.proofs.PoolGrowth.{take-written, places_within, places_in_order, pool_grown, view_grown}
+use Rattle.ffv1_pool.proofs.PoolGrowth.{take-written, places_within, places_in_order, pool_grown, view_grown, moved_of}
 use Rattle.ffv1_pool.proofs.fresh.put_slices.Goals as goal
 
 moved : (c : goal.After-deref) → AreMoved c.args.from.now c.args.bytes.now.items c.move_slices.new.bytes.items
     c.args.fresh.now.items c.move_slices.new.fresh
-moved c =
-    subst (λ (old : List (Fresh PoolEntry)). AreMoved c.args.from.now c.args.bytes.now.items c.move_slices.new.bytes.items old
-    c.move_slices.new.fresh)
-    c.deref_mut.ensures.value c.move_slices.ensures
+moved c = moved_of _ _ _ _ _ _ c.deref_mut.ensures.value c.move_slices.ensures
 
 -- the new entries as `spread` sees them
 written : (c : goal.After-deref) → c.deref.result.now ≡ c.move_slices.new.fresh
@@ -33,10 +28,7 @@ spread-requires-clause-rising c = rw (written c)
 
 moved_last : (c : goal.After-spread) → AreMoved c.args.from.now c.args.bytes.now.items c.move_slices.new.bytes.items
     c.args.fresh.now.items c.move_slices.new.fresh
-moved_last c =
-    subst (λ (old : List (Fresh PoolEntry)). AreMoved c.args.from.now c.args.bytes.now.items c.move_slices.new.bytes.items old
-    c.move_slices.new.fresh)
-    c.deref_mut.ensures.value c.move_slices.ensures
+moved_last c = moved_of _ _ _ _ _ _ c.deref_mut.ensures.value c.move_slices.ensures
 
 entries : (c : goal.After-spread) → c.spread.new.items.items ≡ with_fresh c.move_slices.new.fresh c.args.entries.now.items
 entries c = c.spread.ensures ∙ ap (λ fs. with_fresh fs c.args.entries.now.items) (c.deref.ensures.value

@@ -5,7 +5,7 @@ use Rattle.ffv1_pool.specs.TileSets.{TileSlices}
 use Rattle.ffv1_pool.specs.PoolEntries.{entry_in}
 use Rattle.ffv1_pool.specs.Rows.{rows_in}
 use Rattle.ffv1_pool.specs.declared.pool_entry.PoolEntry.{PoolEntry}
-use Rattle.ffv1_pool.proofs.OneRows.{union_one, own_view, own_pool, own_listed, own_rows, resized, OnOk-map}
+use Rattle.ffv1_pool.proofs.OneRows.{union_one, own_view, own_pool, own_listed, own_rows, OnOk-map}
 use Rattle.ffv1_pool.proofs.OriginSteps.{held_one}
 use Rattle.ffv1_pool.proofs.pool.Pool.insert.Goals as goal
 
@@ -15,18 +15,14 @@ insert_all-requires-clause-pool c = rw c.status_of.ensures (own_pool c.args.tile
 pub insert_all-requires-clause-rows : goal.insert_all-requires-clause-rows
 insert_all-requires-clause-rows c =
     let digests = c.args.digests.now in
-    let owners = c.deref.ensures.value
-    ∙ resized c.resize.new.self.items c.new-owners.result.items (length digests) _ _ c.in_ok-resize.ensures.items
-    c.new-owners.ensures.items c.new-owners.ensures.len in
+    let owners = c.deref.ensures.value ∙ c.in_ok-owners.ensures in
     rw (owners, c.status_of.ensures) (own_rows c.args.tile c.args.slice.now c.requires.framed digests c.requires.digests)
 
 pub insert_all-requires-clause-held : goal.insert_all-requires-clause-held
 insert_all-requires-clause-held c =
     let digests = c.args.digests.now in
     let slice = c.args.slice.now in
-    let owners = c.deref.ensures.value
-    ∙ resized c.resize.new.self.items c.new-owners.result.items (length digests) _ _ c.in_ok-resize.ensures.items
-    c.new-owners.ensures.items c.new-owners.ensures.len in
+    let owners = c.deref.ensures.value ∙ c.in_ok-owners.ensures in
     rw (owners, c.status_of.ensures, own_listed c.args.tile slice c.requires.framed digests, own_view c.args.tile slice c.requires.framed)
     (held_one set.empty set.empty (c.args.tile, slice) digests)
 
@@ -35,9 +31,7 @@ returns-clause-ok c =
     let digests = c.args.digests.now in
     let slice = c.args.slice.now in
     let key : Entry = (c.args.tile, slice) in
-    let owners = c.deref.ensures.value
-    ∙ resized c.resize.new.self.items c.new-owners.result.items (length digests) _ _ c.in_ok-resize.ensures.items
-    c.new-owners.ensures.items c.new-owners.ensures.len in
+    let owners = c.deref.ensures.value ∙ c.in_ok-owners.ensures in
     let h = c.args.self.now in
     let own = λ (n : ℕ). let e : PoolEntry = record { tile = c.args.tile; start = 0; length = length slice; status = n } in e in
     let slices : set.union h.slices (set.from_list (entry_in slice (own c.status_of.result) ∷ [])) ≡ set.insert h.slices key =

@@ -1,38 +1,32 @@
-use Rattle.std.proofs.Common.{◌≡◌, ℕ, List, length, map, ap, ◌∙◌}
+use Rattle.std.proofs.Common.{◌≡◌, ℕ, List, map, ap, ◌∙◌}
 use Rattle.sha2.specs.Sha256.{sha256}
 use Rattle.ffv1_pool.specs.Sets as set
 use Rattle.ffv1_pool.specs.SliceOrder.{Entry, Origin}
 use Rattle.ffv1_pool.specs.TileSets.{with_more}
 use Rattle.ffv1_pool.specs.PoolEntries.{entry_in}
 use Rattle.ffv1_pool.specs.Rows.{rows_in}
-use Rattle.ffv1_pool.proofs.OneRows.{marked_listed, marked_rows, resized, OnOk-map}
+use Rattle.ffv1_pool.proofs.OneRows.{marked_listed, marked_rows, OnOk-map}
 use Rattle.ffv1_pool.proofs.OriginSteps.{held_marked}
 use Rattle.ffv1_pool.proofs.pool.Pool.insert_copy.Goals as goal
 
 pub insert_all-requires-clause-rows : goal.insert_all-requires-clause-rows
 insert_all-requires-clause-rows c =
     let found = c.args.found.now in
-    let digests = c.deref.ensures.value
-    ∙ resized c.resize.new.self.items c.new-digests.result.items (length found) _ _ c.in_ok-resize.ensures.items
-    c.new-digests.ensures.items c.new-digests.ensures.len in
+    let digests = c.deref.ensures.value ∙ c.in_ok-digests.ensures in
     rw digests (marked_rows c.args.copy.now c.digest-digest.result found c.requires)
 
 pub insert_all-requires-clause-held : goal.insert_all-requires-clause-held
 insert_all-requires-clause-held c =
     let found = c.args.found.now in
     let copy = c.args.copy.now in
-    let digests = c.deref.ensures.value
-    ∙ resized c.resize.new.self.items c.new-digests.result.items (length found) _ _ c.in_ok-resize.ensures.items
-    c.new-digests.ensures.items c.new-digests.ensures.len in
+    let digests = c.deref.ensures.value ∙ c.in_ok-digests.ensures in
     rw (digests, marked_listed copy c.digest-digest.result found) (held_marked c.digest-digest.result (map (entry_in copy) found))
 
 pub returns-clause-ok : goal.returns-clause-ok
 returns-clause-ok c =
     let found = c.args.found.now in
     let copy = c.args.copy.now in
-    let digests = c.deref.ensures.value
-    ∙ resized c.resize.new.self.items c.new-digests.result.items (length found) _ _ c.in_ok-resize.ensures.items
-    c.new-digests.ensures.items c.new-digests.ensures.len in
+    let digests = c.deref.ensures.value ∙ c.in_ok-digests.ensures in
     let h = c.args.self.now in
     let mark = λ (d : List ℕ) (e : Entry). let o : Origin = (e, d) in o in
     let rows : rows_in copy found c.deref.result.now ≡ map (λ e. (e, sha256 copy)) (map (entry_in copy) found) =
