@@ -76,18 +76,15 @@ loop-link-preserved-in-Continue-1 c =
 pub loop-link-preserved : goal.loop-link-preserved
 loop-link-preserved c =
     let inv = c.loop-link.invariant in
-    let passed = inv.passed in
     let link = c.in-Some.link in
-    let rest = c.next_link.new.chain.left in
     let setup = c.args.setup.now in
-    let payload = c.args.payload.now in
-    let same = none_more setup passed link (λ tile is. c.in_default-slice_of.not-Ok tile (c.slice_of.ensures.only tile is)) in
-    let pieces : AreCut payload (link ∷ rest) = subst (AreCut payload) c.in-Some.ensures.some inv.pieces in
+    let same = none_more setup inv.passed link (λ tile is. c.in_default-slice_of.not-Ok tile (c.slice_of.ensures.only tile is)) in
     record {
-      passed = passed ++ link ∷ [];
-      whole = passed_more setup passed link rest (links_of payload) (ap (λ xs. passed ++ xs) (sym c.in-Some.ensures.some) ∙ inv.whole);
-      links = length-more c.loop-link.links passed (passed ++ link ∷ []) link inv.links refl;
-      pieces = pieces.1;
+      passed = inv.passed ++ link ∷ [];
+      whole = passed_more setup inv.passed link c.next_link.new.chain.left (links_of c.args.payload.now)
+          (ap (λ xs. inv.passed ++ xs) (sym c.in-Some.ensures.some) ∙ inv.whole);
+      links = length-more c.loop-link.links inv.passed (inv.passed ++ link ∷ []) link inv.links refl;
+      pieces = (subst (AreCut c.args.payload.now) c.in-Some.ensures.some inv.pieces).1;
       listed = inv.listed ∙ sym same;
       lie = inv.lie;
       sound = inv.sound;

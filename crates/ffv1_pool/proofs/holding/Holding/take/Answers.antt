@@ -61,25 +61,21 @@ slices_in setup copy = set.from_list (found_slices setup copy)
 abbrev origins_in : SetupValue → List ℕ → set.SetOf origin_cmp
 origins_in setup copy = set.from_list (origins_of_copy setup copy)
 
--- a pool with the entries of a copy has what is found in it
-grown : (old new : TileSlices) (setup : SetupValue) (copy : List ℕ) (found listed : List PoolEntry)
-    → new ≡ with_more old (set.from_list (map (entry_in copy) found)) (set.from_list (map (λ e. (e, sha256 copy)) (map (entry_in copy) found)))
+-- a pool with the entries of a copy, which were lent in order, has what is found in it
+grown : (old new : TileSlices) (setup : SetupValue) (copy : List ℕ) (lent found listed : List PoolEntry) → lent ≡ found
+    → new ≡ with_more old (set.from_list (map (entry_in copy) lent)) (set.from_list (map (λ e. (e, sha256 copy)) (map (entry_in copy) lent)))
     → set.from_list {R = entry_cmp} (map (entry_in copy) found) ≡ set.from_list (map (entry_in copy) listed)
     → map (entry_in copy) listed ≡ found_slices setup copy → new ≡ with_more old (slices_in setup copy) (origins_in setup copy)
-grown old new setup copy found listed added same is =
-    let all = same ∙ ap set.from_list is in
-    let marked = marked_same (sha256 copy) (map (entry_in copy) found) (found_slices setup copy) all in
+grown old new setup copy lent found listed order added same is =
+    let all = ap (λ (es : List PoolEntry). set.from_list {R = entry_cmp} (map (entry_in copy) es)) order ∙ same ∙ ap set.from_list is in
+    let marked = marked_same (sha256 copy) (map (entry_in copy) lent) (found_slices setup copy) all in
     added ∙ (λ i. with_more old (all i) (marked i))
 
 grown_first : (c : goal.After-size) → c.insert_copy.new.self ≡ with_more c.self.inside.held (slices_in c.setup.result.now c.args.payload.now)
     (origins_in c.setup.result.now c.args.payload.now)
 grown_first c =
-    let copy = c.args.payload.now in
-    let origins = λ (es : List PoolEntry). set.from_list {R = origin_cmp} (map (λ e. (e, sha256 copy)) (map (entry_in copy) es)) in
-    grown c.self.inside.held c.insert_copy.new.self c.setup.result.now copy c.put_in_order.new.entries.items c.list_found.new.found.items
-    (c.in_ok-insert_copy.ensures.ok
-    ∙ (λ i. with_more c.self.inside.held (set.from_list (map (entry_in copy) (c.deref.ensures.value i))) (origins (c.deref.ensures.value i))))
-    c.in_ok-put_in_order.ensures.same c.in_ok-links.ensures.found
+    grown c.self.inside.held c.insert_copy.new.self c.setup.result.now c.args.payload.now _ _ _ c.deref.ensures.value
+    c.in_ok-insert_copy.ensures.ok c.in_ok-put_in_order.ensures.same c.in_ok-links.ensures.found
 
 pub overflow_sub-new : goal.overflow_sub-new
 overflow_sub-new c =
@@ -91,12 +87,8 @@ overflow_sub-new c =
 grown_last : (c : goal.After-drop-found-2) → c.insert_copy.new.self ≡ with_more c.self.inside.held (slices_in c.setup.result.now c.args.payload.now)
     (origins_in c.setup.result.now c.args.payload.now)
 grown_last c =
-    let copy = c.args.payload.now in
-    let origins = λ (es : List PoolEntry). set.from_list {R = origin_cmp} (map (λ e. (e, sha256 copy)) (map (entry_in copy) es)) in
-    grown c.self.inside.held c.insert_copy.new.self c.setup.result.now copy c.put_in_order.new.entries.items c.list_found.new.found.items
-    (c.in_ok-insert_copy.ensures.ok
-    ∙ (λ i. with_more c.self.inside.held (set.from_list (map (entry_in copy) (c.deref.ensures.value i))) (origins (c.deref.ensures.value i))))
-    c.in_ok-put_in_order.ensures.same c.in_ok-links.ensures.found
+    grown c.self.inside.held c.insert_copy.new.self c.setup.result.now c.args.payload.now _ _ _ c.deref.ensures.value
+    c.in_ok-insert_copy.ensures.ok c.in_ok-put_in_order.ensures.same c.in_ok-links.ensures.found
 
 pub invariant_of-self-2 : goal.invariant_of-self-2
 invariant_of-self-2 c =
