@@ -48,7 +48,7 @@ module _ (bytes : List ℕ) (os : List PoolEntry) (ds : List (List ℕ)) (rows :
   all = rows_in bytes os ds
 
   some_entry : PoolEntry
-  some_entry = record { tile = 0; start = 0; length = 0; status = 0 }
+  some_entry = record { tile = 0; start = 0; length = 0 }
 
   row_at : (i : ℕ) (d : Origin) → i < length os → get_or all i d ≡ (entry_in bytes (get_or os i some_entry), get_or ds i [])
   row_at i d lt = get_or-rows bytes os ds rows.long i d some_entry [] lt

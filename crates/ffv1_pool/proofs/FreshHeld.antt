@@ -15,7 +15,7 @@ use Rattle.ffv1_pool.proofs.EntrySteps.{or_cases, all-from_list, contains_listed
 use Rattle.ffv1_pool.proofs.RisingSets.{contains_gap}
 
 some_row : FreshRow
-some_row = (record { place = 0; item = record { tile = 0; start = 0; length = 0; status = 0 } }, record { place = 0; item = [] })
+some_row = (record { place = 0; item = record { tile = 0; start = 0; length = 0 } }, record { place = 0; item = [] })
 
 module _ (held coming fresh : List Origin) (all : AreAllFresh origin_cmp held coming fresh) where
   -- what is new comes

@@ -10,7 +10,7 @@ use Rattle.ffv1_pool.proofs.Pools.{part_kept, entry_kept, entry_after, slice_aft
 
 -- a new entry whose slice begins elsewhere
 abbrev pub begins : Fresh PoolEntry → ℕ → Fresh PoolEntry
-begins f start = record { place = f.place; item = record { tile = f.item.tile; start = start; length = f.item.length; status = f.item.status } }
+begins f start = record { place = f.place; item = record { tile = f.item.tile; start = start; length = f.item.length } }
 
 module _ (from bytes : List ℕ) (f : Fresh PoolEntry) (is : IsEntryIn from f.item) where
   pub slice_long : length (slice_in from f.item) ≡ f.item.length
@@ -20,7 +20,7 @@ module _ (from bytes : List ℕ) (f : Fresh PoolEntry) (is : IsEntryIn from f.it
   moved_after start e =
       let s = slice_in from f.item in
       let later : entry_after bytes f.item.tile s ≡ (begins f start).item =
-      (λ i. record { tile = f.item.tile; start = sym e i; length = slice_long i; status = sym is.told i }) in
+      (λ i. record { tile = f.item.tile; start = sym e i; length = slice_long i }) in
       record {
         lies = subst (IsEntryIn (bytes ++ s)) later (is_after bytes f.item.tile s is.framed);
         same = ap (entry_in (bytes ++ s)) (sym later) ∙ (λ i. (f.item.tile, slice_after bytes f.item.tile s i));

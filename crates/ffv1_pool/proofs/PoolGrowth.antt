@@ -23,7 +23,7 @@ pub moved_of : (from old_bytes bytes : List ℕ) (lent old new : List (Fresh Poo
 moved_of from old_bytes bytes lent old new same is = rw (← same) is
 
 some_fresh : Fresh PoolEntry
-some_fresh = record { place = 0; item = record { tile = 0; start = 0; length = 0; status = 0 } }
+some_fresh = record { place = 0; item = record { tile = 0; start = 0; length = 0 } }
 
 module _ (bytes : List ℕ) (es : List PoolEntry) (pool : IsPool bytes es) where
   -- bytes after those of the pool change nothing

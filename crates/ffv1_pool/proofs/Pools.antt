@@ -2,7 +2,7 @@
 use Rattle.std.proofs.Common.{◌≡◌, ℕ, suc, ◌+◌, ◌≤◌, List, [], ◌∷◌, ◌++◌, length, map, take, drop, get_or, sym, refl, ap, ◌∙◌, subst, arith}
 use Rattle.std.proofs.Math.Seq.{drop-append_seam, take-length}
 use Rattle.std.proofs.lemmas.List.{take-append-le, drop-append-le, length-append, length-drop}
-use Rattle.ffv1_slice.specs.Chain.{IsFramed, status_before}
+use Rattle.ffv1_slice.specs.Chain.{IsFramed}
 use Rattle.ffv1_pool.specs.SliceOrder.{entry_cmp}
 use Rattle.ffv1_pool.specs.Rising.{IsRising}
 use Rattle.ffv1_pool.specs.PoolEntries.{slice_in, entry_in, IsEntryIn, AreEntriesIn, IsPool}
@@ -20,7 +20,6 @@ module _ (bytes more : List ℕ) where
       record {
         within = omega (arith, is.within, length-append bytes more);
         framed = subst IsFramed (sym same) is.framed;
-        told = is.told ∙ ap (λ s. status_before s (length s)) (sym same);
       }
 
   pub each_kept : (es : List PoolEntry) → AreEntriesIn bytes es → AreEntriesIn (bytes ++ more) es
@@ -40,7 +39,7 @@ module _ (bytes more : List ℕ) where
 
 -- the entry of a slice that stands after the bytes
 abbrev pub entry_after : List ℕ → ℕ → List ℕ → PoolEntry
-entry_after bytes tile slice = record { tile = tile; start = length bytes; length = length slice; status = status_before slice (length slice) }
+entry_after bytes tile slice = record { tile = tile; start = length bytes; length = length slice }
 
 module _ (bytes : List ℕ) (tile : ℕ) (slice : List ℕ) where
   pub slice_after : slice_in (bytes ++ slice) (entry_after bytes tile slice) ≡ slice
@@ -50,5 +49,4 @@ module _ (bytes : List ℕ) (tile : ℕ) (slice : List ℕ) where
   is_after framed = record {
     within = omega (arith, length-append bytes slice);
     framed = subst IsFramed (sym slice_after) framed;
-    told = ap (λ s. status_before s (length s)) (sym slice_after);
   }

@@ -19,7 +19,7 @@ use Rattle.ffv1_pool.proofs.Insertions.{places_rise, rising-with_inserted, from_
 use Rattle.ffv1_pool.proofs.ZipLists.{zip-map, length-with_fresh, zip-with_fresh}
 
 some_fresh : Fresh PoolEntry
-some_fresh = record { place = 0; item = record { tile = 0; start = 0; length = 0; status = 0 } }
+some_fresh = record { place = 0; item = record { tile = 0; start = 0; length = 0 } }
 
 some_digest : Fresh (List ℕ)
 some_digest = record { place = 0; item = [] }

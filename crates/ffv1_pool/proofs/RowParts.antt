@@ -16,7 +16,7 @@ use Rattle.ffv1_pool.proofs.Searches.{searched_items}
 use Rattle.ffv1_pool.proofs.RowLists.{length-rows, get_or-rows, owners_rise, digests_rise}
 
 abbrev some_entry : PoolEntry
-some_entry = record { tile = 0; start = 0; length = 0; status = 0 }
+some_entry = record { tile = 0; start = 0; length = 0 }
 
 lt_less : (o : Ordering) → is_lt o ≡ true → o ≡ Less
 lt_less Less e = refl

@@ -20,7 +20,7 @@ use Rattle.ffv1_pool.proofs.RisingSets.{size_kept, items_kept}
 use Rattle.ffv1_pool.proofs.Tiles.{same_tile, other_tile, contains-tile_slices}
 
 abbrev some_entry : PoolEntry
-some_entry = record { tile = 0; start = 0; length = 0; status = 0 }
+some_entry = record { tile = 0; start = 0; length = 0 }
 
 module _ (bytes : List ℕ) (t : ℕ) (q : List ℕ) where
   -- entries of other tiles are no slice of this one

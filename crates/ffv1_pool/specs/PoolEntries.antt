@@ -1,6 +1,6 @@
 -- Slices whose bytes lie in one piece of memory, and the entries that say where.
 use Rattle.std.specs.Prelude.{◌≡◌, ℕ, ◌+◌, ◌<◌, ◌≤◌, List, length, take, drop, map, slice_index_or}
-use Rattle.ffv1_slice.specs.Chain.{IsFramed, status_before}
+use Rattle.ffv1_slice.specs.Chain.{IsFramed}
 use Rattle.ffv1_pool.specs.SliceOrder.{Entry, entry_cmp, bytes_cmp}
 use Rattle.ffv1_pool.specs.Rising.{IsRising}
 use Rattle.ffv1_pool.specs.declared.pool_entry.PoolEntry.{PoolEntry}
@@ -13,11 +13,10 @@ slice_in bytes e = take e.length (drop e.start bytes)
 abbrev pub entry_in : List ℕ → PoolEntry → Entry
 entry_in bytes e = (e.tile, slice_in bytes e)
 
--- An entry lies within the bytes, its slice has its footer, and its status is what the footer says.
+-- An entry lies within the bytes, and its slice has its footer.
 pub record IsEntryIn (bytes : List ℕ) (e : PoolEntry) : Type 0 where
   pub within : e.start + e.length ≤ length bytes
   pub framed : IsFramed (slice_in bytes e)
-  pub told : e.status ≡ status_before (slice_in bytes e) (length (slice_in bytes e))
 
 abbrev pub AreEntriesIn : List ℕ → List PoolEntry → Type 0
 AreEntriesIn bytes entries = (i : ℕ) (d : PoolEntry) → i < length entries → IsEntryIn bytes (slice_index_or entries i d)

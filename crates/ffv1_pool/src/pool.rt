@@ -14,7 +14,6 @@ use crate::fresh::{fresh_among, place_of, put_slices, room_of};
 use crate::pool_entry::PoolEntry;
 use crate::rows::{Rows, digests_of, fresh_rows, put_rows};
 use crate::shelf::Shelf;
-use ffv1_slice::status_of;
 use sha2::{Digest, Sha256};
 use std::alloc::{AllocError, Global};
 use std::marker::Model;
@@ -150,7 +149,6 @@ impl Pool {
             tile,
             start: 0,
             length: slice.len(),
-            status: status_of(slice),
         };
         let owners = repeated(self.alloc, entry, digests.len())?;
         let rows = Rows {

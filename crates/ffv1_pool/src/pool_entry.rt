@@ -5,13 +5,12 @@ ghost use Rattle.ffv1_pool.specs.PoolEntries.{slice_in, entry_in};
 
 use std::cmp::Ordering;
 
-/// A slice of a tile by its place in the bytes that it lies in, with its error_status (RFC 9043, section 4.9.2).
+/// A slice of a tile by its place in the bytes that it lies in.
 #[derive(Clone, Copy, Debug, Default)]
 pub(crate) struct PoolEntry {
     pub(crate) tile: usize,
     pub(crate) start: usize,
     pub(crate) length: usize,
-    pub(crate) status: u8,
 }
 
 impl PoolEntry {

@@ -1,10 +1,12 @@
 //! The slices that are held of one tile (own), lent by what holds them.
 ghost use Rattle.std.specs.Prelude.{◌≡◌, ℕ, ◌<◌, List, length, map, slice_index_or};
+ghost use Rattle.ffv1_slice.specs.Chain.{IsFramed};
 ghost use Rattle.ffv1_pool.specs.Sets as set;
 ghost use Rattle.ffv1_pool.specs.PoolEntries.{slice_in, IsShelf};
 ghost use Rattle.ffv1_pool.specs.Standing.{status_of};
 
 use crate::pool_entry::PoolEntry;
+use ffv1_slice::status_of;
 use std::marker::Model;
 
 /// Distinct slices, in the order of their bytes.
@@ -48,7 +50,8 @@ impl<'a> Shelf<'a> {
     /// The slice at a place of the rising order, which counts from 0. `place` must be less than `len`.
     pub(crate) fn get(&self, place: usize) -> &'a [u8]
         requires { place < set.size self.now }
-        ensures { result.now ≡ slice_index_or (set.items self.now) place result.now }
+        ensures value { result.now ≡ slice_index_or (set.items self.now) place result.now }
+        ensures framed { IsFramed result.now }
     {
         let entries = self.entries;
         entries[place].slice(self.bytes)
@@ -59,7 +62,6 @@ impl<'a> Shelf<'a> {
         requires { place < set.size self.now }
         ensures { (d : List ℕ) → result ≡ status_of (slice_index_or (set.items self.now) place d) }
     {
-        let entries = self.entries;
-        entries[place].status
+        status_of(self.get(place))
     }
 }

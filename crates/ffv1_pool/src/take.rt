@@ -126,7 +126,6 @@ fn list_found(setup: &Setup, payload: &[u8], found: &mut Vec<PoolEntry>) -> Resu
                 tile,
                 start: link.start(),
                 length: link.bytes().len(),
-                status: link.status(),
             })?;
         }
     }

@@ -8,7 +8,7 @@ use Rattle.ffv1_pool.proofs.fresh.fresh_among.Goals as goal
 use Rattle.ffv1_pool.proofs.fresh.fresh_among.Goals.{in-Err+in_ok-push, in_default}
 
 abbrev nothing : PoolEntry
-nothing = record { tile = 0; start = 0; length = 0; status = 0 }
+nothing = record { tile = 0; start = 0; length = 0 }
 
 pub loop-entry-init : goal.loop-entry-init
 loop-entry-init c =

@@ -8,7 +8,7 @@ use Rattle.ffv1_pool.proofs.Moves.{begins, slice_long, moved_more, left_more}
 use Rattle.ffv1_pool.proofs.fresh.move_slices.Goals as goal
 
 abbrev nothing : Fresh PoolEntry
-nothing = record { place = 0; item = record { tile = 0; start = 0; length = 0; status = 0 } }
+nothing = record { place = 0; item = record { tile = 0; start = 0; length = 0 } }
 
 pub loop-index-init : goal.loop-index-init
 loop-index-init c = record {

@@ -8,7 +8,7 @@ use Rattle.ffv1_pool.proofs.rows.fresh_rows.Goals as goal
 use Rattle.ffv1_pool.proofs.rows.fresh_rows.Goals.{in-Err+in_ok-push+in_ok-push-2, in_default}
 
 abbrev nothing : PoolEntry
-nothing = record { tile = 0; start = 0; length = 0; status = 0 }
+nothing = record { tile = 0; start = 0; length = 0 }
 
 pub loop-index-init : goal.loop-index-init
 loop-index-init c =

@@ -13,7 +13,7 @@ use Rattle.ffv1_pool.proofs.rows.settle.Goals as goal
 use Rattle.ffv1_pool.proofs.rows.settle.Goals.{in-Ok, in_default}
 
 abbrev no_entry : PoolEntry
-no_entry = record { tile = 0; start = 0; length = 0; status = 0 }
+no_entry = record { tile = 0; start = 0; length = 0 }
 
 abbrev nothing : Fresh PoolEntry
 nothing = record { place = 0; item = no_entry }

@@ -32,7 +32,7 @@ loop-place-preserved c =
     let next = λ (f : TileState). one_more (standing_shown f) (get_or slices i slice) in
     elim c.if-status-least.branch [
       | then-status-least+in-Missing w ↦ passed_best c.in-Some.least slices i slice lt _ _ c.loop-place.invariant (sym here ∙ w.if-status-least.true)
-          (ap standing_shown w.found-is ∙ ap settled c.get-slice.ensures ∙ ap next (sym w.in-Missing.is))
+          (ap standing_shown w.found-is ∙ ap settled c.get-slice.ensures.value ∙ ap next (sym w.in-Missing.is))
       | then-status-least+in-Settled w ↦ passed_best c.in-Some.least slices i slice lt _ _ c.loop-place.invariant (sym here ∙ w.if-status-least.true)
           (ap standing_shown w.found-is ∙ ap next (sym w.in-Settled.is))
       | then-status-least+in-Disputed w ↦ passed_best c.in-Some.least slices i slice lt _ _ c.loop-place.invariant (sym here ∙ w.if-status-least.true)

@@ -52,14 +52,13 @@ loop-link-preserved-in-Continue-1 c =
     let is = c.in-Ok.ensures.found in
     let pieces : AreCut payload (link ∷ rest) = subst (AreCut payload) c.in-Some.ensures.some inv.pieces in
     let cut = pieces.0 in
-    let new : PoolEntry = record { tile = tile; start = c.start.result; length = length c.bytes.result.now; status = c.status.result } in
+    let new : PoolEntry = record { tile = tile; start = c.start.result; length = length c.bytes.result.now } in
     let grown : c.push.new.self.items ≡ c.loop-link.found.items ++ new ∷ [] = c.in_ok-push.ensures.items in
     let long = ap length c.bytes.ensures.value in
-    let slice = slice_listed payload link cut.0 cut.2 tile c.start.result (length c.bytes.result.now) c.status.result c.start.ensures long in
+    let slice = slice_listed payload link cut.0 cut.2 tile c.start.result (length c.bytes.result.now) c.start.ensures long in
     let view : entry_in payload new ≡ (tile, link.bytes) = (λ i. (tile, slice i)) in
     let lies : IsEntryIn payload new = entry_listed payload link cut.0 cut.2 tile c.start.result
-    (length c.bytes.result.now) c.status.result c.start.ensures long
-    (subst IsFramed c.bytes.ensures.value c.bytes.ensures.framed) c.status.ensures in
+    (length c.bytes.result.now) c.start.ensures long (subst IsFramed c.bytes.ensures.value c.bytes.ensures.framed) in
     let entry : IsEntryOf setup (entry_in payload new) = subst (IsEntryOf setup) (sym view)
     (entry_of_link setup link tile is (subst (λ (b : List ℕ). length b ≤ slice_limit) c.bytes.ensures.value c.bytes.ensures.short)) in
     record {
@@ -106,7 +105,7 @@ returns-clause-sound c =
     let setup = c.args.setup.now in
     let payload = c.args.payload.now in
     let es = c.loop-link.found.items in
-    let nothing : PoolEntry = record { tile = 0; start = 0; length = 0; status = 0 } in
+    let nothing : PoolEntry = record { tile = 0; start = 0; length = 0 } in
     subst (λ (xs : List Entry). AreEntriesOf setup (set.from_list xs)) (all_found c)
     (all-from_list entries_total entries_antisymmetric (IsEntryOf setup) (map (entry_in payload) es)
     (λ i d lt. let in_range : i < length es = omega (arith, length-map es (entry_in payload)) in

@@ -1,9 +1,14 @@
-use Rattle.std.proofs.Common.{◌<◌, length, arith}
+use Rattle.std.proofs.Common.{◌<◌, length, arith, subst, sym}
 use Rattle.std.proofs.lemmas.List.{get_or-map}
+use Rattle.ffv1_slice.specs.Chain.{IsFramed}
 use Rattle.ffv1_pool.specs.SliceOrder.{bytes_total}
 use Rattle.ffv1_pool.specs.PoolEntries.{slice_in}
+use Rattle.ffv1_pool.specs.declared.pool_entry.PoolEntry.{PoolEntry}
 use Rattle.ffv1_pool.proofs.RisingSets.{size_kept, items_kept}
 use Rattle.ffv1_pool.proofs.shelf.Shelf.get.Goals as goal
+
+abbrev nothing : PoolEntry
+nothing = record { tile = 0; start = 0; length = 0 }
 
 pub bounds-entries-place : goal.bounds-entries-place
 bounds-entries-place c =
@@ -20,6 +25,9 @@ returns c =
     let bytes = c.self.inside.bytes.now in
     let es = c.self.inside.entries.now in
     let listed = items_kept bytes_total (slice_in bytes) es _ c.self.invariant.rising c.self.view_is in
-    let lt : c.args.place < length c.self.inside.entries.now =
-    omega (arith, c.requires, size_kept bytes_total (slice_in c.self.inside.bytes.now) c.self.inside.entries.now _ c.self.invariant.rising c.self.view_is) in
-    rw (listed, get_or-map (slice_in bytes) es c.args.place (record { tile = 0; start = 0; length = 0; status = 0 }) c.slice.result.now lt) c.slice.ensures
+    let lt : c.args.place < length es =
+    omega (arith, c.requires, size_kept bytes_total (slice_in bytes) es _ c.self.invariant.rising c.self.view_is) in
+    record {
+      value = rw (listed, get_or-map (slice_in bytes) es c.args.place nothing c.slice.result.now lt) c.slice.ensures;
+      framed = subst IsFramed (sym c.slice.ensures) (c.self.invariant.each c.args.place nothing lt).framed;
+    }

@@ -1,26 +1,15 @@
-use Rattle.std.proofs.Common.{◌<◌, length, arith}
-use Rattle.std.proofs.lemmas.List.{get_or-map}
-use Rattle.ffv1_pool.specs.SliceOrder.{bytes_total}
-use Rattle.ffv1_pool.specs.PoolEntries.{slice_in}
-use Rattle.ffv1_pool.proofs.RisingSets.{size_kept, items_kept}
+use Rattle.std.proofs.Common.{◌<◌, length, arith, ap, ◌∙◌}
+use Rattle.std.proofs.lemmas.List.{get_or_default}
+use Rattle.ffv1_pool.specs.Sets as set
+use Rattle.ffv1_pool.specs.Standing.{status_of}
+use Rattle.ffv1_pool.proofs.RisingSets.{size-items}
 use Rattle.ffv1_pool.proofs.shelf.Shelf.status.Goals as goal
 
-pub bounds-entries-place : goal.bounds-entries-place
-bounds-entries-place c =
-    omega (arith, c.requires, size_kept bytes_total (slice_in c.self.inside.bytes.now) c.self.inside.entries.now _ c.self.invariant.rising c.self.view_is)
-
-pub offset_bounds-entries-place : goal.offset_bounds-entries-place
-offset_bounds-entries-place c =
-    let lt : c.args.place < length c.self.inside.entries.now =
-    omega (arith, c.requires, size_kept bytes_total (slice_in c.self.inside.bytes.now) c.self.inside.entries.now _ c.self.invariant.rising c.self.view_is) in
-    omega (arith, c.self.told)
+pub status_of-requires : goal.status_of-requires
+status_of-requires c = c.get.ensures.framed.footer
 
 pub returns : goal.returns
 returns c d =
-    let bytes = c.self.inside.bytes.now in
-    let es = c.self.inside.entries.now in
-    let listed = items_kept bytes_total (slice_in bytes) es _ c.self.invariant.rising c.self.view_is in
-    let lt : c.args.place < length c.self.inside.entries.now =
-    omega (arith, c.requires, size_kept bytes_total (slice_in c.self.inside.bytes.now) c.self.inside.entries.now _ c.self.invariant.rising c.self.view_is) in
-    rw (listed, get_or-map (slice_in bytes) es c.args.place (record { tile = 0; start = 0; length = 0; status = 0 }) d lt)
-    (c.self.invariant.each c.args.place (record { tile = 0; start = 0; length = 0; status = 0 }) lt).told
+    let slices = set.items c.args.self.now in
+    let lt : c.args.place < length slices = omega (arith, c.requires, size-items c.args.self.now) in
+    c.status_of.ensures ∙ ap status_of (c.get.ensures.value ∙ get_or_default slices c.args.place c.get.result.now d lt)
