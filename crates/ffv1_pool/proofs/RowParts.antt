@@ -1,12 +1,12 @@
 -- The rows of one slice are a part of all rows.
 use Rattle.std.proofs.Common.{◌≡◌, ℕ, ◌+◌, ◌-◌, ◌<◌, ◌≤◌, true, false, List, length, take, drop, get_or, sym, refl, ap, subst, ◌∙◌, inl, inr, arith, Result, Ok, Err, IfOk, IfErr}
 use Rattle.std.specs.List.Sorted.{IsPartitionedBy, IsPartitionPoint, IsSearchInRange, IsBinarySearchResult}
-use Rattle.std.specs.Ordering.{ordering_then, is_lt, is_le}
+use Rattle.std.specs.Ordering.{ordering_then, is_lt, is_le, is_gt}
 use Rattle.std.specs.Cmp.{tied_itself}
 use Rattle.std.specs.declared.cmp.Ordering.{Ordering}
 use Rattle.std.specs.declared.cmp.Ordering.TheVariants.{Less, Equal, Greater}
 use Rattle.std.proofs.lemmas.Bool.{cases_order, cases_lt}
-use Rattle.std.proofs.lemmas.List.{get_or-take, get_or-drop, length-take-le, length-drop}
+use Rattle.std.proofs.lemmas.List.{get_or-take, get_or-drop, get_or_default, length-take-le, length-drop}
 use Rattle.ffv1_pool.specs.SliceOrder.{Entry, Origin, entry_cmp, bytes_cmp, origin_cmp, bytes_total, bytes_antisymmetric, entries_total, entries_antisymmetric}
 use Rattle.ffv1_pool.specs.Rising.{IsRising, IsPlaceOf, IsGapFor}
 use Rattle.ffv1_pool.specs.PoolEntries.{entry_in}
@@ -37,6 +37,14 @@ lt_le : (o : Ordering) → is_lt o ≡ true → is_le o ≡ false → ⊥
 lt_le Less e f = cc
 lt_le Equal e f = cc
 lt_le Greater e f = cc
+
+gt_greater : (o : Ordering) → is_gt o ≡ true → o ≡ Greater
+gt_greater Less e = absurd (cc)
+gt_greater Equal e = absurd (cc)
+gt_greater Greater e = refl
+
+greater_less : (o : Ordering) → o ≡ Greater → o ≡ Less → ⊥
+greater_less o high low = cc
 
 module _ (bytes : List ℕ) (os : List PoolEntry) (ds : List (List ℕ)) (rows : IsRows bytes os ds) (q : Entry) where
   abbrev to : PoolEntry → Ordering
@@ -90,6 +98,48 @@ module _ (bytes : List ℕ) (os : List PoolEntry) (ds : List (List ℕ)) (rows :
         here = λ i d ge lt. entries_antisymmetric _ _ (between _ (low.1 i d ge (omega arith)) (high.0 i d (omega arith) lt));
         after = λ i d ge lt. le_more _ (high.1 i d ge lt);
       }
+
+  -- what is above an owner that is above the slice is above the slice
+  above_high : (x y : Entry) → entry_cmp x y ≡ Less → entry_cmp x q ≡ Greater → entry_cmp y q ≡ Greater
+  above_high x y less high = elim (entry_cmp y q) as (λ o. entry_cmp y q ≡ o → o ≡ Greater) [
+    | Less ↦ λ is. absurd (greater_less _ high (below_low x y less (ap is_le is)))
+    | Equal ↦ λ is. absurd (greater_less _ high (below_low x y less (ap is_le is)))
+    | Greater ↦ λ is. refl
+  ] refl
+
+  -- what a comparison with an owner says
+  pub owner_less : (i : ℕ) (e : PoolEntry) (o : Ordering) → i < length os → o ≡ to (get_or os i e) → is_lt o ≡ true → (d : PoolEntry)
+      → to (get_or os i d) ≡ Less
+  owner_less i e o lt is less d = ap to (get_or_default os i d e lt) ∙ sym is ∙ lt_less o less
+
+  pub owner_greater : (i : ℕ) (e : PoolEntry) (o : Ordering) → i < length os → o ≡ to (get_or os i e) → is_gt o ≡ true → (d : PoolEntry)
+      → to (get_or os i d) ≡ Greater
+  owner_greater i e o lt is greater d = ap to (get_or_default os i d e lt) ∙ sym is ∙ gt_greater o greater
+
+  -- the part of a slice that has no rows
+  pub gap_parted : (a : ℕ) → a ≤ length os → (0 < a → (d : PoolEntry) → to (get_or os (a - 1) d) ≡ Less)
+      → (a < length os → (d : PoolEntry) → to (get_or os a d) ≡ Greater) → IsRowPart bytes os q a a
+  gap_parted a within low high = record {
+    starts = omega arith;
+    ends = within;
+    before = λ i d lt. elim (cases_order i (a - 1)) [
+      | inl same ↦ rw same (low (omega arith) d)
+      | inr (inl under) ↦ elim (owners_rise bytes os ds rows i (a - 1) d under (omega arith)) [
+        | inl less ↦ entries_total.trans _ _ q less (low (omega arith) d)
+        | inr same ↦ ap (λ x. entry_cmp x q) same ∙ low (omega arith) d
+      ]
+      | inr (inr over) ↦ absurd (omega arith)
+    ];
+    here = λ i d ge lt. absurd (omega arith);
+    after = λ i d ge lt. elim (cases_order a i) [
+      | inl same ↦ rw (← same) (high (omega arith) d)
+      | inr (inl over) ↦ elim (owners_rise bytes os ds rows a i d over lt) [
+        | inl less ↦ above_high _ _ less (high (omega arith) d)
+        | inr same ↦ ap (λ x. entry_cmp x q) (sym same) ∙ high (omega arith) d
+      ]
+      | inr (inr under) ↦ absurd (omega arith)
+    ];
+  }
 
   module _ (a b : ℕ) (is : IsRowPart bytes os q a b) where
     abbrev part : List (List ℕ)

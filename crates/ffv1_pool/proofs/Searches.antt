@@ -51,7 +51,7 @@ module _ {K X : Type 0} {R : K → K → Ordering} (o : IsTotalOrder R) (f : X �
   key_here : (xs : List X) (i : ℕ) → i < length xs → (e : K) (P : K → Type 0) → ((d : X) → P (f (get_or xs i d))) → P (get_or (map f xs) i e)
   key_here xs i lt e P each = rw (key_at xs i (some_at xs i lt) e lt) (each (some_at xs i lt))
 
-  place_found : IsAntisymmetric R → (xs : List X) (q : K) (i : ℕ) → i < length xs → ((d : X) → R (f (get_or xs i d)) q ≡ Equal) → IsPlaceOf (map f xs) q i
+  pub place_found : IsAntisymmetric R → (xs : List X) (q : K) (i : ℕ) → i < length xs → ((d : X) → R (f (get_or xs i d)) q ≡ Equal) → IsPlaceOf (map f xs) q i
   place_found same xs q i lt equal =
       let long = length-map xs f in
       record { in_range = omega arith; is_there = λ e. key_here xs i lt e (λ k. k ≡ q) (λ d. same _ q (equal d)) }

@@ -141,3 +141,21 @@ pub(crate) fn place_of(
 {
     entries.binary_search_by(|held| held.compare(bytes, tile, slice))
 }
+
+/// The same. The entry at the place `near` is looked at first, since a search looks at many slices.
+pub(crate) fn place_near(
+    bytes: &[u8],
+    entries: &[PoolEntry],
+    near: usize,
+    tile: usize,
+    slice: &[u8],
+) -> Result<usize, usize>
+    requires { IsRising entry_cmp (map (entry_in bytes.now) entries.now) }
+    ensures found { IfOk result (IsPlaceOf (map (entry_in bytes.now) entries.now) (tile, slice.now)) }
+    ensures absent { IfErr result (IsGapFor entry_cmp (map (entry_in bytes.now) entries.now) (tile, slice.now)) }
+{
+    if near < entries.len() && entries[near].compare(bytes, tile, slice).is_eq() {
+        return Ok(near);
+    }
+    place_of(bytes, entries, tile, slice)
+}

@@ -210,7 +210,7 @@ impl Pool {
             owners: &self.owners,
             digests: &self.digests,
         };
-        let mut new = fresh_rows(self.alloc, held, rows)?;
+        let mut new = fresh_rows(self.alloc, held, rows, &fresh)?;
         let Some(room) = room_of(&fresh) else {
             return Err(HoldFault::Memory);
         };

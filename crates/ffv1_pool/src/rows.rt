@@ -1,4 +1,5 @@
 //! Which copies gave the slices of a pool (own): rows of a slice's entry, the owner, and the SHA-256 digest of a copy.
+ghost use Rattle.std.specs.Bool.{OnTrue};
 ghost use Rattle.std.specs.Prelude.{◌≡◌, ℕ, ◌+◌, ◌<◌, ◌≤◌, true, length, map, slice_index_or, vec_len, vec_capacity, IfOk, IfErr, OnErr};
 ghost use Rattle.ffv1_pool.specs.Sets as set;
 ghost use Rattle.ffv1_pool.specs.SliceOrder.{entry_cmp, origin_cmp};
@@ -10,7 +11,7 @@ ghost use Rattle.ffv1_pool.specs.Fresh.{AreAllFresh};
 ghost use Rattle.ffv1_pool.specs.Rows.{rows_in, rows_of, IsRows, AreRows, IsRowPart, fresh_rows_in, AreFreshRows, AreSettled};
 
 use crate::fault::HoldFault;
-use crate::fresh::{Fresh, place_of, spread};
+use crate::fresh::{Fresh, place_near, spread};
 use crate::pool_entry::PoolEntry;
 use std::alloc::Global;
 
@@ -32,11 +33,30 @@ pub(crate) struct FreshRows {
     pub(crate) digests: Vec<Fresh<[u8; 32]>>,
 }
 
-/// From where and up to where the rows of a slice stand.
-fn row_part(rows: Rows<'_>, tile: usize, slice: &[u8]) -> (usize, usize)
+/// Whether the slice has no rows, since those of the slices before it end at this place, and those of the slices after it begin
+/// there.
+fn is_gap(rows: Rows<'_>, place: usize, tile: usize, slice: &[u8]) -> bool
+    requires { AreRows rows }
+    ensures { OnTrue result (IsRowPart rows.entry.bytes.now rows.entry.owners.now (tile, slice.now) place place) }
+{
+    let Rows { bytes, owners, .. } = rows;
+    if place > owners.len() {
+        return false;
+    }
+    if place > 0 && !owners[place - 1].compare(bytes, tile, slice).is_lt() {
+        return false;
+    }
+    place == owners.len() || owners[place].compare(bytes, tile, slice).is_gt()
+}
+
+/// From where and up to where the rows of a slice stand. The place `near` is looked at first.
+fn row_part(rows: Rows<'_>, near: usize, tile: usize, slice: &[u8]) -> (usize, usize)
     requires { AreRows rows }
     ensures { IsRowPart rows.entry.bytes.now rows.entry.owners.now (tile, slice.now) result.0 result.1 }
 {
+    if is_gap(rows, near, tile, slice) {
+        return (near, near);
+    }
     let Rows { bytes, owners, .. } = rows;
     let start = owners.partition_point(|owner| owner.compare(bytes, tile, slice).is_lt());
     let end = owners.partition_point(|owner| owner.compare(bytes, tile, slice).is_le());
@@ -65,9 +85,10 @@ pub(crate) fn digests_of<'a>(rows: Rows<'a>, entry: PoolEntry) -> &'a [[u8; 32]]
     &rows.digests[start..end]
 }
 
-/// Where the row of a slice and a digest is, or where it would go.
+/// Where the row of a slice and a digest is, or where it would go. The place `near` is looked at first.
 fn place_of_row(
     rows: Rows<'_>,
+    near: usize,
     tile: usize,
     slice: &[u8],
     digest: &[u8; 32],
@@ -76,7 +97,7 @@ fn place_of_row(
     ensures found { IfOk result (IsPlaceOf (rows_of rows.entry) ((tile, slice.now), digest.now)) }
     ensures absent { IfErr result (IsGapFor origin_cmp (rows_of rows.entry) ((tile, slice.now), digest.now)) }
 {
-    let (start, end) = row_part(rows, tile, slice);
+    let (start, end) = row_part(rows, near, tile, slice);
     let digests = rows.digests;
     let part = &digests[start..end];
     match part.binary_search_by(|held| held.as_slice().cmp(digest.as_slice())) {
@@ -85,11 +106,13 @@ fn place_of_row(
     }
 }
 
-/// Of rows that come, those that are not among the held ones.
+/// Of rows that come, those that are not among the held ones. Where each slice that is held or comes came from one copy, rows stand
+/// as entries do: so each new one is looked for first where the new entry of its number goes.
 pub(crate) fn fresh_rows(
     alloc: Global,
     held: Rows<'_>,
     coming: Rows<'_>,
+    entries: &[Fresh<PoolEntry>],
 ) -> Result<FreshRows, HoldFault>
     requires held { AreRows held }
     requires coming { AreRows coming }
@@ -102,7 +125,8 @@ pub(crate) fn fresh_rows(
     let mut digests = Vec::new(alloc);
     for (index, owner) in coming.owners.iter().enumerate() {
         let digest = coming.digests[index];
-        let found = place_of_row(held, owner.tile, owner.slice(coming.bytes), &digest);
+        let near = place_before(entries, owners.len());
+        let found = place_of_row(held, near, owner.tile, owner.slice(coming.bytes), &digest);
         if let Err(place) = found {
             owners.push(Fresh {
                 place,
@@ -115,6 +139,14 @@ pub(crate) fn fresh_rows(
         }
     }
     Ok(FreshRows { owners, digests })
+}
+
+/// The place of a new entry, or one past all places.
+fn place_before(entries: &[Fresh<PoolEntry>], index: usize) -> usize {
+    match entries.get(index) {
+        Some(new) => new.place,
+        None => usize::MAX,
+    }
 }
 
 /// Puts new rows, whose owners' slices lie in `from`, among the others, with the entries of the same slices in `bytes`
@@ -144,7 +176,8 @@ pub(crate) fn put_rows(
     spread(digests, &fresh.digests);
 }
 
-/// Puts in place of new owners, whose slices lie in `from`, the entries of the same slices, which all have to be there.
+/// Puts in place of new owners, whose slices lie in `from`, the entries of the same slices, which all have to be there. Where rows
+/// stand as entries do, an owner's entry is where its row goes.
 fn settle(from: &[u8], bytes: &[u8], entries: &[PoolEntry], owners: &mut [Fresh<PoolEntry>])
     requires pool { IsPool bytes.now entries.now }
     requires held { (i : ℕ) (d : Fresh PoolEntry) → i < length owners.old
@@ -153,7 +186,8 @@ fn settle(from: &[u8], bytes: &[u8], entries: &[PoolEntry], owners: &mut [Fresh<
 {
     for index in 0..owners.len() {
         let Fresh { place, item } = owners[index];
-        if let Ok(at) = place_of(bytes, entries, item.tile, item.slice(from)) {
+        let near = place.saturating_add(index);
+        if let Ok(at) = place_near(bytes, entries, near, item.tile, item.slice(from)) {
             owners[index] = Fresh {
                 place,
                 item: entries[at],

@@ -33,7 +33,7 @@ loop-index-preserved c =
     let f = get_or now i nothing in
     let lt : i < length now = omega (arith, c.loop-index-test.true, inv.long) in
     let entry = λ (b : List ℕ). let x : Entry = (f.item.tile, b) in x in
-    elim c.match-place_of.branch [
+    elim c.match-place_near.branch [
       | in-Ok w ↦
           let found = subst (λ b. IsPlaceOf (map (entry_in bytes) es) (entry b) w.in-Ok.at) c.slice.ensures w.in-Ok.ensures.found in
           rw w.owners-is (record {

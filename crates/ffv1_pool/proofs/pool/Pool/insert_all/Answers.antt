@@ -127,12 +127,12 @@ put_slices-requires-clause-fresh c =
     c.in_ok-fresh.ensures.fresh
 
 pub put_rows-requires-clause-pool : goal.put_rows-requires-clause-pool
-put_rows-requires-clause-pool c = pool_same _ _ _ _ c.deref-7.ensures.value c.deref-8.ensures.value c.put_slices.ensures.pool
+put_rows-requires-clause-pool c = pool_same _ _ _ _ c.deref-8.ensures.value c.deref-9.ensures.value c.put_slices.ensures.pool
 
 pub invariant_of-self-2 : goal.invariant_of-self-2
 invariant_of-self-2 c = record {
   pool = c.put_slices.ensures.pool;
-  rows = subst (λ (b : List ℕ). IsRows b c.put_rows.new.owners.items c.put_rows.new.digests.items) c.deref-7.ensures.value c.put_rows.ensures.rows;
+  rows = subst (λ (b : List ℕ). IsRows b c.put_rows.new.owners.items c.put_rows.new.digests.items) c.deref-8.ensures.value c.put_rows.ensures.rows;
 }
 
 pub returns-clause-memory : goal.returns-clause-memory
@@ -145,7 +145,7 @@ pub put_rows-requires-clause-rows : goal.put_rows-requires-clause-rows
 put_rows-requires-clause-rows c =
     let old = c.self.inside in
     let more = c.put_slices.ensures.later in
-    rw (c.deref-7.ensures.value, c.reserve-3.ensures.items, c.reserve-4.ensures.items)
+    rw (c.deref-8.ensures.value, c.reserve-3.ensures.items, c.reserve-4.ensures.items)
     (rows_kept old.bytes.items old.owners.items old.digests.items c.self.invariant.rows c.put_slices.new.bytes.items
     (more.0, more.1 ∙ ap (λ b. b ++ more.0) c.reserve.ensures.items))
 
@@ -156,8 +156,8 @@ put_rows-requires-clause-fresh c =
     let more = c.put_slices.ensures.later in
     let searched : rows_in c.deref-3.result.now c.deref-4.result.now c.deref-5.result.now ≡ rows_in old.bytes.items old.owners.items old.digests.items =
     (λ i. rows_in (c.deref-3.ensures.value i) (c.deref-4.ensures.value i) (c.deref-5.ensures.value i)) in
-    let held : rows_in c.deref-7.result.now c.reserve-3.new.self.items c.reserve-4.new.self.items ≡ rows_in old.bytes.items old.owners.items old.digests.items =
-    (λ i. rows_in (c.deref-7.ensures.value i) (c.reserve-3.ensures.items i) (c.reserve-4.ensures.items i))
+    let held : rows_in c.deref-8.result.now c.reserve-3.new.self.items c.reserve-4.new.self.items ≡ rows_in old.bytes.items old.owners.items old.digests.items =
+    (λ i. rows_in (c.deref-8.ensures.value i) (c.reserve-3.ensures.items i) (c.reserve-4.ensures.items i))
     ∙ rows_after old.bytes.items old.owners.items old.digests.items c.self.invariant.rows c.put_slices.new.bytes.items
     (more.0, more.1 ∙ ap (λ b. b ++ more.0) c.reserve.ensures.items) in
     subst (λ (rows : List Origin). AreFreshRows rows c.args.rows.bytes.now c.in_ok-new.new.owners.items c.in_ok-new.new.digests.items)
@@ -169,9 +169,9 @@ put_rows-requires-clause-held c =
     let old = map (entry_in c.deref.result.now) c.deref-2.result.now in
     let coming = map (entry_in from) c.args.entries.now in
     let fresh = map (fresh_in from) c.in_ok-fresh.fresh.items in
-    let slices : set.from_list {R = entry_cmp} (map (entry_in c.deref-7.result.now) c.deref-8.result.now)
+    let slices : set.from_list {R = entry_cmp} (map (entry_in c.deref-8.result.now) c.deref-9.result.now)
     ≡ set.union (set.from_list old) (set.from_list fresh) =
-    (λ i. set.from_list (map (entry_in (c.deref-7.ensures.value i)) (c.deref-8.ensures.value i))) ∙ c.put_slices.ensures.slices
+    (λ i. set.from_list (map (entry_in (c.deref-8.ensures.value i)) (c.deref-9.ensures.value i))) ∙ c.put_slices.ensures.slices
     ∙ (λ i. set.union (set.from_list (map (entry_in (c.reserve.ensures.items i)) (c.reserve-2.ensures.items i))) (set.from_list fresh))
     ∙ (λ i. set.union (set.from_list (map (entry_in (sym c.deref.ensures.value i)) (sym c.deref-2.ensures.value i))) (set.from_list fresh)) in
     subst (λ s. AreHeld s (set.from_list (fresh_rows_in from c.in_ok-new.new.owners.items c.in_ok-new.new.digests.items))) (sym slices)
@@ -196,12 +196,12 @@ returns-clause-ok c =
     ∙ (λ i. set.union (set.from_list (map (entry_in (c.reserve.ensures.items i)) (c.reserve-2.ensures.items i))) (set.from_list fresh)) ∙ entries in
     let all = subst (λ (held : List Origin). AreAllFresh origin_cmp held (rows_of c.args.rows) new)
     (λ i. rows_in (c.deref-3.ensures.value i) (c.deref-4.ensures.value i) (c.deref-5.ensures.value i)) c.in_ok-new.ensures.all in
-    let held : rows_in c.deref-7.result.now c.reserve-3.new.self.items c.reserve-4.new.self.items ≡ rows_in old.bytes.items old.owners.items old.digests.items =
-    (λ i. rows_in (c.deref-7.ensures.value i) (c.reserve-3.ensures.items i) (c.reserve-4.ensures.items i))
+    let held : rows_in c.deref-8.result.now c.reserve-3.new.self.items c.reserve-4.new.self.items ≡ rows_in old.bytes.items old.owners.items old.digests.items =
+    (λ i. rows_in (c.deref-8.ensures.value i) (c.reserve-3.ensures.items i) (c.reserve-4.ensures.items i))
     ∙ rows_after old.bytes.items old.owners.items old.digests.items c.self.invariant.rows next (more.0, grown) in
     let origins : set.from_list {R = origin_cmp} (rows_in next c.put_rows.new.owners.items c.put_rows.new.digests.items)
     ≡ set.union (set.from_list (rows_in old.bytes.items old.owners.items old.digests.items)) (set.from_list (rows_of c.args.rows)) =
-    (λ i. set.from_list (rows_in (sym c.deref-7.ensures.value i) c.put_rows.new.owners.items c.put_rows.new.digests.items))
+    (λ i. set.from_list (rows_in (sym c.deref-8.ensures.value i) c.put_rows.new.owners.items c.put_rows.new.digests.items))
     ∙ c.put_rows.ensures.origins ∙ ap (λ xs. set.union (set.from_list {R = origin_cmp} xs) (set.from_list new)) held ∙ all in
     (λ i. let h : TileSlices = record { tiles = old.tiles; slices = slices i; origins = origins i } in h)
     ∙ ap (λ (h : TileSlices). with_more h (set.from_list coming) (set.from_list (rows_of c.args.rows))) c.self.view_is
