@@ -1,5 +1,5 @@
 -- The entries of one tile are a part of those of all.
-use Rattle.std.proofs.Common.{◌≡◌, ◌≢◌, ℕ, suc, leb, ltb, ◌+◌, ◌-◌, ◌<◌, ◌≤◌, true, false, ◌||◌, List, [], ◌∷◌, length, map, take, drop, get_or, sym, refl, ap, ◌∙◌, inl, inr, arith}
+use Rattle.std.proofs.Common.{◌≡◌, ◌≢◌, ℕ, suc, leb, ltb, ◌+◌, ◌-◌, ◌<◌, ◌≤◌, true, false, ◌||◌, List, [], ◌∷◌, length, map, take, drop, get_or, sym, refl, ap, subst, ◌∙◌, inl, inr, arith}
 use mathlib.Core.Bool.{or-false}
 use Rattle.std.specs.List.{list_any}
 use Rattle.std.specs.List.Sorted.{IsNonDecreasingBy, IsPartitionPoint}
@@ -163,3 +163,10 @@ module _ (bytes : List ℕ) (es : List PoolEntry) (pool : IsPool bytes es) (t a 
         ∙ ap (λ xs. get_or xs i d)
         (sym (items_kept bytes_total (slice_in bytes) part (tile_slices slices t) is_shelf.rising (tile_slices-part slices same))) in
         λ k. (is.here (a + i) x (omega arith) (omega arith) k, there k)
+
+-- a place among the slices of a tile is one among the entries that were lent
+pub place_lent : (bytes : List ℕ) (es lent : List PoolEntry) → IsPool bytes es → lent ≡ es → (t a b : ℕ) → IsTilePart lent t a b
+    → (slices : set.SetOf entry_cmp) → set.from_list (map (entry_in bytes) es) ≡ slices → (place : ℕ) → place < set.size (tile_slices slices t)
+    → a + place < length lent
+place_lent bytes es lent pool same t a b part slices shown place lt =
+    omega (arith, lt, part.ends, size_part bytes es pool t a b (subst (λ (xs : List PoolEntry). IsTilePart xs t a b) same part) slices shown)

@@ -1,10 +1,11 @@
-use Rattle.std.proofs.Common.{◌≡◌, ◌<◌, length, map, get_or, sym, ap, ◌∙◌, arith}
+use Rattle.std.proofs.Common.{◌≡◌, ◌<◌, ℕ, List, length, map, get_or, sym, ap, ◌∙◌, arith}
 use Rattle.std.proofs.lemmas.List.{length-map, get_or-map}
 use Rattle.ffv1_pool.specs.Sets as set
 use Rattle.ffv1_pool.specs.SliceOrder.{Entry, entry_cmp, entries_total}
 use Rattle.ffv1_pool.specs.TileSets.{TileSlices, digests_in}
 use Rattle.ffv1_pool.specs.PoolEntries.{entry_in}
 use Rattle.ffv1_pool.specs.Rows.{rows_in}
+use Rattle.ffv1_pool.specs.declared.pool_entry.PoolEntry.{PoolEntry}
 use Rattle.ffv1_pool.proofs.RisingSets.{contains_placed, contains_gap}
 use Rattle.ffv1_pool.proofs.pool.Pool.origins.Goals as goal
 
@@ -26,16 +27,19 @@ returns-in-Ok-clause-digests c =
     (entry_in (c.deref-in-Ok.ensures.value i) c.index.result.now))
     ∙ (λ i. digests_in (origins i) (entry i))
 
+-- what the set that is shown contains is what the entries that were lent say
+contains_lent : (key : Entry) (bytes lent_bytes : List ℕ) (es lent : List PoolEntry) → lent_bytes ≡ bytes → lent ≡ es → (shown : TileSlices)
+    → set.from_list {R = entry_cmp} (map (entry_in bytes) es) ≡ shown.slices
+    → set.contains shown.slices key ≡ set.contains (set.from_list {R = entry_cmp} (map (entry_in lent_bytes) lent)) key
+contains_lent key bytes lent_bytes es lent same_bytes same shown is =
+    ap (λ s. set.contains s key) (sym is ∙ (λ i. set.from_list (map (entry_in (sym same_bytes i)) (sym same i))))
+
 pub returns-in-Ok-clause-held : goal.returns-in-Ok-clause-held
 returns-in-Ok-clause-held c =
-    let key : Entry = (c.args.tile, c.args.slice.now) in
-    ap (λ (h : TileSlices). set.contains h.slices key) (sym c.self.view_is)
-    ∙ (λ i. set.contains (set.from_list {R = entry_cmp} (map (entry_in (sym c.deref.ensures.value i)) (sym c.deref-2.ensures.value i))) key)
-    ∙ contains_placed entries_total _ key _ c.in-Ok.ensures.found
+    contains_lent _ _ _ _ _ c.deref.ensures.value c.deref-2.ensures.value c.args.self.now (ap (λ (h : TileSlices). h.slices) c.self.view_is)
+    ∙ contains_placed entries_total _ _ _ c.in-Ok.ensures.found
 
 pub returns-in-Err-clause-absent : goal.returns-in-Err-clause-absent
 returns-in-Err-clause-absent c =
-    let key : Entry = (c.args.tile, c.args.slice.now) in
-    ap (λ (h : TileSlices). set.contains h.slices key) (sym c.self.view_is)
-    ∙ (λ i. set.contains (set.from_list {R = entry_cmp} (map (entry_in (sym c.deref.ensures.value i)) (sym c.deref-2.ensures.value i))) key)
-    ∙ contains_gap entries_total _ key _ c.in-Err.ensures.absent
+    contains_lent _ _ _ _ _ c.deref.ensures.value c.deref-2.ensures.value c.args.self.now (ap (λ (h : TileSlices). h.slices) c.self.view_is)
+    ∙ contains_gap entries_total _ _ _ c.in-Err.ensures.absent

@@ -4,7 +4,7 @@ use Rattle.ffv1_pool.specs.TileSets.{TileSlices, digests_in}
 use Rattle.ffv1_pool.specs.PoolEntries.{entry_in, IsTilePart}
 use Rattle.ffv1_pool.specs.Rows.{rows_in}
 use Rattle.ffv1_pool.specs.declared.pool_entry.PoolEntry.{PoolEntry}
-use Rattle.ffv1_pool.proofs.TileParts.{tiles_rise, size_part, entry_in_part}
+use Rattle.ffv1_pool.proofs.TileParts.{tiles_rise, size_part, entry_in_part, place_lent}
 use Rattle.ffv1_pool.proofs.pool.Pool.origins_at.Goals as goal
 
 pub tile_part-start-requires : goal.tile_part-start-requires
@@ -12,23 +12,17 @@ tile_part-start-requires c = rw c.deref-4.ensures.value (tiles_rise c.self.insid
 
 pub overflow_add-start : goal.overflow_add-start
 overflow_add-start c =
-    let a = c.tile_part-start.result.0 in
-    let b = c.tile_part-start.result.1 in
     let kept = c.self.inside in
-    let part = subst (λ (es : List PoolEntry). IsTilePart es c.args.tile a b) c.deref-4.ensures.value c.tile_part-start.ensures in
-    let size = size_part kept.bytes.items kept.entries.items c.self.invariant.pool c.args.tile a b part c.args.self.now.slices
-    (ap (λ (h : TileSlices). h.slices) c.self.view_is) in
-    omega (arith, c.requires, c.tile_part-start.ensures.ends, c.deref-4.type_inv.0)
+    let within = place_lent kept.bytes.items kept.entries.items _ c.self.invariant.pool c.deref-4.ensures.value c.args.tile _ _ c.tile_part-start.ensures _
+    (ap (λ (h : TileSlices). h.slices) c.self.view_is) c.args.place c.requires in
+    omega (arith, c.deref-4.type_inv.0)
 
 pub index-requires : goal.index-requires
 index-requires c =
-    let a = c.tile_part-start.result.0 in
-    let b = c.tile_part-start.result.1 in
     let kept = c.self.inside in
-    let part = subst (λ (es : List PoolEntry). IsTilePart es c.args.tile a b) c.deref-4.ensures.value c.tile_part-start.ensures in
-    let size = size_part kept.bytes.items kept.entries.items c.self.invariant.pool c.args.tile a b part c.args.self.now.slices
-    (ap (λ (h : TileSlices). h.slices) c.self.view_is) in
-    omega (arith, c.requires, c.tile_part-start.ensures.ends, c.deref-4.ensures.len)
+    let within = place_lent kept.bytes.items kept.entries.items _ c.self.invariant.pool c.deref-4.ensures.value c.args.tile _ _ c.tile_part-start.ensures _
+    (ap (λ (h : TileSlices). h.slices) c.self.view_is) c.args.place c.requires in
+    omega (arith, c.deref-4.ensures.len)
 
 pub returns-clause-digests : goal.returns-clause-digests
 returns-clause-digests c d =
