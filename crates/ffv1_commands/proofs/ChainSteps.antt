@@ -108,12 +108,4 @@ module _ {T : Type 0} (a b : ReadLog) (old new : WriteLog) where
     err = subst (λ (log : WriteLog). Keeps old.contents log.contents) (sym kept) (Keeps-refl old.contents);
     names = tt;
   }
-  chain_of_bytes (Err (faults.Setup fault)) stops = absurd stops
-  chain_of_bytes (Err (faults.Hold fault)) stops = absurd stops
-  chain_of_bytes (Err (faults.HoldFile fault)) stops = absurd stops
-  chain_of_bytes (Err (faults.Frame fault)) stops = absurd stops
-  chain_of_bytes (Err (faults.Missing tile)) stops = absurd stops
-  chain_of_bytes (Err (faults.Disputed tile)) stops = absurd stops
-  chain_of_bytes (Err (faults.Splice other)) stops = absurd stops
-  chain_of_bytes (Err (faults.Ranges line)) stops = absurd stops
-  chain_of_bytes (Err faults.Words) stops = absurd stops
+  chain_of_bytes (Err fault) stops = absurd stops

@@ -228,16 +228,11 @@ module _ (config : List ℕ) (width height : ℕ) (setup : SetupValue) (copies :
   refused : (ob oa pb pa : Option (List ℕ)) (fault : CliFault) → RestoreStops (Some file) ob oa pb pa fault → IsOfDevices fault
   refused ob oa pb pa (faults.Read path) stops = tt
   refused ob oa pb pa (faults.Write path) stops = tt
-  refused ob oa pb pa (faults.Setup fault) stops = stops
-  refused ob oa pb pa (faults.Hold fault) stops = stops
   refused ob oa pb pa (faults.HoldFile fault) stops = no_fault (holding_of is.reel copies) file is.text is.has fault stops
-  refused ob oa pb pa (faults.Frame fault) stops = stops
   refused ob oa pb pa (faults.Missing tile) (h, file_is, refusal) = settled h file_is tile refusal.0
   refused ob oa pb pa (faults.Disputed tile) (h, file_is, refusal) = settled h file_is tile refusal.0
   refused ob oa pb pa faults.Memory stops = tt
-  refused ob oa pb pa (faults.Splice other) stops = stops
-  refused ob oa pb pa (faults.Ranges line) stops = stops
-  refused ob oa pb pa faults.Words stops = stops
+  refused ob oa pb pa fault stops = stops
 
   restores : RestoresOnly file original
   restores = record {
@@ -251,16 +246,9 @@ module _ (config : List ℕ) (width height : ℕ) (setup : SetupValue) (copies :
   not_shown : (ob oa pb pa : Option (List ℕ)) (fault : CliFault) → PictureStops (Some file) ob oa pb pa fault → IsOfDevices fault
   not_shown ob oa pb pa (faults.Read path) stops = tt
   not_shown ob oa pb pa (faults.Write path) stops = tt
-  not_shown ob oa pb pa (faults.Setup fault) stops = stops
-  not_shown ob oa pb pa (faults.Hold fault) stops = stops
   not_shown ob oa pb pa (faults.HoldFile fault) stops = no_fault (holding_of is.reel copies) file is.text is.has fault stops
-  not_shown ob oa pb pa (faults.Frame fault) stops = stops
-  not_shown ob oa pb pa (faults.Missing tile) stops = stops
-  not_shown ob oa pb pa (faults.Disputed tile) stops = stops
   not_shown ob oa pb pa faults.Memory stops = tt
-  not_shown ob oa pb pa (faults.Splice other) stops = stops
-  not_shown ob oa pb pa (faults.Ranges line) stops = stops
-  not_shown ob oa pb pa faults.Words stops = stops
+  not_shown ob oa pb pa fault stops = stops
 
   shows : ShowsOnly setup file slices
   shows = record {

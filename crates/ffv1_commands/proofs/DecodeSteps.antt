@@ -8,22 +8,20 @@ use Rattle.ffv1_picture.specs.declared.fault.FrameFault.{FrameFault}
 use Rattle.ffv1_picture.specs.declared.fault.FrameFault.TheVariants as frames
 use Rattle.ffv1_commands.specs.Devices.{TakesWhole, IsWholeInput, BothStop, WritesBoth}
 use Rattle.ffv1_commands.specs.RecordInputs.{IsSetupInput, TakesSetup, RecordStops}
-use Rattle.ffv1_commands.specs.Fault.{NamesPath, of_frame}
+use Rattle.ffv1_commands.specs.Fault.{of_frame}
 use Rattle.ffv1_commands.specs.Paths.{IsDecodePath}
 use Rattle.ffv1_commands.specs.SamplesText.{raw_bytes, frame_line}
 use Rattle.ffv1_commands.specs.DecodeText.{IsFrameInput, DecodesFile, DecodeStops, TakesFrame, FrameStops, TellsDecode}
 use Rattle.ffv1_commands.specs.declared.fault.CliFault.{CliFault}
 use Rattle.ffv1_commands.specs.declared.fault.CliFault.TheVariants as faults
 use Rattle.ffv1_commands.proofs.InputLaws.{whole_input}
+use Rattle.ffv1_commands.proofs.OfBytes.{OfBytes, unwritten_bytes}
 use Rattle.ffv1_commands.proofs.RecordFaults.{RecordStops-says}
-use Rattle.ffv1_commands.proofs.WrittenBoth.{both_says, both_stop_bytes, both_name}
+use Rattle.ffv1_commands.proofs.WrittenBoth.{both_says}
 
 pub of_frame-says : (P : CliFault → Type 0) (fault : FrameFault) → P faults.Memory → P (faults.Frame fault) → P (of_frame fault)
-of_frame-says P frames.Chain memory other = other
-of_frame-says P (frames.Slice place cause) memory other = other
-of_frame-says P (frames.Order place) memory other = other
-of_frame-says P (frames.Tile tile cause) memory other = other
 of_frame-says P frames.Memory memory other = memory
+of_frame-says P fault memory other = other
 
 -- Memory, and nothing else
 abbrev IsMemory : FrameFault → Type 0
@@ -33,11 +31,8 @@ IsMemory fault = ⊥
 -- a payload's fault is told as such, and Memory as its own
 pub frame_refused : (setup : SetupValue) (a b : ReadLog) (payload : List ℕ) → TakesWhole a b payload → (fault : FrameFault)
     → IsFirstFault setup payload fault → FrameStops setup a b (of_frame fault)
-frame_refused setup a b payload read frames.Chain first = (payload, read, first, λ e. subst IsMemory (sym e) tt)
-frame_refused setup a b payload read (frames.Slice place cause) first = (payload, read, first, λ e. subst IsMemory (sym e) tt)
-frame_refused setup a b payload read (frames.Order place) first = (payload, read, first, λ e. subst IsMemory (sym e) tt)
-frame_refused setup a b payload read (frames.Tile tile cause) first = (payload, read, first, λ e. subst IsMemory (sym e) tt)
 frame_refused setup a b payload read frames.Memory first = (payload, read.read, read.few)
+frame_refused setup a b payload read fault first = (payload, read, first, λ e. subst IsMemory (sym e) tt)
 
 module _ (width height : ℕ) (config config' input input' : ReadLog) (out out' output output' : WriteLog) (setup : SetupValue)
     (set : TakesSetup width height config config' setup) (frame : Frame) (is : TakesFrame setup input input' frame) (line : List ℕ)
@@ -50,12 +45,6 @@ module _ (width height : ℕ) (config config' input input' : ReadLog) (out out' 
       inr (setup, set, inr (frame, is, subst (λ (l : List ℕ). BothStop f (raw_bytes frame) l out out' output output') size stops))
 
 -- ---- the same of bytes
-
-pub record DecodeOfBytes {T : Type 0} (r : Result T CliFault) (record' : Option (List ℕ)) (width height : ℕ) (input ob oa pb pa : Option (List ℕ)) :
-    Type 0 where
-  pub ok : OnOk r (DecodesFile record' width height input ob oa pb pa)
-  pub err : IfErr r (DecodeStops record' width height input ob oa pb pa)
-  pub names : IfErr r (NamesPath IsDecodePath)
 
 whole : (a b : ReadLog) (bytes : List ℕ) → TakesWhole a b bytes → IsWholeInput a.remaining bytes
 whole a b bytes t = whole_input a.remaining b.remaining bytes (record { taken = t.read.bytes'; end = t.end; few = t.few })
@@ -73,50 +62,46 @@ frame_input width height config config' input input' setup set frame is = record
   decoded = is.decoded;
 }
 
-module _ {T : Type 0} (width height : ℕ) (config config' input input' : ReadLog) (out out' output output' : WriteLog) where
-  abbrev OfBytes : Result T CliFault → Type 0
-  OfBytes r = DecodeOfBytes r config.remaining width height input.remaining out.contents out'.contents output.contents output'.contents
+module _ (width height : ℕ) (config config' input input' : ReadLog) (out out' output output' : WriteLog) where
+  abbrev Stops : CliFault → Type 0
+  Stops fault = DecodeStops config.remaining width height input.remaining out.contents out'.contents output.contents output'.contents fault
 
-  record_bytes : (f : CliFault) → RecordStops width height config config' f → OfBytes (Err f)
-  record_bytes f stops =
-      RecordStops-says (λ f. OfBytes (Err f)) width height config config' f (record { ok = tt; err = inl refl; names = tt })
-      (record { ok = tt; err = tt; names = tt })
-      (λ fault bytes read first. record { ok = tt; err = (bytes, whole config config' bytes read, first); names = tt }) stops
+  module _ {T : Type 0} where
+    abbrev Did : T → Type 0
+    Did x = DecodesFile config.remaining width height input.remaining out.contents out'.contents output.contents output'.contents
 
-  module _ (setup : SetupValue) (set : TakesSetup width height config config' setup) where
-    frame_bytes : (f : CliFault) → FrameStops setup input input' f → OfBytes (Err f)
-    frame_bytes (faults.Read path) (is, unread) =
-        record { ok = tt; err = inr (is, (setup, setup_input config config' width height setup set)); names = subst IsDecodePath (sym is) tt }
-    frame_bytes (faults.Frame fault) (payload, read, first, other) = record {
-      ok = tt;
-      err = (setup, setup_input config config' width height setup set, (payload, whole input input' payload read, first), other);
+    record_bytes : (f : CliFault) → RecordStops width height config config' f → OfBytes Did Stops IsDecodePath (Err f)
+    record_bytes f stops =
+        RecordStops-says (λ f. OfBytes Did Stops IsDecodePath (Err f)) width height config config' f (record { ok = tt; err = inl refl; names = tt })
+        (record { ok = tt; err = tt; names = tt })
+        (λ fault bytes read first. record { ok = tt; err = (bytes, whole config config' bytes read, first); names = tt }) stops
+
+    module _ (setup : SetupValue) (set : TakesSetup width height config config' setup) where
+      frame_bytes : (f : CliFault) → FrameStops setup input input' f → OfBytes Did Stops IsDecodePath (Err f)
+      frame_bytes (faults.Read path) (is, unread) =
+          record { ok = tt; err = inr (is, (setup, setup_input config config' width height setup set)); names = subst IsDecodePath (sym is) tt }
+      frame_bytes (faults.Frame fault) (payload, read, first, other) = record {
+        ok = tt;
+        err = (setup, setup_input config config' width height setup set, (payload, whole input input' payload read, first), other);
+        names = tt;
+      }
+      frame_bytes faults.Memory stops = record { ok = tt; err = tt; names = tt }
+      frame_bytes fault stops = absurd stops
+
+      writing_bytes : (frame : Frame) → TakesFrame setup input input' frame → (f : CliFault)
+          → BothStop f (raw_bytes frame) (frame_line frame) out out' output output' → OfBytes Did Stops IsDecodePath (Err f)
+      writing_bytes frame is = both_says (raw_bytes frame) (frame_line frame) out out' output output'
+          (λ f. OfBytes Did Stops IsDecodePath (Err f))
+          (unwritten_bytes Did Stops IsDecodePath (raw_bytes frame) (frame_line frame) out out' output output' tt tt
+          (λ named at. (frame, frame_input width height config config' input input' setup set frame is, at)))
+
+    pub decode_of_bytes : (r : Result T CliFault) → TellsDecode r width height config config' input input' out out' output output'
+        → OfBytes Did Stops IsDecodePath r
+    decode_of_bytes (Ok x) (setup, frame, set, is, wrote, printed) = record {
+      ok = record { frame = frame; is_frame = frame_input width height config config' input input' setup set frame is; samples = wrote.bytes'; printed = printed.bytes' };
+      err = tt;
       names = tt;
     }
-    frame_bytes faults.Memory stops = record { ok = tt; err = tt; names = tt }
-    frame_bytes (faults.Write named) stops = absurd stops
-    frame_bytes (faults.Setup fault) stops = absurd stops
-    frame_bytes (faults.Hold fault) stops = absurd stops
-    frame_bytes (faults.HoldFile fault) stops = absurd stops
-    frame_bytes (faults.Missing tile) stops = absurd stops
-    frame_bytes (faults.Disputed tile) stops = absurd stops
-    frame_bytes (faults.Splice other) stops = absurd stops
-    frame_bytes (faults.Ranges line) stops = absurd stops
-    frame_bytes faults.Words stops = absurd stops
-
-    writing_bytes : (frame : Frame) → TakesFrame setup input input' frame → (f : CliFault)
-        → BothStop f (raw_bytes frame) (frame_line frame) out out' output output' → OfBytes (Err f)
-    writing_bytes frame is = both_says (raw_bytes frame) (frame_line frame) out out' output output' (λ f. OfBytes (Err f)) (λ named stops. record {
-      ok = tt;
-      err = (frame, frame_input width height config config' input input' setup set frame is, both_stop_bytes (raw_bytes frame) (frame_line frame) out out' output output' named stops);
-      names = both_name (raw_bytes frame) (frame_line frame) out out' output output' IsDecodePath tt tt named stops;
-    })
-
-  pub decode_of_bytes : (r : Result T CliFault) → TellsDecode r width height config config' input input' out out' output output' → OfBytes r
-  decode_of_bytes (Ok x) (setup, frame, set, is, wrote, printed) = record {
-    ok = record { frame = frame; is_frame = frame_input width height config config' input input' setup set frame is; samples = wrote.bytes'; printed = printed.bytes' };
-    err = tt;
-    names = tt;
-  }
-  decode_of_bytes (Err f) (inl (stops, same, kept)) = record_bytes f stops
-  decode_of_bytes (Err f) (inr (setup, set, inl (stops, kept))) = frame_bytes setup set f stops
-  decode_of_bytes (Err f) (inr (setup, set, inr (frame, is, stops))) = writing_bytes setup set frame is f stops
+    decode_of_bytes (Err f) (inl (stops, same, kept)) = record_bytes f stops
+    decode_of_bytes (Err f) (inr (setup, set, inl (stops, kept))) = frame_bytes setup set f stops
+    decode_of_bytes (Err f) (inr (setup, set, inr (frame, is, stops))) = writing_bytes setup set frame is f stops

@@ -5,9 +5,12 @@ use Rattle.ffv1_devices.specs.Logs.{ReadLog}
 use Rattle.ffv1_pool.specs.Contents.{Contents}
 use Rattle.ffv1_hold.specs.HoldingText.{file_text}
 use Rattle.ffv1_hold.specs.FileFaults.{ReadsHolding}
+use Rattle.ffv1_commands.specs.Devices.{UnlessWriting}
 use Rattle.ffv1_commands.specs.Holdings.{IsHoldingFile, IsHoldingFault, HoldingStops}
 use Rattle.ffv1_commands.specs.declared.fault.CliFault.{CliFault}
 use Rattle.ffv1_commands.specs.declared.path.CommandPath.{CommandPath}
+use Rattle.ffv1_commands.specs.declared.path.CommandPath.TheVariants as paths
+use Rattle.ffv1_commands.proofs.InputFaults.{IsUnwritten, untouched_one, untouched_both, IsHoldingFault-says}
 use Rattle.ffv1_commands.proofs.Telling.{hold_refused}
 
 module _ (a b : ReadLog) where
@@ -26,3 +29,15 @@ module _ (a b : ReadLog) where
   pub unread_file : (path : CommandPath) (fault : CliFault) → HoldingStops path fault a b → IsHoldingFault path a.remaining fault
   unread_file path fault (f, is, stops) =
       subst (IsHoldingFault path a.remaining) (sym is) (hold_refused path a.remaining b.remaining f stops.fault)
+
+  -- it comes before anything is written
+  unread_unwritten : (fault : CliFault) → HoldingStops (paths.Hold 0) fault a b → IsUnwritten fault
+  unread_unwritten fault stops =
+      IsHoldingFault-says IsUnwritten (paths.Hold 0) a.remaining fault tt tt (λ file shown. tt) (unread_file (paths.Hold 0) fault stops)
+
+  pub unread_one : {W : Type 0} (output : W) (fault : CliFault) → HoldingStops (paths.Hold 0) fault a b → UnlessWriting fault (output ≡ output)
+  unread_one output fault stops = untouched_one output fault (unread_unwritten fault stops)
+
+  pub unread_both : {O W : Type 0} (out : O) (output : W) (fault : CliFault) → HoldingStops (paths.Hold 0) fault a b
+      → UnlessWriting fault ((out ≡ out) × (output ≡ output))
+  unread_both out output fault stops = untouched_both out output fault (unread_unwritten fault stops)

@@ -14,26 +14,19 @@ IsUnwritten (faults.Write path) = ⊥
 IsUnwritten fault = Unit {0}
 
 UnlessWriting-unwritten : (P : Type 0) (fault : CliFault) → IsUnwritten fault → P → UnlessWriting fault P
-UnlessWriting-unwritten P (faults.Read path) none same = same
 UnlessWriting-unwritten P (faults.Write path) none same = tt
-UnlessWriting-unwritten P (faults.Setup fault) none same = same
-UnlessWriting-unwritten P (faults.Hold fault) none same = same
-UnlessWriting-unwritten P (faults.HoldFile fault) none same = same
-UnlessWriting-unwritten P (faults.Frame fault) none same = same
-UnlessWriting-unwritten P (faults.Missing tile) none same = same
-UnlessWriting-unwritten P (faults.Disputed tile) none same = same
-UnlessWriting-unwritten P faults.Memory none same = same
-UnlessWriting-unwritten P (faults.Splice other) none same = same
-UnlessWriting-unwritten P (faults.Ranges line) none same = same
-UnlessWriting-unwritten P faults.Words none same = same
+UnlessWriting-unwritten P fault none same = same
 
 -- the outputs are as they were
 pub untouched_one : {W : Type 0} (output : W) (fault : CliFault) → IsUnwritten fault → UnlessWriting fault (output ≡ output)
 untouched_one output fault none = UnlessWriting-unwritten (output ≡ output) fault none refl
 
+pub kept_both : {O W : Type 0} (out : O) (output : W) → (out ≡ out) × (output ≡ output)
+kept_both out output = (refl, refl)
+
 pub untouched_both : {O W : Type 0} (out : O) (output : W) (fault : CliFault) → IsUnwritten fault
     → UnlessWriting fault ((out ≡ out) × (output ≡ output))
-untouched_both out output fault none = UnlessWriting-unwritten ((out ≡ out) × (output ≡ output)) fault none (refl, refl)
+untouched_both out output fault none = UnlessWriting-unwritten ((out ≡ out) × (output ≡ output)) fault none (kept_both out output)
 
 -- ---- what any fault of a holding file says, if that of each form says so
 
@@ -41,14 +34,6 @@ module _ (P : CliFault → Type 0) where
   pub IsHoldingFault-says : (path : CommandPath) (input : Option (List ℕ)) (fault : CliFault) → P (faults.Read path) → P faults.Memory
       → ((file : HoldFileFault) → IfSome input (λ bytes. IsFaultOf bytes file) → P (faults.HoldFile file)) → IsHoldingFault path input fault → P fault
   IsHoldingFault-says path input (faults.Read named) read memory file is = subst (λ n. P (faults.Read n)) (sym is) read
-  IsHoldingFault-says path input (faults.Write named) read memory file is = absurd is
-  IsHoldingFault-says path input (faults.Setup fault) read memory file is = absurd is
-  IsHoldingFault-says path input (faults.Hold fault) read memory file is = absurd is
   IsHoldingFault-says path input (faults.HoldFile fault) read memory file is = file fault is
-  IsHoldingFault-says path input (faults.Frame fault) read memory file is = absurd is
-  IsHoldingFault-says path input (faults.Missing tile) read memory file is = absurd is
-  IsHoldingFault-says path input (faults.Disputed tile) read memory file is = absurd is
   IsHoldingFault-says path input faults.Memory read memory file is = memory
-  IsHoldingFault-says path input (faults.Splice other) read memory file is = absurd is
-  IsHoldingFault-says path input (faults.Ranges line) read memory file is = absurd is
-  IsHoldingFault-says path input faults.Words read memory file is = absurd is
+  IsHoldingFault-says path input fault read memory file is = absurd is

@@ -1,6 +1,6 @@
 -- What is told of inputs that were read.
 use Rattle.std.proofs.Common.{◌≡◌, ℕ, ◌<◌, List, [], ◌∷◌, ◌++◌, ◌+◌, ◌≤◌, length, get_or, take, map, Option, None, refl, sym, ap, ◌∙◌, subst, arith}
-use Rattle.std.proofs.lemmas.List.{get_or-map, take_more, length-map, length-take-le, take_all}
+use Rattle.std.proofs.lemmas.List.{length-map, length-take-le, take_all}
 use Rattle.std.proofs.KnownBytes.{Consumes-whole}
 use Rattle.ffv1_devices.specs.Logs.{ReadLog}
 use Rattle.ffv1_commands.specs.Devices.{ReadsWhole, Tells, IsWholeInput, AreWholeInputs}
@@ -42,18 +42,7 @@ taken_whole (i ∷ is) (b ∷ bs) ((log, took), rest) =
 -- ---- a list of inputs that are read in turn
 
 module _ {C : Type 0} (tells : C → Option (List ℕ)) where
-  -- one input more
-  pub inputs_more : (old now : List C) (i : ℕ) (d : C) → i < length old → get_or now i d ≡ get_or old i d
-      → take i (map tells old) ++ tells (get_or now i d) ∷ [] ≡ take (i + 1) (map tells old)
-  inputs_more old now i d lt same =
-      let few : i < length (map tells old) = omega (arith, length-map old tells) in
-      ap (λ c. take i (map tells old) ++ tells c ∷ []) same ∙ ap (λ x. take i (map tells old) ++ x ∷ []) (sym (get_or-map tells old i d None lt))
-      ∙ sym (take_more (map tells old) i None few)
-
-  -- the input at a place
-  pub input_at : (old now : List C) (i : ℕ) (d : C) → i < length old → get_or now i d ≡ get_or old i d → get_or (map tells old) i None ≡ tells (get_or now i d)
-  input_at old now i d lt same = get_or-map tells old i d None lt ∙ ap tells (sym same)
-
+  -- so many come before a place
   pub length-inputs : (old : List C) (i : ℕ) → i ≤ length old → i ≡ length (take i (map tells old))
   length-inputs old i le = let few : i ≤ length (map tells old) = omega (arith, length-map old tells) in sym (length-take-le i (map tells old) few)
 

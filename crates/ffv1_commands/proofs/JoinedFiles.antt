@@ -137,14 +137,7 @@ of_files inputs old new (faults.Read path) (i, lt, before, stops, later) = (i, l
 of_files inputs old new (faults.Hold fault) (i, lt, before, (is, stops), later) = (is, (i, lt, before, stops))
 of_files inputs old new (faults.HoldFile fault) (i, lt, before, stops, later) = (i, lt, before, stops)
 of_files inputs old new faults.Memory stops = tt
-of_files inputs old new (faults.Write path) (i, lt, before, stops, later) = absurd stops
-of_files inputs old new (faults.Setup fault) (i, lt, before, stops, later) = absurd stops
-of_files inputs old new (faults.Frame fault) (i, lt, before, stops, later) = absurd stops
-of_files inputs old new (faults.Missing tile) (i, lt, before, stops, later) = absurd stops
-of_files inputs old new (faults.Disputed tile) (i, lt, before, stops, later) = absurd stops
-of_files inputs old new (faults.Splice other) (i, lt, before, stops, later) = absurd stops
-of_files inputs old new (faults.Ranges line) (i, lt, before, stops, later) = absurd stops
-of_files inputs old new faults.Words (i, lt, before, stops, later) = absurd stops
+of_files inputs old new fault (i, lt, before, stops, later) = absurd stops
 
 -- and leaves those after it
 later_kept : {R : Type 0} (inputs : List (Option (List ℕ))) (old new : List R) (fault : CliFault) → StopsAtPlace inputs old new fault
@@ -153,31 +146,13 @@ later_kept inputs old new (faults.Read path) (i, lt, before, same, later) =
     subst (λ (p : CommandPath). LaterFilesKept inputs old new (faults.Read p)) (sym same) later
 later_kept inputs old new (faults.Hold fault) stops = stops
 later_kept inputs old new (faults.HoldFile fault) stops = inl stops
-later_kept inputs old new (faults.Write path) stops = tt
-later_kept inputs old new (faults.Setup fault) stops = tt
-later_kept inputs old new (faults.Frame fault) stops = tt
-later_kept inputs old new (faults.Missing tile) stops = tt
-later_kept inputs old new (faults.Disputed tile) stops = tt
-later_kept inputs old new faults.Memory stops = tt
-later_kept inputs old new (faults.Splice other) stops = tt
-later_kept inputs old new (faults.Ranges line) stops = tt
-later_kept inputs old new faults.Words stops = tt
+later_kept inputs old new fault stops = tt
 
 -- ---- what is told over the logs
 
 IsFaultOfFiles-unwritten : (inputs : List (Option (List ℕ))) (fault : CliFault) → IsFaultOfFiles inputs fault → IsUnwritten fault
-IsFaultOfFiles-unwritten inputs (faults.Read path) stops = tt
 IsFaultOfFiles-unwritten inputs (faults.Write path) (i, lt, before, stops) = absurd stops
-IsFaultOfFiles-unwritten inputs (faults.Setup fault) stops = tt
-IsFaultOfFiles-unwritten inputs (faults.Hold fault) stops = tt
-IsFaultOfFiles-unwritten inputs (faults.HoldFile fault) stops = tt
-IsFaultOfFiles-unwritten inputs (faults.Frame fault) stops = tt
-IsFaultOfFiles-unwritten inputs (faults.Missing tile) stops = tt
-IsFaultOfFiles-unwritten inputs (faults.Disputed tile) stops = tt
-IsFaultOfFiles-unwritten inputs faults.Memory stops = tt
-IsFaultOfFiles-unwritten inputs (faults.Splice other) stops = tt
-IsFaultOfFiles-unwritten inputs (faults.Ranges line) stops = tt
-IsFaultOfFiles-unwritten inputs faults.Words stops = tt
+IsFaultOfFiles-unwritten inputs fault stops = tt
 
 -- where a file was not joined nothing was written
 pub files-unwritten : {R : Type 0} (tells : R → Option (List ℕ)) (a b : ReadLog) (old new : List R) (fault : CliFault) → StopsAtFile tells a b old new fault
@@ -198,62 +173,30 @@ made_joined tells a b old new out out' output output' whole text all (Err fault)
 files_name : (inputs : List (Option (List ℕ))) (n : ℕ) → length inputs ≡ n + 1 → (fault : CliFault) → IsFaultOfFiles inputs fault
     → NamesPath (IsJoinPath (n + 1)) fault
 files_name inputs n is (faults.Read path) (i, lt, before, same) = subst (IsJoinPath (n + 1)) (sym same) (omega (arith, lt, is))
-files_name inputs n is (faults.Write path) (i, lt, before, stops) = absurd stops
-files_name inputs n is (faults.Setup fault) (i, lt, before, stops) = absurd stops
 files_name inputs n is (faults.Hold fault) stops = tt
 files_name inputs n is (faults.HoldFile fault) stops = tt
-files_name inputs n is (faults.Frame fault) (i, lt, before, stops) = absurd stops
-files_name inputs n is (faults.Missing tile) (i, lt, before, stops) = absurd stops
-files_name inputs n is (faults.Disputed tile) (i, lt, before, stops) = absurd stops
 files_name inputs n is faults.Memory stops = tt
-files_name inputs n is (faults.Splice other) (i, lt, before, stops) = absurd stops
-files_name inputs n is (faults.Ranges line) (i, lt, before, stops) = absurd stops
-files_name inputs n is faults.Words (i, lt, before, stops) = absurd stops
+files_name inputs n is fault (i, lt, before, stops) = absurd stops
 
 module _ (inputs : List (Option (List ℕ))) (ob oa pb pa : Option (List ℕ)) where
   files_refused : (fault : CliFault) → IsFaultOfFiles inputs fault → JoinStops inputs ob oa pb pa fault
-  files_refused (faults.Read path) stops = stops
   files_refused (faults.Write path) (i, lt, before, stops) = absurd stops
-  files_refused (faults.Setup fault) stops = stops
-  files_refused (faults.Hold fault) stops = stops
   files_refused (faults.HoldFile fault) stops = inl stops
-  files_refused (faults.Frame fault) stops = stops
-  files_refused (faults.Missing tile) stops = stops
-  files_refused (faults.Disputed tile) stops = stops
   files_refused faults.Memory stops = tt
-  files_refused (faults.Splice other) stops = stops
-  files_refused (faults.Ranges line) stops = stops
-  files_refused faults.Words stops = stops
+  files_refused fault stops = stops
 
   module _ (whole : Contents) (lines : List ℕ) (each : JoinsEach inputs whole lines) where
     made_refused : (fault : CliFault) → MadeStops whole lines ob oa pb pa fault → JoinStops inputs ob oa pb pa fault
     made_refused (faults.Write named) stops = (whole, lines, each, stops)
     made_refused (faults.HoldFile fault) stops = inr (whole, lines, each, stops)
-    made_refused (faults.Read path) stops = absurd stops
-    made_refused (faults.Setup fault) stops = absurd stops
-    made_refused (faults.Hold fault) stops = absurd stops
-    made_refused (faults.Frame fault) stops = absurd stops
-    made_refused (faults.Missing tile) stops = absurd stops
-    made_refused (faults.Disputed tile) stops = absurd stops
-    made_refused faults.Memory stops = absurd stops
-    made_refused (faults.Splice other) stops = absurd stops
-    made_refused (faults.Ranges line) stops = absurd stops
-    made_refused faults.Words stops = absurd stops
+    made_refused fault stops = absurd stops
 
     -- that the union has no file is a fault of none
     made_later : {R : Type 0} (old new : List R) (fault : CliFault) → MadeStops whole lines ob oa pb pa fault → LaterFilesKept inputs old new fault
     made_later old new (faults.HoldFile fault) stops = inr (whole, lines, each, stops)
     made_later old new (faults.Read path) stops = absurd stops
     made_later old new (faults.Hold fault) stops = absurd stops
-    made_later old new (faults.Write named) stops = tt
-    made_later old new (faults.Setup fault) stops = tt
-    made_later old new (faults.Frame fault) stops = tt
-    made_later old new (faults.Missing tile) stops = tt
-    made_later old new (faults.Disputed tile) stops = tt
-    made_later old new faults.Memory stops = tt
-    made_later old new (faults.Splice other) stops = tt
-    made_later old new (faults.Ranges line) stops = tt
-    made_later old new faults.Words stops = tt
+    made_later old new fault stops = tt
 
 pub record JoinOfBytes {T R : Type 0} (r : Result T CliFault) (inputs : List (Option (List ℕ))) (old new : List R) (ob oa pb pa : Option (List ℕ))
     : Type 0 where

@@ -1,13 +1,13 @@
 pub mod Shows
 pub mod InputLaws
 pub mod Telling
-pub mod WriteSteps
 pub mod RecordFaults
 pub mod InputFaults
 pub mod WrittenBoth
 pub mod HeldFiles
 pub mod UnreadFiles
 pub mod PrintSteps
+pub mod OfBytes
 pub mod ChainSteps
 pub mod TakeSteps
 pub mod SpliceCommandSteps

@@ -18,16 +18,7 @@ SavingBreaks-says : (P : CliFault → Type 0) (h : Contents) (old new : WriteLog
     → (StopsWriting old new (holding_text h) → P (faults.Write paths.Out)) → SavingBreaks h old new fault → P fault
 SavingBreaks-says P h old new (faults.HoldFile file) none stopped (is, kept) = none file is kept
 SavingBreaks-says P h old new (faults.Write path) none stopped (same, fits, stops) = subst (λ p. P (faults.Write p)) (sym same) (stopped stops)
-SavingBreaks-says P h old new (faults.Read path) none stopped breaks = absurd breaks
-SavingBreaks-says P h old new (faults.Setup fault) none stopped breaks = absurd breaks
-SavingBreaks-says P h old new (faults.Hold fault) none stopped breaks = absurd breaks
-SavingBreaks-says P h old new (faults.Frame fault) none stopped breaks = absurd breaks
-SavingBreaks-says P h old new (faults.Missing tile) none stopped breaks = absurd breaks
-SavingBreaks-says P h old new (faults.Disputed tile) none stopped breaks = absurd breaks
-SavingBreaks-says P h old new faults.Memory none stopped breaks = absurd breaks
-SavingBreaks-says P h old new (faults.Splice other) none stopped breaks = absurd breaks
-SavingBreaks-says P h old new (faults.Ranges line) none stopped breaks = absurd breaks
-SavingBreaks-says P h old new faults.Words none stopped breaks = absurd breaks
+SavingBreaks-says P h old new fault none stopped breaks = absurd breaks
 
 module _ (h : Contents) (text : List ℕ) (a b c d : WriteLog) where
   -- the file was written, and then the text or a front of it

@@ -4,12 +4,12 @@ use Rattle.std.specs.Prelude.{◌≢◌}
 use Rattle.std.specs.Io.KnownBytes.{Consumes}
 use Rattle.std.proofs.KnownBytes.{Consumes-whole}
 use Rattle.ffv1_bits.specs.Limits.{file_limit}
-use Rattle.ffv1_pool.specs.Contents.{Contents, joined}
+use Rattle.ffv1_pool.specs.Contents.{Contents, IsSameReel, joined}
 use Rattle.ffv1_hold.proofs.HeldEntries.{holding-joined}
 use Rattle.ffv1_hold.specs.HoldingText.{head_text, begun_text, file_text, holding_text}
 use Rattle.ffv1_hold.specs.declared.version.Version.TheVariants.{Second}
 use Rattle.ffv1_hold.specs.FileFaults.{IsOutside, IsFaultOf}
-use Rattle.ffv1_hold.specs.JoinedStreams.{Inputs, InputRefuses, OneRefuses, JoinRefuses, EntriesPass, UnionPasses, ReadsAll, ReadsSoFar, ReadsOtherHeads, WritesUnion, WritesNoEnd, WritesFrontSoFar, AnswersOther, BeginsWith}
+use Rattle.ffv1_hold.specs.JoinedStreams.{Inputs, InputRefuses, OneRefuses, JoinRefuses, EntriesPass, UnionPasses, ReadsAll, ReadsSoFar, ReadsOtherHeads, WritesUnion, WritesNoEnd, WritesFrontSoFar, AnswersOther, BeginsWith, BeginsWithPart}
 use Rattle.ffv1_hold.specs.JoinLogs.{Devices}
 use Rattle.ffv1_hold.specs.declared.file_fault.HoldFileFault.{HoldFileFault}
 use Rattle.ffv1_hold.specs.declared.file_fault.HoldFileFault.TheVariants as files
@@ -58,15 +58,12 @@ module _ (i : Inputs) (w v : Option (List ℕ)) where
   either_fault f inside (inl r) = inl (input_fault _ _ f inside r.0)
   either_fault f inside (inr r) = inr (input_fault _ _ f inside r.0)
 
+  union_begins : (left right : Contents) → BeginsWithPart i.left_old left → BeginsWithPart i.right_old right → IsSameReel left right
+      → BeginsUnion i.left_old i.right_old (joined left right)
+  union_begins left right l r same = record { one = left; other = right; left_begins = l; right_begins = r; same = same; is = refl }
+
   so_far : (left right : Contents) → ReadsSoFar i left right → BeginsUnion i.left_old i.right_old (joined left right)
-  so_far left right r = record {
-    one = left;
-    other = right;
-    left_begins = part_begins _ _ left r.left_read;
-    right_begins = part_begins _ _ right r.right_read;
-    same = r.same;
-    is = refl;
-  }
+  so_far left right r = union_begins left right (part_begins _ _ left r.left_read) (part_begins _ _ right r.right_read) r.same
 
   entries_pass : EntriesPass i → (union : Contents) × BeginsUnion i.left_old i.right_old union × (file_limit < length (holding_text union))
   entries_pass p = (
@@ -103,23 +100,10 @@ module _ (i : Inputs) (w v : Option (List ℕ)) where
   merge_fault files.OtherReel (inl (inl r)) = absurd r.0
   merge_fault files.OtherReel (inl (inr r)) = absurd r.0
   merge_fault files.OtherReel (inr heads) = inr (heads_differ heads)
-  merge_fault files.TooLong (inl r) = inl (either_fault files.TooLong (λ out. out) r)
   merge_fault files.TooLong (inr (inl b)) = inr (entries_pass b.0)
   merge_fault files.TooLong (inr (inr u)) = inr (union_passes u)
-  merge_fault files.Magic (inl r) = inl (either_fault files.Magic (λ out. out) r)
-  merge_fault files.Magic (inr b) = absurd b
-  merge_fault (files.Setup f) (inl r) = inl (either_fault (files.Setup f) (λ out. out) r)
-  merge_fault (files.Setup f) (inr b) = absurd b
-  merge_fault files.Truncated (inl r) = inl (either_fault files.Truncated (λ out. out) r)
-  merge_fault files.Truncated (inr b) = absurd b
-  merge_fault files.Tag (inl r) = inl (either_fault files.Tag (λ out. out) r)
-  merge_fault files.Tag (inr b) = absurd b
-  merge_fault files.Order (inl r) = inl (either_fault files.Order (λ out. out) r)
-  merge_fault files.Order (inr b) = absurd b
-  merge_fault files.NotASlice (inl r) = inl (either_fault files.NotASlice (λ out. out) r)
-  merge_fault files.NotASlice (inr b) = absurd b
-  merge_fault files.Trailing (inl r) = inl (either_fault files.Trailing (λ out. out) r)
-  merge_fault files.Trailing (inr b) = absurd b
+  merge_fault fault (inl r) = inl (either_fault fault (λ out. out) r)
+  merge_fault fault (inr b) = absurd b
 
   -- ---- what it left
 
@@ -127,14 +111,7 @@ module _ (i : Inputs) (w v : Option (List ℕ)) where
   entries_left (inl none) = inl none
   entries_left (inr e) = inr (
     joined e.left e.right,
-    record {
-      one = e.left;
-      other = e.right;
-      left_begins = e.left_begins;
-      right_begins = e.right_begins;
-      same = e.same;
-      is = refl;
-    },
+    union_begins e.left e.right e.left_begins e.right_begins e.same,
     e.written,
   )
 
@@ -143,32 +120,12 @@ module _ (i : Inputs) (w v : Option (List ℕ)) where
 -- what a fault left
 pub leaves_front : (old new : Devices) (f : HoldFileFault) → (f ≢ files.Write → WritesNoEnd (inputs_of old new) old.sink.contents new.sink.contents)
     → (f ≡ files.Write → WritesFrontSoFar (inputs_of old new) old.sink.contents new.sink.contents) → LeavesFront f old new
-leaves_front old new files.Read none front = none (λ is. absurd (cc))
-leaves_front old new files.Memory none front = none (λ is. absurd (cc))
 leaves_front old new files.Write none front = front refl
-leaves_front old new files.OtherReel none front = none (λ is. absurd (cc))
-leaves_front old new files.Truncated none front = none (λ is. absurd (cc))
-leaves_front old new files.TooLong none front = none (λ is. absurd (cc))
-leaves_front old new files.Trailing none front = none (λ is. absurd (cc))
-leaves_front old new files.Magic none front = none (λ is. absurd (cc))
-leaves_front old new (files.Setup s) none front = none (λ is. absurd (cc))
-leaves_front old new files.Tag none front = none (λ is. absurd (cc))
-leaves_front old new files.Order none front = none (λ is. absurd (cc))
-leaves_front old new files.NotASlice none front = none (λ is. absurd (cc))
+leaves_front old new fault none front = none (λ is. absurd (cc))
 
 merge_names : (f : HoldFileFault) → NamesPath IsMergePath (of_merge f)
 merge_names files.Read = tt
-merge_names files.Memory = tt
-merge_names files.Write = tt
-merge_names files.OtherReel = tt
-merge_names files.Truncated = tt
-merge_names files.TooLong = tt
-merge_names files.Trailing = tt
-merge_names files.Magic = tt
-merge_names (files.Setup s) = tt
-merge_names files.Tag = tt
-merge_names files.Order = tt
-merge_names files.NotASlice = tt
+merge_names fault = tt
 
 -- what is told over bytes
 pub record MergeOfBytes {T : Type 0} (r : Result T CliFault) (left right before after : Option (List ℕ)) : Type 0 where
@@ -179,18 +136,8 @@ pub record MergeOfBytes {T : Type 0} (r : Result T CliFault) (left right before 
 
 merge_leaves : (old new : Devices) (f : HoldFileFault) → LeavesFront f old new
     → MergeLeaves old.left.remaining old.right.remaining old.sink.contents new.sink.contents (of_merge f)
-merge_leaves old new files.Read left = entries_left (inputs_of old new) old.sink.contents new.sink.contents left
-merge_leaves old new files.Memory left = entries_left (inputs_of old new) old.sink.contents new.sink.contents left
 merge_leaves old new files.Write left = (joined left.left left.right, so_far (inputs_of old new) old.sink.contents new.sink.contents left.left left.right left.read, left.front)
-merge_leaves old new files.OtherReel left = entries_left (inputs_of old new) old.sink.contents new.sink.contents left
-merge_leaves old new files.Truncated left = entries_left (inputs_of old new) old.sink.contents new.sink.contents left
-merge_leaves old new files.TooLong left = entries_left (inputs_of old new) old.sink.contents new.sink.contents left
-merge_leaves old new files.Trailing left = entries_left (inputs_of old new) old.sink.contents new.sink.contents left
-merge_leaves old new files.Magic left = entries_left (inputs_of old new) old.sink.contents new.sink.contents left
-merge_leaves old new (files.Setup s) left = entries_left (inputs_of old new) old.sink.contents new.sink.contents left
-merge_leaves old new files.Tag left = entries_left (inputs_of old new) old.sink.contents new.sink.contents left
-merge_leaves old new files.Order left = entries_left (inputs_of old new) old.sink.contents new.sink.contents left
-merge_leaves old new files.NotASlice left = entries_left (inputs_of old new) old.sink.contents new.sink.contents left
+merge_leaves old new fault left = entries_left (inputs_of old new) old.sink.contents new.sink.contents left
 
 module _ {T : Type 0} (old new : Devices) where
   abbrev OfBytes : Result T CliFault → Type 0
@@ -210,16 +157,7 @@ module _ {T : Type 0} (old new : Devices) where
 outside_other : (f : HoldFileFault) → IsOutside f → AnswersOtherHeads (Err (of_merge f))
 outside_other files.Read out = tt
 outside_other files.Memory out = tt
-outside_other files.Write out = absurd out
-outside_other files.OtherReel out = absurd out
-outside_other files.TooLong out = absurd out
-outside_other files.Magic out = absurd out
-outside_other (files.Setup f) out = absurd out
-outside_other files.Truncated out = absurd out
-outside_other files.Tag out = absurd out
-outside_other files.Order out = absurd out
-outside_other files.NotASlice out = absurd out
-outside_other files.Trailing out = absurd out
+outside_other fault out = absurd out
 
 pub answers_other_heads : (f : HoldFileFault) → AnswersOther (Err f) → AnswersOtherHeads (Err (of_merge f))
 answers_other_heads f (inl out) = outside_other f out

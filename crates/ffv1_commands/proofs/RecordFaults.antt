@@ -1,13 +1,19 @@
--- What a fault of the record says, of any fact about faults.
-use Rattle.std.proofs.Common.{ℕ, List, sym, subst}
+-- What a record that was read gives, and what its fault says, of any fact about faults.
+use Rattle.std.proofs.Common.{◌≡◌, ℕ, List, inl, inr, refl, sym, subst}
+use Rattle.std.specs.Prelude.{◌⊎◌}
+use Rattle.ffv1_range.specs.Setup.{SetupValue, IsSetupOf}
 use Rattle.ffv1_range.specs.SetupFaults.{FirstSetupFault}
 use Rattle.ffv1_range.specs.declared.fault.SetupFault.{SetupFault}
+use Rattle.ffv1_range.specs.declared.fault.SetupFault.TheVariants as setup
 use Rattle.ffv1_devices.specs.Logs.{ReadLog}
-use Rattle.ffv1_commands.specs.Devices.{TakesWhole}
-use Rattle.ffv1_commands.specs.RecordInputs.{RecordStops}
+use Rattle.ffv1_commands.specs.Devices.{TakesWhole, FileStops, UnlessWriting, IfOfRecord}
+use Rattle.ffv1_commands.specs.Fault.{of_setup}
+use Rattle.ffv1_commands.specs.RecordInputs.{TakesSetup, RecordStops}
 use Rattle.ffv1_commands.specs.declared.fault.CliFault.{CliFault}
 use Rattle.ffv1_commands.specs.declared.fault.CliFault.TheVariants as faults
 use Rattle.ffv1_commands.specs.declared.path.CommandPath.TheVariants as paths
+use Rattle.ffv1_commands.proofs.InputFaults.{IsUnwritten, untouched_one, untouched_both}
+use Rattle.ffv1_commands.proofs.UnreadFiles.{file_says}
 
 -- what any fault of the record says, if that of each form says so
 pub RecordStops-says : (P : CliFault → Type 0) (width height : ℕ) (a b : ReadLog) (fault : CliFault) → P (faults.Read paths.Record) → P faults.Memory
@@ -16,12 +22,49 @@ pub RecordStops-says : (P : CliFault → Type 0) (width height : ℕ) (a b : Rea
 RecordStops-says P width height a b (faults.Read named) read memory first (same, unread) = subst (λ n. P (faults.Read n)) (sym same) read
 RecordStops-says P width height a b faults.Memory read memory first within = memory
 RecordStops-says P width height a b (faults.Setup setup) read memory first (config, took, is) = first setup config took is
-RecordStops-says P width height a b (faults.Write named) read memory first stops = absurd stops
-RecordStops-says P width height a b (faults.Hold fault) read memory first stops = absurd stops
-RecordStops-says P width height a b (faults.HoldFile fault) read memory first stops = absurd stops
-RecordStops-says P width height a b (faults.Frame fault) read memory first stops = absurd stops
-RecordStops-says P width height a b (faults.Missing tile) read memory first stops = absurd stops
-RecordStops-says P width height a b (faults.Disputed tile) read memory first stops = absurd stops
-RecordStops-says P width height a b (faults.Splice other) read memory first stops = absurd stops
-RecordStops-says P width height a b (faults.Ranges line) read memory first stops = absurd stops
-RecordStops-says P width height a b faults.Words read memory first stops = absurd stops
+RecordStops-says P width height a b fault read memory first stops = absurd stops
+
+-- a setup's fault is Memory, or told as its own
+setups : (P : CliFault → Type 0) (fault : SetupFault) → P faults.Memory → P (faults.Setup fault) → P (of_setup fault)
+setups P setup.Memory memory other = memory
+setups P fault memory other = other
+
+-- a record's fault is Memory, or the one that reading it meets first
+setups_first : (P : CliFault → Type 0) (First : Type 0) (fault : SetupFault) → P faults.Memory → (First → P (faults.Setup fault))
+    → (fault ≡ setup.Memory) ⊎ First → P (of_setup fault)
+setups_first P First fault memory other (inl is) = subst (λ f. P (of_setup f)) (sym is) memory
+setups_first P First fault memory other (inr first) = setups P fault memory (other first)
+
+module _ (width height : ℕ) (a b : ReadLog) where
+  -- the record was not read
+  pub record_unread : (fault : CliFault) → FileStops paths.Record fault a b → RecordStops width height a b fault
+  record_unread = file_says (RecordStops width height a b) paths.Record a b (λ unread. (refl, unread)) (λ within. within)
+
+  -- it was, and gives this setup
+  pub record_taken : (config bytes : List ℕ) → bytes ≡ config → TakesWhole a b config → (value : SetupValue) → IsSetupOf bytes width height value
+      → TakesSetup width height a b value
+  record_taken config bytes same took value is =
+      record { config = config; read = took; is_setup = subst (λ (read : List ℕ). IsSetupOf read width height value) same is }
+
+  -- or none
+  pub record_refused : (config bytes : List ℕ) → bytes ≡ config → TakesWhole a b config → (fault : SetupFault)
+      → (fault ≡ setup.Memory) ⊎ FirstSetupFault bytes width height fault → RecordStops width height a b (of_setup fault)
+  record_refused config bytes same took fault first =
+      setups_first (RecordStops width height a b) (FirstSetupFault config width height fault) fault (config, took.read, took.few)
+      (λ met. (config, took, met)) (subst (λ (read : List ℕ). (fault ≡ setup.Memory) ⊎ FirstSetupFault read width height fault) same first)
+
+  -- it comes before anything is written
+  record_unwritten : (fault : CliFault) → RecordStops width height a b fault → IsUnwritten fault
+  record_unwritten fault stops = RecordStops-says IsUnwritten width height a b fault tt tt (λ setup config took first. tt) stops
+
+  pub record_one : {W : Type 0} (output : W) (fault : CliFault) → RecordStops width height a b fault → UnlessWriting fault (output ≡ output)
+  record_one output fault stops = untouched_one output fault (record_unwritten fault stops)
+
+  pub record_both : {O W : Type 0} (out : O) (output : W) (fault : CliFault) → RecordStops width height a b fault
+      → UnlessWriting fault ((out ≡ out) × (output ≡ output))
+  record_both out output fault stops = untouched_both out output fault (record_unwritten fault stops)
+
+  -- and before any other input is read
+  pub record_in_turn : (P : Type 0) → P → (fault : CliFault) → RecordStops width height a b fault → IfOfRecord fault P
+  record_in_turn P here fault stops =
+      RecordStops-says (λ f. IfOfRecord f P) width height a b fault (λ is. here) tt (λ setup config took first. here) stops

@@ -5,14 +5,13 @@ use Rattle.ffv1_pool.specs.Contents.{Contents}
 use Rattle.ffv1_hold.specs.FileFaults.{ReadsHolding}
 use Rattle.ffv1_picture.specs.ReportText.{report_text}
 use Rattle.ffv1_commands.specs.Devices.{WritesNamed}
-use Rattle.ffv1_commands.specs.Fault.{NamesPath}
 use Rattle.ffv1_commands.specs.Paths.{IsReportPath}
 use Rattle.ffv1_commands.specs.ReportedText.{ReportsFile, ReportStops, ReportBreaks, TellsReport}
 use Rattle.ffv1_commands.specs.declared.fault.CliFault.{CliFault}
 use Rattle.ffv1_commands.specs.declared.fault.CliFault.TheVariants as faults
 use Rattle.ffv1_commands.specs.declared.path.CommandPath.TheVariants as paths
-use Rattle.ffv1_commands.proofs.InputFaults.{IsHoldingFault-says}
-use Rattle.ffv1_commands.proofs.HeldFiles.{held_file, unread_file}
+use Rattle.ffv1_commands.proofs.HeldFiles.{held_file}
+use Rattle.ffv1_commands.proofs.OfBytes.{OfBytes, unread_bytes}
 
 -- the report was printed once the file was read, or was not
 pub reported : {T : Type 0} (a b : ReadLog) (old new : WriteLog) (h : Contents) → ReadsHolding a b h → (r : Result T CliFault)
@@ -22,36 +21,22 @@ reported a b old new h read (Err fault) (is, stopped) = inr (h, read, subst (Rep
 
 -- ---- the same of bytes
 
-pub record ReportOfBytes {T : Type 0} (r : Result T CliFault) (input old new : Option (List ℕ)) : Type 0 where
-  pub ok : OnOk r (ReportsFile input old new)
-  pub err : IfErr r (ReportStops input old new)
-  pub names : IfErr r (NamesPath IsReportPath)
+module _ (a b : ReadLog) (old new : WriteLog) where
+  abbrev Stops : CliFault → Type 0
+  Stops fault = ReportStops a.remaining old.contents new.contents fault
 
-module _ {T : Type 0} (a b : ReadLog) (old new : WriteLog) where
-  unreported : (h : Contents) → ReadsHolding a b h → (fault : CliFault) → ReportBreaks h old new fault
-      → ReportOfBytes {T = T} (Err fault) a.remaining old.contents new.contents
-  unreported h read faults.Memory kept = record { ok = tt; err = tt; names = tt }
-  unreported h read (faults.Write path) (same, stopped) =
-      record { ok = tt; err = (same, (h, held_file a b h read, stopped.front)); names = subst IsReportPath (sym same) tt }
-  unreported h read (faults.Read path) stops = absurd stops
-  unreported h read (faults.Setup fault) stops = absurd stops
-  unreported h read (faults.Hold fault) stops = absurd stops
-  unreported h read (faults.HoldFile fault) stops = absurd stops
-  unreported h read (faults.Frame fault) stops = absurd stops
-  unreported h read (faults.Missing tile) stops = absurd stops
-  unreported h read (faults.Disputed tile) stops = absurd stops
-  unreported h read (faults.Splice other) stops = absurd stops
-  unreported h read (faults.Ranges line) stops = absurd stops
-  unreported h read faults.Words stops = absurd stops
+  module _ {T : Type 0} where
+    abbrev Did : T → Type 0
+    Did x = ReportsFile a.remaining old.contents new.contents
 
-  pub report_of_bytes : (r : Result T CliFault) → TellsReport r a b old new → ReportOfBytes r a.remaining old.contents new.contents
-  report_of_bytes (Ok x) (h, read, wrote) =
-      record { ok = record { held = h; file = held_file a b h read; printed = wrote.bytes' }; err = tt; names = tt }
-  report_of_bytes (Err fault) (inl (stops, kept)) =
-      let unread = unread_file a b (paths.Hold 0) fault stops in
-      record {
-        ok = tt;
-        err = IsHoldingFault-says (ReportStops a.remaining old.contents new.contents) (paths.Hold 0) a.remaining fault refl tt (λ file is. is) unread;
-        names = IsHoldingFault-says (NamesPath IsReportPath) (paths.Hold 0) a.remaining fault (omega arith) tt (λ file is. tt) unread;
-      }
-  report_of_bytes (Err fault) (inr (h, read, breaks)) = unreported h read fault breaks
+    unreported : (h : Contents) → ReadsHolding a b h → (fault : CliFault) → ReportBreaks h old new fault → OfBytes Did Stops IsReportPath (Err fault)
+    unreported h read faults.Memory kept = record { ok = tt; err = tt; names = tt }
+    unreported h read (faults.Write path) (same, stopped) =
+        record { ok = tt; err = (same, (h, held_file a b h read, stopped.front)); names = subst IsReportPath (sym same) tt }
+    unreported h read fault stops = absurd stops
+
+    pub report_of_bytes : (r : Result T CliFault) → TellsReport r a b old new → OfBytes Did Stops IsReportPath r
+    report_of_bytes (Ok x) (h, read, wrote) =
+        record { ok = record { held = h; file = held_file a b h read; printed = wrote.bytes' }; err = tt; names = tt }
+    report_of_bytes (Err fault) (inl (stops, kept)) = unread_bytes Did Stops IsReportPath a b fault (omega arith) refl tt (λ file shown. shown) stops
+    report_of_bytes (Err fault) (inr (h, read, breaks)) = unreported h read fault breaks

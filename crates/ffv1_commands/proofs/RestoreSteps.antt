@@ -8,15 +8,15 @@ use Rattle.ffv1_pool.specs.Refusals.{IsRefusal}
 use Rattle.ffv1_pool.specs.declared.restore.RestoreFault.{RestoreFault}
 use Rattle.ffv1_pool.specs.declared.restore.RestoreFault.TheVariants as refusals
 use Rattle.ffv1_commands.specs.Devices.{BothStop, WritesBoth}
-use Rattle.ffv1_commands.specs.Fault.{NamesPath, of_restore}
+use Rattle.ffv1_commands.specs.Fault.{of_restore}
 use Rattle.ffv1_commands.specs.Paths.{IsHoldPath}
 use Rattle.ffv1_commands.specs.RestoreText.{restored_line, RestoresFile, RestoreStops, RestoreRefuses, TellsRestore}
 use Rattle.ffv1_commands.specs.declared.fault.CliFault.{CliFault}
 use Rattle.ffv1_commands.specs.declared.fault.CliFault.TheVariants as faults
 use Rattle.ffv1_commands.specs.declared.path.CommandPath.TheVariants as paths
-use Rattle.ffv1_commands.proofs.InputFaults.{IsHoldingFault-says}
-use Rattle.ffv1_commands.proofs.HeldFiles.{held_file, unread_file}
-use Rattle.ffv1_commands.proofs.WrittenBoth.{both_says, both_stop_bytes, both_name}
+use Rattle.ffv1_commands.proofs.HeldFiles.{held_file}
+use Rattle.ffv1_commands.proofs.OfBytes.{OfBytes, unread_bytes, unwritten_bytes}
+use Rattle.ffv1_commands.proofs.WrittenBoth.{both_says}
 
 pub of_restore-says : (P : CliFault → Type 0) (fault : RestoreFault) → ((tile : ℕ) → P (faults.Missing tile)) → ((tile : ℕ) → P (faults.Disputed tile))
     → P faults.Memory → P (of_restore fault)
@@ -50,49 +50,29 @@ module _ (file file' : ReadLog) (out out' output output' : WriteLog) (h : Conten
 
 -- ---- the same of bytes
 
-pub record RestoreOfBytes {T : Type 0} (r : Result T CliFault) (input ob oa pb pa : Option (List ℕ)) : Type 0 where
-  pub ok : OnOk r (RestoresFile input ob oa pb pa)
-  pub err : IfErr r (RestoreStops input ob oa pb pa)
-  pub names : IfErr r (NamesPath IsHoldPath)
+module _ (file file' : ReadLog) (out out' output output' : WriteLog) where
+  abbrev Stops : CliFault → Type 0
+  Stops fault = RestoreStops file.remaining out.contents out'.contents output.contents output'.contents fault
 
-module _ {T : Type 0} (file file' : ReadLog) (out out' output output' : WriteLog) where
-  refused_bytes : (h : Contents) → ReadsHolding file file' h → (f : CliFault) → RestoreRefuses h out out' output output' f
-      → RestoreOfBytes {T = T} (Err f) file.remaining out.contents out'.contents output.contents output'.contents
-  refused_bytes h read (faults.Missing tile) (refused, kept) =
-      record { ok = tt; err = (h, held_file file file' h read, refused); names = tt }
-  refused_bytes h read (faults.Disputed tile) (refused, kept) =
-      record { ok = tt; err = (h, held_file file file' h read, refused); names = tt }
-  refused_bytes h read faults.Memory (settled, kept) = record { ok = tt; err = tt; names = tt }
-  refused_bytes h read (faults.Write named) (settled, stops) =
-      let payload = restored_payload h in
-      let line = restored_line (length payload) in
-      record {
-        ok = tt;
-        err = (h, held_file file file' h read, settled, both_stop_bytes payload line out out' output output' named stops);
-        names = both_name payload line out out' output output' IsHoldPath tt tt named stops;
-      }
-  refused_bytes h read (faults.Read named) stops = absurd stops
-  refused_bytes h read (faults.Setup fault) stops = absurd stops
-  refused_bytes h read (faults.Hold fault) stops = absurd stops
-  refused_bytes h read (faults.HoldFile fault) stops = absurd stops
-  refused_bytes h read (faults.Frame fault) stops = absurd stops
-  refused_bytes h read (faults.Splice other) stops = absurd stops
-  refused_bytes h read (faults.Ranges line) stops = absurd stops
-  refused_bytes h read faults.Words stops = absurd stops
+  module _ {T : Type 0} where
+    abbrev Did : T → Type 0
+    Did x = RestoresFile file.remaining out.contents out'.contents output.contents output'.contents
 
-  pub restore_of_bytes : (r : Result T CliFault) → TellsRestore r file file' out out' output output'
-      → RestoreOfBytes r file.remaining out.contents out'.contents output.contents output'.contents
-  restore_of_bytes (Ok x) (h, read, settled, wrote, printed) = record {
-    ok = record { held = h; file = held_file file file' h read; settled = settled; payload = wrote.bytes'; printed = printed.bytes' };
-    err = tt;
-    names = tt;
-  }
-  restore_of_bytes (Err f) (inl (stops, kept)) =
-      let unread = unread_file file file' (paths.Hold 0) f stops in
-      record {
-        ok = tt;
-        err = IsHoldingFault-says (RestoreStops file.remaining out.contents out'.contents output.contents output'.contents) (paths.Hold 0)
-            file.remaining f refl tt (λ shown is. is) unread;
-        names = IsHoldingFault-says (NamesPath IsHoldPath) (paths.Hold 0) file.remaining f (omega arith) tt (λ shown is. tt) unread;
-      }
-  restore_of_bytes (Err f) (inr (h, read, refuses)) = refused_bytes h read f refuses
+    refused_bytes : (h : Contents) → ReadsHolding file file' h → (f : CliFault) → RestoreRefuses h out out' output output' f → OfBytes Did Stops IsHoldPath (Err f)
+    refused_bytes h read (faults.Missing tile) (refused, kept) = record { ok = tt; err = (h, held_file file file' h read, refused); names = tt }
+    refused_bytes h read (faults.Disputed tile) (refused, kept) = record { ok = tt; err = (h, held_file file file' h read, refused); names = tt }
+    refused_bytes h read faults.Memory (settled, kept) = record { ok = tt; err = tt; names = tt }
+    refused_bytes h read (faults.Write named) (settled, stops) =
+        let payload = restored_payload h in
+        unwritten_bytes Did Stops IsHoldPath payload (restored_line (length payload)) out out' output output' tt tt
+        (λ named at. (h, held_file file file' h read, settled, at)) named stops
+    refused_bytes h read fault stops = absurd stops
+
+    pub restore_of_bytes : (r : Result T CliFault) → TellsRestore r file file' out out' output output' → OfBytes Did Stops IsHoldPath r
+    restore_of_bytes (Ok x) (h, read, settled, wrote, printed) = record {
+      ok = record { held = h; file = held_file file file' h read; settled = settled; payload = wrote.bytes'; printed = printed.bytes' };
+      err = tt;
+      names = tt;
+    }
+    restore_of_bytes (Err f) (inl (stops, kept)) = unread_bytes Did Stops IsHoldPath file file' f (omega arith) refl tt (λ fault shown. shown) stops
+    restore_of_bytes (Err f) (inr (h, read, refuses)) = refused_bytes h read f refuses

@@ -4,6 +4,7 @@ use Rattle.std.proofs.KnownBytes.{Keeps-refl}
 use Rattle.std.specs.Io.KnownBytes.{Appends, Consumes, Keeps}
 use Rattle.ffv1_devices.specs.Logs.{ReadLog, WriteLog, Reads, BreaksOff, Writes, StopsWriting}
 use Rattle.ffv1_scan.specs.declared.ranges.ByteRange.{ByteRange}
+use Rattle.ffv1_scan.specs.declared.scanning.ScanFault.{ScanFault}
 use Rattle.ffv1_scan.specs.declared.scanning.ScanFault.TheVariants as scans
 use Rattle.ffv1_scan.specs.Ranges.{AreRanges}
 use Rattle.ffv1_scan.specs.Scans.{ScansFront, ScansRanges}
@@ -39,6 +40,11 @@ list_read P a b l = whole_input a.remaining b.remaining l.text (record { taken =
 
 listed : (ranges : List ByteRange) (a b : ReadLog) → ReadsList (λ text. AreRanges text ranges) a b → IsList a.remaining ranges
 listed ranges a b l = record { text = l.text; whole = list_read _ a b l; are = l.says }
+
+-- the ranges that were scanned are those of the list, as it was read
+pub scanned_list : (a b c d : ReadLog) (x y : WriteLog) (r : Result Bool ScanFault) (ranges items : List ByteRange) → ranges ≡ items
+    → ReadsList (λ text. AreRanges text items) a b → ScansRanges ranges r c d x y → ScansListed a b (λ all. ScansRanges all r c d x y)
+scanned_list a b c d x y r ranges items same list scans = (items, list, subst (λ (all : List ByteRange). ScansRanges all r c d x y) same scans)
 
 pub record ScanOfBytes (r : Result Bool CliFault) (list file before after : Option (List ℕ)) : Type 0 where
   pub ok : IfOk r (ScansFile list file before after)
@@ -79,8 +85,6 @@ module _ (a b c d : ReadLog) (x y : WriteLog) where
   scan_of_bytes (Err (faults.Read path)) (inr (named, stops)) = record { ok = tt; err = inr (named, stopped stops) }
   scan_of_bytes (Err (faults.Ranges number)) (inl (list, same_file, same)) =
       record { ok = tt; err = (list.text, list_read _ a b list, list.says, kept same) }
-  scan_of_bytes (Err (faults.Ranges number)) (inr stops) = absurd stops
-  scan_of_bytes (Err (faults.Write path)) (inl (fault, same_file, same)) = absurd fault
   scan_of_bytes (Err (faults.Write path)) (inr (named, (ranges, list, (front, scan, long)))) = record {
     ok = tt;
     err = (named, some (Reads c d) (λ bytes went. begins c.remaining d.remaining bytes went.bytes') (StopsWriting x y) (WritesFront x.contents y.contents) (λ text wrote. wrote.front) ranges front list scan);
@@ -90,19 +94,5 @@ module _ (a b c d : ReadLog) (x y : WriteLog) where
     ok = tt;
     err = inr (some (Reads c d) (λ bytes went. begins c.remaining d.remaining bytes went.bytes') (Writes x y) (Appends x.contents y.contents) (λ text wrote. wrote.bytes') ranges front list scan);
   }
-  scan_of_bytes (Err (faults.Setup fault)) (inl stops) = absurd stops.0
-  scan_of_bytes (Err (faults.Setup fault)) (inr stops) = absurd stops
-  scan_of_bytes (Err (faults.Hold fault)) (inl stops) = absurd stops.0
-  scan_of_bytes (Err (faults.Hold fault)) (inr stops) = absurd stops
-  scan_of_bytes (Err (faults.HoldFile fault)) (inl stops) = absurd stops.0
-  scan_of_bytes (Err (faults.HoldFile fault)) (inr stops) = absurd stops
-  scan_of_bytes (Err (faults.Frame fault)) (inl stops) = absurd stops.0
-  scan_of_bytes (Err (faults.Frame fault)) (inr stops) = absurd stops
-  scan_of_bytes (Err (faults.Missing tile)) (inl stops) = absurd stops.0
-  scan_of_bytes (Err (faults.Missing tile)) (inr stops) = absurd stops
-  scan_of_bytes (Err (faults.Disputed tile)) (inl stops) = absurd stops.0
-  scan_of_bytes (Err (faults.Disputed tile)) (inr stops) = absurd stops
-  scan_of_bytes (Err (faults.Splice other)) (inl stops) = absurd stops.0
-  scan_of_bytes (Err (faults.Splice other)) (inr stops) = absurd stops
-  scan_of_bytes (Err faults.Words) (inl stops) = absurd stops.0
-  scan_of_bytes (Err faults.Words) (inr stops) = absurd stops
+  scan_of_bytes (Err fault) (inl stops) = absurd stops.0
+  scan_of_bytes (Err fault) (inr stops) = absurd stops

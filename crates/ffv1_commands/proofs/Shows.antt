@@ -9,7 +9,7 @@ use Rattle.ffv1_devices.specs.Logs.{ReadLog, WriteLog}
 use Rattle.ffv1_commands.specs.Devices.{WritesFront, TakesWhole, WritesNamed}
 use Rattle.ffv1_commands.specs.Fault.{NamesPath}
 use Rattle.ffv1_commands.specs.Paths.{IsShowPath}
-use Rattle.ffv1_commands.specs.RecordInputs.{TakesSetup}
+use Rattle.ffv1_commands.specs.RecordInputs.{TakesSetup, RecordStops}
 use Rattle.ffv1_commands.specs.ShowText.{show_text, PrintsSetup, ShowStops, ShowBreaks, TellsShow}
 use Rattle.ffv1_commands.specs.declared.fault.CliFault.{CliFault}
 use Rattle.ffv1_commands.specs.declared.fault.CliFault.TheVariants as faults
@@ -22,6 +22,12 @@ pub setup_printed : {T : Type 0} (width height : ℕ) (a b : ReadLog) (old new :
 setup_printed width height a b old new setup read (Ok x) wrote = (setup, read, wrote)
 setup_printed width height a b old new setup read (Err fault) (is, stopped) =
     subst (ShowBreaks width height a b old new) (sym is) (refl, (setup, read, stopped))
+
+-- the record gave no setup, which leaves the output as it was
+pub record_shows : (width height : ℕ) (a b : ReadLog) (output : WriteLog) (fault : CliFault) → RecordStops width height a b fault
+    → ShowBreaks width height a b output output fault
+record_shows width height a b output (faults.Write path) stops = absurd stops
+record_shows width height a b output fault stops = (stops, refl)
 
 -- ---- the same of bytes
 
@@ -70,11 +76,4 @@ module _ (width height : ℕ) (a b : ReadLog) (old new : WriteLog) where
     );
     names = subst IsShowPath (sym same) tt;
   }
-  show_of_bytes (Err (faults.Hold fault)) stops = absurd stops.0
-  show_of_bytes (Err (faults.HoldFile fault)) stops = absurd stops.0
-  show_of_bytes (Err (faults.Frame fault)) stops = absurd stops.0
-  show_of_bytes (Err (faults.Missing tile)) stops = absurd stops.0
-  show_of_bytes (Err (faults.Disputed tile)) stops = absurd stops.0
-  show_of_bytes (Err (faults.Splice other)) stops = absurd stops.0
-  show_of_bytes (Err (faults.Ranges line)) stops = absurd stops.0
-  show_of_bytes (Err faults.Words) stops = absurd stops.0
+  show_of_bytes (Err fault) stops = absurd stops.0

@@ -118,13 +118,6 @@ only_devices : (copies : List (List ℕ)) (size : ℕ) → ((i : ℕ) → i < le
     → (ob oa pb pa : Option (List ℕ)) (fault : CliFault) → SpliceStops (map Some copies) ob oa pb pa fault → IsOfDevices fault
 only_devices copies size one ob oa pb pa (faults.Read path) stops = tt
 only_devices copies size one ob oa pb pa (faults.Write path) stops = tt
-only_devices copies size one ob oa pb pa (faults.Setup fault) stops = absurd stops
-only_devices copies size one ob oa pb pa (faults.Hold fault) stops = absurd stops
-only_devices copies size one ob oa pb pa (faults.HoldFile fault) stops = absurd stops
-only_devices copies size one ob oa pb pa (faults.Frame fault) stops = absurd stops
-only_devices copies size one ob oa pb pa (faults.Missing tile) stops = absurd stops
-only_devices copies size one ob oa pb pa (faults.Ranges line) stops = absurd stops
-only_devices copies size one ob oa pb pa (faults.Disputed tile) stops = absurd stops
 only_devices copies size one ob oa pb pa (faults.Splice path) (read, whole, (index, is, named)) =
     let same : copies ≡ read = whole_inputs copies read whole in
     let all : (i : ℕ) → i < length read → length (get_or read i []) ≡ size =
@@ -132,7 +125,7 @@ only_devices copies size one ob oa pb pa (faults.Splice path) (read, whole, (ind
     let there : index < length read = is.there in
     absurd (is.other (all index is.there ∙ sym (all 0 (omega arith))))
 only_devices copies size one ob oa pb pa faults.Memory stops = tt
-only_devices copies size one ob oa pb pa faults.Words stops = absurd stops
+only_devices copies size one ob oa pb pa fault stops = absurd stops
 
 -- what is made where it is given back
 abbrev pub gives_back : List ℕ → List (List ℕ) → Type 0

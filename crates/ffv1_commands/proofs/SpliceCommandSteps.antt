@@ -17,12 +17,7 @@ use Rattle.ffv1_commands.proofs.InputLaws.{taken_whole, length-AreWholeInputs}
 use Rattle.ffv1_commands.proofs.UnreadFiles.{file_says}
 use Rattle.ffv1_commands.proofs.WrittenBoth.{both_says, both_stop_bytes, both_name}
 
--- what a function gives of the first elements, and of the next
-pub map_more : {X Y : Type 0} (f : X → Y) (xs : List X) (i : ℕ) (d : X) → i < length xs → take i (map f xs) ++ f (get_or xs i d) ∷ [] ≡ take (i + 1) (map f xs)
-map_more f xs i d lt =
-    let few : i < length (map f xs) = omega (arith, length-map xs f) in
-    ap (λ y. take i (map f xs) ++ y ∷ []) (sym (get_or-map f xs i d (f d) lt)) ∙ sym (take_more (map f xs) i (f d) few)
-
+-- what a function gives of the elements, and of one more
 pub map_push : {X Y : Type 0} (f : X → Y) (xs ys : List X) (x : X) → ys ≡ xs ++ x ∷ [] → map f xs ++ f x ∷ [] ≡ map f ys
 map_push f xs ys x same = sym (ap (map f) same ∙ map-append f xs (x ∷ []))
 
@@ -31,18 +26,9 @@ map_push f xs ys x same = sym (ap (map f) same ∙ map-append f xs (x ∷ []))
 -- any fact of a copy of another length, and of Memory
 pub length_says : (copies : List (List ℕ)) (P : CliFault → Type 0) (fault : CliFault)
     → ((index : ℕ) → IsOfOtherLength copies index → P (faults.Splice (paths.Copy index))) → P faults.Memory → IsLengthFault copies fault → P fault
-length_says copies P (faults.Read path) other memory stops = absurd stops
-length_says copies P (faults.Write path) other memory stops = absurd stops
-length_says copies P (faults.Setup fault) other memory stops = absurd stops
-length_says copies P (faults.Hold fault) other memory stops = absurd stops
-length_says copies P (faults.HoldFile fault) other memory stops = absurd stops
-length_says copies P (faults.Frame fault) other memory stops = absurd stops
-length_says copies P (faults.Missing tile) other memory stops = absurd stops
-length_says copies P (faults.Ranges line) other memory stops = absurd stops
-length_says copies P (faults.Disputed tile) other memory stops = absurd stops
 length_says copies P (faults.Splice path) other memory stops = subst (λ p. P (faults.Splice p)) (sym stops.2) (other stops.0 stops.1)
 length_says copies P faults.Memory other memory stops = memory
-length_says copies P faults.Words other memory stops = absurd stops
+length_says copies P fault other memory stops = absurd stops
 
 -- a copy of another length, or Memory, leaves both outputs
 pub length_refused : (copies : List (List ℕ)) (out output : WriteLog) (f : CliFault) → IsLengthFault copies f
@@ -116,15 +102,7 @@ module _ {C : Type 0} (remaining : C → Option (List ℕ)) (old new : List C) (
           names = both_name spliced.payload text out out' output output' (IsSplicePath (length old)) tt tt named stops;
           later_kept = tt;
         }
-    refused_bytes (faults.Read named) stops = absurd stops
-    refused_bytes (faults.Setup fault) stops = absurd stops
-    refused_bytes (faults.Hold fault) stops = absurd stops
-    refused_bytes (faults.HoldFile fault) stops = absurd stops
-    refused_bytes (faults.Frame fault) stops = absurd stops
-    refused_bytes (faults.Missing tile) stops = absurd stops
-    refused_bytes (faults.Disputed tile) stops = absurd stops
-    refused_bytes (faults.Ranges line) stops = absurd stops
-    refused_bytes faults.Words stops = absurd stops
+    refused_bytes fault stops = absurd stops
 
   pub splice_of_bytes : (r : Result Bool CliFault) → TellsSplice remaining r old new out out' output output' → OfBytes r
   splice_of_bytes (Ok answer) (copies, taken, wrote) = record {

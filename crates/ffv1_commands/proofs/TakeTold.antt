@@ -25,7 +25,7 @@ use Rattle.ffv1_commands.specs.declared.path.CommandPath.{CommandPath}
 use Rattle.ffv1_commands.specs.declared.path.CommandPath.TheVariants as paths
 use Rattle.ffv1_commands.proofs.InputFaults.{IsUnwritten}
 use Rattle.ffv1_commands.proofs.InputLaws.{whole_input, taken_whole}
-use Rattle.ffv1_commands.proofs.RecordFaults.{RecordStops-says}
+use Rattle.ffv1_commands.proofs.RecordFaults.{RecordStops-says, record_in_turn}
 use Rattle.ffv1_commands.proofs.Telling.{whole_of, Consumes-longer}
 use Rattle.ffv1_commands.proofs.MadeFiles.{made_says, made_bytes}
 
@@ -35,32 +35,15 @@ use Rattle.ffv1_commands.proofs.MadeFiles.{made_says, made_bytes}
 IsFaultOfInputs-in_turn : (P : Type 0) (inputs : List (Option (List ℕ))) (fault : CliFault) → IsFaultOfInputs inputs fault → IfOfRecord fault P
 IsFaultOfInputs-in_turn P inputs (faults.Read path) (i, (lt, before, same)) = λ is. absurd (cc)
 IsFaultOfInputs-in_turn P inputs (faults.Setup fault) (i, (lt, before, stops)) = absurd stops
-IsFaultOfInputs-in_turn P inputs (faults.Write path) stops = tt
-IsFaultOfInputs-in_turn P inputs (faults.Hold fault) stops = tt
-IsFaultOfInputs-in_turn P inputs (faults.HoldFile fault) stops = tt
-IsFaultOfInputs-in_turn P inputs (faults.Frame fault) stops = tt
-IsFaultOfInputs-in_turn P inputs (faults.Missing tile) stops = tt
-IsFaultOfInputs-in_turn P inputs (faults.Disputed tile) stops = tt
-IsFaultOfInputs-in_turn P inputs faults.Memory stops = tt
-IsFaultOfInputs-in_turn P inputs (faults.Splice other) stops = tt
-IsFaultOfInputs-in_turn P inputs (faults.Ranges line) stops = tt
-IsFaultOfInputs-in_turn P inputs faults.Words stops = tt
+IsFaultOfInputs-in_turn P inputs fault stops = tt
 
 -- it names one of the paths
 copies_name : (inputs : List (Option (List ℕ))) (n : ℕ) → length inputs ≡ n → (fault : CliFault) → IsFaultOfInputs inputs fault
     → NamesPath (IsTakePath n) fault
 copies_name inputs n is (faults.Read path) (i, (lt, before, same)) = subst (IsTakePath n) (sym same) (omega (arith, lt, is))
-copies_name inputs n is (faults.Write path) (i, (lt, before, stops)) = absurd stops
-copies_name inputs n is (faults.Setup fault) (i, (lt, before, stops)) = absurd stops
 copies_name inputs n is (faults.Hold fault) stops = tt
-copies_name inputs n is (faults.HoldFile fault) (i, (lt, before, stops)) = absurd stops
-copies_name inputs n is (faults.Frame fault) (i, (lt, before, stops)) = absurd stops
-copies_name inputs n is (faults.Missing tile) (i, (lt, before, stops)) = absurd stops
-copies_name inputs n is (faults.Disputed tile) (i, (lt, before, stops)) = absurd stops
 copies_name inputs n is faults.Memory stops = tt
-copies_name inputs n is (faults.Splice other) (i, (lt, before, stops)) = absurd stops
-copies_name inputs n is (faults.Ranges line) (i, (lt, before, stops)) = absurd stops
-copies_name inputs n is faults.Words (i, (lt, before, stops)) = absurd stops
+copies_name inputs n is fault (i, (lt, before, stops)) = absurd stops
 
 -- ---- one copy
 
@@ -72,15 +55,7 @@ CopyStops-says P path (faults.Read named) a b read long memory (same, stopped) =
 CopyStops-says P path (faults.Hold fault) a b read long memory (same, (bytes, took, more)) =
     subst (λ (f : HoldFault). P (faults.Hold f)) (sym same) (long bytes took more)
 CopyStops-says P path faults.Memory a b read long memory within = memory
-CopyStops-says P path (faults.Write named) a b read long memory stops = absurd stops
-CopyStops-says P path (faults.Setup fault) a b read long memory stops = absurd stops
-CopyStops-says P path (faults.HoldFile fault) a b read long memory stops = absurd stops
-CopyStops-says P path (faults.Frame fault) a b read long memory stops = absurd stops
-CopyStops-says P path (faults.Missing tile) a b read long memory stops = absurd stops
-CopyStops-says P path (faults.Disputed tile) a b read long memory stops = absurd stops
-CopyStops-says P path (faults.Splice other) a b read long memory stops = absurd stops
-CopyStops-says P path (faults.Ranges line) a b read long memory stops = absurd stops
-CopyStops-says P path faults.Words a b read long memory stops = absurd stops
+CopyStops-says P path fault a b read long memory stops = absurd stops
 
 -- why a copy was not read, by its bytes
 copy_unread : (path : CommandPath) (fault : CliFault) (a b : ReadLog) → CopyStops path fault a b → IsCopyFault path a.remaining fault
@@ -125,15 +100,7 @@ module _ (record' : Option (List ℕ)) (width height : ℕ) (inputs : List (Opti
   copies_refused (faults.Read path) stops = inr (reel, of_record, stops)
   copies_refused (faults.Hold fault) stops = (reel, of_record, stops)
   copies_refused faults.Memory stops = tt
-  copies_refused (faults.Write path) (i, (lt, before, stops)) = absurd stops
-  copies_refused (faults.Setup fault) (i, (lt, before, stops)) = absurd stops
-  copies_refused (faults.HoldFile fault) (i, (lt, before, stops)) = absurd stops
-  copies_refused (faults.Frame fault) (i, (lt, before, stops)) = absurd stops
-  copies_refused (faults.Missing tile) (i, (lt, before, stops)) = absurd stops
-  copies_refused (faults.Disputed tile) (i, (lt, before, stops)) = absurd stops
-  copies_refused (faults.Splice other) (i, (lt, before, stops)) = absurd stops
-  copies_refused (faults.Ranges line) (i, (lt, before, stops)) = absurd stops
-  copies_refused faults.Words (i, (lt, before, stops)) = absurd stops
+  copies_refused fault (i, (lt, before, stops)) = absurd stops
 
   module _ (held : Contents) (lines : List ℕ) (each : TakesEach inputs reel held lines) where
     text : holding_text held ≡ holding_text (holding_of reel each.copies)
@@ -155,16 +122,7 @@ module _ (record' : Option (List ℕ)) (width height : ℕ) (inputs : List (Opti
           taken_whole inputs each.copies each.read,
           subst (λ (l : List ℕ). WriteStops (holding_text (holding_of reel each.copies)) l ob oa pb pa (faults.Write named)) each.lines whole_file,
         )
-    made_refused (faults.Read path) stops = absurd stops
-    made_refused (faults.Setup fault) stops = absurd stops
-    made_refused (faults.Hold fault) stops = absurd stops
-    made_refused (faults.Frame fault) stops = absurd stops
-    made_refused (faults.Missing tile) stops = absurd stops
-    made_refused (faults.Disputed tile) stops = absurd stops
-    made_refused faults.Memory stops = absurd stops
-    made_refused (faults.Splice other) stops = absurd stops
-    made_refused (faults.Ranges line) stops = absurd stops
-    made_refused faults.Words stops = absurd stops
+    made_refused fault stops = absurd stops
 
 -- where a copy was not taken, its fault is one of the inputs, and those after it are as they were
 copy_refused : {C : Type 0} (tells : C → Option (List ℕ)) (old new : List C) (fault : CliFault) → StopsAtCopy CopyStops tells old new fault
@@ -180,16 +138,7 @@ later_kept : {C : Type 0} (tells : C → Option (List ℕ)) (old new : List C) (
 later_kept tells old new (faults.Read path) (i, (lt, before, same), later) =
     subst (λ (p : CommandPath). LaterKept tells old new (faults.Read p)) (sym same) later
 later_kept tells old new (faults.Hold fault) stops = stops
-later_kept tells old new (faults.Write path) stops = tt
-later_kept tells old new (faults.Setup fault) stops = tt
-later_kept tells old new (faults.HoldFile fault) stops = tt
-later_kept tells old new (faults.Frame fault) stops = tt
-later_kept tells old new (faults.Missing tile) stops = tt
-later_kept tells old new (faults.Disputed tile) stops = tt
-later_kept tells old new faults.Memory stops = tt
-later_kept tells old new (faults.Splice other) stops = tt
-later_kept tells old new (faults.Ranges line) stops = tt
-later_kept tells old new faults.Words stops = tt
+later_kept tells old new fault stops = tt
 
 pub record TakeOfBytes {T C : Type 0} (r : Result T CliFault) (tells : C → Option (List ℕ)) (record' : Option (List ℕ)) (width height : ℕ) (old new : List C)
     (ob oa pb pa : Option (List ℕ)) : Type 0 where
@@ -230,7 +179,7 @@ module _ {C : Type 0} (tells : C → Option (List ℕ)) (width height : ℕ) (a 
     err = RecordStops-says (TakeStops a.remaining width height (map tells old) out.contents out'.contents output.contents output'.contents)
         width height a b fault (inl refl) tt
         (λ setup config took first. (config, whole_input a.remaining b.remaining config (whole_of a b config took), first)) refuses;
-    in_turn = RecordStops-says (λ f. IfOfRecord f (new ≡ old)) width height a b fault (λ is. same) tt (λ setup config took first. same) refuses;
+    in_turn = record_in_turn width height a b (new ≡ old) same fault refuses;
     later = RecordStops-says (LaterKept tells old new) width height a b fault tt tt (λ setup config took first. tt) refuses;
     names = RecordStops-says (NamesPath (IsTakePath (length old))) width height a b fault tt tt (λ setup config took first. tt) refuses;
   }

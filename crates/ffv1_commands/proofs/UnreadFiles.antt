@@ -10,14 +10,5 @@ module _ (P : CliFault → Type 0) (path : CommandPath) (a b : ReadLog) where
   -- any fact of a path that was not read, and of Memory
   pub file_says : (IsUnread a b → P (faults.Read path)) → (StopsWithin a b → P faults.Memory) → (f : CliFault) → FileStops path f a b → P f
   file_says unread memory (faults.Read named) stops = subst (λ (p : CommandPath). P (faults.Read p)) (sym stops.0) (unread stops.1)
-  file_says unread memory (faults.Write named) stops = absurd stops
-  file_says unread memory (faults.Setup fault) stops = absurd stops
-  file_says unread memory (faults.Hold fault) stops = absurd stops
-  file_says unread memory (faults.HoldFile fault) stops = absurd stops
-  file_says unread memory (faults.Frame fault) stops = absurd stops
-  file_says unread memory (faults.Missing tile) stops = absurd stops
-  file_says unread memory (faults.Disputed tile) stops = absurd stops
-  file_says unread memory (faults.Splice other) stops = absurd stops
-  file_says unread memory (faults.Ranges line) stops = absurd stops
   file_says unread memory faults.Memory stops = memory stops
-  file_says unread memory faults.Words stops = absurd stops
+  file_says unread memory fault stops = absurd stops

@@ -1,23 +1,15 @@
 -- What a command over sources and sinks leaves unchanged, as one over readers and writers.
-use Rattle.std.proofs.Common.{Result, Ok, Err, IfErr}
+use Rattle.std.proofs.Common.{◌≡◌, ◌∙◌, ap, Result, Ok, Err, IfErr}
+use Rattle.ffv1_devices.specs.Streams.{writer_of}
+use Rattle.ffv1_devices.specs.declared.streams.ThroughWrite.{ThroughWrite}
 use Rattle.ffv1_commands.specs.Devices.{UnlessWriting, IfOfRecord}
 use Rattle.ffv1_commands.specs.declared.fault.CliFault.{CliFault}
 use Rattle.ffv1_commands.specs.declared.fault.CliFault.TheVariants as faults
 
 module _ (P Q : Type 0) where
   unless_writing_at : (fault : CliFault) → (P → Q) → UnlessWriting fault P → UnlessWriting fault Q
-  unless_writing_at (faults.Read path) then kept = then kept
   unless_writing_at (faults.Write path) then kept = tt
-  unless_writing_at (faults.Setup fault) then kept = then kept
-  unless_writing_at (faults.Hold fault) then kept = then kept
-  unless_writing_at (faults.HoldFile fault) then kept = then kept
-  unless_writing_at (faults.Frame fault) then kept = then kept
-  unless_writing_at (faults.Missing tile) then kept = then kept
-  unless_writing_at (faults.Disputed tile) then kept = then kept
-  unless_writing_at faults.Memory then kept = then kept
-  unless_writing_at (faults.Splice other) then kept = then kept
-  unless_writing_at (faults.Ranges line) then kept = then kept
-  unless_writing_at faults.Words then kept = then kept
+  unless_writing_at fault then kept = then kept
 
   pub unless_writing : {T : Type 0} (r : Result T CliFault) → (P → Q) → IfErr r (λ fault. UnlessWriting fault P) → IfErr r (λ fault. UnlessWriting fault Q)
   unless_writing (Ok done) then kept = tt
@@ -25,18 +17,21 @@ module _ (P Q : Type 0) where
 
   if_of_record_at : (fault : CliFault) → (P → Q) → IfOfRecord fault P → IfOfRecord fault Q
   if_of_record_at (faults.Read path) then kept = λ first. then (kept first)
-  if_of_record_at (faults.Write path) then kept = tt
   if_of_record_at (faults.Setup fault) then kept = then kept
-  if_of_record_at (faults.Hold fault) then kept = tt
-  if_of_record_at (faults.HoldFile fault) then kept = tt
-  if_of_record_at (faults.Frame fault) then kept = tt
-  if_of_record_at (faults.Missing tile) then kept = tt
-  if_of_record_at (faults.Disputed tile) then kept = tt
-  if_of_record_at faults.Memory then kept = tt
-  if_of_record_at (faults.Splice other) then kept = tt
-  if_of_record_at (faults.Ranges line) then kept = tt
-  if_of_record_at faults.Words then kept = tt
+  if_of_record_at fault then kept = tt
 
   pub if_of_record : {T : Type 0} (r : Result T CliFault) → (P → Q) → IfErr r (λ fault. IfOfRecord fault P) → IfErr r (λ fault. IfOfRecord fault Q)
   if_of_record (Ok done) then kept = tt
   if_of_record (Err fault) then kept = if_of_record_at fault then kept
+
+-- outputs that the wrappers say are as they were are
+pub one_through : {T W : Type 0} (r : Result T CliFault) (old new : ThroughWrite W) (w : W) → writer_of old ≡ w
+    → IfErr r (λ fault. UnlessWriting fault (new ≡ old)) → IfErr r (λ fault. UnlessWriting fault (writer_of new ≡ w))
+one_through r old new w is kept = unless_writing (new ≡ old) (writer_of new ≡ w) r (λ same. ap writer_of same ∙ is) kept
+
+pub both_through : {T O W : Type 0} (r : Result T CliFault) (out out' : ThroughWrite O) (output output' : ThroughWrite W) (o : O) (w : W)
+    → writer_of out ≡ o → writer_of output ≡ w → IfErr r (λ fault. UnlessWriting fault ((out' ≡ out) × (output' ≡ output)))
+    → IfErr r (λ fault. UnlessWriting fault ((writer_of out' ≡ o) × (writer_of output' ≡ w)))
+both_through r out out' output output' o w made printed kept =
+    unless_writing ((out' ≡ out) × (output' ≡ output)) ((writer_of out' ≡ o) × (writer_of output' ≡ w)) r
+    (λ same. (ap writer_of same.0 ∙ made, ap writer_of same.1 ∙ printed)) kept

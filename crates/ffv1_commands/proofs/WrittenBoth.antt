@@ -18,18 +18,8 @@ module _ (file text : List ℕ) (a b c d : WriteLog) where
   -- any fact of a fault of writing
   pub both_says : (P : CliFault → Type 0) → ((named : CommandPath) → BothStop (faults.Write named) file text a b c d → P (faults.Write named))
       → (f : CliFault) → BothStop f file text a b c d → P f
-  both_says P says (faults.Read named) stops = absurd stops
   both_says P says (faults.Write named) stops = says named stops
-  both_says P says (faults.Setup fault) stops = absurd stops
-  both_says P says (faults.Hold fault) stops = absurd stops
-  both_says P says (faults.HoldFile fault) stops = absurd stops
-  both_says P says (faults.Frame fault) stops = absurd stops
-  both_says P says (faults.Missing tile) stops = absurd stops
-  both_says P says (faults.Disputed tile) stops = absurd stops
-  both_says P says (faults.Splice other) stops = absurd stops
-  both_says P says (faults.Ranges line) stops = absurd stops
-  both_says P says faults.Memory stops = absurd stops
-  both_says P says faults.Words stops = absurd stops
+  both_says P says fault stops = absurd stops
 
   -- the same fault by the bytes of both
   pub both_stop_bytes : (named : CommandPath) → BothStop (faults.Write named) file text a b c d

@@ -2,9 +2,7 @@ use Rattle.std.proofs.Common.{refl}
 use Rattle.ffv1_commands.proofs.devices.read_copy.Goals as goal
 
 pub returns-in-Ok : goal.returns-in-Ok
-returns-in-Ok g c =
-    let (read, end, few) = c.in-Ok.ensures in
-    record { read = read; end = end; few = few }
+returns-in-Ok g c = let (read, end, few) = c.in-Ok.ensures in record { read = read; end = end; few = few }
 
 pub returns-in-Err-Read : goal.returns-in-Err-Read
 returns-in-Err-Read g c =

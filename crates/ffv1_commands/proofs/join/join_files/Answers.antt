@@ -4,8 +4,8 @@ use Rattle.std.specs.String.{string_bytes}
 use Rattle.ffv1_commands.specs.InTurn.{ReadsAlone}
 use Rattle.ffv1_commands.specs.JoinText.{file_line, JoinBreaks}
 use Rattle.ffv1_commands.specs.declared.path.CommandPath.TheVariants as paths
-use Rattle.ffv1_commands.proofs.InputLaws.{inputs_more, input_at, length-inputs, inputs_all}
-use Rattle.ffv1_commands.proofs.LaterInputs.{next_kept, rest_kept}
+use Rattle.ffv1_commands.proofs.InputLaws.{length-inputs, inputs_all}
+use Rattle.ffv1_commands.proofs.LaterInputs.{inputs_more, input_here, rest_kept}
 use Rattle.ffv1_commands.proofs.JoinedFiles.{all_first, all_more, all_as}
 use Rattle.ffv1_commands.proofs.join.join_files.Goals as goal
 
@@ -16,19 +16,17 @@ loop-index-init g c =
 
 pub loop-index-preserved : goal.loop-index-preserved
 loop-index-preserved g c =
-    let i = c.loop-index.index in
     let old = c.args.others.now in
-    let now = c.loop-index.others in
-    let lt : i < length old = omega arith in
-    let le : i ≤ length old = omega arith in
-    let d = c.index-others-index.result in
-    let same = next_kept old now i c.loop-index.invariant.others d in
+    let kept = c.loop-index.invariant.others in
+    let there : c.loop-index.index < length c.args.others.now = omega arith in
     let (log, one) = c.in_default.ensures in
-    let more = all_more (take i (map g.R.Read.remaining old)) _ _ c.loop-index.whole c.join_file.new.whole (string_bytes c.loop-index.lines)
-    (string_bytes c.join_file.new.lines) _ i log c.loop-index.invariant.joined (length-inputs g.R.Read.remaining old i le) one in
+    let more = all_more (take c.loop-index.index (map g.R.Read.remaining old)) _ _ c.loop-index.whole c.join_file.new.whole
+    (string_bytes c.loop-index.lines) (string_bytes c.join_file.new.lines) _ c.loop-index.index log c.loop-index.invariant.joined
+    (length-inputs g.R.Read.remaining old c.loop-index.index (omega arith)) one in
     record {
-      joined = all_as _ _ _ _ _ _ (inputs_more g.R.Read.remaining old now i d lt same) more;
-      others = rest_kept old now i c.loop-index.invariant.others c.join_file.new.file;
+      joined = all_as _ _ _ _ _ _
+          (inputs_more old c.loop-index.others c.loop-index.index kept g.R.Read.remaining there c.index-others-index.result) more;
+      others = rest_kept old c.loop-index.others c.loop-index.index kept c.join_file.new.file;
     }
 
 pub returns-in_err-whole : goal.returns-in_err-whole
@@ -44,23 +42,12 @@ returns-in_err-push_file g c =
 pub returns-in-Err : goal.returns-in-Err
 returns-in-Err g c =
     let i = c.loop-index.index in
-    let old = c.args.others.now in
-    let now = c.loop-index.others in
-    let d = c.index-others-index.result in
-    let lt : i < length old = omega arith in
-    let same = next_kept old now i c.loop-index.invariant.others d in
-    let f = c.in-Err.fault in
-    let stops = subst (ReadsAlone (JoinBreaks (paths.Hold (i + 1)) c.loop-index.whole f)) (sym (input_at g.R.Read.remaining old now i d lt same))
-    c.in-Err.ensures in
-    record {
-      ok = tt;
-      err = inr (
-        i,
-        lt,
-        (c.loop-index.whole, string_bytes c.loop-index.lines, c.loop-index.invariant.joined, stops),
-        rest_kept old now i c.loop-index.invariant.others c.join_file.new.file,
-      );
-    }
+    let kept = c.loop-index.invariant.others in
+    let there : c.loop-index.index < length c.args.others.now = omega arith in
+    let here = input_here c.args.others.now c.loop-index.others i kept g.R.Read.remaining there c.index-others-index.result in
+    let stops = subst (ReadsAlone (JoinBreaks (paths.Hold (i + 1)) c.loop-index.whole c.in-Err.fault)) (sym here) c.in-Err.ensures in
+    let later = rest_kept c.args.others.now c.loop-index.others i kept c.join_file.new.file in
+    record { ok = tt; err = inr (i, there, (c.loop-index.whole, string_bytes c.loop-index.lines, c.loop-index.invariant.joined, stops), later) }
 
 pub returns : goal.returns
 returns g c = record {

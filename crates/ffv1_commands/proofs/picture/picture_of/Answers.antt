@@ -4,8 +4,8 @@ use Rattle.ffv1_picture.specs.declared.partial.TileOutcome.{TileOutcome}
 use Rattle.ffv1_commands.specs.PictureText.{picture_text, IsDecoded}
 use Rattle.ffv1_commands.specs.SamplesText.{raw_bytes}
 use Rattle.ffv1_commands.specs.declared.path.CommandPath.TheVariants as paths
-use Rattle.ffv1_commands.proofs.InputFaults.{IsUnwritten, untouched_both, IsHoldingFault-says}
-use Rattle.ffv1_commands.proofs.HeldFiles.{unread_file}
+use Rattle.ffv1_commands.proofs.InputFaults.{kept_both}
+use Rattle.ffv1_commands.proofs.HeldFiles.{unread_both}
 use Rattle.ffv1_commands.proofs.PictureSteps.{shown, picture_stopped}
 use Rattle.ffv1_commands.proofs.WrittenBoth.{both_untouched}
 use Rattle.ffv1_commands.proofs.picture.picture_of.Goals as goal
@@ -13,26 +13,20 @@ use Rattle.ffv1_commands.proofs.picture.picture_of.Goals as goal
 pub returns-in_err-holding : goal.returns-in_err-holding
 returns-in_err-holding g c =
     let p = err_from_is_err_and c.from_residual.result c.from_residual.ensures.1 in
-    let f = c.in_err-holding.field-0.0 in
     let stops = c.in_err-holding.ensures.read in
-    let none = IsHoldingFault-says IsUnwritten (paths.Hold 0) _ f tt tt (λ shown is. tt) (unread_file _ _ (paths.Hold 0) f stops) in
-    rw (p.1, p.2) (record { told = inl (stops, (refl, refl)); untouched = untouched_both c.args.out.now c.args.output.now f none })
+    rw (p.1, p.2) (record { told = inl (stops, (refl, refl)); untouched = unread_both _ _ c.args.out.now c.args.output.now c.in_err-holding.field-0.0 stops })
 
 pub returns-in_err-partial : goal.returns-in_err-partial
 returns-in_err-partial g c =
     let p = err_from_is_err_and c.from_residual-in_err-partial.result c.from_residual-in_err-partial.ensures.1 in
-    rw (p.1, p.2) (record {
-      told = inr (c.in_ok-holding.holding, c.in_ok-holding.ensures.read, (refl, refl));
-      untouched = (refl {a = c.args.out.now}, refl {a = c.args.output.now});
-    })
+    let kept = kept_both c.args.out.now c.args.output.now in
+    rw (p.1, p.2) (record { told = inr (c.in_ok-holding.holding, c.in_ok-holding.ensures.read, (refl, refl)); untouched = kept })
 
 pub returns-in_err-lines : goal.returns-in_err-lines
 returns-in_err-lines g c =
     let p = err_from_is_err_and c.from_residual-in_err-lines.result c.from_residual-in_err-lines.ensures.1 in
-    rw (p.1, p.2) (record {
-      told = inr (c.in_ok-holding.holding, c.in_ok-holding.ensures.read, (refl, refl));
-      untouched = (refl {a = c.args.out.now}, refl {a = c.args.output.now});
-    })
+    let kept = kept_both c.args.out.now c.args.output.now in
+    rw (p.1, p.2) (record { told = inr (c.in_ok-holding.holding, c.in_ok-holding.ensures.read, (refl, refl)); untouched = kept })
 
 pub returns-in_err-write_shown : goal.returns-in_err-write_shown
 returns-in_err-write_shown g c =

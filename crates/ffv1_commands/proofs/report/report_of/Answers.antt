@@ -2,8 +2,8 @@ use Rattle.std.proofs.Common.{refl, inl, inr, ◌∙◌, subst}
 use Rattle.std.proofs.lemmas.Result.{err_from_is_err_and}
 use Rattle.ffv1_commands.specs.Devices.{WritesNamed}
 use Rattle.ffv1_commands.specs.declared.path.CommandPath.TheVariants as paths
-use Rattle.ffv1_commands.proofs.InputFaults.{IsUnwritten, untouched_one, IsHoldingFault-says}
-use Rattle.ffv1_commands.proofs.HeldFiles.{unread_file}
+use Rattle.ffv1_commands.proofs.InputFaults.{untouched_one}
+use Rattle.ffv1_commands.proofs.HeldFiles.{unread_one}
 use Rattle.ffv1_commands.proofs.NamedFiles.{named-untouched}
 use Rattle.ffv1_commands.proofs.ReportSteps.{reported}
 use Rattle.ffv1_commands.proofs.report.report_of.Goals as goal
@@ -11,10 +11,8 @@ use Rattle.ffv1_commands.proofs.report.report_of.Goals as goal
 pub returns-in_err-holding : goal.returns-in_err-holding
 returns-in_err-holding g c =
     let p = err_from_is_err_and c.from_residual.result c.from_residual.ensures.1 in
-    let f = c.in_err-holding.field-0.0 in
     let stops = c.in_err-holding.ensures.read in
-    let none = IsHoldingFault-says IsUnwritten (paths.Hold 0) _ f tt tt (λ shown is. tt) (unread_file _ _ (paths.Hold 0) f stops) in
-    rw (p.1, p.2) (record { told = inl (stops, refl); untouched = untouched_one c.args.output.now f none })
+    rw (p.1, p.2) (record { told = inl (stops, refl); untouched = unread_one _ _ c.args.output.now c.in_err-holding.field-0.0 stops })
 
 pub returns-in_err-text : goal.returns-in_err-text
 returns-in_err-text g c =

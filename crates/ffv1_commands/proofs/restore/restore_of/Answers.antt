@@ -3,8 +3,8 @@ use Rattle.std.proofs.lemmas.Result.{err_from_is_err_and}
 use Rattle.ffv1_commands.specs.Fault.{of_restore}
 use Rattle.ffv1_commands.specs.RestoreText.{restored_line}
 use Rattle.ffv1_commands.specs.declared.path.CommandPath.TheVariants as paths
-use Rattle.ffv1_commands.proofs.InputFaults.{IsUnwritten, untouched_both, IsHoldingFault-says}
-use Rattle.ffv1_commands.proofs.HeldFiles.{unread_file}
+use Rattle.ffv1_commands.proofs.InputFaults.{IsUnwritten, kept_both, untouched_both}
+use Rattle.ffv1_commands.proofs.HeldFiles.{unread_both}
 use Rattle.ffv1_commands.proofs.RestoreSteps.{of_restore-says, refused_at, restored}
 use Rattle.ffv1_commands.proofs.WrittenBoth.{both_untouched}
 use Rattle.ffv1_commands.proofs.restore.restore_of.Goals as goal
@@ -12,10 +12,8 @@ use Rattle.ffv1_commands.proofs.restore.restore_of.Goals as goal
 pub returns-in_err-holding : goal.returns-in_err-holding
 returns-in_err-holding g c =
     let p = err_from_is_err_and c.from_residual.result c.from_residual.ensures.1 in
-    let f = c.in_err-holding.field-0.0 in
     let stops = c.in_err-holding.ensures.read in
-    let none = IsHoldingFault-says IsUnwritten (paths.Hold 0) _ f tt tt (λ shown is. tt) (unread_file _ _ (paths.Hold 0) f stops) in
-    rw (p.1, p.2) (record { told = inl (stops, (refl, refl)); untouched = untouched_both c.args.out.now c.args.output.now f none })
+    rw (p.1, p.2) (record { told = inl (stops, (refl, refl)); untouched = unread_both _ _ c.args.out.now c.args.output.now c.in_err-holding.field-0.0 stops })
 
 pub returns-in_err-payload : goal.returns-in_err-payload
 returns-in_err-payload g c =
@@ -31,10 +29,8 @@ returns-in_err-payload g c =
 pub returns-in_err-line : goal.returns-in_err-line
 returns-in_err-line g c =
     let p = err_from_is_err_and c.from_residual-in_err-line.result c.from_residual-in_err-line.ensures.1 in
-    rw (p.1, p.2) (record {
-      told = inr (c.in_ok-holding.holding, c.in_ok-holding.ensures.read, (c.in_ok-payload.ensures.settled, (refl, refl)));
-      untouched = (refl {a = c.args.out.now}, refl {a = c.args.output.now});
-    })
+    let kept = kept_both c.args.out.now c.args.output.now in
+    rw (p.1, p.2) (record { told = inr (c.in_ok-holding.holding, c.in_ok-holding.ensures.read, (c.in_ok-payload.ensures.settled, (refl, refl))); untouched = kept })
 
 pub returns : goal.returns
 returns g c =

@@ -1,7 +1,7 @@
-use Rattle.std.proofs.Common.{◌<◌, ℕ, List, Vec, Global, Err, length, map, refl, ap, ◌∙◌, subst, arith, inl, inr}
+use Rattle.std.proofs.Common.{◌≡◌, ◌<◌, ℕ, List, Vec, Global, Err, length, map, refl, ap, ◌∙◌, subst, arith, inl, inr}
 use Rattle.std.proofs.lemmas.Result.{err_from_is_err_and}
 use Rattle.std.proofs.lemmas.List.{length-map}
-use Rattle.ffv1_splice.specs.Splice.{IsSpliceOf}
+use Rattle.ffv1_splice.specs.Splice.{SplicedValue, IsSpliceOf}
 use Rattle.ffv1_commands.specs.SpliceText.{IsLengthFault}
 use Rattle.ffv1_commands.specs.declared.path.CommandPath.TheVariants as paths
 use Rattle.ffv1_commands.proofs.InputFaults.{IsUnwritten, untouched_both}
@@ -10,6 +10,11 @@ use Rattle.ffv1_commands.proofs.UnreadFiles.{file_says}
 use Rattle.ffv1_commands.proofs.WrittenBoth.{both_untouched}
 use Rattle.ffv1_commands.proofs.SpliceCommandSteps.{length_says, length_refused, splices, splice_stopped}
 use Rattle.ffv1_commands.proofs.splice.splice_of.Goals as goal
+
+-- the splice is that of the copies that were read
+splice_of_read : (all read : List (Vec ℕ Global)) (spliced : SplicedValue) → all ≡ read → IsSpliceOf (map (λ copy. copy.items) all) spliced
+    → IsSpliceOf (map (λ copy. copy.items) read) spliced
+splice_of_read all read spliced same is = subst (λ (copies : List (Vec ℕ Global)). IsSpliceOf (map (λ copy. copy.items) copies) spliced) same is
 
 pub returns-in_err-read : goal.returns-in_err-read
 returns-in_err-read g c =
@@ -61,9 +66,7 @@ returns-in_err-write_both g c =
     let wrote = c.in_err-write_both.ensures in
     let copies = map (λ (copy : Vec ℕ Global). copy.items) c.in_ok-read.read.items in
     let spliced = c.in_ok-spliced.spliced in
-    let is : IsSpliceOf (map (λ (copy : Vec ℕ Global). copy.items) c.in_ok-read.read.items) c.in_ok-spliced.spliced =
-    subst (λ (all : List (Vec ℕ Global)). IsSpliceOf (map (λ copy. copy.items) all) c.in_ok-spliced.spliced) c.as_slice.ensures.value
-    c.in_ok-spliced.ensures.ok in
+    let is = splice_of_read _ c.in_ok-read.read.items spliced c.as_slice.ensures.value c.in_ok-spliced.ensures.ok in
     let text = c.as_str.ensures.value ∙ c.in_ok-text.ensures in
     let stops = splice_stopped copies _ _ _ _ spliced is c.payload.result.now c.as_str.result.now c.payload.ensures text f wrote in
     rw (p.1, p.2) (record {
@@ -76,9 +79,7 @@ returns g c =
     let wrote = c.in_ok-write_both.ensures in
     let copies = map (λ (copy : Vec ℕ Global). copy.items) c.in_ok-read.read.items in
     let spliced = c.in_ok-spliced.spliced in
-    let is : IsSpliceOf (map (λ (copy : Vec ℕ Global). copy.items) c.in_ok-read.read.items) c.in_ok-spliced.spliced =
-    subst (λ (all : List (Vec ℕ Global)). IsSpliceOf (map (λ copy. copy.items) all) c.in_ok-spliced.spliced) c.as_slice.ensures.value
-    c.in_ok-spliced.ensures.ok in
+    let is = splice_of_read _ c.in_ok-read.read.items spliced c.as_slice.ensures.value c.in_ok-spliced.ensures.ok in
     let text = c.as_str.ensures.value ∙ c.in_ok-text.ensures in
     record {
       told = (

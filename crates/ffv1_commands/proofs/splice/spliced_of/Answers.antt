@@ -1,5 +1,6 @@
 use Rattle.std.proofs.Common.{◌<◌, ◌++◌, ◌∷◌, [], List, ℕ, Bor, Vec, Global, map, length, take, sym, ap, ◌∙◌}
-use Rattle.ffv1_commands.proofs.SpliceCommandSteps.{map_more, map_push}
+use Rattle.ffv1_commands.proofs.LaterInputs.{map_more}
+use Rattle.ffv1_commands.proofs.SpliceCommandSteps.{map_push}
 use Rattle.ffv1_commands.proofs.splice.spliced_of.Goals as goal
 
 pub loop-copy-preserved : goal.loop-copy-preserved

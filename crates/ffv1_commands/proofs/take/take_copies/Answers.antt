@@ -4,8 +4,8 @@ use Rattle.ffv1_commands.specs.Devices.{CopyStops}
 use Rattle.ffv1_commands.specs.InTurn.{ReadsAlone}
 use Rattle.ffv1_commands.specs.TakeText.{TakesEach}
 use Rattle.ffv1_commands.specs.declared.path.CommandPath.TheVariants as paths
-use Rattle.ffv1_commands.proofs.InputLaws.{inputs_more, input_at, length-inputs, inputs_all}
-use Rattle.ffv1_commands.proofs.LaterInputs.{next_kept, rest_kept}
+use Rattle.ffv1_commands.proofs.InputLaws.{length-inputs, inputs_all}
+use Rattle.ffv1_commands.proofs.LaterInputs.{inputs_more, rest_kept, stops_here}
 use Rattle.ffv1_commands.proofs.TakeSteps.{takes_none, takes_more, takes_reel}
 use Rattle.ffv1_commands.proofs.take.take_copies.Goals as goal
 
@@ -18,21 +18,18 @@ loop-index-init g c = record {
 
 pub loop-index-preserved : goal.loop-index-preserved
 loop-index-preserved g c =
-    let i = c.loop-index.index in
     let old = c.args.copies.now in
-    let now = c.loop-index.copies in
-    let lt : i < length old = omega arith in
-    let le : i ≤ length old = omega arith in
-    let d = c.index-copies-index.result in
-    let same = next_kept old now i c.loop-index.invariant.others d in
+    let kept = c.loop-index.invariant.others in
+    let there : c.loop-index.index < length c.args.copies.now = omega arith in
     let (log, one) = c.in_default.ensures.told in
-    let more = takes_more (take i (map g.C.Read.remaining old)) c.args.holding.now.reel c.loop-index.holding c.take_copy.new.holding
-    (string_bytes c.loop-index.lines) (string_bytes c.take_copy.new.lines)
-    _ i log c.loop-index.invariant.taken (length-inputs g.C.Read.remaining old i le) one in
+    let more = takes_more (take c.loop-index.index (map g.C.Read.remaining old)) c.args.holding.now.reel c.loop-index.holding c.take_copy.new.holding
+    (string_bytes c.loop-index.lines) (string_bytes c.take_copy.new.lines) _ c.loop-index.index log c.loop-index.invariant.taken
+    (length-inputs g.C.Read.remaining old c.loop-index.index (omega arith)) one in
     record {
       taken = subst (λ (inputs : List (Option (List ℕ))). TakesEach inputs c.args.holding.now.reel c.take_copy.new.holding
-          (string_bytes c.take_copy.new.lines)) (inputs_more g.C.Read.remaining old now i d lt same) more;
-      others = rest_kept old now i c.loop-index.invariant.others c.take_copy.new.copy;
+          (string_bytes c.take_copy.new.lines))
+          (inputs_more old c.loop-index.copies c.loop-index.index kept g.C.Read.remaining there c.index-copies-index.result) more;
+      others = rest_kept old c.loop-index.copies c.loop-index.index kept c.take_copy.new.copy;
     }
 
 pub returns-clause-ok : goal.returns-clause-ok
@@ -48,19 +45,6 @@ returns-in-Err-clause-reel g c = c.take_copy.ensures.reel ∙ takes_reel _ _ _ _
 
 pub returns-in-Err-clause-err : goal.returns-in-Err-clause-err
 returns-in-Err-clause-err g c =
-    let i = c.loop-index.index in
-    let old = c.args.copies.now in
-    let now = c.loop-index.copies in
-    let d = c.index-copies-index.result in
-    let lt : i < length old = omega arith in
-    let same = next_kept old now i c.loop-index.invariant.others d in
     let each = c.loop-index.invariant.taken in
-    let f = c.in-Err.fault in
-    record {
-      index = i;
-      there = lt;
-      copies = each.copies;
-      earlier = each.read;
-      stopped = subst (ReadsAlone (CopyStops (paths.Copy i) f)) (sym (input_at g.C.Read.remaining old now i d lt same)) c.in-Err.ensures.told;
-      later = rest_kept old now i c.loop-index.invariant.others c.take_copy.new.copy;
-    }
+    stops_here c.args.copies.now c.loop-index.copies c.loop-index.index c.loop-index.invariant.others g.C.Read.remaining (omega arith)
+    c.index-copies-index.result CopyStops c.take_copy.new.copy c.in-Err.fault each.copies each.read c.in-Err.ensures.told
