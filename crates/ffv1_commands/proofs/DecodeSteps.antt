@@ -1,5 +1,5 @@
 -- What decoding a frame does to the outputs.
-use Rattle.std.proofs.Common.{◌≡◌, ℕ, List, Option, Result, Ok, Err, OnOk, IfErr, refl, inl, inr, sym, subst}
+use Rattle.std.proofs.Common.{◌≡◌, ℕ, List, Result, Ok, Err, refl, inl, inr, sym, subst}
 use Rattle.ffv1_devices.specs.Logs.{ReadLog, WriteLog, Writes}
 use Rattle.ffv1_range.specs.Setup.{SetupValue}
 use Rattle.ffv1_picture.specs.FrameFaults.{IsFirstFault}

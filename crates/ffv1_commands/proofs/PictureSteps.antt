@@ -1,5 +1,5 @@
 -- What showing a holding file does to the outputs.
-use Rattle.std.proofs.Common.{◌≡◌, ℕ, Bool, IsTrue, List, Option, Result, Ok, Err, IfOk, IfErr, inl, inr, refl, subst, arith}
+use Rattle.std.proofs.Common.{◌≡◌, ℕ, Bool, IsTrue, List, Result, Ok, Err, inl, inr, refl, subst, arith}
 use Rattle.std.specs.Prelude.{◌↔◌, All}
 use Rattle.ffv1_devices.specs.Logs.{ReadLog, WriteLog, Writes}
 use Rattle.ffv1_pool.specs.Contents.{Contents}
@@ -12,7 +12,6 @@ use Rattle.ffv1_commands.specs.SamplesText.{raw_bytes}
 use Rattle.ffv1_commands.specs.PictureText.{picture_text, IsDecoded, ShowsFile, PictureStops, PictureRefuses, WritesPicture, TellsPicture}
 use Rattle.ffv1_commands.specs.declared.fault.CliFault.{CliFault}
 use Rattle.ffv1_commands.specs.declared.fault.CliFault.TheVariants as faults
-use Rattle.ffv1_commands.specs.declared.path.CommandPath.TheVariants as paths
 use Rattle.ffv1_commands.proofs.HeldFiles.{held_file}
 use Rattle.ffv1_commands.proofs.OfBytes.{OfBytes, unread_bytes, unwritten_bytes}
 use Rattle.ffv1_commands.proofs.WrittenBoth.{both_says}

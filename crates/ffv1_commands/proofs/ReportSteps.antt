@@ -1,5 +1,5 @@
 -- What printing a report does to the output.
-use Rattle.std.proofs.Common.{ℕ, List, Option, Result, Ok, Err, OnOk, IfErr, inl, inr, refl, sym, subst, arith}
+use Rattle.std.proofs.Common.{Result, Ok, Err, inl, inr, refl, sym, subst, arith}
 use Rattle.ffv1_devices.specs.Logs.{ReadLog, WriteLog}
 use Rattle.ffv1_pool.specs.Contents.{Contents}
 use Rattle.ffv1_hold.specs.FileFaults.{ReadsHolding}

@@ -1,5 +1,5 @@
 -- What restoring a holding file does to the outputs.
-use Rattle.std.proofs.Common.{◌≡◌, ℕ, List, length, Option, Result, Ok, Err, OnOk, IfErr, inl, inr, refl, ap, ◌∙◌, subst, arith}
+use Rattle.std.proofs.Common.{◌≡◌, ℕ, List, length, Result, Ok, Err, inl, inr, refl, ap, ◌∙◌, subst, arith}
 use Rattle.ffv1_devices.specs.Logs.{ReadLog, WriteLog, Writes}
 use Rattle.ffv1_pool.specs.Contents.{Contents}
 use Rattle.ffv1_hold.specs.FileFaults.{ReadsHolding}
@@ -13,7 +13,6 @@ use Rattle.ffv1_commands.specs.Paths.{IsHoldPath}
 use Rattle.ffv1_commands.specs.RestoreText.{restored_line, RestoresFile, RestoreStops, RestoreRefuses, TellsRestore}
 use Rattle.ffv1_commands.specs.declared.fault.CliFault.{CliFault}
 use Rattle.ffv1_commands.specs.declared.fault.CliFault.TheVariants as faults
-use Rattle.ffv1_commands.specs.declared.path.CommandPath.TheVariants as paths
 use Rattle.ffv1_commands.proofs.HeldFiles.{held_file}
 use Rattle.ffv1_commands.proofs.OfBytes.{OfBytes, unread_bytes, unwritten_bytes}
 use Rattle.ffv1_commands.proofs.WrittenBoth.{both_says}

@@ -1,7 +1,7 @@
 -- Copies that are read and spliced, and what a fault of the command `splice` says.
-use Rattle.std.proofs.Common.{◌≡◌, ℕ, ◌+◌, ◌<◌, Bool, List, [], ◌∷◌, ◌++◌, length, get_or, take, map, Option, Result, Ok, Err, IfOk, IfErr, inl, inr, refl, sym, ap, ◌∙◌, subst, arith}
+use Rattle.std.proofs.Common.{◌≡◌, ℕ, ◌<◌, Bool, List, [], ◌∷◌, ◌++◌, length, map, Option, Result, Ok, Err, IfOk, IfErr, inl, inr, refl, sym, ap, ◌∙◌, subst, arith}
 use Rattle.std.specs.Prelude.{◌↔◌, IsTrue}
-use Rattle.std.proofs.lemmas.List.{get_or-map, take_more, length-map, map-append}
+use Rattle.std.proofs.lemmas.List.{length-map, map-append}
 use Rattle.ffv1_devices.specs.Logs.{WriteLog, Writes}
 use Rattle.ffv1_splice.specs.Splice.{SplicedValue, IsSpliceOf, IsGivenBack}
 use Rattle.ffv1_splice.specs.Faults.{IsOfOtherLength}

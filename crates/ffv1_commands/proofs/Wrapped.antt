@@ -1,5 +1,5 @@
--- What a command over sources and sinks leaves unchanged, as one over readers and writers.
-use Rattle.std.proofs.Common.{◌≡◌, ◌∙◌, ap, Result, Ok, Err, IfErr}
+-- A command over readers and writers that wraps them as sources and sinks: what it leaves unchanged.
+use Rattle.std.proofs.Common.{◌≡◌, ◌∙◌, ap, Result, Ok, Err, IfErr, IsErrAnd}
 use Rattle.ffv1_devices.specs.Streams.{writer_of}
 use Rattle.ffv1_devices.specs.declared.streams.ThroughWrite.{ThroughWrite}
 use Rattle.ffv1_commands.specs.Devices.{UnlessWriting, IfOfRecord}
@@ -35,3 +35,9 @@ pub both_through : {T O W : Type 0} (r : Result T CliFault) (out out' : ThroughW
 both_through r out out' output output' o w made printed kept =
     unless_writing ((out' ≡ out) × (output' ≡ output)) ((writer_of out' ≡ o) × (writer_of output' ≡ w)) r
     (λ same. (ap writer_of same.0 ∙ made, ap writer_of same.1 ∙ printed)) kept
+
+-- a reader whose buffer is refused stops the command with Memory
+pub buffer_refused : {T : Type 0} (r : Result T CliFault) (fault : CliFault) → IsErrAnd r (λ told. told ≡ fault) → fault ≡ faults.Memory
+    → r ≡ Err faults.Memory
+buffer_refused (Ok x) fault is memory = absurd is
+buffer_refused (Err told) fault is memory = ap Err (is ∙ memory)

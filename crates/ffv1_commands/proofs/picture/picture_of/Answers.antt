@@ -3,7 +3,6 @@ use Rattle.std.proofs.lemmas.Result.{err_from_is_err_and}
 use Rattle.ffv1_picture.specs.declared.partial.TileOutcome.{TileOutcome}
 use Rattle.ffv1_commands.specs.PictureText.{picture_text, IsDecoded}
 use Rattle.ffv1_commands.specs.SamplesText.{raw_bytes}
-use Rattle.ffv1_commands.specs.declared.path.CommandPath.TheVariants as paths
 use Rattle.ffv1_commands.proofs.InputFaults.{kept_both}
 use Rattle.ffv1_commands.proofs.HeldFiles.{unread_both}
 use Rattle.ffv1_commands.proofs.PictureSteps.{shown, picture_stopped}

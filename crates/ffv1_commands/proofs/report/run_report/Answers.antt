@@ -1,15 +1,11 @@
-use Rattle.std.proofs.Common.{◌≡◌, rules, refl}
-use Rattle.std.proofs.lemmas.Result.{err_from_is_err_and}
-use Rattle.ffv1_commands.specs.declared.fault.CliFault.TheVariants.{Memory}
+use Rattle.std.proofs.Common.{rules}
 use Rattle.ffv1_commands.proofs.ReportSteps.{report_of_bytes}
-use Rattle.ffv1_commands.proofs.Wrapped.{one_through}
+use Rattle.ffv1_commands.proofs.Wrapped.{buffer_refused, one_through}
 use Rattle.ffv1_commands.proofs.report.run_report.Goals as goal
 
 pub returns-in_err-file : goal.returns-in_err-file
 returns-in_err-file g c =
-    let p = err_from_is_err_and c.from_residual.result c.from_residual.ensures.1 in
-    let memory : c.in_err-file.field-0.0 ≡ Memory = c.in_err-file.ensures.err in
-    rw (p.1, p.2, memory) (search rules)
+    rw (buffer_refused c.from_residual.result c.in_err-file.field-0.0 c.from_residual.ensures.1 c.in_err-file.ensures.err) (search rules)
 
 pub returns : goal.returns
 returns g c =

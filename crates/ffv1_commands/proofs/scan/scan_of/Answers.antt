@@ -1,7 +1,10 @@
-use Rattle.std.proofs.Common.{Err, refl, inr}
+use Rattle.std.proofs.Common.{rules, Err, refl, inr}
 use Rattle.ffv1_scan.specs.declared.scanning.ScanFault.TheVariants as scans
 use Rattle.ffv1_commands.proofs.ScanCommandSteps.{scanned_list}
 use Rattle.ffv1_commands.proofs.scan.scan_of.Goals as goal
+
+pub returns-in-Ok-clause-scans : goal.returns-in-Ok-clause-scans
+returns-in-Ok-clause-scans g c = search rules
 
 pub returns-in-Err-Read-clause-scans : goal.returns-in-Err-Read-clause-scans
 returns-in-Err-Read-clause-scans g c =

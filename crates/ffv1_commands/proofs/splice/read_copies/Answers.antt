@@ -1,9 +1,8 @@
-use Rattle.std.proofs.Common.{◌<◌, List, Option, ℕ, map, length, take, sym, subst, arith}
+use Rattle.std.proofs.Common.{◌<◌, List, Option, ℕ, map, length, take, subst, arith}
 use Rattle.std.proofs.lemmas.Result.{err_from_is_err_and}
 use Rattle.ffv1_commands.specs.Devices.{FileStops}
-use Rattle.ffv1_commands.specs.InTurn.{ReadsAlone, AreTaken}
+use Rattle.ffv1_commands.specs.InTurn.{AreTaken}
 use Rattle.ffv1_commands.specs.declared.fault.CliFault.TheVariants as faults
-use Rattle.ffv1_commands.specs.declared.path.CommandPath.TheVariants as paths
 use Rattle.ffv1_commands.proofs.InputLaws.{AreTaken-push}
 use Rattle.ffv1_commands.proofs.LaterInputs.{inputs_more, rest_kept, stops_here}
 use Rattle.ffv1_commands.proofs.SpliceCommandSteps.{map_push}

@@ -1,9 +1,7 @@
-use Rattle.std.proofs.Common.{◌≤◌, ◌<◌, List, Option, ℕ, map, length, take, sym, subst, ◌∙◌, refl, arith}
+use Rattle.std.proofs.Common.{◌<◌, List, Option, ℕ, map, length, take, subst, ◌∙◌, refl, arith}
 use Rattle.std.specs.String.{string_bytes}
 use Rattle.ffv1_commands.specs.Devices.{CopyStops}
-use Rattle.ffv1_commands.specs.InTurn.{ReadsAlone}
 use Rattle.ffv1_commands.specs.TakeText.{TakesEach}
-use Rattle.ffv1_commands.specs.declared.path.CommandPath.TheVariants as paths
 use Rattle.ffv1_commands.proofs.InputLaws.{length-inputs, inputs_all}
 use Rattle.ffv1_commands.proofs.LaterInputs.{inputs_more, rest_kept, stops_here}
 use Rattle.ffv1_commands.proofs.TakeSteps.{takes_none, takes_more, takes_reel}
