@@ -1,4 +1,5 @@
 //! The commands on devices that fail after any number of bytes: which path is told, and what is left in the outputs.
+use crate::suite::merged;
 use ffv1_commands::{
     CliFault, CommandPath, run_chain, run_decode, run_join, run_merge, run_picture, run_report,
     run_restore, run_show, run_splice, run_take,
@@ -218,16 +219,6 @@ fn held(alloc: Global, copy: &[u8]) -> Result<Vec<u8>, Fail> {
     Ok(file)
 }
 
-/// The file that `merge` makes of two.
-fn merged(alloc: Global, left: &[u8], right: &[u8]) -> Result<Vec<u8>, Fail> {
-    let (mut left, mut right) = (left, right);
-    let mut file = Vec::new(alloc);
-    run_merge(alloc, &mut left, &mut right, &mut file)
-        .ok()
-        .ok_or("ample memory")?;
-    Ok(file)
-}
-
 /// The files of the frame: of a copy with a damaged tile 0, and of the frame as it is.
 fn holding_files(alloc: Global) -> Result<Files, Fail> {
     let mut copy = FRAME;
@@ -277,25 +268,32 @@ fn input_is_told(
     is_unread(&answer, path) && is_left(command, files, &out.bytes) && printed.bytes.is_empty()
 }
 
+/// After how many bytes of the first or the second input a failure is not told as that.
+fn untold_after(alloc: Global, command: Command, files: &Files, is_second: bool) -> Option<usize> {
+    let (first, second) = command.inputs(files);
+    let input = if is_second { second } else { first };
+    for room in 0..=input.len() {
+        if !input_is_told(alloc, command, files, is_second, room) {
+            return Some(room);
+        }
+    }
+    None
+}
+
+/// The same of all inputs of a command.
+fn untold_input(alloc: Global, command: Command) -> Result<Option<usize>, Fail> {
+    let files = holding_files(alloc)?;
+    let first = untold_after(alloc, command, &files, false);
+    if first.is_some() || command.paths().1.is_none() {
+        return Ok(first);
+    }
+    Ok(untold_after(alloc, command, &files, true))
+}
+
 #[test]
 fn inputs_that_fail_are_told(rt: HostRuntime) -> Result<(), Fail> {
-    let files = holding_files(rt.alloc())?;
     for command in COMMANDS {
-        let (first, second) = command.inputs(&files);
-        for room in 0..=first.len() {
-            assert!(rt;
-                input_is_told(rt.alloc(), command, &files, false, room),
-                "{command:?} {room}"
-            );
-        }
-        if command.paths().1.is_some() {
-            for room in 0..=second.len() {
-                assert!(rt;
-                    input_is_told(rt.alloc(), command, &files, true, room),
-                    "{command:?} {room}"
-                );
-            }
-        }
+        assert_eq!(rt; untold_input(rt.alloc(), command)?, None, "{command:?}");
     }
     Ok(())
 }
@@ -339,28 +337,47 @@ fn output_has_front(
         && Some(front.as_slice()) == printed.get(..room)
 }
 
+/// After how many bytes OUT has no front where it fails.
+fn out_without_front(alloc: Global, command: Command, files: &Files, made: &[u8]) -> Option<usize> {
+    for room in 0..made.len() {
+        if !out_has_front(alloc, command, files, made, room) {
+            return Some(room);
+        }
+    }
+    None
+}
+
+/// The same of standard output.
+fn output_without_front(
+    alloc: Global,
+    command: Command,
+    files: &Files,
+    (made, printed): (&[u8], &[u8]),
+) -> Option<usize> {
+    for room in 0..printed.len() {
+        if !output_has_front(alloc, command, files, (made, printed), room) {
+            return Some(room);
+        }
+    }
+    None
+}
+
+/// The same of all outputs of a command.
+fn without_front(alloc: Global, command: Command) -> Result<Option<usize>, Fail> {
+    let files = holding_files(alloc)?;
+    let (answer, made, printed) = ran_with_room(alloc, command, &files, usize::MAX, usize::MAX);
+    answer.ok().ok_or("ample memory")?;
+    let out = out_without_front(alloc, command, &files, &made);
+    if out.is_some() {
+        return Ok(out);
+    }
+    Ok(output_without_front(alloc, command, &files, (&made, &printed)))
+}
+
 #[test]
 fn outputs_that_fail_have_a_front(rt: HostRuntime) -> Result<(), Fail> {
-    let files = holding_files(rt.alloc())?;
     for command in COMMANDS {
-        let (answer, made, printed) = ran_with_room(
-            rt.alloc(),
-            command,
-            &files,
-            usize::MAX,
-            usize::MAX,
-        );
-        assert!(rt; answer.is_ok(), "{command:?}");
-        for room in 0..made.len() {
-            assert!(rt;
-                out_has_front(rt.alloc(), command, &files, &made, room),
-                "{command:?} {room}"
-            );
-        }
-        for room in 0..printed.len() {
-            let front = output_has_front(rt.alloc(), command, &files, (&made, &printed), room);
-            assert!(rt; front, "{command:?} {room}");
-        }
+        assert_eq!(rt; without_front(rt.alloc(), command)?, None, "{command:?}");
     }
     Ok(())
 }
@@ -401,32 +418,43 @@ fn interruptions_are_told(alloc: Global, command: Command, files: &Files, device
         }
 }
 
+/// The device of a command of which this does not hold.
+fn untold_device(alloc: Global, command: Command) -> Result<Option<usize>, Fail> {
+    let files = holding_files(alloc)?;
+    for device in 0..4 {
+        if !interruptions_are_told(alloc, command, &files, device) {
+            return Ok(Some(device));
+        }
+    }
+    Ok(None)
+}
+
 #[test]
 fn sixty_five_interruptions_in_a_row_are_told(rt: HostRuntime) -> Result<(), Fail> {
-    let files = holding_files(rt.alloc())?;
     for command in COMMANDS {
-        for device in 0..4 {
-            let told = interruptions_are_told(rt.alloc(), command, &files, device);
-            assert!(rt; told, "{command:?} {device}");
-        }
+        assert_eq!(rt; untold_device(rt.alloc(), command)?, None, "{command:?}");
     }
     Ok(())
 }
 
-/// The fault of a holding file that never ends, as `restore` tells it.
-fn fault_of_endless(alloc: Global, file: &[u8]) -> Option<CliFault> {
+/// Whether `restore` tells this fault of a holding file that never ends.
+fn endless_shows(alloc: Global, file: &[u8], fault: HoldFileFault) -> bool {
     let mut input = Input::new(file);
     input.after = After::Zeros;
     let (mut out, mut printed) = (Output::new(alloc), Output::new(alloc));
-    run_restore(alloc, &mut input, &mut out, &mut printed).err()
+    let answer = run_restore(alloc, &mut input, &mut out, &mut printed);
+    matches!(answer, Err(CliFault::HoldFile(told)) if told == fault)
+}
+
+/// Whether a whole holding file that never ends is told as one with trailing bytes.
+fn whole_shows_trailing(alloc: Global) -> Result<bool, Fail> {
+    let files = holding_files(alloc)?;
+    Ok(endless_shows(alloc, &files.whole, HoldFileFault::Trailing))
 }
 
 #[test]
 fn files_that_never_end_show_their_first_fault(rt: HostRuntime) -> Result<(), Fail> {
-    let files = holding_files(rt.alloc())?;
-    let zeros = fault_of_endless(rt.alloc(), &[]);
-    assert!(rt; matches!(zeros, Some(CliFault::HoldFile(HoldFileFault::Magic))));
-    let trailing = fault_of_endless(rt.alloc(), &files.whole);
-    assert!(rt; matches!(trailing, Some(CliFault::HoldFile(HoldFileFault::Trailing))));
+    assert!(rt; endless_shows(rt.alloc(), &[], HoldFileFault::Magic));
+    assert!(rt; whole_shows_trailing(rt.alloc())?);
     Ok(())
 }

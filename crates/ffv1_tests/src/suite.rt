@@ -1,5 +1,6 @@
 //! The suite of made frames, through the commands: each comes back byte for byte, and sample by sample.
-use ffv1_commands::{run_decode, run_join, run_merge, run_restore, run_take};
+use crate::commands::joined;
+use ffv1_commands::{run_decode, run_merge, run_restore, run_take};
 use ffv1_range::Setup;
 use ffv1_slice::{Chain, ChainEnd, Link};
 use ffv1_vectors::{
@@ -249,15 +250,22 @@ fn are_restored(
     Ok(is_told && restored(alloc, frame, copies)?.as_slice() == frame.payload.as_slice())
 }
 
+/// Whether a frame is restored, and told so, of a copy with bursts in all tiles but the first, and of one with a burst in that.
+fn bursts_are_restored(alloc: Global) -> Result<bool, Fail> {
+    let frame = four_tiles(alloc)?;
+    let one = hurt_in(alloc, &frame.payload, &[1, 2, 3])?;
+    let three = hurt_after_first(alloc, &frame.payload)?;
+    let lines = "copy 1 links 4 slices 1 new 1\ncopy 2 links 4 slices 3 new 3\n";
+    let turned = "copy 1 links 4 slices 3 new 3\ncopy 2 links 4 slices 1 new 1\n";
+    Ok(
+        are_restored(alloc, &frame, [&one, &three], lines)?
+            && are_restored(alloc, &frame, [&three, &one], turned)?,
+    )
+}
+
 #[test]
 fn bursts_in_each_tile_are_restored_from_two_copies(rt: HostRuntime) -> Result<(), Fail> {
-    let frame = four_tiles(rt.alloc())?;
-    let one = hurt_in(rt.alloc(), &frame.payload, &[1, 2, 3])?;
-    let three = hurt_after_first(rt.alloc(), &frame.payload)?;
-    let lines = "copy 1 links 4 slices 1 new 1\ncopy 2 links 4 slices 3 new 3\n";
-    assert!(rt; are_restored(rt.alloc(), &frame, [&one, &three], lines)?);
-    let lines = "copy 1 links 4 slices 3 new 3\ncopy 2 links 4 slices 1 new 1\n";
-    assert!(rt; are_restored(rt.alloc(), &frame, [&three, &one], lines)?);
+    assert!(rt; bursts_are_restored(rt.alloc())?);
     Ok(())
 }
 
@@ -275,13 +283,27 @@ fn flipped_in(alloc: Global, payload: &[u8], tiles: &[usize]) -> Result<Vec<u8>,
     Ok(copy)
 }
 
+/// Whether a frame is restored, and told so, of copies with a bit flipped in these tiles and in those.
+fn flipped_is_restored(
+    alloc: Global,
+    frame: &Made,
+    (these, those): (&[usize], &[usize]),
+    lines: &str,
+) -> Result<bool, Fail> {
+    let one = flipped_in(alloc, &frame.payload, these)?;
+    let other = flipped_in(alloc, &frame.payload, those)?;
+    are_restored(alloc, frame, [&one, &other], lines)
+}
+
+/// Whether a frame of four tiles is, of which each copy has two.
+fn four_are_restored(alloc: Global) -> Result<bool, Fail> {
+    let lines = "copy 1 links 4 slices 2 new 2\ncopy 2 links 4 slices 2 new 2\n";
+    flipped_is_restored(alloc, &four_tiles(alloc)?, (&[0, 3], &[1, 2]), lines)
+}
+
 #[test]
 fn a_flipped_bit_in_each_tile_is_restored(rt: HostRuntime) -> Result<(), Fail> {
-    let frame = four_tiles(rt.alloc())?;
-    let outer = flipped_in(rt.alloc(), &frame.payload, &[0, 3])?;
-    let inner = flipped_in(rt.alloc(), &frame.payload, &[1, 2])?;
-    let lines = "copy 1 links 4 slices 2 new 2\ncopy 2 links 4 slices 2 new 2\n";
-    assert!(rt; are_restored(rt.alloc(), &frame, [&outer, &inner], lines)?);
+    assert!(rt; four_are_restored(rt.alloc())?);
     Ok(())
 }
 
@@ -306,45 +328,45 @@ fn every_other(alloc: Global, first: usize) -> Result<Vec<usize>, Fail> {
     Ok(tiles)
 }
 
+/// Whether a frame of 4096 tiles is restored, of which one copy has the even ones and the other the odd ones.
+fn many_are_restored(alloc: Global) -> Result<bool, Fail> {
+    let (even, odd) = (every_other(alloc, 0)?, every_other(alloc, 1)?);
+    let lines = "copy 1 links 4096 slices 2048 new 2048\ncopy 2 links 4096 slices 2048 new 2048\n";
+    flipped_is_restored(alloc, &many_tiles(alloc)?, (&even, &odd), lines)
+}
+
 #[test]
 fn even_and_odd_tiles_of_4096_are_restored(rt: HostRuntime) -> Result<(), Fail> {
-    let frame = many_tiles(rt.alloc())?;
-    let even = flipped_in(rt.alloc(), &frame.payload, &every_other(rt.alloc(), 0)?)?;
-    let odd = flipped_in(rt.alloc(), &frame.payload, &every_other(rt.alloc(), 1)?)?;
-    let lines = "copy 1 links 4096 slices 2048 new 2048\ncopy 2 links 4096 slices 2048 new 2048\n";
-    assert!(rt; are_restored(rt.alloc(), &frame, [&even, &odd], lines)?);
+    assert!(rt; many_are_restored(rt.alloc())?);
     Ok(())
+}
+
+/// Whether a copy has a chain that breaks at this place, and `take` tells so of two such copies.
+fn breaks_at(alloc: Global, frame: &Made, copy: &[u8], place: usize) -> Result<bool, Fail> {
+    let (_file, printed) = taken(alloc, frame, [copy, copy])?;
+    let lines = "copy 1 links 1 slices 1 new 1\ncopy 2 links 1 slices 1 new 0\n";
+    Ok(Chain::new(copy).end() == ChainEnd::Broken(place) && printed.as_slice() == lines.as_bytes())
+}
+
+/// Whether a size too great in the footer of tile 2 hides that slice and those before it.
+fn size_hides(alloc: Global) -> Result<bool, Fail> {
+    let frame = four_tiles(alloc)?;
+    let (_start, end) = place_of(alloc, &frame.payload, 2)?;
+    let mut copy = frame.payload.to_vec(alloc)?;
+    if let Some(size) = copy.get_mut(end.wrapping_sub(8)) {
+        *size = 0xFF;
+    }
+    breaks_at(alloc, &frame, &copy, end)
 }
 
 #[test]
 fn a_size_too_great_hides_what_lies_before(rt: HostRuntime) -> Result<(), Fail> {
-    let frame = four_tiles(rt.alloc())?;
-    let (_start, end) = place_of(rt.alloc(), &frame.payload, 2)?;
-    let mut copy = frame.payload.to_vec(rt.alloc())?;
-    if let Some(size) = copy.get_mut(end.wrapping_sub(8)) {
-        *size = 0xFF;
-    }
-    assert!(rt; Chain::new(&copy).end() == ChainEnd::Broken(end));
-    let (_file, printed) = taken(rt.alloc(), &frame, [&copy, &copy])?;
-    let lines = "copy 1 links 1 slices 1 new 1\ncopy 2 links 1 slices 1 new 0\n";
-    assert!(rt; printed.as_slice() == lines.as_bytes());
+    assert!(rt; size_hides(rt.alloc())?);
     Ok(())
 }
 
-/// The file that `join` writes of two holding files.
-fn joined<'a>(alloc: Global, left: &'a [u8], right: &'a [u8]) -> Result<Vec<u8>, Fail> {
-    let mut first = left;
-    let mut others = [right];
-    let mut file = Vec::new(alloc);
-    let mut printed: Vec<u8> = Vec::new(alloc);
-    run_join(alloc, &mut first, &mut others, &mut file, &mut printed)
-        .ok()
-        .ok_or("ample memory")?;
-    Ok(file)
-}
-
-/// The file that `merge` writes of them.
-fn merged(alloc: Global, left: &[u8], right: &[u8]) -> Result<Vec<u8>, Fail> {
+/// The file that `merge` writes of two holding files.
+pub(crate) fn merged(alloc: Global, left: &[u8], right: &[u8]) -> Result<Vec<u8>, Fail> {
     let (mut left, mut right) = (left, right);
     let mut file = Vec::new(alloc);
     run_merge(alloc, &mut left, &mut right, &mut file)
@@ -387,17 +409,12 @@ fn files_of_halves(alloc: Global) -> Result<Files, Fail> {
 /// Whether `merge` writes of two holding files what `join` does.
 fn are_alike(alloc: Global, left: &[u8], right: &[u8]) -> Result<bool, Fail> {
     let file = merged(alloc, left, right)?;
-    Ok(file.as_slice() == joined(alloc, left, right)?.as_slice())
+    let (wanted, _printed) = joined(alloc, left, right)?;
+    Ok(file == wanted)
 }
 
-#[test]
-fn merge_writes_what_join_writes(rt: HostRuntime) -> Result<(), Fail> {
-    let files = files_of_halves(rt.alloc())?;
-    let (a, b, both) = (
-        files.a.as_slice(),
-        files.b.as_slice(),
-        files.both.as_slice(),
-    );
+/// Whether it does of each two of these files, and makes the last of the first two.
+fn all_are_alike(alloc: Global, (a, b, both): (&[u8], &[u8], &[u8])) -> Result<bool, Fail> {
     for (left, right) in [
         (a, a),
         (a, b),
@@ -408,8 +425,21 @@ fn merge_writes_what_join_writes(rt: HostRuntime) -> Result<(), Fail> {
         (b, both),
         (both, b),
     ] {
-        assert!(rt; are_alike(rt.alloc(), left, right)?);
+        if !are_alike(alloc, left, right)? {
+            return Ok(false);
+        }
     }
-    assert!(rt; merged(rt.alloc(), a, b)?.as_slice() == both);
+    Ok(merged(alloc, a, b)?.as_slice() == both)
+}
+
+/// Whether it does of the files of halves of a frame.
+fn halves_are_alike(alloc: Global) -> Result<bool, Fail> {
+    let files = files_of_halves(alloc)?;
+    all_are_alike(alloc, (&files.a, &files.b, &files.both))
+}
+
+#[test]
+fn merge_writes_what_join_writes(rt: HostRuntime) -> Result<(), Fail> {
+    assert!(rt; halves_are_alike(rt.alloc())?);
     Ok(())
 }
