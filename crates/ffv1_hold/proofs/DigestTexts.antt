@@ -81,16 +81,7 @@ ShowsDigest f s = (n : ℕ) × (ds : List (List ℕ)) × (d : List ℕ) × (f �
 origin_kinds : (f : HoldFileFault) (s : List ℕ) → OriginsShow f s → ShowsCount f s ⊎ ShowsDigest f s
 origin_kinds faults.TooLong s (n, split, over, small) = inl (n, refl, split, over, small)
 origin_kinds faults.Order s (n, ds, d, split, few, are, less, is, not) = inr (n, ds, d, refl, split, few, are, less, is, not)
-origin_kinds faults.NotASlice s shown = absurd shown
-origin_kinds faults.Tag s shown = absurd shown
-origin_kinds faults.Magic s shown = absurd shown
-origin_kinds (faults.Setup f) s shown = absurd shown
-origin_kinds faults.Truncated s shown = absurd shown
-origin_kinds faults.Trailing s shown = absurd shown
-origin_kinds faults.Read s shown = absurd shown
-origin_kinds faults.Write s shown = absurd shown
-origin_kinds faults.Memory s shown = absurd shown
-origin_kinds faults.OtherReel s shown = absurd shown
+origin_kinds _ s shown = absurd shown
 
 -- what a digest in the wrong place stands after, before more bytes
 wrong_parts : (n : ℕ) (ds : List (List ℕ)) (d y : List ℕ) → (be4 n ++ whole ds ++ d) ++ y ≡ be4 n ++ (whole (ds ++ d ∷ []) ++ y)

@@ -39,17 +39,7 @@ module _ (v : Version) (setup : SetupValue) (last : Option FileEntry) where
 
   pub slice_shows : (f : HoldFileFault) (s : List ℕ) → SliceIsTooLong f s → EntryShows v setup last f (1 ∷ [] ++ s)
   slice_shows faults.TooLong s h = (s, refl, inl h)
-  slice_shows faults.Magic s h = absurd h
-  slice_shows (faults.Setup f) s h = absurd h
-  slice_shows faults.Truncated s h = absurd h
-  slice_shows faults.Tag s h = absurd h
-  slice_shows faults.Order s h = absurd h
-  slice_shows faults.NotASlice s h = absurd h
-  slice_shows faults.Trailing s h = absurd h
-  slice_shows faults.Read s h = absurd h
-  slice_shows faults.Write s h = absurd h
-  slice_shows faults.Memory s h = absurd h
-  slice_shows faults.OtherReel s h = absurd h
+  slice_shows _ s h = absurd h
 
   pub after_shows : (e : Entry) → IsRight setup last e → (f : HoldFileFault) (s : List ℕ) → ShowsAfter v f s
       → EntryShows v setup last f ((1 ∷ slice_text e) ++ s)
@@ -75,16 +65,7 @@ module _ (v : Version) (setup : SetupValue) (last : Option FileEntry) where
       → TakesText a b i j (1 ∷ slice_text e) → e.0 < 2 ^ 16 → length e.1 ≤ slice_limit → IsWrong setup last e f → StopsAt P W (EntryShows v setup last) a b i f
   wrong_stops P W e a b i j faults.NotASlice t small fits w = shown P W _ a b i j _ t faults.NotASlice tt (slice_text e, refl, inl (e, refl, small, fits, w))
   wrong_stops P W e a b i j faults.Order t small fits w = shown P W _ a b i j _ t faults.Order tt (slice_text e, refl, inl (e, refl, small, fits, w))
-  wrong_stops P W e a b i j faults.TooLong t small fits w = absurd w
-  wrong_stops P W e a b i j faults.Magic t small fits w = absurd w
-  wrong_stops P W e a b i j (faults.Setup f) t small fits w = absurd w
-  wrong_stops P W e a b i j faults.Truncated t small fits w = absurd w
-  wrong_stops P W e a b i j faults.Tag t small fits w = absurd w
-  wrong_stops P W e a b i j faults.Trailing t small fits w = absurd w
-  wrong_stops P W e a b i j faults.Read t small fits w = absurd w
-  wrong_stops P W e a b i j faults.Write t small fits w = absurd w
-  wrong_stops P W e a b i j faults.Memory t small fits w = absurd w
-  wrong_stops P W e a b i j faults.OtherReel t small fits w = absurd w
+  wrong_stops P W e a b i j _ t small fits w = absurd w
 
 -- ---- entries, one after the other
 

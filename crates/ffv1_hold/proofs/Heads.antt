@@ -81,17 +81,7 @@ wrong_version n one two = (name, n, refl, whole_name [] (omega arith), wrong)
 
 pub version_refused : (f : HoldFileFault) (s : List ℕ) → VersionShows f s → MagicShows f (name ++ s)
 version_refused faults.Magic s (n, is, one, two) = subst (λ t. MagicShows faults.Magic (name ++ t)) (sym is) (wrong_version n one two)
-version_refused faults.TooLong s shown = absurd shown
-version_refused (faults.Setup f) s shown = absurd shown
-version_refused faults.Truncated s shown = absurd shown
-version_refused faults.Tag s shown = absurd shown
-version_refused faults.Order s shown = absurd shown
-version_refused faults.NotASlice s shown = absurd shown
-version_refused faults.Trailing s shown = absurd shown
-version_refused faults.Read s shown = absurd shown
-version_refused faults.Write s shown = absurd shown
-version_refused faults.Memory s shown = absurd shown
-version_refused faults.OtherReel s shown = absurd shown
+version_refused _ s shown = absurd shown
 
 head_text-of : (v : Version) (r : Reel) → magic v ++ sized_record r.config r.setup.width r.setup.height ≡ head_text v r
 unfolding head_text
@@ -118,17 +108,7 @@ file_from_head_fault f s (inr h) = inr (inl h)
 
 pub file_from_whole_head : (f : HoldFileFault) (s : List ℕ) → HeadIsWhole f s → FileIsWhole f s
 file_from_whole_head faults.Memory s h = h
-file_from_whole_head faults.Magic s (v, reel, is, h) = absurd h
-file_from_whole_head (faults.Setup f) s (v, reel, is, h) = absurd h
-file_from_whole_head faults.Truncated s (v, reel, is, h) = absurd h
-file_from_whole_head faults.Tag s (v, reel, is, h) = absurd h
-file_from_whole_head faults.Order s (v, reel, is, h) = absurd h
-file_from_whole_head faults.NotASlice s (v, reel, is, h) = absurd h
-file_from_whole_head faults.Trailing s (v, reel, is, h) = absurd h
-file_from_whole_head faults.Read s (v, reel, is, h) = absurd h
-file_from_whole_head faults.Write s (v, reel, is, h) = absurd h
-file_from_whole_head faults.TooLong s (v, reel, is, h) = absurd h
-file_from_whole_head faults.OtherReel s (v, reel, is, h) = absurd h
+file_from_whole_head _ s (v, reel, is, h) = absurd h
 
 -- a head that is refused is a fault of the file
 pub head_file : (old new : Option (List ℕ)) (f : HoldFileFault) → Refuses IsPartOfHead HeadIsWhole HeadShows old new 0 f

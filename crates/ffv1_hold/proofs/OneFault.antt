@@ -65,16 +65,7 @@ ShowsSetup f s = (k : SetupFault) × (config : List ℕ) × (w h : ℕ) × (f �
 pub reel_kinds : (f : HoldFileFault) (s : List ℕ) → ReelShows f s → ShowsRecordLength f s ⊎ ShowsSetup f s
 reel_kinds faults.TooLong s (w, h, n, split, over, small) = inl (w, h, n, refl, split, over, small)
 reel_kinds (faults.Setup k) s (config, w, h, split, fits, wide, high, first) = inr (k, config, w, h, refl, split, fits, wide, high, first)
-reel_kinds faults.Magic s shown = absurd shown
-reel_kinds faults.Truncated s shown = absurd shown
-reel_kinds faults.Tag s shown = absurd shown
-reel_kinds faults.Order s shown = absurd shown
-reel_kinds faults.NotASlice s shown = absurd shown
-reel_kinds faults.Trailing s shown = absurd shown
-reel_kinds faults.Read s shown = absurd shown
-reel_kinds faults.Write s shown = absurd shown
-reel_kinds faults.Memory s shown = absurd shown
-reel_kinds faults.OtherReel s shown = absurd shown
+reel_kinds _ s shown = absurd shown
 
 record_apart : (w h n : ℕ) (config : List ℕ) (v k : ℕ) (y z : List ℕ) → record_limit < n → n < 2 ^ 32 → length config ≤ record_limit
     → (be4 w ++ be4 h ++ be4 n) ++ y ≡ sized_record config v k ++ z → ⊥
@@ -103,17 +94,7 @@ reel_one f g s t y z same a b = elim (reel_kinds f s a) [
 
 magic_is : (f : HoldFileFault) (s : List ℕ) → MagicShows f s → f ≡ faults.Magic
 magic_is faults.Magic s shown = refl
-magic_is faults.TooLong s shown = absurd shown
-magic_is (faults.Setup k) s shown = absurd shown
-magic_is faults.Truncated s shown = absurd shown
-magic_is faults.Tag s shown = absurd shown
-magic_is faults.Order s shown = absurd shown
-magic_is faults.NotASlice s shown = absurd shown
-magic_is faults.Trailing s shown = absurd shown
-magic_is faults.Read s shown = absurd shown
-magic_is faults.Write s shown = absurd shown
-magic_is faults.Memory s shown = absurd shown
-magic_is faults.OtherReel s shown = absurd shown
+magic_is _ s shown = absurd shown
 
 -- ---- the whole file
 

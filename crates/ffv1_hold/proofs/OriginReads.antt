@@ -74,17 +74,7 @@ module _ (a b c : ReadLog) (i j : ℕ) (n : ℕ) (ds : List (List ℕ)) (t : Tak
     where
       shows : (f : HoldFileFault) (s : List ℕ) → DigestShows (last_of ds) f s → OriginsShow f ((be4 n ++ whole ds) ++ s)
       shows faults.Order s h = (n, ds, s, refl, few, are, less, h.0, h.1)
-      shows faults.Magic s h = absurd h
-      shows (faults.Setup f) s h = absurd h
-      shows faults.Truncated s h = absurd h
-      shows faults.Tag s h = absurd h
-      shows faults.NotASlice s h = absurd h
-      shows faults.TooLong s h = absurd h
-      shows faults.Trailing s h = absurd h
-      shows faults.Read s h = absurd h
-      shows faults.Write s h = absurd h
-      shows faults.Memory s h = absurd h
-      shows faults.OtherReel s h = absurd h
+      shows _ s h = absurd h
 
 pub pushed_origins : (a b : ReadLog) (i j : ℕ) (ds es : List (List ℕ)) → TakesDigest a b i j ds es → AreOrigins ds → AreOrigins es
 pushed_origins a b i j ds es one are = subst AreOrigins (sym one.pushed) (origins_push ds one.digest are one.is one.follows)

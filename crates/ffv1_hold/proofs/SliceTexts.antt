@@ -100,16 +100,7 @@ wrong_kinds : (setup : SetupValue) (last : Option FileEntry) (e : Entry) (f : Ho
     → ((f ≡ faults.NotASlice) × (¬ IsSliceOf setup e.1 (e.0 == 0) e.0)) ⊎ ((f ≡ faults.Order) × IsSliceOf setup e.1 (e.0 == 0) e.0 × (¬ Follows last e))
 wrong_kinds setup last e faults.NotASlice wrong = inl (refl, wrong)
 wrong_kinds setup last e faults.Order wrong = inr (refl, wrong.0, wrong.1)
-wrong_kinds setup last e faults.TooLong wrong = absurd wrong
-wrong_kinds setup last e faults.Tag wrong = absurd wrong
-wrong_kinds setup last e faults.Magic wrong = absurd wrong
-wrong_kinds setup last e (faults.Setup f) wrong = absurd wrong
-wrong_kinds setup last e faults.Truncated wrong = absurd wrong
-wrong_kinds setup last e faults.Trailing wrong = absurd wrong
-wrong_kinds setup last e faults.Read wrong = absurd wrong
-wrong_kinds setup last e faults.Write wrong = absurd wrong
-wrong_kinds setup last e faults.Memory wrong = absurd wrong
-wrong_kinds setup last e faults.OtherReel wrong = absurd wrong
+wrong_kinds setup last e _ wrong = absurd wrong
 
 wrong_one : (setup : SetupValue) (last : Option FileEntry) (e : Entry) (f g : HoldFileFault) → IsWrong setup last e f → IsWrong setup last e g → f ≡ g
 wrong_one setup last e f g a b = elim (wrong_kinds setup last e f a) [

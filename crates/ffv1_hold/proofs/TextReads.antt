@@ -71,12 +71,7 @@ module _ (P : List ℕ → Type 0) (W Q : HoldFileFault → List ℕ → Type 0)
   shown faults.Tag is q = record { fault = record { seen = xs; is = q; taken = t.text.taken; within = omega (arith, t.text.moved, t.text.within) }; tries' = t.tries'; few = omega (arith, t.few, t.text.within) }
   shown faults.Order is q = record { fault = record { seen = xs; is = q; taken = t.text.taken; within = omega (arith, t.text.moved, t.text.within) }; tries' = t.tries'; few = omega (arith, t.few, t.text.within) }
   shown faults.NotASlice is q = record { fault = record { seen = xs; is = q; taken = t.text.taken; within = omega (arith, t.text.moved, t.text.within) }; tries' = t.tries'; few = omega (arith, t.few, t.text.within) }
-  shown faults.Truncated is q = absurd is
-  shown faults.Trailing is q = absurd is
-  shown faults.Read is q = absurd is
-  shown faults.Write is q = absurd is
-  shown faults.Memory is q = absurd is
-  shown faults.OtherReel is q = absurd is
+  shown _ is q = absurd is
 
   -- no memory was granted after it
   pub memory_stops : P xs ⊎ W faults.Memory xs → StopsAt P W Q a b i faults.Memory
