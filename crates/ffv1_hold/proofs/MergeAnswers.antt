@@ -1,5 +1,5 @@
 -- What joining two files answers to texts of one reel, and to heads of two.
-use Rattle.std.proofs.Common.{◌≡◌, ℕ, ◌<◌, List, [], ◌∷◌, ◌++◌, length, Option, Some, None, Result, Ok, Err, IfErr, OnOk, IsErrOf, rules, refl, sym, ap, ◌∙◌, subst, inl, inr, arith, append_assoc, append-nil, length-append}
+use Rattle.std.proofs.Common.{◌≡◌, ℕ, ◌<◌, List, [], ◌∷◌, ◌++◌, length, Option, Some, None, Result, Ok, Err, IfErr, OnOk, IsErrOf, rules, refl, sym, ap, ◌∙◌, subst, inl, inr, arith, append_assoc, length-append}
 use Rattle.std.specs.Prelude.{◌⊎◌}
 use Rattle.std.specs.Io.KnownBytes.{Consumes, Appends}
 use Rattle.std.proofs.KnownBytes.{Consumes-nil, Appends-nil}
@@ -24,7 +24,7 @@ use Rattle.ffv1_hold.proofs.Heads.{head_is_part, head_file}
 use Rattle.ffv1_hold.proofs.MergeFacts.{IsWithin, within-left, within-right, within-both, within-trans, shorter}
 use Rattle.ffv1_hold.proofs.MergeFronts.{front_within}
 use Rattle.ffv1_hold.proofs.MergeLeads.{front_entries, stays_in_lead}
-use Rattle.ffv1_hold.proofs.MergeSteps.{taken_begins}
+use Rattle.ffv1_hold.proofs.MergeSteps.{whole_begins, head_begins}
 
 -- ---- a head that is there is not refused
 
@@ -105,18 +105,13 @@ module _ (i : Inputs) (w v : Option (List ℕ)) (g h : Reel) (left : BeginsWithH
   other_refused f (inr s) =
       absurd (other (sym (one_head _ s.left_version s.reel g s.is s.left_head left) ∙ one_head _ s.right_version s.reel h s.is s.right_head right))
 
-  whole_head : (old new : Option (List ℕ)) (x : Contents) (a : ReadsAll old new x) → BeginsWith old (head_text a.file.version x.reel)
-  whole_head old new x a =
-      taken_begins old new (head_text a.file.version x.reel) (entries_text a.file.version (file_entries x) ++ 0 ∷ [])
-      (subst (Consumes old new) (text_parts a.file.version x) a.file.taken)
-
   file_reel : (old new : Option (List ℕ)) (x : Contents) → ReadsAll old new x → IsFileReel x.reel
   file_reel old new x a = record { reel = a.sound.reel; fits = a.file.fits.record' }
 
   other_written : WritesUnion i w v → ⊥
   other_written u =
-      let one = one_head _ _ u.left.reel g (file_reel _ _ u.left u.read.left_read) (whole_head _ _ u.left u.read.left_read) left in
-      let two = one_head _ _ u.right.reel h (file_reel _ _ u.right u.read.right_read) (whole_head _ _ u.right u.read.right_read) right in
+      let one = one_head _ _ u.left.reel g (file_reel _ _ u.left u.read.left_read) (head_begins _ _ _ u.left (0 ∷ []) u.read.left_read.file.taken) left in
+      let two = one_head _ _ u.right.reel h (file_reel _ _ u.right u.read.right_read) (head_begins _ _ _ u.right (0 ∷ []) u.read.right_read.file.taken) right in
       other (sym one ∙ u.read.same ∙ two)
 
   pub answers_other : (r : Result (Unit {0}) HoldFileFault) → OnOk r (WritesUnion i w v) → IfErr r (JoinStops i w v) → AnswersOther r
@@ -189,16 +184,14 @@ module _ (i : Inputs) (a b : Option (List ℕ)) (v w : Version) (g h : Contents)
 
   heads_same : ReadsOtherHeads i → ⊥
   heads_same o =
-      let begins : (old new : Option (List ℕ)) (u : Version) (r : Reel) → Consumes old new (head_text u r) → BeginsWith old (head_text u r) =
-      λ old new u r t. taken_begins old new (head_text u r) [] (subst (Consumes old new) (sym (append-nil (head_text u r))) t) in
       let head : (old : Option (List ℕ)) (u : Version) (x : Contents) → IsFileOf old u x → BeginsWithHead old x.reel = λ old u x file. record {
         is = record { reel = file.sound.reel; fits = file.fits.record' };
         version = u;
         rest = entries_text u (file_entries x) ++ 0 ∷ [];
         split = file.text ∙ ap Some (text_parts u x);
       } in
-      let one = one_head _ o.left_version o.left g.reel o.left_is (begins _ _ o.left_version o.left o.left_taken) (head _ v g left) in
-      let two = one_head _ o.right_version o.right h.reel o.right_is (begins _ _ o.right_version o.right o.right_taken) (head _ w h right) in
+      let one = one_head _ o.left_version o.left g.reel o.left_is (whole_begins _ _ _ o.left_taken) (head _ v g left) in
+      let two = one_head _ o.right_version o.right h.reel o.right_is (whole_begins _ _ _ o.right_taken) (head _ w h right) in
       o.other (one ∙ same ∙ sym two)
 
   abbrev Outcome : HoldFileFault → Type 0

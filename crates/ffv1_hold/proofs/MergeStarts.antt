@@ -20,13 +20,13 @@ use Rattle.ffv1_hold.specs.Reading.{Takes, Refuses}
 use Rattle.ffv1_hold.specs.FileEntries.{last_of, Follows, IsFileEntryOf, next_text}
 use Rattle.ffv1_hold.specs.FileFaults.{IsFileReel, IsPartOfEntry, EndIsWhole, EntryShows}
 use Rattle.ffv1_hold.specs.Leads.{LiesWhole, AreAllDigests}
-use Rattle.ffv1_hold.specs.JoinedStreams.{BeginsWith, InputRefuses, OneRefuses, ShowsNoFault, ReadsAll, ReadsPart, ReadsSoFar, WritesUnion, WritesAtMost}
+use Rattle.ffv1_hold.specs.JoinedStreams.{BeginsWith, InputRefuses, OneRefuses, ShowsNoFault, ReadsAll, ReadsPart, ReadsSoFar, UnionPasses, WritesUnion, WritesAtMost}
 use Rattle.ffv1_hold.specs.Merging.{Start, inputs_from, Facts, part, no_facts, both, FollowsAll, IsPassed, IsHeld, ReadsToNext, IsOpened, Stands, Stops, Ends}
 use Rattle.ffv1_hold.proofs.Slots.{entries_text-none, length-head_text}
 use Rattle.ffv1_hold.proofs.HeldEntries.{entries-none, holding-joined}
 use Rattle.ffv1_hold.proofs.ReadSteps.{holding_none, told_none}
 use Rattle.ffv1_hold.proofs.TileTexts.{told_begun, fits_within}
-use Rattle.ffv1_hold.proofs.MergeSteps.{advanced, input_refuses, passed_part, passed_shows_none, held_shows_none, head_begins, part_begins}
+use Rattle.ffv1_hold.proofs.MergeSteps.{advanced, input_refuses, part_read, passed_part, passed_shows_none, held_shows_none, head_begins, whole_begins, part_begins, stops_between, stops_reading, stops_writing}
 use Rattle.ffv1_hold.proofs.MergeFacts.{within-left, within-right}
 use Rattle.ffv1_hold.proofs.ReadDigests.{all_read_to, left_gives, right_gives, stays_beside}
 
@@ -101,27 +101,29 @@ head_after old new beside v r done is taken = record {
 }
 
 module _ (s : Start) (q : Reel) (l0 r0 w0 : Option (List ℕ)) (lp rp : ℕ) (o : IsOpened s q l0 r0 w0 lp rp) where
-  pub left_part : ReadsPart s.left l0 (part s.reel no_facts)
-  left_part = passed_part _ _ s.left_version s.reel no_facts lp None o.reel (first_passed _ _ s.left_version s.reel lp o.reel o.left_head)
+  left_first : IsPassed s.left l0 s.left_version s.reel no_facts lp None
+  left_first = first_passed _ _ s.left_version s.reel lp o.reel o.left_head
 
-  pub right_part : ReadsPart s.right r0 (part s.reel no_facts)
-  right_part = passed_part _ _ s.right_version s.reel no_facts rp None o.reel (first_passed _ _ s.right_version s.reel rp o.reel o.right_head)
+  right_first : IsPassed s.right r0 s.right_version s.reel no_facts rp None
+  right_first = first_passed _ _ s.right_version s.reel rp o.reel o.right_head
+
+  left_part : ReadsPart s.left l0 (part s.reel no_facts)
+  left_part = passed_part _ _ s.left_version s.reel no_facts lp None o.reel left_first
+
+  right_part : ReadsPart s.right r0 (part s.reel no_facts)
+  right_part = passed_part _ _ s.right_version s.reel no_facts rp None o.reel right_first
 
   left_begins : BeginsWith s.left (head_text s.left_version s.reel)
-  unfolding passed_part
-  left_begins =
-      head_begins _ _ _ (passed_part _ _ s.left_version s.reel no_facts lp None o.reel (first_passed _ _ s.left_version s.reel lp o.reel o.left_head))
+  left_begins = whole_begins _ _ _ o.left_head.taken
 
   right_begins : BeginsWith s.right (head_text s.right_version s.reel)
-  unfolding passed_part
-  right_begins =
-      head_begins _ _ _ (passed_part _ _ s.right_version s.reel no_facts rp None o.reel (first_passed _ _ s.right_version s.reel rp o.reel o.right_head))
+  right_begins = whole_begins _ _ _ o.right_head.taken
 
-  pub left_shows_none : ShowsNoFault s.left l0
-  left_shows_none = passed_shows_none _ _ s.left_version s.reel no_facts lp None o.reel (first_passed _ _ s.left_version s.reel lp o.reel o.left_head)
+  left_shows_none : ShowsNoFault s.left l0
+  left_shows_none = passed_shows_none _ _ s.left_version s.reel no_facts lp None o.reel left_first
 
-  pub right_shows_none : ShowsNoFault s.right r0
-  right_shows_none = passed_shows_none _ _ s.right_version s.reel no_facts rp None o.reel (first_passed _ _ s.right_version s.reel rp o.reel o.right_head)
+  right_shows_none : ShowsNoFault s.right r0
+  right_shows_none = passed_shows_none _ _ s.right_version s.reel no_facts rp None o.reel right_first
 
   setup_is : (setup : SetupValue) → setup ≡ q.setup → setup ≡ s.reel.setup
   setup_is setup same = same ∙ ap (λ (x : Reel). x.setup) o.same
@@ -158,89 +160,39 @@ module _ (s : Start) (q : Reel) (l0 r0 w0 : Option (List ℕ)) (lp rp : ℕ) (o 
   head_stops new front =
       let w = subst (λ (x : Reel). WritesFront s.sink new (head_text Second x)) o.same (subst (λ (a : Option (List ℕ)). WritesFront a new
       (head_text Second q)) o.unwritten front) in
-      record {
-        reel = s.reel;
-        is = o.reel;
-        left_version = s.left_version;
-        right_version = s.right_version;
-        left_head = left_begins;
-        right_head = right_begins;
-        fault = inr (left_shows_none, right_shows_none);
-        inside = λ other. absurd (cc);
-        no_end = λ other. absurd (other refl);
-        write = λ _. record {
-          front = record {
-            left = part s.reel no_facts;
-            right = part s.reel no_facts;
-            read = heads;
-            front = front-append s.sink new _ (0 ∷ []) (subst (WritesFront s.sink new) (sym (begun-both_none s.reel)) w);
-          };
-          done = w.done;
-          written = w.written;
-          left_version = s.left_version;
-          right_version = s.right_version;
-          left = head_after _ _ _ s.left_version s.reel w.done o.reel o.left_head.taken;
-          right = head_after _ _ _ s.right_version s.reel w.done o.reel o.right_head.taken;
-        };
-        most = record {
-          done = w.done;
-          written = w.written;
-          few = omega (arith, o.reel.fits, ap length w.split, length-append w.done w.rest, length-head_text Second s.reel);
-        };
-      }
+      let front = front-append s.sink new _ (0 ∷ []) (subst (WritesFront s.sink new) (sym (begun-both_none s.reel)) w) in
+      stops_writing (inputs_from s l0 r0) s.reel o.reel s.left_version s.right_version left_begins right_begins s.sink new left_shows_none right_shows_none
+      (record { left = part s.reel no_facts; right = part s.reel no_facts; read = heads; front = front }) w.done w.written
+      (omega (arith, o.reel.fits, ap length w.split, length-append w.done w.rest, length-head_text Second s.reel))
+      (head_after _ _ _ s.left_version s.reel w.done o.reel o.left_head.taken) (head_after _ _ _ s.right_version s.reel w.done o.reel o.right_head.taken)
 
   -- the first entry of an input was refused
-  first_stops : (l r new : Option (List ℕ)) (f : HoldFileFault) → OneRefuses (inputs_from s l r) f → (f ≡ faults.Write → ⊥) → (f ≡ faults.OtherReel → ⊥)
-      → Appends w0 new (head_text Second q) → Stops (inputs_from s l r) s.sink new f
-  first_stops l r new f fault not_write not_other wrote =
-      let w = head_written new wrote in
-      record {
-        reel = s.reel;
-        is = o.reel;
-        left_version = s.left_version;
-        right_version = s.right_version;
-        left_head = left_begins;
-        right_head = right_begins;
-        fault = inl fault;
-        inside = not_other;
-        no_end = λ _. inr (record {
-          left = part s.reel no_facts;
-          right = part s.reel no_facts;
-          left_begins = part_begins _ _ _ left_part;
-          right_begins = part_begins _ _ _ right_part;
-          same = refl;
-          written = subst (Appends s.sink new) (sym (begun-both_none s.reel)) w;
-        });
-        write = λ is_write. absurd (not_write is_write);
-        most = record { done = head_text Second s.reel; written = w; few = omega (arith, o.reel.fits, length-head_text Second s.reel) };
-      }
+  first_stops : (l r new : Option (List ℕ)) (f : HoldFileFault) → OneRefuses (inputs_from s l r) f → Appends w0 new (head_text Second q)
+      → Stops (inputs_from s l r) s.sink new f
+  first_stops l r new f fault wrote =
+      let text = begun-both_none s.reel in
+      stops_reading (inputs_from s l r) s.reel o.reel s.left_version s.right_version left_begins right_begins s.sink new no_facts no_facts
+      (part_begins _ _ _ left_part) (part_begins _ _ _ right_part) (subst (Appends s.sink new) (sym text) (head_written new wrote))
+      (omega (arith, o.reel.fits, ap length text, length-head_text Second s.reel)) f fault
 
   pub first_left_stops : (l new : Option (List ℕ)) (last : Option FileEntry) (w : Version) (setup : SetupValue) (f : HoldFileFault) → last ≡ None
       → w ≡ s.left_version → setup ≡ q.setup → Refuses (IsPartOfEntry w setup last) EndIsWhole (EntryShows w setup last) l0 l lp f
       → Appends w0 new (head_text Second q) → Stops (inputs_from s l r0) s.sink new f
   first_left_stops l new last w setup f none version same refused wrote =
       let input = first_refuses _ _ _ s.left_version w s.reel lp last setup f none version (setup_is setup same) o.reel o.left_head refused in
-      first_stops l r0 new f (inl (input, right_shows_none)) (λ is. subst (InputRefuses s.left l) is input) (λ is. subst (InputRefuses s.left l) is input) wrote
+      first_stops l r0 new f (inl (input, right_shows_none)) wrote
 
   pub first_right_stops : (l r new : Option (List ℕ)) (to : ℕ) (ln last : Option FileEntry) (w : Version) (setup : SetupValue) (f : HoldFileFault)
       → last ≡ None → w ≡ s.right_version → setup ≡ q.setup → Refuses (IsPartOfEntry w setup last) EndIsWhole (EntryShows w setup last) r0 r rp f
       → IsHeld s.left l s.left_version s.reel no_facts to ln → Appends w0 new (head_text Second q) → Stops (inputs_from s l r) s.sink new f
   first_right_stops l r new to ln last w setup f none version same refused held wrote =
       let input = first_refuses _ _ _ s.right_version w s.reel rp last setup f none version (setup_is setup same) o.reel o.right_head refused in
-      first_stops l r new f (inr (input, held_shows_none _ _ s.left_version s.reel no_facts to ln o.reel held))
-      (λ is. subst (InputRefuses s.right r) is input) (λ is. subst (InputRefuses s.right r) is input) wrote
+      first_stops l r new f (inr (input, held_shows_none _ _ s.left_version s.reel no_facts to ln o.reel held)) wrote
 
 -- ---- after the last entries
 
 pub all_part : (old new : Option (List ℕ)) (h : Contents) → ReadsAll old new h → ReadsPart old new h
-all_part old new h a = record {
-  sound = a.sound;
-  record' = a.file.fits.record';
-  version = a.file.version;
-  told = a.file.fits.told;
-  more = 0 ∷ [];
-  taken = a.file.taken;
-}
+all_part old new h a = part_read old new a.file.version h a.sound a.file.fits.record' a.file.fits.told (0 ∷ []) a.file.taken
 
 module _ (s : Start) (left right sink : Option (List ℕ)) (room : ℕ) (e : Ends s left right sink room) where
   abbrev all : Facts
@@ -253,12 +205,10 @@ module _ (s : Start) (left right sink : Option (List ℕ)) (room : ℕ) (e : End
   right_all = all_part _ _ _ e.read.right_read
 
   left_begins_all : BeginsWith s.left (head_text e.read.left_read.file.version s.reel)
-  unfolding all_part
-  left_begins_all = head_begins _ _ _ (all_part _ _ _ e.read.left_read)
+  left_begins_all = head_begins _ _ _ (part s.reel e.lefts) (0 ∷ []) e.read.left_read.file.taken
 
   right_begins_all : BeginsWith s.right (head_text e.read.right_read.file.version s.reel)
-  unfolding all_part
-  right_begins_all = head_begins _ _ _ (all_part _ _ _ e.read.right_read)
+  right_begins_all = head_begins _ _ _ (part s.reel e.rights) (0 ∷ []) e.read.right_read.file.taken
 
   all_sound : IsHolding (part s.reel all)
   all_sound = holding-joined (part s.reel e.lefts) (part s.reel e.rights) refl e.read.left_read.sound e.read.right_read.sound
@@ -278,31 +228,16 @@ module _ (s : Start) (left right sink : Option (List ℕ)) (room : ℕ) (e : End
 
   -- there is no room for the end tag
   pub full_stops : room ≡ 0 → Stops (inputs_from s left right) s.sink sink faults.TooLong
-  full_stops none = record {
-    reel = s.reel;
-    is = e.is;
-    left_version = e.read.left_read.file.version;
-    right_version = e.read.right_read.file.version;
-    left_head = left_begins_all;
-    right_head = right_begins_all;
-    fault = inr (inr (record {
-      left = part s.reel e.lefts;
-      right = part s.reel e.rights;
-      read = e.read;
-      over = omega (arith, none, e.room_left, union_length);
-    }));
-    inside = λ other. absurd (cc);
-    no_end = λ _. inr (record {
-      left = part s.reel e.lefts;
-      right = part s.reel e.rights;
-      left_begins = part_begins _ _ _ left_all;
-      right_begins = part_begins _ _ _ right_all;
-      same = refl;
-      written = e.written;
-    });
-    write = λ is. absurd (cc);
-    most = record { done = begun_text Second (part s.reel all); written = e.written; few = omega (arith, e.room_left) };
-  }
+  full_stops none =
+      let passes : UnionPasses (inputs_from s left right) = record {
+        left = part s.reel e.lefts;
+        right = part s.reel e.rights;
+        read = e.read;
+        over = omega (arith, none, e.room_left, union_length);
+      } in
+      stops_between (inputs_from s left right) s.reel e.is e.read.left_read.file.version e.read.right_read.file.version left_begins_all right_begins_all
+      s.sink sink e.lefts e.rights (part_begins _ _ _ left_all) (part_begins _ _ _ right_all) e.written (omega (arith, e.room_left))
+      faults.TooLong (inr (inr passes)) (λ is. absurd (cc), λ is. absurd (cc))
 
   -- the end tag could not be written
   pub end_stops : (new : Option (List ℕ)) → 1 ≤ room → WritesFront sink new (0 ∷ []) → Stops (inputs_from s left right) s.sink new faults.Write
@@ -310,40 +245,18 @@ module _ (s : Start) (left right sink : Option (List ℕ)) (room : ℕ) (e : End
       let begun = begun_text Second (part s.reel all) in
       let left_read = all_read_to _ _ s.reel e.lefts e.read.left_read in
       let right_read = all_read_to _ _ s.reel e.rights e.read.right_read in
-      let done = begun ++ w.done in
-      let written = Appends-trans s.sink sink new begun w.done e.written w.written in
-      record {
-        reel = s.reel;
-        is = e.is;
-        left_version = e.read.left_read.file.version;
-        right_version = e.read.right_read.file.version;
-        left_head = left_begins_all;
-        right_head = right_begins_all;
-        fault = inr (whole_shows_none _ _ e.lefts e.read.left_read, whole_shows_none _ _ e.rights e.read.right_read);
-        inside = λ other. absurd (cc);
-        no_end = λ other. absurd (other refl);
-        write = λ _. record {
-          front = record {
-            left = part s.reel e.lefts;
-            right = part s.reel e.rights;
-            read = record { left_read = left_all; right_read = right_all; same = refl };
-            front = front-after s.sink sink new begun (0 ∷ []) e.written w;
-          };
-          done = done;
-          written = written;
-          left_version = e.read.left_read.file.version;
-          right_version = e.read.right_read.file.version;
-          left = stays_beside s.reel e.is _ _ _ _ _ _ e.lefts e.rights all None None left_read right_read (within-left e.lefts e.rights) tt tt
-              (left_gives s.reel e.lefts e.rights) all_sound all_told w.done;
-          right = stays_beside s.reel e.is _ _ _ _ _ _ e.rights e.lefts all None None right_read left_read (within-right e.lefts e.rights) tt tt
-              (right_gives s.reel e.lefts e.rights) all_sound all_told w.done;
-        };
-        most = record {
-          done = done;
-          written = written;
-          few = omega (arith, e.room_left, some, ap length w.split, length-append w.done w.rest, length-append begun w.done);
-        };
-      }
+      let read : ReadsSoFar (inputs_from s left right) (part s.reel e.lefts) (part s.reel e.rights) =
+      record { left_read = left_all; right_read = right_all; same = refl } in
+      let front = front-after s.sink sink new begun (0 ∷ []) e.written w in
+      stops_writing (inputs_from s left right) s.reel e.is e.read.left_read.file.version e.read.right_read.file.version left_begins_all right_begins_all
+      s.sink new (whole_shows_none _ _ e.lefts e.read.left_read) (whole_shows_none _ _ e.rights e.read.right_read)
+      (record { left = part s.reel e.lefts; right = part s.reel e.rights; read = read; front = front })
+      (begun ++ w.done) (Appends-trans s.sink sink new begun w.done e.written w.written)
+      (omega (arith, e.room_left, some, ap length w.split, length-append w.done w.rest, length-append begun w.done))
+      (stays_beside s.reel e.is _ _ _ _ _ _ e.lefts e.rights all None None left_read right_read (within-left e.lefts e.rights) tt tt
+      (left_gives s.reel e.lefts e.rights) all_sound all_told w.done)
+      (stays_beside s.reel e.is _ _ _ _ _ _ e.rights e.lefts all None None right_read left_read (within-right e.lefts e.rights) tt tt
+      (right_gives s.reel e.lefts e.rights) all_sound all_told w.done)
 
   -- it was written
   pub union_written : (new : Option (List ℕ)) → 1 ≤ room → Appends sink new (0 ∷ []) → WritesUnion (inputs_from s left right) s.sink new

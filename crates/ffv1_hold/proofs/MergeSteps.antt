@@ -4,7 +4,7 @@ use Rattle.std.specs.declared.cmp.Ordering.{Ordering}
 use Rattle.std.specs.declared.cmp.Ordering.TheVariants.{Less, Equal, Greater}
 use Rattle.std.specs.Io.KnownBytes.{Consumes, Appends, IsAtEnd}
 use Rattle.std.proofs.KnownBytes.{Appends-trans}
-use Rattle.ffv1_bits.specs.Limits.{file_limit}
+use Rattle.ffv1_bits.specs.Limits.{record_limit, file_limit}
 use Rattle.ffv1_range.specs.Setup.{SetupValue}
 use Rattle.ffv1_devices.specs.Writing.{WritesFront}
 use Rattle.ffv1_devices.proofs.Fronts.{front-append, front-after}
@@ -18,8 +18,8 @@ use Rattle.ffv1_hold.specs.HoldingText.{FileEntry, origins_limit, head_text, ent
 use Rattle.ffv1_hold.specs.Reading.{Takes, Refuses}
 use Rattle.ffv1_hold.specs.FileEntries.{last_of, Follows, AreOrigins, AreDigestsIn, IsFileEntryOf, next_text}
 use Rattle.ffv1_hold.specs.FileFaults.{IsFileReel, IsPartOfFile, FileIsWhole, FileShows, IsPartOfEntry, EndIsWhole, EntryShows}
-use Rattle.ffv1_hold.specs.JoinedStreams.{ReadsPart, ReadsAll, ReadsSoFar, EntriesPass, InputRefuses, ShowsNoFault, OneRefuses, BeginsWith, BeginsWithPart, WritesEntries, WritesFrontSoFar}
-use Rattle.ffv1_hold.specs.Merging.{Start, inputs_from, Facts, part, with_file_entry, both, IsPassed, IsHeld, FollowsAll, Stands, Stops, Ends, with_digests, IsWritten, IsTurn, EntryStops}
+use Rattle.ffv1_hold.specs.JoinedStreams.{ReadsPart, ReadsAll, ReadsSoFar, EntriesPass, InputRefuses, ShowsNoFault, OneRefuses, JoinRefuses, BeginsWith, BeginsWithPart, WritesFrontSoFar, Inputs}
+use Rattle.ffv1_hold.specs.Merging.{Start, AreVersions, inputs_from, Facts, part, with_file_entry, both, IsPassed, IsHeld, ReadsToNext, FollowsAll, Stands, Stops, Ends, with_digests, IsWritten, IsTurn, EntryStops}
 use Rattle.ffv1_hold.proofs.ReadRefusals.{Takes-trans, Refuses-after}
 use Rattle.ffv1_hold.proofs.Entries.{part_of_entries, entries_show}
 use Rattle.ffv1_hold.proofs.Heads.{file_from_entries_part, file_from_whole_entries, file_from_entries_fault}
@@ -61,6 +61,10 @@ advanced old now new v w r f from to last next setup version same p text entry f
   after = subst (λ (l : Option FileEntry). IfSome next (λ e. Follows l e.0)) p.last' follows;
   at_end = end;
 }
+
+-- what follows the entry that is next
+after_entry : (last next : Option FileEntry) (e : FileEntry) → last ≡ Some e → IfSome next (λ n. Follows last n.0) → IfSome next (λ n. Follows (Some e) n.0)
+after_entry last next e is follows = subst (λ (l : Option FileEntry). IfSome next (λ n. Follows l n.0)) is follows
 
 begun-split : (v : Version) (r : Reel) (f : Facts) (x : List ℕ) → begun_text v (part r f) ++ x
     ≡ head_text v r ++ (entries_text v (file_entries (part r f)) ++ x)
@@ -105,32 +109,26 @@ held_shows_none old new v r f place None is h = record {
 }
 held_shows_none old new v r f place (Some e) is h = passed_shows_none old new v r (with_file_entry f e) place (Some e) is (passed old new v r f place e h)
 
+pub part_read : (old new : Option (List ℕ)) (v : Version) (h : Contents) → IsHolding h → length h.reel.config ≤ record_limit → IsTold v h → (more : List ℕ)
+    → Consumes old new (begun_text v h ++ more) → ReadsPart old new h
+part_read old new v h sound fits told more taken = record { sound = sound; record' = fits; version = v; told = told; more = more; taken = taken }
+
 pub held_part : (old new : Option (List ℕ)) (v : Version) (r : Reel) (f : Facts) (place : ℕ) (next : Option FileEntry) → IsFileReel r
     → IsHeld old new v r f place next → ReadsPart old new (part r f)
-held_part old new v r f place next is h = record {
-  sound = h.sound;
-  record' = is.fits;
-  version = v;
-  told = h.told;
-  more = next_text v next;
-  taken = h.text.taken;
-}
+held_part old new v r f place next is h = part_read old new v (part r f) h.sound is.fits h.told (next_text v next) h.text.taken
 
-unfoldable pub passed_part : (old new : Option (List ℕ)) (v : Version) (r : Reel) (f : Facts) (place : ℕ) (last : Option FileEntry) → IsFileReel r
+pub passed_part : (old new : Option (List ℕ)) (v : Version) (r : Reel) (f : Facts) (place : ℕ) (last : Option FileEntry) → IsFileReel r
     → IsPassed old new v r f place last → ReadsPart old new (part r f)
-passed_part old new v r f place last is p = record {
-  sound = p.sound;
-  record' = is.fits;
-  version = v;
-  told = p.told;
-  more = [];
-  taken = subst (Consumes old new) (sym (append-nil (begun_text v (part r f)))) p.text.taken;
-}
+passed_part old new v r f place last is p =
+    part_read old new v (part r f) p.sound is.fits p.told [] (subst (Consumes old new) (sym (append-nil (begun_text v (part r f)))) p.text.taken)
 
 pub taken_begins : (old new : Option (List ℕ)) (bytes more : List ℕ) → Consumes old new (bytes ++ more) → BeginsWith old bytes
 taken_begins None new bytes more t = tt
 taken_begins (Some xs) None bytes more t = absurd t
 taken_begins (Some xs) (Some ys) bytes more t = (more ++ ys, t ∙ append_assoc bytes more ys)
+
+pub whole_begins : (old new : Option (List ℕ)) (bytes : List ℕ) → Consumes old new bytes → BeginsWith old bytes
+whole_begins old new bytes t = taken_begins old new bytes [] (subst (Consumes old new) (sym (append-nil bytes)) t)
 
 pub part_begins : (old new : Option (List ℕ)) (h : Contents) → ReadsPart old new h → BeginsWithPart old h
 part_begins old new h p = record {
@@ -141,10 +139,61 @@ part_begins old new h p = record {
   begins = taken_begins old new (begun_text p.version h) p.more p.taken;
 }
 
-pub head_begins : (old new : Option (List ℕ)) (h : Contents) (p : ReadsPart old new h) → BeginsWith old (head_text p.version h.reel)
-head_begins old new h p =
-    taken_begins old new (head_text p.version h.reel) (entries_text p.version (file_entries h) ++ p.more)
-    (subst (Consumes old new) (append_assoc (head_text p.version h.reel) (entries_text p.version (file_entries h)) p.more) p.taken)
+pub head_begins : (old new : Option (List ℕ)) (v : Version) (h : Contents) (more : List ℕ) → Consumes old new (begun_text v h ++ more)
+    → BeginsWith old (head_text v h.reel)
+head_begins old new v h more t =
+    taken_begins old new (head_text v h.reel) (entries_text v (file_entries h) ++ more)
+    (subst (Consumes old new) (append_assoc (head_text v h.reel) (entries_text v (file_entries h)) more) t)
+
+-- ---- refusals after both heads
+
+one_refused_outside : (i : Inputs) (f : HoldFileFault) → OneRefuses i f → (f ≡ faults.Write → ⊥) × (f ≡ faults.OtherReel → ⊥)
+one_refused_outside i f (inl r) = (λ is. subst (InputRefuses i.left_old i.left_new) is r.0, λ is. subst (InputRefuses i.left_old i.left_new) is r.0)
+one_refused_outside i f (inr r) = (λ is. subst (InputRefuses i.right_old i.right_new) is r.0, λ is. subst (InputRefuses i.right_old i.right_new) is r.0)
+
+module _ (i : Inputs) (r : Reel) (is : IsFileReel r) (v w : Version) (left_head : BeginsWith i.left_old (head_text v r))
+    (right_head : BeginsWith i.right_old (head_text w r)) (old new : Option (List ℕ)) where
+  -- the sink is not the fault: the head and whole entries were written
+  pub stops_between : (x y : Facts) → BeginsWithPart i.left_old (part r x) → BeginsWithPart i.right_old (part r y)
+      → Appends old new (begun_text Second (part r (both x y))) → length (begun_text Second (part r (both x y))) ≤ file_limit
+      → (f : HoldFileFault) → JoinRefuses i f → (f ≡ faults.Write → ⊥) × (f ≡ faults.OtherReel → ⊥) → Stops i old new f
+  stops_between x y left right written few f fault outside = record {
+    reel = r;
+    is = is;
+    left_version = v;
+    right_version = w;
+    left_head = left_head;
+    right_head = right_head;
+    fault = fault;
+    inside = outside.1;
+    no_end = λ _. inr (record { left = part r x; right = part r y; left_begins = left; right_begins = right; same = refl; written = written });
+    write = λ is_write. absurd (outside.0 is_write);
+    most = record { done = begun_text Second (part r (both x y)); written = written; few = few };
+  }
+
+  -- an input is the fault
+  pub stops_reading : (x y : Facts) → BeginsWithPart i.left_old (part r x) → BeginsWithPart i.right_old (part r y)
+      → Appends old new (begun_text Second (part r (both x y))) → length (begun_text Second (part r (both x y))) ≤ file_limit
+      → (f : HoldFileFault) → OneRefuses i f → Stops i old new f
+  stops_reading x y left right written few f fault = stops_between x y left right written few f (inl fault) (one_refused_outside i f fault)
+
+  -- the sink is the fault
+  pub stops_writing : ShowsNoFault i.left_old i.left_new → ShowsNoFault i.right_old i.right_new → WritesFrontSoFar i old new
+      → (done : List ℕ) → Appends old new done → length done ≤ file_limit → ReadsToNext v r i.left_old i.left_new i.right_old done
+      → ReadsToNext w r i.right_old i.right_new i.left_old done → Stops i old new faults.Write
+  stops_writing left right front done written few left_read right_read = record {
+    reel = r;
+    is = is;
+    left_version = v;
+    right_version = w;
+    left_head = left_head;
+    right_head = right_head;
+    fault = inr (left, right);
+    inside = λ other. absurd (cc);
+    no_end = λ other. absurd (other refl);
+    write = λ _. record { front = front; done = done; written = written; left_version = v; right_version = w; left = left_read; right = right_read };
+    most = record { done = done; written = written; few = few };
+  }
 
 -- ---- one step of both
 
@@ -167,44 +216,44 @@ module _ (s : Start) (left right sink : Option (List ℕ)) (lp rp room : ℕ) (l
   all_told : IsTold Second (part s.reel all)
   all_told = told_begun (part s.reel all) all_sound (omega (arith, st.room_left))
 
-  pub left_at : (e : FileEntry) → ln ≡ Some e → IsHeld s.left left s.left_version s.reel st.lefts lp (Some e)
+  left_at : (e : FileEntry) → ln ≡ Some e → IsHeld s.left left s.left_version s.reel st.lefts lp (Some e)
   left_at e is = subst (λ (n : Option FileEntry). IsHeld s.left left s.left_version s.reel st.lefts lp n) is st.left_held
 
-  pub right_at : (e : FileEntry) → rn ≡ Some e → IsHeld s.right right s.right_version s.reel st.rights rp (Some e)
+  right_at : (e : FileEntry) → rn ≡ Some e → IsHeld s.right right s.right_version s.reel st.rights rp (Some e)
   right_at e is = subst (λ (n : Option FileEntry). IsHeld s.right right s.right_version s.reel st.rights rp n) is st.right_held
 
-  pub left_passed : (e : FileEntry) → ln ≡ Some e → IsPassed s.left left s.left_version s.reel (with_file_entry st.lefts e) lp ln
+  left_passed : (e : FileEntry) → ln ≡ Some e → IsPassed s.left left s.left_version s.reel (with_file_entry st.lefts e) lp ln
   left_passed e is =
       subst (λ (n : Option FileEntry). IsPassed s.left left s.left_version s.reel (with_file_entry st.lefts e) lp n) (sym is)
       (passed _ _ s.left_version s.reel st.lefts lp e (left_at e is))
 
-  pub right_passed : (e : FileEntry) → rn ≡ Some e → IsPassed s.right right s.right_version s.reel (with_file_entry st.rights e) rp rn
+  right_passed : (e : FileEntry) → rn ≡ Some e → IsPassed s.right right s.right_version s.reel (with_file_entry st.rights e) rp rn
   right_passed e is =
       subst (λ (n : Option FileEntry). IsPassed s.right right s.right_version s.reel (with_file_entry st.rights e) rp n) (sym is)
       (passed _ _ s.right_version s.reel st.rights rp e (right_at e is))
 
-  pub left_part : ReadsPart s.left left (part s.reel st.lefts)
+  left_part : ReadsPart s.left left (part s.reel st.lefts)
   left_part = held_part _ _ s.left_version s.reel st.lefts lp ln st.reel st.left_held
 
-  pub right_part : ReadsPart s.right right (part s.reel st.rights)
+  right_part : ReadsPart s.right right (part s.reel st.rights)
   right_part = held_part _ _ s.right_version s.reel st.rights rp rn st.reel st.right_held
 
   pub left_shows_none : ShowsNoFault s.left left
   left_shows_none = held_shows_none _ _ s.left_version s.reel st.lefts lp ln st.reel st.left_held
 
-  pub right_shows_none : ShowsNoFault s.right right
+  right_shows_none : ShowsNoFault s.right right
   right_shows_none = held_shows_none _ _ s.right_version s.reel st.rights rp rn st.reel st.right_held
 
   -- with no other digests an entry is itself
-  pub left_alone : (e : FileEntry) (others : List (List ℕ)) → ln ≡ Some e → others ≡ [] → with_digests e others ≡ e
+  left_alone : (e : FileEntry) (others : List (List ℕ)) → ln ≡ Some e → others ≡ [] → with_digests e others ≡ e
   left_alone e others is none =
       ap (with_digests e) none ∙ with_none e (digests_in_version s.left_version e.1 (left_at e is).entry.origins).rising
 
-  pub right_alone : (e : FileEntry) (others : List (List ℕ)) → rn ≡ Some e → others ≡ [] → with_digests e others ≡ e
+  right_alone : (e : FileEntry) (others : List (List ℕ)) → rn ≡ Some e → others ≡ [] → with_digests e others ≡ e
   right_alone e others is none =
       ap (with_digests e) none ∙ with_none e (digests_in_version s.right_version e.1 (right_at e is).entry.origins).rising
 
-  abbrev pub turned : (e : FileEntry) (others : List (List ℕ)) (o : Ordering) → IsTurn ln rn e others o → Turned s left right all e others
+  abbrev turned : (e : FileEntry) (others : List (List ℕ)) (o : Ordering) → IsTurn ln rn e others o → Turned s left right all e others
   turned e others Less t = record {
     lefts = with_file_entry st.lefts e;
     rights = st.rights;
@@ -231,23 +280,11 @@ module _ (s : Start) (left right sink : Option (List ℕ)) (lp rp room : ℕ) (l
     follows = subst (λ (n : Option FileEntry). FollowsAll s.reel all n) t.0 st.left_after;
   }
 
-  written_so_far : WritesEntries (inputs_from s left right) s.sink sink
-  written_so_far = record {
-    left = part s.reel st.lefts;
-    right = part s.reel st.rights;
-    left_begins = part_begins _ _ _ left_part;
-    right_begins = part_begins _ _ _ right_part;
-    same = refl;
-    written = st.written;
-  }
-
   left_head : BeginsWith s.left (head_text s.left_version s.reel)
-  unfolding held_part
-  left_head = head_begins _ _ _ (held_part _ _ s.left_version s.reel st.lefts lp ln st.reel st.left_held)
+  left_head = head_begins _ _ s.left_version (part s.reel st.lefts) (next_text s.left_version ln) st.left_held.text.taken
 
   right_head : BeginsWith s.right (head_text s.right_version s.reel)
-  unfolding held_part
-  right_head = head_begins _ _ _ (held_part _ _ s.right_version s.reel st.rights rp rn st.reel st.right_held)
+  right_head = head_begins _ _ s.right_version (part s.reel st.rights) (next_text s.right_version rn) st.right_held.text.taken
 
   text_after : (w : FileEntry) → AreDigests w.1 → Follows (last_of (file_entries (part s.reel all))) w.0 → (more : Facts) → more ≡ with_file_entry all w
       → begun_text Second (part s.reel more) ≡ begun_text Second (part s.reel all) ++ entry_text Second w
@@ -279,23 +316,10 @@ module _ (s : Start) (left right sink : Option (List ℕ)) (lp rp room : ℕ) (l
           over,
         );
       } in
-      record {
-        reel = s.reel;
-        is = st.reel;
-        left_version = s.left_version;
-        right_version = s.right_version;
-        left_head = left_head;
-        right_head = right_head;
-        fault = inr (inl (pass, (left_shows_none, right_shows_none)));
-        inside = λ other. absurd (cc);
-        no_end = λ _. inr (subst (λ (w : Option (List ℕ)). WritesEntries (inputs_from s left right) s.sink w) (sym same) written_so_far);
-        write = λ is. absurd (cc);
-        most = record {
-          done = begun_text Second (part s.reel all);
-          written = subst (λ (w : Option (List ℕ)). Appends s.sink w (begun_text Second (part s.reel all))) (sym same) st.written;
-          few = omega (arith, st.room_left);
-        };
-      }
+      stops_between (inputs_from s left right) s.reel st.reel s.left_version s.right_version left_head right_head s.sink new st.lefts st.rights
+      (part_begins _ _ _ left_part) (part_begins _ _ _ right_part)
+      (subst (λ (w : Option (List ℕ)). Appends s.sink w (begun_text Second (part s.reel all))) (sym same) st.written) (omega (arith, st.room_left))
+      faults.TooLong (inr (inl (pass, (left_shows_none, right_shows_none)))) (λ is. absurd (cc), λ is. absurd (cc))
 
   -- a front of the entry was written
   entry_cut : (new : Option (List ℕ)) (e : FileEntry) (others : List (List ℕ)) (o : Ordering) → IsTurn ln rn e others o
@@ -315,33 +339,12 @@ module _ (s : Start) (left right sink : Option (List ℕ)) (lp rp room : ℕ) (l
         front = front-append s.sink new _ (0 ∷ []) (subst (WritesFront s.sink new) (sym (turned_text e others t))
             (front-after s.sink sink new begun (entry_text Second (with_digests e others)) st.written w));
       } in
-      record {
-        reel = s.reel;
-        is = st.reel;
-        left_version = s.left_version;
-        right_version = s.right_version;
-        left_head = left_head;
-        right_head = right_head;
-        fault = inr (left_shows_none, right_shows_none);
-        inside = λ other. absurd (cc);
-        no_end = λ other. absurd (other refl);
-        write = λ _. record {
-          front = front;
-          done = done;
-          written = written;
-          left_version = s.left_version;
-          right_version = s.right_version;
-          left = stays_beside s.reel st.reel _ _ _ _ s.left_version s.right_version st.lefts st.rights all ln rn left_read right_read
-              (within-left st.lefts st.rights) st.left_after st.right_after (left_gives s.reel st.lefts st.rights) all_sound all_told w.done;
-          right = stays_beside s.reel st.reel _ _ _ _ s.right_version s.left_version st.rights st.lefts all rn ln right_read left_read
-              (within-right st.lefts st.rights) st.right_after st.left_after (right_gives s.reel st.lefts st.rights) all_sound all_told w.done;
-        };
-        most = record {
-          done = done;
-          written = written;
-          few = omega (arith, st.room_left, fits, ap length w.split, length-append w.done w.rest, length-append begun w.done);
-        };
-      }
+      stops_writing (inputs_from s left right) s.reel st.reel s.left_version s.right_version left_head right_head s.sink new left_shows_none right_shows_none
+      front done written (omega (arith, st.room_left, fits, ap length w.split, length-append w.done w.rest, length-append begun w.done))
+      (stays_beside s.reel st.reel _ _ _ _ s.left_version s.right_version st.lefts st.rights all ln rn left_read right_read
+      (within-left st.lefts st.rights) st.left_after st.right_after (left_gives s.reel st.lefts st.rights) all_sound all_told w.done)
+      (stays_beside s.reel st.reel _ _ _ _ s.right_version s.left_version st.rights st.lefts all rn ln right_read left_read
+      (within-right st.lefts st.rights) st.right_after st.left_after (right_gives s.reel st.lefts st.rights) all_sound all_told w.done)
 
   -- the entry could not be written
   pub entry_stops : (new : Option (List ℕ)) (e : FileEntry) (others : List (List ℕ)) (o : Ordering) (f : HoldFileFault) → IsTurn ln rn e others o
@@ -385,41 +388,13 @@ module _ (s : Start) (left right sink : Option (List ℕ)) (lp rp room : ℕ) (l
     )
 
     -- reading on failed
-    stops_after : (l r : Option (List ℕ)) (f : HoldFileFault) → OneRefuses (inputs_from s l r) f → (f ≡ faults.Write → ⊥) → (f ≡ faults.OtherReel → ⊥)
-        → Stops (inputs_from s l r) s.sink new f
-    stops_after l r f fault not_write not_other = record {
-      reel = s.reel;
-      is = st.reel;
-      left_version = s.left_version;
-      right_version = s.right_version;
-      left_head = left_head;
-      right_head = right_head;
-      fault = inl fault;
-      inside = not_other;
-      no_end = λ _. inr (record {
-        left = part s.reel t.lefts;
-        right = part s.reel t.rights;
-        left_begins = part_begins _ _ _ t.left_read;
-        right_begins = part_begins _ _ _ t.right_read;
-        same = refl;
-        written = now_written;
-      });
-      write = λ is. absurd (not_write is);
-      most = record { done = begun_text Second (part s.reel (both t.lefts t.rights)); written = now_written; few = omega (arith, now_left) };
-    }
-
-    pub stops_at_left : (l r : Option (List ℕ)) (f : HoldFileFault) → InputRefuses s.left l f → ShowsNoFault s.right r
-        → Stops (inputs_from s l r) s.sink new f
-    stops_at_left l r f input other =
-        stops_after l r f (inl (input, other)) (λ is. subst (InputRefuses s.left l) is input) (λ is. subst (InputRefuses s.left l) is input)
-
-    pub stops_at_right : (l r : Option (List ℕ)) (f : HoldFileFault) → InputRefuses s.right r f → ShowsNoFault s.left l
-        → Stops (inputs_from s l r) s.sink new f
-    stops_at_right l r f input other =
-        stops_after l r f (inr (input, other)) (λ is. subst (InputRefuses s.right r) is input) (λ is. subst (InputRefuses s.right r) is input)
+    stops_after : (l r : Option (List ℕ)) (f : HoldFileFault) → OneRefuses (inputs_from s l r) f → Stops (inputs_from s l r) s.sink new f
+    stops_after l r f fault =
+        stops_reading (inputs_from s l r) s.reel st.reel s.left_version s.right_version left_head right_head s.sink new t.lefts t.rights
+        (part_begins _ _ _ t.left_read) (part_begins _ _ _ t.right_read) now_written (omega (arith, now_left)) f fault
 
     -- both stand after it
-    pub stands_after : (l r : Option (List ℕ)) (lp' rp' : ℕ) (ln' rn' : Option FileEntry)
+    stands_after : (l r : Option (List ℕ)) (lp' rp' : ℕ) (ln' rn' : Option FileEntry)
         → IsHeld s.left l s.left_version s.reel t.lefts lp' ln' → IsHeld s.right r s.right_version s.reel t.rights rp' rn'
         → IfSome ln' (λ n. Follows (Some e) n.0) → IfSome rn' (λ n. Follows (Some e) n.0) → Stands s l r new lp' rp' room' ln' rn'
     stands_after l r lp' rp' ln' rn' left_held right_held left_follows right_follows = record {
@@ -435,6 +410,74 @@ module _ (s : Start) (left right sink : Option (List ℕ)) (lp rp room : ℕ) (l
           (after-more s.reel all written_entry rn' all_sound (union-rises e.1 others) t.follows right_follows);
       room_left = now_left;
     }
+
+  -- ---- reading on after it
+  module _ (e : FileEntry) (others : List (List ℕ)) (new : Option (List ℕ)) (room' : ℕ) (wrote : Appends sink new (entry_text Second (with_digests e others)))
+      (less : room' + length (entry_text Second (with_digests e others)) ≡ room) (v w : Version) (versions : AreVersions s v w) (setup : SetupValue)
+      (same : setup ≡ s.reel.setup) where
+    left_on : ln ≡ Some e → (l : Option (List ℕ)) (to : ℕ) (next : Option FileEntry) → Takes left l lp to (next_text v next)
+        → IfSome next (IsFileEntryOf v setup) → IfSome next (λ n. Follows ln n.0) → IfNone next (IsAtEnd l)
+        → IsHeld s.left l s.left_version s.reel (with_file_entry st.lefts e) to next
+    left_on is l to next text entry follows end =
+        advanced _ _ _ s.left_version v s.reel _ lp to ln next setup versions.left_is same (left_passed e is) text entry follows end
+
+    right_on : (own : FileEntry) → rn ≡ Some own → (r : Option (List ℕ)) (to : ℕ) (next : Option FileEntry) → Takes right r rp to (next_text w next)
+        → IfSome next (IsFileEntryOf w setup) → IfSome next (λ n. Follows rn n.0) → IfNone next (IsAtEnd r)
+        → IsHeld s.right r s.right_version s.reel (with_file_entry st.rights own) to next
+    right_on own is r to next text entry follows end =
+        advanced _ _ _ s.right_version w s.reel _ rp to rn next setup versions.right_is same (right_passed own is) text entry follows end
+
+    pub less_stands : IsTurn ln rn e others Less → (l : Option (List ℕ)) (to : ℕ) (next : Option FileEntry) (u : Version) → u ≡ v
+        → Takes left l lp to (next_text v next) → IfSome next (IsFileEntryOf v setup) → IfSome next (λ n. Follows ln n.0) → IfNone next (IsAtEnd l)
+        → AreVersions s u w × Stands s l right new to rp room' next rn
+    less_stands turn l to next u kept text entry follows end = (
+      record { left_is = kept ∙ versions.left_is; right_is = versions.right_is },
+      stands_after e others Less turn new room' wrote less l right to rp next rn (left_on turn.0 l to next text entry follows end) st.right_held
+          (after_entry ln next e turn.0 follows) turn.2,
+    )
+
+    pub greater_stands : IsTurn ln rn e others Greater → (r : Option (List ℕ)) (to : ℕ) (next : Option FileEntry) (u : Version) → u ≡ w
+        → Takes right r rp to (next_text w next) → IfSome next (IsFileEntryOf w setup) → IfSome next (λ n. Follows rn n.0) → IfNone next (IsAtEnd r)
+        → AreVersions s v u × Stands s left r new lp to room' ln next
+    greater_stands turn r to next u kept text entry follows end = (
+      record { left_is = versions.left_is; right_is = kept ∙ versions.right_is },
+      stands_after e others Greater turn new room' wrote less left r lp to ln next st.left_held (right_on e turn.0 r to next text entry follows end) turn.2
+          (after_entry rn next e turn.0 follows),
+    )
+
+    -- where both have the slice, the left input is read on first
+    module _ (turn : IsTurn ln rn e others Equal) (l : Option (List ℕ)) (lp' : ℕ) (ln' : Option FileEntry) (text : Takes left l lp lp' (next_text v ln'))
+        (entry : IfSome ln' (IsFileEntryOf v setup)) (follows : IfSome ln' (λ n. Follows ln n.0)) (end : IfNone ln' (IsAtEnd l)) where
+      left_now : IsHeld s.left l s.left_version s.reel (with_file_entry st.lefts e) lp' ln'
+      left_now = left_on turn.0 l lp' ln' text entry follows end
+
+      pub left_now_shows_none : ShowsNoFault s.left l
+      left_now_shows_none = held_shows_none _ _ s.left_version s.reel _ lp' ln' st.reel left_now
+
+      pub equal_stands : (r : Option (List ℕ)) (to : ℕ) (next : Option FileEntry) (u x : Version) → u ≡ v → x ≡ w → Takes right r rp to (next_text w next)
+          → IfSome next (IsFileEntryOf w setup) → IfSome next (λ n. Follows rn n.0) → IfNone next (IsAtEnd r)
+          → AreVersions s u x × Stands s l r new lp' to room' ln' next
+      equal_stands r to next u x left_kept right_kept right_text right_entry right_follows right_end = (
+        record { left_is = left_kept ∙ versions.left_is; right_is = right_kept ∙ versions.right_is },
+        stands_after e others Equal turn new room' wrote less l r lp' to ln' next left_now
+            (right_on (e.0, others) turn.1 r to next right_text right_entry right_follows right_end)
+            (after_entry ln ln' e turn.0 follows) (after_entry rn next (e.0, others) turn.1 right_follows),
+      )
+
+    -- reading the left input on failed
+    pub left_refused : (o : Ordering) → IsTurn ln rn e others o → ln ≡ Some e → (l : Option (List ℕ)) (f : HoldFileFault)
+        → Refuses (IsPartOfEntry v setup ln) EndIsWhole (EntryShows v setup ln) left l lp f → Stops (inputs_from s l right) s.sink new f
+    left_refused o turn is l f refused =
+        let input = input_refuses _ _ _ s.left_version v s.reel _ lp ln setup f versions.left_is same st.reel (left_passed e is) refused in
+        stops_after e others o turn new room' wrote less l right f (inl (input, right_shows_none))
+
+    -- reading the right one on failed
+    pub right_refused : (o : Ordering) → IsTurn ln rn e others o → (own : FileEntry) → rn ≡ Some own → (l r : Option (List ℕ)) → ShowsNoFault s.left l
+        → (f : HoldFileFault) → Refuses (IsPartOfEntry w setup rn) EndIsWhole (EntryShows w setup rn) right r rp f
+        → Stops (inputs_from s l r) s.sink new f
+    right_refused o turn own is l r shown f refused =
+        let input = input_refuses _ _ _ s.right_version w s.reel _ rp rn setup f versions.right_is same st.reel (right_passed own is) refused in
+        stops_after e others o turn new room' wrote less l r f (inr (input, shown))
 
 -- both inputs ended
 all_read : (old new : Option (List ℕ)) (v : Version) (r : Reel) (f : Facts) (place : ℕ) → IsFileReel r → IsHeld old new v r f place None

@@ -1,7 +1,6 @@
-use Rattle.std.proofs.Common.{◌≡◌, ◌+◌, ◌-◌, ◌<◌, length, arith, refl, ap, ◌∙◌, rules}
+use Rattle.std.proofs.Common.{◌≡◌, ◌+◌, ◌-◌, length, arith, ap, ◌∙◌, rules}
 use Rattle.ffv1_bits.specs.Limits.{file_limit}
 use Rattle.std.proofs.lemmas.Result.{err_from_is_err_and}
-use Rattle.ffv1_pool.specs.Reels.{Reel}
 use Rattle.ffv1_hold.proofs.JoinSteps.{AllGoOn-trans, OneStops-after, left_read, right_read, left_stops, right_stops, wrote, sink_stops}
 use Rattle.ffv1_hold.proofs.MergeStarts.{head_stops, first_left_stops, first_right_stops, left_held, right_held, opened_stands}
 use Rattle.ffv1_hold.proofs.merging.Merge.begin.Goals as goal

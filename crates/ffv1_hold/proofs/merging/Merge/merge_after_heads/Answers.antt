@@ -1,4 +1,4 @@
-use Rattle.std.proofs.Common.{◌≡◌, ◌<◌, arith, ap, le_refl, refl, ◌∙◌}
+use Rattle.std.proofs.Common.{◌<◌, arith, ap, le_refl, refl, ◌∙◌}
 use Rattle.std.proofs.lemmas.Result.{err_from_is_err_and}
 use Rattle.ffv1_pool.specs.Reels.{Reel}
 use Rattle.ffv1_hold.proofs.JoinSteps.{AllGoOn-trans, OneStops-after, wrote, sink_stops, inside}

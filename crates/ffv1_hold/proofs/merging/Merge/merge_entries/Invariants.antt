@@ -12,13 +12,12 @@ invariant-loop-entry g l = record {
       → Stands start (g.R.Source.log l.initial.left).remaining (g.Q.Source.log l.initial.right).remaining
       (g.W.Sink.log l.initial.sink).contents l.initial.self.lefts.place l.initial.self.rights.place l.initial.self.room l.initial.self.lefts.held
       l.initial.self.rights.held
-      → Stands start (g.R.Source.log l.left).remaining (g.Q.Source.log l.right).remaining
+      → AreVersions start l.self.lefts.version l.self.rights.version
+      × Stands start (g.R.Source.log l.left).remaining (g.Q.Source.log l.right).remaining
       (g.W.Sink.log l.sink).contents l.self.lefts.place l.self.rights.place l.self.room l.self.lefts.held l.self.rights.held;
   room : l.self.room ≤ file_limit;
   left_place : l.self.lefts.place ≤ file_limit;
   right_place : l.self.rights.place ≤ file_limit;
-  left_version : l.self.lefts.version ≡ l.initial.self.lefts.version;
-  right_version : l.self.rights.version ≡ l.initial.self.rights.version;
   left_entry : IfSome l.self.lefts.held (IsFileEntryOf l.self.lefts.version l.setup);
   right_entry : IfSome l.self.rights.held (IsFileEntryOf l.self.rights.version l.setup);
   went : AllGoOn (record { left = g.R.Source.log l.initial.left; right = g.Q.Source.log l.initial.right; sink = g.W.Sink.log l.initial.sink })
