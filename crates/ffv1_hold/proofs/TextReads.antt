@@ -24,6 +24,12 @@ TakesText-trans a b c i j k xs ys p q = record {
   few = omega (arith, p.few, q.few);
 }
 
+-- four texts that were read one after the other
+pub TakesText-four : {a b c d e : ReadLog} {i j k l m : ℕ} {ws xs ys zs : List ℕ} → TakesText a b i j ws → TakesText b c j k xs → TakesText c d k l ys
+    → TakesText d e l m zs → TakesText a e i m (ws ++ xs ++ ys ++ zs)
+TakesText-four w x y z =
+    TakesText-trans _ _ _ _ _ _ _ _ (TakesText-trans _ _ _ _ _ _ _ _ (TakesText-trans _ _ _ _ _ _ _ _ w x) y) z
+
 pub TakesText-from : (a b : ReadLog) (i j k : ℕ) (xs : List ℕ) → i ≡ j → TakesText a b i k xs → TakesText a b j k xs
 TakesText-from a b i j k xs same t = subst (λ n. TakesText a b n k xs) same t
 

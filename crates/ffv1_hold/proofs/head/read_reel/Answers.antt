@@ -4,7 +4,7 @@ use Rattle.ffv1_range.proofs.SetupFacts.{setup_size}
 use Rattle.ffv1_hold.specs.HoldingText.{be4, sized_record}
 use Rattle.ffv1_hold.specs.Reading.{TakesText, IsShorter, Never}
 use Rattle.ffv1_hold.specs.FileFaults.{IsPartOfReel, ReelIsWhole, ReelShows}
-use Rattle.ffv1_hold.proofs.TextReads.{TakesText-trans, TakesText-nil, StopsAt-after, shown, memory_stops}
+use Rattle.ffv1_hold.proofs.TextReads.{TakesText-trans, TakesText-four, TakesText-nil, StopsAt-after, shown, memory_stops}
 use Rattle.ffv1_hold.proofs.Heads.{part_of_width, part_of_height, part_of_count, part_of_config, sized_record-of, first_fault}
 use Rattle.ffv1_hold.proofs.head.read_reel.Goals as goal
 
@@ -53,9 +53,7 @@ returns-in-Ok-clause-read g c =
     let h = c.in_ok-height.height in
     let n = c.in_ok-length.length in
     let r = c.in-Ok.reel in
-    let size = TakesText-trans _ _ _ _ _ _ _ _ c.in_ok-width.ensures c.in_ok-height.ensures in
-    let head = TakesText-trans _ _ _ _ _ _ _ _ size c.in_ok-length.ensures in
-    let all = TakesText-trans _ _ _ _ _ _ _ _ head c.in_ok-config.ensures.read in
+    let all = TakesText-four c.in_ok-width.ensures c.in_ok-height.ensures c.in_ok-length.ensures c.in_ok-config.ensures.read in
     let spelled = sized_record-of c.in_ok-config.config.items w h n (sym c.in_ok-config.ensures.count) in
     let size_is = setup_size c.in_ok-config.config.items w h r.setup c.in-Ok.ensures.setup in
     let own : sized_record c.in_ok-config.config.items w h ≡ sized_record r.config r.setup.width r.setup.height =
@@ -68,9 +66,7 @@ returns-in_default-clause-read g c =
     let h = c.in_ok-height.height in
     let n = c.in_ok-length.length in
     let config = c.in_ok-config.config.items in
-    let size = TakesText-trans _ _ _ _ _ _ _ _ c.in_ok-width.ensures c.in_ok-height.ensures in
-    let head = TakesText-trans _ _ _ _ _ _ _ _ size c.in_ok-length.ensures in
-    let all = TakesText-trans _ _ _ _ _ _ _ _ head c.in_ok-config.ensures.read in
+    let all = TakesText-four c.in_ok-width.ensures c.in_ok-height.ensures c.in_ok-length.ensures c.in_ok-config.ensures.read in
     shown _ _ _ _ _ _ _ _ (subst (TakesText _ _ _ _) (sized_record-of config w h n (sym c.in_ok-config.ensures.count)) all) _ tt (
       config,
       w,
@@ -88,8 +84,6 @@ returns-in-Memory-clause-read g c =
     let h = c.in_ok-height.height in
     let n = c.in_ok-length.length in
     let config = c.in_ok-config.config.items in
-    let size = TakesText-trans _ _ _ _ _ _ _ _ c.in_ok-width.ensures c.in_ok-height.ensures in
-    let head = TakesText-trans _ _ _ _ _ _ _ _ size c.in_ok-length.ensures in
-    let all = TakesText-trans _ _ _ _ _ _ _ _ head c.in_ok-config.ensures.read in
+    let all = TakesText-four c.in_ok-width.ensures c.in_ok-height.ensures c.in_ok-length.ensures c.in_ok-config.ensures.read in
     memory_stops _ _ _ _ _ _ _ _ (subst (TakesText _ _ _ _) (sized_record-of config w h n (sym c.in_ok-config.ensures.count)) all)
     (inr (config, w, h, refl, omega (arith, c.in_ok-config.ensures.count), omega arith, omega arith, c.in-Err.ensures.memory (ap Err c.in-Memory.is)))

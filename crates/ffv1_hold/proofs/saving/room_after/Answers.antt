@@ -43,14 +43,8 @@ pub returns-clause-some : goal.returns-clause-some
 returns-clause-some c =
     let h = c.args.holding.now in
     let n = reel_tiles h.reel in
-    let end : c.loop-tile.tile ≡ n = omega (
-      arith,
-      c.loop-tile-test.false,
-      c.loop-tile.auto.tile-end,
-      c.tiles-tile-end.ensures.count,
-      ap reel_tiles
-          c.reel.ensures.value,
-    ) in
+    let same = ap reel_tiles c.reel.ensures.value in
+    let end : c.loop-tile.tile ≡ n = omega (arith, c.loop-tile-test.false, c.loop-tile.auto.tile-end, c.tiles-tile-end.ensures.count) in
     omega (
       arith,
       c.loop-tile.invariant,

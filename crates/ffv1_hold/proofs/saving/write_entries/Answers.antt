@@ -44,12 +44,6 @@ pub returns : goal.returns
 returns g c =
     let h = c.args.holding.now in
     let n = reel_tiles h.reel in
-    let end : c.loop-tile.tile ≡ n = omega (
-      arith,
-      c.loop-tile-test.false,
-      c.loop-tile.auto.tile-end,
-      c.tiles-tile-end.ensures.count,
-      ap reel_tiles
-          c.reel.ensures.value,
-    ) in
+    let same = ap reel_tiles c.reel.ensures.value in
+    let end : c.loop-tile.tile ≡ n = omega (arith, c.loop-tile-test.false, c.loop-tile.auto.tile-end, c.tiles-tile-end.ensures.count) in
     subst (Writes _ _) (ap (entries_text Second) (ap (file_entries_below h) end ∙ file_entries_below-all h n c.requires.entries.tile)) c.loop-tile.invariant

@@ -24,19 +24,15 @@ pub returns-in_err-write_slice : goal.returns-in_err-write_slice
 returns-in_err-write_slice g c d =
     let p = err_from_is_err_and c.from_residual.result c.from_residual.ensures.1 in
     let h = c.args.holding.now in
-    let s = tile_slices h.slices c.args.tile in
-    let b = c.slice.result.now in
-    let lt : c.args.place < length (set.items s) = omega (arith, c.requires.held, size-items s) in
-    let spelled = held_spelled h c.args.tile c.args.place b lt c.slice.ensures c.origins_at-origins.result.now
-    (c.origins_at-origins.ensures.digests b) c.origins_at-origins.ensures.rising d in
+    let size = size-items (tile_slices h.slices c.args.tile) in
+    let spelled = held_spelled h c.args.tile c.args.place _ (omega (arith, c.requires.held)) c.slice.ensures _ (c.origins_at-origins.ensures.digests _)
+    c.origins_at-origins.ensures.rising d in
     rw p.1 (subst (StopsWriting _ _) spelled (StopsWriting-of _ _ _ _ c.in_err-write_slice.ensures))
 
 pub returns : goal.returns
 returns g c d =
     let h = c.args.holding.now in
-    let s = tile_slices h.slices c.args.tile in
-    let b = c.slice.result.now in
-    let lt : c.args.place < length (set.items s) = omega (arith, c.requires.held, size-items s) in
-    let spelled = held_spelled h c.args.tile c.args.place b lt c.slice.ensures c.origins_at-origins.result.now
-    (c.origins_at-origins.ensures.digests b) c.origins_at-origins.ensures.rising d in
+    let size = size-items (tile_slices h.slices c.args.tile) in
+    let spelled = held_spelled h c.args.tile c.args.place _ (omega (arith, c.requires.held)) c.slice.ensures _ (c.origins_at-origins.ensures.digests _)
+    c.origins_at-origins.ensures.rising d in
     subst (WritesAll c.write_origins.result _ _) spelled (WritesAll-after c.write_origins.result _ _ _ _ _ c.in_ok-write_slice.ensures c.write_origins.ensures)
