@@ -196,7 +196,7 @@ fn contents_without_a_picture(rt: HostRuntime) -> Result<(), Fail> {
     ];
     for (content, (width, height), fault) in cases {
         let setup = Setup::read(alloc, &GRAY, width, height)?;
-        assert_eq!(rt; decoded(alloc, &setup, 0, content)?.err(), Some(fault));
+        assert!(rt; decoded(alloc, &setup, 0, content)?.err() == Some(fault));
     }
     Ok(())
 }

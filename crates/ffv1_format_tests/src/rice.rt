@@ -166,6 +166,6 @@ fn fold_keeps_eight_bits(rt: HostRuntime) {
         (255, -1),
         (-255, 1),
     ] {
-        assert_eq!(rt; fold(d), folded);
+        assert!(rt; fold(d) == folded);
     }
 }

@@ -1,8 +1,7 @@
 //! Slices that are put together from damaged versions.
 use crate::recorded::QUARTERED;
 use ffv1_weave::{Outcome, weave};
-use std::alloc::Global;
-use std::test::Fail;
+use std::alloc::{AllocError, Global};
 
 /// The footer of the first slice of `QUARTERED`, as FFmpeg wrote it.
 const FOOTER: [u8; 8] = [0x00, 0x04, 0x05, 0x00, 0x18, 0x4B, 0x2B, 0x5C];
@@ -10,19 +9,20 @@ const FOOTER: [u8; 8] = [0x00, 0x04, 0x05, 0x00, 0x18, 0x4B, 0x2B, 0x5C];
 /// Places of a slice, and what is added to the bytes there, by XOR.
 type Damage<'a> = &'a [(usize, u8)];
 
-/// The first slice of `QUARTERED` with this damage. It has 1037 bytes.
-fn version_of(alloc: Global, damage: Damage<'_>) -> Result<Vec<u8>, Fail> {
+/// The first slice of `QUARTERED` with this damage, at places that it has. It has 1037 bytes.
+fn version_of(alloc: Global, damage: Damage<'_>) -> Result<Vec<u8>, AllocError> {
     let mut bytes = Vec::from_slice(alloc, QUARTERED[0].0)?;
     bytes.extend_from_slice(&FOOTER)?;
     for (place, change) in damage {
-        let byte = bytes.get_mut(*place).ok_or("a place of the slice")?;
-        *byte ^= *change;
+        if let Some(byte) = bytes.get_mut(*place) {
+            *byte ^= *change;
+        }
     }
     Ok(bytes)
 }
 
 /// What comes of weaving versions of the slice.
-#[derive(Clone, Copy, Debug, PartialEq, Eq)]
+#[derive(Clone, Copy, PartialEq, Eq)]
 enum Told {
     /// The slice itself, of so many combinations.
     Slice(usize),
@@ -35,7 +35,7 @@ enum Told {
 }
 
 /// What comes of weaving these versions of a slice.
-fn told_of(alloc: Global, slice: &[u8], versions: &[&[u8]]) -> Result<Told, Fail> {
+fn told_of(alloc: Global, slice: &[u8], versions: &[&[u8]]) -> Result<Told, AllocError> {
     if versions.is_empty()
         || !versions
             .iter()
@@ -52,18 +52,27 @@ fn told_of(alloc: Global, slice: &[u8], versions: &[&[u8]]) -> Result<Told, Fail
     })
 }
 
-/// Whether this comes of weaving the slice's versions with these damages.
-fn is_told(alloc: Global, damages: &[Damage<'_>], told: Told) -> Result<bool, Fail> {
+/// What comes of weaving copies of a slice.
+fn told_of_copies(alloc: Global, slice: &[u8], copies: &[Vec<u8>]) -> Result<Told, AllocError> {
+    let mut versions = Vec::new(alloc);
+    for copy in copies {
+        versions.push(copy.as_slice())?;
+    }
+    told_of(alloc, slice, &versions)
+}
+
+/// What comes of weaving the slice's versions with these damages.
+fn told_of_damages(alloc: Global, damages: &[Damage<'_>]) -> Result<Told, AllocError> {
     let mut copies = Vec::new(alloc);
     for damage in damages {
         copies.push(version_of(alloc, damage)?)?;
     }
-    let mut versions = Vec::new(alloc);
-    for copy in &copies {
-        versions.push(copy.as_slice())?;
-    }
-    let slice = version_of(alloc, &[])?;
-    Ok(told_of(alloc, &slice, &versions)? == told)
+    told_of_copies(alloc, &version_of(alloc, &[])?, &copies)
+}
+
+/// Whether this comes of weaving the slice's versions with these damages.
+fn is_told(alloc: Global, damages: &[Damage<'_>], told: Told) -> bool {
+    told_of_damages(alloc, damages) == Ok(told)
 }
 
 /// Versions by their damage, and what is woven of them.
@@ -92,16 +101,15 @@ const ROWS: [(&'static [Damage<'static>], Told); 9] = [
 ];
 
 #[test]
-fn damaged_versions_are_woven(rt: HostRuntime) -> Result<(), Fail> {
+fn damaged_versions_are_woven(rt: HostRuntime) {
     for (damages, told) in ROWS {
-        assert!(rt; is_told(rt.alloc(), damages, told)?);
+        assert!(rt; is_told(rt.alloc(), damages, told));
     }
-    Ok(())
 }
 
 /// Two versions that are damaged in turn, at places 65 apart: each is a region, and doubles the number of combinations.
 #[test]
-fn at_most_4096_combinations_are_tried(rt: HostRuntime) -> Result<(), Fail> {
+fn at_most_4096_combinations_are_tried(rt: HostRuntime) {
     let even = [
         (0, 1),
         (130, 1),
@@ -112,13 +120,7 @@ fn at_most_4096_combinations_are_tried(rt: HostRuntime) -> Result<(), Fail> {
         (780, 1),
     ];
     let odd = [(65, 1), (195, 1), (325, 1), (455, 1), (585, 1), (715, 1)];
-    assert!(rt; is_told(rt.alloc(), &[&even[..6], odd.as_slice()], Told::Slice(4096))?);
-    assert!(rt;
-        is_told(
-            rt.alloc(),
-            &[even.as_slice(), odd.as_slice()],
-            Told::TooMany
-        )?
-    );
-    Ok(())
+    let both = [even.as_slice(), odd.as_slice()];
+    assert!(rt; is_told(rt.alloc(), &[&even[..6], odd.as_slice()], Told::Slice(4096)));
+    assert!(rt; is_told(rt.alloc(), &both, Told::TooMany));
 }
