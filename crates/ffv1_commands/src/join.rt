@@ -119,8 +119,10 @@ fn join_file_of<R: Source>(
     requires { before < 2 ^ 63 }
     ensures { JoinsFile result before whole.old whole.new (string_bytes lines.old) (string_bytes lines.new) (R.log file.old) (R.log file.new) }
 {
-    let other = read_holding(alloc, file, CommandPath::Hold(before))?;
-    let new = whole.join_with(&other)?;
+    let new = {
+        let other = read_holding(alloc, file, CommandPath::Hold(before))?;
+        whole.join_with(&other)?
+    };
     push_file(lines, before + 1, new)?;
     Ok(())
 }

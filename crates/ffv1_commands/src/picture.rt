@@ -55,8 +55,10 @@ pub fn picture_of<R: Source, O: Sink, W: Sink>(
     ensures told { TellsPicture result (R.log file.old) (R.log file.new) (O.log out.old) (O.log out.new) (W.log output.old) (W.log output.new) }
     ensures untouched { IfErr result (λ fault. UnlessWriting fault ((out.new ≡ out.old) × (output.new ≡ output.old))) }
 {
-    let holding = read_holding(alloc, file, CommandPath::Hold(0))?;
-    let partial = picture(alloc, &holding)?;
+    let partial = {
+        let holding = read_holding(alloc, file, CommandPath::Hold(0))?;
+        picture(alloc, &holding)?
+    };
     let lines = outcomes_text(alloc, partial.tiles.as_slice())?;
     write_shown(out, &partial.frame, output, lines.as_str())?;
     Ok(are_decoded(partial.tiles.as_slice()))

@@ -51,8 +51,10 @@ pub fn restore_of<R: Source, O: Sink, W: Sink>(
     ensures told { TellsRestore result (R.log file.old) (R.log file.new) (O.log out.old) (O.log out.new) (W.log output.old) (W.log output.new) }
     ensures untouched { IfErr result (λ fault. UnlessWriting fault ((out.new ≡ out.old) × (output.new ≡ output.old))) }
 {
-    let holding = read_holding(alloc, file, CommandPath::Hold(0))?;
-    let payload = holding.restore()?;
+    let payload = {
+        let holding = read_holding(alloc, file, CommandPath::Hold(0))?;
+        holding.restore()?
+    };
     let line = restored_text(alloc, payload.len())?;
     write_both(out, payload.as_slice(), output, line.as_str())
 }

@@ -224,6 +224,6 @@ fn rotten_bytes_are_judged(rt: HostRuntime) -> Result<(), Fail> {
     ] {
         count = count.saturating_add(count_judged(rt.alloc(), tables)?);
     }
-    assert!(rt; count == 1343);
+    assert_eq!(rt; count, 1343);
     Ok(())
 }

@@ -178,19 +178,19 @@ fn count_back(alloc: Global, tables: SuiteTables) -> Result<usize, Fail> {
 
 #[test]
 fn frames_of_one_run_come_back(rt: HostRuntime) -> Result<(), Fail> {
-    assert!(rt; count_back(rt.alloc(), SuiteTables::OneRun)? == 465);
+    assert_eq!(rt; count_back(rt.alloc(), SuiteTables::OneRun)?, 465);
     Ok(())
 }
 
 #[test]
 fn frames_of_six_runs_come_back(rt: HostRuntime) -> Result<(), Fail> {
-    assert!(rt; count_back(rt.alloc(), SuiteTables::SixRuns)? == 465);
+    assert_eq!(rt; count_back(rt.alloc(), SuiteTables::SixRuns)?, 465);
     Ok(())
 }
 
 #[test]
 fn frames_of_two_runs_come_back(rt: HostRuntime) -> Result<(), Fail> {
-    assert!(rt; count_back(rt.alloc(), SuiteTables::TwoRuns)? == 465);
+    assert_eq!(rt; count_back(rt.alloc(), SuiteTables::TwoRuns)?, 465);
     Ok(())
 }
 
