@@ -1,3 +1,4 @@
+pub mod Files
 pub mod Logs
 pub mod Results
 pub mod Streams

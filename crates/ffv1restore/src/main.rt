@@ -5,9 +5,8 @@
 ghost use Rattle.std.specs.Prelude.{◌≡◌, ◌+◌, length, map, vec_len, IfOk, IfErr};
 ghost use Rattle.ffv1_commands.specs.Fault.{NamesPath, NamesNoPath};
 ghost use Rattle.ffv1_commands.specs.Paths.{IsTakePath, IsJoinPath, IsMergePath, IsSplicePath, IsDecodePath};
+ghost use Rattle.ffv1_devices.specs.Files.{path_of};
 ghost use Rattle.ffv1_words.specs.WordPaths.{IsPathOf};
-
-mod files;
 
 pub use ffv1_commands::{
     CliFault, CommandPath, commands_restore_the_original, run_chain, run_decode, run_join,
@@ -15,8 +14,8 @@ pub use ffv1_commands::{
     same_copies_make_one_file, same_copies_make_one_splice, splice_gives_the_original,
     splice_tells_whole_frames, splice_weaves_the_original,
 };
+use ffv1_devices::{InputFile, OutputFile};
 use ffv1_words::{Recording, Words, read_words};
-use files::{InputFile, OutputFile};
 use std::alloc::{AllocError, Global};
 use std::fs::File;
 use std::process::ExitCode;
@@ -27,7 +26,7 @@ fn input_files<'a>(
     rt: &'a HostRuntime,
     paths: &[&'a str],
 ) -> Result<Vec<InputFile<'a, HostRuntime>>, AllocError>
-    ensures paths { IfOk result (λ files. map (λ file. file.path.now) files.items ≡ map (λ path. path.now) paths.now) }
+    ensures paths { IfOk result (λ files. map (λ file. path_of file) files.items ≡ map (λ path. path.now) paths.now) }
     ensures count { IfOk result (λ files. vec_len files ≡ length paths.now) }
 {
     let mut files = Vec::with_capacity(rt.alloc(), paths.len())?;
