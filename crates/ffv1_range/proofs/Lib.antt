@@ -9,6 +9,7 @@ pub mod TileLaws
 pub mod HeaderSteps
 pub mod HeaderFound
 pub mod DeltaSteps
+pub mod FrontSteps
 pub mod SetupSteps
 pub mod FieldRuns
 pub mod RowRuns

@@ -1,0 +1,2 @@
+use Rattle.ffv1_range.proofs.fields.read_planes.Goals as goal
+
