@@ -177,16 +177,19 @@ form_of-followed plan k rest h =
 abbrev pub versions_plan : Plan ℕ
 versions_plan = number_then λ version. tested (version == 3) Version (number_then λ micro. tested (nat_le 4 micro) Micro (done micro))
 
-abbrev pub planes_plan : Plan PlanesValue
-planes_plan =
-    number_then λ coder. tested (coder == 0) Coder (
-    number_then λ space. tested (space == 0) ColorSpace (
-    number_then λ depth. tested (depth == 0 || depth == 8) Depth (
+abbrev pub chroma_plan : Plan PlanesValue
+chroma_plan =
     flag_then λ chroma.
     number_then λ shift_h. tested (not chroma || nat_le shift_h 2) Subsampling (
     number_then λ shift_v. tested (not chroma || nat_le shift_v 2) Subsampling (
     flag_then λ extra. tested (not extra) ExtraPlane (
-    done (record { has_chroma = chroma; shift_h = if chroma then shift_h else 0; shift_v = if chroma then shift_v else 0 })))))))
+    done (record { has_chroma = chroma; shift_h = if chroma then shift_h else 0; shift_v = if chroma then shift_v else 0 }))))
+
+abbrev pub planes_plan : Plan PlanesValue
+planes_plan =
+    number_then λ coder. tested (coder == 0) Coder (
+    number_then λ space. tested (space == 0) ColorSpace (
+    number_then λ depth. tested (depth == 0 || depth == 8) Depth chroma_plan))
 
 abbrev pub counts_plan : ℕ → ℕ → Plan TileCounts
 counts_plan width height =

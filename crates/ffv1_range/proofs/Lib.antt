@@ -12,6 +12,7 @@ pub mod DeltaSteps
 pub mod FrontSteps
 pub mod SetupSteps
 pub mod FieldRuns
+pub mod PlanSteps
 pub mod RowRuns
 pub mod TableRuns
 pub mod DeltaRuns
