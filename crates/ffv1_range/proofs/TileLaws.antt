@@ -1,6 +1,7 @@
 -- A length cut into parts: where each part begins, that each place lies in one part, and so in one tile.
 use Rattle.std.proofs.Common.{◌≡◌, ℕ, ◌+◌, ◌-◌, ◌*◌, ◌/◌, ◌%◌, ◌<◌, ◌≤◌, sym, ap, subst, arith}
-use Rattle.std.proofs.Math.Nat.{div-lt_iff_lt-mul, le-div_iff_mul-le, div-mul-le_self, lt-div-mul-add, mul-le-mul_right, lt_of_mul-lt-mul_left, div-eq_of_lt-le, mod-add-div', mod-lt}
+use Rattle.std.proofs.Math.Nat.{div-lt_iff_lt-mul, le-div_iff_mul-le, div-mul-le_self, lt-div-mul-add, mul-le-mul_right, mul-le-mul_left, lt_of_mul-lt-mul_left, div-eq_of_lt-le, mod-add-div', mod-lt}
+use Rattle.ffv1_bits.specs.Limits.{most_tiles}
 use Rattle.ffv1_range.specs.Tiles.{GridValue, IsGrid, part_start, tile_rect, IsInside, EachPlaceInOneTile, EachTileInFrame}
 
 -- ---- one direction: part i begins at x or before exactly where i * len < (x + 1) * n
@@ -77,6 +78,13 @@ row_of across i j h = div-eq_of_lt-le {k = j} across {m = j * across + i} (omega
 -- a tile's row is one of the grid's
 pub row_below : (across down t : ℕ) → 0 < across → t < across * down → t / across < down
 row_below across down t some h = (div-lt_iff_lt-mul {k = across} {x = t} {y = down} some).1 (omega arith)
+
+-- a row and a column of tiles are no longer than all tiles together
+pub few_across : (g : GridValue) → IsGrid g → g.across ≤ most_tiles
+few_across g grid = let most : g.across * 1 ≤ g.across * g.down = mul-le-mul_left g.across grid.some_down in omega (arith, grid.few_tiles)
+
+pub few_down : (g : GridValue) → IsGrid g → g.down ≤ most_tiles
+few_down g grid = let most : 1 * g.down ≤ g.across * g.down = mul-le-mul_right {m = 1} {n = g.across} g.down grid.some_across in omega (arith, grid.few_tiles)
 
 pub number_below : (across down i j : ℕ) → i < across → j < down → j * across + i < across * down
 number_below across down i j h k =
