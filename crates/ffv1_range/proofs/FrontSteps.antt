@@ -1,6 +1,5 @@
 -- What stands before the tables, read group by group.
 use Rattle.std.proofs.Common.{◌≡◌, ℕ, List, Ok, Err, refl}
-use Rattle.ffv1_range.specs.Coding.{Place}
 use Rattle.ffv1_range.specs.Decoder.{Reader}
 use Rattle.ffv1_range.specs.Forms.{Form, ◌>>=◌, giving, form_at, Reads}
 use Rattle.ffv1_range.specs.Fields.{PlanesValue, TileCounts, versions, planes, tile_counts}

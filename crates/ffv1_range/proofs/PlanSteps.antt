@@ -1,8 +1,8 @@
 -- Fields that are read one by one, as a plan says.
-use Rattle.std.proofs.Common.{◌≡◌, ℕ, ◌<◌, ◌≤◌, Bool, true, false, List, Result, Ok, Err, refl, ◌⊎◌, arith, rules}
+use Rattle.std.proofs.Common.{◌≡◌, ℕ, ◌<◌, ◌≤◌, Bool, true, false, List, Ok, Err, refl, ◌⊎◌, arith, rules}
 use Rattle.std.specs.Prelude.{if◌then◌else◌, nat_le, ◌==◌, ◌||◌, not}
 use Rattle.ffv1_range.specs.Decoder.{Reader}
-use Rattle.ffv1_range.specs.Forms.{Form, ◌>>=◌, accepted, slot_form, same_fault, form_at, Reads}
+use Rattle.ffv1_range.specs.Forms.{Form, slot_form, same_fault, form_at, Reads}
 use Rattle.ffv1_range.specs.Reading.{symbol_form}
 use Rattle.ffv1_range.specs.Fields.{number, flag, planes}
 use Rattle.ffv1_range.specs.declared.coding.RangeFault.{RangeFault}

@@ -195,4 +195,3 @@ returns-else-has_chroma-3 c =
           (all_read (flag_passed (number_passed (number_passed (flag_next left chroma) shift_h (is_shift _ _ c.else-has_chroma.either)) shift_v (is_shift _ _ c.else-has_chroma-2.either)) extra (search rules)) extra);
       in_range = c.in_ok-slot.ensures.in_range;
     }
-
