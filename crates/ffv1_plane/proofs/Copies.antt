@@ -2,9 +2,10 @@
 -- after it.
 use Rattle.std.proofs.Common.{◌≡◌, ℕ, zero, suc, ◌+◌, ◌-◌, ◌<◌, ◌≤◌, ℤ, List, length, take, drop, get_or, set, refl, sym, ap, ◌∙◌, subst, arith, get_or-set_same, Vec, Global}
 use Rattle.std.proofs.Math.Seq.{paste, paste-zero, paste-suc}
-use Rattle.std.proofs.lemmas.List.{with_items_is, get_or-take, get_or-drop, length-take-le, length-drop}
+use Rattle.std.proofs.lemmas.List.{with_items_is, get_or-take, get_or-drop, length-take, length-take-le, length-drop}
 use Rattle.std.proofs.lemmas.List.Edits.{length-paste}
 use Rattle.std.proofs.lemmas.Slice.{put_mid-paste}
+use Rattle.std.specs.Prelude.{min}
 use Rattle.std.specs.Vec.{with_items}
 use borrow.Rule.Slice.PartMut.{put_mid}
 use Rattle.ffv1_plane.specs.Samples.{SamplesAbout, prediction_of, neighbours_at}
@@ -23,6 +24,10 @@ pub record AreCopied (w x : ℕ) (rows line above far new : List ℕ) (n : ℕ) 
   pub lines : AreLines w (x + n) rows new above far
   pub skipped : (entry : ℕ → ℕ → ℤ) → AreSkipped w entry (samples_so_far x rows line) (samples_so_far (x + n) rows new) n
   pub same : get_or new (x + n + 1) 0 ≡ get_or above (x + n + 1) 0
+
+-- cells of two lines of one length, from one place on, are of one length
+pub cells_alike : (k n : ℕ) (a b : List ℕ) → length a ≡ length b → length (take k (drop n a)) ≡ length (take k (drop n b))
+cells_alike k n a b same = simp (length-take, length-drop) (ap (λ m. min k (m - n)) same)
 
 -- ---- one copy after the other
 

@@ -1,14 +1,24 @@
 -- A reader of a plane, a step further.
-use Rattle.std.proofs.Common.{◌≡◌, ℕ, ◌+◌, ◌%◌, ◌<◌, Bool, List, Result, Ok, Err, length, get_or, ap, arith, ℤ}
+use Rattle.std.proofs.Common.{◌≡◌, ℕ, ◌+◌, ◌%◌, ◌<◌, Bool, List, Result, Ok, Err, length, get_or, refl, ap, ◌∙◌, arith, ℤ}
 use Rattle.std.specs.Prelude.{OnOk}
 use Rattle.std.proofs.lemmas.List.{length_push}
 use Rattle.ffv1_range.specs.Setup.{set_entry}
 use Rattle.ffv1_rice.specs.States.{ContextState}
 use Rattle.ffv1_plane.specs.SetTables.{SetTables}
 use Rattle.ffv1_plane.specs.Progress.{IsReadTo, IsSampleRead}
+use Rattle.ffv1_plane.specs.Readers.{IsSamePlane}
 use Rattle.ffv1_plane.specs.Halts.{IsNextHalted}
+use Rattle.ffv1_plane.specs.declared.plane.PlaneReader.{PlaneReader}
 use Rattle.ffv1_plane.specs.declared.plane.PlaneFault.{PlaneFault}
 use Rattle.ffv1_plane.specs.declared.plane.PlaneFault.TheVariants as plane_faults
+
+-- ---- one plane
+
+pub same_plane : (reader : PlaneReader) → IsSamePlane reader reader
+same_plane reader = record { width = refl; tables = refl; states = refl }
+
+pub same_planes : (a b c : PlaneReader) → IsSamePlane a b → IsSamePlane b c → IsSamePlane a c
+same_planes a b c h k = record { width = k.width ∙ h.width; tables = k.tables ∙ h.tables; states = k.states ∙ h.states }
 
 -- the same was read, and the same halts, where the width, the tables, the index and the samples are the same
 pub same_read : (earlier : ℕ → List ℤ) (w v : ℕ) (t u : SetTables) (i j : ℕ) (bits left : List Bool) (samples others : List ℕ) (states : List ContextState)

@@ -23,10 +23,11 @@ returns-then-branch-ne0 c =
 pub returns-in_err-unsigned-2 : goal.returns-in_err-unsigned-2
 returns-in_err-unsigned-2 c =
     let coder = number_read _ _ _ _ _ c.in_ok-unsigned.ensures.read in
+    let first = number_passed (planes_left c.args.decoder.now c.args.states.now) coder (search rules) in
     let p = err_from_is_err_and c.from_residual-in_err-unsigned-2.result c.from_residual-in_err-unsigned-2.ensures.1 in
     rw (p.1, p.2)
     (record {
-      read = number_fails _ (number_passed (planes_left c.args.decoder.now c.args.states.now) coder (search rules)) c.in_err-unsigned-2.ensures.read;
+      read = number_fails _ first c.in_err-unsigned-2.ensures.read;
       in_range = c.in_err-unsigned-2.ensures.in_range;
     })
 
@@ -34,8 +35,9 @@ pub returns-then-branch-ne0-2 : goal.returns-then-branch-ne0-2
 returns-then-branch-ne0-2 c =
     let coder = number_read _ _ _ _ _ c.in_ok-unsigned.ensures.read in
     let space = number_read _ _ _ _ _ c.in_ok-unsigned-2.ensures.read in
+    let first = number_passed (planes_left c.args.decoder.now c.args.states.now) coder (search rules) in
     record {
-      read = not_passed (number_next (number_passed (planes_left c.args.decoder.now c.args.states.now) coder (search rules)) space) space (search rules);
+      read = not_passed (number_next first space) space (search rules);
       in_range = c.in_ok-unsigned-2.ensures.in_range;
     }
 
@@ -43,10 +45,12 @@ pub returns-in_err-depth : goal.returns-in_err-depth
 returns-in_err-depth c =
     let coder = number_read _ _ _ _ _ c.in_ok-unsigned.ensures.read in
     let space = number_read _ _ _ _ _ c.in_ok-unsigned-2.ensures.read in
+    let first = number_passed (planes_left c.args.decoder.now c.args.states.now) coder (search rules) in
+    let second = number_passed first space (search rules) in
     let p = err_from_is_err_and c.from_residual-in_err-depth.result c.from_residual-in_err-depth.ensures.1 in
     rw (p.1, p.2)
     (record {
-      read = number_fails _ (number_passed (number_passed (planes_left c.args.decoder.now c.args.states.now) coder (search rules)) space (search rules)) c.in_err-depth.ensures.read;
+      read = number_fails _ second c.in_err-depth.ensures.read;
       in_range = c.in_err-depth.ensures.in_range;
     })
 
@@ -55,8 +59,10 @@ returns-then-depth-ne8 c =
     let coder = number_read _ _ _ _ _ c.in_ok-unsigned.ensures.read in
     let space = number_read _ _ _ _ _ c.in_ok-unsigned-2.ensures.read in
     let depth = number_read _ _ _ _ _ c.in_ok-depth.ensures.read in
+    let first = number_passed (planes_left c.args.decoder.now c.args.states.now) coder (search rules) in
+    let second = number_passed first space (search rules) in
     record {
-      read = not_passed (number_next (number_passed (number_passed (planes_left c.args.decoder.now c.args.states.now) coder (search rules)) space (search rules)) depth) depth
+      read = not_passed (number_next second depth) depth
           (not_depth _ c.if-depth-ne0.true c.if-depth-ne8.true);
       in_range = c.in_ok-depth.ensures.in_range;
     }
@@ -109,10 +115,11 @@ returns-in_err-shift_v c =
     let chroma = flag_read _ _ _ _ _ c.in_ok-has_chroma.ensures.read in
     let shift_h = number_read _ _ _ _ _ c.in_ok-shift_h.ensures.read in
     let left = chroma_left _ _ _ _ _ _ _ _ _ _ _ coder c.if-branch-ne0.false space c.if-branch-ne0-2.false depth c.else-depth-ne0.either in
+    let narrow = number_passed (flag_next left chroma) shift_h (is_shift _ _ c.else-has_chroma.either) in
     let p = err_from_is_err_and c.from_residual-in_err-shift_v.result c.from_residual-in_err-shift_v.ensures.1 in
     rw (p.1, p.2)
     (record {
-      read = number_fails _ (number_passed (flag_next left chroma) shift_h (is_shift _ _ c.else-has_chroma.either)) c.in_err-shift_v.ensures.read;
+      read = number_fails _ narrow c.in_err-shift_v.ensures.read;
       in_range = c.in_err-shift_v.ensures.in_range;
     })
 
@@ -125,8 +132,9 @@ returns-then-shift_v-gt2 c =
     let shift_h = number_read _ _ _ _ _ c.in_ok-shift_h.ensures.read in
     let shift_v = number_read _ _ _ _ _ c.in_ok-shift_v.ensures.read in
     let left = chroma_left _ _ _ _ _ _ _ _ _ _ _ coder c.if-branch-ne0.false space c.if-branch-ne0-2.false depth c.else-depth-ne0.either in
+    let narrow = number_passed (flag_next left chroma) shift_h (is_shift _ _ c.else-has_chroma.either) in
     record {
-      read = not_passed (number_next (number_passed (flag_next left chroma) shift_h (is_shift _ _ c.else-has_chroma.either)) shift_v) shift_v
+      read = not_passed (number_next narrow shift_v) shift_v
           (not_shift _ _ c.if-has_chroma-2.true c.if-shift_v-gt2.true);
       in_range = c.in_ok-shift_v.ensures.in_range;
     }
@@ -140,10 +148,12 @@ returns-in_err-slot c =
     let shift_h = number_read _ _ _ _ _ c.in_ok-shift_h.ensures.read in
     let shift_v = number_read _ _ _ _ _ c.in_ok-shift_v.ensures.read in
     let left = chroma_left _ _ _ _ _ _ _ _ _ _ _ coder c.if-branch-ne0.false space c.if-branch-ne0-2.false depth c.else-depth-ne0.either in
+    let narrow = number_passed (flag_next left chroma) shift_h (is_shift _ _ c.else-has_chroma.either) in
+    let low = number_passed narrow shift_v (is_shift _ _ c.else-has_chroma-2.either) in
     let p = err_from_is_err_and c.from_residual-in_err-slot.result c.from_residual-in_err-slot.ensures.1 in
     rw (p.1, p.2)
     (record {
-      read = flag_fails _ (number_passed (number_passed (flag_next left chroma) shift_h (is_shift _ _ c.else-has_chroma.either)) shift_v (is_shift _ _ c.else-has_chroma-2.either)) c.in_err-slot.ensures.read;
+      read = flag_fails _ low c.in_err-slot.ensures.read;
       in_range = c.in_err-slot.ensures.in_range;
     })
 
@@ -157,8 +167,10 @@ returns-then-branch c =
     let shift_v = number_read _ _ _ _ _ c.in_ok-shift_v.ensures.read in
     let extra = flag_read _ _ _ _ _ c.in_ok-slot.ensures.read in
     let left = chroma_left _ _ _ _ _ _ _ _ _ _ _ coder c.if-branch-ne0.false space c.if-branch-ne0-2.false depth c.else-depth-ne0.either in
+    let narrow = number_passed (flag_next left chroma) shift_h (is_shift _ _ c.else-has_chroma.either) in
+    let low = number_passed narrow shift_v (is_shift _ _ c.else-has_chroma-2.either) in
     record {
-      read = not_passed (flag_next (number_passed (number_passed (flag_next left chroma) shift_h (is_shift _ _ c.else-has_chroma.either)) shift_v (is_shift _ _ c.else-has_chroma-2.either)) extra) extra (search rules);
+      read = not_passed (flag_next low extra) extra (search rules);
       in_range = c.in_ok-slot.ensures.in_range;
     }
 
@@ -172,10 +184,12 @@ returns-then-has_chroma-3 c =
     let shift_v = number_read _ _ _ _ _ c.in_ok-shift_v.ensures.read in
     let extra = flag_read _ _ _ _ _ c.in_ok-slot.ensures.read in
     let left = chroma_left _ _ _ _ _ _ _ _ _ _ _ coder c.if-branch-ne0.false space c.if-branch-ne0-2.false depth c.else-depth-ne0.either in
+    let narrow = number_passed (flag_next left chroma) shift_h (is_shift _ _ c.else-has_chroma.either) in
+    let low = number_passed narrow shift_v (is_shift _ _ c.else-has_chroma-2.either) in
     record {
       read =
           chroma_answer _ _ _ _ _ _ _ c.if-has_chroma-3.true
-          (all_read (flag_passed (number_passed (number_passed (flag_next left chroma) shift_h (is_shift _ _ c.else-has_chroma.either)) shift_v (is_shift _ _ c.else-has_chroma-2.either)) extra (search rules)) extra);
+          (all_read (flag_passed low extra (search rules)) extra);
       in_range = c.in_ok-slot.ensures.in_range;
     }
 
@@ -189,9 +203,11 @@ returns-else-has_chroma-3 c =
     let shift_v = number_read _ _ _ _ _ c.in_ok-shift_v.ensures.read in
     let extra = flag_read _ _ _ _ _ c.in_ok-slot.ensures.read in
     let left = chroma_left _ _ _ _ _ _ _ _ _ _ _ coder c.if-branch-ne0.false space c.if-branch-ne0-2.false depth c.else-depth-ne0.either in
+    let narrow = number_passed (flag_next left chroma) shift_h (is_shift _ _ c.else-has_chroma.either) in
+    let low = number_passed narrow shift_v (is_shift _ _ c.else-has_chroma-2.either) in
     record {
       read =
           gray_answer _ _ _ _ _ _ _ c.if-has_chroma-3.false
-          (all_read (flag_passed (number_passed (number_passed (flag_next left chroma) shift_h (is_shift _ _ c.else-has_chroma.either)) shift_v (is_shift _ _ c.else-has_chroma-2.either)) extra (search rules)) extra);
+          (all_read (flag_passed low extra (search rules)) extra);
       in_range = c.in_ok-slot.ensures.in_range;
     }

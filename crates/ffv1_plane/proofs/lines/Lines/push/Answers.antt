@@ -1,15 +1,34 @@
-use Rattle.std.proofs.Common.{◌<◌, arith, rules}
-use Rattle.ffv1_plane.proofs.Rows.{pushed, push_left}
+use Rattle.std.proofs.Common.{◌<◌, ◌+◌, ap, sym, subst, arith}
+use Rattle.ffv1_plane.specs.Rows.{RowsRead}
+use Rattle.ffv1_plane.proofs.Rows.{pushed, push_is, push_left}
 use Rattle.ffv1_plane.proofs.lines.Lines.push.Goals as goal
+
+pub overflow_add-x : goal.overflow_add-x
+overflow_add-x c = omega (arith, c.self.invariant.within, c.self.invariant.wide)
+
+pub index_mut-requires : goal.index_mut-requires
+index_mut-requires c =
+    let less : c.self.inside.x < c.self.inside.width = subst (λ (r : RowsRead). r.x < r.width) (sym c.self.view_is) c.requires in
+    omega (arith, less, c.self.inside.line.ok.0, c.self.invariant.line_long)
+
+pub overflow_add-self : goal.overflow_add-self
+overflow_add-self c = omega (arith, c.self.invariant.within, c.self.invariant.wide)
 
 pub invariant_of-self : goal.invariant_of-self
 invariant_of-self c =
-    let less : c.self.inside.x < c.self.inside.width = search rules in
+    let less : c.self.inside.x < c.self.inside.width = subst (λ (r : RowsRead). r.x < r.width) (sym c.self.view_is) c.requires in
     pushed c.self.inside.width c.self.inside.x c.self.inside.rows.items c.self.inside.line.items c.self.inside.above.items c.self.inside.far_above.items
-    c.args.sample c.self.invariant less (omega arith)
+    c.args.sample c.self.invariant less c.ranges.sample.fits
 
-pub returns-clause-left : goal.returns-clause-left
-returns-clause-left c = λ further.
-    let less : c.self.inside.x < c.self.inside.width = search rules in
-    push_left c.self.inside.width c.self.inside.x c.self.inside.rows.items c.self.inside.line.items c.self.inside.above.items c.self.inside.far_above.items
-    c.args.sample c.self.invariant less (omega arith) further
+pub returns : goal.returns
+returns c =
+    let less : c.self.inside.x < c.self.inside.width = subst (λ (r : RowsRead). r.x < r.width) (sym c.self.view_is) c.requires in
+    rw (← c.self.view_is)
+    (record {
+      value = ap {B = RowsRead} (λ s. record { width = c.self.inside.width; x = c.self.inside.x + 1; samples = s })
+          (push_is c.self.inside.width c.self.inside.x c.self.inside.rows.items c.self.inside.line.items c.self.inside.above.items
+          c.self.inside.far_above.items c.args.sample c.self.invariant less);
+      left =
+          push_left c.self.inside.width c.self.inside.x c.self.inside.rows.items c.self.inside.line.items c.self.inside.above.items
+          c.self.inside.far_above.items c.args.sample c.self.invariant less c.ranges.sample.fits;
+    })
