@@ -1,5 +1,5 @@
 -- The prediction as the code computes it, by signed numbers of 32 bits.
-use Rattle.std.proofs.Common.{◌≡◌, ℕ, ◌+◌, ◌-◌, ◌<◌, ℤ, pos, ◌+ℤ◌, ◌-ℤ◌, ◌≤ℤ◌, neg_ℤ, arith, to_z, of_z, w32, SFits, ◌∙◌}
+use Rattle.std.proofs.Common.{◌≡◌, ℕ, ◌+◌, ◌-◌, ◌<◌, ℤ, pos, ◌+ℤ◌, ◌-ℤ◌, arith, to_z, of_z, w32, ◌∙◌}
 use Rattle.std.specs.Int.{int_max, int_min}
 use Rattle.std.proofs.lemmas.Int.{ints, clamps, to_z-of_z}
 use Rattle.ffv1_plane.specs.Samples.{median}
@@ -7,8 +7,8 @@ use Rattle.ffv1_plane.specs.Samples.{median}
 abbrev kept : ℤ → ℤ
 kept z = to_z w32 (of_z w32 z)
 
-small : (z : ℤ) → neg_ℤ (pos 512) ≤ℤ z → z ≤ℤ pos 512 → kept z ≡ z
-small z low high = to_z-of_z w32 z (let f : SFits w32 z = omega (arith, ints) in f)
+byte_kept : (n : ℕ) → n < 256 → kept (pos n) ≡ pos n
+byte_kept n small = to_z-of_z w32 (pos n) (omega (arith, ints))
 
 of_sums : (l t c : ℕ) → l < 256 → t < 256 → c < 256
     → int_min (int_max ((pos l +ℤ pos t) -ℤ pos c) (int_min (pos l) (pos t))) (int_max (pos l) (pos t)) ≡ pos (median l t (l + t - c))
@@ -19,19 +19,19 @@ pub median_is : (l t c : ℕ) (lz tz cz low high first last : ℤ) → l < 256 �
     → high ≡ int_max (kept lz) (kept tz) → last ≡ int_min (kept first) (kept high)
     → (kept last ≡ pos (median l t (l + t - c))) × (median l t (l + t - c) < 256)
 median_is l t c lz tz cz low high first last a b d lz_is tz_is cz_is low_is first_is high_is last_is =
-    let left : kept lz ≡ pos l = rw lz_is (small (pos l) (omega (arith, ints)) (omega (arith, ints))) in
-    let top : kept tz ≡ pos t = rw tz_is (small (pos t) (omega (arith, ints)) (omega (arith, ints))) in
-    let corner : kept cz ≡ pos c = rw cz_is (small (pos c) (omega (arith, ints)) (omega (arith, ints))) in
+    let left : kept lz ≡ pos l = rw lz_is (byte_kept l a) in
+    let top : kept tz ≡ pos t = rw tz_is (byte_kept t b) in
+    let corner : kept cz ≡ pos c = rw cz_is (byte_kept c d) in
     let lower : low ≡ int_min (pos l) (pos t) = (rw (left, top) at low_is) in
     let higher : high ≡ int_max (pos l) (pos t) = (rw (left, top) at high_is) in
-    let lower_kept : kept low ≡ low = small low (omega (arith, ints, clamps, lower)) (omega (arith, ints, clamps, lower)) in
-    let higher_kept : kept high ≡ high = small high (omega (arith, ints, clamps, higher)) (omega (arith, ints, clamps, higher)) in
-    let both : kept (pos l +ℤ pos t) ≡ pos l +ℤ pos t = small (pos l +ℤ pos t) (omega (arith, ints)) (omega (arith, ints)) in
+    let lower_kept : kept low ≡ low = to_z-of_z w32 low (omega (arith, ints, clamps, lower)) in
+    let higher_kept : kept high ≡ high = to_z-of_z w32 high (omega (arith, ints, clamps, higher)) in
+    let both : kept (pos l +ℤ pos t) ≡ pos l +ℤ pos t = to_z-of_z w32 (pos l +ℤ pos t) (omega (arith, ints)) in
     let slope : kept ((pos l +ℤ pos t) -ℤ pos c) ≡ (pos l +ℤ pos t) -ℤ pos c =
-    small ((pos l +ℤ pos t) -ℤ pos c) (omega (arith, ints)) (omega (arith, ints)) in
+    to_z-of_z w32 ((pos l +ℤ pos t) -ℤ pos c) (omega (arith, ints)) in
     let first_as : first ≡ int_max ((pos l +ℤ pos t) -ℤ pos c) low = (rw (left, top, corner, both, slope, lower_kept) at first_is) in
-    let first_kept : kept first ≡ first = small first (omega (arith, ints, clamps, first_as, lower)) (omega (arith, ints, clamps, first_as, lower)) in
+    let first_kept : kept first ≡ first = to_z-of_z w32 first (omega (arith, ints, clamps, first_as, lower)) in
     let last_as : last ≡ int_min first high = (rw (first_kept, higher_kept) at last_is) in
-    let last_kept : kept last ≡ last = small last (omega (arith, ints, clamps, last_as, first_as, lower, higher)) (omega (arith, ints, clamps, last_as, first_as, lower, higher)) in
+    let last_kept : kept last ≡ last = to_z-of_z w32 last (omega (arith, ints, clamps, last_as, first_as, lower, higher)) in
     let whole : last ≡ pos (median l t (l + t - c)) = rw (last_as, first_as, lower, higher) (of_sums l t c a b d) in
     (last_kept ∙ whole, omega (arith, a, b))

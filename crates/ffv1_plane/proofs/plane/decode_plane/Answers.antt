@@ -1,5 +1,5 @@
 use Rattle.std.proofs.Common.{◌≡◌, ◌≤◌, ◌+◌, ◌*◌, ◌%◌, length, slice_index, arith, ap, sym, refl, ◌∙◌}
-use Rattle.std.proofs.Math.Nat.{mul-le-mul_right, mul-mod_left}
+use Rattle.std.proofs.Math.Nat.{mul_comm, mul-le-mul_right, mul-mod_left}
 use Rattle.std.proofs.lemmas.Result.{err_from_is_err_and}
 use Rattle.ffv1_range.specs.Setup.{set_entry, set_contexts}
 use Rattle.ffv1_plane.proofs.Reading.{whole_plane, no_samples}
@@ -7,14 +7,26 @@ use Rattle.ffv1_plane.proofs.Wholes.{plane_halted}
 use Rattle.ffv1_plane.proofs.Readers.{same_read, same_halted}
 use Rattle.ffv1_plane.proofs.plane.decode_plane.Goals as goal
 
-pub read_row-requires-clause-states : goal.read_row-requires-clause-states
-read_row-requires-clause-states c =
-    c.loop.invariant.states ∙ c.requires.contexts ∙ ap (λ t. set_contexts t.setup t.set) (sym c.loop.invariant.tables)
+pub new-requires : goal.new-requires
+new-requires c = record { some = c.requires.some; width = c.requires.width; height = c.requires.height }
 
-pub read_row-requires-clause-whole : goal.read_row-requires-clause-whole
-read_row-requires-clause-whole c =
-    ap (λ n. n % c.loop.reader.lines.width) c.loop.invariant.size ∙ ap (λ w. (c.loop.counter * c.args.width) % w) c.loop.invariant.width
-    ∙ mul-mod_left c.loop.counter c.args.width
+pub returns-in_err-lines : goal.returns-in_err-lines
+returns-in_err-lines c =
+    let p = err_from_is_err_and c.from_residual.result c.from_residual.ensures.1 in rw (p.1, p.2) (record { len = tt; size = tt; read = tt; err = tt })
+
+pub read_row-requires : goal.read_row-requires
+read_row-requires c = record {
+  states = c.loop.invariant.states ∙ c.requires.contexts ∙ ap (λ t. set_contexts t.setup t.set) (sym c.loop.invariant.tables);
+  start = c.loop.invariant.start;
+  whole = ap (λ n. n % c.loop.reader.lines.width) c.loop.invariant.size ∙ ap (λ w. (c.loop.counter * c.args.width) % w) c.loop.invariant.width
+      ∙ mul-mod_left c.loop.counter c.args.width;
+}
+
+pub end_row-requires : goal.end_row-requires
+end_row-requires c = c.in_ok-read_row.ensures.full
+
+pub into_rows-requires : goal.into_rows-requires
+into_rows-requires c = c.loop.invariant.start
 
 pub loop-init : goal.loop-init
 loop-init c =
@@ -56,29 +68,42 @@ loop-preserved c =
       bytes = λ s. let e = ap (λ l. slice_index l s) samples in let small = c.in_ok-read_row.ensures.bytes s in omega (arith, e, small);
     }
 
-pub returns-in_err-read_row-clause-err : goal.returns-in_err-read_row-clause-err
-returns-in_err-read_row-clause-err c =
+pub returns-in_err-read_row : goal.returns-in_err-read_row
+returns-in_err-read_row c =
     let p = err_from_is_err_and c.from_residual-in_err-read_row.result c.from_residual-in_err-read_row.ensures.1 in
     let rows : (c.loop.counter + 1) * c.args.width ≤ c.args.height * c.args.width = mul-le-mul_right c.args.width (omega arith) in
     rw (p.1, p.2)
-    (plane_halted c.args.width c.args.height (set_entry c.args.tables.now.setup c.args.tables.now.set) c.args.states.items c.loop.reader.states.items
-    c.args.bits.now.left c.loop.reader.bits.left c.loop.reader.lines.samples c.loop.reader.index _
-    c.requires.some c.loop.invariant.read c.loop.invariant.bytes (omega (arith, rows, c.loop.invariant.size, c.requires.some))
-    (same_halted c.loop.reader.lines.width c.args.width c.loop.reader.tables.now c.args.tables.now c.loop.reader.lines.samples c.loop.reader.index
-    c.loop.reader.states.items c.loop.reader.bits.left _
-    (sym c.loop.invariant.width) (sym c.loop.invariant.tables) c.in_err-read_row.ensures.err))
+    (record {
+      len = tt;
+      size = tt;
+      read = tt;
+      err =
+          plane_halted c.args.width c.args.height (set_entry c.args.tables.now.setup c.args.tables.now.set) c.args.states.items c.loop.reader.states.items
+          c.args.bits.now.left c.loop.reader.bits.left c.loop.reader.lines.samples c.loop.reader.index _
+          c.requires.some c.loop.invariant.read c.loop.invariant.bytes (omega (arith, rows, c.loop.invariant.size, c.requires.some))
+          (same_halted c.loop.reader.lines.width c.args.width c.loop.reader.tables.now c.args.tables.now c.loop.reader.lines.samples c.loop.reader.index
+          c.loop.reader.states.items c.loop.reader.bits.left _
+          (sym c.loop.invariant.width) (sym c.loop.invariant.tables) c.in_err-read_row.ensures.err);
+    })
 
-pub returns-clause-size : goal.returns-clause-size
-returns-clause-size c =
+pub returns-in_err-end_row : goal.returns-in_err-end_row
+returns-in_err-end_row c =
+    let p = err_from_is_err_and c.from_residual-in_err-end_row.result c.from_residual-in_err-end_row.ensures.1 in
+    rw (p.1, p.2) (record { len = tt; size = tt; read = tt; err = tt })
+
+pub returns : goal.returns
+returns c =
     let all : c.loop.counter ≡ c.args.height = omega arith in
     record {
-      count = ap length c.into_rows.ensures ∙ c.loop.invariant.size ∙ ap
-          (λ n. n * c.args.width) all ∙ (let turned : c.args.height * c.args.width ≡ c.args.width * c.args.height = omega arith in turned);
-      bytes = λ s. let e = ap (λ l. slice_index l s) c.into_rows.ensures in let small = c.loop.invariant.bytes s in omega (arith, e, small);
+      len = c.loop.invariant.states;
+      size = record {
+        count = ap length c.into_rows.ensures ∙ c.loop.invariant.size ∙ ap
+            (λ n. n * c.args.width) all ∙ mul_comm c.args.height c.args.width;
+        bytes = λ s. let e = ap (λ l. slice_index l s) c.into_rows.ensures in let small = c.loop.invariant.bytes s in omega (arith, e, small);
+      };
+      read = λ earlier after.
+          rw c.into_rows.ensures
+          (whole_plane earlier c.args.width (set_entry c.args.tables.now.setup c.args.tables.now.set) c.args.bits.now.left c.loop.reader.bits.left
+          c.loop.reader.lines.samples c.loop.reader.index c.loop.reader.states.items (c.loop.invariant.read earlier after));
+      err = tt;
     }
-
-pub returns-clause-read : goal.returns-clause-read
-returns-clause-read c = λ earlier after.
-    rw c.into_rows.ensures
-    (whole_plane earlier c.args.width (set_entry c.args.tables.now.setup c.args.tables.now.set) c.args.bits.now.left c.loop.reader.bits.left
-    c.loop.reader.lines.samples c.loop.reader.index c.loop.reader.states.items (c.loop.invariant.read earlier after))

@@ -71,4 +71,3 @@ returns-in-Err-Code c =
     let S : TileRect → Type 0 = λ r. IsPlaneOfHalted c.args.setup.now c.args.head.now c.args.plane c.args.states.items c.args.bits.now.left
     (Code c.in-Err-Code.fault c.args.plane (c.in-Err-Code.sample / r.w) (c.in-Err-Code.sample % r.w)) in
     record { len = tt; size = tt; read = tt; err = subst S (sym rect) all }
-

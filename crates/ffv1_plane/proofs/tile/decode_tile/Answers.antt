@@ -53,14 +53,14 @@ returns-in_err-planes c =
     (record {
       ok = tt;
       found = λ picture is. ⊎_elim (λ memory. memory) (λ refused. absurd (one_answer.no_picture c.args.setup.now c.args.index c.args.content.now _ picture
-      c.keeps_profile.ensures c.requires.tile refused is)) told;
+          c.keeps_profile.ensures c.requires.tile refused is)) told;
       head = λ fault first. err_not_ok _ _ (sym (c.in_ok-head.ensures.fault ∙ first));
       other = λ head place is other.
           let same = same_ok (head, place) (c.in_ok-head.head, c.in_ok-head.place) (sym (c.in_ok-head.ensures.only head place is)) in
           absurd (other (ap (λ z. z.0.tile) same ∙ tile));
       refused = told;
       stuck = λ fault plane y x is. ⊎_elim (λ memory. inl memory) (λ refused. inr (one_answer.one_fault c.args.setup.now c.args.index c.args.content.now _
-      (Code fault plane y x) c.keeps_profile.ensures c.requires.tile refused is)) told;
+          (Code fault plane y x) c.keeps_profile.ensures c.requires.tile refused is)) told;
     })
 
 pub returns : goal.returns

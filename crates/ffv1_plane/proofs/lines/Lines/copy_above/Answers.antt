@@ -1,4 +1,4 @@
-use Rattle.std.proofs.Common.{◌+◌, ◌-◌, ◌≤◌, refl, sym, ap, subst, length, arith, ◌∙◌}
+use Rattle.std.proofs.Common.{◌+◌, ◌≤◌, refl, sym, ap, subst, length, arith, ◌∙◌}
 use Rattle.ffv1_plane.specs.Rows.{RowsRead}
 use Rattle.ffv1_plane.proofs.Copies.{row_copied, cells_alike}
 use Rattle.ffv1_plane.proofs.Rows.{count_is}

@@ -1,5 +1,6 @@
 use Rattle.std.proofs.Common.{ℕ, ◌≡◌, ◌+◌, ◌-◌, ◌++◌, take, drop, set, get_or, ap, ◌∙◌, subst, length, arith, rules}
 use Rattle.std.proofs.lemmas.List.{get_or_read, length-set}
+use Rattle.std.proofs.lemmas.Result.{err_from_is_err_and}
 use Rattle.ffv1_plane.specs.Rows.{AreLines, samples_so_far}
 use Rattle.ffv1_plane.proofs.Rows.{rolled}
 use Rattle.ffv1_plane.proofs.lines.Lines.end_row.Goals as goal
@@ -29,3 +30,12 @@ invariant_of-self-2 c =
     rw (left, cleared, raised)
     (rolled c.self.inside.width c.self.inside.rows.items c.self.inside.line.items c.self.inside.above.items c.self.inside.far_above.items whole
     c.extend_from_slice.new.self.items c.swap-2.new.x.items more bordered)
+
+pub returns-in_err-extend_from_slice : goal.returns-in_err-extend_from_slice
+returns-in_err-extend_from_slice c = let p = err_from_is_err_and c.from_residual.result c.from_residual.ensures.1 in rw p.1 tt
+
+pub index-requires : goal.index-requires
+index-requires c = omega (arith, c.self.invariant.line_long, c.self.inside.line.ok.0)
+
+pub index_mut-requires : goal.index_mut-requires
+index_mut-requires c = omega (arith, c.self.invariant.line_long, c.self.inside.line.ok.0)

@@ -26,8 +26,15 @@ read_next-requires c =
 
 pub loop-self-smaller : goal.loop-self-smaller
 loop-self-smaller c =
-    omega (arith, c.loop-self-test.true, c.column.ensures.value, c.width-width.ensures.value, c.loop-self.invariant.same.width,
-    c.in_ok-left.ensures.same.width, c.in_ok-left.ensures.more)
+    omega (
+      arith,
+      c.loop-self-test.true,
+      c.column.ensures.value,
+      c.width-width.ensures.value,
+      c.loop-self.invariant.same.width,
+      c.in_ok-left.ensures.same.width,
+      c.in_ok-left.ensures.more,
+    )
 
 pub loop-self-preserved : goal.loop-self-preserved
 loop-self-preserved c = record {
@@ -52,18 +59,18 @@ returns-in_err-left c =
       count = tt;
       bytes = tt;
       err =
-        (row_halted c.args.self.now.lines.width (entry_of c.args.self.now) c.args.self.now.lines.samples c.loop-self.self.lines.samples c.args.self.now.index
-        c.loop-self.self.index c.loop-self.self.lines.x
-        c.args.self.now.states.items c.loop-self.self.states.items c.args.self.now.bits.left c.loop-self.self.bits.left _ c.requires.whole inside
-        (ap (λ w. length c.loop-self.self.lines.samples % w) (sym same.width) ∙ column ∙ c.column.ensures.value)
-        c.loop-self.invariant.count c.column.ensures.bytes
-        (λ earlier bits so_far. same_read earlier c.loop-self.self.lines.width c.args.self.now.lines.width c.loop-self.self.tables.now c.args.self.now.tables.now
-        c.loop-self.self.index c.loop-self.self.index bits c.loop-self.self.bits.left
-        c.loop-self.self.lines.samples c.loop-self.self.lines.samples c.loop-self.self.states.items (sym same.width) (sym same.tables) refl refl
-        (c.loop-self.invariant.read earlier bits so_far))
-        (same_halted c.loop-self.self.lines.width c.args.self.now.lines.width c.loop-self.self.tables.now c.args.self.now.tables.now
-        c.loop-self.self.lines.samples c.loop-self.self.index c.loop-self.self.states.items c.loop-self.self.bits.left _
-        (sym same.width) (sym same.tables) c.in_err-left.ensures.err));
+          (row_halted c.args.self.now.lines.width (entry_of c.args.self.now) c.args.self.now.lines.samples c.loop-self.self.lines.samples c.args.self.now.index
+          c.loop-self.self.index c.loop-self.self.lines.x
+          c.args.self.now.states.items c.loop-self.self.states.items c.args.self.now.bits.left c.loop-self.self.bits.left _ c.requires.whole inside
+          (ap (λ w. length c.loop-self.self.lines.samples % w) (sym same.width) ∙ column ∙ c.column.ensures.value)
+          c.loop-self.invariant.count c.column.ensures.bytes
+          (λ earlier bits so_far. same_read earlier c.loop-self.self.lines.width c.args.self.now.lines.width c.loop-self.self.tables.now c.args.self.now.tables.now
+          c.loop-self.self.index c.loop-self.self.index bits c.loop-self.self.bits.left
+          c.loop-self.self.lines.samples c.loop-self.self.lines.samples c.loop-self.self.states.items (sym same.width) (sym same.tables) refl refl
+          (c.loop-self.invariant.read earlier bits so_far))
+          (same_halted c.loop-self.self.lines.width c.args.self.now.lines.width c.loop-self.self.tables.now c.args.self.now.tables.now
+          c.loop-self.self.lines.samples c.loop-self.self.index c.loop-self.self.states.items c.loop-self.self.bits.left _
+          (sym same.width) (sym same.tables) c.in_err-left.ensures.err));
     })
 
 pub returns : goal.returns
