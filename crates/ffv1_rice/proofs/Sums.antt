@@ -26,11 +26,20 @@ to_z-small n few = to_z_pos w32 n (omega arith)
 
 -- ---- a value enters the sums
 
-drift_kept : (s : ContextState) → IsState s → to_z w32 (of_z w32 s.drift) ≡ s.drift
+pub drift_kept : (s : ContextState) → IsState s → to_z w32 (of_z w32 s.drift) ≡ s.drift
 drift_kept s bounds = to_z-of_z-small s.drift (omega (arith, ints)) (omega (arith, ints))
 
-bias_kept : (s : ContextState) → IsState s → to_z w32 (of_z w32 s.bias) ≡ s.bias
+pub bias_kept : (s : ContextState) → IsState s → to_z w32 (of_z w32 s.bias) ≡ s.bias
 bias_kept s bounds = to_z-of_z-difference s.bias (record { low = bounds.bias_low; high = bounds.bias_high })
+
+-- a state whose signed numbers went through the code's, and one whose bias was not written since it stays
+pub same_state : (s : ContextState) (drift bias : ℤ) → drift ≡ s.drift → bias ≡ s.bias
+    → let r : ContextState = record { drift = drift; error_sum = s.error_sum; bias = bias; count = s.count } in
+    r ≡ s
+same_state s drift bias drift_is bias_is = rw (drift_is, bias_is) refl
+
+pub bias_stays : (old new : ContextState) → IsState old → IsState new → of_z w32 new.bias ≡ of_z w32 old.bias → old.bias ≡ new.bias
+bias_stays old new before after same = sym (bias_kept old before) ∙ sym (ap (to_z w32) same) ∙ bias_kept new after
 
 sum_fits : (s : ContextState) (v : ℤ) → IsState s → IsDifference v → SFits w32 (s.drift +ℤ v)
 sum_fits s v bounds difference = SFits-small (s.drift +ℤ v) (omega (arith, ints)) (omega (arith, ints))

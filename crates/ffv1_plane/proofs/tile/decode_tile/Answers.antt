@@ -1,4 +1,4 @@
-use Rattle.std.proofs.Common.{◌≡◌, Result, Ok, Err, refl, sym, ap, ◌∙◌, inl, inr, ⊎_elim}
+use Rattle.std.proofs.Common.{◌≡◌, Result, Ok, Err, refl, sym, ap, ◌∙◌, inl, inr, ⊎_elim, arith}
 use Rattle.ffv1_plane.specs.declared.tile.TileFault.{TileFault}
 use Rattle.ffv1_plane.specs.declared.tile.TileFault.TheVariants.{Code, Head}
 use Rattle.ffv1_range.specs.declared.head.HeadFault.{HeadFault}
@@ -46,7 +46,7 @@ returns-then-head-index c = record {
 pub returns-in_err-planes : goal.returns-in_err-planes
 returns-in_err-planes c =
     let p = err_from_is_err_and c.from_residual-in_err-planes.result c.from_residual-in_err-planes.ensures.1 in
-    let tile : c.in_ok-head.head.tile ≡ c.args.index = c.if-head-index.false in
+    let tile : c.in_ok-head.head.tile ≡ c.args.index = omega arith in
     let told = planes_refused c.args.setup.now c.args.index c.args.content.now c.in_ok-head.head c.in_ok-head.place c.new-bits.result.left
     c.in_ok-head.ensures.found tile c.new-bits.ensures.left _ c.in_err-planes.ensures.err in
     rw (p.1, p.2)
@@ -65,7 +65,7 @@ returns-in_err-planes c =
 
 pub returns : goal.returns
 returns c =
-    let tile : c.in_ok-head.head.tile ≡ c.args.index = c.if-head-index.false in
+    let tile : c.in_ok-head.head.tile ≡ c.args.index = omega arith in
     let picture_found = picture_is c.args.setup.now c.args.index c.args.content.now c.in_ok-head.head c.in_ok-head.place c.new-bits.result.left
     c.decode_planes.new.bits.left _
     c.left-spare_bits.result
