@@ -124,6 +124,24 @@ one_fault s level bits fault other told also =
 
 -- ---- faults of readings
 
+-- a fault of a number is one of a code under its state
+pub code_fault : (s : ContextState) (level : Bool) (k : ℕ) (bits : List Bool) (fault : CodeFault) → IsParameter s k → IsNumberFault k bits fault
+    → IsCodeFault s level bits fault
+code_fault s level k bits faults.Truncated parameter told = (k, parameter, told)
+code_fault s level k bits faults.EscapeNotNeeded parameter told = (k, parameter, told)
+code_fault s level k bits faults.CodeTooLarge parameter told = (k, parameter, told)
+code_fault s level k bits faults.LevelTooLarge parameter told = absurd told
+
+pub large_level : (s : ContextState) (level : Bool) (value : ℤ) (old new : Reading) → IsValueRead s value old new → level ≡ true → value ≡ pos 127
+    → IsLargeLevel s level old.left
+large_level s level value old new read levels top = record {
+  is_level = levels;
+  code = read.code;
+  rest = new.left;
+  spells = subst (λ v. SpellsValue s v read.code) top read.spells;
+  begins = read.reads.begins;
+}
+
 pub no_level_above : (s : ContextState) (level : Bool) (value difference : ℤ) (old new after : Reading) → IsValueRead s value old new
     → level ≡ true → value ≡ pos 127 → IsCodedDifference level difference → IsCoded s level difference old after → ⊥
 no_level_above s level value difference old new after read levels top told spelled =

@@ -1,14 +1,15 @@
-use Rattle.std.proofs.Common.{rules, Bool, ℕ, ℤ, subst, ◌≡◌, ap, sym, arith, ◌∙◌, to_z, of_z, w32}
+use Rattle.std.proofs.Common.{rules, Bool, ℕ, ℤ, subst, ◌≡◌, refl, ap, sym, arith, ◌∙◌, to_z, of_z, w32}
 use Rattle.std.specs.Prelude.{Ok}
 use Rattle.std.proofs.lemmas.Int.{ints}
-use Rattle.ffv1_rice.specs.Codes.{IsCodedDifference}
+use Rattle.std.proofs.lemmas.Result.{err_from_is_err_and}
+use Rattle.ffv1_rice.specs.Codes.{IsCodedDifference, IsCodeFault}
 use Rattle.ffv1_rice.proofs.Sums.{IsDifference-of_z, to_z-of_z-difference}
 use Rattle.ffv1_rice.proofs.OneCode.{IsValueRead, value_read, coded_read, same_difference}
 use Rattle.ffv1_bits.specs.Reader.{Reading, Reads}
 use Rattle.ffv1_rice.specs.Codes.{code_bits, IsCoded}
 use Rattle.ffv1_rice.specs.States.{ContextState, sign_number, flipped, coded_value, IsDifference, IsParameter}
 use Rattle.ffv1_rice.proofs.Windows.{begun_fits, begun_read, begun_after, reading_after}
-use Rattle.ffv1_rice.proofs.Faults.{no_level_above, no_difference_at_fault}
+use Rattle.ffv1_rice.proofs.Faults.{code_fault, large_level, no_level_above, no_difference_at_fault}
 use Rattle.ffv1_rice.proofs.state.VlcState.decode.Goals as goal
 
 IsCodedDifference-of_z : (level : Bool) (d : ℤ) → IsCodedDifference level d → IsCodedDifference level (to_z w32 (of_z w32 d))
@@ -39,19 +40,41 @@ skip-requires c = begun_fits _ _ _ c.in_ok-ahead.ensures.ok
 pub update-requires : goal.update-requires
 update-requires c = IsDifference-of_z c.coded-coded.result c.coded-coded.ensures.range
 
-pub returns-in_err-ahead-clause-found : goal.returns-in_err-ahead-clause-found
-returns-in_err-ahead-clause-found c = λ difference after told spelled.
-    absurd (no_difference_at_fault c.args.self.now c.args.level c.in_err-ahead.field-0.0 c.k.result difference c.args.bits.now after
-    c.k.ensures.parameter c.in_err-ahead.ensures.err spelled)
+pub returns-in_err-ahead : goal.returns-in_err-ahead
+returns-in_err-ahead c =
+    let p = err_from_is_err_and c.from_residual.result c.from_residual.ensures.1 in
+    rw (p.1, p.2)
+    (record {
+      range = tt;
+      ok = tt;
+      state = tt;
+      found = λ difference after told spelled.
+          absurd (no_difference_at_fault c.args.self.now c.args.level c.in_err-ahead.field-0.0 c.k.result difference c.args.bits.now after
+          c.k.ensures.parameter c.in_err-ahead.ensures.err spelled);
+      err = code_fault c.args.self.now c.args.level c.k.result c.args.bits.now.left c.in_err-ahead.field-0.0 c.k.ensures.parameter c.in_err-ahead.ensures.err;
+      unchanged = (refl, refl);
+    })
 
-pub returns-in_err-difference-clause-found : goal.returns-in_err-difference-clause-found
-returns-in_err-difference-clause-found c = λ difference after told spelled.
+pub returns-in_err-difference : goal.returns-in_err-difference
+returns-in_err-difference c =
+    let p = err_from_is_err_and c.from_residual-in_err-difference.result c.from_residual-in_err-difference.ensures.1 in
     let begins = c.in_ok-ahead.ensures.ok in
     let later : Reading = reading_after c.args.bits.now _ _ begins in
     let read = value_taken _ _ _ _ _ c.args.bits.now later c.k.ensures.parameter c.coded-coded.ensures.number c.coded-coded.ensures.range
     c.value.ensures.coded c.value.ensures.range (begun_after c.args.bits.now _ _ begins) in
-    absurd (no_level_above c.args.self.now c.args.level c.value.result difference c.args.bits.now later after read
-    c.in_err-difference.ensures.err.0 (sym (to_z-of_z-difference c.value.result c.value.ensures.range) ∙ c.in_err-difference.ensures.err.2) told spelled)
+    let told = c.in_err-difference.ensures.err in
+    let top = sym (to_z-of_z-difference c.value.result c.value.ensures.range) ∙ told.2 in
+    rw (p.1, p.2)
+    (record {
+      range = tt;
+      ok = tt;
+      state = tt;
+      found = λ difference after is spelled.
+          absurd (no_level_above c.args.self.now c.args.level c.value.result difference c.args.bits.now later after read told.0 top is spelled);
+      err = subst (IsCodeFault c.args.self.now c.args.level c.args.bits.now.left) (sym told.1)
+          (large_level c.args.self.now c.args.level c.value.result c.args.bits.now later read told.0 top);
+      unchanged = (refl, refl);
+    })
 
 -- the difference is read, and it is each that has its code there
 pub returns : goal.returns
