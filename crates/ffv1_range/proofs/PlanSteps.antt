@@ -4,12 +4,12 @@ use Rattle.std.specs.Prelude.{if◌then◌else◌, nat_le, ◌==◌, ◌||◌, n
 use Rattle.ffv1_range.specs.Decoder.{Reader}
 use Rattle.ffv1_range.specs.Forms.{Form, slot_form, same_fault, form_at, Reads}
 use Rattle.ffv1_range.specs.Reading.{symbol_form}
-use Rattle.ffv1_range.specs.Fields.{number, flag, planes}
+use Rattle.ffv1_range.specs.Fields.{number, flag, versions, planes, tile_counts, last_fields}
 use Rattle.ffv1_range.specs.declared.coding.RangeFault.{RangeFault}
 use Rattle.ffv1_range.specs.declared.fault.SetupFault.{SetupFault}
 use Rattle.ffv1_range.specs.declared.fault.SetupFault.TheVariants.{Range}
 use Rattle.ffv1_range.proofs.Forms.{Continues, continue_start, continue_next, continue_stop, continue_accepted, refused, end_of, read_lifted, fault_lifted, at_ok}
-use Rattle.ffv1_range.proofs.FieldRuns.{Plan, done, number_then, flag_then, tested, form_of, chroma_plan, planes_plan}
+use Rattle.ffv1_range.proofs.FieldRuns.{Plan, done, number_then, flag_then, tested, form_of, versions_plan, chroma_plan, planes_plan, counts_plan, last_plan}
 
 -- A field was read, and this is its value.
 pub record FieldRead {A : Type 0} (field : Form (List ℕ) A SetupFault) (a : A) (s : Reader) (y : List ℕ) (t : Reader) (z : List ℕ) : Type 0 where
@@ -78,6 +78,20 @@ pub all_read : {A B : Type 0} {form : Form (List ℕ) A SetupFault} {field : For
 unfolding form_of
 all_read {form = form} {a = a} {r = r} {s = s} {t = t} {x = x} {y = y} {z = z} k h =
     end_of Range form (form_of (done a)) r t x z a refl (h.read.0, at_ok s t h.read.0 h.read.2) k.continues
+
+-- ---- the groups of fields
+
+pub versions_left : (r : Reader) (x : List ℕ) → IsLeft versions r x versions_plan r x
+unfolding form_of
+versions_left r x = record { continues = continue_start Range versions r x }
+
+pub counts_left : (width height : ℕ) (r : Reader) (x : List ℕ) → IsLeft (tile_counts width height) r x (counts_plan width height) r x
+unfolding form_of
+counts_left width height r x = record { continues = continue_start Range (tile_counts width height) r x }
+
+pub last_left : (r : Reader) (x : List ℕ) → IsLeft last_fields r x last_plan r x
+unfolding form_of
+last_left r x = record { continues = continue_start Range last_fields r x }
 
 -- ---- the fields of `read_planes`
 

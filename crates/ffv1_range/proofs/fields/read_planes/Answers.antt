@@ -34,8 +34,8 @@ returns-in_err-unsigned-2 c =
 pub returns-then-branch-ne0-2 : goal.returns-then-branch-ne0-2
 returns-then-branch-ne0-2 c =
     let coder = number_read _ _ _ _ _ c.in_ok-unsigned.ensures.read in
-    let space = number_read _ _ _ _ _ c.in_ok-unsigned-2.ensures.read in
     let first = number_passed (planes_left c.args.decoder.now c.args.states.now) coder (search rules) in
+    let space = number_read _ _ _ _ _ c.in_ok-unsigned-2.ensures.read in
     record {
       read = not_passed (number_next first space) space (search rules);
       in_range = c.in_ok-unsigned-2.ensures.in_range;
@@ -44,8 +44,8 @@ returns-then-branch-ne0-2 c =
 pub returns-in_err-depth : goal.returns-in_err-depth
 returns-in_err-depth c =
     let coder = number_read _ _ _ _ _ c.in_ok-unsigned.ensures.read in
-    let space = number_read _ _ _ _ _ c.in_ok-unsigned-2.ensures.read in
     let first = number_passed (planes_left c.args.decoder.now c.args.states.now) coder (search rules) in
+    let space = number_read _ _ _ _ _ c.in_ok-unsigned-2.ensures.read in
     let second = number_passed first space (search rules) in
     let p = err_from_is_err_and c.from_residual-in_err-depth.result c.from_residual-in_err-depth.ensures.1 in
     rw (p.1, p.2)
@@ -57,10 +57,10 @@ returns-in_err-depth c =
 pub returns-then-depth-ne8 : goal.returns-then-depth-ne8
 returns-then-depth-ne8 c =
     let coder = number_read _ _ _ _ _ c.in_ok-unsigned.ensures.read in
-    let space = number_read _ _ _ _ _ c.in_ok-unsigned-2.ensures.read in
-    let depth = number_read _ _ _ _ _ c.in_ok-depth.ensures.read in
     let first = number_passed (planes_left c.args.decoder.now c.args.states.now) coder (search rules) in
+    let space = number_read _ _ _ _ _ c.in_ok-unsigned-2.ensures.read in
     let second = number_passed first space (search rules) in
+    let depth = number_read _ _ _ _ _ c.in_ok-depth.ensures.read in
     record {
       read = not_passed (number_next second depth) depth
           (not_depth _ c.if-depth-ne0.true c.if-depth-ne8.true);

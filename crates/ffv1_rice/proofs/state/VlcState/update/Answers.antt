@@ -19,6 +19,9 @@ old_state c =
     let old = c.self-inside.inside.0.0 in
     record { drift = old.drift; error_sum = old.error_sum; bias = old.bias; count = old.count }
 
+old_bounds : (c : goal.After-self-4-1) → IsState (old_state c)
+old_bounds c = subst (λ (i : Inside). IsState i.sums) (sym c.self-inside.view_is) c.self.invariant
+
 -- the numbers that are written are those of the next state
 abbrev next_state : (c : goal.After-self-4-1) → ContextState
 next_state c =
@@ -27,24 +30,25 @@ next_state c =
 next_bounds : (c : goal.After-self-4-1) → IsState (next_state c)
 next_bounds c = subst IsState (sym c.next-2.view_is) c.next.invariant
 
-bias_is : (c : goal.After-self-4-1) → c.if-next-self.self-inside-inside.0.0.bias ≡ c.next-2.inside.bias
-bias_is c =
-    elim c.if-next-self.branch [
-      | then-next-self w ↦ ap (λ z. z.0.0.bias) w.self-inside-inside-is ∙ bias_kept (next_state c) (next_bounds c)
-      | else-next-self w ↦
-          ap (λ z. z.0.0.bias) w.self-inside-inside-is
-          ∙ bias_stays (old_state c) (next_state c) (subst (λ (i : Inside). IsState i.sums) (sym c.self-inside.view_is) c.self.invariant) (next_bounds c)
-          w.if-next-self.false
-    ]
-
 pub invariant_of-self-inside : goal.invariant_of-self-inside
 invariant_of-self-inside c = tt
 
 pub invariant_of-self : goal.invariant_of-self
-invariant_of-self c = subst IsState (sym (same_state (next_state c) _ _ (drift_kept (next_state c) (next_bounds c)) (bias_is c))) (next_bounds c)
+invariant_of-self c =
+    let bias_is : c.if-next-self.self-inside-inside.0.0.bias ≡ c.next-2.inside.bias = elim c.if-next-self.branch [
+      | then-next-self w ↦ ap (λ z. z.0.0.bias) w.self-inside-inside-is ∙ bias_kept (next_state c) (next_bounds c)
+      | else-next-self w ↦
+          ap (λ z. z.0.0.bias) w.self-inside-inside-is ∙ bias_stays (old_state c) (next_state c) (old_bounds c) (next_bounds c) w.if-next-self.false
+    ] in
+    subst IsState (sym (same_state (next_state c) _ _ (drift_kept (next_state c) (next_bounds c)) bias_is)) (next_bounds c)
 
 pub returns : goal.returns
 returns c =
-    same_state (next_state c) _ _ (drift_kept (next_state c) (next_bounds c)) (bias_is c) ∙ c.next-2.view_is ∙ c.next.view_is ∙ c.updated.ensures
+    let bias_is : c.if-next-self.self-inside-inside.0.0.bias ≡ c.next-2.inside.bias = elim c.if-next-self.branch [
+      | then-next-self w ↦ ap (λ z. z.0.0.bias) w.self-inside-inside-is ∙ bias_kept (next_state c) (next_bounds c)
+      | else-next-self w ↦
+          ap (λ z. z.0.0.bias) w.self-inside-inside-is ∙ bias_stays (old_state c) (next_state c) (old_bounds c) (next_bounds c) w.if-next-self.false
+    ] in
+    same_state (next_state c) _ _ (drift_kept (next_state c) (next_bounds c)) bias_is ∙ c.next-2.view_is ∙ c.next.view_is ∙ c.updated.ensures
     ∙ ap (updated (old_state c)) (to_z-of_z-difference c.args.value c.requires)
     ∙ ap (λ s. updated s c.args.value) (ap (λ (i : Inside). i.sums) c.self-inside.view_is ∙ c.self.view_is)
