@@ -1,5 +1,5 @@
 //! The slices that are held of all tiles (own), in one piece of memory.
-ghost use Rattle.std.specs.Prelude.{◌≡◌, ℕ, ◌<◌, true, false, List, map, replicate, slice_index_or, IfSome, IfNone, IfOk, OnOk, OnErr};
+ghost use Rattle.std.specs.Prelude.{◌≡◌, ℕ, ◌+◌, ◌<◌, ◌≤◌, true, false, List, length, map, replicate, sum_by, slice_index_or, vec_len, vec_capacity, IfSome, IfNone, IfOk, OnOk, OnErr};
 ghost use Rattle.std.specs.List.Sorted.{IsNonDecreasingBy};
 ghost use Rattle.sha2.specs.Sha256.{sha256};
 ghost use Rattle.ffv1_slice.specs.Chain.{IsFramed};
@@ -10,9 +10,9 @@ ghost use Rattle.ffv1_pool.specs.PoolEntries.{entry_in, IsPool, IsTilePart};
 ghost use Rattle.ffv1_pool.specs.Rows.{rows_of, AreRows};
 
 use crate::fault::HoldFault;
-use crate::fresh::{fresh_among, place_of, put_slices, room_of};
+use crate::fresh::{Fresh, fresh_among, place_of, put_slices, room_of};
 use crate::pool_entry::PoolEntry;
-use crate::rows::{Rows, digests_of, fresh_rows, put_rows};
+use crate::rows::{FreshRows, Rows, digests_of, fresh_rows, put_rows};
 use crate::shelf::Shelf;
 use sha2::{Digest, Sha256};
 use std::alloc::{AllocError, Global};
@@ -211,13 +211,14 @@ impl Pool {
             digests: &self.digests,
         };
         let mut new = fresh_rows(self.alloc, held, rows, &fresh)?;
-        let Some(room) = room_of(&fresh) else {
-            return Err(HoldFault::Memory);
-        };
-        self.bytes.reserve(room)?;
-        self.entries.reserve(fresh.len())?;
-        self.owners.reserve(new.owners.len())?;
-        self.digests.reserve(new.digests.len())?;
+        make_room(
+            &mut self.bytes,
+            &mut self.entries,
+            &mut self.owners,
+            &mut self.digests,
+            &fresh,
+            &new,
+        )?;
         put_slices(rows.bytes, &mut self.bytes, &mut self.entries, &mut fresh);
         put_rows(
             rows.bytes,
@@ -229,6 +230,35 @@ impl Pool {
         );
         Ok(())
     }
+}
+
+/// Makes room in a pool's parts for new entries, their slices and new rows. After a refusal there may be room for some of them.
+fn make_room(
+    bytes: &mut Vec<u8>,
+    entries: &mut Vec<PoolEntry>,
+    owners: &mut Vec<PoolEntry>,
+    digests: &mut Vec<[u8; 32]>,
+    fresh: &[Fresh<PoolEntry>],
+    new: &FreshRows,
+) -> Result<(), HoldFault>
+    ensures bytes { bytes.new.items ≡ bytes.old.items }
+    ensures entries { entries.new.items ≡ entries.old.items }
+    ensures owners { owners.new.items ≡ owners.old.items }
+    ensures digests { digests.new.items ≡ digests.old.items }
+    ensures room { OnOk result (vec_len bytes.new + sum_by (λ new. new.item.length) fresh.now ≤ vec_capacity bytes.new) }
+    ensures places { OnOk result (vec_len entries.new + length fresh.now ≤ vec_capacity entries.new) }
+    ensures for_owners { OnOk result (vec_len owners.new + length new.now.owners.items ≤ vec_capacity owners.new) }
+    ensures for_digests { OnOk result (vec_len digests.new + length new.now.digests.items ≤ vec_capacity digests.new) }
+    ensures memory { OnErr result (result ≡ Err HoldFault.Memory) }
+{
+    let Some(room) = room_of(fresh) else {
+        return Err(HoldFault::Memory);
+    };
+    bytes.reserve(room)?;
+    entries.reserve(fresh.len())?;
+    owners.reserve(new.owners.len())?;
+    digests.reserve(new.digests.len())?;
+    Ok(())
 }
 
 /// From where and up to where the entries of a tile stand.

@@ -1,4 +1,4 @@
-use Rattle.std.proofs.Common.{◌≡◌, ℕ, ◌+◌, ◌-◌, ◌<◌, ◌≤◌, get_or, set, length, ap, subst, arith}
+use Rattle.std.proofs.Common.{◌≡◌, ℕ, ◌+◌, ◌-◌, ◌<◌, ◌≤◌, get_or, set, length, ap, subst, arith, ◌∙◌}
 use Rattle.std.proofs.lemmas.List.{get_or_default}
 use Rattle.ffv1_pool.proofs.Merges.{IsMerging, merging_starts, merging_ends, merging_goes}
 use Rattle.ffv1_pool.proofs.fresh.merge.Goals as goal
@@ -48,3 +48,48 @@ within left held more long le is = omega arith
 
 pub copy_within-requires-clause-in_bounds : goal.copy_within-requires-clause-in_bounds
 copy_within-requires-clause-in_bounds g c = within _ _ _ _ c.loop-before.invariant.within c.loop-before.invariant.long
+
+-- the number of a new item that is still to come
+below : (before count : ℕ) → 0 < before → before ≤ count → before - 1 < count
+below before count some few = omega arith
+
+pub bounds-fresh-before : goal.bounds-fresh-before
+bounds-fresh-before g c = below _ _ c.loop-before-test.true c.loop-before.invariant.few
+
+pub bounds-fresh-before-in-loop-before : goal.bounds-fresh-before-in-loop-before
+bounds-fresh-before-in-loop-before g c = below _ _ c.loop-before-test.true c.loop-before.invariant.few
+
+pub bounds-fresh-before-in-loop-before-2 : goal.bounds-fresh-before-in-loop-before-2
+bounds-fresh-before-in-loop-before-2 g c = below _ _ c.loop-before-test.true c.loop-before.invariant.few
+
+pub bounds-fresh-before-in-loop-before-3 : goal.bounds-fresh-before-in-loop-before-3
+bounds-fresh-before-in-loop-before-3 g c = below _ _ c.loop-before-test.true c.loop-before.invariant.few
+
+-- the items that move up by those still to come stay within what there is room for
+moved_within : (place left held before count long : ℕ) → place ≤ left → left ≤ held → 0 < before → before ≤ count → long ≡ held + count
+    → place + (before - 1) + 1 + (left - place) ≤ long
+moved_within place left held before count long here within some few is = omega arith
+
+pub copy_within-requires-clause-dest_in_bounds : goal.copy_within-requires-clause-dest_in_bounds
+copy_within-requires-clause-dest_in_bounds g c =
+    let inv = c.loop-before.invariant in
+    moved_within _ _ _ _ _ _ (copy_within-requires-clause-start_le_end g c) inv.within c.loop-before-test.true inv.few inv.long
+
+put_within : (place left held before count long : ℕ) → place ≤ left → left ≤ held → 0 < before → before ≤ count → long ≡ held + count
+    → place + (before - 1) < long
+put_within place left held before count long here within some few is = omega arith
+
+pub bounds-items-place : goal.bounds-items-place
+bounds-items-place g c =
+    let inv = c.loop-before.invariant in
+    put_within _ _ _ _ _ _ (inv.places (c.loop-before.before - 1) c.index-fresh-before.result (one_less c.loop-before.before c.loop-before-test.true))
+    inv.within c.loop-before-test.true inv.few (c.copy_within.ensures.len ∙ inv.long)
+
+pub copy_within-requires-clause-not_exhausted : goal.copy_within-requires-clause-not_exhausted
+copy_within-requires-clause-not_exhausted g c = tt
+
+pub loop-before-smaller : goal.loop-before-smaller
+loop-before-smaller g c = one_less c.loop-before.before c.loop-before-test.true
+
+pub overflow_sub-before : goal.overflow_sub-before
+overflow_sub-before g c = c.loop-before-test.true

@@ -51,3 +51,12 @@ loop-index-preserved c =
 
 pub returns : goal.returns
 returns c = let inv = c.loop-index.invariant in record { long = inv.long; each = λ i d lt. inv.done i d (omega (arith, c.loop-index-test.false)) }
+
+pub bounds-owners-index : goal.bounds-owners-index
+bounds-owners-index c = subst (λ n. c.loop-index.index < n) (sym c.loop-index.invariant.long) c.loop-index-test.true
+
+pub bounds-owners-index-in-loop-index : goal.bounds-owners-index-in-loop-index
+bounds-owners-index-in-loop-index c = subst (λ n. c.loop-index.index < n) (sym c.loop-index.invariant.long) c.loop-index-test.true
+
+pub place_near-requires : goal.place_near-requires
+place_near-requires c = c.requires.pool.rising

@@ -56,73 +56,29 @@ returns-in_err-new c =
     let p = err_from_is_err_and c.from_residual-in_err-new.result c.from_residual-in_err-new.ensures.1 in
     rw (p.1, p.2) (record { ok = tt; memory = ap Err (error_is c.in_err-new.ensures.memory); err = refl })
 
-pub returns-in_default : goal.returns-in_default
-returns-in_default c = record { ok = tt; memory = refl; err = refl }
-
 pub invariant_of-self : goal.invariant_of-self
-invariant_of-self c = stock_same _ _ _ _ _ _ _ _ c.reserve.ensures.items refl refl refl c.self.invariant
+invariant_of-self c =
+    let same = c.make_room.ensures in
+    stock_same _ _ _ _ _ _ _ _ same.bytes same.entries same.owners same.digests c.self.invariant
 
-pub returns-in_err-reserve : goal.returns-in_err-reserve
-returns-in_err-reserve c =
-    let p = err_from_is_err_and c.from_residual-in_err-reserve.result c.from_residual-in_err-reserve.ensures.1 in
+pub returns-in_err-make_room : goal.returns-in_err-make_room
+returns-in_err-make_room c =
+    let p = err_from_is_err_and c.from_residual-in_err-make_room.result c.from_residual-in_err-make_room.ensures.1 in
     let old = c.self.inside in
+    let same = c.make_room.ensures in
     rw (p.1, p.2) (record {
       ok = tt;
-      memory = refl;
-      err = (λ i. seen old.tiles (c.reserve.ensures.items i) old.entries.items old.owners.items old.digests.items) ∙ c.self.view_is;
-    })
-
-pub invariant_of-self-in_err-reserve-2 : goal.invariant_of-self-in_err-reserve-2
-invariant_of-self-in_err-reserve-2 c =
-    stock_same _ _ _ _ _ _ _ _ c.reserve.ensures.items c.reserve-2.ensures.items refl refl c.self.invariant
-
-pub returns-in_err-reserve-2 : goal.returns-in_err-reserve-2
-returns-in_err-reserve-2 c =
-    let p = err_from_is_err_and c.from_residual-in_err-reserve-2.result c.from_residual-in_err-reserve-2.ensures.1 in
-    let old = c.self.inside in
-    rw (p.1, p.2) (record {
-      ok = tt;
-      memory = refl;
-      err = (λ i. seen old.tiles (c.reserve.ensures.items i) (c.reserve-2.ensures.items i) old.owners.items old.digests.items) ∙ c.self.view_is;
-    })
-
-pub invariant_of-self-in_err-reserve-3 : goal.invariant_of-self-in_err-reserve-3
-invariant_of-self-in_err-reserve-3 c =
-    stock_same _ _ _ _ _ _ _ _ c.reserve.ensures.items c.reserve-2.ensures.items c.reserve-3.ensures.items refl c.self.invariant
-
-pub returns-in_err-reserve-3 : goal.returns-in_err-reserve-3
-returns-in_err-reserve-3 c =
-    let p = err_from_is_err_and c.from_residual-in_err-reserve-3.result c.from_residual-in_err-reserve-3.ensures.1 in
-    let old = c.self.inside in
-    rw (p.1, p.2) (record {
-      ok = tt;
-      memory = refl;
-      err = (λ i. seen old.tiles (c.reserve.ensures.items i) (c.reserve-2.ensures.items i) (c.reserve-3.ensures.items i) old.digests.items)
-          ∙ c.self.view_is;
-    })
-
-pub invariant_of-self-in_err-reserve-4 : goal.invariant_of-self-in_err-reserve-4
-invariant_of-self-in_err-reserve-4 c =
-    stock_same _ _ _ _ _ _ _ _ c.reserve.ensures.items c.reserve-2.ensures.items c.reserve-3.ensures.items c.reserve-4.ensures.items c.self.invariant
-
-pub returns-in_err-reserve-4 : goal.returns-in_err-reserve-4
-returns-in_err-reserve-4 c =
-    let p = err_from_is_err_and c.from_residual-in_err-reserve-4.result c.from_residual-in_err-reserve-4.ensures.1 in
-    let old = c.self.inside in
-    rw (p.1, p.2) (record {
-      ok = tt;
-      memory = refl;
-      err = (λ i. seen old.tiles (c.reserve.ensures.items i) (c.reserve-2.ensures.items i) (c.reserve-3.ensures.items i) (c.reserve-4.ensures.items i))
-          ∙ c.self.view_is;
+      memory = ap Err (error_is c.in_err-make_room.ensures.memory);
+      err = (λ i. seen old.tiles (same.bytes i) (same.entries i) (same.owners i) (same.digests i)) ∙ c.self.view_is;
     })
 
 pub put_slices-requires-clause-pool : goal.put_slices-requires-clause-pool
-put_slices-requires-clause-pool c = pool_same _ _ _ _ c.reserve.ensures.items c.reserve-2.ensures.items c.self.invariant.pool
+put_slices-requires-clause-pool c = pool_same _ _ _ _ c.make_room.ensures.bytes c.make_room.ensures.entries c.self.invariant.pool
 
 pub put_slices-requires-clause-fresh : goal.put_slices-requires-clause-fresh
 put_slices-requires-clause-fresh c =
-    let bytes = c.deref.ensures.value ∙ sym c.reserve.ensures.items in
-    let entries = c.deref-2.ensures.value ∙ sym c.reserve-2.ensures.items in
+    let bytes = c.deref.ensures.value ∙ sym c.make_room.ensures.bytes in
+    let entries = c.deref-2.ensures.value ∙ sym c.make_room.ensures.entries in
     subst (λ (held : List Entry). AreFresh held c.args.rows.bytes.now c.in_ok-fresh.fresh.items) (λ i. map (entry_in (bytes i)) (entries i))
     c.in_ok-fresh.ensures.fresh
 
@@ -145,9 +101,9 @@ pub put_rows-requires-clause-rows : goal.put_rows-requires-clause-rows
 put_rows-requires-clause-rows c =
     let old = c.self.inside in
     let more = c.put_slices.ensures.later in
-    rw (c.deref-8.ensures.value, c.reserve-3.ensures.items, c.reserve-4.ensures.items)
+    rw (c.deref-8.ensures.value, c.make_room.ensures.owners, c.make_room.ensures.digests)
     (rows_kept old.bytes.items old.owners.items old.digests.items c.self.invariant.rows c.put_slices.new.bytes.items
-    (more.0, more.1 ∙ ap (λ b. b ++ more.0) c.reserve.ensures.items))
+    (more.0, more.1 ∙ ap (λ b. b ++ more.0) c.make_room.ensures.bytes))
 
 -- the rows that were searched are those of the pool, which stay the same over the bytes that have grown
 pub put_rows-requires-clause-fresh : goal.put_rows-requires-clause-fresh
@@ -156,10 +112,10 @@ put_rows-requires-clause-fresh c =
     let more = c.put_slices.ensures.later in
     let searched : rows_in c.deref-3.result.now c.deref-4.result.now c.deref-5.result.now ≡ rows_in old.bytes.items old.owners.items old.digests.items =
     (λ i. rows_in (c.deref-3.ensures.value i) (c.deref-4.ensures.value i) (c.deref-5.ensures.value i)) in
-    let held : rows_in c.deref-8.result.now c.reserve-3.new.self.items c.reserve-4.new.self.items ≡ rows_in old.bytes.items old.owners.items old.digests.items =
-    (λ i. rows_in (c.deref-8.ensures.value i) (c.reserve-3.ensures.items i) (c.reserve-4.ensures.items i))
+    let held : rows_in c.deref-8.result.now c.make_room.new.owners.items c.make_room.new.digests.items ≡ rows_in old.bytes.items old.owners.items old.digests.items =
+    (λ i. rows_in (c.deref-8.ensures.value i) (c.make_room.ensures.owners i) (c.make_room.ensures.digests i))
     ∙ rows_after old.bytes.items old.owners.items old.digests.items c.self.invariant.rows c.put_slices.new.bytes.items
-    (more.0, more.1 ∙ ap (λ b. b ++ more.0) c.reserve.ensures.items) in
+    (more.0, more.1 ∙ ap (λ b. b ++ more.0) c.make_room.ensures.bytes) in
     subst (λ (rows : List Origin). AreFreshRows rows c.args.rows.bytes.now c.in_ok-new.new.owners.items c.in_ok-new.new.digests.items)
     (searched ∙ sym held) c.in_ok-new.ensures.fresh
 
@@ -172,7 +128,7 @@ put_rows-requires-clause-held c =
     let slices : set.from_list {R = entry_cmp} (map (entry_in c.deref-8.result.now) c.deref-9.result.now)
     ≡ set.union (set.from_list old) (set.from_list fresh) =
     (λ i. set.from_list (map (entry_in (c.deref-8.ensures.value i)) (c.deref-9.ensures.value i))) ∙ c.put_slices.ensures.slices
-    ∙ (λ i. set.union (set.from_list (map (entry_in (c.reserve.ensures.items i)) (c.reserve-2.ensures.items i))) (set.from_list fresh))
+    ∙ (λ i. set.union (set.from_list (map (entry_in (c.make_room.ensures.bytes i)) (c.make_room.ensures.entries i))) (set.from_list fresh))
     ∙ (λ i. set.union (set.from_list (map (entry_in (sym c.deref.ensures.value i)) (sym c.deref-2.ensures.value i))) (set.from_list fresh)) in
     subst (λ s. AreHeld s (set.from_list (fresh_rows_in from c.in_ok-new.new.owners.items c.in_ok-new.new.digests.items))) (sym slices)
     (fresh_held old coming fresh c.in_ok-fresh.ensures.all (rows_in c.deref-3.result.now c.deref-4.result.now c.deref-5.result.now) (rows_of c.args.rows) from
@@ -187,17 +143,17 @@ returns-clause-ok c =
     let fresh = map (fresh_in from) c.in_ok-fresh.fresh.items in
     let new = fresh_rows_in from c.in_ok-new.new.owners.items c.in_ok-new.new.digests.items in
     let more = c.put_slices.ensures.later in
-    let grown : next ≡ old.bytes.items ++ more.0 = more.1 ∙ ap (λ b. b ++ more.0) c.reserve.ensures.items in
+    let grown : next ≡ old.bytes.items ++ more.0 = more.1 ∙ ap (λ b. b ++ more.0) c.make_room.ensures.bytes in
     let entries = subst (λ (held : List Entry). AreAllFresh entry_cmp held coming fresh)
     (λ i. map (entry_in (c.deref.ensures.value i)) (c.deref-2.ensures.value i)) c.in_ok-fresh.ensures.all in
     let slices : set.from_list {R = entry_cmp} (map (entry_in next) c.put_slices.new.entries.items)
     ≡ set.union (set.from_list (map (entry_in old.bytes.items) old.entries.items)) (set.from_list coming) =
     c.put_slices.ensures.slices
-    ∙ (λ i. set.union (set.from_list (map (entry_in (c.reserve.ensures.items i)) (c.reserve-2.ensures.items i))) (set.from_list fresh)) ∙ entries in
+    ∙ (λ i. set.union (set.from_list (map (entry_in (c.make_room.ensures.bytes i)) (c.make_room.ensures.entries i))) (set.from_list fresh)) ∙ entries in
     let all = subst (λ (held : List Origin). AreAllFresh origin_cmp held (rows_of c.args.rows) new)
     (λ i. rows_in (c.deref-3.ensures.value i) (c.deref-4.ensures.value i) (c.deref-5.ensures.value i)) c.in_ok-new.ensures.all in
-    let held : rows_in c.deref-8.result.now c.reserve-3.new.self.items c.reserve-4.new.self.items ≡ rows_in old.bytes.items old.owners.items old.digests.items =
-    (λ i. rows_in (c.deref-8.ensures.value i) (c.reserve-3.ensures.items i) (c.reserve-4.ensures.items i))
+    let held : rows_in c.deref-8.result.now c.make_room.new.owners.items c.make_room.new.digests.items ≡ rows_in old.bytes.items old.owners.items old.digests.items =
+    (λ i. rows_in (c.deref-8.ensures.value i) (c.make_room.ensures.owners i) (c.make_room.ensures.digests i))
     ∙ rows_after old.bytes.items old.owners.items old.digests.items c.self.invariant.rows next (more.0, grown) in
     let origins : set.from_list {R = origin_cmp} (rows_in next c.put_rows.new.owners.items c.put_rows.new.digests.items)
     ≡ set.union (set.from_list (rows_in old.bytes.items old.owners.items old.digests.items)) (set.from_list (rows_of c.args.rows)) =
