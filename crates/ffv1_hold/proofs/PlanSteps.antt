@@ -1,5 +1,5 @@
 -- One step of a plan.
-use Rattle.std.proofs.Common.{◌≡◌, ℕ, Result, IfOk, List, [], ◌∷◌, ◌++◌, sym, ap, ◌∙◌, subst}
+use Rattle.std.proofs.Common.{◌≡◌, ℕ, Result, Ok, Err, IfOk, OnOk, List, [], ◌∷◌, ◌++◌, sym, ap, ◌∙◌, subst}
 use Rattle.std.proofs.lemmas.Result.{IfOk-weaker}
 use Rattle.ffv1_range.proofs.SetupFacts.{one_setup}
 use Rattle.ffv1_pool.specs.Reels.{Reel}
@@ -7,7 +7,9 @@ use Rattle.ffv1_hold.specs.Headline.{IsReelOf}
 use Rattle.ffv1_pool.specs.Originals.{AreNear, HoldsExactly}
 use Rattle.ffv1_pool.proofs.ExactlyHeld.{near_exact}
 use Rattle.ffv1_pool.specs.TakeFaults.{AreShort}
-use Rattle.ffv1_pool.specs.Contents.{Contents, IsSameReel, with_found, with_copies, joined, holding_of}
+use Rattle.ffv1_pool.specs.HoldingParts.{contents, IsKept}
+use Rattle.ffv1_pool.specs.declared.holding.Holding.TheInside.{Inside}
+use Rattle.ffv1_pool.specs.Contents.{Contents, IsHolding, IsSameReel, with_found, with_copies, joined, holding_of}
 use Rattle.ffv1_pool.specs.ContentsLaws.{with_found-holding_of, with_copies-holding_of, joined-holding_of}
 
 pub AreShort-both : (xs ys : List (List ℕ)) → AreShort xs → AreShort ys → AreShort (xs ++ ys)
@@ -56,3 +58,14 @@ near_of_meaning r original slices copies meaning =
 pub of_kept_reel : {E : Type 0} (r : Result Contents E) (Took : Contents → Type 0) (reel : Reel) → ((h : Contents) → Took h → h.reel ≡ reel)
     → (P : Reel → Type 0) → P reel → IfOk r Took → IfOk r (λ h. P h.reel)
 of_kept_reel r Took reel keeps P holds = IfOk-weaker r Took (λ h. P h.reel) (λ h took. subst P (sym (keeps h took)) holds)
+
+-- the same of a step that gives back the holding before it, where that is known to hold once it does
+pub reel_on_same : {E : Type 0} (r : Result Contents E) (before : Contents) (Q : Type 0) (P : Reel → Type 0) → (Q → P before.reel)
+    → IfOk r (λ h. h ≡ before) → OnOk r Q → IfOk r (λ h. P h.reel)
+reel_on_same (Ok h) before Q P holds same known = subst P (sym (ap (λ (k : Contents). k.reel) same)) (holds known)
+reel_on_same (Err e) before Q P holds same known = tt
+
+-- what is kept of a holding makes it one
+pub kept_is_holding : (a : Inside) (h : Contents) → contents a ≡ h → IsKept a → IsHolding h
+kept_is_holding a h is kept =
+    subst IsHolding is (record { reel = kept.reel; slices = kept.slices; origins_held = kept.origins_held; digests_whole = kept.digests_whole })

@@ -4,7 +4,7 @@ ghost use Rattle.ffv1_range.specs.Setup.{IsSetupOf};
 ghost use Rattle.ffv1_pool.specs.TakeFaults.{AreShort};
 ghost use Rattle.ffv1_pool.specs.Contents.{holding_of, with_found, with_copies, joined, IsHolding, IsSameReel};
 ghost use Rattle.ffv1_pool.specs.declared.fault.HoldFault.TheVariants.{Memory};
-ghost use Rattle.ffv1_hold.specs.declared.plan.PlanFault.TheVariants.{Hold};
+ghost use Rattle.ffv1_hold.specs.declared.plan.PlanFault.TheVariants.{Hold, File};
 ghost use Rattle.ffv1_hold.specs.Saving.{IsTooLong};
 ghost use Rattle.ffv1_pool.specs.Originals.{AreNear, HoldsExactly};
 ghost use Rattle.ffv1_hold.specs.Plans.{copies_of, IsPlanFault, IsFaultOfCopy, IsFaultOfCopies, IsRereadFault, RereadsFit};
@@ -123,11 +123,11 @@ pub fn run(
         Plan::Join(left, right) => {
             let holding = run(alloc, left, config, width, height)?;
             let other = run(alloc, right, config, width, height)?;
-            union_of(holding, &other)
+            union_of(holding, other)
         }
         Plan::Reread(before) => {
             let holding = run(alloc, before, config, width, height)?;
-            Ok(reread(alloc, &holding)?)
+            through_file(alloc, holding)
         }
     }
 }
@@ -157,15 +157,25 @@ fn with_all_copies(holding: Holding, copies: &[&[u8]]) -> Result<Holding, PlanFa
 }
 
 /// Joins a holding of the same reel into a holding.
-fn union_of(holding: Holding, other: &Holding) -> Result<Holding, PlanFault>
-    requires { IsSameReel holding other.now }
-    ensures ok { IfOk result (λ h. h ≡ joined holding other.now) }
+fn union_of(holding: Holding, other: Holding) -> Result<Holding, PlanFault>
+    requires { IsSameReel holding other }
+    ensures ok { IfOk result (λ h. h ≡ joined holding other) }
     ensures sound { IfOk result IsHolding }
     ensures memory { IfErr result (λ fault. fault ≡ Hold Memory) }
 {
     let mut holding = holding;
-    holding.join_with(other)?;
+    holding.join_with(&other)?;
     Ok(holding)
+}
+
+/// What comes back of a holding that goes through a file: the same. It is let go as well where it does not come back.
+fn through_file(alloc: Global, holding: Holding) -> Result<Holding, PlanFault>
+    requires { IsHolding holding }
+    ensures same { IfOk result (λ h. h ≡ holding) }
+    ensures fits { OnOk result (¬ IsTooLong holding) }
+    ensures fault { IfErr result (λ fault. (cause : HoldFileFault) × (fault ≡ File cause) × IsRereadFault holding cause) }
+{
+    Ok(reread(alloc, &holding)?)
 }
 
 /// Writes a holding file to memory, and reads it again. `TooLong` comes exactly where the holding has none; the only other

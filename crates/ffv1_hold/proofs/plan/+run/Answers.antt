@@ -3,13 +3,14 @@ use Rattle.std.proofs.lemmas.Result.{IfOk-weaker, IfErr-weaker, on_ok_weaker, er
 use Rattle.ffv1_range.specs.Setup.{IsSetupOf}
 use Rattle.ffv1_pool.specs.Contents.{Contents, holding_of, IsHolding, with_found, with_copies, joined}
 use Rattle.ffv1_pool.specs.TakeFaults.{AreShort}
-use Rattle.ffv1_hold.specs.Plans.{copies_of, IsCarriedOut, IsPlanFault, IsFaultOfCopy, IsFaultOfCopies, IsRereadFault, RereadsFit}
+use Rattle.ffv1_hold.specs.Plans.{copies_of, IsCarriedOut, IsPlanFault, IsFaultOfCopy, IsFaultOfCopies, IsFaultOfFile, IsRereadFault, RereadsFit}
 use Rattle.ffv1_hold.specs.Saving.{IsTooLong}
+use Rattle.ffv1_hold.specs.declared.file_fault.HoldFileFault.{HoldFileFault}
 use Rattle.ffv1_hold.specs.declared.plan.Plan.{Plan}
 use Rattle.ffv1_hold.specs.declared.plan.PlanFault.TheVariants.{Hold, Setup, File}
 use Rattle.ffv1_pool.specs.declared.fault.HoldFault.TheVariants.{Memory}
 use Rattle.ffv1_pool.proofs.ExactlyHeld.{near_exact}
-use Rattle.ffv1_hold.proofs.PlanSteps.{after_same, after_found, after_copies, after_joined, AreShort-both, of_kept_reel, one_reel, near_of_meaning}
+use Rattle.ffv1_hold.proofs.PlanSteps.{after_same, after_found, after_copies, after_joined, AreShort-both, of_kept_reel, reel_on_same, one_reel, near_of_meaning}
 use Rattle.ffv1_hold.proofs.plan.+run.Goals as goal
 
 -- a copy is taken into what the plan before gave: the reel stays, and what is held grows by what is found in the copy
@@ -145,28 +146,38 @@ returns-in_ok-new-in-New t c =
     }
 
 -- a holding comes back from its file as it was
-pub returns-in_ok-reread-in-Reread : goal.returns-in_ok-reread-in-Reread
-returns-in_ok-reread-in-Reread t c =
+pub returns-in_ok-holding-in-Reread : goal.returns-in_ok-holding-in-Reread
+returns-in_ok-holding-in-Reread t c =
     let plan = c.args.plan.now in
     let before = c.in_ok-holding-in-Reread.holding in
     let was = c.in_ok-holding-in-Reread.ensures in
-    let h = c.in_ok-reread-in-Reread.field-0 in
-    let is = c.in_ok-reread-in-Reread.ensures in
-    let kept = ap (λ (k : Contents). k.reel) is.same in
+    let copies = copies_of c.in-Reread.before.value in
+    let r = c.through_file.result in
+    let Same = λ (h : Contents). h ≡ before in
+    let same = c.through_file.ensures.same in
+    let keeps = λ (h : Contents) (is : h ≡ before). ap (λ (k : Contents). k.reel) is in
     let own = was.meaning ∙ ap (λ p. holding_of before.reel (copies_of p)) c.deref-in-Reread.ensures in
-    let meaning = after_same before h (copies_of c.in-Reread.before.value) own is.same
-    ∙ ap (λ p. holding_of h.reel (copies_of p)) (sym c.in-Reread.is) in
+    let meaning = IfOk-weaker r Same (λ h. h ≡ holding_of h.reel (copies_of plan))
+    (λ h is. after_same before h copies own is ∙ ap (λ p. holding_of h.reel (copies_of p)) (sym c.in-Reread.is)) same in
     record {
-      config = ap (λ q. q.config) kept ∙ was.config;
-      setup = subst (λ q. IsSetupOf c.args.config.now c.args.width c.args.height q.setup) (sym kept) was.setup;
+      config = of_kept_reel r Same before.reel keeps (λ q. q.config ≡ c.args.config.now) was.config same;
+      setup = of_kept_reel r Same before.reel keeps (λ q. IsSetupOf c.args.config.now c.args.width c.args.height q.setup) was.setup same;
       meaning = meaning;
-      sound = subst IsHolding (sym is.same) was.sound;
-      near = λ original slices near. near_exact h original slices (copies_of plan) near (ap (λ (k : Contents). k.slices) meaning);
-      short = subst (λ (p : Plan). AreShort (copies_of p)) (sym c.in-Reread.is)
-          (subst (λ (p : Plan). AreShort (copies_of p)) c.deref-in-Reread.ensures was.short);
-      fits = subst (λ q. RereadsFit q plan) (sym kept) (subst (RereadsFit before.reel) (sym c.in-Reread.is)
-          (subst (RereadsFit before.reel) c.deref-in-Reread.ensures was.fits, subst (λ (k : Contents). ¬ IsTooLong k) own is.fits));
-      fault = tt;
+      sound = IfOk-weaker r Same IsHolding (λ h is. subst IsHolding (sym is) was.sound) same;
+      near = λ original slices. near_of_meaning r original slices (copies_of plan) meaning;
+      short = IfOk-weaker r Same (λ _. AreShort (copies_of plan)) (λ _ _. subst (λ (p : Plan). AreShort (copies_of p)) (sym c.in-Reread.is)
+          (subst (λ (p : Plan). AreShort (copies_of p)) c.deref-in-Reread.ensures was.short)) same;
+      fits = reel_on_same r before (¬ IsTooLong before) (λ q. RereadsFit q plan) (λ fits. subst (RereadsFit before.reel) (sym c.in-Reread.is)
+          (subst (RereadsFit before.reel) c.deref-in-Reread.ensures was.fits, subst (λ (k : Contents). ¬ IsTooLong k) own fits)) same c.through_file.ensures.fits;
+      fault = IfErr-weaker r (λ f. (cause : HoldFileFault) × (f ≡ File cause) × IsRereadFault before cause)
+          (IsPlanFault c.args.config.now c.args.width c.args.height plan)
+          (λ f is. subst (λ p. IsPlanFault c.args.config.now c.args.width c.args.height p f) (sym c.in-Reread.is)
+          (inr (
+            subst (IsCarriedOut c.args.config.now c.args.width c.args.height) c.deref-in-Reread.ensures
+                (before.reel, (was.config, was.setup), was.short, was.fits),
+            subst (IsFaultOfFile c.args.config.now c.args.width c.args.height copies) (sym is.1)
+                (before.reel, (was.config, was.setup), subst (λ (k : Contents). IsRereadFault k is.0) own is.2),
+          ))) c.through_file.ensures.fault;
     }
 
 pub returns-in_err-new-in-New : goal.returns-in_err-new-in-New
@@ -268,31 +279,4 @@ returns-in_err-holding-in-Reread t c =
       short = tt;
       fits = tt;
       fault = subst faulty (sym c.in-Reread.is) (inl (subst faulty c.deref-in-Reread.ensures c.in_err-holding-in-Reread.ensures.fault));
-    })
-
-pub returns-in_err-reread-in-Reread : goal.returns-in_err-reread-in-Reread
-returns-in_err-reread-in-Reread t c =
-    let h = c.in_ok-holding-in-Reread.holding in
-    let before = c.in_ok-holding-in-Reread.ensures in
-    let p = err_from_is_err_and c.from_residual-in_err-reread-in-Reread.result c.from_residual-in_err-reread-in-Reread.ensures.1 in
-    let f = c.in_err-reread-in-Reread.field-0.0 in
-    let faulty = λ (p : Plan). IsPlanFault c.args.config.now c.args.width c.args.height p (File f) in
-    rw (p.1, p.2) (record {
-      config = tt;
-      setup = tt;
-      meaning = tt;
-      sound = tt;
-      near = λ original slices. tt;
-      short = tt;
-      fits = tt;
-      fault = subst faulty (sym c.in-Reread.is) (inr (
-        subst (IsCarriedOut c.args.config.now c.args.width c.args.height) c.deref-in-Reread.ensures
-            (h.reel, (before.config, before.setup), before.short, before.fits),
-        (
-          h.reel,
-          (before.config, before.setup),
-          subst (λ (k : Contents). IsRereadFault k f) (before.meaning ∙ ap (λ p. holding_of h.reel (copies_of p)) c.deref-in-Reread.ensures)
-              c.in_err-reread-in-Reread.ensures.fault,
-        ),
-      ));
     })
