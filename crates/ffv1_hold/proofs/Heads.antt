@@ -1,5 +1,5 @@
 -- The parts of the size and the record.
-use Rattle.std.proofs.Common.{◌≡◌, ℕ, suc, ◌<◌, ◌≤◌, List, [], ◌∷◌, ◌++◌, length, take, get_or, Option, Result, Ok, Err, arith, inl, inr, refl, sym, ap, ◌∙◌, subst, append_assoc, append-nil, length-append, length-take-le}
+use Rattle.std.proofs.Common.{◌≡◌, ℕ, suc, ◌<◌, ◌≤◌, List, [], ◌∷◌, ◌++◌, length, take, get_or, Option, Result, Ok, Err, IfOk, IfErr, arith, inl, inr, refl, sym, ap, ◌∙◌, subst, append_assoc, append-nil, length-append, length-take-le}
 use Rattle.std.proofs.Math.Seq.{take-suc, take-append-le}
 use Rattle.std.specs.Prelude.{◌⊎◌}
 use Rattle.ffv1_bits.specs.Limits.{record_limit}
@@ -21,7 +21,7 @@ use Rattle.ffv1_hold.specs.FileFaults.{IsFileReel, IsPartOfMagic, IsHoldingText,
 use Rattle.ffv1_hold.proofs.Bodies.{length-be4}
 use Rattle.ffv1_hold.proofs.Entries.{single}
 use Rattle.ffv1_hold.proofs.ReadRefusals.{Takes-nil, Refuses-after}
-use Rattle.ffv1_hold.proofs.TextReads.{TakesText-trans, StopsAt-after}
+use Rattle.ffv1_hold.proofs.TextReads.{TakesText-trans, StopsAt-after, shown, memory_stops}
 use Rattle.ffv1_hold.proofs.NumberTexts.{same_back}
 
 pub part_of_width : (s : List ℕ) → length s < 4 → IsPartOfReel s
@@ -178,3 +178,14 @@ pub first_fault : (config : List ℕ) (w h : ℕ) (f : SetupFault) → (f ≡ no
     → FirstSetupFault config w h f
 first_fault config w h f (inl memory) other = absurd (other memory)
 first_fault config w h f (inr first) other = first
+
+-- a reel that was judged once its size and its record were read: what they are, or the fault that they show or come before
+pub reel_judged : {a b : ReadLog} {i j : ℕ} {xs : List ℕ} → TakesText a b i j xs → (r : Result Reel HoldFileFault)
+    → IfOk r (λ reel. xs ≡ sized_record reel.config reel.setup.width reel.setup.height) → IfErr r (λ f. ReelIsWhole f xs ⊎ ReelShows f xs)
+    → ReadsText (λ reel. sized_record reel.config reel.setup.width reel.setup.height) IsPartOfReel ReelIsWhole ReelShows a b i j r
+reel_judged t (Ok reel) same fault = subst (TakesText _ _ _ _) same t
+reel_judged t (Err faults.Memory) same (inl is) = memory_stops _ _ _ _ _ _ _ _ t (inr is)
+reel_judged t (Err faults.TooLong) same (inr is) = shown _ _ _ _ _ _ _ _ t _ tt is
+reel_judged t (Err (faults.Setup f)) same (inr is) = shown _ _ _ _ _ _ _ _ t _ tt is
+reel_judged t (Err _) same (inl is) = absurd is
+reel_judged t (Err _) same (inr is) = absurd is

@@ -1,7 +1,7 @@
 //! What stands before the entries of a holding file (own): its name and version, the size and the configuration record (RFC
 //! 9043, section 4.3).
-ghost use Rattle.std.specs.Prelude.{◌≡◌, ◌≤◌, [], ◌∷◌, IfOk};
-ghost use Rattle.ffv1_bits.specs.Limits.{file_limit};
+ghost use Rattle.std.specs.Prelude.{◌≡◌, ◌≤◌, ◌⊎◌, [], ◌∷◌, length, IfOk, IfErr};
+ghost use Rattle.ffv1_bits.specs.Limits.{file_limit, record_limit};
 ghost use Rattle.ffv1_hold.specs.Reading.{ReadsText, IsShorter, Never};
 ghost use Rattle.ffv1_hold.specs.HoldingText.{name, version_number, magic, sized_record};
 ghost use Rattle.ffv1_hold.specs.ReadOrigins.{VersionShows};
@@ -82,6 +82,21 @@ pub(crate) fn read_reel<S: Source>(
         return Err(HoldFileFault::TooLong);
     }
     let config = read_bytes(alloc, source, place, length)?;
+    judge_reel(alloc, config, width, height)
+}
+
+/// The reel of a record that was read whole, and of a size that was.
+fn judge_reel(
+    alloc: Global,
+    config: Vec<u8>,
+    width: u32,
+    height: u32,
+) -> Result<Reel, HoldFileFault>
+    requires { length config.items ≤ record_limit }
+    ensures text { IfOk result (λ r. sized_record config.items width height ≡ sized_record r.config r.setup.width r.setup.height) }
+    ensures reel { IfOk result IsFileReel }
+    ensures fault { IfErr result (λ f. ReelIsWhole f (sized_record config.items width height) ⊎ ReelShows f (sized_record config.items width height)) }
+{
     match Reel::read(alloc, config, width, height) {
         Ok(reel) => Ok(reel),
         Err(fault) => match fault {
