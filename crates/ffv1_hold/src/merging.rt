@@ -98,16 +98,23 @@ pub fn join_streams<R: Source, Q: Source, W: Sink>(
     ensures went { JoinWent result (record { left = R.log left.old; right = Q.log right.old; sink = W.log sink.old })
         (record { left = R.log left.new; right = Q.log right.new; sink = W.log sink.new }) (0, 0) (file_limit, file_limit) }
 {
-    merge_files(alloc, left, right, sink)
+    let mut merge = Merge::new();
+    merge_files(alloc, &mut merge, left, right, sink)
 }
 
-/// Reads both heads, and then joins what is after them.
+/// Reads both heads, and then joins what is after them. Nothing was read or written yet.
 fn merge_files<R: Source, Q: Source, W: Sink>(
     alloc: Global,
+    merge: &mut Merge,
     left: &mut R,
     right: &mut Q,
     sink: &mut W,
 ) -> Result<(), HoldFileFault>
+    requires left_start { merge.old.lefts.place ≡ 0 }
+    requires right_start { merge.old.rights.place ≡ 0 }
+    requires left_held { merge.old.lefts.held ≡ None }
+    requires right_held { merge.old.rights.held ≡ None }
+    requires room { merge.old.room ≡ file_limit }
     ensures ok { OnOk result (WritesUnion (record {
       left_old = (R.log left.old).remaining;
       left_new = (R.log left.new).remaining;
@@ -125,7 +132,6 @@ fn merge_files<R: Source, Q: Source, W: Sink>(
     ensures went { JoinWent result (record { left = R.log left.old; right = Q.log right.old; sink = W.log sink.old })
         (record { left = R.log left.new; right = Q.log right.new; sink = W.log sink.new }) (0, 0) (file_limit, file_limit) }
 {
-    let mut merge = Merge::new();
     let reel = merge.read_heads(alloc, left, right)?;
     merge.merge_after_heads(alloc, &reel, left, right, sink)
 }

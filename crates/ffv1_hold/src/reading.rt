@@ -31,17 +31,23 @@ pub fn read_hold<R: Source>(alloc: Global, source: &mut R) -> Result<Holding, Ho
     ensures only { (v : Version) (h : Contents) → IsHolding h → FitsInFile v h → (R.log source.old).remaining ≡ Some (file_text v h)
         → Answers h result }
 {
-    read_parts(alloc, source)
+    let mut reader = HoldReader::new();
+    read_parts(alloc, source, &mut reader)
 }
 
 /// Reads the head, and then the entries.
-fn read_parts<R: Source>(alloc: Global, source: &mut R) -> Result<Holding, HoldFileFault>
+fn read_parts<R: Source>(
+    alloc: Global,
+    source: &mut R,
+    reader: &mut HoldReader,
+) -> Result<Holding, HoldFileFault>
+    requires start { reader.old.place ≡ 0 }
+    requires held { reader.old.held ≡ None }
     ensures { ReadsFile result (R.log source.old) (R.log source.new) }
 {
-    let mut reader = HoldReader::new();
     let reel = reader.read_head(alloc, source)?;
     let mut holding = Holding::of_reel(alloc, reel)?;
-    read_entries(alloc, source, &mut reader, &mut holding)?;
+    read_entries(alloc, source, reader, &mut holding)?;
     Ok(holding)
 }
 
