@@ -1,8 +1,8 @@
-use Rattle.std.proofs.Common.{Option, refl, ap, ◌∙◌, subst, IfSome}
+use Rattle.std.proofs.Common.{Option, refl, sym, ap, ◌∙◌, subst, IfSome}
 use Rattle.std.proofs.lemmas.Result.{err_from_is_err_and}
 use Rattle.ffv1_range.specs.Setup.{SetupValue}
 use Rattle.ffv1_pool.specs.Reels.{Reel}
-use Rattle.ffv1_pool.specs.Contents.{with_entry}
+use Rattle.ffv1_pool.specs.Contents.{IsEntryOf, with_entry}
 use Rattle.ffv1_hold.specs.declared.version.Version.{Version}
 use Rattle.ffv1_hold.specs.HoldingText.{FileEntry, file_entries}
 use Rattle.ffv1_hold.specs.FileEntries.{last_of, Follows, IsFileEntryOf}
@@ -10,13 +10,13 @@ use Rattle.ffv1_hold.proofs.TextReads.{TakesText-trans}
 use Rattle.ffv1_hold.proofs.ReadSteps.{none_read, one_more, next_refused, memory_refused, next_taken, next_follows, digests_in_version}
 use Rattle.ffv1_hold.proofs.reading.read_entries.Goals as goal
 
-pub returns-in_err-advance-clause-read : goal.returns-in_err-advance-clause-read
-returns-in_err-advance-clause-read g c =
+pub returns-in_err-advance : goal.returns-in_err-advance
+returns-in_err-advance g c =
     let p = err_from_is_err_and c.from_residual.result c.from_residual.ensures.1 in
     let v = c.args.reader.now.version in
     let h = c.args.holding.now in
     let none = none_read v _ _ h c.args.reader.now.held c.requires.place c.setup.ensures.sound.reel c.requires.empty c.requires.first in
-    rw (p.1, p.2) (next_refused v h.reel _ _ _ _ h _ none v _ refl c.setup.ensures.value _ _ c.in_err-advance.ensures.read)
+    rw (p.1, p.2) (record { read = next_refused v h.reel _ _ _ _ h _ none v _ refl c.setup.ensures.value _ _ c.in_err-advance.ensures.read; end = tt; sound = tt; told = tt; reel = tt })
 
 pub loop-reader-init : goal.loop-reader-init
 loop-reader-init g c =
@@ -43,8 +43,8 @@ insert-requires-clause-origins g c =
     (digests_in_version v c.in-Some.entry.1 entry.origins).rising
 
 -- memory for the entry that is held is refused
-pub returns-in_err-insert-clause-read : goal.returns-in_err-insert-clause-read
-returns-in_err-insert-clause-read g c =
+pub returns-in_err-insert : goal.returns-in_err-insert
+returns-in_err-insert g c =
     let p = err_from_is_err_and c.from_residual-in_err-insert.result c.from_residual-in_err-insert.ensures.1 in
     let inv = c.loop-reader.invariant in
     let v = c.args.reader.now.version in
@@ -55,7 +55,7 @@ returns-in_err-insert-clause-read g c =
     let follows = subst (λ (o : Option FileEntry). IfSome o (λ e. Follows (last_of (file_entries h)) e.0)) c.in-Some.is inv.follows in
     let more = one_more v reel _ _ _ _ h (with_entry h e.0 e.1) e inv.sound inv.told inv.reel entry follows
     c.loop-reader.reader.held c.in-Some.is refl inv.text in
-    rw (p.1, p.2, c.in_err-insert.ensures.err.0) (memory_refused v reel _ _ _ _ _ _ more)
+    rw (p.1, p.2, c.in_err-insert.ensures.err.0) (record { read = memory_refused v reel _ _ _ _ _ _ more; end = tt; sound = tt; told = tt; reel = tt })
 
 pub loop-reader-preserved : goal.loop-reader-preserved
 loop-reader-preserved g c =
@@ -82,8 +82,8 @@ loop-reader-preserved g c =
       at_end = next.end;
     }
 
-pub returns-in_err-advance-2-clause-read : goal.returns-in_err-advance-2-clause-read
-returns-in_err-advance-2-clause-read g c =
+pub returns-in_err-advance-2 : goal.returns-in_err-advance-2
+returns-in_err-advance-2 g c =
     let p = err_from_is_err_and c.from_residual-in_err-advance-2.result c.from_residual-in_err-advance-2.ensures.1 in
     let inv = c.loop-reader.invariant in
     let v = c.args.reader.now.version in
@@ -95,7 +95,7 @@ returns-in_err-advance-2-clause-read g c =
     let more = one_more v reel _ _ _ _ h c.insert.new.holding e inv.sound inv.told inv.reel entry follows
     c.loop-reader.reader.held c.in-Some.is c.in_ok-insert.ensures.ok inv.text in
     let setup = c.setup-in-Some.ensures.value ∙ ap (λ (r : Reel). r.setup) more.reel' in
-    rw (p.1, p.2) (next_refused v reel _ _ _ _ _ _ more _ _ inv.version setup _ _ c.in_err-advance-2.ensures.read)
+    rw (p.1, p.2) (record { read = next_refused v reel _ _ _ _ _ _ more _ _ inv.version setup _ _ c.in_err-advance-2.ensures.read; end = tt; sound = tt; told = tt; reel = tt })
 
 pub returns : goal.returns
 returns g c =
@@ -107,3 +107,15 @@ returns g c =
       told = inv.told;
       reel = inv.reel;
     }
+
+pub insert-requires-clause-slice : goal.insert-requires-clause-slice
+insert-requires-clause-slice g c =
+    let inv = c.loop-reader.invariant in
+    let entry = subst (λ (o : Option FileEntry). IfSome o (IsFileEntryOf c.args.reader.now.version c.args.holding.now.reel.setup)) c.in-Some.is inv.entry in
+    subst (λ (r : Reel). IsEntryOf r.setup c.in-Some.entry.0) (sym inv.reel) entry.slice
+
+pub advance-requires : goal.advance-requires
+advance-requires g c = c.requires.place
+
+pub advance-requires-in-Some : goal.advance-requires-in-Some
+advance-requires-in-Some g c = c.loop-reader.invariant.text.text.within
