@@ -13,3 +13,6 @@ StopsReading-after a b c xs ys p q =
 pub EndsBefore-after : (a b c : ReadLog) (xs : List ℕ) (m n : ℕ) → Reads a b xs → EndsBefore m b c → length xs + m ≤ n → EndsBefore n a c
 EndsBefore-after a b c xs m n p ends le =
     (xs ++ ends.0, StopsReading-after a b c xs ends.0 p ends.1, omega (arith, length-append xs ends.0, ends.2, le))
+
+pub EndsBefore-more : (a b : ReadLog) (m n : ℕ) → EndsBefore m a b → m ≤ n → EndsBefore n a b
+EndsBefore-more a b m n ends le = (ends.0, ends.1, omega (arith, ends.2, le))
