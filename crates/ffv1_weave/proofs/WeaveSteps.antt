@@ -98,6 +98,12 @@ module _ (versions : List (List ℕ)) (parts : List Part) (have : HaveParts vers
   pub fit_over : (bytes : List ℕ) → IsAlike versions 0 bytes (get_or versions 0 []) → All (IsFit (length bytes)) parts
   fit_over bytes alike = subst (λ s. All (IsFit s) parts) (sym alike.size) have.fit
 
+  -- as the code has both
+  pub fit_there : (bytes lent : List ℕ) (regions : List Part) → regions ≡ parts → lent ≡ bytes → IsAlike versions 0 bytes (get_or versions 0 [])
+      → All (IsFit (length lent)) regions
+  fit_there bytes lent regions same is alike =
+      subst (All (IsFit (length lent))) (sym same) (subst (λ z. All (IsFit (length z)) parts) (sym is) (fit_over bytes alike))
+
   pub alike_at : (code : ℕ) → code < count_of parts → IsAlike versions 0 (chosen parts code (get_or versions 0 [])) (get_or versions 0 [])
   alike_at code lt = combination_alike versions (get_or versions 0 []) (chosen parts code (get_or versions 0 [])) first_there (all_numbered.are code lt)
 

@@ -2,7 +2,7 @@ use Rattle.std.proofs.Common.{◌≡◌, ℕ, List, [], ◌∷◌, ◌++◌, Bor
 use Rattle.std.specs.Prelude.{slice_range}
 use Rattle.std.proofs.lemmas.List.{map_push}
 use Rattle.ffv1_weave.specs.Parts.{ArePieces}
-use Rattle.ffv1_weave.proofs.References.{values_of, next_value, nowhere}
+use Rattle.ffv1_weave.proofs.References.{values_of, next_value, all_values, nowhere}
 use Rattle.ffv1_weave.proofs.PieceSteps.{IsAsked, pieces_have, pieces_lack, pieces_same, pieces_more}
 use Rattle.ffv1_weave.proofs.parts.pieces_between.Goals as goal
 use Rattle.ffv1_weave.proofs.parts.pieces_between.Goals.{then-not-contains+in_ok-push, else-not-contains}
@@ -29,3 +29,8 @@ loop-version-preserved c =
           (subst (λ v. ArePieces (before ++ version ∷ []) c.args.start c.args.end (values_of v.items)) (sym w.pieces-is)
           (pieces_same c.args.start c.args.end before (values_of pieces) version c.loop-version.invariant has))
     ]
+
+pub returns : goal.returns
+returns c =
+    subst (λ versions. ArePieces versions c.args.start c.args.end (values_of c.loop-version.pieces.items))
+    (all_values c.args.versions.now c.loop-version.version-index c.loop-version-test.false) c.loop-version.invariant

@@ -1,14 +1,15 @@
 use Rattle.std.proofs.Common.{◌≡◌, ◌<◌, ℕ, List, [], Some, None, Vec, Global, length, get_or, map, arith, ap, sym, ◌∙◌, subst}
 use Rattle.std.specs.Prelude.{All}
 use Rattle.std.proofs.lemmas.List.{length-map, get_or-map}
+use Rattle.std.proofs.lemmas.List.Elements.{All-weaker}
 use Rattle.ffv1_slice.specs.Chain.{IsFramed}
 use Rattle.ffv1_weave.specs.Combinations.{IsCombination, IsValid, AreNumbered}
-use Rattle.ffv1_weave.specs.Parts.{Part, chosen, count_of}
+use Rattle.ffv1_weave.specs.Parts.{Part, IsFit, chosen, count_of}
 use Rattle.ffv1_weave.specs.declared.weaving.TheConstants.{MOST_COMBINATIONS}
 use Rattle.ffv1_slice.specs.Members.{IsOnly}
 use Rattle.ffv1_weave.proofs.References.{values_of, nowhere, value_at}
 use Rattle.ffv1_weave.proofs.Linear.{changes_some}
-use Rattle.ffv1_weave.proofs.WeaveSteps.{have_parts, IsFoundSoFar, all_numbered, alike_first, tables_are, left_is, written_over, valid_at, found_skip, found_first, found_second, found_none, found_only, some_of, none_of, absent}
+use Rattle.ffv1_weave.proofs.WeaveSteps.{have_parts, IsFoundSoFar, all_numbered, fit_there, alike_first, tables_are, left_is, written_over, valid_at, found_skip, found_first, found_second, found_none, found_only, some_of, none_of, absent}
 use Rattle.ffv1_weave.proofs.weaving.weave.Goals as goal
 
 -- what a table has
@@ -25,6 +26,16 @@ returns-in_default c =
       numbered = all_numbered versions parts have;
       many = subst (λ ps. MOST_COMBINATIONS < count_of ps) c.as_slice.ensures.value c.in_default.ensures;
     }
+
+pub count_of-requires : goal.count_of-requires
+count_of-requires c =
+    subst (All (λ (part : Part). 0 < length part.pieces)) (sym c.as_slice.ensures.value)
+    (All-weaker (IsFit (length (get_or c.args.versions.now 0 nowhere).now)) (λ part. 0 < length part.pieces) (λ part fit. fit.some)
+    c.in_ok-regions.regions.items c.in_ok-regions.ensures.fit)
+
+pub tables_of-requires-clause-fits : goal.tables_of-requires-clause-fits
+tables_of-requires-clause-fits c =
+    subst (All (IsFit (length (get_or c.args.versions.now 0 nowhere).now))) (sym c.as_slice-2.ensures.value) c.in_ok-regions.ensures.fit
 
 pub loop-code-init : goal.loop-code-init
 loop-code-init c =
@@ -59,6 +70,13 @@ loop-code-preserved-then-changed-ne0 c =
       found = found_skip versions (λ k. chosen parts k (get_or versions 0 [])) c.loop-code.code c.loop-code.found
           (λ valid. c.if-changed-ne0.true (left ∙ valid.passes.1)) c.loop-code.invariant.found;
     }
+
+pub choose-requires : goal.choose-requires
+choose-requires c =
+    let versions : List (List ℕ) = values_of c.args.versions.now in
+    let parts : List Part = c.in_ok-regions.regions.items in
+    let have = have_parts c.args.versions.now parts c.requires.some c.requires.lengths c.in_ok-regions.ensures.parts c.in_ok-regions.ensures.fit in
+    fit_there versions parts have c.loop-code.bytes.items _ _ c.as_slice-in-loop-code-2.ensures.value c.deref_mut.ensures.value c.loop-code.invariant.alike
 
 pub loop-code-preserved-then-not-is_framed : goal.loop-code-preserved-then-not-is_framed
 loop-code-preserved-then-not-is_framed c =
@@ -125,6 +143,13 @@ returns-in_default-found c =
           (subst (λ n. IsFoundSoFar versions (λ k. chosen parts k (get_or versions 0 [])) n c.loop-code.found) done c.loop-code.invariant.found)),
       (count_of parts, record { numbered = all_numbered versions parts have; few = let few = c.in-Some.ensures.1 in omega arith }),
     )
+
+pub choose-requires-2 : goal.choose-requires-2
+choose-requires-2 c =
+    let versions : List (List ℕ) = values_of c.args.versions.now in
+    let parts : List Part = c.in_ok-regions.regions.items in
+    let have = have_parts c.args.versions.now parts c.requires.some c.requires.lengths c.in_ok-regions.ensures.parts c.in_ok-regions.ensures.fit in
+    fit_there versions parts have c.loop-code.bytes.items _ _ c.as_slice-3.ensures.value c.deref_mut-2.ensures.value c.loop-code.invariant.alike
 
 pub returns : goal.returns
 returns c =
