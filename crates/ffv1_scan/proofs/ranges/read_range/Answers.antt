@@ -24,3 +24,15 @@ returns-then-size c =
     let numbers = range_numbers c.args.line.now c.in_ok-first.first.now c.in_ok-first.second.now range parts.0 parts.1 is in
     let same = one_value c.in_ok-first.second.now range.size c.in_ok-size.size numbers.1 c.in_ok-size.ensures in
     absurd (omega (arith, is.few, same))
+
+pub returns : goal.returns
+returns c =
+    let parts = c.in_ok-first.ensures in
+    record {
+      place_digits = c.in_ok-first.first.now;
+      size_digits = c.in_ok-first.second.now;
+      parted = parts.0;
+      place = c.in_ok-place.ensures;
+      size = c.in_ok-size.ensures;
+      few = omega (arith, c.if-size.false);
+    }
