@@ -26,7 +26,7 @@ one_case tables number a b is also =
     (same_some _ a.size.0 b.size.0 is.width also.width) (same_some _ a.size.1 b.size.1 is.height also.height)
 
 -- one more element
-take_got : (xs : List (List ℕ)) (k : ℕ) (x : List ℕ) → slice_get xs k ≡ Some x → take (suc k) xs ≡ take k xs ++ x ∷ []
+pub take_got : (xs : List (List ℕ)) (k : ℕ) (x : List ℕ) → slice_get xs k ≡ Some x → take (suc k) xs ≡ take k xs ++ x ∷ []
 take_got [] k x e = cc
 take_got (y ∷ xs) zero x e = let same : y ≡ x = cc in ap (λ z. z ∷ []) same
 take_got (y ∷ xs) (suc k) x e = ap (λ zs. y ∷ zs) (take_got xs k x e)

@@ -2,7 +2,6 @@ use Rattle.std.proofs.Common.{ℕ, ◌<◌, get_or, arith, refl, sym, ◌∙◌,
 use Rattle.std.proofs.lemmas.Bool.{false≢true}
 use Rattle.std.proofs.lemmas.List.{get_or_default}
 use Rattle.ffv1_vectors.specs.Frames.{FitsTile}
-use Rattle.ffv1_vectors.specs.declared.frame.TileSpec.{TileSpec}
 use Rattle.ffv1_vectors.proofs.frame.fit_tiles.Goals as goal
 
 pub loop-tile-init : goal.loop-tile-init

@@ -5,7 +5,7 @@ use Rattle.std.proofs.lemmas.Bool.{false≢true}
 use Rattle.std.proofs.lemmas.Bool.Decides.{eqb_tells}
 use Rattle.ffv1_range.specs.Header.{IsHeadOf, header_limits}
 use Rattle.ffv1_plane.specs.Picture.{IsPictureOf}
-use Rattle.ffv1_slice.specs.Slices.{content_of, IsSliceOf}
+use Rattle.ffv1_slice.specs.Slices.{IsSliceOf}
 use Rattle.ffv1_vectors.specs.Frames.{asked_head, asked_planes}
 use Rattle.ffv1_vectors.proofs.frame.reads_back.Goals as goal
 

@@ -1,10 +1,11 @@
-use Rattle.std.proofs.Common.{◌≡◌, ℕ, ◌+◌, ◌*◌, ◌%◌, List, [], ◌∷◌, ◌++◌, length, map, Vec, Global, ap, ◌∙◌, arith}
+use Rattle.std.proofs.Common.{◌≡◌, ℕ, ◌+◌, ◌*◌, ◌%◌, List, [], ◌∷◌, ◌++◌, length, map, Vec, Global, Bool, if◌then◌else◌, refl, sym, ap, ◌∙◌, arith}
 use Rattle.std.proofs.lemmas.List.{length-append, length-map, map-append}
-use Rattle.ffv1_range.specs.Tiles.{GridValue, plane_rect, grid_of}
+use Rattle.ffv1_range.specs.Tiles.{GridValue, plane_count, plane_rect, grid_of}
 use Rattle.ffv1_range.specs.declared.grid.TileRect.{TileRect}
 use Rattle.ffv1_vectors.specs.Suite.{IsSuitePlane}
 use Rattle.ffv1_vectors.proofs.SuiteSteps.{each_more, of_own_length}
 use Rattle.ffv1_vectors.proofs.suite.suite_tile.Goals as goal
+use Rattle.ffv1_vectors.proofs.suite.suite_tile.Goals.{then-has_chroma, else-has_chroma}
 
 pub loop-plane-preserved : goal.loop-plane-preserved
 loop-plane-preserved c =
@@ -28,4 +29,32 @@ loop-plane-preserved c =
           each_more (λ k samples. IsSuitePlane c.args.case.now.content ((c.args.tile * 50 + k * 7) % 256) (length samples) samples) c.loop-plane.plane old new
           c.in_ok-suite_plane.field-0.items [] count grown before.of_case
           (of_own_length c.args.case.now.content _ _ c.in_ok-suite_plane.field-0.items made);
+    }
+
+pub returns : goal.returns
+returns c =
+    let planes_of : Bool → ℕ = λ has_chroma. if has_chroma then 3 else 1 in
+    let counted : c.if-has_chroma.count ≡ plane_count (grid_of c.args.setup.now) =
+    elim c.if-has_chroma.branch [
+      | then-has_chroma w ↦ w.count-is ∙ sym (ap planes_of (sym c.has_chroma.ensures ∙ w.if-has_chroma.true))
+      | else-has_chroma w ↦ w.count-is ∙ sym (ap planes_of (sym c.has_chroma.ensures ∙ w.if-has_chroma.false))
+    ] in
+    let all = c.loop-plane.invariant in
+    let some = c.keeps_profile.ensures.some_set in
+    record {
+      fits = record {
+        luma_table = some;
+        chroma_table = some;
+        count = omega (arith, counted, all.count);
+        sizes = λ plane lt. all.sizes plane (omega (arith, lt, all.count));
+      };
+      tile = record {
+        planes = λ plane lt. all.of_case plane (omega (arith, lt, all.count));
+        status = refl;
+        luma_table = refl;
+        chroma_table = refl;
+        picture_structure = refl;
+        sar_num = refl;
+        sar_den = refl;
+      };
     }
