@@ -1,5 +1,5 @@
 -- Frames as they are made: tile by tile, each slice read back.
-use Rattle.std.proofs.Common.{◌≡◌, ℕ, ◌+◌, ◌<◌, ◌≤◌, ◌^◌, eqb, Bool, true, List, [], ◌∷◌, ◌++◌, length, get_or, refl, sym, ap, subst, ◌∙◌, inl, inr, arith, map, Vec, Global}
+use Rattle.std.proofs.Common.{◌≡◌, ℕ, ◌+◌, ◌<◌, ◌≤◌, ◌^◌, eqb, Bool, true, false, List, [], ◌∷◌, ◌++◌, length, get_or, refl, sym, ap, subst, ◌∙◌, inl, inr, arith, map, Vec, Global, if◌then◌else◌}
 use Rattle.std.specs.Prelude.{IsTrue}
 use Rattle.std.specs.List.{flat_map}
 use Rattle.std.proofs.lemmas.Bool.{cases_order}
@@ -7,7 +7,7 @@ use Rattle.std.proofs.lemmas.Grind.{flat_map-append}
 use Rattle.std.proofs.lemmas.List.{length-append, get_or_append_left, append-nil, get_or-map, get_or_push}
 use Rattle.ffv1_bits.specs.Limits.{payload_limit}
 use Rattle.ffv1_range.specs.Setup.{SetupValue}
-use Rattle.ffv1_range.specs.Tiles.{grid_of, tile_count}
+use Rattle.ffv1_range.specs.Tiles.{grid_of, plane_count, tile_count}
 use Rattle.ffv1_range.specs.Header.{IsHeadOf, header_limits}
 use Rattle.ffv1_plane.specs.Picture.{IsPictureOf}
 use Rattle.ffv1_slice.specs.Chain.{status_before}
@@ -98,3 +98,13 @@ made_slice setup tile spec read slice same is t status is_slice head picture =
 pub plane_is : (planes : List (Vec ℕ Global)) (k : ℕ) (plane : Vec ℕ Global) → k < length planes → plane ≡ get_or planes k plane
     → get_or (map (λ p. p.items) planes) k [] ≡ plane.items
 plane_is planes k plane lt is = get_or-map (λ (p : Vec ℕ Global). p.items) planes k plane [] lt ∙ ap (λ (p : Vec ℕ Global). p.items) (sym is)
+
+-- ---- how many planes a setup has
+
+pub three_planes : (setup : SetupValue) (has_chroma : Bool) (count : ℕ) → count ≡ 3 → has_chroma ≡ setup.has_chroma → has_chroma ≡ true
+    → count ≡ plane_count (grid_of setup)
+three_planes setup has_chroma count is same coloured = is ∙ ap (λ (b : Bool). if b then 3 else 1) (sym coloured ∙ same)
+
+pub one_plane : (setup : SetupValue) (has_chroma : Bool) (count : ℕ) → count ≡ 1 → has_chroma ≡ setup.has_chroma → has_chroma ≡ false
+    → count ≡ plane_count (grid_of setup)
+one_plane setup has_chroma count is same gray = is ∙ ap (λ (b : Bool). if b then 3 else 1) (sym gray ∙ same)

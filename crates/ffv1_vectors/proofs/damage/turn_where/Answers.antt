@@ -22,3 +22,12 @@ loop-place-preserved c =
           subst (IsBurstUpTo given at c.args.mask (count + 1)) (sym w.bytes-is)
           (bit_kept given before at c.args.mask count w.if-mask-place-eq1.false c.loop-place.invariant)
     ]
+
+pub returns : goal.returns
+returns c =
+    let all : c.loop-place.place ≡ 32 = omega arith in
+    let burst = subst (λ n. IsBurstUpTo c.args.bytes.now c.args.bit c.args.mask n c.loop-place.bytes) all c.loop-place.invariant in
+    record {
+      within = record { same_length = sym c.loop-place.auto.bytes; front = burst.front; back = burst.back };
+      bits = burst.turned;
+    }

@@ -1,9 +1,10 @@
-use Rattle.std.proofs.Common.{◌≡◌, ℕ, ◌+◌, ◌*◌, ◌%◌, List, [], ◌∷◌, ◌++◌, length, map, Vec, Global, Bool, if◌then◌else◌, refl, sym, ap, ◌∙◌, arith}
+use Rattle.std.proofs.Common.{◌≡◌, ℕ, ◌+◌, ◌*◌, ◌%◌, List, [], ◌∷◌, ◌++◌, length, map, Vec, Global, refl, ap, ◌∙◌, arith}
 use Rattle.std.proofs.lemmas.List.{length-append, length-map, map-append}
 use Rattle.ffv1_range.specs.Tiles.{GridValue, plane_count, plane_rect, grid_of}
 use Rattle.ffv1_range.specs.declared.grid.TileRect.{TileRect}
 use Rattle.ffv1_vectors.specs.Suite.{IsSuitePlane}
 use Rattle.ffv1_vectors.proofs.SuiteSteps.{each_more, of_own_length}
+use Rattle.ffv1_vectors.proofs.FrameSteps.{three_planes, one_plane}
 use Rattle.ffv1_vectors.proofs.suite.suite_tile.Goals as goal
 use Rattle.ffv1_vectors.proofs.suite.suite_tile.Goals.{then-has_chroma, else-has_chroma}
 
@@ -33,11 +34,10 @@ loop-plane-preserved c =
 
 pub returns : goal.returns
 returns c =
-    let planes_of : Bool → ℕ = λ has_chroma. if has_chroma then 3 else 1 in
     let counted : c.if-has_chroma.count ≡ plane_count (grid_of c.args.setup.now) =
     elim c.if-has_chroma.branch [
-      | then-has_chroma w ↦ w.count-is ∙ sym (ap planes_of (sym c.has_chroma.ensures ∙ w.if-has_chroma.true))
-      | else-has_chroma w ↦ w.count-is ∙ sym (ap planes_of (sym c.has_chroma.ensures ∙ w.if-has_chroma.false))
+      | then-has_chroma w ↦ three_planes c.args.setup.now _ _ w.count-is c.has_chroma.ensures w.if-has_chroma.true
+      | else-has_chroma w ↦ one_plane c.args.setup.now _ _ w.count-is c.has_chroma.ensures w.if-has_chroma.false
     ] in
     let all = c.loop-plane.invariant in
     let some = c.keeps_profile.ensures.some_set in
