@@ -79,6 +79,14 @@ unfolding form_of
 all_read {form = form} {a = a} {r = r} {s = s} {t = t} {x = x} {y = y} {z = z} k h =
     end_of Range form (form_of (done a)) r t x z a refl (h.read.0, at_ok s t h.read.0 h.read.2) k.continues
 
+-- ---- tests of a number
+
+pub at_least : (bound n : ℕ) → bound ≤ n → nat_le bound n ≡ true
+at_least bound n h = grind arith
+
+pub below : (bound n : ℕ) → n < bound → nat_le bound n ≡ false
+below bound n h = grind arith
+
 -- ---- the groups of fields
 
 pub versions_left : (r : Reader) (x : List ℕ) → IsLeft versions r x versions_plan r x

@@ -1,4 +1,4 @@
-use Rattle.std.proofs.Common.{◌≡◌, Result, Ok, Err, refl, sym, ap, ◌∙◌, inl, inr, ⊎_elim, arith}
+use Rattle.std.proofs.Common.{◌≡◌, Result, Ok, Err, refl, sym, ap, ◌∙◌, inl, inr, ⊎_elim, arith, rules}
 use Rattle.ffv1_plane.specs.declared.tile.TileFault.{TileFault}
 use Rattle.ffv1_plane.specs.declared.tile.TileFault.TheVariants.{Code, Head}
 use Rattle.ffv1_range.specs.declared.head.HeadFault.{HeadFault}
@@ -63,23 +63,29 @@ returns-in_err-planes c =
           (Code fault plane y x) c.keeps_profile.ensures c.requires.tile refused is)) told;
     })
 
-pub returns : goal.returns
-returns c =
+pub returns-clause-ok : goal.returns-clause-ok
+returns-clause-ok c =
     let tile : c.in_ok-head.head.tile ≡ c.args.index = omega arith in
-    let picture_found = picture_is c.args.setup.now c.args.index c.args.content.now c.in_ok-head.head c.in_ok-head.place c.new-bits.result.left
-    c.decode_planes.new.bits.left _
-    c.left-spare_bits.result
-    c.in_ok-head.ensures.found tile c.new-bits.ensures.left c.in_ok-planes.ensures.ok c.left-spare_bits.ensures.value in
-    record {
-      ok = picture_found;
-      found = λ picture is.
-          one_reading_is.pictures c.args.setup.now c.args.index c.args.content.now _ picture c.keeps_profile.ensures c.requires.tile picture_found is;
-      head = λ fault first. err_not_ok _ _ (sym (c.in_ok-head.ensures.fault ∙ first));
-      other = λ head place is other.
-          let same = same_ok (head, place) (c.in_ok-head.head, c.in_ok-head.place) (sym (c.in_ok-head.ensures.only head place is)) in
-          absurd (other (ap (λ z. z.0.tile) same ∙ tile));
-      refused = tt;
-      stuck = λ fault plane y x is.
-          absurd (one_answer.no_picture c.args.setup.now c.args.index c.args.content.now (Code fault plane y x) _ c.keeps_profile.ensures c.requires.tile is
-          picture_found);
-    }
+    picture_is c.args.setup.now c.args.index c.args.content.now c.in_ok-head.head c.in_ok-head.place c.new-bits.result.left c.decode_planes.new.bits.left _ _
+    c.in_ok-head.ensures.found tile c.new-bits.ensures.left c.in_ok-planes.ensures.ok (search rules)
+
+pub returns-clause-found : goal.returns-clause-found
+returns-clause-found c = λ picture is.
+    one_reading_is.pictures c.args.setup.now c.args.index c.args.content.now _ picture c.keeps_profile.ensures c.requires.tile (returns-clause-ok c) is
+
+pub returns-clause-head : goal.returns-clause-head
+returns-clause-head c = λ fault first. err_not_ok _ _ (sym (c.in_ok-head.ensures.fault ∙ first))
+
+pub returns-clause-other : goal.returns-clause-other
+returns-clause-other c = λ head place is other.
+    let same = same_ok (head, place) (c.in_ok-head.head, c.in_ok-head.place) (sym (c.in_ok-head.ensures.only head place is)) in
+    let tile : c.in_ok-head.head.tile ≡ c.args.index = omega arith in
+    absurd (other (ap (λ z. z.0.tile) same ∙ tile))
+
+pub returns-clause-refused : goal.returns-clause-refused
+returns-clause-refused c = tt
+
+pub returns-clause-stuck : goal.returns-clause-stuck
+returns-clause-stuck c = λ fault plane y x is.
+    absurd (one_answer.no_picture c.args.setup.now c.args.index c.args.content.now (Code fault plane y x) _ c.keeps_profile.ensures c.requires.tile is
+    (returns-clause-ok c))

@@ -1,3 +1,4 @@
+use Rattle.std.proofs.Common.{rules}
 use Rattle.std.proofs.lemmas.Result.{err_from_is_err_and}
 use Rattle.ffv1_range.proofs.PlanSteps.{number_read, counts_left, number_next, number_fails}
 use Rattle.ffv1_range.proofs.fields.read_counts.Goals as goal
@@ -22,3 +23,6 @@ returns-in_err-down_less c =
           c.in_err-down_less.ensures.read;
       in_range = c.in_err-down_less.ensures.in_range;
     })
+
+pub returns-then-across_less-width-clause-read : goal.returns-then-across_less-width-clause-read
+returns-then-across_less-width-clause-read c = search rules
