@@ -3,8 +3,5 @@ use Rattle.std.proofs.lemmas.Grind.{common_steps}
 use Rattle.std.proofs.lemmas.Int.{ints}
 use Rattle.ffv1_range.proofs.setup.Setup.entry.Goals as goal
 
-pub entry-requires : goal.entry-requires
-entry-requires c = record { table = c.requires.table; index = c.requires.index }
-
 pub returns : goal.returns
 returns c = grind (ints, arith, common_steps)
