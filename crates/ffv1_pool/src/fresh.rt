@@ -12,7 +12,7 @@ use crate::pool_entry::PoolEntry;
 use std::alloc::Global;
 
 /// An item that is not held, and the place of the item before which it goes, among those that are held.
-#[derive(Clone, Copy, Debug)]
+#[derive(Clone, Copy)]
 pub(crate) struct Fresh<T> {
     pub(crate) place: usize,
     pub(crate) item: T,

@@ -6,7 +6,7 @@ ghost use Rattle.ffv1_pool.specs.PoolEntries.{slice_in, entry_in};
 use std::cmp::Ordering;
 
 /// A slice of a tile by its place in the bytes that it lies in.
-#[derive(Clone, Copy, Debug, Default)]
+#[derive(Clone, Copy, Default)]
 pub(crate) struct PoolEntry {
     pub(crate) tile: usize,
     pub(crate) start: usize,

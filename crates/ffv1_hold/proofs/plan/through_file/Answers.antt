@@ -2,8 +2,8 @@ use Rattle.std.proofs.Common.{refl}
 use Rattle.std.proofs.lemmas.Result.{err_from_is_err_and}
 use Rattle.ffv1_hold.proofs.plan.through_file.Goals as goal
 
-pub returns : goal.returns
-returns c = record { same = c.in_ok-reread.ensures.same; fits = c.in_ok-reread.ensures.fits; fault = tt }
+pub returns-clause-fault : goal.returns-clause-fault
+returns-clause-fault c = tt
 
 pub returns-in_err-reread : goal.returns-in_err-reread
 returns-in_err-reread c =

@@ -1,9 +1,10 @@
-use Rattle.std.proofs.Common.{List, ℕ, ◌+◌, ap, sym, ◌∙◌, subst, map, get_or}
+use Rattle.std.proofs.Common.{List, ℕ, ◌+◌, ap, sym, ◌∙◌, subst, map, get_or, refl}
 use Rattle.ffv1_pool.specs.SliceOrder.{Entry, entry_cmp}
 use Rattle.ffv1_pool.specs.Rising.{IsGapFor, IsPlaceOf}
 use Rattle.ffv1_pool.specs.PoolEntries.{entry_in}
 use Rattle.ffv1_pool.specs.declared.pool_entry.PoolEntry.{PoolEntry}
 use Rattle.ffv1_pool.proofs.FreshSteps.{IsSifted, none_fresh, entry_held, entry_new, entries_sifted}
+use Rattle.std.proofs.lemmas.Result.{err_from_is_err_and}
 use Rattle.ffv1_pool.proofs.fresh.fresh_among.Goals as goal
 use Rattle.ffv1_pool.proofs.fresh.fresh_among.Goals.{in-Err+in_ok-push, in_default}
 
@@ -39,3 +40,11 @@ returns-clause-fresh c = (entries_sifted (map (entry_in c.args.held_bytes.now) c
 pub returns-clause-all : goal.returns-clause-all
 returns-clause-all c = (entries_sifted (map (entry_in c.args.held_bytes.now) c.args.held.now) c.args.bytes.now c.args.entries.now c.loop-entry.entry-index
     c.loop-entry.fresh.items c.loop-entry-test.false c.loop-entry.invariant).1
+
+pub returns-in_err-push : goal.returns-in_err-push
+returns-in_err-push c =
+    let p = err_from_is_err_and c.from_residual.result c.from_residual.ensures.1 in
+    rw (p.1, p.2) (record { fresh = tt; all = tt; memory = refl })
+
+pub returns-clause-memory : goal.returns-clause-memory
+returns-clause-memory c = tt

@@ -1,9 +1,10 @@
-use Rattle.std.proofs.Common.{ℕ, List, [], get_or, ap, ◌∙◌, subst}
+use Rattle.std.proofs.Common.{ℕ, List, [], get_or, ap, ◌∙◌, subst, refl}
 use Rattle.ffv1_pool.specs.SliceOrder.{Origin, origin_cmp}
 use Rattle.ffv1_pool.specs.Rising.{IsGapFor, IsPlaceOf}
 use Rattle.ffv1_pool.specs.Rows.{rows_of}
 use Rattle.ffv1_pool.specs.declared.pool_entry.PoolEntry.{PoolEntry}
 use Rattle.ffv1_pool.proofs.FreshSteps.{no_row_fresh, row_held, row_new, rows_sifted}
+use Rattle.std.proofs.lemmas.Result.{err_from_is_err_and}
 use Rattle.ffv1_pool.proofs.rows.fresh_rows.Goals as goal
 use Rattle.ffv1_pool.proofs.rows.fresh_rows.Goals.{in-Err+in_ok-push+in_ok-push-2, in_default}
 
@@ -47,3 +48,16 @@ returns-clause-all c =
     let r = c.args.coming in
     (rows_sifted (rows_of c.args.held) r.bytes.now r.owners.now r.digests.now c.requires.coming c.loop-index.index c.loop-index.owners.items
     c.loop-index.digests.items c.loop-index-test.false c.loop-index.invariant).1
+
+pub returns-in_err-push : goal.returns-in_err-push
+returns-in_err-push c =
+    let p = err_from_is_err_and c.from_residual.result c.from_residual.ensures.1 in
+    rw (p.1, p.2) (record { fresh = tt; all = tt; memory = refl })
+
+pub returns-in_err-push-2 : goal.returns-in_err-push-2
+returns-in_err-push-2 c =
+    let p = err_from_is_err_and c.from_residual-in_err-push-2.result c.from_residual-in_err-push-2.ensures.1 in
+    rw (p.1, p.2) (record { fresh = tt; all = tt; memory = refl })
+
+pub returns-clause-memory : goal.returns-clause-memory
+returns-clause-memory c = tt

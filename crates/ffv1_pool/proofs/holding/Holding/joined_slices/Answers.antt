@@ -1,10 +1,11 @@
-use Rattle.std.proofs.Common.{◌++◌, ℕ, sym, ap, ◌∙◌}
+use Rattle.std.proofs.Common.{◌++◌, ℕ, sym, ap, ◌∙◌, refl}
 use Rattle.std.proofs.lemmas.List.{append-nil}
 use Rattle.std.specs.List.{flat_map, range_with_len}
 use Rattle.ffv1_pool.specs.Standing.{settled_bytes, tile_state}
 use Rattle.ffv1_pool.specs.TileStates.{standing_shown}
 use Rattle.ffv1_pool.proofs.Lists.{flat_map-range_more}
 use Rattle.ffv1_pool.proofs.Standings.{settled_bytes-none}
+use Rattle.std.proofs.lemmas.Result.{err_from_is_err_and}
 use Rattle.ffv1_pool.proofs.holding.Holding.joined_slices.Goals as goal
 use Rattle.ffv1_pool.proofs.holding.Holding.joined_slices.Goals.{in-Settled+in_ok-extend_from_slice, in_default}
 
@@ -23,3 +24,8 @@ loop-tile-preserved c =
           ∙ ap (λ xs. so_far ++ xs) (sym (settled_bytes-none c.state.result w.in_default.not-Settled) ∙ ap settled_bytes c.state.ensures)
           ∙ sym (flat_map-range_more bytes t)
     ]
+
+pub returns-in_err-extend_from_slice : goal.returns-in_err-extend_from_slice
+returns-in_err-extend_from_slice c =
+    let p = err_from_is_err_and c.from_residual.result c.from_residual.ensures.1 in
+    rw (p.1, p.2) (record { ok = tt; memory = refl })

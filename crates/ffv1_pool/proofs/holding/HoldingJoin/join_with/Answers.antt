@@ -1,7 +1,5 @@
 use Rattle.std.proofs.Common.{◌≡◌, Result, Err, rules, sym, ap, ◌∙◌, subst, arith}
 use Rattle.std.proofs.lemmas.Result.{err_from_is_err_and}
-use Rattle.ffv1_pool.specs.declared.fault.HoldFault.{HoldFault}
-use Rattle.ffv1_pool.specs.declared.fault.HoldFault.TheVariants.{OtherReel, PayloadTooLong, Memory}
 use Rattle.ffv1_pool.specs.Sets as set
 use Rattle.ffv1_pool.specs.SliceOrder.{entries_total, entries_antisymmetric}
 use Rattle.ffv1_pool.specs.Reels.{Reel}
@@ -9,17 +7,11 @@ use Rattle.ffv1_pool.specs.TileSets.{TileSlices}
 use Rattle.ffv1_pool.specs.Contents.{Contents, joined, IsEntryOf, AreEntriesOf, AreHeld, AreWhole}
 use Rattle.ffv1_pool.specs.HoldingParts.{contents, IsKept}
 use Rattle.ffv1_pool.specs.declared.holding.Holding.TheInside.{Inside}
-use Rattle.ffv1_pool.proofs.Errors.{error_is}
+use Rattle.ffv1_pool.proofs.Errors.{error_is, memory_is_no_other, memory_is_not_long}
 use Rattle.ffv1_pool.proofs.EntrySteps.{all-union}
 use Rattle.ffv1_pool.proofs.OriginSteps.{held_union, whole_union}
 use Rattle.ffv1_pool.proofs.TileUnions.{tiles-grown, slices-grown, origins-grown, size_grown}
 use Rattle.ffv1_pool.proofs.holding.HoldingJoin.join_with.Goals as goal
-
-memory_is_no_other : {T : Type 0} → (let r : Result T HoldFault = Err Memory in r) ≡ Err OtherReel → ⊥
-memory_is_no_other same = cc
-
-memory_is_not_long : {T : Type 0} → (let r : Result T HoldFault = Err Memory in r) ≡ Err PayloadTooLong → ⊥
-memory_is_not_long same = cc
 
 -- what is shown is of one reel where what is kept is
 reels_shown : (a b : Inside) {x y : Contents} → contents a ≡ x → contents b ≡ y → a.reel ≡ b.reel → x.reel ≡ y.reel

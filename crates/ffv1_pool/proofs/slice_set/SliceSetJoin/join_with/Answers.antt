@@ -1,8 +1,10 @@
-use Rattle.std.proofs.Common.{◌++◌, ◌∷◌, [], map, take, sym, ap, ◌∙◌, arith}
+use Rattle.std.proofs.Common.{◌++◌, ◌∷◌, [], map, take, sym, ap, ◌∙◌, arith, refl}
 use Rattle.std.proofs.lemmas.List.{map_more}
 use Rattle.ffv1_pool.specs.Sets as set
 use Rattle.ffv1_pool.specs.SliceOrder.{bytes_total, bytes_antisymmetric}
 use Rattle.ffv1_pool.proofs.RisingSets.{size_grows}
+use Rattle.std.proofs.lemmas.Result.{err_from_is_err_and}
+use Rattle.ffv1_pool.proofs.Errors.{error_is, memory_is_no_other, memory_is_not_long}
 use Rattle.ffv1_pool.proofs.slice_set.SliceSetJoin.join_with.Goals as goal
 
 pub loop-slice-init : goal.loop-slice-init
@@ -24,3 +26,13 @@ loop-slice-preserved c =
           ∙ ap (λ xs. set.union c.args.self.now (set.from_list xs)) (sym one_more);
       kept = omega (arith, c.loop-slice.invariant.kept, size_grows bytes_total c.loop-slice.whole slice, ap set.size c.in_ok-insert.ensures.ok);
     }
+
+pub returns-in_err-whole : goal.returns-in_err-whole
+returns-in_err-whole c =
+    let p = err_from_is_err_and c.from_residual.result c.from_residual.ensures.1 in
+    rw (p.1, p.2, error_is c.in_err-whole.ensures.memory) (record { joined = tt; growth = tt; fits = tt; joinable = tt; other_reel = λ e. absurd (memory_is_no_other e); memory = λ _. tt; too_long = memory_is_not_long; err = refl })
+
+pub returns-in_err-insert : goal.returns-in_err-insert
+returns-in_err-insert c =
+    let p = err_from_is_err_and c.from_residual-in_err-insert.result c.from_residual-in_err-insert.ensures.1 in
+    rw (p.1, p.2, error_is c.in_err-insert.ensures.memory) (record { joined = tt; growth = tt; fits = tt; joinable = tt; other_reel = λ e. absurd (memory_is_no_other e); memory = λ _. tt; too_long = memory_is_not_long; err = refl })
