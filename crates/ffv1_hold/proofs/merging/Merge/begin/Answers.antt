@@ -1,8 +1,11 @@
-use Rattle.std.proofs.Common.{◌≡◌, ◌+◌, ◌-◌, length, arith, ap, ◌∙◌, rules}
-use Rattle.ffv1_bits.specs.Limits.{file_limit}
+use Rattle.std.proofs.Common.{◌≡◌, ℕ, ◌+◌, ◌-◌, ◌≤◌, IfSome, length, arith, ap, subst, ◌∙◌}
+use Rattle.ffv1_bits.specs.Limits.{file_limit, record_limit}
+use Rattle.ffv1_range.specs.Setup.{SetupValue}
+use Rattle.ffv1_hold.specs.FileEntries.{IsFileEntryOf}
 use Rattle.std.proofs.lemmas.Result.{err_from_is_err_and}
 use Rattle.ffv1_hold.proofs.JoinSteps.{AllGoOn-trans, OneStops-after, left_read, right_read, left_stops, right_stops, wrote, sink_stops}
 use Rattle.ffv1_hold.proofs.MergeStarts.{head_stops, first_left_stops, first_right_stops, left_held, right_held, opened_stands}
+use Rattle.ffv1_hold.proofs.MergeSteps.{same_version_entry}
 use Rattle.ffv1_hold.proofs.merging.Merge.begin.Goals as goal
 
 pub returns-in_err-write_head : goal.returns-in_err-write_head
@@ -62,19 +65,27 @@ returns-in_err-advance-2 g c =
       went = OneStops-after _ _ _ _ _ _ (AllGoOn-trans _ _ _ _ _ _ (wrote _ _ _ _ _ _ head) (left_read _ _ _ _ _ _ _ _ first.read)) (right_stops _ _ _ _ _ _ _ _ _ _ first.read.text.within e.read);
     })
 
+-- the head's bytes are taken off a file's room, and come back with it
+room_left : (room long size : ℕ) → room ≡ file_limit → long ≡ size → size ≤ record_limit → room - (20 + long) + (20 + size) ≡ file_limit
+room_left room long size full same fits = omega arith
+
+within_file : (room more : ℕ) → room + more ≡ file_limit → room ≤ file_limit
+within_file room more is = omega arith
+
 pub returns : goal.returns
 returns g c =
     let head = c.in_ok-write_head.ensures in
     let one = c.in_ok-advance.ensures in
     let two = c.in_ok-advance-2.ensures in
-    let room : c.args.self.now.room - (20 + length c.config.result.now) + (20 + length c.args.reel.now.config) ≡ file_limit =
-    omega (arith, c.requires.room, ap length c.config.ensures) in
+    let room = room_left _ _ _ c.requires.room (ap length c.config.ensures) c.requires.reel in
     record {
       left_place = one.read.text.within;
       right_place = two.read.text.within;
-      left_entry = search rules;
-      right_entry = search rules;
-      room = omega (arith, room);
+      left_entry = same_version_entry _ _ _ _ one.version
+          (subst (λ (s : SetupValue). IfSome c.advance.new.self.held (IsFileEntryOf c.args.self.now.lefts.version s)) c.setup.ensures.value one.entry);
+      right_entry = same_version_entry _ _ _ _ two.version
+          (subst (λ (s : SetupValue). IfSome c.advance-2.new.self.held (IsFileEntryOf c.args.self.now.rights.version s)) c.setup-2.ensures.value two.entry);
+      room = within_file _ _ room;
       ok = λ s is o.
           let left = left_held s _ _ _ _ _ _ o _ _ _ _ _ c.setup.result.now c.requires.left_held is.left_is
           c.setup.ensures.value one.read.text one.entry one.follows one.end in

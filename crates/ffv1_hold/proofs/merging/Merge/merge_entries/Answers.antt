@@ -1,10 +1,14 @@
-use Rattle.std.proofs.Common.{subst, arith}
+use Rattle.std.proofs.Common.{◌≡◌, ℕ, ◌+◌, ◌≤◌, subst, arith}
+use Rattle.ffv1_bits.specs.Limits.{file_limit}
 use Rattle.std.specs.declared.cmp.Ordering.TheVariants.{Less, Equal, Greater}
 use Rattle.std.proofs.lemmas.Result.{err_from_is_err_and}
 use Rattle.ffv1_hold.specs.Merging.{IsTurn}
 use Rattle.ffv1_hold.proofs.JoinSteps.{AllGoOn-trans, AllGoOn-to, OneStops-after, left_read, right_read, left_stops, right_stops, wrote, entry_stopped}
 use Rattle.ffv1_hold.proofs.MergeSteps.{entry_stops, left_shows_none, less_stands, greater_stands, equal_stands, left_refused, right_refused, left_now_shows_none, ends, same_version_entry, turn_written}
 use Rattle.ffv1_hold.proofs.merging.Merge.merge_entries.Goals as goal
+
+room_left : (left long room : ℕ) → left + long ≡ room → room ≤ file_limit → left ≤ file_limit
+room_left left long room is fits = omega arith
 
 pub returns-in_err-write_entry : goal.returns-in_err-write_entry
 returns-in_err-write_entry g c =
@@ -32,7 +36,7 @@ loop-entry-preserved-in-Continue-branch-2 g c =
       stands = λ start same is first. let now = inv.stands start same is first in
           less_stands start _ _ _ _ _ _ _ _ now.1 _ _ _ _ done.0.bytes' done.1 _ _ now.0 c.args.setup.now same turn _ _ _ _ read.version
           read.read.text read.entry read.follows read.end;
-      room = omega (arith, inv.room, done.1);
+      room = room_left _ _ _ done.1 inv.room;
       left_place = read.read.text.within;
       right_place = inv.right_place;
       left_entry = same_version_entry _ _ _ _ read.version read.entry;
@@ -68,7 +72,7 @@ loop-entry-preserved-in-Continue-branch-3 g c =
       stands = λ start same is first. let now = inv.stands start same is first in
           greater_stands start _ _ _ _ _ _ _ _ now.1 _ _ _ _ done.0.bytes' done.1 _ _ now.0 c.args.setup.now same turn _ _ _ _ read.version
           read.read.text read.entry read.follows read.end;
-      room = omega (arith, inv.room, done.1);
+      room = room_left _ _ _ done.1 inv.room;
       left_place = inv.left_place;
       right_place = read.read.text.within;
       left_entry = inv.left_entry;
@@ -140,7 +144,7 @@ loop-entry-preserved g c =
       stands = λ start same is first. let now = inv.stands start same is first in
           equal_stands start _ _ _ _ _ _ _ _ now.1 _ _ _ _ done.0.bytes' done.1 _ _ now.0 c.args.setup.now same turn _ _ _
           read.read.text read.entry read.follows read.end _ _ _ _ _ read.version also.version also.read.text also.entry also.follows also.end;
-      room = omega (arith, inv.room, done.1);
+      room = room_left _ _ _ done.1 inv.room;
       left_place = read.read.text.within;
       right_place = also.read.text.within;
       left_entry = same_version_entry _ _ _ _ read.version read.entry;
