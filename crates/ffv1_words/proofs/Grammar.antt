@@ -1,5 +1,8 @@
 -- What clap finds of the program's commands, by its rows.
-use Rattle.std.proofs.Common.{◌≡◌, ◌∙◌, refl, sym, ap, Option, Some, None, option_map, List, true}
+use Rattle.std.proofs.Common.{◌≡◌, ◌∙◌, refl, sym, ap, subst, Option, Some, None, Result, MatchResult, option_map, List, true}
+use Rattle.std.specs.Option.{ok_or}
+use Rattle.std.specs.Result.{IsErrAnd}
+use Rattle.std.proofs.lemmas.Result.{err_from_is_err_and}
 use Rattle.clap.specs.Words.{App, Row, Text, HasMatchesOf, first_value, found_of, is_simple, rows_of, raw_values, matched_of, subcommand_of, subcommand_rows_of}
 use Rattle.clap.specs.Matches.{subcommand_name_of}
 use Rattle.clap.specs.declared.parser.matches.ArgMatches.{ArgMatches}
@@ -7,8 +10,11 @@ use Rattle.clap.specs.declared.parser.matches.ArgMatches.TheViews.{out-ArgMatche
 use Rattle.std.specs.Box.{box_value}
 use Rattle.clap.proofs.OnLiterals.{clap_on_literals}
 use Rattle.clap.proofs.WalkLemmas.{first_value-rows, raw_values-rows}
-use Rattle.ffv1_words.specs.Arguments.{rows_in, IsWord, AreWords}
+use Rattle.ffv1_commands.specs.Fault.{NamesNoPath}
+use Rattle.ffv1_commands.specs.declared.fault.CliFault.{CliFault}
+use Rattle.ffv1_words.specs.Arguments.{rows_in, IsWord, AreWords, ReadsWords}
 use Rattle.ffv1_words.specs.Grammar.{program_app}
+use Rattle.ffv1_words.specs.declared.words.Words.{Words}
 
 pub first_value-word : (m : ArgMatches) (name word : Text) → first_value (found_of m) name ≡ Some word → IsWord (rows_in m) name word
 first_value-word m name word is = sym (first_value-rows (found_of m) name) ∙ is
@@ -16,6 +22,17 @@ first_value-word m name word is = sym (first_value-rows (found_of m) name) ∙ i
 pub raw_values-words : (m : ArgMatches) (name : Text) (words : List Text) → option_map raw_values (matched_of (found_of m) name) ≡ Some words
     → AreWords (rows_in m) name words
 raw_values-words m name words is = sym (raw_values-rows (found_of m) name) ∙ is
+
+-- what is found is as it has to be, or the fault told in place of it names no path
+pub found_or : {T : Type 0} (P : T → Type 0) (found : Option T) (fault : CliFault) (r : Result T CliFault) → r ≡ ok_or found fault
+    → ((value : T) → found ≡ Some value → P value) → NamesNoPath fault → MatchResult r P NamesNoPath
+found_or P None fault r is there none = subst (λ r. MatchResult r P NamesNoPath) (sym is) none
+found_or P (Some value) fault r is there none = subst (λ r. MatchResult r P NamesNoPath) (sym is) (there value refl)
+
+-- a fault that names no path is handed on
+pub fault_handed : (rows : List Row) (name : Text) (fault : CliFault) (r : Result Words CliFault) → IsErrAnd r (λ handed. handed ≡ fault) → NamesNoPath fault
+    → ReadsWords rows name r
+fault_handed rows name fault r is none = let (handed, at, same) = err_from_is_err_and r is in rw (at, same) none
 
 -- clap's words are exact of these commands
 pub program_is_simple : is_simple program_app ≡ true

@@ -1,10 +1,10 @@
 //! The words that the program is given (own): the first names a command, then come exactly its own.
-ghost use Rattle.std.specs.Prelude.{◌≡◌, map, option_map, false, IfOk, IfErr, codes, string_bytes};
+ghost use Rattle.std.specs.Prelude.{◌≡◌, map, option_map, false, IfOk, IfErr, MatchResult, codes, string_bytes};
 ghost use Rattle.ffv1_commands.specs.Fault.{NamesNoPath};
 ghost use Rattle.clap.specs.Words.{app_of, rule_of};
 ghost use Rattle.clap.specs.declared.builder.command.Command.TheViews.{out-Command};
 ghost use Rattle.ffv1_words.specs.Grammar.{word_rule, command_app, with_commands, program_app};
-ghost use Rattle.ffv1_words.specs.Arguments.{rows_in, IsWord, AreWords, IsNumber, IsRecording, AreRead, AreReadFrom, command_name};
+ghost use Rattle.ffv1_words.specs.Arguments.{rows_in, IsWord, AreWords, IsNumber, IsRecording, AreReadFrom, ReadsWords};
 
 use crate::words::{Recording, Words};
 use clap::error::ErrorKind;
@@ -84,16 +84,14 @@ fn program<'a>(alloc: Global) -> Result<Command<'a>, AllocError>
 
 /// The word of this name.
 fn word<'a>(matches: &ArgMatches<'a>, name: &str) -> Result<&'a str, CliFault>
-    ensures ok { IfOk result (λ word. IsWord (rows_in matches.now) name.now word.now) }
-    ensures err { IfErr result NamesNoPath }
+    ensures { MatchResult result (λ word. IsWord (rows_in matches.now) name.now word.now) NamesNoPath }
 {
     matches.get_str(name).ok_or(CliFault::Words)
 }
 
 /// The word of this name, as a number.
 fn number(matches: &ArgMatches, name: &str) -> Result<u32, CliFault>
-    ensures ok { IfOk result (IsNumber (rows_in matches.now) name.now) }
-    ensures err { IfErr result NamesNoPath }
+    ensures { MatchResult result (IsNumber (rows_in matches.now) name.now) NamesNoPath }
 {
     match word(matches, name)?.parse::<u32>() {
         Ok(number) => Ok(number),
@@ -103,24 +101,21 @@ fn number(matches: &ArgMatches, name: &str) -> Result<u32, CliFault>
 
 /// The words of this name.
 fn several<'m, 'a>(matches: &'m ArgMatches<'a>, name: &str) -> Result<&'m [&'a str], CliFault>
-    ensures ok { IfOk result (λ words. AreWords (rows_in matches.now) name.now (map (λ word. word.now) words.now)) }
-    ensures err { IfErr result NamesNoPath }
+    ensures { MatchResult result (λ words. AreWords (rows_in matches.now) name.now (map (λ word. word.now) words.now)) NamesNoPath }
 {
     matches.get_strs(name).ok_or(CliFault::Words)
 }
 
 /// A list of words in memory of its own.
 fn list<'a>(alloc: Global, words: &[&'a str]) -> Result<Vec<&'a str>, CliFault>
-    ensures ok { IfOk result (λ list. list.items ≡ words.now) }
-    ensures err { IfErr result NamesNoPath }
+    ensures { MatchResult result (λ list. list.items ≡ words.now) NamesNoPath }
 {
     Ok(words.to_vec(alloc)?)
 }
 
 /// The words of a recording: RECORD, WIDTH and HEIGHT.
 fn recording_words<'a>(matches: &ArgMatches<'a>) -> Result<Recording<'a>, CliFault>
-    ensures ok { IfOk result (IsRecording (rows_in matches.now)) }
-    ensures err { IfErr result NamesNoPath }
+    ensures { MatchResult result (IsRecording (rows_in matches.now)) NamesNoPath }
 {
     Ok(Recording {
         record: word(matches, "RECORD")?,
@@ -131,9 +126,7 @@ fn recording_words<'a>(matches: &ArgMatches<'a>) -> Result<Recording<'a>, CliFau
 
 /// The words of `take`.
 fn take_words<'a>(alloc: Global, matches: &ArgMatches<'a>) -> Result<Words<'a>, CliFault>
-    ensures ok { IfOk result (AreRead (rows_in matches.now)) }
-    ensures name { IfOk result (λ words. command_name words ≡ codes "take") }
-    ensures err { IfErr result NamesNoPath }
+    ensures { ReadsWords (rows_in matches.now) (codes "take") result }
 {
     Ok(Words::Take {
         recording: recording_words(matches)?,
@@ -144,9 +137,7 @@ fn take_words<'a>(alloc: Global, matches: &ArgMatches<'a>) -> Result<Words<'a>, 
 
 /// The words of `join`.
 fn join_words<'a>(alloc: Global, matches: &ArgMatches<'a>) -> Result<Words<'a>, CliFault>
-    ensures ok { IfOk result (AreRead (rows_in matches.now)) }
-    ensures name { IfOk result (λ words. command_name words ≡ codes "join") }
-    ensures err { IfErr result NamesNoPath }
+    ensures { ReadsWords (rows_in matches.now) (codes "join") result }
 {
     let [first, others @ ..] = several(matches, "HOLD")? else {
         return Err(CliFault::Words);
@@ -160,9 +151,7 @@ fn join_words<'a>(alloc: Global, matches: &ArgMatches<'a>) -> Result<Words<'a>, 
 
 /// The words of `merge`.
 fn merge_words<'a>(matches: &ArgMatches<'a>) -> Result<Words<'a>, CliFault>
-    ensures ok { IfOk result (AreRead (rows_in matches.now)) }
-    ensures name { IfOk result (λ words. command_name words ≡ codes "merge") }
-    ensures err { IfErr result NamesNoPath }
+    ensures { ReadsWords (rows_in matches.now) (codes "merge") result }
 {
     Ok(Words::Merge {
         out: word(matches, "OUT")?,
@@ -173,9 +162,7 @@ fn merge_words<'a>(matches: &ArgMatches<'a>) -> Result<Words<'a>, CliFault>
 
 /// The words of `splice`.
 fn splice_words<'a>(alloc: Global, matches: &ArgMatches<'a>) -> Result<Words<'a>, CliFault>
-    ensures ok { IfOk result (AreRead (rows_in matches.now)) }
-    ensures name { IfOk result (λ words. command_name words ≡ codes "splice") }
-    ensures err { IfErr result NamesNoPath }
+    ensures { ReadsWords (rows_in matches.now) (codes "splice") result }
 {
     Ok(Words::Splice {
         out: word(matches, "OUT")?,
@@ -185,9 +172,7 @@ fn splice_words<'a>(alloc: Global, matches: &ArgMatches<'a>) -> Result<Words<'a>
 
 /// The words of `decode`.
 fn decode_words<'a>(matches: &ArgMatches<'a>) -> Result<Words<'a>, CliFault>
-    ensures ok { IfOk result (AreRead (rows_in matches.now)) }
-    ensures name { IfOk result (λ words. command_name words ≡ codes "decode") }
-    ensures err { IfErr result NamesNoPath }
+    ensures { ReadsWords (rows_in matches.now) (codes "decode") result }
 {
     Ok(Words::Decode {
         recording: recording_words(matches)?,
@@ -198,9 +183,7 @@ fn decode_words<'a>(matches: &ArgMatches<'a>) -> Result<Words<'a>, CliFault>
 
 /// The command of this name, with its words.
 fn words_of<'a>(alloc: Global, name: &str, matches: &ArgMatches<'a>) -> Result<Words<'a>, CliFault>
-    ensures ok { IfOk result (AreRead (rows_in matches.now)) }
-    ensures name { IfOk result (λ words. command_name words ≡ name.now) }
-    ensures err { IfErr result NamesNoPath }
+    ensures { ReadsWords (rows_in matches.now) name.now result }
 {
     match name {
         "chain" => Ok(Words::Chain {

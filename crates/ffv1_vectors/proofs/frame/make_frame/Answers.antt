@@ -1,4 +1,4 @@
-use Rattle.std.proofs.Common.{◌≡◌, ◌++◌, get_or, ap, ◌∙◌, arith}
+use Rattle.std.proofs.Common.{◌≡◌, ◌++◌, get_or, refl, ap, ◌∙◌, arith}
 use Rattle.std.proofs.lemmas.List.{get_or_default}
 use Rattle.ffv1_range.specs.Tiles.{grid_of, tile_count}
 use Rattle.ffv1_vectors.specs.declared.frame.TileSpec.{TileSpec}
@@ -26,3 +26,6 @@ returns-clause-made c =
     let fits = c.fits_setup.ensures.0 c.if-not-fits_setup.false in
     let all : c.loop-tile.tile ≡ tile_count (grid_of c.args.setup.now) = omega (arith, fits.count, c.deref-tile_spec-items.ensures.len) in
     made_all c.args.setup.now c.args.spec.now c.loop-tile.tile c.loop-tile.payload.items all c.loop-tile.invariant
+
+pub returns-then-not-fits_setup-clause-misfit : goal.returns-then-not-fits_setup-clause-misfit
+returns-then-not-fits_setup-clause-misfit c = λ never. refl

@@ -1,7 +1,13 @@
-use Rattle.std.proofs.Common.{rules}
-use Rattle.std.proofs.lemmas.Result.{IfOk-weaker}
-use Rattle.ffv1_words.proofs.Grammar.{raw_values-words}
+use Rattle.std.proofs.Common.{Bor, List, ℕ, map, option_map, ap, sym, ◌∙◌}
+use Rattle.ffv1_words.specs.Arguments.{rows_in, AreWords}
+use Rattle.ffv1_words.proofs.Grammar.{raw_values-words, found_or}
 use Rattle.ffv1_words.proofs.reading.several.Goals as goal
 
-pub returns-clause-ok : goal.returns-clause-ok
-returns-clause-ok c = IfOk-weaker c.ok_or.result _ _ (λ words is. raw_values-words c.args.matches.now c.args.name.now _ is) (search rules)
+-- the words themselves
+abbrev texts : Bor (List (Bor (List ℕ))) → List (List ℕ)
+texts words = map (λ (word : Bor (List ℕ)). word.now) words.now
+
+pub returns : goal.returns
+returns c =
+    found_or (λ words. AreWords (rows_in c.args.matches.now) c.args.name.now (texts words)) c.get_strs.result _ c.ok_or.result c.ok_or.ensures.value
+    (λ words is. raw_values-words c.args.matches.now c.args.name.now (texts words) (sym c.get_strs.ensures ∙ ap (option_map texts) is)) tt
