@@ -13,7 +13,7 @@ use ffv1_commands::CliFault;
 use std::alloc::{AllocError, Global};
 
 /// The commands: the name of each, its words, and after them the word of which there has to be one at least.
-const COMMANDS: [(&str, &[&str], Option<&str>); 11] = [
+static COMMANDS: [(&str, &[&str], Option<&str>); 11] = [
     ("chain", &["FRAME"], None),
     ("scan", &["RANGES", "FILE"], None),
     ("show", &["RECORD", "WIDTH", "HEIGHT"], None),
@@ -181,6 +181,32 @@ fn decode_words<'a>(matches: &ArgMatches<'a>) -> Result<Words<'a>, CliFault>
     })
 }
 
+/// The command of this name that reads holding files, with its words.
+fn hold_words_of<'a>(
+    alloc: Global,
+    name: &str,
+    matches: &ArgMatches<'a>,
+) -> Result<Words<'a>, CliFault>
+    ensures { ReadsWords (rows_in matches.now) name.now result }
+{
+    match name {
+        "join" => join_words(alloc, matches),
+        "merge" => merge_words(matches),
+        "report" => Ok(Words::Report {
+            file: word(matches, "HOLD")?,
+        }),
+        "restore" => Ok(Words::Restore {
+            file: word(matches, "HOLD")?,
+            out: word(matches, "OUT")?,
+        }),
+        "picture" => Ok(Words::Picture {
+            file: word(matches, "HOLD")?,
+            out: word(matches, "OUT")?,
+        }),
+        _ => Err(CliFault::Words),
+    }
+}
+
 /// The command of this name, with its words.
 fn words_of<'a>(alloc: Global, name: &str, matches: &ArgMatches<'a>) -> Result<Words<'a>, CliFault>
     ensures { ReadsWords (rows_in matches.now) name.now result }
@@ -197,22 +223,9 @@ fn words_of<'a>(alloc: Global, name: &str, matches: &ArgMatches<'a>) -> Result<W
             recording: recording_words(matches)?,
         }),
         "take" => take_words(alloc, matches),
-        "join" => join_words(alloc, matches),
-        "merge" => merge_words(matches),
-        "report" => Ok(Words::Report {
-            file: word(matches, "HOLD")?,
-        }),
-        "restore" => Ok(Words::Restore {
-            file: word(matches, "HOLD")?,
-            out: word(matches, "OUT")?,
-        }),
-        "picture" => Ok(Words::Picture {
-            file: word(matches, "HOLD")?,
-            out: word(matches, "OUT")?,
-        }),
         "splice" => splice_words(alloc, matches),
         "decode" => decode_words(matches),
-        _ => Err(CliFault::Words),
+        _ => hold_words_of(alloc, name, matches),
     }
 }
 

@@ -108,30 +108,36 @@ impl<'a> Words<'a> {
         ensures { result.now ≡ path_word self.now path }
     {
         match (self, path) {
-            (Words::Chain { frame }, CommandPath::Frame) => frame,
-            (Words::Scan { ranges, .. }, CommandPath::Ranges) => ranges,
-            (Words::Scan { file, .. }, CommandPath::File) => file,
-            (Words::Show { recording }, CommandPath::Record) => recording.record,
-            (Words::Take { recording, .. }, CommandPath::Record) => recording.record,
-            (Words::Take { copies, .. }, CommandPath::Copy(place)) => copies[place],
-            (Words::Take { out, .. }, CommandPath::Out) => out,
-            (Words::Join { first, .. }, CommandPath::Hold(0)) => first,
+            (Words::Chain { frame } | Words::Decode { frame, .. }, CommandPath::Frame) => *frame,
+            (Words::Scan { ranges, .. }, CommandPath::Ranges) => *ranges,
+            (Words::Scan { file, .. }, CommandPath::File) => *file,
+            (
+                Words::Show { recording }
+                | Words::Take { recording, .. }
+                | Words::Decode { recording, .. },
+                CommandPath::Record,
+            ) => recording.record,
+            (Words::Take { copies, .. } | Words::Splice { copies, .. }, CommandPath::Copy(place)) =>
+                copies[place],
+            (Words::Join { first, .. }, CommandPath::Hold(0)) => *first,
             (Words::Join { others, .. }, CommandPath::Hold(place)) => others[place - 1],
-            (Words::Join { out, .. }, CommandPath::Out) => out,
-            (Words::Merge { left, .. }, CommandPath::Hold(0)) => left,
-            (Words::Merge { right, .. }, CommandPath::Hold(_)) => right,
+            (Words::Merge { left, .. }, CommandPath::Hold(0)) => *left,
+            (Words::Merge { right, .. }, CommandPath::Hold(_)) => *right,
             (Words::Merge { .. }, CommandPath::Inputs) => "inputs",
-            (Words::Merge { out, .. }, CommandPath::Out) => out,
-            (Words::Report { file }, CommandPath::Hold(_)) => file,
-            (Words::Restore { file, .. }, CommandPath::Hold(_)) => file,
-            (Words::Restore { out, .. }, CommandPath::Out) => out,
-            (Words::Picture { file, .. }, CommandPath::Hold(_)) => file,
-            (Words::Picture { out, .. }, CommandPath::Out) => out,
-            (Words::Splice { copies, .. }, CommandPath::Copy(place)) => copies[place],
-            (Words::Splice { out, .. }, CommandPath::Out) => out,
-            (Words::Decode { recording, .. }, CommandPath::Record) => recording.record,
-            (Words::Decode { frame, .. }, CommandPath::Frame) => frame,
-            (Words::Decode { out, .. }, CommandPath::Out) => out,
+            (
+                Words::Report { file } | Words::Restore { file, .. } | Words::Picture { file, .. },
+                CommandPath::Hold(_),
+            ) => *file,
+            (
+                Words::Take { out, .. }
+                | Words::Join { out, .. }
+                | Words::Merge { out, .. }
+                | Words::Restore { out, .. }
+                | Words::Picture { out, .. }
+                | Words::Splice { out, .. }
+                | Words::Decode { out, .. },
+                CommandPath::Out,
+            ) => *out,
             // No command has another path.
             _ => "standard output",
         }
