@@ -14,14 +14,11 @@ use Rattle.ffv1_commands.specs.SamplesText.{raw_bytes, frame_line}
 use Rattle.ffv1_commands.specs.DecodeText.{IsFrameInput, DecodesFile, DecodeStops, TakesFrame, FrameStops, TellsDecode}
 use Rattle.ffv1_commands.specs.declared.fault.CliFault.{CliFault}
 use Rattle.ffv1_commands.specs.declared.fault.CliFault.TheVariants as faults
+use Rattle.ffv1_commands.specs.declared.path.CommandPath.TheVariants as paths
 use Rattle.ffv1_commands.proofs.InputLaws.{whole_input}
 use Rattle.ffv1_commands.proofs.OfBytes.{OfBytes, unwritten_bytes}
 use Rattle.ffv1_commands.proofs.RecordFaults.{RecordStops-says}
 use Rattle.ffv1_commands.proofs.WrittenBoth.{both_says}
-
-pub of_frame-says : (P : CliFault → Type 0) (fault : FrameFault) → P faults.Memory → P (faults.Frame fault) → P (of_frame fault)
-of_frame-says P frames.Memory memory other = memory
-of_frame-says P fault memory other = other
 
 -- Memory, and nothing else
 abbrev IsMemory : FrameFault → Type 0
@@ -33,6 +30,14 @@ pub frame_refused : (setup : SetupValue) (a b : ReadLog) (payload : List ℕ) �
     → IsFirstFault setup payload fault → FrameStops setup a b (of_frame fault)
 frame_refused setup a b payload read frames.Memory first = (payload, read.read, read.few)
 frame_refused setup a b payload read fault first = (payload, read, first, λ e. subst IsMemory (sym e) tt)
+
+-- what any fault of the payload says, if that of each form says so
+pub FrameStops-says : (P : CliFault → Type 0) (setup : SetupValue) (a b : ReadLog) (fault : CliFault) → P (faults.Read paths.Frame) → P faults.Memory
+    → ((fault : FrameFault) → P (faults.Frame fault)) → FrameStops setup a b fault → P fault
+FrameStops-says P setup a b (faults.Read named) read memory frame (is, unread) = subst (λ n. P (faults.Read n)) (sym is) read
+FrameStops-says P setup a b (faults.Frame fault) read memory frame stops = frame fault
+FrameStops-says P setup a b faults.Memory read memory frame stops = memory
+FrameStops-says P setup a b fault read memory frame stops = absurd stops
 
 module _ (width height : ℕ) (config config' input input' : ReadLog) (out out' output output' : WriteLog) (setup : SetupValue)
     (set : TakesSetup width height config config' setup) (frame : Frame) (is : TakesFrame setup input input' frame) (line : List ℕ)

@@ -4,14 +4,15 @@ ghost use Rattle.ffv1_commands.specs.Fault.{NamesPath};
 ghost use Rattle.ffv1_commands.specs.Paths.{IsDecodePath};
 ghost use Rattle.ffv1_commands.specs.Devices.{UnlessWriting, IfOfRecord};
 ghost use Rattle.ffv1_commands.specs.SamplesText.{decoded_line};
-ghost use Rattle.ffv1_commands.specs.DecodeText.{DecodesFile, DecodeStops, TellsDecode};
+ghost use Rattle.ffv1_commands.specs.RecordInputs.{TakesSetup, RecordStops};
+ghost use Rattle.ffv1_commands.specs.DecodeText.{DecodesFile, DecodeStops, TakesFrame, FrameStops, TellsDecode};
 
 use crate::devices::read_file;
 use crate::fault::CliFault;
 use crate::path::CommandPath;
 use crate::samples::write_shown;
 use ffv1_hold::{FromRead, Sink, Source, ThroughWrite};
-use ffv1_picture::Decoder;
+use ffv1_picture::{Decoder, Frame};
 use std::alloc::{AllocError, Global};
 use std::io::{Read, Write};
 
@@ -66,12 +67,33 @@ pub fn decode_of<R: Source, F: Source, O: Sink, W: Sink>(
     ensures untouched { IfErr result (λ fault. UnlessWriting fault ((out.new ≡ out.old) × (output.new ≡ output.old))) }
     ensures in_turn { IfErr result (λ fault. IfOfRecord fault (input.new ≡ input.old)) }
 {
-    let config = read_file(alloc, configuration, CommandPath::Record)?;
-    let decoder = Decoder::new(alloc, config.as_slice(), width, height)?;
-    let payload = read_file(alloc, input, CommandPath::Frame)?;
-    let frame = decoder.decode_frame(payload.as_slice())?;
+    let decoder = read_decoder(alloc, configuration, width, height)?;
+    let frame = read_frame(alloc, &decoder, input)?;
     let line = decoded_text(alloc, frame.width, frame.height, frame.planes.len())?;
     write_shown(out, &frame, output, line.as_str())
+}
+
+/// The decoder that a record gives for frames of this size.
+fn read_decoder<R: Source>(
+    alloc: Global,
+    configuration: &mut R,
+    width: u32,
+    height: u32,
+) -> Result<Decoder, CliFault>
+    ensures ok { IfOk result (λ decoder. TakesSetup width height (R.log configuration.old) (R.log configuration.new) decoder) }
+    ensures err { IfErr result (RecordStops width height (R.log configuration.old) (R.log configuration.new)) }
+{
+    let config = read_file(alloc, configuration, CommandPath::Record)?;
+    Ok(Decoder::new(alloc, config.as_slice(), width, height)?)
+}
+
+/// The frame that a payload spells.
+fn read_frame<F: Source>(alloc: Global, decoder: &Decoder, input: &mut F) -> Result<Frame, CliFault>
+    ensures ok { IfOk result (TakesFrame decoder.now (F.log input.old) (F.log input.new)) }
+    ensures err { IfErr result (FrameStops decoder.now (F.log input.old) (F.log input.new)) }
+{
+    let payload = read_file(alloc, input, CommandPath::Frame)?;
+    Ok(decoder.decode_frame(payload.as_slice())?)
 }
 
 /// The line that tells a frame's size in luma samples, and how many planes it has.
