@@ -4,7 +4,7 @@
 
 ghost use Rattle.std.specs.Prelude.{◌≡◌, ◌+◌, length, map, vec_len, IfOk, IfErr};
 ghost use Rattle.ffv1_commands.specs.Fault.{NamesPath, NamesNoPath};
-ghost use Rattle.ffv1_commands.specs.Paths.{IsTakePath, IsJoinPath, IsMergePath, IsSplicePath, IsDecodePath};
+ghost use Rattle.ffv1_commands.specs.Paths.{IsChainPath, IsShowPath, IsTakePath, IsJoinPath, IsMergePath, IsReportPath, IsHoldPath, IsSplicePath, IsScanPath, IsDecodePath};
 ghost use Rattle.ffv1_devices.specs.Files.{path_of};
 ghost use Rattle.ffv1_words.specs.WordPaths.{IsPathOf};
 
@@ -34,6 +34,77 @@ fn input_files<'a>(
         files.push(InputFile::new(rt, path))?;
     }
     Ok(files)
+}
+
+/// Prints the chain of the frame of this path.
+fn chain_file(rt: &HostRuntime, frame: &str) -> Result<(), CliFault>
+    ensures { IfErr result (NamesPath IsChainPath) }
+{
+    run_chain(
+        rt.alloc(),
+        &mut InputFile::new(rt, frame),
+        &mut io::writer(rt),
+    )
+}
+
+/// Scans the ranges of a file, by the list of another.
+fn scan_files(rt: &HostRuntime, ranges: &str, file: &str) -> Result<bool, CliFault>
+    ensures { IfErr result (NamesPath IsScanPath) }
+{
+    run_scan(
+        rt.alloc(),
+        &mut InputFile::new(rt, ranges),
+        &mut InputFile::new(rt, file),
+        &mut io::writer(rt),
+    )
+}
+
+/// Prints the setup of this record.
+fn show_record(rt: &HostRuntime, recording: &Recording<'_>) -> Result<(), CliFault>
+    ensures { IfErr result (NamesPath IsShowPath) }
+{
+    run_show(
+        rt.alloc(),
+        &mut InputFile::new(rt, recording.record),
+        recording.width,
+        recording.height,
+        &mut io::writer(rt),
+    )
+}
+
+/// Prints the report of the holding file of this path.
+fn report_file(rt: &HostRuntime, file: &str) -> Result<(), CliFault>
+    ensures { IfErr result (NamesPath IsReportPath) }
+{
+    run_report(
+        rt.alloc(),
+        &mut InputFile::new(rt, file),
+        &mut io::writer(rt),
+    )
+}
+
+/// Restores the frame of the holding file of this path.
+fn restore_file(rt: &HostRuntime, file: &str, out: &str) -> Result<(), CliFault>
+    ensures { IfErr result (NamesPath IsHoldPath) }
+{
+    run_restore(
+        rt.alloc(),
+        &mut InputFile::new(rt, file),
+        &mut OutputFile::new(rt, out),
+        &mut io::writer(rt),
+    )
+}
+
+/// Writes what can be shown of the holding file of this path.
+fn picture_file(rt: &HostRuntime, file: &str, out: &str) -> Result<bool, CliFault>
+    ensures { IfErr result (NamesPath IsHoldPath) }
+{
+    run_picture(
+        rt.alloc(),
+        &mut InputFile::new(rt, file),
+        &mut OutputFile::new(rt, out),
+        &mut io::writer(rt),
+    )
 }
 
 /// Takes the copies of these paths.
@@ -142,19 +213,10 @@ fn decode_files(
 fn run(rt: &HostRuntime, words: &Words<'_>) -> Result<bool, CliFault>
     ensures { IfErr result (NamesPath (IsPathOf words.now)) }
 {
-    let alloc = rt.alloc();
-    let mut output = io::writer(rt);
     match words {
-        Words::Chain { frame } => run_chain(alloc, &mut InputFile::new(rt, frame), &mut output)?,
-        Words::Scan { ranges, file } => {
-            let (mut ranges, mut file) = (InputFile::new(rt, ranges), InputFile::new(rt, file));
-            return run_scan(alloc, &mut ranges, &mut file, &mut output);
-        }
-        Words::Show { recording } => {
-            let (width, height) = (recording.width, recording.height);
-            let mut record = InputFile::new(rt, recording.record);
-            run_show(alloc, &mut record, width, height, &mut output)?
-        }
+        Words::Chain { frame } => chain_file(rt, frame)?,
+        Words::Scan { ranges, file } => return scan_files(rt, ranges, file),
+        Words::Show { recording } => show_record(rt, recording)?,
         Words::Take {
             recording,
             out,
@@ -162,15 +224,9 @@ fn run(rt: &HostRuntime, words: &Words<'_>) -> Result<bool, CliFault>
         } => take_files(rt, recording, out, copies.as_slice())?,
         Words::Join { out, first, others } => join_files(rt, out, first, others.as_slice())?,
         Words::Merge { out, left, right } => merge_files(rt, out, left, right)?,
-        Words::Report { file } => run_report(alloc, &mut InputFile::new(rt, file), &mut output)?,
-        Words::Restore { file, out } => {
-            let (mut file, mut out) = (InputFile::new(rt, file), OutputFile::new(rt, out));
-            run_restore(alloc, &mut file, &mut out, &mut output)?
-        }
-        Words::Picture { file, out } => {
-            let (mut file, mut out) = (InputFile::new(rt, file), OutputFile::new(rt, out));
-            return run_picture(alloc, &mut file, &mut out, &mut output);
-        }
+        Words::Report { file } => report_file(rt, file)?,
+        Words::Restore { file, out } => restore_file(rt, file, out)?,
+        Words::Picture { file, out } => return picture_file(rt, file, out),
         Words::Splice { out, copies } => return splice_files(rt, out, copies.as_slice()),
         Words::Decode {
             recording,
