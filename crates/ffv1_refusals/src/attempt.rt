@@ -2,7 +2,7 @@
 use std::alloc::Global;
 
 /// What a call came to.
-#[derive(Clone, Copy, Debug, PartialEq, Eq)]
+#[derive(Clone, Copy, PartialEq, Eq)]
 pub enum Outcome {
     /// It answered, and this is the remainder of the answer's bytes.
     Answer(u32),

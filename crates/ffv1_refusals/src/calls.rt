@@ -1,7 +1,7 @@
 //! The calls of the libraries, each on a recorded frame.
 use crate::attempt::{Attempt, Outcome};
 use crate::buffer::Buffer;
-use crate::stock::{SIZE, Stock, file_of, first_copy, holding_of, second_copy, torn_copies};
+use crate::stock::{SIZE, Stock, first_copy, holding_of, remainder_of, second_copy, torn_copies};
 use ffv1_bits::remainder;
 use ffv1_frames::{RECORDED, RECORDED_RECORD};
 use ffv1_hold::{
@@ -16,6 +16,7 @@ use ffv1_splice::{SpliceFault, splice};
 use ffv1_weave::{Outcome as Woven, weave};
 use std::alloc::Global;
 use std::io;
+use std::io::ErrorKind;
 
 /// Where the last slice of the frame begins.
 const LAST_SLICE: usize = 227;
@@ -61,7 +62,7 @@ pub struct MakeHolding;
 impl Attempt for MakeHolding {
     fn attempt(&mut self, alloc: Global) -> Outcome {
         match Holding::new(alloc, &RECORDED_RECORD, SIZE.0, SIZE.1) {
-            Ok(holding) => Outcome::Answer(file_of(&holding).remainder()),
+            Ok(holding) => Outcome::Answer(remainder_of(&holding)),
             Err(SetupFault::Memory) => Outcome::Memory,
             Err(_) => Outcome::Wrong,
         }
@@ -79,7 +80,7 @@ impl Take {
     /// Holds the first copy. It fails where memory is refused.
     pub fn new(alloc: Global) -> io::Result<Take> {
         let held = holding_of(alloc, &[&first_copy()])?;
-        let before = file_of(&held).remainder();
+        let before = remainder_of(&held);
         Ok(Take { held, before })
     }
 }
@@ -88,7 +89,7 @@ impl Attempt for Take {
     fn attempt(&mut self, _alloc: Global) -> Outcome {
         match self.held.take(&second_copy()) {
             Ok(taken) if (taken.links, taken.slices, taken.new) == (4, 2, 2) => {
-                Outcome::Answer(file_of(&self.held).remainder())
+                Outcome::Answer(remainder_of(&self.held))
             }
             Err(HoldFault::Memory) => Outcome::Memory,
             Ok(_) | Err(_) => Outcome::Wrong,
@@ -96,7 +97,7 @@ impl Attempt for Take {
     }
 
     fn is_kept(&self) -> bool {
-        file_of(&self.held).remainder() == self.before
+        remainder_of(&self.held) == self.before
     }
 }
 
@@ -112,9 +113,9 @@ pub struct TakeAll {
 impl TakeAll {
     /// Holds none. It fails where memory is refused.
     pub fn new(alloc: Global) -> io::Result<TakeAll> {
+        let first = Take::new(alloc)?.before;
         let held = holding_of(alloc, &[])?;
-        let one = holding_of(alloc, &[&first_copy()])?;
-        let fronts = [file_of(&held).remainder(), file_of(&one).remainder()];
+        let fronts = [remainder_of(&held), first];
         Ok(TakeAll {
             held,
             fronts,
@@ -126,7 +127,7 @@ impl TakeAll {
 impl Attempt for TakeAll {
     fn attempt(&mut self, _alloc: Global) -> Outcome {
         match self.held.take_all(&[&first_copy(), &second_copy()]) {
-            Ok(()) => Outcome::Answer(file_of(&self.held).remainder()),
+            Ok(()) => Outcome::Answer(remainder_of(&self.held)),
             Err(TakeAllFault { taken, cause }) if cause == HoldFault::Memory => {
                 self.taken = taken;
                 Outcome::Memory
@@ -137,7 +138,7 @@ impl Attempt for TakeAll {
 
     /// Whether the copies before the refused one are held.
     fn is_kept(&self) -> bool {
-        self.fronts.get(self.taken) == Some(&file_of(&self.held).remainder())
+        self.fronts.get(self.taken) == Some(&remainder_of(&self.held))
     }
 }
 
@@ -155,7 +156,7 @@ impl<'a> JoinWith<'a> {
         let Take { held, before } = Take::new(alloc)?;
         Ok(JoinWith {
             held,
-            other: &stock.second.holding,
+            other: &stock.alone.second.holding,
             before,
         })
     }
@@ -164,14 +165,14 @@ impl<'a> JoinWith<'a> {
 impl Attempt for JoinWith<'_> {
     fn attempt(&mut self, _alloc: Global) -> Outcome {
         match self.held.join_with(self.other) {
-            Ok(2) => Outcome::Answer(file_of(&self.held).remainder()),
+            Ok(2) => Outcome::Answer(remainder_of(&self.held)),
             Err(HoldFault::Memory) => Outcome::Memory,
             Ok(_) | Err(_) => Outcome::Wrong,
         }
     }
 
     fn is_kept(&self) -> bool {
-        file_of(&self.held).remainder() == self.before
+        remainder_of(&self.held) == self.before
     }
 }
 
@@ -222,7 +223,7 @@ pub struct ReadHold<'a> {
 impl Attempt for ReadHold<'_> {
     fn attempt(&mut self, alloc: Global) -> Outcome {
         match read_hold(alloc, &mut FromRead::new(self.file)) {
-            Ok(holding) => Outcome::Answer(file_of(&holding).remainder()),
+            Ok(holding) => Outcome::Answer(remainder_of(&holding)),
             Err(HoldFileFault::Memory) => Outcome::Memory,
             Err(_) => Outcome::Wrong,
         }
@@ -242,8 +243,8 @@ impl<'a> JoinStreams<'a> {
     /// The files, of which nothing was written.
     pub fn new(stock: &'a Stock) -> JoinStreams<'a> {
         JoinStreams {
-            first: stock.first.file.bytes(),
-            second: stock.second.file.bytes(),
+            first: stock.alone.first.file.bytes(),
+            second: stock.alone.second.file.bytes(),
             both: stock.both.file.bytes(),
             written: Buffer::new(),
         }
@@ -308,12 +309,21 @@ impl Attempt for MakeDecoder {
 
 /// `decode_frame` of the frame.
 #[derive(Drop)]
-pub struct DecodeFrame<'a> {
-    /// The decoder.
-    pub decoder: &'a Decoder,
+pub struct DecodeFrame {
+    decoder: Decoder,
 }
 
-impl Attempt for DecodeFrame<'_> {
+impl DecodeFrame {
+    /// A decoder of the recording. It fails where memory is refused.
+    pub fn new(alloc: Global) -> io::Result<DecodeFrame> {
+        match Decoder::new(alloc, &RECORDED_RECORD, SIZE.0, SIZE.1) {
+            Ok(decoder) => Ok(DecodeFrame { decoder }),
+            Err(_) => Err(io::Error::from(ErrorKind::OutOfMemory)),
+        }
+    }
+}
+
+impl Attempt for DecodeFrame {
     fn attempt(&mut self, _alloc: Global) -> Outcome {
         match self.decoder.decode_frame(&RECORDED) {
             Ok(frame) => samples_of(&frame),

@@ -45,7 +45,7 @@ impl Outputs {
 }
 
 /// A command's function, and what it is made on.
-#[derive(Clone, Copy, Debug, PartialEq, Eq)]
+#[derive(Clone, Copy)]
 pub enum Command {
     /// `run_chain` of the frame.
     Chain,
@@ -85,7 +85,7 @@ impl<'a> Run<'a> {
     pub fn new(command: Command, stock: &'a Stock) -> Run<'a> {
         Run {
             command,
-            first_file: stock.first.file.bytes(),
+            first_file: stock.alone.first.file.bytes(),
             both_file: stock.both.file.bytes(),
             outputs: Outputs::new(),
         }
@@ -93,54 +93,79 @@ impl<'a> Run<'a> {
 
     /// Runs the command.
     fn run(&mut self, alloc: Global) -> Result<(), CliFault> {
-        let (width, height) = SIZE;
-        let (one, other) = (first_copy(), second_copy());
-        let mut copies = [one.as_slice(), other.as_slice()];
-        let (mut record, mut frame) = (RECORDED_RECORD.as_slice(), RECORDED.as_slice());
         let (mut first, mut both) = (self.first_file, self.both_file);
-        let command = self.command;
         let Outputs { made, printed } = &mut self.outputs;
-        match command {
-            Command::Chain => run_chain(alloc, &mut frame, printed),
-            Command::Show => run_show(alloc, &mut record, width, height, printed),
-            Command::Take => {
-                run_take(
-                    alloc,
-                    &mut record,
-                    width,
-                    height,
-                    &mut copies,
-                    made,
-                    printed,
-                )
-            }
+        match self.command {
+            Command::Chain => run_chain(alloc, &mut RECORDED.as_slice(), printed),
+            Command::Show => show_record(alloc, printed),
+            Command::Take => take_both(alloc, made, printed),
             Command::Join => run_join(alloc, &mut first, &mut [both], made, printed),
             Command::Merge => run_merge(alloc, &mut first, &mut both, made),
             Command::Report => run_report(alloc, &mut both, printed),
             Command::Restore => run_restore(alloc, &mut both, made, printed),
-            Command::Picture => match run_picture(alloc, &mut both, made, printed) {
-                Ok(_) => Ok(()),
-                Err(fault) => Err(fault),
-            },
-            Command::Splice => {
-                let [one, other] = torn_copies();
-                match run_splice(alloc, &mut [one.as_slice(), &other], made, printed) {
-                    Ok(_) => Ok(()),
-                    Err(fault) => Err(fault),
-                }
-            }
-            Command::Scan => {
-                let mut ranges = b"0 336\n".as_slice();
-                match run_scan(alloc, &mut ranges, &mut frame, printed) {
-                    Ok(_) => Ok(()),
-                    Err(fault) => Err(fault),
-                }
-            }
-            Command::Decode => {
-                run_decode(alloc, &mut record, width, height, &mut frame, made, printed)
-            }
+            Command::Picture => unit(run_picture(alloc, &mut both, made, printed)),
+            Command::Splice => splice_torn(alloc, made, printed),
+            Command::Scan => scan_frame(alloc, printed),
+            Command::Decode => decode_payload(alloc, made, printed),
         }
     }
+}
+
+/// An answer without what it tells.
+fn unit(answer: Result<bool, CliFault>) -> Result<(), CliFault> {
+    match answer {
+        Ok(_) => Ok(()),
+        Err(fault) => Err(fault),
+    }
+}
+
+/// `run_show` of the record.
+fn show_record(alloc: Global, printed: &mut Buffer) -> Result<(), CliFault> {
+    let mut record = RECORDED_RECORD.as_slice();
+    run_show(alloc, &mut record, SIZE.0, SIZE.1, printed)
+}
+
+/// `run_take` of both copies.
+fn take_both(alloc: Global, made: &mut Buffer, printed: &mut Buffer) -> Result<(), CliFault> {
+    let (one, other) = (first_copy(), second_copy());
+    let mut record = RECORDED_RECORD.as_slice();
+    let mut copies = [one.as_slice(), other.as_slice()];
+    run_take(
+        alloc,
+        &mut record,
+        SIZE.0,
+        SIZE.1,
+        &mut copies,
+        made,
+        printed,
+    )
+}
+
+/// `run_splice` of both torn copies.
+fn splice_torn(alloc: Global, made: &mut Buffer, printed: &mut Buffer) -> Result<(), CliFault> {
+    let [one, other] = torn_copies();
+    let mut copies = [one.as_slice(), other.as_slice()];
+    unit(run_splice(alloc, &mut copies, made, printed))
+}
+
+/// `run_scan` of the frame as one range.
+fn scan_frame(alloc: Global, printed: &mut Buffer) -> Result<(), CliFault> {
+    let (mut ranges, mut frame) = (b"0 336\n".as_slice(), RECORDED.as_slice());
+    unit(run_scan(alloc, &mut ranges, &mut frame, printed))
+}
+
+/// `run_decode` of the frame.
+fn decode_payload(alloc: Global, made: &mut Buffer, printed: &mut Buffer) -> Result<(), CliFault> {
+    let (mut record, mut frame) = (RECORDED_RECORD.as_slice(), RECORDED.as_slice());
+    run_decode(
+        alloc,
+        &mut record,
+        SIZE.0,
+        SIZE.1,
+        &mut frame,
+        made,
+        printed,
+    )
 }
 
 impl Attempt for Run<'_> {

@@ -59,12 +59,12 @@ fn tell_files(rt: &HostRuntime, stock: &Stock) -> io::Result<()> {
 
 /// The calls that decode, and those that show a holding.
 fn tell_pictures(rt: &HostRuntime, stock: &Stock) -> io::Result<()> {
-    let (held, decoder) = (&stock.both.holding, &stock.decoder);
+    let held = &stock.both.holding;
     let setup = held.setup();
     tell(rt, "decode_tile", DecodeTile { setup })?;
     tell(rt, "Decoder::new", MakeDecoder)?;
-    tell(rt, "decode_frame", DecodeFrame { decoder })?;
-    let first = &stock.first.holding;
+    tell(rt, "decode_frame", DecodeFrame::new(rt.alloc())?)?;
+    let first = &stock.alone.first.holding;
     tell(rt, "picture", Picture { held: first })?;
     tell(rt, "report", Report { held })
 }
@@ -75,19 +75,27 @@ fn tell_splices(rt: &HostRuntime) -> io::Result<()> {
     tell(rt, "splice", Splice)
 }
 
+/// The functions of the commands, by their names.
+static COMMANDS: [(&str, Command); 11] = [
+    ("run_chain", Command::Chain),
+    ("run_show", Command::Show),
+    ("run_take", Command::Take),
+    ("run_join", Command::Join),
+    ("run_merge", Command::Merge),
+    ("run_report", Command::Report),
+    ("run_restore", Command::Restore),
+    ("run_picture", Command::Picture),
+    ("run_splice", Command::Splice),
+    ("run_scan", Command::Scan),
+    ("run_decode", Command::Decode),
+];
+
 /// The functions of the commands.
 fn tell_commands(rt: &HostRuntime, stock: &Stock) -> io::Result<()> {
-    tell(rt, "run_chain", Run::new(Command::Chain, stock))?;
-    tell(rt, "run_show", Run::new(Command::Show, stock))?;
-    tell(rt, "run_take", Run::new(Command::Take, stock))?;
-    tell(rt, "run_join", Run::new(Command::Join, stock))?;
-    tell(rt, "run_merge", Run::new(Command::Merge, stock))?;
-    tell(rt, "run_report", Run::new(Command::Report, stock))?;
-    tell(rt, "run_restore", Run::new(Command::Restore, stock))?;
-    tell(rt, "run_picture", Run::new(Command::Picture, stock))?;
-    tell(rt, "run_splice", Run::new(Command::Splice, stock))?;
-    tell(rt, "run_scan", Run::new(Command::Scan, stock))?;
-    tell(rt, "run_decode", Run::new(Command::Decode, stock))
+    for &(name, command) in &COMMANDS {
+        tell(rt, name, Run::new(command, stock))?;
+    }
+    Ok(())
 }
 
 /// All calls, on what is there.

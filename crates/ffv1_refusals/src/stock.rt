@@ -3,7 +3,6 @@
 use crate::buffer::Buffer;
 use ffv1_frames::{RECORDED, RECORDED_RECORD};
 use ffv1_hold::{FromWrite, Holding, write_hold};
-use ffv1_picture::Decoder;
 use std::alloc::Global;
 use std::io;
 use std::io::ErrorKind;
@@ -47,14 +46,6 @@ pub fn holding_of(alloc: Global, copies: &[&[u8]]) -> io::Result<Holding> {
     }
 }
 
-/// A decoder of the recording.
-fn decoder(alloc: Global) -> io::Result<Decoder> {
-    match Decoder::new(alloc, &RECORDED_RECORD, SIZE.0, SIZE.1) {
-        Ok(decoder) => Ok(decoder),
-        Err(_) => Err(io::Error::from(ErrorKind::OutOfMemory)),
-    }
-}
-
 /// The file of a holding; no bytes where it could not be written.
 pub fn file_of(holding: &Holding) -> Buffer {
     let mut sink = FromWrite::new(Buffer::new());
@@ -62,6 +53,11 @@ pub fn file_of(holding: &Holding) -> Buffer {
         Ok(()) => sink.into_inner(),
         Err(_) => Buffer::new(),
     }
+}
+
+/// The remainder of the file of a holding.
+pub fn remainder_of(holding: &Holding) -> u32 {
+    file_of(holding).remainder()
 }
 
 /// A holding, and its file.
@@ -82,27 +78,38 @@ impl Held {
     }
 }
 
-/// Holdings of the first copy, of the second and of both, and a decoder.
+/// Holdings of each copy alone.
 #[derive(Drop)]
-pub struct Stock {
+pub struct Alone {
     /// The holding of the first copy.
     pub first: Held,
     /// The holding of the second.
     pub second: Held,
+}
+
+impl Alone {
+    /// Both of them. It fails where memory is refused.
+    fn new(alloc: Global) -> io::Result<Alone> {
+        let first = Held::new(alloc, &[&first_copy()])?;
+        let second = Held::new(alloc, &[&second_copy()])?;
+        Ok(Alone { first, second })
+    }
+}
+
+/// Holdings of each copy alone, and of both.
+#[derive(Drop)]
+pub struct Stock {
+    /// The holdings of each.
+    pub alone: Alone,
     /// The holding of both.
     pub both: Held,
-    /// A decoder of the recording.
-    pub decoder: Decoder,
 }
 
 impl Stock {
     /// All of it. It fails where memory is refused.
     pub fn new(alloc: Global) -> io::Result<Stock> {
-        Ok(Stock {
-            first: Held::new(alloc, &[&first_copy()])?,
-            second: Held::new(alloc, &[&second_copy()])?,
-            both: Held::new(alloc, &[&first_copy(), &second_copy()])?,
-            decoder: decoder(alloc)?,
-        })
+        let alone = Alone::new(alloc)?;
+        let both = Held::new(alloc, &[&first_copy(), &second_copy()])?;
+        Ok(Stock { alone, both })
     }
 }
