@@ -1,14 +1,25 @@
-//! Tests of the public calls that read bits, codes, records, slices and tiles, and weave slices: worked rows and recorded frames.
+//! Tests of the public calls that read and make bits, codes, records, slices, tiles and frames, and weave slices: worked rows,
+//! recorded frames, made ones, and the greatest.
 #![tactic(auto)]
 
 #[cfg(test)]
 mod bits;
+#[cfg(test)]
+mod frames;
+#[cfg(test)]
+mod grid;
+#[cfg(test)]
+mod larger;
+#[cfg(test)]
+mod parity;
 #[cfg(test)]
 mod plane;
 #[cfg(test)]
 mod range;
 #[cfg(test)]
 mod recorded;
+#[cfg(test)]
+mod records;
 #[cfg(test)]
 mod rice;
 #[cfg(test)]

@@ -27,16 +27,6 @@ const TWO_CONTEXTS: [u8; 19] = [
     0x8E, 0x4F, 0xE6,
 ];
 
-/// A code fault in plane Y.
-fn code(fault: CodeFault, y: usize, x: usize) -> TileFault {
-    TileFault::Code {
-        fault,
-        plane: 0,
-        y,
-        x,
-    }
-}
-
 /// The picture of a tile, whose number has to be one of the setup's.
 fn decoded(
     alloc: Global,
@@ -80,7 +70,7 @@ type Worked = (
     usize,
 );
 
-const WORKED: [Worked; 12] = [
+static WORKED: [Worked; 12] = [
     (&GRAY, (1, 1), &[0xFD, 0xF6, 0x80], &[&[0]], 7),
     (&GRAY, (1, 1), &[0xFD, 0xF6, 0x40], &[&[1]], 4),
     (&GRAY, (1, 1), &[0xFD, 0xF6, 0x50], &[&[255]], 4),
@@ -129,74 +119,95 @@ const WORKED: [Worked; 12] = [
 
 #[test]
 fn worked_tiles_have_their_samples(rt: HostRuntime) -> Result<(), Fail> {
-    for (record, size, content, planes, spare_bits) in WORKED {
+    for &(record, size, content, planes, spare_bits) in &WORKED {
         let picture = one_tile(rt.alloc(), record, size, content)?;
         assert!(rt; is_picture(&picture, planes, spare_bits));
     }
     Ok(())
 }
 
+/// Contents of gray frames of these sizes with a fault of a code, and the row and column of its sample.
+static UNREADABLE: [(&[u8], (u32, u32), CodeFault, usize, usize); 8] = [
+    (&[0xFD, 0xF6, 0x00], (1, 1), CodeFault::Truncated, 0, 0),
+    (
+        &[0xFD, 0xF6, 0x00, 0x07, 0x98],
+        (1, 1),
+        CodeFault::LevelTooLarge,
+        0,
+        0,
+    ),
+    (&[0xFD, 0xF6, 0x13], (2, 2), CodeFault::Truncated, 1, 1),
+    (
+        &[0xFD, 0xF6, 0x00, 0x07, 0xA0, 0x00, 0x00, 0x00],
+        (2, 1),
+        CodeFault::EscapeNotNeeded,
+        0,
+        1,
+    ),
+    (
+        &[0xFD, 0xF6, 0x00, 0x07, 0xA0, 0x00, 0x00],
+        (2, 1),
+        CodeFault::Truncated,
+        0,
+        1,
+    ),
+    // twelve zeros and `00100100`, after a run word
+    (
+        &[0xFD, 0xF6, 0x00, 0x01, 0x20],
+        (1, 1),
+        CodeFault::EscapeNotNeeded,
+        0,
+        0,
+    ),
+    // twelve zeros and `11110101`
+    (
+        &[0xFD, 0xF6, 0x00, 0x07, 0xA8],
+        (1, 1),
+        CodeFault::CodeTooLarge,
+        0,
+        0,
+    ),
+    // eight ones stand for twelve samples
+    (&[0xFD, 0xF6, 0xFF], (16, 1), CodeFault::Truncated, 0, 12),
+];
+
+/// Why a content of a gray frame of this size is no picture, if it is none.
+fn gray_fault(
+    alloc: Global,
+    content: &[u8],
+    (width, height): (u32, u32),
+) -> Result<Option<TileFault>, Fail> {
+    let setup = Setup::read(alloc, &GRAY, width, height)?;
+    Ok(decoded(alloc, &setup, 0, content)?.err())
+}
+
 #[test]
-fn contents_without_a_picture(rt: HostRuntime) -> Result<(), Fail> {
-    let alloc = rt.alloc();
-    let cases: [(&[u8], (u32, u32), TileFault); 10] = [
-        (
-            &[0xFD, 0xF6, 0x00],
-            (1, 1),
-            code(CodeFault::Truncated, 0, 0),
-        ),
-        (
-            &[0xFD, 0xF6, 0x00, 0x07, 0x98],
-            (1, 1),
-            code(CodeFault::LevelTooLarge, 0, 0),
-        ),
-        (
-            &[0xFD, 0xF6, 0x13],
-            (2, 2),
-            code(CodeFault::Truncated, 1, 1),
-        ),
-        (
-            &[0xFD, 0xF6, 0x00, 0x07, 0xA0, 0x00, 0x00, 0x00],
-            (2, 1),
-            code(CodeFault::EscapeNotNeeded, 0, 1),
-        ),
-        (
-            &[0xFD, 0xF6, 0x00, 0x07, 0xA0, 0x00, 0x00],
-            (2, 1),
-            code(CodeFault::Truncated, 0, 1),
-        ),
-        // twelve zeros and `00100100`, after a run word
-        (
-            &[0xFD, 0xF6, 0x00, 0x01, 0x20],
-            (1, 1),
-            code(CodeFault::EscapeNotNeeded, 0, 0),
-        ),
-        // twelve zeros and `11110101`
-        (
-            &[0xFD, 0xF6, 0x00, 0x07, 0xA8],
-            (1, 1),
-            code(CodeFault::CodeTooLarge, 0, 0),
-        ),
-        // eight ones stand for twelve samples
-        (
-            &[0xFD, 0xF6, 0xFF],
-            (16, 1),
-            code(CodeFault::Truncated, 0, 12),
-        ),
-        (
-            &[0xFD, 0xF6],
-            (1, 1),
-            TileFault::Head(HeadFault::Range(RangeFault::Short)),
-        ),
-        (
-            &[0x3F, 0x2B, 0x80],
-            (1, 1),
-            TileFault::Head(HeadFault::NotKey),
-        ),
-    ];
-    for (content, (width, height), fault) in cases {
-        let setup = Setup::read(alloc, &GRAY, width, height)?;
-        assert!(rt; decoded(alloc, &setup, 0, content)?.err() == Some(fault));
+fn codes_without_a_sample_are_told(rt: HostRuntime) -> Result<(), Fail> {
+    for &(content, size, fault, y, x) in &UNREADABLE {
+        let told = gray_fault(rt.alloc(), content, size)?;
+        assert!(rt;
+            told == Some(TileFault::Code {
+                fault,
+                plane: 0,
+                y,
+                x
+            })
+        );
+    }
+    Ok(())
+}
+
+/// Contents without a header of the tile, and why.
+static HEADLESS: [(&[u8], HeadFault); 2] = [
+    (&[0xFD, 0xF6], HeadFault::Range(RangeFault::Short)),
+    (&[0x3F, 0x2B, 0x80], HeadFault::NotKey),
+];
+
+#[test]
+fn contents_without_a_header_are_told(rt: HostRuntime) -> Result<(), Fail> {
+    for &(content, fault) in &HEADLESS {
+        let told = gray_fault(rt.alloc(), content, (1, 1))?;
+        assert!(rt; told == Some(TileFault::Head(fault)));
     }
     Ok(())
 }
@@ -258,11 +269,12 @@ fn cr_goes_on_with_the_state_of_cb(rt: HostRuntime) {
     let mut luma = VlcState::start();
     let mut chroma = VlcState::start();
     let run = [Step::Word(1, RunWord::Full(1))];
-    assert!(rt; read_plane(&mut bits, &mut luma, &run) == Some(((0, 4, 0, 1), 1)));
     let five = [Step::Word(1, RunWord::Rest(0)), Step::Level(5)];
-    assert!(rt; read_plane(&mut bits, &mut chroma, &five) == Some(((0, 8, 1, 2), 0)));
-    assert!(rt; read_plane(&mut bits, &mut chroma, &five) == Some(((0, 11, 2, 3), 0)));
-    assert!(rt; bits.left() == 4);
+    let y = read_plane(&mut bits, &mut luma, &run);
+    let cb = read_plane(&mut bits, &mut chroma, &five);
+    let cr = read_plane(&mut bits, &mut chroma, &five);
+    assert!(rt; y == Some(((0, 4, 0, 1), 1)) && bits.left() == 4);
+    assert!(rt; cb == Some(((0, 8, 1, 2), 0)) && cr == Some(((0, 11, 2, 3), 0)));
 }
 
 /// The run index after a line of so many zeros, or `None` where it is no such line.
@@ -304,20 +316,22 @@ fn is_of_zeros(picture: &TilePicture, samples: usize, spare_bits: usize) -> bool
     plane.len() == samples && picture.spare_bits == spare_bits
 }
 
+/// Contents of zeros in lines of 16384 samples, how many lines and samples they are, and their spare bits.
+static ZEROS: [(&[u8], u32, usize, usize); 2] = [
+    (&[0xFD, 0xF6, 0xFF, 0xFF, 0xFF, 0xFF, 0x80], 3, 49152, 7),
+    (
+        &[
+            0xFD, 0xF6, 0xFF, 0xFF, 0xFF, 0xFF, 0xFF, 0xFF, 0xFF, 0xFF, 0xFF, 0xFF, 0xFF, 0xFF,
+        ],
+        65,
+        1_064_960,
+        1,
+    ),
+];
+
 #[test]
 fn lines_of_zeros(rt: HostRuntime) -> Result<(), Fail> {
-    let cases: [(&[u8], u32, usize, usize); 2] = [
-        (&[0xFD, 0xF6, 0xFF, 0xFF, 0xFF, 0xFF, 0x80], 3, 49152, 7),
-        (
-            &[
-                0xFD, 0xF6, 0xFF, 0xFF, 0xFF, 0xFF, 0xFF, 0xFF, 0xFF, 0xFF, 0xFF, 0xFF, 0xFF, 0xFF,
-            ],
-            65,
-            1_064_960,
-            1,
-        ),
-    ];
-    for (content, height, samples, spare_bits) in cases {
+    for &(content, height, samples, spare_bits) in &ZEROS {
         let picture = one_tile(rt.alloc(), &GRAY, (16384, height), content)?;
         assert!(rt; is_of_zeros(&picture, samples, spare_bits));
     }
@@ -341,6 +355,17 @@ fn has_remainders(alloc: Global, picture: &TilePicture, remainders: &[u32]) -> R
     Ok(picture.planes.len() == remainders.len())
 }
 
+/// Whether a tile of a recorded frame is decoded to the samples of these remainders.
+fn is_tile_as_recorded(
+    alloc: Global,
+    setup: &Setup,
+    tile: usize,
+    (content, wanted): (&[u8], &[u32]),
+) -> Result<bool, Fail> {
+    let picture = decoded(alloc, setup, tile, content)??;
+    has_remainders(alloc, &picture, wanted)
+}
+
 /// Whether each tile of a recorded frame is decoded to the samples of these remainders.
 fn is_as_recorded(
     alloc: Global,
@@ -349,24 +374,31 @@ fn is_as_recorded(
     tiles: &[(&[u8], &[u32])],
 ) -> Result<bool, Fail> {
     let setup = Setup::read(alloc, record, width, height)?;
-    for (tile, (content, wanted)) in tiles.iter().enumerate() {
-        let picture = decoded(alloc, &setup, tile, content)??;
-        if !has_remainders(alloc, &picture, wanted)? {
+    for (tile, row) in tiles.iter().enumerate() {
+        if !is_tile_as_recorded(alloc, &setup, tile, *row)? {
             return Ok(false);
         }
     }
     Ok(true)
 }
 
+/// A record, a frame's size, and for each tile its content and the remainders of its planes.
+type Recorded = (
+    &'static [u8],
+    (u32, u32),
+    &'static [(&'static [u8], &'static [u32])],
+);
+
+static FRAMES: [Recorded; 4] = [
+    (&recorded::GRAY_RECORD, (48, 32), &recorded::GRAY),
+    (&recorded::HALVED_RECORD, (101, 77), &recorded::HALVED),
+    (&recorded::QUARTERED_RECORD, (90, 62), &recorded::QUARTERED),
+    (&recorded::FULL_RECORD, (64, 64), &recorded::FULL),
+];
+
 #[test]
 fn recorded_frames_are_as_ffmpeg_decodes_them(rt: HostRuntime) -> Result<(), Fail> {
-    let frames: [(&[u8], (u32, u32), &[(&[u8], &[u32])]); 4] = [
-        (&recorded::GRAY_RECORD, (48, 32), &recorded::GRAY),
-        (&recorded::HALVED_RECORD, (101, 77), &recorded::HALVED),
-        (&recorded::QUARTERED_RECORD, (90, 62), &recorded::QUARTERED),
-        (&recorded::FULL_RECORD, (64, 64), &recorded::FULL),
-    ];
-    for (record, size, tiles) in frames {
+    for &(record, size, tiles) in &FRAMES {
         assert!(rt; is_as_recorded(rt.alloc(), record, size, tiles)?);
     }
     Ok(())

@@ -38,16 +38,28 @@ fn reads_signed(decoder: &mut RangeDecoder<'_>, values: &[i64]) -> bool {
     true
 }
 
-/// Why a record is refused for frames of the greatest size.
-fn refused(alloc: Global, record: &[u8]) -> Option<SetupFault> {
-    Setup::read(alloc, record, 65535, 65535).err()
+/// Whether each of these records is refused so for frames of the greatest size.
+fn are_refused(alloc: Global, refusals: &[(&[u8], SetupFault)]) -> bool {
+    for (record, fault) in refusals {
+        if Setup::read(alloc, record, 65535, 65535).err() != Some(*fault) {
+            return false;
+        }
+    }
+    true
 }
+
+/// First bytes of a header, and why they are refused, if they are.
+static STARTS: [(&[u8], Option<RangeFault>); 3] = [
+    (&[0xFF, 0x00], Some(RangeFault::Start)),
+    (&[0xFE, 0xFF], None),
+    (&[0xFE], Some(RangeFault::Short)),
+];
 
 #[test]
 fn start_is_refused_from_the_whole_range_on(rt: HostRuntime) {
-    assert!(rt; RangeDecoder::sentinel(&[0xFF, 0x00]).err() == Some(RangeFault::Start));
-    assert!(rt; RangeDecoder::sentinel(&[0xFE, 0xFF]).is_ok());
-    assert!(rt; RangeDecoder::sentinel(&[0xFE]).err() == Some(RangeFault::Short));
+    for &(bytes, fault) in &STARTS {
+        assert!(rt; RangeDecoder::sentinel(bytes).err() == fault);
+    }
 }
 
 #[test]
@@ -60,19 +72,26 @@ fn no_bytes_are_ones(rt: HostRuntime) {
 fn slice_headers_end_before_their_codes(rt: HostRuntime) {
     let mut decoder = RangeDecoder::sentinel(&[0xFD, 0xF6, 0x80]).expect(&rt, "a start");
     let mut key = 128;
-    assert!(rt; decoder.bit(&mut key) == Ok(true));
-    assert!(rt; reads(&mut decoder, &[0; 9]));
-    assert!(rt; decoder.finish() == Ok(2));
+    let read = (
+        decoder.bit(&mut key),
+        reads(&mut decoder, &[0; 9]),
+        decoder.finish(),
+    );
+    assert!(rt; read == (Ok(true), true, Ok(2)));
 }
 
 #[test]
 fn short_content_is_told_again(rt: HostRuntime) {
     let mut decoder = RangeDecoder::sentinel(&[0x3F, 0x2B]).expect(&rt, "a start");
-    assert!(rt; reads(&mut decoder, &[1, 0, 0, 0, 0, 0, 0]));
+    let is_read = reads(&mut decoder, &[1, 0, 0, 0, 0, 0, 0]);
     let mut states = fresh_row();
-    assert!(rt; decoder.unsigned(&mut states) == Err(RangeFault::Short));
-    assert!(rt; decoder.signed(&mut states) == Err(RangeFault::Short));
-    assert!(rt; decoder.finish() == Err(RangeFault::Short));
+    let unsigned = decoder.unsigned(&mut states).err();
+    let faults = [
+        unsigned,
+        decoder.signed(&mut states).err(),
+        decoder.finish().err(),
+    ];
+    assert!(rt; is_read && faults == [Some(RangeFault::Short); 3]);
 }
 
 #[test]
@@ -90,150 +109,162 @@ fn signed_symbols_have_their_sign(rt: HostRuntime) {
     );
 }
 
+/// Records, sizes of their frames, and what is judged before any field.
+static JUDGED_FIRST: [(&[u8], (u32, u32), SetupFault); 5] = [
+    (&[0; 5], (65535, 65535), SetupFault::TooShort),
+    (&[0, 0, 0, 0, 0, 1], (65535, 65535), SetupFault::Parity),
+    (&[0; 6], (65535, 65535), SetupFault::Version),
+    (&[0; 6], (0, 1), SetupFault::Size),
+    (&[0; 6], (1, 65536), SetupFault::Size),
+];
+
 #[test]
 fn length_parity_and_size_are_judged_first(rt: HostRuntime) {
-    assert!(rt; refused(rt.alloc(), &[0; 5]) == Some(SetupFault::TooShort));
-    assert!(rt; refused(rt.alloc(), &[0, 0, 0, 0, 0, 1]) == Some(SetupFault::Parity));
-    assert!(rt; refused(rt.alloc(), &[0; 6]) == Some(SetupFault::Version));
-    assert!(rt; Setup::read(rt.alloc(), &[0; 6], 0, 1).err() == Some(SetupFault::Size));
-    assert!(rt; Setup::read(rt.alloc(), &[0; 6], 1, 65536).err() == Some(SetupFault::Size));
+    for &(record, (width, height), fault) in &JUDGED_FIRST {
+        assert!(rt; Setup::read(rt.alloc(), record, width, height).err() == Some(fault));
+    }
 }
+
+/// Records with values that can't be read.
+static UNREADABLE: [(&[u8], SetupFault); 2] = [
+    (
+        &[0xFF, 0x00, 0x4E, 0xBF, 0x24, 0xC9],
+        SetupFault::Range(RangeFault::Start),
+    ),
+    (
+        &[0x7F, 0x7F, 0xFD, 0x2F, 0x3C, 0xDD, 0x76],
+        SetupFault::Range(RangeFault::SymbolTooLong),
+    ),
+];
 
 #[test]
 fn values_that_cannot_be_read_are_refused(rt: HostRuntime) {
-    assert!(rt;
-        refused(rt.alloc(), &[0xFF, 0x00, 0x4E, 0xBF, 0x24, 0xC9])
-            == Some(SetupFault::Range(RangeFault::Start))
-    );
-    assert!(rt;
-        refused(rt.alloc(), &[0x7F, 0x7F, 0xFD, 0x2F, 0x3C, 0xDD, 0x76])
-            == Some(SetupFault::Range(RangeFault::SymbolTooLong))
-    );
+    assert!(rt; are_refused(rt.alloc(), &UNREADABLE));
 }
+
+/// Records of other codings, and why they are refused.
+static OTHER_CODINGS: [(&[u8], SetupFault); 5] = [
+    (
+        &[
+            0x61, 0x36, 0x56, 0x1D, 0x79, 0xDF, 0xBF, 0x7E, 0xFD, 0xFB, 0xF7, 0xEF, 0xD8, 0xD4,
+            0xE6, 0x3B, 0x90,
+        ],
+        SetupFault::Version,
+    ),
+    (
+        &[
+            0x55, 0xCE, 0x64, 0x67, 0xB5, 0xEB, 0xD7, 0xAF, 0x5E, 0xBD, 0x7A, 0xF5, 0x99, 0x73,
+            0xA7, 0xA9, 0x97,
+        ],
+        SetupFault::Micro,
+    ),
+    (
+        &[
+            0x56, 0x00, 0x30, 0x28, 0x49, 0xCD, 0x9B, 0x36, 0x6C, 0xD9, 0xB3, 0x66, 0xC4, 0xA5,
+            0x75, 0xC8, 0x85,
+        ],
+        SetupFault::Coder,
+    ),
+    (
+        &[
+            0x56, 0x19, 0xE5, 0x28, 0x49, 0xCD, 0x9B, 0x36, 0x6C, 0xD9, 0xB3, 0x66, 0xC4, 0xD2,
+            0xE6, 0x39, 0x98,
+        ],
+        SetupFault::ColorSpace,
+    ),
+    (
+        &[
+            0x56, 0x2B, 0xA0, 0xF9, 0x03, 0x2C, 0x58, 0xB1, 0x62, 0xC5, 0x8B, 0x16, 0x19, 0x1A,
+            0x97, 0xEF, 0xA5,
+        ],
+        SetupFault::Depth,
+    ),
+];
 
 #[test]
 fn other_codings_are_refused(rt: HostRuntime) {
-    let refusals: [(&[u8], SetupFault); 5] = [
-        (
-            &[
-                0x61, 0x36, 0x56, 0x1D, 0x79, 0xDF, 0xBF, 0x7E, 0xFD, 0xFB, 0xF7, 0xEF, 0xD8, 0xD4,
-                0xE6, 0x3B, 0x90,
-            ],
-            SetupFault::Version,
-        ),
-        (
-            &[
-                0x55, 0xCE, 0x64, 0x67, 0xB5, 0xEB, 0xD7, 0xAF, 0x5E, 0xBD, 0x7A, 0xF5, 0x99, 0x73,
-                0xA7, 0xA9, 0x97,
-            ],
-            SetupFault::Micro,
-        ),
-        (
-            &[
-                0x56, 0x00, 0x30, 0x28, 0x49, 0xCD, 0x9B, 0x36, 0x6C, 0xD9, 0xB3, 0x66, 0xC4, 0xA5,
-                0x75, 0xC8, 0x85,
-            ],
-            SetupFault::Coder,
-        ),
-        (
-            &[
-                0x56, 0x19, 0xE5, 0x28, 0x49, 0xCD, 0x9B, 0x36, 0x6C, 0xD9, 0xB3, 0x66, 0xC4, 0xD2,
-                0xE6, 0x39, 0x98,
-            ],
-            SetupFault::ColorSpace,
-        ),
-        (
-            &[
-                0x56, 0x2B, 0xA0, 0xF9, 0x03, 0x2C, 0x58, 0xB1, 0x62, 0xC5, 0x8B, 0x16, 0x19, 0x1A,
-                0x97, 0xEF, 0xA5,
-            ],
-            SetupFault::Depth,
-        ),
-    ];
-    for (record, fault) in refusals {
-        assert!(rt; refused(rt.alloc(), record) == Some(fault));
-    }
+    assert!(rt; are_refused(rt.alloc(), &OTHER_CODINGS));
 }
+
+/// Records of other planes or too many tiles, and why they are refused.
+static OTHER_PLANES: [(&[u8], SetupFault); 4] = [
+    (
+        &[
+            0x56, 0x2B, 0x84, 0x92, 0x76, 0xC7, 0x8F, 0x1E, 0x3C, 0x78, 0xF1, 0xE3, 0xB0, 0x82,
+            0x38, 0x9A, 0x6C,
+        ],
+        SetupFault::ExtraPlane,
+    ),
+    (
+        &[
+            0x56, 0x2B, 0x87, 0x2B, 0x8F, 0xB5, 0x6A, 0xD5, 0xAB, 0x56, 0xAD, 0x5A, 0xB3, 0xBF,
+            0x94, 0x6B, 0xD4,
+        ],
+        SetupFault::Subsampling,
+    ),
+    (
+        &[
+            0x56, 0x2B, 0x89, 0x70, 0xE7, 0xB3, 0x66, 0xCD, 0x9B, 0x36, 0x6C, 0xD9, 0xB0, 0xD8,
+            0xE2, 0x6A, 0x74, 0xDE,
+        ],
+        SetupFault::Subsampling,
+    ),
+    (
+        &[
+            0x56, 0x2B, 0x83, 0x83, 0x57, 0xD4, 0x1D, 0xEE, 0xEF, 0xDF, 0xBF, 0x7E, 0xFD, 0xFB,
+            0xF7, 0xD1, 0xA1, 0x57, 0x95, 0x50,
+        ],
+        SetupFault::TooManyTiles,
+    ),
+];
 
 #[test]
 fn other_planes_and_grids_are_refused(rt: HostRuntime) {
-    let refusals: [(&[u8], SetupFault); 4] = [
-        (
-            &[
-                0x56, 0x2B, 0x84, 0x92, 0x76, 0xC7, 0x8F, 0x1E, 0x3C, 0x78, 0xF1, 0xE3, 0xB0, 0x82,
-                0x38, 0x9A, 0x6C,
-            ],
-            SetupFault::ExtraPlane,
-        ),
-        (
-            &[
-                0x56, 0x2B, 0x87, 0x2B, 0x8F, 0xB5, 0x6A, 0xD5, 0xAB, 0x56, 0xAD, 0x5A, 0xB3, 0xBF,
-                0x94, 0x6B, 0xD4,
-            ],
-            SetupFault::Subsampling,
-        ),
-        (
-            &[
-                0x56, 0x2B, 0x89, 0x70, 0xE7, 0xB3, 0x66, 0xCD, 0x9B, 0x36, 0x6C, 0xD9, 0xB0, 0xD8,
-                0xE2, 0x6A, 0x74, 0xDE,
-            ],
-            SetupFault::Subsampling,
-        ),
-        (
-            &[
-                0x56, 0x2B, 0x83, 0x83, 0x57, 0xD4, 0x1D, 0xEE, 0xEF, 0xDF, 0xBF, 0x7E, 0xFD, 0xFB,
-                0xF7, 0xD1, 0xA1, 0x57, 0x95, 0x50,
-            ],
-            SetupFault::TooManyTiles,
-        ),
-    ];
-    for (record, fault) in refusals {
-        assert!(rt; refused(rt.alloc(), record) == Some(fault));
-    }
+    assert!(rt; are_refused(rt.alloc(), &OTHER_PLANES));
 }
+
+/// Records of other tables or parities, and why they are refused.
+static OTHER_TABLES: [(&[u8], SetupFault); 5] = [
+    (
+        &[
+            0x56, 0x2B, 0x83, 0xDF, 0x90, 0x26, 0x4C, 0x99, 0x32, 0x64, 0xC9, 0x92, 0xEE, 0xF0,
+            0x71, 0xFB, 0x68,
+        ],
+        SetupFault::TableCount,
+    ),
+    (
+        &[
+            0x56, 0x2B, 0x83, 0xCE, 0x04, 0x76, 0xF5, 0xEB, 0xD7, 0xAF, 0x5E, 0xBD, 0x7A, 0x6E,
+            0x63, 0x85, 0x51, 0xAF,
+        ],
+        SetupFault::TableCount,
+    ),
+    (
+        &[
+            0x56, 0x2B, 0x83, 0xBD, 0xC5, 0x55, 0x4D, 0x55, 0x4D, 0x55, 0x4D, 0x55, 0x4D, 0x50,
+            0x94, 0x04, 0xE6, 0x28,
+        ],
+        SetupFault::TableRun,
+    ),
+    (
+        &[
+            0x56, 0x2B, 0x83, 0xC3, 0x28, 0xFF, 0xFF, 0xFF, 0xF2, 0x19, 0xAC, 0x9F, 0x40, 0xA1,
+            0x41, 0x10, 0xC8, 0x6B, 0xA3, 0x4D,
+        ],
+        SetupFault::Contexts,
+    ),
+    (
+        &[
+            0x56, 0x2B, 0x83, 0xBD, 0xC5, 0x3A, 0x74, 0xE9, 0xD3, 0xA7, 0x4E, 0x9D, 0x31, 0x32,
+            0xCE, 0x06, 0x93,
+        ],
+        SetupFault::ParityMode,
+    ),
+];
 
 #[test]
 fn other_tables_are_refused(rt: HostRuntime) {
-    let refusals: [(&[u8], SetupFault); 5] = [
-        (
-            &[
-                0x56, 0x2B, 0x83, 0xDF, 0x90, 0x26, 0x4C, 0x99, 0x32, 0x64, 0xC9, 0x92, 0xEE, 0xF0,
-                0x71, 0xFB, 0x68,
-            ],
-            SetupFault::TableCount,
-        ),
-        (
-            &[
-                0x56, 0x2B, 0x83, 0xCE, 0x04, 0x76, 0xF5, 0xEB, 0xD7, 0xAF, 0x5E, 0xBD, 0x7A, 0x6E,
-                0x63, 0x85, 0x51, 0xAF,
-            ],
-            SetupFault::TableCount,
-        ),
-        (
-            &[
-                0x56, 0x2B, 0x83, 0xBD, 0xC5, 0x55, 0x4D, 0x55, 0x4D, 0x55, 0x4D, 0x55, 0x4D, 0x50,
-                0x94, 0x04, 0xE6, 0x28,
-            ],
-            SetupFault::TableRun,
-        ),
-        (
-            &[
-                0x56, 0x2B, 0x83, 0xC3, 0x28, 0xFF, 0xFF, 0xFF, 0xF2, 0x19, 0xAC, 0x9F, 0x40, 0xA1,
-                0x41, 0x10, 0xC8, 0x6B, 0xA3, 0x4D,
-            ],
-            SetupFault::Contexts,
-        ),
-        (
-            &[
-                0x56, 0x2B, 0x83, 0xBD, 0xC5, 0x3A, 0x74, 0xE9, 0xD3, 0xA7, 0x4E, 0x9D, 0x31, 0x32,
-                0xCE, 0x06, 0x93,
-            ],
-            SetupFault::ParityMode,
-        ),
-    ];
-    for (record, fault) in refusals {
-        assert!(rt; refused(rt.alloc(), record) == Some(fault));
-    }
+    assert!(rt; are_refused(rt.alloc(), &OTHER_TABLES));
 }
 
 /// A record of 4:2:0 frames of 720 x 576 samples in 6 x 4 tiles.
@@ -244,7 +275,7 @@ const BROADCAST: [u8; 44] = [
 ];
 
 /// Records that FFmpeg wrote: their frames' size, tiles across and down, whether they have chroma, and its shifts.
-const RECORDED: [(&[u8], [u32; 4], bool, [u32; 2]); 5] = [
+static RECORDED: [(&[u8], [u32; 4], bool, [u32; 2]); 5] = [
     (&recorded::GRAY_RECORD, [48, 32, 2, 2], false, [0, 0]),
     (&BROADCAST, [720, 576, 6, 4], true, [1, 1]),
     (&recorded::QUARTERED_RECORD, [90, 62, 3, 2], true, [1, 1]),
@@ -268,20 +299,23 @@ fn has_chroma(setup: &Setup, has_chroma: bool, shifts: [u32; 2]) -> bool {
 
 #[test]
 fn recorded_records_are_read(rt: HostRuntime) -> Result<(), Fail> {
-    for (record, size_and_grid, chroma, shifts) in RECORDED {
+    for &(record, size_and_grid, chroma, shifts) in &RECORDED {
         let setup = Setup::read(rt.alloc(), record, size_and_grid[0], size_and_grid[1])?;
         assert!(rt; is_recorded(&setup, size_and_grid) && has_chroma(&setup, chroma, shifts));
     }
     Ok(())
 }
 
+/// Sizes of frames in 6 x 4 tiles, and whether they are refused.
+static SIZES: [(u32, u32, Option<SetupFault>); 3] = [
+    (5, 4, Some(SetupFault::GridTooFine)),
+    (6, 3, Some(SetupFault::GridTooFine)),
+    (6, 4, None),
+];
+
 #[test]
 fn grids_finer_than_the_frame_are_refused(rt: HostRuntime) {
-    for (width, height, fault) in [
-        (5, 4, Some(SetupFault::GridTooFine)),
-        (6, 3, Some(SetupFault::GridTooFine)),
-        (6, 4, None),
-    ] {
+    for &(width, height, fault) in &SIZES {
         assert!(rt; Setup::read(rt.alloc(), &BROADCAST, width, height).err() == fault);
     }
 }
@@ -293,7 +327,7 @@ const THREE_RUNS: [u8; 19] = [
 ];
 
 /// Entries of that record: of a table, at a place.
-const ENTRIES: [(usize, usize, i32); 11] = [
+static ENTRIES: [(usize, usize, i32); 11] = [
     (0, 0, 0),
     (0, 1, 1),
     (0, 2, 1),
@@ -359,14 +393,16 @@ fn has_contexts(setup: &Setup, sets: usize, first: u32, last: u32) -> bool {
         && has_chroma(setup, false, [0, 0])
 }
 
+/// Records with fields that a setup has no use for: how many sets it has, and the contexts of the first and the last.
+static MORE_FIELDS: [(&[u8], usize, u32, u32); 3] = [
+    (&DELTAS, 2, 1, 2),
+    (&MANY_RUNS, 1, 32513, 32513),
+    (&SHIFTED, 1, 1, 1),
+];
+
 #[test]
 fn what_is_not_needed_is_dropped(rt: HostRuntime) -> Result<(), Fail> {
-    let rows: [(&[u8], usize, u32, u32); 3] = [
-        (&DELTAS, 2, 1, 2),
-        (&MANY_RUNS, 1, 32513, 32513),
-        (&SHIFTED, 1, 1, 1),
-    ];
-    for (record, sets, first, last) in rows {
+    for &(record, sets, first, last) in &MORE_FIELDS {
         let setup = Setup::read(rt.alloc(), record, 1, 1)?;
         assert!(rt; has_contexts(&setup, sets, first, last));
     }

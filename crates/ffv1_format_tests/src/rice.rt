@@ -27,20 +27,26 @@ fn word_after(
     (word, index.index(), bits.place())
 }
 
+/// The parameter before each of three codes of -1, and the state after it.
+static MINUS_ONES: [(u32, (i32, u32, i32, u32)); 3] = [
+    (2, (-1, 5, 0, 2)),
+    (2, (-2, 6, 0, 3)),
+    (1, (-3, 7, 0, 4)),
+];
+
 #[test]
 fn three_codes_from_the_start(rt: HostRuntime) {
     let mut bits = Bits::new(&[0xB6]);
     let mut state = VlcState::start();
-    for (k, parts) in [(2, (-1, 5, 0, 2)), (2, (-2, 6, 0, 3)), (1, (-3, 7, 0, 4))] {
-        assert!(rt; state.k() == k);
-        assert!(rt; state.decode(&mut bits, false) == Ok(-1));
-        assert!(rt; state.parts() == parts);
+    for &(k, parts) in &MINUS_ONES {
+        let read = (state.k(), state.decode(&mut bits, false), state.parts());
+        assert!(rt; read == (k, Ok(-1), parts));
     }
     assert!(rt; bits.left() == 0);
 }
 
 /// What the first state reads of bytes, for a level or not.
-const FIRST_CODES: [(&[u8], bool, Result<i32, CodeFault>); 11] = [
+static FIRST_CODES: [(&[u8], bool, Result<i32, CodeFault>); 11] = [
     (&[0x80], true, Ok(1)),
     (&[0x80], false, Ok(0)),
     (&[0xA0], true, Ok(-1)),
@@ -59,7 +65,7 @@ const FIRST_CODES: [(&[u8], bool, Result<i32, CodeFault>); 11] = [
 
 #[test]
 fn codes_of_the_first_state(rt: HostRuntime) {
-    for (bytes, level, code) in FIRST_CODES {
+    for &(bytes, level, code) in &FIRST_CODES {
         let answer = VlcState::start().decode(&mut Bits::new(bytes), level);
         assert!(rt; answer == code);
     }
@@ -99,15 +105,14 @@ fn parameters_of_7_and_6(rt: HostRuntime) {
     // twelve zeros and `11110100`, and then `10000000`
     let mut bits = Bits::new(&[0x00, 0x0F, 0x48, 0x00]);
     let mut state = VlcState::start();
-    assert!(rt; state.decode(&mut bits, false) == Ok(-128));
-    assert!(rt; state.parts() == (-1, 132, -1, 2) && state.k() == 7);
+    let first = (state.decode(&mut bits, false), state.parts(), state.k());
     // where the parameter is 7, what stands for 256 is refused in either form
     let escape = state.decode(&mut Bits::new(&[0x00, 0x0F, 0x50]), false);
-    assert!(rt; escape == Err(CodeFault::EscapeNotNeeded));
     let short = state.decode(&mut Bits::new(&[0x20, 0x00]), false);
-    assert!(rt; short == Err(CodeFault::CodeTooLarge));
-    assert!(rt; state.decode(&mut bits, false) == Ok(-1));
-    assert!(rt; state.parts() == (-1, 132, -1, 3) && state.k() == 6);
+    let last = (state.decode(&mut bits, false), state.parts(), state.k());
+    assert!(rt; first == (Ok(-128), (-1, 132, -1, 2), 7));
+    assert!(rt; escape == Err(CodeFault::EscapeNotNeeded) && short == Err(CodeFault::CodeTooLarge));
+    assert!(rt; last == (Ok(-1), (-1, 132, -1, 3), 6));
 }
 
 #[test]
@@ -115,7 +120,8 @@ fn lines_of_zeros(rt: HostRuntime) {
     let mut bits = Bits::new(&[0xFC]);
     let mut index = RunIndex::start();
     for (left, run) in [(8, 1), (7, 1), (6, 1), (5, 1), (4, 2), (2, 2)] {
-        assert!(rt; index.read(&mut bits, left) == Ok(RunWord::Full(run)));
+        let word = index.read(&mut bits, left);
+        assert!(rt; word == Ok(RunWord::Full(run)));
     }
     assert!(rt; index.index() == 6);
 }
@@ -131,7 +137,7 @@ type Word = (
     usize,
 );
 
-const WORDS: [Word; 10] = [
+static WORDS: [Word; 10] = [
     (&[0xFC], 0, 5, 1, Ok(RunWord::ToEnd), 5, 6),
     (&[0xFA], 0, 5, 1, Ok(RunWord::ToEnd), 4, 7),
     (&[0xF4], 0, 4, 5, Ok(RunWord::Rest(1)), 3, 6),
@@ -148,7 +154,7 @@ const WORDS: [Word; 10] = [
 
 #[test]
 fn words_after_whole_ones(rt: HostRuntime) {
-    for (bytes, skipped, words, left, word, index, place) in WORDS {
+    for &(bytes, skipped, words, left, word, index, place) in &WORDS {
         assert!(rt; bytes.len() <= 8 && skipped <= 8 && 1 <= left && left <= 65535);
         let (read, reached, later) = word_after(bytes, skipped, words, left);
         assert!(rt; read == word && reached == index && later == place);

@@ -22,35 +22,39 @@ const BROKEN: [u8; 22] = [
     0x0F, 0xD7, 0x3B,
 ];
 
+/// Payloads, the number of a link, and what it is.
+static LINKS: [(&[u8], usize, Option<(usize, usize, u8, bool)>); 6] = [
+    (&FRAME, 0, Some((11, 11, 0, true))),
+    (&FRAME, 1, Some((0, 11, 0, true))),
+    (&FRAME, 2, None),
+    (&LEFT_DAMAGED, 0, Some((11, 11, 0, true))),
+    (&LEFT_DAMAGED, 1, Some((0, 11, 0, false))),
+    (&LEFT_DAMAGED, 2, None),
+];
+
 #[test]
 fn links_come_from_the_end(rt: HostRuntime) {
-    let rows: [(&[u8], usize, Option<(usize, usize, u8, bool)>); 6] = [
-        (&FRAME, 0, Some((11, 11, 0, true))),
-        (&FRAME, 1, Some((0, 11, 0, true))),
-        (&FRAME, 2, None),
-        (&LEFT_DAMAGED, 0, Some((11, 11, 0, true))),
-        (&LEFT_DAMAGED, 1, Some((0, 11, 0, false))),
-        (&LEFT_DAMAGED, 2, None),
-    ];
-    for (frame, number, link) in rows {
+    for &(frame, number, link) in &LINKS {
         assert!(rt; link_at(frame, number) == link);
     }
 }
 
+/// Payloads, how many links they have, and how their chain ends.
+static CHAINS: [(&[u8], usize, ChainEnd); 7] = [
+    (&FRAME, 2, ChainEnd::Whole),
+    (&LEFT_DAMAGED, 2, ChainEnd::Whole),
+    (&[], 0, ChainEnd::Whole),
+    (&[0; 7], 0, ChainEnd::Broken(7)),
+    (&[0; 8], 1, ChainEnd::Whole),
+    (&[0; 16], 2, ChainEnd::Whole),
+    (&BROKEN, 0, ChainEnd::Broken(22)),
+];
+
 #[test]
 fn chains_end(rt: HostRuntime) {
-    let payloads: [(&[u8], usize, ChainEnd); 7] = [
-        (&FRAME, 2, ChainEnd::Whole),
-        (&LEFT_DAMAGED, 2, ChainEnd::Whole),
-        (&[], 0, ChainEnd::Whole),
-        (&[0; 7], 0, ChainEnd::Broken(7)),
-        (&[0; 8], 1, ChainEnd::Whole),
-        (&[0; 16], 2, ChainEnd::Whole),
-        (&BROKEN, 0, ChainEnd::Broken(22)),
-    ];
-    for (payload, links, end) in payloads {
-        assert!(rt; Chain::new(payload).count() == links);
-        assert!(rt; Chain::new(payload).end() == end);
+    for &(payload, links, end) in &CHAINS {
+        let chain = (Chain::new(payload).count(), Chain::new(payload).end());
+        assert!(rt; chain == (links, end));
     }
 }
 
@@ -61,49 +65,79 @@ fn after_junk(alloc: Global) -> Result<Vec<u8>, Fail> {
     Ok(payload)
 }
 
-/// Whether these are the tiles of the slices that are found in a payload, from its end.
-fn are_tiles_of(alloc: Global, payload: &[u8], tiles: &[usize]) -> Result<bool, Fail> {
-    let setup = Setup::read(alloc, &RECORDED_RECORD, 48, 32)?;
+/// The tile of the next link of a chain that is a slice of the setup, or `None` where it is none.
+fn next_tile(setup: &Setup, chain: &mut Chain<'_>) -> Option<usize> {
+    slice_of(setup, &chain.next()?).ok()
+}
+
+/// The tiles of the slices that are found in a payload, from its end.
+fn tiles_of(alloc: Global, setup: &Setup, payload: &[u8]) -> Result<Vec<usize>, Fail> {
     let mut found = Vec::new(alloc);
     let mut chain = Chain::new(payload);
     for _ in 0..payload.len() {
-        if let Some(link) = chain.next() {
-            if let Ok(tile) = slice_of(&setup, &link) {
-                found.push(tile)?;
-            }
+        if let Some(tile) = next_tile(setup, &mut chain) {
+            found.push(tile)?;
         }
     }
-    Ok(found.as_slice() == tiles)
+    Ok(found)
+}
+
+/// Whether these are the tiles of the slices that are found in a payload, from its end.
+fn are_tiles_of(alloc: Global, payload: &[u8], tiles: &[usize]) -> Result<bool, Fail> {
+    let setup = Setup::read(alloc, &RECORDED_RECORD, 48, 32)?;
+    Ok(tiles_of(alloc, &setup, payload)?.as_slice() == tiles)
+}
+
+/// Whether the slices of the frame are found after bytes that are none of it, but for the first.
+fn are_found_after_junk(alloc: Global) -> Result<bool, Fail> {
+    let payload = after_junk(alloc)?;
+    are_tiles_of(alloc, &payload, &[3, 2, 1])
 }
 
 #[test]
 fn recorded_slices_are_found(rt: HostRuntime) -> Result<(), Fail> {
-    let alloc = rt.alloc();
-    assert!(rt; are_tiles_of(alloc, &RECORDED, &[3, 2, 1, 0])?);
-    assert!(rt; are_tiles_of(alloc, &after_junk(alloc)?, &[3, 2, 1])?);
-    assert!(rt; are_tiles_of(alloc, &[0; 8], &[])?);
+    let alone = are_tiles_of(rt.alloc(), &RECORDED, &[3, 2, 1, 0])?;
+    let after_junk = are_found_after_junk(rt.alloc())?;
+    let zeros = are_tiles_of(rt.alloc(), &[0; 8], &[])?;
+    assert!(rt; alone && after_junk && zeros);
     Ok(())
+}
+
+/// Damage by places and bytes, and the tiles whose slices are still found.
+static DAMAGED: [(&[(usize, u8)], &[usize]); 2] = [
+    (&[(39, 0x06), (209, 0x00)], &[3, 1]),
+    (&[(103, 0x44), (286, 0xF6)], &[2, 0]),
+];
+
+/// The frame with other bytes at places that it has.
+fn damaged(damage: &[(usize, u8)]) -> [u8; 336] {
+    let mut copy = RECORDED;
+    for (place, byte) in damage {
+        if let Some(old) = copy.get_mut(*place) {
+            *old = *byte;
+        }
+    }
+    copy
 }
 
 #[test]
 fn damaged_slices_are_not_found(rt: HostRuntime) -> Result<(), Fail> {
-    for (damage, tiles) in [
-        ([(39, 0x06), (209, 0x00)], [3, 1]),
-        ([(103, 0x44), (286, 0xF6)], [2, 0]),
-    ] {
-        let mut copy = RECORDED;
-        for (place, byte) in damage {
-            copy[place] = byte;
-        }
-        assert!(rt; are_tiles_of(rt.alloc(), &copy, &tiles)?);
+    for &(damage, tiles) in &DAMAGED {
+        assert!(rt; are_tiles_of(rt.alloc(), &damaged(damage), tiles)?);
     }
     Ok(())
 }
 
-/// Why a link of a payload is no slice. Links count from the end.
-fn link_fault(alloc: Global, payload: &[u8], number: usize) -> Result<Option<LinkFault>, Fail> {
-    let setup = Setup::read(alloc, &RECORDED_RECORD, 48, 32)?;
+/// Why a link of a payload is no slice of a recording of this size. Links count from the end.
+fn link_fault(
+    alloc: Global,
+    record: &[u8],
+    (width, height): (u32, u32),
+    payload: &[u8],
+    number: usize,
+) -> Result<Option<LinkFault>, Fail> {
     let link = Chain::new(payload).nth(number).ok_or("a link")?;
+    let setup = Setup::read(alloc, record, width, height)?;
     Ok(slice_of(&setup, &link).err())
 }
 
@@ -114,7 +148,7 @@ const TWICE: [u8; 22] = [
 ];
 
 /// Payloads, the number of a link of theirs that is no slice, and why.
-const NO_SLICES: [(&[u8], usize, LinkFault); 4] = [
+static NO_SLICES: [(&[u8], usize, LinkFault); 4] = [
     (&TWICE, 0, LinkFault::Head(HeadFault::FirstElsewhere)),
     (&RIGHT, 0, LinkFault::Head(HeadFault::NotKey)),
     (
@@ -127,18 +161,18 @@ const NO_SLICES: [(&[u8], usize, LinkFault); 4] = [
 
 #[test]
 fn links_that_are_no_slices_are_told(rt: HostRuntime) -> Result<(), Fail> {
-    for (payload, number, fault) in NO_SLICES {
-        assert!(rt; link_fault(rt.alloc(), payload, number)? == Some(fault));
+    for &(payload, number, fault) in &NO_SLICES {
+        let told = link_fault(rt.alloc(), &RECORDED_RECORD, (48, 32), payload, number)?;
+        assert!(rt; told == Some(fault));
     }
     Ok(())
 }
 
 #[test]
 fn tile_1_is_outside_a_grid_of_one(rt: HostRuntime) -> Result<(), Fail> {
-    let setup = Setup::read(rt.alloc(), &ONE_TILE, 1, 1)?;
-    let link = Chain::new(&FRAME).next().ok_or("a link")?;
-    assert!(rt; link.start() == 11);
-    assert!(rt; slice_of(&setup, &link).err() == Some(LinkFault::Head(HeadFault::OutsideGrid)));
+    let told = link_fault(rt.alloc(), &ONE_TILE, (1, 1), &FRAME, 0)?;
+    assert!(rt; told == Some(LinkFault::Head(HeadFault::OutsideGrid)));
+    assert!(rt; link_at(&FRAME, 0) == Some((11, 11, 0, true)));
     Ok(())
 }
 

@@ -76,7 +76,7 @@ fn is_told(alloc: Global, damages: &[Damage<'_>], told: Told) -> bool {
 }
 
 /// Versions by their damage, and what is woven of them.
-const ROWS: [(&'static [Damage<'static>], Told); 9] = [
+static ROWS: [(&[Damage<'static>], Told); 9] = [
     // apart in two copies, in whatever order and however often; in the footer's size too
     (&[&[(3, 1), (4, 1)], &[(100, 0x80)]], Told::Slice(4)),
     (
@@ -102,25 +102,27 @@ const ROWS: [(&'static [Damage<'static>], Told); 9] = [
 
 #[test]
 fn damaged_versions_are_woven(rt: HostRuntime) {
-    for (damages, told) in ROWS {
+    for &(damages, told) in &ROWS {
         assert!(rt; is_told(rt.alloc(), damages, told));
     }
 }
 
-/// Two versions that are damaged in turn, at places 65 apart: each is a region, and doubles the number of combinations.
+/// Places 65 apart, in turn of either version: each is a region, and doubles the number of combinations.
+static EVEN: [(usize, u8); 7] = [
+    (0, 1),
+    (130, 1),
+    (260, 1),
+    (390, 1),
+    (520, 1),
+    (650, 1),
+    (780, 1),
+];
+
+static ODD: [(usize, u8); 6] = [(65, 1), (195, 1), (325, 1), (455, 1), (585, 1), (715, 1)];
+
 #[test]
 fn at_most_4096_combinations_are_tried(rt: HostRuntime) {
-    let even = [
-        (0, 1),
-        (130, 1),
-        (260, 1),
-        (390, 1),
-        (520, 1),
-        (650, 1),
-        (780, 1),
-    ];
-    let odd = [(65, 1), (195, 1), (325, 1), (455, 1), (585, 1), (715, 1)];
-    let both = [even.as_slice(), odd.as_slice()];
-    assert!(rt; is_told(rt.alloc(), &[&even[..6], odd.as_slice()], Told::Slice(4096)));
-    assert!(rt; is_told(rt.alloc(), &both, Told::TooMany));
+    let most = is_told(rt.alloc(), &[&EVEN[..6], &ODD], Told::Slice(4096));
+    let more = is_told(rt.alloc(), &[&EVEN, &ODD], Told::TooMany);
+    assert!(rt; most && more);
 }

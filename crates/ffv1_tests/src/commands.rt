@@ -1,47 +1,18 @@
 //! The commands over readers that are interrupted or hold much, and over changed holding files.
+use crate::failing::Input;
 use ffv1_commands::{CliFault, CommandPath, run_chain, run_join, run_restore, run_take};
 use ffv1_frames::{FRAME, TWO_TILES};
 use std::alloc::Global;
 use std::io;
-use std::io::{ErrorKind, Read};
+use std::io::Read;
 use std::test::Fail;
 
 const FRAME_TEXT: &str = "11..22 size 3 status 0 pass\n0..11 size 3 status 0 pass\nend whole\n";
 
-/// Gives an interruption before each of its bytes, or so many in a row.
-#[derive(Drop)]
-struct Interrupted<'a> {
-    bytes: &'a [u8],
-    before_each: u32,
-    left: u32,
-}
-
-impl Read for Interrupted<'_> {
-    fn read(&mut self, buf: &mut [u8]) -> io::Result<usize> {
-        if self.left > 0 {
-            self.left -= 1;
-            return Err(io::Error::from(ErrorKind::Interrupted));
-        }
-        self.left = self.before_each;
-        match (self.bytes, buf) {
-            ([first, rest @ ..], [place, ..]) => {
-                *place = *first;
-                self.bytes = rest;
-                Ok(1)
-            }
-            _ => Ok(0),
-        }
-    }
-}
-
 /// Whether `chain` prints the frame that is interrupted so often before each byte, or else tells that it was not read, and
 /// prints nothing.
 fn interruptions_are_told(alloc: Global, before_each: u32, is_read: bool) -> bool {
-    let mut frame = Interrupted {
-        bytes: &FRAME,
-        before_each,
-        left: before_each,
-    };
+    let mut frame = Input::interrupted(&FRAME, before_each);
     let mut output: Vec<u8> = Vec::new(alloc);
     match run_chain(alloc, &mut frame, &mut output) {
         Ok(()) => is_read && output.as_slice() == FRAME_TEXT.as_bytes(),
@@ -53,8 +24,11 @@ fn interruptions_are_told(alloc: Global, before_each: u32, is_read: bool) -> boo
 
 #[test]
 fn interrupted_reads_are_tried_again(rt: HostRuntime) {
-    assert!(rt; interruptions_are_told(rt.alloc(), 64, true));
-    assert!(rt; interruptions_are_told(rt.alloc(), 65, false));
+    let told = (
+        interruptions_are_told(rt.alloc(), 64, true),
+        interruptions_are_told(rt.alloc(), 65, false),
+    );
+    assert!(rt; told == (true, true));
 }
 
 /// The frame with a damaged tile 0.
@@ -71,14 +45,32 @@ fn right_damaged() -> [u8; 22] {
     copy
 }
 
-/// The holding file of copies, and what was printed of them.
-fn taken(alloc: Global, mut copies: [&[u8]; 2]) -> Result<(Vec<u8>, Vec<u8>), Fail> {
-    let mut record = TWO_TILES.as_slice();
-    let mut out = Vec::new(alloc);
-    let mut output = Vec::new(alloc);
-    run_take(alloc, &mut record, 2, 1, &mut copies, &mut out, &mut output)
-        .ok()
-        .ok_or("ample memory")?;
+/// Fails with this message where a command did not end well.
+pub(crate) fn ended(answer: Result<(), CliFault>, message: &'static str) -> Result<(), Fail> {
+    match answer {
+        Ok(()) => Ok(()),
+        Err(_) => Err(message.into()),
+    }
+}
+
+/// The holding file of copies of a frame with this record and size, and what was printed of them.
+pub(crate) fn taken(
+    alloc: Global,
+    mut record: &[u8],
+    (width, height): (u32, u32),
+    copies: &mut [&[u8]],
+) -> Result<(Vec<u8>, Vec<u8>), Fail> {
+    let (mut out, mut output) = (Vec::new(alloc), Vec::new(alloc));
+    let answer = run_take(
+        alloc,
+        &mut record,
+        width,
+        height,
+        copies,
+        &mut out,
+        &mut output,
+    );
+    ended(answer, "ample memory")?;
     Ok((out, output))
 }
 
@@ -91,9 +83,8 @@ pub(crate) fn joined<'a>(
     let mut others = [second];
     let mut union = Vec::new(alloc);
     let mut output = Vec::new(alloc);
-    run_join(alloc, &mut first, &mut others, &mut union, &mut output)
-        .ok()
-        .ok_or("files of one recording")?;
+    let answer = run_join(alloc, &mut first, &mut others, &mut union, &mut output);
+    ended(answer, "files of one recording")?;
     Ok((union, output))
 }
 
@@ -110,8 +101,8 @@ fn union_is_restored(alloc: Global, one: &[u8], both: &[u8]) -> Result<bool, Fai
 /// Whether the frame is restored of two copies, and each command tells what it did.
 fn two_copies_are_restored(alloc: Global) -> Result<bool, Fail> {
     let (a, b) = (left_damaged(), right_damaged());
-    let (both, lines) = taken(alloc, [&b, &a])?;
-    let (one, _) = taken(alloc, [&b, &b])?;
+    let (both, lines) = taken(alloc, &TWO_TILES, (2, 1), &mut [&b, &a])?;
+    let (one, _) = taken(alloc, &TWO_TILES, (2, 1), &mut [&b, &b])?;
     let wanted = "copy 1 links 2 slices 1 new 1\ncopy 2 links 2 slices 1 new 1\n";
     Ok(lines.as_slice() == wanted.as_bytes() && union_is_restored(alloc, &one, &both)?)
 }
@@ -124,7 +115,7 @@ fn commands_restore_what_two_copies_have(rt: HostRuntime) -> Result<(), Fail> {
 
 /// The numbers of the faults of the holding file of both tiles where the lowest bit of one byte is turned, by the byte's
 /// place; 0 where it is then the file of another size, or of another copy.
-const BIT_TURNED: [u8; 146] = [
+static BIT_TURNED: [u8; 146] = [
     1, 1, 1, 1, 1, 1, 1, 1, 2, 2, 0, 0, 2, 2, 0, 2, 11, 3, 3, 2, 2, 2, 2, 2, 2, 2, 2, 2, 2, 2, 2,
     2, 2, 2, 2, 2, 2, 7, 6, 6, 11, 3, 3, 6, 6, 6, 6, 6, 6, 6, 6, 6, 6, 6, 6, 5, 5, 5, 4, 0, 0, 0,
     0, 0, 0, 0, 0, 0, 0, 0, 0, 0, 0, 0, 0, 0, 0, 0, 0, 0, 0, 0, 0, 0, 0, 0, 0, 0, 0, 0, 0, 7, 6, 6,
@@ -133,7 +124,7 @@ const BIT_TURNED: [u8; 146] = [
 ];
 
 /// The same where all bits of the byte are turned.
-const BYTE_TURNED: [u8; 146] = [
+static BYTE_TURNED: [u8; 146] = [
     1, 1, 1, 1, 1, 1, 1, 1, 2, 2, 0, 0, 2, 2, 0, 0, 11, 3, 3, 3, 2, 2, 2, 2, 2, 2, 2, 2, 2, 2, 2,
     2, 2, 2, 2, 2, 2, 4, 6, 6, 11, 3, 3, 3, 6, 6, 6, 6, 6, 6, 6, 6, 6, 6, 6, 11, 5, 5, 5, 0, 0, 0,
     0, 0, 0, 0, 0, 0, 0, 0, 0, 0, 0, 0, 0, 0, 0, 0, 0, 0, 0, 0, 0, 0, 0, 0, 0, 0, 0, 0, 0, 4, 6, 6,
@@ -141,32 +132,61 @@ const BYTE_TURNED: [u8; 146] = [
     0, 0, 0, 0, 0, 0, 0, 0, 0, 0, 0, 0, 0, 0, 0, 0, 0, 0, 0, 0, 4,
 ];
 
+/// Whether a fault is told as the one of a holding file that has this number.
+fn is_numbered(alloc: Global, fault: &CliFault, number: u8) -> Result<bool, Fail> {
+    let expected = format!(in alloc; "holding file fault {number}")?;
+    let line = fault.line(alloc, "HOLD")?;
+    Ok(line == expected)
+}
+
+/// Whether this answer of `restore`, with these outputs, tells this fault and leaves the outputs alone; for 0, whether it
+/// restores the frame.
+fn answer_is_told(
+    alloc: Global,
+    answer: &Result<(), CliFault>,
+    (payload, printed): (&[u8], &[u8]),
+    number: u8,
+) -> Result<bool, Fail> {
+    match answer {
+        Ok(()) => Ok(
+            number == 0
+                && payload == FRAME.as_slice()
+                && printed == b"restored 22 bytes\n".as_slice(),
+        ),
+        Err(fault) if payload.is_empty() && printed.is_empty() => {
+            is_numbered(alloc, fault, number)
+        }
+        Err(_) => Ok(false),
+    }
+}
+
 /// Whether `restore` tells this fault of a holding file and leaves the outputs alone; for 0, whether it restores the frame.
 fn is_told(alloc: Global, mut file: &[u8], number: u8) -> Result<bool, Fail> {
     let mut payload: Vec<u8> = Vec::new(alloc);
     let mut printed: Vec<u8> = Vec::new(alloc);
-    match run_restore(alloc, &mut file, &mut payload, &mut printed) {
-        Ok(()) => Ok(
-            number == 0
-                && payload.as_slice() == FRAME.as_slice()
-                && printed.as_slice() == b"restored 22 bytes\n".as_slice(),
-        ),
-        Err(fault) => {
-            let expected = format!(in alloc; "holding file fault {number}")?;
-            let line = fault.line(alloc, "HOLD");
-            Ok(line?.as_str() == expected.as_str() && payload.is_empty() && printed.is_empty())
-        }
+    let answer = run_restore(alloc, &mut file, &mut payload, &mut printed);
+    answer_is_told(alloc, &answer, (&payload, &printed), number)
+}
+
+/// Whether this fault is told where the byte at a place is changed by the mask.
+fn change_is_told(
+    alloc: Global,
+    file: &[u8],
+    place: usize,
+    mask: u8,
+    number: u8,
+) -> Result<bool, Fail> {
+    let mut changed = file.to_vec(alloc)?;
+    if let Some(byte) = changed.get_mut(place) {
+        *byte ^= mask;
     }
+    is_told(alloc, &changed, number)
 }
 
 /// Whether each of these faults is told where the byte at its place is changed by the mask.
 fn are_told(alloc: Global, file: &[u8], mask: u8, numbers: &[u8]) -> Result<bool, Fail> {
     for (place, number) in numbers.iter().enumerate() {
-        let mut changed = file.to_vec(alloc)?;
-        if let Some(byte) = changed.get_mut(place) {
-            *byte ^= mask;
-        }
-        if !is_told(alloc, &changed, *number)? {
+        if !change_is_told(alloc, file, place, mask, *number)? {
             return Ok(false);
         }
     }
@@ -175,7 +195,8 @@ fn are_told(alloc: Global, file: &[u8], mask: u8, numbers: &[u8]) -> Result<bool
 
 /// Whether the file of both tiles is as long as these lists of faults, and each of them is told where the bytes are changed so.
 fn changes_are_told(alloc: Global, mask: u8, numbers: &[u8]) -> Result<bool, Fail> {
-    let (both, _) = taken(alloc, [&left_damaged(), &right_damaged()])?;
+    let (left, right) = (left_damaged(), right_damaged());
+    let (both, _) = taken(alloc, &TWO_TILES, (2, 1), &mut [&left, &right])?;
     Ok(both.len() == numbers.len() && are_told(alloc, &both, mask, numbers)?)
 }
 

@@ -1,4 +1,5 @@
 //! The commands on devices that fail after any number of bytes: which path is told, and what is left in the outputs.
+use crate::commands::{ended, taken};
 use crate::suite::merged;
 use ffv1_commands::{
     CliFault, CommandPath, run_chain, run_decode, run_join, run_merge, run_picture, run_report,
@@ -12,7 +13,7 @@ use std::io::{ErrorKind, Read, Write};
 use std::test::Fail;
 
 /// What an input does after its bytes.
-#[derive(Clone, Copy, Debug, PartialEq, Eq)]
+#[derive(Clone, Copy)]
 enum After {
     /// It ends.
     End,
@@ -24,9 +25,13 @@ enum After {
 
 /// A reader of bytes, after so many interruptions in a row.
 #[derive(Drop)]
-struct Input<'a> {
+pub(crate) struct Input<'a> {
     bytes: &'a [u8],
+    /// The most bytes that it gives at a time.
+    most: usize,
     interruptions: u32,
+    /// The interruptions that come in a row before each of its later reads.
+    later_interruptions: u32,
     after: After,
 }
 
@@ -34,7 +39,20 @@ impl<'a> Input<'a> {
     fn new(bytes: &'a [u8]) -> Input<'a> {
         Input {
             bytes,
+            most: usize::MAX,
             interruptions: 0,
+            later_interruptions: 0,
+            after: After::End,
+        }
+    }
+
+    /// One that gives a byte at a time, each after so many interruptions in a row.
+    pub(crate) fn interrupted(bytes: &'a [u8], before_each: u32) -> Input<'a> {
+        Input {
+            bytes,
+            most: 1,
+            interruptions: before_each,
+            later_interruptions: before_each,
             after: After::End,
         }
     }
@@ -52,9 +70,9 @@ impl Read for Input<'_> {
             self.interruptions -= 1;
             return Err(io::Error::from(ErrorKind::Interrupted));
         }
-        let mut left = self.bytes;
-        let count = left.read(buf)?;
-        self.bytes = left;
+        self.interruptions = self.later_interruptions;
+        let most = self.most.min(buf.len());
+        let count = self.bytes.read(&mut buf[..most])?;
         match self.after {
             After::Failure if count == 0 => Err(io::Error::from(ErrorKind::Other)),
             After::Zeros if count == 0 => {
@@ -107,7 +125,7 @@ impl Write for Output {
 }
 
 /// A command.
-#[derive(Clone, Copy, Debug, PartialEq, Eq)]
+#[derive(Clone, Copy, Debug)]
 enum Command {
     Chain,
     Show,
@@ -121,7 +139,7 @@ enum Command {
     Decode,
 }
 
-const COMMANDS: [Command; 10] = [
+static COMMANDS: [Command; 10] = [
     Command::Chain,
     Command::Show,
     Command::Take,
@@ -202,20 +220,7 @@ fn run<'a>(
 
 /// The holding file of a copy.
 fn held(alloc: Global, copy: &[u8]) -> Result<Vec<u8>, Fail> {
-    let mut record = TWO_TILES.as_slice();
-    let mut file = Vec::new(alloc);
-    let mut printed: Vec<u8> = Vec::new(alloc);
-    run_take(
-        alloc,
-        &mut record,
-        2,
-        1,
-        &mut [copy],
-        &mut file,
-        &mut printed,
-    )
-    .ok()
-    .ok_or("ample memory")?;
+    let (file, _printed) = taken(alloc, &TWO_TILES, (2, 1), &mut [copy])?;
     Ok(file)
 }
 
@@ -241,7 +246,7 @@ fn is_unwritten(answer: &Result<(), CliFault>, path: CommandPath) -> bool {
 
 /// Whether OUT has what a command may leave there where an input fails: nothing, or of `merge` a front of its file.
 fn is_left(command: Command, files: &Files, out: &[u8]) -> bool {
-    let front = command == Command::Merge && files.union.starts_with(out);
+    let front = matches!(command, Command::Merge) && files.union.starts_with(out);
     out.is_empty() || front && out.len() < files.union.len()
 }
 
@@ -292,8 +297,9 @@ fn untold_input(alloc: Global, command: Command) -> Result<Option<usize>, Fail> 
 
 #[test]
 fn inputs_that_fail_are_told(rt: HostRuntime) -> Result<(), Fail> {
-    for command in COMMANDS {
-        assert_eq!(rt; untold_input(rt.alloc(), command)?, None, "{command:?}");
+    for &command in &COMMANDS {
+        let room = untold_input(rt.alloc(), command)?;
+        assert!(rt; room.is_none(), "{command:?} {room:?}");
     }
     Ok(())
 }
@@ -366,7 +372,7 @@ fn output_without_front(
 fn without_front(alloc: Global, command: Command) -> Result<Option<usize>, Fail> {
     let files = holding_files(alloc)?;
     let (answer, made, printed) = ran_with_room(alloc, command, &files, usize::MAX, usize::MAX);
-    answer.ok().ok_or("ample memory")?;
+    ended(answer, "ample memory")?;
     let out = out_without_front(alloc, command, &files, &made);
     if out.is_some() {
         return Ok(out);
@@ -376,8 +382,9 @@ fn without_front(alloc: Global, command: Command) -> Result<Option<usize>, Fail>
 
 #[test]
 fn outputs_that_fail_have_a_front(rt: HostRuntime) -> Result<(), Fail> {
-    for command in COMMANDS {
-        assert_eq!(rt; without_front(rt.alloc(), command)?, None, "{command:?}");
+    for &command in &COMMANDS {
+        let room = without_front(rt.alloc(), command)?;
+        assert!(rt; room.is_none(), "{command:?} {room:?}");
     }
     Ok(())
 }
@@ -413,7 +420,9 @@ fn interruptions_are_told(alloc: Global, command: Command, files: &Files, device
             0 => is_unread(&told, Some(first)),
             1 if second.is_some() => is_unread(&told, second),
             2 if makes => is_unwritten(&told, CommandPath::Out),
-            3 if command != Command::Merge => { is_unwritten(&told, CommandPath::StandardOutput) }
+            3 if !matches!(command, Command::Merge) => {
+                is_unwritten(&told, CommandPath::StandardOutput)
+            }
             _ => true,
         }
 }
@@ -431,8 +440,9 @@ fn untold_device(alloc: Global, command: Command) -> Result<Option<usize>, Fail>
 
 #[test]
 fn sixty_five_interruptions_in_a_row_are_told(rt: HostRuntime) -> Result<(), Fail> {
-    for command in COMMANDS {
-        assert_eq!(rt; untold_device(rt.alloc(), command)?, None, "{command:?}");
+    for &command in &COMMANDS {
+        let device = untold_device(rt.alloc(), command)?;
+        assert!(rt; device.is_none(), "{command:?} {device:?}");
     }
     Ok(())
 }
@@ -446,15 +456,15 @@ fn endless_shows(alloc: Global, file: &[u8], fault: HoldFileFault) -> bool {
     matches!(answer, Err(CliFault::HoldFile(told)) if told == fault)
 }
 
-/// Whether a whole holding file that never ends is told as one with trailing bytes.
-fn whole_shows_trailing(alloc: Global) -> Result<bool, Fail> {
+/// Whether files that never end are told so: one of zeros alone is none, and a whole one has trailing bytes.
+fn endless_are_told(alloc: Global) -> Result<bool, Fail> {
     let files = holding_files(alloc)?;
-    Ok(endless_shows(alloc, &files.whole, HoldFileFault::Trailing))
+    let is_none = endless_shows(alloc, &[], HoldFileFault::Magic);
+    Ok(is_none && endless_shows(alloc, &files.whole, HoldFileFault::Trailing))
 }
 
 #[test]
 fn files_that_never_end_show_their_first_fault(rt: HostRuntime) -> Result<(), Fail> {
-    assert!(rt; endless_shows(rt.alloc(), &[], HoldFileFault::Magic));
-    assert!(rt; whole_shows_trailing(rt.alloc())?);
+    assert!(rt; endless_are_told(rt.alloc())?);
     Ok(())
 }

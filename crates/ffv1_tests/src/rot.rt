@@ -1,51 +1,13 @@
 //! Frames, records and holding files of the suite, cut at every place and with every eight bytes zeroed, through the
 //! calls that take them.
+use crate::suite::{Made, frame_of};
 use ffv1_hold::{FromRead, FromWrite, HoldFileFault, Holding, TileState, read_hold, write_hold};
-use ffv1_picture::{Decoder, Partial, TileOutcome, picture};
+use ffv1_picture::{Decoder, TileOutcome, picture};
 use ffv1_range::{Setup, SetupFault};
 use ffv1_slice::{Chain, slice_of};
-use ffv1_vectors::{
-    SUITE_NUMBERS, SuiteCase, SuiteTables, cut, make_frame, make_record, suite_case, suite_frame,
-    suite_record, zero,
-};
+use ffv1_vectors::{SUITE_NUMBERS, SuiteCase, SuiteTables, cut, suite_case, zero};
 use std::alloc::Global;
 use std::test::Fail;
-
-/// A frame of the suite, with its record and size.
-#[derive(Drop)]
-struct Made {
-    record: Vec<u8>,
-    size: (u32, u32),
-    setup: Setup,
-    payload: Vec<u8>,
-}
-
-/// The frame of a case.
-fn frame_of(alloc: Global, case: &SuiteCase) -> Result<Made, Fail> {
-    let record = make_record(alloc, &suite_record(alloc, case)?)?;
-    let setup = Setup::read(alloc, &record, case.size.0, case.size.1)?;
-    let payload = make_frame(alloc, &setup, &suite_frame(alloc, case, &setup)?)?;
-    Ok(Made {
-        record,
-        size: case.size,
-        setup,
-        payload,
-    })
-}
-
-/// The frames that rot: those of the suite that have at most 1000 bytes.
-fn frames(alloc: Global, tables: SuiteTables) -> Result<Vec<Made>, Fail> {
-    let mut frames = Vec::new(alloc);
-    for number in 0..SUITE_NUMBERS {
-        if let Some(case) = suite_case(tables, number) {
-            let made = frame_of(alloc, &case)?;
-            if made.payload.len() <= 1000 {
-                frames.push(made)?;
-            }
-        }
-    }
-    Ok(frames)
-}
 
 /// Bytes that are cut at a place, or from a place on zeroed for eight bytes; `None` where there are not so many.
 fn rotten(
@@ -76,24 +38,38 @@ fn slice_of_tile<'a>(setup: &Setup, payload: &'a [u8], tile: usize) -> Option<&'
     None
 }
 
-/// Whether each tile of a holding is missing, or settled by the original's slice and then decoded.
-fn holds_of_original(alloc: Global, made: &Made, holding: &Holding) -> Result<bool, Fail> {
-    let Partial { tiles, .. } = picture(alloc, holding)?;
+/// Whether a tile is missing, or settled by the original's slice and then decoded.
+fn is_of_original(
+    made: &Made,
+    tile: usize,
+    state: TileState<'_>,
+    outcome: Option<TileOutcome>,
+) -> bool {
+    match state {
+        TileState::Missing => outcome == Some(TileOutcome::Missing),
+        TileState::Settled(bytes) => {
+            Some(bytes) == slice_of_tile(&made.setup, &made.payload, tile)
+                && matches!(outcome, Some(TileOutcome::Decoded { .. }))
+        }
+        TileState::Disputed(_) => false,
+    }
+}
+
+/// Whether all tiles of a holding are, which came out so.
+fn are_of_original(made: &Made, holding: &Holding, outcomes: &[TileOutcome]) -> bool {
     for tile in 0..holding.reel().tiles() {
-        let outcome = tiles.get(tile).copied();
-        let right = match holding.state(tile) {
-            TileState::Missing => outcome == Some(TileOutcome::Missing),
-            TileState::Settled(bytes) => {
-                Some(bytes) == slice_of_tile(&made.setup, &made.payload, tile)
-                    && matches!(outcome, Some(TileOutcome::Decoded { .. }))
-            }
-            TileState::Disputed(_) => false,
-        };
-        if !right {
-            return Ok(false);
+        let outcome = outcomes.get(tile).copied();
+        if !is_of_original(made, tile, holding.state(tile), outcome) {
+            return false;
         }
     }
-    Ok(true)
+    true
+}
+
+/// Whether all tiles of a holding are.
+fn holds_of_original(alloc: Global, made: &Made, holding: &Holding) -> Result<bool, Fail> {
+    let partial = picture(alloc, holding)?;
+    Ok(are_of_original(made, holding, &partial.tiles))
 }
 
 /// Whether a rotten payload is decoded exactly where it is the original.
@@ -103,12 +79,22 @@ fn is_decoded_as_original(alloc: Global, made: &Made, rotten: &[u8]) -> Result<b
     Ok(is_whole == (rotten == made.payload.as_slice()))
 }
 
+/// Whether a holding, which has no slices yet, takes only slices of the original from a rotten payload.
+fn takes_of_original(
+    alloc: Global,
+    made: &Made,
+    holding: &mut Holding,
+    rotten: &[u8],
+) -> Result<bool, Fail> {
+    let taken = holding.take(rotten).ok().ok_or("ample memory")?;
+    let is_original = holds_of_original(alloc, made, holding)?;
+    Ok(is_original && taken.links <= rotten.len() / 8)
+}
+
 /// Whether a rotten payload gives only slices of the original.
 fn gives_slices_of_original(alloc: Global, made: &Made, rotten: &[u8]) -> Result<bool, Fail> {
     let mut holding = Holding::new(alloc, &made.record, made.size.0, made.size.1)?;
-    let taken = holding.take(rotten).ok().ok_or("ample memory")?;
-    let is_original = holds_of_original(alloc, made, &holding)?;
-    Ok(is_original && taken.links <= rotten.len() / 8)
+    takes_of_original(alloc, made, &mut holding, rotten)
 }
 
 /// Whether a rotten payload gives only slices of the original, and is decoded exactly where it is the original.
@@ -131,17 +117,6 @@ fn record_is_judged(alloc: Global, made: &Made, rotten: &[u8]) -> bool {
     }
 }
 
-/// Whether a rotten holding file is told as cut, or for a fault of its bytes, or is the file of what is read of it: nothing
-/// of it has changed, or a digest.
-fn file_is_judged(alloc: Global, file: &[u8], rotten: &[u8]) -> Result<bool, Fail> {
-    match read_hold(alloc, &mut FromRead::new(rotten)) {
-        Ok(holding) => Ok(text_of(alloc, &holding)?.as_slice() == rotten),
-        Err(fault) if rotten.len() < file.len() => Ok(fault == HoldFileFault::Truncated),
-        Err(HoldFileFault::Read | HoldFileFault::Memory | HoldFileFault::Write) => Ok(false),
-        Err(_) => Ok(rotten != file),
-    }
-}
-
 /// The file of a holding.
 fn text_of(alloc: Global, holding: &Holding) -> Result<Vec<u8>, Fail> {
     let mut sink = FromWrite::new(Vec::new(alloc));
@@ -149,11 +124,40 @@ fn text_of(alloc: Global, holding: &Holding) -> Result<Vec<u8>, Fail> {
     Ok(sink.into_inner())
 }
 
+/// Whether these bytes are the file of a holding.
+fn is_file_of(alloc: Global, holding: &Holding, bytes: &[u8]) -> Result<bool, Fail> {
+    Ok(text_of(alloc, holding)?.as_slice() == bytes)
+}
+
+/// Whether a fault is one that may be told of a rotten holding file: that it is cut where it is shorter, else one of its
+/// bytes, if any has changed.
+fn is_told_of(fault: HoldFileFault, file: &[u8], rotten: &[u8]) -> bool {
+    match fault {
+        _ if rotten.len() < file.len() => fault == HoldFileFault::Truncated,
+        HoldFileFault::Read | HoldFileFault::Memory | HoldFileFault::Write => false,
+        _ => rotten != file,
+    }
+}
+
+/// Whether a rotten holding file is told as cut, or for a fault of its bytes, or is the file of what is read of it: nothing
+/// of it has changed, or a digest.
+fn file_is_judged(alloc: Global, file: &[u8], rotten: &[u8]) -> Result<bool, Fail> {
+    match read_hold(alloc, &mut FromRead::new(rotten)) {
+        Ok(holding) => is_file_of(alloc, &holding, rotten),
+        Err(fault) => Ok(is_told_of(fault, file, rotten)),
+    }
+}
+
+/// The file of a holding when it has taken a payload.
+fn text_of_taken(alloc: Global, holding: &mut Holding, payload: &[u8]) -> Result<Vec<u8>, Fail> {
+    holding.take(payload).ok().ok_or("ample memory")?;
+    text_of(alloc, holding)
+}
+
 /// The holding file of a frame.
 fn file_of(alloc: Global, made: &Made) -> Result<Vec<u8>, Fail> {
     let mut holding = Holding::new(alloc, &made.record, made.size.0, made.size.1)?;
-    holding.take(&made.payload).ok().ok_or("ample memory")?;
-    text_of(alloc, &holding)
+    text_of_taken(alloc, &mut holding, &made.payload)
 }
 
 /// Whether a frame is judged rightly wherever it is cut or zeroed.
@@ -202,28 +206,54 @@ fn is_judged(alloc: Global, made: &Made, is_cut: bool) -> Result<bool, Fail> {
     )
 }
 
-/// How many frames with these tables rot, each of which is judged wherever it is cut and wherever it is zeroed.
+/// Whether a frame rots: those of at most 1000 bytes do, and each is judged wherever it is cut and wherever it is zeroed.
+fn rots(alloc: Global, made: &Made) -> Result<bool, Fail> {
+    if made.payload.len() > 1000 {
+        return Ok(false);
+    }
+    if is_judged(alloc, made, true)? && is_judged(alloc, made, false)? {
+        return Ok(true);
+    }
+    Err("a frame that is judged".into())
+}
+
+/// Whether the frame of a case does.
+fn case_rots(alloc: Global, case: &SuiteCase) -> Result<bool, Fail> {
+    let made = frame_of(alloc, case)?;
+    rots(alloc, &made)
+}
+
+/// How many frames with these tables rot.
 fn count_judged(alloc: Global, tables: SuiteTables) -> Result<usize, Fail> {
     let mut count = 0usize;
-    for made in &frames(alloc, tables)? {
-        if !is_judged(alloc, made, true)? || !is_judged(alloc, made, false)? {
-            return Err("a frame that is judged".into());
+    for number in 0..SUITE_NUMBERS {
+        if let Some(case) = suite_case(tables, number) {
+            if case_rots(alloc, &case)? {
+                count = count.saturating_add(1);
+            }
         }
-        count = count.saturating_add(1);
+    }
+    Ok(count)
+}
+
+/// The tables of the suite.
+static TABLES: [SuiteTables; 3] = [
+    SuiteTables::OneRun,
+    SuiteTables::SixRuns,
+    SuiteTables::TwoRuns,
+];
+
+/// How many frames of the suite rot.
+fn count_all_judged(alloc: Global) -> Result<usize, Fail> {
+    let mut count = 0usize;
+    for &tables in &TABLES {
+        count = count.saturating_add(count_judged(alloc, tables)?);
     }
     Ok(count)
 }
 
 #[test]
 fn rotten_bytes_are_judged(rt: HostRuntime) -> Result<(), Fail> {
-    let mut count = 0usize;
-    for tables in [
-        SuiteTables::OneRun,
-        SuiteTables::SixRuns,
-        SuiteTables::TwoRuns,
-    ] {
-        count = count.saturating_add(count_judged(rt.alloc(), tables)?);
-    }
-    assert_eq!(rt; count, 1343);
+    assert!(rt; count_all_judged(rt.alloc())? == 1343);
     Ok(())
 }

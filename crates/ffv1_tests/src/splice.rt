@@ -1,7 +1,7 @@
 //! The splice of copies of a recorded frame, as the call gives it, and as the command writes and tells it.
 use ffv1_commands::{CliFault, CommandPath, run_splice};
 use ffv1_frames::RECORDED;
-use ffv1_splice::{Place, SpliceFault, Standing, splice};
+use ffv1_splice::{Place, SpliceFault, Spliced, Standing, splice};
 use std::alloc::Global;
 use std::test::Fail;
 
@@ -32,10 +32,25 @@ fn places(standings: [Standing; 4]) -> [Place; 4] {
     ]
 }
 
-/// The frame where these bytes are changed, each by its mask.
-fn changed(bytes: &[(usize, u8)]) -> [u8; 336] {
+/// Bytes of the frame that are changed: the place of each, and the mask of its bits that are turned.
+type Changes = &'static [(usize, u8)];
+
+/// Damage in the first slice and the third.
+const FIRST_COPY: Changes = &[(39, 1), (209, 1)];
+
+/// Damage in the second slice and the last.
+const SECOND_COPY: Changes = &[(103, 1), (286, 1)];
+
+/// The first slice changed so that it passes its parity: by a multiple of the parity's polynomial.
+const OTHER_FIRST_SLICE: Changes = &[(10, 0x01), (11, 0x04), (12, 0xC1), (13, 0x1D), (14, 0xB7)];
+
+/// A footer of the second slice that tells a size beyond the frame.
+const SIZE_DAMAGED: Changes = &[(107, 0x80)];
+
+/// The frame where these bytes are changed.
+fn changed(changes: &[(usize, u8)]) -> [u8; 336] {
     let mut copy = RECORDED;
-    for (place, mask) in bytes {
+    for (place, mask) in changes {
         if let Some(byte) = copy.get_mut(*place) {
             *byte ^= *mask;
         }
@@ -43,24 +58,9 @@ fn changed(bytes: &[(usize, u8)]) -> [u8; 336] {
     copy
 }
 
-/// Damage in the first slice and the third.
-fn first_copy() -> [u8; 336] {
-    changed(&[(39, 1), (209, 1)])
-}
-
-/// Damage in the second slice and the last.
-fn second_copy() -> [u8; 336] {
-    changed(&[(103, 1), (286, 1)])
-}
-
-/// The first slice changed so that it passes its parity: by a multiple of the parity's polynomial.
-fn other_first_slice() -> [u8; 336] {
-    changed(&[(10, 0x01), (11, 0x04), (12, 0xC1), (13, 0x1D), (14, 0xB7)])
-}
-
-/// A footer of the second slice that tells a size beyond the frame.
-fn size_damaged() -> [u8; 336] {
-    changed(&[(107, 0x80)])
+/// Whether a splice has these places, this front and these bytes.
+fn is_splice(spliced: &Spliced, places: &[Place], front: usize, payload: &[u8]) -> bool {
+    spliced.places() == places && spliced.front() == front && spliced.payload() == payload
 }
 
 /// Whether two copies, in either order, are spliced to these places and this front, and to these bytes.
@@ -73,41 +73,47 @@ fn gives(
 ) -> Result<bool, Fail> {
     let spliced = splice(alloc, &[one, other])?;
     let turned = splice(alloc, &[other, one, other])?;
-    Ok(
-        spliced.places() == places
-            && spliced.front() == front
-            && spliced.payload() == payload
-            && turned.places() == places
-            && turned.front() == front
-            && turned.payload() == payload,
-    )
+    let is_given = is_splice(&spliced, places, front, payload);
+    Ok(is_given && is_splice(&turned, places, front, payload))
 }
+
+/// The same of two copies where these bytes are changed: their slices stand so, and what is spliced is the frame where
+/// those of the payload are changed.
+fn changed_give(
+    alloc: Global,
+    (one, other): (Changes, Changes),
+    standings: [Standing; 4],
+    payload: Changes,
+) -> Result<bool, Fail> {
+    let copies = (changed(one), changed(other));
+    let (places, payload) = (places(standings), changed(payload));
+    gives(alloc, (&copies.0, &copies.1), &places, 0, &payload)
+}
+
+/// Pairs of copies of which each slice is in one.
+static PAIRS: [(Changes, Changes); 2] = [(FIRST_COPY, SECOND_COPY), (SIZE_DAMAGED, &[])];
 
 #[test]
 fn slices_that_a_copy_has_are_settled(rt: HostRuntime) -> Result<(), Fail> {
-    let all = places([Standing::Settled; 4]);
-    let copies = (first_copy(), second_copy());
-    assert!(rt; gives(rt.alloc(), (&copies.0, &copies.1), &all, 0, &RECORDED)?);
-    let hurt = size_damaged();
-    assert!(rt; gives(rt.alloc(), (&hurt, &RECORDED), &all, 0, &RECORDED)?);
+    for &pair in &PAIRS {
+        assert!(rt; changed_give(rt.alloc(), pair, [Standing::Settled; 4], &[])?);
+    }
     Ok(())
 }
 
 #[test]
 fn slices_that_no_copy_has_are_missing(rt: HostRuntime) -> Result<(), Fail> {
-    let copy = first_copy();
     let (settled, missing) = (Standing::Settled, Standing::Missing);
-    let expected = places([settled, missing, settled, missing]);
-    assert!(rt; gives(rt.alloc(), (&copy, &copy), &expected, 0, &copy)?);
+    let standings = [settled, missing, settled, missing];
+    assert!(rt; changed_give(rt.alloc(), (FIRST_COPY, FIRST_COPY), standings, FIRST_COPY)?);
     Ok(())
 }
 
 #[test]
 fn slices_that_no_copy_has_whole_are_woven(rt: HostRuntime) -> Result<(), Fail> {
     let settled = Standing::Settled;
-    let (one, other) = (changed(&[(230, 1)]), changed(&[(295, 1)]));
-    let expected = places([Standing::Woven(4), settled, settled, settled]);
-    assert!(rt; gives(rt.alloc(), (&one, &other), &expected, 0, &RECORDED)?);
+    let standings = [Standing::Woven(4), settled, settled, settled];
+    assert!(rt; changed_give(rt.alloc(), (&[(230, 1)], &[(295, 1)]), standings, &[])?);
     Ok(())
 }
 
@@ -123,16 +129,15 @@ fn damage_at_a_distance_of_64_is_one_region(rt: HostRuntime) -> Result<(), Fail>
 
 #[test]
 fn slices_that_differ_and_pass_are_disputed(rt: HostRuntime) -> Result<(), Fail> {
-    let other = other_first_slice();
     let settled = Standing::Settled;
-    let expected = places([settled, settled, settled, Standing::Disputed]);
-    assert!(rt; gives(rt.alloc(), (&RECORDED, &other), &expected, 0, &RECORDED)?);
+    let standings = [settled, settled, settled, Standing::Disputed];
+    assert!(rt; changed_give(rt.alloc(), (&[], OTHER_FIRST_SLICE), standings, &[])?);
     Ok(())
 }
 
 #[test]
 fn a_front_where_no_start_is_told_is_not_divided(rt: HostRuntime) -> Result<(), Fail> {
-    let copy = size_damaged();
+    let copy = changed(SIZE_DAMAGED);
     let [last, third, ..] = places([Standing::Settled; 4]);
     assert!(rt; gives(rt.alloc(), (&copy, &copy), &[last, third], 115, &copy)?);
     Ok(())
@@ -151,31 +156,68 @@ fn tells(
     answer: bool,
     payload: &[u8],
     lines: &str,
-) -> Result<bool, Fail> {
+) -> bool {
     let (mut out, mut printed) = (Vec::new(alloc), Vec::new(alloc));
     let answered = run_splice(alloc, &mut [one, other], &mut out, &mut printed);
-    Ok(
-        answered.ok() == Some(answer)
-            && out.as_slice() == payload
-            && printed.as_slice() == lines.as_bytes(),
+    answered.ok() == Some(answer)
+        && out.as_slice() == payload
+        && printed.as_slice() == lines.as_bytes()
+}
+
+/// What is changed in two copies, what the command answers of them, what is changed in the frame that it writes, and what it
+/// prints.
+type Told = (Changes, Changes, bool, Changes, &'static str);
+
+static TOLD: [Told; 4] = [
+    (
+        FIRST_COPY,
+        SECOND_COPY,
+        true,
+        &[],
+        "227..336 settled\n115..227 settled\n53..115 settled\n0..53 settled\nend whole\n",
+    ),
+    (
+        FIRST_COPY,
+        FIRST_COPY,
+        false,
+        FIRST_COPY,
+        "227..336 settled\n115..227 missing\n53..115 settled\n0..53 missing\nend whole\n",
+    ),
+    (
+        &[(230, 1)],
+        &[(320, 1)],
+        true,
+        &[],
+        "227..336 woven 4\n115..227 settled\n53..115 settled\n0..53 settled\nend whole\n",
+    ),
+    (
+        SIZE_DAMAGED,
+        SIZE_DAMAGED,
+        false,
+        SIZE_DAMAGED,
+        "227..336 settled\n115..227 settled\nend broken at 115\n",
+    ),
+];
+
+/// Whether the command does so of two copies.
+fn tells_of_changed(alloc: Global, told: &Told) -> bool {
+    let &(one, other, answer, payload, lines) = told;
+    let copies = (changed(one), changed(other));
+    tells(
+        alloc,
+        (&copies.0, &copies.1),
+        answer,
+        &changed(payload),
+        lines,
     )
 }
 
 #[test]
-fn the_command_writes_and_tells_the_splice(rt: HostRuntime) -> Result<(), Fail> {
-    let (one, other) = (first_copy(), second_copy());
-    let lines = "227..336 settled\n115..227 settled\n53..115 settled\n0..53 settled\nend whole\n";
-    assert!(rt; tells(rt.alloc(), (&one, &other), true, &RECORDED, lines)?);
-    let lines = "227..336 settled\n115..227 missing\n53..115 settled\n0..53 missing\nend whole\n";
-    assert!(rt; tells(rt.alloc(), (&one, &one), false, &one, lines)?);
-    let (torn, other) = (changed(&[(230, 1)]), changed(&[(320, 1)]));
-    let lines = "227..336 woven 4\n115..227 settled\n53..115 settled\n0..53 settled\nend whole\n";
-    assert!(rt; tells(rt.alloc(), (&torn, &other), true, &RECORDED, lines)?);
-    let hurt = size_damaged();
-    let lines = "227..336 settled\n115..227 settled\nend broken at 115\n";
-    assert!(rt; tells(rt.alloc(), (&hurt, &hurt), false, &hurt, lines)?);
-    assert!(rt; tells(rt.alloc(), (&[], &[]), true, &[], "end whole\n")?);
-    Ok(())
+fn the_command_writes_and_tells_the_splice(rt: HostRuntime) {
+    for told in &TOLD {
+        assert!(rt; tells_of_changed(rt.alloc(), told));
+    }
+    assert!(rt; tells(rt.alloc(), (&[], &[]), true, &[], "end whole\n"));
 }
 
 /// Whether the command tells that the second copy is not as long as the first, and writes nothing.

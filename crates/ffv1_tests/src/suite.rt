@@ -1,7 +1,7 @@
 //! The suite of made frames, through the commands: each comes back byte for byte, and sample by sample.
-use crate::commands::joined;
-use ffv1_commands::{run_decode, run_merge, run_restore, run_take};
-use ffv1_range::Setup;
+use crate::commands::{ended, joined, taken};
+use ffv1_commands::{run_decode, run_merge, run_restore};
+use ffv1_range::{Setup, TileRect};
 use ffv1_slice::{Chain, ChainEnd, Link};
 use ffv1_vectors::{
     FrameSpec, SUITE_NUMBERS, SuiteCase, SuiteContent, SuiteTables, burst, make_frame, make_record,
@@ -14,18 +14,34 @@ use std::test::Fail;
 #[derive(Drop)]
 pub(crate) struct Made {
     pub(crate) record: Vec<u8>,
-    size: (u32, u32),
-    setup: Setup,
+    pub(crate) size: (u32, u32),
+    pub(crate) setup: Setup,
     spec: FrameSpec,
     pub(crate) payload: Vec<u8>,
 }
 
-/// The frame of a case.
-pub(crate) fn frame_of(alloc: Global, case: &SuiteCase) -> Result<Made, Fail> {
+/// The record of a case, and what is read of it.
+fn record_of(alloc: Global, case: &SuiteCase) -> Result<(Vec<u8>, Setup), Fail> {
     let record = make_record(alloc, &suite_record(alloc, case)?)?;
     let setup = Setup::read(alloc, &record, case.size.0, case.size.1)?;
-    let spec = suite_frame(alloc, case, &setup)?;
-    let payload = make_frame(alloc, &setup, &spec)?;
+    Ok((record, setup))
+}
+
+/// What the frame of a case is made of, and its payload.
+fn payload_of(
+    alloc: Global,
+    case: &SuiteCase,
+    setup: &Setup,
+) -> Result<(FrameSpec, Vec<u8>), Fail> {
+    let spec = suite_frame(alloc, case, setup)?;
+    let payload = make_frame(alloc, setup, &spec)?;
+    Ok((spec, payload))
+}
+
+/// The frame of a case.
+pub(crate) fn frame_of(alloc: Global, case: &SuiteCase) -> Result<Made, Fail> {
+    let (record, setup) = record_of(alloc, case)?;
+    let (spec, payload) = payload_of(alloc, case, &setup)?;
     Ok(Made {
         record,
         size: case.size,
@@ -35,35 +51,20 @@ pub(crate) fn frame_of(alloc: Global, case: &SuiteCase) -> Result<Made, Fail> {
     })
 }
 
-/// The holding file of two copies, and what was printed of them.
-fn taken(alloc: Global, made: &Made, mut copies: [&[u8]; 2]) -> Result<(Vec<u8>, Vec<u8>), Fail> {
-    let mut record = made.record.as_slice();
-    let mut file = Vec::new(alloc);
-    let mut printed = Vec::new(alloc);
-    let (width, height) = made.size;
-    run_take(
-        alloc,
-        &mut record,
-        width,
-        height,
-        &mut copies,
-        &mut file,
-        &mut printed,
-    )
-    .ok()
-    .ok_or("ample memory")?;
-    Ok((file, printed))
+/// The holding file of two copies.
+fn file_of(alloc: Global, frame: &Made, mut copies: [&[u8]; 2]) -> Result<Vec<u8>, Fail> {
+    let (file, _printed) = taken(alloc, &frame.record, frame.size, &mut copies)?;
+    Ok(file)
 }
 
 /// What is restored of two copies.
 fn restored(alloc: Global, made: &Made, copies: [&[u8]; 2]) -> Result<Vec<u8>, Fail> {
-    let (file, _printed) = taken(alloc, made, copies)?;
+    let file = file_of(alloc, made, copies)?;
     let mut input = file.as_slice();
     let mut payload = Vec::new(alloc);
     let mut printed: Vec<u8> = Vec::new(alloc);
-    run_restore(alloc, &mut input, &mut payload, &mut printed)
-        .ok()
-        .ok_or("every tile is settled")?;
+    let answer = run_restore(alloc, &mut input, &mut payload, &mut printed);
+    ended(answer, "every tile is settled")?;
     Ok(payload)
 }
 
@@ -74,7 +75,7 @@ fn decoded(alloc: Global, made: &Made) -> Result<Vec<u8>, Fail> {
     let mut samples = Vec::new(alloc);
     let mut printed: Vec<u8> = Vec::new(alloc);
     let (width, height) = made.size;
-    run_decode(
+    let answer = run_decode(
         alloc,
         &mut record,
         width,
@@ -82,10 +83,20 @@ fn decoded(alloc: Global, made: &Made) -> Result<Vec<u8>, Fail> {
         &mut input,
         &mut samples,
         &mut printed,
-    )
-    .ok()
-    .ok_or("a frame")?;
+    );
+    ended(answer, "a frame")?;
     Ok(samples)
+}
+
+/// How many samples of a tile stand before that at a place of the plane, where the tile covers the place.
+fn place_in(tile: TileRect, x: u32, y: u32) -> Option<usize> {
+    let right = x.checked_sub(tile.x)?;
+    let below = y.checked_sub(tile.y)?;
+    if right >= tile.w || below >= tile.h {
+        return None;
+    }
+    let above = (below as usize).wrapping_mul(tile.w as usize);
+    Some(above.wrapping_add(right as usize))
 }
 
 /// The sample of a tile at a place of a plane, where it covers the place.
@@ -95,15 +106,7 @@ fn sample_of_tile(made: &Made, tile: usize, plane: usize, x: u32, y: u32) -> Opt
     if tile >= grid.tiles() || plane >= planes {
         return None;
     }
-    let rect = grid.plane_rect(tile, plane);
-    let right = x.checked_sub(rect.x)?;
-    let below = y.checked_sub(rect.y)?;
-    if right >= rect.w || below >= rect.h {
-        return None;
-    }
-    let place = (below as usize)
-        .wrapping_mul(rect.w as usize)
-        .wrapping_add(right as usize);
+    let place = place_in(grid.plane_rect(tile, plane), x, y)?;
     let samples = made.spec.tiles.get(tile)?.planes.get(plane)?;
     samples.get(place).copied()
 }
@@ -153,14 +156,27 @@ pub(crate) fn asked_samples(alloc: Global, made: &Made) -> Result<Vec<u8>, Fail>
     Ok(samples)
 }
 
-/// Whether a case comes back from `take` and `restore` byte for byte, and from `decode` sample by sample.
+/// Whether a frame is what is restored of two copies.
+fn is_restored(alloc: Global, frame: &Made, copies: [&[u8]; 2]) -> Result<bool, Fail> {
+    Ok(restored(alloc, frame, copies)?.as_slice() == frame.payload.as_slice())
+}
+
+/// Whether the samples that are decoded of a frame are those that were asked for.
+fn samples_come_back(alloc: Global, made: &Made) -> Result<bool, Fail> {
+    let samples = decoded(alloc, made)?;
+    let asked = asked_samples(alloc, made)?;
+    Ok(samples == asked)
+}
+
+/// Whether a frame comes back from `take` and `restore` byte for byte, and from `decode` sample by sample.
+fn made_comes_back(alloc: Global, made: &Made) -> Result<bool, Fail> {
+    Ok(is_restored(alloc, made, [&made.payload, &made.payload])? && samples_come_back(alloc, made)?)
+}
+
+/// Whether the frame of a case does.
 fn comes_back(alloc: Global, case: &SuiteCase) -> Result<bool, Fail> {
     let made = frame_of(alloc, case)?;
-    let payload = made.payload.as_slice();
-    let restored = restored(alloc, &made, [payload, payload])?;
-    let samples = decoded(alloc, &made)?;
-    let asked = asked_samples(alloc, &made)?;
-    Ok(restored.as_slice() == payload && samples.as_slice() == asked.as_slice())
+    made_comes_back(alloc, &made)
 }
 
 /// How many cases with these tables come back.
@@ -178,19 +194,19 @@ fn count_back(alloc: Global, tables: SuiteTables) -> Result<usize, Fail> {
 
 #[test]
 fn frames_of_one_run_come_back(rt: HostRuntime) -> Result<(), Fail> {
-    assert_eq!(rt; count_back(rt.alloc(), SuiteTables::OneRun)?, 465);
+    assert!(rt; count_back(rt.alloc(), SuiteTables::OneRun)? == 465);
     Ok(())
 }
 
 #[test]
 fn frames_of_six_runs_come_back(rt: HostRuntime) -> Result<(), Fail> {
-    assert_eq!(rt; count_back(rt.alloc(), SuiteTables::SixRuns)?, 465);
+    assert!(rt; count_back(rt.alloc(), SuiteTables::SixRuns)? == 465);
     Ok(())
 }
 
 #[test]
 fn frames_of_two_runs_come_back(rt: HostRuntime) -> Result<(), Fail> {
-    assert_eq!(rt; count_back(rt.alloc(), SuiteTables::TwoRuns)?, 465);
+    assert!(rt; count_back(rt.alloc(), SuiteTables::TwoRuns)? == 465);
     Ok(())
 }
 
@@ -206,10 +222,16 @@ fn four_tiles(alloc: Global) -> Result<Made, Fail> {
     frame_of(alloc, &case)
 }
 
-/// Where the slice of a tile stands in a payload: its first byte, and that after its last.
-fn place_of(alloc: Global, payload: &[u8], tile: usize) -> Result<(usize, usize), Fail> {
+/// The links of a payload, from its first byte on.
+fn links_of(alloc: Global, payload: &[u8]) -> Result<Vec<Link<'_>>, Fail> {
     let mut links: Vec<Link<'_>> = Chain::new(payload).collect(alloc)?;
     links.reverse();
+    Ok(links)
+}
+
+/// Where the slice of a tile stands in a payload: its first byte, and that after its last.
+fn place_of(alloc: Global, payload: &[u8], tile: usize) -> Result<(usize, usize), Fail> {
+    let links = links_of(alloc, payload)?;
     let link = links.get(tile).ok_or("a slice of the tile")?;
     Ok((link.start(), link.end()))
 }
@@ -222,12 +244,17 @@ fn burst_at(alloc: Global, payload: &[u8], byte: usize) -> Result<Vec<u8>, Fail>
     Ok(burst(alloc, payload, byte * 8 + 3, 0xFFFF_FFFF)?)
 }
 
+/// A copy of a frame, with one more burst: in the content of this tile.
+fn hurt_more(alloc: Global, payload: &[u8], copy: &[u8], tile: usize) -> Result<Vec<u8>, Fail> {
+    let (start, _end) = place_of(alloc, payload, tile)?;
+    burst_at(alloc, copy, start.wrapping_add(4))
+}
+
 /// A copy of a frame with a burst in the contents of these tiles.
 fn hurt_in(alloc: Global, payload: &[u8], tiles: &[usize]) -> Result<Vec<u8>, Fail> {
     let mut copy = payload.to_vec(alloc)?;
     for tile in tiles {
-        let (start, _end) = place_of(alloc, payload, *tile)?;
-        copy = burst_at(alloc, &copy, start.wrapping_add(4))?;
+        copy = hurt_more(alloc, payload, &copy, *tile)?;
     }
     Ok(copy)
 }
@@ -238,6 +265,17 @@ fn hurt_after_first(alloc: Global, payload: &[u8]) -> Result<Vec<u8>, Fail> {
     burst_at(alloc, payload, end.wrapping_sub(5))
 }
 
+/// Whether this is printed of two copies.
+fn is_printed(
+    alloc: Global,
+    frame: &Made,
+    mut copies: [&[u8]; 2],
+    lines: &str,
+) -> Result<bool, Fail> {
+    let (_file, printed) = taken(alloc, &frame.record, frame.size, &mut copies)?;
+    Ok(printed.as_slice() == lines.as_bytes())
+}
+
 /// Whether two copies restore a frame, and this is printed of them.
 fn are_restored(
     alloc: Global,
@@ -245,22 +283,35 @@ fn are_restored(
     copies: [&[u8]; 2],
     lines: &str,
 ) -> Result<bool, Fail> {
-    let (_file, printed) = taken(alloc, frame, copies)?;
-    let is_told = printed.as_slice() == lines.as_bytes();
-    Ok(is_told && restored(alloc, frame, copies)?.as_slice() == frame.payload.as_slice())
+    Ok(is_printed(alloc, frame, copies, lines)? && is_restored(alloc, frame, copies)?)
 }
 
-/// Whether a frame is restored, and told so, of a copy with bursts in all tiles but the first, and of one with a burst in that.
-fn bursts_are_restored(alloc: Global) -> Result<bool, Fail> {
-    let frame = four_tiles(alloc)?;
-    let one = hurt_in(alloc, &frame.payload, &[1, 2, 3])?;
-    let three = hurt_after_first(alloc, &frame.payload)?;
+/// Whether a frame is restored, and told so, of a copy with one whole slice and of one with three, in either order.
+fn are_restored_in_turn(
+    alloc: Global,
+    frame: &Made,
+    one: &[u8],
+    three: &[u8],
+) -> Result<bool, Fail> {
     let lines = "copy 1 links 4 slices 1 new 1\ncopy 2 links 4 slices 3 new 3\n";
     let turned = "copy 1 links 4 slices 3 new 3\ncopy 2 links 4 slices 1 new 1\n";
     Ok(
-        are_restored(alloc, &frame, [&one, &three], lines)?
-            && are_restored(alloc, &frame, [&three, &one], turned)?,
+        are_restored(alloc, frame, [one, three], lines)?
+            && are_restored(alloc, frame, [three, one], turned)?,
     )
+}
+
+/// Whether it is of a copy with bursts in all tiles but the first, and of one with a burst in that.
+fn bursts_of_are_restored(alloc: Global, frame: &Made) -> Result<bool, Fail> {
+    let one = hurt_in(alloc, &frame.payload, &[1, 2, 3])?;
+    let three = hurt_after_first(alloc, &frame.payload)?;
+    are_restored_in_turn(alloc, frame, &one, &three)
+}
+
+/// Whether a frame of four tiles is.
+fn bursts_are_restored(alloc: Global) -> Result<bool, Fail> {
+    let frame = four_tiles(alloc)?;
+    bursts_of_are_restored(alloc, &frame)
 }
 
 #[test]
@@ -269,17 +320,21 @@ fn bursts_in_each_tile_are_restored_from_two_copies(rt: HostRuntime) -> Result<(
     Ok(())
 }
 
-/// A copy of a frame with one bit flipped in the content of each of these tiles.
-fn flipped_in(alloc: Global, payload: &[u8], tiles: &[usize]) -> Result<Vec<u8>, Fail> {
-    let mut links: Vec<Link<'_>> = Chain::new(payload).collect(alloc)?;
-    links.reverse();
-    let mut copy = payload.to_vec(alloc)?;
+/// Flips a bit in the content of the slice of each of these tiles.
+fn flip_each(links: &[Link<'_>], tiles: &[usize], copy: &mut [u8]) -> Result<(), Fail> {
     for tile in tiles {
         let link = links.get(*tile).ok_or("a slice of the tile")?;
         if let Some(byte) = copy.get_mut(link.start().wrapping_add(2)) {
             *byte ^= 0x40;
         }
     }
+    Ok(())
+}
+
+/// A copy of a frame with one bit flipped in the content of each of these tiles.
+fn flipped_in(alloc: Global, payload: &[u8], tiles: &[usize]) -> Result<Vec<u8>, Fail> {
+    let mut copy = payload.to_vec(alloc)?;
+    flip_each(&links_of(alloc, payload)?, tiles, &mut copy)?;
     Ok(copy)
 }
 
@@ -343,20 +398,31 @@ fn even_and_odd_tiles_of_4096_are_restored(rt: HostRuntime) -> Result<(), Fail> 
 
 /// Whether a copy has a chain that breaks at this place, and `take` tells so of two such copies.
 fn breaks_at(alloc: Global, frame: &Made, copy: &[u8], place: usize) -> Result<bool, Fail> {
-    let (_file, printed) = taken(alloc, frame, [copy, copy])?;
     let lines = "copy 1 links 1 slices 1 new 1\ncopy 2 links 1 slices 1 new 0\n";
-    Ok(Chain::new(copy).end() == ChainEnd::Broken(place) && printed.as_slice() == lines.as_bytes())
+    let is_broken = Chain::new(copy).end() == ChainEnd::Broken(place);
+    Ok(is_broken && is_printed(alloc, frame, [copy, copy], lines)?)
 }
 
-/// Whether a size too great in the footer of tile 2 hides that slice and those before it.
-fn size_hides(alloc: Global) -> Result<bool, Fail> {
-    let frame = four_tiles(alloc)?;
-    let (_start, end) = place_of(alloc, &frame.payload, 2)?;
-    let mut copy = frame.payload.to_vec(alloc)?;
+/// A copy of a payload with a size too great in the footer that ends there.
+fn with_great_size(alloc: Global, payload: &[u8], end: usize) -> Result<Vec<u8>, Fail> {
+    let mut copy = payload.to_vec(alloc)?;
     if let Some(size) = copy.get_mut(end.wrapping_sub(8)) {
         *size = 0xFF;
     }
-    breaks_at(alloc, &frame, &copy, end)
+    Ok(copy)
+}
+
+/// Whether a size too great in the footer of tile 2 of a frame hides that slice and those before it.
+fn size_in_hides(alloc: Global, frame: &Made) -> Result<bool, Fail> {
+    let (_start, end) = place_of(alloc, &frame.payload, 2)?;
+    let copy = with_great_size(alloc, &frame.payload, end)?;
+    breaks_at(alloc, frame, &copy, end)
+}
+
+/// Whether it does in a frame of four tiles.
+fn size_hides(alloc: Global) -> Result<bool, Fail> {
+    let frame = four_tiles(alloc)?;
+    size_in_hides(alloc, &frame)
 }
 
 #[test]
@@ -369,9 +435,8 @@ fn a_size_too_great_hides_what_lies_before(rt: HostRuntime) -> Result<(), Fail> 
 pub(crate) fn merged(alloc: Global, left: &[u8], right: &[u8]) -> Result<Vec<u8>, Fail> {
     let (mut left, mut right) = (left, right);
     let mut file = Vec::new(alloc);
-    run_merge(alloc, &mut left, &mut right, &mut file)
-        .ok()
-        .ok_or("ample memory")?;
+    let answer = run_merge(alloc, &mut left, &mut right, &mut file);
+    ended(answer, "ample memory")?;
     Ok(file)
 }
 
@@ -383,12 +448,6 @@ struct Files {
     both: Vec<u8>,
 }
 
-/// The holding file of two copies.
-fn file_of(alloc: Global, frame: &Made, copies: [&[u8]; 2]) -> Result<Vec<u8>, Fail> {
-    let (file, _printed) = taken(alloc, frame, copies)?;
-    Ok(file)
-}
-
 /// The files of two copies of a frame.
 fn files_of(alloc: Global, frame: &Made, a: &[u8], b: &[u8]) -> Result<Files, Fail> {
     Ok(Files {
@@ -398,12 +457,17 @@ fn files_of(alloc: Global, frame: &Made, a: &[u8], b: &[u8]) -> Result<Files, Fa
     })
 }
 
-/// The files of a copy with bursts in tiles 0 and 3, and of one with bursts in the others.
-fn files_of_halves(alloc: Global) -> Result<Files, Fail> {
-    let frame = four_tiles(alloc)?;
+/// The files of a copy of a frame with bursts in tiles 0 and 3, and of one with bursts in the others.
+fn files_of_halves_of(alloc: Global, frame: &Made) -> Result<Files, Fail> {
     let a = hurt_in(alloc, &frame.payload, &[0, 3])?;
     let b = hurt_in(alloc, &frame.payload, &[1, 2])?;
-    files_of(alloc, &frame, &a, &b)
+    files_of(alloc, frame, &a, &b)
+}
+
+/// The same of a frame of four tiles.
+fn files_of_halves(alloc: Global) -> Result<Files, Fail> {
+    let frame = four_tiles(alloc)?;
+    files_of_halves_of(alloc, &frame)
 }
 
 /// Whether `merge` writes of two holding files what `join` does.

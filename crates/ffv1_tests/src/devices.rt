@@ -53,39 +53,53 @@ fn halting_sink(alloc: Global, times: u32) -> FromWrite<Halting> {
     })
 }
 
+/// Whether the two bytes are read whole after so many interruptions, or why not, and how many tries failed.
+fn read_after(alloc: Global, times: u32) -> (Result<bool, WholeFault>, u64) {
+    let mut source = interrupted(times);
+    let read = match read_whole(alloc, &mut source, 2) {
+        Ok(bytes) => Ok(bytes.as_slice() == b"ab".as_slice()),
+        Err(fault) => Err(fault),
+    };
+    (read, source.failures())
+}
+
 #[test]
 fn sixty_five_interrupted_reads_are_a_failure(rt: HostRuntime) {
-    let mut patient = interrupted(64);
-    let read = read_whole(rt.alloc(), &mut patient, 2);
-    assert!(rt; matches!(&read, Ok(bytes) if bytes.as_slice() == b"ab".as_slice()));
-    assert!(rt; patient.failures() == 64);
-    let mut failing = interrupted(65);
-    let read = read_whole(rt.alloc(), &mut failing, 2);
-    assert!(rt; read.err() == Some(WholeFault::Read));
-    assert!(rt; failing.failures() == 65);
+    assert!(rt; read_after(rt.alloc(), 64) == (Ok(true), 64));
+    assert!(rt; read_after(rt.alloc(), 65) == (Err(WholeFault::Read), 65));
+}
+
+/// Whether so many tries of a sink failed, and these bytes were written.
+fn has_written(sink: FromWrite<Halting>, failures: u64, bytes: &[u8]) -> bool {
+    sink.failures() == failures && sink.into_inner().bytes.as_slice() == bytes
 }
 
 #[test]
 fn sixty_five_interrupted_writes_are_a_failure(rt: HostRuntime) {
     let mut patient = halting_sink(rt.alloc(), 64);
-    assert!(rt; write_pair(&mut patient, b"a", b"b").is_ok());
-    assert!(rt; patient.failures() == 128);
-    assert!(rt; patient.into_inner().bytes.as_slice() == b"ab".as_slice());
+    let answer = write_pair(&mut patient, b"a", b"b");
+    let is_written = has_written(patient, 128, b"ab");
+    assert!(rt; answer.is_ok() && is_written);
     let mut failing = halting_sink(rt.alloc(), 65);
-    assert!(rt; write_field(&mut failing, b"ab") == Err(WriteFailed));
-    assert!(rt; failing.failures() == 65);
-    assert!(rt; failing.into_inner().bytes.is_empty());
+    let answer = write_field(&mut failing, b"ab");
+    let is_left = has_written(failing, 65, b"");
+    assert!(rt; answer == Err(WriteFailed) && is_left);
+}
+
+/// Whether bytes are written through a borrow of a list as these.
+fn is_written_as(alloc: Global, bytes: &[u8], wanted: &[u8]) -> bool {
+    let mut written = Vec::new(alloc);
+    let answer = write_field(&mut ThroughWrite::new(&mut written), bytes);
+    answer.is_ok() && written.as_slice() == wanted
 }
 
 #[test]
 fn what_is_read_is_written_through_a_borrow(rt: HostRuntime) {
     let mut source = FromRead::new(b"abc".as_slice());
     let mut front = [0u8; 2];
-    assert!(rt; read_full(&mut source, &mut front) == Ok(2));
-    let mut written = Vec::new(rt.alloc());
-    let mut sink = ThroughWrite::new(&mut written);
-    assert!(rt; write_field(&mut sink, &front).is_ok());
-    assert!(rt; next_byte(&mut source) == Ok(Some(b'c')));
-    assert!(rt; next_byte(&mut source) == Ok(None));
-    assert!(rt; written.as_slice() == b"ab".as_slice());
+    let count = read_full(&mut source, &mut front);
+    let is_written = is_written_as(rt.alloc(), &front, b"ab");
+    assert!(rt; (count, is_written) == (Ok(2), true));
+    let rest = (next_byte(&mut source), next_byte(&mut source));
+    assert!(rt; rest == (Ok(Some(b'c')), Ok(None)));
 }

@@ -36,17 +36,37 @@ fn held_beside(alloc: Global, tiles: u32, copies: [&[u8]; 2]) -> Result<Holding,
     held_of(alloc, record, (tiles, 1), &copies)
 }
 
+/// Slices that are put into a set, and whether each is new to it.
+static INSERTED: [(&[u8], bool); 3] = [(&BLACK, true), (&DARK, true), (&BLACK, false)];
+
+/// Whether an empty set takes them so.
+fn takes_each_once(set: &mut SliceSet) -> bool {
+    for &(slice, new) in &INSERTED {
+        if set.insert(slice) != Ok(new) {
+            return false;
+        }
+    }
+    true
+}
+
+/// How many slices sets have in all.
+fn in_all(alloc: Global, sets: &[SliceSet]) -> Result<usize, Fail> {
+    let mut all = SliceSet::new(alloc);
+    Ok(join_all(&mut all, sets)?)
+}
+
+/// How many slices a set and its copy have in all.
+fn with_its_copy(alloc: Global, set: SliceSet) -> Result<usize, Fail> {
+    let copy = set.copied()?;
+    in_all(alloc, &[set, copy])
+}
+
 #[test]
 fn slices_are_kept_once_in_rising_order(rt: HostRuntime) -> Result<(), Fail> {
     let mut set = SliceSet::new(rt.alloc());
-    for (slice, new) in [(BLACK, true), (DARK, true), (BLACK, false)] {
-        assert!(rt; set.insert(&slice) == Ok(new));
-    }
-    assert!(rt; set.len() == 2);
-    assert!(rt; set.get(0) == DARK.as_slice());
-    let mut all = SliceSet::new(rt.alloc());
-    let copy = set.copied()?;
-    assert!(rt; join_all(&mut all, &[set, copy]) == Ok(2));
+    let is_kept = takes_each_once(&mut set) && set.len() == 2 && set.get(0) == DARK.as_slice();
+    let count = with_its_copy(rt.alloc(), set)?;
+    assert!(rt; is_kept && count == 2);
     Ok(())
 }
 
@@ -57,29 +77,36 @@ fn set_of(alloc: Global, slice: &[u8]) -> Result<SliceSet, Fail> {
     Ok(set)
 }
 
+/// How many slices the copies of two sets have in all.
+fn in_copies(alloc: Global, left: &SliceSet, right: &SliceSet) -> Result<usize, Fail> {
+    let first = left.copied()?;
+    in_all(alloc, &[first, right.copied()?])
+}
+
 #[test]
 fn sets_that_differ_are_joined(rt: HostRuntime) -> Result<(), Fail> {
     let mut black = set_of(rt.alloc(), &BLACK)?;
     let dark = set_of(rt.alloc(), &DARK)?;
-    let mut all = SliceSet::new(rt.alloc());
-    assert!(rt; join_all(&mut all, &[black.copied()?, dark.copied()?]) == Ok(2));
-    assert!(rt; black.join_with(&dark) == Ok(1));
-    assert!(rt; black.join_with(&dark) == Ok(0));
+    let count = in_copies(rt.alloc(), &black, &dark)?;
+    let added = (black.join_with(&dark), black.join_with(&dark));
+    assert!(rt; count == 2 && added == (Ok(1), Ok(0)));
     Ok(())
 }
+
+/// Copies that are taken one after the other, and their links, slices and new slices.
+static TAKEN: [(&[u8], usize, usize, usize); 6] = [
+    (&[0; 8], 1, 0, 0),
+    (&RIGHT, 1, 0, 0),
+    (&AFTER_JUNK, 2, 1, 1),
+    (&LEFT_DAMAGED, 2, 1, 0),
+    (&RIGHT_DAMAGED, 2, 1, 1),
+    (&FRAME, 2, 2, 0),
+];
 
 #[test]
 fn a_copy_tells_what_was_taken(rt: HostRuntime) -> Result<(), Fail> {
     let mut holding = Holding::new(rt.alloc(), &TWO_TILES, 2, 1)?;
-    let copies: [(&[u8], usize, usize, usize); 6] = [
-        (&[0; 8], 1, 0, 0),
-        (&RIGHT, 1, 0, 0),
-        (&AFTER_JUNK, 2, 1, 1),
-        (&LEFT_DAMAGED, 2, 1, 0),
-        (&RIGHT_DAMAGED, 2, 1, 1),
-        (&FRAME, 2, 2, 0),
-    ];
-    for (copy, links, slices, new) in copies {
+    for &(copy, links, slices, new) in &TAKEN {
         let taken = Taken { links, slices, new };
         assert!(rt; holding.take(copy) == Ok(taken));
     }
@@ -111,19 +138,22 @@ fn are_shared(held: &Holding, copies: &[&[u8]]) -> bool {
     has_origins(held, 0, &BLACK, copies) && has_origins(held, 1, &RIGHT, &[&FRAME, &LEFT_DAMAGED])
 }
 
-/// Whether joining the holding of both damaged copies to that of the frame adds the other copy to a slice's, and no slice.
+/// Whether the slices of the holding of both damaged copies are apart, and joining it to that of the frame adds the other
+/// copy to a slice's, and no slice.
 fn adds_origins(alloc: Global, held: &Holding) -> Result<bool, Fail> {
     let mut both = held_beside(alloc, 2, [&FRAME, &LEFT_DAMAGED])?;
-    let before = are_shared(&both, &[&FRAME]);
+    let before = are_apart(held) && are_shared(&both, &[&FRAME]);
     let joined = both.join_with(held) == Ok(0);
     Ok(before && joined && are_shared(&both, &[&FRAME, &RIGHT_DAMAGED]))
 }
 
-/// Whether the origins of what is held of both damaged copies, one of them twice, are digests of whole copies.
+/// Both damaged copies, one of them twice.
+static DAMAGED: [&[u8]; 3] = [&LEFT_DAMAGED, &RIGHT_DAMAGED, &LEFT_DAMAGED];
+
+/// Whether the origins of what is held of them are digests of whole copies.
 fn has_whole_copies(alloc: Global) -> Result<bool, Fail> {
-    let copies: [&[u8]; 3] = [&LEFT_DAMAGED, &RIGHT_DAMAGED, &LEFT_DAMAGED];
-    let held = held_of(alloc, &TWO_TILES, (2, 1), &copies)?;
-    Ok(are_apart(&held) && adds_origins(alloc, &held)?)
+    let held = held_of(alloc, &TWO_TILES, (2, 1), &DAMAGED)?;
+    adds_origins(alloc, &held)
 }
 
 #[test]
@@ -142,35 +172,46 @@ fn restored(
     Ok(holding.restore())
 }
 
+/// Tiles beside each other, two copies of them, and what they are restored to.
+type Settled = (u32, [&'static [u8]; 2], &'static [u8]);
+
+/// Whether they are restored to that.
+fn is_restored(alloc: Global, (tiles, copies, wanted): &Settled) -> Result<bool, Fail> {
+    Ok(restored(alloc, *tiles, *copies)??.as_slice() == *wanted)
+}
+
+/// Copies with which all tiles are settled.
+static SETTLED: [Settled; 5] = [
+    (2, [&LEFT_DAMAGED, &RIGHT_DAMAGED], &FRAME),
+    (2, [&RIGHT_DAMAGED, &LEFT_DAMAGED], &FRAME),
+    (2, [&LEFT_DAMAGED, &FRAME], &FRAME),
+    (1, [&DARK_DAMAGED, &BLACK], &BLACK),
+    (1, [&BLACK_WITH_STATUS, &BLACK], &BLACK),
+];
+
 #[test]
 fn settled_tiles_are_restored(rt: HostRuntime) -> Result<(), Fail> {
-    let cases: [(u32, [&[u8]; 2], &[u8]); 5] = [
-        (2, [&LEFT_DAMAGED, &RIGHT_DAMAGED], &FRAME),
-        (2, [&RIGHT_DAMAGED, &LEFT_DAMAGED], &FRAME),
-        (2, [&LEFT_DAMAGED, &FRAME], &FRAME),
-        (1, [&DARK_DAMAGED, &BLACK], &BLACK),
-        (1, [&BLACK_WITH_STATUS, &BLACK], &BLACK),
-    ];
-    for (tiles, copies, wanted) in cases {
-        let payload = restored(rt.alloc(), tiles, copies)??;
-        assert!(rt; payload.as_slice() == wanted);
+    for row in &SETTLED {
+        assert!(rt; is_restored(rt.alloc(), row)?);
     }
     Ok(())
 }
 
+/// Tiles beside each other, two copies of them, and why they are not restored.
+static UNSETTLED: [(u32, [&[u8]; 2], RestoreFault); 4] = [
+    (2, [&LEFT_DAMAGED, &LEFT_DAMAGED], RestoreFault::Missing(0)),
+    (
+        2,
+        [&RIGHT_DAMAGED, &RIGHT_DAMAGED],
+        RestoreFault::Missing(1),
+    ),
+    (2, [&AFTER_JUNK, &RIGHT], RestoreFault::Missing(0)),
+    (1, [&BLACK, &DARK], RestoreFault::Disputed(0)),
+];
+
 #[test]
 fn the_first_unsettled_tile_is_told(rt: HostRuntime) -> Result<(), Fail> {
-    let cases: [(u32, [&[u8]; 2], RestoreFault); 4] = [
-        (2, [&LEFT_DAMAGED, &LEFT_DAMAGED], RestoreFault::Missing(0)),
-        (
-            2,
-            [&RIGHT_DAMAGED, &RIGHT_DAMAGED],
-            RestoreFault::Missing(1),
-        ),
-        (2, [&AFTER_JUNK, &RIGHT], RestoreFault::Missing(0)),
-        (1, [&BLACK, &DARK], RestoreFault::Disputed(0)),
-    ];
-    for (tiles, copies, fault) in cases {
+    for &(tiles, copies, fault) in &UNSETTLED {
         assert!(rt; restored(rt.alloc(), tiles, copies)?.err() == Some(fault));
     }
     Ok(())
@@ -194,34 +235,49 @@ fn tells(held: &Holding, tile: usize, (slices, status, bests): (usize, Option<u8
         && held.size() == slices.max(1)
 }
 
+/// Tiles beside each other, two copies of them, and what `tells` has of one of the tiles.
+type Told = (u32, [&'static [u8]; 2], usize, (usize, Option<u8>, usize));
+
+/// Whether it tells that.
+fn is_told(alloc: Global, (tiles, copies, tile, told): &Told) -> Result<bool, Fail> {
+    let held = held_beside(alloc, *tiles, *copies)?;
+    Ok(tells(&held, *tile, *told))
+}
+
+/// Tiles without a slice, with one and with two.
+static HELD: [Told; 6] = [
+    (2, [&LEFT_DAMAGED, &LEFT_DAMAGED], 0, (0, None, 0)),
+    (2, [&LEFT_DAMAGED, &LEFT_DAMAGED], 1, (1, Some(0), 1)),
+    (1, [&BLACK, &DARK], 0, (2, Some(0), 2)),
+    (1, [&BLACK, &DARK_DAMAGED], 0, (2, Some(0), 1)),
+    (1, [&BLACK, &BLACK_WITH_STATUS], 0, (2, Some(0), 1)),
+    (1, [&DARK_DAMAGED, &DARK_DAMAGED], 0, (1, Some(2), 1)),
+];
+
 #[test]
 fn tiles_tell_what_is_held_of_them(rt: HostRuntime) -> Result<(), Fail> {
-    let cases: [(u32, [&[u8]; 2], usize, usize, Option<u8>, usize); 6] = [
-        (2, [&LEFT_DAMAGED, &LEFT_DAMAGED], 0, 0, None, 0),
-        (2, [&LEFT_DAMAGED, &LEFT_DAMAGED], 1, 1, Some(0), 1),
-        (1, [&BLACK, &DARK], 0, 2, Some(0), 2),
-        (1, [&BLACK, &DARK_DAMAGED], 0, 2, Some(0), 1),
-        (1, [&BLACK, &BLACK_WITH_STATUS], 0, 2, Some(0), 1),
-        (1, [&DARK_DAMAGED, &DARK_DAMAGED], 0, 1, Some(2), 1),
-    ];
-    for (tiles, copies, tile, slices, status, bests) in cases {
-        let held = held_beside(rt.alloc(), tiles, copies)?;
-        assert!(rt; tells(&held, tile, (slices, status, bests)));
+    for row in &HELD {
+        assert!(rt; is_told(rt.alloc(), row)?);
     }
     Ok(())
 }
 
-/// What joining the holding of one tile to that of a frame of two answers.
+/// What joining the holding of one tile to another one answers.
+fn sample_joined(alloc: Global, held: &mut Holding) -> Result<Result<usize, HoldFault>, Fail> {
+    let sample = held_beside(alloc, 1, [&BLACK, &DARK])?;
+    Ok(held.join_with(&sample))
+}
+
+/// What joining it to that of a frame of two answers.
 fn sizes_joined(alloc: Global) -> Result<Result<usize, HoldFault>, Fail> {
     let mut frame = held_beside(alloc, 2, [&FRAME, &FRAME])?;
-    let sample = held_beside(alloc, 1, [&BLACK, &DARK])?;
-    Ok(frame.join_with(&sample))
+    sample_joined(alloc, &mut frame)
 }
 
 #[test]
 fn other_sizes_do_not_join(rt: HostRuntime) -> Result<(), Fail> {
     let short = Holding::new(rt.alloc(), &[0; 5], 1, 1).err();
-    assert!(rt; short == Some(SetupFault::TooShort));
-    assert!(rt; sizes_joined(rt.alloc())? == Err(HoldFault::OtherReel));
+    let joined = sizes_joined(rt.alloc())?;
+    assert!(rt; short == Some(SetupFault::TooShort) && joined == Err(HoldFault::OtherReel));
     Ok(())
 }

@@ -1,6 +1,6 @@
 //! The two uses that README.md shows, in its words, on a frame of two tiles.
 use crate::picture::TWO_TILES;
-use ffv1_frames::FRAME;
+use ffv1_frames::{FRAME, LEFT_DAMAGED, RIGHT_DAMAGED};
 use ffv1_hold::{FromWrite, Holding, Sink};
 use ffv1_picture::{Decoder, write_raw};
 use std::alloc::Global;
@@ -52,10 +52,8 @@ fn frames_are_decoded(rt: HostRuntime) -> Result<(), Fail> {
 
 #[test]
 fn a_frame_is_restored(rt: HostRuntime) -> Result<(), Fail> {
-    let (mut left, mut right) = (FRAME, FRAME);
-    left[2] = 0;
-    right[13] = 0;
-    let frame = restore_frame(rt.alloc(), &TWO_TILES, (2, 1), &[&left, &right])?;
+    let copies: [&[u8]; 2] = [&LEFT_DAMAGED, &RIGHT_DAMAGED];
+    let frame = restore_frame(rt.alloc(), &TWO_TILES, (2, 1), &copies)?;
     assert!(rt; frame.as_slice() == FRAME.as_slice());
     Ok(())
 }

@@ -1,10 +1,11 @@
 //! Real slices: the frames, the pictures and the reports that they give.
 //!
 //! Helpers make the calls, so that each test sees plain values.
+use crate::hold::boxed;
 use crate::holding::held_of;
-use crate::streams::Narrow;
+use crate::streams::{has_taken, narrow_sink};
 use ffv1_frames::{BLACK, FRAME, LEFT_DAMAGED, RIGHT, RIGHT_DAMAGED};
-use ffv1_hold::{FromWrite, Plan, RestoreFault, Sink};
+use ffv1_hold::{FromWrite, Holding, Plan, RestoreFault, Sink};
 use ffv1_picture::{
     Decoder, Frame, FrameFault, Partial, Restoration, TileOutcome, WriteFault, picture, report,
     restored, write_raw,
@@ -45,7 +46,7 @@ const LEFT_OF_6: [u8; 17] = [
 ];
 
 /// Slices, one after the other.
-fn joined(alloc: Global, slices: &[&[u8]]) -> Result<Vec<u8>, Fail> {
+pub(crate) fn joined(alloc: Global, slices: &[&[u8]]) -> Result<Vec<u8>, Fail> {
     let mut payload = Vec::new(alloc);
     for slice in slices {
         payload.extend_from_slice(slice)?;
@@ -83,14 +84,24 @@ fn fault_of(
     Ok(decoder.decode_frame(&payload).err())
 }
 
-/// What copies of a frame of two gray tiles come to.
-fn restored_of_two(alloc: Global, copies: &[&[u8]]) -> Result<Restoration, Fail> {
-    let plan = Plan::TakeAll(Box::new(alloc, Plan::New)?, copies);
+/// What a plan for a frame of two gray tiles comes to.
+fn restored_by(alloc: Global, plan: &Plan<'_>) -> Result<Restoration, Fail> {
     Ok(
-        restored(alloc, &plan, &TWO_TILES, 2, 1)
+        restored(alloc, plan, &TWO_TILES, 2, 1)
             .ok()
             .ok_or("ample memory")?,
     )
+}
+
+/// What copies of such a frame come to.
+fn restored_of_two(alloc: Global, copies: &[&[u8]]) -> Result<Restoration, Fail> {
+    let plan = Plan::TakeAll(boxed(alloc, Plan::New)?, copies);
+    restored_by(alloc, &plan)
+}
+
+/// What can be shown of a holding.
+fn shown(alloc: Global, holding: &Holding) -> Result<Partial, Fail> {
+    Ok(picture(alloc, holding)?)
 }
 
 /// What can be shown of copies of a frame of this size.
@@ -101,26 +112,52 @@ fn shown_of(
     copies: &[&[u8]],
 ) -> Result<Partial, Fail> {
     let holding = held_of(alloc, record, size, copies)?;
-    Ok(picture(alloc, &holding)?)
+    shown(alloc, &holding)
 }
 
-/// The report of copies of a frame of two gray tiles.
-fn reported_of_two(alloc: Global, copies: &[&[u8]]) -> Result<String, Fail> {
+/// Whether the report of a holding is this text.
+fn is_reported_as(alloc: Global, holding: &Holding, text: &str) -> Result<bool, Fail> {
+    Ok(report(alloc, holding)?.as_str() == text)
+}
+
+/// Whether that of copies of a frame of two gray tiles is.
+fn are_reported_as(alloc: Global, copies: &[&[u8]], text: &str) -> Result<bool, Fail> {
     let holding = held_of(alloc, &TWO_TILES, (2, 1), copies)?;
-    Ok(report(alloc, &holding)?)
+    is_reported_as(alloc, &holding, text)
 }
 
-/// Whether a payload is these bytes.
-fn is_payload(payload: &Result<Vec<u8>, RestoreFault>, bytes: &[u8]) -> bool {
-    match payload {
-        Ok(payload) => payload.as_slice() == bytes,
-        Err(_) => false,
+/// Whether a payload is these bytes, or there is none for this reason.
+fn is_payload(
+    payload: &Result<Vec<u8>, RestoreFault>,
+    wanted: Result<&[u8], RestoreFault>,
+) -> bool {
+    match (payload, wanted) {
+        (Ok(payload), Ok(bytes)) => payload.as_slice() == bytes,
+        (Err(fault), Err(wanted)) => *fault == wanted,
+        _ => false,
     }
 }
 
-/// Whether there is no payload, since tile 0 is missing.
-fn is_missing_first(payload: &Result<Vec<u8>, RestoreFault>) -> bool {
-    matches!(payload, Err(RestoreFault::Missing(0)))
+/// Whether what was restored is this payload, and a picture of these samples.
+fn is_restored(
+    alloc: Global,
+    restored: &Restoration,
+    payload: Result<&[u8], RestoreFault>,
+    samples: &[u8],
+) -> Result<bool, Fail> {
+    let is_shown = shows(alloc, &restored.picture.frame, samples)?;
+    Ok(is_shown && is_payload(&restored.payload, payload))
+}
+
+/// Whether copies of a frame of two gray tiles come to that.
+fn come_to(
+    alloc: Global,
+    copies: &[&[u8]],
+    payload: Result<&[u8], RestoreFault>,
+    samples: &[u8],
+) -> Result<bool, Fail> {
+    let restored = restored_of_two(alloc, copies)?;
+    is_restored(alloc, &restored, payload, samples)
 }
 
 /// Whether a fault is that of a code that begins at the first sample.
@@ -149,50 +186,50 @@ fn frame_decodes_to_its_samples(rt: HostRuntime) -> Result<(), Fail> {
     Ok(())
 }
 
+/// Records, widths, slices of them, and why they are no frame, if they are none.
+static FRAMES: [(&[u8], u32, &[&[u8]], Option<FrameFault>); 7] = [
+    (&TWO_TILES, 2, &[&RIGHT], Some(FrameFault::Chain)),
+    (&TWO_TILES, 2, &[], Some(FrameFault::Chain)),
+    (
+        &THREE_TILES,
+        3,
+        &[&BLACK, &RIGHT, &THIRD, &THIRD],
+        Some(FrameFault::Chain),
+    ),
+    (
+        &TWO_TILES,
+        2,
+        &[&LEFT_DAMAGED],
+        Some(FrameFault::Slice {
+            place: 0,
+            cause: LinkFault::Parity,
+        }),
+    ),
+    (
+        &TWO_TILES,
+        2,
+        &[&BLACK, &BLACK],
+        Some(FrameFault::Slice {
+            place: 1,
+            cause: LinkFault::Head(HeadFault::FirstElsewhere),
+        }),
+    ),
+    (
+        &THREE_TILES,
+        3,
+        &[&BLACK, &THIRD, &RIGHT],
+        Some(FrameFault::Order { place: 1 }),
+    ),
+    (&THREE_TILES, 3, &[&BLACK, &RIGHT, &THIRD], None),
+];
+
 #[test]
 fn frames_of_other_slices_are_refused(rt: HostRuntime) -> Result<(), Fail> {
-    let alloc = rt.alloc();
-    let rows: [(&[u8], u32, &[&[u8]], FrameFault); 6] = [
-        (&TWO_TILES, 2, &[&RIGHT], FrameFault::Chain),
-        (&TWO_TILES, 2, &[], FrameFault::Chain),
-        (
-            &THREE_TILES,
-            3,
-            &[&BLACK, &RIGHT, &THIRD, &THIRD],
-            FrameFault::Chain,
-        ),
-        (
-            &TWO_TILES,
-            2,
-            &[&LEFT_DAMAGED],
-            FrameFault::Slice {
-                place: 0,
-                cause: LinkFault::Parity,
-            },
-        ),
-        (
-            &TWO_TILES,
-            2,
-            &[&BLACK, &BLACK],
-            FrameFault::Slice {
-                place: 1,
-                cause: LinkFault::Head(HeadFault::FirstElsewhere),
-            },
-        ),
-        (
-            &THREE_TILES,
-            3,
-            &[&BLACK, &THIRD, &RIGHT],
-            FrameFault::Order { place: 1 },
-        ),
-    ];
-    for (record, width, slices, fault) in rows {
-        assert!(rt; fault_of(alloc, record, width, slices)? == Some(fault));
+    for &(record, width, slices, fault) in &FRAMES {
+        assert!(rt; fault_of(rt.alloc(), record, width, slices)? == fault);
     }
-    let cut = fault_of(alloc, &TWO_TILES, 2, &[&CUT, &RIGHT])?;
+    let cut = fault_of(rt.alloc(), &TWO_TILES, 2, &[&CUT, &RIGHT])?;
     assert!(rt; stops_at_first_sample(cut));
-    let whole = fault_of(alloc, &THREE_TILES, 3, &[&BLACK, &RIGHT, &THIRD])?;
-    assert!(rt; whole.is_none());
     Ok(())
 }
 
@@ -232,36 +269,30 @@ const REPORT: &str = "reel 2x1 tiles 2\n\
 
 #[test]
 fn whole_frame_is_reported_with_its_digest(rt: HostRuntime) -> Result<(), Fail> {
-    let report = reported_of_two(rt.alloc(), &[&FRAME])?;
-    assert!(rt; report.as_str() == REPORT);
+    assert!(rt; are_reported_as(rt.alloc(), &[&FRAME], REPORT)?);
     Ok(())
 }
 
 #[test]
 fn damaged_copies_come_back_whole(rt: HostRuntime) -> Result<(), Fail> {
-    let all = restored_of_two(rt.alloc(), &[&RIGHT_DAMAGED, &LEFT_DAMAGED])?;
-    assert!(rt;
-        is_payload(&all.payload, &FRAME) && shows(rt.alloc(), &all.picture.frame, &[0, 0])?
-    );
+    let copies: [&[u8]; 2] = [&RIGHT_DAMAGED, &LEFT_DAMAGED];
+    assert!(rt; come_to(rt.alloc(), &copies, Ok(&FRAME), &[0, 0])?);
     Ok(())
 }
 
 #[test]
 fn one_damaged_copy_is_missing_a_tile(rt: HostRuntime) -> Result<(), Fail> {
-    let part = restored_of_two(rt.alloc(), &[&LEFT_DAMAGED])?;
-    assert!(rt; is_missing_first(&part.payload));
+    let missing = Err(RestoreFault::Missing(0));
+    assert!(rt; come_to(rt.alloc(), &[&LEFT_DAMAGED], missing, &[128, 0])?);
     Ok(())
 }
 
 /// Whether a sink that fails after so many bytes counts one failure and has that front of the samples.
 fn has_front(alloc: Global, frame: &Frame, room: usize, samples: &[u8]) -> bool {
-    let mut sink = FromWrite::new(Narrow {
-        room,
-        bytes: Vec::new(alloc),
-    });
-    let failed = write_raw(frame, &mut sink) == Err(WriteFault::Write);
-    let counted = sink.failures() == 1;
-    failed && counted && Some(sink.into_inner().bytes.as_slice()) == samples.get(..room)
+    let mut sink = narrow_sink(alloc, room);
+    let is_failed = write_raw(frame, &mut sink) == Err(WriteFault::Write);
+    let is_counted = sink.failures() == 1;
+    has_taken(sink, room, samples) && is_failed && is_counted
 }
 
 /// Whether a sink that fails after any number of the 18 samples of a frame has that front of them.

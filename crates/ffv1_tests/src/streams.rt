@@ -1,4 +1,6 @@
 //! Devices that fail, are interrupted, or take one byte at a time.
+use ffv1_devices::FromWrite;
+use std::alloc::Global;
 use std::io;
 use std::io::{ErrorKind, Read, Write};
 
@@ -46,4 +48,17 @@ impl Write for Narrow {
     fn flush(&mut self) -> io::Result<()> {
         Ok(())
     }
+}
+
+/// A sink that takes so many bytes.
+pub(crate) fn narrow_sink(alloc: Global, room: usize) -> FromWrite<Narrow> {
+    FromWrite::new(Narrow {
+        room,
+        bytes: Vec::new(alloc),
+    })
+}
+
+/// Whether such a sink has taken so many bytes of these.
+pub(crate) fn has_taken(sink: FromWrite<Narrow>, count: usize, bytes: &[u8]) -> bool {
+    Some(sink.into_inner().bytes.as_slice()) == bytes.get(..count)
 }

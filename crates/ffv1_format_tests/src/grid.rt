@@ -12,6 +12,12 @@ fn rect(x: u32, y: u32, w: u32, h: u32) -> Option<TileRect> {
     Some(TileRect { x, y, w, h })
 }
 
+/// How many tiles the grid has across, down and in all.
+fn counts(setup: &Setup) -> (u32, u32, usize) {
+    let grid = setup.grid();
+    (grid.across(), grid.down(), grid.tiles())
+}
+
 /// How many planes the frames have.
 fn planes(setup: &Setup) -> usize
     ensures { result ≡ plane_count (grid_of setup.now) }
@@ -52,16 +58,18 @@ fn plane_size_of(setup: &Setup, plane: usize) -> Option<TileRect> {
 fn chroma_rectangles_overlap(rt: HostRuntime) -> Result<(), Fail> {
     let alloc = rt.alloc();
     let setup = setup_of(alloc, SuiteTables::OneRun, Some((1, 1)), (2, 1), (6, 2))?;
-    let grid = setup.grid();
-    assert!(rt; (grid.across(), grid.down(), grid.tiles()) == (2, 1, 2));
-    let tiles = [0, 1].map(|tile| tile_of(&setup, tile));
-    assert!(rt; tiles == [rect(0, 0, 3, 2), rect(3, 0, 3, 2)]);
+    let tiles = [tile_of(&setup, 0), tile_of(&setup, 1)];
     let planes = [
         plane_rect_of(&setup, 0, 1),
         plane_rect_of(&setup, 1, 2),
         plane_size_of(&setup, 1),
     ];
-    assert!(rt; planes == [rect(0, 0, 2, 1), rect(1, 0, 2, 1), rect(0, 0, 3, 1)]);
+    let wanted = (
+        (2, 1, 2),
+        [rect(0, 0, 3, 2), rect(3, 0, 3, 2)],
+        [rect(0, 0, 2, 1), rect(1, 0, 2, 1), rect(0, 0, 3, 1)],
+    );
+    assert!(rt; (counts(&setup), tiles, planes) == wanted);
     Ok(())
 }
 

@@ -1,7 +1,7 @@
 //! Two holding files that are joined as streams: beside `join`, cut and changed at every byte, on devices that fail.
-use crate::hold::written;
+use crate::hold::{read_back, written};
 use crate::holding::held_of;
-use crate::streams::{Failing, Narrow};
+use crate::streams::{Failing, has_taken, narrow_sink};
 use ffv1_frames::{BLACK, DARK, ONE_TILE};
 use ffv1_hold::{
     FromRead, FromWrite, HoldFileFault, Holding, Join, Sink, Source, join_streams, read_hold,
@@ -39,29 +39,39 @@ fn merged(alloc: Global, left: &[u8], right: &[u8]) -> (Result<(), HoldFileFault
     (answer, sink.into_inner())
 }
 
-/// Joins the holding of a file to another.
-fn join_file(alloc: Global, whole: &mut Holding, file: &[u8]) -> Result<(), Fail> {
-    let other = read_hold(alloc, &mut FromRead::new(file))?;
-    whole.join_with(&other)?;
-    Ok(())
+/// The file of a holding that another one is joined to.
+fn joined_held(alloc: Global, whole: &mut Holding, other: &Holding) -> Result<Vec<u8>, Fail> {
+    whole.join_with(other)?;
+    written(alloc, whole)
+}
+
+/// The file of a holding that the one of a file is joined to.
+fn joined_file(alloc: Global, whole: &mut Holding, file: &[u8]) -> Result<Vec<u8>, Fail> {
+    let other = read_back(alloc, file)?;
+    joined_held(alloc, whole, &other)
 }
 
 /// The file of the union of two files' holdings.
 fn joined(alloc: Global, left: &[u8], right: &[u8]) -> Result<Vec<u8>, Fail> {
-    let mut whole = read_hold(alloc, &mut FromRead::new(left))?;
-    join_file(alloc, &mut whole, right)?;
-    written(alloc, &whole)
+    let mut whole = read_back(alloc, left)?;
+    joined_file(alloc, &mut whole, right)
 }
 
-/// The files of no slice, of each of two, of both, of one with two origins, and of one without.
+/// The copies of no slice, of each of two, of both, and of one in two copies.
+static COPIES: [&[&[u8]]; 5] = [
+    &[],
+    &[&BLACK],
+    &[&DARK],
+    &[&BLACK, &DARK],
+    &[&BLACK, &TWICE],
+];
+
+/// The files of them, and one of version 1.
 fn files(alloc: Global) -> Result<Vec<Vec<u8>>, Fail> {
     let mut files = Vec::new(alloc);
-    files.push(file_of(alloc, &[], 1)?)?;
-    files.push(file_of(alloc, &[&BLACK], 1)?)?;
-    files.push(file_of(alloc, &[&DARK], 1)?)?;
-    files.push(file_of(alloc, &[&BLACK, &DARK], 1)?)?;
-    // A slice in two copies, and one of version 1.
-    files.push(file_of(alloc, &[&BLACK, &TWICE], 1)?)?;
+    for &copies in &COPIES {
+        files.push(file_of(alloc, copies, 1)?)?;
+    }
     files.push(Vec::from_slice(alloc, &FIRST)?)?;
     Ok(files)
 }
@@ -93,50 +103,67 @@ fn streams_come_to_what_join_makes(rt: HostRuntime) -> Result<(), Fail> {
     Ok(())
 }
 
+/// The file of two slices, and that of one of them.
+#[derive(Drop)]
+struct Pair {
+    both: Vec<u8>,
+    one: Vec<u8>,
+}
+
+/// The file of both slices, and that of this one.
+fn pair_with(alloc: Global, one: &[u8]) -> Result<Pair, Fail> {
+    Ok(Pair {
+        both: file_of(alloc, &[&BLACK, &DARK], 1)?,
+        one: file_of(alloc, &[one], 1)?,
+    })
+}
+
 /// Whether a cut file among two is told, and what was written is a front of their union's file, without its end.
 fn is_cut_off(alloc: Global, left: &[u8], right: &[u8], union: &[u8]) -> bool {
     let (answer, file) = merged(alloc, left, right);
     answer == Err(HoldFileFault::Truncated) && file.len() < union.len() && union.starts_with(&file)
 }
 
+/// Whether a cut of the first file at any place is told beside the second file, as either input.
+fn each_cut_is_told(alloc: Global, both: &[u8], one: &[u8]) -> bool {
+    for place in 0..both.len() {
+        let front = &both[..place];
+        if !is_cut_off(alloc, front, one, both) || !is_cut_off(alloc, one, front, both) {
+            return false;
+        }
+    }
+    true
+}
+
 #[test]
 fn a_cut_input_leaves_no_end(rt: HostRuntime) -> Result<(), Fail> {
-    let alloc = rt.alloc();
-    let both = file_of(alloc, &[&BLACK, &DARK], 1)?;
-    let dark = file_of(alloc, &[&DARK], 1)?;
-    for place in 0..both.len() {
-        assert!(rt; is_cut_off(alloc, &both[..place], &dark, &both));
-        assert!(rt; is_cut_off(alloc, &dark, &both[..place], &both));
-    }
+    let pair = pair_with(rt.alloc(), &DARK)?;
+    assert!(rt; each_cut_is_told(rt.alloc(), &pair.both, &pair.one));
     Ok(())
 }
 
 #[test]
 fn a_changed_byte_leaves_no_file(rt: HostRuntime) -> Result<(), Fail> {
     let alloc = rt.alloc();
-    let both = file_of(alloc, &[&BLACK, &DARK], 1)?;
-    let dark = file_of(alloc, &[&DARK], 1)?;
+    let pair = pair_with(alloc, &DARK)?;
     let mut refused = 0usize;
-    for place in 0..both.len() {
-        let mut changed = both.clone()?;
+    for place in 0..pair.both.len() {
+        let mut changed = pair.both.clone()?;
         changed[place] ^= 0xFF;
-        let is_first = is_refused(alloc, &changed, &dark)?;
-        let is_second = is_refused(alloc, &dark, &changed)?;
+        let is_first = is_refused(alloc, &changed, &pair.one)?;
+        let is_second = is_refused(alloc, &pair.one, &changed)?;
         assert!(rt; is_first == is_second);
         refused = refused.saturating_add(usize::from(is_first));
     }
     // A changed digest is another copy's: there are two of 32 bytes.
-    assert!(rt; refused == both.len().saturating_sub(64));
+    assert!(rt; refused == pair.both.len().saturating_sub(64));
     Ok(())
 }
 
 /// Whether a sink that fails after so many bytes of a file of 146 has that front of it, and no more of its entries, which
 /// end at 91 and 145, was read than is needed.
 fn has_front(alloc: Global, file: &[u8], right: &[u8], room: usize) -> bool {
-    let mut sink = FromWrite::new(Narrow {
-        room,
-        bytes: Vec::new(alloc),
-    });
+    let mut sink = narrow_sink(alloc, room);
     let mut left = FromRead::new(file);
     let answer = join_streams(alloc, &mut left, &mut FromRead::new(right), &mut sink);
     let lead = if room < 91 {
@@ -146,9 +173,7 @@ fn has_front(alloc: Global, file: &[u8], right: &[u8], room: usize) -> bool {
     } else {
         146
     };
-    answer == Err(HoldFileFault::Write)
-        && left.taken() <= lead
-        && Some(sink.into_inner().bytes.as_slice()) == file.get(..room)
+    has_taken(sink, room, file) && answer == Err(HoldFileFault::Write) && left.taken() <= lead
 }
 
 /// Whether it does so after any number of them.
@@ -163,10 +188,8 @@ fn each_front_is_left(alloc: Global, file: &[u8], right: &[u8]) -> bool {
 
 #[test]
 fn a_failed_write_leaves_a_front_and_reads_no_further(rt: HostRuntime) -> Result<(), Fail> {
-    let alloc = rt.alloc();
-    let both = file_of(alloc, &[&BLACK, &DARK], 1)?;
-    let black = file_of(alloc, &[&BLACK], 1)?;
-    assert!(rt; each_front_is_left(alloc, &both, &black));
+    let pair = pair_with(rt.alloc(), &BLACK)?;
+    assert!(rt; each_front_is_left(rt.alloc(), &pair.both, &pair.one));
     Ok(())
 }
 
@@ -193,12 +216,23 @@ fn failed(
 }
 
 /// Whether that is told, and what was written is a front of their union's file, without its end.
-fn is_failure_told(alloc: Global, file: &[u8], other: &[u8], union: &[u8]) -> bool {
-    for is_second in [false, true] {
-        let (answer, front) = failed(alloc, file, other, is_second);
-        if answer != Err(HoldFileFault::Read)
-            || front.as_slice() == union
-            || !union.starts_with(&front)
+fn is_failure_told(
+    alloc: Global,
+    file: &[u8],
+    other: &[u8],
+    union: &[u8],
+    is_second: bool,
+) -> bool {
+    let (answer, front) = failed(alloc, file, other, is_second);
+    answer == Err(HoldFileFault::Read) && front.as_slice() != union && union.starts_with(&front)
+}
+
+/// Whether a failure of the first file at any place is told beside the second file, as either input.
+fn each_failure_is_told(alloc: Global, both: &[u8], one: &[u8]) -> bool {
+    for place in 0..=both.len() {
+        let front = &both[..place];
+        if !is_failure_told(alloc, front, one, both, false)
+            || !is_failure_told(alloc, front, one, both, true)
         {
             return false;
         }
@@ -208,12 +242,8 @@ fn is_failure_told(alloc: Global, file: &[u8], other: &[u8], union: &[u8]) -> bo
 
 #[test]
 fn an_input_that_fails_is_told_and_leaves_no_end(rt: HostRuntime) -> Result<(), Fail> {
-    let alloc = rt.alloc();
-    let both = file_of(alloc, &[&BLACK, &DARK], 1)?;
-    let dark = file_of(alloc, &[&DARK], 1)?;
-    for place in 0..=both.len() {
-        assert!(rt; is_failure_told(alloc, &both[..place], &dark, &both));
-    }
+    let pair = pair_with(rt.alloc(), &DARK)?;
+    assert!(rt; each_failure_is_told(rt.alloc(), &pair.both, &pair.one));
     Ok(())
 }
 
@@ -231,8 +261,9 @@ fn interrupted(alloc: Global, file: &[u8], times: u32) -> Result<(), HoldFileFau
 #[test]
 fn interrupted_streams_are_tried_again(rt: HostRuntime) -> Result<(), Fail> {
     let black = file_of(rt.alloc(), &[&BLACK], 1)?;
-    assert!(rt; interrupted(rt.alloc(), &black, 64).is_ok());
-    assert!(rt; interrupted(rt.alloc(), &black, 65) == Err(HoldFileFault::Read));
+    let patient = interrupted(rt.alloc(), &black, 64);
+    let failing = interrupted(rt.alloc(), &black, 65);
+    assert!(rt; patient.is_ok() && failing == Err(HoldFileFault::Read));
     Ok(())
 }
 

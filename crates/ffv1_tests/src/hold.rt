@@ -1,5 +1,6 @@
 //! A holding file byte for byte, devices that fail after any part of it, and plans.
-use crate::streams::{Failing, Narrow};
+use crate::picture::joined;
+use crate::streams::{Failing, has_taken, narrow_sink};
 use ffv1_frames::{BLACK, DARK, ONE_TILE};
 use ffv1_hold::{
     FromRead, FromWrite, HoldFileFault, Holding, Join, Plan, Sink, Source, read_hold, run,
@@ -55,9 +56,7 @@ impl<'a> Read for Endless<'a> {
         if count > 0 {
             return Ok(count);
         }
-        for byte in buf.iter_mut() {
-            *byte = 0;
-        }
+        buf.fill(0);
         Ok(buf.len())
     }
 }
@@ -69,10 +68,14 @@ pub(crate) fn written(alloc: Global, holding: &Holding) -> Result<Vec<u8>, Fail>
     Ok(sink.into_inner())
 }
 
-/// Whether a plan for frames of one sample makes the holding of this file.
-fn makes(alloc: Global, plan: &Plan<'_>, file: &[u8]) -> Result<bool, Fail> {
-    let holding = run(alloc, plan, &ONE_TILE, 1, 1)?;
-    Ok(written(alloc, &holding)?.as_slice() == file)
+/// The holding of a file.
+pub(crate) fn read_back(alloc: Global, file: &[u8]) -> Result<Holding, Fail> {
+    Ok(read_hold(alloc, &mut FromRead::new(file))?)
+}
+
+/// Whether a holding is written as this file.
+fn is_file_of(alloc: Global, holding: &Holding, file: &[u8]) -> Result<bool, Fail> {
+    Ok(written(alloc, holding)?.as_slice() == file)
 }
 
 /// Why these bytes are refused where the device after them ends, or fails first.
@@ -109,19 +112,19 @@ fn ends_in(alloc: Global, bytes: &[u8], fault: HoldFileFault) -> bool {
 
 #[test]
 fn fronts_of_files_are_told(rt: HostRuntime) {
-    assert!(rt; each_front_is_told(rt.alloc(), &FILE));
-    assert!(rt; each_front_is_told(rt.alloc(), &SECOND));
+    let (first, second) = (
+        each_front_is_told(rt.alloc(), &FILE),
+        each_front_is_told(rt.alloc(), &SECOND),
+    );
+    assert!(rt; first && second);
 }
 
 /// Whether a sink that fails after so many bytes has that front of the file, and its failure is told and counted.
 fn has_front(alloc: Global, holding: &Holding, room: usize, file: &[u8]) -> bool {
-    let mut sink = FromWrite::new(Narrow {
-        room,
-        bytes: Vec::new(alloc),
-    });
-    let failed = write_hold(holding, &mut sink) == Err(HoldFileFault::Write);
-    let counted = sink.failures() == 1;
-    failed && counted && Some(sink.into_inner().bytes.as_slice()) == file.get(..room)
+    let mut sink = narrow_sink(alloc, room);
+    let is_failed = write_hold(holding, &mut sink) == Err(HoldFileFault::Write);
+    let is_counted = sink.failures() == 1;
+    has_taken(sink, room, file) && is_failed && is_counted
 }
 
 /// Whether a sink that fails after any number of a file's bytes does.
@@ -134,58 +137,92 @@ fn each_front_is_left(alloc: Global, holding: &Holding, file: &[u8]) -> bool {
     true
 }
 
+/// Whether the sinks that fail while the holding of a file is written have its fronts.
+fn fails_at_each_place(alloc: Global, file: &[u8]) -> Result<bool, Fail> {
+    let holding = read_back(alloc, file)?;
+    Ok(each_front_is_left(alloc, &holding, file))
+}
+
 #[test]
 fn a_failing_sink_is_told_as_that(rt: HostRuntime) -> Result<(), Fail> {
-    let holding = read_hold(rt.alloc(), &mut FromRead::new(SECOND.as_slice()))?;
-    assert!(rt; each_front_is_left(rt.alloc(), &holding, &SECOND));
+    assert!(rt; fails_at_each_place(rt.alloc(), &SECOND)?);
     Ok(())
 }
 
 /// Whether the holding of a file is written as this one.
 fn is_written_as(alloc: Global, file: &[u8], wanted: &[u8]) -> Result<bool, Fail> {
-    let holding = read_hold(alloc, &mut FromRead::new(file))?;
-    Ok(written(alloc, &holding)?.as_slice() == wanted)
+    let holding = read_back(alloc, file)?;
+    is_file_of(alloc, &holding, wanted)
 }
+
+/// Files, and what their holdings are written as.
+static WRITTEN: [(&[u8], &[u8]); 3] = [(&FILE, &AGAIN), (&AGAIN, &AGAIN), (&SECOND, &SECOND)];
 
 #[test]
 fn a_file_of_either_version_is_written_as_one_of_the_second(rt: HostRuntime) -> Result<(), Fail> {
-    let cases: [(&[u8], &[u8]); 3] = [(&FILE, &AGAIN), (&AGAIN, &AGAIN), (&SECOND, &SECOND)];
-    for (file, wanted) in cases {
+    for &(file, wanted) in &WRITTEN {
         assert!(rt; is_written_as(rt.alloc(), file, wanted)?);
     }
     Ok(())
 }
 
-#[test]
-fn a_fault_that_was_read_comes_before_the_device(rt: HostRuntime) {
-    let cases = [
-        (0, 0x45, 1, HoldFileFault::Magic),
-        (3, 0, 4, HoldFileFault::Magic),
-        (7, 3, 8, HoldFileFault::Magic),
-        (16, 2, 20, HoldFileFault::TooLong),
-        (11, 0, 37, HoldFileFault::Setup(SetupFault::Size)),
-        (37, 5, 38, HoldFileFault::Tag),
-        (40, 2, 44, HoldFileFault::TooLong),
-        (39, 1, 55, HoldFileFault::NotASlice),
-        (44, 0, 55, HoldFileFault::NotASlice),
-        (64, 0x40, 73, HoldFileFault::NotASlice),
-    ];
-    for (place, value, end, fault) in cases {
-        assert!(rt; place < end && end <= FILE.len());
-        let mut changed = FILE;
-        changed[place] = value;
-        assert!(rt; ends_in(rt.alloc(), &changed[..end], fault), "at {place}");
+/// A place of `FILE`, a byte that is put there, how many bytes show its fault, and the fault.
+static CHANGES: [(usize, u8, usize, HoldFileFault); 10] = [
+    (0, 0x45, 1, HoldFileFault::Magic),
+    (3, 0, 4, HoldFileFault::Magic),
+    (7, 3, 8, HoldFileFault::Magic),
+    (16, 2, 20, HoldFileFault::TooLong),
+    (11, 0, 37, HoldFileFault::Setup(SetupFault::Size)),
+    (37, 5, 38, HoldFileFault::Tag),
+    (40, 2, 44, HoldFileFault::TooLong),
+    (39, 1, 55, HoldFileFault::NotASlice),
+    (44, 0, 55, HoldFileFault::NotASlice),
+    (64, 0x40, 73, HoldFileFault::NotASlice),
+];
+
+/// Whether so many bytes of the file with this byte at that place, which is one of theirs, end in this fault.
+fn ends_in_changed(
+    alloc: Global,
+    place: usize,
+    value: u8,
+    end: usize,
+    fault: HoldFileFault,
+) -> bool {
+    let mut changed = FILE;
+    if place >= end || end > changed.len() {
+        return false;
     }
+    changed[place] = value;
+    ends_in(alloc, &changed[..end], fault)
 }
 
 #[test]
-fn an_entry_out_of_order_comes_before_the_device(rt: HostRuntime) {
-    for (second, first) in [(37, 55), (55, 55)] {
-        let mut changed = FILE;
-        changed[37..55].copy_from_slice(&FILE[first..first + 18]);
-        changed[55..73].copy_from_slice(&FILE[second..second + 18]);
-        assert!(rt; ends_in(rt.alloc(), &changed[..73], HoldFileFault::Order));
+fn a_fault_that_was_read_comes_before_the_device(rt: HostRuntime) {
+    for &(place, value, end, fault) in &CHANGES {
+        assert!(rt;
+            ends_in_changed(rt.alloc(), place, value, end, fault),
+            "at {place}"
+        );
     }
+}
+
+/// Whether a file of these parts ends in something out of order.
+fn ends_out_of_order(alloc: Global, parts: &[&[u8]]) -> Result<bool, Fail> {
+    let file = joined(alloc, parts)?;
+    Ok(ends_in(alloc, &file, HoldFileFault::Order))
+}
+
+/// Whether a file that goes on with the greater of two parts first, or with it twice, does.
+fn has_to_rise(alloc: Global, front: &[u8], lesser: &[u8], greater: &[u8]) -> Result<bool, Fail> {
+    let is_falling = ends_out_of_order(alloc, &[front, greater, lesser])?;
+    let is_twice = ends_out_of_order(alloc, &[front, greater, greater])?;
+    Ok(is_falling && is_twice)
+}
+
+#[test]
+fn an_entry_out_of_order_comes_before_the_device(rt: HostRuntime) -> Result<(), Fail> {
+    assert!(rt; has_to_rise(rt.alloc(), &FILE[..37], &FILE[37..55], &FILE[55..73])?);
+    Ok(())
 }
 
 #[test]
@@ -201,51 +238,73 @@ fn too_many_digests_come_before_the_device(rt: HostRuntime) {
 }
 
 #[test]
-fn a_digest_out_of_order_comes_before_the_device(rt: HostRuntime) {
-    // Both digests after the first slice, with the greater one first, or one of them twice.
-    for (first, second) in [(59, 113), (59, 59)] {
-        let mut changed = SECOND;
-        changed[58] = 2;
-        changed[59..91].copy_from_slice(&SECOND[first..first + 32]);
-        changed[91..123].copy_from_slice(&SECOND[second..second + 32]);
-        assert!(rt; ends_in(rt.alloc(), &changed[..123], HoldFileFault::Order));
-    }
+fn a_digest_out_of_order_comes_before_the_device(rt: HostRuntime) -> Result<(), Fail> {
+    // Both digests after the first slice, which is the greater one's.
+    let mut file = SECOND;
+    file[58] = 2;
+    assert!(rt; has_to_rise(rt.alloc(), &file[..59], &file[113..145], &file[59..91])?);
+    Ok(())
+}
+
+/// The fault of bytes with zeros after them that never end, and how many were taken.
+fn shown_of_endless(alloc: Global, bytes: &[u8]) -> (Option<HoldFileFault>, u64) {
+    let mut endless = FromRead::new(Endless { bytes });
+    let shown = read_hold(alloc, &mut endless).err();
+    (shown, endless.taken())
 }
 
 #[test]
 fn a_reader_that_never_ends_shows_its_first_fault(rt: HostRuntime) {
-    let cases = [
-        (0, HoldFileFault::Magic, 1),
-        (74, HoldFileFault::Trailing, 75),
-    ];
-    for (length, fault, taken) in cases {
-        let mut endless = FromRead::new(Endless {
-            bytes: &FILE[..length],
-        });
-        let shown = read_hold(rt.alloc(), &mut endless).err();
-        assert!(rt; shown == Some(fault) && endless.taken() == taken);
-    }
+    let zeros = shown_of_endless(rt.alloc(), &[]);
+    assert!(rt; zeros == (Some(HoldFileFault::Magic), 1));
+    let file = shown_of_endless(rt.alloc(), &FILE);
+    assert!(rt; file == (Some(HoldFileFault::Trailing), 75));
+}
+
+/// A plan, for another one that goes on from it.
+pub(crate) fn boxed<'a>(alloc: Global, plan: Plan<'a>) -> Result<Box<Plan<'a>>, Fail> {
+    Ok(Box::new(alloc, plan)?)
 }
 
 /// Two copies, one after the other.
 fn one_by_one<'a>(alloc: Global, first: &'a [u8], second: &'a [u8]) -> Result<Plan<'a>, Fail> {
-    let only_first = Plan::Take(Box::new(alloc, Plan::New)?, first);
-    Ok(Plan::Take(Box::new(alloc, only_first)?, second))
+    let only_first = Plan::Take(boxed(alloc, Plan::New)?, first);
+    Ok(Plan::Take(boxed(alloc, only_first)?, second))
 }
 
 /// A list of copies, through a file, joined with nothing.
 fn through_a_file<'a>(alloc: Global, copies: &'a [&'a [u8]]) -> Result<Plan<'a>, Fail> {
-    let all = Plan::TakeAll(Box::new(alloc, Plan::New)?, copies);
-    let read = Plan::Reread(Box::new(alloc, all)?);
-    Ok(Plan::Join(Box::new(alloc, read)?, Box::new(alloc, Plan::New)?))
+    let all = Plan::TakeAll(boxed(alloc, Plan::New)?, copies);
+    let read = boxed(alloc, Plan::Reread(boxed(alloc, all)?))?;
+    Ok(Plan::Join(read, boxed(alloc, Plan::New)?))
+}
+
+/// What a plan for frames of one sample makes.
+fn made(alloc: Global, plan: &Plan<'_>) -> Result<Holding, Fail> {
+    Ok(run(alloc, plan, &ONE_TILE, 1, 1)?)
+}
+
+/// Whether it is the holding of this file.
+fn makes(alloc: Global, plan: &Plan<'_>, file: &[u8]) -> Result<bool, Fail> {
+    let holding = made(alloc, plan)?;
+    is_file_of(alloc, &holding, file)
+}
+
+/// Whether two copies, one after the other, make this file.
+fn makes_one_by_one(alloc: Global, copies: [&[u8]; 2], file: &[u8]) -> Result<bool, Fail> {
+    let plan = one_by_one(alloc, copies[0], copies[1])?;
+    makes(alloc, &plan, file)
+}
+
+/// Whether a list of copies, through a file, makes this file.
+fn makes_through_a_file(alloc: Global, copies: &[&[u8]], file: &[u8]) -> Result<bool, Fail> {
+    let plan = through_a_file(alloc, copies)?;
+    makes(alloc, &plan, file)
 }
 
 #[test]
 fn plans_of_the_same_copies_give_one_file(rt: HostRuntime) -> Result<(), Fail> {
-    let copies: [&[u8]; 3] = [&DARK, &BLACK, &DARK];
-    let one = one_by_one(rt.alloc(), &BLACK, &DARK)?;
-    assert!(rt; makes(rt.alloc(), &one, &SECOND)?);
-    let other = through_a_file(rt.alloc(), &copies)?;
-    assert!(rt; makes(rt.alloc(), &other, &SECOND)?);
+    assert!(rt; makes_one_by_one(rt.alloc(), [&BLACK, &DARK], &SECOND)?);
+    assert!(rt; makes_through_a_file(rt.alloc(), &[&DARK, &BLACK, &DARK], &SECOND)?);
     Ok(())
 }
