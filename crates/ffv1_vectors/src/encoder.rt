@@ -86,23 +86,7 @@ impl RangeEncoder {
         ensures memory { IfErr result (λ fault. fault ≡ Memory) }
         ensures unchanged { OnErr result ((self.new ≡ self.old) × (states.new ≡ states.old)) }
     {
-        self.slot(states, 0, bit)
-    }
-
-    /// Writes one bit at a slot of a row of states in 8..=248, as `bit` does.
-    pub(crate) fn slot(
-        &mut self,
-        states: &mut [u8; 32],
-        slot: usize,
-        bit: bool,
-    ) -> Result<(), MakeFault>
-        requires slot { slot < 32 }
-        requires states { AreStates states.old }
-        ensures in_range { AreStates states.new }
-        ensures memory { IfErr result (λ fault. fault ≡ Memory) }
-        ensures unchanged { OnErr result ((self.new ≡ self.old) × (states.new ≡ states.old)) }
-    {
-        self.bit(&mut states[slot], bit)
+        self.bit(&mut states[0], bit)
     }
 
     /// Writes an unsigned symbol (section 3.8.1.2) at a row of states in 8..=248, which change and stay in 8..=248.

@@ -1,5 +1,5 @@
 //! Configuration records (RFC 9043, sections 4.2 and 4.3), spelled from what they are to say.
-ghost use Rattle.std.specs.Prelude.{◌≡◌, ◌<◌, IfOk, IfErr};
+ghost use Rattle.std.specs.Prelude.{◌≡◌, IfOk, IfErr};
 ghost use Rattle.ffv1_bits.specs.Limits.{greatest_side};
 ghost use Rattle.ffv1_range.specs.Setup.{IsSetupOf};
 ghost use Rattle.ffv1_vectors.specs.Asked.{IsProfile, asked_setup};
@@ -63,12 +63,7 @@ pub fn spell_record(alloc: Global, spec: &RecordSpec) -> Result<Vec<u8>, MakeFau
     ensures { IfErr result (λ fault. fault ≡ Memory) }
 {
     let mut encoder = RangeEncoder::new(alloc);
-    let mut states = [128; 32];
-    spell_format(&mut encoder, &mut states, spec)?;
-    spell_planes(&mut encoder, &mut states, spec)?;
-    spell_sets(&mut encoder, &spec.sets)?;
-    spell_deltas(&mut encoder, &mut states, spec)?;
-    encoder.all_unsigned(&mut states, &[spec.ec, spec.intra])?;
+    spell_fields(&mut encoder, spec)?;
     with_parity(encoder.finish_closed()?)
 }
 
@@ -93,24 +88,23 @@ pub fn make_record(alloc: Global, spec: &RecordSpec) -> Result<Vec<u8>, MakeFaul
     Ok(bytes)
 }
 
-/// Writes the version and how samples are coded.
-fn spell_format(
-    encoder: &mut RangeEncoder,
-    states: &mut [u8; 32],
-    spec: &RecordSpec,
-) -> Result<(), MakeFault>
-    requires { AreStates states.old }
-    ensures in_range { AreStates states.new }
-    ensures memory { IfErr result (λ fault. fault ≡ Memory) }
+/// Writes all fields.
+fn spell_fields(encoder: &mut RangeEncoder, spec: &RecordSpec) -> Result<(), MakeFault>
+    ensures { IfErr result (λ fault. fault ≡ Memory) }
 {
-    let fields = [
+    let mut states = [128; 32];
+    let format = [
         spec.version,
         spec.micro,
         spec.coder,
         spec.colorspace,
         spec.raw_depth,
     ];
-    encoder.all_unsigned(states, &fields)
+    encoder.all_unsigned(&mut states, &format)?;
+    spell_planes(encoder, &mut states, spec)?;
+    spell_sets(encoder, &spec.sets)?;
+    spell_deltas(encoder, &mut states, spec)?;
+    encoder.all_unsigned(&mut states, &[spec.ec, spec.intra])
 }
 
 /// Writes the planes, the grid and the number of table sets.
@@ -209,24 +203,9 @@ fn spell_context_deltas(
     ensures memory { IfErr result (λ fault. fault ≡ Memory) }
 {
     for k in 0..32usize {
-        spell_delta(encoder, rows, k, delta)?;
+        encoder.signed(&mut rows[k], delta)?;
     }
     Ok(())
-}
-
-/// Writes the delta of number k.
-fn spell_delta(
-    encoder: &mut RangeEncoder,
-    rows: &mut [[u8; 32]; 32],
-    k: usize,
-    delta: i32,
-) -> Result<(), MakeFault>
-    requires number { k < 32 }
-    requires rows { AreRows rows.old }
-    ensures in_range { AreRows rows.new }
-    ensures memory { IfErr result (λ fault. fault ≡ Memory) }
-{
-    encoder.signed(&mut rows[k], delta)
 }
 
 /// How many contexts a set of these tables has.

@@ -52,7 +52,7 @@ pub struct SuiteCase {
 /// How many numbers `suite_case` takes.
 pub const SUITE_NUMBERS: usize = 720;
 
-const FORMATS: [Option<(u32, u32)>; 5] = [
+static FORMATS: [Option<(u32, u32)>; 5] = [
     None,
     Some((0, 0)),
     Some((1, 0)),
@@ -60,15 +60,15 @@ const FORMATS: [Option<(u32, u32)>; 5] = [
     Some((2, 2)),
 ];
 
-const GRIDS: [(u32, u32); 3] = [(1, 1), (2, 2), (3, 2)];
+static GRIDS: [(u32, u32); 3] = [(1, 1), (2, 2), (3, 2)];
 
-const CONTENTS: [SuiteContent; 3] = [
+static CONTENTS: [SuiteContent; 3] = [
     SuiteContent::Flat,
     SuiteContent::Rising,
     SuiteContent::Alternating,
 ];
 
-const SIDES: [u32; 4] = [1, 2, 7, 64];
+static SIDES: [u32; 4] = [1, 2, 7, 64];
 
 /// The case with these tables and this number, from 0 up to 719; `None` where its grid is finer than its frame. The
 /// numbers go through all combinations: gray, and chroma with the shifts (0, 0), (1, 0), (1, 1) and (2, 2); grids of

@@ -1,4 +1,5 @@
-use Rattle.std.proofs.Common.{◌≡◌, ◌+◌, ◌-◌, ◌*◌, ◌/◌, ℕ, List, [], ◌∷◌, Vec, Global, drop, map, ap, sym, ◌∙◌, subst, rules, tests}
+use Rattle.std.proofs.Common.{◌≡◌, ◌+◌, ◌-◌, ◌*◌, ◌/◌, ℕ, List, [], ◌∷◌, Vec, Global, drop, map, refl, ap, sym, ◌∙◌, subst, rules, tests}
+use Rattle.std.proofs.lemmas.Bool.{false≢true}
 use Rattle.std.proofs.lemmas.List.{drop_more, drop_all, length-map}
 use Rattle.ffv1_range.specs.Tables.{scale_after, scale_after_all}
 use Rattle.ffv1_vectors.specs.Asked.{HasTable, HasTables}
@@ -7,6 +8,18 @@ use Rattle.ffv1_vectors.proofs.asked.has_set.Goals as goal
 -- the lengths of each table's runs
 abbrev runs_of : List (Vec ℕ Global) → List (List ℕ)
 runs_of tables = map (λ (runs : Vec ℕ Global). runs.items) tables
+
+pub returns-then-tables-ne5 : goal.returns-then-tables-ne5
+returns-then-tables-ne5 c = λ yes. absurd (false≢true yes)
+
+pub loop-table-init : goal.loop-table-init
+loop-table-init c = record { entries = λ all. all; scales = refl }
+
+pub returns-then-not-has_table : goal.returns-then-not-has_table
+returns-then-not-has_table c = λ yes. absurd (false≢true yes)
+
+pub returns-in_default : goal.returns-in_default
+returns-in_default c = λ yes. absurd (false≢true yes)
 
 pub loop-table-preserved : goal.loop-table-preserved
 loop-table-preserved c =

@@ -1,5 +1,6 @@
 use Rattle.std.proofs.Common.{◌≡◌, ◌++◌, get_or, refl, ap, ◌∙◌, arith}
 use Rattle.std.proofs.lemmas.List.{get_or_default}
+use Rattle.std.proofs.lemmas.Result.{err_from_is_err_and}
 use Rattle.ffv1_range.specs.Tiles.{grid_of, tile_count}
 use Rattle.ffv1_vectors.specs.declared.frame.TileSpec.{TileSpec}
 use Rattle.ffv1_vectors.proofs.FrameSteps.{made_none, made_more, made_all}
@@ -21,11 +22,28 @@ loop-tile-preserved c =
     ∙ ap (λ ts. get_or ts c.loop-tile.tile d) tiles)
     c.in_ok-slice.ensures
 
-pub returns-clause-made : goal.returns-clause-made
-returns-clause-made c =
+pub returns-then-not-fits_setup : goal.returns-then-not-fits_setup
+returns-then-not-fits_setup c = record { made = tt; fits = tt; misfit = λ never. refl }
+
+pub returns-in_err-slice : goal.returns-in_err-slice
+returns-in_err-slice c =
+    let p = err_from_is_err_and c.from_residual.result c.from_residual.ensures.1 in
+    rw p.1 (record { made = tt; fits = tt; misfit = λ never. absurd (never (c.fits_setup.ensures.0 c.if-not-fits_setup.false)) })
+
+pub returns-then-len : goal.returns-then-len
+returns-then-len c = record { made = tt; fits = tt; misfit = λ never. refl }
+
+pub returns-in_err-extend_from_slice : goal.returns-in_err-extend_from_slice
+returns-in_err-extend_from_slice c =
+    let p = err_from_is_err_and c.from_residual-in_err-extend_from_slice.result c.from_residual-in_err-extend_from_slice.ensures.1 in
+    rw p.1 (record { made = tt; fits = tt; misfit = λ never. absurd (never (c.fits_setup.ensures.0 c.if-not-fits_setup.false)) })
+
+pub returns : goal.returns
+returns c =
     let fits = c.fits_setup.ensures.0 c.if-not-fits_setup.false in
     let all : c.loop-tile.tile ≡ tile_count (grid_of c.args.setup.now) = omega (arith, fits.count, c.deref-tile_spec-items.ensures.len) in
-    made_all c.args.setup.now c.args.spec.now c.loop-tile.tile c.loop-tile.payload.items all c.loop-tile.invariant
-
-pub returns-then-not-fits_setup-clause-misfit : goal.returns-then-not-fits_setup-clause-misfit
-returns-then-not-fits_setup-clause-misfit c = λ never. refl
+    record {
+      made = made_all c.args.setup.now c.args.spec.now c.loop-tile.tile c.loop-tile.payload.items all c.loop-tile.invariant;
+      fits = fits;
+      misfit = λ never. absurd (never fits);
+    }

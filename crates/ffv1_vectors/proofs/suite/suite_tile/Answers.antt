@@ -1,5 +1,6 @@
 use Rattle.std.proofs.Common.{◌≡◌, ℕ, ◌+◌, ◌*◌, ◌%◌, List, [], ◌∷◌, ◌++◌, length, map, Vec, Global, refl, ap, ◌∙◌, arith}
 use Rattle.std.proofs.lemmas.List.{length-append, length-map, map-append}
+use Rattle.std.proofs.lemmas.Result.{err_from_is_err_and}
 use Rattle.ffv1_range.specs.Tiles.{GridValue, plane_count, plane_rect, grid_of}
 use Rattle.ffv1_range.specs.declared.grid.TileRect.{TileRect}
 use Rattle.ffv1_vectors.specs.Suite.{IsSuitePlane}
@@ -31,6 +32,14 @@ loop-plane-preserved c =
           c.in_ok-suite_plane.field-0.items [] count grown before.of_case
           (of_own_length c.args.case.now.content _ _ c.in_ok-suite_plane.field-0.items made);
     }
+
+pub returns-in_err-suite_plane : goal.returns-in_err-suite_plane
+returns-in_err-suite_plane c =
+    let p = err_from_is_err_and c.from_residual.result c.from_residual.ensures.1 in rw p.1 (record { fits = tt; tile = tt })
+
+pub returns-in_err-push : goal.returns-in_err-push
+returns-in_err-push c =
+    let p = err_from_is_err_and c.from_residual-in_err-push.result c.from_residual-in_err-push.ensures.1 in rw p.1 (record { fits = tt; tile = tt })
 
 pub returns : goal.returns
 returns c =
