@@ -111,7 +111,7 @@ impl<'a> Run<'a> {
     }
 }
 
-/// An answer without what it tells.
+/// A command's answer, without whether all was found.
 fn unit(answer: Result<bool, CliFault>) -> Result<(), CliFault> {
     match answer {
         Ok(_) => Ok(()),

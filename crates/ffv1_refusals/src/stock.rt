@@ -88,7 +88,7 @@ pub struct Alone {
 }
 
 impl Alone {
-    /// Both of them. It fails where memory is refused.
+    /// The holdings of both copies. It fails where memory is refused.
     fn new(alloc: Global) -> io::Result<Alone> {
         let first = Held::new(alloc, &[&first_copy()])?;
         let second = Held::new(alloc, &[&second_copy()])?;
@@ -99,9 +99,9 @@ impl Alone {
 /// Holdings of each copy alone, and of both.
 #[derive(Drop)]
 pub struct Stock {
-    /// The holdings of each.
+    /// The holdings of each copy alone.
     pub alone: Alone,
-    /// The holding of both.
+    /// The holding of both copies.
     pub both: Held,
 }
 

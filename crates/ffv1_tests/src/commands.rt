@@ -88,7 +88,8 @@ pub(crate) fn joined<'a>(
     Ok((union, output))
 }
 
-/// Whether `join` makes the file of both copies of that of one and of itself, and tells so; and whether the frame is restored of it.
+/// Whether `join` of the file of one copy and of that of both makes the file of both, and prints what was new; and whether the
+/// frame is restored of it.
 fn union_is_restored(alloc: Global, one: &[u8], both: &[u8]) -> Result<bool, Fail> {
     let (union, lines) = joined(alloc, one, both)?;
     Ok(

@@ -127,7 +127,7 @@ fn has_front(alloc: Global, holding: &Holding, room: usize, file: &[u8]) -> bool
     has_taken(sink, room, file) && is_failed && is_counted
 }
 
-/// Whether a sink that fails after any number of a file's bytes does.
+/// Whether sinks that fail, each after another number of bytes, have those fronts of the file.
 fn each_front_is_left(alloc: Global, holding: &Holding, file: &[u8]) -> bool {
     for room in 0..file.len() {
         if !has_front(alloc, holding, room, file) {
@@ -212,7 +212,7 @@ fn ends_out_of_order(alloc: Global, parts: &[&[u8]]) -> Result<bool, Fail> {
     Ok(ends_in(alloc, &file, HoldFileFault::Order))
 }
 
-/// Whether a file that goes on with the greater of two parts first, or with it twice, does.
+/// Whether a file is out of order that goes on with the greater of two parts first, and one that goes on with it twice.
 fn has_to_rise(alloc: Global, front: &[u8], lesser: &[u8], greater: &[u8]) -> Result<bool, Fail> {
     let is_falling = ends_out_of_order(alloc, &[front, greater, lesser])?;
     let is_twice = ends_out_of_order(alloc, &[front, greater, greater])?;
@@ -261,7 +261,7 @@ fn a_reader_that_never_ends_shows_its_first_fault(rt: HostRuntime) {
     assert!(rt; file == (Some(HoldFileFault::Trailing), 75));
 }
 
-/// A plan, for another one that goes on from it.
+/// A plan in memory of its own, so that another one can go on from it.
 pub(crate) fn boxed<'a>(alloc: Global, plan: Plan<'a>) -> Result<Box<Plan<'a>>, Fail> {
     Ok(Box::new(alloc, plan)?)
 }
@@ -284,7 +284,7 @@ fn made(alloc: Global, plan: &Plan<'_>) -> Result<Holding, Fail> {
     Ok(run(alloc, plan, &ONE_TILE, 1, 1)?)
 }
 
-/// Whether it is the holding of this file.
+/// Whether what a plan for frames of one sample makes is the holding of this file.
 fn makes(alloc: Global, plan: &Plan<'_>, file: &[u8]) -> Result<bool, Fail> {
     let holding = made(alloc, plan)?;
     is_file_of(alloc, &holding, file)

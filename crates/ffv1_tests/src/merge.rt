@@ -66,7 +66,7 @@ static COPIES: [&[&[u8]]; 5] = [
     &[&BLACK, &TWICE],
 ];
 
-/// The files of them, and one of version 1.
+/// The files of the holdings of those copies, and one of version 1.
 fn files(alloc: Global) -> Result<Vec<Vec<u8>>, Fail> {
     let mut files = Vec::new(alloc);
     for &copies in &COPIES {
@@ -110,7 +110,7 @@ struct Pair {
     one: Vec<u8>,
 }
 
-/// The file of both slices, and that of this one.
+/// The file of a holding of both slices, and that of this one alone.
 fn pair_with(alloc: Global, one: &[u8]) -> Result<Pair, Fail> {
     Ok(Pair {
         both: file_of(alloc, &[&BLACK, &DARK], 1)?,
@@ -176,7 +176,7 @@ fn has_front(alloc: Global, file: &[u8], right: &[u8], room: usize) -> bool {
     has_taken(sink, room, file) && answer == Err(HoldFileFault::Write) && left.taken() <= lead
 }
 
-/// Whether it does so after any number of them.
+/// Whether sinks that fail, each after another number of bytes, have those fronts, and no more was read than is needed.
 fn each_front_is_left(alloc: Global, file: &[u8], right: &[u8]) -> bool {
     for room in 0..file.len() {
         if !has_front(alloc, file, right, room) {
@@ -215,7 +215,7 @@ fn failed(
     (answer, sink.into_inner())
 }
 
-/// Whether that is told, and what was written is a front of their union's file, without its end.
+/// Whether the failure of a file among two is told, and what was written is a front of their union's file, without its end.
 fn is_failure_told(
     alloc: Global,
     file: &[u8],

@@ -120,7 +120,7 @@ fn is_reported_as(alloc: Global, holding: &Holding, text: &str) -> Result<bool, 
     Ok(report(alloc, holding)?.as_str() == text)
 }
 
-/// Whether that of copies of a frame of two gray tiles is.
+/// Whether the report of copies of a frame of two gray tiles is this text.
 fn are_reported_as(alloc: Global, copies: &[&[u8]], text: &str) -> Result<bool, Fail> {
     let holding = held_of(alloc, &TWO_TILES, (2, 1), copies)?;
     is_reported_as(alloc, &holding, text)
@@ -149,7 +149,7 @@ fn is_restored(
     Ok(is_shown && is_payload(&restored.payload, payload))
 }
 
-/// Whether copies of a frame of two gray tiles come to that.
+/// Whether what is restored of copies of a frame of two gray tiles is this payload, and a picture of these samples.
 fn come_to(
     alloc: Global,
     copies: &[&[u8]],

@@ -55,7 +55,7 @@ fn is_of_original(
     }
 }
 
-/// Whether all tiles of a holding are, which came out so.
+/// Whether each tile of a holding, which came out so, is missing or of the original.
 fn are_of_original(made: &Made, holding: &Holding, outcomes: &[TileOutcome]) -> bool {
     for tile in 0..holding.reel().tiles() {
         let outcome = outcomes.get(tile).copied();
@@ -66,7 +66,7 @@ fn are_of_original(made: &Made, holding: &Holding, outcomes: &[TileOutcome]) -> 
     true
 }
 
-/// Whether all tiles of a holding are.
+/// Whether each tile of a holding is missing or of the original, and comes out so.
 fn holds_of_original(alloc: Global, made: &Made, holding: &Holding) -> Result<bool, Fail> {
     let partial = picture(alloc, holding)?;
     Ok(are_of_original(made, holding, &partial.tiles))
@@ -217,7 +217,7 @@ fn rots(alloc: Global, made: &Made) -> Result<bool, Fail> {
     Err("a frame that is judged".into())
 }
 
-/// Whether the frame of a case does.
+/// Whether the frame of a case rots.
 fn case_rots(alloc: Global, case: &SuiteCase) -> Result<bool, Fail> {
     let made = frame_of(alloc, case)?;
     rots(alloc, &made)

@@ -199,7 +199,7 @@ static TOLD: [Told; 4] = [
     ),
 ];
 
-/// Whether the command does so of two copies.
+/// Whether the command tells of two changed copies what the row has.
 fn tells_of_changed(alloc: Global, told: &Told) -> bool {
     let &(one, other, answer, payload, lines) = told;
     let copies = (changed(one), changed(other));

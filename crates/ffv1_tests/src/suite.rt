@@ -173,7 +173,7 @@ fn made_comes_back(alloc: Global, made: &Made) -> Result<bool, Fail> {
     Ok(is_restored(alloc, made, [&made.payload, &made.payload])? && samples_come_back(alloc, made)?)
 }
 
-/// Whether the frame of a case does.
+/// Whether the frame of a case comes back from `take` and `restore`, and from `decode`.
 fn comes_back(alloc: Global, case: &SuiteCase) -> Result<bool, Fail> {
     let made = frame_of(alloc, case)?;
     made_comes_back(alloc, &made)
@@ -301,14 +301,14 @@ fn are_restored_in_turn(
     )
 }
 
-/// Whether it is of a copy with bursts in all tiles but the first, and of one with a burst in that.
+/// Whether a frame is restored of a copy with bursts in all tiles but the first, and of one with a burst in the first.
 fn bursts_of_are_restored(alloc: Global, frame: &Made) -> Result<bool, Fail> {
     let one = hurt_in(alloc, &frame.payload, &[1, 2, 3])?;
     let three = hurt_after_first(alloc, &frame.payload)?;
     are_restored_in_turn(alloc, frame, &one, &three)
 }
 
-/// Whether a frame of four tiles is.
+/// Whether a frame of four tiles is restored of such copies.
 fn bursts_are_restored(alloc: Global) -> Result<bool, Fail> {
     let frame = four_tiles(alloc)?;
     bursts_of_are_restored(alloc, &frame)
@@ -419,7 +419,7 @@ fn size_in_hides(alloc: Global, frame: &Made) -> Result<bool, Fail> {
     breaks_at(alloc, frame, &copy, end)
 }
 
-/// Whether it does in a frame of four tiles.
+/// Whether a size too great in the footer of tile 2 of four hides that slice and those before it.
 fn size_hides(alloc: Global) -> Result<bool, Fail> {
     let frame = four_tiles(alloc)?;
     size_in_hides(alloc, &frame)
@@ -464,7 +464,7 @@ fn files_of_halves_of(alloc: Global, frame: &Made) -> Result<Files, Fail> {
     files_of(alloc, frame, &a, &b)
 }
 
-/// The same of a frame of four tiles.
+/// The files of such copies of a frame of four tiles.
 fn files_of_halves(alloc: Global) -> Result<Files, Fail> {
     let frame = four_tiles(alloc)?;
     files_of_halves_of(alloc, &frame)
