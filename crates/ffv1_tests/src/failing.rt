@@ -1,5 +1,6 @@
 //! The commands on devices that fail after any number of bytes: which path is told, and what is left in the outputs.
 use crate::commands::{ended, taken};
+use crate::streams::Narrow;
 use crate::suite::merged;
 use ffv1_commands::{
     CliFault, CommandPath, run_chain, run_decode, run_join, run_merge, run_picture, run_report,
@@ -84,19 +85,21 @@ impl Read for Input<'_> {
     }
 }
 
-/// A writer that takes one byte at a time, so many in all, after so many interruptions in a row, and then fails.
+/// A writer that is interrupted so many times in a row, and then takes one byte at a time, so many in all.
 #[derive(Drop)]
 struct Output {
-    bytes: Vec<u8>,
-    room: usize,
+    narrow: Narrow,
     interruptions: u32,
 }
 
 impl Output {
     fn new(alloc: Global) -> Output {
         Output {
-            bytes: Vec::new(alloc),
-            room: usize::MAX,
+            narrow: Narrow {
+                room: usize::MAX,
+                kind: ErrorKind::StorageFull,
+                bytes: Vec::new(alloc),
+            },
             interruptions: 0,
         }
     }
@@ -108,19 +111,11 @@ impl Write for Output {
             self.interruptions -= 1;
             return Err(io::Error::from(ErrorKind::Interrupted));
         }
-        if self.room == 0 {
-            return Err(io::Error::from(ErrorKind::StorageFull));
-        }
-        let Some(first) = buf.first() else {
-            return Ok(0);
-        };
-        self.bytes.push(*first)?;
-        self.room -= 1;
-        Ok(1)
+        self.narrow.write(buf)
     }
 
     fn flush(&mut self) -> io::Result<()> {
-        Ok(())
+        self.narrow.flush()
     }
 }
 
@@ -270,7 +265,9 @@ fn input_is_told(
     };
     let (mut out, mut printed) = (Output::new(alloc), Output::new(alloc));
     let answer = run(alloc, command, first, second, &mut out, &mut printed);
-    is_unread(&answer, path) && is_left(command, files, &out.bytes) && printed.bytes.is_empty()
+    is_unread(&answer, path)
+        && is_left(command, files, &out.narrow.bytes)
+        && printed.narrow.bytes.is_empty()
 }
 
 /// After how many bytes of the first or the second input a failure is not told as that.
@@ -314,11 +311,11 @@ fn ran_with_room(
 ) -> (Result<(), CliFault>, Vec<u8>, Vec<u8>) {
     let (first, second) = command.inputs(files);
     let (mut out, mut output) = (Output::new(alloc), Output::new(alloc));
-    out.room = made;
-    output.room = printed;
+    out.narrow.room = made;
+    output.narrow.room = printed;
     let (first, second) = (Input::new(first), Input::new(second));
     let answer = run(alloc, command, first, second, &mut out, &mut output);
-    (answer, out.bytes, output.bytes)
+    (answer, out.narrow.bytes, output.narrow.bytes)
 }
 
 /// Whether an OUT that fails after so many bytes has just these, and nothing is printed.

@@ -74,7 +74,7 @@ pub(crate) fn read_back(alloc: Global, file: &[u8]) -> Result<Holding, Fail> {
 }
 
 /// Whether a holding is written as this file.
-fn is_file_of(alloc: Global, holding: &Holding, file: &[u8]) -> Result<bool, Fail> {
+pub(crate) fn is_file_of(alloc: Global, holding: &Holding, file: &[u8]) -> Result<bool, Fail> {
     Ok(written(alloc, holding)?.as_slice() == file)
 }
 

@@ -1,7 +1,8 @@
 //! Frames, records and holding files of the suite, cut at every place and with every eight bytes zeroed, through the
 //! calls that take them.
+use crate::hold::{is_file_of, written};
 use crate::suite::{Made, frame_of};
-use ffv1_hold::{FromRead, FromWrite, HoldFileFault, Holding, TileState, read_hold, write_hold};
+use ffv1_hold::{FromRead, HoldFileFault, Holding, TileState, read_hold};
 use ffv1_picture::{Decoder, TileOutcome, picture};
 use ffv1_range::{Setup, SetupFault};
 use ffv1_slice::{Chain, slice_of};
@@ -117,18 +118,6 @@ fn record_is_judged(alloc: Global, made: &Made, rotten: &[u8]) -> bool {
     }
 }
 
-/// The file of a holding.
-fn text_of(alloc: Global, holding: &Holding) -> Result<Vec<u8>, Fail> {
-    let mut sink = FromWrite::new(Vec::new(alloc));
-    write_hold(holding, &mut sink)?;
-    Ok(sink.into_inner())
-}
-
-/// Whether these bytes are the file of a holding.
-fn is_file_of(alloc: Global, holding: &Holding, bytes: &[u8]) -> Result<bool, Fail> {
-    Ok(text_of(alloc, holding)?.as_slice() == bytes)
-}
-
 /// Whether a fault is one that may be told of a rotten holding file: that it is cut where it is shorter, else one of its
 /// bytes, if any has changed.
 fn is_told_of(fault: HoldFileFault, file: &[u8], rotten: &[u8]) -> bool {
@@ -149,15 +138,15 @@ fn file_is_judged(alloc: Global, file: &[u8], rotten: &[u8]) -> Result<bool, Fai
 }
 
 /// The file of a holding when it has taken a payload.
-fn text_of_taken(alloc: Global, holding: &mut Holding, payload: &[u8]) -> Result<Vec<u8>, Fail> {
+fn written_of_taken(alloc: Global, holding: &mut Holding, payload: &[u8]) -> Result<Vec<u8>, Fail> {
     holding.take(payload).ok().ok_or("ample memory")?;
-    text_of(alloc, holding)
+    written(alloc, holding)
 }
 
 /// The holding file of a frame.
 fn file_of(alloc: Global, made: &Made) -> Result<Vec<u8>, Fail> {
     let mut holding = Holding::new(alloc, &made.record, made.size.0, made.size.1)?;
-    text_of_taken(alloc, &mut holding, &made.payload)
+    written_of_taken(alloc, &mut holding, &made.payload)
 }
 
 /// Whether a frame is judged rightly wherever it is cut or zeroed.

@@ -25,17 +25,18 @@ impl<'a> Read for Failing<'a> {
     }
 }
 
-/// A writer that takes one byte at a time, so many in all, and then fails.
+/// A writer that takes one byte at a time, so many in all, and then fails with an error of this kind.
 #[derive(Drop)]
 pub(crate) struct Narrow {
     pub(crate) room: usize,
+    pub(crate) kind: ErrorKind,
     pub(crate) bytes: Vec<u8>,
 }
 
 impl Write for Narrow {
     fn write(&mut self, buf: &[u8]) -> io::Result<usize> {
         if self.room == 0 {
-            return Err(io::Error::from(ErrorKind::Other));
+            return Err(io::Error::from(self.kind));
         }
         let Some(first) = buf.first() else {
             return Ok(0);
@@ -54,6 +55,7 @@ impl Write for Narrow {
 pub(crate) fn narrow_sink(alloc: Global, room: usize) -> FromWrite<Narrow> {
     FromWrite::new(Narrow {
         room,
+        kind: ErrorKind::Other,
         bytes: Vec::new(alloc),
     })
 }
