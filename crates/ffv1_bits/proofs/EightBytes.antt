@@ -113,7 +113,7 @@ divided_enough n (suc m) p small =
 abbrev pub moved_entry : ℕ → ℕ → ℕ
 moved_entry more byte = remainder_of (bits_of (byte ∷ replicate (4 + more) 0))
 
-moved_entry_is : (more b : ℕ) → b < 256 → moved_entry more b ≡ divided (8 + 8 * more) (b * 2 ^ (32 + 8 * more))
+pub moved_entry_is : (more b : ℕ) → b < 256 → moved_entry more b ≡ divided (8 + 8 * more) (b * 2 ^ (32 + 8 * more))
 unfolding remainder_of
 moved_entry_is more b small =
     let bytes : List ℕ = b ∷ replicate (4 + more) 0 in

@@ -9,3 +9,4 @@ pub mod Numbers
 pub mod Places
 pub mod Remainders
 pub mod EightBytes
+pub mod SameChanges

@@ -21,7 +21,7 @@ worth zero p h = omega arith
 worth (suc zero) p h = omega arith
 worth (suc (suc b)) p h = absurd (omega arith)
 
-low_part : (count n : ℕ) → polynomial_of (number_bits count n) ≡ n % 2 ^ count
+pub low_part : (count n : ℕ) → polynomial_of (number_bits count n) ≡ n % 2 ^ count
 unfolding number_bits polynomial_of
 low_part zero n = omega arith
 low_part (suc count) n =
@@ -41,7 +41,7 @@ number_bits-polynomial_of bits =
 
 -- ---- the last bit
 
-halved : (count n : ℕ) → number_bits (suc count) n ≡ number_bits count (n / 2) ++ (has_bit n 0 ∷ [])
+pub halved : (count n : ℕ) → number_bits (suc count) n ≡ number_bits count (n / 2) ++ (has_bit n 0 ∷ [])
 unfolding number_bits
 halved zero n = refl
 halved (suc count) n =

@@ -1,0 +1,6 @@
+pub mod Crc
+pub mod Element
+pub mod Register
+-- what the clauses cite of the crate below
+pub use Rattle.ffv1_bits.specs.Bits
+pub use Rattle.ffv1_bits.specs.Parity
