@@ -1,119 +1,72 @@
--- The remainder is a sum: what a piece changes of it rests on the piece, on what stood in its place, and on the place alone.
-use Rattle.std.proofs.Common.{◌≡◌, ℕ, ◌+◌, ◌-◌, ◌*◌, ◌/◌, ◌%◌, ◌^◌, ◌<◌, ◌≤◌, Bool, true, false, cond, List, [], ◌∷◌, ◌++◌, length, get_or, take, drop, map, Bor, refl, sym, ap, ◌∙◌, subst, arith}
+-- What is left of bytes is a sum: what a piece changes of it rests on the piece, on what stood in its place, and on the place alone.
+use Rattle.std.proofs.Common.{◌≡◌, ℕ, ◌+◌, ◌-◌, ◌/◌, ◌%◌, ◌<◌, ◌≤◌, List, [], ◌∷◌, ◌++◌, length, get_or, take, drop, map, Bor, refl, sym, ap, ◌∙◌, subst, arith}
 use Rattle.std.specs.Prelude.{All, slice_range, bit_xor}
-use Rattle.std.specs.Int.Bits.{xor_block, xor_self, xor_comm}
-use Rattle.std.proofs.lemmas.Nat.{pow-add}
-use Rattle.std.proofs.lemmas.Grind.{flat_map-append}
-use Rattle.std.proofs.lemmas.List.{length-append, length-drop, length-map, get_or-map, take_more}
+use Rattle.std.specs.Int.Bits.{xor_comm}
+use Rattle.std.proofs.lemmas.List.{length-drop, length-map, get_or-map, take_more, length-take-le}
 use Rattle.std.proofs.lemmas.List.Edits.{split_between, length-between}
 use Rattle.std.proofs.lemmas.List.Elements.{All-map, All-weaker}
-use Rattle.ffv1_bits.specs.Bits.{number_bits, bits_of}
-use Rattle.ffv1_bits.specs.Parity.{polynomial_of, divided, remainder_of}
-use Rattle.ffv1_bits.proofs.Burst.{length-bits}
-use Rattle.ffv1_bits.proofs.Division.{divided-xor, polynomial_small}
 use Rattle.ffv1_bits.proofs.Sums.{xor_twice}
+use Rattle.ffv1_bits.proofs.SameChanges.{AreSameChanges, all_kept, all_changed, changes_append, remainder_changes}
+use Rattle.ebml_crc.proofs.Elements.{right_leaves_none, element_changes}
+use Rattle.ffv1_weave.specs.Checks.{PassesBy}
 use Rattle.ffv1_weave.specs.Parts.{Part, ArePartsFrom, IsFit, chosen, written}
 use Rattle.ffv1_weave.specs.Changes.{remainder_in, change_of, changes_of, changed}
+use Rattle.ffv1_weave.specs.declared.check.Check.{Check}
+use Rattle.ffv1_weave.specs.declared.check.Check.TheVariants.{Slice, Element}
 use Rattle.ffv1_weave.proofs.References.{values_of, value_at, length-values_of}
 use Rattle.ffv1_weave.proofs.Choices.{length-written, written_after, same_range, piece_of, piece_size, digit_below, fit_as, fit_head, fit_tail, fits_in}
 
--- ---- the polynomial of bits with others in a window
+-- ---- each check
 
-polynomial_append : (xs ys : List Bool) → polynomial_of (xs ++ ys) ≡ polynomial_of xs * 2 ^ length ys + polynomial_of ys
-unfolding polynomial_of
-polynomial_append [] ys = omega arith
-polynomial_append (b ∷ xs) ys =
-    ap (λ n. cond b (2 ^ n) 0 + polynomial_of (xs ++ ys)) (length-append xs ys)
-    ∙ ap (λ p. cond b (2 ^ (length xs + length ys)) 0 + p) (polynomial_append xs ys)
-    ∙ spread b
-  where
-    spread : (b : Bool) → cond b (2 ^ (length xs + length ys)) 0 + (polynomial_of xs * 2 ^ length ys + polynomial_of ys)
-        ≡ (cond b (2 ^ length xs) 0 + polynomial_of xs) * 2 ^ length ys + polynomial_of ys
-    spread true = rw pow-add (omega arith)
-    spread false = omega arith
+pub passes_leaves_none : (check : Check) (bytes : List ℕ) → PassesBy check bytes → remainder_in check bytes ≡ 0
+passes_leaves_none Slice bytes passes = passes.1.1
+passes_leaves_none Element bytes passes = right_leaves_none bytes passes
 
-same_front : (k a p q : ℕ) → p < 2 ^ k → q < 2 ^ k → bit_xor (a * 2 ^ k + p) (a * 2 ^ k + q) ≡ bit_xor p q
-same_front k a p q h l = xor_block k a a p q h l ∙ ap (λ x. x * 2 ^ k + bit_xor p q) (xor_self a) ∙ omega arith
+same_changes : (check : Check) (a b c d : List ℕ) → AreSameChanges a b c d
+    → bit_xor (remainder_in check a) (remainder_in check b) ≡ bit_xor (remainder_in check c) (remainder_in check d)
+same_changes Slice a b c d h = remainder_changes a b c d h
+same_changes Element a b c d h = element_changes a b c d h
 
-same_back : (k a b r : ℕ) → r < 2 ^ k → bit_xor (a * 2 ^ k + r) (b * 2 ^ k + r) ≡ bit_xor a b * 2 ^ k
-same_back k a b r h = xor_block k a b r r h h ∙ ap (λ x. bit_xor a b * 2 ^ k + x) (xor_self r) ∙ omega arith
+-- ---- what is left of bytes with a piece written over them
 
-window : (front one other back : List Bool) → length one ≡ length other
-    → bit_xor (polynomial_of (front ++ (one ++ back))) (polynomial_of (front ++ (other ++ back)))
-    ≡ bit_xor (polynomial_of one) (polynomial_of other) * 2 ^ length back
-window front one other back same =
-    let long : length (one ++ back) ≡ length (other ++ back) = length-append one back ∙ ap (λ n. n + length back) same ∙ sym (length-append other back) in
-    let small = subst (λ n. polynomial_of (other ++ back) < 2 ^ n) (sym long) (polynomial_small (other ++ back)) in
-    ap (bit_xor (polynomial_of (front ++ (one ++ back)))) (polynomial_append front (other ++ back)
-    ∙ ap (λ n. polynomial_of front * 2 ^ n + polynomial_of (other ++ back)) (sym long))
-    ∙ ap (λ x. bit_xor x (polynomial_of front * 2 ^ length (one ++ back) + polynomial_of (other ++ back))) (polynomial_append front (one ++ back))
-    ∙ same_front (length (one ++ back)) (polynomial_of front) (polynomial_of (one ++ back)) (polynomial_of (other ++ back))
-    (polynomial_small (one ++ back)) small
-    ∙ ap (bit_xor (polynomial_of (one ++ back))) (polynomial_append other back)
-    ∙ ap (λ x. bit_xor x (polynomial_of other * 2 ^ length back + polynomial_of back)) (polynomial_append one back)
-    ∙ same_back (length back) (polynomial_of one) (polynomial_of other) (polynomial_of back) (polynomial_small back)
+-- What a piece changes is the same in all bytes that are the same in its place.
+change_alike : (a b : List ℕ) (start end : ℕ) (piece : List ℕ) → length a ≡ length b → start + length piece ≡ end → end ≤ length b
+    → slice_range a start end ≡ slice_range b start end → AreSameChanges (written a start piece) a (written b start piece) b
+change_alike a b start end piece long ends within same =
+    let after : ℕ = start + length piece in
+    let split_a : take start a ++ (slice_range a start end ++ drop (start + length piece) a) ≡ a =
+    sym (split_between a start end (omega arith) ∙ ap (λ n. take start a ++ (slice_range a start end ++ drop n a)) (sym ends)) in
+    let split_b : take start b ++ (slice_range b start end ++ drop (start + length piece) b) ≡ b =
+    sym (split_between b start end (omega arith) ∙ ap (λ n. take start b ++ (slice_range b start end ++ drop n b)) (sym ends)) in
+    let front : length (take start a) ≡ length (take start b) = length-take-le start a (omega arith) ∙ sym (length-take-le start b (omega arith)) in
+    let back : length (drop after a) ≡ length (drop after b) =
+    length-drop (start + length piece) a ∙ ap (λ n. n - (start + length piece)) long ∙ sym (length-drop (start + length piece) b) in
+    let middle : AreSameChanges piece (slice_range a start end) piece (slice_range b start end) =
+    subst (AreSameChanges piece (slice_range a start end) piece) same
+    (all_changed piece (slice_range a start end) (omega (arith, length-between a start end (omega arith)))) in
+    let whole = changes_append (take start a) (take start a) (take start b) (take start b) (piece ++ drop after a) (slice_range a start end ++ drop after a)
+    (piece ++ drop after b) (slice_range b start end ++ drop after b) (all_kept (take start a) (take start b) front)
+    (changes_append piece (slice_range a start end) piece (slice_range b start end) (drop after a) (drop after a) (drop after b) (drop after b) middle
+    (all_kept (drop after a) (drop after b) back)) in
+    subst (λ x. AreSameChanges (written a start piece) x (written b start piece) b) split_a
+    (subst (λ y. AreSameChanges (written a start piece) (take start a ++ (slice_range a start end ++ drop (start + length piece) a)) (written b start piece) y)
+    split_b whole)
 
--- ---- the remainder of bytes with a piece written over them
+-- ---- what is left of a combination
 
-bits_append : (xs ys : List ℕ) → bits_of (xs ++ ys) ≡ bits_of xs ++ bits_of ys
-unfolding bits_of
-bits_append xs ys = flat_map-append (number_bits 8) xs ys
+changed_by : (check : Check) (a b : List ℕ) (start end : ℕ) (piece : List ℕ) → length a ≡ length b → start + length piece ≡ end → end ≤ length b
+    → slice_range a start end ≡ slice_range b start end
+    → bit_xor (remainder_in check a) (change_of check b start piece) ≡ remainder_in check (written a start piece)
+changed_by check a b start end piece long ends within same =
+    ap (bit_xor (remainder_in check a))
+    (sym (same_changes check (written a start piece) a (written b start piece) b (change_alike a b start end piece long ends within same)))
+    ∙ xor_comm (remainder_in check a) (change_of check a start piece)
+    ∙ xor_twice (remainder_in check (written a start piece)) (remainder_in check a)
 
-bits_three : (xs ys zs : List ℕ) → bits_of (xs ++ (ys ++ zs)) ≡ bits_of xs ++ (bits_of ys ++ bits_of zs)
-bits_three xs ys zs = bits_append xs (ys ++ zs) ∙ ap (λ z. bits_of xs ++ z) (bits_append ys zs)
-
-remainder_at : (size : ℕ) (bytes : List ℕ) → length bytes ≡ size → remainder_in bytes ≡ divided (8 * size) (polynomial_of (bits_of bytes))
-unfolding remainder_of
-remainder_at size bytes long = ap (λ n. divided n (polynomial_of (bits_of bytes))) (length-bits bytes ∙ ap (λ n. 8 * n) long)
-
--- what a piece changes
-change_is : (size : ℕ) (bytes : List ℕ) (start end : ℕ) (piece : List ℕ) → length bytes ≡ size → start + length piece ≡ end → end ≤ size
-    → change_of bytes start piece
-    ≡ divided (8 * size) (bit_xor (polynomial_of (bits_of piece)) (polynomial_of (bits_of (slice_range bytes start end))) * 2 ^ (8 * (size - end)))
-change_is size bytes start end piece long ends within =
-    let fits : start + length piece ≤ length bytes = omega arith in
-    let split : bytes ≡ take start bytes ++ (slice_range bytes start end ++ drop (start + length piece) bytes) =
-    split_between bytes start end (omega arith) ∙ ap (λ n. take start bytes ++ (slice_range bytes start end ++ drop n bytes)) (sym ends) in
-    let as_long : length (bits_of piece) ≡ length (bits_of (slice_range bytes start end)) =
-    length-bits piece ∙ ap (λ n. 8 * n) (omega (arith, length-between bytes start end (omega arith)))
-    ∙ sym (length-bits (slice_range bytes start end)) in
-    let back : length (bits_of (drop (start + length piece) bytes)) ≡ 8 * (size - end) =
-    length-bits (drop (start + length piece) bytes) ∙ ap (λ n. 8 * n) (length-drop (start + length piece) bytes ∙ omega arith) in
-    ap (bit_xor (remainder_in (written bytes start piece))) (remainder_at size bytes long)
-    ∙ ap (λ x. bit_xor x (divided (8 * size) (polynomial_of (bits_of bytes)))) (remainder_at size (written bytes start piece)
-    (length-written bytes start piece fits ∙ long))
-    ∙ sym (divided-xor (8 * size) (polynomial_of (bits_of (written bytes start piece))) (polynomial_of (bits_of bytes)))
-    ∙ ap (divided (8 * size))
-    (ap (bit_xor (polynomial_of (bits_of (written bytes start piece))))
-    (ap (λ z. polynomial_of (bits_of z)) split
-    ∙ ap polynomial_of (bits_three (take start bytes) (slice_range bytes start end) (drop (start + length piece) bytes)))
-    ∙ ap (λ z. bit_xor (polynomial_of z)
-    (polynomial_of (bits_of (take start bytes) ++ (bits_of (slice_range bytes start end) ++ bits_of (drop (start + length piece) bytes)))))
-    (bits_three (take start bytes) piece (drop (start + length piece) bytes))
-    ∙ window (bits_of (take start bytes)) (bits_of piece) (bits_of (slice_range bytes start end)) (bits_of (drop (start + length piece) bytes)) as_long
-    ∙ ap (λ n. bit_xor (polynomial_of (bits_of piece)) (polynomial_of (bits_of (slice_range bytes start end))) * 2 ^ n) back)
-
--- It is the same for all bytes that are the same in its place.
-change_same : (a b : List ℕ) (start end : ℕ) (piece : List ℕ) → length a ≡ length b → start + length piece ≡ end → end ≤ length b
-    → slice_range a start end ≡ slice_range b start end → change_of a start piece ≡ change_of b start piece
-change_same a b start end piece long ends within same =
-    change_is (length b) a start end piece long ends within
-    ∙ ap (λ z. divided (8 * length b) (bit_xor (polynomial_of (bits_of piece)) (polynomial_of (bits_of z)) * 2 ^ (8 * (length b - end)))) same
-    ∙ sym (change_is (length b) b start end piece refl ends within)
-
--- ---- the remainder of a combination
-
-changed_by : (a b : List ℕ) (start end : ℕ) (piece : List ℕ) → length a ≡ length b → start + length piece ≡ end → end ≤ length b
-    → slice_range a start end ≡ slice_range b start end → bit_xor (remainder_in a) (change_of b start piece) ≡ remainder_in (written a start piece)
-changed_by a b start end piece long ends within same =
-    ap (bit_xor (remainder_in a)) (sym (change_same a b start end piece long ends within same))
-    ∙ xor_comm (remainder_in a) (change_of a start piece)
-    ∙ xor_twice (remainder_in (written a start piece)) (remainder_in a)
-
-module _ (versions : List (List ℕ)) (first : List ℕ) where
+module _ (check : Check) (versions : List (List ℕ)) (first : List ℕ) where
   pub changed_is : (from : ℕ) (parts : List Part) (code : ℕ) (bytes : List ℕ) → ArePartsFrom versions from parts → All (IsFit (length bytes)) parts
       → length bytes ≡ length first → ((i : ℕ) → from ≤ i → get_or bytes i 0 ≡ get_or first i 0)
-      → changed (map (changes_of first) parts) code (remainder_in bytes) ≡ remainder_in (chosen parts code bytes)
+      → changed (map (changes_of check first) parts) code (remainder_in check bytes) ≡ remainder_in check (chosen parts code bytes)
   changed_is from [] code bytes are fit long same = refl
   changed_is from (part ∷ parts) code bytes are fit long same =
       let head = fit_head (length bytes) part parts fit in
@@ -125,14 +78,14 @@ module _ (versions : List (List ℕ)) (first : List ℕ) where
       let beyond = are.0.beyond in
       let some = are.0.region.some in
       let within = head.within in
-      let many : length (changes_of first part) ≡ n = length-map part.pieces (change_of first part.start) in
-      let entry : get_or (changes_of first part) (code % n) 0 ≡ change_of first part.start piece =
-      get_or-map (change_of first part.start) part.pieces (code % n) [] 0 digit in
+      let many : length (changes_of check first part) ≡ n = length-map part.pieces (change_of check first part.start) in
+      let entry : get_or (changes_of check first part) (code % n) 0 ≡ change_of check first part.start piece =
+      get_or-map (change_of check first part.start) part.pieces (code % n) [] 0 digit in
       let here : slice_range bytes part.start part.end ≡ slice_range first part.start part.end =
       same_range bytes first part.start part.end within (omega arith) (λ i low below. same i (omega arith)) in
-      ap (λ m. changed (map (changes_of first) parts) (code / m) (bit_xor (remainder_in bytes) (get_or (changes_of first part) (code % m) 0))) many
-      ∙ ap (λ x. changed (map (changes_of first) parts) (code / n) (bit_xor (remainder_in bytes) x)) entry
-      ∙ ap (changed (map (changes_of first) parts) (code / n)) (changed_by bytes first part.start part.end piece long ends (omega arith) here)
+      ap (λ m. changed (map (changes_of check first) parts) (code / m) (bit_xor (remainder_in check bytes) (get_or (changes_of check first part) (code % m) 0))) many
+      ∙ ap (λ x. changed (map (changes_of check first) parts) (code / n) (bit_xor (remainder_in check bytes) x)) entry
+      ∙ ap (changed (map (changes_of check first) parts) (code / n)) (changed_by check bytes first part.start part.end piece long ends (omega arith) here)
       ∙ changed_is part.end parts (code / n) (written bytes part.start piece) are.2
       (fit_as (length (written bytes part.start piece)) (length bytes) parts (length-written bytes part.start piece fits)
       (fit_tail (length bytes) part parts fit))
@@ -146,15 +99,15 @@ pub piece_there : (pieces : List (Bor (List ℕ))) (part : Part) (i : ℕ) (d : 
 piece_there pieces part i d is lt =
     (omega (arith, length-values_of pieces, ap length is), sym (value_at pieces i d [] lt) ∙ ap (λ ps. get_or ps i []) is)
 
-pub changes_more : (first : List ℕ) (part : Part) (i : ℕ) → i < length part.pieces
-    → take i (changes_of first part) ++ change_of first part.start (piece_of part i) ∷ [] ≡ take (i + 1) (changes_of first part)
-changes_more first part i lt =
-    ap (λ x. take i (changes_of first part) ++ x ∷ []) (sym (get_or-map (change_of first part.start) part.pieces i [] 0 lt))
-    ∙ sym (take_more (changes_of first part) i 0 (omega (arith, length-map part.pieces (change_of first part.start))))
+pub changes_more : (check : Check) (first : List ℕ) (part : Part) (i : ℕ) → i < length part.pieces
+    → take i (changes_of check first part) ++ change_of check first part.start (piece_of part i) ∷ [] ≡ take (i + 1) (changes_of check first part)
+changes_more check first part i lt =
+    ap (λ x. take i (changes_of check first part) ++ x ∷ []) (sym (get_or-map (change_of check first part.start) part.pieces i [] 0 lt))
+    ∙ sym (take_more (changes_of check first part) i 0 (omega (arith, length-map part.pieces (change_of check first part.start))))
 
-pub changes_some : (size : ℕ) (first : List ℕ) (parts : List Part) → All (IsFit size) parts
-    → All (λ changes. 0 < length changes) (map (changes_of first) parts)
-changes_some size first parts fit =
-    All-map (λ changes. 0 < length changes) (changes_of first) parts
-    (All-weaker (IsFit size) (λ part. 0 < length (changes_of first part))
-    (λ part one. let some = one.some in omega (arith, length-map part.pieces (change_of first part.start))) parts fit)
+pub changes_some : (check : Check) (size : ℕ) (first : List ℕ) (parts : List Part) → All (IsFit size) parts
+    → All (λ changes. 0 < length changes) (map (changes_of check first) parts)
+changes_some check size first parts fit =
+    All-map (λ changes. 0 < length changes) (changes_of check first) parts
+    (All-weaker (IsFit size) (λ part. 0 < length (changes_of check first part))
+    (λ part one. let some = one.some in omega (arith, length-map part.pieces (change_of check first part.start))) parts fit)

@@ -4,6 +4,7 @@ use Rattle.ffv1_weave.specs.Regions.{AgreeAt, DifferAt, IsRegion}
 use Rattle.ffv1_weave.specs.Combinations.{IsCombination, IsValid, AreNumbered}
 use Rattle.ffv1_weave.specs.Weave.{Weave, IsWeaveOf, AreFew, AreMany}
 use Rattle.ffv1_weave.specs.Weave.Weave.{woven, disputed, missing, too_many}
+use Rattle.ffv1_weave.specs.declared.check.Check.{Check}
 use Rattle.ffv1_slice.specs.Members.{HasSameMembers}
 use Rattle.ffv1_weave.specs.Laws.{SameVersionsWeave, CoveredIsCombination}
 use Rattle.ffv1_weave.proofs.Numbering.{one_number}
@@ -35,10 +36,10 @@ module _ (versions others : List (List ℕ)) (same : HasSameMembers versions oth
             (version.0, (same version.0).0 version.1, version.2);
       }
 
-  pub valid_as : (bytes : List ℕ) → IsValid versions bytes → IsValid others bytes
-  valid_as bytes h = record { combination = combination_as bytes h.combination; framed = h.framed; passes = h.passes }
+  pub valid_as : (check : Check) (bytes : List ℕ) → IsValid check versions bytes → IsValid check others bytes
+  valid_as check bytes h = record { combination = combination_as bytes h.combination; passes = h.passes }
 
-module _ (versions others : List (List ℕ)) (same : HasSameMembers versions others) where
+module _ (check : Check) (versions others : List (List ℕ)) (same : HasSameMembers versions others) where
   back : HasSameMembers others versions
   back version = ((same version).1, (same version).0)
 
@@ -54,22 +55,22 @@ module _ (versions others : List (List ℕ)) (same : HasSameMembers versions oth
   many_or_few count many few =
       let e = one_count many.count count many.numbered few.numbered in let low = few.few in let high = many.many in omega arith
 
-  pub one_weave : (one other : Weave) → IsWeaveOf versions one → IsWeaveOf others other → one ≡ other
+  pub one_weave : (one other : Weave) → IsWeaveOf check versions one → IsWeaveOf check others other → one ≡ other
   one_weave (woven a m) (woven b n) h k =
-      ap (λ z. woven z m) (k.0.others a (valid_as versions others same a h.0.there)) ∙ ap (woven b) (one_count m n h.1.numbered k.1.numbered)
+      ap (λ z. woven z m) (k.0.others a (valid_as versions others same check a h.0.there)) ∙ ap (woven b) (one_count m n h.1.numbered k.1.numbered)
   one_weave (woven a m) disputed h k =
-      absurd (k.0.differ (h.0.others k.0.one (valid_as others versions back k.0.one k.0.one_there)
-      ∙ sym (h.0.others k.0.other (valid_as others versions back k.0.other k.0.other_there))))
-  one_weave (woven a m) missing h k = absurd (k.0 a (valid_as versions others same a h.0.there))
+      absurd (k.0.differ (h.0.others k.0.one (valid_as others versions back check k.0.one k.0.one_there)
+      ∙ sym (h.0.others k.0.other (valid_as others versions back check k.0.other k.0.other_there))))
+  one_weave (woven a m) missing h k = absurd (k.0 a (valid_as versions others same check a h.0.there))
   one_weave (woven a m) too_many h k = absurd (few_or_many m h.1 k)
   one_weave disputed (woven b n) h k =
-      absurd (h.0.differ (k.0.others h.0.one (valid_as versions others same h.0.one h.0.one_there)
-      ∙ sym (k.0.others h.0.other (valid_as versions others same h.0.other h.0.other_there))))
+      absurd (h.0.differ (k.0.others h.0.one (valid_as versions others same check h.0.one h.0.one_there)
+      ∙ sym (k.0.others h.0.other (valid_as versions others same check h.0.other h.0.other_there))))
   one_weave disputed disputed h k = refl
-  one_weave disputed missing h k = absurd (k.0 h.0.one (valid_as versions others same h.0.one h.0.one_there))
+  one_weave disputed missing h k = absurd (k.0 h.0.one (valid_as versions others same check h.0.one h.0.one_there))
   one_weave disputed too_many h k = absurd (few_or_many h.1.0 h.1.1 k)
-  one_weave missing (woven b n) h k = absurd (h.0 b (valid_as others versions back b k.0.there))
-  one_weave missing disputed h k = absurd (h.0 k.0.one (valid_as others versions back k.0.one k.0.one_there))
+  one_weave missing (woven b n) h k = absurd (h.0 b (valid_as others versions back check b k.0.there))
+  one_weave missing disputed h k = absurd (h.0 k.0.one (valid_as others versions back check k.0.one k.0.one_there))
   one_weave missing missing h k = refl
   one_weave missing too_many h k = absurd (few_or_many h.1.0 h.1.1 k)
   one_weave too_many (woven b n) h k = absurd (many_or_few n h k.1)
@@ -78,7 +79,7 @@ module _ (versions others : List (List ℕ)) (same : HasSameMembers versions oth
   one_weave too_many too_many h k = refl
 
 pub same_versions_weave : SameVersionsWeave
-same_versions_weave versions others one other same h k = one_weave versions others same one other h k
+same_versions_weave check versions others one other same h k = one_weave check versions others same one other h k
 
 pub covered_is_combination : CoveredIsCombination
 covered_is_combination original versions h =

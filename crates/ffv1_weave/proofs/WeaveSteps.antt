@@ -7,7 +7,8 @@ use Rattle.std.proofs.lemmas.List.Elements.{Contains-get_or}
 use Rattle.ffv1_weave.specs.Regions.{HaveLength}
 use Rattle.ffv1_weave.specs.Combinations.{IsCombination, IsValid, AreNumbered}
 use Rattle.ffv1_weave.specs.Parts.{Part, ArePartsFrom, IsFit, count_of, chosen}
-use Rattle.ffv1_slice.specs.Chain.{IsFramed}
+use Rattle.ffv1_weave.specs.Checks.{PassesBy}
+use Rattle.ffv1_weave.specs.declared.check.Check.{Check}
 use Rattle.ffv1_slice.specs.Members.{IsOnly, IsOfTwo, IsOfNone}
 use Rattle.ffv1_weave.proofs.References.{nowhere, values_of, value_at, length-values_of, each_value}
 use Rattle.ffv1_weave.specs.Changes.{remainder_in, changes_of, changed}
@@ -15,18 +16,18 @@ use Rattle.ffv1_weave.proofs.Linear.{changed_is}
 use Rattle.ffv1_weave.proofs.Choices.{IsAlike, numbered, chosen_alike, combination_alike}
 
 -- Among the numbers so far none has a valid combination, or one alone.
-abbrev pub IsFoundSoFar : List (List ℕ) → (ℕ → List ℕ) → ℕ → Option ℕ → Type 0
-IsFoundSoFar versions at code None = (k : ℕ) → k < code → IsValid versions (at k) → ⊥
-IsFoundSoFar versions at code (Some found) =
-    (found < code) × IsValid versions (at found) × ((k : ℕ) → k < code → IsValid versions (at k) → k ≡ found)
+abbrev pub IsFoundSoFar : Check → List (List ℕ) → (ℕ → List ℕ) → ℕ → Option ℕ → Type 0
+IsFoundSoFar check versions at code None = (k : ℕ) → k < code → IsValid check versions (at k) → ⊥
+IsFoundSoFar check versions at code (Some found) =
+    (found < code) × IsValid check versions (at found) × ((k : ℕ) → k < code → IsValid check versions (at k) → k ≡ found)
 
-module _ (versions : List (List ℕ)) (at : ℕ → List ℕ) where
-  pub found_skip : (code : ℕ) (found : Option ℕ) → (IsValid versions (at code) → ⊥) → IsFoundSoFar versions at code found
-      → IsFoundSoFar versions at (code + 1) found
+module _ (check : Check) (versions : List (List ℕ)) (at : ℕ → List ℕ) where
+  pub found_skip : (code : ℕ) (found : Option ℕ) → (IsValid check versions (at code) → ⊥) → IsFoundSoFar check versions at code found
+      → IsFoundSoFar check versions at (code + 1) found
   found_skip code None fails h = λ k lt valid.
       elim (cases_lt k code) [
         | inl below ↦ h k below valid
-        | inr above ↦ let same : k ≡ code = omega arith in fails (subst (λ n. IsValid versions (at n)) same valid)
+        | inr above ↦ let same : k ≡ code = omega arith in fails (subst (λ n. IsValid check versions (at n)) same valid)
       ]
   found_skip code (Some found) fails h =
       let below = h.0 in (
@@ -35,11 +36,11 @@ module _ (versions : List (List ℕ)) (at : ℕ → List ℕ) where
         λ k lt valid.
             elim (cases_lt k code) [
               | inl before ↦ h.2 k before valid
-              | inr above ↦ let same : k ≡ code = omega arith in absurd (fails (subst (λ n. IsValid versions (at n)) same valid))
+              | inr above ↦ let same : k ≡ code = omega arith in absurd (fails (subst (λ n. IsValid check versions (at n)) same valid))
             ],
       )
 
-  pub found_first : (code : ℕ) → IsValid versions (at code) → IsFoundSoFar versions at code None → IsFoundSoFar versions at (code + 1) (Some code)
+  pub found_first : (code : ℕ) → IsValid check versions (at code) → IsFoundSoFar check versions at code None → IsFoundSoFar check versions at (code + 1) (Some code)
   found_first code valid h = (
     omega arith,
     valid,
@@ -50,9 +51,9 @@ module _ (versions : List (List ℕ)) (at : ℕ → List ℕ) where
         ],
   )
 
-module _ (versions : List (List ℕ)) (count : ℕ) (all : AreNumbered (IsCombination versions) count) where
-  pub found_second : (code found : ℕ) → code < count → IsValid versions (all.at code) → IsFoundSoFar versions all.at code (Some found)
-      → IsOfTwo (IsValid versions)
+module _ (check : Check) (versions : List (List ℕ)) (count : ℕ) (all : AreNumbered (IsCombination versions) count) where
+  pub found_second : (code found : ℕ) → code < count → IsValid check versions (all.at code) → IsFoundSoFar check versions all.at code (Some found)
+      → IsOfTwo (IsValid check versions)
   found_second code found lt valid h =
       record {
         one = all.at found;
@@ -62,16 +63,16 @@ module _ (versions : List (List ℕ)) (count : ℕ) (all : AreNumbered (IsCombin
         differ = λ same. let below = h.0 in let e = all.once found code (omega arith) lt same in omega arith;
       }
 
-  pub found_none : IsFoundSoFar versions all.at count None → IsOfNone (IsValid versions)
+  pub found_none : IsFoundSoFar check versions all.at count None → IsOfNone (IsValid check versions)
   found_none h bytes valid =
-      let k = all.all bytes valid.combination in h k.0 k.1 (subst (IsValid versions) (sym k.2) valid)
+      let k = all.all bytes valid.combination in h k.0 k.1 (subst (IsValid check versions) (sym k.2) valid)
 
-  pub found_only : (found : ℕ) → IsFoundSoFar versions all.at count (Some found) → IsOnly (IsValid versions) (all.at found)
+  pub found_only : (found : ℕ) → IsFoundSoFar check versions all.at count (Some found) → IsOnly (IsValid check versions) (all.at found)
   found_only found h =
       record {
         there = h.1;
         others = λ other valid. let k = all.all other valid.combination in
-            sym k.2 ∙ ap all.at (h.2 k.0 k.1 (subst (IsValid versions) (sym k.2) valid));
+            sym k.2 ∙ ap all.at (h.2 k.0 k.1 (subst (IsValid check versions) (sym k.2) valid));
       }
 
 -- ---- the regions of versions of one length
@@ -144,24 +145,24 @@ absent (Some x) h = absurd (h x refl)
 
 -- ---- a combination that is tried, as the code has it
 
-module _ (versions : List (Bor (List ℕ))) (parts : List Part) (have : HaveParts (values_of versions) parts) where
+module _ (check : Check) (versions : List (Bor (List ℕ))) (parts : List Part) (have : HaveParts (values_of versions) parts) where
   abbrev first : List ℕ
   first = get_or (values_of versions) 0 []
 
   first_is : (get_or versions 0 nowhere).now ≡ first
   first_is = sym (value_at versions 0 nowhere [] (omega (arith, have.some, length-values_of versions)))
 
-  pub tables_are : (tables : List (List ℕ)) (regions : List Part) → tables ≡ map (changes_of (get_or versions 0 nowhere).now) regions → regions ≡ parts
-      → tables ≡ map (changes_of first) parts
-  tables_are tables regions made is = made ∙ ap (map (changes_of (get_or versions 0 nowhere).now)) is ∙ ap (λ f. map (changes_of f) parts) first_is
+  pub tables_are : (tables : List (List ℕ)) (regions : List Part) → tables ≡ map (changes_of check (get_or versions 0 nowhere).now) regions → regions ≡ parts
+      → tables ≡ map (changes_of check first) parts
+  tables_are tables regions made is = made ∙ ap (map (changes_of check (get_or versions 0 nowhere).now)) is ∙ ap (λ f. map (changes_of check f) parts) first_is
 
   -- what the tables leave is the remainder of the combination
-  pub left_is : (code base left : ℕ) (tables : List (List ℕ)) (regions : List Part) → tables ≡ map (changes_of (get_or versions 0 nowhere).now) regions
-      → regions ≡ parts → base ≡ remainder_in (get_or versions 0 nowhere).now → left ≡ changed tables code base → left ≡ remainder_in (chosen parts code first)
+  pub left_is : (code base left : ℕ) (tables : List (List ℕ)) (regions : List Part) → tables ≡ map (changes_of check (get_or versions 0 nowhere).now) regions
+      → regions ≡ parts → base ≡ remainder_in check (get_or versions 0 nowhere).now → left ≡ changed tables code base → left ≡ remainder_in check (chosen parts code first)
   left_is code base left tables regions made is base_is told =
       told ∙ ap (λ ts. changed ts code base) (tables_are tables regions made is)
-      ∙ ap (changed (map (changes_of first) parts) code) (base_is ∙ ap remainder_in first_is)
-      ∙ changed_is (values_of versions) first 0 parts code first have.are have.fit refl (λ i low. refl)
+      ∙ ap (changed (map (changes_of check first) parts) code) (base_is ∙ ap (remainder_in check) first_is)
+      ∙ changed_is check (values_of versions) first 0 parts code first have.are have.fit refl (λ i low. refl)
 
   -- The bytes are those of the combination.
   pub record AreChosen (code : ℕ) (bytes : List ℕ) : Type 0 where
@@ -178,7 +179,5 @@ module _ (versions : List (Bor (List ℕ))) (parts : List Part) (have : HavePart
       let now = put_back len new items size (ap length new_is ∙ there.size ∙ sym alike.size) ∙ new_is in
       record { are = now; alike = subst (λ b. IsAlike (values_of versions) 0 b first) (sym now) there }
 
-  pub valid_at : (code left : ℕ) → code < count_of parts → IsFramed (chosen parts code first) → left ≡ remainder_in (chosen parts code first) → left ≡ 0
-      → IsValid (values_of versions) (chosen parts code first)
-  valid_at code left low framed is zero =
-      record { combination = (all_numbered (values_of versions) parts have).are code low; framed = framed; passes = (framed.footer, sym is ∙ zero) }
+  pub valid_at : (code : ℕ) → code < count_of parts → PassesBy check (chosen parts code first) → IsValid check (values_of versions) (chosen parts code first)
+  valid_at code low passes = record { combination = (all_numbered (values_of versions) parts have).are code low; passes = passes }

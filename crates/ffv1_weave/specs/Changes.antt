@@ -1,20 +1,24 @@
--- What pieces change of the parity's remainder. It is a sum, so the changes of pieces in different places add up.
+-- What pieces change of what is left of bytes. It is a sum, so the changes of pieces in different places add up.
 use Rattle.std.specs.Prelude.{ℕ, ◌/◌, ◌%◌, List, [], ◌∷◌, map, length, slice_index, bit_xor}
 use Rattle.ffv1_bits.specs.Bits.{bits_of}
 use Rattle.ffv1_bits.specs.Parity.{remainder_of}
+use Rattle.ebml_crc.specs.Element.{element_left}
 use Rattle.ffv1_weave.specs.Parts.{Part, written}
+use Rattle.ffv1_weave.specs.declared.check.Check.{Check}
+use Rattle.ffv1_weave.specs.declared.check.Check.TheVariants.{Slice, Element}
 
--- the remainder of bytes
-abbrev pub remainder_in : List ℕ → ℕ
-remainder_in bytes = remainder_of (bits_of bytes)
+-- what is left of bytes, which is 0 where they pass: of a slice the parity's remainder, of an element the CRC-32's
+abbrev pub remainder_in : Check → List ℕ → ℕ
+remainder_in Slice bytes = remainder_of (bits_of bytes)
+remainder_in Element bytes = element_left bytes
 
 -- what a piece changes of the remainder of bytes, where it is written over them
-abbrev pub change_of : List ℕ → ℕ → List ℕ → ℕ
-change_of bytes start piece = bit_xor (remainder_in (written bytes start piece)) (remainder_in bytes)
+abbrev pub change_of : Check → List ℕ → ℕ → List ℕ → ℕ
+change_of check bytes start piece = bit_xor (remainder_in check (written bytes start piece)) (remainder_in check bytes)
 
 -- what each piece of a part changes
-abbrev pub changes_of : List ℕ → Part → List ℕ
-changes_of bytes part = map (change_of bytes part.start) part.pieces
+abbrev pub changes_of : Check → List ℕ → Part → List ℕ
+changes_of check bytes part = map (change_of check bytes part.start) part.pieces
 
 -- The remainder with the changes of a combination, by its number, as `chosen` writes its pieces.
 abbrev pub changed : List (List ℕ) → ℕ → ℕ → ℕ

@@ -1,8 +1,8 @@
--- What can be put together of the versions of a slice.
+-- What can be put together of the versions of a slice, or of an element.
 use Rattle.std.specs.Prelude.{ℕ, ◌<◌, ◌≡◌, List, Contains, length, slice_index, slice_range}
-use Rattle.ffv1_bits.specs.Parity.{PassesParity}
-use Rattle.ffv1_slice.specs.Chain.{IsFramed}
 use Rattle.ffv1_weave.specs.Regions.{AgreeAt, IsRegion}
+use Rattle.ffv1_weave.specs.Checks.{PassesBy}
+use Rattle.ffv1_weave.specs.declared.check.Check.{Check}
 
 -- A combination: where all versions agree it is as they are, and in each region it is as some version is in all of the region.
 pub record IsCombination (versions : List (List ℕ)) (bytes : List ℕ) : Type 0 where
@@ -11,12 +11,10 @@ pub record IsCombination (versions : List (List ℕ)) (bytes : List ℕ) : Type 
   pub regions : (start end : ℕ) → IsRegion versions start end
       → (version : List ℕ) × Contains versions version × (slice_range bytes start end ≡ slice_range version start end)
 
--- A combination that is a slice with its parity: its footer tells its size (RFC 9043, section 4.9.1), and nothing is left of it
--- (section 4.9.3).
-pub record IsValid (versions : List (List ℕ)) (bytes : List ℕ) : Type 0 where
+-- A combination that passes: of a slice's versions a slice with its parity, of an element's an element with its CRC-32.
+pub record IsValid (check : Check) (versions : List (List ℕ)) (bytes : List ℕ) : Type 0 where
   pub combination : IsCombination versions bytes
-  pub framed : IsFramed bytes
-  pub passes : PassesParity bytes
+  pub passes : PassesBy check bytes
 
 -- There are so many values of a fact: they can be numbered from 0 up to the count, each once.
 pub record AreNumbered {X : Type 0} (P : X → Type 0) (count : ℕ) : Type 0 where

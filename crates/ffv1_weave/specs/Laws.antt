@@ -1,17 +1,18 @@
 -- Laws of the weave.
 use Rattle.std.specs.Prelude.{ℕ, ◌≡◌, List, Contains, length, slice_index, slice_range}
-use Rattle.ffv1_bits.specs.Parity.{PassesParity}
-use Rattle.ffv1_slice.specs.Chain.{IsFramed}
 use Rattle.ffv1_slice.specs.Members.{HasSameMembers}
 use Rattle.ffv1_weave.specs.Regions.{HaveLength, AgreeAt, IsRegion}
+use Rattle.ffv1_weave.specs.Checks.{PassesBy}
 use Rattle.ffv1_weave.specs.Combinations.{IsCombination}
 use Rattle.ffv1_weave.specs.Weave.{Weave, IsWeaveOf}
 use Rattle.ffv1_weave.specs.Weave.Weave.{woven, disputed, missing, too_many}
+use Rattle.ffv1_weave.specs.declared.check.Check.{Check}
 
 -- The same versions have one weave.
 abbrev pub SameVersionsWeave : Type 0
 SameVersionsWeave =
-    (versions others : List (List ℕ)) (one other : Weave) → HasSameMembers versions others → IsWeaveOf versions one → IsWeaveOf others other → one ≡ other
+    (check : Check) (versions others : List (List ℕ)) (one other : Weave) → HasSameMembers versions others → IsWeaveOf check versions one
+    → IsWeaveOf check others other → one ≡ other
 
 -- ---- an original
 
@@ -22,11 +23,12 @@ KeepsOriginal original disputed = Unit {0}
 KeepsOriginal original missing = ⊥
 KeepsOriginal original too_many = Unit {0}
 
--- Where the original is a slice with its parity, and one of the combinations, it is what is woven, if anything is.
+-- Where the original passes, as a slice with its parity or an element with its CRC-32, and is one of the combinations, it is what is woven,
+-- if anything is.
 abbrev pub OriginalIsWoven : Type 0
 OriginalIsWoven =
-    (original : List ℕ) (versions : List (List ℕ)) (weave : Weave) → IsFramed original → PassesParity original → IsCombination versions original
-    → IsWeaveOf versions weave → KeepsOriginal original weave
+    (check : Check) (original : List ℕ) (versions : List (List ℕ)) (weave : Weave) → PassesBy check original → IsCombination versions original
+    → IsWeaveOf check versions weave → KeepsOriginal original weave
 
 -- The original is among the combinations where each region is intact in some version, and where all versions agree they are right.
 pub record IsCovered (original : List ℕ) (versions : List (List ℕ)) : Type 0 where

@@ -1,3 +1,4 @@
+pub mod Checks
 pub mod Regions
 pub mod Combinations
 pub mod Weave
@@ -5,6 +6,8 @@ pub mod Parts
 pub mod Changes
 pub mod Laws
 -- what the clauses cite of the crates below
+pub use Rattle.ebml_crc.specs.Crc
+pub use Rattle.ebml_crc.specs.Element
 pub use Rattle.ffv1_bits.specs.Bits
 pub use Rattle.ffv1_bits.specs.Parity
 pub use Rattle.ffv1_slice.specs.Chain

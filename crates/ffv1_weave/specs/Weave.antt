@@ -1,7 +1,8 @@
--- What is woven of the versions of a slice.
+-- What is woven of the versions of a slice, or of an element.
 use Rattle.std.specs.Prelude.{ℕ, ◌≤◌, ◌<◌, List}
 use Rattle.ffv1_slice.specs.Members.{IsOnly, IsOfTwo, IsOfNone}
 use Rattle.ffv1_weave.specs.Combinations.{IsCombination, IsValid, AreNumbered}
+use Rattle.ffv1_weave.specs.declared.check.Check.{Check}
 use Rattle.ffv1_weave.specs.declared.weaving.TheConstants.{MOST_COMBINATIONS}
 use Rattle.ffv1_weave.specs.declared.weaving.Outcome.{Outcome}
 use Rattle.ffv1_weave.specs.declared.weaving.Outcome.TheVariants as outcome
@@ -23,11 +24,11 @@ pub record AreMany (versions : List (List ℕ)) : Type 0 where
   pub many : MOST_COMBINATIONS < count
 
 -- Woven where one combination alone is valid, disputed where two are that differ, missing where none is; too many where they are not tried.
-abbrev pub IsWeaveOf : List (List ℕ) → Weave → Type 0
-IsWeaveOf versions (woven bytes count) = IsOnly (IsValid versions) bytes × AreFew versions count
-IsWeaveOf versions disputed = IsOfTwo (IsValid versions) × ((count : ℕ) × AreFew versions count)
-IsWeaveOf versions missing = IsOfNone (IsValid versions) × ((count : ℕ) × AreFew versions count)
-IsWeaveOf versions too_many = AreMany versions
+abbrev pub IsWeaveOf : Check → List (List ℕ) → Weave → Type 0
+IsWeaveOf check versions (woven bytes count) = IsOnly (IsValid check versions) bytes × AreFew versions count
+IsWeaveOf check versions disputed = IsOfTwo (IsValid check versions) × ((count : ℕ) × AreFew versions count)
+IsWeaveOf check versions missing = IsOfNone (IsValid check versions) × ((count : ℕ) × AreFew versions count)
+IsWeaveOf check versions too_many = AreMany versions
 
 -- what the code answers
 abbrev pub weave_told : Outcome → Weave

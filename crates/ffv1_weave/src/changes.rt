@@ -1,28 +1,36 @@
-//! What the pieces of regions change of the parity's remainder: each is computed once, and a combination's remainder is the
+//! What the pieces of regions change of what is left: each is computed once, and a combination's remainder is the
 //! sum of those of its pieces.
 ghost use Rattle.std.specs.Prelude.{◌≡◌, ◌+◌, ◌≤◌, ◌<◌, length, map, All, IfOk};
 ghost use Rattle.ffv1_weave.specs.Parts.{IsFit};
 ghost use Rattle.ffv1_weave.specs.Changes.{remainder_in, change_of, changes_of, changed};
 
+use crate::check::Check;
 use crate::parts::Region;
-use ffv1_bits::remainder;
 use std::alloc::{AllocError, Global};
 
 /// What a piece changes of the remainder of `first`, where it is written over it from `start` on.
-fn change_of(scratch: &mut [u8], first: &[u8], base: u32, start: usize, piece: &[u8]) -> u32
+fn change_of(
+    check: Check,
+    scratch: &mut [u8],
+    first: &[u8],
+    base: u32,
+    start: usize,
+    piece: &[u8],
+) -> u32
     requires same { length scratch.old ≡ length first.now }
     requires fits { start + length piece.now ≤ length first.now }
-    requires base { base ≡ remainder_in first.now }
-    ensures { result ≡ change_of first.now start piece.now }
+    requires base { base ≡ remainder_in check first.now }
+    ensures { result ≡ change_of check first.now start piece.now }
 {
     scratch.copy_from_slice(first);
     scratch[start..start + piece.len()].copy_from_slice(piece);
-    remainder(scratch) ^ base
+    check.remainder(scratch) ^ base
 }
 
 /// What each piece of a region changes.
 fn changes_of(
     alloc: Global,
+    check: Check,
     scratch: &mut [u8],
     first: &[u8],
     base: u32,
@@ -30,12 +38,13 @@ fn changes_of(
 ) -> Result<Vec<u32>, AllocError>
     requires same { length scratch.old ≡ length first.now }
     requires fits { IsFit (length first.now) region.now }
-    requires base { base ≡ remainder_in first.now }
-    ensures { IfOk result (λ changes. changes.items ≡ changes_of first.now region.now) }
+    requires base { base ≡ remainder_in check first.now }
+    ensures { IfOk result (λ changes. changes.items ≡ changes_of check first.now region.now) }
 {
     let mut changes = Vec::new(alloc);
     for piece in region.pieces.as_slice() {
-        changes.push(change_of(scratch, first, base, region.start, piece))?;
+        let change = change_of(check, scratch, first, base, region.start, piece);
+        changes.push(change)?;
     }
     Ok(changes)
 }
@@ -43,18 +52,20 @@ fn changes_of(
 /// What each piece of each region changes of the remainder of `first`, which is `base`.
 pub(crate) fn tables_of(
     alloc: Global,
+    check: Check,
     first: &[u8],
     base: u32,
     regions: &[Region<'_>],
 ) -> Result<Vec<Vec<u32>>, AllocError>
     requires fits { All (IsFit (length first.now)) regions.now }
-    requires base { base ≡ remainder_in first.now }
-    ensures { IfOk result (λ tables. map (λ changes. changes.items) tables.items ≡ map (changes_of first.now) regions.now) }
+    requires base { base ≡ remainder_in check first.now }
+    ensures { IfOk result (λ tables. map (λ changes. changes.items) tables.items ≡ map (changes_of check first.now) regions.now) }
 {
     let mut scratch = Vec::from_slice(alloc, first)?;
     let mut tables = Vec::new(alloc);
     for region in regions {
-        tables.push(changes_of(alloc, &mut scratch, first, base, region)?)?;
+        let changes = changes_of(alloc, check, &mut scratch, first, base, region)?;
+        tables.push(changes)?;
     }
     Ok(tables)
 }

@@ -1,14 +1,16 @@
-//! A slice that is damaged in every copy, in different places, is put together of what is undamaged in each. The copies'
-//! versions of it are split into regions where they differ, each combination of what they have there is tried, and footer and
-//! parity tell which of them is the slice (RFC 9043, section 4.9).
+//! A slice that is damaged in every copy, in different places, is put together of what is undamaged in each, and so is an
+//! element with a CRC-32. The copies' versions of it are split into regions where they differ, each combination of what they have
+//! there is tried, and footer and parity (RFC 9043, section 4.9), or the CRC-32 (RFC 8794, section 11.3.1), tell which of them it is.
 #![tactic(auto)]
 
 mod changes;
+mod check;
 mod laws;
 mod parts;
 mod regions;
 mod weaving;
 
+pub use check::Check;
 pub use laws::{
     covered_is_combination, original_is_woven, same_versions_weave, version_is_combination,
 };

@@ -7,8 +7,8 @@ use Rattle.ffv1_weave.proofs.Linear.{piece_there, changes_more}
 use Rattle.ffv1_weave.proofs.References.{nowhere}
 use Rattle.ffv1_weave.proofs.changes.changes_of.Goals as goal
 
-pub change_of-requires-clause-fits : goal.change_of-requires-clause-fits
-change_of-requires-clause-fits c =
+pub change_of-change-requires-clause-fits : goal.change_of-change-requires-clause-fits
+change_of-change-requires-clause-fits c =
     let part : Part = c.args.region.now in
     let i : ℕ = c.loop-piece.piece-index in
     let there = piece_there c.as_slice-piece-items.result.now part i nowhere (ap values_of c.as_slice-piece-items.ensures.value
@@ -25,11 +25,11 @@ loop-piece-preserved c =
     let there = piece_there c.as_slice-piece-items.result.now part i nowhere (ap values_of c.as_slice-piece-items.ensures.value
     ∙ ap (λ p. p.pieces) c.region.view_is) (omega arith) in
     let start : c.region.inside.start ≡ part.start = ap (λ p. p.start) c.region.view_is in
-    let is : c.change_of.result ≡ change_of c.args.first.now part.start (get_or part.pieces i []) =
-    c.change_of.ensures ∙ ap (λ s. change_of c.args.first.now s (get_or c.as_slice-piece-items.result.now i nowhere).now) start
-    ∙ ap (change_of c.args.first.now part.start) there.1 in
+    let is : c.change_of-change.result ≡ change_of c.args.check c.args.first.now part.start (get_or part.pieces i []) =
+    c.change_of-change.ensures ∙ ap (λ s. change_of c.args.check c.args.first.now s (get_or c.as_slice-piece-items.result.now i nowhere).now) start
+    ∙ ap (change_of c.args.check c.args.first.now part.start) there.1 in
     record {
-      same_length = let kept = c.change_of.auto.scratch in let same = c.loop-piece.invariant.same_length in omega arith;
-      so_far = c.in_ok-push.ensures.items ∙ ap (λ xs. xs ++ c.change_of.result ∷ []) c.loop-piece.invariant.so_far
-          ∙ ap (λ x. take i (changes_of c.args.first.now part) ++ x ∷ []) is ∙ changes_more c.args.first.now part i there.0;
+      same_length = let kept = c.change_of-change.auto.scratch in let same = c.loop-piece.invariant.same_length in omega arith;
+      so_far = c.in_ok-push.ensures.items ∙ ap (λ xs. xs ++ c.change_of-change.result ∷ []) c.loop-piece.invariant.so_far
+          ∙ ap (λ x. take i (changes_of c.args.check c.args.first.now part) ++ x ∷ []) is ∙ changes_more c.args.check c.args.first.now part i there.0;
     }

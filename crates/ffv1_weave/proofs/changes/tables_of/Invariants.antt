@@ -6,5 +6,5 @@ use Rattle.ffv1_weave.proofs.changes.tables_of.Given as goal
 abbrev pub invariant-loop-region : goal.invariant-loop-region
 invariant-loop-region l = record {
   same_length : length l.scratch.items ≡ length l.first;
-  so_far : map (λ changes. changes.items) l.tables.items ≡ map (changes_of l.first) (take l.region-index l.regions);
+  so_far : map (λ changes. changes.items) l.tables.items ≡ map (changes_of l.check l.first) (take l.region-index l.regions);
 }

@@ -2,13 +2,13 @@ use Rattle.std.proofs.Common.{◌≡◌, ◌<◌, ℕ, List, [], Some, None, Vec
 use Rattle.std.specs.Prelude.{All}
 use Rattle.std.proofs.lemmas.List.{length-map, get_or-map}
 use Rattle.std.proofs.lemmas.List.Elements.{All-weaker}
-use Rattle.ffv1_slice.specs.Chain.{IsFramed}
+use Rattle.ffv1_weave.specs.Checks.{PassesBy}
 use Rattle.ffv1_weave.specs.Combinations.{IsCombination, IsValid, AreNumbered}
 use Rattle.ffv1_weave.specs.Parts.{Part, IsFit, chosen, count_of}
 use Rattle.ffv1_weave.specs.declared.weaving.TheConstants.{MOST_COMBINATIONS}
 use Rattle.ffv1_slice.specs.Members.{IsOnly}
 use Rattle.ffv1_weave.proofs.References.{values_of, nowhere, value_at}
-use Rattle.ffv1_weave.proofs.Linear.{changes_some}
+use Rattle.ffv1_weave.proofs.Linear.{changes_some, passes_leaves_none}
 use Rattle.ffv1_weave.proofs.WeaveSteps.{have_parts, IsFoundSoFar, all_numbered, fit_there, alike_first, tables_are, left_is, written_over, valid_at, found_skip, found_first, found_second, found_none, found_only, some_of, none_of, absent}
 use Rattle.ffv1_weave.proofs.weaving.weave.Goals as goal
 
@@ -50,10 +50,10 @@ changed-requires c =
     let versions : List (List ℕ) = values_of c.args.versions.now in
     let parts : List Part = c.in_ok-regions.regions.items in
     let have = have_parts c.args.versions.now parts c.requires.some c.requires.lengths c.in_ok-regions.ensures.parts c.in_ok-regions.ensures.fit in
-    let tables = tables_are c.args.versions.now parts have _ _ (ap entries c.as_slice-in-loop-code.ensures.value ∙ c.in_ok-tables.ensures)
+    let tables = tables_are c.args.check c.args.versions.now parts have _ _ (ap entries c.as_slice-in-loop-code.ensures.value ∙ c.in_ok-tables.ensures)
     c.as_slice-2.ensures.value in
     let some : All (λ changes. 0 < length changes) (entries c.as_slice-in-loop-code.result.now) =
-    subst (All (λ changes. 0 < length changes)) (sym tables) (changes_some (length (get_or versions 0 [])) (get_or versions 0 []) parts have.fit) in
+    subst (All (λ changes. 0 < length changes)) (sym tables) (changes_some c.args.check (length (get_or versions 0 [])) (get_or versions 0 []) parts have.fit) in
     λ k d lt.
     let one = some k [] (omega (arith, length-map c.as_slice-in-loop-code.result.now (λ (table : Vec ℕ Global). table.items))) in
     omega (arith, ap length (get_or-map (λ (table : Vec ℕ Global). table.items) c.as_slice-in-loop-code.result.now k d [] lt))
@@ -63,12 +63,12 @@ loop-code-preserved-then-changed-ne0 c =
     let versions : List (List ℕ) = values_of c.args.versions.now in
     let parts : List Part = c.in_ok-regions.regions.items in
     let have = have_parts c.args.versions.now parts c.requires.some c.requires.lengths c.in_ok-regions.ensures.parts c.in_ok-regions.ensures.fit in
-    let left = left_is c.args.versions.now parts have c.loop-code.code c.remainder-base.result c.changed.result _ _
+    let left = left_is c.args.check c.args.versions.now parts have c.loop-code.code c.remainder-base.result c.changed.result _ _
     (ap entries c.as_slice-in-loop-code.ensures.value ∙ c.in_ok-tables.ensures) c.as_slice-2.ensures.value c.remainder-base.ensures c.changed.ensures in
     record {
       alike = c.loop-code.invariant.alike;
-      found = found_skip versions (λ k. chosen parts k (get_or versions 0 [])) c.loop-code.code c.loop-code.found
-          (λ valid. c.if-changed-ne0.true (left ∙ valid.passes.1)) c.loop-code.invariant.found;
+      found = found_skip c.args.check versions (λ k. chosen parts k (get_or versions 0 [])) c.loop-code.code c.loop-code.found
+          (λ valid. c.if-changed-ne0.true (left ∙ passes_leaves_none c.args.check _ valid.passes)) c.loop-code.invariant.found;
     }
 
 pub choose-requires : goal.choose-requires
@@ -78,19 +78,19 @@ choose-requires c =
     let have = have_parts c.args.versions.now parts c.requires.some c.requires.lengths c.in_ok-regions.ensures.parts c.in_ok-regions.ensures.fit in
     fit_there versions parts have c.loop-code.bytes.items _ _ c.as_slice-in-loop-code-2.ensures.value c.deref_mut.ensures.value c.loop-code.invariant.alike
 
-pub loop-code-preserved-then-not-is_framed : goal.loop-code-preserved-then-not-is_framed
-loop-code-preserved-then-not-is_framed c =
+pub loop-code-preserved-then-not-passes : goal.loop-code-preserved-then-not-passes
+loop-code-preserved-then-not-passes c =
     let versions : List (List ℕ) = values_of c.args.versions.now in
     let parts : List Part = c.in_ok-regions.regions.items in
     let have = have_parts c.args.versions.now parts c.requires.some c.requires.lengths c.in_ok-regions.ensures.parts c.in_ok-regions.ensures.fit in
     let low : c.loop-code.code < count_of parts = omega (arith, c.in-Some.ensures.0, ap count_of c.as_slice.ensures.value) in
-    let bytes = written_over c.args.versions.now parts have c.loop-code.code c.loop-code.bytes.len c.choose.new.bytes _ c.loop-code.bytes.items _ low
+    let bytes = written_over c.args.check c.args.versions.now parts have c.loop-code.code c.loop-code.bytes.len c.choose.new.bytes _ c.loop-code.bytes.items _ low
     c.choose.ensures c.as_slice-in-loop-code-2.ensures.value c.deref_mut.ensures.value c.loop-code.invariant.alike c.loop-code.bytes.ok.0 in
     record {
       alike = bytes.alike;
-      found = found_skip versions (λ k. chosen parts k (get_or versions 0 [])) c.loop-code.code c.loop-code.found
-          (λ valid. let yes = c.is_framed.ensures.1 (subst IsFramed (sym (c.as_slice-in-loop-code-3.ensures.value ∙ bytes.are)) valid.framed) in
-          let no = c.if-not-is_framed.true in absurd (cc)) c.loop-code.invariant.found;
+      found = found_skip c.args.check versions (λ k. chosen parts k (get_or versions 0 [])) c.loop-code.code c.loop-code.found
+          (λ valid. let yes = c.passes.ensures.1 (subst (PassesBy c.args.check) (sym (c.as_slice-in-loop-code-3.ensures.value ∙ bytes.are)) valid.passes) in
+          let no = c.if-not-passes.true in absurd (cc)) c.loop-code.invariant.found;
     }
 
 pub returns-then-is_some : goal.returns-then-is_some
@@ -99,15 +99,15 @@ returns-then-is_some c =
     let parts : List Part = c.in_ok-regions.regions.items in
     let have = have_parts c.args.versions.now parts c.requires.some c.requires.lengths c.in_ok-regions.ensures.parts c.in_ok-regions.ensures.fit in
     let low : c.loop-code.code < count_of parts = omega (arith, c.in-Some.ensures.0, ap count_of c.as_slice.ensures.value) in
-    let left = left_is c.args.versions.now parts have c.loop-code.code c.remainder-base.result c.changed.result _ _
+    let left = left_is c.args.check c.args.versions.now parts have c.loop-code.code c.remainder-base.result c.changed.result _ _
     (ap entries c.as_slice-in-loop-code.ensures.value ∙ c.in_ok-tables.ensures) c.as_slice-2.ensures.value c.remainder-base.ensures c.changed.ensures in
-    let bytes = written_over c.args.versions.now parts have c.loop-code.code c.loop-code.bytes.len c.choose.new.bytes _ c.loop-code.bytes.items _ low
+    let bytes = written_over c.args.check c.args.versions.now parts have c.loop-code.code c.loop-code.bytes.len c.choose.new.bytes _ c.loop-code.bytes.items _ low
     c.choose.ensures c.as_slice-in-loop-code-2.ensures.value c.deref_mut.ensures.value c.loop-code.invariant.alike c.loop-code.bytes.ok.0 in
-    let valid = valid_at c.args.versions.now parts have c.loop-code.code c.changed.result low
-    (subst IsFramed (c.as_slice-in-loop-code-3.ensures.value ∙ bytes.are) (c.is_framed.ensures.0 c.if-not-is_framed.false)) left c.if-changed-ne0.false in
+    let valid = valid_at c.args.check c.args.versions.now parts have c.loop-code.code low
+    (subst (PassesBy c.args.check) (c.as_slice-in-loop-code-3.ensures.value ∙ bytes.are) (c.passes.ensures.0 c.if-not-passes.false)) in
     let found = some_of c.loop-code.found (sym c.is_some.ensures ∙ c.if-is_some.true) in (
-      found_second versions (count_of parts) (all_numbered versions parts have) c.loop-code.code found.0 low valid
-          (subst (IsFoundSoFar versions (λ k. chosen parts k (get_or versions 0 [])) c.loop-code.code) found.1 c.loop-code.invariant.found),
+      found_second c.args.check versions (count_of parts) (all_numbered versions parts have) c.loop-code.code found.0 low valid
+          (subst (IsFoundSoFar c.args.check versions (λ k. chosen parts k (get_or versions 0 [])) c.loop-code.code) found.1 c.loop-code.invariant.found),
       (count_of parts, record { numbered = all_numbered versions parts have; few = let few = c.in-Some.ensures.1 in omega (arith, low, c.in-Some.ensures.0, ap count_of c.as_slice.ensures.value) }),
     )
 
@@ -117,16 +117,16 @@ loop-code-preserved c =
     let parts : List Part = c.in_ok-regions.regions.items in
     let have = have_parts c.args.versions.now parts c.requires.some c.requires.lengths c.in_ok-regions.ensures.parts c.in_ok-regions.ensures.fit in
     let low : c.loop-code.code < count_of parts = omega (arith, c.in-Some.ensures.0, ap count_of c.as_slice.ensures.value) in
-    let left = left_is c.args.versions.now parts have c.loop-code.code c.remainder-base.result c.changed.result _ _
+    let left = left_is c.args.check c.args.versions.now parts have c.loop-code.code c.remainder-base.result c.changed.result _ _
     (ap entries c.as_slice-in-loop-code.ensures.value ∙ c.in_ok-tables.ensures) c.as_slice-2.ensures.value c.remainder-base.ensures c.changed.ensures in
-    let bytes = written_over c.args.versions.now parts have c.loop-code.code c.loop-code.bytes.len c.choose.new.bytes _ c.loop-code.bytes.items _ low
+    let bytes = written_over c.args.check c.args.versions.now parts have c.loop-code.code c.loop-code.bytes.len c.choose.new.bytes _ c.loop-code.bytes.items _ low
     c.choose.ensures c.as_slice-in-loop-code-2.ensures.value c.deref_mut.ensures.value c.loop-code.invariant.alike c.loop-code.bytes.ok.0 in
-    let valid = valid_at c.args.versions.now parts have c.loop-code.code c.changed.result low
-    (subst IsFramed (c.as_slice-in-loop-code-3.ensures.value ∙ bytes.are) (c.is_framed.ensures.0 c.if-not-is_framed.false)) left c.if-changed-ne0.false in
+    let valid = valid_at c.args.check c.args.versions.now parts have c.loop-code.code low
+    (subst (PassesBy c.args.check) (c.as_slice-in-loop-code-3.ensures.value ∙ bytes.are) (c.passes.ensures.0 c.if-not-passes.false)) in
     record {
       alike = bytes.alike;
-      found = found_first versions (λ k. chosen parts k (get_or versions 0 [])) c.loop-code.code valid
-          (subst (IsFoundSoFar versions (λ k. chosen parts k (get_or versions 0 [])) c.loop-code.code)
+      found = found_first c.args.check versions (λ k. chosen parts k (get_or versions 0 [])) c.loop-code.code valid
+          (subst (IsFoundSoFar c.args.check versions (λ k. chosen parts k (get_or versions 0 [])) c.loop-code.code)
           (none_of c.loop-code.found (sym c.is_some.ensures ∙ c.if-is_some.false)) c.loop-code.invariant.found);
     }
 
@@ -138,9 +138,9 @@ returns-in_default-found c =
     let counted : c.in-Some.count ≡ count_of parts = c.in-Some.ensures.0 ∙ ap count_of c.as_slice.ensures.value in
     let done : c.loop-code.code ≡ count_of parts = omega arith in
     let none : c.loop-code.found ≡ None = absent c.loop-code.found c.in_default-found.not-Some in (
-      found_none versions (count_of parts) (all_numbered versions parts have)
-          (subst (IsFoundSoFar versions (λ k. chosen parts k (get_or versions 0 [])) (count_of parts)) none
-          (subst (λ n. IsFoundSoFar versions (λ k. chosen parts k (get_or versions 0 [])) n c.loop-code.found) done c.loop-code.invariant.found)),
+      found_none c.args.check versions (count_of parts) (all_numbered versions parts have)
+          (subst (IsFoundSoFar c.args.check versions (λ k. chosen parts k (get_or versions 0 [])) (count_of parts)) none
+          (subst (λ n. IsFoundSoFar c.args.check versions (λ k. chosen parts k (get_or versions 0 [])) n c.loop-code.found) done c.loop-code.invariant.found)),
       (count_of parts, record { numbered = all_numbered versions parts have; few = let few = c.in-Some.ensures.1 in omega arith }),
     )
 
@@ -159,12 +159,12 @@ returns c =
     let counted : c.in-Some.count ≡ count_of parts = c.in-Some.ensures.0 ∙ ap count_of c.as_slice.ensures.value in
     let done : c.loop-code.code ≡ count_of parts = omega arith in
     let code : ℕ = c.in-Some-found.code in
-    let found : IsFoundSoFar versions (λ k. chosen parts k (get_or versions 0 [])) (count_of parts) (Some code) =
-    subst (IsFoundSoFar versions (λ k. chosen parts k (get_or versions 0 [])) (count_of parts)) c.in-Some-found.is
-    (subst (λ n. IsFoundSoFar versions (λ k. chosen parts k (get_or versions 0 [])) n c.loop-code.found) done c.loop-code.invariant.found) in
-    let bytes = written_over c.args.versions.now parts have code c.loop-code.bytes.len c.choose-2.new.bytes _ c.loop-code.bytes.items _ found.0
+    let found : IsFoundSoFar c.args.check versions (λ k. chosen parts k (get_or versions 0 [])) (count_of parts) (Some code) =
+    subst (IsFoundSoFar c.args.check versions (λ k. chosen parts k (get_or versions 0 [])) (count_of parts)) c.in-Some-found.is
+    (subst (λ n. IsFoundSoFar c.args.check versions (λ k. chosen parts k (get_or versions 0 [])) n c.loop-code.found) done c.loop-code.invariant.found) in
+    let bytes = written_over c.args.check c.args.versions.now parts have code c.loop-code.bytes.len c.choose-2.new.bytes _ c.loop-code.bytes.items _ found.0
     c.choose-2.ensures c.as_slice-3.ensures.value c.deref_mut-2.ensures.value c.loop-code.invariant.alike c.loop-code.bytes.ok.0 in (
-      subst (IsOnly (IsValid versions)) (sym bytes.are) (found_only versions (count_of parts) (all_numbered versions parts have) code found),
+      subst (IsOnly (IsValid c.args.check versions)) (sym bytes.are) (found_only c.args.check versions (count_of parts) (all_numbered versions parts have) code found),
       record {
         numbered = subst (λ n. AreNumbered (IsCombination versions) n) (sym counted) (all_numbered versions parts have);
         few = let few = c.in-Some.ensures.1 in omega arith;

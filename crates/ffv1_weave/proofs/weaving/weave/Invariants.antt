@@ -8,6 +8,6 @@ use Rattle.ffv1_weave.proofs.weaving.weave.Given as goal
 abbrev pub invariant-loop-code : goal.invariant-loop-code
 invariant-loop-code l = record {
   alike : IsAlike (map (λ version. version.now) l.versions) 0 l.bytes.items (get_or (map (λ version. version.now) l.versions) 0 []);
-  found : IsFoundSoFar (map (λ version. version.now) l.versions) (λ k. chosen l.regions.items k (get_or (map (λ version. version.now) l.versions) 0 []))
+  found : IsFoundSoFar l.check (map (λ version. version.now) l.versions) (λ k. chosen l.regions.items k (get_or (map (λ version. version.now) l.versions) 0 []))
       l.code l.found;
 }
