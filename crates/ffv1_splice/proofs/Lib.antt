@@ -8,4 +8,5 @@ pub mod OneSplice
 pub mod OriginalLaws
 pub mod WovenLaws
 pub mod NearCopies
+pub mod WholeFrames
 pub mod Vectors

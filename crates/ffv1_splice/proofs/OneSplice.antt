@@ -10,6 +10,7 @@ use Rattle.ffv1_splice.specs.Pieces.{IsPiece, IsToldStart, IsLeast}
 use Rattle.ffv1_splice.specs.Standings.{versions_at, IsWeaveAt, StandsAs, IsGap, IsStop}
 use Rattle.ffv1_weave.specs.Weave.{Weave, IsWeaveOf}
 use Rattle.ffv1_weave.specs.Weave.Weave.{woven, disputed, missing, too_many}
+use Rattle.ffv1_weave.specs.declared.check.Check.TheVariants.{Slice}
 use Rattle.ffv1_weave.proofs.WeaveLaws.{same_versions_weave}
 use Rattle.ffv1_splice.specs.Splice.{SplicedValue}
 use Rattle.ffv1_slice.specs.Members.{HasSameMembers}
@@ -48,8 +49,8 @@ module _ (copies : List (List ℕ)) (end : ℕ) where
   one_weave_at : (s t : ℕ) (v w : Weave) → IsWeaveAt copies s end v → IsWeaveAt copies t end w → v ≡ w
   one_weave_at s t v w h k =
       let starts : s ≡ t = k.told.others s h.told.there in
-      same_versions_weave (versions_at copies t end) (versions_at copies t end) v w (λ version. ((λ there. there), λ there. there))
-      (subst (λ n. IsWeaveOf (versions_at copies n end) v) starts h.weave') k.weave'
+      same_versions_weave Slice (versions_at copies t end) (versions_at copies t end) v w (λ version. ((λ there. there), λ there. there))
+      (subst (λ n. IsWeaveOf Slice (versions_at copies n end) v) starts h.weave') k.weave'
 
   one_woven : (s t : ℕ) (a b : List ℕ) (m n : ℕ) → IsWeaveAt copies s end (woven a m) → IsWeaveAt copies t end (woven b n)
       → ◌≡◌ {A = StandingValue} (record { start = s; bytes = a; standing = Woven m }) (record { start = t; bytes = b; standing = Woven n })
@@ -185,7 +186,7 @@ module _ (copies others : List (List ℕ)) (same : HasSameMembers copies others)
       record {
         none = λ piece p. h.none piece (piece_here end piece p);
         told = only_same (IsToldStart copies end) (IsToldStart others end) (start_there end) (start_here end) start h.told;
-        weave' = weave_there (versions_at copies start end) (versions_at others start end) (same_versions copies others same start end) weave h.weave';
+        weave' = weave_there Slice (versions_at copies start end) (versions_at others start end) (same_versions copies others same start end) weave h.weave';
       }
 
   stands_there : (start end : ℕ) (bytes : List ℕ) (standing : Standing) → StandsAs copies start end bytes standing → StandsAs others start end bytes standing

@@ -6,6 +6,7 @@ use Rattle.ffv1_slice.proofs.NearLaws.{length-range}
 use Rattle.ffv1_slice.specs.Members.{IsOnly, IsOfTwo, IsOfNone}
 use Rattle.ffv1_splice.specs.Pieces.{IsPiece, IsToldStart, IsLeast}
 use Rattle.ffv1_weave.specs.Weave.{Weave, IsWeaveOf}
+use Rattle.ffv1_weave.specs.declared.check.Check.TheVariants.{Slice}
 use Rattle.ffv1_splice.specs.Standings.{versions_at, IsWeaveAt, StandsAs, IsGap}
 use Rattle.ffv1_splice.specs.Placing.{written, IsPlaced}
 use Rattle.ffv1_splice.specs.declared.place.Standing.{Standing}
@@ -60,7 +61,7 @@ gap_size copies start end bytes reach h =
 -- ---- how it stands
 
 pub stands_weave : (copies : List (List ℕ)) (start end : ℕ) (weave : Weave) → IsOfNone (IsPiece copies end) → IsOnly (IsToldStart copies end) start
-    → IsWeaveOf (versions_at copies start end) weave → IsWeaveAt copies start end weave
+    → IsWeaveOf Slice (versions_at copies start end) weave → IsWeaveAt copies start end weave
 stands_weave copies start end weave none told is = record { none = none; told = told; weave' = is }
 
 pub placed_as : (copies : List (List ℕ)) (start end : ℕ) (old new bytes : List ℕ) (standing : Standing) → StandsAs copies start end bytes standing

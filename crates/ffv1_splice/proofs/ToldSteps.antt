@@ -36,7 +36,7 @@ tells_more P Q two after value on new cases more h =
 
 -- ---- one more copy
 
-alone : (copy other : List ℕ) → Contains (copy ∷ []) other → other ≡ copy
+pub alone : (copy other : List ℕ) → Contains (copy ∷ []) other → other ≡ copy
 alone copy other h = let first : h.0 ≡ 0 = omega (arith, h.1) in sym h.2 ∙ ap (λ k. get_or (copy ∷ []) k other) first
 
 module _ (copies : List (List ℕ)) (copy : List ℕ) (end : ℕ) where

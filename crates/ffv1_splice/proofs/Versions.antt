@@ -8,6 +8,7 @@ use Rattle.ffv1_slice.specs.Members.{HasSameMembers}
 use Rattle.ffv1_weave.specs.Combinations.{IsCombination, AreNumbered}
 use Rattle.ffv1_weave.specs.Weave.{Weave, IsWeaveOf, AreFew}
 use Rattle.ffv1_weave.specs.Weave.Weave.{woven, disputed, missing, too_many}
+use Rattle.ffv1_weave.specs.declared.check.Check.{Check}
 use Rattle.ffv1_weave.proofs.WeaveLaws.{combination_as, valid_as}
 use Rattle.ffv1_splice.specs.Standings.{versions_at, IsWeaveAt}
 use Rattle.ffv1_weave.proofs.References.{value_at, length-values_of, value_there}
@@ -61,7 +62,7 @@ same_versions copies others same start end version = (
 
 -- ---- the same versions have the same weave
 
-module _ (versions others : List (List ℕ)) (same : HasSameMembers versions others) where
+module _ (check : Check) (versions others : List (List ℕ)) (same : HasSameMembers versions others) where
   back : HasSameMembers others versions
   back version = ((same version).1, (same version).0)
 
@@ -77,11 +78,11 @@ module _ (versions others : List (List ℕ)) (same : HasSameMembers versions oth
   few_there : (count : ℕ) → AreFew versions count → AreFew others count
   few_there count h = record { numbered = numbered_there count h.numbered; few = h.few }
 
-  pub weave_there : (weave : Weave) → IsWeaveOf versions weave → IsWeaveOf others weave
+  pub weave_there : (weave : Weave) → IsWeaveOf check versions weave → IsWeaveOf check others weave
   weave_there (woven bytes count) h = (
     record {
-      there = valid_as versions others same bytes h.0.there;
-      others = λ other valid. h.0.others other (valid_as others versions back other valid);
+      there = valid_as versions others same check bytes h.0.there;
+      others = λ other valid. h.0.others other (valid_as others versions back check other valid);
     },
     few_there count h.1,
   )
@@ -89,13 +90,13 @@ module _ (versions others : List (List ℕ)) (same : HasSameMembers versions oth
     record {
       one = h.0.one;
       other = h.0.other;
-      one_there = valid_as versions others same h.0.one h.0.one_there;
-      other_there = valid_as versions others same h.0.other h.0.other_there;
+      one_there = valid_as versions others same check h.0.one h.0.one_there;
+      other_there = valid_as versions others same check h.0.other h.0.other_there;
       differ = h.0.differ;
     },
     (h.1.0, few_there h.1.0 h.1.1),
   )
-  weave_there missing h = (λ bytes valid. h.0 bytes (valid_as others versions back bytes valid), (h.1.0, few_there h.1.0 h.1.1))
+  weave_there missing h = (λ bytes valid. h.0 bytes (valid_as others versions back check bytes valid), (h.1.0, few_there h.1.0 h.1.1))
   weave_there too_many h = record { count = h.count; numbered = numbered_there h.count h.numbered; many = h.many }
 
 -- ---- versions as the code lists them

@@ -36,7 +36,7 @@ module _ (original : List ℕ) (copies : List (List ℕ)) (start end : ℕ) (lin
   woven_link bytes Settled count is h = absurd (cc)
   woven_link bytes (Woven n) count is h =
       sym (h.weave'.0.others (slice_range original start end)
-      (record { combination = among; framed = framed_link original start end link; passes = passes }))
+      (record { combination = among; passes = (framed_link original start end link, passes) }))
   woven_link bytes Disputed count is h = absurd (cc)
   woven_link bytes Missing count is h = absurd (cc)
 
@@ -49,7 +49,7 @@ module _ (original : List ℕ) (copies : List (List ℕ)) (start end : ℕ) (lin
   missing_link bytes Missing is h =
       elim h.0 [
         | inl w ↦ absurd (w.weave'.0 (slice_range original start end)
-            (record { combination = among; framed = framed_link original start end link; passes = passes }))
+            (record { combination = among; passes = (framed_link original start end link, passes) }))
         | inr w ↦ w.weave'
       ]
 

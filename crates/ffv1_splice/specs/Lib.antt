@@ -6,6 +6,8 @@ pub mod Told
 pub mod Faults
 pub mod Originals
 pub mod Laws
+pub mod Whole
+pub mod Text
 -- what the clauses cite of the crates below
 pub use Rattle.ffv1_slice.specs.Chain
 pub use Rattle.ffv1_slice.specs.Members

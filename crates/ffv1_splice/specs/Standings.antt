@@ -4,6 +4,7 @@ use Rattle.ffv1_slice.specs.Chain.{Piece}
 use Rattle.ffv1_slice.specs.Members.{IsOnly, IsOfTwo, IsOfNone}
 use Rattle.ffv1_weave.specs.Weave.{Weave, IsWeaveOf}
 use Rattle.ffv1_weave.specs.Weave.Weave.{woven, disputed, missing, too_many}
+use Rattle.ffv1_weave.specs.declared.check.Check.TheVariants.{Slice}
 use Rattle.ffv1_splice.specs.Pieces.{IsPiece, IsToldStart, IsLeast}
 use Rattle.ffv1_splice.specs.declared.place.Standing.{Standing}
 use Rattle.ffv1_splice.specs.declared.place.Standing.TheVariants.{Settled, Woven, Disputed, Missing}
@@ -17,7 +18,7 @@ versions_at copies start end = map (λ copy. slice_range copy start end) copies
 pub record IsWeaveAt (copies : List (List ℕ)) (start end : ℕ) (weave : Weave) : Type 0 where
   pub none : IsOfNone (IsPiece copies end)
   pub told : IsOnly (IsToldStart copies end) start
-  pub weave' : IsWeaveOf (versions_at copies start end) weave
+  pub weave' : IsWeaveOf Slice (versions_at copies start end) weave
 
 -- A gap: the copies whose footer there tells a start, of which there is one, all tell the same, and the least of all copies'
 -- bytes stand there.

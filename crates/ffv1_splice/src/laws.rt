@@ -1,4 +1,5 @@
 //! Laws of the splice, whatever it is made by.
+ghost use Rattle.ffv1_splice.specs.Whole.{GivenBackIsWhole};
 ghost use Rattle.ffv1_splice.specs.Laws.{SameCopiesSplice, OriginalIsSpliced, SettledIsOriginal, WovenIsOriginal, GivenBackIsOriginal, NearCopiesSplice};
 
 /// However the same copies are ordered or repeated, they have one splice.
@@ -34,4 +35,10 @@ pub fn given_back_is_original()
 /// have content: the places are the original's slices, settled exactly where a copy has it intact, and then the original's.
 pub fn near_copies_splice()
     ensures { NearCopiesSplice }
+{}
+
+/// A frame that is given back is in one piece: by its own footers its chain is whole, and each of its slices has content and passes its
+/// parity.
+pub fn given_back_is_whole()
+    ensures { GivenBackIsWhole }
 {}

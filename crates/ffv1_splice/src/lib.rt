@@ -8,11 +8,13 @@ mod laws;
 mod place;
 mod placing;
 mod splicing;
+mod text;
 mod told;
 
 pub use laws::{
-    given_back_is_original, near_copies_splice, original_is_spliced, same_copies_splice,
-    settled_is_original, woven_is_original,
+    given_back_is_original, given_back_is_whole, near_copies_splice, original_is_spliced,
+    same_copies_splice, settled_is_original, woven_is_original,
 };
 pub use place::{Place, Standing};
 pub use splicing::{SpliceFault, Spliced, splice};
+pub use text::{push_front, push_place};

@@ -8,7 +8,7 @@ ghost use Rattle.ffv1_splice.specs.Told.{Tells, starts_told};
 
 use crate::place::{Place, Standing};
 use crate::told::{Pieces, Starts, least_at, told_at};
-use ffv1_weave::{Outcome, weave};
+use ffv1_weave::{Check, Outcome, weave};
 use std::alloc::{AllocError, Global};
 
 /// The place that ends there, which is written over the payload's bytes. Each copy has the end, and so has the payload.
@@ -108,7 +108,7 @@ fn weave_at(
         (record { start = start; end = end; standing = standing })) }
 {
     let versions = versions_at(alloc, copies, start, end)?;
-    let standing = match weave(alloc, versions.as_slice())? {
+    let standing = match weave(alloc, Check::Slice, versions.as_slice())? {
         Outcome::Woven(bytes, count) => {
             write_at(payload, start, bytes.as_slice());
             return Ok(Standing::Woven(count));

@@ -1,6 +1,7 @@
 use Rattle.std.proofs.Common.{◌≡◌, ◌≤◌, length, refl, sym, ap, subst, ◌∙◌, inl, inr, arith}
 use Rattle.ffv1_weave.specs.Weave.{Weave, IsWeaveOf, weave_told}
 use Rattle.ffv1_weave.specs.Weave.Weave.{woven, disputed, missing, too_many}
+use Rattle.ffv1_weave.specs.declared.check.Check.TheVariants.{Slice}
 use Rattle.ffv1_weave.specs.declared.weaving.Outcome.{Outcome}
 use Rattle.ffv1_weave.specs.declared.weaving.Outcome.TheVariants as outcome
 use Rattle.ffv1_splice.specs.Placing.{written}
@@ -22,14 +23,14 @@ pub write_at-requires : goal.write_at-requires
 write_at-requires c =
     let is : values_of c.as_slice.result.now ≡ versions_at (values_of c.args.copies.now) c.args.start c.args.end =
     ap values_of c.as_slice.ensures.value ∙ c.in_ok-versions.ensures in
-    let weave : IsWeaveOf (values_of c.as_slice.result.now) (woven c.in-Woven.bytes.items c.in-Woven.count) =
-    subst (λ o. IsWeaveOf (values_of c.as_slice.result.now) (weave_told o)) c.in-Woven.is c.in_ok-bytes.ensures in
+    let weave : IsWeaveOf Slice (values_of c.as_slice.result.now) (woven c.in-Woven.bytes.items c.in-Woven.count) =
+    subst (λ o. IsWeaveOf Slice (values_of c.as_slice.result.now) (weave_told o)) c.in-Woven.is c.in_ok-bytes.ensures in
     let size = weave_size (values_of c.args.copies.now) c.args.start c.args.end c.in-Woven.bytes.items c.in-Woven.count
     (each_value c.args.copies.now (λ copy. c.args.end ≤ length copy) c.requires.within)
     (record {
       none = c.requires.none;
       told = c.requires.told;
-      weave' = subst (λ vs. IsWeaveOf vs (woven c.in-Woven.bytes.items c.in-Woven.count)) is weave;
+      weave' = subst (λ vs. IsWeaveOf Slice vs (woven c.in-Woven.bytes.items c.in-Woven.count)) is weave;
     }) in
     let same = ap length c.as_slice-in-Woven.ensures.value in
     omega arith
@@ -38,12 +39,12 @@ pub returns-in-Woven : goal.returns-in-Woven
 returns-in-Woven c =
     let is : values_of c.as_slice.result.now ≡ versions_at (values_of c.args.copies.now) c.args.start c.args.end =
     ap values_of c.as_slice.ensures.value ∙ c.in_ok-versions.ensures in
-    let weave : IsWeaveOf (values_of c.as_slice.result.now) (woven c.in-Woven.bytes.items c.in-Woven.count) =
-    subst (λ o. IsWeaveOf (values_of c.as_slice.result.now) (weave_told o)) c.in-Woven.is c.in_ok-bytes.ensures in
+    let weave : IsWeaveOf Slice (values_of c.as_slice.result.now) (woven c.in-Woven.bytes.items c.in-Woven.count) =
+    subst (λ o. IsWeaveOf Slice (values_of c.as_slice.result.now) (weave_told o)) c.in-Woven.is c.in_ok-bytes.ensures in
     let at : IsWeaveAt (values_of c.args.copies.now) c.args.start c.args.end (woven c.in-Woven.bytes.items c.in-Woven.count) = record {
       none = c.requires.none;
       told = c.requires.told;
-      weave' = subst (λ vs. IsWeaveOf vs (woven c.in-Woven.bytes.items c.in-Woven.count)) is weave;
+      weave' = subst (λ vs. IsWeaveOf Slice vs (woven c.in-Woven.bytes.items c.in-Woven.count)) is weave;
     } in
     record {
       bytes = c.in-Woven.bytes.items;
@@ -69,14 +70,14 @@ pub returns : goal.returns
 returns c =
     let is : values_of c.as_slice.result.now ≡ versions_at (values_of c.args.copies.now) c.args.start c.args.end =
     ap values_of c.as_slice.ensures.value ∙ c.in_ok-versions.ensures in
-    let at = λ (w : Weave) (h : IsWeaveOf (values_of c.as_slice.result.now) w).
-    stands_weave (values_of c.args.copies.now) c.args.start c.args.end w c.requires.none c.requires.told (subst (λ vs. IsWeaveOf vs w) is h) in
+    let at = λ (w : Weave) (h : IsWeaveOf Slice (values_of c.as_slice.result.now) w).
+    stands_weave (values_of c.args.copies.now) c.args.start c.args.end w c.requires.none c.requires.told (subst (λ vs. IsWeaveOf Slice vs w) is h) in
     let below = told_below (values_of c.args.copies.now) c.args.start c.args.end c.requires.told.there in
     let gap : IsGap (values_of c.args.copies.now) c.args.start c.args.end c.least_at.result.now =
     record { told = c.requires.told; least = c.least_at.ensures } in
     let size = least_size (values_of c.args.copies.now) c.args.start c.args.end c.least_at.result.now
     (each_value c.args.copies.now (λ copy. c.args.end ≤ length copy) c.requires.within) (omega arith) c.least_at.ensures in
-    let weave = λ (o : Outcome) (is : c.in_ok-bytes.field-0 ≡ o). let P : Outcome → Type 0 = λ o. IsWeaveOf (values_of c.as_slice.result.now) (weave_told o) in
+    let weave = λ (o : Outcome) (is : c.in_ok-bytes.field-0 ≡ o). let P : Outcome → Type 0 = λ o. IsWeaveOf Slice (values_of c.as_slice.result.now) (weave_told o) in
     subst P is c.in_ok-bytes.ensures in
     elim c.match-branch-3.branch [
       | in-Disputed w ↦ placed_as (values_of c.args.copies.now) c.args.start c.args.end c.args.payload.now c.write_at-2.new.payload c.least_at.result.now
