@@ -1,4 +1,5 @@
 pub mod Counts
+pub mod ExactSteps
 pub mod Filling
 pub mod Fronts
 pub mod Kept

@@ -1,3 +1,4 @@
+pub mod Exact
 pub mod Files
 pub mod Logs
 pub mod Results

@@ -2,6 +2,7 @@
 //! given up.
 #![tactic(auto)]
 
+mod exact;
 mod failures;
 mod files;
 mod reads;
@@ -9,6 +10,7 @@ mod streams;
 mod whole;
 mod writes;
 
+pub use exact::{CutShort, NextFault, fill, pass_over, read_next};
 pub use files::{InputFile, OutputFile};
 pub use reads::{ReadFailed, next_byte, read_full, read_some};
 pub use streams::{FromRead, FromWrite, Sink, Source, ThroughWrite};

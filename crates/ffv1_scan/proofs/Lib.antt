@@ -1,4 +1,2 @@
-pub mod NumberSteps
 pub mod LineSteps
-pub mod StepLaws
 pub mod ScanSteps

@@ -1,35 +1,12 @@
--- Lines of a text, and the ranges that they are.
-use Rattle.std.proofs.Common.{◌≡◌, ◌≢◌, ℕ, ◌+◌, ◌<◌, ◌≤◌, List, [], ◌∷◌, ◌++◌, length, arith, refl, sym, ap, subst, ◌∙◌, append_assoc, ◌⊎◌, inl, inr}
-use Rattle.std.proofs.lemmas.Bool.{cases_eq}
-use Rattle.std.proofs.lemmas.Str.Parse.{digit_from_value}
+-- The ranges that lines are.
+use Rattle.std.proofs.Common.{◌≡◌, ◌≢◌, ℕ, ◌+◌, ◌≤◌, List, [], ◌∷◌, ◌++◌, length, arith, refl, sym, subst, ◌∙◌}
 use Rattle.std.specs.List.{AllByRecursion}
-use Rattle.std.specs.Str.Parse.{AllDigits}
+use Rattle.ffv1_lists.specs.Numbers.{IsNumber}
+use Rattle.ffv1_lists.proofs.PartSteps.{one_parting, no_parting}
+use Rattle.ffv1_lists.proofs.NumberSteps.{one_value}
+use Rattle.ffv1_lists.proofs.WordSteps.{HasNoSpace-digits}
 use Rattle.ffv1_scan.specs.declared.ranges.ByteRange.{ByteRange}
-use Rattle.ffv1_scan.specs.Ranges.{HasNoFeed, AreLines, none, ended, last, IsNumber, IsRangeLine, AreRangeLines, Rises, end_of}
-
--- ---- where a byte parts bytes
-
-pub one_parting : (byte : ℕ) (a b p s : List ℕ) → AllByRecursion (λ x. x ≢ byte) a → AllByRecursion (λ x. x ≢ byte) p
-    → a ++ byte ∷ b ≡ p ++ byte ∷ s → (a ≡ p) × (b ≡ s)
-one_parting byte [] b [] s h k e = (refl, cc)
-one_parting byte [] b (x ∷ p) s h k e = absurd (k.0 (let same : x ≡ byte = cc in same))
-one_parting byte (x ∷ a) b [] s h k e = absurd (h.0 (let same : x ≡ byte = cc in same))
-one_parting byte (x ∷ a) b (y ∷ p) s h k e =
-    let rest : a ++ byte ∷ b ≡ p ++ byte ∷ s = cc in
-    let first : x ≡ y = cc in
-    let one = one_parting byte a b p s h.1 k.1 rest in
-    (let same : x ∷ a ≡ y ∷ p = cc (first, one.0) in same, one.1)
-
-pub no_parting : (byte : ℕ) (line p s : List ℕ) → AllByRecursion (λ x. x ≢ byte) line → line ≡ p ++ byte ∷ s → ⊥
-no_parting byte [] [] s h e = cc
-no_parting byte [] (y ∷ p) s h e = cc
-no_parting byte (x ∷ line) [] s h e = h.0 (let same : x ≡ byte = cc in same)
-no_parting byte (x ∷ line) (y ∷ p) s h e = no_parting byte line p s h.1 (let rest : line ≡ p ++ byte ∷ s = cc in rest)
-
--- digits are no space
-digits_part : (digits : List ℕ) → AllDigits 10 digits → AllByRecursion (λ x. x ≢ 32) digits
-digits_part [] h = tt
-digits_part (c ∷ cs) h = ((λ (e : c ≡ 32). let range = digit_from_value c h.0 in absurd (omega (arith, range, e))), digits_part cs h.1)
+use Rattle.ffv1_scan.specs.Ranges.{IsRangeLine, AreRangeLines, Rises, end_of}
 
 -- ---- the range that a line is
 
@@ -40,35 +17,14 @@ no_range line h range is = no_parting 32 line is.place_digits is.size_digits h i
 pub range_numbers : (line a b : List ℕ) (range : ByteRange) → line ≡ a ++ 32 ∷ b → AllByRecursion (λ x. x ≢ 32) a → IsRangeLine line range
     → IsNumber a range.place × IsNumber b range.size
 range_numbers line a b range parted h is =
-    let one = one_parting 32 is.place_digits is.size_digits a b (digits_part is.place_digits is.place.numeral.1) h (sym is.parted ∙ parted) in
+    let one = one_parting 32 is.place_digits is.size_digits a b (HasNoSpace-digits is.place_digits is.place.numeral.1) h (sym is.parted ∙ parted) in
     (subst (λ d. IsNumber d range.place) one.0 is.place, subst (λ d. IsNumber d range.size) one.1 is.size)
-
-pub one_value : (digits : List ℕ) (m n : ℕ) → IsNumber digits m → IsNumber digits n → m ≡ n
-one_value digits m n p q = sym p.value ∙ q.value
 
 -- a line is one range
 pub one_place : (line : List ℕ) (r q : ByteRange) → IsRangeLine line r → IsRangeLine line q → r.place ≡ q.place
 one_place line r q is also =
     one_value is.place_digits r.place q.place is.place
-    (range_numbers line is.place_digits is.size_digits q is.parted (digits_part is.place_digits is.place.numeral.1) also).0
-
--- ---- lines
-
-line_more : (c : ℕ) (text : List ℕ) (lines : List (List ℕ)) → c ≢ 10 → AreLines text lines → (more : List (List ℕ)) × AreLines (c ∷ text) more
-line_more c text lines apart none = ((c ∷ []) ∷ [], last (apart, tt) (omega arith))
-line_more c text lines apart (ended {line = line} {rest = rest} {lines = others} free are) =
-    ((c ∷ line) ∷ others, ended (apart, free) are)
-line_more c text lines apart (last {line = line} free some) = ((c ∷ line) ∷ [], last (apart, free) (omega arith))
-
--- each text has lines
-pub lines_of : (text : List ℕ) → (lines : List (List ℕ)) × AreLines text lines
-lines_of [] = ([], none)
-lines_of (c ∷ text) =
-    let rest = lines_of text in
-    elim (cases_eq c 10) [
-      | inl feed ↦ ([] ∷ rest.0, subst (λ (b : ℕ). AreLines (b ∷ text) ([] ∷ rest.0)) (sym feed) (ended {line = []} tt rest.1))
-      | inr apart ↦ line_more c text rest.0 apart rest.1
-    ]
+    (range_numbers line is.place_digits is.size_digits q is.parted (HasNoSpace-digits is.place_digits is.place.numeral.1) also).0
 
 -- ---- ranges
 
@@ -116,33 +72,3 @@ end_of-append from (r ∷ front) rest = end_of-append (r.place + r.size) front r
 pub end_of-front : (from : ℕ) (front rest : List ByteRange) → Rises from (front ++ rest) → end_of from front ≤ end_of from (front ++ rest)
 end_of-front from [] rest h = end_of-least from rest h
 end_of-front from (r ∷ front) rest h = end_of-front (r.place + r.size) front rest h.1
-
-pub empty_lines : (rest : List ℕ) → length rest ≡ 0 → AreLines rest []
-empty_lines [] h = none
-empty_lines (c ∷ rest) h = absurd (omega (arith, h))
-
--- nothing has no lines
-no_lines : (text : List ℕ) (lines : List (List ℕ)) → AreLines text lines → text ≡ [] → lines ≡ []
-no_lines text lines none e = refl
-no_lines text lines (ended {line = []} free are) e = cc
-no_lines text lines (ended {line = c ∷ line} free are) e = cc
-no_lines text lines (last {line = line} free some) e = absurd (omega (arith, ap length e, some))
-
-last_on : (text line rest others : List ℕ) (lines : List (List ℕ)) → HasNoFeed line → 0 < length rest → rest ≡ line → others ≡ []
-    → ((more : List (List ℕ)) → AreLines rest more → AreLines text (lines ++ more))
-    → (more : List (List ℕ)) → AreLines others more → AreLines text (lines ++ (line ∷ more))
-last_on text line rest others lines free some whole ends on more are =
-    let none_left = no_lines others more are ends in
-    subst (λ (m : List (List ℕ)). AreLines text (lines ++ (line ∷ m))) (sym none_left)
-    (on (line ∷ []) (subst (λ (t : List ℕ). AreLines t (line ∷ [])) (sym whole) (last free (omega (arith, ap length whole, some)))))
-
--- one line more of those that begin a text
-pub lines_on : (text line rest others : List ℕ) (lines : List (List ℕ)) → HasNoFeed line → 0 < length rest
-    → (rest ≡ line ++ 10 ∷ others) ⊎ ((rest ≡ line) × (others ≡ []))
-    → ((more : List (List ℕ)) → AreLines rest more → AreLines text (lines ++ more))
-    → (more : List (List ℕ)) → AreLines others more → AreLines text ((lines ++ line ∷ []) ++ more)
-lines_on text line rest others lines free some split on more are =
-    subst (AreLines text) (sym (append_assoc lines (line ∷ []) more)) (elim split [
-      | inl feed ↦ on (line ∷ more) (subst (λ (t : List ℕ). AreLines t (line ∷ more)) (sym feed) (ended free are))
-      | inr last' ↦ last_on text line rest others lines free some last'.0 last'.1 on more are
-    ])

@@ -7,6 +7,10 @@ use Rattle.std.proofs.Math.Bool.{and-true}
 use Rattle.std.specs.List.{list_all}
 use Rattle.std.specs.Io.KnownBytes.{IsAtEnd}
 use Rattle.ffv1_devices.specs.Logs.{ReadLog, WriteLog, Reads, BreaksOff, Writes, StopsWriting}
+use Rattle.ffv1_devices.specs.declared.exact.NextFault.{NextFault}
+use Rattle.ffv1_devices.specs.declared.exact.NextFault.TheVariants as nexts
+use Rattle.ffv1_devices.specs.Exact.{ReadsNext}
+use Rattle.ffv1_devices.proofs.ExactSteps.{EndsBefore-after}
 use Rattle.ffv1_devices.proofs.Steps.{Reads-nil, Reads-trans, BreaksOff-after, Writes-nil, Writes-trans, StopsWriting-after}
 use Rattle.ffv1_scan.specs.declared.ranges.ByteRange.{ByteRange}
 use Rattle.ffv1_scan.specs.declared.verdict.Verdict.{Verdict}
@@ -15,7 +19,7 @@ use Rattle.ffv1_scan.specs.declared.scanning.ScanFault.TheVariants as faults
 use Rattle.ffv1_scan.specs.Ranges.{Rises, end_of}
 use Rattle.ffv1_scan.specs.Verdicts.{IsVerdictOf, bytes_in, AreVerdictsOf, is_sound, verdict_line, verdict_lines}
 use Rattle.ffv1_scan.specs.Scans.{ScansFront, ScansRanges}
-use Rattle.ffv1_scan.specs.Steps.{JudgesNext, LineStops}
+use Rattle.ffv1_scan.specs.Steps.{JudgesNext, LineStops, scan_fault}
 use Rattle.ffv1_scan.proofs.LineSteps.{end_of-push, end_of-least, end_of-front, rises_after, rises_front}
 
 -- ---- verdicts
@@ -69,6 +73,14 @@ verdict_lines-push number (v ∷ vs) verdict =
 -- whether all are sound, with one more
 sound_more : (verdicts : List Verdict) (verdict : Verdict) → list_all is_sound (verdicts ++ verdict ∷ []) ≡ (list_all is_sound verdicts && is_sound verdict)
 sound_more verdicts verdict = list_all-append is_sound verdicts (verdict ∷ []) ∙ ap (λ (b : Bool). list_all is_sound verdicts && b) (and-true (is_sound verdict))
+
+-- ---- a range that is cut short
+
+pub next_stops : (gap size : ℕ) (a b c : ReadLog) (before room : List ℕ) (fault : NextFault) → Reads a b before → length before ≡ gap
+    → ReadsNext {T = Unit {0}} size (Err fault) room b c → JudgesNext gap size (Err (scan_fault fault)) a c
+next_stops gap size a b c before room nexts.Read read long stops = EndsBefore-after a b c before size (gap + size) read stops (omega (arith, long))
+next_stops gap size a b c before room nexts.Memory read long stops =
+    (before ++ stops.0, Reads-trans a b c before stops.0 read stops.1, omega (arith, length-append before stops.0, long, stops.2))
 
 -- ---- a scan so far
 
@@ -133,22 +145,11 @@ module _ (ranges front : List ByteRange) (range : ByteRange) (rest : List ByteRa
         ⊎_elim (λ (broken : BreaksOff b c stops.0). inl (front, unjudged (BreaksOff a c) stops.0 (BreaksOff-after a b c _ _ so_far.read broken) short))
         (λ (ended : Reads b c stops.0 × IsAtEnd c.remaining).
         inr (front, unjudged (Reads a c) stops.0 (Reads-trans a b c _ _ so_far.read ended.0) short, ended.1, short)) stops.1
-    judging_stops c faults.Memory stops =
-        let all = so_far.bytes ++ stops.0 in
-        let long = length-append so_far.bytes stops.0 in (
-          front,
-          record {
-            rest = range ∷ rest;
-            split = split;
-            bytes = all;
-            read = Reads-trans a b c so_far.bytes stops.0 so_far.read stops.1;
-            least = omega (arith, long, so_far.long);
-            most = omega (arith, long, stops.2, so_far.long, stands, begins, ends);
-            verdicts = so_far.verdicts;
-            judged = kept stops.0;
-            wrote = so_far.wrote;
-          },
-        )
+    judging_stops c faults.Memory stops = (
+      front,
+      unjudged (Reads a c) stops.0 (Reads-trans a b c _ _ so_far.read stops.1)
+          (omega (arith, length-append so_far.bytes stops.0, stops.2, so_far.long, stands, begins)),
+    )
     judging_stops c faults.Write stops = absurd stops
 
     module _ (c : ReadLog) (verdict : Verdict) (judges : JudgesNext (range.place - last.place - last.size) range.size (Ok verdict) b c)

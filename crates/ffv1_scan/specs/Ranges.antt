@@ -1,28 +1,12 @@
 -- A list of ranges of a file as text (own): a line for each range, of two decimal numbers: where it begins, counted in bytes from the
 -- file's start, and how many bytes it has.
-use Rattle.std.specs.Prelude.{ℕ, ◌≡◌, ◌≢◌, ◌+◌, ◌^◌, ◌<◌, ◌≤◌, List, [], ◌∷◌, ◌++◌, length}
-use Rattle.std.specs.List.{AllByRecursion}
-use Rattle.std.specs.Str.Parse.{IsNumeral, digits_value}
+use Rattle.std.specs.Prelude.{ℕ, ◌≡◌, ◌+◌, ◌≤◌, List, [], ◌∷◌, ◌++◌, length}
 use Rattle.ffv1_bits.specs.Limits.{payload_limit}
+use Rattle.ffv1_lists.specs.Lines.{AreLines}
+use Rattle.ffv1_lists.specs.Numbers.{IsNumber}
 use Rattle.ffv1_scan.specs.declared.ranges.ByteRange.{ByteRange}
 use Rattle.ffv1_scan.specs.declared.ranges.RangesFault.{RangesFault}
 use Rattle.ffv1_scan.specs.declared.ranges.RangesFault.TheVariants as faults
-
--- no line feed is among the bytes
-abbrev pub HasNoFeed : List ℕ → Type 0
-HasNoFeed bytes = AllByRecursion (λ b. b ≢ 10) bytes
-
--- The lines of a text. A line feed ends each; only the last may go without, where it has bytes.
-pub data AreLines : List ℕ → List (List ℕ) → Type 0 where
-  none : AreLines [] []
-  ended : {line rest : List ℕ} {lines : List (List ℕ)} → HasNoFeed line → AreLines rest lines → AreLines (line ++ 10 ∷ rest) (line ∷ lines)
-  last : {line : List ℕ} → HasNoFeed line → 0 < length line → AreLines line (line ∷ [])
-
--- Decimal digits and nothing else, which write a number under 2^64.
-pub record IsNumber (digits : List ℕ) (n : ℕ) : Type 0 where
-  pub numeral : IsNumeral 10 digits
-  pub value : digits_value 10 digits ≡ n
-  pub fits : n < 2 ^ 64
 
 -- A line that is a range: two numbers with one space between them, the second at most 2^30.
 pub record IsRangeLine (line : List ℕ) (range : ByteRange) : Type 0 where

@@ -1,37 +1,26 @@
 -- What the steps of a scan read and write.
-use Rattle.std.specs.Prelude.{ℕ, ◌≡◌, ◌+◌, ◌<◌, ◌⊎◌, List, [], ◌++◌, length, Result, Ok, Err}
-use Rattle.std.specs.Io.KnownBytes.{IsAtEnd}
+use Rattle.std.specs.Prelude.{ℕ, ◌≡◌, ◌+◌, ◌<◌, List, [], ◌++◌, length, Result, Ok, Err}
+use Rattle.ffv1_devices.specs.declared.exact.NextFault.{NextFault}
+use Rattle.ffv1_devices.specs.declared.exact.NextFault.TheVariants as nexts
+use Rattle.ffv1_devices.specs.Exact.{EndsBefore}
 use Rattle.ffv1_devices.specs.Logs.{ReadLog, WriteLog, Reads, BreaksOff, Writes, StopsWriting}
 use Rattle.ffv1_scan.specs.declared.verdict.Verdict.{Verdict}
 use Rattle.ffv1_scan.specs.declared.scanning.ScanFault.{ScanFault}
 use Rattle.ffv1_scan.specs.declared.scanning.ScanFault.TheVariants as faults
 use Rattle.ffv1_scan.specs.Verdicts.{IsVerdictOf}
 
--- these bytes were read, and then the source ended or was given up
-abbrev pub StopsReading : ReadLog → ReadLog → List ℕ → Type 0
-StopsReading old new bytes = BreaksOff old new bytes ⊎ (Reads old new bytes × IsAtEnd new.remaining)
-
--- fewer bytes than so many were read, and then the source ended or was given up
-abbrev pub EndsBefore : ℕ → ReadLog → ReadLog → Type 0
-EndsBefore size old new = (bytes : List ℕ) × StopsReading old new bytes × (length bytes < size)
-
--- a buffer of this size was filled, or the source ended before that
-abbrev pub Fills : {T E : Type 0} → ℕ → Result T E → List ℕ → ReadLog → ReadLog → Type 0
-Fills size (Ok x) buf old new = Reads old new buf
-Fills size (Err e) buf old new = EndsBefore size old new
-
--- so many bytes were passed over, or the source ended before that
-abbrev pub PassesOver : {T E : Type 0} → ℕ → Result T E → ReadLog → ReadLog → Type 0
-PassesOver size (Ok x) old new = (bytes : List ℕ) × Reads old new bytes × (length bytes ≡ size)
-PassesOver size (Err e) old new = EndsBefore size old new
+-- why a range was not read, as a scan reports it
+abbrev pub scan_fault : NextFault → ScanFault
+scan_fault nexts.Read = faults.Read
+scan_fault nexts.Memory = faults.Memory
 
 -- After a gap of so many bytes a range of so many was read and judged, or the source ended before that, or memory for the range was
--- refused.
+-- refused before its end.
 abbrev pub JudgesNext : (gap size : ℕ) → Result Verdict ScanFault → ReadLog → ReadLog → Type 0
 JudgesNext gap size (Ok verdict) old new = (before bytes : List ℕ) × Reads old new (before ++ bytes)
     × (length before ≡ gap) × (length bytes ≡ size) × IsVerdictOf bytes verdict
 JudgesNext gap size (Err faults.Read) old new = EndsBefore (gap + size) old new
-JudgesNext gap size (Err faults.Memory) old new = (before : List ℕ) × Reads old new before × (length before ≡ gap)
+JudgesNext gap size (Err faults.Memory) old new = (bytes : List ℕ) × Reads old new bytes × (length bytes < gap + size)
 JudgesNext gap size (Err faults.Write) old new = ⊥
 
 -- why a line was not written whole: a front of it was before the output was given up, or nothing, where memory was refused

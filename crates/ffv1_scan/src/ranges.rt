@@ -1,9 +1,9 @@
 //! The ranges of a file, as a text tells them (own).
-ghost use Rattle.std.specs.Prelude.{◌≡◌, ◌≢◌, ◌+◌, ◌≤◌, ◌<◌, ◌↔◌, ◌++◌, ◌∷◌, [], ◌⊎◌, ℕ, IsTrue, length, IfOk, IfErr, MatchOption};
-ghost use Rattle.std.specs.List.{AllByRecursion};
-ghost use Rattle.ffv1_scan.specs.Ranges.{HasNoFeed, IsNumber, IsRangeLine, AreRanges, IsRangesFault};
+ghost use Rattle.std.specs.Prelude.{◌≡◌, ◌+◌, ◌≤◌, ◌↔◌, IsTrue, IfOk, IfErr, MatchOption};
+ghost use Rattle.ffv1_scan.specs.Ranges.{IsRangeLine, AreRanges, IsRangesFault};
 
 use ffv1_bits::PAYLOAD_LIMIT;
+use ffv1_lists::{first_line, read_number, split_at_byte};
 use std::alloc::{AllocFailed, Global};
 
 /// A range of a file.
@@ -67,51 +67,6 @@ pub fn read_ranges(alloc: Global, text: &[u8]) -> Result<Vec<ByteRange>, RangesF
         rest = more;
     }
     Ok(ranges)
-}
-
-/// What stands before the first such byte, and what stands after it.
-fn split_at_byte(bytes: &[u8], byte: u8) -> Option<(&[u8], &[u8])>
-    ensures { MatchOption result (AllByRecursion (λ b. b ≢ byte) bytes.now)
-        (λ parts. (bytes.now ≡ parts.0.now ++ byte ∷ parts.1.now) × AllByRecursion (λ b. b ≢ byte) parts.0.now) }
-{
-    for (index, found) in bytes.iter().enumerate() {
-        if *found == byte {
-            return Some((&bytes[..index], &bytes[index + 1..]));
-        }
-    }
-    None
-}
-
-/// The first line of a text that has one, and what stands after it.
-fn first_line(text: &[u8]) -> (&[u8], &[u8])
-    requires { 0 < length text.now }
-    ensures feed { HasNoFeed result.0.now }
-    ensures split { (text.now ≡ result.0.now ++ 10 ∷ result.1.now) ⊎ ((text.now ≡ result.0.now) × (result.1.now ≡ [])) }
-{
-    match split_at_byte(text, b'\n') {
-        Some(parts) => parts,
-        None => (text, &[]),
-    }
-}
-
-/// The number that decimal digits write, and nothing else.
-fn read_number(digits: &[u8]) -> Option<u64>
-    ensures { MatchOption result ((n : ℕ) → IsNumber digits.now n → ⊥) (λ n. IsNumber digits.now n) }
-{
-    let mut number: u64 = 0;
-    for digit in digits {
-        if !digit.is_ascii_digit() {
-            return None;
-        }
-        number = number
-            .checked_mul(10)?
-            .checked_add(u64::from(*digit - b'0'))?;
-    }
-    if digits.is_empty() {
-        None
-    } else {
-        Some(number)
-    }
 }
 
 /// The range that a line is.

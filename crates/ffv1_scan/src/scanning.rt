@@ -1,13 +1,15 @@
 //! One pass over the ranges of a file.
-ghost use Rattle.std.specs.Prelude.{◌≡◌, ◌+◌, ◌-◌, ◌<◌, ◌≤◌, length, vec_len, OnOk, IfOk, IfErr};
+ghost use Rattle.std.specs.Prelude.{◌≡◌, ◌+◌, ◌-◌, ◌<◌, ◌≤◌, vec_len, OnOk, IfOk, IfErr};
 ghost use Rattle.ffv1_scan.specs.Ranges.{Rises};
 ghost use Rattle.ffv1_scan.specs.Verdicts.{verdict_line};
 ghost use Rattle.ffv1_scan.specs.Scans.{ScansRanges};
-ghost use Rattle.ffv1_scan.specs.Steps.{Opens, Fills, PassesOver, JudgesNext, WritesLine};
+ghost use Rattle.ffv1_scan.specs.Steps.{Opens, JudgesNext, WritesLine};
 
 use crate::ranges::ByteRange;
 use crate::verdict::{Verdict, judge, push_line};
-use ffv1_devices::{Sink, Source, WriteFailed, read_full, read_some, write_field};
+use ffv1_devices::{
+    CutShort, NextFault, Sink, Source, WriteFailed, pass_over, read_next, read_some, write_field,
+};
 use std::alloc::{AllocError, Global};
 
 /// So many bytes are passed over in one read.
@@ -22,6 +24,31 @@ pub enum ScanFault {
     Write,
     /// A growth of memory was refused.
     Memory,
+}
+
+impl From<CutShort> for ScanFault {
+    ghost use Rattle.ffv1_scan.specs.declared.scanning.ScanFault.TheVariants.{Read};
+    ghost use Rattle.std.specs.Prelude.{◌≡◌};
+
+    ghost from_gives = { λ _ fault. fault ≡ Read };
+
+    fn from(_short: CutShort) -> ScanFault {
+        ScanFault::Read
+    }
+}
+
+impl From<NextFault> for ScanFault {
+    ghost use Rattle.ffv1_scan.specs.Steps.{scan_fault};
+    ghost use Rattle.std.specs.Prelude.{◌≡◌};
+
+    ghost from_gives = { λ next fault. fault ≡ scan_fault next };
+
+    fn from(next: NextFault) -> ScanFault {
+        match next {
+            NextFault::Read => ScanFault::Read,
+            NextFault::Memory => ScanFault::Memory,
+        }
+    }
 }
 
 impl From<AllocError> for ScanFault {
@@ -100,53 +127,10 @@ fn judge_next<S: Source>(
     ensures room { OnOk result (0 < vec_len room.new) }
     ensures judged { JudgesNext (range.now.place - last.now.place - last.now.size) range.now.size result (S.log file.old) (S.log file.new) }
 {
-    pass_over(room, range.place - last.place - last.size, file)?;
+    pass_over(file, range.place - last.place - last.size, room)?;
     let size = range.size as usize;
-    make_room(room, size)?;
-    let bytes = &mut room[..size];
-    fill(bytes, file)?;
-    Ok(judge(bytes))
-}
-
-/// Fills a buffer.
-fn fill<S: Source>(buf: &mut [u8], file: &mut S) -> Result<(), ScanFault>
-    ensures read { Fills (length buf.old) result buf.new (S.log file.old) (S.log file.new) }
-    ensures fault { IfErr result (λ fault. fault ≡ ScanFault.Read) }
-{
-    match read_full(file, buf) {
-        Ok(count) if count == buf.len() => Ok(()),
-        _ => Err(ScanFault::Read),
-    }
-}
-
-/// Reads so many bytes, and lets them go.
-fn pass_over<S: Source>(room: &mut [u8], count: u64, file: &mut S) -> Result<(), ScanFault>
-    requires { 0 < length room.old }
-    ensures read { PassesOver count result (S.log file.old) (S.log file.new) }
-    ensures fault { IfErr result (λ fault. fault ≡ ScanFault.Read) }
-{
-    let mut left = count;
-    while left > 0 {
-        let size = left.min(room.len() as u64) as usize;
-        fill(&mut room[..size], file)?;
-        left -= size as u64;
-    }
-    Ok(())
-}
-
-/// Makes room for so many bytes; what lay there is let go.
-fn make_room(room: &mut Vec<u8>, size: usize) -> Result<(), ScanFault>
-    requires { 0 < vec_len room.old }
-    ensures ok { OnOk result ((size ≤ vec_len room.new) × (0 < vec_len room.new)) }
-    ensures err { IfErr result (λ fault. fault ≡ ScanFault.Memory) }
-{
-    if room.len() >= size {
-        return Ok(());
-    }
-    room.clear();
-    room.reserve_exact(size)?;
-    room.resize(size, 0)?;
-    Ok(())
+    read_next(file, size, room)?;
+    Ok(judge(&room[..size]))
 }
 
 /// Writes the line of the range with this number.

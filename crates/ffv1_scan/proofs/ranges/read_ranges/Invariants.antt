@@ -1,5 +1,6 @@
 use Rattle.std.proofs.Common.{◌≡◌, ◌+◌, ◌++◌, List, ℕ, length}
-use Rattle.ffv1_scan.specs.Ranges.{AreLines, AreRangeLines, Rises, end_of}
+use Rattle.ffv1_lists.specs.Lines.{AreLines}
+use Rattle.ffv1_scan.specs.Ranges.{AreRangeLines, Rises, end_of}
 use Rattle.ffv1_scan.proofs.ranges.read_ranges.Given as goal
 
 -- The lines so far are ranges; with those of the rest they are the lines of the text.

@@ -1,12 +1,12 @@
 -- The number that digits write, digit by digit.
-use Rattle.std.proofs.Common.{◌≡◌, ℕ, ◌+◌, ◌-◌, ◌*◌, ◌^◌, ◌<◌, ◌≤◌, List, length, get_or, take, arith}
+use Rattle.std.proofs.Common.{◌≡◌, ℕ, ◌+◌, ◌-◌, ◌*◌, ◌^◌, ◌<◌, ◌≤◌, List, length, get_or, take, arith, sym, ◌∙◌}
 use Rattle.std.proofs.lemmas.Bool.Decides.{nat_tests}
 use Rattle.std.proofs.lemmas.Str.Parse.{digit_at, digits_value-take-le}
 use Rattle.std.proofs.lemmas.Int.Digits.{digits_value_more, digits_more}
 use Rattle.std.specs.Char.{digit_value}
 use Rattle.std.specs.Int.{IsInRange}
 use Rattle.std.specs.Str.Parse.{AllDigits, digits_value}
-use Rattle.ffv1_scan.specs.Ranges.{IsNumber}
+use Rattle.ffv1_lists.specs.Numbers.{IsNumber}
 
 value_of_digit : (c : ℕ) → IsInRange 48 57 c → digit_value c ≡ c - 48
 value_of_digit c range = grind (arith, nat_tests)
@@ -28,3 +28,7 @@ digits_on digits i lt all range =
 pub too_large : (digits : List ℕ) (i n : ℕ) → 2 ^ 64 ≤ digits_value 10 (take i digits) → IsNumber digits n → ⊥
 too_large digits i n large number =
     absurd (omega (arith, large, digits_value-take-le 10 digits i (omega arith), number.value, number.fits))
+
+-- digits write one number
+pub one_value : (digits : List ℕ) (m n : ℕ) → IsNumber digits m → IsNumber digits n → m ≡ n
+one_value digits m n p q = sym p.value ∙ q.value

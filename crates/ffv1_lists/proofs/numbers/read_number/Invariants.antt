@@ -1,6 +1,6 @@
 use Rattle.std.proofs.Common.{◌≡◌, ◌^◌, ◌<◌, take}
 use Rattle.std.specs.Str.Parse.{AllDigits, digits_value}
-use Rattle.ffv1_scan.proofs.ranges.read_number.Given as goal
+use Rattle.ffv1_lists.proofs.numbers.read_number.Given as goal
 
 -- The bytes so far are digits, and write the number.
 abbrev pub invariant-loop-digit : goal.invariant-loop-digit

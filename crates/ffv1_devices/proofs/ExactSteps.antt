@@ -1,9 +1,9 @@
--- Steps of a scan, one after the other.
+-- Reads that stop, one after the other.
 use Rattle.std.proofs.Common.{ℕ, ◌+◌, ◌≤◌, List, ◌++◌, length, arith, inl, inr, ⊎_elim, length-append}
 use Rattle.std.specs.Io.KnownBytes.{IsAtEnd}
 use Rattle.ffv1_devices.specs.Logs.{ReadLog, Reads, BreaksOff}
 use Rattle.ffv1_devices.proofs.Steps.{Reads-trans, BreaksOff-after}
-use Rattle.ffv1_scan.specs.Steps.{StopsReading, EndsBefore}
+use Rattle.ffv1_devices.specs.Exact.{StopsReading, EndsBefore}
 
 pub StopsReading-after : (a b c : ReadLog) (xs ys : List ℕ) → Reads a b xs → StopsReading b c ys → StopsReading a c (xs ++ ys)
 StopsReading-after a b c xs ys p q =

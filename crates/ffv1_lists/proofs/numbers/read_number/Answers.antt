@@ -2,8 +2,8 @@ use Rattle.std.proofs.Common.{◌+◌, ◌<◌, get_or, length, take_all, arith,
 use Rattle.std.proofs.lemmas.Bool.Decides.{nat_tests}
 use Rattle.std.specs.Int.{IsInRange}
 use Rattle.std.specs.Str.Parse.{AllDigits, digits_value}
-use Rattle.ffv1_scan.proofs.NumberSteps.{not_digit, value_more, digits_on, too_large}
-use Rattle.ffv1_scan.proofs.ranges.read_number.Goals as goal
+use Rattle.ffv1_lists.proofs.NumberSteps.{not_digit, value_more, digits_on, too_large}
+use Rattle.ffv1_lists.proofs.numbers.read_number.Goals as goal
 
 pub returns-then-not-is_ascii_digit : goal.returns-then-not-is_ascii_digit
 returns-then-not-is_ascii_digit c = λ n. not_digit c.args.digits.now c.loop-digit.digit-index n c.loop-digit-test.true

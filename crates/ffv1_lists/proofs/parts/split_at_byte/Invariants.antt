@@ -1,5 +1,5 @@
 use Rattle.std.proofs.Common.{◌≢◌, ℕ, ◌<◌, get_or}
-use Rattle.ffv1_scan.proofs.ranges.split_at_byte.Given as goal
+use Rattle.ffv1_lists.proofs.parts.split_at_byte.Given as goal
 
 -- The byte is not among those so far.
 abbrev pub invariant-loop-index : goal.invariant-loop-index

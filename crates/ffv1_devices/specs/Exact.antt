@@ -1,0 +1,30 @@
+-- Reads of just so many bytes.
+use Rattle.std.specs.Prelude.{ℕ, ◌≡◌, ◌<◌, ◌≤◌, ◌⊎◌, List, length, take, Result, Ok, Err}
+use Rattle.std.specs.Io.KnownBytes.{IsAtEnd}
+use Rattle.ffv1_devices.specs.declared.exact.NextFault.{NextFault}
+use Rattle.ffv1_devices.specs.declared.exact.NextFault.TheVariants as faults
+use Rattle.ffv1_devices.specs.Logs.{ReadLog, Reads, BreaksOff}
+
+-- these bytes were read, and then the source ended or was given up
+abbrev pub StopsReading : ReadLog → ReadLog → List ℕ → Type 0
+StopsReading old new bytes = BreaksOff old new bytes ⊎ (Reads old new bytes × IsAtEnd new.remaining)
+
+-- fewer bytes than so many were read, and then the source ended or was given up
+abbrev pub EndsBefore : ℕ → ReadLog → ReadLog → Type 0
+EndsBefore size old new = (bytes : List ℕ) × StopsReading old new bytes × (length bytes < size)
+
+-- a buffer of this size was filled, or the source ended before that
+abbrev pub Fills : {T E : Type 0} → ℕ → Result T E → List ℕ → ReadLog → ReadLog → Type 0
+Fills size (Ok x) buf old new = Reads old new buf
+Fills size (Err e) buf old new = EndsBefore size old new
+
+-- so many bytes were passed over, or the source ended before that
+abbrev pub PassesOver : {T E : Type 0} → ℕ → Result T E → ReadLog → ReadLog → Type 0
+PassesOver size (Ok x) old new = (bytes : List ℕ) × Reads old new bytes × (length bytes ≡ size)
+PassesOver size (Err e) old new = EndsBefore size old new
+
+-- The next bytes, so many, came to the front of the room; or the source ended before that; or fewer came, and then memory was refused.
+abbrev pub ReadsNext : {T : Type 0} → ℕ → Result T NextFault → List ℕ → ReadLog → ReadLog → Type 0
+ReadsNext size (Ok x) room old new = Reads old new (take size room) × (size ≤ length room)
+ReadsNext size (Err faults.Read) room old new = EndsBefore size old new
+ReadsNext size (Err faults.Memory) room old new = (bytes : List ℕ) × Reads old new bytes × (length bytes < size)

@@ -1,0 +1,4 @@
+pub mod PartSteps
+pub mod LineSteps
+pub mod NumberSteps
+pub mod WordSteps
