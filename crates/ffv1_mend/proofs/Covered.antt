@@ -1,0 +1,209 @@
+-- Where the versions cover an original, and what the splices give is right, the improved versions have it among their combinations.
+use Rattle.std.proofs.Common.{◌≡◌, ℕ, ◌+◌, ◌-◌, ◌<◌, ◌≤◌, true, List, [], ◌∷◌, length, get_or, sym, ap, ◌∙◌, subst, arith, refl, inl, inr}
+use Rattle.std.specs.Prelude.{◌⊎◌, All, Contains}
+use Rattle.std.proofs.lemmas.Bool.{cases_lt}
+use Rattle.std.proofs.lemmas.List.Elements.{All-head, All-tail, Contains-get_or}
+use Rattle.ffv1_weave.specs.Parts.{written}
+use Rattle.ffv1_weave.specs.Regions.{AgreeAt, DifferAt, IsRegion}
+use Rattle.ffv1_weave.specs.Combinations.{IsCombination, IsValid}
+use Rattle.ffv1_weave.specs.declared.check.Check.TheVariants.{Element}
+use Rattle.ffv1_weave.specs.Laws.{IsCovered}
+use Rattle.ffv1_weave.proofs.Agreeing.{agree_past}
+use Rattle.ffv1_weave.proofs.WeaveLaws.{covered_is_combination}
+use Rattle.ffv1_weave.proofs.Choices.{length-written, written_before, written_inside, written_after, same_range, range_at}
+use Rattle.ffv1_splice.specs.Splice.{SplicedValue}
+use Rattle.ffv1_splice.proofs.WovenLaws.{given_back_is_original}
+use Rattle.ffv1_mend.specs.Improved.{IsWithin, IsRight, Patch, patched, given_patches, improved, AreFitting}
+use Rattle.ffv1_mend.specs.Mended.{MendedValue, ElementStands, IsElementMend, IsMendOf, is_good}
+use Rattle.ffv1_mend.specs.Laws.{IsOriginalOf, KeepsOriginal, HasOriginal, OriginalIsMended}
+use Rattle.ffv1_mend.specs.declared.kind.Kind.{Kind}
+use Rattle.ffv1_mend.specs.declared.kind.Kind.TheVariants.{Frame, Crc32, Plain}
+use Rattle.ffv1_mend.specs.declared.part.Part.{Part}
+use Rattle.ffv1_mend.specs.declared.state.State.{State}
+use Rattle.ffv1_mend.specs.declared.state.State.TheVariants.{Whole, Disputed, Woven, Missing, Alone, Agreed, Open}
+use Rattle.ffv1_mend.proofs.Fitting.{Fits, length-patched, given_fit, splices_fit}
+use Rattle.ffv1_mend.proofs.Members.{mapped_there, mapped_of}
+use Rattle.ffv1_mend.proofs.Vouched.{good_given, good_only}
+use Rattle.ffv1_mend.proofs.WiderRegions.{IsDense, in_region}
+
+module _ (original : List ℕ) where
+  -- At each place all bytes of this length keep what they have, or all get the original's.
+  patched_at : (patches : List Patch) → All (Fits (length original)) patches → All (IsRight original) patches → (i : ℕ)
+      → ((bytes : List ℕ) → length bytes ≡ length original → get_or (patched bytes patches) i 0 ≡ get_or bytes i 0)
+      ⊎ ((bytes : List ℕ) → length bytes ≡ length original → get_or (patched bytes patches) i 0 ≡ get_or original i 0)
+  patched_at [] fit right i = inl (λ bytes long. refl)
+  patched_at (patch ∷ patches) fit right i =
+      let start : ℕ = patch.start in
+      let piece : List ℕ = patch.bytes in
+      let here : patch.start + length patch.bytes ≤ length original = All-head (Fits (length original)) patch patches fit in
+      let is : IsRight original patch = All-head (IsRight original) patch patches right in
+      let size = λ (bytes : List ℕ) (long : length bytes ≡ length original). length-written bytes start piece (omega arith) ∙ long in
+      elim (patched_at patches (All-tail (Fits (length original)) patch patches fit) (All-tail (IsRight original) patch patches right) i) [
+        | inr all ↦ inr (λ bytes long. all (written bytes start piece) (size bytes long))
+        | inl same ↦ elim (cases_lt i patch.start) [
+          | inl before ↦ inl (λ bytes long. same (written bytes start piece) (size bytes long) ∙ written_before bytes start piece (omega arith) i before)
+          | inr low ↦ elim (cases_lt i (patch.start + length patch.bytes)) [
+            | inl inside ↦ inr (λ bytes long. same (written bytes start piece) (size bytes long) ∙ written_inside bytes start piece (omega arith) i low inside
+                ∙ ap (λ z. get_or z (i - start) 0) is ∙ range_at original start (start + length piece) i low inside)
+            | inr after ↦ inl (λ bytes long. same (written bytes start piece) (size bytes long) ∙ written_after bytes start piece (omega arith) i after)
+          ]
+        ]
+      ]
+
+module _ (original : List ℕ) (versions : List (List ℕ)) (parts : List Part) (splices : List SplicedValue) (covered : IsCovered original versions)
+    (fit : AreFitting (length original) parts splices) (right : All (IsRight original) (given_patches parts splices)) where
+  better : List ℕ → List ℕ
+  better version = patched version (given_patches parts splices)
+
+  at : (i : ℕ) → ((bytes : List ℕ) → length bytes ≡ length original → get_or (patched bytes (given_patches parts splices)) i 0 ≡ get_or bytes i 0)
+      ⊎ ((bytes : List ℕ) → length bytes ≡ length original → get_or (patched bytes (given_patches parts splices)) i 0 ≡ get_or original i 0)
+  at i = patched_at original (given_patches parts splices) (given_fit (length original) parts splices fit) right i
+
+  of : (one : List ℕ) → Contains (improved versions parts splices) one
+      → (version : List ℕ) × Contains versions version × (one ≡ patched version (given_patches parts splices))
+  of one there = mapped_of (λ version. patched version (given_patches parts splices)) versions one there
+
+  long : (version : List ℕ) → Contains versions version → length (patched version (given_patches parts splices)) ≡ length original
+  long version there =
+      length-patched (length original) (given_patches parts splices) version (covered.one_length version there)
+      (given_fit (length original) parts splices fit)
+
+  -- where the versions agree, the improved ones do
+  agree_on : (i : ℕ) → AgreeAt versions i → AgreeAt (improved versions parts splices) i
+  agree_on i agree one other there here =
+      let a = of one there in
+      let b = of other here in
+      let first = ap (λ z. get_or z i 0) a.2 in
+      let second = ap (λ z. get_or z i 0) b.2 in
+      elim (at i) [
+        | inl stays ↦ first ∙ stays a.0 (covered.one_length a.0 a.1) ∙ agree a.0 b.0 a.1 b.1 ∙ sym (second ∙ stays b.0 (covered.one_length b.0 b.1))
+        | inr given ↦ first ∙ given a.0 (covered.one_length a.0 a.1) ∙ sym (second ∙ given b.0 (covered.one_length b.0 b.1))
+      ]
+
+  there_of : (version : List ℕ) → Contains versions version → Contains (improved versions parts splices) (patched version (given_patches parts splices))
+  there_of version there = mapped_there (λ version. patched version (given_patches parts splices)) versions version there
+
+  dense : (start end : ℕ) → IsRegion (improved versions parts splices) start end → IsDense versions start end
+  dense start end h =
+      record {
+        some = h.some;
+        first = λ agree. h.first (agree_on start agree);
+        last = λ agree. let last : DifferAt (improved versions parts splices) (end - 1) = h.last in last (agree_on (end - 1) agree);
+        within = λ i low high. let spot = h.within i low high in (spot.0, spot.1, spot.2, λ agree. spot.3 (agree_on spot.0 agree));
+      }
+
+  pub original_among : IsCombination (improved versions parts splices) original
+  original_among =
+      record {
+        same_length = λ one there. let a = of one there in sym (ap length a.2 ∙ long a.0 a.1);
+        agrees = λ i agree one there.
+            let a = of one there in
+            let first = ap (λ z. get_or z i 0) a.2 in
+            elim (at i) [
+              | inr given ↦ sym (first ∙ given a.0 (covered.one_length a.0 a.1))
+              | inl stays ↦
+                  let same : AgreeAt versions i = λ v w in_v in_w. sym (stays v (covered.one_length v in_v))
+                  ∙ agree (patched v (given_patches parts splices)) (patched w (given_patches parts splices)) (there_of v in_v) (there_of w in_w)
+                  ∙ stays w (covered.one_length w in_w) in
+                  sym (first ∙ stays a.0 (covered.one_length a.0 a.1) ∙ covered.right i same a.0 a.1)
+            ];
+        regions = λ start end region.
+            let wide = in_region versions (length original) covered.one_length start end (dense start end region) in
+            let intact = covered.intact wide.begin wide.last wide.region in
+            let version : List ℕ = intact.0 in
+            let low = wide.before in
+            let high = wide.beyond in
+            let size = long intact.0 intact.1 in
+            let some = region.some in
+            let inside : end ≤ length original = elim (cases_lt (end - 1) (length original)) [
+              | inl below ↦ omega arith
+              | inr past ↦ absurd (region.last (agree_past (improved versions parts splices) (length original) (end - 1)
+                  (λ one there. let a = of one there in ap length a.2 ∙ long a.0 a.1) past))
+            ] in (
+              patched version (given_patches parts splices),
+              there_of version intact.1,
+              same_range original (patched version (given_patches parts splices)) start end (omega arith) (omega arith)
+                  (λ i above below. elim (at i) [
+                    | inr given ↦ sym (given version (covered.one_length version intact.1))
+                    | inl stays ↦ sym (stays version (covered.one_length version intact.1)
+                        ∙ sym (range_at version wide.begin wide.last i (omega arith) (omega arith))
+                        ∙ ap (λ z. get_or z (i - wide.begin) 0) intact.2
+                        ∙ range_at original wide.begin wide.last i (omega arith) (omega arith))
+                  ]),
+            );
+      }
+
+-- ---- an element without splices
+
+patched_none : (version : List ℕ) (parts : List Part) → patched version (given_patches parts []) ≡ version
+patched_none version [] = refl
+patched_none version (part ∷ parts) = refl
+
+improved_none : (versions : List (List ℕ)) (parts : List Part) → improved versions parts [] ≡ versions
+improved_none [] parts = refl
+improved_none (version ∷ versions) parts =
+    let here : patched version (given_patches parts []) ≡ version = patched_none version parts in
+    let rest : improved versions parts [] ≡ versions = improved_none versions parts in
+    ap (λ v. v ∷ improved versions parts []) here ∙ ap (λ vs. version ∷ vs) rest
+
+covered_among : (original : List ℕ) (versions : List (List ℕ)) (from : List ℕ) (parts : List Part) (mended : MendedValue)
+    → IsElementMend versions from parts mended → All (IsWithin (length original)) parts → 0 < length versions → IsCovered original versions
+    → All (IsRight original) (given_patches parts mended.splices) → IsCombination (improved versions parts mended.splices) original
+covered_among original versions from parts mended is within some covered right = elim is.splices [
+  | inl all ↦ subst (λ ss. IsCombination (improved versions parts ss) original) (sym all.1)
+      (subst (λ vs. IsCombination vs original) (sym (improved_none versions parts)) (covered_is_combination original versions covered))
+  | inr each ↦
+      let first : List ℕ = get_or versions 0 [] in
+      let there = Contains-get_or versions 0 [] some in
+      original_among original versions parts mended.splices covered
+      (splices_fit versions (length original) first there (covered.one_length first there) parts mended.splices within each.1) right
+]
+
+-- ---- an original
+
+module _ (original : List ℕ) (versions : List (List ℕ)) (from : List ℕ) (parts : List Part) (mended : MendedValue)
+    (of : IsOriginalOf original versions parts mended) where
+  valid : IsValid Element (improved versions parts mended.splices) original
+  valid = record { combination = of.among; passes = of.passes }
+
+  kept : (state : State) → ElementStands versions from parts mended.splices mended.bytes state → KeepsOriginal original versions parts mended state
+  kept Whole h = of.alone mended.bytes h.there.there h.there.passes
+  kept Disputed h =
+      h.0.differ (of.alone h.0.one h.0.one_there.there h.0.one_there.passes ∙ sym (of.alone h.0.other h.0.other_there.there h.0.other_there.passes))
+  kept (Woven count) h = sym (h.1.0.others original valid)
+  kept Missing h = elim h.1 [
+    | inl two ↦ inr two.0
+    | inr rest ↦ elim rest [ inl none ↦ absurd (none.0 original valid) | inr many ↦ inl many ]
+  ]
+  kept Alone h = absurd h
+  kept Agreed h = absurd h
+  kept Open h = absurd h
+
+good_kept : (original : List ℕ) (versions : List (List ℕ)) (parts : List Part) (mended : MendedValue) (state : State)
+    → KeepsOriginal original versions parts mended state → is_good state ≡ true → mended.bytes ≡ original
+good_kept original versions parts mended Whole h good = h
+good_kept original versions parts mended (Woven count) h good = h
+good_kept original versions parts mended Alone h good = h
+good_kept original versions parts mended Agreed h good = h
+good_kept original versions parts mended Missing h good = absurd (cc)
+good_kept original versions parts mended Disputed h good = absurd h
+good_kept original versions parts mended Open h good = h
+
+good_original : (kind : Kind) (original : List ℕ) (versions : List (List ℕ)) (from : List ℕ) (parts : List Part) (mended : MendedValue)
+    → HasOriginal kind original versions parts mended → IsMendOf kind versions from parts mended → is_good mended.state ≡ true
+    → mended.bytes ≡ original
+good_original Frame original versions from parts mended of h good =
+    h.bytes ∙ (given_back_is_original original versions h.spliced of.0 of.1 h.is_splice (good_given h.spliced mended.state h.stands good)).1
+good_original Crc32 original versions from parts mended of h good =
+    good_kept original versions parts mended mended.state (kept original versions from parts mended of mended.state h.stands) good
+good_original Plain original versions from parts mended of h good =
+    sym ((good_only versions from mended.bytes mended.state h.stands good).others original of)
+
+pub original_is_mended : OriginalIsMended
+original_is_mended =
+    record {
+      original = good_original;
+      kept = λ original versions from parts mended of is. kept original versions from parts mended of mended.state is.stands;
+      among = λ original versions parts mended covered. covered_is_combination original (improved versions parts mended.splices) covered;
+      covered = covered_among;
+    }

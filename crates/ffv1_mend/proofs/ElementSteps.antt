@@ -1,0 +1,39 @@
+-- An element that is not whole in all versions.
+use Rattle.std.proofs.Common.{◌≡◌, ℕ, ◌<◌, List, Bor, length, refl, sym, ◌∙◌, subst, arith, inl, inr}
+use Rattle.std.specs.Prelude.{◌⊎◌, ◌≢◌, AllPairs}
+use Rattle.ffv1_slice.specs.Members.{IsOnly}
+use Rattle.ffv1_splice.specs.Splice.{SplicedValue}
+use Rattle.ffv1_splice.specs.Told.{Tells}
+use Rattle.ffv1_weave.proofs.References.{values_of, length-values_of}
+use Rattle.ffv1_mend.specs.Improved.{AreSplicesOf}
+use Rattle.ffv1_mend.specs.Mended.{IsPassing, ElementStands, IsElementMend}
+use Rattle.ffv1_mend.specs.Passing.{passing_counted}
+use Rattle.ffv1_mend.specs.declared.part.Part.{Part}
+use Rattle.ffv1_mend.specs.declared.passing.Passing.{Passing}
+use Rattle.ffv1_mend.specs.declared.passing.Passing.TheVariants as passing
+use Rattle.ffv1_mend.specs.declared.state.State.{State}
+use Rattle.ffv1_mend.proofs.Members.{not_only_one}
+
+-- where the code found none that passes, or two, none is the only one
+pub not_one_passes : (versions : List (List ℕ)) (found : Passing) → Tells (IsPassing versions) (passing_counted found)
+    → ((version : Bor (List ℕ)) → found ≡ passing.One version → ⊥) → (version : List ℕ) → IsOnly (IsPassing versions) version → ⊥
+not_one_passes versions passing.None told apart version only = told version only.there
+not_one_passes versions (passing.One one) told apart version only = apart one refl
+not_one_passes versions passing.Two told apart version only = told.differ (only.others told.one told.one_there ∙ sym (only.others told.other told.other_there))
+
+module _ (versions : List (Bor (List ℕ))) (from : List ℕ) (parts : List Part) where
+  pub not_whole_in_all : (state : State) (bytes : List ℕ) (splices : List SplicedValue) → AllPairs (λ one other. one ≢ other) (values_of versions)
+      → (1 < length versions) ⊎ ((version : List ℕ) → IsOnly (IsPassing (values_of versions)) version → ⊥)
+      → AreSplicesOf (values_of versions) parts splices → ElementStands (values_of versions) from parts splices bytes state
+      → IsElementMend (values_of versions) from parts (record { state = state; bytes = bytes; splices = splices })
+  not_whole_in_all state bytes splices once reason are stands =
+      record {
+        splices = inr (
+          λ whole. elim reason [
+            | inl many ↦ not_only_one (values_of versions) bytes (omega (arith, length-values_of versions)) once whole.1
+            | inr none ↦ none bytes (subst (ElementStands (values_of versions) from parts splices bytes) whole.0 stands)
+          ],
+          are,
+        );
+        stands = stands;
+      }

@@ -1,0 +1,14 @@
+pub mod Members
+pub mod SameMembers
+pub mod PassingSteps
+pub mod PartSteps
+pub mod Fitting
+pub mod WiderRegions
+pub mod FrameSteps
+pub mod PlainSteps
+pub mod WeaveSteps
+pub mod ElementSteps
+pub mod MendLaws
+pub mod Vouched
+pub mod Covered
+pub mod NearVersions

@@ -1,0 +1,148 @@
+-- Parts and their splices, one more at a time, and what they give, written over a version.
+use Rattle.std.proofs.Common.{◌≡◌, ℕ, zero, suc, ◌+◌, ◌-◌, ◌<◌, ◌≤◌, Bool, true, false, cond, List, [], ◌∷◌, ◌++◌, length, get_or, take, drop, take-append-drop, map, refl, sym, ap, ◌∙◌, subst, arith}
+use Rattle.std.specs.Prelude.{slice_range}
+use Rattle.std.specs.List.{AllZip, filter, flat_map, zip}
+use Rattle.std.proofs.lemmas.Grind.{flat_map-append}
+use Rattle.std.proofs.lemmas.List.{drop-drop, take_more, take_all, map-append, append-nil, length-append}
+use Rattle.std.proofs.lemmas.List.Sums.{fold-append}
+use Rattle.ffv1_weave.specs.Parts.{written}
+use Rattle.ffv1_splice.specs.Splice.{SplicedValue}
+use Rattle.ffv1_splice.specs.declared.place.Place.{Place}
+use Rattle.ffv1_mend.specs.Improved.{Patch, patched, is_given, patches_of, given_patches, whole_patches}
+use Rattle.ffv1_mend.specs.declared.part.Part.{Part}
+
+-- ---- two lists, place by place
+
+pub zip_push : {A B : Type 0} (R : A → B → Type 0) (xs : List A) (ys : List B) (x : A) (y : B) → AllZip R xs ys → R x y
+    → AllZip R (xs ++ x ∷ []) (ys ++ y ∷ [])
+zip_push R [] [] x y h here = (here, tt)
+zip_push R [] (b ∷ ys) x y h here = absurd h
+zip_push R (a ∷ xs) [] x y h here = absurd h
+zip_push R (a ∷ xs) (b ∷ ys) x y h here = (h.0, zip_push R xs ys x y h.1 here)
+
+pub zip_more : {A B : Type 0} (R : A → B → Type 0) (xs : List A) (ys : List B) (i : ℕ) (d : A) (y : B) → i < length xs → AllZip R (take i xs) ys
+    → R (get_or xs i d) y → AllZip R (take (i + 1) xs) (ys ++ y ∷ [])
+zip_more R xs ys i d y lt h here =
+    subst (λ front. AllZip R front (ys ++ y ∷ [])) (sym (take_more xs i d lt)) (zip_push R (take i xs) ys (get_or xs i d) y h here)
+
+pub zip_at : {A B : Type 0} (R : A → B → Type 0) (xs : List A) (ys : List B) (i : ℕ) (d : A) (e : B) → AllZip R xs ys → i < length xs
+    → R (get_or xs i d) (get_or ys i e)
+zip_at R [] ys i d e h lt = absurd (omega arith)
+zip_at R (x ∷ xs) [] i d e h lt = absurd h
+zip_at R (x ∷ xs) (y ∷ ys) zero d e h lt = h.0
+zip_at R (x ∷ xs) (y ∷ ys) (suc i) d e h lt = zip_at R xs ys i d e h.1 (omega arith)
+
+zip_take : {A B : Type 0} (xs : List A) (ys : List B) (i : ℕ) (d : A) (e : B) → length xs ≡ length ys → i < length xs
+    → zip (take (suc i) xs) (take (suc i) ys) ≡ zip (take i xs) (take i ys) ++ (get_or xs i d, get_or ys i e) ∷ []
+zip_take [] ys i d e long lt = absurd (omega arith)
+zip_take (x ∷ xs) [] i d e long lt = absurd (omega arith)
+zip_take (x ∷ xs) (y ∷ ys) zero d e long lt = refl
+zip_take (x ∷ xs) (y ∷ ys) (suc i) d e long lt = ap (λ more. (x, y) ∷ more) (zip_take xs ys i d e (omega arith) (omega arith))
+
+-- ---- a piece that is there already
+
+pub written_there : (bytes : List ℕ) (start : ℕ) (piece : List ℕ) → piece ≡ slice_range bytes start (start + length piece) → written bytes start piece ≡ bytes
+written_there bytes start piece there =
+    let size : start + length piece - start ≡ length piece = omega arith in
+    let is : take (length piece) (drop start bytes) ≡ piece = ap (λ n. take n (drop start bytes)) (sym size) ∙ sym there in
+    ap (λ rest. take start bytes ++ (piece ++ rest)) (sym (drop-drop (length piece) start bytes))
+    ∙ ap (λ front. take start bytes ++ (front ++ drop (length piece) (drop start bytes))) (sym is)
+    ∙ ap (λ rest. take start bytes ++ rest) (take-append-drop (length piece) (drop start bytes))
+    ∙ take-append-drop start bytes
+
+-- ---- what one splice gives
+
+-- of some places
+abbrev pub given_of : Part → List ℕ → List Place → List Patch
+given_of part payload places =
+    map (λ place. record { start = part.start + place.start; bytes = slice_range payload place.start place.end })
+    (filter (λ place. is_given place.standing) places)
+
+filter-push : (test : Place → Bool) (xs : List Place) (x : Place) → filter test (xs ++ x ∷ []) ≡ filter test xs ++ cond (test x) (x ∷ []) []
+filter-push test [] x = refl
+filter-push test (y ∷ xs) x = elim (test y) as (λ t. cond t (y ∷ filter test (xs ++ x ∷ [])) (filter test (xs ++ x ∷ []))
+    ≡ cond t (y ∷ filter test xs) (filter test xs) ++ cond (test x) (x ∷ []) []) [
+      | true ↦ ap (λ more. y ∷ more) (filter-push test xs x)
+      | false ↦ filter-push test xs x
+    ]
+
+module _ (part : Part) (payload : List ℕ) (places : List Place) (version : List ℕ) (i : ℕ) (place : Place) (lt : i < length places)
+    (is : get_or places i place ≡ place) where
+  next : take (i + 1) places ≡ take i places ++ place ∷ []
+  next = take_more places i place lt ∙ ap (λ one. take i places ++ one ∷ []) is
+
+  with_next : (t : Bool) → is_given place.standing ≡ t
+      → given_of part payload (take (i + 1) places)
+      ≡ given_of part payload (take i places)
+      ++ map (λ one. record { start = part.start + one.start; bytes = slice_range payload one.start one.end }) (cond t (place ∷ []) [])
+  with_next t given =
+      ap (given_of part payload) next
+      ∙ ap (map (λ one. record { start = part.start + one.start; bytes = slice_range payload one.start one.end }))
+      (filter-push (λ one. is_given one.standing) (take i places) place
+      ∙ ap (λ t. filter (λ one. is_given one.standing) (take i places) ++ cond t (place ∷ []) []) given)
+      ∙ map-append (λ one. record { start = part.start + one.start; bytes = slice_range payload one.start one.end })
+      (filter (λ one. is_given one.standing) (take i places)) (cond t (place ∷ []) [])
+
+  pub place_given : (old new bytes : List ℕ) (start : ℕ) → is_given place.standing ≡ true → old ≡ patched version (given_of part payload (take i places))
+      → start ≡ part.start + place.start → bytes ≡ slice_range payload place.start place.end → new ≡ written old start bytes
+      → new ≡ patched version (given_of part payload (take (i + 1) places))
+  place_given old new bytes start given so_far start_is bytes_are made =
+      made ∙ ap (λ s. written old s bytes) start_is ∙ ap (written old (part.start + place.start)) bytes_are
+      ∙ ap (λ z. written z (part.start + place.start) (slice_range payload place.start place.end)) so_far
+      ∙ sym (ap (patched version) (with_next true given)
+      ∙ fold-append (λ before patch. written before patch.start patch.bytes) version (given_of part payload (take i places)) _)
+
+  pub place_not_given : (old : List ℕ) → is_given place.standing ≡ false → old ≡ patched version (given_of part payload (take i places))
+      → old ≡ patched version (given_of part payload (take (i + 1) places))
+  place_not_given old not so_far =
+      so_far ∙ sym (ap (patched version) (with_next false not ∙ append-nil (given_of part payload (take i places))))
+
+-- ---- what all splices give
+
+-- a part and a splice where there is none
+abbrev pub no_part : Part
+no_part = record { start = 0; end = 0 }
+
+abbrev pub no_splice : SplicedValue
+no_splice = record { places = []; front = 0; payload = [] }
+
+module _ {Y : Type 0} (parts : List Part) (splices : List SplicedValue) (version : List ℕ) (yielded : List Y) (item : Y) (part : Part) (spliced : SplicedValue)
+    (long : length parts ≡ length splices) (lt : length yielded < length parts) where
+  abbrev i : ℕ
+  i = length yielded
+
+  pairs : zip (take (length (yielded ++ item ∷ [])) parts) (take (length (yielded ++ item ∷ [])) splices)
+      ≡ zip (take (length yielded) parts) (take (length yielded) splices) ++ (get_or parts (length yielded) part, get_or splices (length yielded) spliced) ∷ []
+  pairs =
+      let more : length (yielded ++ item ∷ []) ≡ suc (length yielded) = length-append yielded (item ∷ []) ∙ omega arith in
+      ap (λ n. zip (take n parts) (take n splices)) more ∙ zip_take parts splices (length yielded) part spliced long lt
+
+  pub part_given : (old new : List ℕ) → old ≡ patched version (given_patches (take i parts) (take i splices))
+      → new ≡ patched old (patches_of (get_or parts i part) (get_or splices i spliced))
+      → new ≡ patched version (given_patches (take (length (yielded ++ item ∷ [])) parts) (take (length (yielded ++ item ∷ [])) splices))
+  part_given old new so_far made =
+      let before : List Patch = given_patches (take i parts) (take i splices) in
+      let here : List Patch = patches_of (get_or parts i part) (get_or splices i spliced) in
+      let all : given_patches (take (length (yielded ++ item ∷ [])) parts) (take (length (yielded ++ item ∷ [])) splices) ≡ before ++ here =
+      ap (flat_map (λ pair. patches_of pair.0 pair.1)) pairs
+      ∙ flat_map-append (λ pair. patches_of pair.0 pair.1) (zip (take i parts) (take i splices)) ((get_or parts i part, get_or splices i spliced) ∷ [])
+      ∙ ap (λ last. before ++ last) (append-nil here) in
+      made ∙ ap (λ z. patched z here) so_far
+      ∙ sym (ap (patched version) all ∙ fold-append (λ before patch. written before patch.start patch.bytes) version before here)
+
+  pub part_whole : (old new : List ℕ) → old ≡ patched version (whole_patches (take i parts) (take i splices))
+      → new ≡ written old (get_or parts i part).start (get_or splices i spliced).payload
+      → new ≡ patched version (whole_patches (take (length (yielded ++ item ∷ [])) parts) (take (length (yielded ++ item ∷ [])) splices))
+  part_whole old new so_far made =
+      let before : List Patch = whole_patches (take i parts) (take i splices) in
+      let here : List Patch = record { start = (get_or parts i part).start; bytes = (get_or splices i spliced).payload } ∷ [] in
+      let all : whole_patches (take (length (yielded ++ item ∷ [])) parts) (take (length (yielded ++ item ∷ [])) splices) ≡ before ++ here =
+      ap (map (λ (pair : Part × SplicedValue). record { start = pair.0.start; bytes = pair.1.payload })) pairs
+      ∙ map-append (λ (pair : Part × SplicedValue). record { start = pair.0.start; bytes = pair.1.payload }) (zip (take i parts) (take i splices))
+      ((get_or parts i part, get_or splices i spliced) ∷ []) in
+      made ∙ ap (λ z. patched z here) so_far
+      ∙ sym (ap (patched version) all ∙ fold-append (λ before patch. written before patch.start patch.bytes) version before here)
+
+pub all_taken : (parts : List Part) (splices : List SplicedValue) (i : ℕ) → length parts ≡ length splices → length parts ≤ i
+    → (take i parts ≡ parts) × (take i splices ≡ splices)
+all_taken parts splices i long past = (take_all i parts past, take_all i splices (omega arith))

@@ -1,0 +1,6 @@
+use Rattle.std.proofs.Common.{◌≡◌, length, take}
+use Rattle.ffv1_mend.specs.Improved.{patched, given_patches}
+use Rattle.ffv1_mend.proofs.improved.has_all.Given as goal
+
+abbrev pub invariant-loop-part : goal.invariant-loop-part
+invariant-loop-part l = l.version ≡ patched l.version (given_patches (take (length l.yielded) l.parts) (take (length l.yielded) l.splices))

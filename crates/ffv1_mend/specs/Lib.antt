@@ -1,0 +1,23 @@
+pub mod Content
+pub mod Distinct
+pub mod Improved
+pub mod Mended
+pub mod Laws
+pub mod Passing
+-- what the clauses cite of the crates below
+pub use Rattle.ffv1_bits.specs.Bits
+pub use Rattle.ffv1_bits.specs.Parity
+pub use Rattle.ebml_crc.specs.Crc
+pub use Rattle.ebml_crc.specs.Element
+pub use Rattle.ffv1_slice.specs.Chain
+pub use Rattle.ffv1_slice.specs.Members
+pub use Rattle.ffv1_weave.specs.Checks
+pub use Rattle.ffv1_weave.specs.Regions
+pub use Rattle.ffv1_weave.specs.Combinations
+pub use Rattle.ffv1_weave.specs.Weave
+pub use Rattle.ffv1_weave.specs.Parts
+pub use Rattle.ffv1_weave.specs.Laws as WeaveLaws
+pub use Rattle.ffv1_splice.specs.Pieces
+pub use Rattle.ffv1_splice.specs.Standings
+pub use Rattle.ffv1_splice.specs.Splice
+pub use Rattle.ffv1_splice.specs.Whole

@@ -1,0 +1,104 @@
+//! Elements with a CRC-32, mended.
+ghost use Rattle.std.specs.Prelude.{◌≡◌, ◌<◌, ◌≢◌, length, map, All, AllPairs, IfOk};
+ghost use Rattle.ffv1_splice.specs.Told.{Tells};
+ghost use Rattle.ffv1_weave.specs.Weave.{IsWeaveOf, weave_told};
+ghost use Rattle.ffv1_weave.specs.declared.check.Check.TheVariants.{Element};
+ghost use Rattle.ffv1_mend.specs.Content.{content_bytes};
+ghost use Rattle.ffv1_mend.specs.Improved.{IsWithin, AreFitting, improved, fallback};
+ghost use Rattle.ffv1_mend.specs.Mended.{IsElementMend, ElementStands, IsPassing};
+ghost use Rattle.ffv1_mend.specs.Passing.{passing_counted};
+
+use crate::content::Content;
+use crate::improved::{improved_versions, lent, write_splices};
+use crate::mended::Mended;
+use crate::part::Part;
+use crate::passing::{Passing, passing_of};
+use crate::splices::splices_of;
+use crate::state::State;
+use ffv1_splice::Spliced;
+use ffv1_weave::{Check, Outcome, weave};
+use std::alloc::{AllocError, Global};
+
+/// The bytes where no checksum vouches for any: in each part those of its splice, and elsewhere those of `from`.
+fn fallback<'a>(
+    alloc: Global,
+    from: &[u8],
+    parts: &[Part],
+    splices: &[Spliced],
+) -> Result<Content<'a>, AllocError>
+    requires { AreFitting (length from.now) parts.now splices.now }
+    ensures { IfOk result (λ content. content_bytes content ≡ fallback from.now parts.now splices.now) }
+{
+    let mut bytes = Vec::from_slice(alloc, from)?;
+    write_splices(&mut bytes, parts, splices);
+    Ok(Content::Made(bytes))
+}
+
+/// The weave of the improved versions. There is one version at least, and all are as long.
+fn weave_improved(
+    alloc: Global,
+    versions: &[&[u8]],
+    size: usize,
+    parts: &[Part],
+    splices: &[Spliced],
+) -> Result<Outcome, AllocError>
+    requires some { 0 < length versions.now }
+    requires lengths { All (λ version. length version.now ≡ size) versions.now }
+    requires fit { AreFitting size parts.now splices.now }
+    ensures { IfOk result (λ outcome. IsWeaveOf Element (improved (map (λ version. version.now) versions.now) parts.now splices.now) (weave_told outcome)) }
+{
+    let all = improved_versions(alloc, versions, parts, splices)?;
+    let lent = lent(alloc, all.as_slice())?;
+    weave(alloc, Check::Element, lent.as_slice())
+}
+
+/// How an element stands, by its versions that pass, and its bytes. There is one version at least, and all are as long as `from`.
+fn standing<'a>(
+    alloc: Global,
+    passing: Passing<'a>,
+    versions: &[&[u8]],
+    from: &[u8],
+    parts: &[Part],
+    splices: &[Spliced],
+) -> Result<(State, Content<'a>), AllocError>
+    requires some { 0 < length versions.now }
+    requires lengths { All (λ version. length version.now ≡ length from.now) versions.now }
+    requires fit { AreFitting (length from.now) parts.now splices.now }
+    requires passing { Tells (IsPassing (map (λ version. version.now) versions.now)) (passing_counted passing) }
+    ensures { IfOk result (λ (state, content). ElementStands (map (λ version. version.now) versions.now) from.now parts.now splices.now (content_bytes content) state) }
+{
+    match passing {
+        Passing::One(version) => Ok((State::Whole, Content::Version(version))),
+        Passing::Two => Ok((State::Disputed, fallback(alloc, from, parts, splices)?)),
+        Passing::None => match weave_improved(alloc, versions, from.len(), parts, splices)? {
+            Outcome::Woven(bytes, count) => Ok((State::Woven(count), Content::Made(bytes))),
+            _ => Ok((State::Missing, fallback(alloc, from, parts, splices)?)),
+        },
+    }
+}
+
+/// Mends an element whose versions these are, each once. There is one at least, all are as long as `from`, and each part lies within it.
+/// Where all versions are one that passes, no part is looked at.
+pub(crate) fn mend_element<'a>(
+    alloc: Global,
+    versions: &[&'a [u8]],
+    from: &[u8],
+    parts: &[Part],
+) -> Result<Mended<'a>, AllocError>
+    requires some { 0 < length versions.now }
+    requires once { AllPairs (λ one other. one ≢ other) (map (λ version. version.now) versions.now) }
+    requires lengths { All (λ version. length version.now ≡ length from.now) versions.now }
+    requires parts { All (IsWithin (length from.now)) parts.now }
+    ensures { IfOk result (IsElementMend (map (λ version. version.now) versions.now) from.now parts.now) }
+{
+    let passing = passing_of(versions);
+    if let Passing::One(version) = passing {
+        if versions.len() == 1 {
+            let content = Content::Version(version);
+            return Ok(Mended::new(State::Whole, Some(content), Vec::new(alloc)));
+        }
+    }
+    let splices = splices_of(alloc, versions, parts)?;
+    let (state, content) = standing(alloc, passing, versions, from, parts, splices.as_slice())?;
+    Ok(Mended::new(state, Some(content), splices))
+}

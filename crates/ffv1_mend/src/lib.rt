@@ -1,0 +1,26 @@
+//! What becomes of one stretch of a file that copies have: one frame; an element with a CRC-32 (RFC 8794, section 11.3.1), in which
+//! frames lie as its parts; or bytes without a checksum.
+#![tactic(auto)]
+
+mod content;
+mod distinct;
+mod element;
+mod frame;
+mod improved;
+mod kind;
+mod laws;
+mod mended;
+mod mending;
+mod part;
+mod passing;
+mod plain;
+mod splices;
+mod state;
+
+pub use frame::frame_state;
+pub use kind::Kind;
+pub use laws::{good_is_vouched, near_versions_mend, original_is_mended, same_versions_mend};
+pub use mended::Mended;
+pub use mending::mend;
+pub use part::Part;
+pub use state::State;

@@ -1,0 +1,44 @@
+//! The versions that pass their CRC-32.
+ghost use Rattle.std.specs.Prelude.{◌≡◌, List, map};
+ghost use Rattle.ffv1_splice.specs.Told.{Tells, TellsMore};
+ghost use Rattle.ffv1_mend.specs.Mended.{IsPassing};
+ghost use Rattle.ffv1_mend.specs.Passing.{passing_counted};
+
+use ebml_crc::passes_crc32;
+
+/// The versions that pass.
+#[derive(Clone, Copy)]
+pub(crate) enum Passing<'a> {
+    /// None does.
+    None,
+    /// All that do are equal to this.
+    One(&'a [u8]),
+    /// Two that differ do.
+    Two,
+}
+
+impl<'a> Passing<'a> {
+    /// The same with one more version that passes.
+    fn with(self, version: &'a [u8]) -> Passing<'a>
+        ensures { TellsMore (passing_counted self.entry) version.now (passing_counted result) }
+    {
+        match self {
+            Passing::None => Passing::One(version),
+            Passing::One(same) if same == version => self,
+            _ => Passing::Two,
+        }
+    }
+}
+
+/// The versions that pass their CRC-32.
+pub(crate) fn passing_of<'a>(versions: &[&'a [u8]]) -> Passing<'a>
+    ensures { Tells (IsPassing (map (λ version. version.now) versions.now)) (passing_counted result) }
+{
+    let mut passing = Passing::None;
+    for version in versions {
+        if passes_crc32(version) {
+            passing = passing.with(version);
+        }
+    }
+    passing
+}
