@@ -1,0 +1,12 @@
+pub mod Pairs
+pub mod EndSteps
+pub mod WordLemmas
+pub mod ListLemmas
+pub mod OrderLemmas
+pub mod CopySteps
+pub mod CellLemmas
+pub mod PassLemmas
+pub mod LineLemmas
+pub mod FileLemmas
+pub mod Mending
+pub mod FileLaws

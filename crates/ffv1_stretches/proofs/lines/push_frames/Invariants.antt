@@ -1,0 +1,10 @@
+use Rattle.std.proofs.Common.{◌≡◌, ◌++◌, map, take, string_bytes}
+use Rattle.std.specs.List.{flat_map}
+use Rattle.ffv1_stretches.specs.CellSteps.{cell_now}
+use Rattle.ffv1_stretches.specs.Lines.{frame_lines}
+use Rattle.ffv1_stretches.proofs.lines.push_frames.Given as goal
+
+-- the lines of the frames so far
+abbrev pub invariant-loop-spliced : goal.invariant-loop-spliced
+invariant-loop-spliced l =
+    string_bytes l.text ≡ string_bytes l.initial.text ++ flat_map (frame_lines (map cell_now l.cells) l.bytes) (take l.spliced-index l.splices)

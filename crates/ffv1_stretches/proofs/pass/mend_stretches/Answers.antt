@@ -1,0 +1,81 @@
+use Rattle.std.proofs.Common.{map, sym, ap, ◌∙◌, arith}
+use Rattle.std.proofs.lemmas.Result.{err_from_is_err_and}
+use Rattle.ffv1_stretches.specs.CellSteps.{cell_now}
+use Rattle.ffv1_stretches.proofs.Mending.{before_all, after_all, stretch_here, follows_here, pass_stops, rooms_held, pass_stays, from_held, long_held, one_stopped, one_mended}
+use Rattle.ffv1_stretches.proofs.pass.mend_stretches.Goals as goal
+
+pub loop-index-init : goal.loop-index-init
+loop-index-init g c = before_all g.S.Source.log c.args.copies.now (g.O.Sink.log c.args.out.now) (g.W.Sink.log c.args.output.now) c.requires.unread
+
+pub read_stretch-requires-clause-count : goal.read_stretch-requires-clause-count
+read_stretch-requires-clause-count g c =
+    (stretch_here g.S.Source.log c.args.stretches.now c.loop-index.index c.index-stretches-index.result c.index-stretches-index.is c.loop-index-test.true
+    c.args.copies.now c.loop-index.copies c.requires.order c.loop-index.auto.copies _ _ _ _ _ c.loop-index.invariant).count ∙ sym c.loop-index.auto.copies
+
+pub read_stretch-requires-clause-follows : goal.read_stretch-requires-clause-follows
+read_stretch-requires-clause-follows g c =
+    follows_here g.S.Source.log c.args.stretches.now c.loop-index.index c.index-stretches-index.result c.index-stretches-index.is c.loop-index-test.true
+    c.args.copies.now c.loop-index.copies c.requires.order c.loop-index.auto.copies _ _ _ _ _ c.loop-index.invariant
+
+pub returns-in_err-read_stretch : goal.returns-in_err-read_stretch
+returns-in_err-read_stretch g c =
+    let p = err_from_is_err_and c.from_residual.result c.from_residual.ensures.1 in
+    rw (p.1, p.2) (pass_stops g.S.Source.log c.args.stretches.now c.loop-index.index c.index-stretches-index.result c.index-stretches-index.is c.loop-index-test.true
+    c.args.copies.now c.loop-index.copies c.requires.order c.loop-index.auto.copies _ _ _ _ _ c.loop-index.invariant
+    (Unit {0}) c.read_stretch.new.copies c.in_err-read_stretch.field-0.0 c.in_err-read_stretch.ensures)
+
+pub cells_of-requires-clause-held : goal.cells_of-requires-clause-held
+cells_of-requires-clause-held g c =
+    let (steps, are) = c.in_ok-read_stretch.ensures in
+    rooms_held g.S.Source.log c.args.stretches.now c.loop-index.index c.index-stretches-index.result c.index-stretches-index.is c.loop-index-test.true
+    c.args.copies.now c.loop-index.copies c.requires.order c.loop-index.auto.copies _ _ _ _ _ c.loop-index.invariant
+    c.read_stretch.new.copies steps are
+
+pub returns-in_err-cells : goal.returns-in_err-cells
+returns-in_err-cells g c =
+    let p = err_from_is_err_and c.from_residual-in_err-cells.result c.from_residual-in_err-cells.ensures.1 in
+    let (steps, are) = c.in_ok-read_stretch.ensures in
+    rw (p.1, p.2) (pass_stays g.S.Source.log c.args.stretches.now c.loop-index.index c.index-stretches-index.result c.index-stretches-index.is c.loop-index-test.true
+    c.args.copies.now c.loop-index.copies c.requires.order c.loop-index.auto.copies _ _ _ _ _ c.loop-index.invariant
+    c.read_stretch.new.copies steps are)
+
+pub mend_one-requires-clause-from : goal.mend_one-requires-clause-from
+mend_one-requires-clause-from g c =
+    let (steps, are) = c.in_ok-read_stretch.ensures in
+    from_held g.S.Source.log c.args.stretches.now c.loop-index.index c.index-stretches-index.result c.index-stretches-index.is c.loop-index-test.true
+    c.args.copies.now c.loop-index.copies c.requires.order c.loop-index.auto.copies _ _ _ _ _ c.loop-index.invariant
+    c.read_stretch.new.copies steps are (map cell_now c.as_slice.result.now) (ap (map cell_now) c.as_slice.ensures.value ∙ c.in_ok-cells.ensures)
+
+pub mend_one-requires-clause-long : goal.mend_one-requires-clause-long
+mend_one-requires-clause-long g c =
+    let (steps, are) = c.in_ok-read_stretch.ensures in
+    long_held g.S.Source.log c.args.stretches.now c.loop-index.index c.index-stretches-index.result c.index-stretches-index.is c.loop-index-test.true
+    c.args.copies.now c.loop-index.copies c.requires.order c.loop-index.auto.copies _ _ _ _ _ c.loop-index.invariant
+    c.read_stretch.new.copies steps are (map cell_now c.as_slice.result.now) (ap (map cell_now) c.as_slice.ensures.value ∙ c.in_ok-cells.ensures)
+
+pub mend_one-requires-clause-parts : goal.mend_one-requires-clause-parts
+mend_one-requires-clause-parts g c =
+    (stretch_here g.S.Source.log c.args.stretches.now c.loop-index.index c.index-stretches-index.result c.index-stretches-index.is c.loop-index-test.true
+    c.args.copies.now c.loop-index.copies c.requires.order c.loop-index.auto.copies _ _ _ _ _ c.loop-index.invariant).parts'
+
+pub returns-in_err-good : goal.returns-in_err-good
+returns-in_err-good g c =
+    let p = err_from_is_err_and c.from_residual-in_err-good.result c.from_residual-in_err-good.ensures.1 in
+    let (steps, are) = c.in_ok-read_stretch.ensures in
+    rw (p.1, p.2) (one_stopped g.S.Source.log c.args.stretches.now c.loop-index.index c.index-stretches-index.result c.index-stretches-index.is c.loop-index-test.true
+    c.args.copies.now c.loop-index.copies c.requires.order c.loop-index.auto.copies _ _ _ _ _ c.loop-index.invariant
+    c.read_stretch.new.copies steps are (map cell_now c.as_slice.result.now) (ap (map cell_now) c.as_slice.ensures.value ∙ c.in_ok-cells.ensures)
+    c.in_err-good.field-0.0 _ _ c.in_err-good.ensures)
+
+pub loop-index-preserved : goal.loop-index-preserved
+loop-index-preserved g c =
+    let (steps, are) = c.in_ok-read_stretch.ensures in
+    one_mended g.S.Source.log c.args.stretches.now c.loop-index.index c.index-stretches-index.result c.index-stretches-index.is c.loop-index-test.true
+    c.args.copies.now c.loop-index.copies c.requires.order c.loop-index.auto.copies _ _ _ _ _ c.loop-index.invariant
+    c.read_stretch.new.copies steps are (map cell_now c.as_slice.result.now) (ap (map cell_now) c.as_slice.ensures.value ∙ c.in_ok-cells.ensures)
+    c.in_ok-good.field-0 _ _ c.in_ok-good.ensures
+
+pub returns : goal.returns
+returns g c =
+    after_all g.S.Source.log c.args.stretches.now c.loop-index.index c.args.copies.now c.loop-index.copies c.loop-index.auto.copies
+    (omega (arith, c.loop-index-test.false)) _ _ _ _ c.loop-index.good c.loop-index.invariant

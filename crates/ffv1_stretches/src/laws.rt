@@ -1,0 +1,26 @@
+//! Laws of what becomes of the stretches of a file, whatever it is mended by.
+ghost use Rattle.ffv1_stretches.specs.Laws.{AnyOrderMends, GoodStretchesAreVouched, OriginalFileIsMended, FrontsAreEnough};
+
+/// However the copies are ordered, the same becomes of each stretch: it has the same state, the same bytes and the same splices. The places
+/// of each stretch go with the copies, and its copy FROM is the same one.
+pub fn any_order_mends()
+    ensures { AnyOrderMends }
+{}
+
+/// What becomes of a stretch that is good is vouched for: an element passes its CRC-32 (RFC 8794, section 11.3.1); a frame is in one piece,
+/// each of whose slices passes its parity (RFC 9043, section 4.9); and bytes without a checksum are what every copy has that has them.
+pub fn good_stretches_are_vouched()
+    ensures { GoodStretchesAreVouched }
+{}
+
+/// Where all stretches are good, OUT is the original file, byte for byte, if the original of each is known again: that of an element passes,
+/// no version that passes differs from it, and it is among the combinations of the improved versions; no slice of a version of a frame that
+/// passes its parity differs from the original's, and the versions can be woven; and some version of bytes without a checksum has them.
+pub fn original_file_is_mended()
+    ensures { OriginalFileIsMended }
+{}
+
+/// What stands in a copy after the end of its last stretch changes nothing of what becomes of the stretches.
+pub fn fronts_are_enough()
+    ensures { FrontsAreEnough }
+{}
