@@ -1,9 +1,10 @@
 -- What is told of inputs that were read.
-use Rattle.std.proofs.Common.{◌≡◌, ℕ, List, [], ◌∷◌, ◌++◌, ◌≤◌, length, take, map, Option, refl, sym, subst, arith}
+use Rattle.std.proofs.Common.{◌≡◌, ℕ, List, [], ◌∷◌, ◌++◌, ◌≤◌, length, take, map, Option, None, Some, refl, sym, subst, arith}
 use Rattle.std.proofs.lemmas.List.{length-map, length-take-le, take_all}
 use Rattle.std.proofs.KnownBytes.{Consumes-whole}
+use Rattle.std.specs.Io.KnownBytes.{Consumes}
 use Rattle.ffv1_devices.specs.Logs.{ReadLog}
-use Rattle.ffv1_commands.specs.Devices.{ReadsWhole, Tells, IsWholeInput, AreWholeInputs}
+use Rattle.ffv1_commands.specs.Devices.{ReadsWhole, BeginsWith, Tells, IsWholeInput, AreWholeInputs}
 use Rattle.ffv1_commands.specs.InTurn.{log_of, ReadsAlone, IsTaken, AreTaken}
 
 -- what was read to the end is what the input has
@@ -12,6 +13,12 @@ tells_whole before after bytes whole = Consumes-whole before after bytes (λ tol
 
 pub whole_input : (before after : Option (List ℕ)) (bytes : List ℕ) → ReadsWhole before after bytes → IsWholeInput before bytes
 whole_input before after bytes whole = record { told = tells_whole before after bytes whole; few = whole.few }
+
+-- an input begins with what was taken from it
+pub begins : (before after : Option (List ℕ)) (bytes : List ℕ) → Consumes before after bytes → BeginsWith before bytes
+begins None after bytes taken = tt
+begins (Some all) None bytes taken = absurd taken
+begins (Some all) (Some rest) bytes taken = (rest, taken)
 
 pub length-AreWholeInputs : (inputs : List (Option (List ℕ))) (all : List (List ℕ)) → AreWholeInputs inputs all → length inputs ≡ length all
 length-AreWholeInputs [] [] each = refl

@@ -1,5 +1,6 @@
 pub mod Shows
 pub mod InputLaws
+pub mod ReadLists
 pub mod Telling
 pub mod RecordFaults
 pub mod InputFaults
@@ -28,3 +29,5 @@ pub mod TakeTold
 pub mod JoinedFiles
 pub mod MergedFiles
 pub mod ScanCommandSteps
+pub mod MendCommandSteps
+pub mod MendCommandLaws

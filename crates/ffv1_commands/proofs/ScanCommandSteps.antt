@@ -1,18 +1,20 @@
 -- A scan over devices, told over the bytes of its inputs and its output.
-use Rattle.std.proofs.Common.{◌≡◌, ℕ, List, Option, None, Some, Bool, Result, Ok, Err, IfOk, IfErr, sym, subst, inl, inr}
+use Rattle.std.proofs.Common.{◌≡◌, ℕ, List, Option, Bool, Result, Ok, Err, IfOk, IfErr, sym, subst, inl, inr}
 use Rattle.std.proofs.KnownBytes.{Keeps-refl}
-use Rattle.std.specs.Io.KnownBytes.{Appends, Consumes, Keeps}
+use Rattle.std.specs.Io.KnownBytes.{Appends, Keeps}
 use Rattle.ffv1_devices.specs.Logs.{ReadLog, WriteLog, Reads, BreaksOff, Writes, StopsWriting}
 use Rattle.ffv1_scan.specs.declared.ranges.ByteRange.{ByteRange}
 use Rattle.ffv1_scan.specs.declared.scanning.ScanFault.{ScanFault}
 use Rattle.ffv1_scan.specs.declared.scanning.ScanFault.TheVariants as scans
 use Rattle.ffv1_scan.specs.Ranges.{AreRanges}
 use Rattle.ffv1_scan.specs.Scans.{ScansFront, ScansRanges}
-use Rattle.ffv1_commands.specs.Devices.{WritesFront, IsWholeInput}
-use Rattle.ffv1_commands.specs.ScanText.{ReadsList, ScansDevices, ScansListed, BeginsWith, IsList, ScansFile, ScansSome, ScanStops}
+use Rattle.ffv1_commands.specs.Devices.{BeginsWith, WritesFront}
+use Rattle.ffv1_commands.specs.Lists.{ReadsList}
+use Rattle.ffv1_commands.specs.ScanText.{ScansDevices, ScansListed, ScansFile, ScansSome, ScanStops}
 use Rattle.ffv1_commands.specs.declared.fault.CliFault.{CliFault}
 use Rattle.ffv1_commands.specs.declared.fault.CliFault.TheVariants as faults
-use Rattle.ffv1_commands.proofs.InputLaws.{whole_input}
+use Rattle.ffv1_commands.proofs.InputLaws.{begins}
+use Rattle.ffv1_commands.proofs.ReadLists.{list_of_bytes}
 
 -- what is read and written is told in another way
 abbrev told_as : (ranges front : List ByteRange) (Read Read' Wrote Wrote' : List ℕ → Type 0) → ((bytes : List ℕ) → Read bytes → Read' bytes)
@@ -28,18 +30,6 @@ told_as ranges front Read Read' Wrote Wrote' read wrote scan = record {
   judged = scan.judged;
   wrote = wrote _ scan.wrote;
 }
-
-begins : (a b : Option (List ℕ)) (bytes : List ℕ) → Consumes a b bytes → BeginsWith a bytes
-begins None b bytes taken = tt
-begins (Some all) None bytes taken = absurd taken
-begins (Some all) (Some rest) bytes taken = (rest, taken)
-
--- the text of a list that was read to its end
-list_read : (P : List ℕ → Type 0) (a b : ReadLog) → (l : ReadsList P a b) → IsWholeInput a.remaining l.text
-list_read P a b l = whole_input a.remaining b.remaining l.text (record { taken = l.read.bytes'; end = l.at_end; few = l.few })
-
-listed : (ranges : List ByteRange) (a b : ReadLog) → ReadsList (λ text. AreRanges text ranges) a b → IsList a.remaining ranges
-listed ranges a b l = record { text = l.text; whole = list_read _ a b l; are = l.says }
 
 -- the ranges that were scanned are those of the list, as it was read
 pub scanned_list : (a b c d : ReadLog) (x y : WriteLog) (r : Result Bool ScanFault) (ranges items : List ByteRange) → ranges ≡ items
@@ -59,7 +49,7 @@ module _ (a b c d : ReadLog) (x y : WriteLog) where
       → ScansFront ranges front Went Wrote → ScansSome a.remaining c.remaining Prints
   some Went read Wrote Prints wrote ranges front list scan = record {
     ranges = ranges;
-    list' = listed ranges a b list;
+    list' = list_of_bytes _ a b list;
     front = front;
     scan = told_as ranges front Went (BeginsWith c.remaining) Wrote Prints read wrote scan;
   }
@@ -74,7 +64,7 @@ module _ (a b c d : ReadLog) (x y : WriteLog) where
   scan_of_bytes (Ok sound) (ranges, list, (scan, answer)) = record {
     ok = record {
       ranges = ranges;
-      list' = listed ranges a b list;
+      list' = list_of_bytes _ a b list;
       scan = told_as ranges ranges (Reads c d) (BeginsWith c.remaining) (Writes x y) (Appends x.contents y.contents)
           (λ bytes went. begins c.remaining d.remaining bytes went.bytes') (λ text wrote. wrote.bytes') scan;
       answer = answer;
@@ -84,7 +74,7 @@ module _ (a b c d : ReadLog) (x y : WriteLog) where
   scan_of_bytes (Err (faults.Read path)) (inl (fault, same_file, same)) = record { ok = tt; err = inl (fault.0, kept same) }
   scan_of_bytes (Err (faults.Read path)) (inr (named, stops)) = record { ok = tt; err = inr (named, stopped stops) }
   scan_of_bytes (Err (faults.Ranges number)) (inl (list, same_file, same)) =
-      record { ok = tt; err = (list.text, list_read _ a b list, list.says, kept same) }
+      record { ok = tt; err = (list_of_bytes _ a b list, kept same) }
   scan_of_bytes (Err (faults.Write path)) (inr (named, (ranges, list, (front, scan, long)))) = record {
     ok = tt;
     err = (named, some (Reads c d) (λ bytes went. begins c.remaining d.remaining bytes went.bytes') (StopsWriting x y) (WritesFront x.contents y.contents) (λ text wrote. wrote.front) ranges front list scan);

@@ -16,7 +16,8 @@ use Rattle.ffv1_splice.proofs.NearCopies.{near_copies_splice}
 use Rattle.ffv1_splice.proofs.WovenLaws.{given_back_is_original}
 use Rattle.ffv1_splice.proofs.Walks.{stands_below, ends_below}
 use Rattle.ffv1_commands.specs.Commands.{IsOfDevices}
-use Rattle.ffv1_commands.specs.SpliceText.{standing_line, front_line, splice_text, SpliceStops}
+use Rattle.ffv1_splice.specs.Text.{front_line}
+use Rattle.ffv1_commands.specs.SpliceText.{standing_line, splice_text, SpliceStops}
 use Rattle.ffv1_commands.specs.SpliceLaws.{Made, SplicesTo, settled_line, whole_of, GiveOnly, GiveOnlyIfTrue, SameCopiesMakeOneSplice, SpliceGivesTheOriginal, SpliceGivesNearCopies, SpliceGivesWovenCopies, SpliceGivesNearWovenCopies}
 use Rattle.ffv1_commands.specs.declared.fault.CliFault.{CliFault}
 use Rattle.ffv1_commands.specs.declared.fault.CliFault.TheVariants as faults

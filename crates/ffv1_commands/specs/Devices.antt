@@ -1,5 +1,5 @@
 -- What a command takes from a file and leaves in one.
-use Rattle.std.specs.Prelude.{ℕ, ◌≡◌, ◌+◌, ◌<◌, ◌≤◌, List, [], ◌∷◌, length, Option, IfSome, ◌⊎◌, Result, Ok, Err}
+use Rattle.std.specs.Prelude.{ℕ, ◌≡◌, ◌+◌, ◌<◌, ◌≤◌, List, [], ◌∷◌, ◌++◌, length, Option, IfSome, ◌⊎◌, Result, Ok, Err}
 use Rattle.std.specs.Io.KnownBytes.{Appends, Consumes, IsAtEnd, Keeps}
 use Rattle.ffv1_bits.specs.Limits.{payload_limit}
 use Rattle.ffv1_devices.specs.Logs.{ReadLog, WriteLog, Reads, BreaksOff, Writes, StopsWriting}
@@ -58,6 +58,10 @@ ReadsCopy items path (Err fault) old new = CopyStops path fault old new
 -- An input has these bytes, where it tells its bytes.
 abbrev pub Tells : Option (List ℕ) → List ℕ → Type 0
 Tells input bytes = IfSome input (λ told. told ≡ bytes)
+
+-- An input begins with these bytes, where it tells its bytes.
+abbrev pub BeginsWith : Option (List ℕ) → List ℕ → Type 0
+BeginsWith input bytes = IfSome input (λ told. (rest : List ℕ) × (told ≡ bytes ++ rest))
 
 -- An input is read whole as these bytes: it has them, where it tells its bytes, and they are not too many.
 pub record IsWholeInput (input : Option (List ℕ)) (bytes : List ℕ) : Type 0 where

@@ -11,6 +11,8 @@ use Rattle.ffv1_pool.specs.declared.restore.RestoreFault.{RestoreFault}
 use Rattle.ffv1_pool.specs.declared.restore.RestoreFault.TheVariants as restore
 use Rattle.ffv1_picture.specs.declared.fault.FrameFault.{FrameFault}
 use Rattle.ffv1_picture.specs.declared.fault.FrameFault.TheVariants as frame
+use Rattle.ffv1_stretches.specs.declared.pass.MendFault.{MendFault}
+use Rattle.ffv1_stretches.specs.declared.pass.MendFault.TheVariants as mend
 use Rattle.ffv1_commands.specs.declared.fault.CliFault.{CliFault}
 use Rattle.ffv1_commands.specs.declared.fault.CliFault.TheVariants as faults
 use Rattle.ffv1_commands.specs.declared.path.CommandPath.{CommandPath}
@@ -95,6 +97,7 @@ fault_line text (faults.Missing tile) = codes "missing tile " ++ decimal tile
 fault_line text (faults.Disputed tile) = codes "disputed tile " ++ decimal tile
 fault_line text (faults.Splice path) = codes "cannot splice " ++ text
 fault_line text (faults.Ranges line) = codes "ranges fault " ++ decimal line
+fault_line text (faults.List line) = codes "list fault " ++ decimal line
 fault_line text faults.Memory = codes "memory"
 fault_line text faults.Words = codes "words refused"
 
@@ -121,6 +124,13 @@ of_merge file.Read = faults.Read paths.Inputs
 of_merge file.Write = faults.Write paths.Out
 of_merge file.Memory = faults.Memory
 of_merge fault = faults.HoldFile fault
+
+-- the fault of a pass over the copies of a file as one of a command
+abbrev pub of_mend : MendFault → CliFault
+of_mend (mend.Read copy) = faults.Read (paths.Copy copy)
+of_mend mend.Out = faults.Write paths.Out
+of_mend mend.Output = faults.Write paths.StandardOutput
+of_mend mend.Memory = faults.Memory
 
 -- a frame's fault as one of a command
 abbrev pub of_frame : FrameFault → CliFault

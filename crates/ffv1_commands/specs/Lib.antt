@@ -3,6 +3,7 @@ pub mod Fault
 pub mod Devices
 pub mod InTurn
 pub mod Lines
+pub mod Lists
 pub mod ChainText
 pub mod ShowText
 pub mod Holdings
@@ -17,8 +18,10 @@ pub mod PictureText
 pub mod ReportedText
 pub mod SpliceText
 pub mod ScanText
+pub mod MendText
 pub mod Commands
 pub mod SpliceLaws
+pub mod MendLaws
 -- what the clauses cite of the crates below
 pub use Rattle.ffv1_slice.specs.Chain
 pub use Rattle.ffv1_slice.specs.Ending
@@ -49,9 +52,20 @@ pub use Rattle.ffv1_picture.specs.FrameFaults
 pub use Rattle.ffv1_picture.specs.PartialPictures
 pub use Rattle.ffv1_picture.specs.ReportText
 pub use Rattle.ffv1_splice.specs.Splice
+pub use Rattle.ffv1_splice.specs.Whole
+pub use Rattle.ffv1_splice.specs.Text
+pub use Rattle.ffv1_lists.specs.Lines as TextLines
+pub use Rattle.ffv1_lists.specs.Numbers
 pub use Rattle.ffv1_scan.specs.Ranges
 pub use Rattle.ffv1_scan.specs.Verdicts
 pub use Rattle.ffv1_scan.specs.Scans
+pub use Rattle.ffv1_mend.specs.Mended
+pub use Rattle.ffv1_stretches.specs.Stretches
+pub use Rattle.ffv1_stretches.specs.Listed
+pub use Rattle.ffv1_stretches.specs.Copies
+pub use Rattle.ffv1_stretches.specs.Lines as StretchLines
+pub use Rattle.ffv1_stretches.specs.Passes
+pub use Rattle.ffv1_stretches.specs.Laws as StretchLaws
 pub use Rattle.ffv1_splice.specs.Faults
 pub use Rattle.ffv1_splice.specs.Originals as SpliceOriginals
 pub use Rattle.ffv1_slice.specs.Members

@@ -1,7 +1,7 @@
 -- The paths that each command has: its words that name files, and standard output.
 use Rattle.std.specs.Prelude.{ℕ, ◌<◌}
 use Rattle.ffv1_commands.specs.declared.path.CommandPath.{CommandPath}
-use Rattle.ffv1_commands.specs.declared.path.CommandPath.TheVariants.{Record, Frame, Copy, Hold, Ranges, File, Inputs, Out, StandardOutput}
+use Rattle.ffv1_commands.specs.declared.path.CommandPath.TheVariants.{Record, Frame, Copy, Hold, Ranges, File, List, Inputs, Out, StandardOutput}
 
 abbrev pub IsChainPath : CommandPath → Type 0
 IsChainPath Frame = Unit {0}
@@ -33,6 +33,14 @@ IsScanPath Ranges = Unit {0}
 IsScanPath File = Unit {0}
 IsScanPath StandardOutput = Unit {0}
 IsScanPath _ = ⊥
+
+-- `mend` of so many copies
+abbrev pub IsMendPath : ℕ → CommandPath → Type 0
+IsMendPath copies List = Unit {0}
+IsMendPath copies (Copy place) = place < copies
+IsMendPath copies Out = Unit {0}
+IsMendPath copies StandardOutput = Unit {0}
+IsMendPath copies _ = ⊥
 
 -- `join` of so many holding files
 abbrev pub IsJoinPath : ℕ → CommandPath → Type 0

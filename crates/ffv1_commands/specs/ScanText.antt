@@ -1,41 +1,28 @@
 -- What the command `scan` reads and prints: a list of ranges, the file from its start on, no further than to the end of the last range, and
 -- a line for each range.
-use Rattle.std.specs.Prelude.{ℕ, ◌≡◌, ◌+◌, ◌≤◌, ◌⊎◌, Bool, List, ◌++◌, length, Option, IfSome, Result, Ok, Err}
+use Rattle.std.specs.Prelude.{ℕ, ◌≡◌, ◌⊎◌, Bool, List, Option, Result, Ok, Err}
 use Rattle.std.specs.List.{list_all}
-use Rattle.std.specs.Io.KnownBytes.{Appends, IsAtEnd, Keeps}
-use Rattle.ffv1_bits.specs.Limits.{payload_limit}
-use Rattle.ffv1_devices.specs.Logs.{ReadLog, WriteLog, Reads, BreaksOff}
+use Rattle.std.specs.Io.KnownBytes.{Appends, Keeps}
+use Rattle.ffv1_devices.specs.Logs.{ReadLog, WriteLog}
 use Rattle.ffv1_scan.specs.declared.ranges.ByteRange.{ByteRange}
 use Rattle.ffv1_scan.specs.declared.scanning.ScanFault.TheVariants as scans
 use Rattle.ffv1_scan.specs.Ranges.{AreRanges, IsFirstWrong}
 use Rattle.ffv1_scan.specs.Verdicts.{is_sound}
 use Rattle.ffv1_scan.specs.Scans.{ScansFront, ScansRanges}
-use Rattle.ffv1_commands.specs.Devices.{IsWholeInput, WritesFront}
+use Rattle.ffv1_commands.specs.Devices.{BeginsWith, IsUnread, WritesFront}
+use Rattle.ffv1_commands.specs.Lists.{ReadsList, IsList}
 use Rattle.ffv1_commands.specs.declared.fault.CliFault.{CliFault}
 use Rattle.ffv1_commands.specs.declared.fault.CliFault.TheVariants as faults
 use Rattle.ffv1_commands.specs.declared.path.CommandPath.TheVariants as paths
 
 -- ---- over devices
 
--- The list of ranges was read to its end; P is what its text says.
-pub record ReadsList (P : List ℕ → Type 0) (old new : ReadLog) : Type 0 where
-  pub text : List ℕ
-  pub read : Reads old new text
-  pub at_end : IsAtEnd new.remaining
-  pub few : length text ≤ payload_limit
-  pub says : P text
-
--- The list was given up, or has more bytes than the limit.
-pub record StopsList (old new : ReadLog) : Type 0 where
-  pub text : List ℕ
-  pub stopped : (BreaksOff old new text × (length text ≤ payload_limit)) ⊎ (Reads old new text × (length text ≡ payload_limit + 1))
-
 -- why the list told no ranges
-abbrev pub IsListFault : (old new : ReadLog) → CliFault → Type 0
-IsListFault old new (faults.Read path) = (path ≡ paths.Ranges) × StopsList old new
-IsListFault old new (faults.Ranges number) = ReadsList (λ text. IsFirstWrong text number) old new
-IsListFault old new faults.Memory = Unit {0}
-IsListFault old new _ = ⊥
+abbrev pub IsRangesFault : (old new : ReadLog) → CliFault → Type 0
+IsRangesFault old new (faults.Read path) = (path ≡ paths.Ranges) × IsUnread old new
+IsRangesFault old new (faults.Ranges number) = ReadsList (λ text. IsFirstWrong text number) old new
+IsRangesFault old new faults.Memory = Unit {0}
+IsRangesFault old new _ = ⊥
 
 -- The list told ranges, and this came of them.
 abbrev pub ScansListed : (list_old list_new : ReadLog) → (List ByteRange → Type 0) → Type 0
@@ -56,33 +43,23 @@ abbrev pub ScansDevices : Result Bool CliFault → (list_old list_new file_old f
 ScansDevices (Ok sound) list_old list_new file_old file_new out_old out_new =
     ScansListed list_old list_new (λ ranges. ScansRanges ranges (Ok sound) file_old file_new out_old out_new)
 ScansDevices (Err fault) list_old list_new file_old file_new out_old out_new =
-    (IsListFault list_old list_new fault × (file_new ≡ file_old) × (out_new ≡ out_old))
+    (IsRangesFault list_old list_new fault × (file_new ≡ file_old) × (out_new ≡ out_old))
     ⊎ StopsAtRange list_old list_new file_old file_new out_old out_new fault
 
 -- ---- over the bytes of inputs and outputs
-
--- An input begins with these bytes, where it tells its bytes.
-abbrev pub BeginsWith : Option (List ℕ) → List ℕ → Type 0
-BeginsWith input bytes = IfSome input (λ told. (rest : List ℕ) × (told ≡ bytes ++ rest))
-
--- The list tells these ranges.
-pub record IsList (list : Option (List ℕ)) (ranges : List ByteRange) : Type 0 where
-  pub text : List ℕ
-  pub whole : IsWholeInput list text
-  pub are : AreRanges text ranges
 
 -- The lines of all ranges were printed, each judged as its bytes alone, and the answer is whether each is whole, has a link and has all
 -- its links pass.
 pub record ScansFile (list file before after : Option (List ℕ)) (sound : Bool) : Type 0 where
   pub ranges : List ByteRange
-  pub list' : IsList list ranges
+  pub list' : IsList (λ text. AreRanges text ranges) list
   pub scan : ScansFront ranges ranges (BeginsWith file) (Appends before after)
   pub answer : sound ≡ list_all is_sound scan.verdicts
 
 -- The ranges of a front were judged, and this was printed.
 pub record ScansSome (list file : Option (List ℕ)) (Prints : List ℕ → Type 0) : Type 0 where
   pub ranges : List ByteRange
-  pub list' : IsList list ranges
+  pub list' : IsList (λ text. AreRanges text ranges) list
   pub front : List ByteRange
   pub scan : ScansFront ranges front (BeginsWith file) Prints
 
@@ -92,15 +69,9 @@ abbrev pub ScanStops : (list file before after : Option (List ℕ)) → CliFault
 ScanStops list file before after (faults.Read path) =
     ((path ≡ paths.Ranges) × Keeps before after) ⊎ ((path ≡ paths.File) × ScansSome list file (Appends before after))
 ScanStops list file before after (faults.Ranges number) =
-    (text : List ℕ) × IsWholeInput list text × IsFirstWrong text number × Keeps before after
+    IsList (λ text. IsFirstWrong text number) list × Keeps before after
 ScanStops list file before after (faults.Write path) =
     (path ≡ paths.StandardOutput) × ScansSome list file (WritesFront before after)
 ScanStops list file before after faults.Memory =
     Keeps before after ⊎ ScansSome list file (Appends before after)
 ScanStops list file before after _ = ⊥
-
--- What holds of a fault of the list, which is judged before the file is read.
-abbrev pub IfOfList : CliFault → Type 0 → Type 0
-IfOfList (faults.Read path) P = path ≡ paths.Ranges → P
-IfOfList (faults.Ranges number) P = P
-IfOfList _ P = Unit {0}

@@ -1,12 +1,11 @@
 -- The laws of the command `splice`, for copies that are read as they were written: the same copies give the same, and copies of an
 -- original that tell nothing else give the original.
-use Rattle.std.specs.Prelude.{ℕ, ◌+◌, ◌≡◌, ◌++◌, Bool, true, List, [], length, map, slice_range, Option, Some, codes}
+use Rattle.std.specs.Prelude.{ℕ, ◌+◌, ◌≡◌, ◌++◌, Bool, true, List, [], length, map, Option, Some, codes}
 use Rattle.std.specs.List.{flat_map}
-use Rattle.ffv1_bits.specs.Parity.{PassesParity}
-use Rattle.ffv1_slice.specs.Chain.{IsEnd, IsLinkOf, Piece}
+use Rattle.ffv1_slice.specs.Chain.{IsLinkOf, Piece}
 use Rattle.ffv1_slice.specs.Members.{HasSameMembers}
 use Rattle.ffv1_slice.specs.Walk.{links_of}
-use Rattle.ffv1_splice.specs.Pieces.{HasContent}
+use Rattle.ffv1_splice.specs.Whole.{IsWholeFrame}
 use Rattle.ffv1_splice.specs.Originals.{AreCopiesOf, AgreeWith, HaveEachLink, IsAmong, AreWeavable, AreNearCopies, IsIntactInSome}
 use Rattle.ffv1_splice.specs.declared.place.Standing.TheVariants.{Settled}
 use Rattle.ffv1_commands.specs.Commands.{IsOfDevices}
@@ -42,12 +41,6 @@ pub record GiveOnlyIfTrue (copies : List (List ℕ)) (original : List ℕ) : Typ
   pub made : (made : Made) → SplicesTo copies made → made.answer ≡ true → made.file ≡ original
   pub refused : (out_before out_after printed_before printed_after : Option (List ℕ)) (fault : CliFault)
       → SpliceStops (map Some copies) out_before out_after printed_before printed_after fault → IsOfDevices fault
-
--- A frame in one piece, by its own footers: its chain is whole, and each of its links has content and passes its parity.
-pub record IsWholeFrame (frame : List ℕ) : Type 0 where
-  pub whole : IsEnd frame 0
-  pub content : (start end : ℕ) → IsLinkOf frame start end → HasContent start end
-  pub passes : (start end : ℕ) → IsLinkOf frame start end → PassesParity (slice_range frame start end)
 
 -- ---- laws
 

@@ -1,13 +1,11 @@
 -- What the command `splice` makes and prints: the splice of all copies, a line for each of its places from its end, and a line for its front.
-use Rattle.std.specs.Prelude.{ℕ, ◌≡◌, ◌+◌, ◌<◌, ◌==◌, ◌++◌, ◌↔◌, ◌⊎◌, Bool, IsTrue, List, length, map, take, Option, Result, Ok, Err, codes, if◌then◌else◌}
+use Rattle.std.specs.Prelude.{ℕ, ◌≡◌, ◌+◌, ◌<◌, ◌++◌, ◌↔◌, ◌⊎◌, Bool, IsTrue, List, length, map, take, Option, Result, Ok, Err, codes}
 use Rattle.std.specs.List.{flat_map}
-use Rattle.std.specs.Fmt.{decimal}
 use Rattle.std.specs.Io.KnownBytes.{Appends}
 use Rattle.ffv1_devices.specs.Logs.{WriteLog, Writes}
 use Rattle.ffv1_splice.specs.Splice.{SplicedValue, IsSpliceOf, IsGivenBack}
 use Rattle.ffv1_splice.specs.Faults.{IsOfOtherLength}
-use Rattle.ffv1_splice.specs.declared.place.Standing.{Standing}
-use Rattle.ffv1_splice.specs.declared.place.Standing.TheVariants.{Settled, Woven, Disputed, Missing}
+use Rattle.ffv1_splice.specs.Text.{place_words, front_line}
 use Rattle.ffv1_splice.specs.declared.place.Place.{Place}
 use Rattle.ffv1_commands.specs.Devices.{AreWholeInputs, WriteStops, FileStops, BothStop, BothKept}
 use Rattle.ffv1_commands.specs.InTurn.{AreKeptFrom, AreTaken, StopsAtCopy}
@@ -15,20 +13,9 @@ use Rattle.ffv1_commands.specs.declared.fault.CliFault.{CliFault}
 use Rattle.ffv1_commands.specs.declared.fault.CliFault.TheVariants as faults
 use Rattle.ffv1_commands.specs.declared.path.CommandPath.TheVariants as paths
 
--- how a place stands, and where it is woven, among how many combinations
-abbrev pub standing_word : Standing → List ℕ
-standing_word Settled = codes "settled"
-standing_word (Woven count) = codes "woven " ++ decimal count
-standing_word Disputed = codes "disputed"
-standing_word Missing = codes "missing"
-
 -- where a place lies, and how it stands
 abbrev pub standing_line : Place → List ℕ
-standing_line place = decimal place.start ++ codes ".." ++ decimal place.end ++ codes " " ++ standing_word place.standing ++ codes "\n"
-
--- whether the places cover the frame
-abbrev pub front_line : ℕ → List ℕ
-front_line front = if front == 0 then codes "end whole\n" else codes "end broken at " ++ decimal front ++ codes "\n"
+standing_line place = place_words place ++ codes "\n"
 
 -- a line for each place, and one for the front
 abbrev pub splice_text : SplicedValue → List ℕ

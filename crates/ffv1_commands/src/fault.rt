@@ -6,17 +6,19 @@ use crate::path::CommandPath;
 use ffv1_hold::{HoldFault, HoldFileFault, RestoreFault};
 use ffv1_picture::FrameFault;
 use ffv1_range::SetupFault;
+use ffv1_stretches::MendFault;
 use std::alloc::{AllocError, AllocFailed, Global};
 use thiserror::Error;
 
 /// A fault of a command. That of a device says which path of the command it is.
 #[derive(Debug, Drop, Error)]
 pub enum CliFault {
-    /// The file could not be opened or read; or it is a record, the payload of `chain` or `decode`, a copy of `splice` or the
-    /// list of ranges of `scan`, and longer than 2^30 bytes; or it is the file of `scan`, and ends before a range does.
+    /// The file could not be opened or read; or it is a record, the payload of `chain` or `decode`, a copy of `splice`, the
+    /// list of ranges of `scan` or the list of `mend`, and longer than 2^30 bytes; or it is the file of `scan`, and ends before a
+    /// range does, or a copy of `mend`, and ends within a stretch.
     #[error("{0:?} was not read")]
     Read(CommandPath),
-    /// The file could not be made or written; or it is the one that `merge` makes, and an input by the same word.
+    /// The file could not be made or written; or it is the one that `merge` or `mend` makes, and an input by the same word.
     #[error("{0:?} was not written")]
     Write(CommandPath),
     /// The configuration record, with its width and height, gives no setup of the profile.
@@ -43,6 +45,10 @@ pub enum CliFault {
     /// the one before it.
     #[error("ranges fault {0}")]
     Ranges(usize),
+    /// The line with this number, counted from 1, is the first of the list of `mend` that is neither a stretch that follows those
+    /// before it, nor a part of the element before it.
+    #[error("list fault {0}")]
+    List(usize),
     /// The copy is not as long as the first one.
     #[error("{0:?} was not spliced")]
     Splice(CommandPath),
@@ -90,6 +96,7 @@ impl CliFault {
             CliFault::Disputed(tile) => format!(in alloc; "disputed tile {tile}"),
             CliFault::Splice(_) => format!(in alloc; "cannot splice {path}"),
             CliFault::Ranges(line) => format!(in alloc; "ranges fault {line}"),
+            CliFault::List(line) => format!(in alloc; "list fault {line}"),
             CliFault::Memory => String::from_str(alloc, "memory"),
             CliFault::Words => String::from_str(alloc, "words refused"),
         }
@@ -163,6 +170,23 @@ impl From<RestoreFault> for CliFault {
             RestoreFault::Missing(tile) => CliFault::Missing(tile),
             RestoreFault::Disputed(tile) => CliFault::Disputed(tile),
             RestoreFault::Memory => CliFault::Memory,
+        }
+    }
+}
+
+impl From<MendFault> for CliFault {
+    ghost use Rattle.std.specs.Prelude.{◌≡◌};
+    ghost use Rattle.ffv1_commands.specs.Fault.{of_mend};
+
+    ghost from_gives = { λ fault result. result ≡ of_mend fault };
+
+    /// A device is told by its path, and memory as such.
+    fn from(fault: MendFault) -> CliFault {
+        match fault {
+            MendFault::Read(copy) => CliFault::Read(CommandPath::Copy(copy)),
+            MendFault::Out => CliFault::Write(CommandPath::Out),
+            MendFault::Output => CliFault::Write(CommandPath::StandardOutput),
+            MendFault::Memory => CliFault::Memory,
         }
     }
 }

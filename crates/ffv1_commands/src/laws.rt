@@ -1,5 +1,6 @@
-//! The way from copies to a frame by commands, whatever their order (own), as contracts of functions that do nothing.
+//! The way from copies to a frame or a file by commands, whatever their order (own), as contracts of functions that do nothing.
 ghost use Rattle.ffv1_commands.specs.Commands.{MadeOfCopies, SameCopiesMakeOneFile, SameCopiesMakeOneHolding, SameCopiesMakeOneReport, CommandsRestoreTheOriginal, CommandsRestoreNearCopies};
+ghost use Rattle.ffv1_commands.specs.MendLaws.{ListedIsMade, AnyOrderMakesOneFile, TrueIsVouched, MendGivesTheOriginal};
 ghost use Rattle.ffv1_commands.specs.SpliceLaws.{SameCopiesMakeOneSplice, SpliceGivesTheOriginal, SpliceGivesNearCopies, SpliceGivesWovenCopies, SpliceGivesNearWovenCopies, TrueIsWhole};
 
 /// Whatever trees of `take`, `join` and `merge` lead from copies to a holding file, for one record and size: the file
@@ -52,4 +53,31 @@ pub fn splice_weaves_the_original()
 /// of its slices has content and passes its parity.
 pub fn splice_tells_whole_frames()
     ensures { TrueIsWhole }
+{}
+
+/// What `mend` makes is what becomes of the stretches that the list lists, and nothing else: OUT is their bytes, one after the other, the
+/// lines are theirs, and the answer is whether each is whole, woven, agreed or alone. What stands in a copy after its last stretch
+/// changes nothing.
+pub fn mend_makes_what_is_listed()
+    ensures { ListedIsMade }
+{}
+
+/// However the copies are ordered, and the places and the copy FROM of each line with them, `mend` makes the same file, returns the
+/// same, and the same becomes of each stretch.
+pub fn any_order_makes_one_file()
+    ensures { AnyOrderMakesOneFile }
+{}
+
+/// Where `mend` returns `true`, what becomes of each stretch is vouched for: an element passes its CRC-32; a frame is in one piece, each of
+/// whose slices passes its parity; and bytes without a checksum are what every copy has that has them.
+pub fn mend_claims_what_is_vouched()
+    ensures { TrueIsVouched }
+{}
+
+/// Where the original of each stretch is known again, and `mend` returns `true`, what it wrote is the originals, one after the other; and
+/// it is refused only by a device or because memory ran out. An original is known again so: that of an element passes its CRC-32, no
+/// version that passes differs from it, and it is among the combinations of the improved versions; no slice of a version of a frame that
+/// passes its parity differs from the original's, and the versions can be woven; and some version of bytes without a checksum has them.
+pub fn mend_gives_the_original()
+    ensures { MendGivesTheOriginal }
 {}

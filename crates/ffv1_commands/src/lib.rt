@@ -11,6 +11,7 @@ mod holdings;
 mod join;
 mod laws;
 mod lines;
+mod mend;
 mod merge;
 mod path;
 mod picture;
@@ -27,9 +28,12 @@ pub use decode::{decode_of, run_decode};
 pub use fault::CliFault;
 pub use join::{join_of, run_join};
 pub use laws::{
-    commands_restore_the_original, same_copies_make_one_file, same_copies_make_one_splice,
-    splice_gives_the_original, splice_tells_whole_frames, splice_weaves_the_original,
+    any_order_makes_one_file, commands_restore_the_original, mend_claims_what_is_vouched,
+    mend_gives_the_original, mend_makes_what_is_listed, same_copies_make_one_file,
+    same_copies_make_one_splice, splice_gives_the_original, splice_tells_whole_frames,
+    splice_weaves_the_original,
 };
+pub use mend::{mend_of, run_mend};
 pub use merge::{merge_of, run_merge};
 pub use path::CommandPath;
 pub use picture::{picture_of, run_picture};

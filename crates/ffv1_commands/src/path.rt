@@ -7,7 +7,7 @@ pub enum CommandPath {
     Record,
     /// The payload of a frame.
     Frame,
-    /// The copy of a payload before which stand so many others.
+    /// The copy of a payload, or of the file of `mend`, before which stand so many others.
     Copy(usize),
     /// The holding file before which stand so many others.
     Hold(usize),
@@ -15,6 +15,8 @@ pub enum CommandPath {
     Ranges,
     /// The file of which `scan` judges ranges.
     File,
+    /// The list of the stretches of `mend`.
+    List,
     /// Both holding files of `merge`, which are read together.
     Inputs,
     /// The file that is made.

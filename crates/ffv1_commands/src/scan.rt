@@ -3,13 +3,14 @@
 ghost use Rattle.std.specs.Prelude.{◌≡◌, IfOk, IfErr};
 ghost use Rattle.ffv1_scan.specs.Ranges.{AreRanges};
 ghost use Rattle.ffv1_commands.specs.Fault.{NamesPath};
+ghost use Rattle.ffv1_commands.specs.Lists.{ReadsList, IfOfList};
 ghost use Rattle.ffv1_commands.specs.Paths.{IsScanPath};
-ghost use Rattle.ffv1_commands.specs.ScanText.{ReadsList, IsListFault, ScansDevices, ScansFile, ScanStops, IfOfList};
+ghost use Rattle.ffv1_commands.specs.ScanText.{IsRangesFault, ScansDevices, ScansFile, ScanStops};
 
+use crate::devices::read_file;
 use crate::fault::CliFault;
 use crate::path::CommandPath;
-use ffv1_bits::PAYLOAD_LIMIT;
-use ffv1_hold::{FromRead, Sink, Source, ThroughWrite, WholeFault, read_whole};
+use ffv1_hold::{FromRead, Sink, Source, ThroughWrite};
 use ffv1_scan::{ByteRange, RangesFault, ScanFault, read_ranges, scan};
 use std::alloc::Global;
 use std::io::{Read, Write};
@@ -34,7 +35,7 @@ pub fn run_scan<R: Read, F: Read, W: Write>(
 ) -> Result<bool, CliFault>
     ensures ok { IfOk result (ScansFile (R.remaining ranges.old) (F.remaining file.old) (W.contents output.old) (W.contents output.new)) }
     ensures err { IfErr result (ScanStops (R.remaining ranges.old) (F.remaining file.old) (W.contents output.old) (W.contents output.new)) }
-    ensures in_turn { IfErr result (λ fault. IfOfList fault ((file.new ≡ file.old) × (output.new ≡ output.old))) }
+    ensures in_turn { IfErr result (λ fault. IfOfList CommandPath.Ranges fault ((file.new ≡ file.old) × (output.new ≡ output.old))) }
     ensures names { IfErr result (NamesPath IsScanPath) }
 {
     scan_of(
@@ -53,7 +54,7 @@ pub fn scan_of<R: Source, F: Source, W: Sink>(
     output: &mut W,
 ) -> Result<bool, CliFault>
     ensures scans { ScansDevices result (R.log ranges.old) (R.log ranges.new) (F.log file.old) (F.log file.new) (W.log output.old) (W.log output.new) }
-    ensures in_turn { IfErr result (λ fault. IfOfList fault ((file.new ≡ file.old) × (output.new ≡ output.old))) }
+    ensures in_turn { IfErr result (λ fault. IfOfList CommandPath.Ranges fault ((file.new ≡ file.old) × (output.new ≡ output.old))) }
     ensures names { IfErr result (NamesPath IsScanPath) }
 {
     let list = told_ranges(alloc, ranges)?;
@@ -68,15 +69,9 @@ pub fn scan_of<R: Source, F: Source, W: Sink>(
 /// The ranges that a list tells.
 fn told_ranges<R: Source>(alloc: Global, list: &mut R) -> Result<Vec<ByteRange>, CliFault>
     ensures ok { IfOk result (λ ranges. ReadsList (λ text. AreRanges text ranges.items) (R.log list.old) (R.log list.new)) }
-    ensures err { IfErr result (IsListFault (R.log list.old) (R.log list.new)) }
+    ensures err { IfErr result (IsRangesFault (R.log list.old) (R.log list.new)) }
 {
-    let text = match read_whole(alloc, list, PAYLOAD_LIMIT) {
-        Ok(text) => text,
-        Err(WholeFault::Read | WholeFault::TooLong) => {
-            return Err(CliFault::Read(CommandPath::Ranges));
-        }
-        Err(WholeFault::Memory) => return Err(CliFault::Memory),
-    };
+    let text = read_file(alloc, list, CommandPath::Ranges)?;
     match read_ranges(alloc, text.as_slice()) {
         Ok(ranges) => Ok(ranges),
         Err(RangesFault::Line(number)) => Err(CliFault::Ranges(number)),

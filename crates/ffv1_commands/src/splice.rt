@@ -6,13 +6,13 @@ ghost use Rattle.ffv1_commands.specs.Fault.{NamesPath};
 ghost use Rattle.ffv1_commands.specs.Paths.{IsSplicePath};
 ghost use Rattle.ffv1_commands.specs.Devices.{UnlessWriting, FileStops, ReadsNamed};
 ghost use Rattle.ffv1_commands.specs.InTurn.{ReadsAlone, AreTaken, StopsAtCopy};
-ghost use Rattle.ffv1_commands.specs.SpliceText.{standing_line, front_line, splice_text, IsLengthFault, SplicesCopies, SpliceStops, LaterCopiesKept, TellsSplice};
+ghost use Rattle.ffv1_commands.specs.SpliceText.{standing_line, splice_text, IsLengthFault, SplicesCopies, SpliceStops, LaterCopiesKept, TellsSplice};
 
 use crate::devices::{read_file, write_both};
 use crate::fault::CliFault;
 use crate::path::CommandPath;
 use ffv1_hold::{FromRead, Sink, ThroughWrite};
-use ffv1_splice::{Place, SpliceFault, Spliced, Standing, splice};
+use ffv1_splice::{Place, SpliceFault, Spliced, push_front, push_place, splice};
 use std::alloc::{AllocError, Global};
 use std::io::{Read, Write};
 
@@ -122,22 +122,6 @@ fn spliced_text(alloc: Global, spliced: &Spliced) -> Result<String, AllocError>
 fn push_standing(text: &mut String, place: Place) -> Result<(), AllocError>
     ensures { OnOk result (string_bytes text.new ≡ string_bytes text.old ++ standing_line place) }
 {
-    let (start, end) = (place.start, place.end);
-    match place.standing {
-        Standing::Settled => writeln!(text, "{start}..{end} settled"),
-        Standing::Woven(count) => writeln!(text, "{start}..{end} woven {count}"),
-        Standing::Disputed => writeln!(text, "{start}..{end} disputed"),
-        Standing::Missing => writeln!(text, "{start}..{end} missing"),
-    }
-}
-
-/// Adds the line that tells whether the places cover the frame.
-fn push_front(text: &mut String, front: usize) -> Result<(), AllocError>
-    ensures { OnOk result (string_bytes text.new ≡ string_bytes text.old ++ front_line front) }
-{
-    if front == 0 {
-        writeln!(text, "end whole")
-    } else {
-        writeln!(text, "end broken at {front}")
-    }
+    push_place(text, place)?;
+    text.push('\n')
 }

@@ -14,6 +14,11 @@ join_is_read : read_of (codes "OUT") (codes "HOLD") (codes "join" ∷ codes "c" 
 unfolding clap_on_literals
 join_is_read = refl
 
+mend_is_read : read_of (codes "LIST") (codes "COPY") (codes "mend" ∷ codes "l" ∷ codes "c" ∷ codes "a" ∷ codes "b" ∷ [])
+    ≡ Some (codes "mend", Some (codes "l"), Some (codes "a" ∷ codes "b" ∷ []))
+unfolding clap_on_literals
+mend_is_read = refl
+
 words_after_dashes_are_read : read_of (codes "OUT") (codes "COPY") (codes "splice" ∷ codes "--" ∷ codes "-c" ∷ codes "--" ∷ [])
     ≡ Some (codes "splice", Some (codes "-c"), Some (codes "--" ∷ []))
 unfolding clap_on_literals

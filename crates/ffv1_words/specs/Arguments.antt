@@ -8,7 +8,7 @@ use Rattle.ffv1_commands.specs.declared.fault.CliFault.{CliFault}
 use Rattle.ffv1_words.specs.Grammar.{program_app}
 use Rattle.ffv1_words.specs.declared.words.Recording.{Recording}
 use Rattle.ffv1_words.specs.declared.words.Words.{Words}
-use Rattle.ffv1_words.specs.declared.words.Words.TheVariants.{Chain, Scan, Show, Take, Join, Merge, Report, Restore, Picture, Splice, Decode}
+use Rattle.ffv1_words.specs.declared.words.Words.TheVariants.{Chain, Scan, Show, Take, Join, Merge, Report, Restore, Picture, Splice, Mend, Decode}
 
 -- what clap found under each name
 abbrev pub rows_in : ArgMatches → List Row
@@ -48,6 +48,8 @@ AreRead rows (Report file) = IsWord rows (codes "HOLD") file.now
 AreRead rows (Restore file out) = IsWord rows (codes "HOLD") file.now × IsWord rows (codes "OUT") out.now
 AreRead rows (Picture file out) = IsWord rows (codes "HOLD") file.now × IsWord rows (codes "OUT") out.now
 AreRead rows (Splice out copies) = IsWord rows (codes "OUT") out.now × AreWords rows (codes "COPY") (map (λ copy. copy.now) copies.items)
+AreRead rows (Mend list out copies) =
+    IsWord rows (codes "LIST") list.now × IsWord rows (codes "OUT") out.now × AreWords rows (codes "COPY") (map (λ copy. copy.now) copies.items)
 AreRead rows (Decode recording frame out) =
     IsRecording rows recording × IsWord rows (codes "FRAME") frame.now × IsWord rows (codes "OUT") out.now
 
@@ -63,6 +65,7 @@ command_name (Report file) = codes "report"
 command_name (Restore file out) = codes "restore"
 command_name (Picture file out) = codes "picture"
 command_name (Splice out copies) = codes "splice"
+command_name (Mend list out copies) = codes "mend"
 command_name (Decode recording frame out) = codes "decode"
 
 -- The command of this name was read with its words, or what is at fault names no path.

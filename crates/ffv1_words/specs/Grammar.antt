@@ -49,6 +49,7 @@ all_commands =
     ∷ (codes "restore", codes "HOLD" ∷ codes "OUT" ∷ [], None)
     ∷ (codes "picture", codes "HOLD" ∷ codes "OUT" ∷ [], None)
     ∷ (codes "splice", codes "OUT" ∷ [], Some (codes "COPY"))
+    ∷ (codes "mend", codes "LIST" ∷ codes "OUT" ∷ [], Some (codes "COPY"))
     ∷ (codes "decode", codes "RECORD" ∷ codes "WIDTH" ∷ codes "HEIGHT" ∷ codes "FRAME" ∷ codes "OUT" ∷ [], None)
     ∷ []
 

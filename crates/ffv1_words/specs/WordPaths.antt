@@ -1,11 +1,12 @@
 -- The paths that the command of the words has.
 use Rattle.std.specs.Prelude.{ℕ, zero, suc, ◌+◌, ◌-◌, ◌==◌, if◌then◌else◌, List, [], map, slice_index_or, vec_len, codes}
 use Rattle.std.specs.Borrow.{Bor}
-use Rattle.ffv1_commands.specs.Paths.{IsChainPath, IsScanPath, IsShowPath, IsTakePath, IsJoinPath, IsMergePath, IsReportPath, IsHoldPath, IsSplicePath, IsDecodePath}
+use Rattle.ffv1_commands.specs.Paths.{IsChainPath, IsScanPath, IsShowPath, IsTakePath, IsJoinPath, IsMergePath, IsReportPath, IsHoldPath, IsSplicePath, IsMendPath, IsDecodePath}
 use Rattle.ffv1_commands.specs.declared.path.CommandPath.{CommandPath}
 use Rattle.ffv1_commands.specs.declared.path.CommandPath.TheVariants.{Record, Frame, Copy, Hold, Ranges, File, Inputs, Out}
+use Rattle.ffv1_commands.specs.declared.path.CommandPath.TheVariants as paths
 use Rattle.ffv1_words.specs.declared.words.Words.{Words}
-use Rattle.ffv1_words.specs.declared.words.Words.TheVariants.{Chain, Scan, Show, Take, Join, Merge, Report, Restore, Picture, Splice, Decode}
+use Rattle.ffv1_words.specs.declared.words.Words.TheVariants.{Chain, Scan, Show, Take, Join, Merge, Report, Restore, Picture, Splice, Mend, Decode}
 
 -- The command of the words has this path.
 abbrev pub IsPathOf : Words → CommandPath → Type 0
@@ -19,6 +20,7 @@ IsPathOf (Report file) path = IsReportPath path
 IsPathOf (Restore file out) path = IsHoldPath path
 IsPathOf (Picture file out) path = IsHoldPath path
 IsPathOf (Splice out copies) path = IsSplicePath (vec_len copies) path
+IsPathOf (Mend list out copies) path = IsMendPath (vec_len copies) path
 IsPathOf (Decode recording frame out) path = IsDecodePath path
 
 -- the word at a place among words that name files
@@ -47,6 +49,9 @@ path_word (Picture file out) (Hold before) = file.now
 path_word (Picture file out) Out = out.now
 path_word (Splice out copies) (Copy place) = word_at copies.items place
 path_word (Splice out copies) Out = out.now
+path_word (Mend list out copies) paths.List = list.now
+path_word (Mend list out copies) (Copy place) = word_at copies.items place
+path_word (Mend list out copies) Out = out.now
 path_word (Decode recording frame out) Record = recording.record.now
 path_word (Decode recording frame out) Frame = frame.now
 path_word (Decode recording frame out) Out = out.now

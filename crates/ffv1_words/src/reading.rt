@@ -13,7 +13,7 @@ use ffv1_commands::CliFault;
 use std::alloc::{AllocError, Global};
 
 /// The commands: the name of each, its words, and after them the word of which there has to be one at least.
-static COMMANDS: [(&str, &[&str], Option<&str>); 11] = [
+static COMMANDS: [(&str, &[&str], Option<&str>); 12] = [
     ("chain", &["FRAME"], None),
     ("scan", &["RANGES", "FILE"], None),
     ("show", &["RECORD", "WIDTH", "HEIGHT"], None),
@@ -24,6 +24,7 @@ static COMMANDS: [(&str, &[&str], Option<&str>); 11] = [
     ("restore", &["HOLD", "OUT"], None),
     ("picture", &["HOLD", "OUT"], None),
     ("splice", &["OUT"], Some("COPY")),
+    ("mend", &["LIST", "OUT"], Some("COPY")),
     (
         "decode",
         &["RECORD", "WIDTH", "HEIGHT", "FRAME", "OUT"],
@@ -170,6 +171,17 @@ fn splice_words<'a>(alloc: Global, matches: &ArgMatches<'a>) -> Result<Words<'a>
     })
 }
 
+/// The words of `mend`.
+fn mend_words<'a>(alloc: Global, matches: &ArgMatches<'a>) -> Result<Words<'a>, CliFault>
+    ensures { ReadsWords (rows_in matches.now) (codes "mend") result }
+{
+    Ok(Words::Mend {
+        list: word(matches, "LIST")?,
+        out: word(matches, "OUT")?,
+        copies: list(alloc, several(matches, "COPY")?)?,
+    })
+}
+
 /// The words of `decode`.
 fn decode_words<'a>(matches: &ArgMatches<'a>) -> Result<Words<'a>, CliFault>
     ensures { ReadsWords (rows_in matches.now) (codes "decode") result }
@@ -224,6 +236,7 @@ fn words_of<'a>(alloc: Global, name: &str, matches: &ArgMatches<'a>) -> Result<W
         }),
         "take" => take_words(alloc, matches),
         "splice" => splice_words(alloc, matches),
+        "mend" => mend_words(alloc, matches),
         "decode" => decode_words(matches),
         _ => hold_words_of(alloc, name, matches),
     }

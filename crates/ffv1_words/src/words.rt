@@ -88,6 +88,15 @@ pub enum Words<'a> {
         /// The copies, one at least.
         copies: Vec<&'a str>,
     },
+    /// Makes a file of its stretches in copies of it.
+    Mend {
+        /// The list of the stretches.
+        list: &'a str,
+        /// The file that is made.
+        out: &'a str,
+        /// The copies, one at least.
+        copies: Vec<&'a str>,
+    },
     /// Writes the samples of a frame payload.
     Decode {
         /// The record and size of the frame.
@@ -117,8 +126,13 @@ impl<'a> Words<'a> {
                 | Words::Decode { recording, .. },
                 CommandPath::Record,
             ) => recording.record,
-            (Words::Take { copies, .. } | Words::Splice { copies, .. }, CommandPath::Copy(place)) =>
-                copies[place],
+            (Words::Mend { list, .. }, CommandPath::List) => *list,
+            (
+                Words::Take { copies, .. }
+                | Words::Splice { copies, .. }
+                | Words::Mend { copies, .. },
+                CommandPath::Copy(place),
+            ) => copies[place],
             (Words::Join { first, .. }, CommandPath::Hold(0)) => *first,
             (Words::Join { others, .. }, CommandPath::Hold(place)) => others[place - 1],
             (Words::Merge { left, .. }, CommandPath::Hold(0)) => *left,
@@ -135,6 +149,7 @@ impl<'a> Words<'a> {
                 | Words::Restore { out, .. }
                 | Words::Picture { out, .. }
                 | Words::Splice { out, .. }
+                | Words::Mend { out, .. }
                 | Words::Decode { out, .. },
                 CommandPath::Out,
             ) => *out,

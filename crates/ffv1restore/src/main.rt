@@ -4,15 +4,16 @@
 
 ghost use Rattle.std.specs.Prelude.{◌≡◌, ◌+◌, length, map, vec_len, IfOk, IfErr};
 ghost use Rattle.ffv1_commands.specs.Fault.{NamesPath, NamesNoPath};
-ghost use Rattle.ffv1_commands.specs.Paths.{IsChainPath, IsShowPath, IsTakePath, IsJoinPath, IsMergePath, IsReportPath, IsHoldPath, IsSplicePath, IsScanPath, IsDecodePath};
+ghost use Rattle.ffv1_commands.specs.Paths.{IsChainPath, IsShowPath, IsTakePath, IsJoinPath, IsMergePath, IsReportPath, IsHoldPath, IsSplicePath, IsMendPath, IsScanPath, IsDecodePath};
 ghost use Rattle.ffv1_devices.specs.Files.{path_of};
 ghost use Rattle.ffv1_words.specs.WordPaths.{IsPathOf};
 
 pub use ffv1_commands::{
-    CliFault, CommandPath, commands_restore_the_original, run_chain, run_decode, run_join,
-    run_merge, run_picture, run_report, run_restore, run_scan, run_show, run_splice, run_take,
-    same_copies_make_one_file, same_copies_make_one_splice, splice_gives_the_original,
-    splice_tells_whole_frames, splice_weaves_the_original,
+    CliFault, CommandPath, any_order_makes_one_file, commands_restore_the_original,
+    mend_claims_what_is_vouched, mend_gives_the_original, mend_makes_what_is_listed, run_chain,
+    run_decode, run_join, run_mend, run_merge, run_picture, run_report, run_restore, run_scan,
+    run_show, run_splice, run_take, same_copies_make_one_file, same_copies_make_one_splice,
+    splice_gives_the_original, splice_tells_whole_frames, splice_weaves_the_original,
 };
 use ffv1_devices::{InputFile, OutputFile};
 use ffv1_words::{Recording, Words, read_words};
@@ -187,6 +188,35 @@ fn splice_files(rt: &HostRuntime, out: &str, copies: &[&str]) -> Result<bool, Cl
     }
 }
 
+/// Makes a file of its stretches in the copies of these paths. No file is opened where the word of the one that is made is that of the
+/// list or of a copy, which would be overwritten. Where the list lists no stretch, nothing is written, and the file is made after
+/// that.
+fn mend_files<'a>(
+    rt: &'a HostRuntime,
+    list: &str,
+    out: &str,
+    copies: &[&'a str],
+) -> Result<bool, CliFault>
+    ensures { IfErr result (NamesPath (IsMendPath (length copies.now))) }
+{
+    if out == list || copies.contains(&out) {
+        return Err(CliFault::Write(CommandPath::Out));
+    }
+    let copies = input_files(rt, copies)?;
+    let mut out = OutputFile::new(rt, out);
+    let good = run_mend(
+        rt.alloc(),
+        &mut InputFile::new(rt, list),
+        copies,
+        &mut out,
+        &mut io::writer(rt),
+    )?;
+    match out.make() {
+        Ok(()) => Ok(good),
+        Err(_) => Err(CliFault::Write(CommandPath::Out)),
+    }
+}
+
 /// Decodes the frame of these paths.
 fn decode_files(
     rt: &HostRuntime,
@@ -208,8 +238,8 @@ fn decode_files(
 }
 
 /// Runs a command on the files that its words name. Answers `false` where `picture` wrote its file and some tile has no
-/// samples, or `splice` its own and not all of the frame is given back, or `scan` found a range that is not whole with all its
-/// links passing; else `true`.
+/// samples, or `splice` its own and not all of the frame is given back, or `mend` its own and a stretch is missing, disputed or open, or
+/// `scan` found a range that is not whole with all its links passing; else `true`.
 fn run(rt: &HostRuntime, words: &Words<'_>) -> Result<bool, CliFault>
     ensures { IfErr result (NamesPath (IsPathOf words.now)) }
 {
@@ -228,6 +258,9 @@ fn run(rt: &HostRuntime, words: &Words<'_>) -> Result<bool, CliFault>
         Words::Restore { file, out } => restore_file(rt, file, out)?,
         Words::Picture { file, out } => return picture_file(rt, file, out),
         Words::Splice { out, copies } => return splice_files(rt, out, copies.as_slice()),
+        Words::Mend { list, out, copies } => {
+            return mend_files(rt, list, out, copies.as_slice());
+        }
         Words::Decode {
             recording,
             frame,

@@ -9,6 +9,9 @@ returns-in-take c = subst (λ name. ReadsWords (rows_in c.args.matches.now) name
 pub returns-in-splice : goal.returns-in-splice
 returns-in-splice c = subst (λ name. ReadsWords (rows_in c.args.matches.now) name c.splice_words.result) (sym c.in-splice.is) c.splice_words.ensures
 
+pub returns-in-mend : goal.returns-in-mend
+returns-in-mend c = subst (λ name. ReadsWords (rows_in c.args.matches.now) name c.mend_words.result) (sym c.in-mend.is) c.mend_words.ensures
+
 pub returns-in-decode : goal.returns-in-decode
 returns-in-decode c = subst (λ name. ReadsWords (rows_in c.args.matches.now) name c.decode_words.result) (sym c.in-decode.is) c.decode_words.ensures
 
