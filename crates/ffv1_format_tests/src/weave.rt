@@ -1,6 +1,6 @@
 //! Slices that are put together from damaged versions.
 use crate::recorded::QUARTERED;
-use ffv1_weave::{Outcome, weave};
+use ffv1_weave::{Check, Outcome, weave};
 use std::alloc::{AllocError, Global};
 
 /// The footer of the first slice of `QUARTERED`, as FFmpeg wrote it.
@@ -43,7 +43,7 @@ fn told_of(alloc: Global, slice: &[u8], versions: &[&[u8]]) -> Result<Told, Allo
     {
         return Ok(Told::Uneven);
     }
-    Ok(match weave(alloc, versions)? {
+    Ok(match weave(alloc, Check::Slice, versions)? {
         Outcome::Woven(bytes, count) if bytes.as_slice() == slice => Told::Slice(count),
         Outcome::Woven(_, _) => Told::Other,
         Outcome::Disputed => Told::Disputed,

@@ -13,7 +13,7 @@ use ffv1_plane::{TileFault, decode_tile};
 use ffv1_range::{Setup, SetupFault};
 use ffv1_slice::content_of;
 use ffv1_splice::{SpliceFault, splice};
-use ffv1_weave::{Outcome as Woven, weave};
+use ffv1_weave::{Check, Outcome as Woven, weave};
 use std::alloc::Global;
 use std::io;
 use std::io::ErrorKind;
@@ -380,7 +380,11 @@ pub struct Weave;
 impl Attempt for Weave {
     fn attempt(&mut self, alloc: Global) -> Outcome {
         let [one, other] = torn_copies();
-        match weave(alloc, &[&one[LAST_SLICE..], &other[LAST_SLICE..]]) {
+        match weave(
+            alloc,
+            Check::Slice,
+            &[&one[LAST_SLICE..], &other[LAST_SLICE..]],
+        ) {
             Ok(Woven::Woven(bytes, 4)) if bytes.as_slice() == &RECORDED[LAST_SLICE..] => {
                 Outcome::Answer(remainder(&bytes))
             }

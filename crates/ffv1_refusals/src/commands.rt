@@ -2,10 +2,10 @@
 //! a front of its file.
 use crate::attempt::{Attempt, Outcome};
 use crate::buffer::Buffer;
-use crate::stock::{SIZE, Stock, first_copy, second_copy, torn_copies};
+use crate::stock::{SIZE, Stock, TORN_LIST, first_copy, second_copy, torn_copies};
 use ffv1_commands::{
-    CliFault, run_chain, run_decode, run_join, run_merge, run_picture, run_report, run_restore,
-    run_scan, run_show, run_splice, run_take,
+    CliFault, run_chain, run_decode, run_join, run_mend, run_merge, run_picture, run_report,
+    run_restore, run_scan, run_show, run_splice, run_take,
 };
 use ffv1_frames::{RECORDED, RECORDED_RECORD};
 use std::alloc::Global;
@@ -67,6 +67,8 @@ pub enum Command {
     Splice,
     /// `run_scan` of the frame as one range.
     Scan,
+    /// `run_mend` of both torn copies as one stretch.
+    Mend,
     /// `run_decode` of the frame.
     Decode,
 }
@@ -106,6 +108,7 @@ impl<'a> Run<'a> {
             Command::Picture => unit(run_picture(alloc, &mut both, made, printed)),
             Command::Splice => splice_torn(alloc, made, printed),
             Command::Scan => scan_frame(alloc, printed),
+            Command::Mend => mend_torn(alloc, made, printed),
             Command::Decode => decode_payload(alloc, made, printed),
         }
     }
@@ -152,6 +155,14 @@ fn splice_torn(alloc: Global, made: &mut Buffer, printed: &mut Buffer) -> Result
 fn scan_frame(alloc: Global, printed: &mut Buffer) -> Result<(), CliFault> {
     let (mut ranges, mut frame) = (b"0 336\n".as_slice(), RECORDED.as_slice());
     unit(run_scan(alloc, &mut ranges, &mut frame, printed))
+}
+
+/// `run_mend` of both torn copies as one stretch.
+fn mend_torn(alloc: Global, made: &mut Buffer, printed: &mut Buffer) -> Result<(), CliFault> {
+    let [one, other] = torn_copies();
+    let mut list = TORN_LIST;
+    let copies = Vec::from_array(alloc, [one.as_slice(), other.as_slice()])?;
+    unit(run_mend(alloc, &mut list, copies, made, printed))
 }
 
 /// `run_decode` of the frame.

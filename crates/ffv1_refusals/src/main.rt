@@ -10,6 +10,7 @@ mod attempt;
 mod buffer;
 mod calls;
 mod commands;
+mod mending;
 mod stock;
 
 use attempt::{Attempt, Outcome};
@@ -18,6 +19,7 @@ use calls::{
     ReadSetup, Report, Restore, Splice, Take, TakeAll, Weave, WriteHold,
 };
 use commands::{Command, Run};
+use mending::{Mend, MendStretches, ReadList};
 use std::io;
 use std::process::ExitCode;
 use stock::Stock;
@@ -75,8 +77,15 @@ fn tell_splices(rt: &HostRuntime) -> io::Result<()> {
     tell(rt, "splice", Splice)
 }
 
+/// The calls that mend a file of its stretches.
+fn tell_stretches(rt: &HostRuntime) -> io::Result<()> {
+    tell(rt, "mend", Mend)?;
+    tell(rt, "read_list", ReadList)?;
+    tell(rt, "mend_stretches", MendStretches::new())
+}
+
 /// The functions of the commands, by their names.
-static COMMANDS: [(&str, Command); 11] = [
+static COMMANDS: [(&str, Command); 12] = [
     ("run_chain", Command::Chain),
     ("run_show", Command::Show),
     ("run_take", Command::Take),
@@ -87,6 +96,7 @@ static COMMANDS: [(&str, Command); 11] = [
     ("run_picture", Command::Picture),
     ("run_splice", Command::Splice),
     ("run_scan", Command::Scan),
+    ("run_mend", Command::Mend),
     ("run_decode", Command::Decode),
 ];
 
@@ -104,6 +114,7 @@ fn tell_calls(rt: &HostRuntime, stock: &Stock) -> io::Result<()> {
     tell_files(rt, stock)?;
     tell_pictures(rt, stock)?;
     tell_splices(rt)?;
+    tell_stretches(rt)?;
     tell_commands(rt, stock)
 }
 

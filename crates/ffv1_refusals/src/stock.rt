@@ -1,6 +1,7 @@
 //! What the calls are made on: a recorded frame of 48 x 32 gray samples in four tiles, and two copies of it in each
 //! of which the slices of two tiles are damaged.
 use crate::buffer::Buffer;
+use ebml_crc::crc32;
 use ffv1_frames::{RECORDED, RECORDED_RECORD};
 use ffv1_hold::{FromWrite, Holding, write_hold};
 use std::alloc::Global;
@@ -31,6 +32,30 @@ pub fn torn_copies() -> [[u8; 336]; 2] {
     let (mut one, mut other) = (RECORDED, RECORDED);
     one[230] ^= 1;
     other[320] ^= 1;
+    [one, other]
+}
+
+/// The list of both as one stretch.
+pub const TORN_LIST: &[u8] = b"frame 336 1 0 0\n";
+
+/// An element that is its CRC-32, the frame from byte 6 on, and 78 bytes more.
+pub fn element() -> [u8; 420] {
+    let mut element = [0; 420];
+    element[0] = 0xBF;
+    element[1] = 0x84;
+    element[6..342].copy_from_slice(&RECORDED);
+    let crc = crc32(&element[6..]).to_le_bytes();
+    element[2..6].copy_from_slice(&crc);
+    element
+}
+
+/// Two copies of the element with damage in the frame's tile 3 and after the frame, each in other places.
+pub fn torn_elements() -> [[u8; 420]; 2] {
+    let (mut one, mut other) = (element(), element());
+    one[236] ^= 1;
+    one[345] ^= 1;
+    other[326] ^= 1;
+    other[415] ^= 1;
     [one, other]
 }
 

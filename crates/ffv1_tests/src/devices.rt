@@ -1,8 +1,8 @@
 //! Devices that are interrupted, fail, or take one byte at a time.
 use crate::streams::Failing;
 use ffv1_devices::{
-    FromRead, FromWrite, Sink, Source, ThroughWrite, WholeFault, WriteFailed, next_byte, read_full,
-    read_whole, write_field, write_pair,
+    CutShort, FromRead, FromWrite, NextFault, Sink, Source, ThroughWrite, WholeFault, WriteFailed,
+    fill, next_byte, pass_over, read_full, read_next, read_whole, write_field, write_pair,
 };
 use std::alloc::Global;
 use std::io;
@@ -102,4 +102,28 @@ fn what_is_read_is_written_through_a_borrow(rt: HostRuntime) {
     assert!(rt; (count, is_written) == (Ok(2), true));
     let rest = (next_byte(&mut source), next_byte(&mut source));
     assert!(rt; rest == (Ok(Some(b'c')), Ok(None)));
+}
+
+#[test]
+fn next_bytes_come_to_the_front_of_a_room(rt: HostRuntime) {
+    let mut source = FromRead::new(b"abcdefgh".as_slice());
+    let mut room = Vec::new(rt.alloc());
+    let passed = pass_over(&mut source, 2, &mut [0u8; 1]);
+    let next = read_next(&mut source, 3, &mut room);
+    assert!(rt; (passed, next) == (Ok(()), Ok(())));
+    assert!(rt; room.as_slice() == b"cde".as_slice());
+    let shorter = read_next(&mut source, 2, &mut room);
+    assert!(rt; shorter == Ok(()) && room.as_slice() == b"fge".as_slice());
+    let claimed = read_next(&mut source, usize::MAX, &mut room);
+    assert!(rt; claimed == Err(NextFault::Read) && room.len() <= 65539);
+}
+
+#[test]
+fn a_buffer_is_filled_or_cut_short(rt: HostRuntime) {
+    let mut source = FromRead::new(b"abc".as_slice());
+    let mut front = [0u8; 2];
+    let filled = fill(&mut source, &mut front);
+    assert!(rt; filled == Ok(()) && front == *b"ab");
+    assert!(rt; fill(&mut source, &mut front) == Err(CutShort));
+    assert!(rt; pass_over(&mut source, 1, &mut front) == Err(CutShort));
 }

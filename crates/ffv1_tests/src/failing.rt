@@ -30,14 +30,14 @@ pub(crate) struct Input<'a> {
     bytes: &'a [u8],
     /// The most bytes that it gives at a time.
     most: usize,
-    interruptions: u32,
+    pub(crate) interruptions: u32,
     /// The interruptions that come in a row before each of its later reads.
     later_interruptions: u32,
     after: After,
 }
 
 impl<'a> Input<'a> {
-    fn new(bytes: &'a [u8]) -> Input<'a> {
+    pub(crate) fn new(bytes: &'a [u8]) -> Input<'a> {
         Input {
             bytes,
             most: usize::MAX,
@@ -59,7 +59,7 @@ impl<'a> Input<'a> {
     }
 
     /// Has it fail after so many bytes.
-    fn fail_after(&mut self, room: usize) {
+    pub(crate) fn fail_after(&mut self, room: usize) {
         self.bytes = self.bytes.get(..room).unwrap_or(&[]);
         self.after = After::Failure;
     }
@@ -87,13 +87,13 @@ impl Read for Input<'_> {
 
 /// A writer that is interrupted so many times in a row, and then takes one byte at a time, so many in all.
 #[derive(Drop)]
-struct Output {
-    narrow: Narrow,
-    interruptions: u32,
+pub(crate) struct Output {
+    pub(crate) narrow: Narrow,
+    pub(crate) interruptions: u32,
 }
 
 impl Output {
-    fn new(alloc: Global) -> Output {
+    pub(crate) fn new(alloc: Global) -> Output {
         Output {
             narrow: Narrow {
                 room: usize::MAX,

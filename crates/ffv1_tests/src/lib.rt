@@ -1,5 +1,5 @@
 //! Tests of the public calls of holdings, their files and their pictures, and of the commands over readers and writers, with
-//! devices that fail; and of the suite of made frames through all crates. Tests stand above the crates whose calls they make,
+//! devices that fail; of lists as text, and of the suite of made frames through all crates. Tests stand above the crates whose calls they make,
 //! in crates of their own, so that none is proved a second time with its tests.
 #![tactic(auto)]
 
@@ -14,7 +14,11 @@ mod hold;
 #[cfg(test)]
 mod holding;
 #[cfg(test)]
+mod lists;
+#[cfg(test)]
 mod made;
+#[cfg(test)]
+mod mend;
 #[cfg(test)]
 mod merge;
 #[cfg(test)]

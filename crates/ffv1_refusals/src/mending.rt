@@ -1,0 +1,109 @@
+//! The calls that mend a file of its stretches.
+use crate::attempt::{Attempt, Outcome};
+use crate::buffer::Buffer;
+use crate::stock::{TORN_LIST, element, torn_copies, torn_elements};
+use ffv1_bits::remainder;
+use ffv1_devices::{FromRead, FromWrite};
+use ffv1_mend::{Kind, Part, State, mend};
+use ffv1_stretches::{CopyReader, ListFault, MendFault, mend_stretches, read_list};
+use std::alloc::Global;
+use std::io::Write;
+
+/// `mend` of both torn elements, with the frame as their part.
+#[derive(Drop)]
+pub struct Mend;
+
+/// Where the frame lies in the element.
+const FRAME: Part = Part { start: 6, end: 342 };
+
+impl Attempt for Mend {
+    fn attempt(&mut self, alloc: Global) -> Outcome {
+        let [one, other] = torn_elements();
+        match mend(alloc, Kind::Crc32, &[&one, &other], &one, &[FRAME]) {
+            Ok(mended)
+                if mended.state() == State::Woven(4) && mended.bytes() == element().as_slice() => {
+                Outcome::Answer(remainder(mended.bytes()))
+            }
+            Ok(_) => Outcome::Wrong,
+            Err(_) => Outcome::Memory,
+        }
+    }
+}
+
+/// A list of stretches of each kind, and of two parts, that two copies have.
+const LIST: &[u8] = b"frame 4 1 0 -\ncrc32 100 2 4 0\npart 6 10\npart 16 84\nplain 3 1 104 100\n";
+
+/// `read_list` of the list.
+#[derive(Drop)]
+pub struct ReadList;
+
+impl Attempt for ReadList {
+    fn attempt(&mut self, alloc: Global) -> Outcome {
+        match read_list(alloc, LIST, 2) {
+            Ok(stretches) => {
+                let mut shown = Buffer::new();
+                match write!(shown, "{stretches:?}") {
+                    Ok(()) => Outcome::Answer(shown.remainder()),
+                    Err(_) => Outcome::Wrong,
+                }
+            }
+            Err(ListFault::Memory) => Outcome::Memory,
+            Err(ListFault::Line(_)) => Outcome::Wrong,
+        }
+    }
+}
+
+/// `mend_stretches` of both torn copies as one stretch, whose list it reads.
+#[derive(Drop)]
+pub struct MendStretches {
+    made: Buffer,
+    printed: Buffer,
+}
+
+impl MendStretches {
+    /// Nothing was written.
+    pub fn new() -> MendStretches {
+        MendStretches {
+            made: Buffer::new(),
+            printed: Buffer::new(),
+        }
+    }
+
+    /// Makes the call.
+    fn mend(&mut self, alloc: Global) -> Result<bool, MendFault> {
+        let Ok(stretches) = read_list(alloc, TORN_LIST, 2) else {
+            return Err(MendFault::Memory);
+        };
+        let [one, other] = torn_copies();
+        let mut copies = [
+            CopyReader::new(alloc, FromRead::new(one.as_slice())),
+            CopyReader::new(alloc, FromRead::new(other.as_slice())),
+        ];
+        let mut out = FromWrite::new(Buffer::new());
+        let mut output = FromWrite::new(Buffer::new());
+        let answer = mend_stretches(
+            alloc,
+            stretches.as_slice(),
+            &mut copies,
+            &mut out,
+            &mut output,
+        );
+        self.made = out.into_inner();
+        self.printed = output.into_inner();
+        answer
+    }
+}
+
+impl Attempt for MendStretches {
+    fn attempt(&mut self, alloc: Global) -> Outcome {
+        match self.mend(alloc) {
+            Ok(true) => Outcome::Answer(self.made.remainder() ^ self.printed.remainder()),
+            Err(MendFault::Memory) => Outcome::Memory,
+            Ok(_) | Err(_) => Outcome::Wrong,
+        }
+    }
+
+    fn is_kept(&self) -> bool {
+        self.made.is_empty() && self.printed.is_empty()
+    }
+}
