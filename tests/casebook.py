@@ -16,12 +16,15 @@ of these words:
                          next one fails
     open N               how many files it may have open at once
 
-A CONTENT is a name of tests/cases/files, 'hex' and digits, or 'from' and a path below tests/. After it can come 'with' and pairs
-of a place and digits: the bytes that stand from that place on.
+A CONTENT is a name of tests/cases/files, 'hex' and digits, 'from' and a path below tests/, 'lines' and the lines of a text, parted by
+' / ', or 'list', a path below tests/ and lengths: the list of that file for copies of these lengths (tests/lists.py). After it can come
+'cut' and how many bytes of it are left, and then 'with' and pairs of a place and digits: the bytes that stand from that place on.
 """
 import dataclasses
 import pathlib
 import shlex
+
+import lists
 
 TESTS = pathlib.Path(__file__).resolve().parent
 FOLDER = TESTS / "cases"
@@ -50,14 +53,20 @@ def shared_contents():
 
 def content_of(text, shared):
     base, _, changes = text.partition(" with ")
+    base, _, left = base.partition(" cut ")
     kind, _, rest = base.partition(" ")
     if kind == "hex":
         content = bytes.fromhex(rest)
     elif kind == "from":
         content = (TESTS / rest).read_bytes()
+    elif kind == "lines":
+        content = "".join(line + "\n" for line in rest.split(" / ")).encode()
+    elif kind == "list":
+        path, *lengths = rest.split()
+        content = lists.list_text((TESTS / path).read_bytes(), list(map(int, lengths))).encode()
     else:
         content = shared[base]
-    changed = bytearray(content)
+    changed = bytearray(content[: int(left)] if left else content)
     for change in filter(None, changes.split(", ")):
         place, digits = change.split(" ", 1)
         new = bytes.fromhex(digits)

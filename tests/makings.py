@@ -146,31 +146,32 @@ def written(content, place, others):
     return content[:place] + others + content[place + len(others) :]
 
 
-def forged(piece, place):
-    """The slice with the four bytes from a place on made such that it passes its parity, whatever its other bytes are.
+def forged(content, place, left=readings.parity):
+    """Some bytes with the four bytes from a place on made such that a check leaves 0, whatever the others are; that of slices, by
+    default.
 
-    Which bits to turn is a linear system over GF(2), as the remainder is linear: each of the 32 bits changes the remainder by what
-    the bit alone leaves, and these changes are independent, for the divisor has a degree of 32."""
-    reduced = {}
+    Which bits to turn is a linear system over GF(2), as what is left is linear but for a constant: each of the 32 bits changes it by
+    what the bit alone changes, and these changes are independent, for the divisor has a degree of 32."""
+    reduced, zeros = {}, bytes(len(content))
     for bit in range(32):
-        turned, left = 1 << bit, readings.parity(written(bytes(len(piece)), place, (1 << bit).to_bytes(4, "big")))
-        for highest, (other_left, other_turned) in sorted(reduced.items(), reverse=True):
-            if left >> highest & 1:
-                left, turned = left ^ other_left, turned ^ other_turned
-        reduced[left.bit_length() - 1] = left, turned
-    remainder, turn = readings.parity(piece), 0
-    for highest, (left, turned) in sorted(reduced.items(), reverse=True):
+        turned, changed = 1 << bit, left(written(zeros, place, (1 << bit).to_bytes(4, "big"))) ^ left(zeros)
+        for highest, (other_changed, other_turned) in sorted(reduced.items(), reverse=True):
+            if changed >> highest & 1:
+                changed, turned = changed ^ other_changed, turned ^ other_turned
+        reduced[changed.bit_length() - 1] = changed, turned
+    remainder, turn = left(content), 0
+    for highest, (changed, turned) in sorted(reduced.items(), reverse=True):
         if remainder >> highest & 1:
-            remainder, turn = remainder ^ left, turn ^ turned
-    others = int.from_bytes(piece[place : place + 4], "big") ^ turn
-    return written(piece, place, others.to_bytes(4, "big"))
+            remainder, turn = remainder ^ changed, turn ^ turned
+    others = int.from_bytes(content[place : place + 4], "big") ^ turn
+    return written(content, place, others.to_bytes(4, "big"))
 
 
-def two_halves(piece, first, second):
-    """Two copies of a slice that do not pass, but of which two combinations do: the slice itself, and one whose byte at the first
-    place is inverted and whose four bytes from the second on fit that."""
-    other = forged(inverted(piece, first), second)
-    return inverted(piece, first), written(piece, second, other[second : second + 4])
+def two_halves(content, first, second, left=readings.parity):
+    """Two copies of some bytes that do not pass a check, but of which two combinations do: the bytes themselves, and others whose byte
+    at the first place is inverted and whose four bytes from the second on fit that."""
+    other = forged(inverted(content, first), second, left)
+    return inverted(content, first), written(content, second, other[second : second + 4])
 
 
 def lose_sector(numbers, frame, ends):

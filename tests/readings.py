@@ -397,9 +397,9 @@ def regions(versions):
     return found
 
 
-def stretches(versions):
-    """For each stretch of some versions of a slice, one after the other, the different bytes that they have there: one string
-    where they all agree, two or more in a region."""
+def choices(versions):
+    """For each part of some versions, one after the other, the different bytes that they have there: one string where they all
+    agree, two or more in a region."""
     found, end = [], 0
     for first, last in regions(versions):
         found += [{versions[0][end:first]}, {version[first : last + 1] for version in versions}]
@@ -411,12 +411,12 @@ def is_slice(piece):
     return passes(piece) and int.from_bytes(piece[-8:-5], "big") == len(piece) - 8
 
 
-def woven(versions):
-    """How many combinations some versions of a slice have, and those that are slices; none are looked for among too many."""
-    found = stretches(versions)
+def woven(versions, is_valid):
+    """How many combinations some versions have, and those that are valid; none are looked for among too many."""
+    found = choices(versions)
     number = math.prod(map(len, found))
     combinations = map(b"".join, itertools.product(*found)) if number <= MOST_COMBINATIONS else ()
-    return number, [whole for whole in combinations if is_slice(whole)]
+    return number, [whole for whole in combinations if is_valid(whole)]
 
 
 def place_before(copies, end):
@@ -431,25 +431,42 @@ def place_before(copies, end):
         return None
     (start,) = starts
     versions = sorted({copy[start:end] for copy in copies})
-    number, slices = (0, []) if pieces else woven(versions)
+    number, slices = (0, []) if pieces else woven(versions, is_slice)
     if len(slices) == 1:
         return start, f"woven {number}", slices[0]
     return start, "disputed" if pieces or slices else "missing", versions[0]
 
 
+class Splice:
+    """Copies of one length put together: the places from their end, each as its start, its end and how it stands; where the front
+    that can't be divided ends; and the payload."""
+
+    def __init__(self, copies):
+        pieces, self.places, self.front = [], [], len(copies[0])
+        while self.front and (place := place_before(copies, self.front)):
+            start, stands, piece = place
+            self.places.append((start, self.front, stands))
+            pieces.append(piece)
+            self.front = start
+        pieces.append(min(copy[: self.front] for copy in copies))
+        self.payload = b"".join(reversed(pieces))
+        self.end = f"end broken at {self.front}" if self.front else "end whole"
+
+    def given_back(self):
+        """Whether all of it is settled or woven."""
+        return not self.front and all(is_sure(stands) for _, _, stands in self.places)
+
+
+def is_sure(stands):
+    """Whether a place that stands so is settled or woven."""
+    return stands not in ("disputed", "missing")
+
+
 def spliced(copies):
     """What `splice` makes of copies of one length: the payload, the lines that it prints, and its exit status."""
-    parts, lines, sure, end = [], [], True, len(copies[0])
-    while end and (place := place_before(copies, end)):
-        start, stands, standing = place
-        lines.append(f"{start}..{end} {stands}\n")
-        parts.append(standing)
-        sure = sure and stands not in ("disputed", "missing")
-        end = start
-    if end:
-        parts.append(min(copy[:end] for copy in copies))
-    lines.append(f"end broken at {end}\n" if end else "end whole\n")
-    return b"".join(reversed(parts)), "".join(lines).encode(), 0 if sure and not end else 3
+    splice = Splice(copies)
+    lines = [f"{start}..{end} {stands}\n" for start, end, stands in splice.places]
+    return splice.payload, "".join([*lines, splice.end, "\n"]).encode(), 0 if splice.given_back() else 3
 
 
 def ranges_of(text):
@@ -481,3 +498,188 @@ def scanned(text, content):
         printed += f"range {number} links {len(found)} pass {passing} {ends}\n"
         sound = sound and broken is None and 0 < len(found) == passing
     return printed.encode(), 0 if sound else 3, None
+
+
+# ---- a file put together from its copies, by a list of its stretches
+
+# A stretch of a list: its kind, its size, the number of the copy from which it is taken where nothing vouches for its bytes, its place
+# in each copy or None, and its parts, each as its offset and its size.
+Stretch = collections.namedtuple("Stretch", "kind size source places parts")
+# What becomes of a stretch: its state, its bytes, and the splice of each part, or that of a frame.
+Outcome = collections.namedtuple("Outcome", "state bytes splices")
+
+
+def number_of(word):
+    """The number that some digits spell, or None where it is not under 2^64 or there are other characters."""
+    digits = re.fullmatch(rb"0*([0-9]{1,20})", word)
+    return int(digits.group(1)) if digits and int(digits.group(1)) < 1 << 64 else None
+
+
+def stretch_of(words, copies, ends):
+    """The stretch of a line of a list for so many copies, whose stretches so far end at these places; None where it is none."""
+    if len(words) != 3 + copies or words[0] not in (b"frame", b"crc32", b"plain"):
+        return None
+    size, source = map(number_of, words[1:3])
+    places = [None if word == b"-" else number_of(word) for word in words[3:]]
+    if any(place is None and word != b"-" for place, word in zip(places, words[3:])):
+        return None
+    if any(place is not None and place < end for place, end in zip(places, ends)):
+        return None
+    if not size or size > PAYLOAD_LIMIT or not source or source > copies or places[source - 1] is None:
+        return None
+    return Stretch(words[0].decode(), size, source, places, [])
+
+
+def part_of(words, stretch):
+    """The part of a line of a list, as its offset and its size, after this stretch with its parts so far; None where it is none."""
+    if len(words) != 3 or stretch is None or stretch.kind != "crc32":
+        return None
+    offset, size = map(number_of, words[1:])
+    least = sum(stretch.parts[-1]) if stretch.parts else 6
+    if offset is None or not size or offset < least or offset + size > stretch.size:
+        return None
+    return offset, size
+
+
+def stretches_of(text, copies):
+    """The stretches of a list for so many copies; a fault has the number of the first wrong line."""
+    lines, found, ends = text.split(b"\n"), [], [0] * copies
+    for number, line in enumerate(lines if lines[-1] else lines[:-1], 1):
+        words = line.split(b" ")
+        if words[0] == b"part":
+            part = part_of(words, found[-1] if found else None)
+            judge(part, number)
+            found[-1].parts.append(part)
+        else:
+            stretch = stretch_of(words, copies, ends)
+            judge(stretch, number)
+            found.append(stretch)
+            ends = [end if place is None else place + stretch.size for place, end in zip(stretch.places, ends)]
+    return found
+
+
+def crc_left(content):
+    """The sum of the CRC-32 in the content of an element and that of the rest of it."""
+    return zlib.crc32(content[6:]) ^ int.from_bytes(content[2:6], "little")
+
+
+def is_element(content):
+    """Whether some bytes are the content of an EBML element that begins with the CRC-32 of the rest of it."""
+    return len(content) >= 6 and content[:2] == b"\xbf\x84" and crc_left(content) == 0
+
+
+def element_of(rest):
+    """The content of an element that begins with the CRC-32 of the rest of it."""
+    return b"\xbf\x84" + zlib.crc32(rest).to_bytes(4, "little") + rest
+
+
+def with_part(content, offset, piece):
+    return content[:offset] + piece + content[offset + len(piece) :]
+
+
+def improved(versions, parts, splices):
+    """The versions of an element, each with the bytes of all settled and woven places of the splices of its parts."""
+    for (offset, _), splice in zip(parts, splices):
+        for start, end, stands in splice.places:
+            if is_sure(stands):
+                versions = {with_part(version, offset + start, splice.payload[start:end]) for version in versions}
+    return sorted(versions)
+
+
+def element_outcome(versions, source, parts):
+    """What becomes of an element with a CRC-32, of these versions and that of the copy it is taken from."""
+    splices = [Splice([version[offset : offset + size] for version in versions]) for offset, size in parts]
+    passing = sorted({version for version in versions if is_element(version)})
+    number, combinations = (0, []) if passing else woven(improved(set(versions), parts, splices), is_element)
+    if len(passing) == 1:
+        return Outcome("whole", passing[0], splices)
+    if len(combinations) == 1:
+        return Outcome(f"woven {number}", combinations[0], splices)
+    for (offset, _), splice in zip(parts, splices):
+        source = with_part(source, offset, splice.payload)
+    return Outcome("disputed" if passing else "missing", source, splices)
+
+
+def frame_outcome(versions):
+    splice = Splice(versions)
+    counts = [int(stands.split()[1]) for _, _, stands in splice.places if stands.startswith("woven")]
+    state = "whole" if not counts else f"woven {min(math.prod(counts), (1 << 64) - 1)}"
+    return Outcome(state if splice.given_back() else "missing", splice.payload, [splice])
+
+
+def plain_outcome(versions, source):
+    state = "alone" if len(versions) == 1 else "agreed" if len(set(versions)) == 1 else "open"
+    return Outcome(state, source, [])
+
+
+def outcome_of(stretch, versions):
+    """What becomes of a stretch whose versions these are, each copy's or None."""
+    there, source = [version for version in versions if version is not None], versions[stretch.source - 1]
+    if stretch.kind == "crc32":
+        return element_outcome(there, source, stretch.parts)
+    return frame_outcome(there) if stretch.kind == "frame" else plain_outcome(there, source)
+
+
+def marks(versions, made, start, end):
+    """For each copy whether it has in a range what was made."""
+    return "".join("-" if version is None else "01"[version[start:end] == made[start:end]] for version in versions)
+
+
+def splice_lines(splice, offset, versions, made):
+    """The lines of a splice that stands at an offset."""
+    for start, end, stands in splice.places:
+        yield f"  {start}..{end} {stands} {marks(versions, made, offset + start, offset + end)}\n"
+    yield f"  {splice.end}\n"
+
+
+def part_is_shown(part, splice, versions):
+    """Whether a part is not settled, or not alike in all copies that have it."""
+    offset, size = part
+    there = {version[offset : offset + size] for version in versions if version is not None}
+    return len(there) > 1 or splice.front or any(stands != "settled" for _, _, stands in splice.places)
+
+
+def stretch_lines(number, stretch, versions, outcome):
+    """What is printed of a stretch."""
+    seen = marks(versions, outcome.bytes, 0, stretch.size)
+    yield f"stretch {number} {stretch.kind} {outcome.state} {seen}\n"
+    if outcome.state == "whole" and "0" not in seen:
+        return
+    if stretch.kind == "frame":
+        yield from splice_lines(outcome.splices[0], 0, versions, outcome.bytes)
+    for place, (part, splice) in enumerate(zip(stretch.parts, outcome.splices), 1):
+        if part_is_shown(part, splice, versions):
+            yield f"  part {place}\n"
+            yield from splice_lines(splice, part[0], versions, outcome.bytes)
+
+
+def is_good(state):
+    return state.split()[0] in ("whole", "woven", "agreed", "alone")
+
+
+def versions_of(stretch, copies):
+    """What each copy, which has a name and a content or None, has of a stretch, or None; a fault has the name of the first one that
+    can't be read, or ends within it."""
+    for (name, content), place in zip(copies, stretch.places):
+        judge(place is None or content is not None and place + stretch.size <= len(content), f"cannot read {name}")
+    return [None if place is None else content[place : place + stretch.size] for (_, content), place in zip(copies, stretch.places)]
+
+
+def mended(text, copies):
+    """What `mend` makes by a list of copies, each with its name and its content, or None where it can't be read: the file, None where
+    nothing was written; what is printed; the exit status; and the fault."""
+    try:
+        stretches = stretches_of(text, len(copies))
+    except Fault as fault:
+        return None, b"", 1, f"list fault {fault.args[0]}"
+    made, printed, good = [], "", True
+    for number, stretch in enumerate(stretches, 1):
+        try:
+            versions = versions_of(stretch, copies)
+        except Fault as fault:
+            return b"".join(made) if made else None, printed.encode(), 1, fault.args[0]
+        outcome = outcome_of(stretch, versions)
+        made.append(outcome.bytes)
+        printed += "".join(stretch_lines(number, stretch, versions, outcome))
+        good = good and is_good(outcome.state)
+    return b"".join(made), printed.encode(), 0 if good else 3, None
