@@ -2,7 +2,7 @@
 _ffv1restore() {
     local word=${COMP_WORDS[COMP_CWORD]}
     if [ "$COMP_CWORD" -eq 1 ]; then
-        mapfile -t COMPREPLY < <(compgen -W "chain show take join merge report restore picture splice decode scan" -- "$word")
+        mapfile -t COMPREPLY < <(compgen -W "chain show take join merge report restore picture splice mend decode scan" -- "$word")
         return
     fi
     case "${COMP_WORDS[1]}:$COMP_CWORD" in
