@@ -48,7 +48,7 @@ pub fn remainder_is_one()
 {}
 
 /// The remainder of more bits: one byte comes in at the low end, and the table takes away the byte that leaves at the top.
-pub fn with_byte(register: u32, byte: u8) -> u32
+fn with_byte(register: u32, byte: u8) -> u32
     ensures { result ≡ divided 8 (register * 2 ^ 8 + byte) }
 {
     let [top, ..] = register.to_be_bytes();

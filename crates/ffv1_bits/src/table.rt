@@ -328,7 +328,7 @@ pub fn byte_remainder(byte: u8) -> u32
 
 /// What is left of a byte that four zero bytes and as many more as `more` follow.
 #[inline(always)]
-pub fn moved_remainder(byte: u8, more: usize) -> u32
+pub(crate) fn moved_remainder(byte: u8, more: usize) -> u32
     requires { more < 8 }
     ensures { result ≡ remainder_of (bits_of (byte ∷ replicate (4 + more) 0)) }
 {
