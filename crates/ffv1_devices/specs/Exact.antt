@@ -1,8 +1,9 @@
 -- Reads of just so many bytes.
-use Rattle.std.specs.Prelude.{ℕ, ◌≡◌, ◌<◌, ◌≤◌, ◌⊎◌, List, length, take, Result, Ok, Err}
+use Rattle.std.specs.Prelude.{ℕ, ◌≡◌, ◌+◌, ◌<◌, ◌≤◌, ◌⊎◌, max, List, length, take, Result, Ok, Err}
 use Rattle.std.specs.Io.KnownBytes.{IsAtEnd}
 use Rattle.ffv1_devices.specs.declared.exact.NextFault.{NextFault}
 use Rattle.ffv1_devices.specs.declared.exact.NextFault.TheVariants as faults
+use Rattle.ffv1_devices.specs.declared.exact.TheConstants.{PIECE}
 use Rattle.ffv1_devices.specs.Logs.{ReadLog, Reads, BreaksOff}
 
 -- these bytes were read, and then the source ended or was given up
@@ -28,3 +29,13 @@ abbrev pub ReadsNext : {T : Type 0} → ℕ → Result T NextFault → List ℕ 
 ReadsNext size (Ok x) room old new = Reads old new (take size room) × (size ≤ length room)
 ReadsNext size (Err faults.Read) room old new = EndsBefore size old new
 ReadsNext size (Err faults.Memory) room old new = (bytes : List ℕ) × Reads old new bytes × (length bytes < size)
+
+-- room is made for at least so many bytes at once
+abbrev pub piece : ℕ
+piece = PIECE
+
+-- Room for bytes that are read grew as they came, from one length to another: it is as long as it was, or these bytes came and it has
+-- at most as many more than they are, or a piece more. Whatever size is claimed, it takes no more.
+abbrev pub GrowsAsRead : (before after : ℕ) → (old new : ReadLog) → Type 0
+GrowsAsRead before after old new =
+    (after ≤ before) ⊎ ((bytes : List ℕ) × (Reads old new bytes ⊎ BreaksOff old new bytes) × (after ≤ length bytes + max (length bytes) piece))

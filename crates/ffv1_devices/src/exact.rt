@@ -1,7 +1,7 @@
 //! Reads of just so many bytes (own).
 
-ghost use Rattle.std.specs.Prelude.{◌≡◌, ◌<◌, ◌≤◌, length, max, take, vec_len, IfOk};
-ghost use Rattle.ffv1_devices.specs.Exact.{Fills, PassesOver, ReadsNext};
+ghost use Rattle.std.specs.Prelude.{◌≡◌, ◌+◌, ◌<◌, ◌≤◌, length, max, take, vec_len, IfOk};
+ghost use Rattle.ffv1_devices.specs.Exact.{Fills, PassesOver, ReadsNext, GrowsAsRead, piece};
 
 use crate::reads::read_full;
 use crate::streams::Source;
@@ -82,6 +82,7 @@ fn next_room(room: &mut Vec<u8>, filled: usize, size: usize) -> Result<usize, Al
     ensures same { take filled room.new.items ≡ take filled room.old.items }
     ensures least { vec_len room.old ≤ vec_len room.new }
     ensures most { vec_len room.new ≤ max (vec_len room.old) size }
+    ensures grown { vec_len room.new ≤ max (vec_len room.old) (filled + max filled piece) }
 {
     if room.len() == filled {
         let more = filled.max(PIECE).min(size - filled);
@@ -92,7 +93,8 @@ fn next_room(room: &mut Vec<u8>, filled: usize, size: usize) -> Result<usize, Al
 }
 
 /// Reads the next `size` bytes to the front of `room`. Its length stays where that is enough. Else it grows as the bytes come, never by
-/// more than came so far or 65536 bytes, whichever is more, and to `size` at most: a size that is only claimed takes no memory.
+/// more than came so far or 65536 bytes, whichever is more, and to `size` at most: a size that is only claimed takes no memory. So
+/// `grown` says, also after a fault: room that grew has at most as many bytes more than were read as were read, or 65536 more.
 ///
 /// `Read` comes where the source failed, or ended, before that many came, `Memory` where a growth is refused; then fewer bytes were
 /// read, and what `room` has is left open.
@@ -104,6 +106,7 @@ pub fn read_next<S: Source>(
     ensures read { ReadsNext size result room.new.items (S.log source.old) (S.log source.new) }
     ensures least { vec_len room.old ≤ vec_len room.new }
     ensures most { vec_len room.new ≤ max (vec_len room.old) size }
+    ensures grown { GrowsAsRead (vec_len room.old) (vec_len room.new) (S.log source.old) (S.log source.new) }
 {
     let mut filled = 0;
     while filled < size {

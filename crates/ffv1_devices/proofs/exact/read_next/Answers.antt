@@ -3,12 +3,12 @@ use Rattle.std.proofs.lemmas.Result.{err_from_is_err_and}
 use borrow.Rule.Slice.PartMut.{mid_len}
 use Rattle.ffv1_devices.specs.Logs.{Reads}
 use Rattle.ffv1_devices.proofs.Steps.{Reads-nil, Reads-trans}
-use Rattle.ffv1_devices.proofs.ExactSteps.{EndsBefore-after}
+use Rattle.ffv1_devices.proofs.ExactSteps.{EndsBefore-after, GrowsAsRead-stopped}
 use Rattle.ffv1_devices.proofs.Filling.{take-put_back}
 use Rattle.ffv1_devices.proofs.exact.read_next.Goals as goal
 
 pub loop-filled-init : goal.loop-filled-init
-loop-filled-init g c = record { within = omega arith; front = omega arith; read = Reads-nil _; least = omega arith; most = omega arith }
+loop-filled-init g c = record { within = omega arith; front = omega arith; read = Reads-nil _; least = omega arith; most = omega arith; grown = omega arith }
 
 pub returns-in_err-end-clause-read : goal.returns-in_err-end-clause-read
 returns-in_err-end-clause-read g c =
@@ -24,6 +24,12 @@ returns-in_err-fill-clause-read g c =
     let part = mid_len c.loop-filled.filled c.in_ok-end.end c.deref_mut.result.now (omega (arith, end.2, c.deref_mut.ensures.len)) in
     rw (p.1, p.2) (EndsBefore-after _ _ _ _ _ _ inv.read c.in_err-fill.ensures
     (omega (arith, end.0, end.1, part, length-take-le c.loop-filled.filled c.loop-filled.room.items (omega (arith, inv.within, c.loop-filled.room.ok)))))
+
+pub returns-in_err-fill-clause-grown : goal.returns-in_err-fill-clause-grown
+returns-in_err-fill-clause-grown g c =
+    let inv = c.loop-filled.invariant in
+    let front = length-take-le c.loop-filled.filled c.loop-filled.room.items (omega (arith, inv.within, c.loop-filled.room.ok)) in
+    GrowsAsRead-stopped _ _ _ _ _ _ _ inv.read c.in_err-fill.ensures (omega (arith, inv.grown, c.in_ok-end.ensures.grown, front))
 
 pub loop-filled-preserved : goal.loop-filled-preserved
 loop-filled-preserved g c =
@@ -41,4 +47,5 @@ loop-filled-preserved g c =
       read = subst (Reads _ _) (sym grown) (Reads-trans _ _ _ _ _ (subst (Reads _ _) (sym front) inv.read) c.in_ok-fill.ensures);
       least = omega (arith, inv.least, c.in_ok-end.ensures.least);
       most = omega (arith, inv.most, c.in_ok-end.ensures.most);
+      grown = omega (arith, inv.grown, c.in_ok-end.ensures.grown, end.0);
     }
