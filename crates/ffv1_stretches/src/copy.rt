@@ -59,6 +59,9 @@ impl<S: Source> CopyReader<S> {
 fn skip<S: Source>(source: &mut S, count: u64) -> Result<(), CutShort>
     ensures { PassesOver count result (S.log source.old) (S.log source.new) }
 {
+    if count == 0 {
+        return Ok(());
+    }
     let mut piece = [0u8; PIECE];
     pass_over(source, count, &mut piece)
 }
