@@ -1,21 +1,24 @@
--- A register that takes one byte more, or eight.
-use Rattle.std.proofs.Common.{◌≡◌, ℕ, ◌+◌, ◌*◌, ◌/◌, ◌%◌, ◌^◌, ◌<◌, Bool, false, List, [], ◌∷◌, ◌++◌, length, take, replicate, get_or, refl, sym, ap, ◌∙◌, subst, arith, lit<}
+-- A register that takes one byte more, or sixteen.
+use Rattle.std.proofs.Common.{◌≡◌, ℕ, zero, suc, ◌+◌, ◌*◌, ◌/◌, ◌%◌, ◌^◌, ◌<◌, Bool, false, List, [], ◌∷◌, ◌++◌, length, take, drop, reverse, replicate, get_or, refl, sym, ap, ◌∙◌, subst, arith, lit<}
 use Rattle.std.specs.Prelude.{bit_xor, bit_or}
 use Rattle.std.specs.List.{concat}
-use Rattle.std.specs.Int.{w32, bit_not, to_le_bytes, from_be_bytes, reverse_bits_onto}
-use Rattle.std.specs.Int.Bits.{xor_zero_r}
-use Rattle.std.proofs.lemmas.Nat.{xor_lt, or_shifted}
-use Rattle.std.proofs.lemmas.List.{append-nil, append_assoc, take_more}
+use Rattle.std.specs.Int.{w32, w64, bit_not, to_le_bytes, reverse_bits_onto}
+use Rattle.std.specs.Int.Bits.{xor_zero_r, xor_assoc, xor_comm}
+use Rattle.std.proofs.lemmas.Nat.{xor_lt, xor_mod, xor_shr, or_shifted}
+use Rattle.std.proofs.Math.Nat.{mod-eq_of_lt}
+use Rattle.std.proofs.Math.Seq.{take-add}
+use Rattle.std.specs.Simd.{first_chunks}
+use Rattle.std.proofs.lemmas.List.{append-nil, append_assoc, length-append, length-replicate, replicate-append-replicate, take-append-drop, take_more}
 use Rattle.std.proofs.lemmas.List.Folds.{concat-append}
-use Rattle.ffv1_bits.specs.Bits.{number_bits}
+use Rattle.ffv1_bits.specs.Bits.{number_bits, bits_of}
 use Rattle.ffv1_bits.specs.Parity.{polynomial_of, reduced_at, divided, remainder_of}
-use Rattle.ffv1_bits.proofs.EightBytes.{moved_entry, eight_taken}
+use Rattle.ffv1_bits.proofs.EightBytes.{moved_entry}
 use Rattle.ffv1_bits.proofs.Remainders.{table_turn}
 use Rattle.ebml_crc.specs.Crc.{sent_bits, complemented, crc_remainder, crc32_of}
-use Rattle.ebml_crc.specs.Register.{register_of, Advances}
+use Rattle.ebml_crc.specs.Register.{register_of, Advances, left_before}
 use Rattle.ebml_crc.specs.declared.crc.TheConstants.{START}
-use Rattle.ebml_crc.proofs.Turned.{reversed-xor, reversed_again, reversed_small, bytes_reversed, moved_down, turned_entry, polynomial_of-sent}
-use Rattle.ebml_crc.proofs.Registers.{left_after, start, left_more, sent_append, length-sent, left_of_32, left_of_zeros, ones, remainder_left, crc_remainder_small, elements_of_eight, turned_eight, turned_are_bytes, eight_turn, zero_byte}
+use Rattle.ebml_crc.proofs.Turned.{reversed-xor, reversed_again, reversed_bits, reversed_small, bytes_reversed, moved_down, turned_entry, polynomial_of-sent}
+use Rattle.ebml_crc.proofs.Registers.{left_after, start, left_more, sent_append, length-sent, left_of_32, left_of_zeros, ones, remainder_left, crc_remainder_small, remainder_sum, left_of_register, zero_byte}
 
 -- ---- the register
 
@@ -118,67 +121,166 @@ byte_advanced register b low entry next small below low_is entry_is made = λ by
     advanced_so bytes (b ∷ []) (b ∷ 0 ∷ 0 ∷ 0 ∷ []) (replicate 8 false) register b next is (low_bytes b below) refl (byte_split b)
     (made ∙ ap (λ e. bit_xor e (t / 2 ^ 8)) (entry_is ∙ ap (turned_entry 0) low_is) ∙ left_of_byte t t_small)
 
--- ---- eight bytes
+-- ---- sixteen bytes
 
-four_zeros : sent_bits (0 ∷ 0 ∷ 0 ∷ 0 ∷ []) ≡ replicate 32 false
-unfolding sent_bits number_bits
-four_zeros = refl
+-- what is left of bytes after others is the sum of what is left of each
+left_before-append : (xs ys : List ℕ) (zeros : ℕ) → left_before (xs ++ ys) zeros ≡ bit_xor (left_before xs (8 * length ys + zeros)) (left_before ys zeros)
+unfolding left_before
+left_before-append xs ys zeros =
+    let front : List Bool = sent_bits xs in
+    let back : List Bool = sent_bits ys ++ replicate zeros false in
+    let long : length (sent_bits ys ++ replicate zeros false) ≡ 8 * length ys + zeros =
+    length-append (sent_bits ys) (replicate zeros false) ∙ omega (arith, length-sent ys, length-replicate zeros false) in
+    ap (λ bits. reverse_bits_onto 32 (remainder_of bits) 0)
+    (ap (λ bits. bits ++ replicate zeros false) (sent_append xs ys) ∙ append_assoc front (sent_bits ys) (replicate zeros false))
+    ∙ ap (λ r. reverse_bits_onto 32 r 0) (remainder_sum front back)
+    ∙ reversed-xor 32 (remainder_of (front ++ replicate (length back) false)) (remainder_of back)
+    ∙ ap (λ n. bit_xor (reverse_bits_onto 32 (remainder_of (front ++ replicate n false)) 0) (reverse_bits_onto 32 (remainder_of back) 0)) long
 
--- its last four, and four zero bytes
-abbrev later_eight : List ℕ → List ℕ
-later_eight eight = get_or eight 4 0 ∷ get_or eight 5 0 ∷ get_or eight 6 0 ∷ get_or eight 7 0 ∷ 0 ∷ 0 ∷ 0 ∷ 0 ∷ []
+no_bits : (n : ℕ) → bits_of (replicate n 0) ≡ replicate (8 * n) false
+unfolding bits_of number_bits
+no_bits zero = refl
+no_bits (suc n) =
+    ap (λ bits. replicate 8 false ++ bits) (no_bits n) ∙ replicate-append-replicate 8 (8 * n) false
+    ∙ ap (λ k. replicate k false) (let e : 8 + 8 * n ≡ 8 * suc n = omega arith in e)
 
-abbrev pub first_four : List ℕ → List ℕ
-first_four eight = get_or eight 0 0 ∷ get_or eight 1 0 ∷ get_or eight 2 0 ∷ get_or eight 3 0 ∷ []
+-- the tables have what is left of one byte
+entry_left : (more b : ℕ) → turned_entry more b ≡ left_before (b ∷ []) (32 + 8 * more)
+unfolding left_before sent_bits bits_of
+entry_left more b =
+    ap (λ bits. reverse_bits_onto 32 (remainder_of bits) 0)
+    (ap (λ bits. bits ++ bits_of (replicate (4 + more) 0)) (reversed_bits 8 b ∙ sym (append-nil (reverse (number_bits 8 b))))
+    ∙ ap (λ bits. sent_bits (b ∷ []) ++ bits) (no_bits (4 + more) ∙ ap (λ k. replicate k false) (let e : 8 * (4 + more) ≡ 32 + 8 * more = omega arith in e)))
 
-eight_split : (eight : List ℕ) → length eight ≡ 8 → sent_bits eight ++ replicate 32 false ≡ sent_bits (first_four eight) ++ sent_bits (later_eight eight)
-eight_split eight long =
-    let last : List ℕ = get_or eight 4 0 ∷ get_or eight 5 0 ∷ get_or eight 6 0 ∷ get_or eight 7 0 ∷ [] in
-    ap (λ e. sent_bits e ++ replicate 32 false) (elements_of_eight eight long)
-    ∙ ap (λ bits. bits ++ replicate 32 false) (sent_append (first_four eight) last)
-    ∙ append_assoc (sent_bits (first_four eight)) (sent_bits last) (replicate 32 false)
-    ∙ ap (λ bits. sent_bits (first_four eight) ++ (sent_bits last ++ bits)) (sym four_zeros)
-    ∙ ap (λ bits. sent_bits (first_four eight) ++ bits) (sym (sent_append last (0 ∷ 0 ∷ 0 ∷ 0 ∷ [])))
+first_left : (b : ℕ) (bytes : List ℕ) (more k left : ℕ) → length bytes ≡ k → left ≡ left_before bytes (32 + 8 * more)
+    → bit_xor (turned_entry (more + k) b) left ≡ left_before (b ∷ bytes) (32 + 8 * more)
+first_left b bytes more k left long is =
+    let place : 32 + 8 * (more + k) ≡ 8 * length bytes + (32 + 8 * more) = omega (arith, long) in
+    ap (bit_xor (turned_entry (more + k) b)) is
+    ∙ ap (λ e. bit_xor e (left_before bytes (32 + 8 * more))) (entry_left (more + k) b ∙ ap (left_before (b ∷ [])) place)
+    ∙ sym (left_before-append (b ∷ []) bytes (32 + 8 * more))
 
--- the entries of a number's bytes and of the four bytes after it, as the code sums them
-abbrev pub eight_entries : ℕ → List ℕ → ℕ
-eight_entries t eight =
-    bit_xor
-    (bit_xor (bit_xor (bit_xor (turned_entry 3 (get_or eight 4 0)) (turned_entry 2 (get_or eight 5 0))) (turned_entry 1 (get_or eight 6 0)))
-    (turned_entry 0 (get_or eight 7 0)))
-    (bit_xor (bit_xor (turned_entry 7 (t % 256)) (turned_entry 6 (t / 2 ^ 8 % 256)))
-    (bit_xor (turned_entry 5 (t / 2 ^ 16 % 256)) (turned_entry 4 (t / 2 ^ 24 % 256))))
+in_order : (a b c d e f g h : ℕ)
+    → bit_xor (bit_xor (bit_xor (bit_xor e f) g) h) (bit_xor (bit_xor a b) (bit_xor c d))
+    ≡ bit_xor a (bit_xor b (bit_xor c (bit_xor d (bit_xor e (bit_xor f (bit_xor g h))))))
+in_order a b c d e f g h = xor_comm (bit_xor (bit_xor (bit_xor e f) g) h) (bit_xor (bit_xor a b) (bit_xor c d)) ∙ simp xor_assoc
 
-sums_reversed : (a b c d e f g h : ℕ)
-    → reverse_bits_onto 32 (bit_xor (bit_xor (bit_xor (bit_xor (bit_xor a b) c) d) 0) (bit_xor (bit_xor e f) (bit_xor g h))) 0
-    ≡ bit_xor (bit_xor (bit_xor (bit_xor (reverse_bits_onto 32 a 0) (reverse_bits_onto 32 b 0)) (reverse_bits_onto 32 c 0)) (reverse_bits_onto 32 d 0))
-    (bit_xor (bit_xor (reverse_bits_onto 32 e 0) (reverse_bits_onto 32 f 0)) (bit_xor (reverse_bits_onto 32 g 0) (reverse_bits_onto 32 h 0)))
-sums_reversed a b c d e f g h =
-    ap (λ s. reverse_bits_onto 32 (bit_xor s (bit_xor (bit_xor e f) (bit_xor g h))) 0) (xor_zero_r (bit_xor (bit_xor (bit_xor a b) c) d))
-    ∙ simp (reversed-xor 32)
+-- the entries of eight bytes, as the code sums them
+pub eight_left : (a b c d e f g h more : ℕ)
+    → bit_xor (bit_xor (bit_xor (bit_xor (turned_entry (more + 3) e) (turned_entry (more + 2) f)) (turned_entry (more + 1) g)) (turned_entry more h))
+    (bit_xor (bit_xor (turned_entry (more + 7) a) (turned_entry (more + 6) b)) (bit_xor (turned_entry (more + 5) c) (turned_entry (more + 4) d)))
+    ≡ left_before (a ∷ b ∷ c ∷ d ∷ e ∷ f ∷ g ∷ h ∷ []) (32 + 8 * more)
+eight_left a b c d e f g h more =
+    in_order (turned_entry (more + 7) a) (turned_entry (more + 6) b) (turned_entry (more + 5) c) (turned_entry (more + 4) d)
+    (turned_entry (more + 3) e) (turned_entry (more + 2) f) (turned_entry (more + 1) g) (turned_entry more h)
+    ∙ first_left a (b ∷ c ∷ d ∷ e ∷ f ∷ g ∷ h ∷ []) more 7 _ refl (first_left b (c ∷ d ∷ e ∷ f ∷ g ∷ h ∷ []) more 6 _ refl
+    (first_left c (d ∷ e ∷ f ∷ g ∷ h ∷ []) more 5 _ refl (first_left d (e ∷ f ∷ g ∷ h ∷ []) more 4 _ refl
+    (first_left e (f ∷ g ∷ h ∷ []) more 3 _ refl (first_left f (g ∷ h ∷ []) more 2 _ refl (first_left g (h ∷ []) more 1 _ refl (entry_left more h)))))))
 
-no_low : 0 ≡ from_be_bytes w32 (reverse_bits_onto 8 0 0 ∷ reverse_bits_onto 8 0 0 ∷ reverse_bits_onto 8 0 0 ∷ reverse_bits_onto 8 0 0 ∷ [])
-unfolding reverse_bits_onto
-no_low = refl
+-- the elements of a list of sixteen
+abbrev pub first_eight : List ℕ → List ℕ
+first_eight xs =
+    get_or xs 0 0 ∷ get_or xs 1 0 ∷ get_or xs 2 0 ∷ get_or xs 3 0
+    ∷ get_or xs 4 0 ∷ get_or xs 5 0 ∷ get_or xs 6 0 ∷ get_or xs 7 0 ∷ []
 
-left_of_eight : (t : ℕ) (eight : List ℕ)
-    → eight_entries t eight ≡ reverse_bits_onto 32 (left_after (reverse_bits_onto 32 t 0) (sent_bits (later_eight eight))) 0
-left_of_eight t eight =
-    let u : ℕ = reverse_bits_onto 32 t 0 in
-    let own = bytes_reversed t in
-    let later : List ℕ = turned_eight (later_eight eight) in
-    let taken = eight_taken u 0 later (reversed_small 32 t) refl (turned_are_bytes (later_eight eight)) no_low in
-    let left = eight_turn u _ (later_eight eight) refl taken in
-    let sums = sums_reversed (moved_entry 3 (reverse_bits_onto 8 (get_or eight 4 0) 0)) (moved_entry 2 (reverse_bits_onto 8 (get_or eight 5 0) 0))
-    (moved_entry 1 (reverse_bits_onto 8 (get_or eight 6 0) 0)) (moved_entry 0 (reverse_bits_onto 8 (get_or eight 7 0) 0))
-    (moved_entry 7 (u / 2 ^ 24 % 256)) (moved_entry 6 (u / 2 ^ 16 % 256)) (moved_entry 5 (u / 2 ^ 8 % 256)) (moved_entry 4 (u % 256)) in
-    rw (← own.first, ← own.second, ← own.third, ← own.last) (sym sums ∙ ap (λ r. reverse_bits_onto 32 r 0) left)
+abbrev pub last_eight : List ℕ → List ℕ
+last_eight xs =
+    get_or xs 8 0 ∷ get_or xs 9 0 ∷ get_or xs 10 0 ∷ get_or xs 11 0
+    ∷ get_or xs 12 0 ∷ get_or xs 13 0 ∷ get_or xs 14 0 ∷ get_or xs 15 0 ∷ []
 
-pub eight_advanced : (register n next : ℕ) (eight : List ℕ) → length eight ≡ 8 → to_le_bytes w32 n ≡ first_four eight
-    → next ≡ eight_entries (bit_xor register n) eight → Advances register eight next
-eight_advanced register n next eight long own made = λ bytes is.
-    advanced_so bytes eight (first_four eight) (sent_bits (later_eight eight)) register n next is own refl (eight_split eight long)
-    (made ∙ left_of_eight (bit_xor register n) eight)
+pub first_eight-small : (xs : List ℕ) → ((i : ℕ) → get_or xs i 0 < 256) → (i : ℕ) → get_or (first_eight xs) i 0 < 256
+first_eight-small xs small zero = small 0
+first_eight-small xs small (suc zero) = small 1
+first_eight-small xs small (suc (suc zero)) = small 2
+first_eight-small xs small (suc (suc (suc zero))) = small 3
+first_eight-small xs small (suc (suc (suc (suc zero)))) = small 4
+first_eight-small xs small (suc (suc (suc (suc (suc zero))))) = small 5
+first_eight-small xs small (suc (suc (suc (suc (suc (suc zero)))))) = small 6
+first_eight-small xs small (suc (suc (suc (suc (suc (suc (suc zero))))))) = small 7
+first_eight-small xs small (suc (suc (suc (suc (suc (suc (suc (suc i)))))))) = lit< tt
+
+pub last_eight-small : (xs : List ℕ) → ((i : ℕ) → get_or xs i 0 < 256) → (i : ℕ) → get_or (last_eight xs) i 0 < 256
+last_eight-small xs small zero = small 8
+last_eight-small xs small (suc zero) = small 9
+last_eight-small xs small (suc (suc zero)) = small 10
+last_eight-small xs small (suc (suc (suc zero))) = small 11
+last_eight-small xs small (suc (suc (suc (suc zero)))) = small 12
+last_eight-small xs small (suc (suc (suc (suc (suc zero))))) = small 13
+last_eight-small xs small (suc (suc (suc (suc (suc (suc zero)))))) = small 14
+last_eight-small xs small (suc (suc (suc (suc (suc (suc (suc zero))))))) = small 15
+last_eight-small xs small (suc (suc (suc (suc (suc (suc (suc (suc i)))))))) = lit< tt
+
+pub elements_of_sixteen : (xs : List ℕ) → length xs ≡ 16 → xs ≡ first_eight xs ++ last_eight xs
+elements_of_sixteen [] h = absurd (omega arith)
+elements_of_sixteen (x0 ∷ []) h = absurd (omega arith)
+elements_of_sixteen (x0 ∷ x1 ∷ []) h = absurd (omega arith)
+elements_of_sixteen (x0 ∷ x1 ∷ x2 ∷ []) h = absurd (omega arith)
+elements_of_sixteen (x0 ∷ x1 ∷ x2 ∷ x3 ∷ []) h = absurd (omega arith)
+elements_of_sixteen (x0 ∷ x1 ∷ x2 ∷ x3 ∷ x4 ∷ []) h = absurd (omega arith)
+elements_of_sixteen (x0 ∷ x1 ∷ x2 ∷ x3 ∷ x4 ∷ x5 ∷ []) h = absurd (omega arith)
+elements_of_sixteen (x0 ∷ x1 ∷ x2 ∷ x3 ∷ x4 ∷ x5 ∷ x6 ∷ []) h = absurd (omega arith)
+elements_of_sixteen (x0 ∷ x1 ∷ x2 ∷ x3 ∷ x4 ∷ x5 ∷ x6 ∷ x7 ∷ []) h = absurd (omega arith)
+elements_of_sixteen (x0 ∷ x1 ∷ x2 ∷ x3 ∷ x4 ∷ x5 ∷ x6 ∷ x7 ∷ x8 ∷ []) h = absurd (omega arith)
+elements_of_sixteen (x0 ∷ x1 ∷ x2 ∷ x3 ∷ x4 ∷ x5 ∷ x6 ∷ x7 ∷ x8 ∷ x9 ∷ []) h = absurd (omega arith)
+elements_of_sixteen (x0 ∷ x1 ∷ x2 ∷ x3 ∷ x4 ∷ x5 ∷ x6 ∷ x7 ∷ x8 ∷ x9 ∷ x10 ∷ []) h = absurd (omega arith)
+elements_of_sixteen (x0 ∷ x1 ∷ x2 ∷ x3 ∷ x4 ∷ x5 ∷ x6 ∷ x7 ∷ x8 ∷ x9 ∷ x10 ∷ x11 ∷ []) h = absurd (omega arith)
+elements_of_sixteen (x0 ∷ x1 ∷ x2 ∷ x3 ∷ x4 ∷ x5 ∷ x6 ∷ x7 ∷ x8 ∷ x9 ∷ x10 ∷ x11 ∷ x12 ∷ []) h = absurd (omega arith)
+elements_of_sixteen (x0 ∷ x1 ∷ x2 ∷ x3 ∷ x4 ∷ x5 ∷ x6 ∷ x7 ∷ x8 ∷ x9 ∷ x10 ∷ x11 ∷ x12 ∷ x13 ∷ []) h = absurd (omega arith)
+elements_of_sixteen (x0 ∷ x1 ∷ x2 ∷ x3 ∷ x4 ∷ x5 ∷ x6 ∷ x7 ∷ x8 ∷ x9 ∷ x10 ∷ x11 ∷ x12 ∷ x13 ∷ x14 ∷ []) h = absurd (omega arith)
+elements_of_sixteen (x0 ∷ x1 ∷ x2 ∷ x3 ∷ x4 ∷ x5 ∷ x6 ∷ x7 ∷ x8 ∷ x9 ∷ x10 ∷ x11 ∷ x12 ∷ x13 ∷ x14 ∷ x15 ∷ []) h = refl
+elements_of_sixteen (x0 ∷ x1 ∷ x2 ∷ x3 ∷ x4 ∷ x5 ∷ x6 ∷ x7 ∷ x8 ∷ x9 ∷ x10 ∷ x11 ∷ x12 ∷ x13 ∷ x14 ∷ x15 ∷ x16 ∷ more) h = absurd (omega arith)
+
+-- the last four of the bytes of a number of eight
+abbrev last_four : ℕ → List ℕ
+last_four n = n / 2 ^ 32 % 256 ∷ n / 2 ^ 40 % 256 ∷ n / 2 ^ 48 % 256 ∷ n / 2 ^ 56 % 256 ∷ []
+
+four_and_four : (n : ℕ) → to_le_bytes w64 n ≡ to_le_bytes w32 (n % 2 ^ 32) ++ last_four n
+four_and_four n =
+    let first : n % 2 ^ 32 % 256 ≡ n % 256 = omega arith in
+    let second : n % 2 ^ 32 / 256 % 256 ≡ n / 256 % 256 = omega arith in
+    let third : n % 2 ^ 32 / 65536 % 256 ≡ n / 65536 % 256 = omega arith in
+    let fourth : n % 2 ^ 32 / 16777216 % 256 ≡ n / 16777216 % 256 = omega arith in
+    cc
+
+-- a register goes into the first four
+mixed_four : (register n : ℕ) → register < 2 ^ 32 → to_le_bytes w64 (bit_xor n register) ≡ to_le_bytes w32 (bit_xor register (n % 2 ^ 32)) ++ last_four n
+mixed_four register n small =
+    let low : ℕ = n % 2 ^ 32 in
+    let high : ℕ = n / 2 ^ 32 in
+    let mixed : ℕ = bit_xor n register in
+    let sum : bit_xor n register % 2 ^ 32 ≡ bit_xor register (n % 2 ^ 32) =
+    xor_mod n register 32 ∙ ap (bit_xor low) (mod-eq_of_lt small) ∙ xor_comm low register in
+    let same : bit_xor n register / 2 ^ 32 ≡ n / 2 ^ 32 =
+    xor_shr n register 32 ∙ ap (bit_xor high) (let e : register / 2 ^ 32 ≡ 0 = omega arith in e) ∙ xor_zero_r high in
+    let fifth : mixed / 2 ^ 32 % 256 ≡ n / 2 ^ 32 % 256 = omega (arith, same) in
+    let sixth : mixed / 2 ^ 40 % 256 ≡ n / 2 ^ 40 % 256 = omega (arith, same) in
+    let seventh : mixed / 2 ^ 48 % 256 ≡ n / 2 ^ 48 % 256 = omega (arith, same) in
+    let last : mixed / 2 ^ 56 % 256 ≡ n / 2 ^ 56 % 256 = omega (arith, same) in
+    four_and_four mixed ∙ ap (λ low. to_le_bytes w32 low ++ last_four mixed) sum
+    ∙ ap (λ back. to_le_bytes w32 (bit_xor register (n % 2 ^ 32)) ++ back) (let e : last_four mixed ≡ last_four n = cc in e)
+
+pub sixteen_advanced : (register first last next : ℕ) (sixteen : List ℕ) → register < 2 ^ 32 → sixteen ≡ to_le_bytes w64 first ++ to_le_bytes w64 last
+    → next ≡ bit_xor (left_before (to_le_bytes w64 last) 32) (left_before (to_le_bytes w64 (bit_xor first register)) 96) → Advances register sixteen next
+unfolding left_before
+sixteen_advanced register first last next sixteen small whole made = λ bytes is.
+    let n : ℕ = first % 2 ^ 32 in
+    let t : ℕ = bit_xor register n in
+    let four : List ℕ = to_le_bytes w32 n in
+    let later : List ℕ = last_four first ++ to_le_bytes w64 last in
+    let zeros : List Bool = replicate 32 false in
+    let parts : sixteen ≡ four ++ later =
+    whole ∙ ap (λ front. front ++ to_le_bytes w64 last) (four_and_four first) ∙ append_assoc four (last_four first) (to_le_bytes w64 last) in
+    let split : sent_bits sixteen ++ zeros ≡ sent_bits four ++ (sent_bits later ++ zeros) =
+    ap (λ all. sent_bits all ++ zeros) parts ∙ ap (λ bits. bits ++ zeros) (sent_append four later) ∙ append_assoc (sent_bits four) (sent_bits later) zeros in
+    let mixed : to_le_bytes w64 (bit_xor first register) ++ to_le_bytes w64 last ≡ to_le_bytes w32 t ++ later =
+    ap (λ front. front ++ to_le_bytes w64 last) (mixed_four register first small) ∙ append_assoc (to_le_bytes w32 t) (last_four first) (to_le_bytes w64 last) in
+    let left : left_before (to_le_bytes w32 t ++ later) 32 ≡ reverse_bits_onto 32 (left_after (reverse_bits_onto 32 t 0) (sent_bits later ++ zeros)) 0 =
+    ap (λ bits. reverse_bits_onto 32 (remainder_of bits) 0)
+    (ap (λ bits. bits ++ zeros) (sent_append (to_le_bytes w32 t) later) ∙ append_assoc (sent_bits (to_le_bytes w32 t)) (sent_bits later) zeros)
+    ∙ ap (λ r. reverse_bits_onto 32 r 0) (sym (left_of_register t (sent_bits later ++ zeros))) in
+    advanced_so bytes sixteen four (sent_bits later ++ zeros) register n next is refl refl split
+    (made ∙ xor_comm (left_before (to_le_bytes w64 last) 32) (left_before (to_le_bytes w64 (bit_xor first register)) 96)
+    ∙ sym (left_before-append (to_le_bytes w64 (bit_xor first register)) (to_le_bytes w64 last) 32) ∙ ap (λ all. left_before all 32) mixed ∙ left)
 
 -- ---- one after the other
 
@@ -187,6 +289,17 @@ Advances-none register = λ bytes is. is ∙ ap register_of (sym (append-nil byt
 
 pub Advances-trans : (a b c : ℕ) (xs ys : List ℕ) → Advances a xs b → Advances b ys c → Advances a (xs ++ ys) c
 Advances-trans a b c xs ys p q = λ bytes is. q (bytes ++ xs) (p bytes is) ∙ ap register_of (append_assoc bytes xs ys)
+
+concat_chunks : (n k : ℕ) (xs : List ℕ) → concat (first_chunks n k xs) ≡ take (k * n) xs
+concat_chunks n zero xs = ap (λ m. take m xs) (let e : 0 ≡ 0 * n = omega arith in e)
+concat_chunks n (suc k) xs =
+    ap (λ more. take n xs ++ more) (concat_chunks n k (drop n xs)) ∙ sym (take-add n (k * n) xs)
+    ∙ ap (λ m. take m xs) (let e : n + k * n ≡ suc k * n = omega arith in e)
+
+pub chunks_and_rest : (bytes : List ℕ) → concat (first_chunks 16 (length bytes / 16) bytes) ++ drop (length bytes / 16 * 16) bytes ≡ bytes
+chunks_and_rest bytes =
+    ap (λ front. front ++ drop (length bytes / 16 * 16) bytes) (concat_chunks 16 (length bytes / 16) bytes)
+    ∙ take-append-drop (length bytes / 16 * 16) bytes
 
 pub chunk_advanced : (r : ℕ) (chunks : List (List ℕ)) (i register next : ℕ) → i < length chunks → Advances r (concat (take i chunks)) register
     → Advances register (get_or chunks i []) next → Advances r (concat (take (i + 1) chunks)) next

@@ -1,23 +1,22 @@
 -- The register, bit by bit; and what it begins with.
-use Rattle.std.proofs.Common.{◌≡◌, ℕ, zero, suc, ◌+◌, ◌-◌, ◌*◌, ◌%◌, ◌^◌, ◌<◌, ◌≤◌, Bool, true, false, not, List, [], ◌∷◌, ◌++◌, length, reverse, take, drop, map, replicate, get_or, refl, sym, ap, ◌∙◌, subst, arith, lit<}
+use Rattle.std.proofs.Common.{◌≡◌, ℕ, zero, suc, ◌+◌, ◌-◌, ◌*◌, ◌%◌, ◌^◌, ◌<◌, ◌≤◌, Bool, true, false, not, List, [], ◌∷◌, ◌++◌, length, reverse, take, drop, map, replicate, refl, sym, ap, ◌∙◌, subst, arith, lit<}
 use Rattle.std.specs.Prelude.{bit_xor}
 use Rattle.std.specs.List.{fold}
-use Rattle.std.specs.Int.{bit_at, w32, bit_not, reverse_bits_onto}
+use Rattle.std.specs.Int.{bit_at, w32, bit_not, reverse_bits_onto, bytes_low_first}
 use Rattle.std.specs.Int.Bits.{xor_shifted, xor_zero_r}
 use Rattle.std.proofs.Math.Nat.{pow-suc}
 use Rattle.std.proofs.lemmas.Nat.{xor_lt}
 use Rattle.std.proofs.lemmas.Nat.Bits.{bit_at_xor, bit_at_ones, bit_at_not, bit_at-lt, same_from_bits_below}
 use Rattle.std.proofs.lemmas.Grind.{flat_map-append}
-use Rattle.std.proofs.lemmas.List.{take-append-drop, length-append, length-reverse, length-take, length-map}
+use Rattle.std.proofs.lemmas.List.{take-append-drop, length-append, length-replicate, length-reverse, length-take, length-map}
 use Rattle.std.proofs.lemmas.List.Sums.{fold-append}
-use Rattle.ffv1_bits.specs.Bits.{number_bits, bits_of}
-use Rattle.ffv1_bits.specs.Parity.{polynomial_of, reduced_at, divided, remainder_of, AreBytes}
+use Rattle.ffv1_bits.specs.Bits.{number_bits}
+use Rattle.ffv1_bits.specs.Parity.{polynomial_of, reduced_at, divided, remainder_of}
 use Rattle.ffv1_bits.proofs.Division.{shifted, divided_is_fold, remainder_is_fold, remainder_small, divided-xor, divided_low, polynomial_small}
-use Rattle.ffv1_bits.proofs.Burst.{length-bits}
 use Rattle.ffv1_bits.proofs.Register.{byte_whole}
-use Rattle.ffv1_bits.proofs.Numbers.{length-number_bits}
+use Rattle.ffv1_bits.proofs.Numbers.{length-number_bits, polynomial_of-number_bits}
 use Rattle.ebml_crc.specs.Crc.{sent_bits, complemented, crc_remainder}
-use Rattle.ebml_crc.proofs.Turned.{reversed_bits, reversed_small}
+use Rattle.ebml_crc.proofs.Turned.{reversed_bits, reversed_small, sent_low_first}
 
 -- what is left of more bits after what was left of those before them
 unfoldable pub left_after : ℕ → List Bool → ℕ
@@ -47,57 +46,54 @@ length-sent [] = refl
 length-sent (x ∷ xs) =
     omega (arith, length-append (reverse (number_bits 8 x)) (sent_bits xs), length-reverse (number_bits 8 x), length-number_bits 8 x, length-sent xs)
 
--- ---- eight bytes
+-- ---- sums
 
--- the elements of a list of eight
-pub elements_of_eight : (xs : List ℕ) → length xs ≡ 8 → xs
-    ≡ get_or xs 0 0 ∷ get_or xs 1 0 ∷ get_or xs 2 0 ∷ get_or xs 3 0 ∷ get_or xs 4 0 ∷ get_or xs 5 0 ∷ get_or xs 6 0 ∷ get_or xs 7 0 ∷ []
-elements_of_eight [] h = absurd (omega arith)
-elements_of_eight (a ∷ []) h = absurd (omega arith)
-elements_of_eight (a ∷ b ∷ []) h = absurd (omega arith)
-elements_of_eight (a ∷ b ∷ c ∷ []) h = absurd (omega arith)
-elements_of_eight (a ∷ b ∷ c ∷ d ∷ []) h = absurd (omega arith)
-elements_of_eight (a ∷ b ∷ c ∷ d ∷ e ∷ []) h = absurd (omega arith)
-elements_of_eight (a ∷ b ∷ c ∷ d ∷ e ∷ f ∷ []) h = absurd (omega arith)
-elements_of_eight (a ∷ b ∷ c ∷ d ∷ e ∷ f ∷ g ∷ []) h = absurd (omega arith)
-elements_of_eight (a ∷ b ∷ c ∷ d ∷ e ∷ f ∷ g ∷ i ∷ []) h = refl
-elements_of_eight (a ∷ b ∷ c ∷ d ∷ e ∷ f ∷ g ∷ i ∷ j ∷ more) h = absurd (omega arith)
+no_worth : (n : ℕ) → polynomial_of (replicate n false) ≡ 0
+unfolding polynomial_of
+no_worth zero = refl
+no_worth (suc n) = omega (arith, no_worth n)
 
--- bytes that are turned
-pub sent_turned : (a b c d e f g h : ℕ) →
-    bits_of (reverse_bits_onto 8 a 0 ∷ reverse_bits_onto 8 b 0 ∷ reverse_bits_onto 8 c 0 ∷ reverse_bits_onto 8 d 0 ∷ reverse_bits_onto 8 e 0
-    ∷ reverse_bits_onto 8 f 0 ∷ reverse_bits_onto 8 g 0 ∷ reverse_bits_onto 8 h 0 ∷ []) ≡ sent_bits (a ∷ b ∷ c ∷ d ∷ e ∷ f ∷ g ∷ h ∷ [])
-unfolding bits_of sent_bits
-sent_turned a b c d e f g h = simp reversed_bits
+left_of_none : (r n : ℕ) → left_after r (replicate n false) ≡ divided n (r * 2 ^ n)
+unfolding left_after
+left_of_none r n =
+    ap (λ k. divided k (r * 2 ^ k + polynomial_of (replicate n false))) (length-replicate n false)
+    ∙ ap (λ p. divided n (r * 2 ^ n + p)) (no_worth n) ∙ ap (divided n) (let e : r * 2 ^ n + 0 ≡ r * 2 ^ n = omega arith in e)
 
--- eight bytes, turned
-abbrev pub turned_eight : List ℕ → List ℕ
-turned_eight eight =
-    reverse_bits_onto 8 (get_or eight 0 0) 0 ∷ reverse_bits_onto 8 (get_or eight 1 0) 0 ∷ reverse_bits_onto 8 (get_or eight 2 0) 0
-    ∷ reverse_bits_onto 8 (get_or eight 3 0) 0 ∷ reverse_bits_onto 8 (get_or eight 4 0) 0 ∷ reverse_bits_onto 8 (get_or eight 5 0) 0
-    ∷ reverse_bits_onto 8 (get_or eight 6 0) 0 ∷ reverse_bits_onto 8 (get_or eight 7 0) 0 ∷ []
+-- more bits leave beside a register what they leave alone
+left_sum : (r : ℕ) (bits : List Bool) → left_after r bits ≡ bit_xor (left_after r (replicate (length bits) false)) (remainder_of bits)
+unfolding left_after remainder_of
+left_sum r bits =
+    let n : ℕ = length bits in
+    let p : ℕ = polynomial_of bits in
+    ap (divided n) (sym (xor_shifted r n p (polynomial_small bits))) ∙ divided-xor n (r * 2 ^ n) p
+    ∙ ap (λ q. bit_xor q (divided n p)) (sym (left_of_none r n))
 
-pub turned_are_bytes : (eight : List ℕ) → AreBytes (turned_eight eight)
-turned_are_bytes eight zero = reversed_small 8 (get_or eight 0 0)
-turned_are_bytes eight (suc zero) = reversed_small 8 (get_or eight 1 0)
-turned_are_bytes eight (suc (suc zero)) = reversed_small 8 (get_or eight 2 0)
-turned_are_bytes eight (suc (suc (suc zero))) = reversed_small 8 (get_or eight 3 0)
-turned_are_bytes eight (suc (suc (suc (suc zero)))) = reversed_small 8 (get_or eight 4 0)
-turned_are_bytes eight (suc (suc (suc (suc (suc zero))))) = reversed_small 8 (get_or eight 5 0)
-turned_are_bytes eight (suc (suc (suc (suc (suc (suc zero)))))) = reversed_small 8 (get_or eight 6 0)
-turned_are_bytes eight (suc (suc (suc (suc (suc (suc (suc zero))))))) = reversed_small 8 (get_or eight 7 0)
-turned_are_bytes eight (suc (suc (suc (suc (suc (suc (suc (suc i)))))))) = lit< tt
+remainder-append : (front back : List Bool) → remainder_of (front ++ back) ≡ left_after (remainder_of front) back
+remainder-append front back =
+    remainder_is_fold (front ++ back) ∙ fold-append shifted 0 front back ∙ ap (λ r. fold shifted r back) (sym (remainder_is_fold front))
+    ∙ sym (left_is_fold (remainder_of front) back)
 
-pub eight_turn : (r next : ℕ) (eight : List ℕ) → length eight ≡ 8
-    → next ≡ divided 64 (r * 2 ^ 64 + polynomial_of (bits_of (turned_eight eight))) → next ≡ left_after r (sent_bits eight)
-eight_turn r next eight eight_long is =
-    let at : ℕ → ℕ = λ i. get_or eight i 0 in
-    let turned : List ℕ = turned_eight eight in
-    let bits : bits_of turned ≡ sent_bits eight =
-    sent_turned (at 0) (at 1) (at 2) (at 3) (at 4) (at 5) (at 6) (at 7) ∙ ap sent_bits (sym (elements_of_eight eight eight_long)) in
-    let long : length (bits_of turned) ≡ 64 = length-bits turned in
-    is ∙ ap (λ n. divided n (r * 2 ^ n + polynomial_of (bits_of turned))) (sym long) ∙ divided_is_fold r (bits_of turned)
-    ∙ ap (fold shifted r) bits ∙ sym (left_is_fold r (sent_bits eight))
+-- what is left of bits after others is the sum of what is left of each, the first with zeros in place of the last
+pub remainder_sum : (front back : List Bool)
+    → remainder_of (front ++ back) ≡ bit_xor (remainder_of (front ++ replicate (length back) false)) (remainder_of back)
+remainder_sum front back =
+    remainder-append front back ∙ left_sum (remainder_of front) back
+    ∙ ap (λ q. bit_xor q (remainder_of back)) (sym (remainder-append front (replicate (length back) false)))
+
+remainder_of_number : (r : ℕ) → r < 2 ^ 32 → remainder_of (number_bits 32 r) ≡ r
+unfolding remainder_of
+remainder_of_number r small =
+    ap (λ n. divided n (polynomial_of (number_bits 32 r))) (length-number_bits 32 r) ∙ ap (divided 32) (polynomial_of-number_bits 32 r small)
+    ∙ divided_low 32 r small
+
+-- a register leaves what its own bytes do
+pub left_of_register : (t : ℕ) (bits : List Bool)
+    → left_after (reverse_bits_onto 32 t 0) bits ≡ remainder_of (sent_bits (bytes_low_first 0 4 t) ++ bits)
+left_of_register t bits =
+    let own : List Bool = sent_bits (bytes_low_first 0 4 t) in
+    let same : remainder_of (sent_bits (bytes_low_first 0 4 t)) ≡ reverse_bits_onto 32 t 0 =
+    ap remainder_of (sent_low_first t ∙ sym (reversed_bits 32 t)) ∙ remainder_of_number (reverse_bits_onto 32 t 0) (reversed_small 32 t) in
+    ap (λ r. left_after r bits) (sym same) ∙ sym (remainder-append own bits)
 
 -- ---- 8 zeros more
 

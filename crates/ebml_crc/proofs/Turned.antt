@@ -171,19 +171,19 @@ moved_down n small =
 
 -- ---- the tables
 
-entries_agree : (n : ℕ) → n < 2048
+entries_agree : (n : ℕ) → n < 4096
     → nat_eq (get_or (get_or ENTRIES (n / 256) []) (n % 256) 0)
     (reverse_bits_onto 32 (divided (8 + 8 * (n / 256)) (reverse_bits_onto 8 (n % 256) 0 * 2 ^ (32 + 8 * (n / 256)))) 0) ≡ true
 unfolding reverse_bits_onto reduced_at divided
 entries_agree n h =
     agree_below_at (λ m. nat_eq (get_or (get_or ENTRIES (m / 256) []) (m % 256) 0)
-    (reverse_bits_onto 32 (divided (8 + 8 * (m / 256)) (reverse_bits_onto 8 (m % 256) 0 * 2 ^ (32 + 8 * (m / 256)))) 0)) (λ _. true) 2048 n refl h
+    (reverse_bits_onto 32 (divided (8 + 8 * (m / 256)) (reverse_bits_onto 8 (m % 256) 0 * 2 ^ (32 + 8 * (m / 256)))) 0)) (λ _. true) 4096 n refl h
 
 -- the entry of a byte, in the other order as the byte is
 abbrev pub turned_entry : ℕ → ℕ → ℕ
 turned_entry more b = reverse_bits_onto 32 (moved_entry more (reverse_bits_onto 8 b 0)) 0
 
-pub entries_are : (more b : ℕ) → more < 8 → b < 256 → get_or (get_or ENTRIES more []) b 0 ≡ turned_entry more b
+pub entries_are : (more b : ℕ) → more < 16 → b < 256 → get_or (get_or ENTRIES more []) b 0 ≡ turned_entry more b
 entries_are more b few small =
     let place : ℕ = 256 * more + b in
     let which : place / 256 ≡ more = omega arith in

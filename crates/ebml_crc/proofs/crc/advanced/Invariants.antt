@@ -7,4 +7,4 @@ use Rattle.ebml_crc.proofs.crc.advanced.Given as goal
 -- The chunks and the bytes so far after them were taken.
 abbrev pub invariant-loop-byte : goal.invariant-loop-byte
 invariant-loop-byte l =
-    Advances l.fn.register (concat (first_chunks 8 (length l.bytes / 8) l.bytes) ++ take l.byte-index l.rest) l.register
+    Advances l.fn.register (concat (first_chunks 16 (length l.bytes / 16) l.bytes) ++ take l.byte-index l.rest) l.register

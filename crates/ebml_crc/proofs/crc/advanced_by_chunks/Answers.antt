@@ -6,5 +6,5 @@ loop-chunk-init c = Advances-none c.args.register
 
 pub loop-chunk-preserved : goal.loop-chunk-preserved
 loop-chunk-preserved c =
-    chunk_advanced c.args.register c.args.chunks.now c.loop-chunk.chunk-index c.loop-chunk.register c.advanced_by_eight-register.result
-    c.loop-chunk-test.true c.loop-chunk.invariant c.advanced_by_eight-register.ensures
+    chunk_advanced c.args.register c.args.chunks.now c.loop-chunk.chunk-index c.loop-chunk.register c.advanced_by_sixteen-register.result
+    c.loop-chunk-test.true c.loop-chunk.invariant c.advanced_by_sixteen-register.ensures
