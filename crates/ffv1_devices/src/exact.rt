@@ -74,7 +74,8 @@ pub fn pass_over<S: Source>(source: &mut S, count: u64, room: &mut [u8]) -> Resu
 }
 
 /// Makes room after the bytes that came, of so many in all, and returns where it ends. What lies there is used first; a growth is by
-/// as many bytes as came, or by `PIECE`, whichever is more.
+/// as many bytes as came, or by `PIECE`, whichever is more. Memory is taken for all of them, though no more lie there than may come: so
+/// the bytes need not move again where a little more is read the next time.
 fn next_room(room: &mut Vec<u8>, filled: usize, size: usize) -> Result<usize, AllocError>
     requires some { filled < size }
     requires within { filled ≤ vec_len room.old }
@@ -86,7 +87,7 @@ fn next_room(room: &mut Vec<u8>, filled: usize, size: usize) -> Result<usize, Al
 {
     if room.len() == filled {
         let more = filled.max(PIECE).min(size - filled);
-        room.reserve_exact(more)?;
+        room.reserve_exact(filled.max(PIECE))?;
         room.resize(filled + more, 0)?;
     }
     Ok(room.len().min(size))

@@ -44,6 +44,10 @@ fn add_part(words: &[&[u8]], stretches: &mut Vec<Stretch>) -> Result<bool, Alloc
     let Some(part) = next_part(words, &last) else {
         return Ok(false);
     };
+    if last.parts.is_empty() {
+        // Most elements have one frame.
+        last.parts.reserve_exact(1)?;
+    }
     last.parts.push(part)?;
     stretches.push(last)?;
     Ok(true)

@@ -59,7 +59,7 @@ fn read_places(alloc: Global, words: &[&[u8]]) -> Result<Option<Vec<Option<u64>>
         ((places : List (Option ℕ)) → AllZip IsPlaceWord (map (λ word. word.now) words.now) places → ⊥)
         (λ places. AllZip IsPlaceWord (map (λ word. word.now) words.now) places.items)) }
 {
-    let mut places = Vec::new(alloc);
+    let mut places = Vec::with_capacity(alloc, words.len())?;
     for word in words {
         match read_place(word) {
             Some(place) => places.push(place)?,
