@@ -1,6 +1,14 @@
 -- Parts and their splices, one more at a time, and what they give, written over a version.
-use Rattle.std.proofs.Common.{◌≡◌, ℕ, zero, suc, ◌+◌, ◌-◌, ◌<◌, ◌≤◌, Bool, true, false, cond, List, [], ◌∷◌, ◌++◌, length, get_or, take, drop, take-append-drop, map, refl, sym, ap, ◌∙◌, subst, arith}
+use Rattle.std.proofs.Common.{◌≡◌, ℕ, zero, suc, ◌+◌, ◌-◌, ◌<◌, ◌≤◌, Bool, true, false, cond, List, [], ◌∷◌, ◌++◌, Option, Some, None, Bor, length, get_or, take, drop, take-append-drop, map, min, refl, sym, ap, ◌∙◌, subst, arith}
 use Rattle.std.specs.Prelude.{slice_range}
+use Rattle.std.specs.Iterator.{Yields}
+use Rattle.std.specs.Iterator.Adapters.{zip_first, zip_second}
+use Rattle.std.specs.Slice.Iter.{iter_rest}
+use Rattle.std.specs.declared.iter.Zip.{Zip}
+use Rattle.std.specs.declared.slice.Iter.{Iter}
+use Rattle.std.proofs.lemmas.Fn.{fronts}
+use Rattle.std.proofs.lemmas.Iterator.{zips}
+use Rattle.std.proofs.lemmas.Slice.Zip.{AllZip-long, zip_turn, zip_end}
 use Rattle.std.specs.List.{AllZip, filter, flat_map, zip}
 use Rattle.std.proofs.lemmas.Grind.{flat_map-append}
 use Rattle.std.proofs.lemmas.List.{drop-drop, take_more, take_all, map-append, append-nil, length-append}
@@ -8,7 +16,7 @@ use Rattle.std.proofs.lemmas.List.Sums.{fold-append}
 use Rattle.ffv1_weave.specs.Parts.{written}
 use Rattle.ffv1_splice.specs.Splice.{SplicedValue}
 use Rattle.ffv1_splice.specs.declared.place.Place.{Place}
-use Rattle.ffv1_mend.specs.Improved.{Patch, patched, is_given, patches_of, given_patches, whole_patches}
+use Rattle.ffv1_mend.specs.Improved.{Patch, patched, is_given, patches_of, given_patches, whole_patches, IsFitting, AreFitting}
 use Rattle.ffv1_mend.specs.declared.part.Part.{Part}
 
 -- ---- two lists, place by place
@@ -146,3 +154,33 @@ module _ {Y : Type 0} (parts : List Part) (splices : List SplicedValue) (version
 pub all_taken : (parts : List Part) (splices : List SplicedValue) (i : ℕ) → length parts ≡ length splices → length parts ≤ i
     → (take i parts ≡ parts) × (take i splices ≡ splices)
 all_taken parts splices i long past = (take_all i parts past, take_all i splices (omega arith))
+
+-- ---- a loop over parts and their splices
+
+-- The pair that comes next: the splice fits, and both are those at the place that the loop has come to.
+pub record IsNextPair (parts : List Part) (splices : List SplicedValue) (size i : ℕ) (part : Part) (spliced : SplicedValue) : Type 0 where
+  pub more : i < length parts
+  pub fits : IsFitting size part spliced
+  pub part_is : part ≡ get_or parts i no_part
+  pub splice_is : spliced ≡ get_or splices i no_splice
+
+module _ (parts : List Part) (splices : List SplicedValue) (size : ℕ) (fit : AreFitting size parts splices) (yielded : List (Bor Part × Bor SplicedValue))
+    (start now then : Zip (Iter Part) (Iter SplicedValue)) (item : Option (Bor Part × Bor SplicedValue)) (first : iter_rest (zip_first start) ≡ parts)
+    (second : iter_rest (zip_second start) ≡ splices) (come : Yields (zips fronts fronts) start yielded now) where
+  pub next_pair : (part : Bor Part) (spliced : Bor SplicedValue) → item ≡ Some (part, spliced) → zips fronts fronts now item then
+      → IsNextPair parts splices size (length yielded) part.now spliced.now
+  next_pair part spliced is steps =
+      let turn = zip_turn parts splices yielded start now then item first second come (part, spliced) is steps in
+      record {
+        more = turn.0;
+        fits = subst (λ p. IsFitting size p spliced.now) (sym (turn.2 no_part))
+            (subst (IsFitting size (get_or parts (length yielded) no_part)) (sym (turn.3 no_splice))
+            (zip_at (IsFitting size) parts splices (length yielded) no_part no_splice fit turn.0));
+        part_is = turn.2 no_part;
+        splice_is = turn.3 no_splice;
+      }
+
+  pub no_pair_left : item ≡ None → zips fronts fronts now item then → (take (length yielded) parts ≡ parts) × (take (length yielded) splices ≡ splices)
+  no_pair_left is steps =
+      let end : length yielded ≡ min (length parts) (length splices) = zip_end parts splices yielded start now then item first second come is steps in
+      all_taken parts splices (length yielded) (sym (AllZip-long (IsFitting size) parts splices fit)) (let same = AllZip-long (IsFitting size) parts splices fit in omega arith)
