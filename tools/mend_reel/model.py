@@ -1,0 +1,217 @@
+"""What the parts of mend-reel tell each other: copies, what lies where in a file, and what became of it.
+
+Places and sizes count bytes, times are in seconds. Copies count from 0 here, and from 1 wherever a person reads them.
+"""
+from __future__ import annotations
+
+import dataclasses
+import enum
+import os
+import stat
+import typing
+
+
+class Fault(Exception):
+    """What ends the work, in one line: status 1."""
+
+
+class Kind(enum.Enum):
+    """What vouches for the bytes of a stretch, by the word of the list."""
+
+    FRAME = "frame"
+    ELEMENT = "crc32"
+    PLAIN = "plain"
+
+
+class State(enum.Enum):
+    """What became of a stretch, by the word of the program."""
+
+    WHOLE = "whole"
+    WOVEN = "woven"
+    DISPUTED = "disputed"
+    MISSING = "missing"
+    ALONE = "alone"
+    AGREED = "agreed"
+    OPEN = "open"
+
+    def is_good(self) -> bool:
+        return self in (State.WHOLE, State.WOVEN, State.AGREED, State.ALONE)
+
+
+class Content(enum.Enum):
+    """What the bytes of a stretch are, in an archivist's words."""
+
+    HEADER = "file header"
+    INFORMATION = "information on the recording"
+    TRACKS = "description of the tracks"
+    PLACES = "table of contents"
+    INDEX = "index"
+    TAGS = "tags"
+    CHAPTERS = "chapters"
+    ATTACHMENTS = "attachments"
+    CLUSTER = "frames and sound"
+    FRAME = "frame"
+    VIDEO = "video"
+    SOUND = "sound"
+    SUBTITLES = "subtitles"
+    PADDING = "padding"
+    FRAMING = "element header"
+    UNKNOWN = "bytes between frames"
+
+
+@dataclasses.dataclass(frozen=True)
+class What:
+    """What the bytes of a stretch are, of which track if of one, and from when to when they play if that is known."""
+
+    content: Content
+    track: typing.Optional[int] = None
+    start: typing.Optional[float] = None
+    end: typing.Optional[float] = None
+
+
+@dataclasses.dataclass(frozen=True)
+class Track:
+    """A track as the container describes it. `step` is the time from a frame to the next, where the container tells it."""
+
+    number: int
+    content: Content
+    codec: str
+    is_ffv1: bool = False
+    width: int = 0
+    height: int = 0
+    record: bytes = b""
+    step: typing.Optional[float] = None
+
+
+@dataclasses.dataclass(frozen=True)
+class Frame:
+    """A frame of an FFV1 track: its bytes in the file, and when it is shown."""
+
+    track: int
+    time: float
+    place: int
+    size: int
+    key: bool = True
+
+    @property
+    def end(self) -> int:
+        return self.place + self.size
+
+
+@dataclasses.dataclass(frozen=True)
+class Told:
+    """What a file tells of itself beside its frames: how long it plays, and by track how many frames it has, at what times its index
+    says that some lie, and when it ends. Nothing where it does not say."""
+
+    duration: typing.Optional[float] = None
+    counts: typing.Mapping[int, int] = dataclasses.field(default_factory=dict)
+    index: typing.Mapping[int, typing.Sequence[float]] = dataclasses.field(default_factory=dict)
+    ends: typing.Mapping[int, float] = dataclasses.field(default_factory=dict)
+
+
+class Because(enum.Enum):
+    """Why a stretch in which copies differ is taken from one of them, in words that follow its number."""
+
+    ALONE = ""
+    CONFIRMED = ", which the container confirms"
+    NOT_LOST = ", as a sector is lost there in the others"
+    UNDAMAGED = ", as the others are known to be damaged there"
+    MOST = ", as most of the copies that can be read have that"
+    HEALTHIEST = ", as more of that copy is verified"
+    FIRST = ", the first"
+
+
+@dataclasses.dataclass
+class Stretch:
+    """A run of bytes of OUT. `start` is its place there, `places` has for each copy where it lies in it, if it does. `parts` are frames
+    that lie within an element, by their places in OUT; a stretch of the kind FRAME has its own frame as its only one. `vouched` are
+    the copies of which the container itself confirms what they have here (a header that leads to the next element, say). `source` is the
+    copy FROM, and `because` says why."""
+
+    kind: Kind
+    start: int
+    size: int
+    what: What
+    places: typing.Tuple[typing.Optional[int], ...] = ()
+    parts: typing.Tuple[Frame, ...] = ()
+    vouched: typing.FrozenSet[int] = frozenset()
+    source: int = 0
+    because: Because = Because.ALONE
+
+    @property
+    def end(self) -> int:
+        return self.start + self.size
+
+
+@dataclasses.dataclass
+class Layout:
+    """What lies where in a file: its stretches, which follow each other and cover it, and the frames of all FFV1 tracks in the order of
+    their places. `gaps` are places and sizes of what no copy could divide. `rises` is whether the frames of a track have to lie in the
+    order of their times."""
+
+    size: int
+    tracks: typing.List[Track]
+    frames: typing.List[Frame]
+    stretches: typing.List[Stretch]
+    told: Told = Told()
+    gaps: typing.List[typing.Tuple[int, int]] = dataclasses.field(default_factory=list)
+    rises: bool = False
+
+
+@dataclasses.dataclass
+class Copy:
+    """A copy: its path, its open file, and its length in bytes. `form` is the container's name: `matroska`, one of FFmpeg's, or empty."""
+
+    path: str
+    file: int
+    size: int
+    form: str = ""
+
+    def read(self, place: int, size: int) -> bytes:
+        """Bytes of the file; fewer where it ends."""
+        try:
+            return os.pread(self.file, size, place)
+        except OSError as error:
+            raise Fault(f"cannot read {self.path}: {error.strerror}") from None
+
+
+def open_copy(path: str) -> Copy:
+    """Opens a regular file."""
+    try:
+        file = os.open(path, os.O_RDONLY | getattr(os, "O_NONBLOCK", 0))
+        state = os.fstat(file)
+    except OSError as error:
+        raise Fault(f"cannot read {path}: {error.strerror}") from None
+    if not stat.S_ISREG(state.st_mode):
+        os.close(file)
+        raise Fault(f"cannot read {path}: it is no file")
+    return Copy(path, file, state.st_size)
+
+
+@dataclasses.dataclass(frozen=True)
+class Place:
+    """A slice of a frame as the program tells it: from where to where in the frame, its state (`settled`, `woven`, `disputed`,
+    `missing`, or `broken` for what its footers do not divide), how many combinations were tried, and a mark for each copy."""
+
+    start: int
+    end: int
+    state: str
+    count: int = 0
+    marks: str = ""
+
+
+@dataclasses.dataclass(frozen=True)
+class Outcome:
+    """What became of a stretch: its number in the list (from 0), its state, how many combinations it is one of, a mark for each copy
+    (`1` it has what OUT has, `0` it has something else, `-` it does not have the stretch), and the slices of those of its parts that the
+    program lists, by the part's number (from 0)."""
+
+    number: int
+    state: State
+    count: int
+    marks: str
+    slices: typing.Mapping[int, typing.Tuple[Place, ...]] = dataclasses.field(default_factory=dict)
+
+    def is_undamaged(self) -> bool:
+        """Whether each copy that has the stretch has what OUT has, and nothing is open."""
+        return "0" not in self.marks and self.state in (State.WHOLE, State.AGREED, State.ALONE)
