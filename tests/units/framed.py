@@ -1,0 +1,64 @@
+"""Frames whose slices pass, files of them, and a judge that needs no program, for the unit tests."""
+from __future__ import annotations
+
+import typing
+
+from . import made
+from mend_reel import judging
+from mend_reel.model import Content, Frame, Kind, Layout, Stretch, Told, Track, What
+
+VIDEO = Track(1, Content.VIDEO, "ffv1", True, 48, 40, b"record", 0.04)
+SOUND = Track(2, Content.SOUND, "pcm")
+
+
+def parity(piece: bytes) -> int:
+    """The parity of a slice, bit by bit: CRC-32 with the highest bit first, from zero on (RFC 9043, section 4.9.3)."""
+    value = 0
+    for byte in piece:
+        value ^= byte << 24
+        for _ in range(8):
+            value = (value << 1 ^ (0x104C11DB7 if value >> 31 else 0)) & 0xFFFFFFFF
+    return value
+
+
+def slice_of(content: bytes) -> bytes:
+    """A slice with its footer: its size, its error status and its parity."""
+    piece = content + len(content).to_bytes(3, "big") + b"\0"
+    return piece + parity(piece).to_bytes(4, "big")
+
+
+def frame(seed: int, *sizes: int) -> bytes:
+    """A frame of slices of some sizes, all of which pass."""
+    return b"".join(slice_of(made.noise(100 * seed + at, size)) for at, size in enumerate(sizes or (90, 60, 75)))
+
+
+def judge(copy: typing.Any, ranges: typing.Sequence[judging.Range]) -> typing.List[judging.Judged]:
+    """Judges frames as `ffv1restore scan` does."""
+    answers = []
+    for place, size in ranges:
+        content = copy.read(place, size) if place + size <= copy.size else b""
+        links = list(judging.slices(content))
+        answers.append(judging.Judged(len(links), sum(judging.passes(content[start:end]) for start, end in links),
+                                      bool(links) and links[-1][0] == 0))
+    return answers
+
+
+def matroska(frames: typing.Sequence[typing.Tuple[float, bytes]], crc: bool = True, seed: int = 0) -> bytes:
+    """A recording of a cluster for each frame, with some sound in it, at these times in seconds."""
+    clusters = [made.cluster(round(1000 * time), made.block(1, 0, payload), made.block(2, 0, made.noise(seed + 7000 + at, 64)), crc=crc)
+                for at, (time, payload) in enumerate(frames)]
+    duration = 1000 * (frames[-1][0] + 0.04) if frames else 0
+    return made.ebml_header() + made.element(made.SEGMENT, made.information(duration, crc), made.tracks(crc=crc), *clusters)
+
+
+def plain_file(frames: typing.Sequence[bytes], gap: int = 8) -> typing.Tuple[bytes, Layout]:
+    """A file of a header, frames and bytes between them, and what lies where in it."""
+    content, found, stretches = made.noise(999, 40), [], [Stretch(Kind.PLAIN, 0, 40, What(Content.HEADER), (0,))]
+    for number, payload in enumerate(frames):
+        place = len(content)
+        found.append(Frame(1, round(0.04 * number, 3), place, len(payload)))
+        stretches.append(Stretch(Kind.FRAME, place, len(payload), What(Content.FRAME, 1, 0.04 * number, 0.04 * number + 0.04), (place,), (found[-1],)))
+        content += payload
+        stretches.append(Stretch(Kind.PLAIN, len(content), gap, What(Content.SOUND, 2, 0.04 * number), (len(content),)))
+        content += made.noise(500 + number, gap)
+    return content, Layout(len(content), [VIDEO, SOUND], found, stretches, Told(0.04 * len(frames)))
