@@ -1,0 +1,151 @@
+"""Digests that were kept of a file, and what they say of it."""
+import hashlib
+import os
+import pathlib
+import tempfile
+import unittest
+from unittest import mock
+
+from . import made
+from mend_reel import digests, framedigests
+from mend_reel.model import Fault
+
+CONTENT = made.noise(4, 5000)
+MD5, SHA1, SHA256 = (hashlib.new(name, CONTENT).hexdigest() for name in ("md5", "sha1", "sha256"))
+OTHER = hashlib.sha256(b"other").hexdigest()
+FRAMES = """#format: frame checksums
+#version: 2
+#hash: MD5
+#extradata 0,                             202, 6f61244b9f04f0d575c493bce15175f4
+#software: Lavf59.27.100
+#tb 0: 1/25
+#media_type 0: video
+#codec_id 0: {codec}
+#dimensions 0: 160x120
+#tb 1: 1/48000
+#media_type 1: audio
+#codec_id 1: pcm_s16le
+#stream#, dts,        pts, duration,     size, hash
+0,          0,          0,        1,    76800, AAAAAAAAAAAAAAAAAAAAAAAAAAAAAAAA
+1,          0,          0,     4608,     9216, cccccccccccccccccccccccccccccccc
+0,          1,          1,        1,    76800, bbbbbbbbbbbbbbbbbbbbbbbbbbbbbbbb
+0,          2,          2,        1,    76800, dddddddddddddddddddddddddddddddd
+"""
+
+
+class DigestTest(unittest.TestCase):
+    def setUp(self):
+        folder = tempfile.TemporaryDirectory()
+        self.addCleanup(folder.cleanup)
+        self.folder = pathlib.Path(folder.name)
+        (self.folder / "part").write_bytes(CONTENT)
+
+    def compare(self, lines, named="/films/out.mkv", copies=()):
+        kept = self.folder / "kept"
+        kept.write_bytes(lines if isinstance(lines, bytes) else lines.encode())
+        return digests.compare(str(kept), str(self.folder / "part"), named, copies)
+
+    def test_each_way_to_write_a_digest(self):
+        for line in (f"{MD5}  out.mkv\n", f"{SHA1} *out.mkv", f"{SHA256}  /somewhere/else/out.mkv\r\n", f"SHA256 (out.mkv) = {SHA256}",
+                     f"MD5 (a/out.mkv) = {MD5.upper()}"):
+            found = self.compare("a line of something else\n\n" + line)
+            self.assertTrue(found.is_original, line)
+            self.assertIn("/films/out.mkv is the original", found.text)
+
+    def test_another_file(self):
+        found = self.compare(f"{OTHER}  out.mkv")
+        self.assertFalse(found.is_original)
+        self.assertIn(f"is not the original: its SHA256 is {SHA256}, and", found.text)
+
+    def test_names_with_escapes(self):
+        self.assertEqual(digests.read_line("\\" + MD5 + "  a\\nb\\\\c\\r").name, "a\nb\\c\r")
+        self.assertEqual(digests.read_line(MD5 + "  a\\nb").name, "a\\nb")
+        self.assertEqual(digests.read_line(f"\\SHA256 (a\\\\b) = {SHA256}").name, "a\\b")
+
+    def test_names_that_are_no_text(self):
+        self.assertTrue(self.compare(f"{OTHER}  x\n{SHA256}  ".encode() + b"\xff.mkv\n", os.fsdecode(b"/\xff.mkv")).is_original)
+
+    def test_which_line_is_meant(self):
+        lines = f"{OTHER}  a.mkv\n{SHA256}  out.mkv\n{OTHER}  b.mkv\n"
+        self.assertTrue(self.compare(lines).is_original)
+        self.assertTrue(self.compare(lines, copies=["a.mkv"]).is_original)
+        self.assertTrue(self.compare(lines, "/x/new.mkv", ["/y/out.mkv"]).is_original)
+        self.assertFalse(self.compare(lines, "/x/new.mkv", ["/y/b.mkv"]).is_original)
+        self.assertTrue(self.compare(f"{SHA256}  a name of its own\n", "/x/new.mkv").is_original)
+
+    def test_of_several_the_strongest(self):
+        self.assertTrue(self.compare(f"{'0' * 32}  out.mkv\n{SHA256}  out.mkv\n").is_original)
+
+    def test_what_says_nothing(self):
+        for lines, copies in ((f"{OTHER}  a.mkv\n{SHA256}  b.mkv\n", []), ("", []), ("nothing\n", []), (f"{SHA256[:-1]}  out.mkv", []),
+                              (f"SHA1 (out.mkv) = {SHA256}", []), (f"{OTHER}  a.mkv\n{SHA256}  b.mkv\n", ["a.mkv", "b.mkv"])):
+            with self.assertRaises(Fault):
+                self.compare(lines, copies=copies)
+
+    def test_a_long_line_is_refused(self):
+        with self.assertRaisesRegex(Fault, "too long"):
+            self.compare(b"x" * (1 << 17))
+
+    def test_a_file_that_is_not_there(self):
+        with self.assertRaisesRegex(Fault, "cannot read /nowhere"):
+            digests.compare("/nowhere", str(self.folder / "part"), "out", [])
+
+    def test_the_digest_of_a_copy(self):
+        with made.opened(CONTENT) as (copy,):
+            self.assertEqual(digests.sha256(copy), SHA256)
+
+
+class FrameDigestTest(unittest.TestCase):
+    def read(self, text):
+        return framedigests.read(text.splitlines())
+
+    def test_what_ffmpeg_is_asked_for(self):
+        words = framedigests.command("/a.mkv", self.read(FRAMES.format(codec="ffv1")))
+        self.assertEqual(words[words.index("-map"):], ["-map", "0:v:0", "-c:0", "copy", "-map", "0:a:0", "-c:1", "pcm_s16le", "-f", "framehash",
+                                                       "-hash", "MD5", "-format_version", "2", "-"])
+        self.assertIn("file:/a.mkv", words)
+
+    def test_words_of_a_file_are_not_trusted(self):
+        words = framedigests.command("/a.mkv", self.read(FRAMES.format(codec="copy -f mp4 /etc/passwd")))
+        self.assertFalse([word for word in words if "passwd" in word])
+        self.assertEqual(self.read(FRAMES.replace("#hash: MD5", "#hash: MD5 -f mp4")).hash, "MD5")
+        self.assertEqual(self.read(FRAMES.replace("#hash: MD5", "#hash: SHA256")).hash, "SHA256")
+        self.assertEqual(self.read(FRAMES.replace("#hash: MD5", "#hash: SHA256 -f mp4")).hash, "MD5")
+        with self.assertRaisesRegex(Fault, "too many streams"):
+            self.read("999, 0, 0, 1, 2, aa")
+        self.assertFalse(self.read(f"#media_type {'9' * 5000}: video\n\u00b2, 0, 0, 1, 2, aa\n#version: \u00b2").frames)
+
+    def test_equal_frames(self):
+        wanted = self.read(FRAMES.format(codec="rawvideo"))
+        self.assertEqual(framedigests.differences(wanted, self.read(FRAMES.format(codec="rawvideo").lower())), {})
+        self.assertEqual(wanted.frames[0][1], ("1", "76800", "b" * 32))
+
+    def test_frames_that_differ(self):
+        wanted = self.read(FRAMES.format(codec="rawvideo"))
+        for old, new, found in (("b" * 32, "b" * 31 + "0", {0: [1]}), ("0,          2,          2,        1,    76800, " + "d" * 32 + "\n", "", {0: [2]}),
+                                ("     9216", "     9217", {1: [0]}), ("0,          2,          2", "0,          2,          3", {0: [2]})):
+            self.assertEqual(framedigests.differences(wanted, self.read(FRAMES.replace(old, new))), found)
+        more = self.read(FRAMES + "0,          3,          3,        1,    76800, " + "e" * 32)
+        self.assertEqual(framedigests.differences(wanted, more), {0: [3]})
+
+    def test_times_are_compared_where_both_count_them_alike(self):
+        other = FRAMES.replace("#tb 0: 1/25", "#tb 0: 1/1000").replace("0,          2,          2", "0,         80,         80")
+        self.assertEqual(framedigests.differences(self.read(FRAMES), self.read(other)), {})
+
+    def test_the_sentence(self):
+        with tempfile.TemporaryDirectory() as folder:
+            kept = os.path.join(folder, "kept")
+            pathlib.Path(kept).write_text(FRAMES)
+            other = self.read(FRAMES.replace("b" * 32, "e" * 32).replace("d" * 32, "e" * 32))
+            with mock.patch.object(framedigests, "make", return_value=other):
+                found = digests.compare(kept, "/a.mkv", "out.mkv", [])
+            with mock.patch.object(framedigests, "make", return_value=self.read(FRAMES)):
+                same = digests.compare(kept, "/a.mkv", "out.mkv", [])
+        self.assertFalse(found.is_original)
+        self.assertTrue(found.text.endswith("differ: stream 0: frames 1 to 2"))
+        self.assertEqual(found.differing, {0: [1, 2]})
+        self.assertTrue(same.is_original and same.text.startswith("out.mkv has the original's frames"))
+
+    def test_runs(self):
+        self.assertEqual(framedigests.runs([1, 2, 3, 7]), "frames 1 to 3, 7")
+        self.assertTrue(framedigests.runs(list(range(0, 40, 2))).endswith("and 10 more"))

@@ -1,0 +1,343 @@
+"""What became of frames and bytes, and whether OUT is what was recorded."""
+import dataclasses
+import unittest
+
+from .framed import SOUND, VIDEO
+from mend_reel.completeness import Excuses, Seen, misplaced
+from mend_reel.fates import Fate, Fates
+from mend_reel.matching import Leaving, Left, Matched
+from mend_reel.model import Content, Frame, Kind, Layout, Outcome, Place, State, Stretch, Told, What
+from mend_reel.reasons import Why
+from mend_reel.times import constant_step, end_of, lasts
+from mend_reel.verdict import Evidence, judge
+
+COPIES = 2
+
+
+def stretches_of(layout_end, *kinds):
+    """Stretches that follow each other: of each its kind, its size, its content and its parts, as places in it and sizes."""
+    made, start = [], 0
+    frames = []
+    for kind, size, what, parts in kinds:
+        own = []
+        for place, length in parts:
+            frames.append(Frame(1, round(0.04 * len(frames), 3), start + place, length))
+            own.append(frames[-1])
+        made.append(Stretch(kind, start, size, what, (start,) * COPIES, tuple(own)))
+        start += size
+    assert start == layout_end
+    return made, frames
+
+
+def recording(count=6):
+    """A recording of clusters with a frame each: a head of 12 bytes, and an element of 500 with a frame of 300 in it."""
+    kinds = [(Kind.PLAIN, 100, What(Content.HEADER), [])]
+    for number in range(count):
+        kinds += [(Kind.PLAIN, 12, What(Content.FRAMING), []),
+                  (Kind.ELEMENT, 500, What(Content.CLUSTER, None, 0.04 * number, 0.04 * number), [(100, 300)])]
+    size = 100 + 512 * count
+    stretches, frames = stretches_of(size, *kinds)
+    return Layout(size, [VIDEO], frames, stretches, Told(0.04 * count))
+
+
+def plain(count=6):
+    """A recording without checksums but those of its frames: a head of 40 bytes before each frame of 300, and sound of 100 after it."""
+    kinds = [(Kind.PLAIN, 100, What(Content.HEADER), [])]
+    for number in range(count):
+        kinds += [(Kind.PLAIN, 40, What(Content.FRAMING), []), (Kind.FRAME, 300, What(Content.FRAME, 1, 0.04 * number), [(0, 300)]),
+                  (Kind.PLAIN, 100, What(Content.SOUND, 2, 0.04 * number), [])]
+    size = 100 + 440 * count
+    stretches, frames = stretches_of(size, *kinds)
+    return Layout(size, [VIDEO, SOUND], frames, stretches, Told(0.04 * count))
+
+
+def element(number):
+    return 2 + 2 * number
+
+
+def settled(marks="11", start=0, end=300):
+    return Place(start, end, "settled", 0, marks)
+
+
+def missing(marks="10", start=0, end=300):
+    return Place(start, end, "missing", 0, marks)
+
+
+def without(layout, *numbers):
+    """A layout as it is read again with some frames hidden."""
+    return dataclasses.replace(layout, frames=[frame for number, frame in enumerate(layout.frames) if number not in numbers])
+
+
+def verdict(layout, *outcomes, out=None, **more):
+    return judge(Evidence(layout, layout.stretches, outcomes, out or layout, **more))
+
+
+def whys(found):
+    return [reason.why for reason in found.reasons]
+
+
+class FateTest(unittest.TestCase):
+    def fates(self, layout, *outcomes, columns=(0, 1)):
+        return Fates(layout, layout.stretches, outcomes, columns)
+
+    def test_a_frame_of_a_whole_element(self):
+        fates = self.fates(recording(), Outcome(element(2), State.WHOLE, 0, "10", {0: (settled("10"),)}))
+        fate = fates.frames[2]
+        self.assertEqual((fate.fate, fate.damaged, fate.lacking, fate.order), (Fate.RESTORED, (1,), (), 2))
+        self.assertEqual(fates.counts().named(), {"frames": 6, "damaged": 1, "restored": 1, "woven": 0, "not restored": 0})
+
+    def test_sound_alone_is_no_frame(self):
+        fates = self.fates(recording(), Outcome(element(2), State.WHOLE, 0, "10"))
+        self.assertEqual((fates.frames, fates.counts().damaged), ({}, 0))
+
+    def test_a_frame_that_is_given_back_in_an_element_that_is_not(self):
+        fates = self.fates(recording(), Outcome(element(1), State.MISSING, 0, "10", {0: (settled("10", 100), settled("01", 0, 100))}))
+        self.assertEqual((fates.frames[1].fate, fates.frames[1].damaged), (Fate.RESTORED, (0, 1)))
+        self.assertEqual((fates.sums().verified, fates.sums().open), (5 * 500 + 300, 200))
+
+    def test_a_copy_with_damage_beside_a_frame_alone_has_the_frame(self):
+        fates = self.fates(recording(), Outcome(element(1), State.MISSING, 0, "10", {0: (settled("01"),)}))
+        self.assertEqual(fates.frames[1].damaged, (0,))
+
+    def test_a_lost_frame(self):
+        fates = self.fates(recording(), Outcome(element(1), State.MISSING, 0, "10", {0: (missing("10"),)}))
+        self.assertEqual((fates.frames[1].fate, fates.frames[1].damaged), (Fate.LOST, (0, 1)))
+        self.assertEqual((fates.sums().verified, fates.sums().open), (5 * 500, 500))
+
+    def test_woven(self):
+        fates = self.fates(recording(), Outcome(element(0), State.WHOLE, 0, "00", {0: (Place(0, 300, "woven", 4, "00"),)}),
+                           Outcome(element(1), State.WOVEN, 4, "00", {0: (missing("00"),)}),
+                           Outcome(element(2), State.WOVEN, 4, "00", {0: (settled("10"),)}))
+        self.assertEqual([fates.frames[number].fate for number in range(3)], [Fate.WOVEN, Fate.WOVEN, Fate.RESTORED])
+        self.assertEqual(fates.counts().woven, 2)
+
+    def test_frames_without_an_element(self):
+        fates = self.fates(plain(), Outcome(2, State.WHOLE, 0, "10", {0: (settled("10"),)}), Outcome(5, State.MISSING, 0, "11", {0: (missing("11"),)}),
+                           Outcome(8, State.WHOLE, 0, "1-", {}))
+        self.assertEqual([(at, fate.fate, fate.damaged) for at, fate in fates.frames.items()],
+                         [(0, Fate.RESTORED, (1,)), (1, Fate.LOST, (0, 1))])
+
+    def test_frames_without_parities(self):
+        layout = plain()
+        layout.stretches = [dataclasses.replace(each, kind=Kind.PLAIN, parts=()) for each in layout.stretches]
+        fates = self.fates(layout, Outcome(2, State.OPEN, 0, "10"))
+        self.assertEqual((fates.frames[0].fate, fates.frames[0].damaged), (Fate.LOST, (0, 1)))
+
+    def test_a_frame_without_parities_in_several_stretches(self):
+        layout = plain()
+        frame = layout.stretches[5]
+        layout.stretches[5:6] = [dataclasses.replace(frame, kind=Kind.PLAIN, parts=(), start=frame.start + at, size=100,
+                                                     places=(frame.start + at,) * 2) for at in (0, 100, 200)]
+        fates = self.fates(layout, Outcome(6, State.AGREED, 0, "10"), Outcome(7, State.OPEN, 0, "01"))
+        self.assertEqual((list(fates.frames), fates.frames[1].fate, fates.frames[1].damaged), ([1], Fate.LOST, (0, 1)))
+        self.assertEqual([len(fates.within(number)) for number in (4, 5, 6, 7, 8)], [0, 1, 1, 1, 0])
+
+    def test_a_frame_that_could_not_be_listed_as_a_part(self):
+        layout = recording()
+        layout.frames.insert(1, Frame(1, 0.02, layout.stretches[2].start + 430, 40))
+        missing_one = self.fates(layout, Outcome(element(0), State.MISSING, 0, "10", {0: (settled("10"),)}))
+        self.assertEqual([fate.fate for fate in missing_one.frames.values()], [Fate.RESTORED, Fate.LOST])
+        self.assertEqual(missing_one.sums().open, 200)
+        self.assertEqual(self.fates(layout, Outcome(element(0), State.WHOLE, 0, "10", {})).frames[1].fate, Fate.RESTORED)
+
+    def test_several_marks_of_one_copy(self):
+        layout = recording()
+        for stretch in layout.stretches:
+            stretch.places += (None,)
+        fates = self.fates(layout, Outcome(element(2), State.WHOLE, 0, "1-0", {0: (settled("1-0"),)}), columns=(0, 3, 3))
+        self.assertEqual((fates.frames[2].damaged, fates.frames[2].lacking), ((3,), ()))
+
+    def test_sums(self):
+        layout = recording()
+        layout.stretches[0].places = (0, None)
+        fates = self.fates(layout, Outcome(1, State.OPEN, 0, "10"), Outcome(3, State.AGREED, 0, "11-"))
+        self.assertEqual(fates.sums().named(), {"verified": 6 * 500, "agreed": 5 * 12, "alone": 100, "open": 12})
+
+    def test_what_no_copy_has_is_not_in_out(self):
+        layout = recording()
+        layout.stretches[element(1)].places = (None, None)
+        fates = self.fates(layout)
+        self.assertEqual((fates.frames[1].fate, fates.frames[1].damaged, fates.is_absent(1)), (Fate.LOST, (), True))
+        self.assertEqual([fates.in_out(layout.stretches[element(number)].start) for number in (0, 1, 2)], [112, 624, 636])
+        self.assertEqual(sum(fates.sums().named().values()), layout.size - 500)
+
+
+class VerdictTest(unittest.TestCase):
+    def test_nothing_is_damaged(self):
+        for layout in (recording(), plain()):
+            found = verdict(layout)
+            self.assertEqual((found.status, found.reasons, found.notes), (0, [], []))
+            self.assertIn("no damage was found", found.sentence())
+
+    def test_all_is_mended(self):
+        found = verdict(recording(), Outcome(element(2), State.WHOLE, 0, "10", {0: (settled("10"),)}), Outcome(element(3), State.WOVEN, 2, "00"))
+        self.assertEqual(found.status, 0)
+        self.assertIn("all damage is mended", found.sentence())
+
+    def test_lost_frames_and_the_sound_beside_them(self):
+        found = verdict(recording(), *(Outcome(element(number), State.MISSING, 0, "10", {0: (missing(),)}) for number in (1, 2, 4)))
+        self.assertEqual([reason.text() for reason in found.reasons], [
+            "frames 1 to 2 (0:00:00.040 to 0:00:00.080, bytes 724 to 1536): damaged in every copy; a further copy may restore them",
+            "frame 4 (0:00:00.160, bytes 2260 to 2560): damaged in every copy; a further copy may restore it"])
+        self.assertEqual((found.status, found.notes), (3, ["beside frames that are not restored 600 bytes of sound and headers can't be verified, "
+                                                          "as one checksum is over all"]))
+
+    def test_damage_beside_the_frames(self):
+        found = verdict(recording(), Outcome(element(1), State.MISSING, 0, "10", {}))
+        self.assertEqual((whys(found), found.counts.damaged), ([Why.BESIDE], 0))
+
+    def test_one_copy(self):
+        layout = recording()
+        for stretch in layout.stretches:
+            stretch.places = stretch.places[:1]
+        found = verdict(layout, Outcome(element(1), State.MISSING, 0, "1", {0: (missing("1"),)}), Outcome(element(4), State.MISSING, 0, "1", {}))
+        self.assertEqual(whys(found), [Why.ALONE_DAMAGED, Why.ALONE_DAMAGED])
+
+    def test_copies_that_differ(self):
+        layout = plain()
+        layout.stretches[3].source = 1
+        found = verdict(layout, Outcome(3, State.OPEN, 0, "01"), columns=(4, 6))
+        self.assertEqual([reason.text() for reason in found.reasons], ["sound of track 2 at 0:00:00.000 (bytes 440 to 540): the copies differ, and "
+                                                                       "no checksum says which is right; OUT has that of copy 7"])
+
+    def test_two_versions_that_pass(self):
+        found = verdict(recording(), Outcome(element(1), State.DISPUTED, 0, "10", {}),
+                        Outcome(element(3), State.MISSING, 0, "10", {0: (Place(0, 300, "disputed", 0, "10"),)}))
+        self.assertEqual(whys(found), [Why.DISPUTED, Why.DISPUTED])
+
+    def test_gaps_and_what_no_copy_has(self):
+        layout = recording()
+        layout.gaps = [(620, 40), (layout.size, 1000)]
+        self.assertEqual([reason.text()[:44] for reason in verdict(layout).reasons],
+                         ["bytes 620 to 660: no copy's element headers ", "bytes 3172 to 4172: no copy has these bytes,"])
+
+    def test_copies_that_are_left_out_are_reported(self):
+        found = verdict(recording(), left=[Left(2, Leaving.REPEATED, 0)])
+        self.assertEqual((found.status, found.notes), (0, ["copy 3 is left out: it is the same file as copy 1"]))
+
+
+class CompletenessTest(unittest.TestCase):
+    """Where nothing is damaged that was listed, and frames lack all the same."""
+
+    def test_out_that_cannot_be_read(self):
+        layout = recording()
+        self.assertEqual(whys(verdict(layout, out=dataclasses.replace(layout, frames=[]))), [Why.UNREAD])
+        self.assertEqual(whys(judge(Evidence(layout, layout.stretches, [], None))), [Why.UNREAD])
+
+    def test_a_frame_that_out_hides(self):
+        layout = plain()
+        found = verdict(layout, out=without(layout, 2, 3))
+        self.assertIn("frames 2 to 3", found.reasons[0].text())
+        self.assertEqual(found.reasons[0].why, Why.HIDDEN)
+
+    def test_frames_after_what_no_copy_has_lie_before_their_places(self):
+        layout = recording()
+        layout.stretches[element(1)].places = (None, None)
+        moved = [dataclasses.replace(frame, place=frame.place - 500 * (number > 1)) for number, frame in enumerate(layout.frames) if number != 1]
+        found = verdict(layout, out=dataclasses.replace(layout, frames=moved))
+        self.assertNotIn(Why.HIDDEN, whys(found))
+        self.assertIn(Why.ABSENT, whys(found))
+
+    def hidden_everywhere(self, layout, *numbers, **told):
+        """The verdict on a recording of which no container shows some frames: they are neither listed nor in OUT."""
+        frames = without(layout, *numbers).frames
+        stretches = []
+        for stretch in layout.stretches:
+            lost = stretch.kind is Kind.FRAME and stretch.parts[0] not in frames
+            stretches.append(dataclasses.replace(stretch, kind=Kind.PLAIN, parts=(), what=What(Content.UNKNOWN)) if lost else stretch)
+        return verdict(dataclasses.replace(layout, frames=frames, stretches=stretches, told=Told(**told)))
+
+    def test_a_hole_in_the_times(self):
+        found = self.hidden_everywhere(plain(), 2, 3)
+        self.assertEqual(whys(found), [Why.HOLE])
+        self.assertIn("2 frames from 0:00:00.080 to 0:00:00.120 (bytes 880 to 1900)", found.reasons[0].text())
+
+    def test_a_hole_before_the_first_frame(self):
+        self.assertEqual(whys(self.hidden_everywhere(plain(), 0)), [Why.HOLE])
+
+    def test_a_hole_between_verified_bytes_was_recorded(self):
+        layout = recording()
+        layout.frames = [dataclasses.replace(frame, time=frame.time + 0.04 * (number > 2)) for number, frame in enumerate(layout.frames)]
+        layout.told = Told(0.28)
+        self.assertEqual(verdict(layout).reasons, [])
+        self.assertEqual(whys(verdict(layout, Outcome(element(3), State.MISSING, 0, "10", {0: (settled("10"),)}))), [Why.BESIDE, Why.HOLE])
+
+    def test_a_hole_that_the_count_excuses(self):
+        layout = plain()
+        layout.frames = [dataclasses.replace(frame, time=frame.time + 0.04 * (number > 2)) for number, frame in enumerate(layout.frames)]
+        self.assertEqual(whys(verdict(layout)), [Why.HOLE])
+        layout.told = Told(None, {1: 6})
+        self.assertEqual(verdict(layout).reasons, [])
+
+    def test_no_hole_where_steps_vary(self):
+        layout = plain()
+        times = (0, 0.1, 0.13, 0.3, 0.36, 0.7)
+        layout.frames = [dataclasses.replace(frame, time=time) for frame, time in zip(layout.frames, times)]
+        layout.told = Told()
+        layout.tracks = [dataclasses.replace(VIDEO, step=None), SOUND]
+        self.assertEqual(verdict(layout).reasons, [])
+
+    def test_the_last_frame_against_the_duration(self):
+        found = self.hidden_everywhere(dataclasses.replace(plain(), tracks=[VIDEO]), 5, duration=0.24)
+        self.assertEqual(whys(found), [Why.SHORT])
+        self.assertIn("the recording from 0:00:00.200 to 0:00:00.240: OUT ends before", found.reasons[0].text())
+
+    def test_the_last_frame_against_the_end_of_its_track(self):
+        self.assertEqual(whys(self.hidden_everywhere(plain(), 5, duration=0.24, ends={1: 0.24})), [Why.SHORT])
+
+    def test_sound_may_be_longer(self):
+        layout = plain()
+        layout.stretches[-1] = dataclasses.replace(layout.stretches[-1], what=What(Content.SOUND, 2, 5.0, 5.1))
+        layout.told = Told(5.2)
+        self.assertEqual(verdict(layout).reasons, [])
+        layout.told = Told(5.5)
+        self.assertEqual(whys(verdict(layout)), [Why.SHORT])
+
+    def test_the_count(self):
+        found = self.hidden_everywhere(plain(), 5, counts={1: 6})
+        self.assertEqual([reason.text() for reason in found.reasons],
+                         ["track 1: OUT has 5 frames, but the file says that it has 6; a further copy may have the others"])
+
+    def test_an_index_that_points_at_nothing(self):
+        self.assertEqual(whys(self.hidden_everywhere(plain(), 5, index={1: [0.0, 0.08, 0.2]})), [Why.INDEX])
+        self.assertEqual(whys(self.hidden_everywhere(plain(), 3, index={1: [0.12]})), [Why.HOLE])
+        self.assertEqual(verdict(dataclasses.replace(plain(), told=Told(None, {}, {1: [0.0, 0.2], 9: [77.0]}))).reasons, [])
+
+    def test_a_copy_speaks_where_out_says_nothing(self):
+        layout = dataclasses.replace(recording(), told=Told(0.24, {1: 6}))
+        self.assertEqual(verdict(layout, told=[Told(99.0, {1: 50})]).reasons, [])
+        self.assertEqual(whys(verdict(dataclasses.replace(layout, told=Told()), told=[Told(99.0, {1: 50})])), [Why.COUNT, Why.SHORT])
+
+    def test_what_other_files_have(self):
+        frame = Frame(0, 0.5, 7, 8)
+        found = verdict(recording(), matched=[Matched(2, {}, [frame, dataclasses.replace(frame, time=0.6)], [frame], 2.0)])
+        self.assertEqual(whys(found), [Why.SHORTER, Why.UNPLACED, Why.CONTRARY])
+        self.assertIn("2 frames from 0:00:00.500 to 0:00:00.600: copy 3 has them", found.reasons[1].text())
+
+
+class TimesTest(unittest.TestCase):
+    def test_a_constant_step(self):
+        times = [0.04 * number for number in range(20)]
+        self.assertEqual(constant_step(times, 0.04), 0.04)
+        self.assertAlmostEqual(constant_step(times, None), 0.04)
+        self.assertAlmostEqual(constant_step(times, 0.02), 0.04)
+        self.assertIsNone(constant_step([0, 1, 1.1, 3, 3.5, 9], None))
+        self.assertEqual(constant_step([0.0], 0.04), 0.04)
+
+    def test_a_file_that_is_cut_short(self):
+        self.assertIsNone(lasts(recording()))
+        self.assertEqual(lasts(dataclasses.replace(recording(), told=Told(1.0))), 1.0)
+        self.assertEqual(end_of(Layout(0, [], [], [])), (0.0, 0.002))
+
+    def test_unverified_bytes(self):
+        layout = plain()
+        excuses = Excuses(Seen(layout, layout, Fates(layout, layout.stretches, [], (0, 1))), [])
+        self.assertEqual(excuses.unverified(layout.frames[0].end, layout.frames[1].place), 140)
+
+    def test_frames_of_another_place(self):
+        """The fewest frames are named whose times do not rise with the others', of each track by itself."""
+        for times, wrong in (((0, 1, 2, 3), []), ((0, 1, 1, 3), [2]), ((0, 1, 2, 1, 2, 5), [3, 4]), ((0, 9, 2, 3), [1]), ((0, 2, 1, 3), [1])):
+            frames = [Frame(1, 0.04 * time, 100 * at, 90) for at, time in enumerate(times)] + [Frame(2, 0.0, 1000, 90), Frame(2, 0.04, 1100, 90)]
+            layout = Layout(1200, [VIDEO], frames, [], rises=True)
+            self.assertEqual([reason.bytes[0] // 100 for reason in misplaced(layout)], wrong, times)
+            self.assertEqual(list(misplaced(dataclasses.replace(layout, rises=False))), [])

@@ -1,0 +1,163 @@
+"""Whether OUT is what was recorded, as far as any check can tell, and if not why."""
+from __future__ import annotations
+
+import collections
+import dataclasses
+import typing
+
+from .completeness import Seen, find_lacks
+from .fates import Counts, Fate, Fates, FrameFate, Sums
+from .matching import Left, Matched
+from .model import Because, Content, Kind, Layout, Outcome, State, Stretch, Told, Track
+from .reasons import Reason, Why, join
+
+# What remains of a cluster when the frames in it that are not restored are named.
+OF_CLUSTERS = (Content.CLUSTER, Content.UNKNOWN)
+PLAYED = (Content.SOUND, Content.VIDEO, Content.SUBTITLES)
+
+
+@dataclasses.dataclass
+class Evidence:
+    """What the verdict is judged by: what OUT was made by and its stretches as they were listed; what became of those that are not undamaged;
+    what lies where in OUT as it was read again (None where nothing can be read); what the containers of copies tell of the recording; copies
+    that are other files; copies that are left out; which copy each mark of an outcome is of; the tracks of the other files; and whether
+    damaged element headers of copies were left out."""
+
+    layout: Layout
+    stretches: typing.Sequence[Stretch]
+    outcomes: typing.Sequence[Outcome]
+    out: typing.Optional[Layout]
+    told: typing.Sequence[Told] = ()
+    matched: typing.Sequence[Matched] = ()
+    left: typing.Sequence[Left] = ()
+    columns: typing.Sequence[int] = ()
+    tracks: typing.Mapping[int, typing.Sequence[Track]] = dataclasses.field(default_factory=dict)
+    has_damaged_heads: bool = False
+
+
+@dataclasses.dataclass
+class Verdict:
+    """Status 0 where OUT is what was recorded, as far as any check can tell, else 3 and each reason."""
+
+    status: int
+    reasons: typing.List[Reason]
+    notes: typing.List[str]
+    sums: Sums
+    counts: Counts
+    fates: Fates
+    has_damage: bool = False
+
+    def sentence(self, out: str = "OUT") -> str:
+        """The verdict for a person."""
+        out = out[:1].upper() + out[1:]
+        if self.reasons:
+            many = len(self.reasons) > 1
+            count = f"{len(self.reasons)} places are" if many else "one place is"
+            return f"{out} is not known to be what was recorded: {count} in doubt."
+        found = "all damage is mended" if self.has_damage else "no damage was found"
+        return f"{out} is what was recorded, as far as any check can tell: {found}."
+
+
+def judge(evidence: Evidence) -> Verdict:
+    """The verdict on OUT."""
+    columns = evidence.columns or range(max((len(stretch.places) for stretch in evidence.stretches), default=0))
+    fates = Fates(evidence.layout, evidence.stretches, evidence.outcomes, columns)
+    sums, counts = fates.sums(), fates.counts()
+    found = [*of_gaps(evidence.layout), *of_stretches(fates)]
+    found.sort(key=lambda reason: reason.bytes or (0, 0))
+    found += find_lacks(Seen(evidence.layout, evidence.out, fates, evidence.told, evidence.matched))
+    found += of_tracks(evidence)
+    if sum(track.is_ffv1 for track in evidence.layout.tracks) == 1:
+        found = [dataclasses.replace(reason, track=None) if reason.content is Content.FRAME else reason for reason in found]
+    reasons = join(found)
+    notes = [f"copy {left.number + 1} is left out: {left.text()}" for left in evidence.left]
+    has_damage = bool(counts.damaged or fates.outcomes or evidence.has_damaged_heads or is_cut(evidence, columns))
+    return Verdict(3 if reasons else 0, reasons, notes + of_the_rest(fates) + of_one_copy(fates), sums, counts, fates, has_damage)
+
+
+def is_cut(evidence: Evidence, columns: typing.Sequence[int]) -> bool:
+    """Whether a copy of OUT's file lacks a part of it."""
+    others = {matched.number for matched in evidence.matched}
+    own = [at for at, number in enumerate(columns) if number not in others]
+    return any(None in stretch.places and any(stretch.places[at] is None for at in own) for stretch in evidence.stretches)
+
+
+def of_tracks(evidence: Evidence) -> typing.Iterator[Reason]:
+    """What other files have tracks of, and OUT has not as many."""
+    own = collections.Counter(track.content for track in evidence.layout.tracks)
+    for copy, tracks in evidence.tracks.items():
+        more = collections.Counter(track.content for track in tracks) - own
+        yield from (Reason(Why.TRACK, content, copy=copy) for content in more)
+
+
+def of_one_copy(fates: Fates) -> typing.List[str]:
+    """What plays in the recording without a checksum, and is of one copy alone though there are several: damage there can't be seen."""
+    if len(set(fates.columns)) < 2:
+        return []
+    sizes: typing.Counter[str] = collections.Counter()
+    for number, stretch in enumerate(fates.stretches):
+        if fates.state(number) is State.ALONE and stretch.what.content in PLAYED:
+            sizes[Reason(Why.ABSENT, stretch.what.content, stretch.what.track).subject("OUT")] += stretch.size
+    return [f"{what}: {size} bytes have no checksum and are of one copy alone, so damage there can't be seen" for what, size in sizes.items()]
+
+
+def of_the_rest(fates: Fates) -> typing.List[str]:
+    """What lies beside frames that are not restored, in elements that are not either: nothing vouches for it."""
+    lost = {fate.stretch for fate in fates.frames.values() if fate.fate is Fate.LOST}
+    around = [number for number in lost if fates.stretches[number].kind is Kind.ELEMENT]
+    size = sum(fates.stretches[number].size - sum(frame.size for frame in fates.stretches[number].parts) for number in around)
+    if not size:
+        return []
+    return [f"beside frames that are not restored {size} bytes of sound and headers can't be verified, as one checksum is over all"]
+
+
+def of_gaps(layout: Layout) -> typing.Iterator[Reason]:
+    """The bytes that no copy divides, and those that none has."""
+    for place, size in layout.gaps:
+        why = Why.ABSENT if place >= layout.size else Why.UNDIVIDED
+        yield Reason(why, Content.UNKNOWN, bytes=(place, place + size))
+
+
+def of_stretches(fates: Fates) -> typing.Iterator[Reason]:
+    """The stretches of OUT that are not whole, woven, agreed or alone."""
+    for number, stretch in enumerate(fates.stretches):
+        state = fates.state(number)
+        if not state.is_good():
+            lost = [fate for fate in fates.within(number) if fate.fate is Fate.LOST]
+            yield from of_stretch(stretch, state, lost, fates.source(stretch))
+
+
+def of_stretch(stretch: Stretch, state: State, lost: typing.Sequence[FrameFate], source: typing.Optional[int]) -> typing.Iterator[Reason]:
+    """Why a stretch is in doubt: the frames that are lost in it, if it is for them, else all of it."""
+    having = sum(place is not None for place in stretch.places)
+    damaged = Why.ALONE_DAMAGED if having == 1 else Why.DAMAGED
+    if not having:
+        yield of_bytes(Why.ABSENT, stretch)
+    elif state is State.OPEN:
+        yield dataclasses.replace(of_frame(Why.DIFFER, lost[0], source), because=stretch.because) if lost else of_bytes(Why.DIFFER, stretch, source)
+    elif state is State.DISPUTED:
+        yield of_bytes(Why.DISPUTED, stretch, source)
+    elif lost:
+        yield from (of_frame(Why.DISPUTED if is_disputed(frame) else damaged, frame, source) for frame in lost)
+    elif stretch.kind is Kind.ELEMENT and stretch.what.content in OF_CLUSTERS and having > 1:
+        yield of_bytes(Why.BESIDE, stretch)
+    else:
+        yield of_bytes(damaged, stretch)
+
+
+def is_disputed(frame: FrameFate) -> bool:
+    return any(place.state == "disputed" for place in frame.slices)
+
+
+def of_frame(why: Why, fate: FrameFate, source: typing.Optional[int]) -> Reason:
+    frame = fate.frame
+    return Reason(why, Content.FRAME, frame.track, (fate.order, fate.order), (frame.place, frame.end), (frame.time, frame.time),
+                  source if why in (Why.DIFFER, Why.DISPUTED) else None)
+
+
+def of_bytes(why: Why, stretch: Stretch, source: typing.Optional[int] = None) -> Reason:
+    what = stretch.what
+    start, end = what.start, what.end if what.end is not None else what.start
+    times = None if start is None or end is None else (start, end)
+    because = stretch.because if why is Why.DIFFER else Because.ALONE
+    return Reason(why, what.content, what.track, None, (stretch.start, stretch.end), times, source, because=because)
