@@ -3,7 +3,7 @@ PROGRAM := crates/ffv1restore/out/ffv1restore
 CALLS := crates/ffv1_refusals/out/ffv1_refusals
 PREFIX ?= $(HOME)/.local
 
-.PHONY: all run test cases rot fuzz ffmpeg reel bench install dist
+.PHONY: all run test units cases rot fuzz ffmpeg reel bench install dist
 
 all: $(PROGRAM)
 
@@ -21,11 +21,16 @@ test:
 	rm -f $(PROGRAM) $(CALLS)
 	tests/manual
 	tests/recorded
+	$(MAKE) units
 	rt ci
 	tests/run $(PROGRAM)
 	tests/larger $(PROGRAM)
 	tests/memory $(CALLS) $(PROGRAM)
 	$(MAKE) rot
+
+# The unit tests of mend-reel.
+units:
+	PYTHONPATH=tools PYTHONDONTWRITEBYTECODE=1 python3 -m unittest discover -s tests/units -t tests
 
 # The cases alone.
 cases:
@@ -69,7 +74,7 @@ dist: $(PROGRAM)
 
 install: $(PROGRAM)
 	install -D $(PROGRAM) $(DESTDIR)$(PREFIX)/bin/ffv1restore
-	install -D tools/mend-reel $(DESTDIR)$(PREFIX)/bin/mend-reel
+	tools/make-one-file $(DESTDIR)$(PREFIX)/bin/mend-reel
 	install -D -m 644 -t $(DESTDIR)$(PREFIX)/share/man/man1 man/ffv1restore.1 man/mend-reel.1
 	install -D -m 644 completions/ffv1restore.bash $(DESTDIR)$(PREFIX)/share/bash-completion/completions/ffv1restore
 	ln -sf ffv1restore $(DESTDIR)$(PREFIX)/share/bash-completion/completions/mend-reel

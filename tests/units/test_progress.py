@@ -1,0 +1,43 @@
+"""What is reported while the work is done."""
+import io
+import unittest
+from unittest import mock
+
+from mend_reel.progress import Progress, clock
+
+
+class Terminal(io.StringIO):
+    def isatty(self):
+        return True
+
+
+class ProgressTest(unittest.TestCase):
+    def shown(self, stream, quiet, steps):
+        progress = Progress(quiet, stream)
+        with mock.patch("time.monotonic", side_effect=[second for second, _ in steps]):
+            progress.begin("reading")
+            for _, done in steps[1:]:
+                progress.at(done, 200)
+        progress.end()
+        return stream.getvalue()
+
+    def test_terminal_shows_how_much_is_left(self):
+        shown = self.shown(Terminal(), False, [(100.0, 0), (110.0, 50), (110.05, 60), (130.0, 150)])
+        self.assertEqual(shown, "\r\033[Kreading: 25 %, 0:00:30 left\r\033[Kreading: 75 %, 0:00:10 left\r\033[K")
+
+    def test_elsewhere_comes_a_line_a_minute(self):
+        shown = self.shown(io.StringIO(), False, [(100.0, 0), (130.0, 50), (160.0, 100), (200.0, 150), (220.0, 200)])
+        self.assertEqual(shown, "mend-reel: reading: 50 %, 0:01:00 left\nmend-reel: reading: 100 %, 0:00:00 left\n")
+
+    def test_quiet_shows_nothing(self):
+        self.assertEqual(self.shown(Terminal(), True, [(100.0, 0), (200.0, 50)]), "")
+
+    def test_nothing_done_has_no_time_left(self):
+        self.assertEqual(self.shown(Terminal(), False, [(100.0, 0), (110.0, 0)]), "\r\033[Kreading: 0 %\r\033[K")
+
+    def test_clock(self):
+        self.assertEqual([clock(0), clock(59.6), clock(3661)], ["0:00:00", "0:01:00", "1:01:01"])
+
+
+if __name__ == "__main__":
+    unittest.main()

@@ -1,0 +1,52 @@
+"""How far the work is: a line that is overwritten on a terminal, and a line a minute elsewhere."""
+from __future__ import annotations
+
+import sys
+import time
+import typing
+
+EACH_SECONDS = {True: 0.1, False: 60.0}
+
+
+def clock(seconds: float) -> str:
+    """A time as hours, minutes and seconds."""
+    whole = int(seconds + 0.5)
+    return f"{whole // 3600}:{whole // 60 % 60:02}:{whole % 60:02}"
+
+
+class Progress:
+    """Reports on standard error how much of each step is done, and how long the rest of it takes at the pace so far."""
+
+    def __init__(self, quiet: bool = False, stream: typing.Optional[typing.TextIO] = None) -> None:
+        self.stream: typing.Optional[typing.TextIO] = stream or sys.stderr
+        self.quiet, self.terminal = quiet or self.stream is None, self.stream is not None and self.stream.isatty()
+        self.step, self.begun, self.last, self.shown = "", 0.0, 0.0, False
+
+    def begin(self, step: str) -> None:
+        """Begins a step, which is named in what is shown of it."""
+        self.step, self.begun = step, time.monotonic()
+        self.last = self.begun if not self.terminal else 0.0
+
+    def at(self, done: float, whole: float) -> None:
+        """Reports that so much of the step is done, if it is time to."""
+        now = time.monotonic()
+        if self.quiet or now - self.last < EACH_SECONDS[self.terminal]:
+            return
+        self.last = now
+        share = min(done / whole, 1.0) if whole else 1.0
+        left = f", {clock((now - self.begun) * (1 - share) / share)} left" if share > 0 else ""
+        self.show(f"{self.step}: {100 * share:.0f} %{left}")
+
+    def show(self, text: str) -> None:
+        if self.stream is None:
+            return
+        self.stream.write(f"\r\033[K{text}" if self.terminal else f"mend-reel: {text}\n")
+        self.stream.flush()
+        self.shown = True
+
+    def end(self) -> None:
+        """Takes the line away from a terminal."""
+        if self.stream is not None and self.terminal and self.shown:
+            self.stream.write("\r\033[K")
+            self.stream.flush()
+        self.shown = False
