@@ -18,7 +18,10 @@ of these words:
 
 A CONTENT is a name of tests/cases/files, 'hex' and digits, 'from' and a path below tests/, 'lines' and the lines of a text, parted by
 ' / ', or 'list', a path below tests/ and lengths: the list of that file for copies of these lengths (tests/lists.py). After it can come
-'cut' and how many bytes of it are left, and then 'with' and pairs of a place and digits: the bytes that stand from that place on.
+'cut' and how many bytes of it are left, and then 'with' and changes: a place and the digits of the bytes that stand from that place
+on, or 'zero' and how many bytes are zero there, or 'gone' and how many bytes are lost there; places count before any change.
+
+The cases of tests/cases/mend-reel are of that tool, which runs the program.
 """
 import dataclasses
 import pathlib
@@ -33,6 +36,7 @@ FOLDER = TESTS / "cases"
 @dataclasses.dataclass
 class Case:
     name: str
+    tool: bool = False
     words: list = dataclasses.field(default_factory=list)
     inputs: dict = dataclasses.field(default_factory=dict)
     folders: list = dataclasses.field(default_factory=list)
@@ -67,10 +71,11 @@ def content_of(text, shared):
     else:
         content = shared[base]
     changed = bytearray(content[: int(left)] if left else content)
-    for change in filter(None, changes.split(", ")):
-        place, digits = change.split(" ", 1)
-        new = bytes.fromhex(digits)
-        changed[int(place) : int(place) + len(new)] = new
+    for change in reversed(changes.split(", ") if changes else []):
+        place, what = change.split(" ", 1)
+        word, _, number = what.partition(" ")
+        new = bytes(int(number)) if word == "zero" else b"" if word == "gone" else bytes.fromhex(what)
+        changed[int(place) : int(place) + (int(number) if word == "gone" else len(new))] = new
     return bytes(changed)
 
 
@@ -106,7 +111,7 @@ def cases():
             elif line.startswith("case "):
                 if case:
                     yield case
-                case = Case(line[5:])
+                case = Case(line[5:], table.name == "mend-reel")
             elif line:
                 printed = line
                 read_line(case, line, shared)
