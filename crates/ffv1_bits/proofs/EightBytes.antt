@@ -236,16 +236,17 @@ concat_chunks n (suc k) xs =
     ap (λ more. take n xs ++ more) (concat_chunks n k (drop n xs)) ∙ sym (take-add n (k * n) xs)
     ∙ ap (λ m. take m xs) (let e : n + k * n ≡ suc k * n = omega arith in e)
 
-pub chunk_turn : (chunks : List (List ℕ)) (i register next : ℕ) → i < length chunks → length (get_or chunks i []) ≡ 8
-    → register ≡ remainder_of (bits_of (concat (take i chunks)))
-    → next ≡ divided 64 (register * 2 ^ 64 + polynomial_of (bits_of (get_or chunks i []))) → next ≡ remainder_of (bits_of (concat (take (i + 1) chunks)))
-chunk_turn chunks i register next within long now e =
+pub chunk_turn : (front : List ℕ) (chunks : List (List ℕ)) (i register next : ℕ) → i < length chunks → length (get_or chunks i []) ≡ 8
+    → register ≡ remainder_of (bits_of (front ++ concat (take i chunks)))
+    → next ≡ divided 64 (register * 2 ^ 64 + polynomial_of (bits_of (get_or chunks i [])))
+    → next ≡ remainder_of (bits_of (front ++ concat (take (i + 1) chunks)))
+chunk_turn front chunks i register next within long now e =
     let chunk : List ℕ = get_or chunks i [] in
-    let more : concat (take (i + 1) chunks) ≡ concat (take i chunks) ++ chunk =
-    ap concat (take_more chunks i [] within) ∙ concat-append (take i chunks) (chunk ∷ [])
-    ∙ ap (λ last. concat (take i chunks) ++ last) (append-nil chunk) in
+    let more : front ++ concat (take (i + 1) chunks) ≡ (front ++ concat (take i chunks)) ++ chunk =
+    ap (λ bytes. front ++ bytes) (ap concat (take_more chunks i [] within) ∙ concat-append (take i chunks) (chunk ∷ [])
+    ∙ ap (λ last. concat (take i chunks) ++ last) (append-nil chunk)) ∙ sym (append_assoc front (concat (take i chunks)) chunk) in
     e ∙ ap (λ r. divided 64 (r * 2 ^ 64 + polynomial_of (bits_of chunk))) now
-    ∙ sym (remainder_eight (concat (take i chunks)) chunk long) ∙ ap (λ bytes. remainder_of (bits_of bytes)) (sym more)
+    ∙ sym (remainder_eight (front ++ concat (take i chunks)) chunk long) ∙ ap (λ bytes. remainder_of (bits_of bytes)) (sym more)
 
 pub chunks_and_rest : (bytes : List ℕ) → concat (first_chunks 8 (length bytes / 8) bytes) ++ drop (length bytes / 8 * 8) bytes ≡ bytes
 chunks_and_rest bytes =

@@ -1,5 +1,5 @@
 //! The parity of records and slices: the remainder of their bits, read as a polynomial with coefficients 0 and 1.
-ghost use Rattle.std.specs.Prelude.{◌≡◌, ◌+◌, ◌*◌, ◌^◌, ◌↔◌, IsTrue};
+ghost use Rattle.std.specs.Prelude.{ℕ, ◌≡◌, ◌+◌, ◌*◌, ◌^◌, ◌++◌, ◌↔◌, List, IsTrue};
 ghost use Rattle.std.specs.List.{concat};
 ghost use Rattle.ffv1_bits.specs.Bits.{bits_of};
 ghost use Rattle.ffv1_bits.specs.Parity.{polynomial_of, remainder_of, PassesParity, divided, BurstIsSeen, RemainderIsOne};
@@ -10,19 +10,26 @@ use crate::table::{byte_remainder, moved_remainder};
 pub fn remainder(bytes: &[u8]) -> u32
     ensures { result ≡ remainder_of (bits_of bytes.now) }
 {
+    remainder_after(0, bytes)
+}
+
+/// What is left of bytes that follow others, by what is left of those others; 0 where none stand before.
+pub fn remainder_after(left: u32, bytes: &[u8]) -> u32
+    ensures { (front : List ℕ) → left ≡ remainder_of (bits_of front) → result ≡ remainder_of (bits_of (front ++ bytes.now)) }
+{
     let (chunks, rest) = bytes.as_chunks::<8>();
-    let mut register = chunks_remainder(chunks);
+    let mut register = chunks_remainder(left, chunks);
     for byte in rest {
         register = with_byte(register, *byte);
     }
     register
 }
 
-/// What is left of the bytes of all chunks of eight.
-fn chunks_remainder(chunks: &[[u8; 8]]) -> u32
-    ensures { result ≡ remainder_of (bits_of (concat chunks.now)) }
+/// What is left of all chunks of eight bytes that follow others, by what is left of those.
+fn chunks_remainder(left: u32, chunks: &[[u8; 8]]) -> u32
+    ensures { (front : List ℕ) → left ≡ remainder_of (bits_of front) → result ≡ remainder_of (bits_of (front ++ concat chunks.now)) }
 {
-    let mut register = 0;
+    let mut register = left;
     for chunk in chunks {
         register = with_eight(register, chunk);
     }

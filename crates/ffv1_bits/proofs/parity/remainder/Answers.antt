@@ -1,28 +1,8 @@
-use Rattle.std.proofs.Common.{rules, ◌≡◌, ℕ, List, ◌/◌, ◌++◌, length, take, append-nil, ap, sym, ◌∙◌}
-use Rattle.std.proofs.lemmas.List.{take_all}
-use Rattle.std.specs.List.{concat}
-use Rattle.std.specs.Simd.{first_chunks}
+use Rattle.std.proofs.Common.{[], refl}
 use Rattle.ffv1_bits.specs.Bits.{bits_of}
-use Rattle.ffv1_bits.specs.Parity.{remainder_of}
-use Rattle.ffv1_bits.proofs.Register.{remainder_turn}
-use Rattle.ffv1_bits.proofs.EightBytes.{chunks_and_rest}
+use Rattle.ffv1_bits.specs.Parity.{divided, remainder_of, polynomial_of}
 use Rattle.ffv1_bits.proofs.parity.remainder.Goals as goal
 
-pub loop-byte-init : goal.loop-byte-init
-loop-byte-init c =
-    c.chunks_remainder-register.ensures ∙ ap (λ chunks. remainder_of (bits_of (concat chunks))) c.as_chunks.ensures.front
-    ∙ ap (λ bytes. remainder_of (bits_of bytes)) (sym (append-nil (concat (first_chunks 8 (length c.args.bytes.now / 8) c.args.bytes.now))))
-
-pub loop-byte-preserved : goal.loop-byte-preserved
-loop-byte-preserved c =
-    remainder_turn (concat (first_chunks 8 (length c.args.bytes.now / 8) c.args.bytes.now)) c.as_chunks.result.1.now c.loop-byte.byte-index c.loop-byte.register
-    c.with_byte-register.result c.loop-byte-test.true (search rules) c.loop-byte.invariant c.with_byte-register.ensures
-
 pub returns : goal.returns
-returns c =
-    let rest : List ℕ = c.as_chunks.result.1.now in
-    let front : List ℕ = concat (first_chunks 8 (length c.args.bytes.now / 8) c.args.bytes.now) in
-    let all : take c.loop-byte.byte-index rest ≡ rest = take_all c.loop-byte.byte-index rest c.loop-byte-test.false in
-    c.loop-byte.invariant
-    ∙ ap (λ bytes. remainder_of (bits_of bytes))
-    (ap (λ back. front ++ back) (all ∙ c.as_chunks.ensures.back) ∙ chunks_and_rest c.args.bytes.now)
+unfolding bits_of remainder_of divided polynomial_of
+returns c = c.remainder_after.ensures [] refl

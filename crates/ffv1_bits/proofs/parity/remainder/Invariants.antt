@@ -1,9 +1,0 @@
-use Rattle.std.proofs.Common.{◌≡◌, ◌/◌, ◌++◌, length, take}
-use Rattle.std.specs.List.{concat}
-use Rattle.std.specs.Simd.{first_chunks}
-use Rattle.ffv1_bits.specs.Bits.{bits_of}
-use Rattle.ffv1_bits.specs.Parity.{remainder_of}
-use Rattle.ffv1_bits.proofs.parity.remainder.Given as goal
-
-abbrev pub invariant-loop-byte : goal.invariant-loop-byte
-invariant-loop-byte l = l.register ≡ remainder_of (bits_of (concat (first_chunks 8 (length l.bytes / 8) l.bytes) ++ take l.byte-index l.rest))
