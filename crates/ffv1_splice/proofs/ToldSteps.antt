@@ -121,6 +121,26 @@ module _ (copies : List (List ℕ)) (copy : List ℕ) (end : ℕ) where
         | inr new ↦ inr (new.2 ∙ ap (λ s. piece_of copy s end) (one_cut start piece.start cut new.0))
       ]) more h
 
+  -- a slice with which the pieces stay as they are is a piece that was found already, or two others differ
+  pub pieces-kept : (told : Told Piece) (start : ℕ) → IsCut copy start end → TellsMore told (piece_of copy start end) told
+      → Tells (IsPiece copies end) told → Tells (IsPiece (copies ++ copy ∷ []) end) told
+  pieces-kept none start cut more h = absurd (cc)
+  pieces-kept (one first) start cut more h =
+      elim more [
+        | inl same ↦
+            pieces-passed (one first) (one first) start cut (subst (λ p. HasContent p.start end) same.0 h.there.content)
+            (subst (λ p. PassesParity p.bytes) same.0 h.there.passes) (inl same) h
+        | inr apart ↦ absurd (cc (apart.1))
+      ]
+  pieces-kept two start cut more h =
+      record {
+        one = h.one;
+        other = h.other;
+        one_there = piece_on h.one h.one_there;
+        other_there = piece_on h.other h.other_there;
+        differ = h.differ;
+      }
+
   pub starts-cut : (told after : Told ℕ) (start : ℕ) → IsCut copy start end → HasContent start end → TellsMore told start after
       → Tells (IsToldStart copies end) told
       → Tells (IsToldStart (copies ++ copy ∷ []) end) after

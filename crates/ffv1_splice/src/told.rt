@@ -1,5 +1,5 @@
 //! What copies tell of the slice that ends at a place, each looked at once.
-ghost use Rattle.std.specs.Prelude.{◌≡◌, ◌≤◌, ◌<◌, ℕ, length, map, All, MatchOption};
+ghost use Rattle.std.specs.Prelude.{◌≡◌, ◌≤◌, ◌<◌, ◌↔◌, ℕ, IsTrue, length, map, All, MatchOption};
 ghost use Rattle.ffv1_slice.specs.Chain.{IsCut};
 ghost use Rattle.ffv1_splice.specs.Pieces.{HasContent, IsPiece, IsToldStart, IsLeast};
 ghost use Rattle.ffv1_splice.specs.Told.{Tells, TellsMore, pieces_told, starts_told};
@@ -30,6 +30,17 @@ pub(crate) enum Starts {
 }
 
 impl<'a> Pieces<'a> {
+    /// Whether these stay as they are with one more piece: it is the only one already, or two differ.
+    fn stays_with(self, start: usize, bytes: &[u8]) -> bool
+        ensures { IsTrue result ↔ TellsMore (pieces_told self.entry) (record { start = start; bytes = bytes.now }) (pieces_told self.entry) }
+    {
+        match self {
+            Pieces::None => false,
+            Pieces::One(other, same) => other == start && same == bytes,
+            Pieces::Two => true,
+        }
+    }
+
     /// The same with one more piece.
     fn with(self, start: usize, bytes: &'a [u8]) -> Pieces<'a>
         ensures { TellsMore (pieces_told self.entry) (record { start = start; bytes = bytes.now }) (pieces_told result) }
@@ -80,7 +91,7 @@ pub(crate) fn told_at<'a>(copies: &[&'a [u8]], end: usize) -> (Pieces<'a>, Start
         if let Some(start) = told_start(copy, end) {
             let bytes = &copy[start..end];
             starts = starts.with(start);
-            if passes(bytes) {
+            if !pieces.stays_with(start, bytes) && passes(bytes) {
                 pieces = pieces.with(start, bytes);
             }
         }
