@@ -1,174 +1,103 @@
 -- The splice of copies that are near an original.
-use Rattle.std.proofs.Common.{◌≡◌, ℕ, ◌+◌, ◌<◌, ◌≤◌, List, length, get_or, refl, sym, ap, ◌∙◌, subst, arith, inl, inr}
-use Rattle.std.specs.Prelude.{Contains, slice_range}
-use Rattle.ffv1_bits.specs.Parity.{PassesParity}
-use Rattle.ffv1_bits.proofs.Burst.{burst}
-use Rattle.ffv1_bits.proofs.Bytes.{AreBytes-range}
-use Rattle.ffv1_slice.specs.Chain.{size_before, IsCut, IsEnd, IsLinkOf, piece_of}
-use Rattle.ffv1_slice.specs.Chain.IsEnd.{last}
-use Rattle.ffv1_slice.proofs.NearLaws.{same_size_field, length-range, size_of_range}
-use Rattle.ffv1_splice.specs.Pieces.{IsPiece, IsToldStart}
-use Rattle.ffv1_splice.specs.Standings.{StandsAs, IsStop}
-use Rattle.ffv1_splice.specs.Splice.{SplicedValue, IsSpliceOf}
-use Rattle.ffv1_splice.specs.Originals.{AreCopiesOf, AgreeWith, IsAmong, AreWeavable, IsSound, IsIntact, IsNearCopy, AreNearCopies, IsIntactInSome}
-use Rattle.ffv1_splice.specs.Laws.{IsNearSplice, NearCopiesSplice}
-use Rattle.ffv1_splice.specs.declared.place.Standing.{Standing}
-use Rattle.ffv1_splice.specs.declared.place.Standing.TheVariants.{Settled, Woven, Disputed, Missing}
-use Rattle.ffv1_splice.proofs.OriginalLaws.{end_within, link_at, same_cut, AreLinkPlaces, link_places, settled_link, settled_where, is_original}
+use Rattle.std.proofs.Common.{◌≡◌, ℕ, List, length, get_or, sym, ◌∙◌}
+use Rattle.std.specs.Prelude.{◌↔◌, All, slice_range}
+use Rattle.std.proofs.lemmas.List.Elements.{All-weaker}
+use Rattle.ffv1_slice.specs.Chain.{piece_of}
+use Rattle.ffv1_splice.specs.Pieces.{IsPiece}
+use Rattle.ffv1_splice.specs.Standings.{versions_at}
+use Rattle.ffv1_splice.specs.Splice.{SplicedValue, IsSettledDown, IsSettledUp, IsSpliceOf}
+use Rattle.ffv1_splice.specs.Originals.{AgreeWith, AgreeFromBelow, AreNearCopies, IsIntactInSome}
+use Rattle.ffv1_splice.specs.Laws.{IsItsLink, IsNearSplice, NearCopiesSplice}
+use Rattle.ffv1_splice.specs.declared.place.Standing.TheVariants.{Settled}
+use Rattle.ffv1_splice.specs.declared.place.Place.{Place}
+use Rattle.ffv1_splice.proofs.DividedLinks.{AreLinkPlaces}
+use Rattle.ffv1_splice.proofs.Narrowed.{range_of_range}
+use Rattle.ffv1_splice.proofs.NarrowedOriginal.{intact_narrowed, near_narrowed}
+use Rattle.ffv1_splice.proofs.PlaceLists.{no_undivided}
+use Rattle.ffv1_splice.proofs.SplicePlaces.{all_places, copy_at_hand, start_within}
+use Rattle.ffv1_splice.proofs.StandingPlaces.{hole_within, hole_bytes}
+use Rattle.ffv1_splice.proofs.OriginalLaws.{AreWalkLinks, above_links, below_links, joined_links, is_original}
 use Rattle.ffv1_splice.proofs.WovenLaws.{given_back_is_original}
-use Rattle.ffv1_splice.proofs.Walks.{IsSpliceBefore, splice_walk}
+use Rattle.ffv1_splice.proofs.NearDivisions.{near_agree, intact_piece, piece_intact, are_copies, are_weavable, divided_links, near_divided}
 
--- ---- a near copy is cut where the original is
+module _ (original : List ℕ) (copies : List (List ℕ)) (near : AreNearCopies original copies) (from_below : AgreeFromBelow original copies)
+    (spliced : SplicedValue) (is : IsSpliceOf copies spliced) where
+  agree : AgreeWith original copies
+  agree = near_agree original copies near
 
-module _ (original copy : List ℕ) (sound : IsSound original) (near : IsNearCopy original copy) (start end : ℕ) (link : IsLinkOf original start end) where
-  within : end ≤ length original
-  within = end_within original end link.is_end
+  down : AreWalkLinks original spliced is.above is.end
+  down = above_links original copies spliced is (are_copies original copies near) agree
 
-  below : start + 8 ≤ end
-  below = let cut : IsCut original start end = link.cut in omega arith
+  up : AreWalkLinks original spliced is.below is.start
+  up = below_links original copies spliced is (are_copies original copies near) agree from_below
 
-  size_of : (bytes : List ℕ) → length bytes ≡ length original → size_before bytes end ≡ size_before (slice_range bytes start end)
-      (length (slice_range bytes start end))
-  size_of bytes long = size_of_range bytes start end below (omega (arith, within))
+  -- ---- the hole
 
-  long_slice : (bytes : List ℕ) → length bytes ≡ length original → 8 ≤ length (slice_range bytes start end)
-  long_slice bytes long = let size = length-range bytes start end (omega (arith, below)) (omega (arith, within)) in omega (arith, below)
+  -- what the original has there
+  abbrev range : List ℕ
+  range = slice_range original is.start is.end
 
-  same_size : size_before copy end ≡ size_before original end
-  same_size =
-      size_of copy near.same_length
-      ∙ (elim (near.each start end link) [
-        | inl intact ↦ ap (λ z. size_before z (length z)) intact
-        | inr hurt ↦ same_size_field (slice_range original start end) (slice_range copy start end) (long_slice original refl)
-            (long_slice copy near.same_length) hurt.size
-      ])
-      ∙ sym (size_of original refl)
+  near_hole : AreNearCopies range (versions_at copies is.start is.end)
+  near_hole = near_narrowed is.start is.end original (start_within copies spliced is) down.is_end copies up.is_end near
 
-  pub near_cut : IsCut copy start end
-  near_cut = let cut : IsCut original start end = link.cut in omega (arith, same_size)
+  hole_links : AreLinkPlaces range (length range) is.hole.places is.hole.front
+  hole_links = divided_links range (versions_at copies is.start is.end) near_hole is.hole is.divided
 
-  -- what passes its parity there is intact
-  pub near_intact : PassesParity (slice_range copy start end) → IsIntact original copy start end
-  near_intact passes =
-      elim (near.each start end link) [
-        | inl intact ↦ intact
-        | inr hurt ↦ sym (burst (slice_range original start end) (slice_range copy start end) hurt.at (AreBytes-range original start end sound.are_bytes)
-            (AreBytes-range copy start end near.are_bytes) hurt.differ (sound.passes start end link) passes)
-      ]
+  hole : IsNearSplice range (versions_at copies is.start is.end) is.hole
+  hole = near_divided range (versions_at copies is.start is.end) near_hole is.hole is.divided
 
-module _ (original : List ℕ) (copies : List (List ℕ)) (near : AreNearCopies original copies) where
-  -- a start that is told is that of the original's link
-  told_start : (end start told : ℕ) → IsLinkOf original start end → IsToldStart copies end told → told ≡ start
-  told_start end start told link h =
-      let cut : IsCut h.copy start end = near_cut original h.copy near.sound (near.near h.copy h.there) start end link in
-      same_cut h.copy told start end h.cut cut
+  -- ---- where places are settled
 
-  pub near_agree : AgreeWith original copies
-  near_agree end piece is_end h =
-      let cut : IsCut h.copy piece.start end = h.cut in
-      let at = link_at original near.sound.whole end is_end (omega arith) in
-      let link : IsLinkOf original at.0 end = record { is_end = is_end; cut = at.1 } in
-      let start : piece.start ≡ at.0 = told_start end at.0 piece.start link
-      (record { copy = h.copy; there = h.there; cut = h.cut; content = h.content }) in
-      let mine : IsLinkOf original piece.start end = subst (λ s. IsLinkOf original s end) (sym start) link in
-      let intact : IsIntact original h.copy piece.start end =
-      near_intact original h.copy near.sound (near.near h.copy h.there) piece.start end mine (subst PassesParity h.bytes h.passes) in
-      (mine, ap (λ z. record { start = piece.start; bytes = z }) (h.bytes ∙ intact))
+  abbrev IsSettledWhere : Place → Type 0
+  IsSettledWhere place = (place.standing ≡ Settled) ↔ IsIntactInSome original copies place.start place.end
 
-  -- a link that is intact in some copy is a piece
-  pub intact_piece : (start end : ℕ) → IsLinkOf original start end → IsIntactInSome original copies start end → IsPiece copies end (piece_of original start end)
-  intact_piece start end link intact = record {
-    copy = intact.0;
-    there = intact.1;
-    cut = near_cut original intact.0 near.sound (near.near intact.0 intact.1) start end link;
-    content = near.sound.content start end link;
-    bytes = sym intact.2;
-    passes = near.sound.passes start end link;
+  -- a settled place is intact in some copy
+  settled_where : (place : Place) → IsItsLink original spliced place → place.standing ≡ Settled
+      → IsPiece copies place.end (piece_of spliced.payload place.start place.end) → IsSettledWhere place
+  settled_where place its settled piece =
+      (λ _. piece_intact original copies near place.start place.end (slice_range spliced.payload place.start place.end) its.link piece, λ intact. settled)
+
+  all_settled_where : All IsSettledWhere spliced.places
+  all_settled_where =
+      all_places copies spliced is IsSettledWhere
+      (λ k d lt. let settled : IsSettledDown copies spliced.payload (get_or is.above k d) = is.down.settled k d lt in
+      settled_where (get_or is.above k d) (down.links k d lt) settled.standing settled.only.there)
+      (λ k d lt. let place : Place = get_or is.hole.places k d in
+      let same = intact_narrowed is.start is.end original copies place.start place.end (hole_within copies spliced is k d lt) in
+      let here = hole.settled k d lt in (λ settled. same.0 (here.0 settled), λ intact. here.1 (same.1 intact)))
+      (no_undivided IsSettledWhere is.start is.hole.front hole_links.whole)
+      (λ k d lt. let settled : IsSettledUp copies is.bound spliced.payload (get_or is.below k d) = is.up.settled k d lt in
+      settled_where (get_or is.below k d) (up.links k d lt) settled.standing settled.only.there)
+
+  abbrev HasBytesWhereSettled : Place → Type 0
+  HasBytesWhereSettled place =
+      place.standing ≡ Settled → slice_range spliced.payload place.start place.end ≡ slice_range original place.start place.end
+
+  all_bytes : All HasBytesWhereSettled spliced.places
+  all_bytes =
+      all_places copies spliced is HasBytesWhereSettled
+      (All-weaker (IsItsLink original spliced) HasBytesWhereSettled (λ place its settled. its.bytes) is.above down.links)
+      (λ k d lt settled. let place : Place = get_or is.hole.places k d in
+      sym (hole_bytes copies spliced is k d lt) ∙ hole.bytes k d lt settled
+      ∙ range_of_range is.start is.end original place.start place.end (hole_within copies spliced is k d lt))
+      (no_undivided HasBytesWhereSettled is.start is.hole.front hole_links.whole)
+      (All-weaker (IsItsLink original spliced) HasBytesWhereSettled (λ place its settled. its.bytes) is.below up.links)
+
+  near_splice : IsNearSplice original copies spliced
+  near_splice = record {
+    places = joined_links original copies spliced is (are_copies original copies near) agree from_below hole_links.each hole_links.whole;
+    settled = all_settled_where;
+    bytes = all_bytes;
   }
-
-  are_copies : AreCopiesOf original copies
-  are_copies = record { whole = near.sound.whole; one_length = λ copy there. (near.near copy there).same_length }
-
-  -- each copy tells the start of each link
-  told_link : (copy : List ℕ) → Contains copies copy → (start end : ℕ) → IsLinkOf original start end → IsToldStart copies end start
-  told_link copy there start end link =
-      record {
-        copy = copy;
-        there = there;
-        cut = near_cut original copy near.sound (near.near copy there) start end link;
-        content = near.sound.content start end link;
-      }
-
-  pub are_weavable : (copy : List ℕ) → Contains copies copy → ((start end : ℕ) → IsLinkOf original start end → IsAmong original copies start end)
-      → AreWeavable original copies
-  are_weavable copy there among =
-      record { agree = near_agree; told = told_link copy there; passes = near.sound.passes; among = among }
-
-  module _ (spliced : SplicedValue) (is : IsSpliceOf copies spliced) where
-    told_cut : (start end : ℕ) → IsEnd original end → IsToldStart copies end start → IsCut original start end
-    told_cut start end is_end told =
-        let cut : IsCut told.copy start end = told.cut in
-        let at = link_at original near.sound.whole end is_end (omega arith) in
-        subst (λ s. IsCut original s end) (sym (told_start end at.0 start (record { is_end = is_end; cut = at.1 }) told)) at.1
-
-    cuts : (start end : ℕ) (bytes : List ℕ) (standing : Standing) → IsEnd original end → StandsAs copies start end bytes standing → IsCut original start end
-    cuts start end bytes Settled is_end h =
-        told_cut start end is_end (record { copy = h.there.copy; there = h.there.there; cut = h.there.cut; content = h.there.content })
-    cuts start end bytes (Woven count) is_end h = told_cut start end is_end h.told.there
-    cuts start end bytes Disputed is_end h = told_cut start end is_end h.1.told.there
-    cuts start end bytes Missing is_end h = told_cut start end is_end h.1.told.there
-
-    goes_on : (end : ℕ) → IsEnd original end → 0 < end → IsStop copies end → ⊥
-    goes_on end is_end after stop =
-        let at = link_at original near.sound.whole end is_end after in
-        let link : IsLinkOf original at.0 end = record { is_end = is_end; cut = at.1 } in
-        stop.untold at.0 (record {
-          there = told_link is.before.copy is.before.there at.0 end link;
-          others = λ other told. told_start end at.0 other link told;
-        })
-
-    places : AreLinkPlaces original (length original) spliced.places spliced.front
-    places =
-        let long = sym (is.one_length is.before.copy is.before.there) ∙ (near.near is.before.copy is.before.there).same_length in
-        link_places original copies cuts (length original) spliced.places spliced.front spliced.payload
-        (λ stop is_end after stops same. goes_on stop is_end after stops) last
-        (subst (λ n. IsSpliceBefore copies n spliced.places spliced.front spliced.payload) long (splice_walk copies spliced is))
-
-    -- the copy whose piece settles a place has the link intact
-    intact_where : (start end : ℕ) (bytes : List ℕ) (standing : Standing) → IsLinkOf original start end → StandsAs copies start end bytes standing
-        → standing ≡ Settled → IsIntactInSome original copies start end
-    intact_where start end bytes Settled link h e = (
-      h.there.copy,
-      h.there.there,
-      near_intact original h.there.copy near.sound (near.near h.there.copy h.there.there) start end link (subst PassesParity h.there.bytes h.there.passes),
-    )
-    intact_where start end bytes (Woven count) link h e = absurd (cc)
-    intact_where start end bytes Disputed link h e = absurd (cc)
-    intact_where start end bytes Missing link h e = absurd (cc)
-
-    pub near_splice : IsNearSplice original copies spliced
-    near_splice = record {
-      places = record { links = places.links; whole = places.whole };
-      settled = λ k d lt. (
-        intact_where (get_or spliced.places k d).start (get_or spliced.places k d).end
-            (slice_range spliced.payload (get_or spliced.places k d).start (get_or spliced.places k d).end) (get_or spliced.places k d).standing
-            (places.each k d lt) (is.stand k d lt),
-        λ intact. settled_where original copies near_agree (get_or spliced.places k d).start (get_or spliced.places k d).end
-            (slice_range spliced.payload (get_or spliced.places k d).start (get_or spliced.places k d).end) (get_or spliced.places k d).standing
-            (get_or spliced.places k d).start (places.each k d lt).is_end
-            (intact_piece (get_or spliced.places k d).start (get_or spliced.places k d).end (places.each k d lt) intact) (is.stand k d lt),
-      );
-      bytes = λ k d lt e. (settled_link original copies near_agree (get_or spliced.places k d).start (get_or spliced.places k d).end
-          (slice_range spliced.payload (get_or spliced.places k d).start (get_or spliced.places k d).end) (get_or spliced.places k d).standing
-          (places.each k d lt).is_end e (is.stand k d lt)).1;
-    }
 
 pub near_copies_splice : NearCopiesSplice
 near_copies_splice = record {
   agree = near_agree;
-  near = λ original copies spliced near is. near_splice original copies near spliced is;
+  near = λ original copies spliced near below is. near_splice original copies near below spliced is;
   original = λ original copies spliced near intact is. is_original original copies (are_copies original copies near) (near_agree original copies near)
       (λ start end link. intact_piece original copies near start end link (intact start end link)) spliced is;
-  woven = λ original copies spliced near among is given. (given_back_is_original original copies spliced (are_copies original copies near)
-      (are_weavable original copies near is.before.copy is.before.there among) is given).1;
+  woven = λ original copies spliced near below among is given.
+      let copy = copy_at_hand copies spliced is in
+      (given_back_is_original original copies spliced (are_copies original copies near)
+      (are_weavable original copies near copy.0 copy.1 below among) is given).1;
 }

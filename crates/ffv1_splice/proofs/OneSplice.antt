@@ -1,230 +1,226 @@
 -- Copies have one splice, and it rests on the set of the copies alone.
-use Rattle.std.proofs.Common.{◌≡◌, ℕ, List, [], ◌∷◌, ◌++◌, length, sym, ap, ◌∙◌, subst, inl, inr}
-use Rattle.std.specs.Prelude.{◌⊎◌}
-use Rattle.std.specs.Ordering.{nat_cmp}
-use Rattle.std.specs.Cmp.Lexicographic.{slice_cmp}
-use Rattle.std.specs.declared.cmp.Ordering.TheVariants.{Less}
-use Rattle.ffv1_slice.specs.Chain.{Piece}
-use Rattle.ffv1_slice.specs.Members.{IsOnly, IsOfTwo, IsOfNone}
-use Rattle.ffv1_splice.specs.Pieces.{IsPiece, IsToldStart, IsLeast}
-use Rattle.ffv1_splice.specs.Standings.{versions_at, IsWeaveAt, StandsAs, IsGap, IsStop}
-use Rattle.ffv1_weave.specs.Weave.{Weave, IsWeaveOf}
-use Rattle.ffv1_weave.specs.Weave.Weave.{woven, disputed, missing, too_many}
-use Rattle.ffv1_weave.specs.declared.check.Check.TheVariants.{Slice}
-use Rattle.ffv1_weave.proofs.WeaveLaws.{same_versions_weave}
-use Rattle.ffv1_splice.specs.Splice.{SplicedValue}
-use Rattle.ffv1_slice.specs.Members.{HasSameMembers}
+use Rattle.std.proofs.Common.{◌≡◌, ℕ, List, [], ◌∷◌, ◌++◌, length, refl, sym, ap, ◌∙◌, subst, arith, inl, inr}
+use Rattle.std.specs.Prelude.{All, reverse, slice_range}
+use Rattle.std.proofs.lemmas.List.Elements.{All-nil, All-cons, All-head, All-tail, All-weaker}
+use Rattle.ffv1_slice.specs.Chain.{Piece, piece_of}
+use Rattle.ffv1_slice.specs.Members.{IsOnly, HasSameMembers}
+use Rattle.ffv1_splice.specs.Pieces.{IsPiece, PieceFrom, IsPieceFrom, IsShortest}
+use Rattle.ffv1_splice.specs.Standings.{versions_at}
+use Rattle.ffv1_splice.specs.Splice.{SplicedValue, LieFrom, RiseFrom, IsSettledDown, IsSettledUp, IsWalkDown, IsBound, IsWalkUp, IsDivisionOf, hole_places, front_of, IsSpliceOf}
 use Rattle.ffv1_splice.specs.Laws.{SameCopiesSplice}
-use Rattle.ffv1_splice.specs.declared.place.Standing.{Standing}
-use Rattle.ffv1_splice.specs.declared.place.Standing.TheVariants.{Settled, Woven, Disputed, Missing}
 use Rattle.ffv1_splice.specs.declared.place.Place.{Place}
-use Rattle.ffv1_splice.proofs.LeastSteps.{same_if_neither_below}
-use Rattle.ffv1_splice.proofs.PlaceSteps.{two_not_only}
-use Rattle.ffv1_splice.proofs.Versions.{same_versions, weave_there}
-use Rattle.ffv1_splice.proofs.Walks.{IsSpliceBefore, splice_walk}
-use Rattle.ffv1_splice.proofs.Walks.IsSpliceBefore.{stops, goes}
+use Rattle.ffv1_splice.proofs.Versions.{same_versions}
+use Rattle.ffv1_splice.proofs.OneDivision.{piece_there, piece_here, only_same, division_there, same_copies_divide}
+use Rattle.ffv1_splice.proofs.SplicePlaces.{copy_at_hand}
+use Rattle.ffv1_splice.proofs.BoundSteps.{one_bound}
+use Rattle.ffv1_splice.proofs.SameBytes.{IsSameAt, same_by_parts}
 
--- ---- one place ends there
+-- ---- the same copies settle the same
 
--- how a place stands, as one value
-pub record StandingValue : Type 0 where
-  pub start : ℕ
-  pub bytes : List ℕ
-  pub standing : Standing
+module _ (copies others : List (List ℕ)) (same : HasSameMembers copies others) where
+  from_there : (bound start : ℕ) (piece : PieceFrom) → IsPieceFrom copies bound start piece → IsPieceFrom others bound start piece
+  from_there bound start piece h =
+      record { there = piece_there copies others same piece.end (record { start = start; bytes = piece.bytes }) h.there; within = h.within }
 
-module _ (copies : List (List ℕ)) (end : ℕ) where
-  least_same : (start : ℕ) (a b : List ℕ) → IsLeast copies start end a → IsLeast copies start end b → a ≡ b
-  least_same start a b h k =
-      same_if_neither_below a b (λ below. k.least h.copy h.there (subst (λ z. slice_cmp nat_cmp z b ≡ Less) h.lies below))
-      (λ below. h.least k.copy k.there (subst (λ z. slice_cmp nat_cmp z a ≡ Less) k.lies below))
+  from_here : (bound start : ℕ) (piece : PieceFrom) → IsPieceFrom others bound start piece → IsPieceFrom copies bound start piece
+  from_here bound start piece h =
+      record { there = piece_here copies others same piece.end (record { start = start; bytes = piece.bytes }) h.there; within = h.within }
 
-  one_gap : (standing : Standing) (s t : ℕ) (a b : List ℕ) → IsGap copies s end a → IsGap copies t end b
-      → ◌≡◌ {A = StandingValue} (record { start = s; bytes = a; standing = standing }) (record { start = t; bytes = b; standing = standing })
-  one_gap standing s t a b h k =
-      let starts : s ≡ t = k.told.others s h.told.there in
-      let bytes : a ≡ b = least_same t a b (subst (λ n. IsLeast copies n end a) starts h.least) k.least in
-      ap (λ n. record { start = n; bytes = a; standing = standing }) starts ∙ ap (λ z. record { start = t; bytes = z; standing = standing }) bytes
+  shortest_there : (bound start : ℕ) (piece : PieceFrom) → IsShortest copies bound start piece → IsShortest others bound start piece
+  shortest_there bound start piece h =
+      record { there = from_there bound start piece h.there; least = λ other k. h.least other (from_here bound start other k) }
 
-  -- what is woven there
-  one_weave_at : (s t : ℕ) (v w : Weave) → IsWeaveAt copies s end v → IsWeaveAt copies t end w → v ≡ w
-  one_weave_at s t v w h k =
-      let starts : s ≡ t = k.told.others s h.told.there in
-      same_versions_weave Slice (versions_at copies t end) (versions_at copies t end) v w (λ version. ((λ there. there), λ there. there))
-      (subst (λ n. IsWeaveOf Slice (versions_at copies n end) v) starts h.weave') k.weave'
+  shortest_here : (bound start : ℕ) (piece : PieceFrom) → IsShortest others bound start piece → IsShortest copies bound start piece
+  shortest_here bound start piece h =
+      record { there = from_here bound start piece h.there; least = λ other k. h.least other (from_there bound start other k) }
 
-  one_woven : (s t : ℕ) (a b : List ℕ) (m n : ℕ) → IsWeaveAt copies s end (woven a m) → IsWeaveAt copies t end (woven b n)
-      → ◌≡◌ {A = StandingValue} (record { start = s; bytes = a; standing = Woven m }) (record { start = t; bytes = b; standing = Woven n })
-  one_woven s t a b m n h k =
-      let starts : s ≡ t = k.told.others s h.told.there in
-      let same : woven a m ≡ woven b n = one_weave_at s t (woven a m) (woven b n) h k in
-      let bytes : a ≡ b = cc in
-      let counts : m ≡ n = cc in
-      ap (λ i. record { start = i; bytes = a; standing = Woven m }) starts ∙ ap (λ z. record { start = t; bytes = z; standing = Woven m }) bytes
-      ∙ ap (λ i. record { start = t; bytes = b; standing = Woven i }) counts
+  only_there : (end : ℕ) (piece : Piece) → IsOnly (IsPiece copies end) piece → IsOnly (IsPiece others end) piece
+  only_there end = only_same copies others same (IsPiece copies end) (IsPiece others end) (piece_there copies others same end) (piece_here copies others same end)
 
-  -- two pieces that differ, and what no piece told
-  two_not_none : IsOfTwo (IsPiece copies end) → IsOfNone (IsPiece copies end) → ⊥
-  two_not_none two none = none two.one two.one_there
+  only_here : (end : ℕ) (piece : Piece) → IsOnly (IsPiece others end) piece → IsOnly (IsPiece copies end) piece
+  only_here end = only_same copies others same (IsPiece others end) (IsPiece copies end) (piece_here copies others same end) (piece_there copies others same end)
 
-  not_disputed_and_missing : (s t : ℕ) → IsOfTwo (IsPiece copies end) ⊎ IsWeaveAt copies s end disputed
-      → IsWeaveAt copies t end missing ⊎ IsWeaveAt copies t end too_many → ⊥
-  not_disputed_and_missing s t (inl two) (inl w) = two_not_none two w.none
-  not_disputed_and_missing s t (inl two) (inr w) = two_not_none two w.none
-  not_disputed_and_missing s t (inr h) (inl w) = let e = one_weave_at s t disputed missing h w in absurd (cc)
-  not_disputed_and_missing s t (inr h) (inr w) = let e = one_weave_at s t disputed too_many h w in absurd (cc)
+  bound_there : (end bound : ℕ) → IsBound copies end bound → IsBound others end bound
+  bound_there end bound (inl h) = inl (λ piece k. h.0 piece (piece_here copies others same end piece k), h.1)
+  bound_there end bound (inr h) =
+      inr (h.0, piece_there copies others same end h.0 h.1, h.2, λ other k. h.3 other (piece_here copies others same end other k))
 
-  not_woven_and_disputed : (s t : ℕ) (a : List ℕ) (m : ℕ) → IsWeaveAt copies s end (woven a m)
-      → IsOfTwo (IsPiece copies end) ⊎ IsWeaveAt copies t end disputed → ⊥
-  not_woven_and_disputed s t a m h (inl two) = two_not_none two h.none
-  not_woven_and_disputed s t a m h (inr w) = let e = one_weave_at s t (woven a m) disputed h w in absurd (cc)
+  down_there : (payload : List ℕ) (places : List Place) (end : ℕ) → IsWalkDown copies payload places end → IsWalkDown others payload places end
+  down_there payload places end h =
+      record {
+        lie = h.lie;
+        settled = All-weaker (IsSettledDown copies payload) (IsSettledDown others payload)
+            (λ place settled. record {
+              standing = settled.standing;
+              only = only_there place.end (piece_of payload place.start place.end) settled.only;
+            }) places h.settled;
+        stop = λ piece only. h.stop piece (only_here end piece only);
+      }
 
-  not_woven_and_missing : (s t : ℕ) (a : List ℕ) (m : ℕ) → IsWeaveAt copies s end (woven a m)
-      → IsWeaveAt copies t end missing ⊎ IsWeaveAt copies t end too_many → ⊥
-  not_woven_and_missing s t a m h (inl w) = let e = one_weave_at s t (woven a m) missing h w in absurd (cc)
-  not_woven_and_missing s t a m h (inr w) = let e = one_weave_at s t (woven a m) too_many h w in absurd (cc)
+  up_there : (bound : ℕ) (payload : List ℕ) (places : List Place) (start : ℕ) → IsWalkUp copies bound payload places start
+      → IsWalkUp others bound payload places start
+  up_there bound payload places start h =
+      record {
+        rise = h.rise;
+        settled = All-weaker (IsSettledUp copies bound payload) (IsSettledUp others bound payload)
+            (λ place settled. record {
+              standing = settled.standing;
+              first = shortest_there bound place.start (record { end = place.end; bytes = slice_range payload place.start place.end }) settled.first;
+              only = only_there place.end (piece_of payload place.start place.end) settled.only;
+            }) places h.settled;
+        stop = λ piece first only. h.stop piece (shortest_here bound start piece first)
+            (only_here piece.end (record { start = start; bytes = piece.bytes }) only);
+      }
 
-  not_settled_and_disputed : (piece : Piece) (t : ℕ) → IsOnly (IsPiece copies end) piece → IsOfTwo (IsPiece copies end) ⊎ IsWeaveAt copies t end disputed → ⊥
-  not_settled_and_disputed piece t h (inl two) = two_not_only (IsPiece copies end) two piece h
-  not_settled_and_disputed piece t h (inr w) = w.none piece h.there
+  -- the same copies have the splice
+  pub splice_there : (spliced : SplicedValue) → IsSpliceOf copies spliced → IsSpliceOf others spliced
+  splice_there spliced is =
+      record {
+        above = is.above;
+        below = is.below;
+        start = is.start;
+        end = is.end;
+        bound = is.bound;
+        hole = is.hole;
+        one_length = λ copy there. is.one_length copy ((same copy).1 there);
+        down = down_there spliced.payload is.above is.end is.down;
+        room = bound_there is.end is.bound is.room;
+        up = up_there is.bound spliced.payload is.below is.start is.up;
+        divided = division_there (versions_at copies is.start is.end) (versions_at others is.start is.end)
+            (same_versions copies others same is.start is.end) is.hole is.divided;
+        bytes = is.bytes;
+        places = is.places;
+        front = is.front;
+      }
 
-  not_settled_and_missing : (piece : Piece) (t : ℕ) → IsOnly (IsPiece copies end) piece
-      → IsWeaveAt copies t end missing ⊎ IsWeaveAt copies t end too_many → ⊥
-  not_settled_and_missing piece t h (inl w) = w.none piece h.there
-  not_settled_and_missing piece t h (inr w) = w.none piece h.there
+-- ---- one walk
 
-  pub one_standing : (s t : ℕ) (a b : List ℕ) (x y : Standing) → StandsAs copies s end a x → StandsAs copies t end b y
-      → ◌≡◌ {A = StandingValue} (record { start = s; bytes = a; standing = x }) (record { start = t; bytes = b; standing = y })
-  one_standing s t a b Settled Settled h k =
-      ap (λ (p : Piece). record { start = p.start; bytes = p.bytes; standing = Settled }) (k.others (record { start = s; bytes = a }) h.there)
-  one_standing s t a b Settled (Woven n) h k = absurd (k.none (record { start = s; bytes = a }) h.there)
-  one_standing s t a b Settled Disputed h k = absurd (not_settled_and_disputed (record { start = s; bytes = a }) t h k.0)
-  one_standing s t a b Settled Missing h k = absurd (not_settled_and_missing (record { start = s; bytes = a }) t h k.0)
-  one_standing s t a b (Woven m) Settled h k = absurd (h.none (record { start = t; bytes = b }) k.there)
-  one_standing s t a b (Woven m) (Woven n) h k = one_woven s t a b m n h k
-  one_standing s t a b (Woven m) Disputed h k = absurd (not_woven_and_disputed s t a m h k.0)
-  one_standing s t a b (Woven m) Missing h k = absurd (not_woven_and_missing s t a m h k.0)
-  one_standing s t a b Disputed Settled h k = absurd (not_settled_and_disputed (record { start = t; bytes = b }) s k h.0)
-  one_standing s t a b Disputed (Woven n) h k = absurd (not_woven_and_disputed t s b n k h.0)
-  one_standing s t a b Disputed Disputed h k = one_gap Disputed s t a b h.1 k.1
-  one_standing s t a b Disputed Missing h k = absurd (not_disputed_and_missing s t h.0 k.0)
-  one_standing s t a b Missing Settled h k = absurd (not_settled_and_missing (record { start = t; bytes = b }) s k h.0)
-  one_standing s t a b Missing (Woven n) h k = absurd (not_woven_and_missing t s b n k h.0)
-  one_standing s t a b Missing Disputed h k = absurd (not_disputed_and_missing t s k.0 h.0)
-  one_standing s t a b Missing Missing h k = one_gap Missing s t a b h.1 k.1
+same_place : (one other : Place) → one.start ≡ other.start → one.end ≡ other.end → one.standing ≡ other.standing → one ≡ other
+same_place one other start end standing =
+    ap (λ n. record { start = n; end = one.end; standing = one.standing }) start
+    ∙ ap (λ n. record { start = other.start; end = n; standing = one.standing }) end
+    ∙ ap (λ s. record { start = other.start; end = other.end; standing = s }) standing
 
-  pub stop_not_stands : (start : ℕ) (bytes : List ℕ) (standing : Standing) → IsStop copies end → StandsAs copies start end bytes standing → ⊥
-  stop_not_stands start bytes Settled stop h = stop.unsettled (record { start = start; bytes = bytes }) h
-  stop_not_stands start bytes (Woven count) stop h = stop.untold start h.told
-  stop_not_stands start bytes Disputed stop h = stop.untold start h.1.told
-  stop_not_stands start bytes Missing stop h = stop.untold start h.1.told
+-- what two walks from one place have in common
+record IsOneWalk (a b : List ℕ) (ps qs : List Place) (s t : ℕ) : Type 0 where
+  pub places : ps ≡ qs
+  pub stop : s ≡ t
+  pub bytes : All (IsSameAt a b) ps
+
+module _ (a b : List ℕ) (p q : Place) (starts : p.start ≡ q.start) (ends : p.end ≡ q.end) where
+  same_there : slice_range a p.start p.end ≡ slice_range b q.start q.end → IsSameAt a b p
+  same_there bytes = bytes ∙ sym (ap (λ s. slice_range b s q.end) starts) ∙ sym (ap (λ e. slice_range b p.start e) ends)
+
+  one_more : (ps qs : List Place) (s t : ℕ) → p.standing ≡ q.standing → slice_range a p.start p.end ≡ slice_range b q.start q.end
+      → IsOneWalk a b ps qs s t → IsOneWalk a b (p ∷ ps) (q ∷ qs) s t
+  one_more ps qs s t standings bytes rest =
+      record {
+        places = ap (λ z. z ∷ ps) (same_place p q starts ends standings) ∙ ap (λ zs. q ∷ zs) rest.places;
+        stop = rest.stop;
+        bytes = All-cons (IsSameAt a b) p ps (same_there bytes) rest.bytes;
+      }
+
+module _ (copies : List (List ℕ)) (a b : List ℕ) where
+  -- of places that end alike, each with the only piece that ends there
+  same_piece : (p q : Place) → p.end ≡ q.end → IsOnly (IsPiece copies p.end) (piece_of a p.start p.end)
+      → IsOnly (IsPiece copies q.end) (piece_of b q.start q.end) → piece_of a p.start p.end ≡ piece_of b q.start q.end
+  same_piece p q ends h k = k.others (piece_of a p.start p.end) (subst (λ n. IsPiece copies n (piece_of a p.start p.end)) ends h.there)
+
+  one_down : (from : ℕ) (ps qs : List Place) (s t : ℕ) → LieFrom from ps s → LieFrom from qs t → All (IsSettledDown copies a) ps
+      → All (IsSettledDown copies b) qs → ((piece : Piece) → IsOnly (IsPiece copies s) piece → ⊥) → ((piece : Piece) → IsOnly (IsPiece copies t) piece → ⊥)
+      → IsOneWalk a b ps qs s t
+  one_down from [] [] s t lie lay h k stop halt = record { places = refl; stop = sym lie ∙ lay; bytes = All-nil (IsSameAt a b) }
+  one_down from [] (q ∷ qs) s t lie lay h k stop halt =
+      absurd (stop (piece_of b q.start q.end) (subst (λ n. IsOnly (IsPiece copies n) (piece_of b q.start q.end)) (lay.0 ∙ lie)
+      (All-head (IsSettledDown copies b) q qs k).only))
+  one_down from (p ∷ ps) [] s t lie lay h k stop halt =
+      absurd (halt (piece_of a p.start p.end) (subst (λ n. IsOnly (IsPiece copies n) (piece_of a p.start p.end)) (lie.0 ∙ lay)
+      (All-head (IsSettledDown copies a) p ps h).only))
+  one_down from (p ∷ ps) (q ∷ qs) s t lie lay h k stop halt =
+      let mine = All-head (IsSettledDown copies a) p ps h in
+      let yours = All-head (IsSettledDown copies b) q qs k in
+      let ends : p.end ≡ q.end = lie.0 ∙ sym lay.0 in
+      let piece = same_piece p q ends mine.only yours.only in
+      let starts : p.start ≡ q.start = ap (λ (x : Piece). x.start) piece in
+      one_more a b p q starts ends ps qs s t (mine.standing ∙ sym yours.standing) (ap (λ (x : Piece). x.bytes) piece)
+      (one_down p.start ps qs s t lie.1 (subst (λ n. LieFrom n qs t) (sym starts) lay.1) (All-tail (IsSettledDown copies a) p ps h)
+      (All-tail (IsSettledDown copies b) q qs k) stop halt)
+
+-- ---- one walk up
+
+-- no shortest piece from a start ends alone at its end
+abbrev StopsUp : (copies : List (List ℕ)) (bound start : ℕ) → Type 0
+StopsUp copies bound start =
+    (piece : PieceFrom) → IsShortest copies bound start piece
+    → IsOnly (IsPiece copies piece.end) (record { start = start; bytes = piece.bytes }) → ⊥
+
+module _ (copies : List (List ℕ)) (bound : ℕ) where
+  -- no place is settled up from there
+  stopped : (payload : List ℕ) (place : Place) → StopsUp copies bound place.start → IsSettledUp copies bound payload place → ⊥
+  stopped payload place stop settled =
+      stop (record { end = place.end; bytes = slice_range payload place.start place.end }) settled.first settled.only
+
+  -- the shortest pieces from one start end alike
+  same_end : (s t : ℕ) (x y : PieceFrom) → s ≡ t → IsShortest copies bound s x → IsShortest copies bound t y → x.end ≡ y.end
+  same_end s t x y starts h k =
+      let mine = subst (λ n. IsShortest copies bound n x) starts h in
+      let before = mine.least y k.there in
+      let after = k.least x mine.there in
+      omega arith
+
+  module _ (a b : List ℕ) where
+    one_up : (from : ℕ) (ps qs : List Place) (s t : ℕ) → RiseFrom from ps s → RiseFrom from qs t → All (IsSettledUp copies bound a) ps
+        → All (IsSettledUp copies bound b) qs → StopsUp copies bound s → StopsUp copies bound t → IsOneWalk a b ps qs s t
+    one_up from [] [] s t rise risen h k stop halt = record { places = refl; stop = sym rise ∙ risen; bytes = All-nil (IsSameAt a b) }
+    one_up from [] (q ∷ qs) s t rise risen h k stop halt =
+        absurd (stopped b q (subst (StopsUp copies bound) (sym (risen.0 ∙ rise)) stop) (All-head (IsSettledUp copies bound b) q qs k))
+    one_up from (p ∷ ps) [] s t rise risen h k stop halt =
+        absurd (stopped a p (subst (StopsUp copies bound) (sym (rise.0 ∙ risen)) halt) (All-head (IsSettledUp copies bound a) p ps h))
+    one_up from (p ∷ ps) (q ∷ qs) s t rise risen h k stop halt =
+        let mine = All-head (IsSettledUp copies bound a) p ps h in
+        let yours = All-head (IsSettledUp copies bound b) q qs k in
+        let starts : p.start ≡ q.start = rise.0 ∙ sym risen.0 in
+        let ends : p.end ≡ q.end =
+        same_end p.start q.start (record { end = p.end; bytes = slice_range a p.start p.end }) (record { end = q.end; bytes = slice_range b q.start q.end })
+        starts mine.first yours.first in
+        one_more a b p q starts ends ps qs s t (mine.standing ∙ sym yours.standing)
+        (ap (λ (x : Piece). x.bytes) (same_piece copies a b p q ends mine.only yours.only))
+        (one_up p.end ps qs s t rise.1 (subst (λ n. RiseFrom n qs t) (sym ends) risen.1) (All-tail (IsSettledUp copies bound a) p ps h)
+        (All-tail (IsSettledUp copies bound b) q qs k) stop halt)
 
 -- ---- one splice
 
-abbrev pub value_of : List Place → ℕ → List ℕ → SplicedValue
-value_of places front payload = record { places = places; front = front; payload = payload }
+same_value : (one other : SplicedValue) → one.places ≡ other.places → one.front ≡ other.front → one.payload ≡ other.payload → one ≡ other
+same_value one other places front payload =
+    ap (λ z. record { places = z; front = one.front; payload = one.payload }) places
+    ∙ ap (λ z. record { places = other.places; front = z; payload = one.payload }) front
+    ∙ ap (λ z. record { places = other.places; front = other.front; payload = z }) payload
 
--- the value with one more place
-abbrev pub value_more : ℕ → StandingValue → SplicedValue → SplicedValue
-value_more end place rest =
-    record {
-      places = record { start = place.start; end = end; standing = place.standing } ∷ rest.places;
-      front = rest.front;
-      payload = rest.payload ++ place.bytes;
-    }
-
-pub one_splice : (copies : List (List ℕ)) (end : ℕ) (ps qs : List Place) (f g : ℕ) (a b : List ℕ) → IsSpliceBefore copies end ps f a
-    → IsSpliceBefore copies end qs g b → value_of ps f a ≡ value_of qs g b
-one_splice copies end ps qs f g a b (stops stop least) (stops other lesser) = ap (λ z. value_of [] end z) (least_same copies end 0 a b least lesser)
-one_splice copies end ps qs f g a b (stops stop least) (goes {start = t} {standing = y} bytes stands k) =
-    absurd (stop_not_stands copies end t bytes y stop stands)
-one_splice copies end ps qs f g a b (goes {start = s} {standing = x} bytes stands h) (stops stop least) =
-    absurd (stop_not_stands copies end s bytes x stop stands)
-one_splice copies end ps qs f g a b (goes {start = s} {front = u} {standing = x} {places = more} {before = c} bytes stands h)
-    (goes {start = t} {front = v} {standing = y} {places = others} {before = d} others_bytes others_stand k) =
-    let place = one_standing copies end s t bytes others_bytes x y stands others_stand in
-    let rest = one_splice copies s more others u v c d h
-    (subst (λ n. IsSpliceBefore copies n others v d) (sym (ap (λ (z : StandingValue). z.start) place)) k) in
-    ap (λ z. value_more end z (value_of more u c)) place
-    ∙ ap (λ z. value_more end (record { start = t; bytes = others_bytes; standing = y }) z) rest
-
--- ---- the same copies tell the same
-
-module _ (copies others : List (List ℕ)) (same : HasSameMembers copies others) where
-  piece_there : (end : ℕ) (piece : Piece) → IsPiece copies end piece → IsPiece others end piece
-  piece_there end piece h =
-      record { copy = h.copy; there = (same h.copy).0 h.there; cut = h.cut; content = h.content; bytes = h.bytes; passes = h.passes }
-
-  piece_here : (end : ℕ) (piece : Piece) → IsPiece others end piece → IsPiece copies end piece
-  piece_here end piece h =
-      record { copy = h.copy; there = (same h.copy).1 h.there; cut = h.cut; content = h.content; bytes = h.bytes; passes = h.passes }
-
-  start_there : (end start : ℕ) → IsToldStart copies end start → IsToldStart others end start
-  start_there end start h = record { copy = h.copy; there = (same h.copy).0 h.there; cut = h.cut; content = h.content }
-
-  start_here : (end start : ℕ) → IsToldStart others end start → IsToldStart copies end start
-  start_here end start h = record { copy = h.copy; there = (same h.copy).1 h.there; cut = h.cut; content = h.content }
-
-  only_same : {X : Type 0} (P Q : X → Type 0) → ((x : X) → P x → Q x) → ((x : X) → Q x → P x) → (x : X) → IsOnly P x → IsOnly Q x
-  only_same P Q on back x h = record { there = on x h.there; others = λ y q. h.others y (back y q) }
-
-  two_same : {X : Type 0} (P Q : X → Type 0) → ((x : X) → P x → Q x) → IsOfTwo P → IsOfTwo Q
-  two_same P Q on h = record { one = h.one; other = h.other; one_there = on h.one h.one_there; other_there = on h.other h.other_there; differ = h.differ }
-
-  least_there : (start end : ℕ) (bytes : List ℕ) → IsLeast copies start end bytes → IsLeast others start end bytes
-  least_there start end bytes h =
-      record { copy = h.copy; there = (same h.copy).0 h.there; lies = h.lies; least = λ other there. h.least other ((same other).1 there) }
-
-  gap_there : (start end : ℕ) (bytes : List ℕ) → IsGap copies start end bytes → IsGap others start end bytes
-  gap_there start end bytes h =
-      record {
-        told = only_same (IsToldStart copies end) (IsToldStart others end) (start_there end) (start_here end) start h.told;
-        least = least_there start end bytes h.least;
-      }
-
-  weave_at_there : (start end : ℕ) (weave : Weave) → IsWeaveAt copies start end weave → IsWeaveAt others start end weave
-  weave_at_there start end weave h =
-      record {
-        none = λ piece p. h.none piece (piece_here end piece p);
-        told = only_same (IsToldStart copies end) (IsToldStart others end) (start_there end) (start_here end) start h.told;
-        weave' = weave_there Slice (versions_at copies start end) (versions_at others start end) (same_versions copies others same start end) weave h.weave';
-      }
-
-  stands_there : (start end : ℕ) (bytes : List ℕ) (standing : Standing) → StandsAs copies start end bytes standing → StandsAs others start end bytes standing
-  stands_there start end bytes Settled h =
-      only_same (IsPiece copies end) (IsPiece others end) (piece_there end) (piece_here end) (record { start = start; bytes = bytes }) h
-  stands_there start end bytes (Woven count) h = weave_at_there start end (woven bytes count) h
-  stands_there start end bytes Disputed h = (
-    elim h.0 [
-      | inl two ↦ inl (two_same (IsPiece copies end) (IsPiece others end) (piece_there end) two)
-      | inr w ↦ inr (weave_at_there start end disputed w)
-    ],
-    gap_there start end bytes h.1,
-  )
-  stands_there start end bytes Missing h = (
-    elim h.0 [
-      | inl w ↦ inl (weave_at_there start end missing w)
-      | inr w ↦ inr (weave_at_there start end too_many w)
-    ],
-    gap_there start end bytes h.1,
-  )
-
-  stop_there : (end : ℕ) → IsStop copies end → IsStop others end
-  stop_there end h =
-      record {
-        unsettled = λ piece only. h.unsettled piece (only_same (IsPiece others end) (IsPiece copies end) (piece_here end) (piece_there end) piece only);
-        untold = λ start only. h.untold start (only_same (IsToldStart others end) (IsToldStart copies end) (start_here end) (start_there end) start only);
-      }
-
-  pub walk_there : (end : ℕ) (places : List Place) (front : ℕ) (payload : List ℕ) → IsSpliceBefore copies end places front payload
-      → IsSpliceBefore others end places front payload
-  walk_there end places front payload (stops {bytes = bytes} stop least) = stops (stop_there end stop) (least_there 0 end bytes least)
-  walk_there end places front payload (goes {start = start} {standing = standing} {places = more} {before = before} bytes stands h) =
-      goes bytes (stands_there start end bytes standing stands) (walk_there start more front before h)
+one_splice : (copies : List (List ℕ)) (one other : SplicedValue) → IsSpliceOf copies one → IsSpliceOf copies other → one ≡ other
+one_splice copies one other is k =
+    let copy = copy_at_hand copies one is in
+    let long : length one.payload ≡ length other.payload = sym (is.one_length copy.0 copy.1) ∙ k.one_length copy.0 copy.1 in
+    let down = one_down copies one.payload other.payload (length one.payload) is.above k.above is.end k.end is.down.lie
+    (subst (λ n. LieFrom n k.above k.end) (sym long) k.down.lie) is.down.settled k.down.settled is.down.stop k.down.stop in
+    let bounds : is.bound ≡ k.bound = one_bound copies k.end is.bound k.bound (subst (λ n. IsBound copies n is.bound) down.stop is.room) k.room in
+    let rising : IsWalkUp copies is.bound other.payload k.below k.start =
+    subst (λ n. IsWalkUp copies n other.payload k.below k.start) (sym bounds) k.up in
+    let up = one_up copies is.bound one.payload other.payload 0 is.below k.below is.start k.start is.up.rise rising.rise is.up.settled rising.settled
+    is.up.stop rising.stop in
+    let divided : IsDivisionOf (versions_at copies is.start is.end) k.hole =
+    subst (λ n. IsDivisionOf (versions_at copies n is.end) k.hole) (sym up.stop)
+    (subst (λ n. IsDivisionOf (versions_at copies k.start n) k.hole) (sym down.stop) k.divided) in
+    let versions : List (List ℕ) = versions_at copies is.start is.end in
+    let hole : is.hole ≡ k.hole = same_copies_divide versions versions is.hole k.hole (λ version. ((λ there. there), λ there. there)) is.divided divided in
+    let bytes : is.hole.payload ≡ slice_range other.payload is.start is.end =
+    ap (λ (h : SplicedValue). h.payload) hole ∙ k.bytes ∙ sym (ap (λ n. slice_range other.payload n k.end) up.stop)
+    ∙ sym (ap (λ n. slice_range other.payload is.start n) down.stop) in
+    same_value one other
+    (is.places ∙ ap (λ z. z ++ (hole_places is.start is.hole ++ reverse is.below)) down.places
+    ∙ ap (λ n. k.above ++ (hole_places n is.hole ++ reverse is.below)) up.stop ∙ ap (λ h. k.above ++ (hole_places k.start h ++ reverse is.below)) hole
+    ∙ ap (λ z. k.above ++ (hole_places k.start k.hole ++ reverse z)) up.places ∙ sym k.places)
+    (is.front ∙ ap (λ n. front_of n is.hole.front) up.stop ∙ ap (λ (h : SplicedValue). front_of k.start h.front) hole ∙ sym k.front)
+    (same_by_parts copies one is other.payload long down.bytes up.bytes bytes)
 
 pub same_copies_splice : SameCopiesSplice
-same_copies_splice copies others one other same h k =
-    let long : length one.payload ≡ length other.payload =
-    sym (h.one_length h.before.copy h.before.there) ∙ k.one_length h.before.copy ((same h.before.copy).0 h.before.there) in
-    let walk = walk_there copies others same (length one.payload) one.places one.front one.payload (splice_walk copies one h) in
-    one_splice others (length other.payload) one.places other.places one.front other.front one.payload other.payload
-    (subst (λ n. IsSpliceBefore others n one.places one.front one.payload) long walk) (splice_walk others other k)
+same_copies_splice copies others one other same is k = one_splice others one other (splice_there copies others same one is) k

@@ -1,204 +1,198 @@
 -- The splice of copies that tell nothing other than an original.
-use Rattle.std.proofs.Common.{◌≡◌, ℕ, suc, ◌+◌, ◌-◌, ◌<◌, ◌≤◌, List, [], ◌∷◌, ◌++◌, length, get_or, take, map, refl, sym, ap, ◌∙◌, subst, arith, inl, inr}
+use Rattle.std.proofs.Common.{◌≡◌, ℕ, ◌-◌, ◌<◌, ◌≤◌, List, [], ◌∷◌, length, get_or, take, drop, sym, ap, ◌∙◌, subst, arith, inl, inr}
 use Rattle.std.specs.Prelude.{All, slice_range}
-use Rattle.std.proofs.lemmas.List.{take_all}
-use Rattle.std.proofs.Math.Seq.{take-add}
-use Rattle.std.proofs.lemmas.List.Elements.{All-nil, All-cons, All-head, All-tail, All-contains}
+use Rattle.std.proofs.lemmas.List.Elements.{All-nil, All-cons, All-head, All-tail, All-weaker}
 use Rattle.std.proofs.lemmas.Bool.{cases_lt}
-use Rattle.ffv1_slice.specs.Chain.{size_before, IsCut, IsEnd, IsLinkOf, Piece, piece_of}
+use Rattle.ffv1_slice.specs.Chain.{IsEnd, IsLinkOf, Piece, piece_of}
 use Rattle.ffv1_slice.specs.Chain.IsEnd.{last, before}
-use Rattle.ffv1_slice.specs.Walk.{walked}
-use Rattle.ffv1_slice.proofs.Links.{walked-more, walked-none, walked-fuel, least_end}
-use Rattle.ffv1_slice.specs.Members.{IsOfTwo}
-use Rattle.ffv1_splice.specs.Pieces.{IsPiece}
-use Rattle.ffv1_splice.specs.Standings.{StandsAs, IsStop}
-use Rattle.ffv1_splice.specs.Splice.{SplicedValue, LieFrom, IsSpliceOf}
-use Rattle.ffv1_splice.specs.Originals.{AreCopiesOf, AgreeWith, HaveEachLink}
-use Rattle.ffv1_splice.specs.Laws.{IsOriginal, OriginalIsSpliced, SettledIsOriginal}
-use Rattle.ffv1_splice.specs.declared.place.Standing.{Standing}
-use Rattle.ffv1_splice.specs.declared.place.Standing.TheVariants.{Settled, Woven, Disputed, Missing}
+use Rattle.ffv1_splice.specs.Pieces.{HasContent, PieceFrom}
+use Rattle.ffv1_splice.specs.Splice.{SplicedValue, LieFrom, RiseFrom, IsSettledDown, IsSettledUp, IsSpliceOf, moved_by}
+use Rattle.ffv1_splice.specs.Originals.{AreCopiesOf, AgreeWith, AgreeFromBelow, HaveEachLink}
+use Rattle.ffv1_splice.specs.Laws.{HasLinksOf, IsOriginal, OriginalIsSpliced, SettledIsOriginal, IsItsLink, SettledWalksAreOriginal}
+use Rattle.ffv1_splice.specs.declared.place.Standing.TheVariants.{Settled}
 use Rattle.ffv1_splice.specs.declared.place.Place.{Place}
-use Rattle.ffv1_splice.proofs.Walks.{IsSpliceBefore, splice_walk, stands_below}
-use Rattle.ffv1_splice.proofs.Walks.IsSpliceBefore.{stops, goes}
+use Rattle.ffv1_splice.proofs.BoundSteps.{bound_within}
+use Rattle.ffv1_splice.proofs.Walks.{front_below}
+use Rattle.ffv1_splice.proofs.DividedLinks.{end_within, link_at, agree_one}
+use Rattle.ffv1_splice.proofs.NarrowedOriginal.{link_out, links_of_places}
+use Rattle.ffv1_splice.proofs.PlaceLists.{no_undivided, whole_front}
+use Rattle.ffv1_splice.proofs.SplicePlaces.{all_places, copy_at_hand, places_lie, below_upright, below_within, start_within, hole_length, hole_rising, hole_upright}
+use Rattle.ffv1_splice.proofs.StandingPlaces.{settled_piece, hole_within}
+use Rattle.ffv1_splice.proofs.SameBytes.{IsSameAt, same_by_parts}
 
--- ---- the links of an original
-
-pub end_within : (original : List ℕ) (end : ℕ) → IsEnd original end → end ≤ length original
-end_within original end last = omega arith
-end_within original end (before {q = q} h cut) = omega (arith, end_within original q h)
-
--- a link ends at each end after the first byte
-pub link_at : (original : List ℕ) → IsEnd original 0 → (end : ℕ) → IsEnd original end → 0 < end → (start : ℕ) × IsCut original start end
-link_at original whole end is_end after =
-    elim (cases_lt end (size_before original end + 8)) [
-      | inl short ↦ absurd (omega (arith, least_end original end is_end (λ p cut. omega arith) 0 whole))
-      | inr fits ↦ (end - (size_before original end + 8), omega arith)
-    ]
-
-pub same_cut : (original : List ℕ) (s t end : ℕ) → IsCut original s end → IsCut original t end → s ≡ t
-same_cut original s t end h k = omega arith
-
--- ---- a splice whose places are links
-
--- what is so of the places before an end of the original
-pub record AreLinkPlaces (original : List ℕ) (end : ℕ) (places : List Place) (front : ℕ) : Type 0 where
-  pub links : map (λ place. piece_of original place.start place.end) places ≡ walked end original end
-  pub whole : front ≡ 0
-  pub each : All (λ place. IsLinkOf original place.start place.end) places
-
-module _ (original : List ℕ) (copies : List (List ℕ)) (cuts : (start end : ℕ) (bytes : List ℕ) (standing : Standing) → IsEnd original end
-    → StandsAs copies start end bytes standing → IsCut original start end) where
-  pub link_places : (end : ℕ) (places : List Place) (front : ℕ) (payload : List ℕ)
-      → ((stop : ℕ) → IsEnd original stop → 0 < stop → IsStop copies stop → stop ≡ front → ⊥)
-      → IsEnd original end → IsSpliceBefore copies end places front payload → AreLinkPlaces original end places front
-  link_places end places front payload goes_on is_end (stops stop least) =
-      elim (cases_lt 0 end) [
-        | inl after ↦ absurd (goes_on end is_end after stop refl)
-        | inr here ↦
-            let zero_end : end ≡ 0 = omega arith in
-            record {
-              links = sym (walked-none original end end (λ p cut. omega arith));
-              whole = zero_end;
-              each = All-nil (λ place. IsLinkOf original place.start place.end);
-            }
-      ]
-  link_places end places front payload goes_on is_end (goes {start = start} {standing = standing} {places = more} {before = rest} bytes stands h) =
-      let cut : IsCut original start end = cuts start end bytes standing is_end stands in
-      let below = link_places start more front rest goes_on (before is_end cut) h in
-      record {
-        links = ap (λ z. piece_of original start end ∷ z) below.links
-            ∙ sym (walked-fuel original end (suc end) end (omega arith) (omega arith) ∙ walked-more original end start end cut
-            ∙ ap (λ z. piece_of original start end ∷ z) (walked-fuel original end start start (omega arith) (omega arith)));
-        whole = below.whole;
-        each = All-cons (λ place. IsLinkOf original place.start place.end) (record { start = start; end = end; standing = standing }) more
-            (record { is_end = is_end; cut = cut }) below.each;
-      }
-
--- ---- bytes place by place
-
-take_on : (start end : ℕ) (bytes : List ℕ) → start ≤ end → take end bytes ≡ take start bytes ++ slice_range bytes start end
-take_on start end bytes h =
-    let on : end ≡ start + (end - start) = omega arith in
-    ap (λ n. take n bytes) on ∙ take-add start (end - start) bytes
-
-pub same_bytes : (a b : List ℕ) (end : ℕ) (places : List Place) → LieFrom end places 0 → All (λ place. place.start ≤ place.end) places
-    → All (λ place. slice_range a place.start place.end ≡ slice_range b place.start place.end) places → take end a ≡ take end b
-same_bytes a b end [] lie up same = ap (λ n. take n a) lie ∙ sym (ap (λ n. take n b) lie)
-same_bytes a b end (place ∷ places) lie up same =
-    let ends : place.end ≡ end = lie.0 in
-    let here : place.start ≤ place.end = All-head (λ place. place.start ≤ place.end) place places up in
-    let front = same_bytes a b place.start places lie.1 (All-tail (λ place. place.start ≤ place.end) place places up)
-    (All-tail (λ place. slice_range a place.start place.end ≡ slice_range b place.start place.end) place places same) in
-    let slice = All-head (λ place. slice_range a place.start place.end ≡ slice_range b place.start place.end) place places same in
-    let both : take place.end a ≡ take place.end b =
-    take_on place.start place.end a here ∙ ap (λ z. z ++ slice_range a place.start place.end) front
-    ∙ ap (λ z. take place.start b ++ z) slice ∙ sym (take_on place.start place.end b here) in
-    subst (λ n. take n a ≡ take n b) ends both
-
--- the same bytes at places that are links from the end to the first byte
-pub same_payload : (original : List ℕ) (spliced : SplicedValue) (end : ℕ) → AreLinkPlaces original end spliced.places spliced.front
-    → LieFrom (length spliced.payload) spliced.places spliced.front → length spliced.payload ≡ length original
-    → All (λ place. slice_range spliced.payload place.start place.end ≡ slice_range original place.start place.end) spliced.places
-    → spliced.payload ≡ original
-same_payload original spliced end places lie long same =
-    sym (take_all (length spliced.payload) spliced.payload (omega arith))
-    ∙ same_bytes spliced.payload original (length spliced.payload) spliced.places
-    (subst (LieFrom (length spliced.payload) spliced.places) places.whole lie) upright same
-    ∙ take_all (length spliced.payload) original (omega (arith, long))
-  where
-    upright : All (λ place. place.start ≤ place.end) spliced.places
-    upright k d lt =
-        let place : Place = get_or spliced.places k d in
-        let cut : IsCut original place.start place.end = (places.each k d lt).cut in
-        omega arith
-
--- ---- copies that agree
-
-module _ (original : List ℕ) (copies : List (List ℕ)) (agree : AgreeWith original copies) where
-  -- two pieces do not differ
-  pub agree_one : (end : ℕ) (one other : Piece) → IsEnd original end → IsPiece copies end one → IsPiece copies end other → one ≡ other
-  agree_one end one other is_end h k =
-      let mine = agree end one is_end h in
-      let yours = agree end other is_end k in
-      let start = same_cut original one.start other.start end mine.0.cut yours.0.cut in
-      mine.1 ∙ ap (λ s. piece_of original s end) start ∙ sym yours.1
-
-  pub undisputed : (end : ℕ) → IsEnd original end → IsOfTwo (IsPiece copies end) → ⊥
-  undisputed end is_end two = two.differ (agree_one end two.one two.other is_end two.one_there two.other_there)
-
-  pub settled_link : (start end : ℕ) (bytes : List ℕ) (standing : Standing) → IsEnd original end → standing ≡ Settled
-      → StandsAs copies start end bytes standing → IsLinkOf original start end × (bytes ≡ slice_range original start end)
-  settled_link start end bytes Settled is_end is h =
-      let told = agree end (record { start = start; bytes = bytes }) is_end h.there in (told.0, ap (λ (p : Piece). p.bytes) told.1)
-  settled_link start end bytes (Woven count) is_end is h = absurd (cc)
-  settled_link start end bytes Disputed is_end is h = absurd (cc)
-  settled_link start end bytes Missing is_end is h = absurd (cc)
-
-  -- where a link is a piece, it settles its place
-  pub settled_where : (start end : ℕ) (bytes : List ℕ) (standing : Standing) (link : ℕ) → IsEnd original end → IsPiece copies end (piece_of original link end)
-      → StandsAs copies start end bytes standing → standing ≡ Settled
-  settled_where start end bytes Settled link is_end piece h = refl
-  settled_where start end bytes (Woven count) link is_end piece h = absurd (h.none (piece_of original link end) piece)
-  settled_where start end bytes Disputed link is_end piece h =
-      elim h.0 [ inl two ↦ absurd (undisputed end is_end two) | inr w ↦ absurd (w.none (piece_of original link end) piece) ]
-  settled_where start end bytes Missing link is_end piece h =
-      elim h.0 [ inl w ↦ absurd (w.none (piece_of original link end) piece) | inr w ↦ absurd (w.none (piece_of original link end) piece) ]
+-- ---- settled places
 
 pub settled_is_original : SettledIsOriginal
 settled_is_original original copies spliced place agree is there settled is_end =
-    settled_link original copies agree place.start place.end (slice_range spliced.payload place.start place.end) place.standing is_end settled
-    (All-contains (λ place. StandsAs copies place.start place.end (slice_range spliced.payload place.start place.end) place.standing) spliced.places
-    place is.stand
-    there)
+    let told = agree place.end (piece_of spliced.payload place.start place.end) is_end (settled_piece copies spliced is place there settled) in
+    (told.0, ap (λ (piece : Piece). piece.bytes) told.1)
+
+-- a link begins at each end before the last
+link_from : (original : List ℕ) (start : ℕ) → IsEnd original start → start < length original → (end : ℕ) × IsLinkOf original start end
+link_from original start last below = absurd (omega arith)
+link_from original start (before {q = q} is_end cut) below = (q, record { is_end = is_end; cut = cut })
+
+-- The places of a walk are links of the original, and it stops at an end of the original.
+pub record AreWalkLinks (original : List ℕ) (spliced : SplicedValue) (places : List Place) (stop : ℕ) : Type 0 where
+  pub links : All (IsItsLink original spliced) places
+  pub is_end : IsEnd original stop
+
+module _ (original : List ℕ) (copies : List (List ℕ)) (spliced : SplicedValue) where
+  links_down : AgreeWith original copies → (end : ℕ) (places : List Place) (front : ℕ) → IsEnd original end → LieFrom end places front
+      → All (IsSettledDown copies spliced.payload) places → AreWalkLinks original spliced places front
+  links_down agree end [] front is_end lie settled = record { links = All-nil (IsItsLink original spliced); is_end = subst (IsEnd original) lie is_end }
+  links_down agree end (place ∷ places) front is_end lie settled =
+      let here = All-head (IsSettledDown copies spliced.payload) place places settled in
+      let told = agree place.end (piece_of spliced.payload place.start place.end) (subst (IsEnd original) (sym lie.0) is_end) here.only.there in
+      let rest = links_down agree place.start places front (before told.0.is_end told.0.cut) lie.1
+      (All-tail (IsSettledDown copies spliced.payload) place places settled) in
+      record {
+        links = All-cons (IsItsLink original spliced) place places
+            (record { link = told.0; bytes = ap (λ (piece : Piece). piece.bytes) told.1 }) rest.links;
+        is_end = rest.is_end;
+      }
+
+  module _ (agree : AgreeFromBelow original copies) (bound : ℕ) (within : bound ≤ length original) where
+    link_up : (place : Place) → IsEnd original place.start → IsSettledUp copies bound spliced.payload place → IsItsLink original spliced place
+    link_up place is_end settled =
+        let piece : PieceFrom = record { end = place.end; bytes = slice_range spliced.payload place.start place.end } in
+        let content : HasContent place.start place.end = settled.only.there.content in
+        let inside = settled.first.there.within in
+        let link = link_from original place.start is_end (omega arith) in
+        let same : piece ≡ record { end = link.0; bytes = slice_range original place.start link.0 } =
+        agree place.start link.0 piece link.1 (omega arith) settled.only.there in
+        let ends : place.end ≡ link.0 = ap (λ (piece : PieceFrom). piece.end) same in
+        record {
+          link = subst (IsLinkOf original place.start) (sym ends) link.1;
+          bytes = ap (λ (piece : PieceFrom). piece.bytes) same ∙ sym (ap (λ e. slice_range original place.start e) ends);
+        }
+
+    links_up : (start : ℕ) (places : List Place) (top : ℕ) → IsEnd original start → RiseFrom start places top
+        → All (IsSettledUp copies bound spliced.payload) places → AreWalkLinks original spliced places top
+    links_up start [] top is_end rise settled = record { links = All-nil (IsItsLink original spliced); is_end = subst (IsEnd original) rise is_end }
+    links_up start (place ∷ places) top is_end rise settled =
+        let here = link_up place (subst (IsEnd original) (sym rise.0) is_end) (All-head (IsSettledUp copies bound spliced.payload) place places settled) in
+        let rest = links_up place.end places top here.link.is_end rise.1 (All-tail (IsSettledUp copies bound spliced.payload) place places settled) in
+        record { links = All-cons (IsItsLink original spliced) place places here rest.links; is_end = rest.is_end }
+
+-- ---- both walks
+
+module _ (original : List ℕ) (copies : List (List ℕ)) (spliced : SplicedValue) (is : IsSpliceOf copies spliced) (of : AreCopiesOf original copies)
+    (agree : AgreeWith original copies) where
+  pub as_long : length spliced.payload ≡ length original
+  as_long = let copy = copy_at_hand copies spliced is in sym (is.one_length copy.0 copy.1) ∙ of.one_length copy.0 copy.1
+
+  pub above_links : AreWalkLinks original spliced is.above is.end
+  above_links =
+      links_down original copies spliced agree (length spliced.payload) is.above is.end (subst (IsEnd original) (sym as_long) last) is.down.lie is.down.settled
+
+  bound_inside : is.bound ≤ length original
+  bound_inside =
+      let low = bound_within copies is.end is.bound is.room in
+      let inside = end_within original is.end above_links.is_end in
+      omega arith
+
+  pub below_links : AgreeFromBelow original copies → AreWalkLinks original spliced is.below is.start
+  below_links below =
+      links_up original copies spliced below is.bound bound_inside 0 is.below is.start of.whole is.up.rise is.up.settled
+
+pub settled_walks_are_original : SettledWalksAreOriginal
+settled_walks_are_original original copies spliced of agree below is =
+    ((above_links original copies spliced is of agree).links, (below_links original copies spliced is of agree below).links)
+
+-- ---- all places
+
+-- places that are all links, down to the first byte
+has_links : (original : List ℕ) (copies : List (List ℕ)) (spliced : SplicedValue) → IsSpliceOf copies spliced → length spliced.payload ≡ length original
+    → spliced.front ≡ 0 → All (λ place. IsLinkOf original place.start place.end) spliced.places → HasLinksOf original spliced
+has_links original copies spliced is long whole links =
+    record {
+      links = links_of_places original (length original) spliced.places
+          (subst (LieFrom (length original) spliced.places) whole
+          (subst (λ end. LieFrom end spliced.places spliced.front) long (places_lie copies spliced is))) links;
+      whole = whole;
+    }
+
+-- They are where the walks agree with the original, and the hole's places are links of what the original has there.
+pub joined_links : (original : List ℕ) (copies : List (List ℕ)) (spliced : SplicedValue) (is : IsSpliceOf copies spliced) → AreCopiesOf original copies
+    → AgreeWith original copies → AgreeFromBelow original copies
+    → All (λ place. IsLinkOf (slice_range original is.start is.end) place.start place.end) is.hole.places → is.hole.front ≡ 0 → HasLinksOf original spliced
+joined_links original copies spliced is of agree from_below hole none =
+    let above = above_links original copies spliced is of agree in
+    let below = below_links original copies spliced is of agree from_below in
+    has_links original copies spliced is (as_long original copies spliced is of agree) (is.front ∙ whole_front is.start is.hole.front none)
+    (all_places copies spliced is (λ place. IsLinkOf original place.start place.end)
+    (All-weaker (IsItsLink original spliced) (λ place. IsLinkOf original place.start place.end) (λ place its. its.link) is.above above.links)
+    (λ k d lt. link_out is.start is.end original (start_within copies spliced is) above.is_end (get_or is.hole.places k d).start
+    (get_or is.hole.places k d).end (hole k d lt)) (no_undivided (λ place. IsLinkOf original place.start place.end) is.start is.hole.front none)
+    (All-weaker (IsItsLink original spliced) (λ place. IsLinkOf original place.start place.end) (λ place its. its.link) is.below below.links))
+
+-- ---- copies that have each link
 
 module _ (original : List ℕ) (copies : List (List ℕ)) (of : AreCopiesOf original copies) (agree : AgreeWith original copies)
     (have : HaveEachLink original copies) (spliced : SplicedValue) (is : IsSpliceOf copies spliced) where
-  long : length spliced.payload ≡ length original
-  long = sym (is.one_length is.before.copy is.before.there) ∙ of.one_length is.before.copy is.before.there
+  walk : AreWalkLinks original spliced is.above is.end
+  walk = above_links original copies spliced is of agree
 
-  -- each place is settled
-  settles : (start end : ℕ) (bytes : List ℕ) (standing : Standing) → IsEnd original end → StandsAs copies start end bytes standing → standing ≡ Settled
-  settles start end bytes standing is_end h =
-      let below = stands_below copies start end bytes standing h in
-      let link = link_at original of.whole end is_end (omega arith) in
-      settled_where original copies agree start end bytes standing link.0 is_end (have link.0 end (record { is_end = is_end; cut = link.1 })) h
+  -- the walk down goes on at each end after the first byte
+  to_first : is.end ≡ 0
+  to_first =
+      elim (cases_lt 0 is.end) [
+        | inl after ↦
+            let link = link_at original of.whole is.end walk.is_end after in
+            let piece = have link.0 is.end (record { is_end = walk.is_end; cut = link.1 }) in
+            absurd (is.down.stop (piece_of original link.0 is.end) (record {
+              there = piece;
+              others = λ other told. agree_one original copies agree is.end other (piece_of original link.0 is.end) walk.is_end told piece;
+            }))
+        | inr none ↦ omega arith
+      ]
 
-  cuts : (start end : ℕ) (bytes : List ℕ) (standing : Standing) → IsEnd original end → StandsAs copies start end bytes standing → IsCut original start end
-  cuts start end bytes standing is_end h =
-      (settled_link original copies agree start end bytes standing is_end (settles start end bytes standing is_end h) h).0.cut
+  no_hole_front : is.hole.front ≡ 0
+  no_hole_front =
+      let long = hole_length copies spliced is in
+      let first = to_first in
+      let within = front_below (length is.hole.payload) is.hole.places is.hole.front (hole_upright copies spliced is) is.divided.lie in
+      omega arith
 
-  goes_on : (end : ℕ) → IsEnd original end → 0 < end → IsStop copies end → ⊥
-  goes_on end is_end after stop =
-      let link = link_at original of.whole end is_end after in
-      let piece = have link.0 end (record { is_end = is_end; cut = link.1 }) in
-      stop.unsettled (piece_of original link.0 end) (record {
-        there = piece;
-        others = λ other told. agree_one original copies agree end other (piece_of original link.0 end) is_end told piece;
-      })
+  -- so all places are above the hole
+  none_in_hole : (P : Place → Type 0) → All P is.hole.places
+  none_in_hole P k d lt =
+      let first = to_first in
+      let within = hole_within copies spliced is k d lt in
+      let order = hole_rising copies spliced is k d lt in
+      absurd (omega arith)
 
-  places : AreLinkPlaces original (length original) spliced.places spliced.front
-  places =
-      link_places original copies cuts (length original) spliced.places spliced.front spliced.payload
-      (λ stop is_end after stops same. goes_on stop is_end after stops) last
-      (subst (λ n. IsSpliceBefore copies n spliced.places spliced.front spliced.payload) long (splice_walk copies spliced is))
+  none_below : (P : Place → Type 0) → All P is.below
+  none_below P k d lt =
+      let first = to_first in
+      let within = below_within copies spliced is k d lt in
+      let order = below_upright copies spliced is k d lt in
+      absurd (omega arith)
 
-  each_settled : All (λ place. place.standing ≡ Settled) spliced.places
-  each_settled k d lt =
-      let place : Place = get_or spliced.places k d in
-      settles place.start place.end (slice_range spliced.payload place.start place.end) place.standing (places.each k d lt).is_end (is.stand k d lt)
+  all_above : (P : Place → Type 0) → All P is.above → All P spliced.places
+  all_above P above =
+      all_places copies spliced is P above (none_in_hole (λ place. P (moved_by is.start place))) (no_undivided P is.start is.hole.front no_hole_front)
+      (none_below P)
 
-  each_same : All (λ place. slice_range spliced.payload place.start place.end ≡ slice_range original place.start place.end) spliced.places
-  each_same k d lt =
-      let place : Place = get_or spliced.places k d in
-      (settled_link original copies agree place.start place.end (slice_range spliced.payload place.start place.end) place.standing (places.each k d lt).is_end
-      (each_settled k d lt) (is.stand k d lt)).1
+  same_hole : is.hole.payload ≡ slice_range original is.start is.end
+  same_hole =
+      let first = to_first in
+      let none : is.end - is.start ≡ 0 = omega arith in
+      is.bytes ∙ ap (λ n. take n (drop is.start spliced.payload)) none ∙ sym (ap (λ n. take n (drop is.start original)) none)
 
   pub is_original : IsOriginal original spliced
   is_original =
       record {
-        places = record { links = places.links; whole = places.whole };
-        settled = each_settled;
-        payload = same_payload original spliced (length original) places is.lie long each_same;
+        places = has_links original copies spliced is (as_long original copies spliced is of agree)
+            (is.front ∙ whole_front is.start is.hole.front no_hole_front)
+            (all_above (λ place. IsLinkOf original place.start place.end)
+            (All-weaker (IsItsLink original spliced) (λ place. IsLinkOf original place.start place.end) (λ place its. its.link) is.above walk.links));
+        settled = all_above (λ place. place.standing ≡ Settled)
+            (All-weaker (IsSettledDown copies spliced.payload) (λ place. place.standing ≡ Settled) (λ place settled. settled.standing) is.above is.down.settled);
+        payload = same_by_parts copies spliced is original (as_long original copies spliced is of agree)
+            (All-weaker (IsItsLink original spliced) (IsSameAt spliced.payload original) (λ place its. its.bytes) is.above walk.links)
+            (none_below (IsSameAt spliced.payload original)) same_hole;
       }
 
 pub original_is_spliced : OriginalIsSpliced

@@ -1,6 +1,5 @@
 -- The splice, place after place from the end.
 use Rattle.std.proofs.Common.{◌≡◌, ℕ, ◌+◌, ◌<◌, ◌≤◌, List, [], ◌∷◌, ◌++◌, Bor, length, take, drop, get_or, map, sym, ap, ◌∙◌, subst, arith}
-use Rattle.std.specs.Prelude.{All, Contains}
 use Rattle.std.proofs.Math.Seq.{drop-append_seam}
 use Rattle.std.proofs.lemmas.List.{append-nil, append_assoc, length-append, length-drop, length-take-le, drop_all, take_all}
 use Rattle.ffv1_splice.specs.Pieces.{IsLeast}
@@ -23,7 +22,7 @@ length-written payload start bytes h =
     let rest = length-drop (start + length bytes) payload in
     omega arith
 
-drop-written : (payload : List ℕ) (start : ℕ) (bytes : List ℕ) → start + length bytes ≤ length payload
+pub drop-written : (payload : List ℕ) (start : ℕ) (bytes : List ℕ) → start + length bytes ≤ length payload
     → drop start (written payload start bytes) ≡ bytes ++ drop (start + length bytes) payload
 drop-written payload start bytes h =
     let front : length (take start payload) ≡ start = length-take-le start payload (omega arith) in
@@ -77,13 +76,5 @@ module _ (copies : List (List ℕ)) where
 -- ---- copies of one length
 
 module _ (copies : List (Bor (List ℕ))) (some : 0 < length copies) (one : HasOneLength (map (λ copy. copy.now) copies)) where
-  length_of_first : (i : ℕ) (d : Bor (List ℕ)) → i < length copies → length (get_or copies i d).now ≡ length_at (map (λ copy. copy.now) copies) 0
+  pub length_of_first : (i : ℕ) (d : Bor (List ℕ)) → i < length copies → length (get_or copies i d).now ≡ length_at (map (λ copy. copy.now) copies) 0
   length_of_first i d h = sym (ap length (value_at copies i d [] h)) ∙ one i (omega (arith, length-values_of copies))
-
-  pub all_reach : (end : ℕ) (first : Bor (List ℕ)) → end ≤ length (get_or copies 0 first).now → All (λ copy. end ≤ length copy.now) copies
-  all_reach end first h k d lt = omega (arith, length_of_first k d lt, length_of_first 0 first some)
-
-  pub one_length : (first : Bor (List ℕ)) (other : List ℕ) → Contains (map (λ copy. copy.now) copies) other → length other ≡ length (get_or copies 0 first).now
-  one_length first other there =
-      let lt : there.0 < length copies = omega (arith, there.1, length-values_of copies) in
-      sym (ap length there.2) ∙ ap length (value_at copies there.0 first other lt) ∙ length_of_first there.0 first lt ∙ sym (length_of_first 0 first some)

@@ -43,10 +43,10 @@ module _ (copies : List (List ℕ)) (copy : List ℕ) (end : ℕ) where
   more_copies : List (List ℕ)
   more_copies = copies ++ copy ∷ []
 
-  last : Contains (copies ++ copy ∷ []) copy
+  pub last : Contains (copies ++ copy ∷ []) copy
   last = Contains-append_right copies (copy ∷ []) copy (0, omega arith, refl)
 
-  piece_on : (piece : Piece) → IsPiece copies end piece → IsPiece (copies ++ copy ∷ []) end piece
+  pub piece_on : (piece : Piece) → IsPiece copies end piece → IsPiece (copies ++ copy ∷ []) end piece
   piece_on piece h =
       record {
         copy = h.copy;
@@ -60,7 +60,7 @@ module _ (copies : List (List ℕ)) (copy : List ℕ) (end : ℕ) where
   start_on : (start : ℕ) → IsToldStart copies end start → IsToldStart (copies ++ copy ∷ []) end start
   start_on start h = record { copy = h.copy; there = Contains-append_left copies (copy ∷ []) h.copy h.there; cut = h.cut; content = h.content }
 
-  piece_back : (piece : Piece) → IsPiece (copies ++ copy ∷ []) end piece
+  pub piece_back : (piece : Piece) → IsPiece (copies ++ copy ∷ []) end piece
       → IsPiece copies end piece
       ⊎ (IsCut copy piece.start end × HasContent piece.start end × (piece ≡ piece_of copy piece.start end) × PassesParity (slice_range copy piece.start end))
   piece_back piece h =
@@ -85,7 +85,7 @@ module _ (copies : List (List ℕ)) (copy : List ℕ) (end : ℕ) where
       ]
 
   -- a copy's footer tells one start
-  one_cut : (start other : ℕ) → IsCut copy start end → IsCut copy other end → other ≡ start
+  pub one_cut : (start other : ℕ) → IsCut copy start end → IsCut copy other end → other ≡ start
   one_cut start other h k = omega arith
 
   -- a copy with no cut there, or one without content, tells nothing

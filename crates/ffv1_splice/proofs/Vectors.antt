@@ -1,24 +1,28 @@
 -- Copies that are near the slices of a setup are near copies; two of the frame of two slices, of which each has one slice intact, are
 -- spliced to the frame; and zeros, which read as a row of slices without content, have no places.
-use Rattle.std.proofs.Common.{◌≡◌, ℕ, zero, suc, ◌+◌, ◌-◌, ◌<◌, Bool, List, [], ◌∷◌, length, get_or, replicate, refl, sym, ap, ◌∙◌, subst, arith, inl, inr}
+use Rattle.std.proofs.Common.{◌≡◌, ℕ, zero, suc, ◌+◌, ◌-◌, ◌<◌, ◌≤◌, Bool, List, [], ◌∷◌, length, get_or, take, drop, replicate, refl, sym, ap, ◌∙◌, subst, arith, inl, inr}
 use Rattle.std.specs.Prelude.{◌⊎◌, ◌==◌, Contains, slice_range}
-use Rattle.std.proofs.lemmas.List.{length-take}
+use Rattle.std.specs.Ordering.{nat_cmp}
+use Rattle.std.specs.Cmp.Lexicographic.{slice_cmp}
+use Rattle.std.specs.declared.cmp.Ordering.TheVariants.{Less}
+use Rattle.std.proofs.lemmas.List.{length-take, take-replicate, drop-replicate}
+use Rattle.std.proofs.lemmas.List.Elements.{All-nil}
 use Rattle.ffv1_bits.specs.Bits.{number_bits, bits_of}
 use Rattle.ffv1_bits.specs.Parity.{AreBytes, PassesParity, polynomial_of, reduced_at, divided, remainder_of}
 use Rattle.ffv1_slice.specs.Setup.{SetupValue}
-use Rattle.ffv1_slice.specs.Chain.{IsCut, IsEnd, IsLinkOf}
+use Rattle.ffv1_slice.specs.Chain.{size_before, IsCut, IsEnd, IsLinkOf}
 use Rattle.ffv1_slice.specs.Slices.{IsSliceOf, IsOriginal}
 use Rattle.ffv1_slice.specs.Near.{starts_at, piece_at, IsHurtWithin32, IsNear}
 use Rattle.ffv1_slice.proofs.Places.{starts_none, IsCutAt, end_of_tile, tile_of_cut}
 use Rattle.ffv1_slice.proofs.FoundLaws.{original_cut, bytes_of_tile}
-use Rattle.ffv1_slice.proofs.NearLaws.{length-range}
+use Rattle.ffv1_slice.proofs.NearLaws.{length-range, size_of_range}
 use Rattle.ffv1_slice.proofs.NearVectors as vectors
-use Rattle.ffv1_splice.specs.Pieces.{HasContent}
-use Rattle.ffv1_splice.specs.Standings.{IsStop}
-use Rattle.ffv1_splice.specs.Splice.{SplicedValue, IsSpliceOf}
+use Rattle.ffv1_splice.specs.Pieces.{HasContent, IsLeast}
+use Rattle.ffv1_splice.specs.Standings.{StandsAs, IsStop}
+use Rattle.ffv1_splice.specs.Splice.{SplicedValue, IsSettledDown, IsSettledUp, IsDivisionOf, IsSpliceOf}
 use Rattle.ffv1_splice.specs.Originals.{IsSound, IsIntact, IsNearCopy, AreNearCopies, IsIntactInSome}
 use Rattle.ffv1_splice.specs.Laws as laws
-use Rattle.ffv1_splice.proofs.OriginalLaws.{end_within}
+use Rattle.ffv1_splice.proofs.DividedLinks.{end_within}
 use Rattle.ffv1_splice.proofs.NearCopies.{near_copies_splice}
 
 -- ---- slices of a setup
@@ -121,16 +125,77 @@ zeros_pass : IsCut zeros 8 16 × PassesParity (slice_range zeros 8 16)
 unfolding number_bits bits_of polynomial_of reduced_at divided remainder_of
 zeros_pass = (omega arith, (omega arith, refl))
 
-zeros_cut : (copy : List ℕ) (start : ℕ) → Contains (zeros ∷ []) copy → IsCut copy start 16 → HasContent start 16 → ⊥
-zeros_cut copy start there cut content =
+-- the only copy
+copy_is_zeros : (copy : List ℕ) → Contains (zeros ∷ []) copy → copy ≡ zeros
+copy_is_zeros copy there =
     let here : there.0 ≡ 0 = omega (arith, there.1) in
-    let same : copy ≡ zeros = sym there.2 ∙ ap (λ k. get_or (zeros ∷ []) k copy) here in
-    let told : IsCut zeros start 16 = subst (λ c. IsCut c start 16) same cut in
+    sym there.2 ∙ ap (λ k. get_or (zeros ∷ []) k copy) here
+
+-- each footer within them tells size 0
+zeros_size : (end : ℕ) → 8 ≤ end → end ≤ 16 → size_before zeros end ≡ 0
+zeros_size end footer within =
+    let eight : end - (end - 8) ≡ 8 = omega arith in
+    let rest : drop (end - 8) zeros ≡ replicate (16 - (end - 8)) 0 = drop-replicate (end - 8) 16 0 in
+    let all : slice_range zeros (end - 8) end ≡ replicate 8 0 =
+    ap (λ n. take n (drop (end - 8) zeros)) eight ∙ ap (take 8) rest ∙ take-replicate 8 (16 - (end - 8)) 0 (omega arith) in
+    size_of_range zeros (end - 8) end (omega arith) within ∙ ap (λ slice. size_before slice (length slice)) all
+
+zeros_cut : (copy : List ℕ) (start end : ℕ) → Contains (zeros ∷ []) copy → end ≤ 16 → IsCut copy start end → HasContent start end → ⊥
+zeros_cut copy start end there within cut content =
+    let told : IsCut zeros start end = subst (λ c. IsCut c start end) (copy_is_zeros copy there) cut in
+    let size = zeros_size end (omega arith) within in
     absurd (omega arith)
 
--- and no piece: the splice of zeros has no places
+-- so no slice with content ends or begins within them
 pub zeros_stop : IsStop (zeros ∷ []) 16
 zeros_stop = record {
-  unsettled = λ piece only. zeros_cut only.there.copy piece.start only.there.there only.there.cut only.there.content;
-  untold = λ start only. zeros_cut only.there.copy start only.there.there only.there.cut only.there.content;
+  unsettled = λ piece only. zeros_cut only.there.copy piece.start 16 only.there.there (omega arith) only.there.cut only.there.content;
+  untold = λ start only. zeros_cut only.there.copy start 16 only.there.there (omega arith) only.there.cut only.there.content;
+}
+
+zeros_least : IsLeast (zeros ∷ []) 0 16 zeros
+zeros_least = record {
+  copy = zeros;
+  there = (0, omega arith, refl);
+  lies = refl;
+  least = λ other there less.
+      let same : slice_cmp nat_cmp (slice_range zeros 0 16) zeros ≡ Less =
+      subst (λ c. slice_cmp nat_cmp (slice_range c 0 16) zeros ≡ Less) (copy_is_zeros other there) less in
+      absurd (cc);
+}
+
+-- and the splice of zeros has no places: they are all a front that can't be divided
+abbrev pub zeros_spliced : SplicedValue
+zeros_spliced = record { places = []; front = 16; payload = zeros }
+
+zeros_divided : IsDivisionOf (zeros ∷ []) zeros_spliced
+zeros_divided = record {
+  one_length = λ copy there. ap length (copy_is_zeros copy there);
+  lie = refl;
+  stand = All-nil (λ place. StandsAs (zeros ∷ []) place.start place.end (slice_range zeros place.start place.end) place.standing);
+  stop = zeros_stop;
+  before = zeros_least;
+}
+
+pub zeros_are_spliced : IsSpliceOf (zeros ∷ []) zeros_spliced
+zeros_are_spliced = record {
+  above = [];
+  below = [];
+  start = 0;
+  end = 16;
+  bound = 16;
+  hole = zeros_spliced;
+  one_length = λ copy there. ap length (copy_is_zeros copy there);
+  down = record { lie = refl; settled = All-nil (IsSettledDown (zeros ∷ []) zeros); stop = zeros_stop.unsettled };
+  room = inl (λ piece h. zeros_cut h.copy piece.start 16 h.there (omega arith) h.cut h.content, refl);
+  up = record {
+    rise = refl;
+    settled = All-nil (IsSettledUp (zeros ∷ []) 16 zeros);
+    stop = λ piece first only.
+        zeros_cut only.there.copy 0 piece.end only.there.there first.there.within only.there.cut only.there.content;
+  };
+  divided = zeros_divided;
+  bytes = refl;
+  places = refl;
+  front = refl;
 }

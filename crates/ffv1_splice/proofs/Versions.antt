@@ -128,7 +128,7 @@ module _ (copies : List (List ℕ)) (start end : ℕ) (order : start ≤ end) (r
       ap length of.2 ∙ length-range of.0 start end order (reach of.0 of.1)
 
   module _ (versions : List (Bor (List ℕ))) (are : map (λ version. version.now) versions ≡ versions_at copies start end) where
-    length_of : (k : ℕ) (d : Bor (List ℕ)) → k < length versions → length (get_or versions k d).now ≡ end - start
+    pub length_of : (k : ℕ) (d : Bor (List ℕ)) → k < length versions → length (get_or versions k d).now ≡ end - start
     length_of k d lt =
         version_length (get_or versions k d).now (subst (λ vs. Contains vs (get_or versions k d).now) are (value_there versions k d lt))
 

@@ -1,4 +1,4 @@
--- The splice as it is found, place by place from an end, and as it is told, place by place of the whole payload.
+-- A division as it is found, place by place from an end, and as it is told, place by place of the whole payload.
 use Rattle.std.proofs.Common.{◌≡◌, ℕ, ◌+◌, ◌-◌, ◌≤◌, List, [], ◌∷◌, ◌++◌, length, get_or, take, drop, refl, sym, ap, ◌∙◌, subst, arith, inl, inr, take-append-drop}
 use Rattle.std.specs.Prelude.{All, Contains, slice_range}
 use Rattle.std.proofs.Math.Seq.{drop-append_seam}
@@ -7,9 +7,9 @@ use Rattle.std.proofs.lemmas.List.Elements.{All-nil, All-cons, All-head, All-tai
 use Rattle.std.proofs.lemmas.Bool.{cases_lt}
 use Rattle.ffv1_splice.specs.Pieces.{IsLeast}
 use Rattle.ffv1_splice.specs.Standings.{StandsAs, IsStop}
-use Rattle.ffv1_splice.specs.Splice.{SplicedValue, LieFrom, IsSpliceOf}
+use Rattle.ffv1_splice.specs.Splice.{SplicedValue, LieFrom, IsDivisionOf}
 use Rattle.ffv1_splice.specs.declared.place.Standing.{Standing}
-use Rattle.ffv1_splice.specs.declared.place.Standing.TheVariants.{Settled, Woven, Disputed, Missing}
+use Rattle.ffv1_splice.specs.declared.place.Standing.TheVariants.{Settled, Woven, Disputed, Missing, Undivided}
 use Rattle.ffv1_splice.specs.declared.place.Place.{Place}
 use Rattle.ffv1_splice.proofs.Versions.{weave_size}
 use Rattle.ffv1_splice.proofs.PlaceSteps.{AllReach, cut_below, told_below, piece_size, gap_size, least_size}
@@ -53,6 +53,7 @@ stands_below copies start end bytes Settled h = cut_below h.there.copy start end
 stands_below copies start end bytes (Woven count) h = told_below copies start end h.told.there
 stands_below copies start end bytes Disputed h = told_below copies start end h.1.told.there
 stands_below copies start end bytes Missing h = told_below copies start end h.1.told.there
+stands_below copies start end bytes Undivided h = absurd h
 
 pub stands_size : (copies : List (List ℕ)) (start end : ℕ) (bytes : List ℕ) (standing : Standing) → AllReach copies end
     → StandsAs copies start end bytes standing → start + length bytes ≡ end
@@ -60,6 +61,7 @@ stands_size copies start end bytes Settled reach h = piece_size copies end (reco
 stands_size copies start end bytes (Woven count) reach h = weave_size copies start end bytes count reach h
 stands_size copies start end bytes Disputed reach h = gap_size copies start end bytes reach h.1
 stands_size copies start end bytes Missing reach h = gap_size copies start end bytes reach h.1
+stands_size copies start end bytes Undivided reach h = absurd h
 
 pub reach_less : (copies : List (List ℕ)) (end start : ℕ) → start ≤ end → AllReach copies end → AllReach copies start
 reach_less copies end start below reach copy there = let far = reach copy there in omega arith
@@ -171,10 +173,10 @@ module _ (copies : List (List ℕ)) where
       (subst (IsSpliceBefore copies place.end (place ∷ places) front) whole
       (goes (slice_range payload place.start place.end) stands before))
 
-  -- the splice of copies of one length
-  pub splice_of : (whole : ℕ) (places : List Place) (front : ℕ) (payload : List ℕ) → ((copy : List ℕ) → Contains copies copy → length copy ≡ whole)
-      → IsSpliceBefore copies whole places front payload → IsSpliceOf copies (record { places = places; front = front; payload = payload })
-  splice_of whole places front payload one h =
+  -- the division of copies of one length
+  pub division_of : (whole : ℕ) (places : List Place) (front : ℕ) (payload : List ℕ) → ((copy : List ℕ) → Contains copies copy → length copy ≡ whole)
+      → IsSpliceBefore copies whole places front payload → IsDivisionOf copies (record { places = places; front = front; payload = payload })
+  division_of whole places front payload one h =
       let told = told_before whole places front payload (λ copy there. omega (arith, one copy there)) h in
       record {
         one_length = λ copy there. one copy there ∙ sym told.size;
@@ -184,8 +186,8 @@ module _ (copies : List (List ℕ)) where
         before = told.before;
       }
 
-  pub splice_walk : (spliced : SplicedValue) → IsSpliceOf copies spliced
+  pub division_walk : (spliced : SplicedValue) → IsDivisionOf copies spliced
       → IsSpliceBefore copies (length spliced.payload) spliced.places spliced.front spliced.payload
-  splice_walk spliced h =
+  division_walk spliced h =
       splice_before (length spliced.payload) spliced.places spliced.front spliced.payload (λ copy there. omega (arith, h.one_length copy there))
       (record { size = refl; lie = h.lie; stand = h.stand; stop = h.stop; before = h.before })

@@ -1,18 +1,23 @@
 -- A frame that is given back: its chain is whole, and each of its links passes its parity.
-use Rattle.std.proofs.Common.{◌≡◌, ℕ, ◌≤◌, List, [], ◌∷◌, length, get_or, sym, ◌∙◌, subst, arith}
+use Rattle.std.proofs.Common.{◌≡◌, ℕ, ◌+◌, ◌≤◌, List, [], ◌∷◌, length, get_or, sym, ◌∙◌, subst, arith}
 use Rattle.std.specs.Prelude.{All, slice_range}
 use Rattle.std.proofs.lemmas.List.Elements.{All-head, All-tail}
 use Rattle.ffv1_bits.specs.Parity.{PassesParity}
-use Rattle.ffv1_slice.specs.Chain.{IsCut, IsEnd, IsFramed}
+use Rattle.ffv1_slice.specs.Chain.{IsCut, IsEnd, IsFramed, Piece, piece_of}
 use Rattle.ffv1_slice.specs.Chain.IsEnd.{last, before}
 use Rattle.ffv1_slice.proofs.NearLaws.{length-range, size_of_range}
-use Rattle.ffv1_splice.specs.Pieces.{HasContent}
-use Rattle.ffv1_splice.specs.Standings.{StandsAs}
+use Rattle.ffv1_splice.specs.Pieces.{HasContent, IsPiece}
+use Rattle.ffv1_splice.specs.Standings.{versions_at, StandsAs}
 use Rattle.ffv1_splice.specs.Splice.{SplicedValue, LieFrom, IsSpliceOf, IsSettledOrWoven, IsGivenBack}
 use Rattle.ffv1_splice.specs.declared.place.Standing.{Standing}
-use Rattle.ffv1_splice.specs.declared.place.Standing.TheVariants.{Settled, Woven, Disputed, Missing}
+use Rattle.ffv1_splice.specs.declared.place.Standing.TheVariants.{Settled, Woven, Disputed, Missing, Undivided}
 use Rattle.ffv1_splice.specs.declared.place.Place.{Place}
-use Rattle.ffv1_splice.proofs.Walks.{stands_below, ends_below}
+use Rattle.ffv1_splice.proofs.PlaceSteps.{AllReach}
+use Rattle.ffv1_splice.proofs.Walks.{ends_below}
+use Rattle.ffv1_splice.proofs.Narrowed.{piece_out}
+use Rattle.ffv1_splice.proofs.PlaceLists.{no_undivided}
+use Rattle.ffv1_splice.proofs.SplicePlaces.{all_places, places_lie, places_within, above_upright, below_within, end_within}
+use Rattle.ffv1_splice.proofs.StandingPlaces.{hole_within, hole_stands, hole_given_back}
 use Rattle.ffv1_splice.specs.Whole.{IsWholeFrame, GivenBackIsWhole}
 
 -- ---- places that are links of the frame
@@ -88,55 +93,78 @@ pub record IsWholeSlice (start end : ℕ) (bytes : List ℕ) : Type 0 where
   pub framed : IsFramed bytes
   pub passes : PassesParity bytes
 
-module _ (copies : List (List ℕ)) (spliced : SplicedValue) (is : IsSpliceOf copies spliced) where
-  slice_at : (start end : ℕ) (bytes : List ℕ) (standing : Standing) → end ≤ length spliced.payload → StandsAs copies start end bytes standing
-      → IsSettledOrWoven standing → IsWholeSlice start end bytes
-  slice_at start end bytes Settled within stands settled =
-      let piece = stands.there in
-      let content : HasContent start end = piece.content in
-      let cut : IsCut piece.copy start end = piece.cut in
-      let long : end ≤ length piece.copy = omega (arith, is.one_length piece.copy piece.there) in
-      let size = length-range piece.copy start end (omega arith) long in
-      let told = size_of_range piece.copy start end (omega arith) long in
-      record {
-        content = content;
-        framed = subst IsFramed (sym piece.bytes) (record { footer = omega arith; size = sym told ∙ omega arith });
-        passes = piece.passes;
-      }
-  slice_at start end bytes (Woven count) within stands settled =
+-- a piece is one, where it is within its copy
+slice_of_piece : (copies : List (List ℕ)) (end : ℕ) (piece : Piece) → AllReach copies end → IsPiece copies end piece
+    → IsWholeSlice piece.start end piece.bytes
+slice_of_piece copies end piece reach h =
+    let content : HasContent piece.start end = h.content in
+    let cut : IsCut h.copy piece.start end = h.cut in
+    let long = reach h.copy h.there in
+    let size = length-range h.copy piece.start end (omega arith) long in
+    let told = size_of_range h.copy piece.start end (omega arith) long in
+    record {
+      content = content;
+      framed = subst IsFramed (sym h.bytes) (record { footer = omega arith; size = sym told ∙ omega arith });
+      passes = h.passes;
+    }
+
+module _ (copies : List (List ℕ)) (spliced : SplicedValue) (is : IsSpliceOf copies spliced) (given : IsGivenBack spliced) where
+  reach_to : (end : ℕ) → end ≤ length spliced.payload → AllReach copies end
+  reach_to end within copy there = omega (arith, is.one_length copy there)
+
+  -- in the hole, with its places counted from the frame's start
+  hole_slice : (start end : ℕ) (bytes : List ℕ) (standing : Standing) → is.start + end ≤ is.end
+      → StandsAs (versions_at copies is.start is.end) start end bytes standing → IsSettledOrWoven standing
+      → IsWholeSlice (is.start + start) (is.start + end) bytes
+  hole_slice start end bytes Settled within stands right =
+      let inside = end_within copies spliced is in
+      slice_of_piece copies (is.start + end) (record { start = is.start + start; bytes = bytes }) (reach_to (is.start + end) (omega arith))
+      (piece_out is.start is.end copies end (record { start = start; bytes = bytes }) within stands.there)
+  hole_slice start end bytes (Woven count) within stands right =
       let valid = stands.weave'.0.there in
-      record { content = stands.told.there.content; framed = valid.passes.0; passes = valid.passes.1 }
-  slice_at start end bytes Disputed within stands settled = absurd settled
-  slice_at start end bytes Missing within stands settled = absurd settled
+      let content : HasContent start end = stands.told.there.content in
+      record { content = omega arith; framed = valid.passes.0; passes = valid.passes.1 }
+  hole_slice start end bytes Disputed within stands right = absurd right
+  hole_slice start end bytes Missing within stands right = absurd right
+  hole_slice start end bytes Undivided within stands right = absurd right
 
-  link_of : (start end : ℕ) → end ≤ length spliced.payload → IsWholeSlice start end (slice_range spliced.payload start end)
-      → (standing : Standing) → IsLinkPlace spliced.payload (record { start = start; end = end; standing = standing })
-  link_of start end within slice standing =
-      let content : HasContent start end = slice.content in
-      let size = length-range spliced.payload start end (omega arith) within in
-      let told = size_of_range spliced.payload start end (omega arith) within in
+  abbrev IsSliceThere : Place → Type 0
+  IsSliceThere place = IsWholeSlice place.start place.end (slice_range spliced.payload place.start place.end)
+
+  slice_there : (place : Place) → place.end ≤ length spliced.payload → IsPiece copies place.end (piece_of spliced.payload place.start place.end)
+      → IsSliceThere place
+  slice_there place within piece =
+      slice_of_piece copies place.end (piece_of spliced.payload place.start place.end) (reach_to place.end within) piece
+
+  all_slices : All IsSliceThere spliced.places
+  all_slices =
+      let hole = hole_given_back copies spliced is given in
+      all_places copies spliced is IsSliceThere
+      (λ k d lt. slice_there (get_or is.above k d)
+      (ends_below (length spliced.payload) is.above is.end (above_upright copies spliced is) is.down.lie k d lt) (is.down.settled k d lt).only.there)
+      (λ k d lt. let place : Place = get_or is.hole.places k d in
+      hole_slice place.start place.end (slice_range spliced.payload (is.start + place.start) (is.start + place.end)) place.standing
+      (hole_within copies spliced is k d lt) (hole_stands copies spliced is k d lt) (hole.1 k d lt))
+      (no_undivided IsSliceThere is.start is.hole.front hole.0)
+      (λ k d lt. let inside = end_within copies spliced is in
+      let within = below_within copies spliced is k d lt in
+      slice_there (get_or is.below k d) (omega arith) (is.up.settled k d lt).only.there)
+
+  link_of : (place : Place) → place.end ≤ length spliced.payload → IsSliceThere place → IsLinkPlace spliced.payload place
+  link_of place within slice =
+      let content : HasContent place.start place.end = slice.content in
+      let size = length-range spliced.payload place.start place.end (omega arith) within in
+      let told = size_of_range spliced.payload place.start place.end (omega arith) within in
       let own = slice.framed.size in
-      record { content = slice.content; cut = omega arith; passes = slice.passes }
+      record { content = content; cut = omega arith; passes = slice.passes }
 
-  pub whole_given_back : IsGivenBack spliced → IsWholeFrame spliced.payload
-  whole_given_back given = whole_frame spliced.payload (record {
-    places = spliced.places;
-    lie = subst (LieFrom (length spliced.payload) spliced.places) given.0 is.lie;
-    links = λ k d lt.
-        let place : Place = get_or spliced.places k d in
-        let inside : place.end ≤ length spliced.payload = within k d lt in
-        link_of place.start place.end inside (slice_at place.start place.end (slice_range spliced.payload place.start place.end) place.standing
-        inside (is.stand k d lt) (given.1 k d lt)) place.standing;
-  })
-    where
-      upright : All (λ place. place.start ≤ place.end) spliced.places
-      upright k d lt =
-          let place : Place = get_or spliced.places k d in
-          let below = stands_below copies place.start place.end (slice_range spliced.payload place.start place.end) place.standing (is.stand k d lt) in
-          omega arith
-
-      within : All (λ place. place.end ≤ length spliced.payload) spliced.places
-      within = ends_below (length spliced.payload) spliced.places spliced.front upright is.lie
+  pub whole_given_back : IsWholeFrame spliced.payload
+  whole_given_back =
+      whole_frame spliced.payload (record {
+        places = spliced.places;
+        lie = subst (LieFrom (length spliced.payload) spliced.places) given.0 (places_lie copies spliced is);
+        links = λ k d lt. link_of (get_or spliced.places k d) (places_within copies spliced is k d lt).1 (all_slices k d lt);
+      })
 
 pub given_back_is_whole : GivenBackIsWhole
 given_back_is_whole copies spliced is given = whole_given_back copies spliced is given

@@ -1,23 +1,32 @@
 -- What is woven of copies of an original.
-use Rattle.std.proofs.Common.{◌≡◌, ℕ, ◌<◌, List, length, get_or, refl, sym, ◌∙◌, subst, arith, inl, inr}
+use Rattle.std.proofs.Common.{◌≡◌, ℕ, ◌+◌, ◌<◌, ◌≤◌, List, length, get_or, refl, sym, ◌∙◌, subst, arith, inl, inr}
 use Rattle.std.specs.Prelude.{All, slice_range}
-use Rattle.std.proofs.lemmas.List.Elements.{All-contains}
+use Rattle.std.proofs.lemmas.List.Elements.{All-contains, All-weaker}
 use Rattle.ffv1_bits.specs.Parity.{PassesParity}
 use Rattle.ffv1_slice.specs.Chain.{IsCut, IsEnd, IsLinkOf, IsFramed}
 use Rattle.ffv1_slice.specs.Chain.IsEnd.{last}
 use Rattle.ffv1_slice.specs.Members.{IsOnly}
 use Rattle.ffv1_slice.proofs.NearLaws.{length-range, size_of_range}
+use Rattle.ffv1_weave.specs.Combinations.{IsCombination}
 use Rattle.ffv1_weave.specs.Weave.{AreMany}
 use Rattle.ffv1_splice.specs.Pieces.{IsToldStart}
 use Rattle.ffv1_splice.specs.Standings.{versions_at, StandsAs}
-use Rattle.ffv1_splice.specs.Splice.{SplicedValue, IsSpliceOf, IsSettledOrWoven, IsGivenBack}
-use Rattle.ffv1_splice.specs.Originals.{AreCopiesOf, IsAmong, AreWeavable}
-use Rattle.ffv1_splice.specs.Laws.{HasLinksOf, WovenIsOriginal, GivenBackIsOriginal}
+use Rattle.ffv1_splice.specs.Splice.{SplicedValue, IsSettledDown, IsSettledUp, IsDivisionOf, IsSpliceOf, undivided_places, IsSettledOrWoven, IsGivenBack}
+use Rattle.ffv1_splice.specs.Originals.{AreCopiesOf, IsAmong}
+use Rattle.ffv1_splice.specs.Laws.{IsItsLink, KeepsLink, WovenIsOriginal, GivenBackIsOriginal}
 use Rattle.ffv1_splice.specs.declared.place.Standing.{Standing}
-use Rattle.ffv1_splice.specs.declared.place.Standing.TheVariants.{Settled, Woven, Disputed, Missing}
+use Rattle.ffv1_splice.specs.declared.place.Standing.TheVariants.{Settled, Woven, Disputed, Missing, Undivided}
 use Rattle.ffv1_splice.specs.declared.place.Place.{Place}
-use Rattle.ffv1_splice.proofs.OriginalLaws.{end_within, link_at, AreLinkPlaces, link_places, settled_link, same_payload}
-use Rattle.ffv1_splice.proofs.Walks.{IsSpliceBefore, splice_walk, stands_below}
+use Rattle.ffv1_splice.proofs.DividedLinks.{end_within, link_at, AreLinkPlaces, link_places, settled_link, same_payload}
+use Rattle.ffv1_splice.proofs.Narrowed.{versions_of_versions}
+use Rattle.ffv1_splice.proofs.NarrowedOriginal.{AreWeavableDown, copies_narrowed, weavable_narrowed}
+use Rattle.ffv1_splice.proofs.Walks.{IsSpliceBefore, division_walk, stands_below}
+use Rattle.ffv1_splice.proofs.PlaceLists.{all_stand_undivided}
+use Rattle.ffv1_splice.proofs.SplicePlaces.{IsPlaceOf, place_of, start_within}
+use Rattle.ffv1_splice.proofs.SplicePlaces.IsPlaceOf.{above, of_hole, undivided, below}
+use Rattle.ffv1_splice.proofs.StandingPlaces.{hole_within, hole_stands, hole_given_back}
+use Rattle.ffv1_splice.proofs.SameBytes.{IsSameAt, same_by_parts}
+use Rattle.ffv1_splice.proofs.OriginalLaws.{as_long, above_links, below_links, joined_links}
 
 -- a link's slice has its footer
 framed_link : (original : List ℕ) (start end : ℕ) → IsLinkOf original start end → IsFramed (slice_range original start end)
@@ -28,45 +37,72 @@ framed_link original start end link =
     let same = size_of_range original start end (omega arith) within in
     record { footer = omega arith; size = omega arith }
 
-module _ (original : List ℕ) (copies : List (List ℕ)) (start end : ℕ) (link : IsLinkOf original start end)
-    (passes : PassesParity (slice_range original start end)) (among : IsAmong original copies start end) where
-  -- what is woven is the link
-  pub woven_link : (bytes : List ℕ) (standing : Standing) (count : ℕ) → standing ≡ Woven count → StandsAs copies start end bytes standing
-      → bytes ≡ slice_range original start end
-  woven_link bytes Settled count is h = absurd (cc)
-  woven_link bytes (Woven n) count is h =
-      sym (h.weave'.0.others (slice_range original start end)
-      (record { combination = among; passes = (framed_link original start end link, passes) }))
-  woven_link bytes Disputed count is h = absurd (cc)
-  woven_link bytes Missing count is h = absurd (cc)
+-- ---- a slice that is among the combinations
+
+module _ (copies : List (List ℕ)) (start end : ℕ) (slice : List ℕ) (framed : IsFramed slice) (passes : PassesParity slice)
+    (among : IsCombination (versions_at copies start end) slice) where
+  -- what is woven is the slice
+  pub woven_slice : (bytes : List ℕ) (standing : Standing) (count : ℕ) → standing ≡ Woven count → StandsAs copies start end bytes standing → bytes ≡ slice
+  woven_slice bytes Settled count is h = absurd (cc)
+  woven_slice bytes (Woven n) count is h = sym (h.weave'.0.others slice (record { combination = among; passes = (framed, passes) }))
+  woven_slice bytes Disputed count is h = absurd (cc)
+  woven_slice bytes Missing count is h = absurd (cc)
+  woven_slice bytes Undivided count is h = absurd (cc)
 
   -- it is missing only where there are too many combinations
-  pub missing_link : (bytes : List ℕ) (standing : Standing) → standing ≡ Missing → StandsAs copies start end bytes standing
+  pub missing_slice : (bytes : List ℕ) (standing : Standing) → standing ≡ Missing → StandsAs copies start end bytes standing
       → AreMany (versions_at copies start end)
-  missing_link bytes Settled is h = absurd (cc)
-  missing_link bytes (Woven n) is h = absurd (cc)
-  missing_link bytes Disputed is h = absurd (cc)
-  missing_link bytes Missing is h =
+  missing_slice bytes Settled is h = absurd (cc)
+  missing_slice bytes (Woven n) is h = absurd (cc)
+  missing_slice bytes Disputed is h = absurd (cc)
+  missing_slice bytes Missing is h =
       elim h.0 [
-        | inl w ↦ absurd (w.weave'.0 (slice_range original start end)
-            (record { combination = among; passes = (framed_link original start end link, passes) }))
+        | inl w ↦ absurd (w.weave'.0 slice (record { combination = among; passes = (framed, passes) }))
         | inr w ↦ w.weave'
       ]
+  missing_slice bytes Undivided is h = absurd (cc)
+
+-- ---- what is woven in a splice
+
+module _ (original : List ℕ) (copies : List (List ℕ)) (spliced : SplicedValue) (is : IsSpliceOf copies spliced) where
+  keeps_settled : (place : Place) → place.standing ≡ Settled → KeepsLink original copies spliced place
+  keeps_settled place settled = record { woven = λ count woven. absurd (cc); missing = λ missing. absurd (cc) }
+
+  keeps_undivided : (place : Place) → place.standing ≡ Undivided → KeepsLink original copies spliced place
+  keeps_undivided place stands = record { woven = λ count woven. absurd (cc); missing = λ missing. absurd (cc) }
+
+  keeps_link : (place : Place) → IsPlaceOf copies spliced is place → IsLinkOf original place.start place.end
+      → PassesParity (slice_range original place.start place.end) → IsAmong original copies place.start place.end → KeepsLink original copies spliced place
+  keeps_link place (above there) link passes among =
+      keeps_settled place (All-contains (IsSettledDown copies spliced.payload) is.above place is.down.settled there).standing
+  keeps_link place (of_hole hole there) link passes among =
+      let bytes : List ℕ = slice_range spliced.payload (is.start + hole.start) (is.start + hole.end) in
+      let slice : List ℕ = slice_range original (is.start + hole.start) (is.start + hole.end) in
+      let versions : List (List ℕ) = versions_at copies is.start is.end in
+      let stands : StandsAs versions hole.start hole.end bytes hole.standing =
+      All-contains (λ place. StandsAs versions place.start place.end (slice_range spliced.payload (is.start + place.start) (is.start + place.end))
+      place.standing) is.hole.places hole (hole_stands copies spliced is) there in
+      let within = All-contains (λ place. is.start + place.end ≤ is.end) is.hole.places hole (hole_within copies spliced is) there in
+      let same = versions_of_versions is.start is.end copies hole.start hole.end within in
+      let framed = framed_link original (is.start + hole.start) (is.start + hole.end) link in
+      let all : IsCombination (versions_at versions hole.start hole.end) slice = subst (λ vs. IsCombination vs slice) (sym same) among in
+      record {
+        woven = λ count woven. woven_slice versions hole.start hole.end slice framed passes all bytes hole.standing count woven stands;
+        missing = λ missing. subst AreMany same (missing_slice versions hole.start hole.end slice framed passes all bytes hole.standing missing stands);
+      }
+  keeps_link place (undivided there) link passes among =
+      keeps_undivided place (All-contains (λ place. place.standing ≡ Undivided) (undivided_places is.start is.hole.front) place
+      (all_stand_undivided is.start is.hole.front) there)
+  keeps_link place (below there) link passes among =
+      keeps_settled place (All-contains (IsSettledUp copies is.bound spliced.payload) is.below place is.up.settled there).standing
 
 pub woven_is_original : WovenIsOriginal
-woven_is_original original copies spliced place is there link passes among =
-    let stands : StandsAs copies place.start place.end (slice_range spliced.payload place.start place.end) place.standing =
-    All-contains (λ place. StandsAs copies place.start place.end (slice_range spliced.payload place.start place.end) place.standing) spliced.places place
-    is.stand there in
-    record {
-      woven = λ count standing. woven_link original copies place.start place.end link passes among
-          (slice_range spliced.payload place.start place.end) place.standing count standing stands;
-      missing = λ standing. missing_link original copies place.start place.end link passes among
-          (slice_range spliced.payload place.start place.end) place.standing standing stands;
-    }
+woven_is_original original copies spliced place is there = keeps_link original copies spliced is place (place_of copies spliced is place there)
+
+-- ---- divisions that are given back
 
 module _ (original : List ℕ) (copies : List (List ℕ)) (spliced : SplicedValue) (of : AreCopiesOf original copies)
-    (weavable : AreWeavable original copies) (is : IsSpliceOf copies spliced) (given : IsGivenBack spliced) where
+    (weavable : AreWeavableDown original copies) (is : IsDivisionOf copies spliced) (given : IsGivenBack spliced) where
   -- a start that is told alone is the link's
   told_cut : (start end : ℕ) → IsEnd original end → 0 < end → IsOnly (IsToldStart copies end) start → IsCut original start end
   told_cut start end is_end after only =
@@ -81,6 +117,7 @@ module _ (original : List ℕ) (copies : List (List ℕ)) (spliced : SplicedValu
       let below = stands_below copies start end bytes Disputed h in told_cut start end is_end (omega arith) h.1.told
   cuts start end bytes Missing is_end h =
       let below = stands_below copies start end bytes Missing h in told_cut start end is_end (omega arith) h.1.told
+  cuts start end bytes Undivided is_end h = absurd h
 
   long : length spliced.payload ≡ length original
   long = sym (is.one_length is.before.copy is.before.there) ∙ of.one_length is.before.copy is.before.there
@@ -89,16 +126,18 @@ module _ (original : List ℕ) (copies : List (List ℕ)) (spliced : SplicedValu
   places =
       link_places original copies cuts (length original) spliced.places spliced.front spliced.payload
       (λ stop is_end after stops same. absurd (omega (arith, given.0))) last
-      (subst (λ n. IsSpliceBefore copies n spliced.places spliced.front spliced.payload) long (splice_walk copies spliced is))
+      (subst (λ n. IsSpliceBefore copies n spliced.places spliced.front spliced.payload) long (division_walk copies spliced is))
 
   -- a place that is settled or woven has the link's bytes
   has_link : (start end : ℕ) (bytes : List ℕ) (standing : Standing) → IsLinkOf original start end → IsSettledOrWoven standing
       → StandsAs copies start end bytes standing → bytes ≡ slice_range original start end
   has_link start end bytes Settled link right h = (settled_link original copies weavable.agree start end bytes Settled link.is_end refl h).1
   has_link start end bytes (Woven count) link right h =
-      woven_link original copies start end link (weavable.passes start end link) (weavable.among start end link) bytes (Woven count) count refl h
+      woven_slice copies start end (slice_range original start end) (framed_link original start end link) (weavable.passes start end link)
+      (weavable.among start end link) bytes (Woven count) count refl h
   has_link start end bytes Disputed link right h = absurd right
   has_link start end bytes Missing link right h = absurd right
+  has_link start end bytes Undivided link right h = absurd right
 
   each_same : All (λ place. slice_range spliced.payload place.start place.end ≡ slice_range original place.start place.end) spliced.places
   each_same k d lt =
@@ -106,11 +145,21 @@ module _ (original : List ℕ) (copies : List (List ℕ)) (spliced : SplicedValu
       has_link place.start place.end (slice_range spliced.payload place.start place.end) place.standing (places.each k d lt) (given.1 k d lt)
       (is.stand k d lt)
 
-  pub given_back : HasLinksOf original spliced × (spliced.payload ≡ original)
-  given_back = (
-    record { links = places.links; whole = places.whole },
-    same_payload original spliced (length original) places is.lie long each_same,
-  )
+  pub given_back_divided : AreLinkPlaces original (length original) spliced.places spliced.front × (spliced.payload ≡ original)
+  given_back_divided = (places, same_payload original spliced (length original) places is.lie long each_same)
+
+-- ---- splices that are given back
 
 pub given_back_is_original : GivenBackIsOriginal
-given_back_is_original original copies spliced of weavable is given = given_back original copies spliced of weavable is given
+given_back_is_original original copies spliced of weavable is given =
+    let down = above_links original copies spliced is of weavable.agree in
+    let up = below_links original copies spliced is of weavable.agree weavable.below in
+    let order = start_within copies spliced is in
+    let hole = given_back_divided (slice_range original is.start is.end) (versions_at copies is.start is.end) is.hole
+    (copies_narrowed is.start is.end original order down.is_end copies up.is_end of.one_length)
+    (weavable_narrowed is.start is.end original order down.is_end copies weavable) is.divided (hole_given_back copies spliced is given) in (
+      joined_links original copies spliced is of weavable.agree weavable.below hole.0.each hole.0.whole,
+      same_by_parts copies spliced is original (as_long original copies spliced is of weavable.agree)
+          (All-weaker (IsItsLink original spliced) (IsSameAt spliced.payload original) (λ place its. its.bytes) is.above down.links)
+          (All-weaker (IsItsLink original spliced) (IsSameAt spliced.payload original) (λ place its. its.bytes) is.below up.links) hole.1,
+    )

@@ -7,7 +7,7 @@ use Rattle.ffv1_bits.specs.Parity.{PassesParity}
 use Rattle.ffv1_weave.specs.Weave.{AreMany}
 use Rattle.ffv1_splice.specs.Standings.{versions_at}
 use Rattle.ffv1_splice.specs.Splice.{SplicedValue, IsSpliceOf, IsGivenBack}
-use Rattle.ffv1_splice.specs.Originals.{AreCopiesOf, AgreeWith, HaveEachLink, IsAmong, AreWeavable, AreNearCopies, IsIntactInSome}
+use Rattle.ffv1_splice.specs.Originals.{AreCopiesOf, AgreeWith, AgreeFromBelow, HaveEachLink, IsAmong, AreWeavable, AreNearCopies, IsIntactInSome}
 use Rattle.ffv1_splice.specs.declared.place.Standing.TheVariants.{Settled, Woven, Missing}
 use Rattle.ffv1_splice.specs.declared.place.Place.{Place}
 
@@ -42,6 +42,18 @@ SettledIsOriginal =
     → Contains spliced.places place → place.standing ≡ Settled → IsEnd original place.end
     → IsLinkOf original place.start place.end × (slice_range spliced.payload place.start place.end ≡ slice_range original place.start place.end)
 
+-- a place is a link of the original, byte for byte
+pub record IsItsLink (original : List ℕ) (spliced : SplicedValue) (place : Place) : Type 0 where
+  pub link : IsLinkOf original place.start place.end
+  pub bytes : slice_range spliced.payload place.start place.end ≡ slice_range original place.start place.end
+
+-- And where no piece tells other than the original from below, each settled place above the hole and below it is a link of the original.
+abbrev pub SettledWalksAreOriginal : Type 0
+SettledWalksAreOriginal =
+    (original : List ℕ) (copies : List (List ℕ)) (spliced : SplicedValue) → AreCopiesOf original copies → AgreeWith original copies
+    → AgreeFromBelow original copies → (is : IsSpliceOf copies spliced)
+    → All (IsItsLink original spliced) is.above × All (IsItsLink original spliced) is.below
+
 -- ---- what is woven
 
 -- What is woven at a place is the original's slice; and where it is missing, there are more combinations than are tried.
@@ -73,14 +85,15 @@ pub record IsNearSplice (original : List ℕ) (copies : List (List ℕ)) (splice
   pub bytes : All (λ place. place.standing ≡ Settled → slice_range spliced.payload place.start place.end ≡ slice_range original place.start place.end)
       spliced.places
 
--- Of near copies no piece tells other than the original; where each link is intact in some copy, the splice is the original; and where
--- each is among the combinations, a frame that is given back is the original.
+-- Of near copies no piece tells other than the original from an end; where each link is intact in some copy, the splice is the original.
+-- Where none tells other than the original from below either, the places are the original's links; and where each is among the
+-- combinations, a frame that is given back is the original.
 pub record NearCopiesSplice : Type 0 where
   pub agree : (original : List ℕ) (copies : List (List ℕ)) → AreNearCopies original copies → AgreeWith original copies
-  pub near : (original : List ℕ) (copies : List (List ℕ)) (spliced : SplicedValue) → AreNearCopies original copies → IsSpliceOf copies spliced
-      → IsNearSplice original copies spliced
+  pub near : (original : List ℕ) (copies : List (List ℕ)) (spliced : SplicedValue) → AreNearCopies original copies
+      → AgreeFromBelow original copies → IsSpliceOf copies spliced → IsNearSplice original copies spliced
   pub original : (original : List ℕ) (copies : List (List ℕ)) (spliced : SplicedValue) → AreNearCopies original copies
       → ((start end : ℕ) → IsLinkOf original start end → IsIntactInSome original copies start end) → IsSpliceOf copies spliced → IsOriginal original spliced
   pub woven : (original : List ℕ) (copies : List (List ℕ)) (spliced : SplicedValue) → AreNearCopies original copies
-      → ((start end : ℕ) → IsLinkOf original start end → IsAmong original copies start end) → IsSpliceOf copies spliced → IsGivenBack spliced
+      → AgreeFromBelow original copies → ((start end : ℕ) → IsLinkOf original start end → IsAmong original copies start end) → IsSpliceOf copies spliced → IsGivenBack spliced
       → spliced.payload ≡ original

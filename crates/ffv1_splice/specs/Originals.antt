@@ -1,10 +1,10 @@
 -- Copies of an original: what they tell of its links.
-use Rattle.std.specs.Prelude.{ℕ, ◌≡◌, ◌⊎◌, List, Contains, length, slice_range}
+use Rattle.std.specs.Prelude.{ℕ, ◌≡◌, ◌≤◌, ◌⊎◌, List, Contains, length, slice_range}
 use Rattle.ffv1_bits.specs.Parity.{AreBytes, PassesParity}
 use Rattle.ffv1_slice.specs.Chain.{IsEnd, IsLinkOf, Piece, piece_of}
 use Rattle.ffv1_slice.specs.Near.{IsHurtWithin32}
 use Rattle.ffv1_weave.specs.Combinations.{IsCombination}
-use Rattle.ffv1_splice.specs.Pieces.{HasContent, IsPiece, IsToldStart}
+use Rattle.ffv1_splice.specs.Pieces.{HasContent, IsPiece, IsToldStart, PieceFrom}
 use Rattle.ffv1_splice.specs.Standings.{versions_at}
 
 -- The chain of the original is whole, and all copies are as long as it is.
@@ -17,6 +17,13 @@ abbrev pub AgreeWith : List ℕ → List (List ℕ) → Type 0
 AgreeWith original copies =
     (end : ℕ) (piece : Piece) → IsEnd original end → IsPiece copies end piece → IsLinkOf original piece.start end × (piece ≡ piece_of original piece.start end)
 
+-- So from below: each piece that begins where a link of the original begins, and ends within it, is that link.
+abbrev pub AgreeFromBelow : List ℕ → List (List ℕ) → Type 0
+AgreeFromBelow original copies =
+    (start end : ℕ) (piece : PieceFrom) → IsLinkOf original start end → piece.end ≤ length original
+    → IsPiece copies piece.end (record { start = start; bytes = piece.bytes })
+    → piece ≡ record { end = end; bytes = slice_range original start end }
+
 -- each link of the original is a piece of some copy; so each has content
 abbrev pub HaveEachLink : List ℕ → List (List ℕ) → Type 0
 HaveEachLink original copies = (start end : ℕ) → IsLinkOf original start end → IsPiece copies end (piece_of original start end)
@@ -26,10 +33,11 @@ HaveEachLink original copies = (start end : ℕ) → IsLinkOf original start end
 abbrev pub IsAmong : List ℕ → List (List ℕ) → (start end : ℕ) → Type 0
 IsAmong original copies start end = IsCombination (versions_at copies start end) (slice_range original start end)
 
--- No piece tells other than the original. The start of each link is told by a footer of some copy, and its slice, which passes its
--- parity, is among the combinations of what the copies have there.
+-- No piece tells other than the original, from an end or from a start of its links. The start of each link is told by a footer of some
+-- copy, and its slice, which passes its parity, is among the combinations of what the copies have there.
 pub record AreWeavable (original : List ℕ) (copies : List (List ℕ)) : Type 0 where
   pub agree : AgreeWith original copies
+  pub below : AgreeFromBelow original copies
   pub told : (start end : ℕ) → IsLinkOf original start end → IsToldStart copies end start
   pub passes : (start end : ℕ) → IsLinkOf original start end → PassesParity (slice_range original start end)
   pub among : (start end : ℕ) → IsLinkOf original start end → IsAmong original copies start end

@@ -1,6 +1,6 @@
 -- What copies of a frame tell of the slice that ends at a place, by its footer alone (RFC 9043, section 4.9). No setup is asked
 -- for: every FFV1 version 3 frame with parity has these footers, whatever its samples are coded by.
-use Rattle.std.specs.Prelude.{ℕ, ◌+◌, ◌<◌, ◌≡◌, List, Contains, slice_range}
+use Rattle.std.specs.Prelude.{ℕ, ◌+◌, ◌<◌, ◌≤◌, ◌≡◌, List, Contains, slice_range}
 use Rattle.std.specs.Ordering.{nat_cmp}
 use Rattle.std.specs.Cmp.Lexicographic.{slice_cmp}
 use Rattle.std.specs.declared.cmp.Ordering.TheVariants.{Less}
@@ -28,6 +28,23 @@ pub record IsToldStart (copies : List (List ℕ)) (end start : ℕ) : Type 0 whe
   pub there : Contains copies copy
   pub cut : IsCut copy start end
   pub content : HasContent start end
+
+-- ---- pieces by where they begin
+
+-- what lies from a place on: its end, and its bytes
+pub record PieceFrom : Type 0 where
+  pub end : ℕ
+  pub bytes : List ℕ
+
+-- A piece that begins at a place, and ends at a bound or before it.
+pub record IsPieceFrom (copies : List (List ℕ)) (bound start : ℕ) (piece : PieceFrom) : Type 0 where
+  pub there : IsPiece copies piece.end (record { start = start; bytes = piece.bytes })
+  pub within : piece.end ≤ bound
+
+-- one that ends first
+pub record IsShortest (copies : List (List ℕ)) (bound start : ℕ) (piece : PieceFrom) : Type 0 where
+  pub there : IsPieceFrom copies bound start piece
+  pub least : (other : PieceFrom) → IsPieceFrom copies bound start other → piece.end ≤ other.end
 
 -- ---- what lies there where no piece tells
 

@@ -1,9 +1,11 @@
--- The frame that copies of one length are spliced to, from its end to its front.
-use Rattle.std.specs.Prelude.{ℕ, ◌≡◌, List, [], ◌∷◌, All, Contains, length, take, slice_range}
-use Rattle.ffv1_splice.specs.Pieces.{IsLeast}
-use Rattle.ffv1_splice.specs.Standings.{StandsAs, IsStop}
+-- The frame that copies of one length are spliced to: settled down from its end, settled up from its start, and the hole that is left.
+use Rattle.std.specs.Prelude.{ℕ, zero, suc, ◌+◌, ◌≡◌, ◌≤◌, ◌⊎◌, List, [], ◌∷◌, ◌++◌, All, Contains, length, map, reverse, take, slice_range}
+use Rattle.ffv1_slice.specs.Chain.{Piece, piece_of}
+use Rattle.ffv1_slice.specs.Members.{IsOnly, IsOfNone}
+use Rattle.ffv1_splice.specs.Pieces.{IsPiece, PieceFrom, IsShortest, IsLeast}
+use Rattle.ffv1_splice.specs.Standings.{versions_at, StandsAs, IsStop}
 use Rattle.ffv1_splice.specs.declared.place.Standing.{Standing}
-use Rattle.ffv1_splice.specs.declared.place.Standing.TheVariants.{Settled, Woven}
+use Rattle.ffv1_splice.specs.declared.place.Standing.TheVariants.{Settled, Woven, Undivided}
 use Rattle.ffv1_splice.specs.declared.place.Place.{Place}
 
 -- what a splice gives: its places from the frame's end on, where the last of them begins, and all bytes
@@ -17,15 +19,95 @@ abbrev pub LieFrom : ℕ → List Place → ℕ → Type 0
 LieFrom end [] front = end ≡ front
 LieFrom end (place ∷ places) front = (place.end ≡ end) × LieFrom place.start places front
 
--- The splice is as long as each copy, and its places lie end to end from its end back to its front. Each stands as the copies tell of
--- it, with the bytes that the splice has there. At the front no place ends: what stands before it can't be divided, and is
--- the least that a copy has there. The front is the frame's start where the places cover the frame.
+-- Places lie end to end, from a start on up to a top.
+abbrev pub RiseFrom : ℕ → List Place → ℕ → Type 0
+RiseFrom start [] top = start ≡ top
+RiseFrom start (place ∷ places) top = (place.start ≡ start) × RiseFrom place.end places top
+
+-- ---- down from the end
+
+-- Exactly one piece ends where the place ends, and it stands there.
+pub record IsSettledDown (copies : List (List ℕ)) (payload : List ℕ) (place : Place) : Type 0 where
+  pub standing : place.standing ≡ Settled
+  pub only : IsOnly (IsPiece copies place.end) (piece_of payload place.start place.end)
+
+-- Places settled from the payload's end down to the first end at which not exactly one piece ends.
+pub record IsWalkDown (copies : List (List ℕ)) (payload : List ℕ) (places : List Place) (end : ℕ) : Type 0 where
+  pub lie : LieFrom (length payload) places end
+  pub settled : All (IsSettledDown copies payload) places
+  pub stop : (piece : Piece) → IsOnly (IsPiece copies end) piece → ⊥
+
+-- ---- up from the start
+
+-- How far up from the start places can be settled below an end: to the end, where no piece ends there. Where pieces that differ end there, to
+-- the first byte of them all, since nothing tells which of them goes with the slices below.
+abbrev pub IsBound : List (List ℕ) → (end bound : ℕ) → Type 0
+IsBound copies end bound =
+    (IsOfNone (IsPiece copies end) × (bound ≡ end))
+    ⊎ ((piece : Piece) × IsPiece copies end piece × (piece.start ≡ bound) × ((other : Piece) → IsPiece copies end other → bound ≤ other.start))
+
+-- Of the pieces that begin where the place begins, and end at the bound or before it, the one that stands there ends first; and no other
+-- piece ends where it ends.
+pub record IsSettledUp (copies : List (List ℕ)) (bound : ℕ) (payload : List ℕ) (place : Place) : Type 0 where
+  pub standing : place.standing ≡ Settled
+  pub first : IsShortest copies bound place.start (record { end = place.end; bytes = slice_range payload place.start place.end })
+  pub only : IsOnly (IsPiece copies place.end) (piece_of payload place.start place.end)
+
+-- Places settled from the payload's start up to the first start from which none can be.
+pub record IsWalkUp (copies : List (List ℕ)) (bound : ℕ) (payload : List ℕ) (places : List Place) (start : ℕ) : Type 0 where
+  pub rise : RiseFrom 0 places start
+  pub settled : All (IsSettledUp copies bound payload) places
+  pub stop : (piece : PieceFrom) → IsShortest copies bound start piece
+      → IsOnly (IsPiece copies piece.end) (record { start = start; bytes = piece.bytes }) → ⊥
+
+-- ---- the hole between them
+
+-- Copies divided from their end alone. The places lie end to end from the end back to a front. Each stands as the copies tell of
+-- it, with the bytes that the payload has there. At the front no place ends: what stands before it can't be divided, and is
+-- the least that a copy has there. The front is the start where the places cover all.
+pub record IsDivisionOf (copies : List (List ℕ)) (divided : SplicedValue) : Type 0 where
+  pub one_length : (copy : List ℕ) → Contains copies copy → length copy ≡ length divided.payload
+  pub lie : LieFrom (length divided.payload) divided.places divided.front
+  pub stand : All (λ place. StandsAs copies place.start place.end (slice_range divided.payload place.start place.end) place.standing) divided.places
+  pub stop : IsStop copies divided.front
+  pub before : IsLeast copies 0 divided.front (take divided.front divided.payload)
+
+-- a place of the hole, counted from the frame's start
+abbrev pub moved_by : ℕ → Place → Place
+moved_by start place = record { start = start + place.start; end = start + place.end; standing = place.standing }
+
+-- What of the hole can't be divided is a place of its own where places stand below the hole, and else the frame's front.
+abbrev pub undivided_places : (start front : ℕ) → List Place
+undivided_places zero front = []
+undivided_places (suc before) zero = []
+undivided_places (suc before) (suc more) = record { start = suc before; end = suc before + suc more; standing = Undivided } ∷ []
+
+abbrev pub front_of : (start front : ℕ) → ℕ
+front_of zero front = front
+front_of (suc before) front = 0
+
+abbrev pub hole_places : ℕ → SplicedValue → List Place
+hole_places start hole = map (moved_by start) hole.places ++ undivided_places start hole.front
+
+-- ---- the frame
+
+-- The splice is as long as each copy. Places are settled down from its end, and up from its start. The hole between them is divided by
+-- what the copies have there alone, so no footer leads out of it.
 pub record IsSpliceOf (copies : List (List ℕ)) (spliced : SplicedValue) : Type 0 where
+  pub above : List Place
+  pub below : List Place
+  pub start : ℕ
+  pub end : ℕ
+  pub bound : ℕ
+  pub hole : SplicedValue
   pub one_length : (copy : List ℕ) → Contains copies copy → length copy ≡ length spliced.payload
-  pub lie : LieFrom (length spliced.payload) spliced.places spliced.front
-  pub stand : All (λ place. StandsAs copies place.start place.end (slice_range spliced.payload place.start place.end) place.standing) spliced.places
-  pub stop : IsStop copies spliced.front
-  pub before : IsLeast copies 0 spliced.front (take spliced.front spliced.payload)
+  pub down : IsWalkDown copies spliced.payload above end
+  pub room : IsBound copies end bound
+  pub up : IsWalkUp copies bound spliced.payload below start
+  pub divided : IsDivisionOf (versions_at copies start end) hole
+  pub bytes : hole.payload ≡ slice_range spliced.payload start end
+  pub places : spliced.places ≡ above ++ (hole_places start hole ++ reverse below)
+  pub front : spliced.front ≡ front_of start hole.front
 
 -- a slice that passes its parity stands there
 abbrev pub IsSettledOrWoven : Standing → Type 0

@@ -7,7 +7,7 @@ use Rattle.ffv1_weave.specs.Weave.Weave.{woven, disputed, missing, too_many}
 use Rattle.ffv1_weave.specs.declared.check.Check.TheVariants.{Slice}
 use Rattle.ffv1_splice.specs.Pieces.{IsPiece, IsToldStart, IsLeast}
 use Rattle.ffv1_splice.specs.declared.place.Standing.{Standing}
-use Rattle.ffv1_splice.specs.declared.place.Standing.TheVariants.{Settled, Woven, Disputed, Missing}
+use Rattle.ffv1_splice.specs.declared.place.Standing.TheVariants.{Settled, Woven, Disputed, Missing, Undivided}
 
 -- what each copy has between two places
 abbrev pub versions_at : List (List ℕ) → (start end : ℕ) → List (List ℕ)
@@ -35,6 +35,7 @@ StandsAs copies start end bytes Disputed =
     (IsOfTwo (IsPiece copies end) ⊎ IsWeaveAt copies start end disputed) × IsGap copies start end bytes
 StandsAs copies start end bytes Missing =
     (IsWeaveAt copies start end missing ⊎ IsWeaveAt copies start end too_many) × IsGap copies start end bytes
+StandsAs copies start end bytes Undivided = ⊥
 
 -- No place ends there: no piece is the only one, and no start is told alone.
 pub record IsStop (copies : List (List ℕ)) (end : ℕ) : Type 0 where

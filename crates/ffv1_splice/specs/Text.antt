@@ -2,7 +2,7 @@
 use Rattle.std.specs.Prelude.{ℕ, ◌==◌, ◌++◌, List, codes, if◌then◌else◌}
 use Rattle.std.specs.Fmt.{decimal}
 use Rattle.ffv1_splice.specs.declared.place.Standing.{Standing}
-use Rattle.ffv1_splice.specs.declared.place.Standing.TheVariants.{Settled, Woven, Disputed, Missing}
+use Rattle.ffv1_splice.specs.declared.place.Standing.TheVariants.{Settled, Woven, Disputed, Missing, Undivided}
 use Rattle.ffv1_splice.specs.declared.place.Place.{Place}
 
 -- how a place stands, and where it is woven, among how many combinations
@@ -11,6 +11,7 @@ standing_word Settled = codes "settled"
 standing_word (Woven count) = codes "woven " ++ decimal count
 standing_word Disputed = codes "disputed"
 standing_word Missing = codes "missing"
+standing_word Undivided = codes "undivided"
 
 -- where a place lies, and how it stands
 abbrev pub place_words : Place → List ℕ

@@ -1,6 +1,6 @@
 //! Laws of the splice, whatever it is made by.
 ghost use Rattle.ffv1_splice.specs.Whole.{GivenBackIsWhole};
-ghost use Rattle.ffv1_splice.specs.Laws.{SameCopiesSplice, OriginalIsSpliced, SettledIsOriginal, WovenIsOriginal, GivenBackIsOriginal, NearCopiesSplice};
+ghost use Rattle.ffv1_splice.specs.Laws.{SameCopiesSplice, OriginalIsSpliced, SettledIsOriginal, SettledWalksAreOriginal, WovenIsOriginal, GivenBackIsOriginal, NearCopiesSplice};
 
 /// However the same copies are ordered or repeated, they have one splice.
 pub fn same_copies_splice()
@@ -17,6 +17,12 @@ pub fn original_is_spliced()
 /// original's slice there.
 pub fn settled_is_original()
     ensures { SettledIsOriginal }
+{}
+
+/// Where no slice with content that passes its parity tells other than an original, neither from an end of the original's slices nor
+/// from a start of one: each settled place above the hole of the splice and below it is a slice of the original.
+pub fn settled_walks_are_original()
+    ensures { SettledWalksAreOriginal }
 {}
 
 /// At a place that is a slice of an original, where the original's slice passes its parity and is among the combinations of what the

@@ -4,16 +4,19 @@
 //! setup is asked for, so this is for frames of any FFV1 version 3 recording with parity.
 #![tactic(auto)]
 
+mod dividing;
 mod laws;
 mod place;
 mod placing;
+mod settling;
+mod shortest;
 mod splicing;
 mod text;
 mod told;
 
 pub use laws::{
     given_back_is_original, given_back_is_whole, near_copies_splice, original_is_spliced,
-    same_copies_splice, settled_is_original, woven_is_original,
+    same_copies_splice, settled_is_original, settled_walks_are_original, woven_is_original,
 };
 pub use place::{Place, Standing};
 pub use splicing::{SpliceFault, Spliced, splice};

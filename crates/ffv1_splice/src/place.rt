@@ -14,6 +14,10 @@ pub enum Standing {
     /// No slice with content that ends there passes its parity, and no combination of what the copies have there does, or there
     /// are more combinations than are tried. The least of all copies' bytes stand there.
     Missing,
+    /// What lies there can't be divided into slices: no slice with content that passes its parity ends at its end alone, and the
+    /// footers that end there claim no start, or several. It has places after it and before it. The least of all copies' bytes
+    /// stand there.
+    Undivided,
 }
 
 /// A slice's place in a spliced frame, in bytes from the frame's start.

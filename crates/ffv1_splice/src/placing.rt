@@ -121,7 +121,7 @@ fn weave_at(
 }
 
 /// What each copy has between two places. Each has them.
-fn versions_at<'a>(
+pub(crate) fn versions_at<'a>(
     alloc: Global,
     copies: &[&'a [u8]],
     start: usize,

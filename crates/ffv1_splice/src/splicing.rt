@@ -1,11 +1,12 @@
 //! The splice of copies of one length: the frame, place by place from its end.
-ghost use Rattle.std.specs.Prelude.{◌≡◌, ◌<◌, ◌↔◌, IsTrue, length, map, MatchOption, IfOk, IfErr};
-ghost use Rattle.ffv1_splice.specs.Splice.{IsSpliceOf, IsSettledOrWoven, IsGivenBack};
+ghost use Rattle.std.specs.Prelude.{◌≡◌, ◌<◌, ◌≤◌, ◌+◌, ◌^◌, ◌↔◌, ◌++◌, IsTrue, length, map, reverse, All, MatchOption, IfOk, IfErr, OnOk};
+ghost use Rattle.ffv1_splice.specs.Splice.{IsSpliceOf, IsSettledOrWoven, IsGivenBack, moved_by, undivided_places};
 ghost use Rattle.ffv1_splice.specs.Faults.{HasOneLength, IsOfOtherLength, IsSpliceFault};
 
+use crate::dividing::divide;
 use crate::place::{Place, Standing};
-use crate::placing::{place_before, write_at};
-use crate::told::least_at;
+use crate::placing::versions_at;
+use crate::settling::{bound_below, settle_down, settle_up};
 use std::alloc::{AllocError, AllocFailed, Global};
 use std::marker::Model;
 
@@ -93,8 +94,8 @@ fn stands_whole(place: &Place) -> bool
     matches!(place.standing, Standing::Settled | Standing::Woven(_))
 }
 
-/// Splices copies of one frame, of which there is one at least, place by place from its end. However the same copies are
-/// ordered or repeated, the answer is the same.
+/// Splices copies of one frame, of which there is one at least. Places are settled down from its end and up from its start, and the hole
+/// that is left between them is divided from its own end. However the same copies are ordered or repeated, the answer is the same.
 ///
 /// `OtherLength` comes exactly where some copy is not as long as the first; the only other refusal is `Memory`.
 pub fn splice(alloc: Global, copies: &[&[u8]]) -> Result<Spliced, SpliceFault>
@@ -106,18 +107,84 @@ pub fn splice(alloc: Global, copies: &[&[u8]]) -> Result<Spliced, SpliceFault>
         return Err(SpliceFault::OtherLength(index));
     }
     let mut payload = Vec::from_slice(alloc, copies[0])?;
-    let mut places = Vec::new(alloc);
-    let mut end = payload.len();
-    while let Some(place) = place_before(alloc, copies, end, &mut payload)? {
-        places.push(place)?;
-        end = place.start;
-    }
-    write_at(&mut payload, 0, least_at(copies, 0, end));
+    let (places, front) = fill(alloc, copies, &mut payload)?;
     Ok(Spliced {
         places,
-        front: end,
+        front,
         payload,
     })
+}
+
+/// Writes the splice of copies over the payload's bytes. Its places from the frame's end on, and where the last of them begins. Each copy
+/// is as long as the payload.
+fn fill(
+    alloc: Global,
+    copies: &[&[u8]],
+    payload: &mut [u8],
+) -> Result<(Vec<Place>, usize), AllocError>
+    requires some { 0 < length copies.now }
+    requires long { All (λ copy. length copy.now ≡ length payload.old) copies.now }
+    ensures { IfOk result (λ filled. IsSpliceOf (map (λ copy. copy.now) copies.now)
+        (record { places = filled.0.items; front = filled.1; payload = payload.new })) }
+{
+    let (above, end) = settle_down(alloc, copies, payload)?;
+    let bound = bound_below(copies, end);
+    let (mut below, start) = settle_up(alloc, copies, &mut payload[..bound])?;
+    let versions = versions_at(alloc, copies, start, end)?;
+    let (hole, front) = divide(alloc, versions.as_slice(), &mut payload[start..end])?;
+    let mut places = above;
+    push_moved(&mut places, start, hole.as_slice())?;
+    push_undivided(&mut places, start, front)?;
+    push_fallen(&mut places, &mut below)?;
+    Ok((places, if start == 0 { front } else { 0 }))
+}
+
+/// Adds the places of a hole that begins there.
+fn push_moved(places: &mut Vec<Place>, start: usize, hole: &[Place]) -> Result<(), AllocError>
+    requires { All (λ place. place.start ≤ place.end × start + place.end < 2 ^ 64) hole.now }
+    ensures { OnOk result (places.new.items ≡ places.old.items ++ map (moved_by start) hole.now) }
+{
+    for place in hole {
+        places.push(moved_by(start, *place))?;
+    }
+    Ok(())
+}
+
+/// Adds what can't be divided of a hole that begins there, the bytes before the front of its places, where places stand below the hole.
+fn push_undivided(places: &mut Vec<Place>, start: usize, front: usize) -> Result<(), AllocError>
+    requires { start + front < 2 ^ 64 }
+    ensures { OnOk result (places.new.items ≡ places.old.items ++ undivided_places start front) }
+{
+    if start > 0 && front > 0 {
+        let (end, standing) = (start + front, Standing::Undivided);
+        places.push(Place {
+            start,
+            end,
+            standing,
+        })?;
+    }
+    Ok(())
+}
+
+/// A place of a hole that begins there, counted from the frame's start.
+fn moved_by(start: usize, place: Place) -> Place
+    requires begins { start + place.start < 2 ^ 64 }
+    requires ends { start + place.end < 2 ^ 64 }
+    ensures { result ≡ moved_by start place }
+{
+    Place {
+        start: start + place.start,
+        end: start + place.end,
+        standing: place.standing,
+    }
+}
+
+/// Adds places that rise, from the topmost on.
+fn push_fallen(places: &mut Vec<Place>, rising: &mut [Place]) -> Result<(), AllocError>
+    ensures { OnOk result (places.new.items ≡ places.old.items ++ reverse rising.old) }
+{
+    rising.reverse();
+    places.extend_from_slice(rising)
 }
 
 /// The index of the first copy that is not as long as the first.

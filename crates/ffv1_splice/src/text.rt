@@ -16,6 +16,7 @@ pub fn push_place(text: &mut String, place: Place) -> Result<(), AllocError>
         Standing::Woven(count) => write!(text, "{start}..{end} woven {count}"),
         Standing::Disputed => write!(text, "{start}..{end} disputed"),
         Standing::Missing => write!(text, "{start}..{end} missing"),
+        Standing::Undivided => write!(text, "{start}..{end} undivided"),
     }
 }
 

@@ -68,7 +68,7 @@ impl Starts {
 
 /// Where the slice begins whose footer ends at this place, as `slice_start` says; but `None` too where it has no content. Zeros read
 /// as a row of such slices, each of which passes its parity.
-fn told_start(copy: &[u8], end: usize) -> Option<usize>
+pub(crate) fn told_start(copy: &[u8], end: usize) -> Option<usize>
     requires { end ≤ length copy.now }
     ensures { MatchOption result ((start : ℕ) → IsCut copy.now start end → HasContent start end → ⊥)
         (λ start. IsCut copy.now start end × HasContent start end) }

@@ -1,0 +1,125 @@
+-- The links of an original, and divisions whose places are links.
+use Rattle.std.proofs.Common.{◌≡◌, ℕ, suc, ◌+◌, ◌-◌, ◌<◌, ◌≤◌, List, ◌∷◌, length, get_or, map, refl, sym, ap, ◌∙◌, subst, arith, inl, inr}
+use Rattle.std.specs.Prelude.{All, slice_range}
+use Rattle.std.proofs.lemmas.List.{take_all}
+use Rattle.std.proofs.lemmas.List.Elements.{All-nil, All-cons}
+use Rattle.std.proofs.lemmas.Bool.{cases_lt}
+use Rattle.ffv1_slice.specs.Chain.{size_before, IsCut, IsEnd, IsLinkOf, Piece, piece_of}
+use Rattle.ffv1_slice.specs.Chain.IsEnd.{last, before}
+use Rattle.ffv1_slice.specs.Walk.{walked}
+use Rattle.ffv1_slice.proofs.Links.{walked-more, walked-none, walked-fuel, least_end}
+use Rattle.ffv1_slice.specs.Members.{IsOfTwo}
+use Rattle.ffv1_splice.specs.Pieces.{IsPiece}
+use Rattle.ffv1_splice.specs.Standings.{StandsAs, IsStop}
+use Rattle.ffv1_splice.specs.Splice.{SplicedValue, LieFrom}
+use Rattle.ffv1_splice.specs.Originals.{AgreeWith}
+use Rattle.ffv1_splice.specs.declared.place.Standing.{Standing}
+use Rattle.ffv1_splice.specs.declared.place.Standing.TheVariants.{Settled, Woven, Disputed, Missing, Undivided}
+use Rattle.ffv1_splice.specs.declared.place.Place.{Place}
+use Rattle.ffv1_splice.proofs.Walks.{IsSpliceBefore}
+use Rattle.ffv1_splice.proofs.Walks.IsSpliceBefore.{stops, goes}
+use Rattle.ffv1_splice.proofs.SameBytes.{same_down}
+
+-- ---- the links of an original
+
+pub end_within : (original : List ℕ) (end : ℕ) → IsEnd original end → end ≤ length original
+end_within original end last = omega arith
+end_within original end (before {q = q} h cut) = omega (arith, end_within original q h)
+
+-- a link ends at each end after the first byte
+pub link_at : (original : List ℕ) → IsEnd original 0 → (end : ℕ) → IsEnd original end → 0 < end → (start : ℕ) × IsCut original start end
+link_at original whole end is_end after =
+    elim (cases_lt end (size_before original end + 8)) [
+      | inl short ↦ absurd (omega (arith, least_end original end is_end (λ p cut. omega arith) 0 whole))
+      | inr fits ↦ (end - (size_before original end + 8), omega arith)
+    ]
+
+pub same_cut : (original : List ℕ) (s t end : ℕ) → IsCut original s end → IsCut original t end → s ≡ t
+same_cut original s t end h k = omega arith
+
+-- ---- a division whose places are links
+
+-- what is so of the places before an end of the original
+pub record AreLinkPlaces (original : List ℕ) (end : ℕ) (places : List Place) (front : ℕ) : Type 0 where
+  pub links : map (λ place. piece_of original place.start place.end) places ≡ walked end original end
+  pub whole : front ≡ 0
+  pub each : All (λ place. IsLinkOf original place.start place.end) places
+
+module _ (original : List ℕ) (copies : List (List ℕ)) (cuts : (start end : ℕ) (bytes : List ℕ) (standing : Standing) → IsEnd original end
+    → StandsAs copies start end bytes standing → IsCut original start end) where
+  pub link_places : (end : ℕ) (places : List Place) (front : ℕ) (payload : List ℕ)
+      → ((stop : ℕ) → IsEnd original stop → 0 < stop → IsStop copies stop → stop ≡ front → ⊥)
+      → IsEnd original end → IsSpliceBefore copies end places front payload → AreLinkPlaces original end places front
+  link_places end places front payload goes_on is_end (stops stop least) =
+      elim (cases_lt 0 end) [
+        | inl after ↦ absurd (goes_on end is_end after stop refl)
+        | inr here ↦
+            let zero_end : end ≡ 0 = omega arith in
+            record {
+              links = sym (walked-none original end end (λ p cut. omega arith));
+              whole = zero_end;
+              each = All-nil (λ place. IsLinkOf original place.start place.end);
+            }
+      ]
+  link_places end places front payload goes_on is_end (goes {start = start} {standing = standing} {places = more} {before = rest} bytes stands h) =
+      let cut : IsCut original start end = cuts start end bytes standing is_end stands in
+      let below = link_places start more front rest goes_on (before is_end cut) h in
+      record {
+        links = ap (λ z. piece_of original start end ∷ z) below.links
+            ∙ sym (walked-fuel original end (suc end) end (omega arith) (omega arith) ∙ walked-more original end start end cut
+            ∙ ap (λ z. piece_of original start end ∷ z) (walked-fuel original end start start (omega arith) (omega arith)));
+        whole = below.whole;
+        each = All-cons (λ place. IsLinkOf original place.start place.end) (record { start = start; end = end; standing = standing }) more
+            (record { is_end = is_end; cut = cut }) below.each;
+      }
+
+-- the same bytes at places that are links from the end to the first byte
+pub same_payload : (original : List ℕ) (spliced : SplicedValue) (end : ℕ) → AreLinkPlaces original end spliced.places spliced.front
+    → LieFrom (length spliced.payload) spliced.places spliced.front → length spliced.payload ≡ length original
+    → All (λ place. slice_range spliced.payload place.start place.end ≡ slice_range original place.start place.end) spliced.places
+    → spliced.payload ≡ original
+same_payload original spliced end places lie long same =
+    sym (take_all (length spliced.payload) spliced.payload (omega arith))
+    ∙ same_down spliced.payload original (length spliced.payload) spliced.places 0
+    (subst (LieFrom (length spliced.payload) spliced.places) places.whole lie) upright same refl
+    ∙ take_all (length spliced.payload) original (omega (arith, long))
+  where
+    upright : All (λ place. place.start ≤ place.end) spliced.places
+    upright k d lt =
+        let place : Place = get_or spliced.places k d in
+        let cut : IsCut original place.start place.end = (places.each k d lt).cut in
+        omega arith
+
+-- ---- copies that agree
+
+module _ (original : List ℕ) (copies : List (List ℕ)) (agree : AgreeWith original copies) where
+  -- two pieces do not differ
+  pub agree_one : (end : ℕ) (one other : Piece) → IsEnd original end → IsPiece copies end one → IsPiece copies end other → one ≡ other
+  agree_one end one other is_end h k =
+      let mine = agree end one is_end h in
+      let yours = agree end other is_end k in
+      let start = same_cut original one.start other.start end mine.0.cut yours.0.cut in
+      mine.1 ∙ ap (λ s. piece_of original s end) start ∙ sym yours.1
+
+  pub undisputed : (end : ℕ) → IsEnd original end → IsOfTwo (IsPiece copies end) → ⊥
+  undisputed end is_end two = two.differ (agree_one end two.one two.other is_end two.one_there two.other_there)
+
+  pub settled_link : (start end : ℕ) (bytes : List ℕ) (standing : Standing) → IsEnd original end → standing ≡ Settled
+      → StandsAs copies start end bytes standing → IsLinkOf original start end × (bytes ≡ slice_range original start end)
+  settled_link start end bytes Settled is_end is h =
+      let told = agree end (record { start = start; bytes = bytes }) is_end h.there in (told.0, ap (λ (p : Piece). p.bytes) told.1)
+  settled_link start end bytes (Woven count) is_end is h = absurd (cc)
+  settled_link start end bytes Disputed is_end is h = absurd (cc)
+  settled_link start end bytes Missing is_end is h = absurd (cc)
+  settled_link start end bytes Undivided is_end is h = absurd (cc)
+
+  -- where a link is a piece, it settles its place
+  pub settled_where : (start end : ℕ) (bytes : List ℕ) (standing : Standing) (link : ℕ) → IsEnd original end → IsPiece copies end (piece_of original link end)
+      → StandsAs copies start end bytes standing → standing ≡ Settled
+  settled_where start end bytes Settled link is_end piece h = refl
+  settled_where start end bytes (Woven count) link is_end piece h = absurd (h.none (piece_of original link end) piece)
+  settled_where start end bytes Disputed link is_end piece h =
+      elim h.0 [ inl two ↦ absurd (undisputed end is_end two) | inr w ↦ absurd (w.none (piece_of original link end) piece) ]
+  settled_where start end bytes Missing link is_end piece h =
+      elim h.0 [ inl w ↦ absurd (w.none (piece_of original link end) piece) | inr w ↦ absurd (w.none (piece_of original link end) piece) ]
+  settled_where start end bytes Undivided link is_end piece h = absurd h

@@ -1,0 +1,128 @@
+-- The frame that is filled: what is settled down and up, and what the hole is divided to.
+use Rattle.std.proofs.Common.{◌≡◌, ℕ, zero, suc, ◌+◌, ◌-◌, ◌≤◌, List, ◌++◌, length, get_or, take, drop, refl, sym, ap, ◌∙◌, subst, arith, take-append-drop}
+use Rattle.std.specs.Prelude.{All, Contains, reverse, slice_range}
+use Rattle.std.proofs.Math.Seq.{drop-append_seam}
+use Rattle.std.proofs.lemmas.List.{length-append, length-drop, length-take-le, take-append-le, drop-drop}
+use Rattle.std.proofs.lemmas.Slice.{take-put_mid, take-put_mid_below, between-put_mid, drop-put_mid}
+use borrow.Rule.Slice.PartMut.{put_mid}
+use Rattle.ffv1_slice.proofs.NearLaws.{length-range}
+use Rattle.ffv1_splice.specs.Standings.{versions_at}
+use Rattle.ffv1_splice.specs.Splice.{SplicedValue, LieFrom, IsWalkDown, IsBound, IsWalkUp, IsDivisionOf, IsSpliceOf, hole_places, front_of}
+use Rattle.ffv1_splice.specs.declared.place.Place.{Place}
+use Rattle.ffv1_splice.proofs.Versions.{version_of}
+use Rattle.ffv1_splice.proofs.Walks.{stands_below, front_below, ends_below}
+use Rattle.ffv1_splice.proofs.SettlingSteps.{down_kept, up_kept}
+
+-- ---- how long a division is
+
+module _ (copies : List (List ℕ)) (divided : SplicedValue) (is : IsDivisionOf copies divided) where
+  division_upright : All (λ place. place.start ≤ place.end) divided.places
+  division_upright k d lt =
+      let place : Place = get_or divided.places k d in
+      let below = stands_below copies place.start place.end (slice_range divided.payload place.start place.end) place.standing (is.stand k d lt) in
+      omega arith
+
+  pub division_within : All (λ place. place.start ≤ place.end × place.end ≤ length divided.payload) divided.places
+  division_within k d lt = (
+    division_upright k d lt,
+    ends_below (length divided.payload) divided.places divided.front division_upright is.lie k d lt,
+  )
+
+  pub front_within : divided.front ≤ length divided.payload
+  front_within = front_below (length divided.payload) divided.places divided.front division_upright is.lie
+
+-- of copies cut to a range, as long as the range
+pub division_long : (copies : List (List ℕ)) (start end whole : ℕ) (divided : SplicedValue) → ((copy : List ℕ) → Contains copies copy → length copy ≡ whole)
+    → start ≤ end → end ≤ whole → IsDivisionOf (versions_at copies start end) divided → length divided.payload ≡ end - start
+division_long copies start end whole divided one order within is =
+    let of = version_of copies start end is.before.copy is.before.there in
+    let long = one of.0 of.1 in
+    sym (is.one_length is.before.copy is.before.there) ∙ ap length of.2 ∙ length-range of.0 start end order (omega arith)
+
+-- ---- the payload of the frame
+
+pub front_is : (start front result : ℕ) → (start ≡ 0 → result ≡ front) → ((start ≡ 0 → ⊥) → result ≡ 0) → result ≡ front_of start front
+front_is zero front result here else = here refl
+front_is (suc before) front result here else = else (λ same. absurd (omega (arith, same)))
+
+pub length-below : (down up : List ℕ) (bound end : ℕ) → length up ≡ bound → bound ≤ end → end ≤ length down → end ≤ length (up ++ drop bound down)
+length-below down up bound end front below within =
+    let sum = length-append up (drop bound down) in
+    let rest = length-drop bound down in
+    omega arith
+
+-- what was settled down, over its front what was settled up, and over what lies between what the hole has
+module _ (down up hole : List ℕ) (start bound end : ℕ) (order : start ≤ bound) (below : bound ≤ end) (within : end ≤ length down)
+    (front : length up ≡ bound) (long : length hole ≡ end - start) where
+  filled_after : drop end (put_mid start (end - start) (up ++ drop bound down) hole) ≡ drop end down
+  filled_after =
+      let far = length-below down up bound end front below within in
+      let on : end ≡ bound + (end - bound) = omega arith in
+      drop-put_mid start (end - start) (up ++ drop bound down) hole end (omega arith) (omega arith) long
+      ∙ ap (λ n. drop n (up ++ drop bound down)) on ∙ sym (drop-drop (end - bound) bound (up ++ drop bound down))
+      ∙ ap (drop (end - bound)) (ap (λ n. drop n (up ++ drop bound down)) (sym front) ∙ drop-append_seam up (drop bound down))
+      ∙ drop-drop (end - bound) bound down ∙ ap (λ n. drop n down) (sym on)
+
+  filled_before : take start (put_mid start (end - start) (up ++ drop bound down) hole) ≡ take start up
+  filled_before =
+      let far = length-below down up bound end front below within in
+      take-put_mid_below start (end - start) (up ++ drop bound down) hole start (omega arith) (omega arith)
+      ∙ take-append-le start up (drop bound down) (omega arith)
+
+  filled_hole : slice_range (put_mid start (end - start) (up ++ drop bound down) hole) start end ≡ hole
+  filled_hole =
+      let far = length-below down up bound end front below within in
+      between-put_mid start (end - start) (up ++ drop bound down) hole end (omega arith) long
+
+  length-filled : length (put_mid start (end - start) (up ++ drop bound down) hole) ≡ length down
+  length-filled =
+      let far = length-below down up bound end front below within in
+      let all : List ℕ = put_mid start (end - start) (up ++ drop bound down) hole in
+      let under : take end all ≡ take start (up ++ drop bound down) ++ hole =
+      take-put_mid start (end - start) (up ++ drop bound down) hole end (omega arith) (omega arith) in
+      let parts = ap length under ∙ length-append (take start (up ++ drop bound down)) hole in
+      let first = length-take-le start (up ++ drop bound down) (omega arith) in
+      let whole = ap length (sym (take-append-drop end all)) ∙ length-append (take end all) (drop end all) in
+      let after = ap length filled_after in
+      let ends = ap length (sym (take-append-drop end down)) ∙ length-append (take end down) (drop end down) in
+      let taken = length-take-le end down within in
+      omega arith
+
+  pub filled_splice : (copies : List (List ℕ)) (above under hole_list : List Place) (hole_front : ℕ)
+      → ((copy : List ℕ) → Contains copies copy → length copy ≡ length down)
+      → IsWalkDown copies down above end → IsBound copies end bound → IsWalkUp copies bound up under start
+      → IsDivisionOf (versions_at copies start end) (record { places = hole_list; front = hole_front; payload = hole })
+      → (places : List Place) (front_there : ℕ)
+      → places ≡ above ++ (hole_places start (record { places = hole_list; front = hole_front; payload = hole }) ++ reverse under)
+      → front_there ≡ front_of start hole_front
+      → IsSpliceOf copies (record {
+        places = places;
+        front = front_there;
+        payload = put_mid start (end - start) (up ++ drop bound down) hole;
+      })
+  filled_splice copies above under hole_list hole_front one walk_down room walk_up divided places front_there are is = record {
+    above = above;
+    below = under;
+    start = start;
+    end = end;
+    bound = bound;
+    hole = record { places = hole_list; front = hole_front; payload = hole };
+    one_length = λ copy there. one copy there ∙ sym length-filled;
+    down = record {
+      lie = subst (λ n. LieFrom n above end) (sym length-filled) walk_down.lie;
+      settled = down_kept copies down (put_mid start (end - start) (up ++ drop bound down) hole) above (length down) end walk_down.lie walk_down.settled
+          (sym filled_after);
+      stop = walk_down.stop;
+    };
+    room = room;
+    up = record {
+      rise = walk_up.rise;
+      settled = up_kept copies bound up (put_mid start (end - start) (up ++ drop bound down) hole) under 0 start walk_up.rise walk_up.settled
+          (sym filled_before);
+      stop = walk_up.stop;
+    };
+    divided = divided;
+    bytes = sym filled_hole;
+    places = are;
+    front = is;
+  }

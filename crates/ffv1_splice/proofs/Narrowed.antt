@@ -1,0 +1,78 @@
+-- What copies tell when each is cut to the bytes between two places. In the cut copies places count from the first of the two.
+use Rattle.std.proofs.Common.{◌≡◌, ℕ, ◌+◌, ◌-◌, ◌≤◌, List, map, take, drop, sym, ap, ◌∙◌, subst, arith, inl, inr}
+use Rattle.std.specs.Prelude.{slice_range}
+use Rattle.std.proofs.Math.Path.{fun_ext}
+use Rattle.std.proofs.lemmas.Bool.{cases_lt}
+use Rattle.std.proofs.lemmas.List.{drop-drop, drop-take, take-take}
+use mathlib.Core.List.{map-map}
+use Rattle.ffv1_slice.specs.Chain.{size_before, IsCut, Piece}
+use Rattle.ffv1_splice.specs.Pieces.{HasContent, IsPiece, IsToldStart}
+use Rattle.ffv1_splice.specs.Standings.{versions_at}
+use Rattle.ffv1_splice.proofs.Versions.{version_there, version_of}
+
+module _ (from to : ℕ) where
+  -- ---- one copy
+
+  pub range_of_range : (copy : List ℕ) (start end : ℕ) → from + end ≤ to
+      → slice_range (slice_range copy from to) start end ≡ slice_range copy (from + start) (from + end)
+  range_of_range copy start end within =
+      let same : end - start ≡ from + end - (from + start) = omega arith in
+      elim (cases_lt end start) [
+        | inl none ↦
+            let nothing : end - start ≡ 0 = omega arith in
+            ap (λ n. take n (drop start (slice_range copy from to))) nothing
+            ∙ sym (ap (λ n. take n (drop (from + start) copy)) (sym same ∙ nothing))
+        | inr order ↦
+            let all : to - from ≡ start + (to - from - start) = omega arith in
+            ap (λ n. take (end - start) (drop start (take n (drop from copy)))) all
+            ∙ ap (take (end - start)) (drop-take start (to - from - start) (drop from copy))
+            ∙ take-take (end - start) (to - from - start) (drop start (drop from copy)) (omega arith)
+            ∙ ap (take (end - start)) (drop-drop start from copy)
+            ∙ ap (λ n. take n (drop (from + start) copy)) same
+      ]
+
+  pub narrowed_size : (copy : List ℕ) (end : ℕ) → 8 ≤ end → from + end ≤ to → size_before (slice_range copy from to) end ≡ size_before copy (from + end)
+  narrowed_size copy end footer within =
+      let place : from + (end - 8) ≡ from + end - 8 = omega arith in
+      let same : slice_range (slice_range copy from to) (end - 8) end ≡ slice_range copy (from + end - 8) (from + end) =
+      range_of_range copy (end - 8) end within ∙ ap (λ p. slice_range copy p (from + end)) place in
+      rw same
+
+  pub cut_out : (copy : List ℕ) (start end : ℕ) → from + end ≤ to → IsCut (slice_range copy from to) start end → IsCut copy (from + start) (from + end)
+  cut_out copy start end within cut = let size = narrowed_size copy end (omega arith) within in omega arith
+
+  pub cut_in : (copy : List ℕ) (start end : ℕ) → from + end ≤ to → IsCut copy (from + start) (from + end) → IsCut (slice_range copy from to) start end
+  cut_in copy start end within cut = let size = narrowed_size copy end (omega arith) within in omega arith
+
+  -- ---- all copies
+
+  module _ (copies : List (List ℕ)) where
+    pub versions_of_versions : (start end : ℕ) → from + end ≤ to
+        → versions_at (versions_at copies from to) start end ≡ versions_at copies (from + start) (from + end)
+    versions_of_versions start end within =
+        map-map (λ copy. slice_range copy start end) (λ copy. slice_range copy from to) copies
+        ∙ ap (λ f. map f copies) (fun_ext (λ copy. range_of_range copy start end within))
+
+    pub piece_out : (end : ℕ) (piece : Piece) → from + end ≤ to → IsPiece (versions_at copies from to) end piece
+        → IsPiece copies (from + end) (record { start = from + piece.start; bytes = piece.bytes })
+    piece_out end piece within h =
+        let of = version_of copies from to h.copy h.there in
+        let content : HasContent piece.start end = h.content in
+        record {
+          copy = of.0;
+          there = of.1;
+          cut = cut_out of.0 piece.start end within (subst (λ copy. IsCut copy piece.start end) of.2 h.cut);
+          content = omega arith;
+          bytes = h.bytes ∙ ap (λ copy. slice_range copy piece.start end) of.2 ∙ range_of_range of.0 piece.start end within;
+          passes = h.passes;
+        }
+
+    pub told_in : (end start : ℕ) → from + end ≤ to → IsToldStart copies (from + end) (from + start) → IsToldStart (versions_at copies from to) end start
+    told_in end start within h =
+        let content : HasContent (from + start) (from + end) = h.content in
+        record {
+          copy = slice_range h.copy from to;
+          there = version_there copies from to h.copy h.there;
+          cut = cut_in h.copy start end within h.cut;
+          content = omega arith;
+        }

@@ -1,0 +1,220 @@
+-- An original that is cut to the bytes from one end of its slices up to another, and its copies that are cut there too.
+use Rattle.std.proofs.Common.{◌≡◌, ℕ, ◌+◌, ◌-◌, ◌≤◌, List, [], ◌∷◌, length, map, sym, ap, ◌∙◌, subst, arith, refl, inl, inr}
+use Rattle.std.specs.Prelude.{◌⊎◌, ◌↔◌, All, Contains, slice_range}
+use Rattle.std.proofs.lemmas.List.Elements.{All-head, All-tail}
+use Rattle.ffv1_bits.specs.Parity.{PassesParity}
+use Rattle.ffv1_bits.proofs.Bytes.{AreBytes-range}
+use Rattle.ffv1_slice.specs.Chain.{IsCut, IsEnd, IsLinkOf, Piece, piece_of}
+use Rattle.ffv1_slice.specs.Chain.IsEnd.{last, before}
+use Rattle.ffv1_slice.specs.Near.{IsHurtWithin32}
+use Rattle.ffv1_slice.specs.Walk.{walked, walk_at}
+use Rattle.ffv1_slice.proofs.Links.{walked-none, turn_some}
+use Rattle.ffv1_slice.proofs.NearLaws.{length-range}
+use Rattle.ffv1_weave.specs.Combinations.{IsCombination}
+use Rattle.ffv1_splice.specs.Pieces.{HasContent, IsToldStart}
+use Rattle.ffv1_splice.specs.Standings.{versions_at}
+use Rattle.ffv1_splice.specs.Splice.{LieFrom}
+use Rattle.ffv1_splice.specs.Originals.{AreCopiesOf, AgreeWith, IsAmong, AreWeavable, IsSound, IsNearCopy, AreNearCopies, IsIntactInSome}
+use Rattle.ffv1_splice.specs.declared.place.Place.{Place}
+use Rattle.ffv1_splice.proofs.DividedLinks.{end_within, same_cut}
+use Rattle.ffv1_splice.proofs.Versions.{version_there, version_of}
+use Rattle.ffv1_splice.proofs.Narrowed.{range_of_range, cut_out, cut_in, versions_of_versions, piece_out, told_in}
+
+-- What weavable copies tell from an end of the original: as much as a division rests on.
+pub record AreWeavableDown (original : List ℕ) (copies : List (List ℕ)) : Type 0 where
+  pub agree : AgreeWith original copies
+  pub told : (start end : ℕ) → IsLinkOf original start end → IsToldStart copies end start
+  pub passes : (start end : ℕ) → IsLinkOf original start end → PassesParity (slice_range original start end)
+  pub among : (start end : ℕ) → IsLinkOf original start end → IsAmong original copies start end
+
+-- ---- what the copies have of a link
+
+module _ (from to : ℕ) (original : List ℕ) (copies : List (List ℕ)) (start end : ℕ) (within : from + end ≤ to) where
+  pub among_narrowed : IsAmong original copies (from + start) (from + end) → IsAmong (slice_range original from to) (versions_at copies from to) start end
+  among_narrowed among =
+      subst (λ versions. IsCombination versions (slice_range (slice_range original from to) start end))
+      (sym (versions_of_versions from to copies start end within))
+      (subst (IsCombination (versions_at copies (from + start) (from + end))) (sym (range_of_range from to original start end within)) among)
+
+  -- some cut copy has the link intact exactly where some copy has it
+  pub intact_narrowed : IsIntactInSome (slice_range original from to) (versions_at copies from to) start end
+      ↔ IsIntactInSome original copies (from + start) (from + end)
+  intact_narrowed = (
+    λ intact.
+        let of = version_of copies from to intact.0 intact.1 in (
+          of.0,
+          of.1,
+          sym (ap (λ copy. slice_range copy start end) of.2 ∙ range_of_range from to of.0 start end within) ∙ intact.2
+              ∙ range_of_range from to original start end within,
+        ),
+    λ intact. (
+      slice_range intact.0 from to,
+      version_there copies from to intact.0 intact.1,
+      range_of_range from to intact.0 start end within ∙ intact.2 ∙ sym (range_of_range from to original start end within),
+    ),
+  )
+
+-- ---- the ends back from an end
+
+data IsBackFrom (original : List ℕ) (top : ℕ) : ℕ → Type 0 where
+  here : IsBackFrom original top top
+  more : {start end : ℕ} → IsBackFrom original top end → IsCut original start end → IsBackFrom original top start
+
+-- the first step back
+first_back : (original : List ℕ) (top end : ℕ) → IsBackFrom original top end
+    → (end ≡ top) ⊎ ((start : ℕ) × IsCut original start top × IsBackFrom original start end)
+first_back original top end here = inl refl
+first_back original top end (more {end = next} back cut) =
+    elim (first_back original top next back) [
+      | inl same ↦ inr (end, subst (IsCut original end) same cut, here)
+      | inr w ↦ inr (w.0, w.1, more w.2 cut)
+    ]
+
+back_from_last : (original : List ℕ) (end : ℕ) → IsEnd original end → IsBackFrom original (length original) end
+back_from_last original end last = here
+back_from_last original end (before {q = q} h cut) = more (back_from_last original q h) cut
+
+-- of two ends the lesser is reached from the other
+back_from : (original : List ℕ) (top end : ℕ) → IsEnd original top → IsEnd original end → end ≤ top → IsBackFrom original top end
+back_from original top end last is_end below = back_from_last original end is_end
+back_from original top end (before {q = q} h cut) is_end below =
+    elim (first_back original q end (back_from original q end h is_end (omega arith))) [
+      | inl same ↦ absurd (omega arith)
+      | inr w ↦ subst (λ start. IsBackFrom original start end) (same_cut original w.0 top q w.1 cut) w.2
+    ]
+
+-- ---- the ends and links of the cut original
+
+module _ (from to : ℕ) (original : List ℕ) (order : from ≤ to) (is_to : IsEnd original to) where
+  -- the cut original reaches to that end
+  narrowed_length : from + length (slice_range original from to) ≡ to
+  narrowed_length = omega (arith, length-range original from to order (end_within original to is_to))
+
+  pub narrowed_within : (end : ℕ) → IsEnd (slice_range original from to) end → from + end ≤ to
+  narrowed_within end h = omega (arith, narrowed_length, end_within (slice_range original from to) end h)
+
+  pub end_out : (end : ℕ) → IsEnd (slice_range original from to) end → IsEnd original (from + end)
+  end_out end last = subst (IsEnd original) (sym narrowed_length) is_to
+  end_out end (before {q = q} h cut) = before (end_out q h) (cut_out from to original end q (narrowed_within q h) cut)
+
+  -- what is reached back from that end is an end of the cut original, at its place there
+  end_in_back : (place : ℕ) → IsBackFrom original to place → (end : ℕ) → place ≡ from + end → IsEnd (slice_range original from to) end
+  end_in_back place here end is = subst (IsEnd (slice_range original from to)) (omega (arith, narrowed_length)) last
+  end_in_back place (more {end = next} back cut) end is =
+      let on : next ≡ from + (next - from) = omega arith in
+      let is_end = end_in_back next back (next - from) on in
+      let moved : IsCut original (from + end) (from + (next - from)) =
+      subst (λ start. IsCut original start (from + (next - from))) is (subst (IsCut original place) on cut) in
+      before is_end (cut_in from to original end (next - from) (narrowed_within (next - from) is_end) moved)
+
+  pub end_in : (end : ℕ) → from + end ≤ to → IsEnd original (from + end) → IsEnd (slice_range original from to) end
+  end_in end within is_end = end_in_back (from + end) (back_from original to (from + end) is_to is_end within) end refl
+
+  pub link_out : (start end : ℕ) → IsLinkOf (slice_range original from to) start end → IsLinkOf original (from + start) (from + end)
+  link_out start end link =
+      record { is_end = end_out end link.is_end; cut = cut_out from to original start end (narrowed_within end link.is_end) link.cut }
+
+  pub link_in : (start end : ℕ) → from + end ≤ to → IsLinkOf original (from + start) (from + end) → IsLinkOf (slice_range original from to) start end
+  link_in start end within link =
+      record { is_end = end_in end within link.is_end; cut = cut_in from to original start end within link.cut }
+
+  -- ---- the premises of the laws on copies
+
+  pub whole_narrowed : IsEnd original from → IsEnd (slice_range original from to) 0
+  whole_narrowed is_from =
+      let on : from ≡ from + 0 = omega arith in
+      end_in 0 (omega arith) (subst (IsEnd original) on is_from)
+
+  -- each link of the cut original passes its parity where each link of the original does
+  pub passes_narrowed : ((start end : ℕ) → IsLinkOf original start end → PassesParity (slice_range original start end))
+      → (start end : ℕ) → IsLinkOf (slice_range original from to) start end → PassesParity (slice_range (slice_range original from to) start end)
+  passes_narrowed passes start end link =
+      subst PassesParity (sym (range_of_range from to original start end (narrowed_within end link.is_end)))
+      (passes (from + start) (from + end) (link_out start end link))
+
+  pub sound_narrowed : IsEnd original from → IsSound original → IsSound (slice_range original from to)
+  sound_narrowed is_from sound =
+      record {
+        whole = whole_narrowed is_from;
+        are_bytes = AreBytes-range original from to sound.are_bytes;
+        content = λ start end link.
+            let content : HasContent (from + start) (from + end) = sound.content (from + start) (from + end) (link_out start end link) in
+            omega arith;
+        passes = passes_narrowed sound.passes;
+      }
+
+  length_narrowed : (copy : List ℕ) → length copy ≡ length original → length (slice_range copy from to) ≡ length (slice_range original from to)
+  length_narrowed copy same =
+      length-range copy from to order (omega (arith, end_within original to is_to)) ∙ omega (arith, narrowed_length)
+
+  near_copy_narrowed : (copy : List ℕ) → IsNearCopy original copy → IsNearCopy (slice_range original from to) (slice_range copy from to)
+  near_copy_narrowed copy near =
+      record {
+        are_bytes = AreBytes-range copy from to near.are_bytes;
+        same_length = length_narrowed copy near.same_length;
+        each = λ start end link.
+            let within = narrowed_within end link.is_end in
+            let mine = sym (range_of_range from to copy start end within) in
+            let yours = sym (range_of_range from to original start end within) in
+            elim (near.each (from + start) (from + end) (link_out start end link)) [
+              | inl intact ↦ inl (sym mine ∙ intact ∙ yours)
+              | inr hurt ↦ inr (subst (λ slice. IsHurtWithin32 slice (slice_range (slice_range copy from to) start end)) yours
+                  (subst (IsHurtWithin32 (slice_range original (from + start) (from + end))) mine hurt))
+            ];
+      }
+
+  module _ (copies : List (List ℕ)) where
+    pub copies_narrowed : IsEnd original from → ((copy : List ℕ) → Contains copies copy → length copy ≡ length original)
+        → AreCopiesOf (slice_range original from to) (versions_at copies from to)
+    copies_narrowed is_from one_length =
+        record {
+          whole = whole_narrowed is_from;
+          one_length = λ version there.
+              let of = version_of copies from to version there in
+              ap length of.2 ∙ length_narrowed of.0 (one_length of.0 of.1);
+        }
+
+    pub agree_narrowed : AgreeWith original copies → AgreeWith (slice_range original from to) (versions_at copies from to)
+    agree_narrowed agree end piece is_end h =
+        let within = narrowed_within end is_end in
+        let told = agree (from + end) (record { start = from + piece.start; bytes = piece.bytes }) (end_out end is_end)
+        (piece_out from to copies end piece within h) in
+        let bytes : piece.bytes ≡ slice_range (slice_range original from to) piece.start end =
+        ap (λ (p : Piece). p.bytes) told.1 ∙ sym (range_of_range from to original piece.start end within) in
+        (link_in piece.start end within told.0, ap (λ z. record { start = piece.start; bytes = z }) bytes)
+
+    pub weavable_narrowed : AreWeavable original copies → AreWeavableDown (slice_range original from to) (versions_at copies from to)
+    weavable_narrowed weavable =
+        record {
+          agree = agree_narrowed weavable.agree;
+          told = λ start end link. told_in from to copies end start (narrowed_within end link.is_end)
+              (weavable.told (from + start) (from + end) (link_out start end link));
+          passes = passes_narrowed weavable.passes;
+          among = λ start end link. among_narrowed from to original copies start end (narrowed_within end link.is_end)
+              (weavable.among (from + start) (from + end) (link_out start end link));
+        }
+
+    pub near_narrowed : IsEnd original from → AreNearCopies original copies → AreNearCopies (slice_range original from to) (versions_at copies from to)
+    near_narrowed is_from near =
+        record {
+          sound = sound_narrowed is_from near.sound;
+          near = λ version there.
+              let of = version_of copies from to version there in
+              subst (IsNearCopy (slice_range original from to)) (sym of.2) (near_copy_narrowed of.0 (near.near of.0 of.1));
+        }
+
+-- ---- places that are links
+
+-- places that lie end to end down to the first byte, each a link, are all links from their end on
+pub links_of_places : (original : List ℕ) (end : ℕ) (places : List Place) → LieFrom end places 0
+    → All (λ place. IsLinkOf original place.start place.end) places
+    → map (λ place. piece_of original place.start place.end) places ≡ walked end original end
+links_of_places original end [] lie links =
+    let first : end ≡ 0 = lie in
+    sym (walked-none original end end (λ start cut. omega arith))
+links_of_places original end (place ∷ places) lie links =
+    let link = All-head (λ place. IsLinkOf original place.start place.end) place places links in
+    let rest = links_of_places original place.start places lie.1 (All-tail (λ place. IsLinkOf original place.start place.end) place places links) in
+    ap (λ pieces. piece_of original place.start place.end ∷ pieces) rest
+    ∙ sym (turn_some (walk_at original place.end) original place.start place.end refl link.cut)
+    ∙ ap (λ end. walked end original end) lie.0

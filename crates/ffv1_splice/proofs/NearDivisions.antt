@@ -1,0 +1,172 @@
+-- What copies that are near an original tell, and how they are divided.
+use Rattle.std.proofs.Common.{◌≡◌, ℕ, ◌+◌, ◌<◌, ◌≤◌, List, length, get_or, refl, sym, ap, ◌∙◌, subst, arith, inl, inr}
+use Rattle.std.specs.Prelude.{Contains, slice_range}
+use Rattle.ffv1_bits.specs.Parity.{PassesParity}
+use Rattle.ffv1_bits.proofs.Burst.{burst}
+use Rattle.ffv1_bits.proofs.Bytes.{AreBytes-range}
+use Rattle.ffv1_slice.specs.Chain.{size_before, IsCut, IsEnd, IsLinkOf, piece_of}
+use Rattle.ffv1_slice.specs.Chain.IsEnd.{last}
+use Rattle.ffv1_slice.proofs.NearLaws.{same_size_field, length-range, size_of_range}
+use Rattle.ffv1_splice.specs.Pieces.{IsPiece, IsToldStart}
+use Rattle.ffv1_splice.specs.Standings.{StandsAs, IsStop}
+use Rattle.ffv1_splice.specs.Splice.{SplicedValue, IsDivisionOf}
+use Rattle.ffv1_splice.specs.Originals.{AreCopiesOf, AgreeWith, AgreeFromBelow, IsAmong, AreWeavable, IsSound, IsIntact, IsNearCopy, AreNearCopies, IsIntactInSome}
+use Rattle.ffv1_splice.specs.Laws.{IsNearSplice}
+use Rattle.ffv1_splice.specs.declared.place.Standing.{Standing}
+use Rattle.ffv1_splice.specs.declared.place.Standing.TheVariants.{Settled, Woven, Disputed, Missing, Undivided}
+use Rattle.ffv1_splice.proofs.DividedLinks.{end_within, link_at, same_cut, AreLinkPlaces, link_places, settled_link, settled_where}
+use Rattle.ffv1_splice.proofs.Walks.{IsSpliceBefore, division_walk}
+
+-- ---- a near copy is cut where the original is
+
+module _ (original copy : List ℕ) (sound : IsSound original) (near : IsNearCopy original copy) (start end : ℕ) (link : IsLinkOf original start end) where
+  within : end ≤ length original
+  within = end_within original end link.is_end
+
+  below : start + 8 ≤ end
+  below = let cut : IsCut original start end = link.cut in omega arith
+
+  size_of : (bytes : List ℕ) → length bytes ≡ length original → size_before bytes end ≡ size_before (slice_range bytes start end)
+      (length (slice_range bytes start end))
+  size_of bytes long = size_of_range bytes start end below (omega (arith, within))
+
+  long_slice : (bytes : List ℕ) → length bytes ≡ length original → 8 ≤ length (slice_range bytes start end)
+  long_slice bytes long = let size = length-range bytes start end (omega (arith, below)) (omega (arith, within)) in omega (arith, below)
+
+  same_size : size_before copy end ≡ size_before original end
+  same_size =
+      size_of copy near.same_length
+      ∙ (elim (near.each start end link) [
+        | inl intact ↦ ap (λ z. size_before z (length z)) intact
+        | inr hurt ↦ same_size_field (slice_range original start end) (slice_range copy start end) (long_slice original refl)
+            (long_slice copy near.same_length) hurt.size
+      ])
+      ∙ sym (size_of original refl)
+
+  pub near_cut : IsCut copy start end
+  near_cut = let cut : IsCut original start end = link.cut in omega (arith, same_size)
+
+  -- what passes its parity there is intact
+  pub near_intact : PassesParity (slice_range copy start end) → IsIntact original copy start end
+  near_intact passes =
+      elim (near.each start end link) [
+        | inl intact ↦ intact
+        | inr hurt ↦ sym (burst (slice_range original start end) (slice_range copy start end) hurt.at (AreBytes-range original start end sound.are_bytes)
+            (AreBytes-range copy start end near.are_bytes) hurt.differ (sound.passes start end link) passes)
+      ]
+
+module _ (original : List ℕ) (copies : List (List ℕ)) (near : AreNearCopies original copies) where
+  -- a start that is told is that of the original's link
+  told_start : (end start told : ℕ) → IsLinkOf original start end → IsToldStart copies end told → told ≡ start
+  told_start end start told link h =
+      let cut : IsCut h.copy start end = near_cut original h.copy near.sound (near.near h.copy h.there) start end link in
+      same_cut h.copy told start end h.cut cut
+
+  pub near_agree : AgreeWith original copies
+  near_agree end piece is_end h =
+      let cut : IsCut h.copy piece.start end = h.cut in
+      let at = link_at original near.sound.whole end is_end (omega arith) in
+      let link : IsLinkOf original at.0 end = record { is_end = is_end; cut = at.1 } in
+      let start : piece.start ≡ at.0 = told_start end at.0 piece.start link
+      (record { copy = h.copy; there = h.there; cut = h.cut; content = h.content }) in
+      let mine : IsLinkOf original piece.start end = subst (λ s. IsLinkOf original s end) (sym start) link in
+      let intact : IsIntact original h.copy piece.start end =
+      near_intact original h.copy near.sound (near.near h.copy h.there) piece.start end mine (subst PassesParity h.bytes h.passes) in
+      (mine, ap (λ z. record { start = piece.start; bytes = z }) (h.bytes ∙ intact))
+
+  -- a link that is intact in some copy is a piece
+  pub intact_piece : (start end : ℕ) → IsLinkOf original start end → IsIntactInSome original copies start end → IsPiece copies end (piece_of original start end)
+  intact_piece start end link intact = record {
+    copy = intact.0;
+    there = intact.1;
+    cut = near_cut original intact.0 near.sound (near.near intact.0 intact.1) start end link;
+    content = near.sound.content start end link;
+    bytes = sym intact.2;
+    passes = near.sound.passes start end link;
+  }
+
+  pub are_copies : AreCopiesOf original copies
+  are_copies = record { whole = near.sound.whole; one_length = λ copy there. (near.near copy there).same_length }
+
+  -- each copy tells the start of each link
+  told_link : (copy : List ℕ) → Contains copies copy → (start end : ℕ) → IsLinkOf original start end → IsToldStart copies end start
+  told_link copy there start end link =
+      record {
+        copy = copy;
+        there = there;
+        cut = near_cut original copy near.sound (near.near copy there) start end link;
+        content = near.sound.content start end link;
+      }
+
+  pub are_weavable : (copy : List ℕ) → Contains copies copy → AgreeFromBelow original copies
+      → ((start end : ℕ) → IsLinkOf original start end → IsAmong original copies start end) → AreWeavable original copies
+  are_weavable copy there below among =
+      record { agree = near_agree; below = below; told = told_link copy there; passes = near.sound.passes; among = among }
+
+  -- the copy of a piece has the link intact
+  pub piece_intact : (start end : ℕ) (bytes : List ℕ) → IsLinkOf original start end → IsPiece copies end (record { start = start; bytes = bytes })
+      → IsIntactInSome original copies start end
+  piece_intact start end bytes link piece = (
+    piece.copy,
+    piece.there,
+    near_intact original piece.copy near.sound (near.near piece.copy piece.there) start end link
+        (subst PassesParity piece.bytes piece.passes),
+  )
+
+  -- ---- a division
+
+  module _ (spliced : SplicedValue) (is : IsDivisionOf copies spliced) where
+    told_cut : (start end : ℕ) → IsEnd original end → IsToldStart copies end start → IsCut original start end
+    told_cut start end is_end told =
+        let cut : IsCut told.copy start end = told.cut in
+        let at = link_at original near.sound.whole end is_end (omega arith) in
+        subst (λ s. IsCut original s end) (sym (told_start end at.0 start (record { is_end = is_end; cut = at.1 }) told)) at.1
+
+    cuts : (start end : ℕ) (bytes : List ℕ) (standing : Standing) → IsEnd original end → StandsAs copies start end bytes standing → IsCut original start end
+    cuts start end bytes Settled is_end h =
+        told_cut start end is_end (record { copy = h.there.copy; there = h.there.there; cut = h.there.cut; content = h.there.content })
+    cuts start end bytes (Woven count) is_end h = told_cut start end is_end h.told.there
+    cuts start end bytes Disputed is_end h = told_cut start end is_end h.1.told.there
+    cuts start end bytes Missing is_end h = told_cut start end is_end h.1.told.there
+    cuts start end bytes Undivided is_end h = absurd h
+
+    goes_on : (end : ℕ) → IsEnd original end → 0 < end → IsStop copies end → ⊥
+    goes_on end is_end after stop =
+        let at = link_at original near.sound.whole end is_end after in
+        let link : IsLinkOf original at.0 end = record { is_end = is_end; cut = at.1 } in
+        stop.untold at.0 (record {
+          there = told_link is.before.copy is.before.there at.0 end link;
+          others = λ other told. told_start end at.0 other link told;
+        })
+
+    pub divided_links : AreLinkPlaces original (length original) spliced.places spliced.front
+    divided_links =
+        let long = sym (is.one_length is.before.copy is.before.there) ∙ (near.near is.before.copy is.before.there).same_length in
+        link_places original copies cuts (length original) spliced.places spliced.front spliced.payload
+        (λ stop is_end after stops same. goes_on stop is_end after stops) last
+        (subst (λ n. IsSpliceBefore copies n spliced.places spliced.front spliced.payload) long (division_walk copies spliced is))
+
+    intact_where : (start end : ℕ) (bytes : List ℕ) (standing : Standing) → IsLinkOf original start end → StandsAs copies start end bytes standing
+        → standing ≡ Settled → IsIntactInSome original copies start end
+    intact_where start end bytes Settled link h e = piece_intact start end bytes link h.there
+    intact_where start end bytes (Woven count) link h e = absurd (cc)
+    intact_where start end bytes Disputed link h e = absurd (cc)
+    intact_where start end bytes Missing link h e = absurd (cc)
+    intact_where start end bytes Undivided link h e = absurd h
+
+    pub near_divided : IsNearSplice original copies spliced
+    near_divided = record {
+      places = record { links = divided_links.links; whole = divided_links.whole };
+      settled = λ k d lt. (
+        intact_where (get_or spliced.places k d).start (get_or spliced.places k d).end
+            (slice_range spliced.payload (get_or spliced.places k d).start (get_or spliced.places k d).end) (get_or spliced.places k d).standing
+            (divided_links.each k d lt) (is.stand k d lt),
+        λ intact. settled_where original copies near_agree (get_or spliced.places k d).start (get_or spliced.places k d).end
+            (slice_range spliced.payload (get_or spliced.places k d).start (get_or spliced.places k d).end) (get_or spliced.places k d).standing
+            (get_or spliced.places k d).start (divided_links.each k d lt).is_end
+            (intact_piece (get_or spliced.places k d).start (get_or spliced.places k d).end (divided_links.each k d lt) intact) (is.stand k d lt),
+      );
+      bytes = λ k d lt e. (settled_link original copies near_agree (get_or spliced.places k d).start (get_or spliced.places k d).end
+          (slice_range spliced.payload (get_or spliced.places k d).start (get_or spliced.places k d).end) (get_or spliced.places k d).standing
+          (divided_links.each k d lt).is_end e (is.stand k d lt)).1;
+    }

@@ -1,0 +1,244 @@
+-- Copies have one division, and it rests on the set of the copies alone.
+use Rattle.std.proofs.Common.{◌≡◌, ℕ, List, [], ◌∷◌, ◌++◌, length, sym, ap, ◌∙◌, subst, inl, inr}
+use Rattle.std.specs.Prelude.{◌⊎◌}
+use Rattle.std.specs.Ordering.{nat_cmp}
+use Rattle.std.specs.Cmp.Lexicographic.{slice_cmp}
+use Rattle.std.specs.declared.cmp.Ordering.TheVariants.{Less}
+use Rattle.ffv1_slice.specs.Chain.{Piece}
+use Rattle.ffv1_slice.specs.Members.{IsOnly, IsOfTwo, IsOfNone}
+use Rattle.ffv1_splice.specs.Pieces.{IsPiece, IsToldStart, IsLeast}
+use Rattle.ffv1_splice.specs.Standings.{versions_at, IsWeaveAt, StandsAs, IsGap, IsStop}
+use Rattle.ffv1_weave.specs.Weave.{Weave, IsWeaveOf}
+use Rattle.ffv1_weave.specs.Weave.Weave.{woven, disputed, missing, too_many}
+use Rattle.ffv1_weave.specs.declared.check.Check.TheVariants.{Slice}
+use Rattle.ffv1_weave.proofs.WeaveLaws.{same_versions_weave}
+use Rattle.ffv1_splice.specs.Splice.{SplicedValue, IsDivisionOf}
+use Rattle.ffv1_slice.specs.Members.{HasSameMembers}
+use Rattle.ffv1_splice.specs.declared.place.Standing.{Standing}
+use Rattle.ffv1_splice.specs.declared.place.Standing.TheVariants.{Settled, Woven, Disputed, Missing, Undivided}
+use Rattle.ffv1_splice.specs.declared.place.Place.{Place}
+use Rattle.ffv1_splice.proofs.LeastSteps.{same_if_neither_below}
+use Rattle.ffv1_splice.proofs.PlaceSteps.{two_not_only}
+use Rattle.ffv1_splice.proofs.Versions.{same_versions, weave_there}
+use Rattle.ffv1_splice.proofs.Walks.{IsSpliceBefore, division_of, division_walk}
+use Rattle.ffv1_splice.proofs.Walks.IsSpliceBefore.{stops, goes}
+
+-- ---- one place ends there
+
+-- how a place stands, as one value
+pub record StandingValue : Type 0 where
+  pub start : ℕ
+  pub bytes : List ℕ
+  pub standing : Standing
+
+module _ (copies : List (List ℕ)) (end : ℕ) where
+  least_same : (start : ℕ) (a b : List ℕ) → IsLeast copies start end a → IsLeast copies start end b → a ≡ b
+  least_same start a b h k =
+      same_if_neither_below a b (λ below. k.least h.copy h.there (subst (λ z. slice_cmp nat_cmp z b ≡ Less) h.lies below))
+      (λ below. h.least k.copy k.there (subst (λ z. slice_cmp nat_cmp z a ≡ Less) k.lies below))
+
+  one_gap : (standing : Standing) (s t : ℕ) (a b : List ℕ) → IsGap copies s end a → IsGap copies t end b
+      → ◌≡◌ {A = StandingValue} (record { start = s; bytes = a; standing = standing }) (record { start = t; bytes = b; standing = standing })
+  one_gap standing s t a b h k =
+      let starts : s ≡ t = k.told.others s h.told.there in
+      let bytes : a ≡ b = least_same t a b (subst (λ n. IsLeast copies n end a) starts h.least) k.least in
+      ap (λ n. record { start = n; bytes = a; standing = standing }) starts ∙ ap (λ z. record { start = t; bytes = z; standing = standing }) bytes
+
+  -- what is woven there
+  one_weave_at : (s t : ℕ) (v w : Weave) → IsWeaveAt copies s end v → IsWeaveAt copies t end w → v ≡ w
+  one_weave_at s t v w h k =
+      let starts : s ≡ t = k.told.others s h.told.there in
+      same_versions_weave Slice (versions_at copies t end) (versions_at copies t end) v w (λ version. ((λ there. there), λ there. there))
+      (subst (λ n. IsWeaveOf Slice (versions_at copies n end) v) starts h.weave') k.weave'
+
+  one_woven : (s t : ℕ) (a b : List ℕ) (m n : ℕ) → IsWeaveAt copies s end (woven a m) → IsWeaveAt copies t end (woven b n)
+      → ◌≡◌ {A = StandingValue} (record { start = s; bytes = a; standing = Woven m }) (record { start = t; bytes = b; standing = Woven n })
+  one_woven s t a b m n h k =
+      let starts : s ≡ t = k.told.others s h.told.there in
+      let same : woven a m ≡ woven b n = one_weave_at s t (woven a m) (woven b n) h k in
+      let bytes : a ≡ b = cc in
+      let counts : m ≡ n = cc in
+      ap (λ i. record { start = i; bytes = a; standing = Woven m }) starts ∙ ap (λ z. record { start = t; bytes = z; standing = Woven m }) bytes
+      ∙ ap (λ i. record { start = t; bytes = b; standing = Woven i }) counts
+
+  -- two pieces that differ, and what no piece told
+  two_not_none : IsOfTwo (IsPiece copies end) → IsOfNone (IsPiece copies end) → ⊥
+  two_not_none two none = none two.one two.one_there
+
+  not_disputed_and_missing : (s t : ℕ) → IsOfTwo (IsPiece copies end) ⊎ IsWeaveAt copies s end disputed
+      → IsWeaveAt copies t end missing ⊎ IsWeaveAt copies t end too_many → ⊥
+  not_disputed_and_missing s t (inl two) (inl w) = two_not_none two w.none
+  not_disputed_and_missing s t (inl two) (inr w) = two_not_none two w.none
+  not_disputed_and_missing s t (inr h) (inl w) = let e = one_weave_at s t disputed missing h w in absurd (cc)
+  not_disputed_and_missing s t (inr h) (inr w) = let e = one_weave_at s t disputed too_many h w in absurd (cc)
+
+  not_woven_and_disputed : (s t : ℕ) (a : List ℕ) (m : ℕ) → IsWeaveAt copies s end (woven a m)
+      → IsOfTwo (IsPiece copies end) ⊎ IsWeaveAt copies t end disputed → ⊥
+  not_woven_and_disputed s t a m h (inl two) = two_not_none two h.none
+  not_woven_and_disputed s t a m h (inr w) = let e = one_weave_at s t (woven a m) disputed h w in absurd (cc)
+
+  not_woven_and_missing : (s t : ℕ) (a : List ℕ) (m : ℕ) → IsWeaveAt copies s end (woven a m)
+      → IsWeaveAt copies t end missing ⊎ IsWeaveAt copies t end too_many → ⊥
+  not_woven_and_missing s t a m h (inl w) = let e = one_weave_at s t (woven a m) missing h w in absurd (cc)
+  not_woven_and_missing s t a m h (inr w) = let e = one_weave_at s t (woven a m) too_many h w in absurd (cc)
+
+  not_settled_and_disputed : (piece : Piece) (t : ℕ) → IsOnly (IsPiece copies end) piece → IsOfTwo (IsPiece copies end) ⊎ IsWeaveAt copies t end disputed → ⊥
+  not_settled_and_disputed piece t h (inl two) = two_not_only (IsPiece copies end) two piece h
+  not_settled_and_disputed piece t h (inr w) = w.none piece h.there
+
+  not_settled_and_missing : (piece : Piece) (t : ℕ) → IsOnly (IsPiece copies end) piece
+      → IsWeaveAt copies t end missing ⊎ IsWeaveAt copies t end too_many → ⊥
+  not_settled_and_missing piece t h (inl w) = w.none piece h.there
+  not_settled_and_missing piece t h (inr w) = w.none piece h.there
+
+  pub one_standing : (s t : ℕ) (a b : List ℕ) (x y : Standing) → StandsAs copies s end a x → StandsAs copies t end b y
+      → ◌≡◌ {A = StandingValue} (record { start = s; bytes = a; standing = x }) (record { start = t; bytes = b; standing = y })
+  one_standing s t a b Settled Settled h k =
+      ap (λ (p : Piece). record { start = p.start; bytes = p.bytes; standing = Settled }) (k.others (record { start = s; bytes = a }) h.there)
+  one_standing s t a b Settled (Woven n) h k = absurd (k.none (record { start = s; bytes = a }) h.there)
+  one_standing s t a b Settled Disputed h k = absurd (not_settled_and_disputed (record { start = s; bytes = a }) t h k.0)
+  one_standing s t a b Settled Missing h k = absurd (not_settled_and_missing (record { start = s; bytes = a }) t h k.0)
+  one_standing s t a b (Woven m) Settled h k = absurd (h.none (record { start = t; bytes = b }) k.there)
+  one_standing s t a b (Woven m) (Woven n) h k = one_woven s t a b m n h k
+  one_standing s t a b (Woven m) Disputed h k = absurd (not_woven_and_disputed s t a m h k.0)
+  one_standing s t a b (Woven m) Missing h k = absurd (not_woven_and_missing s t a m h k.0)
+  one_standing s t a b Disputed Settled h k = absurd (not_settled_and_disputed (record { start = t; bytes = b }) s k h.0)
+  one_standing s t a b Disputed (Woven n) h k = absurd (not_woven_and_disputed t s b n k h.0)
+  one_standing s t a b Disputed Disputed h k = one_gap Disputed s t a b h.1 k.1
+  one_standing s t a b Disputed Missing h k = absurd (not_disputed_and_missing s t h.0 k.0)
+  one_standing s t a b Missing Settled h k = absurd (not_settled_and_missing (record { start = t; bytes = b }) s k h.0)
+  one_standing s t a b Missing (Woven n) h k = absurd (not_woven_and_missing t s b n k h.0)
+  one_standing s t a b Missing Disputed h k = absurd (not_disputed_and_missing t s k.0 h.0)
+  one_standing s t a b Missing Missing h k = one_gap Missing s t a b h.1 k.1
+  one_standing s t a b Undivided y h k = absurd h
+  one_standing s t a b Settled Undivided h k = absurd k
+  one_standing s t a b (Woven m) Undivided h k = absurd k
+  one_standing s t a b Disputed Undivided h k = absurd k
+  one_standing s t a b Missing Undivided h k = absurd k
+
+  pub stop_not_stands : (start : ℕ) (bytes : List ℕ) (standing : Standing) → IsStop copies end → StandsAs copies start end bytes standing → ⊥
+  stop_not_stands start bytes Settled stop h = stop.unsettled (record { start = start; bytes = bytes }) h
+  stop_not_stands start bytes (Woven count) stop h = stop.untold start h.told
+  stop_not_stands start bytes Disputed stop h = stop.untold start h.1.told
+  stop_not_stands start bytes Missing stop h = stop.untold start h.1.told
+  stop_not_stands start bytes Undivided stop h = absurd h
+
+-- ---- one division
+
+abbrev pub value_of : List Place → ℕ → List ℕ → SplicedValue
+value_of places front payload = record { places = places; front = front; payload = payload }
+
+-- the value with one more place
+abbrev pub value_more : ℕ → StandingValue → SplicedValue → SplicedValue
+value_more end place rest =
+    record {
+      places = record { start = place.start; end = end; standing = place.standing } ∷ rest.places;
+      front = rest.front;
+      payload = rest.payload ++ place.bytes;
+    }
+
+pub one_division : (copies : List (List ℕ)) (end : ℕ) (ps qs : List Place) (f g : ℕ) (a b : List ℕ) → IsSpliceBefore copies end ps f a
+    → IsSpliceBefore copies end qs g b → value_of ps f a ≡ value_of qs g b
+one_division copies end ps qs f g a b (stops stop least) (stops other lesser) = ap (λ z. value_of [] end z) (least_same copies end 0 a b least lesser)
+one_division copies end ps qs f g a b (stops stop least) (goes {start = t} {standing = y} bytes stands k) =
+    absurd (stop_not_stands copies end t bytes y stop stands)
+one_division copies end ps qs f g a b (goes {start = s} {standing = x} bytes stands h) (stops stop least) =
+    absurd (stop_not_stands copies end s bytes x stop stands)
+one_division copies end ps qs f g a b (goes {start = s} {front = u} {standing = x} {places = more} {before = c} bytes stands h)
+    (goes {start = t} {front = v} {standing = y} {places = others} {before = d} others_bytes others_stand k) =
+    let place = one_standing copies end s t bytes others_bytes x y stands others_stand in
+    let rest = one_division copies s more others u v c d h
+    (subst (λ n. IsSpliceBefore copies n others v d) (sym (ap (λ (z : StandingValue). z.start) place)) k) in
+    ap (λ z. value_more end z (value_of more u c)) place
+    ∙ ap (λ z. value_more end (record { start = t; bytes = others_bytes; standing = y }) z) rest
+
+-- ---- the same copies tell the same
+
+module _ (copies others : List (List ℕ)) (same : HasSameMembers copies others) where
+  pub piece_there : (end : ℕ) (piece : Piece) → IsPiece copies end piece → IsPiece others end piece
+  piece_there end piece h =
+      record { copy = h.copy; there = (same h.copy).0 h.there; cut = h.cut; content = h.content; bytes = h.bytes; passes = h.passes }
+
+  pub piece_here : (end : ℕ) (piece : Piece) → IsPiece others end piece → IsPiece copies end piece
+  piece_here end piece h =
+      record { copy = h.copy; there = (same h.copy).1 h.there; cut = h.cut; content = h.content; bytes = h.bytes; passes = h.passes }
+
+  start_there : (end start : ℕ) → IsToldStart copies end start → IsToldStart others end start
+  start_there end start h = record { copy = h.copy; there = (same h.copy).0 h.there; cut = h.cut; content = h.content }
+
+  start_here : (end start : ℕ) → IsToldStart others end start → IsToldStart copies end start
+  start_here end start h = record { copy = h.copy; there = (same h.copy).1 h.there; cut = h.cut; content = h.content }
+
+  pub only_same : {X : Type 0} (P Q : X → Type 0) → ((x : X) → P x → Q x) → ((x : X) → Q x → P x) → (x : X) → IsOnly P x → IsOnly Q x
+  only_same P Q on back x h = record { there = on x h.there; others = λ y q. h.others y (back y q) }
+
+  two_same : {X : Type 0} (P Q : X → Type 0) → ((x : X) → P x → Q x) → IsOfTwo P → IsOfTwo Q
+  two_same P Q on h = record { one = h.one; other = h.other; one_there = on h.one h.one_there; other_there = on h.other h.other_there; differ = h.differ }
+
+  least_there : (start end : ℕ) (bytes : List ℕ) → IsLeast copies start end bytes → IsLeast others start end bytes
+  least_there start end bytes h =
+      record { copy = h.copy; there = (same h.copy).0 h.there; lies = h.lies; least = λ other there. h.least other ((same other).1 there) }
+
+  gap_there : (start end : ℕ) (bytes : List ℕ) → IsGap copies start end bytes → IsGap others start end bytes
+  gap_there start end bytes h =
+      record {
+        told = only_same (IsToldStart copies end) (IsToldStart others end) (start_there end) (start_here end) start h.told;
+        least = least_there start end bytes h.least;
+      }
+
+  weave_at_there : (start end : ℕ) (weave : Weave) → IsWeaveAt copies start end weave → IsWeaveAt others start end weave
+  weave_at_there start end weave h =
+      record {
+        none = λ piece p. h.none piece (piece_here end piece p);
+        told = only_same (IsToldStart copies end) (IsToldStart others end) (start_there end) (start_here end) start h.told;
+        weave' = weave_there Slice (versions_at copies start end) (versions_at others start end) (same_versions copies others same start end) weave h.weave';
+      }
+
+  stands_there : (start end : ℕ) (bytes : List ℕ) (standing : Standing) → StandsAs copies start end bytes standing → StandsAs others start end bytes standing
+  stands_there start end bytes Settled h =
+      only_same (IsPiece copies end) (IsPiece others end) (piece_there end) (piece_here end) (record { start = start; bytes = bytes }) h
+  stands_there start end bytes (Woven count) h = weave_at_there start end (woven bytes count) h
+  stands_there start end bytes Disputed h = (
+    elim h.0 [
+      | inl two ↦ inl (two_same (IsPiece copies end) (IsPiece others end) (piece_there end) two)
+      | inr w ↦ inr (weave_at_there start end disputed w)
+    ],
+    gap_there start end bytes h.1,
+  )
+  stands_there start end bytes Missing h = (
+    elim h.0 [
+      | inl w ↦ inl (weave_at_there start end missing w)
+      | inr w ↦ inr (weave_at_there start end too_many w)
+    ],
+    gap_there start end bytes h.1,
+  )
+  stands_there start end bytes Undivided h = absurd h
+
+  stop_there : (end : ℕ) → IsStop copies end → IsStop others end
+  stop_there end h =
+      record {
+        unsettled = λ piece only. h.unsettled piece (only_same (IsPiece others end) (IsPiece copies end) (piece_here end) (piece_there end) piece only);
+        untold = λ start only. h.untold start (only_same (IsToldStart others end) (IsToldStart copies end) (start_here end) (start_there end) start only);
+      }
+
+  pub walk_there : (end : ℕ) (places : List Place) (front : ℕ) (payload : List ℕ) → IsSpliceBefore copies end places front payload
+      → IsSpliceBefore others end places front payload
+  walk_there end places front payload (stops {bytes = bytes} stop least) = stops (stop_there end stop) (least_there 0 end bytes least)
+  walk_there end places front payload (goes {start = start} {standing = standing} {places = more} {before = before} bytes stands h) =
+      goes bytes (stands_there start end bytes standing stands) (walk_there start more front before h)
+
+  -- the same copies have the division
+  pub division_there : (divided : SplicedValue) → IsDivisionOf copies divided → IsDivisionOf others divided
+  division_there divided h =
+      division_of others (length divided.payload) divided.places divided.front divided.payload (λ copy there. h.one_length copy ((same copy).1 there))
+      (walk_there (length divided.payload) divided.places divided.front divided.payload (division_walk copies divided h))
+
+-- the same copies have one division
+pub same_copies_divide : (copies others : List (List ℕ)) (one other : SplicedValue) → HasSameMembers copies others → IsDivisionOf copies one
+    → IsDivisionOf others other → one ≡ other
+same_copies_divide copies others one other same h k =
+    let long : length one.payload ≡ length other.payload =
+    sym (h.one_length h.before.copy h.before.there) ∙ k.one_length h.before.copy ((same h.before.copy).0 h.before.there) in
+    let walk = walk_there copies others same (length one.payload) one.places one.front one.payload (division_walk copies one h) in
+    one_division others (length other.payload) one.places other.places one.front other.front one.payload other.payload
+    (subst (λ n. IsSpliceBefore others n one.places one.front one.payload) long walk) (division_walk others other k)

@@ -1,0 +1,255 @@
+-- The shortest piece from a place: of one copy end by end, and of copies one by one.
+use Rattle.std.proofs.Common.{◌≡◌, ℕ, ◌+◌, ◌-◌, ◌<◌, ◌≤◌, true, false, eqb, List, [], ◌∷◌, ◌++◌, Bor, Option, Some, None, length, take, drop, refl, sym, ap, ◌∙◌, subst, arith, inl, inr}
+use Rattle.std.specs.Prelude.{◌⊎◌, Contains, MatchOption, slice_range}
+use Rattle.std.specs.Option.{option_eq}
+use Rattle.std.proofs.lemmas.Bool.{cases_lt, eqb-true, eqb-false}
+use Rattle.std.proofs.Math.Seq.{take-add}
+use Rattle.std.proofs.lemmas.List.{drop-drop}
+use Rattle.std.proofs.lemmas.List.Elements.{Contains-append_left, Contains-append_right, Contains-append_cases}
+use Rattle.ffv1_bits.specs.Bits.{bits_of}
+use Rattle.ffv1_bits.specs.Limits.{slice_limit}
+use Rattle.ffv1_bits.specs.Parity.{AreBytes, PassesParity, divided, remainder_of, polynomial_of}
+use Rattle.ffv1_bits.proofs.Bytes.{AreBytes-range}
+use Rattle.ffv1_slice.specs.Chain.{IsCut, footer_before}
+use Rattle.ffv1_slice.specs.Members.{IsOfNone}
+use Rattle.ffv1_slice.proofs.NearLaws.{length-range}
+use Rattle.ffv1_splice.specs.Pieces.{HasContent, IsPiece, PieceFrom, IsPieceFrom, IsShortest}
+use Rattle.ffv1_splice.proofs.ToldSteps.{alone}
+
+-- ---- one copy
+
+-- A piece of the copy from a place ends there.
+pub record EndsPiece (copy : List ℕ) (start end : ℕ) : Type 0 where
+  pub cut : IsCut copy start end
+  pub content : HasContent start end
+  pub passes : PassesParity (slice_range copy start end)
+
+in_itself : (copy : List ℕ) → Contains (copy ∷ []) copy
+in_itself copy = (0, omega arith, refl)
+
+pub piece_of_end : (copy : List ℕ) (bound start end : ℕ) → EndsPiece copy start end → end ≤ bound
+    → IsPieceFrom (copy ∷ []) bound start (record { end = end; bytes = slice_range copy start end })
+piece_of_end copy bound start end h within =
+    record {
+      there = record { copy = copy; there = in_itself copy; cut = h.cut; content = h.content; bytes = refl; passes = h.passes };
+      within = within;
+    }
+
+pub end_of_piece : (copy : List ℕ) (start end : ℕ) (bytes : List ℕ) → IsPiece (copy ∷ []) end (record { start = start; bytes = bytes })
+    → EndsPiece copy start end × (bytes ≡ slice_range copy start end)
+end_of_piece copy start end bytes h =
+    let same : h.copy ≡ copy = alone copy h.copy h.there in
+    let lies : bytes ≡ slice_range copy start end = h.bytes ∙ ap (λ c. slice_range c start end) same in (
+      record { cut = subst (λ c. IsCut c start end) same h.cut; content = h.content; passes = subst PassesParity lies h.passes },
+      lies,
+    )
+
+-- where a footer's start was compared with a place
+pub claims : (P : ℕ → Type 0) (Q : Type 0) (found : Option ℕ) (start : ℕ) → MatchOption found Q P → option_eq eqb found (Some start) ≡ true → P start
+claims P Q None start h same = absurd (cc)
+claims P Q (Some other) start h same = subst P (eqb-true other start same) h
+
+pub claims_not : (P : ℕ → Type 0) (Q : Type 0) (found : Option ℕ) (start : ℕ) → (Q → P start → ⊥) → ((other : ℕ) → P other → P start → other ≡ start)
+    → MatchOption found Q P → option_eq eqb found (Some start) ≡ false → P start → ⊥
+claims_not P Q None start none one h apart claim = none h claim
+claims_not P Q (Some other) start none one h apart claim = eqb-false other start apart (one other h claim)
+
+-- a size field has three bytes
+pub cut_is_short : (copy : List ℕ) (start end : ℕ) → AreBytes copy → IsCut copy start end → end ≤ start + slice_limit
+cut_is_short copy start end small cut =
+    let footer : AreBytes (footer_before copy end) = AreBytes-range copy (end - 8) end small in
+    omega (arith, footer 0, footer 1, footer 2)
+
+-- ---- end by end
+
+-- what lies between two places, and then up to a third
+pub range_on : (xs : List ℕ) (a b c : ℕ) → a ≤ b → b ≤ c → slice_range xs a b ++ slice_range xs b c ≡ slice_range xs a c
+range_on xs a b c low high =
+    let on : a + (b - a) ≡ b = omega arith in
+    let whole : b - a + (c - b) ≡ c - a = omega arith in
+    ap (λ n. take (b - a) (drop a xs) ++ take (c - b) (drop n xs)) (sym on)
+    ∙ ap (λ ys. take (b - a) (drop a xs) ++ take (c - b) ys) (sym (drop-drop (b - a) a xs))
+    ∙ sym (take-add (b - a) (c - b) (drop a xs)) ∙ ap (λ n. take n (drop a xs)) whole
+
+nothing_left : 0 ≡ remainder_of (bits_of [])
+unfolding bits_of remainder_of divided polynomial_of
+nothing_left = refl
+
+-- No piece of the copy ends before a place, and of its bytes up to the last claimed end this is left.
+pub record AreJudged (copy : List ℕ) (start judged end left : ℕ) : Type 0 where
+  pub from : start ≤ judged
+  pub to : judged ≤ end
+  pub left' : left ≡ remainder_of (bits_of (slice_range copy start judged))
+  pub none : (earlier : ℕ) → earlier < end → EndsPiece copy start earlier → ⊥
+
+pub judged_first : (copy : List ℕ) (start : ℕ) → AreJudged copy start start (start + 9) 0
+judged_first copy start =
+    let empty : 0 ≡ start - start = omega arith in
+    record {
+      from = omega arith;
+      to = omega arith;
+      left' = nothing_left ∙ ap (λ n. remainder_of (bits_of (take n (drop start copy)))) empty;
+      none = λ earlier before h. absurd (omega (arith, h.content));
+    }
+
+module _ (copy : List ℕ) (start judged end left : ℕ) (so_far : AreJudged copy start judged end left) where
+  -- what is left of the bytes up to an end, by what was left of those before
+  pub left_on : (next : ℕ)
+      → ((front : List ℕ) → left ≡ remainder_of (bits_of front) → next ≡ remainder_of (bits_of (front ++ slice_range copy judged end)))
+      → next ≡ remainder_of (bits_of (slice_range copy start end))
+  left_on next after =
+      after (slice_range copy start judged) so_far.left'
+      ∙ ap (λ bytes. remainder_of (bits_of bytes)) (range_on copy start judged end so_far.from so_far.to)
+
+  none_on : (EndsPiece copy start end → ⊥) → (earlier : ℕ) → earlier < end + 1 → EndsPiece copy start earlier → ⊥
+  none_on none earlier before h =
+      elim (cases_lt earlier end) [
+        | inl under ↦ so_far.none earlier under h
+        | inr over ↦ let same : earlier ≡ end = omega arith in none (subst (EndsPiece copy start) same h)
+      ]
+
+  -- an end that the footer there does not claim for the start
+  pub judged_unclaimed : (IsCut copy start end → ⊥) → AreJudged copy start judged (end + 1) left
+  judged_unclaimed uncut =
+      record { from = so_far.from; to = omega (arith, so_far.to); left' = so_far.left'; none = none_on (λ h. uncut h.cut) }
+
+  -- a claimed end where something is left
+  pub judged_failed : (next : ℕ) → next ≡ remainder_of (bits_of (slice_range copy start end)) → (next ≡ 0 → ⊥) → AreJudged copy start end (end + 1) next
+  judged_failed next is some =
+      record { from = omega (arith, so_far.from, so_far.to); to = omega arith; left' = is; none = none_on (λ h. some (is ∙ h.passes.1)) }
+
+  -- a claimed end where nothing is left
+  pub judged_passed : (bound : ℕ) → IsCut copy start end → HasContent start end → 0 ≡ remainder_of (bits_of (slice_range copy start end)) → end ≤ bound
+      → end ≤ length copy → IsShortest (copy ∷ []) bound start (record { end = end; bytes = slice_range copy start end })
+  judged_passed bound cut content is within room =
+      let size : length (slice_range copy start end) ≡ end - start = length-range copy start end (omega arith) room in
+      let here : EndsPiece copy start end = record { cut = cut; content = content; passes = (omega arith, sym is) } in
+      record {
+        there = piece_of_end copy bound start end here within;
+        least = λ other p. elim (cases_lt other.end end) [
+          | inl earlier ↦ absurd (so_far.none other.end earlier (end_of_piece copy start other.end other.bytes p.there).0)
+          | inr later ↦ later
+        ];
+      }
+
+  -- where no end is left within the bound that a footer can claim, no piece ends there
+  pub judged_all : (bound : ℕ) → AreBytes copy → ((later : ℕ) → end ≤ later → later ≤ bound → later ≤ start + slice_limit → ⊥)
+      → IsOfNone (IsPieceFrom (copy ∷ []) bound start)
+  judged_all bound small past piece p =
+      let ends : EndsPiece copy start piece.end = (end_of_piece copy start piece.end piece.bytes p.there).0 in
+      elim (cases_lt piece.end end) [
+        | inl earlier ↦ so_far.none piece.end earlier ends
+        | inr later ↦ past piece.end later p.within (cut_is_short copy start piece.end small ends.cut)
+      ]
+
+-- ---- copies one by one
+
+-- a piece of one of the copies
+pub piece_in : (copies : List (List ℕ)) (copy : List ℕ) (start end : ℕ) (bytes : List ℕ) → Contains copies copy
+    → IsPiece (copy ∷ []) end (record { start = start; bytes = bytes }) → IsPiece copies end (record { start = start; bytes = bytes })
+piece_in copies copy start end bytes there h =
+    record {
+      copy = h.copy;
+      there = subst (Contains copies) (sym (alone copy h.copy h.there)) there;
+      cut = h.cut;
+      content = h.content;
+      bytes = h.bytes;
+      passes = h.passes;
+    }
+
+-- a piece of one more copy is its own, or one of those before
+pub piece_cases : (copies : List (List ℕ)) (copy : List ℕ) (start end : ℕ) (bytes : List ℕ)
+    → IsPiece (copies ++ copy ∷ []) end (record { start = start; bytes = bytes })
+    → IsPiece copies end (record { start = start; bytes = bytes }) ⊎ IsPiece (copy ∷ []) end (record { start = start; bytes = bytes })
+piece_cases copies copy start end bytes h =
+    elim (Contains-append_cases copies (copy ∷ []) h.copy h.there) [
+      | inl there ↦ inl (record { copy = h.copy; there = there; cut = h.cut; content = h.content; bytes = h.bytes; passes = h.passes })
+      | inr there ↦ inr (record { copy = h.copy; there = there; cut = h.cut; content = h.content; bytes = h.bytes; passes = h.passes })
+    ]
+
+-- No piece of the copies ends as early as `within`. What was found is one that ends right after it.
+pub record IsFirstOf (copies : List (List ℕ)) (bound start within : ℕ) (first : Option (Bor (List ℕ))) : Type 0 where
+  pub fits : within ≤ bound
+  pub none : IsOfNone (IsPieceFrom copies within start)
+  pub found : MatchOption first (within ≡ bound)
+      (λ bytes. IsPieceFrom copies bound start (record { end = start + length bytes.now; bytes = bytes.now }) × (within + 1 ≡ start + length bytes.now))
+
+module _ (copies : List (List ℕ)) (bound start : ℕ) where
+  pub first_done : (within : ℕ) (first : Option (Bor (List ℕ))) → IsFirstOf copies bound start within first
+      → MatchOption first (IsOfNone (IsPieceFrom copies bound start))
+      (λ bytes. IsShortest copies bound start (record { end = start + length bytes.now; bytes = bytes.now }))
+  first_done within None h = subst (λ b. IsOfNone (IsPieceFrom copies b start)) h.found h.none
+  first_done within (Some bytes) h =
+      record {
+        there = h.found.0;
+        least = λ other p. elim (cases_lt other.end (start + length bytes.now)) [
+          | inl earlier ↦ absurd (h.none other (record { there = p.there; within = omega (arith, h.found.1) }))
+          | inr later ↦ later
+        ];
+      }
+
+  module _ (copy : List ℕ) where
+    on : (piece : PieceFrom) → IsPieceFrom copies bound start piece → IsPieceFrom (copies ++ copy ∷ []) bound start piece
+    on piece h =
+        record {
+          there = record {
+            copy = h.there.copy;
+            there = Contains-append_left copies (copy ∷ []) h.there.copy h.there.there;
+            cut = h.there.cut;
+            content = h.there.content;
+            bytes = h.there.bytes;
+            passes = h.there.passes;
+          };
+          within = h.within;
+        }
+
+    found_on : (within : ℕ) (first : Option (Bor (List ℕ)))
+        → MatchOption first (within ≡ bound)
+        (λ bytes. IsPieceFrom copies bound start (record { end = start + length bytes.now; bytes = bytes.now }) × (within + 1 ≡ start + length bytes.now))
+        → MatchOption first (within ≡ bound)
+        (λ bytes. IsPieceFrom (copies ++ copy ∷ []) bound start (record { end = start + length bytes.now; bytes = bytes.now })
+        × (within + 1 ≡ start + length bytes.now))
+    found_on within None h = h
+    found_on within (Some bytes) h = (on (record { end = start + length bytes.now; bytes = bytes.now }) h.0, h.1)
+
+    -- a copy with no piece that ends as early
+    pub first_kept : (within : ℕ) (first : Option (Bor (List ℕ))) → IsOfNone (IsPieceFrom (copy ∷ []) within start)
+        → IsFirstOf copies bound start within first → IsFirstOf (copies ++ copy ∷ []) bound start within first
+    first_kept within first none h =
+        record {
+          fits = h.fits;
+          none = λ piece p. elim (piece_cases copies copy start piece.end piece.bytes p.there) [
+            | inl q ↦ h.none piece (record { there = q; within = p.within })
+            | inr q ↦ none piece (record { there = q; within = p.within })
+          ];
+          found = found_on within first h.found;
+        }
+
+    -- a copy with a piece that ends as early
+    pub first_more : (within end : ℕ) (first : Option (Bor (List ℕ))) (bytes : Bor (List ℕ)) → within ≤ length copy
+        → bytes.now ≡ slice_range copy start end
+        → IsShortest (copy ∷ []) within start (record { end = end; bytes = slice_range copy start end })
+        → IsFirstOf copies bound start within first → IsFirstOf (copies ++ copy ∷ []) bound start (end - 1) (Some bytes)
+    first_more within end first bytes room is shortest h =
+        let content : HasContent start end = shortest.there.there.content in
+        let early : end ≤ within = shortest.there.within in
+        let size : start + length bytes.now ≡ end = omega (arith, ap length is, length-range copy start end (omega arith) (omega arith)) in
+        record {
+          fits = omega (arith, h.fits);
+          none = λ piece p. elim (piece_cases copies copy start piece.end piece.bytes p.there) [
+            | inl q ↦ h.none piece (record { there = q; within = omega (arith, p.within) })
+            | inr q ↦
+                let least : end ≤ piece.end = shortest.least piece (record { there = q; within = omega (arith, p.within) }) in
+                absurd (omega (arith, p.within))
+          ];
+          found = (
+            record {
+              there = subst (λ e. IsPiece (copies ++ copy ∷ []) e (record { start = start; bytes = bytes.now })) (sym size)
+                  (subst (λ b. IsPiece (copies ++ copy ∷ []) end (record { start = start; bytes = b })) (sym is)
+                  (piece_in (copies ++ copy ∷ []) copy start end (slice_range copy start end)
+                  (Contains-append_right copies (copy ∷ []) copy (in_itself copy)) shortest.there.there));
+              within = omega (arith, h.fits);
+            },
+            omega arith,
+          );
+        }

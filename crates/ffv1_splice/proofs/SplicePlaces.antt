@@ -1,0 +1,143 @@
+-- The places of a splice: they lie end to end, and each is settled above the hole or below it, of the hole, or what of it can't be divided.
+use Rattle.std.proofs.Common.{◌≡◌, ℕ, zero, suc, ◌+◌, ◌<◌, ◌≤◌, List, [], ◌++◌, length, get_or, map, sym, ap, ◌∙◌, subst, arith}
+use Rattle.std.specs.Prelude.{All, Contains, reverse, slice_range}
+use Rattle.std.proofs.lemmas.List.{append_assoc}
+use Rattle.std.proofs.lemmas.List.Elements.{All-nil, All-cons, All-append, All-map, All-contains, All-contains_itself}
+use Rattle.ffv1_slice.proofs.NearLaws.{length-range}
+use Rattle.ffv1_splice.specs.Pieces.{HasContent}
+use Rattle.ffv1_splice.specs.Standings.{versions_at}
+use Rattle.ffv1_splice.specs.Splice.{SplicedValue, LieFrom, IsSettledDown, IsSettledUp, IsSpliceOf, moved_by, undivided_places, front_of, hole_places}
+use Rattle.ffv1_splice.specs.declared.place.Standing.TheVariants.{Undivided}
+use Rattle.ffv1_splice.specs.declared.place.Place.{Place}
+use Rattle.ffv1_splice.proofs.Versions.{version_of}
+use Rattle.ffv1_splice.proofs.Walks.{stands_below, front_below, ends_below}
+use Rattle.ffv1_splice.proofs.BoundSteps.{bound_within}
+use Rattle.ffv1_splice.proofs.PlaceLists.{All-reverse, All-left, All-right, All-mapped, lie_append, lie_moved, top_below, lie_below}
+
+-- ---- what is so of all places
+
+module _ (copies : List (List ℕ)) (spliced : SplicedValue) (is : IsSpliceOf copies spliced) (P : Place → Type 0) where
+  -- what is so of each part is so of all places
+  pub all_places : All P is.above → All (λ place. P (moved_by is.start place)) is.hole.places → All P (undivided_places is.start is.hole.front)
+      → All P is.below → All P spliced.places
+  all_places above hole undivided below =
+      subst (All P) (sym is.places) (All-append P is.above (hole_places is.start is.hole ++ reverse is.below) above
+      (All-append P (hole_places is.start is.hole) (reverse is.below)
+      (All-append P (map (moved_by is.start) is.hole.places) (undivided_places is.start is.hole.front)
+      (All-map P (moved_by is.start) is.hole.places hole) undivided) (All-reverse P is.below below)))
+
+  after_above : All P spliced.places → All P (hole_places is.start is.hole ++ reverse is.below)
+  after_above all = All-right P is.above (hole_places is.start is.hole ++ reverse is.below) (subst (All P) is.places all)
+
+  all_hole_places : All P spliced.places → All P (hole_places is.start is.hole)
+  all_hole_places all = All-left P (hole_places is.start is.hole) (reverse is.below) (after_above all)
+
+  -- what is so of all places is so of the hole's, and of what of it can't be divided
+  pub all_of_hole : All P spliced.places → All (λ place. P (moved_by is.start place)) is.hole.places
+  all_of_hole all =
+      All-mapped P (moved_by is.start) is.hole.places
+      (All-left P (map (moved_by is.start) is.hole.places) (undivided_places is.start is.hole.front) (all_hole_places all))
+
+  pub all_undivided : All P spliced.places → All P (undivided_places is.start is.hole.front)
+  all_undivided all = All-right P (map (moved_by is.start) is.hole.places) (undivided_places is.start is.hole.front) (all_hole_places all)
+
+-- ---- where a place stands
+
+pub data IsPlaceOf (copies : List (List ℕ)) (spliced : SplicedValue) (is : IsSpliceOf copies spliced) : Place → Type 0 where
+  above : {place : Place} → Contains is.above place → IsPlaceOf copies spliced is place
+  of_hole : (place : Place) → Contains is.hole.places place → IsPlaceOf copies spliced is (moved_by is.start place)
+  undivided : {place : Place} → Contains (undivided_places is.start is.hole.front) place → IsPlaceOf copies spliced is place
+  below : {place : Place} → Contains is.below place → IsPlaceOf copies spliced is place
+
+module _ (copies : List (List ℕ)) (spliced : SplicedValue) (is : IsSpliceOf copies spliced) where
+  pub place_of : (place : Place) → Contains spliced.places place → IsPlaceOf copies spliced is place
+  place_of place there =
+      All-contains (IsPlaceOf copies spliced is) spliced.places place
+      (all_places copies spliced is (IsPlaceOf copies spliced is)
+      (λ k d lt. above (All-contains_itself is.above k d lt))
+      (λ k d lt. of_hole (get_or is.hole.places k d) (All-contains_itself is.hole.places k d lt))
+      (λ k d lt. undivided (All-contains_itself (undivided_places is.start is.hole.front) k d lt))
+      (λ k d lt. below (All-contains_itself is.below k d lt))) there
+
+  -- ---- how places lie
+
+  -- a copy is at hand
+  pub copy_at_hand : (copy : List ℕ) × Contains copies copy
+  copy_at_hand = let of = version_of copies is.start is.end is.divided.before.copy is.divided.before.there in (of.0, of.1)
+
+  pub above_upright : All (λ place. place.start ≤ place.end) is.above
+  above_upright k d lt =
+      let place : Place = get_or is.above k d in
+      let settled : IsSettledDown copies spliced.payload place = is.down.settled k d lt in
+      let content : HasContent place.start place.end = settled.only.there.content in
+      omega arith
+
+  pub below_upright : All (λ place. place.start < place.end) is.below
+  below_upright k d lt =
+      let place : Place = get_or is.below k d in
+      let settled : IsSettledUp copies is.bound spliced.payload place = is.up.settled k d lt in
+      let content : HasContent place.start place.end = settled.only.there.content in
+      omega arith
+
+  pub end_within : is.end ≤ length spliced.payload
+  end_within = front_below (length spliced.payload) is.above is.end above_upright is.down.lie
+
+  pub below_within : All (λ place. place.end ≤ is.end) is.below
+  below_within k d lt =
+      let settled : IsSettledUp copies is.bound spliced.payload (get_or is.below k d) = is.up.settled k d lt in
+      let inside = settled.first.there.within in
+      let below = bound_within copies is.end is.bound is.room in
+      omega arith
+
+  pub start_within : is.start ≤ is.end
+  start_within = top_below is.end 0 is.below is.start is.up.rise (omega arith) below_within
+
+  pub hole_length : is.start + length is.hole.payload ≡ is.end
+  hole_length =
+      let order = start_within in
+      let size = ap length is.bytes ∙ length-range spliced.payload is.start is.end order end_within in
+      omega arith
+
+  -- all places lie end to end
+  pub places_lie : LieFrom (length spliced.payload) spliced.places spliced.front
+  places_lie =
+      let rest = lie_below is.start is.hole.front is.below is.up.rise below_upright in
+      let hole : LieFrom is.end (map (moved_by is.start) is.hole.places) (is.start + is.hole.front) =
+      subst (λ n. LieFrom n (map (moved_by is.start) is.hole.places) (is.start + is.hole.front)) hole_length
+      (lie_moved is.start (length is.hole.payload) is.hole.places is.hole.front is.divided.lie) in
+      let joined : LieFrom is.end (hole_places is.start is.hole ++ reverse is.below) (front_of is.start is.hole.front) =
+      subst (λ z. LieFrom is.end z (front_of is.start is.hole.front))
+      (sym (append_assoc (map (moved_by is.start) is.hole.places) (undivided_places is.start is.hole.front) (reverse is.below)))
+      (lie_append is.end (is.start + is.hole.front) (front_of is.start is.hole.front) (map (moved_by is.start) is.hole.places)
+      (undivided_places is.start is.hole.front ++ reverse is.below) hole rest) in
+      subst (λ n. LieFrom (length spliced.payload) spliced.places n) (sym is.front)
+      (subst (λ z. LieFrom (length spliced.payload) z (front_of is.start is.hole.front)) (sym is.places)
+      (lie_append (length spliced.payload) is.end (front_of is.start is.hole.front) is.above (hole_places is.start is.hole ++ reverse is.below)
+      is.down.lie joined))
+
+  pub hole_rising : All (λ place. place.start < place.end) is.hole.places
+  hole_rising k d lt =
+      let place : Place = get_or is.hole.places k d in
+      let below = stands_below (versions_at copies is.start is.end) place.start place.end (slice_range is.hole.payload place.start place.end) place.standing
+      (is.divided.stand k d lt) in
+      omega arith
+
+  pub hole_upright : All (λ place. place.start ≤ place.end) is.hole.places
+  hole_upright k d lt = let order = hole_rising k d lt in omega arith
+
+  undivided_upright : (start front : ℕ) → All (λ place. place.start ≤ place.end) (undivided_places start front)
+  undivided_upright zero front = All-nil (λ place. place.start ≤ place.end)
+  undivided_upright (suc before) zero = All-nil (λ place. place.start ≤ place.end)
+  undivided_upright (suc before) (suc more) =
+      All-cons (λ place. place.start ≤ place.end) (record { start = suc before; end = suc before + suc more; standing = Undivided }) [] (omega arith)
+      (All-nil (λ place. place.start ≤ place.end))
+
+  upright : All (λ place. place.start ≤ place.end) spliced.places
+  upright =
+      all_places copies spliced is (λ place. place.start ≤ place.end) above_upright
+      (λ k d lt. let order = hole_upright k d lt in omega arith) (undivided_upright is.start is.hole.front)
+      (λ k d lt. let order = below_upright k d lt in omega arith)
+
+  -- each is within the payload
+  pub places_within : All (λ place. place.start ≤ place.end × place.end ≤ length spliced.payload) spliced.places
+  places_within k d lt = (upright k d lt, ends_below (length spliced.payload) spliced.places spliced.front upright places_lie k d lt)

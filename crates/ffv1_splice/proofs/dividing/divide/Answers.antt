@@ -1,0 +1,61 @@
+use Rattle.std.proofs.Common.{◌≡◌, ◌≤◌, ℕ, List, None, length, drop, arith, ap, sym, ◌∙◌, subst}
+use Rattle.std.specs.Prelude.{All}
+use Rattle.ffv1_splice.proofs.Walks.{IsSpliceBefore, division_of}
+use Rattle.ffv1_weave.proofs.References.{values_of, each_value}
+use Rattle.ffv1_splice.proofs.PlaceSteps.{least_size}
+use Rattle.ffv1_splice.specs.Placing.{written, IsPlaced, IsPlacedOrStop}
+use Rattle.ffv1_splice.proofs.SpliceSteps.{Continues, length-written, continues_more, continues_end}
+use Rattle.ffv1_splice.proofs.dividing.divide.Goals as goal
+
+pub place_before-requires-clause-within : goal.place_before-requires-clause-within
+place_before-requires-clause-within c = λ k d lt.
+    let long = c.requires.long k d lt in
+    let same = c.loop-places.invariant.same_length in
+    let within = c.loop-places.invariant.within in
+    omega arith
+
+pub loop-places-preserved : goal.loop-places-preserved
+loop-places-preserved c =
+    let payload : List ℕ = c.loop-places.payload in
+    let start : ℕ = c.in-Some.place.start in
+    let placed : IsPlaced (values_of c.args.copies.now) c.loop-places.end payload c.place_before.new.payload c.in-Some.place =
+    subst (IsPlacedOrStop (values_of c.args.copies.now) c.loop-places.end payload c.place_before.new.payload) c.in-Some.is c.in_ok-place.ensures in
+    let bytes : List ℕ = placed.bytes in
+    let size = placed.size in
+    let within = c.loop-places.invariant.within in
+    let kept = ap length placed.written' ∙ length-written payload start bytes (omega arith) in
+    record {
+      same_length = kept ∙ c.loop-places.invariant.same_length;
+      within = omega arith;
+      after = subst (λ z. Continues (values_of c.args.copies.now) (length c.args.payload.now) start c.push.new.self.items (drop start z)) (sym placed.written')
+          (subst (λ ps. Continues (values_of c.args.copies.now) (length c.args.payload.now) start ps (drop start (written payload start bytes)))
+          (sym c.in_ok-push.ensures.items)
+          (continues_more (values_of c.args.copies.now) (length c.args.payload.now) c.loop-places.end c.loop-places.places.items
+          c.in-Some.place bytes payload placed.ends size within placed.stands c.loop-places.invariant.after));
+    }
+
+pub least_at-requires-clause-within : goal.least_at-requires-clause-within
+least_at-requires-clause-within c = λ k d lt.
+    let long = c.requires.long k d lt in
+    let same = c.loop-places.invariant.same_length in
+    let within = c.loop-places.invariant.within in
+    omega arith
+
+pub returns : goal.returns
+returns c =
+    let payload : List ℕ = c.loop-places.payload in
+    let bytes : List ℕ = c.least_at.result.now in
+    let same = c.loop-places.invariant.same_length in
+    let within = c.loop-places.invariant.within in
+    let stopped : IsPlacedOrStop (values_of c.args.copies.now) c.loop-places.end payload c.place_before.new.payload None =
+    subst (IsPlacedOrStop (values_of c.args.copies.now) c.loop-places.end payload c.place_before.new.payload) c.in_default.is c.in_ok-place.ensures in
+    let reach : All (λ copy. c.loop-places.end ≤ length copy.now) c.args.copies.now =
+    λ k d lt. let long = c.requires.long k d lt in omega arith in
+    let size = least_size (values_of c.args.copies.now) 0 c.loop-places.end bytes
+    (each_value c.args.copies.now (λ copy. c.loop-places.end ≤ length copy) reach) (omega arith) c.least_at.ensures in
+    let is : c.write_at.new.payload ≡ written payload 0 bytes = c.write_at.ensures ∙ ap (λ z. written z 0 bytes) stopped.1 in
+    division_of (values_of c.args.copies.now) (length c.args.payload.now) c.loop-places.places.items c.loop-places.end c.write_at.new.payload
+    (each_value c.args.copies.now (λ copy. length copy ≡ length c.args.payload.now) c.requires.long)
+    (subst (IsSpliceBefore (values_of c.args.copies.now) (length c.args.payload.now) c.loop-places.places.items c.loop-places.end) (sym is)
+    (continues_end (values_of c.args.copies.now) (length c.args.payload.now) c.loop-places.end c.loop-places.places.items bytes payload (omega arith)
+    within stopped.0 c.least_at.ensures c.loop-places.invariant.after))

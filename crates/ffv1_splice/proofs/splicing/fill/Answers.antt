@@ -1,0 +1,113 @@
+use Rattle.std.proofs.Common.{◌≡◌, ℕ, ◌≤◌, List, ◌++◌, length, take, drop, sym, ap, ◌∙◌, subst, arith}
+use Rattle.std.specs.Prelude.{All, map, reverse}
+use Rattle.std.proofs.lemmas.List.{append_assoc, length-take-le}
+use Rattle.ffv1_slice.proofs.NearLaws.{length-range}
+use Rattle.ffv1_splice.specs.Standings.{versions_at}
+use Rattle.ffv1_splice.specs.Splice.{SplicedValue, IsWalkUp, IsDivisionOf, moved_by, undivided_places}
+use Rattle.ffv1_splice.specs.declared.place.Place.{Place}
+use Rattle.ffv1_weave.proofs.References.{values_of, each_value}
+use Rattle.ffv1_splice.proofs.PlaceSteps.{AllReach}
+use Rattle.ffv1_splice.proofs.Versions.{length_of}
+use Rattle.ffv1_splice.proofs.BoundSteps.{bound_within}
+use Rattle.ffv1_splice.proofs.FillSteps.{division_within, front_within, division_long, front_is, length-below, filled_splice}
+use Rattle.ffv1_splice.proofs.splicing.fill.Goals as goal
+use Rattle.ffv1_splice.proofs.splicing.fill.Goals.{then-start-eq0, else-start-eq0}
+
+pub divide-requires-clause-long : goal.divide-requires-clause-long
+divide-requires-clause-long c = λ k d lt.
+    let copies : List (List ℕ) = values_of c.args.copies.now in
+    let start : ℕ = c.in_ok-below.start in
+    let end : ℕ = c.in_ok-above.end in
+    let bound : ℕ = c.bound_below-bound.result in
+    let below_end : bound ≤ end = bound_within copies end bound c.bound_below-bound.ensures in
+    let down : List ℕ = c.settle_down.new.payload in
+    let up : List ℕ = c.settle_up.new.payload in
+    let within : end ≤ length down = c.in_ok-above.ensures.within in
+    let front : length up ≡ bound = c.in_ok-below.ensures.long ∙ length-take-le bound down (omega arith) in
+    let order : start ≤ end = let below = c.in_ok-below.ensures.within in omega arith in
+    let reach : AllReach copies end =
+    each_value c.args.copies.now (λ copy. end ≤ length copy)
+    (λ i e l. let long = c.requires.long i e l in let same = c.in_ok-above.ensures.long in omega arith) in
+    let is = ap values_of c.as_slice.ensures.value ∙ c.in_ok-versions.ensures in
+    length_of copies start end order reach c.as_slice.result.now is k d lt
+    ∙ sym (length-range (up ++ drop bound down) start end order (length-below down up bound end front below_end within))
+
+pub push_moved-requires : goal.push_moved-requires
+push_moved-requires c = λ k d lt.
+    let copies : List (List ℕ) = values_of c.args.copies.now in
+    let start : ℕ = c.in_ok-below.start in
+    let end : ℕ = c.in_ok-above.end in
+    let bound : ℕ = c.bound_below-bound.result in
+    let below_end : bound ≤ end = bound_within copies end bound c.bound_below-bound.ensures in
+    let down : List ℕ = c.settle_down.new.payload in
+    let up : List ℕ = c.settle_up.new.payload in
+    let within : end ≤ length down = c.in_ok-above.ensures.within in
+    let front : length up ≡ bound = c.in_ok-below.ensures.long ∙ length-take-le bound down (omega arith) in
+    let order : start ≤ end = let below = c.in_ok-below.ensures.within in omega arith in
+    let divided : SplicedValue = record { places = c.in_ok-hole.hole.items; front = c.in_ok-hole.front; payload = c.divide.new.payload } in
+    let is : IsDivisionOf (versions_at copies start end) divided =
+    subst (λ versions. IsDivisionOf versions divided) (ap values_of c.as_slice.ensures.value ∙ c.in_ok-versions.ensures) c.in_ok-hole.ensures in
+    let long = division_long copies start end (length c.args.payload.now) divided
+    (each_value c.args.copies.now (λ copy. length copy ≡ length c.args.payload.now) c.requires.long) order (omega (arith, c.in_ok-above.ensures.long)) is in
+    let all : All (λ place. place.start ≤ place.end × place.end ≤ length c.divide.new.payload) c.as_slice-2.result.now =
+    subst (All (λ place. place.start ≤ place.end × place.end ≤ length c.divide.new.payload)) (sym c.as_slice-2.ensures.value)
+    (division_within (versions_at copies start end) divided is) in
+    let here = all k d lt in
+    (here.0, let inside = here.1 in omega arith)
+
+pub push_undivided-requires : goal.push_undivided-requires
+push_undivided-requires c =
+    let copies : List (List ℕ) = values_of c.args.copies.now in
+    let start : ℕ = c.in_ok-below.start in
+    let end : ℕ = c.in_ok-above.end in
+    let bound : ℕ = c.bound_below-bound.result in
+    let below_end : bound ≤ end = bound_within copies end bound c.bound_below-bound.ensures in
+    let down : List ℕ = c.settle_down.new.payload in
+    let up : List ℕ = c.settle_up.new.payload in
+    let within : end ≤ length down = c.in_ok-above.ensures.within in
+    let front : length up ≡ bound = c.in_ok-below.ensures.long ∙ length-take-le bound down (omega arith) in
+    let order : start ≤ end = let below = c.in_ok-below.ensures.within in omega arith in
+    let divided : SplicedValue = record { places = c.in_ok-hole.hole.items; front = c.in_ok-hole.front; payload = c.divide.new.payload } in
+    let is : IsDivisionOf (versions_at copies start end) divided =
+    subst (λ versions. IsDivisionOf versions divided) (ap values_of c.as_slice.ensures.value ∙ c.in_ok-versions.ensures) c.in_ok-hole.ensures in
+    let long = division_long copies start end (length c.args.payload.now) divided
+    (each_value c.args.copies.now (λ copy. length copy ≡ length c.args.payload.now) c.requires.long) order (omega (arith, c.in_ok-above.ensures.long)) is in
+    let inside = front_within (versions_at copies start end) divided is in
+    omega arith
+
+pub returns : goal.returns
+returns c =
+    let copies : List (List ℕ) = values_of c.args.copies.now in
+    let start : ℕ = c.in_ok-below.start in
+    let end : ℕ = c.in_ok-above.end in
+    let bound : ℕ = c.bound_below-bound.result in
+    let below_end : bound ≤ end = bound_within copies end bound c.bound_below-bound.ensures in
+    let down : List ℕ = c.settle_down.new.payload in
+    let up : List ℕ = c.settle_up.new.payload in
+    let hole : List Place = c.in_ok-hole.hole.items in
+    let above : List Place = c.in_ok-above.above.items in
+    let below : List Place = c.in_ok-below.below.items in
+    let within : end ≤ length down = c.in_ok-above.ensures.within in
+    let long : length (take bound down) ≡ bound = length-take-le bound down (omega arith) in
+    let front : length up ≡ bound = c.in_ok-below.ensures.long ∙ long in
+    let low : start ≤ bound = let under = c.in_ok-below.ensures.within in omega arith in
+    let order : start ≤ end = omega arith in
+    let divided : SplicedValue = record { places = hole; front = c.in_ok-hole.front; payload = c.divide.new.payload } in
+    let is : IsDivisionOf (versions_at copies start end) divided =
+    subst (λ versions. IsDivisionOf versions divided) (ap values_of c.as_slice.ensures.value ∙ c.in_ok-versions.ensures) c.in_ok-hole.ensures in
+    let one = each_value c.args.copies.now (λ copy. length copy ≡ length c.args.payload.now) c.requires.long in
+    let size = division_long copies start end (length c.args.payload.now) divided one order (omega (arith, c.in_ok-above.ensures.long)) is in
+    let walk_up = subst (λ n. IsWalkUp copies n up below start) long c.in_ok-below.ensures.walk in
+    let moved : c.push_moved.new.places.items ≡ above ++ map (moved_by start) hole =
+    c.in_ok-push_moved.ensures ∙ ap (λ z. above ++ map (moved_by start) z) c.as_slice-2.ensures.value in
+    let more = undivided_places start c.in_ok-hole.front in
+    let places = c.in_ok-push_fallen.ensures
+    ∙ ap (λ z. (c.push_undivided.new.places.items) ++ reverse z) c.deref_mut.ensures.value
+    ∙ ap (λ z. z ++ reverse below) (c.in_ok-push_undivided.ensures ∙ ap (λ z. z ++ more) moved)
+    ∙ ap (λ z. z ++ reverse below) (append_assoc above (map (moved_by start) hole) more)
+    ∙ append_assoc above (map (moved_by start) hole ++ more) (reverse below) in
+    filled_splice down up c.divide.new.payload start bound end low below_end within front size copies above below hole c.in_ok-hole.front
+    (λ copy there. one copy there ∙ sym c.in_ok-above.ensures.long) c.in_ok-above.ensures.walk c.bound_below-bound.ensures walk_up is
+    c.push_fallen.new.places.items c.if-start-eq0.result places (front_is start c.in_ok-hole.front c.if-start-eq0.result
+    (λ here. elim c.if-start-eq0.branch [ then-start-eq0 w ↦ w.result-is | else-start-eq0 w ↦ absurd (omega (arith, w.if-start-eq0.false)) ])
+    (λ apart. elim c.if-start-eq0.branch [ then-start-eq0 w ↦ absurd (apart (omega (arith, w.if-start-eq0.true))) | else-start-eq0 w ↦ w.result-is ]))

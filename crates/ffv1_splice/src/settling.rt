@@ -1,0 +1,114 @@
+//! The settled walks of a splice: down from its end, and up from its start.
+ghost use Rattle.std.specs.Prelude.{◌≡◌, ◌+◌, ◌<◌, ◌≤◌, length, map, All, IfOk, MatchOption};
+ghost use Rattle.ffv1_slice.specs.Chain.{Piece};
+ghost use Rattle.ffv1_slice.specs.Members.{IsOnly};
+ghost use Rattle.ffv1_splice.specs.Pieces.{IsPiece, PieceFrom, IsShortest};
+ghost use Rattle.ffv1_splice.specs.Splice.{IsWalkDown, IsBound, IsWalkUp};
+
+use crate::place::{Place, Standing};
+use crate::placing::write_at;
+use crate::shortest::first_from;
+use crate::told::{Pieces, told_at, told_start};
+use ffv1_bits::passes;
+use std::alloc::{AllocError, Global};
+
+/// The slice that alone ends at a place: where it begins, and its bytes. Each copy has the place.
+fn only_piece<'a>(copies: &[&'a [u8]], end: usize) -> Option<(usize, &'a [u8])>
+    requires { All (λ copy. end ≤ length copy.now) copies.now }
+    ensures { MatchOption result ((piece : Piece) → IsOnly (IsPiece (map (λ copy. copy.now) copies.now) end) piece → ⊥)
+        (λ piece. IsOnly (IsPiece (map (λ copy. copy.now) copies.now) end) (record { start = piece.0; bytes = piece.1.now })) }
+{
+    match told_at(copies, end).0 {
+        Pieces::One(start, bytes) => Some((start, bytes)),
+        Pieces::None | Pieces::Two => None,
+    }
+}
+
+/// Settles places from the payload's end down, as long as exactly one slice ends there, and writes each over the payload's bytes. The
+/// places from the end on, and the end at which that stops. Each copy is as long as the payload.
+pub(crate) fn settle_down(
+    alloc: Global,
+    copies: &[&[u8]],
+    payload: &mut [u8],
+) -> Result<(Vec<Place>, usize), AllocError>
+    requires { All (λ copy. length copy.now ≡ length payload.old) copies.now }
+    ensures walk { IfOk result (λ walk. IsWalkDown (map (λ copy. copy.now) copies.now) payload.new walk.0.items walk.1) }
+    ensures within { IfOk result (λ walk. walk.1 ≤ length payload.new) }
+    ensures long { IfOk result (λ _. length payload.new ≡ length payload.old) }
+{
+    let mut places = Vec::new(alloc);
+    let mut end = payload.len();
+    while let Some((start, bytes)) = only_piece(copies, end) {
+        write_at(payload, start, bytes);
+        let standing = Standing::Settled;
+        places.push(Place {
+            start,
+            end,
+            standing,
+        })?;
+        end = start;
+    }
+    Ok((places, end))
+}
+
+/// How far up from the start places can be settled below an end: to the end, where no slice with content that passes its parity ends
+/// there, and else to the first byte of those that do. Each copy has the end.
+pub(crate) fn bound_below(copies: &[&[u8]], end: usize) -> usize
+    requires { All (λ copy. end ≤ length copy.now) copies.now }
+    ensures { IsBound (map (λ copy. copy.now) copies.now) end result }
+{
+    let mut bound = end;
+    for copy in copies {
+        if let Some(start) = told_start(copy, end) {
+            if start < bound && passes(&copy[start..end]) {
+                bound = start;
+            }
+        }
+    }
+    bound
+}
+
+/// The shortest slice from a place, where no other one ends at its end. It ends at the bound or before it, and each copy has the bound.
+fn settled_from<'a>(copies: &[&'a [u8]], start: usize, bound: usize) -> Option<&'a [u8]>
+    requires { All (λ copy. bound ≤ length copy.now) copies.now }
+    ensures { MatchOption result
+        ((piece : PieceFrom) → IsShortest (map (λ copy. copy.now) copies.now) bound start piece
+        → IsOnly (IsPiece (map (λ copy. copy.now) copies.now) piece.end) (record { start = start; bytes = piece.bytes }) → ⊥)
+        (λ bytes. IsShortest (map (λ copy. copy.now) copies.now) bound start (record { end = start + length bytes.now; bytes = bytes.now })
+        × IsOnly (IsPiece (map (λ copy. copy.now) copies.now) (start + length bytes.now)) (record { start = start; bytes = bytes.now })) }
+{
+    let bytes = first_from(copies, start, bound)?;
+    match only_piece(copies, start + bytes.len()) {
+        Some(_) => Some(bytes),
+        None => None,
+    }
+}
+
+/// Settles places from the payload's start up, and writes each over the payload's bytes: each is the shortest slice from where the one
+/// before it ends, no other one ends at its end, and it ends in the payload. The places from the start on, and the start at which that
+/// stops. Each copy has the payload's places.
+pub(crate) fn settle_up(
+    alloc: Global,
+    copies: &[&[u8]],
+    payload: &mut [u8],
+) -> Result<(Vec<Place>, usize), AllocError>
+    requires { All (λ copy. length payload.old ≤ length copy.now) copies.now }
+    ensures walk { IfOk result (λ walk. IsWalkUp (map (λ copy. copy.now) copies.now) (length payload.old) payload.new walk.0.items walk.1) }
+    ensures within { IfOk result (λ walk. walk.1 ≤ length payload.new) }
+    ensures long { IfOk result (λ _. length payload.new ≡ length payload.old) }
+{
+    let mut places = Vec::new(alloc);
+    let mut start = 0;
+    while let Some(bytes) = settled_from(copies, start, payload.len()) {
+        write_at(payload, start, bytes);
+        let end = start + bytes.len();
+        let standing = Standing::Settled;
+        places.push(Place {
+            start,
+            end,
+            standing,
+        })?;
+        start = end;
+    }
+    Ok((places, start))
+}
