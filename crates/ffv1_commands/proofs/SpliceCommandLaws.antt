@@ -14,7 +14,7 @@ use Rattle.ffv1_splice.proofs.OneSplice.{same_copies_splice}
 use Rattle.ffv1_splice.proofs.OriginalLaws.{original_is_spliced}
 use Rattle.ffv1_splice.proofs.NearCopies.{near_copies_splice}
 use Rattle.ffv1_splice.proofs.WovenLaws.{given_back_is_original}
-use Rattle.ffv1_splice.proofs.Walks.{stands_below, ends_below}
+use Rattle.ffv1_splice.proofs.SplicePlaces.{places_within}
 use Rattle.ffv1_commands.specs.Commands.{IsOfDevices}
 use Rattle.ffv1_splice.specs.Text.{front_line}
 use Rattle.ffv1_commands.specs.SpliceText.{standing_line, splice_text, SpliceStops}
@@ -70,38 +70,31 @@ same_copies_make_one_splice copies others one other same h k =
 
 -- the lines of settled places that are links of the original
 settled_lines : (original : List ℕ) (places : List Place) → All (λ place. place.standing ≡ Settled) places
-    → All (λ place. place.start ≤ place.end) places → All (λ place. place.end ≤ length original) places
+    → All (λ place. place.start ≤ place.end × place.end ≤ length original) places
     → flat_map standing_line places ≡ flat_map settled_line (map (λ place. piece_of original place.start place.end) places)
-settled_lines original [] settled up within = refl
-settled_lines original (place ∷ places) settled up within =
+settled_lines original [] settled within = refl
+settled_lines original (place ∷ places) settled within =
     let stands : place.standing ≡ Settled = All-head (λ place. place.standing ≡ Settled) place places settled in
-    let rises : place.start ≤ place.end = All-head (λ place. place.start ≤ place.end) place places up in
-    let inside : place.end ≤ length original = All-head (λ place. place.end ≤ length original) place places within in
+    let inside = All-head (λ place. place.start ≤ place.end × place.end ≤ length original) place places within in
     let end : place.end ≡ place.start + length (slice_range original place.start place.end) =
-    omega (arith, length-range original place.start place.end rises inside) in
+    omega (arith, length-range original place.start place.end inside.0 inside.1) in
     let line : standing_line place ≡ settled_line (piece_of original place.start place.end) =
     λ i. standing_line (record { start = place.start; end = end i; standing = stands i }) in
     let rest = settled_lines original places (All-tail (λ place. place.standing ≡ Settled) place places settled)
-    (All-tail (λ place. place.start ≤ place.end) place places up) (All-tail (λ place. place.end ≤ length original) place places within) in
+    (All-tail (λ place. place.start ≤ place.end × place.end ≤ length original) place places within) in
     λ i. line i ++ rest i
 
 module _ (original : List ℕ) (copies : List (List ℕ)) (spliced : SplicedValue) (is : IsSpliceOf copies spliced)
     (given : splice.IsOriginal original spliced) where
-  upright : All (λ place. place.start ≤ place.end) spliced.places
-  upright k d lt =
-      let place : Place = get_or spliced.places k d in
-      let below = stands_below copies place.start place.end (slice_range spliced.payload place.start place.end) place.standing (is.stand k d lt) in
-      omega arith
-
-  within : All (λ place. place.end ≤ length original) spliced.places
+  within : All (λ place. place.start ≤ place.end × place.end ≤ length original) spliced.places
   within =
-      subst (λ n. All (λ place. place.end ≤ n) spliced.places) (ap length given.payload)
-      (ends_below (length spliced.payload) spliced.places spliced.front upright is.lie)
+      subst (λ n. All (λ place. place.start ≤ place.end × place.end ≤ n) spliced.places) (ap length given.payload)
+      (places_within copies spliced is)
 
   original_text : splice_text spliced ≡ (whole_of original).printed
   original_text =
       let lines : flat_map standing_line spliced.places ≡ flat_map settled_line (links_of original) =
-      settled_lines original spliced.places given.settled upright within ∙ ap (flat_map settled_line) given.places.links in
+      settled_lines original spliced.places given.settled within ∙ ap (flat_map settled_line) given.places.links in
       λ i. lines i ++ front_line (given.places.whole i)
 
   is_given_back : IsGivenBack spliced
@@ -166,6 +159,6 @@ splice_gives_woven_copies original copies of weavable =
     (λ spliced is given. (given_back_is_original original copies spliced of weavable is given).1)
 
 pub splice_gives_near_woven_copies : SpliceGivesNearWovenCopies
-splice_gives_near_woven_copies original copies near among =
+splice_gives_near_woven_copies original copies near below among =
     gives_if_true original copies (λ i lt. (near.near (get_or copies i []) (Contains-get_or copies i [] lt)).same_length)
-    (λ spliced is given. near_copies_splice.woven original copies spliced near among is given)
+    (λ spliced is given. near_copies_splice.woven original copies spliced near below among is given)

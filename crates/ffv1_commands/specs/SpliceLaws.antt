@@ -6,7 +6,7 @@ use Rattle.ffv1_slice.specs.Chain.{IsLinkOf, Piece}
 use Rattle.ffv1_slice.specs.Members.{HasSameMembers}
 use Rattle.ffv1_slice.specs.Walk.{links_of}
 use Rattle.ffv1_splice.specs.Whole.{IsWholeFrame}
-use Rattle.ffv1_splice.specs.Originals.{AreCopiesOf, AgreeWith, HaveEachLink, IsAmong, AreWeavable, AreNearCopies, IsIntactInSome}
+use Rattle.ffv1_splice.specs.Originals.{AreCopiesOf, AgreeWith, AgreeFromBelow, HaveEachLink, IsAmong, AreWeavable, AreNearCopies, IsIntactInSome}
 use Rattle.ffv1_splice.specs.declared.place.Standing.TheVariants.{Settled}
 use Rattle.ffv1_commands.specs.Commands.{IsOfDevices}
 use Rattle.ffv1_commands.specs.SpliceText.{standing_line, SplicesCopies, SpliceStops}
@@ -68,10 +68,10 @@ abbrev pub SpliceGivesWovenCopies : Type 0
 SpliceGivesWovenCopies =
     (original : List ℕ) (copies : List (List ℕ)) → AreCopiesOf original copies → AreWeavable original copies → GiveOnlyIfTrue copies original
 
--- So it is of near copies where each link is among the combinations.
+-- So it is of near copies where each link is among the combinations, and no slice that begins at a start of a link tells another.
 abbrev pub SpliceGivesNearWovenCopies : Type 0
 SpliceGivesNearWovenCopies =
-    (original : List ℕ) (copies : List (List ℕ)) → AreNearCopies original copies
+    (original : List ℕ) (copies : List (List ℕ)) → AreNearCopies original copies → AgreeFromBelow original copies
     → ((start end : ℕ) → IsLinkOf original start end → IsAmong original copies start end)
     → GiveOnlyIfTrue copies original
 

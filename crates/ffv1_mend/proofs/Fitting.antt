@@ -12,7 +12,7 @@ use Rattle.ffv1_splice.specs.Standings.{versions_at}
 use Rattle.ffv1_splice.specs.Splice.{SplicedValue, IsSpliceOf}
 use Rattle.ffv1_splice.specs.declared.place.Place.{Place}
 use Rattle.ffv1_splice.proofs.Versions.{version_there}
-use Rattle.ffv1_splice.proofs.Walks.{stands_below, ends_below}
+use Rattle.ffv1_splice.proofs.SplicePlaces.{places_within}
 use Rattle.ffv1_mend.specs.Improved.{Patch, patched, is_given, patches_of, given_patches, IsWithin, IsFitting, AreFitting, AreSplicesOf}
 use Rattle.ffv1_mend.specs.declared.part.Part.{Part}
 
@@ -68,14 +68,10 @@ module _ (versions : List (List ℕ)) (size : ℕ) (first : List ℕ) (there : C
       let inside = within.within in
       let same = is.one_length (slice_range first part.start part.end) (version_there versions part.start part.end first there) in
       let range = length-range first part.start part.end order (omega arith) in
-      let upright : All (λ place. place.start ≤ place.end) spliced.places =
-      λ k d lt. let place : Place = get_or spliced.places k d in
-      let below = stands_below (versions_at versions part.start part.end) place.start place.end (slice_range spliced.payload place.start place.end) place.standing
-      (is.stand k d lt) in omega arith in
       record {
         inside = within;
         long = omega arith;
-        places = λ k d lt. (upright k d lt, ends_below (length spliced.payload) spliced.places spliced.front upright is.lie k d lt);
+        places = places_within (versions_at versions part.start part.end) spliced is;
       }
 
   pub splices_fit : (parts : List Part) (splices : List SplicedValue) → All (IsWithin size) parts → AreSplicesOf versions parts splices

@@ -4,7 +4,7 @@ use Rattle.std.proofs.Math.Nat.{mul_assoc, le-mul_of_pos_right}
 use Rattle.std.proofs.lemmas.Bool.{cases_lt}
 use Rattle.std.proofs.lemmas.List.{take_more, map-append}
 use Rattle.ffv1_splice.specs.declared.place.Standing.{Standing}
-use Rattle.ffv1_splice.specs.declared.place.Standing.TheVariants.{Settled, Woven, Disputed, Missing}
+use Rattle.ffv1_splice.specs.declared.place.Standing.TheVariants.{Settled, Woven, Disputed, Missing, Undivided}
 use Rattle.ffv1_splice.specs.declared.place.Place.{Place}
 use Rattle.ffv1_mend.specs.Mended.{count_at, product}
 
@@ -29,6 +29,7 @@ count_of_other Settled apart = refl
 count_of_other (Woven count) apart = absurd (apart count refl)
 count_of_other Disputed apart = refl
 count_of_other Missing apart = refl
+count_of_other Undivided apart = refl
 
 module _ (places : List Place) (i : ℕ) (place : Place) (lt : i < length places) where
   pub counted : (count next most : ℕ) → count ≡ min (product (map (λ one. count_at one.standing) (take i places))) most

@@ -30,6 +30,6 @@ near_versions_mend =
           passing_is_original original versions of mended.bytes only.there.there only.there.passes;
       undisputed = λ original versions from parts mended of is state.
           not_two original versions of (subst (ElementStands versions from parts mended.splices mended.bytes) state is.stands).0;
-      frame = λ original versions mended near among is good.
-          is.bytes ∙ near_copies_splice.woven original versions is.spliced near among is.is_splice (good_given is.spliced mended.state is.stands good);
+      frame = λ original versions mended near below among is good.
+          is.bytes ∙ near_copies_splice.woven original versions is.spliced near below among is.is_splice (good_given is.spliced mended.state is.stands good);
     }

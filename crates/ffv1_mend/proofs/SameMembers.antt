@@ -8,8 +8,7 @@ use Rattle.ffv1_weave.specs.declared.check.Check.TheVariants.{Element}
 use Rattle.ffv1_splice.specs.Standings.{versions_at}
 use Rattle.ffv1_splice.specs.Splice.{SplicedValue, IsSpliceOf}
 use Rattle.ffv1_splice.proofs.Versions.{same_versions, weave_there}
-use Rattle.ffv1_splice.proofs.Walks.{splice_of, splice_walk}
-use Rattle.ffv1_splice.proofs.OneSplice.{walk_there}
+use Rattle.ffv1_splice.proofs.OneSplice.{splice_there}
 use Rattle.ffv1_mend.specs.Improved.{AreSplicesOf, patched, given_patches, improved}
 use Rattle.ffv1_mend.specs.Mended.{MendedValue, IsPassing, ElementStands, IsElementMend}
 use Rattle.ffv1_mend.specs.declared.part.Part.{Part}
@@ -39,9 +38,7 @@ module _ (versions others : List (List ℕ)) (same : HasSameMembers versions oth
   passing_back version h = record { there = (same version).1 h.there; passes = h.passes }
 
   pub splice_as : (spliced : SplicedValue) → IsSpliceOf versions spliced → IsSpliceOf others spliced
-  splice_as spliced h =
-      splice_of others (length spliced.payload) spliced.places spliced.front spliced.payload (λ copy there. h.one_length copy ((same copy).1 there))
-      (walk_there versions others same (length spliced.payload) spliced.places spliced.front spliced.payload (splice_walk versions spliced h))
+  splice_as = splice_there versions others same
 
   weave_as : (parts : List Part) (splices : List SplicedValue) (weave : Weave) → IsWeaveOf Element (improved versions parts splices) weave
       → IsWeaveOf Element (improved others parts splices) weave

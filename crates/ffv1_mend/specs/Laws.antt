@@ -8,7 +8,7 @@ use Rattle.ffv1_weave.specs.Laws.{IsCovered}
 use Rattle.ffv1_weave.specs.Combinations.{IsCombination, IsValid}
 use Rattle.ffv1_weave.specs.Weave.{AreMany}
 use Rattle.ffv1_weave.specs.declared.check.Check.TheVariants.{Element}
-use Rattle.ffv1_splice.specs.Originals.{AreCopiesOf, AreWeavable, AreNearCopies, IsAmong}
+use Rattle.ffv1_splice.specs.Originals.{AreCopiesOf, AgreeFromBelow, AreWeavable, AreNearCopies, IsAmong}
 use Rattle.ffv1_splice.specs.Whole.{IsWholeFrame}
 use Rattle.ffv1_mend.specs.Improved.{IsWithin, IsRight, given_patches, improved}
 use Rattle.ffv1_mend.specs.Mended.{MendedValue, IsElementMend, IsFrameMend, IsMendOf, is_good}
@@ -106,7 +106,8 @@ pub record AreNearVersions (original : List ℕ) (versions : List (List ℕ)) : 
   pub near : (version : List ℕ) → Contains versions version → IsNearVersion original version
 
 -- Then no version that passes differs from the original: what is whole is the original, and nothing is disputed. A frame that is good is the
--- original where each link of each version is near the original's, and is among the combinations.
+-- original where each link of each version is near the original's, and is among the combinations, and each slice that passes and begins where
+-- a link of the original begins is that link.
 pub record NearVersionsMend : Type 0 where
   pub alone : (original : List ℕ) (versions : List (List ℕ)) → AreNearVersions original versions → (version : List ℕ) → Contains versions version
       → PassesCrc32 version → version ≡ original
@@ -115,5 +116,5 @@ pub record NearVersionsMend : Type 0 where
   pub undisputed : (original : List ℕ) (versions : List (List ℕ)) (from : List ℕ) (parts : List Part) (mended : MendedValue)
       → AreNearVersions original versions → IsElementMend versions from parts mended → mended.state ≡ Disputed → ⊥
   pub frame : (original : List ℕ) (versions : List (List ℕ)) (mended : MendedValue) → AreNearCopies original versions
-      → ((start end : ℕ) → IsLinkOf original start end → IsAmong original versions start end) → IsFrameMend versions mended
+      → AgreeFromBelow original versions → ((start end : ℕ) → IsLinkOf original start end → IsAmong original versions start end) → IsFrameMend versions mended
       → is_good mended.state ≡ true → mended.bytes ≡ original
