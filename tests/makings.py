@@ -205,3 +205,51 @@ def rotten(numbers, frame):
     for _ in range(numbers.randint(1, 4)):
         copy = numbers.choice([lose_sector, turn_bits, spill, damage_size])(numbers, copy, ends)
     return copy
+
+
+def rotten_copies(numbers, frame):
+    """Two to four such copies of a frame."""
+    return [rotten(numbers, frame) for _ in range(numbers.randint(2, 4))]
+
+
+# ---- damage as disks, tapes and memory do it
+
+
+def lose_aligned(numbers, frame, before, size):
+    """A sector or block of a file in which so many bytes stand before the frame is lost: zeros, garbage or another one stand there."""
+    first, other = (size * numbers.randrange(before // size, -(-(before + len(frame)) // size)) - before for _ in range(2))
+    sector = numbers.choice([bytes(size), numbers.randbytes(size), (bytes(size) + frame + bytes(size))[other + size :][:size]])
+    return written(frame, max(first, 0), sector[max(-first, 0) : len(frame) - first])
+
+
+def lose_sectors(numbers, frame, before):
+    for _ in range(numbers.randint(1, 4)):
+        frame = lose_aligned(numbers, frame, before, 512)
+    return frame
+
+
+def lose_block(numbers, frame, before):
+    return lose_aligned(numbers, frame, before, numbers.choice([1024, 2048, 4096]))
+
+
+def turn_one_bit(numbers, frame, before):
+    """The same bit is turned in up to sixteen bytes, which lie a power of two apart."""
+    copy, mask, step = bytearray(frame), 1 << numbers.randrange(8), 1 << numbers.randrange(3, 12)
+    for place in range(numbers.randrange(len(frame)), len(frame), step)[: numbers.randint(1, 16)]:
+        copy[place] ^= mask
+    return bytes(copy)
+
+
+def aged(numbers, frame, before, count):
+    """A copy of a frame with so many places of such damage, of its length."""
+    for _ in range(count):
+        frame = numbers.choice([lose_sectors, lose_block, turn_one_bit])(numbers, frame, before)
+    return frame
+
+
+def aged_copies(numbers, frame):
+    """Two to four such copies of a frame; half of the time all are made of one that was damaged before."""
+    before, source = numbers.randrange(1 << 20), frame
+    if numbers.random() < 0.5:
+        source = aged(numbers, frame, before, 1)
+    return [aged(numbers, source, before, numbers.randint(0, 3)) for _ in range(numbers.randint(2, 4))]

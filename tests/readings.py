@@ -419,22 +419,62 @@ def woven(versions, is_valid):
     return number, [whole for whole in combinations if is_valid(whole)]
 
 
+def pieces_that_end(copies, end):
+    """The different pieces that end there: the footer that ends there in a copy tells where one begins, and it passes."""
+    return {piece for piece in {copy[start:end] for copy, start in told_starts(copies, end)} if passes(piece)}
+
+
+def pieces_that_begin(copies, start, top):
+    """Of the pieces that begin there and end at the top or before it, the different ones that end first."""
+    for end in range(start + 9, top + 1):
+        told = {copy[start:end] for copy, told_start in told_starts(copies, end) if told_start == start}
+        if pieces := {piece for piece in told if passes(piece)}:
+            return pieces
+    return set()
+
+
+def settled_down(copies):
+    """The only piece that ends at the copies' end, the one that ends where it begins, and so on; and where the first of them begins."""
+    found, end = [], len(copies[0])
+    while len(pieces := pieces_that_end(copies, end)) == 1:
+        found += pieces
+        end -= len(found[-1])
+    return found, end
+
+
+def settled_up(copies, end):
+    """The only shortest piece that begins at the copies' start, the one that begins where it ends, and so on, as long as no other piece
+    ends where it ends; and where the last ends. None goes past the end below which the walk down stopped, nor into a piece that ends there."""
+    found, start = [], 0
+    top = min((end - len(piece) for piece in pieces_that_end(copies, end)), default=end)
+    while len(pieces := pieces_that_begin(copies, start, top)) == 1 and pieces_that_end(copies, start + len(*pieces)) == pieces:
+        found += pieces
+        start += len(found[-1])
+    return found, start
+
+
 def place_before(copies, end):
-    """The place that ends there: its start, how it stands, and the bytes that stand there; None where the front can't be divided."""
-    told = [(copy[start:end], start) for copy, start in told_starts(copies, end)]
-    pieces = {piece for piece, _ in told if passes(piece)}
-    starts = {start for _, start in told}
+    """The place that ends there: how it stands, and the bytes that stand there; None where what lies before it can't be divided."""
+    pieces, starts = pieces_that_end(copies, end), {start for _, start in told_starts(copies, end)}
     if len(pieces) == 1:
-        (piece,) = pieces
-        return end - len(piece), "settled", piece
+        return "settled", *pieces
     if len(starts) != 1:
         return None
     (start,) = starts
     versions = sorted({copy[start:end] for copy in copies})
     number, slices = (0, []) if pieces else woven(versions, is_slice)
     if len(slices) == 1:
-        return start, f"woven {number}", slices[0]
-    return start, "disputed" if pieces or slices else "missing", versions[0]
+        return f"woven {number}", slices[0]
+    return "disputed" if pieces or slices else "missing", versions[0]
+
+
+def divided(copies):
+    """What lies between the two walks, from its end: how each place stands and its bytes; and how many bytes can't be divided."""
+    found, end = [], len(copies[0])
+    while end and (place := place_before(copies, end)):
+        found.append(place)
+        end -= len(place[1])
+    return found, end
 
 
 class Splice:
@@ -442,14 +482,19 @@ class Splice:
     that can't be divided ends; and the payload."""
 
     def __init__(self, copies):
-        pieces, self.places, self.front = [], [], len(copies[0])
-        while self.front and (place := place_before(copies, self.front)):
-            start, stands, piece = place
-            self.places.append((start, self.front, stands))
-            pieces.append(piece)
-            self.front = start
-        pieces.append(min(copy[: self.front] for copy in copies))
-        self.payload = b"".join(reversed(pieces))
+        above, top = settled_down(copies)
+        below, bottom = settled_up(copies, top)
+        hole, rest = divided([copy[bottom:top] for copy in copies])
+        least = min(copy[bottom : bottom + rest] for copy in copies)
+        found = [("settled", piece) for piece in above] + hole + [("undivided", least)] + [("settled", piece) for piece in reversed(below)]
+        self.payload = b"".join(piece for _, piece in reversed(found))
+        # What can't be divided is a place of its own only where places stand below it.
+        self.front = 0 if below else rest
+        self.places, end = [], len(copies[0])
+        for stands, piece in found:
+            if piece and end > self.front:
+                self.places.append((end - len(piece), end, stands))
+            end -= len(piece)
         self.end = f"end broken at {self.front}" if self.front else "end whole"
 
     def given_back(self):
@@ -459,7 +504,7 @@ class Splice:
 
 def is_sure(stands):
     """Whether a place that stands so is settled or woven."""
-    return stands not in ("disputed", "missing")
+    return stands.split()[0] in ("settled", "woven")
 
 
 def spliced(copies):

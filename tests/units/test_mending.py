@@ -48,6 +48,11 @@ class ReaderTest(unittest.TestCase):
         ]
         self.assertEqual(list(Reader(LINES.splitlines(True)).outcomes()), wanted)
 
+    def test_a_place_that_is_not_divided(self):
+        lines = b"stretch 1 frame missing 00\n  30..40 settled 11\n  20..30 undivided 10\n  0..20 settled 01\n  end whole\n"
+        slices = (Place(30, 40, "settled", 0, "11"), Place(20, 30, "undivided", 0, "10"), Place(0, 20, "settled", 0, "01"))
+        self.assertEqual(list(Reader(lines.splitlines(True)).outcomes()), [Outcome(0, State.MISSING, 0, "00", {0: slices})])
+
     def test_no_lines(self):
         self.assertEqual(list(Reader([]).outcomes()), [])
 

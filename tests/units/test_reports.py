@@ -7,7 +7,7 @@ import re
 import unittest
 from unittest import mock
 
-from .test_verdict import element, missing, plain, recording, settled
+from .test_verdict import element, missing, plain, recording, settled, undivided
 from mend_reel import machine, report, timeline
 from mend_reel.account import Account, CopyFacts, Role
 from mend_reel.digests import Compared
@@ -116,6 +116,12 @@ class PageTest(unittest.TestCase):
         self.assertIn("0 to 40: that of copy 2", words)
         self.assertIn("woven from several copies, one of 4 combinations", words)
         self.assertNotIn("100 to 300", words)
+
+    def test_a_place_that_is_not_divided_is_shown(self):
+        slices = (settled("11", 200), undivided("10", 100, 200), settled("01", 0, 100))
+        _, words = self.page(account(recording(), Outcome(element(1), State.MISSING, 0, "10", {0: slices})))
+        self.assertIn("100 to 200: the footers do not lead there", words)
+        self.assertIn("0 to 100: that of copy 2", words)
 
     def test_other_damage(self):
         _, words = self.page(account(recording(), *DAMAGED))

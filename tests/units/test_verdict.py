@@ -63,6 +63,10 @@ def missing(marks="10", start=0, end=300):
     return Place(start, end, "missing", 0, marks)
 
 
+def undivided(marks="10", start=0, end=300):
+    return Place(start, end, "undivided", 0, marks)
+
+
 def without(layout, *numbers):
     """A layout as it is read again with some frames hidden."""
     return dataclasses.replace(layout, frames=[frame for number, frame in enumerate(layout.frames) if number not in numbers])
@@ -103,6 +107,18 @@ class FateTest(unittest.TestCase):
         fates = self.fates(recording(), Outcome(element(1), State.MISSING, 0, "10", {0: (missing("10"),)}))
         self.assertEqual((fates.frames[1].fate, fates.frames[1].damaged), (Fate.LOST, (0, 1)))
         self.assertEqual((fates.sums().verified, fates.sums().open), (5 * 500, 500))
+
+    def test_a_frame_of_which_a_place_is_not_divided_is_lost(self):
+        slices = (settled("10", 200), undivided("11", 100, 200), settled("01", 0, 100))
+        fates = self.fates(recording(), Outcome(element(1), State.MISSING, 0, "10", {0: slices}))
+        self.assertEqual((fates.frames[1].fate, fates.frames[1].damaged), (Fate.LOST, (0, 1)))
+        self.assertEqual(fates.counts().named(), {"frames": 6, "damaged": 1, "restored": 0, "woven": 0, "not restored": 1})
+        self.assertEqual((fates.sums().verified, fates.sums().open), (5 * 500, 500))
+
+    def test_a_checksum_vouches_for_a_place_that_is_not_divided(self):
+        slices = (settled("10", 200), undivided("00", 100, 200), settled("01", 0, 100))
+        fates = self.fates(recording(), Outcome(element(1), State.WOVEN, 4, "00", {0: slices}))
+        self.assertEqual((fates.frames[1].fate, fates.frames[1].damaged, fates.sums().open), (Fate.WOVEN, (0, 1), 0))
 
     def test_woven(self):
         fates = self.fates(recording(), Outcome(element(0), State.WHOLE, 0, "00", {0: (Place(0, 300, "woven", 4, "00"),)}),

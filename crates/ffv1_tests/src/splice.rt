@@ -47,6 +47,12 @@ const OTHER_FIRST_SLICE: Changes = &[(10, 0x01), (11, 0x04), (12, 0xC1), (13, 0x
 /// A footer of the second slice that tells a size beyond the frame.
 const SIZE_DAMAGED: Changes = &[(107, 0x80)];
 
+/// A footer of the first slice that does.
+const FIRST_SIZE_DAMAGED: Changes = &[(45, 0x80)];
+
+/// A footer of the third slice that tells a start within the second.
+const SIZE_TOO_LARGE: Changes = &[(221, 0xF8)];
+
 /// The frame where these bytes are changed.
 fn changed(changes: &[(usize, u8)]) -> [u8; 336] {
     let mut copy = RECORDED;
@@ -136,10 +142,36 @@ fn slices_that_differ_and_pass_are_disputed(rt: HostRuntime) -> Result<(), Fail>
 }
 
 #[test]
+fn a_size_that_all_copies_lost_hides_its_slice_alone(rt: HostRuntime) -> Result<(), Fail> {
+    let (settled, undivided) = (Standing::Settled, Standing::Undivided);
+    let standings = [settled, settled, undivided, settled];
+    let pair = (SIZE_DAMAGED, SIZE_DAMAGED);
+    assert!(rt; changed_give(rt.alloc(), pair, standings, SIZE_DAMAGED)?);
+    Ok(())
+}
+
+#[test]
+fn a_footer_in_the_hole_that_leads_below_it_tells_no_start(rt: HostRuntime) -> Result<(), Fail> {
+    let settled = Standing::Settled;
+    let standings = [settled, Standing::Woven(4), settled, settled];
+    let pair: (Changes, Changes) = (SIZE_TOO_LARGE, &[(120, 1)]);
+    assert!(rt; changed_give(rt.alloc(), pair, standings, &[])?);
+    Ok(())
+}
+
+#[test]
 fn a_front_where_no_start_is_told_is_not_divided(rt: HostRuntime) -> Result<(), Fail> {
-    let copy = changed(SIZE_DAMAGED);
-    let [last, third, ..] = places([Standing::Settled; 4]);
-    assert!(rt; gives(rt.alloc(), (&copy, &copy), &[last, third], 115, &copy)?);
+    let copy = changed(FIRST_SIZE_DAMAGED);
+    let [last, third, second, ..] = places([Standing::Settled; 4]);
+    assert!(rt;
+        gives(
+            rt.alloc(),
+            (&copy, &copy),
+            &[last, third, second],
+            53,
+            &copy
+        )?
+    );
     Ok(())
 }
 
@@ -168,7 +200,7 @@ fn tells(
 /// prints.
 type Told = (Changes, Changes, bool, Changes, &'static str);
 
-static TOLD: [Told; 4] = [
+static TOLD: [Told; 5] = [
     (
         FIRST_COPY,
         SECOND_COPY,
@@ -195,7 +227,14 @@ static TOLD: [Told; 4] = [
         SIZE_DAMAGED,
         false,
         SIZE_DAMAGED,
-        "227..336 settled\n115..227 settled\nend broken at 115\n",
+        "227..336 settled\n115..227 settled\n53..115 undivided\n0..53 settled\nend whole\n",
+    ),
+    (
+        FIRST_SIZE_DAMAGED,
+        FIRST_SIZE_DAMAGED,
+        false,
+        FIRST_SIZE_DAMAGED,
+        "227..336 settled\n115..227 settled\n53..115 settled\nend broken at 53\n",
     ),
 ];
 
