@@ -1,4 +1,4 @@
-//! The texts (own).
+//! The texts (own). The manual page and the README have the same sentences: `tests/manual` compares them.
 
 /// What `help` prints.
 pub(crate) const HELP: &str = "\

@@ -1,5 +1,5 @@
 -- Arguments as clap reads them.
-use Rattle.std.proofs.Common.{◌≡◌, List, [], ◌∷◌, Option, Some, option_map, codes, true, false, refl}
+use Rattle.std.proofs.Common.{◌≡◌, List, [], ◌∷◌, Option, Some, None, option_map, codes, true, false, refl}
 use Rattle.clap.specs.Words.{Row, Text, all_of, first_of, subcommand_of, takes}
 use Rattle.clap.proofs.OnLiterals.{clap_on_literals}
 use Rattle.ffv1_words.specs.Grammar.{program_app}
@@ -31,6 +31,22 @@ one_file_is_taken = refl
 two_files_are_refused : takes program_app (codes "ffv1restore" ∷ codes "chain" ∷ codes "a" ∷ codes "b" ∷ []) ≡ false
 unfolding clap_on_literals
 two_files_are_refused = refl
+
+help_is_read : read_of (codes "COPY") (codes "COPY") (codes "help" ∷ []) ≡ Some (codes "help", None, None)
+unfolding clap_on_literals
+help_is_read = refl
+
+help_of_a_command_is_refused : takes program_app (codes "ffv1restore" ∷ codes "help" ∷ codes "chain" ∷ []) ≡ false
+unfolding clap_on_literals
+help_of_a_command_is_refused = refl
+
+version_is_taken : takes program_app (codes "ffv1restore" ∷ codes "version" ∷ []) ≡ true
+unfolding clap_on_literals
+version_is_taken = refl
+
+asked_by_a_dash_is_refused : takes program_app (codes "ffv1restore" ∷ codes "--help" ∷ []) ≡ false
+unfolding clap_on_literals
+asked_by_a_dash_is_refused = refl
 
 no_copy_is_refused : takes program_app (codes "ffv1restore" ∷ codes "splice" ∷ codes "c" ∷ []) ≡ false
 unfolding clap_on_literals

@@ -8,7 +8,7 @@ use Rattle.ffv1_commands.specs.declared.fault.CliFault.{CliFault}
 use Rattle.ffv1_words.specs.Grammar.{program_app}
 use Rattle.ffv1_words.specs.declared.words.Recording.{Recording}
 use Rattle.ffv1_words.specs.declared.words.Words.{Words}
-use Rattle.ffv1_words.specs.declared.words.Words.TheVariants.{Chain, Scan, Show, Take, Join, Merge, Report, Restore, Picture, Splice, Mend, Decode}
+use Rattle.ffv1_words.specs.declared.words.Words.TheVariants.{Chain, Scan, Show, Take, Join, Merge, Report, Restore, Picture, Splice, Mend, Decode, Help, Version}
 
 -- what clap found under each name
 abbrev pub rows_in : ArgMatches → List Row
@@ -52,6 +52,8 @@ AreRead rows (Mend list out copies) =
     IsWord rows (codes "LIST") list.now × IsWord rows (codes "OUT") out.now × AreWords rows (codes "COPY") (map (λ copy. copy.now) copies.items)
 AreRead rows (Decode recording frame out) =
     IsRecording rows recording × IsWord rows (codes "FRAME") frame.now × IsWord rows (codes "OUT") out.now
+AreRead rows Help = Unit {0}
+AreRead rows Version = Unit {0}
 
 -- the name of a command
 abbrev pub command_name : Words → List ℕ
@@ -67,6 +69,8 @@ command_name (Picture file out) = codes "picture"
 command_name (Splice out copies) = codes "splice"
 command_name (Mend list out copies) = codes "mend"
 command_name (Decode recording frame out) = codes "decode"
+command_name Help = codes "help"
+command_name Version = codes "version"
 
 -- The command of this name was read with its words, or what is at fault names no path.
 abbrev pub ReadsWords : List Row → List ℕ → Result Words CliFault → Type 0

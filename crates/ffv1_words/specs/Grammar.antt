@@ -32,9 +32,9 @@ with_commands program [] = program
 with_commands program (command ∷ commands) =
     with_commands (with_subcommand program (command_app command.0 command.1 command.2).top) commands
 
--- a program that has to be given a command
+-- a program that has to be given a command, and has no `help` of clap's own
 abbrev pub empty_program : App
-empty_program = record { top = record ((new_app (codes "ffv1restore")).top) { subcommand_required = true }; subs = [] }
+empty_program = record { top = record ((new_app (codes "ffv1restore")).top) { disable_help_subcommand = true; subcommand_required = true }; subs = [] }
 
 -- all commands, each with its words, and the word of which there is one at least
 abbrev pub all_commands : List (Text × List Text × Option Text)
@@ -51,6 +51,8 @@ all_commands =
     ∷ (codes "splice", codes "OUT" ∷ [], Some (codes "COPY"))
     ∷ (codes "mend", codes "LIST" ∷ codes "OUT" ∷ [], Some (codes "COPY"))
     ∷ (codes "decode", codes "RECORD" ∷ codes "WIDTH" ∷ codes "HEIGHT" ∷ codes "FRAME" ∷ codes "OUT" ∷ [], None)
+    ∷ (codes "help", [], None)
+    ∷ (codes "version", [], None)
     ∷ []
 
 abbrev pub program_app : App

@@ -1,12 +1,12 @@
 -- The paths that the command of the words has.
-use Rattle.std.specs.Prelude.{ℕ, zero, suc, ◌+◌, ◌-◌, ◌==◌, if◌then◌else◌, List, [], map, slice_index_or, vec_len, codes}
+use Rattle.std.specs.Prelude.{ℕ, ◌≡◌, zero, suc, ◌+◌, ◌-◌, ◌==◌, if◌then◌else◌, List, [], map, slice_index_or, vec_len, codes}
 use Rattle.std.specs.Borrow.{Bor}
 use Rattle.ffv1_commands.specs.Paths.{IsChainPath, IsScanPath, IsShowPath, IsTakePath, IsJoinPath, IsMergePath, IsReportPath, IsHoldPath, IsSplicePath, IsMendPath, IsDecodePath}
 use Rattle.ffv1_commands.specs.declared.path.CommandPath.{CommandPath}
 use Rattle.ffv1_commands.specs.declared.path.CommandPath.TheVariants.{Record, Frame, Copy, Hold, Ranges, File, Inputs, Out}
 use Rattle.ffv1_commands.specs.declared.path.CommandPath.TheVariants as paths
 use Rattle.ffv1_words.specs.declared.words.Words.{Words}
-use Rattle.ffv1_words.specs.declared.words.Words.TheVariants.{Chain, Scan, Show, Take, Join, Merge, Report, Restore, Picture, Splice, Mend, Decode}
+use Rattle.ffv1_words.specs.declared.words.Words.TheVariants.{Chain, Scan, Show, Take, Join, Merge, Report, Restore, Picture, Splice, Mend, Decode, Help, Version}
 
 -- The command of the words has this path.
 abbrev pub IsPathOf : Words → CommandPath → Type 0
@@ -22,6 +22,8 @@ IsPathOf (Picture file out) path = IsHoldPath path
 IsPathOf (Splice out copies) path = IsSplicePath (vec_len copies) path
 IsPathOf (Mend list out copies) path = IsMendPath (vec_len copies) path
 IsPathOf (Decode recording frame out) path = IsDecodePath path
+IsPathOf Help path = path ≡ paths.StandardOutput
+IsPathOf Version path = path ≡ paths.StandardOutput
 
 -- the word at a place among words that name files
 abbrev pub word_at : List (Bor (List ℕ)) → ℕ → List ℕ

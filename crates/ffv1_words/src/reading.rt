@@ -13,7 +13,7 @@ use ffv1_commands::CliFault;
 use std::alloc::{AllocError, Global};
 
 /// The commands: the name of each, its words, and after them the word of which there has to be one at least.
-static COMMANDS: [(&str, &[&str], Option<&str>); 12] = [
+static COMMANDS: [(&str, &[&str], Option<&str>); 14] = [
     ("chain", &["FRAME"], None),
     ("scan", &["RANGES", "FILE"], None),
     ("show", &["RECORD", "WIDTH", "HEIGHT"], None),
@@ -30,6 +30,8 @@ static COMMANDS: [(&str, &[&str], Option<&str>); 12] = [
         &["RECORD", "WIDTH", "HEIGHT", "FRAME", "OUT"],
         None,
     ),
+    ("help", &[], None),
+    ("version", &[], None),
 ];
 
 /// A word that has to be there, by this name.
@@ -75,11 +77,13 @@ fn with_commands<'a>(
     Ok(program)
 }
 
-/// The program's commands.
+/// The program's commands, `help` among them: clap has none of its own beside it.
 fn program<'a>(alloc: Global) -> Result<Command<'a>, AllocError>
     ensures { IfOk result (λ program. app_of program ≡ program_app) }
 {
-    let program = Command::new(alloc, "ffv1restore").subcommand_required(true);
+    let program = Command::new(alloc, "ffv1restore")
+        .disable_help_subcommand(true)
+        .subcommand_required(true);
     with_commands(alloc, program, &COMMANDS)
 }
 
@@ -238,13 +242,15 @@ fn words_of<'a>(alloc: Global, name: &str, matches: &ArgMatches<'a>) -> Result<W
         "splice" => splice_words(alloc, matches),
         "mend" => mend_words(alloc, matches),
         "decode" => decode_words(matches),
+        "help" => Ok(Words::Help),
+        "version" => Ok(Words::Version),
         _ => hold_words_of(alloc, name, matches),
     }
 }
 
 /// The command that the program's words name, the first of which is the program's own: they are read as `clap` reads them, by the
-/// commands of `specs/Grammar.antt`. All other words are refused with `Words`, those that ask for help among them, and a width or
-/// height that is no number under 2^32; `Memory` comes where a growth is refused.
+/// commands of `specs/Grammar.antt`. All other words are refused with `Words`, `--help` and `help` with a word after it among them, and
+/// a width or height that is no number under 2^32; `Memory` comes where a growth is refused.
 pub fn read_words<'a>(alloc: Global, words: &'a [String]) -> Result<Words<'a>, CliFault>
     ensures ok { IfOk result (AreReadFrom (map (λ word. string_bytes word) words.now)) }
     ensures err { IfErr result NamesNoPath }

@@ -106,6 +106,10 @@ pub enum Words<'a> {
         /// The file that is made.
         out: &'a str,
     },
+    /// Prints each command, the exit statuses and the faults.
+    Help,
+    /// Prints the version, and the kit that proved it.
+    Version,
 }
 
 impl<'a> Words<'a> {

@@ -15,7 +15,8 @@ pub use ffv1_commands::{
     run_show, run_splice, run_take, same_copies_make_one_file, same_copies_make_one_splice,
     splice_gives_the_original, splice_tells_whole_frames, splice_weaves_the_original,
 };
-use ffv1_devices::{InputFile, OutputFile};
+use ffv1_devices::{InputFile, OutputFile, WriteFailed};
+use ffv1_help::{run_help, run_version};
 use ffv1_words::{Recording, Words, read_words};
 use std::alloc::{AllocError, Global};
 use std::fs::File;
@@ -237,6 +238,16 @@ fn decode_files(
     )
 }
 
+/// What a command comes to that only prints a text: if that fails, standard output is at fault.
+fn of_printing(printed: Result<(), WriteFailed>) -> Result<(), CliFault>
+    ensures { IfErr result (NamesPath (λ path. path ≡ CommandPath.StandardOutput)) }
+{
+    match printed {
+        Ok(()) => Ok(()),
+        Err(_) => Err(CliFault::Write(CommandPath::StandardOutput)),
+    }
+}
+
 /// Runs a command on the files that its words name. Answers `false` where `picture` wrote its file and some tile has no
 /// samples, or `splice` its own and not all of the frame is given back, or `mend` its own and a stretch is missing, disputed or open, or
 /// `scan` found a range that is not whole with all its links passing; else `true`.
@@ -266,6 +277,8 @@ fn run(rt: &HostRuntime, words: &Words<'_>) -> Result<bool, CliFault>
             frame,
             out,
         } => decode_files(rt, recording, frame, out)?,
+        Words::Help => of_printing(run_help(&mut io::writer(rt)))?,
+        Words::Version => of_printing(run_version(&mut io::writer(rt)))?,
     }
     Ok(true)
 }

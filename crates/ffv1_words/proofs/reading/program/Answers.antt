@@ -12,6 +12,8 @@ with_all program r is told = IfOk-weaker r _ _ (λ whole made. made ∙ ap (λ a
 
 pub returns : goal.returns
 returns c =
+    let alone : App → App = λ app. record app { top = record app.top { disable_help_subcommand = true } } in
     let required : App → App = λ app. record app { top = record app.top { subcommand_required = true } } in
-    let program = ap app_of_fields c.subcommand_required-program.ensures ∙ ap required c.new.ensures.app in
+    let bare = ap app_of_fields c.disable_help_subcommand.ensures ∙ ap alone c.new.ensures.app in
+    let program = ap app_of_fields c.subcommand_required-program.ensures ∙ ap required bare in
     with_all c.subcommand_required-program.result c.with_commands.result program c.with_commands.ensures
