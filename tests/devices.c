@@ -1,0 +1,183 @@
+/* Stands before the system's files (LD_PRELOAD) and lets those fail that a program opens by a relative path, and its standard output,
+ * whose name is 1. tests/devices compiles it, and says by the environment what happens:
+ *
+ *   BITE     a read or a write takes at most so many bytes
+ *   EACH     before each read and write so many in a row are interrupted
+ *   FAILS    the name of the file whose reads or writes fail, once PLACE bytes of it were taken, with the number ERROR, or take nothing
+ *            where that is 0; and go on after TIMES of them, where that is not 0
+ *   TOLD     the file descriptor to which a line is written for each of these files that is opened or made, that was read to its end,
+ *            and that is closed
+ */
+#define _GNU_SOURCE
+#include <dlfcn.h>
+#include <errno.h>
+#include <fcntl.h>
+#include <stdarg.h>
+#include <stdlib.h>
+#include <string.h>
+#include <unistd.h>
+
+#define MOST 1024
+#define LONGEST 64
+
+struct device {
+    char name[LONGEST];
+    size_t taken;
+    unsigned long failed, interrupted;
+};
+
+static struct device devices[MOST];
+static const char *failing;
+static size_t bite, place;
+static unsigned long each, times;
+static int error_number, told;
+static ssize_t (*system_read)(int, void *, size_t);
+static ssize_t (*system_write)(int, const void *, size_t);
+static int (*system_open)(const char *, int, ...);
+static int (*system_close)(int);
+
+static unsigned long number(const char *name)
+{
+    const char *text = getenv(name);
+    return text ? strtoul(text, NULL, 10) : 0;
+}
+
+static void begin(void)
+{
+    if (system_read)
+        return;
+    system_write = (ssize_t (*)(int, const void *, size_t))dlsym(RTLD_NEXT, "write");
+    system_open = (int (*)(const char *, int, ...))dlsym(RTLD_NEXT, "open");
+    system_close = (int (*)(int))dlsym(RTLD_NEXT, "close");
+    system_read = (ssize_t (*)(int, void *, size_t))dlsym(RTLD_NEXT, "read");
+    failing = getenv("FAILS");
+    bite = number("BITE");
+    place = number("PLACE");
+    each = number("EACH");
+    times = number("TIMES");
+    error_number = (int)number("ERROR");
+    told = (int)number("TOLD");
+    strcpy(devices[1].name, "1");
+}
+
+/* What has a name here, or NULL. */
+static struct device *device_of(int fd)
+{
+    begin();
+    return fd >= 0 && fd < MOST && devices[fd].name[0] ? &devices[fd] : NULL;
+}
+
+static void tell(const char *what, const char *name)
+{
+    char line[2 * LONGEST];
+    size_t length = strlen(what);
+    if (!told)
+        return;
+    memcpy(line, what, length);
+    line[length] = ' ';
+    strcpy(line + length + 1, name);
+    strcat(line, "\n");
+    if (system_write(told, line, strlen(line)) < 0)
+        _exit(99);
+}
+
+/* Whether a try fails, with what it answers; else how many bytes it may take of so many. */
+static int fails(struct device *device, size_t *count, ssize_t *answer)
+{
+    *answer = -1;
+    if (*count == 0)
+        return 0;
+    if (device->interrupted < each) {
+        device->interrupted += 1;
+        errno = EINTR;
+        return 1;
+    }
+    device->interrupted = 0;
+    if (bite && *count > bite)
+        *count = bite;
+    if (!failing || strcmp(failing, device->name) != 0 || (times && device->failed == times))
+        return 0;
+    if (device->taken < place) {
+        if (*count > place - device->taken)
+            *count = place - device->taken;
+        return 0;
+    }
+    device->failed += 1;
+    errno = error_number;
+    if (!error_number)
+        *answer = 0;
+    return 1;
+}
+
+ssize_t read(int fd, void *bytes, size_t count)
+{
+    struct device *device = device_of(fd);
+    size_t asked = count;
+    ssize_t answer;
+    if (!device)
+        return system_read(fd, bytes, count);
+    if (fails(device, &count, &answer))
+        return answer;
+    answer = system_read(fd, bytes, count);
+    if (answer > 0)
+        device->taken += (size_t)answer;
+    if (answer == 0 && asked)
+        tell("ended", device->name);
+    return answer;
+}
+
+ssize_t write(int fd, const void *bytes, size_t count)
+{
+    struct device *device = device_of(fd);
+    ssize_t answer;
+    if (!device)
+        return system_write(fd, bytes, count);
+    if (fails(device, &count, &answer))
+        return answer;
+    answer = system_write(fd, bytes, count);
+    if (answer > 0)
+        device->taken += (size_t)answer;
+    return answer;
+}
+
+static int opened(int fd, const char *path, int flags)
+{
+    if (fd < 0 || fd >= MOST || path[0] == '/' || strlen(path) >= LONGEST)
+        return fd;
+    memset(&devices[fd], 0, sizeof devices[fd]);
+    strcpy(devices[fd].name, path);
+    tell((flags & O_ACCMODE) == O_RDONLY ? "opened" : "made", path);
+    return fd;
+}
+
+int open(const char *path, int flags, ...)
+{
+    va_list more;
+    int mode;
+    begin();
+    va_start(more, flags);
+    mode = flags & O_CREAT ? va_arg(more, int) : 0;
+    va_end(more);
+    return opened(system_open(path, flags, mode), path, flags);
+}
+
+int open64(const char *path, int flags, ...)
+{
+    va_list more;
+    int mode;
+    begin();
+    va_start(more, flags);
+    mode = flags & O_CREAT ? va_arg(more, int) : 0;
+    va_end(more);
+    return opened(system_open(path, flags | O_LARGEFILE, mode), path, flags);
+}
+
+int close(int fd)
+{
+    struct device *device = device_of(fd);
+    if (device && fd != 1) {
+        tell("closed", device->name);
+        device->name[0] = 0;
+    }
+    return system_close(fd);
+}
