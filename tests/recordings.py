@@ -1,0 +1,175 @@
+"""A recording of tests/real as inputs of all commands, and what each command makes of them: by what is recorded there, and by a second
+reading (tests/readings.py)."""
+import dataclasses
+import pathlib
+
+import makings
+import readings
+
+TESTS = pathlib.Path(__file__).resolve().parent
+
+
+@dataclasses.dataclass
+class Command:
+    """A command with its words, of which some are names of files; what it prints and makes of them; and contents of its inputs that are
+    refused, each with what is told then."""
+    words: list
+    printed: bytes = b""
+    made: bytes = None
+    status: int = 0
+    refused: dict = dataclasses.field(default_factory=dict)
+
+    @property
+    def name(self):
+        return self.words[0]
+
+
+def picture_of_tiles(samples, size, grid, tiles):
+    """The samples of a gray frame in some tiles, and 128 in the others."""
+    def edges(side, count):
+        return [side * number // count for number in range(count + 1)]
+
+    picture, columns, lines = bytearray(b"\x80" * len(samples)), edges(size[0], grid[0]), edges(size[1], grid[1])
+    for tile in tiles:
+        column, line = tile % grid[0], tile // grid[0]
+        for row in range(lines[line], lines[line + 1]):
+            first, last = (row * size[0] + edge for edge in columns[column : column + 2])
+            picture[first:last] = samples[first:last]
+    return bytes(picture)
+
+
+def chain_text(frame):
+    """What `chain` prints of a frame that is whole."""
+    found, broken = readings.links(frame)
+    assert broken is None and all(readings.passes(piece) for _, piece in found)
+    lines = (f"{start}..{start + len(piece)} size {len(piece) - 8} status {piece[-5]} pass\n" for start, piece in found)
+    return "".join([*lines, "end whole\n"]).encode()
+
+
+def recorded(path):
+    return (TESTS / path).read_bytes()
+
+
+class Recording:
+    """A recording of tests/real: inputs of all commands, and what these make of them."""
+
+    def __init__(self, name):
+        self.size = tuple(int(side) for side in name.split("-")[1].split("x"))
+        parts = "record", "frame-0", "planes-0", "copy-a", "copy-b"
+        record, self.frame, samples, *halves = (recorded(f"real/{name}/{part}") for part in parts)
+        self.setup = readings.setup_of(record, self.size)
+        self.tiles = readings.tiles_of(self.setup)
+        held = [readings.taken(self.setup, half) for half in halves]
+        whole = readings.holding_text(record, self.size, readings.united(*held))
+        assert whole == recorded(f"holdings/{name}/both-with-origins")
+        self.inputs = {"record": record, "frame": self.frame, "copy-a": halves[0], "copy-b": halves[1], "held": whole}
+        self.inputs |= {f"held-{letter}": readings.holding_text(record, self.size, each) for letter, each in zip("ab", held)}
+        self.commands = [Command(["chain", "frame"], chain_text(self.frame))]
+        self.add_commands_of_records(samples, held, whole)
+        self.add_unions(held, whole)
+        self.add_commands_of_holdings(samples, held)
+        self.add_splice(halves)
+        self.add_scan()
+        self.add_mend()
+
+    def add_commands_of_records(self, samples, held, whole):
+        record, frame = self.inputs["record"], self.frame
+        sizes, planes = [str(side) for side in self.size], 3 if self.setup.chroma else 1
+        refused = {"record": (makings.inverted(record, 3), "setup fault 2")}
+        decoded = "decoded {} x {} planes {}\n".format(*self.size, planes).encode()
+        self.commands += [
+            Command(["show", "record", *sizes], readings.setup_text(self.setup), refused=refused),
+            Command(["take", "record", *sizes, "OUT", "copy-a", "copy-b"], self.lines("copy", held), whole, refused=refused),
+            Command(["decode", "record", *sizes, "frame", "OUT"], decoded, samples,
+                    refused={**refused, "frame": (makings.inverted(frame, 1), "frame fault 2 at 0")}),
+        ]
+
+    def add_unions(self, held, whole):
+        """Unions of two files of holdings; one of them is refused that is none, or whose frame is a line higher."""
+        none = makings.inverted(whole, 3), "holding file fault 1"
+        higher = readings.holding_text(self.inputs["record"], (self.size[0], self.size[1] + 1), held[1])
+        self.commands += [
+            Command(["join", "OUT", "held-a", "held-b"], self.lines("file", held), whole,
+                    refused={"held-a": none, "held-b": (higher, "hold fault 1")}),
+            Command(["join", "OUT", "held-b", "held-a", "held-b"], self.lines("file", [held[1], *held]), whole),
+            Command(["merge", "OUT", "held-a", "held-b"], b"", whole,
+                    refused={"held-a": none, "held-b": (higher, "holding file fault 12")}),
+        ]
+
+    def add_commands_of_holdings(self, samples, held):
+        report = readings.report_text(self.size, readings.united(*held), self.tiles)
+        none, half = makings.inverted(self.inputs["held"], 3), self.inputs["held-a"]
+        restored = f"restored {len(self.frame)} bytes\n".encode()
+        self.commands += [
+            Command(["report", "held"], report, refused={"held": (none, "holding file fault 1")}),
+            Command(["restore", "held", "OUT"], restored, self.frame, refused={"held": (half, "missing tile 0")}),
+            Command(["picture", "held", "OUT"], b"", samples, refused={"held": (self.inputs["held"][:-1], "holding file fault 3")}),
+        ]
+        if not self.setup.chroma:
+            self.add_picture_of_half(samples, held[0])
+
+    def lines(self, what, held):
+        """The lines that `take` of copies or `join` of files prints, of what is held of each."""
+        seen, lines = set(), ""
+        for number, each in enumerate(held, 1):
+            found = f"links {self.tiles} slices {len(each)} " if what == "copy" else ""
+            lines += f"{what} {number} {found}new {len(set(each) - seen)}\n"
+            seen |= set(each)
+        return lines.encode()
+
+    def add_picture_of_half(self, samples, held):
+        tiles = {tile for tile, _ in held}
+        lines = "".join(f"tile {tile} missing\n" for tile in range(self.tiles) if tile not in tiles)
+        made = picture_of_tiles(samples, self.size, self.setup.grid, tiles)
+        self.commands.append(Command(["picture", "held-a", "OUT"], lines.encode(), made, 3))
+
+    def add_splice(self, halves):
+        payload, lines, status = readings.spliced(halves)
+        assert payload == self.frame
+        refused = {"copy-b": (halves[1][:-1], "cannot splice copy-b")}
+        self.commands.append(Command(["splice", "OUT", "copy-a", "copy-b"], lines, payload, status, refused))
+
+    def add_scan(self):
+        """Two ranges of a file in which other bytes stand before each."""
+        size = len(self.frame)
+        self.inputs["list-of-ranges"] = f"5 {size}\n{size + 9} {size}\n".encode()
+        self.inputs["recording"] = b"other" + self.frame + b"more" + self.frame
+        printed, status, _ = readings.scanned(self.inputs["list-of-ranges"], self.inputs["recording"])
+        refused = {"list-of-ranges": (b"5\n", "ranges fault 1")}
+        self.commands.append(Command(["scan", "list-of-ranges", "recording"], printed, None, status, refused))
+
+    def add_mend(self):
+        """Two copies of a file of a few stretches, each hurt in another place of each stretch that has a checksum."""
+        element, size = readings.element_of(self.frame + bytes(100)), len(self.frame)
+        for name, place in ("file-a", 20), ("file-b", size // 2):
+            hurt = makings.inverted(self.frame, place), makings.inverted(element, 6 + place)
+            self.inputs[name] = b"head" + b"".join(hurt) + b"tail"
+        lines = ["plain 4 1 0 0", f"frame {size} 1 4 4", f"crc32 {len(element)} 1 {4 + size} {4 + size}", f"part 6 {size}"]
+        lines.append(f"plain 4 2 {4 + size + len(element)} {4 + size + len(element)}")
+        self.inputs["list"] = "".join(f"{line}\n" for line in lines).encode()
+        made, printed, status, _ = self.mended()
+        assert made == b"head" + self.frame + element + b"tail"
+        refused = {"list": (b"plain\n", "list fault 1")}
+        self.commands.append(Command(["mend", "list", "OUT", "file-a", "file-b"], printed, made, status, refused))
+
+    def mended(self, **others):
+        """What `mend` makes, where some inputs are others."""
+        inputs = {**self.inputs, **{name.replace("_", "-"): content for name, content in others.items()}}
+        return readings.mended(inputs["list"], [(name, inputs[name]) for name in ("file-a", "file-b")])
+
+    def steps_of_mend(self):
+        """How many bytes OUT and standard output have after each stretch."""
+        ends, lines, count = [0], [0], len(readings.stretches_of(self.inputs["list"], 2))
+        for number in range(1, count + 1):
+            made, printed, _, _ = self.mended(list=b"".join(self.list_of(number)))
+            ends.append(len(made))
+            lines.append(len(printed))
+        return ends, lines
+
+    def list_of(self, count):
+        """The lines of the first stretches of the list."""
+        for line in self.inputs["list"].splitlines(keepends=True):
+            count -= not line.startswith(b"part")
+            if count < 0:
+                return
+            yield line
