@@ -16,7 +16,7 @@ $(PROGRAM): crates.txt $(shell find crates -path '*/out' -prune -o -type f -prin
 	@echo "proves and builds the program, which takes some 25 minutes on four processors"
 	cd crates/ffv1restore && rt run -- chain data/f22.bin > /dev/null
 
-# The gate, and then the cases of the program that the gate has built, growths that are refused, and rotten files.
+# The gate, and then the cases of the program that the gate has built, files that fail, growths that are refused, and rotten files.
 test:
 	rm -f $(PROGRAM) $(CALLS)
 	tests/manual
@@ -25,6 +25,7 @@ test:
 	rt ci
 	tests/run $(PROGRAM)
 	tests/larger $(PROGRAM)
+	tests/devices $(PROGRAM)
 	tests/memory $(CALLS) $(PROGRAM)
 	$(MAKE) rot
 
