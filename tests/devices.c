@@ -5,8 +5,8 @@
  *   EACH     before each read and write so many in a row are interrupted
  *   FAILS    the name of the file whose reads or writes fail, once PLACE bytes of it were taken, with the number ERROR, or take nothing
  *            where that is 0; and go on after TIMES of them, where that is not 0
- *   TOLD     the file descriptor to which a line is written for each of these files that is opened or made, that was read to its end,
- *            and that is closed
+ *   TOLD     the file descriptor to which a line is written for each of these files that is opened or made, also if it stands for a
+ *            standard stream then, that was read to its end, and that is closed
  */
 #define _GNU_SOURCE
 #include <dlfcn.h>
@@ -147,6 +147,8 @@ static int opened(int fd, const char *path, int flags)
     memset(&devices[fd], 0, sizeof devices[fd]);
     strcpy(devices[fd].name, path);
     tell((flags & O_ACCMODE) == O_RDONLY ? "opened" : "made", path);
+    if (fd <= 2)
+        tell("stream", path);
     return fd;
 }
 
