@@ -28,7 +28,8 @@ enum Told {
     Slice(usize),
     Other,
     Disputed,
-    Missing,
+    /// None of so many combinations.
+    Missing(usize),
     TooMany,
     /// The versions are of no one length, or there are none.
     Uneven,
@@ -47,7 +48,7 @@ fn told_of(alloc: Global, slice: &[u8], versions: &[&[u8]]) -> Result<Told, Allo
         Outcome::Woven(bytes, count) if bytes.as_slice() == slice => Told::Slice(count),
         Outcome::Woven(_, _) => Told::Other,
         Outcome::Disputed => Told::Disputed,
-        Outcome::Missing => Told::Missing,
+        Outcome::Missing(count) => Told::Missing(count),
         Outcome::TooMany => Told::TooMany,
     })
 }
@@ -76,20 +77,21 @@ fn is_told(alloc: Global, damages: &[Damage<'_>], told: Told) -> bool {
 }
 
 /// Versions by their damage, and what is woven of them.
-static ROWS: [(&[Damage<'static>], Told); 9] = [
+static ROWS: [(&[Damage<'static>], Told); 10] = [
     // apart in two copies, in whatever order and however often; in the footer's size too
-    (&[&[(3, 1), (4, 1)], &[(100, 0x80)]], Told::Slice(4)),
+    (&[&[(3, 1), (4, 1)], &[(100, 0x80)]], Told::Slice(8)),
     (
         &[&[(100, 0x80)], &[(3, 1), (4, 1)], &[(100, 0x80)]],
-        Told::Slice(4),
+        Told::Slice(8),
     ),
     (&[&[(3, 1)], &[(1031, 1)]], Told::Slice(4)),
-    // in one region, and with an intact version
-    (&[&[(3, 1)], &[(67, 1)]], Told::Missing),
-    (&[&[(3, 1)], &[(67, 1)], &[]], Told::Slice(3)),
-    (&[&[(3, 1)], &[(68, 1)]], Told::Slice(4)),
+    // beside each other, in one region, and with an intact version
+    (&[&[(3, 1)], &[(4, 1)]], Told::Slice(4)),
+    (&[&[(3, 1)], &[(67, 1)]], Told::Slice(4)),
+    (&[&[(3, 1)], &[(67, 1)], &[]], Told::Slice(4)),
+    (&[&[(3, 1)], &[(3, 2)]], Told::Missing(2)),
     (&[&[]], Told::Slice(1)),
-    (&[&[(3, 1)]], Told::Missing),
+    (&[&[(3, 1)]], Told::Missing(1)),
     // both damages together have the parity of neither
     (
         &[
@@ -119,6 +121,85 @@ static EVEN: [(usize, u8); 7] = [
 ];
 
 static ODD: [(usize, u8); 6] = [(65, 1), (195, 1), (325, 1), (455, 1), (585, 1), (715, 1)];
+
+/// Thirteen places in turn of either version: four pairs at a distance of 2 bytes, two at 3, and one place alone.
+static NEAR: [Damage<'static>; 2] = [
+    &[
+        (10, 1),
+        (12, 1),
+        (210, 1),
+        (212, 1),
+        (410, 1),
+        (413, 1),
+        (610, 1),
+    ],
+    &[(110, 1), (112, 1), (310, 1), (312, 1), (510, 1), (513, 1)],
+];
+
+/// The same at distances of 8 and 9 bytes.
+static FAR: [Damage<'static>; 2] = [
+    &[
+        (10, 1),
+        (18, 1),
+        (210, 1),
+        (218, 1),
+        (410, 1),
+        (419, 1),
+        (610, 1),
+    ],
+    &[(110, 1), (118, 1), (310, 1), (318, 1), (510, 1), (519, 1)],
+];
+
+/// The same at distances of 64 and 65 bytes.
+static FARTHEST: [Damage<'static>; 2] = [
+    &[
+        (10, 1),
+        (74, 1),
+        (300, 1),
+        (364, 1),
+        (590, 1),
+        (655, 1),
+        (880, 1),
+    ],
+    &[(145, 1), (209, 1), (440, 1), (504, 1), (730, 1), (795, 1)],
+];
+
+#[test]
+fn versions_are_split_as_finely_as_can_be_tried(rt: HostRuntime) {
+    for damages in [&NEAR, &FAR, &FARTHEST] {
+        assert!(rt; is_told(rt.alloc(), damages, Told::Slice(512)));
+    }
+}
+
+/// Two runs of damage at a distance of 2 bytes, in two versions; the third is damaged within the first of them.
+static RUNS: [Damage<'static>; 3] = [
+    &[
+        (400, 1),
+        (401, 1),
+        (402, 1),
+        (403, 1),
+        (404, 1),
+        (405, 1),
+        (406, 1),
+        (407, 1),
+    ],
+    &[
+        (409, 1),
+        (410, 1),
+        (411, 1),
+        (412, 1),
+        (413, 1),
+        (414, 1),
+        (415, 1),
+        (416, 1),
+    ],
+    &[(402, 2), (403, 2)],
+];
+
+#[test]
+fn pairs_of_versions_are_split_by_themselves(rt: HostRuntime) {
+    assert!(rt; is_told(rt.alloc(), &RUNS, Told::Slice(24)));
+}
 
 #[test]
 fn at_most_4096_combinations_are_tried(rt: HostRuntime) {

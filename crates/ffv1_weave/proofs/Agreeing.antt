@@ -1,6 +1,7 @@
--- Places where versions agree, by the first version.
-use Rattle.std.proofs.Common.{◌≡◌, ℕ, ◌<◌, ◌≤◌, List, [], length, get_or, sym, ap, ◌∙◌, arith}
-use Rattle.std.specs.Prelude.{Contains}
+-- Places where versions agree, by the first version, and where they do not.
+use Rattle.std.proofs.Common.{◌≡◌, ℕ, zero, suc, ◌+◌, ◌<◌, ◌≤◌, List, [], length, get_or, sym, ap, ◌∙◌, subst, arith, inl, inr}
+use Rattle.std.specs.Prelude.{◌⊎◌, Contains}
+use Rattle.std.proofs.lemmas.Bool.{cases_lt, cases_eq}
 use Rattle.std.proofs.lemmas.List.{get_or_past, get_or_default}
 use Rattle.std.proofs.lemmas.List.Elements.{Contains-get_or}
 use Rattle.ffv1_weave.specs.Regions.{HaveLength, AgreeAt, DifferAt}
@@ -29,3 +30,60 @@ module _ (versions : List (List ℕ)) where
   pub agree_with_first : (i : ℕ) → 0 < length versions → AgreeAt versions i → (version : List ℕ) → Contains versions version
       → get_or version i 0 ≡ get_or (get_or versions 0 []) i 0
   agree_with_first i some agree version there = agree version (get_or versions 0 []) there (Contains-get_or versions 0 [] some)
+
+  -- ---- two versions that differ, if there are any
+
+  first_agree : (i n : ℕ) → AgreeSoFar versions n i
+      ⊎ ((k : ℕ) × (k < n) × (get_or (get_or versions k []) i 0 ≡ get_or (get_or versions 0 []) i 0 → ⊥))
+  first_agree i zero = inl (λ k lt. absurd (omega arith))
+  first_agree i (suc n) = elim (first_agree i n) [
+    | inr found ↦ inr (found.0, (let below = found.1 in omega arith), found.2)
+    | inl so_far ↦ elim (cases_eq (get_or (get_or versions n []) i 0) (get_or (get_or versions 0 []) i 0)) [
+      | inr apart ↦ inr (n, omega arith, apart)
+      | inl same ↦ inl (λ k lt. elim (cases_lt k n) [
+        | inl below ↦ so_far k below
+        | inr above ↦ let here : n ≡ k = omega arith in
+            subst (λ m. get_or (get_or versions m []) i 0 ≡ get_or (get_or versions 0 []) i 0) here same
+      ])
+    ]
+  ]
+
+  pub record HaveTwo (i : ℕ) : Type 0 where
+    pub one : List ℕ
+    pub other : List ℕ
+    pub one_there : Contains versions one
+    pub other_there : Contains versions other
+    pub differ : get_or one i 0 ≡ get_or other i 0 → ⊥
+
+  pub agree_or_differ : (i : ℕ) → AgreeAt versions i ⊎ HaveTwo i
+  agree_or_differ i = elim (first_agree i (length versions)) [
+    | inl all ↦ inl (agree_from i all)
+    | inr found ↦ let below = found.1 in inr (record {
+      one = get_or versions found.0 [];
+      other = get_or versions 0 [];
+      one_there = Contains-get_or versions found.0 [] found.1;
+      other_there = Contains-get_or versions 0 [] (omega arith);
+      differ = found.2;
+    })
+  ]
+
+  pub two_of : (i : ℕ) → DifferAt versions i → HaveTwo i
+  two_of i differ = elim (agree_or_differ i) [ inl agree ↦ absurd (differ agree) | inr two ↦ two ]
+
+  pub two_differ : (i : ℕ) → HaveTwo i → DifferAt versions i
+  two_differ i two agree = two.differ (agree two.one two.other two.one_there two.other_there)
+
+  -- whether they agree at each of so many places
+  pub some_differ : (from count : ℕ) → ((i : ℕ) → from ≤ i → i < from + count → AgreeAt versions i)
+      ⊎ ((j : ℕ) × (from ≤ j) × (j < from + count) × DifferAt versions j)
+  some_differ from zero = inl (λ i low lt. absurd (omega arith))
+  some_differ from (suc count) = elim (agree_or_differ (from + count)) [
+    | inr two ↦ inr (from + count, omega arith, omega arith, two_differ (from + count) two)
+    | inl agree ↦ elim (some_differ from count) [
+      | inr found ↦ inr (found.0, found.1, (let below = found.2 in omega arith), found.3)
+      | inl rest ↦ inl (λ i low lt. elim (cases_lt i (from + count)) [
+        | inl below ↦ rest i low below
+        | inr above ↦ let here : from + count ≡ i = omega arith in subst (AgreeAt versions) here agree
+      ])
+    ]
+  ]

@@ -7,10 +7,12 @@ use Rattle.std.proofs.lemmas.Bool.{cases_lt}
 use Rattle.std.proofs.lemmas.List.{get_or_append_left, get_or-append_right, get_or-take, get_or-drop, get_or_default, length-take-le, length-append, length-drop, ext_get_or}
 use Rattle.std.proofs.lemmas.List.Edits.{get_or-between, length-between}
 use Rattle.std.proofs.lemmas.List.Elements.{All-head, All-tail}
-use Rattle.ffv1_weave.specs.Regions.{AgreeAt, IsRegion, HaveLength}
-use Rattle.ffv1_weave.specs.Combinations.{IsCombination, AreNumbered}
-use Rattle.ffv1_weave.specs.Parts.{Part, ArePieces, ArePartsFrom, IsNextRegion, IsFit, count_of, chosen, written}
-use Rattle.ffv1_weave.proofs.RegionSteps.{one_region}
+use Rattle.ffv1_weave.specs.Regions.{AgreeAt, HaveLength}
+use Rattle.ffv1_weave.specs.Grains.{IsPartBy}
+use Rattle.ffv1_weave.specs.Combinations.{IsCombinationBy, AreNumbered, AreMoreThan}
+use Rattle.ffv1_weave.specs.Parts.{Part, ArePieces, ArePartsFrom, AreAllParts, IsPartFrom, IsEdge, IsFit, parts_end, count_of, chosen, written}
+use Rattle.ffv1_weave.specs.declared.grains.Grain.{Grain}
+use Rattle.ffv1_weave.proofs.GrainSteps.{part_some, part_within, one_part, part_beyond}
 
 -- ---- a piece written over bytes
 
@@ -77,20 +79,20 @@ pub record IsAlike (versions : List (List ℕ)) (from : ℕ) (a b : List ℕ) : 
   pub front : (i : ℕ) → i < from → get_or a i 0 ≡ get_or b i 0
   pub agree : (i : ℕ) → AgreeAt versions i → get_or a i 0 ≡ get_or b i 0
 
-module _ (versions : List (List ℕ)) where
+module _ (grain : Grain) (versions : List (List ℕ)) where
   -- where nothing differs any more, both are the same
   alike_end : (from : ℕ) (a b : List ℕ) → ((i : ℕ) → from ≤ i → AgreeAt versions i) → IsAlike versions from a b → a ≡ b
   alike_end from a b rest h =
       ext_get_or 0 a b h.size (λ i lt. elim (cases_lt i from) [ inl below ↦ h.front i below | inr above ↦ h.agree i (rest i above) ])
 
-  -- before a region too
-  alike_until : (from start end : ℕ) (a b : List ℕ) → IsNextRegion versions from start end → IsAlike versions from a b → (i : ℕ) → i < start
+  -- before a part too
+  alike_until : (from start end : ℕ) (a b : List ℕ) → IsPartFrom grain versions from start end → IsAlike versions from a b → (i : ℕ) → i < start
       → get_or a i 0 ≡ get_or b i 0
   alike_until from start end a b next h i lt =
       elim (cases_lt i from) [ inl below ↦ h.front i below | inr above ↦ h.agree i (next.until i above lt) ]
 
   -- both with the same piece
-  alike_both : (from : ℕ) (part : Part) (k : ℕ) (a b : List ℕ) → IsNextRegion versions from part.start part.end → IsFit (length a) part
+  alike_both : (from : ℕ) (part : Part) (k : ℕ) (a b : List ℕ) → IsPartFrom grain versions from part.start part.end → IsFit (length a) part
       → k < length part.pieces → IsAlike versions from a b
       → IsAlike versions part.end (written a part.start (piece_of part k)) (written b part.start (piece_of part k))
   alike_both from part k a b next fit lt h =
@@ -120,7 +122,7 @@ module _ (versions : List (List ℕ)) where
       }
 
   -- one with the piece that the other has
-  alike_piece : (from : ℕ) (part : Part) (k : ℕ) (a b : List ℕ) → IsNextRegion versions from part.start part.end → IsFit (length a) part
+  alike_piece : (from : ℕ) (part : Part) (k : ℕ) (a b : List ℕ) → IsPartFrom grain versions from part.start part.end → IsFit (length a) part
       → k < length part.pieces → slice_range b part.start part.end ≡ piece_of part k → IsAlike versions from a b
       → IsAlike versions part.end (written a part.start (piece_of part k)) b
   alike_piece from part k a b next fit lt is h =
@@ -169,9 +171,9 @@ length-chosen (part ∷ parts) code bytes fit =
     length-chosen parts (code / length part.pieces) (written bytes part.start (piece_of part (code % length part.pieces)))
     (fit_as _ (length bytes) parts long (fit_tail (length bytes) part parts fit)) ∙ long
 
-module _ (versions : List (List ℕ)) where
-  -- nothing is written before the place from which the regions are sought
-  pub chosen_front : (from : ℕ) (parts : List Part) (code : ℕ) (bytes : List ℕ) → ArePartsFrom versions from parts → All (IsFit (length bytes)) parts
+module _ (grain : Grain) (versions : List (List ℕ)) where
+  -- nothing is written before the place from which the parts are sought
+  pub chosen_front : (from : ℕ) (parts : List Part) (code : ℕ) (bytes : List ℕ) → ArePartsFrom grain versions from parts → All (IsFit (length bytes)) parts
       → (i : ℕ) → i < from → get_or (chosen parts code bytes) i 0 ≡ get_or bytes i 0
   chosen_front from [] code bytes are fit i lt = refl
   chosen_front from (part ∷ parts) code bytes are fit i lt =
@@ -179,51 +181,52 @@ module _ (versions : List (List ℕ)) where
       let fits = fits_in (length bytes) part parts fit (code % length part.pieces) digit in
       let long = length-written bytes part.start (piece_of part (code % length part.pieces)) fits in
       let beyond = are.0.beyond in
-      let some = are.0.region.some in
+      let some = part_some grain versions part.start part.end are.0.part in
       chosen_front part.end parts (code / length part.pieces) (written bytes part.start (piece_of part (code % length part.pieces))) are.2
       (fit_as _ (length bytes) parts long (fit_tail (length bytes) part parts fit)) i (omega arith)
       ∙ written_before bytes part.start (piece_of part (code % length part.pieces)) fits i (omega arith)
 
   -- of bytes that are alike the same is made
-  pub chosen_alike : (from : ℕ) (parts : List Part) (code : ℕ) (a b : List ℕ) → ArePartsFrom versions from parts → All (IsFit (length a)) parts
-      → IsAlike versions from a b → chosen parts code a ≡ chosen parts code b
-  chosen_alike from [] code a b are fit h = alike_end versions from a b are h
-  chosen_alike from (part ∷ parts) code a b are fit h =
+  pub chosen_alike : (from : ℕ) (parts : List Part) (code : ℕ) (a b : List ℕ) → ArePartsFrom grain versions from parts
+      → ((i : ℕ) → parts_end from parts ≤ i → AgreeAt versions i) → All (IsFit (length a)) parts → IsAlike versions from a b
+      → chosen parts code a ≡ chosen parts code b
+  chosen_alike from [] code a b are rest fit h = alike_end grain versions from a b rest h
+  chosen_alike from (part ∷ parts) code a b are rest fit h =
       let digit = digit_below (length a) part (fit_head (length a) part parts fit) code in
       let long = length-written a part.start (piece_of part (code % length part.pieces))
       (fits_in (length a) part parts fit (code % length part.pieces) digit) in
       chosen_alike part.end parts (code / length part.pieces) (written a part.start (piece_of part (code % length part.pieces)))
-      (written b part.start (piece_of part (code % length part.pieces))) are.2
+      (written b part.start (piece_of part (code % length part.pieces))) are.2 rest
       (fit_as _ (length a) parts long (fit_tail (length a) part parts fit))
-      (alike_both versions from part (code % length part.pieces) a b are.0 (fit_head (length a) part parts fit) digit h)
+      (alike_both grain versions from part (code % length part.pieces) a b are.0 (fit_head (length a) part parts fit) digit h)
 
   -- each combination has a number
-  pub chosen_all : (from : ℕ) (parts : List Part) (bytes combination : List ℕ) → ArePartsFrom versions from parts → All (IsFit (length bytes)) parts
-      → IsCombination versions combination → IsAlike versions from bytes combination
-      → (k : ℕ) × (k < count_of parts) × (chosen parts k bytes ≡ combination)
-  chosen_all from [] bytes combination are fit is h = (0, omega arith, alike_end versions from bytes combination are h)
-  chosen_all from (part ∷ parts) bytes combination are fit is h =
-      let version = is.regions part.start part.end are.0.region in
+  pub chosen_all : (from : ℕ) (parts : List Part) (bytes combination : List ℕ) → ArePartsFrom grain versions from parts
+      → ((i : ℕ) → parts_end from parts ≤ i → AgreeAt versions i) → All (IsFit (length bytes)) parts → IsCombinationBy grain versions combination
+      → IsAlike versions from bytes combination → (k : ℕ) × (k < count_of parts) × (chosen parts k bytes ≡ combination)
+  chosen_all from [] bytes combination are rest fit is h = (0, omega arith, alike_end grain versions from bytes combination rest h)
+  chosen_all from (part ∷ parts) bytes combination are rest fit is h =
+      let version = is.parts part.start part.end are.0.part in
       let here = are.1.each version.0 version.1 in
       let d : ℕ = here.0 in
       let n : ℕ = length part.pieces in
       let lies : slice_range combination part.start part.end ≡ piece_of part d =
       version.2 ∙ sym (get_or_default part.pieces d [] (slice_range version.0 part.start part.end) here.1 ∙ here.2) in
       let long = length-written bytes part.start (piece_of part d) (fits_in (length bytes) part parts fit d here.1) in
-      let rest = chosen_all part.end parts (written bytes part.start (piece_of part d)) combination are.2
+      let number = chosen_all part.end parts (written bytes part.start (piece_of part d)) combination are.2 rest
       (fit_as _ (length bytes) parts long (fit_tail (length bytes) part parts fit)) is
-      (alike_piece versions from part d bytes combination are.0 (fit_head (length bytes) part parts fit) here.1 lies h) in
-      let digit : (rest.0 * n + d) % n ≡ d = mul-add-mod_self_right rest.0 n d ∙ mod-eq_of_lt here.1 in
-      let up : (rest.0 * n + d) / n ≡ rest.0 = div-mul-add rest.0 n d here.1 in (
-        rest.0 * n + d,
-        mul-add-lt rest.0 n d (count_of parts) rest.1 here.1,
-        ap (λ m. chosen parts m (written bytes part.start (piece_of part ((rest.0 * n + d) % n)))) up
-            ∙ ap (λ m. chosen parts rest.0 (written bytes part.start (piece_of part m))) digit
-            ∙ rest.2,
+      (alike_piece grain versions from part d bytes combination are.0 (fit_head (length bytes) part parts fit) here.1 lies h) in
+      let digit : (number.0 * n + d) % n ≡ d = mul-add-mod_self_right number.0 n d ∙ mod-eq_of_lt here.1 in
+      let up : (number.0 * n + d) / n ≡ number.0 = div-mul-add number.0 n d here.1 in (
+        number.0 * n + d,
+        mul-add-lt number.0 n d (count_of parts) number.1 here.1,
+        ap (λ m. chosen parts m (written bytes part.start (piece_of part ((number.0 * n + d) % n)))) up
+            ∙ ap (λ m. chosen parts number.0 (written bytes part.start (piece_of part m))) digit
+            ∙ number.2,
       )
 
   -- no two numbers give the same
-  pub chosen_once : (from : ℕ) (parts : List Part) (bytes : List ℕ) (j k : ℕ) → ArePartsFrom versions from parts → All (IsFit (length bytes)) parts
+  pub chosen_once : (from : ℕ) (parts : List Part) (bytes : List ℕ) (j k : ℕ) → ArePartsFrom grain versions from parts → All (IsFit (length bytes)) parts
       → j < count_of parts → k < count_of parts → chosen parts j bytes ≡ chosen parts k bytes → j ≡ k
   chosen_once from [] bytes j k are fit low lt same = omega arith
   chosen_once from (part ∷ parts) bytes j k are fit low lt same =
@@ -260,73 +263,106 @@ module _ (versions : List (List ℕ)) where
 
 -- ---- each number gives a combination
 
--- Bytes that are a combination as far as to a place.
-pub record IsGoodBefore (versions : List (List ℕ)) (from : ℕ) (bytes : List ℕ) : Type 0 where
+-- Bytes that are a combination as far as to a place, where a part can begin, and from there on are as a version.
+pub record IsGoodBefore (grain : Grain) (versions : List (List ℕ)) (first : List ℕ) (from : ℕ) (bytes : List ℕ) : Type 0 where
   pub same_length : (version : List ℕ) → Contains versions version → length bytes ≡ length version
   pub agrees : (i : ℕ) → AgreeAt versions i → (version : List ℕ) → Contains versions version → slice_index bytes i ≡ slice_index version i
-  pub regions : (start end : ℕ) → IsRegion versions start end → end ≤ from
+  pub parts : (start end : ℕ) → IsPartBy grain versions start end → end ≤ from
       → (version : List ℕ) × Contains versions version × (slice_range bytes start end ≡ slice_range version start end)
+  pub rest : (i : ℕ) → from ≤ i → get_or bytes i 0 ≡ get_or first i 0
+  pub edge : IsEdge grain versions from
 
-module _ (versions : List (List ℕ)) where
-  good_more : (from : ℕ) (part : Part) (k : ℕ) (bytes : List ℕ) → IsNextRegion versions from part.start part.end
+module _ (grain : Grain) (versions : List (List ℕ)) (first : List ℕ) (all_long : HaveLength versions (length first)) (there : Contains versions first) where
+  -- a part before the next one at which versions differ is as the first version
+  quiet_part : (from until : ℕ) (bytes : List ℕ) → length bytes ≡ length first → ((i : ℕ) → from ≤ i → i < until → get_or bytes i 0 ≡ get_or first i 0)
+      → (start end : ℕ) → IsPartBy grain versions start end → from ≤ start → end ≤ until
+      → (version : List ℕ) × Contains versions version × (slice_range bytes start end ≡ slice_range version start end)
+  quiet_part from until bytes size same start end part low high =
+      let within = part_within versions (length first) all_long grain start end part in (
+        first,
+        there,
+        same_range bytes first start end (omega arith) within (λ i above below. same i (omega arith) (omega arith)),
+      )
+
+  -- the part that is written over is as the version of its piece
+  pieced : (part : Part) (k : ℕ) (bytes : List ℕ) → ArePieces versions part.start part.end part.pieces → IsFit (length bytes) part
+      → k < length part.pieces → length bytes ≡ length first
+      → (version : List ℕ) × Contains versions version
+      × (slice_range (written bytes part.start (piece_of part k)) part.start part.end ≡ slice_range version part.start part.end)
+  pieced part k bytes pieces fit lt same =
+      let long = piece_size (length bytes) part fit k lt in
+      let within = fit.within in
+      let fits : part.start + length (piece_of part k) ≤ length bytes = omega arith in
+      let size = length-written bytes part.start (piece_of part k) fits in
+      let of = pieces.only k lt in (
+        of.0,
+        of.1,
+        same_range (written bytes part.start (piece_of part k)) of.0 part.start part.end (omega arith) (omega (arith, all_long of.0 of.1))
+            (λ i low under. written_inside bytes part.start (piece_of part k) fits i low (omega arith)
+            ∙ ap (λ p. get_or p (i - part.start) 0) of.2 ∙ range_at of.0 part.start part.end i low under),
+      )
+
+  good_more : (from : ℕ) (part : Part) (k : ℕ) (bytes : List ℕ) → IsPartFrom grain versions from part.start part.end
       → ArePieces versions part.start part.end part.pieces → IsFit (length bytes) part → k < length part.pieces
-      → IsGoodBefore versions from bytes → IsGoodBefore versions part.end (written bytes part.start (piece_of part k))
+      → IsGoodBefore grain versions first from bytes → IsGoodBefore grain versions first part.end (written bytes part.start (piece_of part k))
   good_more from part k bytes next pieces fit lt h =
       let long = piece_size (length bytes) part fit k lt in
       let within = fit.within in
+      let order = fit.order in
       let beyond = next.beyond in
       let fits : part.start + length (piece_of part k) ≤ length bytes = omega arith in
       let size = length-written bytes part.start (piece_of part k) fits in
-      let from_version = pieces.only k lt in
+      let of = pieces.only k lt in
+      let here = pieced part k bytes pieces fit lt (h.same_length first there) in
       record {
-        same_length = λ version there. size ∙ h.same_length version there;
-        agrees = λ i same version there. elim (cases_lt i part.start) [
-          | inl outside ↦ written_before bytes part.start (piece_of part k) fits i outside ∙ h.agrees i same version there
+        same_length = λ version is. size ∙ h.same_length version is;
+        agrees = λ i same version is. elim (cases_lt i part.start) [
+          | inl outside ↦ written_before bytes part.start (piece_of part k) fits i outside ∙ h.agrees i same version is
           | inr low ↦ elim (cases_lt i part.end) [
             | inl below ↦ written_inside bytes part.start (piece_of part k) fits i low (omega arith)
-                ∙ ap (λ p. get_or p (i - part.start) 0) from_version.2
-                ∙ range_at from_version.0 part.start part.end i low below ∙ same from_version.0 version from_version.1 there
-            | inr after ↦ written_after bytes part.start (piece_of part k) fits i (omega arith) ∙ h.agrees i same version there
+                ∙ ap (λ p. get_or p (i - part.start) 0) of.2
+                ∙ range_at of.0 part.start part.end i low below ∙ same of.0 version of.1 is
+            | inr after ↦ written_after bytes part.start (piece_of part k) fits i (omega arith) ∙ h.agrees i same version is
           ]
         ];
-        regions = λ start end region below. elim (cases_lt from end) [
+        parts = λ start end other below. elim (cases_lt from end) [
           | inl over ↦
-              let some = region.some in
-              let late : part.start < end = elim (cases_lt (end - 1) part.start) [
-                | inl early ↦ absurd (region.last (next.until (end - 1) (omega arith) early))
-                | inr there ↦ omega arith
-              ] in
-              let one = one_region versions part.start part.end start end next.region region late (omega arith) in
-              let here : slice_range (written bytes part.start (piece_of part k)) part.start part.end ≡ slice_range from_version.0 part.start part.end =
-              same_range (written bytes part.start (piece_of part k)) from_version.0 part.start part.end (omega arith)
-              (omega (arith, h.same_length from_version.0 from_version.1))
-              (λ i low under. written_inside bytes part.start (piece_of part k) fits i low (omega arith)
-              ∙ ap (λ p. get_or p (i - part.start) 0) from_version.2 ∙ range_at from_version.0 part.start part.end i low under) in (
-                from_version.0,
-                from_version.1,
-                subst (λ s. slice_range (written bytes part.start (piece_of part k)) s end ≡ slice_range from_version.0 s end) one.0
-                    (subst (λ e. slice_range (written bytes part.start (piece_of part k)) part.start e ≡ slice_range from_version.0 part.start e) one.1 here),
-              )
+              let some = part_some grain versions start end other in
+              let low = part_beyond versions (length first) all_long grain from start end h.edge other over in
+              elim (cases_lt part.start end) [
+                | inl late ↦
+                    let one = one_part versions (length first) all_long grain part.start part.end start end next.part other late (omega arith) in (
+                      here.0,
+                      here.1,
+                      subst (λ s. slice_range (written bytes part.start (piece_of part k)) s end ≡ slice_range here.0 s end) one.0
+                          (subst (λ e. slice_range (written bytes part.start (piece_of part k)) part.start e ≡ slice_range here.0 part.start e) one.1 here.2),
+                    )
+                | inr early ↦ quiet_part from part.start (written bytes part.start (piece_of part k)) (size ∙ h.same_length first there)
+                    (λ i above under. written_before bytes part.start (piece_of part k) fits i under ∙ h.rest i above) start end other low early
+              ]
           | inr old ↦
-              let version = h.regions start end region old in
-              let some = region.some in (
+              let version = h.parts start end other old in
+              let some = part_some grain versions start end other in (
                 version.0,
                 version.1,
                 same_range (written bytes part.start (piece_of part k)) bytes start end (omega arith) (omega arith)
                     (λ i low under. written_before bytes part.start (piece_of part k) fits i (omega arith)) ∙ version.2,
               )
         ];
+        rest = λ i low. written_after bytes part.start (piece_of part k) fits i (omega arith) ∙ h.rest i (omega arith);
+        edge = inr (part.start, next.part);
       }
 
-  pub chosen_are : (from : ℕ) (parts : List Part) (code : ℕ) (bytes : List ℕ) → ArePartsFrom versions from parts → All (IsFit (length bytes)) parts
-      → IsGoodBefore versions from bytes → IsCombination versions (chosen parts code bytes)
+  pub chosen_are : (from : ℕ) (parts : List Part) (code : ℕ) (bytes : List ℕ) → ArePartsFrom grain versions from parts → All (IsFit (length bytes)) parts
+      → IsGoodBefore grain versions first from bytes → IsCombinationBy grain versions (chosen parts code bytes)
   chosen_are from [] code bytes are fit h =
       record {
         same_length = h.same_length;
         agrees = h.agrees;
-        regions = λ start end region. elim (cases_lt from end) [
-          | inl over ↦ absurd (region.last (are (end - 1) (omega arith)))
-          | inr old ↦ h.regions start end region old
+        parts = λ start end part. elim (cases_lt from end) [
+          | inl over ↦ quiet_part from end bytes (h.same_length first there) (λ i low below. h.rest i low) start end part
+              (part_beyond versions (length first) all_long grain from start end h.edge part over) (omega arith)
+          | inr old ↦ h.parts start end part old
         ];
       }
   chosen_are from (part ∷ parts) code bytes are fit h =
@@ -339,15 +375,29 @@ module _ (versions : List (List ℕ)) where
 
   -- ---- from the first version on
 
-  pub first_is_good : (first : List ℕ) → HaveLength versions (length first) → Contains versions first → IsGoodBefore versions 0 first
-  first_is_good first long there =
+  pub first_is_good : IsGoodBefore grain versions first 0 first
+  first_is_good =
       record {
-        same_length = λ version here. sym (long version here);
+        same_length = λ version here. sym (all_long version here);
         agrees = λ i same version here. same first version there here;
-        regions = λ start end region below. let some = region.some in absurd (omega arith);
+        parts = λ start end part below. let some = part_some grain versions start end part in absurd (omega arith);
+        rest = λ i low. refl;
+        edge = inl refl;
       }
 
-  pub combination_alike : (first combination : List ℕ) → Contains versions first → IsCombination versions combination → IsAlike versions 0 combination first
+  -- More parts than are tried give more combinations, whatever follows them.
+  pub many_chosen : (parts : List Part) (most : ℕ) → ArePartsFrom grain versions 0 parts → All (IsFit (length first)) parts → most < count_of parts
+      → AreMoreThan (IsCombinationBy grain versions) most
+  many_chosen parts most are fit over =
+      record {
+        at = λ k. chosen parts k first;
+        are = λ k low. chosen_are 0 parts k first are fit first_is_good;
+        once = λ j k low lt same. chosen_once grain versions 0 parts first j k are fit (omega arith) (omega arith) same;
+      }
+
+module _ (grain : Grain) (versions : List (List ℕ)) where
+  pub combination_alike : (first combination : List ℕ) → Contains versions first → IsCombinationBy grain versions combination
+      → IsAlike versions 0 combination first
   combination_alike first combination there is =
       record {
         size = is.same_length first there;
@@ -359,13 +409,13 @@ module _ (versions : List (List ℕ)) where
   alike_back from a b h = record { size = sym h.size; front = λ i lt. sym (h.front i lt); agree = λ i same. sym (h.agree i same) }
 
   -- the combinations are numbered
-  abbrev pub numbered : (parts : List Part) (first : List ℕ) → HaveLength versions (length first) → Contains versions first → ArePartsFrom versions 0 parts
-      → All (IsFit (length first)) parts → AreNumbered (IsCombination versions) (count_of parts)
+  abbrev pub numbered : (parts : List Part) (first : List ℕ) → HaveLength versions (length first) → Contains versions first
+      → AreAllParts grain versions parts → All (IsFit (length first)) parts → AreNumbered (IsCombinationBy grain versions) (count_of parts)
   numbered parts first long there are fit =
       record {
         at = λ k. chosen parts k first;
-        are = λ k lt. chosen_are 0 parts k first are fit (first_is_good first long there);
-        all = λ combination is. chosen_all versions 0 parts first combination are fit is
+        are = λ k lt. chosen_are grain versions first long there 0 parts k first are.next fit (first_is_good grain versions first long there);
+        all = λ combination is. chosen_all grain versions 0 parts first combination are.next are.rest fit is
             (alike_back 0 combination first (combination_alike first combination there is));
-        once = λ j k low lt same. chosen_once versions 0 parts first j k are fit low lt same;
+        once = λ j k low lt same. chosen_once grain versions 0 parts first j k are.next fit low lt same;
       }

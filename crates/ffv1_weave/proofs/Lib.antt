@@ -1,11 +1,17 @@
 pub mod References
 pub mod Agreeing
 pub mod RegionSteps
+pub mod SeamSteps
+pub mod GrainSteps
 pub mod PieceSteps
 pub mod PartSteps
 pub mod Choices
 pub mod Linear
 pub mod Numbering
+pub mod Finest
+pub mod Tried
 pub mod WeaveSteps
 pub mod WeaveLaws
+pub mod Coarsest
 pub mod Vectors
+pub mod SeamVectors

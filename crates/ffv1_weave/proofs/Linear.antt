@@ -13,6 +13,8 @@ use Rattle.ffv1_weave.specs.Parts.{Part, ArePartsFrom, IsFit, chosen, written}
 use Rattle.ffv1_weave.specs.Changes.{remainder_in, change_of, changes_of, changed}
 use Rattle.ffv1_weave.specs.declared.check.Check.{Check}
 use Rattle.ffv1_weave.specs.declared.check.Check.TheVariants.{Slice, Element}
+use Rattle.ffv1_weave.specs.declared.grains.Grain.{Grain}
+use Rattle.ffv1_weave.proofs.GrainSteps.{part_some}
 use Rattle.ffv1_weave.proofs.References.{values_of, value_at, length-values_of}
 use Rattle.ffv1_weave.proofs.Choices.{length-written, written_after, same_range, piece_of, piece_size, digit_below, fit_as, fit_head, fit_tail, fits_in}
 
@@ -63,8 +65,8 @@ changed_by check a b start end piece long ends within same =
     ∙ xor_comm (remainder_in check a) (change_of check a start piece)
     ∙ xor_twice (remainder_in check (written a start piece)) (remainder_in check a)
 
-module _ (check : Check) (versions : List (List ℕ)) (first : List ℕ) where
-  pub changed_is : (from : ℕ) (parts : List Part) (code : ℕ) (bytes : List ℕ) → ArePartsFrom versions from parts → All (IsFit (length bytes)) parts
+module _ (check : Check) (grain : Grain) (versions : List (List ℕ)) (first : List ℕ) where
+  pub changed_is : (from : ℕ) (parts : List Part) (code : ℕ) (bytes : List ℕ) → ArePartsFrom grain versions from parts → All (IsFit (length bytes)) parts
       → length bytes ≡ length first → ((i : ℕ) → from ≤ i → get_or bytes i 0 ≡ get_or first i 0)
       → changed (map (changes_of check first) parts) code (remainder_in check bytes) ≡ remainder_in check (chosen parts code bytes)
   changed_is from [] code bytes are fit long same = refl
@@ -76,7 +78,7 @@ module _ (check : Check) (versions : List (List ℕ)) (first : List ℕ) where
       let fits = fits_in (length bytes) part parts fit (code % n) digit in
       let ends = piece_size (length bytes) part head (code % n) digit in
       let beyond = are.0.beyond in
-      let some = are.0.region.some in
+      let some = part_some grain versions part.start part.end are.0.part in
       let within = head.within in
       let many : length (changes_of check first part) ≡ n = length-map part.pieces (change_of check first part.start) in
       let entry : get_or (changes_of check first part) (code % n) 0 ≡ change_of check first part.start piece =

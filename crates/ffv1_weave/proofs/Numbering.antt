@@ -1,8 +1,8 @@
 -- The values of a fact have one number.
-use Rattle.std.proofs.Common.{◌≡◌, ℕ, zero, suc, ◌<◌, ◌≤◌, cond, eqb, eq-eqb, true, false, refl, sym, ap, ◌∙◌, arith, inl, inr}
+use Rattle.std.proofs.Common.{◌≡◌, ℕ, zero, suc, ◌+◌, ◌<◌, ◌≤◌, cond, eqb, eq-eqb, true, false, refl, sym, ap, ◌∙◌, arith, inl, inr}
 use Rattle.std.specs.Prelude.{◌⊎◌}
 use Rattle.std.proofs.lemmas.Bool.{cases_lt, cases_eq, eqb-true}
-use Rattle.ffv1_weave.specs.Combinations.{AreNumbered}
+use Rattle.ffv1_weave.specs.Combinations.{AreNumbered, AreMoreThan}
 
 -- numbers below the one go to different ones below the other
 pub record IsInto (f : ℕ → ℕ) (m n : ℕ) : Type 0 where
@@ -52,15 +52,17 @@ no_more (suc m) (suc n) f h =
     }) in
     omega arith
 
-module _ {X : Type 0} (P Q : X → Type 0) (m n : ℕ) (on : (x : X) → P x → Q x) (h : AreNumbered P m) (k : AreNumbered Q n) where
+-- Values that are given by the numbers below one number, each by one, have another number.
+module _ {X : Type 0} (Q : X → Type 0) (m n : ℕ) (at : ℕ → X) (are : (k : ℕ) → k < m → Q (at k))
+    (once : (j k : ℕ) → j < m → k < m → at j ≡ at k → j ≡ k) (numbers : AreNumbered Q n) where
   -- the other number of the same value
   place : (i : ℕ) → (i < m) ⊎ (m ≤ i) → ℕ
-  place i (inl lt) = let other = k.all (h.at i) (on (h.at i) (h.are i lt)) in other.0
+  place i (inl lt) = let other = numbers.all (at i) (are i lt) in other.0
   place i (inr past) = 0
 
-  place_is : (i : ℕ) (c : (i < m) ⊎ (m ≤ i)) → i < m → (place i c < n) × (k.at (place i c) ≡ h.at i)
+  place_is : (i : ℕ) (c : (i < m) ⊎ (m ≤ i)) → i < m → (place i c < n) × (numbers.at (place i c) ≡ at i)
   unfolding place
-  place_is i (inl lt) here = let other = k.all (h.at i) (on (h.at i) (h.are i lt)) in (other.1, other.2)
+  place_is i (inl lt) here = let other = numbers.all (at i) (are i lt) in (other.1, other.2)
   place_is i (inr past) here = absurd (omega arith)
 
   pub numbers_within : m ≤ n
@@ -68,9 +70,15 @@ module _ {X : Type 0} (P Q : X → Type 0) (m n : ℕ) (on : (x : X) → P x →
       no_more m n (λ i. place i (cases_lt i m)) (record {
         below = λ i lt. let is = place_is i (cases_lt i m) lt in is.0;
         once = λ i j low lt same. let one = place_is i (cases_lt i m) low in let other = place_is j (cases_lt j m) lt in
-            h.once i j low lt (sym one.1 ∙ ap k.at same ∙ other.1);
+            once i j low lt (sym one.1 ∙ ap numbers.at same ∙ other.1);
       })
 
-pub one_number : {X : Type 0} (P Q : X → Type 0) (m n : ℕ) → ((x : X) → P x → Q x) → ((x : X) → Q x → P x) → AreNumbered P m → AreNumbered Q n → m ≡ n
-one_number P Q m n on back h k =
-    let low = numbers_within P Q m n on h k in let high = numbers_within Q P n m back k h in omega arith
+pub one_number : {X : Type 0} (P : X → Type 0) (m n : ℕ) → AreNumbered P m → AreNumbered P n → m ≡ n
+one_number P m n h k =
+    let low = numbers_within P m n h.at h.are h.once k in let high = numbers_within P n m k.at k.are k.once h in omega arith
+
+-- there are not more than so many and so many at once
+pub number_above : {X : Type 0} (P : X → Type 0) (most count : ℕ) → AreMoreThan P most → AreNumbered P count → most < count
+number_above P most count h k =
+    let within = numbers_within P (most + 1) count h.at (λ i lt. h.are i (omega arith)) (λ i j low lt same. h.once i j (omega arith) (omega arith) same) k in
+    omega arith

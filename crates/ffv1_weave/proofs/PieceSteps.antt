@@ -1,14 +1,15 @@
 -- The byte strings that versions have between two places, with one more version.
-use Rattle.std.proofs.Common.{◌≡◌, ℕ, ◌<◌, ◌≤◌, List, [], ◌∷◌, ◌++◌, length, get_or, map, Bor, Bool, true, false, eqb, refl, sym, ap, ◌∙◌, subst, arith, inl, inr}
+use Rattle.std.proofs.Common.{◌≡◌, ℕ, ◌-◌, ◌<◌, ◌≤◌, List, [], ◌∷◌, ◌++◌, length, get_or, take, map, Bor, Bool, true, false, eqb, refl, sym, ap, ◌∙◌, subst, arith, inl, inr}
 use Rattle.std.specs.Prelude.{Contains, slice_range}
 use Rattle.std.proofs.lemmas.Bool.{cases_lt, false≢true}
-use Rattle.std.proofs.lemmas.List.{get_or_append_left, get_or_push, get_or_default, get_or-map, length-map, length_push}
+use Rattle.std.proofs.lemmas.List.{get_or_append_left, get_or_push, get_or_default, get_or-map, length-map, length_push, take_all}
 use Rattle.std.proofs.lemmas.List.Edits.{length-between}
 use Rattle.std.proofs.lemmas.List.Elements.{Contains-append_left, Contains-append_right, Contains-append_cases, Contains-get_or}
 use Rattle.std.specs.List.{IsAnyAnswer}
 use Rattle.std.proofs.lemmas.Slice.Eq.{slice_eq-Decides}
 use Rattle.std.proofs.lemmas.Bool.Decides.{Decides-eqb}
 use lib.Pointwise.{pointwise}
+use Rattle.ffv1_slice.specs.Members.{HasSameMembers}
 use Rattle.ffv1_weave.specs.Regions.{HaveLength}
 use Rattle.ffv1_weave.proofs.References.{nowhere}
 use Rattle.ffv1_weave.specs.Parts.{ArePieces, IsFit}
@@ -88,6 +89,26 @@ module _ (start end : ℕ) where
         some = let first = h.each (get_or versions 0 []) (Contains-get_or versions 0 [] some) in omega (arith, first.1);
         fill = λ k lt. let p = h.only k lt in ap length p.2 ∙ length-between p.0 start end (omega (arith, long p.0 p.1));
       }
+
+-- ---- the pieces of the whole length are the versions, each once
+
+whole_range : (size : ℕ) (version : List ℕ) → length version ≡ size → slice_range version 0 size ≡ version
+whole_range size version long = let same : size - 0 ≡ size = omega arith in ap (λ n. take n version) same ∙ take_all size version (omega arith)
+
+pub pieces_are_versions : (versions pieces : List (List ℕ)) (size : ℕ) → HaveLength versions size → ArePieces versions 0 size pieces
+    → HasSameMembers versions pieces
+pieces_are_versions versions pieces size long h version = (
+  λ there. subst (Contains pieces) (whole_range size version (long version there)) (h.each version there),
+  λ there.
+      let of = h.only there.0 there.1 in
+      let is : of.0 ≡ version =
+      sym (whole_range size of.0 (long of.0 of.1)) ∙ sym of.2 ∙ get_or_default pieces there.0 [] version there.1 ∙ there.2 in
+      subst (Contains versions) is of.1,
+)
+
+pub pieces_some : (versions pieces : List (List ℕ)) (start end : ℕ) → 0 < length versions → ArePieces versions start end pieces → 0 < length pieces
+pieces_some versions pieces start end some h =
+    let first = h.each (get_or versions 0 []) (Contains-get_or versions 0 [] some) in omega (arith, first.1)
 
 -- ---- whether a piece is among others, as the code asks
 

@@ -2,7 +2,6 @@
 use Rattle.std.proofs.Common.{◌≡◌, ℕ, ◌+◌, ◌-◌, ◌<◌, ◌≤◌, List, sym, subst, arith, inl, inr}
 use Rattle.std.proofs.lemmas.Bool.{cases_lt}
 use Rattle.ffv1_weave.specs.Regions.{AgreeAt, DifferAt, IsRegion}
-use Rattle.ffv1_weave.specs.Parts.{IsNextRegion}
 use Rattle.ffv1_weave.specs.declared.regions.TheConstants.{GAP}
 
 -- ---- the end of a region
@@ -62,32 +61,6 @@ module _ (versions : List (List ℕ)) where
           ]
           | inr inside ↦ h.dense i low inside
         ];
-      }
-
-  -- ---- the next region
-
-  pub next_region : (from start end : ℕ) → from ≤ start → ((i : ℕ) → 0 < from → from ≤ i → i < from + GAP → AgreeAt versions i)
-      → ((i : ℕ) → from ≤ i → i < start → AgreeAt versions i) → DifferAt versions start → start < end → DifferAt versions (end - 1)
-      → ((i : ℕ) → end ≤ i → i < end + GAP → AgreeAt versions i)
-      → ((i : ℕ) → start ≤ i → i + GAP ≤ end → (j : ℕ) × (i ≤ j) × (j < i + GAP) × DifferAt versions j) → IsNextRegion versions from start end
-  next_region from start end beyond gap until first some last after dense =
-      record {
-        beyond = beyond;
-        until = until;
-        region = record {
-          some = some;
-          first = first;
-          last = last;
-          before = λ i low near. elim (cases_lt i from) [
-            | inl below ↦ elim (cases_lt start (from + GAP)) [
-              | inl close ↦ absurd (first (gap start (omega arith) beyond close))
-              | inr far ↦ absurd (omega arith)
-            ]
-            | inr above ↦ until i above low
-          ];
-          after = after;
-          within = dense;
-        };
       }
 
   -- ---- two regions

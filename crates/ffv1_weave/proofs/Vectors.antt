@@ -1,13 +1,14 @@
--- Two versions of three bytes that differ in the second, and two that differ in two places, at a distance of 64 and of 65: what the
--- definitions say of them.
-use Rattle.std.proofs.Common.{◌≡◌, ℕ, zero, suc, ◌+◌, ◌-◌, ◌<◌, List, [], ◌∷◌, ◌++◌, length, length-append, add-one, get_or, refl, sym, ap, ◌∙◌, subst, arith, inl, inr}
-use Rattle.std.specs.Prelude.{Contains, slice_range}
+-- Two versions of three bytes that differ in the second, and two that differ in two places, just near enough to each other and just too far
+-- apart: what the definitions say of them.
+use Rattle.std.proofs.Common.{◌≡◌, ℕ, zero, suc, ◌+◌, ◌-◌, ◌<◌, ◌≤◌, List, [], ◌∷◌, ◌++◌, length, length-append, add-one, get_or, refl, sym, ap, ◌∙◌, subst, arith, inl, inr}
+use Rattle.std.specs.Prelude.{◌⊎◌, Contains, slice_range}
 use Rattle.std.proofs.lemmas.Bool.{cases_lt}
 use Rattle.std.proofs.Math.ListN.{replicate, get_or-append}
 use Rattle.std.proofs.lemmas.List.{get_or-replicate, length-replicate, get_or-append_right}
 use Rattle.ffv1_weave.specs.Regions.{HaveLength, AgreeAt, DifferAt, IsRegion}
+use Rattle.ffv1_weave.specs.Seams.{IsSeam, IsSegment}
 use Rattle.ffv1_weave.specs.Combinations.{IsCombination}
-use Rattle.ffv1_weave.proofs.Agreeing.{agree_from, agree_past, differ_from}
+use Rattle.ffv1_weave.proofs.Agreeing.{agree_from, agree_past, differ_from, two_of}
 use Rattle.ffv1_weave.proofs.RegionSteps.{one_region}
 
 pub versions : List (List ℕ)
@@ -59,7 +60,7 @@ region =
 -- A byte that no version has there makes no combination.
 pub no_combination : IsCombination versions (1 ∷ 4 ∷ 3 ∷ []) → ⊥
 unfolding versions
-no_combination is = let version = is.regions 1 2 region in none version.0 version.1 version.2
+no_combination is = let version = is.parts 1 2 region in none version.0 version.1 version.2
   where
     none : (version : List ℕ) → Contains versions version → slice_range (1 ∷ 4 ∷ 3 ∷ []) 1 2 ≡ slice_range version 1 2 → ⊥
     none version (zero, lt, is) same = let e = ap (λ z. get_or z 0 0) (same ∙ ap (λ z. slice_range z 1 2) (sym is)) in absurd (omega arith)
@@ -155,3 +156,146 @@ second_of_two =
       after = λ i low near. agree_past (spread 64) 66 i (long 64) low;
       within = λ i low high. absurd (omega arith);
     }
+
+-- ---- the seams and the segments of these two
+
+module _ (a b : List ℕ) where
+  two_agree : (j : ℕ) → get_or b j 0 ≡ get_or a j 0 → AgreeAt (a ∷ b ∷ []) j
+  two_agree j h = agree_from (a ∷ b ∷ []) j same
+    where
+      same : (k : ℕ) → k < 2 → get_or (get_or (a ∷ b ∷ []) k []) j 0 ≡ get_or a j 0
+      same zero lt = refl
+      same (suc zero) lt = h
+      same (suc (suc k)) lt = absurd (omega arith)
+
+  -- where two of them differ somewhere, they differ wherever any do
+  two_differ : (i j : ℕ) (one other : List ℕ) → Contains (a ∷ b ∷ []) one → Contains (a ∷ b ∷ []) other
+      → (get_or one i 0 ≡ get_or other i 0 → ⊥) → DifferAt (a ∷ b ∷ []) j → get_or one j 0 ≡ get_or other j 0 → ⊥
+  two_differ i j one other (zero, lt, is) (zero, less, it) apart differ same = apart (ap (λ v. get_or v i 0) (sym is ∙ it))
+  two_differ i j one other (suc zero, lt, is) (suc zero, less, it) apart differ same = apart (ap (λ v. get_or v i 0) (sym is ∙ it))
+  two_differ i j one other (zero, lt, is) (suc zero, less, it) apart differ same =
+      differ (two_agree j (ap (λ v. get_or v j 0) it ∙ sym same ∙ ap (λ v. get_or v j 0) (sym is)))
+  two_differ i j one other (suc zero, lt, is) (zero, less, it) apart differ same =
+      differ (two_agree j (ap (λ v. get_or v j 0) is ∙ same ∙ ap (λ v. get_or v j 0) (sym it)))
+  two_differ i j one other (suc (suc k), lt, is) here apart differ same = absurd (omega arith)
+  two_differ i j one other (zero, lt, is) (suc (suc k), less, it) apart differ same = absurd (omega arith)
+  two_differ i j one other (suc zero, lt, is) (suc (suc k), less, it) apart differ same = absurd (omega arith)
+
+spread_differ : (space i j : ℕ) (one other : List ℕ) → Contains (spread space) one → Contains (spread space) other
+    → (get_or one i 0 ≡ get_or other i 0 → ⊥) → DifferAt (spread space) j → get_or one j 0 ≡ get_or other j 0 → ⊥
+unfolding spread
+spread_differ space i j one other there here apart differ same =
+    two_differ (1 ∷ (replicate space 0 ++ 1 ∷ [])) (2 ∷ (replicate space 0 ++ 2 ∷ [])) i j one other there here apart differ same
+
+-- they differ at no other place
+only_ends : (space i : ℕ) → DifferAt (spread space) i → (i ≡ 0) ⊎ (i ≡ space + 1)
+only_ends space i differ = elim (cases_lt 0 i) [
+  | inr none ↦ inl (omega arith)
+  | inl above ↦ elim (cases_lt i (space + 1)) [
+    | inl below ↦ absurd (differ (between_agrees space i above below))
+    | inr high ↦ elim (cases_lt (space + 1) i) [
+      | inr low ↦ inr (omega arith)
+      | inl past ↦ absurd (differ (agree_past (spread space) (space + 2) i (long space) (omega arith)))
+    ]
+  ]
+]
+
+module _ (distance space : ℕ) where
+  begins_at : (place : ℕ) → DifferAt (spread space) place → ((i : ℕ) → i < place → place ≤ i + distance → AgreeAt (spread space) i)
+      → IsSeam distance (spread space) place
+  begins_at place differ quiet =
+      let two = two_of (spread space) place differ in
+      record {
+        one = two.one;
+        other = two.other;
+        one_there = two.one_there;
+        other_there = two.other_there;
+        parted = inl (record { differ = two.differ; before = λ i lt near. quiet i lt near two.one two.other two.one_there two.other_there });
+      }
+
+  ends_at : (last : ℕ) → DifferAt (spread space) last → ((i : ℕ) → last < i → i ≤ last + distance → AgreeAt (spread space) i)
+      → IsSeam distance (spread space) (last + 1)
+  ends_at last differ quiet =
+      let two = two_of (spread space) last differ in
+      record {
+        one = two.one;
+        other = two.other;
+        one_there = two.one_there;
+        other_there = two.other_there;
+        parted = inr (record {
+          last = last;
+          next = refl;
+          differ = two.differ;
+          after = λ i low near. quiet i (omega arith) (omega arith) two.one two.other two.one_there two.other_there;
+        });
+      }
+
+  -- where the two places are further apart than the distance, each is a segment
+  two_segments : distance ≤ space → IsSegment distance (spread space) 0 1 × IsSegment distance (spread space) (space + 1) (space + 2)
+  two_segments far = (
+    record {
+      some = omega arith;
+      first = inl refl;
+      last = inl (ends_at 0 (start_differs space) (λ i low near. between_agrees space i low (omega arith)));
+      within = λ i low lt seam. absurd (omega arith);
+    },
+    record {
+      some = omega arith;
+      first = inr (begins_at (space + 1) (end_differs space) (λ i lt near. between_agrees space i (omega arith) lt));
+      last =
+          let is : space + 1 + 1 ≡ space + 2 = omega arith in
+          inl (subst (IsSeam distance (spread space)) is (ends_at (space + 1) (end_differs space)
+          (λ i low near. agree_past (spread space) (space + 2) i (long space) (omega arith))));
+      within = λ i low lt seam. absurd (omega arith);
+    },
+  )
+
+  -- where they are not, both are of one
+  one_segment : space < distance → IsSegment distance (spread space) 0 (space + 2)
+  one_segment near =
+      record {
+        some = omega arith;
+        first = inl refl;
+        last =
+            let is : space + 1 + 1 ≡ space + 2 = omega arith in
+            inl (subst (IsSeam distance (spread space)) is (ends_at (space + 1) (end_differs space)
+            (λ i low close. agree_past (spread space) (space + 2) i (long space) (omega arith))));
+        within = λ i low lt seam. elim seam.parted [
+          | inl begins ↦ elim (only_ends space i (λ agree. begins.differ (agree seam.one seam.other seam.one_there seam.other_there))) [
+            | inl none ↦ omega arith
+            | inr high ↦ spread_differ space i 0 seam.one seam.other seam.one_there seam.other_there begins.differ (start_differs space)
+                (begins.before 0 low (omega arith))
+          ]
+          | inr ends ↦ let next = ends.next in
+              elim (only_ends space ends.last (λ agree. ends.differ (agree seam.one seam.other seam.one_there seam.other_there))) [
+                | inl none ↦ spread_differ space ends.last (space + 1) seam.one seam.other seam.one_there seam.other_there ends.differ
+                    (end_differs space) (ends.after (space + 1) (omega arith) (omega arith))
+                | inr high ↦ omega arith
+              ]
+        ];
+      }
+
+-- the distances by which versions are parted, and places that are just near enough, and just too far apart
+pub none_together : IsSegment 0 (spread 0) 0 1 × IsSegment 0 (spread 0) 1 2
+none_together = two_segments 0 0 (omega arith)
+
+pub one_apart_together : IsSegment 2 (spread 0) 0 2
+one_apart_together = one_segment 2 0 (omega arith)
+
+pub two_apart_together : IsSegment 2 (spread 1) 0 3
+two_apart_together = one_segment 2 1 (omega arith)
+
+pub three_apart_parted : IsSegment 2 (spread 2) 0 1 × IsSegment 2 (spread 2) 3 4
+three_apart_parted = two_segments 2 2 (omega arith)
+
+pub eight_apart_together : IsSegment 8 (spread 7) 0 9
+eight_apart_together = one_segment 8 7 (omega arith)
+
+pub nine_apart_parted : IsSegment 8 (spread 8) 0 1 × IsSegment 8 (spread 8) 9 10
+nine_apart_parted = two_segments 8 8 (omega arith)
+
+pub sixty_four_apart_together : IsSegment 64 (spread 63) 0 65
+sixty_four_apart_together = one_segment 64 63 (omega arith)
+
+pub sixty_five_apart_parted : IsSegment 64 (spread 64) 0 1 × IsSegment 64 (spread 64) 65 66
+sixty_five_apart_parted = two_segments 64 64 (omega arith)

@@ -1,13 +1,22 @@
 -- Laws of the weave.
-use Rattle.std.proofs.Common.{◌≡◌, ℕ, ◌-◌, List, refl, sym, ap, ◌∙◌, arith}
+use Rattle.std.proofs.Common.{◌≡◌, ℕ, ◌-◌, List, get_or, refl, sym, ap, ◌∙◌, inl, inr}
 use Rattle.ffv1_weave.specs.Regions.{AgreeAt, DifferAt, IsRegion}
-use Rattle.ffv1_weave.specs.Combinations.{IsCombination, IsValid, AreNumbered}
+use Rattle.ffv1_weave.specs.Seams.{IsSeam, IsSegment}
+use Rattle.ffv1_weave.specs.Grains.{IsPartBy, grains}
+use Rattle.ffv1_weave.specs.Combinations.{IsCombinationBy, IsValid, AreNumbered, HasMany, IsTriedBy}
 use Rattle.ffv1_weave.specs.Weave.{Weave, IsWeaveOf, AreFew, AreMany}
 use Rattle.ffv1_weave.specs.Weave.Weave.{woven, disputed, missing, too_many}
 use Rattle.ffv1_weave.specs.declared.check.Check.{Check}
+use Rattle.ffv1_weave.specs.declared.grains.Grain.{Grain}
+use Rattle.ffv1_weave.specs.declared.grains.Grain.TheVariants.{Pairs, Regions}
 use Rattle.ffv1_slice.specs.Members.{HasSameMembers}
 use Rattle.ffv1_weave.specs.Laws.{SameVersionsWeave, CoveredIsCombination}
-use Rattle.ffv1_weave.proofs.Numbering.{one_number}
+use Rattle.ffv1_weave.proofs.Tried.{one_count, few_not_many}
+
+pub same_back : (versions others : List (List ℕ)) → HasSameMembers versions others → HasSameMembers others versions
+same_back versions others same version = ((same version).1, (same version).0)
+
+-- ---- parts rest on the members of the versions alone
 
 module _ (versions others : List (List ℕ)) (same : HasSameMembers versions others) where
   agree_as : (i : ℕ) → AgreeAt versions i → AgreeAt others i
@@ -27,64 +36,137 @@ module _ (versions others : List (List ℕ)) (same : HasSameMembers versions oth
         within = λ i low high. let spot = h.within i low high in (spot.0, spot.1, spot.2, λ agree. spot.3 (agree_as spot.0 agree));
       }
 
-  pub combination_as : (bytes : List ℕ) → IsCombination versions bytes → IsCombination others bytes
-  combination_as bytes h =
+  seam_as : (distance place : ℕ) → IsSeam distance versions place → IsSeam distance others place
+  seam_as distance place h =
+      record {
+        one = h.one;
+        other = h.other;
+        one_there = (same h.one).0 h.one_there;
+        other_there = (same h.other).0 h.other_there;
+        parted = h.parted;
+      }
+
+module _ (versions others : List (List ℕ)) (same : HasSameMembers versions others) where
+  segment_back : (distance start end : ℕ) → IsSegment distance others start end → IsSegment distance versions start end
+  segment_back distance start end h =
+      let back = same_back versions others same in
+      record {
+        some = h.some;
+        first = elim h.first [ inl zero ↦ inl zero | inr seam ↦ inr (seam_as others versions back distance start seam) ];
+        last = elim h.last [
+          | inl seam ↦ inl (seam_as others versions back distance end seam)
+          | inr at_end ↦ inr (at_end.0, (same at_end.0).1 at_end.1, at_end.2)
+        ];
+        within = λ i low high seam. h.within i low high (seam_as versions others same distance i seam);
+      }
+
+  part_back : (grain : Grain) (start end : ℕ) → IsPartBy grain others start end → IsPartBy grain versions start end
+  part_back (Pairs distance) start end h = segment_back distance start end h
+  part_back Regions start end h = region_back versions others same start end h
+
+  pub combination_as : (grain : Grain) (bytes : List ℕ) → IsCombinationBy grain versions bytes → IsCombinationBy grain others bytes
+  combination_as grain bytes h =
       record {
         same_length = λ version there. h.same_length version ((same version).1 there);
-        agrees = λ i agree version there. h.agrees i (agree_back i agree) version ((same version).1 there);
-        regions = λ start end region. let version = h.regions start end (region_back start end region) in
+        agrees = λ i agree version there. h.agrees i (agree_back versions others same i agree) version ((same version).1 there);
+        parts = λ start end part. let version = h.parts start end (part_back grain start end part) in
             (version.0, (same version.0).0 version.1, version.2);
       }
 
+-- ---- and so do the combinations that are tried
+
+module _ (versions others : List (List ℕ)) (same : HasSameMembers versions others) where
+  numbered_as : (grain : Grain) (count : ℕ) → AreNumbered (IsCombinationBy grain versions) count → AreNumbered (IsCombinationBy grain others) count
+  numbered_as grain count h =
+      record {
+        at = h.at;
+        are = λ k lt. combination_as versions others same grain (h.at k) (h.are k lt);
+        all = λ bytes combination. h.all bytes (combination_as others versions (same_back versions others same) grain bytes combination);
+        once = h.once;
+      }
+
+  has_many_as : (grain : Grain) → HasMany versions grain → HasMany others grain
+  has_many_as grain h = record { at = h.at; are = λ k low. combination_as versions others same grain (h.at k) (h.are k low); once = h.once }
+
+  tried_as : (grain : Grain) (count : ℕ) → IsTriedBy versions grain count → IsTriedBy others grain count
+  tried_as grain count h =
+      record {
+        place = h.place;
+        there = h.there;
+        is = h.is;
+        finer = λ k below. has_many_as (get_or grains k Regions) (h.finer k below);
+        few = record { numbered = numbered_as grain count h.few.numbered; few = h.few.few };
+      }
+
   pub valid_as : (check : Check) (bytes : List ℕ) → IsValid check versions bytes → IsValid check others bytes
-  valid_as check bytes h = record { combination = combination_as bytes h.combination; passes = h.passes }
+  valid_as check bytes h =
+      record {
+        grain = h.grain;
+        count = h.count;
+        tried = tried_as h.grain h.count h.tried;
+        combination = combination_as versions others same h.grain bytes h.combination;
+        passes = h.passes;
+      }
+
+  pub few_as : (count : ℕ) → AreFew versions count → AreFew others count
+  few_as count h = record { grain = h.grain; tried = tried_as h.grain count h.tried }
+
+  pub many_as : AreMany versions → AreMany others
+  many_as h = record { each = λ grain there. has_many_as grain (h.each grain there) }
 
 module _ (check : Check) (versions others : List (List ℕ)) (same : HasSameMembers versions others) where
-  back : HasSameMembers others versions
-  back version = ((same version).1, (same version).0)
+  back : (bytes : List ℕ) → IsValid check others bytes → IsValid check versions bytes
+  back bytes valid = valid_as others versions (same_back versions others same) check bytes valid
 
-  one_count : (m n : ℕ) → AreNumbered (IsCombination versions) m → AreNumbered (IsCombination others) n → m ≡ n
-  one_count m n h k =
-      one_number (IsCombination versions) (IsCombination others) m n (combination_as versions others same) (combination_as others versions back) h k
+  pub weave_as : (weave : Weave) → IsWeaveOf check versions weave → IsWeaveOf check others weave
+  weave_as (woven bytes count) h = (
+    record {
+      there = valid_as versions others same check bytes h.0.there;
+      others = λ other valid. h.0.others other (back other valid);
+    },
+    few_as versions others same count h.1,
+  )
+  weave_as disputed h = (
+    record {
+      one = h.0.one;
+      other = h.0.other;
+      one_there = valid_as versions others same check h.0.one h.0.one_there;
+      other_there = valid_as versions others same check h.0.other h.0.other_there;
+      differ = h.0.differ;
+    },
+    (h.1.0, few_as versions others same h.1.0 h.1.1),
+  )
+  weave_as (missing count) h = (λ bytes valid. h.0 bytes (back bytes valid), few_as versions others same count h.1)
+  weave_as too_many h = many_as versions others same h
 
-  few_or_many : (count : ℕ) → AreFew versions count → AreMany others → ⊥
-  few_or_many count few many =
-      let e = one_count count many.count few.numbered many.numbered in let low = few.few in let high = many.many in omega arith
+-- ---- versions have one weave
 
-  many_or_few : (count : ℕ) → AreMany versions → AreFew others count → ⊥
-  many_or_few count many few =
-      let e = one_count many.count count many.numbered few.numbered in let low = few.few in let high = many.many in omega arith
-
-  pub one_weave : (one other : Weave) → IsWeaveOf check versions one → IsWeaveOf check others other → one ≡ other
-  one_weave (woven a m) (woven b n) h k =
-      ap (λ z. woven z m) (k.0.others a (valid_as versions others same check a h.0.there)) ∙ ap (woven b) (one_count m n h.1.numbered k.1.numbered)
-  one_weave (woven a m) disputed h k =
-      absurd (k.0.differ (h.0.others k.0.one (valid_as others versions back check k.0.one k.0.one_there)
-      ∙ sym (h.0.others k.0.other (valid_as others versions back check k.0.other k.0.other_there))))
-  one_weave (woven a m) missing h k = absurd (k.0 a (valid_as versions others same check a h.0.there))
-  one_weave (woven a m) too_many h k = absurd (few_or_many m h.1 k)
-  one_weave disputed (woven b n) h k =
-      absurd (h.0.differ (k.0.others h.0.one (valid_as versions others same check h.0.one h.0.one_there)
-      ∙ sym (k.0.others h.0.other (valid_as versions others same check h.0.other h.0.other_there))))
+module _ (check : Check) (versions : List (List ℕ)) where
+  one_weave : (one other : Weave) → IsWeaveOf check versions one → IsWeaveOf check versions other → one ≡ other
+  one_weave (woven a m) (woven b n) h k = ap (λ z. woven z m) (k.0.others a h.0.there) ∙ ap (woven b) (one_count versions m n h.1 k.1)
+  one_weave (woven a m) disputed h k = absurd (k.0.differ (h.0.others k.0.one k.0.one_there ∙ sym (h.0.others k.0.other k.0.other_there)))
+  one_weave (woven a m) (missing n) h k = absurd (k.0 a h.0.there)
+  one_weave (woven a m) too_many h k = absurd (few_not_many versions m h.1 k)
+  one_weave disputed (woven b n) h k = absurd (h.0.differ (k.0.others h.0.one h.0.one_there ∙ sym (k.0.others h.0.other h.0.other_there)))
   one_weave disputed disputed h k = refl
-  one_weave disputed missing h k = absurd (k.0 h.0.one (valid_as versions others same check h.0.one h.0.one_there))
-  one_weave disputed too_many h k = absurd (few_or_many h.1.0 h.1.1 k)
-  one_weave missing (woven b n) h k = absurd (h.0 b (valid_as others versions back check b k.0.there))
-  one_weave missing disputed h k = absurd (h.0 k.0.one (valid_as others versions back check k.0.one k.0.one_there))
-  one_weave missing missing h k = refl
-  one_weave missing too_many h k = absurd (few_or_many h.1.0 h.1.1 k)
-  one_weave too_many (woven b n) h k = absurd (many_or_few n h k.1)
-  one_weave too_many disputed h k = absurd (many_or_few k.1.0 h k.1.1)
-  one_weave too_many missing h k = absurd (many_or_few k.1.0 h k.1.1)
+  one_weave disputed (missing n) h k = absurd (k.0 h.0.one h.0.one_there)
+  one_weave disputed too_many h k = absurd (few_not_many versions h.1.0 h.1.1 k)
+  one_weave (missing m) (woven b n) h k = absurd (h.0 b k.0.there)
+  one_weave (missing m) disputed h k = absurd (h.0 k.0.one k.0.one_there)
+  one_weave (missing m) (missing n) h k = ap missing (one_count versions m n h.1 k.1)
+  one_weave (missing m) too_many h k = absurd (few_not_many versions m h.1 k)
+  one_weave too_many (woven b n) h k = absurd (few_not_many versions n k.1 h)
+  one_weave too_many disputed h k = absurd (few_not_many versions k.1.0 k.1.1 h)
+  one_weave too_many (missing n) h k = absurd (few_not_many versions n k.1 h)
   one_weave too_many too_many h k = refl
 
 pub same_versions_weave : SameVersionsWeave
-same_versions_weave check versions others one other same h k = one_weave check versions others same one other h k
+same_versions_weave check versions others one other same h k = one_weave check others one other (weave_as check versions others same one h) k
 
 pub covered_is_combination : CoveredIsCombination
 covered_is_combination original versions h =
     record {
       same_length = λ version there. sym (h.one_length version there);
       agrees = λ i agree version there. sym (h.right i agree version there);
-      regions = λ start end region. let version = h.intact start end region in (version.0, version.1, sym version.2);
+      parts = λ start end region. let version = h.intact start end region in (version.0, version.1, sym version.2);
     }

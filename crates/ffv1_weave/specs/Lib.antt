@@ -1,5 +1,7 @@
 pub mod Checks
 pub mod Regions
+pub mod Seams
+pub mod Grains
 pub mod Combinations
 pub mod Weave
 pub mod Parts

@@ -1,8 +1,12 @@
--- The regions of versions as they are gone over: from the front on, each with what differs in it, and the combinations by number.
-use Rattle.std.specs.Prelude.{ℕ, ◌+◌, ◌-◌, ◌*◌, ◌/◌, ◌%◌, ◌<◌, ◌≤◌, ◌≡◌, List, [], ◌∷◌, ◌++◌, Contains, length, take, drop, slice_index_or, slice_range}
-use Rattle.ffv1_weave.specs.Regions.{AgreeAt, IsRegion}
+-- The parts of versions as they are gone over: from the front on, each with what differs in it, and the combinations by number.
+use Rattle.std.specs.Prelude.{ℕ, ◌+◌, ◌-◌, ◌*◌, ◌/◌, ◌%◌, ◌<◌, ◌≤◌, ◌≡◌, ◌⊎◌, All, List, [], ◌∷◌, ◌++◌, Contains, length, take, drop, slice_index_or, slice_range}
+use Rattle.ffv1_weave.specs.Regions.{AgreeAt}
+use Rattle.ffv1_weave.specs.Grains.{IsPartBy}
+use Rattle.ffv1_weave.specs.Combinations.{IsTriedBy}
+use Rattle.ffv1_weave.specs.declared.grains.Grain.{Grain}
+use Rattle.ffv1_weave.specs.declared.weaving.TheConstants.{MOST_COMBINATIONS}
 
--- a region, and the byte strings that versions have there
+-- a part, and the byte strings that versions have there
 pub record Part : Type 0 where
   pub start : ℕ
   pub end : ℕ
@@ -15,17 +19,32 @@ pub record ArePieces (versions : List (List ℕ)) (start end : ℕ) (pieces : Li
       → (version : List ℕ) × Contains versions version × (slice_index_or pieces k [] ≡ slice_range version start end)
   pub once : (j k : ℕ) → j < length pieces → k < length pieces → slice_index_or pieces j [] ≡ slice_index_or pieces k [] → j ≡ k
 
--- The next region from a place on: the versions agree before it.
-pub record IsNextRegion (versions : List (List ℕ)) (from start end : ℕ) : Type 0 where
+-- Parts can be sought from a place on: it is the versions' start, or a part ends there.
+abbrev pub IsEdge : Grain → List (List ℕ) → ℕ → Type 0
+IsEdge grain versions from = (from ≡ 0) ⊎ ((start : ℕ) × IsPartBy grain versions start from)
+
+-- The next part from a place on at which versions differ: they agree before it.
+pub record IsPartFrom (grain : Grain) (versions : List (List ℕ)) (from start end : ℕ) : Type 0 where
   pub beyond : from ≤ start
   pub until : (i : ℕ) → from ≤ i → i < start → AgreeAt versions i
-  pub region : IsRegion versions start end
+  pub part : IsPartBy grain versions start end
 
--- All regions from a place on, from the front on.
-abbrev pub ArePartsFrom : List (List ℕ) → ℕ → List Part → Type 0
-ArePartsFrom versions from [] = (i : ℕ) → from ≤ i → AgreeAt versions i
-ArePartsFrom versions from (part ∷ parts) =
-    IsNextRegion versions from part.start part.end × ArePieces versions part.start part.end part.pieces × ArePartsFrom versions part.end parts
+-- The next parts from a place on, from the front on.
+abbrev pub ArePartsFrom : Grain → List (List ℕ) → ℕ → List Part → Type 0
+ArePartsFrom grain versions from [] = Unit {0}
+ArePartsFrom grain versions from (part ∷ parts) =
+    IsPartFrom grain versions from part.start part.end × ArePieces versions part.start part.end part.pieces
+    × ArePartsFrom grain versions part.end parts
+
+-- where the last of the parts ends
+abbrev pub parts_end : ℕ → List Part → ℕ
+parts_end from [] = from
+parts_end from (part ∷ parts) = parts_end part.end parts
+
+-- All parts: the versions agree after the last of them.
+pub record AreAllParts (grain : Grain) (versions : List (List ℕ)) (parts : List Part) : Type 0 where
+  pub next : ArePartsFrom grain versions 0 parts
+  pub rest : (i : ℕ) → parts_end 0 parts ≤ i → AgreeAt versions i
 
 -- A part lies within so many bytes, and has a piece at least; each fills it.
 pub record IsFit (size : ℕ) (part : Part) : Type 0 where
@@ -38,6 +57,19 @@ pub record IsFit (size : ℕ) (part : Part) : Type 0 where
 abbrev pub count_of : List Part → ℕ
 count_of [] = 1
 count_of (part ∷ parts) = length part.pieces * count_of parts
+
+-- All parts by a grain, which fit so many bytes, and have so many combinations, few enough to be tried.
+pub record AreFewParts (grain : Grain) (versions : List (List ℕ)) (size : ℕ) (parts : List Part) (count : ℕ) : Type 0 where
+  pub all : AreAllParts grain versions parts
+  pub fit : All (IsFit size) parts
+  pub counted : count ≡ count_of parts
+  pub few : count ≤ MOST_COMBINATIONS
+
+-- The parts by the grain that is tried.
+pub record AreTriedParts (versions : List (List ℕ)) (size : ℕ) (parts : List Part) (count : ℕ) : Type 0 where
+  pub grain : Grain
+  pub tried : IsTriedBy versions grain count
+  pub few : AreFewParts grain versions size parts count
 
 -- bytes with a piece written over them from a place on
 abbrev pub written : List ℕ → ℕ → List ℕ → List ℕ

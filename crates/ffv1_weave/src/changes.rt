@@ -1,11 +1,11 @@
-//! What the pieces of regions change of what is left: each is computed once, and a combination's remainder is the
+//! What the pieces of parts change of what is left: each is computed once, and a combination's remainder is the
 //! sum of those of its pieces.
 ghost use Rattle.std.specs.Prelude.{◌≡◌, ◌+◌, ◌≤◌, ◌<◌, length, map, All, IfOk};
 ghost use Rattle.ffv1_weave.specs.Parts.{IsFit};
 ghost use Rattle.ffv1_weave.specs.Changes.{remainder_in, change_of, changes_of, changed};
 
 use crate::check::Check;
-use crate::parts::Region;
+use crate::parts::Part;
 use std::alloc::{AllocError, Global};
 
 /// What a piece changes of the remainder of `first`, where it is written over it from `start` on.
@@ -27,44 +27,44 @@ fn change_of(
     check.remainder(scratch) ^ base
 }
 
-/// What each piece of a region changes.
+/// What each piece of a part changes.
 fn changes_of(
     alloc: Global,
     check: Check,
     scratch: &mut [u8],
     first: &[u8],
     base: u32,
-    region: &Region<'_>,
+    part: &Part<'_>,
 ) -> Result<Vec<u32>, AllocError>
     requires same { length scratch.old ≡ length first.now }
-    requires fits { IsFit (length first.now) region.now }
+    requires fits { IsFit (length first.now) part.now }
     requires base { base ≡ remainder_in check first.now }
-    ensures { IfOk result (λ changes. changes.items ≡ changes_of check first.now region.now) }
+    ensures { IfOk result (λ changes. changes.items ≡ changes_of check first.now part.now) }
 {
     let mut changes = Vec::new(alloc);
-    for piece in region.pieces.as_slice() {
-        let change = change_of(check, scratch, first, base, region.start, piece);
+    for piece in part.pieces.as_slice() {
+        let change = change_of(check, scratch, first, base, part.start, piece);
         changes.push(change)?;
     }
     Ok(changes)
 }
 
-/// What each piece of each region changes of the remainder of `first`, which is `base`.
+/// What each piece of each part changes of the remainder of `first`, which is `base`.
 pub(crate) fn tables_of(
     alloc: Global,
     check: Check,
     first: &[u8],
     base: u32,
-    regions: &[Region<'_>],
+    parts: &[Part<'_>],
 ) -> Result<Vec<Vec<u32>>, AllocError>
-    requires fits { All (IsFit (length first.now)) regions.now }
+    requires fits { All (IsFit (length first.now)) parts.now }
     requires base { base ≡ remainder_in check first.now }
-    ensures { IfOk result (λ tables. map (λ changes. changes.items) tables.items ≡ map (changes_of check first.now) regions.now) }
+    ensures { IfOk result (λ tables. map (λ changes. changes.items) tables.items ≡ map (changes_of check first.now) parts.now) }
 {
     let mut scratch = Vec::from_slice(alloc, first)?;
     let mut tables = Vec::new(alloc);
-    for region in regions {
-        let changes = changes_of(alloc, check, &mut scratch, first, base, region)?;
+    for part in parts {
+        let changes = changes_of(alloc, check, &mut scratch, first, base, part)?;
         tables.push(changes)?;
     }
     Ok(tables)

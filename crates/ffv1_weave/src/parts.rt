@@ -1,21 +1,26 @@
-//! The regions with what versions have there, and the combinations by number.
-ghost use Rattle.std.specs.Prelude.{◌≡◌, ◌+◌, ◌≤◌, ◌<◌, ℕ, List, length, map, All, MatchOption, IfOk};
-ghost use Rattle.ffv1_weave.specs.Parts.{Part, ArePieces, ArePartsFrom, IsFit, count_of, chosen};
+//! The parts of versions with what these have there, and the combinations by number.
+ghost use Rattle.std.specs.Prelude.{◌≡◌, ◌≤◌, ◌<◌, ℕ, length, map, All, MatchOption, IfSome, IfOk};
+ghost use Rattle.ffv1_weave.specs.Regions.{AgreeAt};
+ghost use Rattle.ffv1_weave.specs.Combinations.{HasMany};
+ghost use Rattle.ffv1_weave.specs.Weave.{AreMany};
+ghost use Rattle.ffv1_weave.specs.Parts.{ArePieces, IsEdge, IsPartFrom, IsFit, AreFewParts, AreTriedParts, chosen};
 
+use crate::grains::{GRAINS, Grain};
 use crate::regions::region_from;
+use crate::segments::segment_from;
 use crate::weaving::MOST_COMBINATIONS;
 use std::alloc::{AllocError, Global};
 use std::marker::Model;
 
-/// A region, and the byte strings that versions have there, each once.
+/// A part, and the byte strings that versions have there, each once.
 #[derive(Drop)]
-pub(crate) struct Region<'a> {
+pub(crate) struct Part<'a> {
     pub(crate) start: usize,
     pub(crate) end: usize,
     pub(crate) pieces: Vec<&'a [u8]>,
 }
 
-impl<'a> Model for Region<'a> {
+impl<'a> Model for Part<'a> {
     ghost use Rattle.std.specs.Prelude.{map};
     ghost use Rattle.ffv1_weave.specs.Parts.{Part};
 
@@ -24,8 +29,15 @@ impl<'a> Model for Region<'a> {
     ghost view = { λ a. record { start = a.start; end = a.end; pieces = map (λ piece. piece.now) a.pieces.items } };
 }
 
+/// Parts, and how many combinations they have.
+#[derive(Drop)]
+pub(crate) struct Parts<'a> {
+    pub(crate) parts: Vec<Part<'a>>,
+    pub(crate) count: usize,
+}
+
 /// The byte strings that versions have between two places, each once. Each version has the places.
-fn pieces_between<'a>(
+pub(crate) fn pieces_between<'a>(
     alloc: Global,
     versions: &[&'a [u8]],
     start: usize,
@@ -45,54 +57,81 @@ fn pieces_between<'a>(
     Ok(pieces)
 }
 
-/// The regions of versions of one length, from the front on. There is one version at least.
-pub(crate) fn regions_of<'a>(
+/// The next part by a grain at which versions differ, from `from` on, where it is their start or the end of a part: its start and its end.
+fn part_from(grain: Grain, versions: &[&[u8]], from: usize, size: usize) -> Option<(usize, usize)>
+    requires some { 0 < length versions.now }
+    requires lengths { All (λ version. length version.now ≡ size) versions.now }
+    requires within { from ≤ size }
+    requires edge { IsEdge grain (map (λ version. version.now) versions.now) from }
+    ensures part { MatchOption result ((i : ℕ) → from ≤ i → AgreeAt (map (λ version. version.now) versions.now) i)
+        (λ (start, end). IsPartFrom grain (map (λ version. version.now) versions.now) from start end) }
+    ensures within { IfSome result (λ (start, end). end ≤ size) }
+{
+    match grain {
+        Grain::Pairs(distance) => segment_from(versions, from, size, distance),
+        Grain::Regions => region_from(versions, from, size),
+    }
+}
+
+/// The parts of versions of one length by a grain, from the front on, where they have few enough combinations to be tried: where not,
+/// no further part is looked for. There is one version at least.
+fn parts_by<'a>(
+    alloc: Global,
+    grain: Grain,
+    versions: &[&'a [u8]],
+    size: usize,
+) -> Result<Option<Parts<'a>>, AllocError>
+    requires some { 0 < length versions.now }
+    requires lengths { All (λ version. length version.now ≡ size) versions.now }
+    ensures { IfOk result (λ found. MatchOption found (HasMany (map (λ version. version.now) versions.now) grain)
+        (λ few. AreFewParts grain (map (λ version. version.now) versions.now) size few.parts.items few.count)) }
+{
+    let mut parts = Vec::new(alloc);
+    let mut count = 1;
+    let mut from = 0;
+    while let Some((start, end)) = part_from(grain, versions, from, size) {
+        let pieces = pieces_between(alloc, versions, start, end)?;
+        let many = pieces.len();
+        if many > MOST_COMBINATIONS / count {
+            return Ok(None);
+        }
+        count *= many;
+        parts.push(Part { start, end, pieces })?;
+        from = end;
+    }
+    Ok(Some(Parts { parts, count }))
+}
+
+/// The parts of versions of one length by the finest grain by which they have few enough combinations to be tried, if there is one.
+/// There is one version at least.
+pub(crate) fn finest_parts<'a>(
     alloc: Global,
     versions: &[&'a [u8]],
     size: usize,
-) -> Result<Vec<Region<'a>>, AllocError>
+) -> Result<Option<Parts<'a>>, AllocError>
     requires some { 0 < length versions.now }
     requires lengths { All (λ version. length version.now ≡ size) versions.now }
-    ensures parts { IfOk result (λ regions. ArePartsFrom (map (λ version. version.now) versions.now) 0 regions.items) }
-    ensures fit { IfOk result (λ regions. All (IsFit size) regions.items) }
+    ensures { IfOk result (λ found. MatchOption found (AreMany (map (λ version. version.now) versions.now))
+        (λ tried. AreTriedParts (map (λ version. version.now) versions.now) size tried.parts.items tried.count)) }
 {
-    let mut regions = Vec::new(alloc);
-    let mut from = 0;
-    while let Some((start, end)) = region_from(versions, from, size) {
-        let pieces = pieces_between(alloc, versions, start, end)?;
-        regions.push(Region { start, end, pieces })?;
-        from = end;
-    }
-    Ok(regions)
-}
-
-/// How many combinations there are, where they are few enough to be tried.
-pub(crate) fn count_of(regions: &[Region<'_>]) -> Option<usize>
-    requires { All (λ part. 0 < length part.pieces) regions.now }
-    ensures { MatchOption result (MOST_COMBINATIONS < count_of regions.now)
-        (λ count. (count ≡ count_of regions.now) × (count ≤ MOST_COMBINATIONS)) }
-{
-    let mut count = 1;
-    for region in regions {
-        let many = region.pieces.len();
-        if many > MOST_COMBINATIONS / count {
-            return None;
+    for grain in GRAINS {
+        if let Some(parts) = parts_by(alloc, grain, versions, size)? {
+            return Ok(Some(parts));
         }
-        count *= many;
     }
-    Some(count)
+    Ok(None)
 }
 
 /// Writes the pieces of the combination of this number over the bytes.
-pub(crate) fn choose(bytes: &mut [u8], regions: &[Region<'_>], code: usize)
-    requires { All (IsFit (length bytes.old)) regions.now }
-    ensures { bytes.new ≡ chosen regions.now code bytes.old }
+pub(crate) fn choose(bytes: &mut [u8], parts: &[Part<'_>], code: usize)
+    requires { All (IsFit (length bytes.old)) parts.now }
+    ensures { bytes.new ≡ chosen parts.now code bytes.old }
 {
     let mut rest = code;
-    for region in regions {
-        let many = region.pieces.len();
-        let piece = region.pieces[rest % many];
-        bytes[region.start..region.end].copy_from_slice(piece);
+    for part in parts {
+        let many = part.pieces.len();
+        let piece = part.pieces[rest % many];
+        bytes[part.start..part.end].copy_from_slice(piece);
         rest /= many;
     }
 }

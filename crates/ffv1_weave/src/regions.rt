@@ -1,14 +1,15 @@
 //! The regions where versions of a slice differ, found from its front on.
 ghost use Rattle.std.specs.Prelude.{◌≡◌, ◌+◌, ◌-◌, ◌≤◌, ◌<◌, ℕ, length, map, All, MatchBool, MatchOption, IfSome};
 ghost use Rattle.ffv1_weave.specs.Regions.{AgreeAt, DifferAt};
-ghost use Rattle.ffv1_weave.specs.Parts.{IsNextRegion};
+ghost use Rattle.ffv1_weave.specs.Parts.{IsPartFrom};
+ghost use Rattle.ffv1_weave.specs.declared.grains.Grain.TheVariants.{Regions};
 
 /// How many places in a row at which all versions agree part two regions: places at which versions differ are of one region where
 /// they follow each other at a distance of at most so many bytes.
 const GAP: usize = 64;
 
 /// Whether versions differ at a place. There is one at least, and all have the place.
-fn differ_at(versions: &[&[u8]], place: usize) -> bool
+pub(crate) fn differ_at(versions: &[&[u8]], place: usize) -> bool
     requires some { 0 < length versions.now }
     requires within { All (λ version. place < length version.now) versions.now }
     ensures { MatchBool result (DifferAt (map (λ version. version.now) versions.now) place) (AgreeAt (map (λ version. version.now) versions.now) place) }
@@ -22,7 +23,7 @@ fn differ_at(versions: &[&[u8]], place: usize) -> bool
 }
 
 /// The first place from `from` on where versions differ, or their length `size` where there is none.
-fn first_from(versions: &[&[u8]], from: usize, size: usize) -> usize
+pub(crate) fn first_from(versions: &[&[u8]], from: usize, size: usize) -> usize
     requires some { 0 < length versions.now }
     requires lengths { All (λ version. length version.now ≡ size) versions.now }
     requires within { from ≤ size }
@@ -69,7 +70,7 @@ pub(crate) fn region_from(versions: &[&[u8]], from: usize, size: usize) -> Optio
     requires within { from ≤ size }
     requires gap { (i : ℕ) → 0 < from → from ≤ i → i < from + GAP → AgreeAt (map (λ version. version.now) versions.now) i }
     ensures region { MatchOption result ((i : ℕ) → from ≤ i → AgreeAt (map (λ version. version.now) versions.now) i)
-        (λ (start, end). IsNextRegion (map (λ version. version.now) versions.now) from start end) }
+        (λ (start, end). IsPartFrom Regions (map (λ version. version.now) versions.now) from start end) }
     ensures within { IfSome result (λ (start, end). end ≤ size) }
 {
     let start = first_from(versions, from, size);

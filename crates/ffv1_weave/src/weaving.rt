@@ -5,10 +5,10 @@ ghost use Rattle.ffv1_weave.specs.Weave.{IsWeaveOf, weave_told};
 
 use crate::changes::{changed, tables_of};
 use crate::check::Check;
-use crate::parts::{choose, count_of, regions_of};
+use crate::parts::{choose, finest_parts, pieces_between};
 use std::alloc::{AllocError, Global};
 
-/// The greatest number of combinations that are tried: where versions have more, none is.
+/// The greatest number of combinations that are tried: where versions have more however they are parted, none is.
 pub const MOST_COMBINATIONS: usize = 4096;
 
 /// What comes of weaving versions of a slice or of an element. A combination is valid where it passes the check: a slice where its
@@ -16,44 +16,34 @@ pub const MOST_COMBINATIONS: usize = 4096;
 /// CRC-32 (RFC 8794, section 11.3.1).
 #[derive(Debug, Drop)]
 pub enum Outcome {
-    /// One combination alone is valid: these bytes, among so many combinations, which are at most `MOST_COMBINATIONS`.
+    /// One combination alone is valid: these bytes, among so many that are tried, which are at most `MOST_COMBINATIONS`.
     Woven(Vec<u8>, usize),
-    /// Two combinations that differ are valid.
+    /// Two combinations that are tried and differ are valid.
     Disputed,
-    /// No combination is valid.
-    Missing,
-    /// There are more than `MOST_COMBINATIONS`: none is tried.
+    /// No combination that is tried is valid, of so many, which are at most `MOST_COMBINATIONS`.
+    Missing(usize),
+    /// There are more than `MOST_COMBINATIONS`, even of the regions: none is tried.
     TooMany,
 }
 
-/// Weaves versions of a slice, each with its footer, or of an element, by the check: what several copies have at its place. There is one
-/// at least, and all are as long as the first.
-///
-/// Places at which versions differ, counted in bytes from their start, are of one region where they follow each other at
-/// a distance of at most 64. A combination has in each region the bytes of one version, which may be another one in each, and
-/// what all versions have elsewhere. However versions are ordered or repeated, the answer is the same; where the original is
-/// one of the combinations, nothing else is woven (`original_is_woven`), and where it is not, one of them passes by chance
-/// once in 2^32 divided by their number.
-///
-/// It takes memory for two copies of a version, and for a list of the regions. The only refusal is that of such a growth.
-pub fn weave(alloc: Global, check: Check, versions: &[&[u8]]) -> Result<Outcome, AllocError>
+/// Weaves different versions of one length, of which there is one at least, by the check.
+fn weave_distinct(alloc: Global, check: Check, versions: &[&[u8]]) -> Result<Outcome, AllocError>
     requires some { 0 < length versions.now }
     requires lengths { All (λ version. length version.now ≡ length (slice_index_or (map (λ version. version.now) versions.now) 0 [])) versions.now }
     ensures { IfOk result (λ outcome. IsWeaveOf check (map (λ version. version.now) versions.now) (weave_told outcome)) }
 {
-    let regions = regions_of(alloc, versions, versions[0].len())?;
-    let Some(count) = count_of(regions.as_slice()) else {
+    let Some(tried) = finest_parts(alloc, versions, versions[0].len())? else {
         return Ok(Outcome::TooMany);
     };
     let base = check.remainder(versions[0]);
-    let tables = tables_of(alloc, check, versions[0], base, regions.as_slice())?;
+    let tables = tables_of(alloc, check, versions[0], base, tried.parts.as_slice())?;
     let mut bytes = Vec::from_slice(alloc, versions[0])?;
     let mut found = None;
-    for code in 0..count {
+    for code in 0..tried.count {
         if changed(tables.as_slice(), base, code) != 0 {
             continue;
         }
-        choose(&mut bytes, regions.as_slice(), code);
+        choose(&mut bytes, tried.parts.as_slice(), code);
         if !check.passes(bytes.as_slice()) {
             continue;
         }
@@ -63,8 +53,39 @@ pub fn weave(alloc: Global, check: Check, versions: &[&[u8]]) -> Result<Outcome,
         found = Some(code);
     }
     let Some(code) = found else {
-        return Ok(Outcome::Missing);
+        return Ok(Outcome::Missing(tried.count));
     };
-    choose(&mut bytes, regions.as_slice(), code);
-    Ok(Outcome::Woven(bytes, count))
+    choose(&mut bytes, tried.parts.as_slice(), code);
+    Ok(Outcome::Woven(bytes, tried.count))
+}
+
+/// Weaves versions of a slice, each with its footer, or of an element, by the check: what several copies have at its place. There is one
+/// at least, and all are as long as the first.
+///
+/// Versions are parted at places, counted in bytes from their start. A combination has in each part the bytes of one version, which may be
+/// another one in each. The parts are segments or regions:
+///
+/// - Places at which two versions differ are of one streak where they follow each other at most a distance apart. A segment lies between
+///   neighbouring ends of streaks, of any two versions, or the ends of the versions.
+/// - Places at which any versions differ are of one region where they follow each other at a distance of at most 64. Outside of the
+///   regions a combination has what all versions have.
+///
+/// What is tried are the combinations of the segments at distance 0 where these are at most `MOST_COMBINATIONS`, else at distance 2, 8 or
+/// 64, else of the regions. A combination of regions is one of segments at each of these distances too (`regions_are_coarsest`). However
+/// versions are ordered or repeated, the answer is the same; where the original is one of the combinations that are tried, nothing else is
+/// woven (`tried_original_is_woven`), and where it is not, one of them passes by chance once in 2^32 divided by their number.
+///
+/// The time goes into the different versions: a repeated one is only found to be so. They are read from the front on once for each
+/// distance that is tried, as far as there are not too many combinations yet. Two versions are compared only next to places at which
+/// versions differ.
+///
+/// It takes memory for two copies of a version, for a list of the different versions, and for one of the parts at which they differ.
+/// The only refusal is that of such a growth.
+pub fn weave(alloc: Global, check: Check, versions: &[&[u8]]) -> Result<Outcome, AllocError>
+    requires some { 0 < length versions.now }
+    requires lengths { All (λ version. length version.now ≡ length (slice_index_or (map (λ version. version.now) versions.now) 0 [])) versions.now }
+    ensures { IfOk result (λ outcome. IsWeaveOf check (map (λ version. version.now) versions.now) (weave_told outcome)) }
+{
+    let distinct = pieces_between(alloc, versions, 0, versions[0].len())?;
+    weave_distinct(alloc, check, distinct.as_slice())
 }

@@ -9,22 +9,22 @@ use Rattle.ffv1_weave.proofs.changes.changes_of.Goals as goal
 
 pub change_of-change-requires-clause-fits : goal.change_of-change-requires-clause-fits
 change_of-change-requires-clause-fits c =
-    let part : Part = c.args.region.now in
+    let part : Part = c.args.part.now in
     let i : ℕ = c.loop-piece.piece-index in
     let there = piece_there c.as_slice-piece-items.result.now part i nowhere (ap values_of c.as_slice-piece-items.ensures.value
-    ∙ ap (λ p. p.pieces) c.region.view_is) (omega arith) in
-    let start : c.region.inside.start ≡ part.start = ap (λ p. p.start) c.region.view_is in
+    ∙ ap (λ p. p.pieces) c.part.view_is) (omega arith) in
+    let start : c.part.inside.start ≡ part.start = ap (λ p. p.start) c.part.view_is in
     let size = piece_size (length c.args.first.now) part c.requires.fits i there.0 in
     let within = c.requires.fits.within in
     omega (arith, ap length there.1)
 
 pub loop-piece-preserved : goal.loop-piece-preserved
 loop-piece-preserved c =
-    let part : Part = c.args.region.now in
+    let part : Part = c.args.part.now in
     let i : ℕ = c.loop-piece.piece-index in
     let there = piece_there c.as_slice-piece-items.result.now part i nowhere (ap values_of c.as_slice-piece-items.ensures.value
-    ∙ ap (λ p. p.pieces) c.region.view_is) (omega arith) in
-    let start : c.region.inside.start ≡ part.start = ap (λ p. p.start) c.region.view_is in
+    ∙ ap (λ p. p.pieces) c.part.view_is) (omega arith) in
+    let start : c.part.inside.start ≡ part.start = ap (λ p. p.start) c.part.view_is in
     let is : c.change_of-change.result ≡ change_of c.args.check c.args.first.now part.start (get_or part.pieces i []) =
     c.change_of-change.ensures ∙ ap (λ s. change_of c.args.check c.args.first.now s (get_or c.as_slice-piece-items.result.now i nowhere).now) start
     ∙ ap (change_of c.args.check c.args.first.now part.start) there.1 in

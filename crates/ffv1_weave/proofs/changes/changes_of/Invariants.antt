@@ -6,5 +6,5 @@ use Rattle.ffv1_weave.proofs.changes.changes_of.Given as goal
 abbrev pub invariant-loop-piece : goal.invariant-loop-piece
 invariant-loop-piece l = record {
   same_length : length l.scratch ≡ length l.first;
-  so_far : l.changes.items ≡ take l.piece-index (changes_of l.check l.first l.region);
+  so_far : l.changes.items ≡ take l.piece-index (changes_of l.check l.first l.part);
 }

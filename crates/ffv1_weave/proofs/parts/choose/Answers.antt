@@ -14,18 +14,18 @@ copied_written bytes copied piece start count is long =
     ap (λ p. take start bytes ++ (p ++ drop count (drop start bytes))) is
     ∙ ap (λ rest. take start bytes ++ (piece ++ rest)) (drop-drop count start bytes ∙ ap (λ n. drop (start + n) bytes) (sym long))
 
-pub loop-region-preserved : goal.loop-region-preserved
-loop-region-preserved c =
-    let regions : List Part = c.args.regions.now in
-    let i : ℕ = c.loop-region.region-index in
-    let part : Part = c.region-item.result in
-    let bytes : List ℕ = c.loop-region.bytes in
-    let code : ℕ = c.loop-region.rest in
-    let fit : IsFit (length c.args.bytes.now) part = subst (IsFit (length c.args.bytes.now)) (sym c.region-item.is) (c.requires i part c.loop-region-test.true) in
-    let inside = c.region.inside in
-    let values : values_of inside.pieces.items ≡ part.pieces = ap (λ p. p.pieces) c.region.view_is in
-    let start : inside.start ≡ part.start = ap (λ p. p.start) c.region.view_is in
-    let end : inside.end ≡ part.end = ap (λ p. p.end) c.region.view_is in
+pub loop-part-preserved : goal.loop-part-preserved
+loop-part-preserved c =
+    let parts : List Part = c.args.parts.now in
+    let i : ℕ = c.loop-part.part-index in
+    let part : Part = c.part-item.result in
+    let bytes : List ℕ = c.loop-part.bytes in
+    let code : ℕ = c.loop-part.rest in
+    let fit : IsFit (length c.args.bytes.now) part = subst (IsFit (length c.args.bytes.now)) (sym c.part-item.is) (c.requires i part c.loop-part-test.true) in
+    let inside = c.part.inside in
+    let values : values_of inside.pieces.items ≡ part.pieces = ap (λ p. p.pieces) c.part.view_is in
+    let start : inside.start ≡ part.start = ap (λ p. p.start) c.part.view_is in
+    let end : inside.end ≡ part.end = ap (λ p. p.end) c.part.view_is in
     let many : c.len-many.result ≡ length part.pieces =
     omega (arith, c.len-many.ensures, inside.pieces.ok.0, ap length values, length-values_of inside.pieces.items) in
     let k : ℕ = code % c.len-many.result in
@@ -36,11 +36,11 @@ loop-region-preserved c =
     let put = copied_written bytes c.copy_from_slice.new.self (piece_of part k) inside.start (inside.end - inside.start)
     (c.copy_from_slice.ensures.after ∙ ap (λ p. p.now) c.index-piece.ensures ∙ there.1) (omega (arith, size, start, end))
     ∙ ap (λ s. written bytes s (piece_of part k)) start in
-    let same_length = c.loop-region.invariant.same_length in
-    let next = drop_more regions i part c.loop-region-test.true ∙ ap (λ p. p ∷ drop (i + 1) regions) (sym c.region-item.is) in
+    let same_length = c.loop-part.invariant.same_length in
+    let next = drop_more parts i part c.loop-part-test.true ∙ ap (λ p. p ∷ drop (i + 1) parts) (sym c.part-item.is) in
     record {
       same_length = ap length put ∙ length-written bytes part.start (piece_of part k) (omega arith) ∙ same_length;
-      rest = ap (chosen (drop (i + 1) regions) (code / c.len-many.result)) put
-          ∙ ap (λ n. chosen (drop (i + 1) regions) (code / n) (written bytes part.start (piece_of part (code % n)))) many
-          ∙ ap (λ parts. chosen parts code bytes) (sym next) ∙ c.loop-region.invariant.rest;
+      rest = ap (chosen (drop (i + 1) parts) (code / c.len-many.result)) put
+          ∙ ap (λ n. chosen (drop (i + 1) parts) (code / n) (written bytes part.start (piece_of part (code % n)))) many
+          ∙ ap (λ parts. chosen parts code bytes) (sym next) ∙ c.loop-part.invariant.rest;
     }

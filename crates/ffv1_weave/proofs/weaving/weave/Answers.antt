@@ -1,172 +1,62 @@
-use Rattle.std.proofs.Common.{◌≡◌, ◌<◌, ℕ, List, [], Some, None, Vec, Global, length, get_or, map, arith, ap, sym, ◌∙◌, subst}
+use Rattle.std.proofs.Common.{◌≡◌, ◌<◌, ℕ, List, [], Bor, length, get_or, arith, ap, sym, ◌∙◌, subst}
 use Rattle.std.specs.Prelude.{All}
-use Rattle.std.proofs.lemmas.List.{length-map, get_or-map}
-use Rattle.std.proofs.lemmas.List.Elements.{All-weaker}
-use Rattle.ffv1_weave.specs.Checks.{PassesBy}
-use Rattle.ffv1_weave.specs.Combinations.{IsCombination, IsValid, AreNumbered}
-use Rattle.ffv1_weave.specs.Parts.{Part, IsFit, chosen, count_of}
-use Rattle.ffv1_weave.specs.declared.weaving.TheConstants.{MOST_COMBINATIONS}
-use Rattle.ffv1_slice.specs.Members.{IsOnly}
-use Rattle.ffv1_weave.proofs.References.{values_of, nowhere, value_at}
-use Rattle.ffv1_weave.proofs.Linear.{changes_some, passes_leaves_none}
-use Rattle.ffv1_weave.proofs.WeaveSteps.{have_parts, IsFoundSoFar, all_numbered, fit_there, alike_first, tables_are, left_is, written_over, valid_at, found_skip, found_first, found_second, found_none, found_only, some_of, none_of, absent}
+use Rattle.std.proofs.lemmas.Result.{IfOk-weaker}
+use Rattle.std.proofs.lemmas.List.Elements.{Contains-get_or}
+use Rattle.ffv1_slice.specs.Members.{HasSameMembers}
+use Rattle.ffv1_weave.specs.Regions.{HaveLength}
+use Rattle.ffv1_weave.specs.Parts.{ArePieces}
+use Rattle.ffv1_weave.specs.Weave.{IsWeaveOf, weave_told}
+use Rattle.ffv1_weave.proofs.References.{values_of, nowhere, value_at, value_there, length-values_of, each_value}
+use Rattle.ffv1_weave.proofs.PieceSteps.{pieces_are_versions, pieces_some}
+use Rattle.ffv1_weave.proofs.WeaveLaws.{same_back, weave_as}
 use Rattle.ffv1_weave.proofs.weaving.weave.Goals as goal
 
--- what a table has
-abbrev entries : List (Vec ℕ Global) → List (List ℕ)
-entries tables = map (λ table. table.items) tables
+-- the different versions, as the code has them
+same_distinct : (versions distinct : List (Bor (List ℕ))) → 0 < length versions
+    → All (λ version. length version.now ≡ length (get_or (values_of versions) 0 [])) versions
+    → ArePieces (values_of versions) 0 (length (get_or versions 0 nowhere).now) (values_of distinct) → HasSameMembers (values_of versions) (values_of distinct)
+same_distinct versions distinct some long pieces =
+    let all = each_value versions (λ version. length version ≡ length (get_or (values_of versions) 0 [])) long in
+    pieces_are_versions (values_of versions) (values_of distinct) (length (get_or versions 0 nowhere).now)
+    (λ version there. all version there ∙ ap length (value_at versions 0 nowhere [] some)) pieces
 
-pub returns-in_default : goal.returns-in_default
-returns-in_default c =
-    let versions : List (List ℕ) = values_of c.args.versions.now in
-    let parts : List Part = c.in_ok-regions.regions.items in
-    let have = have_parts c.args.versions.now parts c.requires.some c.requires.lengths c.in_ok-regions.ensures.parts c.in_ok-regions.ensures.fit in
-    record {
-      count = count_of parts;
-      numbered = all_numbered versions parts have;
-      many = subst (λ ps. MOST_COMBINATIONS < count_of ps) c.as_slice.ensures.value c.in_default.ensures;
-    }
-
-pub count_of-requires : goal.count_of-requires
-count_of-requires c =
-    subst (All (λ (part : Part). 0 < length part.pieces)) (sym c.as_slice.ensures.value)
-    (All-weaker (IsFit (length (get_or c.args.versions.now 0 nowhere).now)) (λ part. 0 < length part.pieces) (λ part fit. fit.some)
-    c.in_ok-regions.regions.items c.in_ok-regions.ensures.fit)
-
-pub tables_of-requires-clause-fits : goal.tables_of-requires-clause-fits
-tables_of-requires-clause-fits c =
-    subst (All (IsFit (length (get_or c.args.versions.now 0 nowhere).now))) (sym c.as_slice-2.ensures.value) c.in_ok-regions.ensures.fit
-
-pub loop-code-init : goal.loop-code-init
-loop-code-init c =
-    record {
-      alike = alike_first (values_of c.args.versions.now) c.in_ok-bytes.bytes.items
-          (c.in_ok-bytes.ensures.items ∙ sym (value_at c.args.versions.now 0 nowhere [] c.requires.some));
-      found = λ k lt valid. omega arith;
-    }
-
-pub changed-requires : goal.changed-requires
-changed-requires c =
-    let versions : List (List ℕ) = values_of c.args.versions.now in
-    let parts : List Part = c.in_ok-regions.regions.items in
-    let have = have_parts c.args.versions.now parts c.requires.some c.requires.lengths c.in_ok-regions.ensures.parts c.in_ok-regions.ensures.fit in
-    let tables = tables_are c.args.check c.args.versions.now parts have _ _ (ap entries c.as_slice-in-loop-code.ensures.value ∙ c.in_ok-tables.ensures)
-    c.as_slice-2.ensures.value in
-    let some : All (λ changes. 0 < length changes) (entries c.as_slice-in-loop-code.result.now) =
-    subst (All (λ changes. 0 < length changes)) (sym tables) (changes_some c.args.check (length (get_or versions 0 [])) (get_or versions 0 []) parts have.fit) in
-    λ k d lt.
-    let one = some k [] (omega (arith, length-map c.as_slice-in-loop-code.result.now (λ (table : Vec ℕ Global). table.items))) in
-    omega (arith, ap length (get_or-map (λ (table : Vec ℕ Global). table.items) c.as_slice-in-loop-code.result.now k d [] lt))
-
-pub loop-code-preserved-then-changed-ne0 : goal.loop-code-preserved-then-changed-ne0
-loop-code-preserved-then-changed-ne0 c =
-    let versions : List (List ℕ) = values_of c.args.versions.now in
-    let parts : List Part = c.in_ok-regions.regions.items in
-    let have = have_parts c.args.versions.now parts c.requires.some c.requires.lengths c.in_ok-regions.ensures.parts c.in_ok-regions.ensures.fit in
-    let left = left_is c.args.check c.args.versions.now parts have c.loop-code.code c.remainder-base.result c.changed.result _ _
-    (ap entries c.as_slice-in-loop-code.ensures.value ∙ c.in_ok-tables.ensures) c.as_slice-2.ensures.value c.remainder-base.ensures c.changed.ensures in
-    record {
-      alike = c.loop-code.invariant.alike;
-      found = found_skip c.args.check versions (λ k. chosen parts k (get_or versions 0 [])) c.loop-code.code c.loop-code.found
-          (λ valid. c.if-changed-ne0.true (left ∙ passes_leaves_none c.args.check _ valid.passes)) c.loop-code.invariant.found;
-    }
-
-pub choose-requires : goal.choose-requires
-choose-requires c =
-    let versions : List (List ℕ) = values_of c.args.versions.now in
-    let parts : List Part = c.in_ok-regions.regions.items in
-    let have = have_parts c.args.versions.now parts c.requires.some c.requires.lengths c.in_ok-regions.ensures.parts c.in_ok-regions.ensures.fit in
-    fit_there versions parts have c.loop-code.bytes.items _ _ c.as_slice-in-loop-code-2.ensures.value c.deref_mut.ensures.value c.loop-code.invariant.alike
-
-pub loop-code-preserved-then-not-passes : goal.loop-code-preserved-then-not-passes
-loop-code-preserved-then-not-passes c =
-    let versions : List (List ℕ) = values_of c.args.versions.now in
-    let parts : List Part = c.in_ok-regions.regions.items in
-    let have = have_parts c.args.versions.now parts c.requires.some c.requires.lengths c.in_ok-regions.ensures.parts c.in_ok-regions.ensures.fit in
-    let low : c.loop-code.code < count_of parts = omega (arith, c.in-Some.ensures.0, ap count_of c.as_slice.ensures.value) in
-    let bytes = written_over c.args.check c.args.versions.now parts have c.loop-code.code c.loop-code.bytes.len c.choose.new.bytes _ c.loop-code.bytes.items _ low
-    c.choose.ensures c.as_slice-in-loop-code-2.ensures.value c.deref_mut.ensures.value c.loop-code.invariant.alike c.loop-code.bytes.ok.0 in
-    record {
-      alike = bytes.alike;
-      found = found_skip c.args.check versions (λ k. chosen parts k (get_or versions 0 [])) c.loop-code.code c.loop-code.found
-          (λ valid. let yes = c.passes.ensures.1 (subst (PassesBy c.args.check) (sym (c.as_slice-in-loop-code-3.ensures.value ∙ bytes.are)) valid.passes) in
-          let no = c.if-not-passes.true in absurd (cc)) c.loop-code.invariant.found;
-    }
-
-pub returns-then-is_some : goal.returns-then-is_some
-returns-then-is_some c =
-    let versions : List (List ℕ) = values_of c.args.versions.now in
-    let parts : List Part = c.in_ok-regions.regions.items in
-    let have = have_parts c.args.versions.now parts c.requires.some c.requires.lengths c.in_ok-regions.ensures.parts c.in_ok-regions.ensures.fit in
-    let low : c.loop-code.code < count_of parts = omega (arith, c.in-Some.ensures.0, ap count_of c.as_slice.ensures.value) in
-    let left = left_is c.args.check c.args.versions.now parts have c.loop-code.code c.remainder-base.result c.changed.result _ _
-    (ap entries c.as_slice-in-loop-code.ensures.value ∙ c.in_ok-tables.ensures) c.as_slice-2.ensures.value c.remainder-base.ensures c.changed.ensures in
-    let bytes = written_over c.args.check c.args.versions.now parts have c.loop-code.code c.loop-code.bytes.len c.choose.new.bytes _ c.loop-code.bytes.items _ low
-    c.choose.ensures c.as_slice-in-loop-code-2.ensures.value c.deref_mut.ensures.value c.loop-code.invariant.alike c.loop-code.bytes.ok.0 in
-    let valid = valid_at c.args.check c.args.versions.now parts have c.loop-code.code low
-    (subst (PassesBy c.args.check) (c.as_slice-in-loop-code-3.ensures.value ∙ bytes.are) (c.passes.ensures.0 c.if-not-passes.false)) in
-    let found = some_of c.loop-code.found (sym c.is_some.ensures ∙ c.if-is_some.true) in (
-      found_second c.args.check versions (count_of parts) (all_numbered versions parts have) c.loop-code.code found.0 low valid
-          (subst (IsFoundSoFar c.args.check versions (λ k. chosen parts k (get_or versions 0 [])) c.loop-code.code) found.1 c.loop-code.invariant.found),
-      (count_of parts, record { numbered = all_numbered versions parts have; few = let few = c.in-Some.ensures.1 in omega (arith, low, c.in-Some.ensures.0, ap count_of c.as_slice.ensures.value) }),
+some_distinct : (versions distinct : List (Bor (List ℕ))) (start end : ℕ) → 0 < length versions → ArePieces (values_of versions) start end (values_of distinct)
+    → 0 < length distinct
+some_distinct versions distinct start end some pieces =
+    omega (
+      arith,
+      pieces_some (values_of versions) (values_of distinct) start end (omega (arith, length-values_of versions)) pieces,
+      length-values_of distinct,
     )
 
-pub loop-code-preserved : goal.loop-code-preserved
-loop-code-preserved c =
-    let versions : List (List ℕ) = values_of c.args.versions.now in
-    let parts : List Part = c.in_ok-regions.regions.items in
-    let have = have_parts c.args.versions.now parts c.requires.some c.requires.lengths c.in_ok-regions.ensures.parts c.in_ok-regions.ensures.fit in
-    let low : c.loop-code.code < count_of parts = omega (arith, c.in-Some.ensures.0, ap count_of c.as_slice.ensures.value) in
-    let left = left_is c.args.check c.args.versions.now parts have c.loop-code.code c.remainder-base.result c.changed.result _ _
-    (ap entries c.as_slice-in-loop-code.ensures.value ∙ c.in_ok-tables.ensures) c.as_slice-2.ensures.value c.remainder-base.ensures c.changed.ensures in
-    let bytes = written_over c.args.check c.args.versions.now parts have c.loop-code.code c.loop-code.bytes.len c.choose.new.bytes _ c.loop-code.bytes.items _ low
-    c.choose.ensures c.as_slice-in-loop-code-2.ensures.value c.deref_mut.ensures.value c.loop-code.invariant.alike c.loop-code.bytes.ok.0 in
-    let valid = valid_at c.args.check c.args.versions.now parts have c.loop-code.code low
-    (subst (PassesBy c.args.check) (c.as_slice-in-loop-code-3.ensures.value ∙ bytes.are) (c.passes.ensures.0 c.if-not-passes.false)) in
-    record {
-      alike = bytes.alike;
-      found = found_first c.args.check versions (λ k. chosen parts k (get_or versions 0 [])) c.loop-code.code valid
-          (subst (IsFoundSoFar c.args.check versions (λ k. chosen parts k (get_or versions 0 [])) c.loop-code.code)
-          (none_of c.loop-code.found (sym c.is_some.ensures ∙ c.if-is_some.false)) c.loop-code.invariant.found);
-    }
-
-pub returns-in_default-found : goal.returns-in_default-found
-returns-in_default-found c =
-    let versions : List (List ℕ) = values_of c.args.versions.now in
-    let parts : List Part = c.in_ok-regions.regions.items in
-    let have = have_parts c.args.versions.now parts c.requires.some c.requires.lengths c.in_ok-regions.ensures.parts c.in_ok-regions.ensures.fit in
-    let counted : c.in-Some.count ≡ count_of parts = c.in-Some.ensures.0 ∙ ap count_of c.as_slice.ensures.value in
-    let done : c.loop-code.code ≡ count_of parts = omega arith in
-    let none : c.loop-code.found ≡ None = absent c.loop-code.found c.in_default-found.not-Some in (
-      found_none c.args.check versions (count_of parts) (all_numbered versions parts have)
-          (subst (IsFoundSoFar c.args.check versions (λ k. chosen parts k (get_or versions 0 [])) (count_of parts)) none
-          (subst (λ n. IsFoundSoFar c.args.check versions (λ k. chosen parts k (get_or versions 0 [])) n c.loop-code.found) done c.loop-code.invariant.found)),
-      (count_of parts, record { numbered = all_numbered versions parts have; few = let few = c.in-Some.ensures.1 in omega arith }),
+pub weave_distinct-requires-clause-some : goal.weave_distinct-requires-clause-some
+weave_distinct-requires-clause-some c =
+    omega (
+      arith,
+      ap length c.as_slice.ensures.value,
+      some_distinct c.args.versions.now c.in_ok-distinct.distinct.items 0 _ c.requires.some c.in_ok-distinct.ensures,
     )
 
-pub choose-requires-2 : goal.choose-requires-2
-choose-requires-2 c =
-    let versions : List (List ℕ) = values_of c.args.versions.now in
-    let parts : List Part = c.in_ok-regions.regions.items in
-    let have = have_parts c.args.versions.now parts c.requires.some c.requires.lengths c.in_ok-regions.ensures.parts c.in_ok-regions.ensures.fit in
-    fit_there versions parts have c.loop-code.bytes.items _ _ c.as_slice-3.ensures.value c.deref_mut-2.ensures.value c.loop-code.invariant.alike
+pub weave_distinct-requires-clause-lengths : goal.weave_distinct-requires-clause-lengths
+weave_distinct-requires-clause-lengths c =
+    let versions : List (Bor (List ℕ)) = c.args.versions.now in
+    let distinct : List (Bor (List ℕ)) = c.in_ok-distinct.distinct.items in
+    let same = same_distinct versions distinct c.requires.some c.requires.lengths c.in_ok-distinct.ensures in
+    let some = some_distinct versions distinct 0 _ c.requires.some c.in_ok-distinct.ensures in
+    let long : HaveLength (values_of distinct) (length (get_or (values_of versions) 0 [])) = λ version there.
+    each_value versions (λ version. length version ≡ length (get_or (values_of versions) 0 [])) c.requires.lengths version ((same version).1 there) in
+    subst (λ items. All (λ version. length version.now ≡ length (get_or (values_of items) 0 [])) items) (sym c.as_slice.ensures.value)
+    (λ k d lt. long _ (value_there distinct k d lt)
+    ∙ sym (long _ (Contains-get_or (values_of distinct) 0 [] (omega (arith, length-values_of distinct)))))
 
 pub returns : goal.returns
 returns c =
-    let versions : List (List ℕ) = values_of c.args.versions.now in
-    let parts : List Part = c.in_ok-regions.regions.items in
-    let have = have_parts c.args.versions.now parts c.requires.some c.requires.lengths c.in_ok-regions.ensures.parts c.in_ok-regions.ensures.fit in
-    let counted : c.in-Some.count ≡ count_of parts = c.in-Some.ensures.0 ∙ ap count_of c.as_slice.ensures.value in
-    let done : c.loop-code.code ≡ count_of parts = omega arith in
-    let code : ℕ = c.in-Some-found.code in
-    let found : IsFoundSoFar c.args.check versions (λ k. chosen parts k (get_or versions 0 [])) (count_of parts) (Some code) =
-    subst (IsFoundSoFar c.args.check versions (λ k. chosen parts k (get_or versions 0 [])) (count_of parts)) c.in-Some-found.is
-    (subst (λ n. IsFoundSoFar c.args.check versions (λ k. chosen parts k (get_or versions 0 [])) n c.loop-code.found) done c.loop-code.invariant.found) in
-    let bytes = written_over c.args.check c.args.versions.now parts have code c.loop-code.bytes.len c.choose-2.new.bytes _ c.loop-code.bytes.items _ found.0
-    c.choose-2.ensures c.as_slice-3.ensures.value c.deref_mut-2.ensures.value c.loop-code.invariant.alike c.loop-code.bytes.ok.0 in (
-      subst (IsOnly (IsValid c.args.check versions)) (sym bytes.are) (found_only c.args.check versions (count_of parts) (all_numbered versions parts have) code found),
-      record {
-        numbered = subst (λ n. AreNumbered (IsCombination versions) n) (sym counted) (all_numbered versions parts have);
-        few = let few = c.in-Some.ensures.1 in omega arith;
-      },
-    )
+    let versions : List (Bor (List ℕ)) = c.args.versions.now in
+    let distinct : List (Bor (List ℕ)) = c.in_ok-distinct.distinct.items in
+    let back = same_back (values_of versions) (values_of distinct)
+    (same_distinct versions distinct c.requires.some c.requires.lengths c.in_ok-distinct.ensures) in
+    IfOk-weaker c.weave_distinct.result (λ outcome. IsWeaveOf c.args.check (values_of c.as_slice.result.now) (weave_told outcome))
+    (λ outcome. IsWeaveOf c.args.check (values_of versions) (weave_told outcome))
+    (λ outcome h. weave_as c.args.check (values_of distinct) (values_of versions) back (weave_told outcome)
+    (subst (λ items. IsWeaveOf c.args.check (values_of items) (weave_told outcome)) c.as_slice.ensures.value h))
+    c.weave_distinct.ensures

@@ -1,0 +1,117 @@
+-- The parts of a grain, as they are looked for while there are few enough combinations.
+use Rattle.std.proofs.Common.{◌≡◌, ℕ, ◌*◌, ◌/◌, ◌<◌, ◌≤◌, List, [], ◌∷◌, ◌++◌, length, get_or, refl, sym, ap, ◌∙◌, subst, arith, inl, inr}
+use Rattle.std.specs.Prelude.{All}
+use Rattle.std.proofs.lemmas.List.{get_or_default}
+use Rattle.std.proofs.lemmas.List.Elements.{All-push, Contains-get_or}
+use Rattle.ffv1_weave.specs.Regions.{HaveLength, AgreeAt}
+use Rattle.ffv1_weave.specs.Grains.{grains}
+use Rattle.ffv1_weave.specs.Combinations.{IsCombinationBy, AreNumbered, HasFew, HasMany}
+use Rattle.ffv1_weave.specs.Weave.{AreMany}
+use Rattle.ffv1_weave.specs.Parts.{Part, ArePieces, IsEdge, IsPartFrom, ArePartsFrom, AreFewParts, AreTriedParts, IsFit, parts_end, count_of}
+use Rattle.ffv1_weave.specs.declared.grains.Grain.{Grain}
+use Rattle.ffv1_weave.specs.declared.grains.Grain.TheVariants.{Regions}
+use Rattle.ffv1_weave.specs.declared.weaving.TheConstants.{MOST_COMBINATIONS}
+use Rattle.ffv1_weave.proofs.GrainSteps.{part_some}
+use Rattle.ffv1_weave.proofs.PieceSteps.{pieces_fit}
+use Rattle.ffv1_weave.proofs.PartSteps.{parts_end_push, parts_push, count_push, count_over, count_fits, count_positive}
+use Rattle.ffv1_weave.proofs.Choices.{fit_as, many_chosen, numbered}
+
+-- The parts so far, which end where the next is looked for, have so many combinations.
+pub record ArePartsSoFar (grain : Grain) (versions : List (List ℕ)) (size from : ℕ) (parts : List Part) (count : ℕ) : Type 0 where
+  pub within : from ≤ size
+  pub edge : IsEdge grain versions from
+  pub after : ArePartsFrom grain versions 0 parts
+  pub ends : parts_end 0 parts ≡ from
+  pub fit : All (IsFit size) parts
+  pub some : 0 < count
+  pub counted : count ≡ count_of parts
+  pub few : count ≤ MOST_COMBINATIONS
+
+pub none_so_far : (grain : Grain) (versions : List (List ℕ)) (size : ℕ) → ArePartsSoFar grain versions size 0 [] 1
+none_so_far grain versions size =
+    record {
+      within = omega arith;
+      edge = inl refl;
+      after = tt;
+      ends = refl;
+      fit = λ k d lt. absurd (omega arith);
+      some = omega arith;
+      counted = refl;
+      few = omega arith;
+    }
+
+pub all_so_far : (grain : Grain) (versions : List (List ℕ)) (size from : ℕ) (parts : List Part) (count : ℕ)
+    → ArePartsSoFar grain versions size from parts count → ((i : ℕ) → from ≤ i → AgreeAt versions i) → AreFewParts grain versions size parts count
+all_so_far grain versions size from parts count h rest =
+    record {
+      all = record { next = h.after; rest = subst (λ place. (i : ℕ) → place ≤ i → AgreeAt versions i) (sym h.ends) rest };
+      fit = h.fit;
+      counted = h.counted;
+      few = h.few;
+    }
+
+module _ (grain : Grain) (versions : List (List ℕ)) (size : ℕ) (long : HaveLength versions size) (some : 0 < length versions) where
+  module _ (from : ℕ) (parts : List Part) (count : ℕ) (h : ArePartsSoFar grain versions size from parts count)
+      (part : Part) (next : IsPartFrom grain versions from part.start part.end) (within : part.end ≤ size)
+      (pieces : ArePieces versions part.start part.end part.pieces) where
+    more_after : ArePartsFrom grain versions 0 (parts ++ part ∷ [])
+    more_after =
+        parts_push grain versions 0 parts part h.after (subst (λ place. IsPartFrom grain versions place part.start part.end) (sym h.ends) next) pieces
+
+    part_fits : IsFit size part
+    part_fits =
+        let order = part_some grain versions part.start part.end next.part in
+        pieces_fit part.start part.end versions part.pieces size long some (omega arith) within pieces
+
+    more_fit : All (IsFit size) (parts ++ part ∷ [])
+    more_fit = All-push (IsFit size) parts part h.fit part_fits
+
+    more_counted : count * length part.pieces ≡ count_of (parts ++ part ∷ [])
+    more_counted = ap (λ n. n * length part.pieces) h.counted ∙ sym (count_push parts part)
+
+    pub one_more : length part.pieces ≤ MOST_COMBINATIONS / count
+        → ArePartsSoFar grain versions size part.end (parts ++ part ∷ []) (count * length part.pieces)
+    one_more few =
+        record {
+          within = within;
+          edge = inr (part.start, next.part);
+          after = more_after;
+          ends = parts_end_push 0 parts part;
+          fit = more_fit;
+          some = count_positive count (length part.pieces) h.some (let fit = part_fits in fit.some);
+          counted = more_counted;
+          few = count_fits count (length part.pieces) MOST_COMBINATIONS h.some few;
+        }
+
+    -- with the pieces of this part there are too many, whatever follows
+    pub too_many_more : MOST_COMBINATIONS / count < length part.pieces → HasMany versions grain
+    too_many_more over =
+        let first : List ℕ = get_or versions 0 [] in
+        let there = Contains-get_or versions 0 [] some in
+        let size_is : length first ≡ size = long first there in
+        many_chosen grain versions first (subst (HaveLength versions) (sym size_is) long) there (parts ++ part ∷ []) MOST_COMBINATIONS more_after
+        (fit_as (length first) size (parts ++ part ∷ []) size_is more_fit)
+        (subst (λ n. MOST_COMBINATIONS < n) more_counted (count_over count (length part.pieces) MOST_COMBINATIONS h.some over))
+
+  -- ---- the finest grain by which there are few enough
+
+  has_few : (parts : List Part) (count : ℕ) → AreFewParts grain versions size parts count → HasFew versions grain count
+  has_few parts count few =
+      let first : List ℕ = get_or versions 0 [] in
+      let there = Contains-get_or versions 0 [] some in
+      let size_is : length first ≡ size = long first there in
+      let all = numbered grain versions parts first (subst (HaveLength versions) (sym size_is) long) there few.all
+      (fit_as (length first) size parts size_is few.fit) in
+      record { numbered = subst (AreNumbered (IsCombinationBy grain versions)) (sym few.counted) all; few = few.few }
+
+  pub finest : (place : ℕ) (parts : List Part) (count : ℕ) → place < length grains → get_or grains place Regions ≡ grain
+      → ((k : ℕ) → k < place → HasMany versions (get_or grains k Regions)) → AreFewParts grain versions size parts count
+      → AreTriedParts versions size parts count
+  finest place parts count there is finer few =
+      record { grain = grain; tried = record { place = place; there = there; is = is; finer = finer; few = has_few parts count few }; few = few }
+
+pub none_few : (versions : List (List ℕ)) → ((k : ℕ) → k < length grains → HasMany versions (get_or grains k Regions)) → AreMany versions
+none_few versions h =
+    record {
+      each = λ grain there. subst (HasMany versions) (get_or_default grains there.0 Regions grain there.1 ∙ there.2) (h there.0 there.1);
+    }

@@ -1,0 +1,131 @@
+-- Seams and segments: where a seam can lie, and that segments never overlap.
+use Rattle.std.proofs.Common.{◌≡◌, ℕ, ◌-◌, ◌<◌, ◌≤◌, List, [], length, get_or, sym, ◌∙◌, subst, arith, inl, inr}
+use Rattle.std.specs.Prelude.{◌⊎◌}
+use Rattle.std.proofs.lemmas.Bool.{cases_lt}
+use Rattle.std.proofs.lemmas.List.{get_or_past}
+use Rattle.std.proofs.lemmas.List.Elements.{Contains-get_or}
+use Rattle.ffv1_weave.specs.Regions.{HaveLength, AgreeAt}
+use Rattle.ffv1_weave.specs.Seams.{IsSeam, IsSegment}
+use Rattle.ffv1_weave.specs.Parts.{IsPartFrom}
+use Rattle.ffv1_weave.specs.declared.grains.Grain.TheVariants.{Pairs}
+
+module _ (distance : ℕ) (versions : List (List ℕ)) where
+  -- Where all versions agree at a place and at the one before it, it is no seam.
+  pub quiet_no_seam : (place : ℕ) → AgreeAt versions (place - 1) → AgreeAt versions place → IsSeam distance versions place → ⊥
+  quiet_no_seam place before here seam = elim seam.parted [
+    | inl begins ↦ begins.differ (here seam.one seam.other seam.one_there seam.other_there)
+    | inr ends ↦ let next = ends.next in let same : place - 1 ≡ ends.last = omega arith in
+        ends.differ (subst (AgreeAt versions) same before seam.one seam.other seam.one_there seam.other_there)
+  ]
+
+  pub seam_within : (size place : ℕ) → HaveLength versions size → IsSeam distance versions place → place ≤ size
+  seam_within size place long seam =
+      let past = λ (i : ℕ) (over : size ≤ i). get_or_past seam.one i 0 (omega (arith, long seam.one seam.one_there))
+      ∙ sym (get_or_past seam.other i 0 (omega (arith, long seam.other seam.other_there))) in
+      elim (cases_lt size place) [
+        | inr within ↦ within
+        | inl over ↦ elim seam.parted [
+          | inl begins ↦ absurd (begins.differ (past place (omega arith)))
+          | inr ends ↦ let next = ends.next in absurd (ends.differ (past ends.last (omega arith)))
+        ]
+      ]
+
+  -- ---- two segments
+
+  pub segment_within : (size s e : ℕ) → HaveLength versions size → IsSegment distance versions s e → e ≤ size
+  segment_within size s e long h = elim h.last [
+    | inl seam ↦ seam_within size e long seam
+    | inr at_end ↦ omega (arith, at_end.2, long at_end.0 at_end.1)
+  ]
+
+  segment_begins : (s e t f : ℕ) → IsSegment distance versions s e → IsSegment distance versions t f → s < t → t < e → ⊥
+  segment_begins s e t f h k low high = elim k.first [
+    | inl zero ↦ omega arith
+    | inr seam ↦ h.within t low high seam
+  ]
+
+  segment_ends : (size s e t f : ℕ) → HaveLength versions size → IsSegment distance versions s e → IsSegment distance versions t f → t < e → e < f → ⊥
+  segment_ends size s e t f long h k low high = elim h.last [
+    | inl seam ↦ k.within e low high seam
+    | inr at_end ↦ omega (arith, at_end.2, long at_end.0 at_end.1, segment_within size t f long k)
+  ]
+
+  -- two segments that overlap are one
+  pub one_segment : (size s e t f : ℕ) → HaveLength versions size → IsSegment distance versions s e → IsSegment distance versions t f → s < f → t < e
+      → (s ≡ t) × (e ≡ f)
+  one_segment size s e t f long h k low high = (
+    elim (cases_lt s t) [
+      | inl below ↦ absurd (segment_begins s e t f h k below high)
+      | inr above ↦ elim (cases_lt t s) [
+        | inl below ↦ absurd (segment_begins t f s e k h below low)
+        | inr there ↦ omega arith
+      ]
+    ],
+    elim (cases_lt e f) [
+      | inl below ↦ absurd (segment_ends size s e t f long h k high below)
+      | inr above ↦ elim (cases_lt f e) [
+        | inl below ↦ absurd (segment_ends size t f s e long k h low below)
+        | inr there ↦ omega arith
+      ]
+    ],
+  )
+
+  -- ---- the next segment at which versions differ
+
+  -- what is known of a first place at which they differ, of where its segment begins, and of the next seam
+  pub record IsAround (size from first start end : ℕ) : Type 0 where
+    pub below : first < size
+    pub beyond : from ≤ first
+    pub until : (i : ℕ) → from ≤ i → i < first → AgreeAt versions i
+    pub begins : (start ≡ from) ⊎ ((start ≡ first) × IsSeam distance versions first)
+    pub seam : from < first → start ≡ from → IsSeam distance versions first → ⊥
+    pub after : first < end
+    pub within : end ≤ size
+    pub quiet : (i : ℕ) → first < i → i < end → IsSeam distance versions i → ⊥
+    pub there : end < size → IsSeam distance versions end
+
+  no_seam : (size from first start end : ℕ) → IsAround size from first start end → (i : ℕ) → start < i → i < end → IsSeam distance versions i → ⊥
+  no_seam size from first start end h i low lt seam =
+      elim (cases_lt first i) [
+        | inl past ↦ h.quiet i past lt seam
+        | inr near ↦ elim h.begins [
+          | inr there ↦ let is = there.0 in omega arith
+          | inl is ↦ elim (cases_lt i first) [
+            | inl below ↦ quiet_no_seam i (h.until (i - 1) (omega arith) (omega arith)) (h.until i (omega arith) below) seam
+            | inr above ↦ let same : i ≡ first = omega arith in h.seam (omega arith) is (subst (IsSeam distance versions) same seam)
+          ]
+        ]
+      ]
+
+  pub segment_after : (size from first start end : ℕ) → HaveLength versions size → 0 < length versions → (from ≡ 0) ⊎ ((s : ℕ) × IsSegment distance versions s from)
+      → IsAround size from first start end → IsPartFrom (Pairs distance) versions from start end
+  segment_after size from first start end long some edge h =
+      let below = h.below in
+      let beyond = h.beyond in
+      let after = h.after in
+      let within = h.within in
+      let low : start ≤ first = elim h.begins [ inl is ↦ omega arith | inr there ↦ let is = there.0 in omega arith ] in
+      let high : from ≤ start = elim h.begins [ inl is ↦ omega arith | inr there ↦ let is = there.0 in omega arith ] in
+      record {
+        beyond = high;
+        until = λ i above under. h.until i above (omega arith);
+        part = record {
+          some = omega arith;
+          first = elim h.begins [
+            | inr there ↦ let is = there.0 in inr (subst (IsSeam distance versions) (sym is) there.1)
+            | inl is ↦ elim edge [
+              | inl zero ↦ inl (is ∙ zero)
+              | inr segment ↦ let ended : IsSegment distance versions segment.0 from = segment.1 in elim ended.last [
+                | inl seam ↦ inr (subst (IsSeam distance versions) (sym is) seam)
+                | inr at_end ↦ absurd (omega (arith, at_end.2, long at_end.0 at_end.1))
+              ]
+            ]
+          ];
+          last = elim (cases_lt end size) [
+            | inl inside ↦ inl (h.there inside)
+            | inr past ↦ let there = Contains-get_or versions 0 [] some in
+                inr (get_or versions 0 [], there, omega (arith, long (get_or versions 0 []) there))
+          ];
+          within = no_seam size from first start end h;
+        };
+      }

@@ -1,0 +1,25 @@
+use Rattle.std.proofs.Common.{[], ◌∙◌, arith, below_more, inl, inr, subst, sym}
+use Rattle.std.proofs.lemmas.List.{get_or_default}
+use Rattle.ffv1_weave.specs.Seams.{AreParted}
+use Rattle.ffv1_weave.proofs.References.{values_of, value_at, length-values_of, nowhere}
+use Rattle.ffv1_weave.proofs.segments.is_parted.Goals as goal
+
+pub loop-other-preserved : goal.loop-other-preserved
+loop-other-preserved c =
+    let here = value_at c.args.others.now c.loop-other.other-index nowhere [] c.loop-other-test.true in
+    below_more _ _ c.loop-other.invariant
+    (λ parted. elim (subst (λ other. AreParted c.args.distance c.args.one.now other c.args.place) here parted) [
+      | inl begins ↦ let no = c.if-begins_streak.ensures.1 begins in absurd (cc)
+      | inr ends ↦ let no = c.if-ends_streak.ensures.1 ends in absurd (cc)
+    ])
+
+pub returns : goal.returns
+returns c = (
+  λ no. absurd (cc),
+  λ found.
+      let there = found.1 in
+      let few = length-values_of c.args.others.now in
+      absurd (c.loop-other.invariant there.0 (omega arith)
+      (subst (λ other. AreParted c.args.distance c.args.one.now other c.args.place)
+      (sym (get_or_default (values_of c.args.others.now) there.0 [] found.0 there.1 ∙ there.2)) found.2)),
+)

@@ -1,0 +1,10 @@
+use Rattle.std.proofs.Common.{[], List, ℕ, ◌<◌, map, get_or}
+use Rattle.std.specs.Prelude.{Contains}
+use Rattle.ffv1_weave.specs.Seams.{AreParted}
+use Rattle.ffv1_weave.proofs.segments.is_seam.Given as goal
+
+-- none of the versions so far is parted from any
+abbrev pub invariant-loop-one : goal.invariant-loop-one
+invariant-loop-one l =
+    (k : ℕ) → k < l.one-index → (other : List ℕ) → Contains (map (λ version. version.now) l.versions) other
+    → AreParted l.distance (get_or (map (λ version. version.now) l.versions) k []) other l.place → ⊥

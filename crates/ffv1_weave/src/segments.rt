@@ -1,0 +1,108 @@
+//! The segments of versions, found from their front on: they lie between the places where streaks of any two versions begin or end.
+ghost use Rattle.std.specs.Prelude.{◌≡◌, ◌≤◌, ◌<◌, ◌↔◌, ℕ, List, Contains, length, map, All, IsTrue, MatchOption, IfSome};
+ghost use Rattle.ffv1_weave.specs.Regions.{AgreeAt};
+ghost use Rattle.ffv1_weave.specs.Seams.{BeginsStreak, EndsStreak, AreParted, IsSeam};
+ghost use Rattle.ffv1_weave.specs.Parts.{IsEdge, IsPartFrom};
+ghost use Rattle.ffv1_weave.specs.declared.grains.Grain.TheVariants.{Pairs};
+
+use crate::regions::{differ_at, first_from};
+
+/// Whether a streak of two versions begins at a place: they differ there, and agree at as many places before it as the distance.
+fn begins_streak(one: &[u8], other: &[u8], place: usize, distance: usize) -> bool
+    requires same { length other.now ≡ length one.now }
+    requires within { place < length one.now }
+    ensures { IsTrue result ↔ BeginsStreak distance one.now other.now place }
+{
+    let from = place.saturating_sub(distance);
+    one[place] != other[place] && one[from..place] == other[from..place]
+}
+
+/// Whether a streak of two versions ends before a place: they differ at the place before it, and agree at as many places from it on as the
+/// distance, or to their ends.
+fn ends_streak(one: &[u8], other: &[u8], place: usize, distance: usize) -> bool
+    requires same { length other.now ≡ length one.now }
+    requires within { place < length one.now }
+    requires inside { 0 < place }
+    ensures { IsTrue result ↔ EndsStreak distance one.now other.now place }
+{
+    let until = place + distance.min(one.len() - place);
+    one[place - 1] != other[place - 1] && one[place..until] == other[place..until]
+}
+
+/// Whether a streak of this version and one of the others begins at a place, or ends before it.
+fn is_parted(one: &[u8], others: &[&[u8]], place: usize, distance: usize) -> bool
+    requires lengths { All (λ other. length other.now ≡ length one.now) others.now }
+    requires within { place < length one.now }
+    requires inside { 0 < place }
+    ensures { IsTrue result ↔ ((other : List ℕ) × Contains (map (λ version. version.now) others.now) other × AreParted distance one.now other place) }
+{
+    for other in others {
+        if begins_streak(one, other, place, distance) || ends_streak(one, other, place, distance) {
+            return true;
+        }
+    }
+    false
+}
+
+/// Whether a place between the ends of versions of one length is a seam. Where all versions agree at the place and at the one before
+/// it, it is none, and no two of them are compared.
+fn is_seam(versions: &[&[u8]], place: usize, size: usize, distance: usize) -> bool
+    requires some { 0 < length versions.now }
+    requires lengths { All (λ version. length version.now ≡ size) versions.now }
+    requires within { place < size }
+    requires inside { 0 < place }
+    ensures { IsTrue result ↔ IsSeam distance (map (λ version. version.now) versions.now) place }
+{
+    if !differ_at(versions, place - 1) && !differ_at(versions, place) {
+        return false;
+    }
+    for one in versions {
+        if is_parted(one, versions, place, distance) {
+            return true;
+        }
+    }
+    false
+}
+
+/// The first seam from `from` on, or the versions' length `size` where there is none before it.
+fn seam_from(versions: &[&[u8]], from: usize, size: usize, distance: usize) -> usize
+    requires some { 0 < length versions.now }
+    requires lengths { All (λ version. length version.now ≡ size) versions.now }
+    requires within { from ≤ size }
+    requires inside { 0 < from }
+    ensures beyond { from ≤ result }
+    ensures within { result ≤ size }
+    ensures until { (i : ℕ) → from ≤ i → i < result → IsSeam distance (map (λ version. version.now) versions.now) i → ⊥ }
+    ensures there { result < size → IsSeam distance (map (λ version. version.now) versions.now) result }
+{
+    for place in from..size {
+        if is_seam(versions, place, size, distance) {
+            return place;
+        }
+    }
+    size
+}
+
+/// The next segment at which versions differ, from `from` on, where it is their start or the end of a segment: its start and its end.
+pub(crate) fn segment_from(
+    versions: &[&[u8]],
+    from: usize,
+    size: usize,
+    distance: usize,
+) -> Option<(usize, usize)>
+    requires some { 0 < length versions.now }
+    requires lengths { All (λ version. length version.now ≡ size) versions.now }
+    requires within { from ≤ size }
+    requires edge { IsEdge (Pairs distance) (map (λ version. version.now) versions.now) from }
+    ensures part { MatchOption result ((i : ℕ) → from ≤ i → AgreeAt (map (λ version. version.now) versions.now) i)
+        (λ (start, end). IsPartFrom (Pairs distance) (map (λ version. version.now) versions.now) from start end) }
+    ensures within { IfSome result (λ (start, end). end ≤ size) }
+{
+    let first = first_from(versions, from, size);
+    if first == size {
+        return None;
+    }
+    let seam = from < first && is_seam(versions, first, size, distance);
+    let start = if seam { first } else { from };
+    Some((start, seam_from(versions, first + 1, size, distance)))
+}
