@@ -5,11 +5,15 @@ use Rattle.std.proofs.lemmas.Bool.{cases_lt}
 use Rattle.std.proofs.lemmas.List.Elements.{All-head, All-tail, Contains-get_or}
 use Rattle.ffv1_weave.specs.Parts.{written}
 use Rattle.ffv1_weave.specs.Regions.{AgreeAt, DifferAt, IsRegion}
-use Rattle.ffv1_weave.specs.Combinations.{IsCombination, IsValid}
+use Rattle.ffv1_weave.specs.Combinations.{IsCombination}
+use Rattle.ffv1_weave.specs.Weave.{Weave, IsWeaveOf}
+use Rattle.ffv1_weave.specs.Weave.Weave.{woven, missing}
 use Rattle.ffv1_weave.specs.declared.check.Check.TheVariants.{Element}
 use Rattle.ffv1_weave.specs.Laws.{IsCovered}
+use Rattle.ffv1_weave.specs.Laws as weave_laws
 use Rattle.ffv1_weave.proofs.Agreeing.{agree_past}
 use Rattle.ffv1_weave.proofs.WeaveLaws.{covered_is_combination}
+use Rattle.ffv1_weave.proofs.Coarsest.{original_is_woven}
 use Rattle.ffv1_weave.proofs.Choices.{length-written, written_before, written_inside, written_after, same_range, range_at}
 use Rattle.ffv1_splice.specs.Splice.{SplicedValue}
 use Rattle.ffv1_splice.proofs.WovenLaws.{given_back_is_original}
@@ -24,7 +28,7 @@ use Rattle.ffv1_mend.specs.declared.state.State.TheVariants.{Whole, Disputed, Wo
 use Rattle.ffv1_mend.proofs.Fitting.{Fits, length-patched, given_fit, splices_fit}
 use Rattle.ffv1_mend.proofs.Members.{mapped_there, mapped_of}
 use Rattle.ffv1_mend.proofs.Vouched.{good_given, good_only}
-use Rattle.ffv1_mend.proofs.WiderRegions.{IsDense, in_region}
+use Rattle.ffv1_splice.proofs.WiderRegions.{IsDense, in_region}
 
 module _ (original : List ℕ) where
   -- At each place all bytes of this length keep what they have, or all get the original's.
@@ -107,7 +111,7 @@ module _ (original : List ℕ) (versions : List (List ℕ)) (parts : List Part) 
                   ∙ stays w (covered.one_length w in_w) in
                   sym (first ∙ stays a.0 (covered.one_length a.0 a.1) ∙ covered.right i same a.0 a.1)
             ];
-        regions = λ start end region.
+        parts = λ start end region.
             let wide = in_region versions (length original) covered.one_length start end (dense start end region) in
             let intact = covered.intact wide.begin wide.last wide.region in
             let version : List ℕ = intact.0 in
@@ -163,17 +167,17 @@ covered_among original versions from parts mended is within some covered right =
 
 module _ (original : List ℕ) (versions : List (List ℕ)) (from : List ℕ) (parts : List Part) (mended : MendedValue)
     (of : IsOriginalOf original versions parts mended) where
-  valid : IsValid Element (improved versions parts mended.splices) original
-  valid = record { combination = of.among; passes = of.passes }
+  kept_weave : (weave : Weave) → IsWeaveOf Element (improved versions parts mended.splices) weave → weave_laws.KeepsOriginal original weave
+  kept_weave weave h = original_is_woven Element original (improved versions parts mended.splices) weave of.passes of.among h
 
   kept : (state : State) → ElementStands versions from parts mended.splices mended.bytes state → KeepsOriginal original versions parts mended state
   kept Whole h = of.alone mended.bytes h.there.there h.there.passes
   kept Disputed h =
       h.0.differ (of.alone h.0.one h.0.one_there.there h.0.one_there.passes ∙ sym (of.alone h.0.other h.0.other_there.there h.0.other_there.passes))
-  kept (Woven count) h = sym (h.1.0.others original valid)
+  kept (Woven count) h = kept_weave (woven mended.bytes count) h.1
   kept Missing h = elim h.1 [
     | inl two ↦ inr two.0
-    | inr rest ↦ elim rest [ inl none ↦ absurd (none.0 original valid) | inr many ↦ inl many ]
+    | inr rest ↦ elim rest [ inl none ↦ absurd (kept_weave (missing none.0) none.1) | inr many ↦ inl many ]
   ]
   kept Alone h = absurd h
   kept Agreed h = absurd h

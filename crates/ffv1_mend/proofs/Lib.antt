@@ -3,7 +3,6 @@ pub mod SameMembers
 pub mod PassingSteps
 pub mod PartSteps
 pub mod Fitting
-pub mod WiderRegions
 pub mod FrameSteps
 pub mod PlainSteps
 pub mod WeaveSteps

@@ -68,23 +68,23 @@ module _ (versions others : List (List ℕ)) (same : HasSameMembers versions oth
         (improved_as versions others parts splices same) h k
 
     woven_not_missing : (a : List ℕ) (m : ℕ) → IsWeaveOf Element (improved versions parts splices) (woven a m)
-        → (IsWeaveOf Element (improved others parts splices) disputed ⊎ IsWeaveOf Element (improved others parts splices) missing
+        → (IsWeaveOf Element (improved others parts splices) disputed ⊎ ((count : ℕ) × IsWeaveOf Element (improved others parts splices) (missing count))
         ⊎ IsWeaveOf Element (improved others parts splices) too_many) → ⊥
     woven_not_missing a m h k = elim k [
       | inl d ↦ let e = one_weave (woven a m) disputed h d in absurd (cc)
       | inr rest ↦ elim rest [
-        | inl none ↦ let e = one_weave (woven a m) missing h none in absurd (cc)
+        | inl none ↦ let e = one_weave (woven a m) (missing none.0) h none.1 in absurd (cc)
         | inr many ↦ let e = one_weave (woven a m) too_many h many in absurd (cc)
       ]
     ]
 
     missing_not_woven : (b : List ℕ) (n : ℕ)
-        → (IsWeaveOf Element (improved versions parts splices) disputed ⊎ IsWeaveOf Element (improved versions parts splices) missing
+        → (IsWeaveOf Element (improved versions parts splices) disputed ⊎ ((count : ℕ) × IsWeaveOf Element (improved versions parts splices) (missing count))
         ⊎ IsWeaveOf Element (improved versions parts splices) too_many) → IsWeaveOf Element (improved others parts splices) (woven b n) → ⊥
     missing_not_woven b n h k = elim h [
       | inl d ↦ let e = one_weave disputed (woven b n) d k in absurd (cc)
       | inr rest ↦ elim rest [
-        | inl none ↦ let e = one_weave missing (woven b n) none k in absurd (cc)
+        | inl none ↦ let e = one_weave (missing none.0) (woven b n) none.1 k in absurd (cc)
         | inr many ↦ let e = one_weave too_many (woven b n) many k in absurd (cc)
       ]
     ]

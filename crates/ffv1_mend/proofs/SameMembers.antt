@@ -7,7 +7,8 @@ use Rattle.ffv1_weave.specs.Weave.Weave.{woven, disputed, missing, too_many}
 use Rattle.ffv1_weave.specs.declared.check.Check.TheVariants.{Element}
 use Rattle.ffv1_splice.specs.Standings.{versions_at}
 use Rattle.ffv1_splice.specs.Splice.{SplicedValue, IsSpliceOf}
-use Rattle.ffv1_splice.proofs.Versions.{same_versions, weave_there}
+use Rattle.ffv1_weave.proofs.WeaveLaws.{weave_as}
+use Rattle.ffv1_splice.proofs.Versions.{same_versions}
 use Rattle.ffv1_splice.proofs.OneSplice.{splice_there}
 use Rattle.ffv1_mend.specs.Improved.{AreSplicesOf, patched, given_patches, improved}
 use Rattle.ffv1_mend.specs.Mended.{MendedValue, IsPassing, ElementStands, IsElementMend}
@@ -40,21 +41,21 @@ module _ (versions others : List (List ℕ)) (same : HasSameMembers versions oth
   pub splice_as : (spliced : SplicedValue) → IsSpliceOf versions spliced → IsSpliceOf others spliced
   splice_as = splice_there versions others same
 
-  weave_as : (parts : List Part) (splices : List SplicedValue) (weave : Weave) → IsWeaveOf Element (improved versions parts splices) weave
+  improved_weave : (parts : List Part) (splices : List SplicedValue) (weave : Weave) → IsWeaveOf Element (improved versions parts splices) weave
       → IsWeaveOf Element (improved others parts splices) weave
-  weave_as parts splices weave h =
-      weave_there Element (improved versions parts splices) (improved others parts splices) (improved_as versions others parts splices same) weave h
+  improved_weave parts splices weave h =
+      weave_as Element (improved versions parts splices) (improved others parts splices) (improved_as versions others parts splices same) weave h
 
   stands_as : (from : List ℕ) (parts : List Part) (splices : List SplicedValue) (bytes : List ℕ) (state : State)
       → ElementStands versions from parts splices bytes state → ElementStands others from parts splices bytes state
   stands_as from parts splices bytes Whole h = only_as (IsPassing versions) (IsPassing others) bytes passing_as passing_back h
   stands_as from parts splices bytes Disputed h = (two_as (IsPassing versions) (IsPassing others) passing_as h.0, h.1)
-  stands_as from parts splices bytes (Woven count) h = (λ version p. h.0 version (passing_back version p), weave_as parts splices (woven bytes count) h.1)
+  stands_as from parts splices bytes (Woven count) h = (λ version p. h.0 version (passing_back version p), improved_weave parts splices (woven bytes count) h.1)
   stands_as from parts splices bytes Missing h = (
     λ version p. h.0 version (passing_back version p),
     elim h.1 [
-      | inl two ↦ inl (weave_as parts splices disputed two)
-      | inr rest ↦ inr (elim rest [ inl none ↦ inl (weave_as parts splices missing none) | inr many ↦ inr (weave_as parts splices too_many many) ])
+      | inl two ↦ inl (improved_weave parts splices disputed two)
+      | inr rest ↦ inr (elim rest [ inl none ↦ inl (none.0, improved_weave parts splices (missing none.0) none.1) | inr many ↦ inr (improved_weave parts splices too_many many) ])
     ],
     h.2,
   )

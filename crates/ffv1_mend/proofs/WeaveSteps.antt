@@ -8,9 +8,9 @@ use Rattle.ffv1_weave.specs.Weave.Weave.{disputed, missing, too_many}
 use Rattle.ffv1_weave.specs.declared.check.Check.TheVariants.{Element}
 use Rattle.ffv1_weave.specs.declared.weaving.Outcome.{Outcome}
 use Rattle.ffv1_weave.specs.declared.weaving.Outcome.TheVariants as outcome
+use Rattle.ffv1_weave.proofs.WeaveLaws.{weave_as}
 use Rattle.ffv1_weave.proofs.References.{values_of, value_there, each_value, nowhere, length-values_of}
 use Rattle.ffv1_splice.specs.Splice.{SplicedValue}
-use Rattle.ffv1_splice.proofs.Versions.{weave_there}
 use Rattle.ffv1_mend.specs.Improved.{patched, given_patches, improved, AreFitting}
 use Rattle.ffv1_mend.specs.declared.part.Part.{Part}
 use Rattle.ffv1_mend.proofs.Fitting.{length-improved}
@@ -38,14 +38,14 @@ module _ (versions lent : List (Bor (List ℕ))) (parts : List Part) (splices : 
 
   pub weave_lent : (weave : Weave) → IsWeaveOf Element (values_of lent) weave → IsWeaveOf Element (improved (values_of versions) parts splices) weave
   weave_lent weave h =
-      weave_there Element (values_of lent) (improved (values_of versions) parts splices)
+      weave_as Element (values_of lent) (improved (values_of versions) parts splices)
       (members_back (improved (values_of versions) parts splices) (values_of lent) same) weave h
 
 -- what was woven where nothing is
 pub not_woven : (versions : List (List ℕ)) (made : Outcome) → IsWeaveOf Element versions (weave_told made)
     → ((bytes : Vec ℕ Global) (count : ℕ) → made ≡ outcome.Woven bytes count → ⊥)
-    → IsWeaveOf Element versions disputed ⊎ IsWeaveOf Element versions missing ⊎ IsWeaveOf Element versions too_many
+    → IsWeaveOf Element versions disputed ⊎ ((count : ℕ) × IsWeaveOf Element versions (missing count)) ⊎ IsWeaveOf Element versions too_many
 not_woven versions (outcome.Woven bytes count) h apart = absurd (apart bytes count refl)
 not_woven versions outcome.Disputed h apart = inl h
-not_woven versions outcome.Missing h apart = inr (inl h)
+not_woven versions (outcome.Missing count) h apart = inr (inl (count, h))
 not_woven versions outcome.TooMany h apart = inr (inr h)

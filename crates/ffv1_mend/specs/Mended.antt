@@ -45,7 +45,8 @@ ElementStands versions from parts splices bytes (Woven count) =
     IsOfNone (IsPassing versions) × IsWeaveOf Element (improved versions parts splices) (woven bytes count)
 ElementStands versions from parts splices bytes Missing =
     IsOfNone (IsPassing versions)
-    × (IsWeaveOf Element (improved versions parts splices) disputed ⊎ IsWeaveOf Element (improved versions parts splices) missing
+    × (IsWeaveOf Element (improved versions parts splices) disputed
+    ⊎ ((count : ℕ) × IsWeaveOf Element (improved versions parts splices) (missing count))
     ⊎ IsWeaveOf Element (improved versions parts splices) too_many)
     × (bytes ≡ fallback from parts splices)
 ElementStands versions from parts splices bytes _ = ⊥

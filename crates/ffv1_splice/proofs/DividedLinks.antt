@@ -16,6 +16,7 @@ use Rattle.ffv1_splice.specs.Originals.{AgreeWith}
 use Rattle.ffv1_splice.specs.declared.place.Standing.{Standing}
 use Rattle.ffv1_splice.specs.declared.place.Standing.TheVariants.{Settled, Woven, Disputed, Missing, Undivided}
 use Rattle.ffv1_splice.specs.declared.place.Place.{Place}
+use Rattle.ffv1_splice.proofs.OneDivision.{woven_unsettled}
 use Rattle.ffv1_splice.proofs.Walks.{IsSpliceBefore}
 use Rattle.ffv1_splice.proofs.Walks.IsSpliceBefore.{stops, goes}
 use Rattle.ffv1_splice.proofs.SameBytes.{same_down}
@@ -117,9 +118,9 @@ module _ (original : List ℕ) (copies : List (List ℕ)) (agree : AgreeWith ori
   pub settled_where : (start end : ℕ) (bytes : List ℕ) (standing : Standing) (link : ℕ) → IsEnd original end → IsPiece copies end (piece_of original link end)
       → StandsAs copies start end bytes standing → standing ≡ Settled
   settled_where start end bytes Settled link is_end piece h = refl
-  settled_where start end bytes (Woven count) link is_end piece h = absurd (h.none (piece_of original link end) piece)
+  settled_where start end bytes (Woven count) link is_end piece h = absurd (woven_unsettled copies end start bytes count h (piece_of original link end) piece)
   settled_where start end bytes Disputed link is_end piece h =
       elim h.0 [ inl two ↦ absurd (undisputed end is_end two) | inr w ↦ absurd (w.none (piece_of original link end) piece) ]
   settled_where start end bytes Missing link is_end piece h =
-      elim h.0 [ inl w ↦ absurd (w.none (piece_of original link end) piece) | inr w ↦ absurd (w.none (piece_of original link end) piece) ]
+      elim h.0 [ inl w ↦ absurd (w.1.none (piece_of original link end) piece) | inr w ↦ absurd (w.none (piece_of original link end) piece) ]
   settled_where start end bytes Undivided link is_end piece h = absurd h

@@ -3,6 +3,10 @@ pub mod LeastSteps
 pub mod ShortestSteps
 pub mod PlaceSteps
 pub mod Versions
+pub mod WiderRegions
+pub mod FirstSlices
+pub mod SeveralSteps
+pub mod SizedCombinations
 pub mod Walks
 pub mod SpliceSteps
 pub mod SettlingSteps
@@ -23,3 +27,4 @@ pub mod WholeFrames
 pub mod Narrowed
 pub mod NarrowedOriginal
 pub mod Vectors
+pub mod SeveralVectors

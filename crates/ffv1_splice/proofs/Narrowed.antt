@@ -76,3 +76,14 @@ module _ (from to : ℕ) where
           cut = cut_in h.copy start end within h.cut;
           content = omega arith;
         }
+
+    pub told_out : (end start : ℕ) → from + end ≤ to → IsToldStart (versions_at copies from to) end start → IsToldStart copies (from + end) (from + start)
+    told_out end start within h =
+        let of = version_of copies from to h.copy h.there in
+        let content : HasContent start end = h.content in
+        record {
+          copy = of.0;
+          there = of.1;
+          cut = cut_out of.0 start end within (subst (λ copy. IsCut copy start end) of.2 h.cut);
+          content = omega arith;
+        }

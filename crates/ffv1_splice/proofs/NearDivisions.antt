@@ -7,7 +7,7 @@ use Rattle.ffv1_bits.proofs.Bytes.{AreBytes-range}
 use Rattle.ffv1_slice.specs.Chain.{size_before, IsCut, IsEnd, IsLinkOf, piece_of}
 use Rattle.ffv1_slice.specs.Chain.IsEnd.{last}
 use Rattle.ffv1_slice.proofs.NearLaws.{same_size_field, length-range, size_of_range}
-use Rattle.ffv1_splice.specs.Pieces.{IsPiece, IsToldStart}
+use Rattle.ffv1_splice.specs.Pieces.{HasContent, IsPiece, IsToldStart}
 use Rattle.ffv1_splice.specs.Standings.{StandsAs, IsStop}
 use Rattle.ffv1_splice.specs.Splice.{SplicedValue, IsDivisionOf}
 use Rattle.ffv1_splice.specs.Originals.{AreCopiesOf, AgreeWith, AgreeFromBelow, IsAmong, AreWeavable, IsSound, IsIntact, IsNearCopy, AreNearCopies, IsIntactInSome}
@@ -122,10 +122,23 @@ module _ (original : List ℕ) (copies : List (List ℕ)) (near : AreNearCopies 
         let at = link_at original near.sound.whole end is_end (omega arith) in
         subst (λ s. IsCut original s end) (sym (told_start end at.0 start (record { is_end = is_end; cut = at.1 }) told)) at.1
 
+    -- at each end some copy tells a start
+    told_at : (end : ℕ) → IsEnd original end → 0 < end → (start : ℕ) × IsToldStart copies end start
+    told_at end is_end after =
+        let at = link_at original near.sound.whole end is_end after in
+        (at.0, told_link is.before.copy is.before.there at.0 end (record { is_end = is_end; cut = at.1 }))
+
     cuts : (start end : ℕ) (bytes : List ℕ) (standing : Standing) → IsEnd original end → StandsAs copies start end bytes standing → IsCut original start end
     cuts start end bytes Settled is_end h =
         told_cut start end is_end (record { copy = h.there.copy; there = h.there.there; cut = h.there.cut; content = h.there.content })
-    cuts start end bytes (Woven count) is_end h = told_cut start end is_end h.told.there
+    cuts start end bytes (Woven count) is_end h = elim h [
+      | inl w ↦ told_cut start end is_end w.told.there
+      | inr rest ↦ elim rest [
+        | inl w ↦ let content : HasContent 0 end = w.1.content in
+            let told = told_at end is_end (omega arith) in absurd (w.1.untold told.0 told.1)
+        | inr w ↦ told_cut start end is_end w.told
+      ]
+    ]
     cuts start end bytes Disputed is_end h = told_cut start end is_end h.1.told.there
     cuts start end bytes Missing is_end h = told_cut start end is_end h.1.told.there
     cuts start end bytes Undivided is_end h = absurd h

@@ -1,5 +1,5 @@
 -- Copies have one division, and it rests on the set of the copies alone.
-use Rattle.std.proofs.Common.{◌≡◌, ℕ, List, [], ◌∷◌, ◌++◌, length, sym, ap, ◌∙◌, subst, inl, inr}
+use Rattle.std.proofs.Common.{◌≡◌, ℕ, List, [], ◌∷◌, ◌++◌, length, map, sym, ap, ◌∙◌, subst, inl, inr}
 use Rattle.std.specs.Prelude.{◌⊎◌}
 use Rattle.std.specs.Ordering.{nat_cmp}
 use Rattle.std.specs.Cmp.Lexicographic.{slice_cmp}
@@ -7,7 +7,7 @@ use Rattle.std.specs.declared.cmp.Ordering.TheVariants.{Less}
 use Rattle.ffv1_slice.specs.Chain.{Piece}
 use Rattle.ffv1_slice.specs.Members.{IsOnly, IsOfTwo, IsOfNone}
 use Rattle.ffv1_splice.specs.Pieces.{IsPiece, IsToldStart, IsLeast}
-use Rattle.ffv1_splice.specs.Standings.{versions_at, IsWeaveAt, StandsAs, IsGap, IsStop}
+use Rattle.ffv1_splice.specs.Standings.{versions_at, sized, IsWeaveAt, IsWeaveFromFront, StandsAs, IsGap, IsStop}
 use Rattle.ffv1_weave.specs.Weave.{Weave, IsWeaveOf}
 use Rattle.ffv1_weave.specs.Weave.Weave.{woven, disputed, missing, too_many}
 use Rattle.ffv1_weave.specs.declared.check.Check.TheVariants.{Slice}
@@ -18,8 +18,11 @@ use Rattle.ffv1_splice.specs.declared.place.Standing.{Standing}
 use Rattle.ffv1_splice.specs.declared.place.Standing.TheVariants.{Settled, Woven, Disputed, Missing, Undivided}
 use Rattle.ffv1_splice.specs.declared.place.Place.{Place}
 use Rattle.ffv1_splice.proofs.LeastSteps.{same_if_neither_below}
-use Rattle.ffv1_splice.proofs.PlaceSteps.{two_not_only}
-use Rattle.ffv1_splice.proofs.Versions.{same_versions, weave_there}
+use Rattle.ffv1_splice.proofs.PlaceSteps.{two_not_only, two_not_none}
+use Rattle.ffv1_weave.proofs.WeaveLaws.{same_back, weave_as}
+use Rattle.ffv1_splice.proofs.Versions.{same_versions}
+use Rattle.ffv1_splice.proofs.FirstSlices.{same_sized}
+use Rattle.ffv1_splice.proofs.SeveralSteps.{one_start, one_several, several_as}
 use Rattle.ffv1_splice.proofs.Walks.{IsSpliceBefore, division_of, division_walk}
 use Rattle.ffv1_splice.proofs.Walks.IsSpliceBefore.{stops, goes}
 
@@ -51,63 +54,86 @@ module _ (copies : List (List ℕ)) (end : ℕ) where
       same_versions_weave Slice (versions_at copies t end) (versions_at copies t end) v w (λ version. ((λ there. there), λ there. there))
       (subst (λ n. IsWeaveOf Slice (versions_at copies n end) v) starts h.weave') k.weave'
 
-  one_woven : (s t : ℕ) (a b : List ℕ) (m n : ℕ) → IsWeaveAt copies s end (woven a m) → IsWeaveAt copies t end (woven b n)
+  same_woven : (s t : ℕ) (a b : List ℕ) (m n : ℕ) → s ≡ t → woven a m ≡ woven b n
       → ◌≡◌ {A = StandingValue} (record { start = s; bytes = a; standing = Woven m }) (record { start = t; bytes = b; standing = Woven n })
-  one_woven s t a b m n h k =
-      let starts : s ≡ t = k.told.others s h.told.there in
-      let same : woven a m ≡ woven b n = one_weave_at s t (woven a m) (woven b n) h k in
+  same_woven s t a b m n starts same =
       let bytes : a ≡ b = cc in
       let counts : m ≡ n = cc in
       ap (λ i. record { start = i; bytes = a; standing = Woven m }) starts ∙ ap (λ z. record { start = t; bytes = z; standing = Woven m }) bytes
       ∙ ap (λ i. record { start = t; bytes = b; standing = Woven i }) counts
 
-  -- two pieces that differ, and what no piece told
-  two_not_none : IsOfTwo (IsPiece copies end) → IsOfNone (IsPiece copies end) → ⊥
-  two_not_none two none = none two.one two.one_there
+  one_woven : (s t : ℕ) (a b : List ℕ) (m n : ℕ) → StandsAs copies s end a (Woven m) → StandsAs copies t end b (Woven n)
+      → ◌≡◌ {A = StandingValue} (record { start = s; bytes = a; standing = Woven m }) (record { start = t; bytes = b; standing = Woven n })
+  one_woven s t a b m n (inl h) (inl k) =
+      same_woven s t a b m n (k.told.others s h.told.there) (one_weave_at s t (woven a m) (woven b n) h k)
+  one_woven s t a b m n (inl h) (inr (inl k)) = absurd (k.1.untold s h.told.there)
+  one_woven s t a b m n (inl h) (inr (inr k)) = absurd (two_not_only (IsToldStart copies end) k.several s h.told)
+  one_woven s t a b m n (inr (inl h)) (inl k) = absurd (h.1.untold t k.told.there)
+  one_woven s t a b m n (inr (inl h)) (inr (inr k)) = absurd (h.1.untold t k.told)
+  one_woven s t a b m n (inr (inr h)) (inl k) = absurd (two_not_only (IsToldStart copies end) h.several t k.told)
+  one_woven s t a b m n (inr (inr h)) (inr (inl k)) = absurd (k.1.untold s h.told)
+  one_woven s t a b m n (inr (inr h)) (inr (inr k)) =
+      same_woven s t a b m n (one_start copies end s t a b m n h k) (one_several copies end s t a b m n h k)
+  one_woven s t a b m n (inr (inl h)) (inr (inl k)) =
+      let versions : List (List ℕ) = map sized (versions_at copies 0 end) in
+      same_woven s t a b m n (h.0 ∙ sym k.0)
+      (same_versions_weave Slice versions versions (woven a m) (woven b n) (λ version. ((λ there. there), λ there. there)) h.1.weave' k.1.weave')
+
+  -- where something is woven no piece ends
+  pub woven_unsettled : (s : ℕ) (a : List ℕ) (m : ℕ) → StandsAs copies s end a (Woven m) → IsOfNone (IsPiece copies end)
+  woven_unsettled s a m (inl h) = h.none
+  woven_unsettled s a m (inr (inl h)) = h.1.none
+  woven_unsettled s a m (inr (inr h)) = h.none
 
   not_disputed_and_missing : (s t : ℕ) → IsOfTwo (IsPiece copies end) ⊎ IsWeaveAt copies s end disputed
-      → IsWeaveAt copies t end missing ⊎ IsWeaveAt copies t end too_many → ⊥
-  not_disputed_and_missing s t (inl two) (inl w) = two_not_none two w.none
-  not_disputed_and_missing s t (inl two) (inr w) = two_not_none two w.none
-  not_disputed_and_missing s t (inr h) (inl w) = let e = one_weave_at s t disputed missing h w in absurd (cc)
+      → ((count : ℕ) × IsWeaveAt copies t end (missing count)) ⊎ IsWeaveAt copies t end too_many → ⊥
+  not_disputed_and_missing s t (inl two) (inl w) = two_not_none (IsPiece copies end) two w.1.none
+  not_disputed_and_missing s t (inl two) (inr w) = two_not_none (IsPiece copies end) two w.none
+  not_disputed_and_missing s t (inr h) (inl w) = let e = one_weave_at s t disputed (missing w.0) h w.1 in absurd (cc)
   not_disputed_and_missing s t (inr h) (inr w) = let e = one_weave_at s t disputed too_many h w in absurd (cc)
 
-  not_woven_and_disputed : (s t : ℕ) (a : List ℕ) (m : ℕ) → IsWeaveAt copies s end (woven a m)
-      → IsOfTwo (IsPiece copies end) ⊎ IsWeaveAt copies t end disputed → ⊥
-  not_woven_and_disputed s t a m h (inl two) = two_not_none two h.none
-  not_woven_and_disputed s t a m h (inr w) = let e = one_weave_at s t (woven a m) disputed h w in absurd (cc)
+  not_woven_and_disputed : (s t : ℕ) (a b : List ℕ) (m : ℕ) → StandsAs copies s end a (Woven m) → StandsAs copies t end b Disputed → ⊥
+  not_woven_and_disputed s t a b m (inl h) k = elim k.0 [
+    | inl two ↦ two_not_none (IsPiece copies end) two h.none
+    | inr w ↦ let e = one_weave_at s t (woven a m) disputed h w in absurd (cc)
+  ]
+  not_woven_and_disputed s t a b m (inr (inl h)) k = h.1.untold t k.1.told.there
+  not_woven_and_disputed s t a b m (inr (inr h)) k = two_not_only (IsToldStart copies end) h.several t k.1.told
 
-  not_woven_and_missing : (s t : ℕ) (a : List ℕ) (m : ℕ) → IsWeaveAt copies s end (woven a m)
-      → IsWeaveAt copies t end missing ⊎ IsWeaveAt copies t end too_many → ⊥
-  not_woven_and_missing s t a m h (inl w) = let e = one_weave_at s t (woven a m) missing h w in absurd (cc)
-  not_woven_and_missing s t a m h (inr w) = let e = one_weave_at s t (woven a m) too_many h w in absurd (cc)
+  not_woven_and_missing : (s t : ℕ) (a b : List ℕ) (m : ℕ) → StandsAs copies s end a (Woven m) → StandsAs copies t end b Missing → ⊥
+  not_woven_and_missing s t a b m (inl h) k = elim k.0 [
+    | inl w ↦ let e = one_weave_at s t (woven a m) (missing w.0) h w.1 in absurd (cc)
+    | inr w ↦ let e = one_weave_at s t (woven a m) too_many h w in absurd (cc)
+  ]
+  not_woven_and_missing s t a b m (inr (inl h)) k = h.1.untold t k.1.told.there
+  not_woven_and_missing s t a b m (inr (inr h)) k = two_not_only (IsToldStart copies end) h.several t k.1.told
 
   not_settled_and_disputed : (piece : Piece) (t : ℕ) → IsOnly (IsPiece copies end) piece → IsOfTwo (IsPiece copies end) ⊎ IsWeaveAt copies t end disputed → ⊥
   not_settled_and_disputed piece t h (inl two) = two_not_only (IsPiece copies end) two piece h
   not_settled_and_disputed piece t h (inr w) = w.none piece h.there
 
   not_settled_and_missing : (piece : Piece) (t : ℕ) → IsOnly (IsPiece copies end) piece
-      → IsWeaveAt copies t end missing ⊎ IsWeaveAt copies t end too_many → ⊥
-  not_settled_and_missing piece t h (inl w) = w.none piece h.there
+      → ((count : ℕ) × IsWeaveAt copies t end (missing count)) ⊎ IsWeaveAt copies t end too_many → ⊥
+  not_settled_and_missing piece t h (inl w) = w.1.none piece h.there
   not_settled_and_missing piece t h (inr w) = w.none piece h.there
 
   pub one_standing : (s t : ℕ) (a b : List ℕ) (x y : Standing) → StandsAs copies s end a x → StandsAs copies t end b y
       → ◌≡◌ {A = StandingValue} (record { start = s; bytes = a; standing = x }) (record { start = t; bytes = b; standing = y })
   one_standing s t a b Settled Settled h k =
       ap (λ (p : Piece). record { start = p.start; bytes = p.bytes; standing = Settled }) (k.others (record { start = s; bytes = a }) h.there)
-  one_standing s t a b Settled (Woven n) h k = absurd (k.none (record { start = s; bytes = a }) h.there)
+  one_standing s t a b Settled (Woven n) h k = absurd (woven_unsettled t b n k (record { start = s; bytes = a }) h.there)
   one_standing s t a b Settled Disputed h k = absurd (not_settled_and_disputed (record { start = s; bytes = a }) t h k.0)
   one_standing s t a b Settled Missing h k = absurd (not_settled_and_missing (record { start = s; bytes = a }) t h k.0)
-  one_standing s t a b (Woven m) Settled h k = absurd (h.none (record { start = t; bytes = b }) k.there)
+  one_standing s t a b (Woven m) Settled h k = absurd (woven_unsettled s a m h (record { start = t; bytes = b }) k.there)
   one_standing s t a b (Woven m) (Woven n) h k = one_woven s t a b m n h k
-  one_standing s t a b (Woven m) Disputed h k = absurd (not_woven_and_disputed s t a m h k.0)
-  one_standing s t a b (Woven m) Missing h k = absurd (not_woven_and_missing s t a m h k.0)
+  one_standing s t a b (Woven m) Disputed h k = absurd (not_woven_and_disputed s t a b m h k)
+  one_standing s t a b (Woven m) Missing h k = absurd (not_woven_and_missing s t a b m h k)
   one_standing s t a b Disputed Settled h k = absurd (not_settled_and_disputed (record { start = t; bytes = b }) s k h.0)
-  one_standing s t a b Disputed (Woven n) h k = absurd (not_woven_and_disputed t s b n k h.0)
+  one_standing s t a b Disputed (Woven n) h k = absurd (not_woven_and_disputed t s b a n k h)
   one_standing s t a b Disputed Disputed h k = one_gap Disputed s t a b h.1 k.1
   one_standing s t a b Disputed Missing h k = absurd (not_disputed_and_missing s t h.0 k.0)
   one_standing s t a b Missing Settled h k = absurd (not_settled_and_missing (record { start = t; bytes = b }) s k h.0)
-  one_standing s t a b Missing (Woven n) h k = absurd (not_woven_and_missing t s b n k h.0)
+  one_standing s t a b Missing (Woven n) h k = absurd (not_woven_and_missing t s b a n k h)
   one_standing s t a b Missing Disputed h k = absurd (not_disputed_and_missing t s k.0 h.0)
   one_standing s t a b Missing Missing h k = one_gap Missing s t a b h.1 k.1
   one_standing s t a b Undivided y h k = absurd h
@@ -118,7 +144,9 @@ module _ (copies : List (List ℕ)) (end : ℕ) where
 
   pub stop_not_stands : (start : ℕ) (bytes : List ℕ) (standing : Standing) → IsStop copies end → StandsAs copies start end bytes standing → ⊥
   stop_not_stands start bytes Settled stop h = stop.unsettled (record { start = start; bytes = bytes }) h
-  stop_not_stands start bytes (Woven count) stop h = stop.untold start h.told
+  stop_not_stands start bytes (Woven count) stop (inl h) = stop.untold start h.told
+  stop_not_stands start bytes (Woven count) stop (inr (inl h)) = stop.unclaimed bytes count h.1
+  stop_not_stands start bytes (Woven count) stop (inr (inr h)) = stop.unwoven start bytes count h
   stop_not_stands start bytes Disputed stop h = stop.untold start h.1.told
   stop_not_stands start bytes Missing stop h = stop.untold start h.1.told
   stop_not_stands start bytes Undivided stop h = absurd h
@@ -191,13 +219,37 @@ module _ (copies others : List (List ℕ)) (same : HasSameMembers copies others)
       record {
         none = λ piece p. h.none piece (piece_here end piece p);
         told = only_same (IsToldStart copies end) (IsToldStart others end) (start_there end) (start_here end) start h.told;
-        weave' = weave_there Slice (versions_at copies start end) (versions_at others start end) (same_versions copies others same start end) weave h.weave';
+        weave' = weave_as Slice (versions_at copies start end) (versions_at others start end) (same_versions copies others same start end) weave h.weave';
+      }
+
+  front_there : (end : ℕ) (weave : Weave) → IsWeaveFromFront copies end weave → IsWeaveFromFront others end weave
+  front_there end weave h =
+      record {
+        none = λ piece p. h.none piece (piece_here end piece p);
+        untold = λ start told. h.untold start (start_here end start told);
+        content = h.content;
+        short = h.short;
+        weave' = weave_as Slice (map sized (versions_at copies 0 end)) (map sized (versions_at others 0 end)) (same_sized copies others same 0 end) weave
+            h.weave';
+      }
+
+  front_here : (end : ℕ) (weave : Weave) → IsWeaveFromFront others end weave → IsWeaveFromFront copies end weave
+  front_here end weave h =
+      record {
+        none = λ piece p. h.none piece (piece_there end piece p);
+        untold = λ start told. h.untold start (start_there end start told);
+        content = h.content;
+        short = h.short;
+        weave' = weave_as Slice (map sized (versions_at others 0 end)) (map sized (versions_at copies 0 end))
+            (same_sized others copies (same_back copies others same) 0 end) weave h.weave';
       }
 
   stands_there : (start end : ℕ) (bytes : List ℕ) (standing : Standing) → StandsAs copies start end bytes standing → StandsAs others start end bytes standing
   stands_there start end bytes Settled h =
       only_same (IsPiece copies end) (IsPiece others end) (piece_there end) (piece_here end) (record { start = start; bytes = bytes }) h
-  stands_there start end bytes (Woven count) h = weave_at_there start end (woven bytes count) h
+  stands_there start end bytes (Woven count) (inl h) = inl (weave_at_there start end (woven bytes count) h)
+  stands_there start end bytes (Woven count) (inr (inl h)) = inr (inl (h.0, front_there end (woven bytes count) h.1))
+  stands_there start end bytes (Woven count) (inr (inr h)) = inr (inr (several_as copies others same end start bytes count h))
   stands_there start end bytes Disputed h = (
     elim h.0 [
       | inl two ↦ inl (two_same (IsPiece copies end) (IsPiece others end) (piece_there end) two)
@@ -207,7 +259,7 @@ module _ (copies others : List (List ℕ)) (same : HasSameMembers copies others)
   )
   stands_there start end bytes Missing h = (
     elim h.0 [
-      | inl w ↦ inl (weave_at_there start end missing w)
+      | inl w ↦ inl (w.0, weave_at_there start end (missing w.0) w.1)
       | inr w ↦ inr (weave_at_there start end too_many w)
     ],
     gap_there start end bytes h.1,
@@ -219,6 +271,9 @@ module _ (copies others : List (List ℕ)) (same : HasSameMembers copies others)
       record {
         unsettled = λ piece only. h.unsettled piece (only_same (IsPiece others end) (IsPiece copies end) (piece_here end) (piece_there end) piece only);
         untold = λ start only. h.untold start (only_same (IsToldStart others end) (IsToldStart copies end) (start_here end) (start_there end) start only);
+        unclaimed = λ bytes count front. h.unclaimed bytes count (front_here end (woven bytes count) front);
+        unwoven = λ start bytes count several.
+            h.unwoven start bytes count (several_as others copies (same_back copies others same) end start bytes count several);
       }
 
   pub walk_there : (end : ℕ) (places : List Place) (front : ℕ) (payload : List ℕ) → IsSpliceBefore copies end places front payload

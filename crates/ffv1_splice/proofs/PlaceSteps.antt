@@ -28,6 +28,9 @@ untold P starts.None h apart = none_not_only P h
 untold P (starts.One x) h apart = λ start only. apart x refl
 untold P starts.Two h apart = two_not_only P h
 
+pub two_not_none : {X : Type 0} (P : X → Type 0) → IsOfTwo P → IsOfNone P → ⊥
+two_not_none P two none = none two.one two.one_there
+
 -- ---- how long a place is
 
 -- each copy reaches to the end

@@ -1,4 +1,4 @@
--- The shortest piece from a place: of one copy end by end, and of copies one by one.
+-- The shortest piece from a place: of one copy end by end, of copies one by one, and of ends that lie further and further from there.
 use Rattle.std.proofs.Common.{◌≡◌, ℕ, ◌+◌, ◌-◌, ◌<◌, ◌≤◌, true, false, eqb, List, [], ◌∷◌, ◌++◌, Bor, Option, Some, None, length, take, drop, refl, sym, ap, ◌∙◌, subst, arith, inl, inr}
 use Rattle.std.specs.Prelude.{◌⊎◌, Contains, MatchOption, slice_range}
 use Rattle.std.specs.Option.{option_eq}
@@ -82,14 +82,16 @@ pub record AreJudged (copy : List ℕ) (start judged end left : ℕ) : Type 0 wh
   pub left' : left ≡ remainder_of (bits_of (slice_range copy start judged))
   pub none : (earlier : ℕ) → earlier < end → EndsPiece copy start earlier → ⊥
 
-pub judged_first : (copy : List ℕ) (start : ℕ) → AreJudged copy start start (start + 9) 0
-judged_first copy start =
+-- no piece ends at the end `from` or before it
+pub judged_first : (copy : List ℕ) (start from : ℕ) → start ≤ from → IsOfNone (IsPieceFrom (copy ∷ []) from start)
+    → AreJudged copy start start (from + 1) 0
+judged_first copy start from low none =
     let empty : 0 ≡ start - start = omega arith in
     record {
       from = omega arith;
       to = omega arith;
       left' = nothing_left ∙ ap (λ n. remainder_of (bits_of (take n (drop start copy)))) empty;
-      none = λ earlier before h. absurd (omega (arith, h.content));
+      none = λ earlier before h. none _ (piece_of_end copy from start earlier h (omega arith));
     }
 
 module _ (copy : List ℕ) (start judged end left : ℕ) (so_far : AreJudged copy start judged end left) where
@@ -157,6 +159,12 @@ piece_in copies copy start end bytes there h =
       passes = h.passes;
     }
 
+-- where no copy has a piece, one of them has none
+pub none_of_one : (copies : List (List ℕ)) (copy : List ℕ) (bound start : ℕ) → Contains copies copy → IsOfNone (IsPieceFrom copies bound start)
+    → IsOfNone (IsPieceFrom (copy ∷ []) bound start)
+none_of_one copies copy bound start there none piece p =
+    none piece (record { there = piece_in copies copy start piece.end piece.bytes there p.there; within = p.within })
+
 -- a piece of one more copy is its own, or one of those before
 pub piece_cases : (copies : List (List ℕ)) (copy : List ℕ) (start end : ℕ) (bytes : List ℕ)
     → IsPiece (copies ++ copy ∷ []) end (record { start = start; bytes = bytes })
@@ -167,15 +175,17 @@ piece_cases copies copy start end bytes h =
       | inr there ↦ inr (record { copy = h.copy; there = there; cut = h.cut; content = h.content; bytes = h.bytes; passes = h.passes })
     ]
 
--- No piece of the copies ends as early as `within`. What was found is one that ends right after it.
-pub record IsFirstOf (copies : List (List ℕ)) (bound start within : ℕ) (first : Option (Bor (List ℕ))) : Type 0 where
+-- No piece of the copies ends as early as `within`, where the search began at the end `from`. What was found is one that ends right
+-- after it.
+pub record IsFirstOf (copies : List (List ℕ)) (bound start from within : ℕ) (first : Option (Bor (List ℕ))) : Type 0 where
+  pub after : from ≤ within
   pub fits : within ≤ bound
   pub none : IsOfNone (IsPieceFrom copies within start)
   pub found : MatchOption first (within ≡ bound)
       (λ bytes. IsPieceFrom copies bound start (record { end = start + length bytes.now; bytes = bytes.now }) × (within + 1 ≡ start + length bytes.now))
 
-module _ (copies : List (List ℕ)) (bound start : ℕ) where
-  pub first_done : (within : ℕ) (first : Option (Bor (List ℕ))) → IsFirstOf copies bound start within first
+module _ (copies : List (List ℕ)) (bound start from : ℕ) where
+  pub first_done : (within : ℕ) (first : Option (Bor (List ℕ))) → IsFirstOf copies bound start from within first
       → MatchOption first (IsOfNone (IsPieceFrom copies bound start))
       (λ bytes. IsShortest copies bound start (record { end = start + length bytes.now; bytes = bytes.now }))
   first_done within None h = subst (λ b. IsOfNone (IsPieceFrom copies b start)) h.found h.none
@@ -214,9 +224,10 @@ module _ (copies : List (List ℕ)) (bound start : ℕ) where
 
     -- a copy with no piece that ends as early
     pub first_kept : (within : ℕ) (first : Option (Bor (List ℕ))) → IsOfNone (IsPieceFrom (copy ∷ []) within start)
-        → IsFirstOf copies bound start within first → IsFirstOf (copies ++ copy ∷ []) bound start within first
+        → IsFirstOf copies bound start from within first → IsFirstOf (copies ++ copy ∷ []) bound start from within first
     first_kept within first none h =
         record {
+          after = h.after;
           fits = h.fits;
           none = λ piece p. elim (piece_cases copies copy start piece.end piece.bytes p.there) [
             | inl q ↦ h.none piece (record { there = q; within = p.within })
@@ -227,14 +238,18 @@ module _ (copies : List (List ℕ)) (bound start : ℕ) where
 
     -- a copy with a piece that ends as early
     pub first_more : (within end : ℕ) (first : Option (Bor (List ℕ))) (bytes : Bor (List ℕ)) → within ≤ length copy
-        → bytes.now ≡ slice_range copy start end
+        → IsOfNone (IsPieceFrom (copy ∷ []) from start) → bytes.now ≡ slice_range copy start end
         → IsShortest (copy ∷ []) within start (record { end = end; bytes = slice_range copy start end })
-        → IsFirstOf copies bound start within first → IsFirstOf (copies ++ copy ∷ []) bound start (end - 1) (Some bytes)
-    first_more within end first bytes room is shortest h =
+        → IsFirstOf copies bound start from within first → IsFirstOf (copies ++ copy ∷ []) bound start from (end - 1) (Some bytes)
+    first_more within end first bytes room none is shortest h =
         let content : HasContent start end = shortest.there.there.content in
         let early : end ≤ within = shortest.there.within in
         let size : start + length bytes.now ≡ end = omega (arith, ap length is, length-range copy start end (omega arith) (omega arith)) in
         record {
+          after = elim (cases_lt from end) [
+            | inl later ↦ omega arith
+            | inr earlier ↦ absurd (none _ (record { there = shortest.there.there; within = earlier }))
+          ];
           fits = omega (arith, h.fits);
           none = λ piece p. elim (piece_cases copies copy start piece.end piece.bytes p.there) [
             | inl q ↦ h.none piece (record { there = q; within = omega (arith, p.within) })
@@ -253,3 +268,27 @@ module _ (copies : List (List ℕ)) (bound start : ℕ) where
             omega arith,
           );
         }
+
+-- ---- further and further
+
+module _ (copies : List (List ℕ)) (start : ℕ) where
+  -- a piece has more than its footer
+  pub none_in_footer : IsOfNone (IsPieceFrom copies (start + 8) start)
+  none_in_footer piece p = omega (arith, p.within, p.there.content)
+
+  -- where no piece ends within a bound, none ends within a lower one
+  pub none_lower : (within bound : ℕ) → bound ≤ within → IsOfNone (IsPieceFrom copies within start) → IsOfNone (IsPieceFrom copies bound start)
+  none_lower within bound low none piece p = none piece (record { there = p.there; within = omega (arith, p.within) })
+
+  -- a shortest piece within a bound is one within a higher bound
+  pub shortest_higher : (within bound : ℕ) (piece : PieceFrom) → within ≤ bound → IsShortest copies within start piece
+      → IsShortest copies bound start piece
+  shortest_higher within bound piece low h =
+      let early : piece.end ≤ within = h.there.within in
+      record {
+        there = record { there = h.there.there; within = omega arith };
+        least = λ other p. elim (cases_lt within other.end) [
+          | inl later ↦ omega arith
+          | inr earlier ↦ h.least other (record { there = p.there; within = earlier })
+        ];
+      }

@@ -8,6 +8,7 @@ use Rattle.ffv1_splice.specs.Standings.{versions_at, StandsAs}
 use Rattle.ffv1_splice.specs.Splice.{SplicedValue, IsSettledDown, IsSettledUp, IsSpliceOf, undivided_places, IsSettledOrWoven, IsGivenBack}
 use Rattle.ffv1_splice.specs.declared.place.Standing.TheVariants.{Settled, Undivided}
 use Rattle.ffv1_splice.specs.declared.place.Place.{Place}
+use Rattle.ffv1_splice.proofs.PlaceSteps.{AllReach}
 use Rattle.ffv1_splice.proofs.Walks.{ends_below}
 use Rattle.ffv1_splice.proofs.Narrowed.{range_of_range, piece_out}
 use Rattle.ffv1_splice.proofs.PlaceLists.{all_stand_undivided, no_front}
@@ -22,6 +23,9 @@ module _ (copies : List (List ℕ)) (spliced : SplicedValue) (is : IsSpliceOf co
       let long = hole_length copies spliced is in
       let within = ends_below (length is.hole.payload) is.hole.places is.hole.front (hole_upright copies spliced is) is.divided.lie k d lt in
       omega arith
+
+  pub hole_reach : (end : ℕ) → is.start + end ≤ is.end → AllReach (versions_at copies is.start is.end) end
+  hole_reach end within version there = let long = hole_length copies spliced is in omega (arith, is.divided.one_length version there)
 
   -- the bytes of the hole, as the splice has them
   pub hole_bytes : All (λ place. slice_range is.hole.payload place.start place.end

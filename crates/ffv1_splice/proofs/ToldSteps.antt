@@ -57,7 +57,7 @@ module _ (copies : List (List ℕ)) (copy : List ℕ) (end : ℕ) where
         passes = h.passes;
       }
 
-  start_on : (start : ℕ) → IsToldStart copies end start → IsToldStart (copies ++ copy ∷ []) end start
+  pub start_on : (start : ℕ) → IsToldStart copies end start → IsToldStart (copies ++ copy ∷ []) end start
   start_on start h = record { copy = h.copy; there = Contains-append_left copies (copy ∷ []) h.copy h.there; cut = h.cut; content = h.content }
 
   pub piece_back : (piece : Piece) → IsPiece (copies ++ copy ∷ []) end piece
@@ -77,7 +77,7 @@ module _ (copies : List (List ℕ)) (copy : List ℕ) (end : ℕ) where
             )
       ]
 
-  start_back : (start : ℕ) → IsToldStart (copies ++ copy ∷ []) end start → IsToldStart copies end start ⊎ (IsCut copy start end × HasContent start end)
+  pub start_back : (start : ℕ) → IsToldStart (copies ++ copy ∷ []) end start → IsToldStart copies end start ⊎ (IsCut copy start end × HasContent start end)
   start_back start h =
       elim (Contains-append_cases copies (copy ∷ []) h.copy h.there) [
         | inl there ↦ inl (record { copy = h.copy; there = there; cut = h.cut; content = h.content })

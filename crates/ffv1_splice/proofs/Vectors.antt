@@ -1,11 +1,12 @@
 -- Copies that are near the slices of a setup are near copies; two of the frame of two slices, of which each has one slice intact, are
--- spliced to the frame; and zeros, which read as a row of slices without content, have no places.
-use Rattle.std.proofs.Common.{◌≡◌, ℕ, zero, suc, ◌+◌, ◌-◌, ◌<◌, ◌≤◌, Bool, List, [], ◌∷◌, length, get_or, take, drop, replicate, refl, sym, ap, ◌∙◌, subst, arith, inl, inr}
+-- spliced to the frame; zeros, which read as a row of slices without content, have no places; and a slice whose size field is lost in both
+-- copies is woven from the front.
+use Rattle.std.proofs.Common.{◌≡◌, ℕ, zero, suc, ◌+◌, ◌-◌, ◌<◌, ◌≤◌, Bool, List, [], ◌∷◌, length, get_or, map, take, drop, replicate, refl, sym, ap, ◌∙◌, subst, arith, inl, inr}
 use Rattle.std.specs.Prelude.{◌⊎◌, ◌==◌, Contains, slice_range}
 use Rattle.std.specs.Ordering.{nat_cmp}
 use Rattle.std.specs.Cmp.Lexicographic.{slice_cmp}
 use Rattle.std.specs.declared.cmp.Ordering.TheVariants.{Less}
-use Rattle.std.proofs.lemmas.List.{length-take, take-replicate, drop-replicate}
+use Rattle.std.proofs.lemmas.List.{ext_get_or, length-take, take-replicate, drop-replicate}
 use Rattle.std.proofs.lemmas.List.Elements.{All-nil}
 use Rattle.ffv1_bits.specs.Bits.{number_bits, bits_of}
 use Rattle.ffv1_bits.specs.Parity.{AreBytes, PassesParity, polynomial_of, reduced_at, divided, remainder_of}
@@ -17,11 +18,14 @@ use Rattle.ffv1_slice.proofs.Places.{starts_none, IsCutAt, end_of_tile, tile_of_
 use Rattle.ffv1_slice.proofs.FoundLaws.{original_cut, bytes_of_tile}
 use Rattle.ffv1_slice.proofs.NearLaws.{length-range, size_of_range}
 use Rattle.ffv1_slice.proofs.NearVectors as vectors
+use Rattle.ffv1_weave.specs.Combinations.{IsCombinationBy}
+use Rattle.ffv1_weave.specs.Weave.{AreFew}
 use Rattle.ffv1_splice.specs.Pieces.{HasContent, IsLeast}
-use Rattle.ffv1_splice.specs.Standings.{StandsAs, IsStop}
+use Rattle.ffv1_splice.specs.Standings.{versions_at, sized, StandsAs, IsStop}
 use Rattle.ffv1_splice.specs.Splice.{SplicedValue, IsSettledDown, IsSettledUp, IsDivisionOf, IsSpliceOf}
 use Rattle.ffv1_splice.specs.Originals.{IsSound, IsIntact, IsNearCopy, AreNearCopies, IsIntactInSome}
 use Rattle.ffv1_splice.specs.Laws as laws
+use Rattle.ffv1_splice.specs.declared.place.Standing.TheVariants.{Woven}
 use Rattle.ffv1_splice.proofs.DividedLinks.{end_within}
 use Rattle.ffv1_splice.proofs.NearCopies.{near_copies_splice}
 
@@ -125,11 +129,11 @@ zeros_pass : IsCut zeros 8 16 × PassesParity (slice_range zeros 8 16)
 unfolding number_bits bits_of polynomial_of reduced_at divided remainder_of
 zeros_pass = (omega arith, (omega arith, refl))
 
--- the only copy
-copy_is_zeros : (copy : List ℕ) → Contains (zeros ∷ []) copy → copy ≡ zeros
-copy_is_zeros copy there =
+-- of one copy alone, the only one
+only_copy : (alone copy : List ℕ) → Contains (alone ∷ []) copy → copy ≡ alone
+only_copy alone copy there =
     let here : there.0 ≡ 0 = omega (arith, there.1) in
-    sym there.2 ∙ ap (λ k. get_or (zeros ∷ []) k copy) here
+    sym there.2 ∙ ap (λ k. get_or (alone ∷ []) k copy) here
 
 -- each footer within them tells size 0
 zeros_size : (end : ℕ) → 8 ≤ end → end ≤ 16 → size_before zeros end ≡ 0
@@ -142,15 +146,29 @@ zeros_size end footer within =
 
 zeros_cut : (copy : List ℕ) (start end : ℕ) → Contains (zeros ∷ []) copy → end ≤ 16 → IsCut copy start end → HasContent start end → ⊥
 zeros_cut copy start end there within cut content =
-    let told : IsCut zeros start end = subst (λ c. IsCut c start end) (copy_is_zeros copy there) cut in
+    let told : IsCut zeros start end = subst (λ c. IsCut c start end) (only_copy zeros copy there) cut in
     let size = zeros_size end (omega arith) within in
     absurd (omega arith)
+
+-- with the size of a slice that is as long they do not pass
+sized_zeros_fail : PassesParity (sized zeros) → ⊥
+unfolding number_bits bits_of polynomial_of reduced_at divided remainder_of
+sized_zeros_fail passes = absurd (omega arith)
 
 -- so no slice with content ends or begins within them
 pub zeros_stop : IsStop (zeros ∷ []) 16
 zeros_stop = record {
   unsettled = λ piece only. zeros_cut only.there.copy piece.start 16 only.there.there (omega arith) only.there.cut only.there.content;
   untold = λ start only. zeros_cut only.there.copy start 16 only.there.there (omega arith) only.there.cut only.there.content;
+  unclaimed = λ bytes count front.
+      let valid = front.weave'.0.there in
+      let here : Contains (sized zeros ∷ []) (sized zeros) = (0, omega arith, refl) in
+      let same : bytes ≡ sized zeros = ext_get_or 0 bytes (sized zeros) (valid.combination.same_length (sized zeros) here)
+      (λ i lt. valid.combination.agrees i (λ one other in_one in_other. ap (λ v. get_or v i 0)
+      (only_copy (sized zeros) one in_one ∙ sym (only_copy (sized zeros) other in_other))) (sized zeros) here) in
+      sized_zeros_fail (subst PassesParity same valid.passes.1);
+  unwoven = λ start bytes count several.
+      zeros_cut several.told.copy start 16 several.told.there (omega arith) several.told.cut several.told.content;
 }
 
 zeros_least : IsLeast (zeros ∷ []) 0 16 zeros
@@ -160,7 +178,7 @@ zeros_least = record {
   lies = refl;
   least = λ other there less.
       let same : slice_cmp nat_cmp (slice_range zeros 0 16) zeros ≡ Less =
-      subst (λ c. slice_cmp nat_cmp (slice_range c 0 16) zeros ≡ Less) (copy_is_zeros other there) less in
+      subst (λ c. slice_cmp nat_cmp (slice_range c 0 16) zeros ≡ Less) (only_copy zeros other there) less in
       absurd (cc);
 }
 
@@ -170,7 +188,7 @@ zeros_spliced = record { places = []; front = 16; payload = zeros }
 
 zeros_divided : IsDivisionOf (zeros ∷ []) zeros_spliced
 zeros_divided = record {
-  one_length = λ copy there. ap length (copy_is_zeros copy there);
+  one_length = λ copy there. ap length (only_copy zeros copy there);
   lie = refl;
   stand = All-nil (λ place. StandsAs (zeros ∷ []) place.start place.end (slice_range zeros place.start place.end) place.standing);
   stop = zeros_stop;
@@ -185,7 +203,7 @@ zeros_are_spliced = record {
   end = 16;
   bound = 16;
   hole = zeros_spliced;
-  one_length = λ copy there. ap length (copy_is_zeros copy there);
+  one_length = λ copy there. ap length (only_copy zeros copy there);
   down = record { lie = refl; settled = All-nil (IsSettledDown (zeros ∷ []) zeros); stop = zeros_stop.unsettled };
   room = inl (λ piece h. zeros_cut h.copy piece.start 16 h.there (omega arith) h.cut h.content, refl);
   up = record {
@@ -199,3 +217,101 @@ zeros_are_spliced = record {
   places = refl;
   front = refl;
 }
+
+-- ---- a first slice whose size field is lost in each copy
+
+-- the size field that is lost in one copy tells more than there is, and in the other that there is no content
+abbrev lost : List ℕ
+lost = 0xFD ∷ 0xF6 ∷ 0x80 ∷ 0xFF ∷ 0xFF ∷ 0xFF ∷ 0 ∷ 0x1C ∷ 0x3E ∷ 0xA0 ∷ 0x9B ∷ []
+
+abbrev other_lost : List ℕ
+other_lost = 0xFD ∷ 0xF6 ∷ 0x80 ∷ 0 ∷ 0 ∷ 0 ∷ 0 ∷ 0x1C ∷ 0x3E ∷ 0xA0 ∷ 0x9B ∷ []
+
+abbrev pub lost_copies : List (List ℕ)
+lost_copies = lost ∷ other_lost ∷ []
+
+both_sized : map sized (versions_at lost_copies 0 11) ≡ vectors.first_slice ∷ vectors.first_slice ∷ []
+both_sized = refl
+
+lost_cut : (copy : List ℕ) (start : ℕ) → Contains lost_copies copy → IsCut copy start 11 → HasContent start 11 → ⊥
+lost_cut copy start there cut content = at there.0 there.1 there.2
+  where
+    at : (k : ℕ) → k < 2 → get_or lost_copies k copy ≡ copy → ⊥
+    at zero lt same = let told : IsCut lost start 11 = subst (λ c. IsCut c start 11) (sym same) cut in absurd (omega arith)
+    at (suc zero) lt same = let told : IsCut other_lost start 11 = subst (λ c. IsCut c start 11) (sym same) cut in absurd (omega arith)
+    at (suc (suc k)) lt same = absurd (omega arith)
+
+-- ---- a slice that both copies have
+
+module _ (slice : List ℕ) where
+  twice : (copy : List ℕ) → Contains (slice ∷ slice ∷ []) copy → copy ≡ slice
+  twice copy there = at there.0 there.1 there.2
+    where
+      at : (k : ℕ) → k < 2 → get_or (slice ∷ slice ∷ []) k copy ≡ copy → copy ≡ slice
+      at zero lt same = sym same
+      at (suc zero) lt same = sym same
+      at (suc (suc k)) lt same = absurd (omega arith)
+
+  pub twice_one : (grain : _) (bytes : List ℕ) → IsCombinationBy grain (slice ∷ slice ∷ []) bytes → bytes ≡ slice
+  twice_one grain bytes is =
+      let here : Contains (slice ∷ slice ∷ []) slice = (0, omega arith, refl) in
+      ext_get_or 0 bytes slice (is.same_length slice here) (λ i lt.
+      is.agrees i (λ one other in_one in_other. ap (λ v. get_or v i 0) (twice one in_one ∙ sym (twice other in_other))) slice here)
+
+  twice_combination : (grain : _) → IsCombinationBy grain (slice ∷ slice ∷ []) slice
+  twice_combination grain =
+      record {
+        same_length = λ version there. ap length (sym (twice version there));
+        agrees = λ i agree version there. ap (λ v. get_or v i 0) (sym (twice version there));
+        parts = λ start end part. (slice, (0, omega arith, refl), refl);
+      }
+
+  pub twice_few : AreFew (slice ∷ slice ∷ []) 1
+  twice_few = record {
+    grain = _;
+    tried = record {
+      place = 0;
+      there = omega arith;
+      is = refl;
+      finer = λ k lt. absurd (omega arith);
+      few = record {
+        numbered = record {
+          at = λ k. slice;
+          are = λ k lt. twice_combination _;
+          all = λ bytes is. (0, omega arith, sym (twice_one _ bytes is));
+          once = λ j k low lt same. omega arith;
+        };
+        few = omega arith;
+      };
+    };
+  }
+
+-- so the first slice is, once both copies have its size
+pub first_slice_passes : PassesParity vectors.first_slice
+unfolding number_bits bits_of polynomial_of reduced_at divided remainder_of
+first_slice_passes = (omega arith, refl)
+
+-- so the slice is woven from the front, of one combination
+pub lost_stands : StandsAs lost_copies 0 11 vectors.first_slice (Woven 1)
+lost_stands = inr (inl (
+  refl,
+  record {
+    none = λ piece h. lost_cut h.copy piece.start h.there h.cut h.content;
+    untold = λ start h. lost_cut h.copy start h.there h.cut h.content;
+    content = omega arith;
+    short = omega arith;
+    weave' = (
+      record {
+        there = record {
+          grain = (twice_few vectors.first_slice).grain;
+          count = 1;
+          tried = (twice_few vectors.first_slice).tried;
+          combination = twice_combination vectors.first_slice (twice_few vectors.first_slice).grain;
+          passes = (record { footer = omega arith; size = refl }, first_slice_passes);
+        };
+        others = λ other valid. twice_one vectors.first_slice valid.grain other valid.combination;
+      },
+      twice_few vectors.first_slice,
+    );
+  },
+))

@@ -11,7 +11,7 @@ use Rattle.ffv1_splice.specs.Splice.{SplicedValue, LieFrom, IsDivisionOf}
 use Rattle.ffv1_splice.specs.declared.place.Standing.{Standing}
 use Rattle.ffv1_splice.specs.declared.place.Standing.TheVariants.{Settled, Woven, Disputed, Missing, Undivided}
 use Rattle.ffv1_splice.specs.declared.place.Place.{Place}
-use Rattle.ffv1_splice.proofs.Versions.{weave_size}
+use Rattle.ffv1_splice.proofs.FirstSlices.{woven_below, woven_size}
 use Rattle.ffv1_splice.proofs.PlaceSteps.{AllReach, cut_below, told_below, piece_size, gap_size, least_size}
 
 -- What stands before an end. Where no place ends, it is one front that can't be divided; else the place that ends there, and what stands
@@ -50,18 +50,19 @@ slice-take bytes count start end e c =
 
 pub stands_below : (copies : List (List ℕ)) (start end : ℕ) (bytes : List ℕ) (standing : Standing) → StandsAs copies start end bytes standing → start + 8 ≤ end
 stands_below copies start end bytes Settled h = cut_below h.there.copy start end h.there.cut
-stands_below copies start end bytes (Woven count) h = told_below copies start end h.told.there
+stands_below copies start end bytes (Woven count) h = woven_below copies start end bytes count h
 stands_below copies start end bytes Disputed h = told_below copies start end h.1.told.there
 stands_below copies start end bytes Missing h = told_below copies start end h.1.told.there
 stands_below copies start end bytes Undivided h = absurd h
 
-pub stands_size : (copies : List (List ℕ)) (start end : ℕ) (bytes : List ℕ) (standing : Standing) → AllReach copies end
-    → StandsAs copies start end bytes standing → start + length bytes ≡ end
-stands_size copies start end bytes Settled reach h = piece_size copies end (record { start = start; bytes = bytes }) reach h.there
-stands_size copies start end bytes (Woven count) reach h = weave_size copies start end bytes count reach h
-stands_size copies start end bytes Disputed reach h = gap_size copies start end bytes reach h.1
-stands_size copies start end bytes Missing reach h = gap_size copies start end bytes reach h.1
-stands_size copies start end bytes Undivided reach h = absurd h
+module _ (copies : List (List ℕ)) (copy : List ℕ) (there : Contains copies copy) where
+  pub stands_size : (start end : ℕ) (bytes : List ℕ) (standing : Standing) → AllReach copies end → StandsAs copies start end bytes standing
+      → start + length bytes ≡ end
+  stands_size start end bytes Settled reach h = piece_size copies end (record { start = start; bytes = bytes }) reach h.there
+  stands_size start end bytes (Woven count) reach h = woven_size copies start end bytes count copy there reach h
+  stands_size start end bytes Disputed reach h = gap_size copies start end bytes reach h.1
+  stands_size start end bytes Missing reach h = gap_size copies start end bytes reach h.1
+  stands_size start end bytes Undivided reach h = absurd h
 
 pub reach_less : (copies : List (List ℕ)) (end start : ℕ) → start ≤ end → AllReach copies end → AllReach copies start
 reach_less copies end start below reach copy there = let far = reach copy there in omega arith
@@ -103,6 +104,12 @@ module _ (copies : List (List ℕ)) where
       let place : Place = get_or places k d in
       let below = stands_below copies place.start place.end (slice_range payload place.start place.end) place.standing (stand k d lt) in omega arith
 
+  -- some copy has what can't be divided
+  copy_before : (end : ℕ) (places : List Place) (front : ℕ) (payload : List ℕ) → IsSpliceBefore copies end places front payload
+      → (copy : List ℕ) × Contains copies copy
+  copy_before end places front payload (stops stop least) = (least.copy, least.there)
+  copy_before end places front payload (goes {start = start} {places = more} {before = before} bytes stands h) = copy_before start more front before h
+
   -- the same bytes stand alike
   stands_alike : (a b : List ℕ) (place : Place) → slice_range a place.start place.end ≡ slice_range b place.start place.end
       → StandsAs copies place.start place.end (slice_range b place.start place.end) place.standing
@@ -122,7 +129,8 @@ module _ (copies : List (List ℕ)) where
       }
   told_before end places front payload reach (goes {start = start} {standing = standing} {places = more} {before = before} bytes stands h) =
       let below = stands_below copies start end bytes standing stands in
-      let long = stands_size copies start end bytes standing reach stands in
+      let copy = copy_before start more front before h in
+      let long = stands_size copies copy.0 copy.1 start end bytes standing reach stands in
       let rest = told_before start more front before (reach_less copies end start (omega arith) reach) h in
       let size = rest.size in
       let up = all_upright before more rest.stand in

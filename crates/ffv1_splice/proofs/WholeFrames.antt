@@ -1,5 +1,5 @@
 -- A frame that is given back: its chain is whole, and each of its links passes its parity.
-use Rattle.std.proofs.Common.{◌≡◌, ℕ, ◌+◌, ◌≤◌, List, [], ◌∷◌, length, get_or, sym, ◌∙◌, subst, arith}
+use Rattle.std.proofs.Common.{◌≡◌, ℕ, ◌+◌, ◌≤◌, List, [], ◌∷◌, length, get_or, sym, ◌∙◌, subst, arith, inl, inr}
 use Rattle.std.specs.Prelude.{All, slice_range}
 use Rattle.std.proofs.lemmas.List.Elements.{All-head, All-tail}
 use Rattle.ffv1_bits.specs.Parity.{PassesParity}
@@ -120,9 +120,18 @@ module _ (copies : List (List ℕ)) (spliced : SplicedValue) (is : IsSpliceOf co
       let inside = end_within copies spliced is in
       slice_of_piece copies (is.start + end) (record { start = is.start + start; bytes = bytes }) (reach_to (is.start + end) (omega arith))
       (piece_out is.start is.end copies end (record { start = start; bytes = bytes }) within stands.there)
-  hole_slice start end bytes (Woven count) within stands right =
+  hole_slice start end bytes (Woven count) within (inl stands) right =
       let valid = stands.weave'.0.there in
       let content : HasContent start end = stands.told.there.content in
+      record { content = omega arith; framed = valid.passes.0; passes = valid.passes.1 }
+  hole_slice start end bytes (Woven count) within (inr (inr stands)) right =
+      let valid = stands.weave'.0.there in
+      let content : HasContent start end = stands.told.content in
+      record { content = omega arith; framed = valid.passes.0; passes = valid.passes.1 }
+  hole_slice start end bytes (Woven count) within (inr (inl stands)) right =
+      let valid = stands.1.weave'.0.there in
+      let content : HasContent 0 end = stands.1.content in
+      let first : start ≡ 0 = stands.0 in
       record { content = omega arith; framed = valid.passes.0; passes = valid.passes.1 }
   hole_slice start end bytes Disputed within stands right = absurd right
   hole_slice start end bytes Missing within stands right = absurd right

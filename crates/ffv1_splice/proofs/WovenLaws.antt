@@ -1,30 +1,37 @@
 -- What is woven of copies of an original.
-use Rattle.std.proofs.Common.{◌≡◌, ℕ, ◌+◌, ◌<◌, ◌≤◌, List, length, get_or, refl, sym, ◌∙◌, subst, arith, inl, inr}
-use Rattle.std.specs.Prelude.{All, slice_range}
+use Rattle.std.proofs.Common.{◌≡◌, ℕ, ◌+◌, ◌<◌, ◌≤◌, List, length, get_or, map, refl, sym, ◌∙◌, subst, arith, inl, inr}
+use Rattle.std.specs.Prelude.{All, Contains, slice_range}
 use Rattle.std.proofs.lemmas.List.Elements.{All-contains, All-weaker}
-use Rattle.ffv1_bits.specs.Parity.{PassesParity}
+use Rattle.std.proofs.lemmas.Bool.{cases_eq}
+use Rattle.ffv1_bits.specs.Parity.{AreBytes, PassesParity}
 use Rattle.ffv1_slice.specs.Chain.{IsCut, IsEnd, IsLinkOf, IsFramed}
 use Rattle.ffv1_slice.specs.Chain.IsEnd.{last}
 use Rattle.ffv1_slice.specs.Members.{IsOnly}
 use Rattle.ffv1_slice.proofs.NearLaws.{length-range, size_of_range}
 use Rattle.ffv1_weave.specs.Combinations.{IsCombination}
-use Rattle.ffv1_weave.specs.Weave.{AreMany}
-use Rattle.ffv1_splice.specs.Pieces.{IsToldStart}
-use Rattle.ffv1_splice.specs.Standings.{versions_at, StandsAs}
+use Rattle.ffv1_weave.specs.Weave.{IsWeaveOf, AreMany}
+use Rattle.ffv1_weave.specs.Weave.Weave.{woven as weave_woven, missing as weave_missing}
+use Rattle.ffv1_weave.specs.declared.check.Check.TheVariants.{Slice}
+use Rattle.ffv1_weave.proofs.Coarsest.{original_is_woven}
+use Rattle.ffv1_splice.specs.Pieces.{HasContent, IsToldStart}
+use Rattle.ffv1_splice.specs.Standings.{versions_at, sized, IsWeaveOfSeveral, StandsAs}
 use Rattle.ffv1_splice.specs.Splice.{SplicedValue, IsSettledDown, IsSettledUp, IsDivisionOf, IsSpliceOf, undivided_places, IsSettledOrWoven, IsGivenBack}
 use Rattle.ffv1_splice.specs.Originals.{AreCopiesOf, IsAmong}
-use Rattle.ffv1_splice.specs.Laws.{IsItsLink, KeepsLink, WovenIsOriginal, GivenBackIsOriginal}
+use Rattle.ffv1_splice.specs.Laws.{IsItsLink, KeepsLink, WovenIsOriginal, SizedIsOriginal, GivenBackIsOriginal}
 use Rattle.ffv1_splice.specs.declared.place.Standing.{Standing}
 use Rattle.ffv1_splice.specs.declared.place.Standing.TheVariants.{Settled, Woven, Disputed, Missing, Undivided}
 use Rattle.ffv1_splice.specs.declared.place.Place.{Place}
 use Rattle.ffv1_splice.proofs.DividedLinks.{end_within, link_at, AreLinkPlaces, link_places, settled_link, same_payload}
-use Rattle.ffv1_splice.proofs.Narrowed.{versions_of_versions}
+use Rattle.ffv1_splice.proofs.FirstSlices.{combination_told}
+use Rattle.ffv1_splice.proofs.Narrowed.{versions_of_versions, told_out}
+use Rattle.ffv1_splice.proofs.PlaceSteps.{AllReach, told_below}
+use Rattle.ffv1_splice.proofs.SizedCombinations.{sized_combination}
 use Rattle.ffv1_splice.proofs.NarrowedOriginal.{AreWeavableDown, copies_narrowed, weavable_narrowed}
 use Rattle.ffv1_splice.proofs.Walks.{IsSpliceBefore, division_walk, stands_below}
 use Rattle.ffv1_splice.proofs.PlaceLists.{all_stand_undivided}
 use Rattle.ffv1_splice.proofs.SplicePlaces.{IsPlaceOf, place_of, start_within}
 use Rattle.ffv1_splice.proofs.SplicePlaces.IsPlaceOf.{above, of_hole, undivided, below}
-use Rattle.ffv1_splice.proofs.StandingPlaces.{hole_within, hole_stands, hole_given_back}
+use Rattle.ffv1_splice.proofs.StandingPlaces.{hole_within, hole_reach, hole_stands, hole_given_back}
 use Rattle.ffv1_splice.proofs.SameBytes.{IsSameAt, same_by_parts}
 use Rattle.ffv1_splice.proofs.OriginalLaws.{as_long, above_links, below_links, joined_links}
 
@@ -39,15 +46,28 @@ framed_link original start end link =
 
 -- ---- a slice that is among the combinations
 
+-- what is woven of versions among whose combinations it is
+slice_of_weave : (slice : List ℕ) → IsFramed slice → PassesParity slice → (versions : List (List ℕ)) (bytes : List ℕ) (count : ℕ)
+    → IsCombination versions slice → IsWeaveOf Slice versions (weave_woven bytes count) → bytes ≡ slice
+slice_of_weave slice framed passes versions bytes count among h = original_is_woven Slice slice versions (weave_woven bytes count) (framed, passes) among h
+
 module _ (copies : List (List ℕ)) (start end : ℕ) (slice : List ℕ) (framed : IsFramed slice) (passes : PassesParity slice)
     (among : IsCombination (versions_at copies start end) slice) where
-  -- what is woven is the slice
-  pub woven_slice : (bytes : List ℕ) (standing : Standing) (count : ℕ) → standing ≡ Woven count → StandsAs copies start end bytes standing → bytes ≡ slice
-  woven_slice bytes Settled count is h = absurd (cc)
-  woven_slice bytes (Woven n) count is h = sym (h.weave'.0.others slice (record { combination = among; passes = (framed, passes) }))
-  woven_slice bytes Disputed count is h = absurd (cc)
-  woven_slice bytes Missing count is h = absurd (cc)
-  woven_slice bytes Undivided count is h = absurd (cc)
+  -- What is woven is the slice. Its start is told: some copy has its size field.
+  pub woven_slice : (copy bytes : List ℕ) (standing : Standing) (count : ℕ) → AllReach copies end → Contains copies copy → standing ≡ Woven count
+      → StandsAs copies start end bytes standing → bytes ≡ slice
+  woven_slice copy bytes Settled count reach there is h = absurd (cc)
+  woven_slice copy bytes (Woven n) count reach there is (inl h) = slice_of_weave slice framed passes (versions_at copies start end) bytes n among h.weave'
+  woven_slice copy bytes (Woven n) count reach there is (inr (inr h)) =
+      let below = told_below copies start end h.told in
+      slice_of_weave slice framed passes (map sized (versions_at copies start end)) bytes (get_or h.tried start 0)
+      (sized_combination copies start end copy slice reach there below h.are_bytes framed among) h.weave'
+  woven_slice copy bytes (Woven n) count reach there is (inr (inl h)) =
+      absurd (h.1.untold 0 (combination_told copies end copy slice reach there h.1.content framed
+      (subst (λ s. IsCombination (versions_at copies s end) slice) h.0 among)))
+  woven_slice copy bytes Disputed count reach there is h = absurd (cc)
+  woven_slice copy bytes Missing count reach there is h = absurd (cc)
+  woven_slice copy bytes Undivided count reach there is h = absurd (cc)
 
   -- it is missing only where there are too many combinations
   pub missing_slice : (bytes : List ℕ) (standing : Standing) → standing ≡ Missing → StandsAs copies start end bytes standing
@@ -57,10 +77,24 @@ module _ (copies : List (List ℕ)) (start end : ℕ) (slice : List ℕ) (framed
   missing_slice bytes Disputed is h = absurd (cc)
   missing_slice bytes Missing is h =
       elim h.0 [
-        | inl w ↦ absurd (w.weave'.0 slice (record { combination = among; passes = (framed, passes) }))
+        | inl w ↦ absurd (original_is_woven Slice slice (versions_at copies start end) (weave_missing w.0) (framed, passes) among w.1.weave')
         | inr w ↦ w.weave'
       ]
   missing_slice bytes Undivided is h = absurd (cc)
+
+-- Where its start is told by no copy, and it is a combination of the versions with their size, what is woven is the slice.
+sized_slice : (copies : List (List ℕ)) (start end : ℕ) (slice : List ℕ) → IsFramed slice → PassesParity slice → (IsToldStart copies end start → ⊥)
+    → IsCombination (map sized (versions_at copies start end)) slice → (bytes : List ℕ) (standing : Standing) (count : ℕ) → standing ≡ Woven count
+    → StandsAs copies start end bytes standing → bytes ≡ slice
+sized_slice copies start end slice framed passes untold among bytes Settled count is h = absurd (cc)
+sized_slice copies start end slice framed passes untold among bytes (Woven n) count is (inl h) = absurd (untold h.told.there)
+sized_slice copies start end slice framed passes untold among bytes (Woven n) count is (inr (inr h)) = absurd (untold h.told)
+sized_slice copies start end slice framed passes untold among bytes (Woven n) count is (inr (inl h)) =
+    slice_of_weave slice framed passes (map sized (versions_at copies 0 end)) bytes n
+    (subst (λ s. IsCombination (map sized (versions_at copies s end)) slice) h.0 among) h.1.weave'
+sized_slice copies start end slice framed passes untold among bytes Disputed count is h = absurd (cc)
+sized_slice copies start end slice framed passes untold among bytes Missing count is h = absurd (cc)
+sized_slice copies start end slice framed passes untold among bytes Undivided count is h = absurd (cc)
 
 -- ---- what is woven in a splice
 
@@ -87,7 +121,8 @@ module _ (original : List ℕ) (copies : List (List ℕ)) (spliced : SplicedValu
       let framed = framed_link original (is.start + hole.start) (is.start + hole.end) link in
       let all : IsCombination (versions_at versions hole.start hole.end) slice = subst (λ vs. IsCombination vs slice) (sym same) among in
       record {
-        woven = λ count woven. woven_slice versions hole.start hole.end slice framed passes all bytes hole.standing count woven stands;
+        woven = λ count woven. woven_slice versions hole.start hole.end slice framed passes all is.divided.before.copy bytes hole.standing count
+            (hole_reach copies spliced is hole.end within) is.divided.before.there woven stands;
         missing = λ missing. subst AreMany same (missing_slice versions hole.start hole.end slice framed passes all bytes hole.standing missing stands);
       }
   keeps_link place (undivided there) link passes among =
@@ -95,6 +130,36 @@ module _ (original : List ℕ) (copies : List (List ℕ)) (spliced : SplicedValu
       (all_stand_undivided is.start is.hole.front) there)
   keeps_link place (below there) link passes among =
       keeps_settled place (All-contains (IsSettledUp copies is.bound spliced.payload) is.below place is.up.settled there).standing
+
+  sized_link : (place : Place) (count : ℕ) → IsPlaceOf copies spliced is place → IsLinkOf original place.start place.end
+      → (IsToldStart copies place.end place.start → ⊥) → PassesParity (slice_range original place.start place.end)
+      → IsCombination (map sized (versions_at copies place.start place.end)) (slice_range original place.start place.end) → place.standing ≡ Woven count
+      → slice_range spliced.payload place.start place.end ≡ slice_range original place.start place.end
+  sized_link place count (above there) link untold passes among as_woven =
+      let settled = All-contains (IsSettledDown copies spliced.payload) is.above place is.down.settled there in
+      (keeps_settled place settled.standing).woven count as_woven
+  sized_link place count (of_hole hole there) link untold passes among as_woven =
+      let bytes : List ℕ = slice_range spliced.payload (is.start + hole.start) (is.start + hole.end) in
+      let slice : List ℕ = slice_range original (is.start + hole.start) (is.start + hole.end) in
+      let versions : List (List ℕ) = versions_at copies is.start is.end in
+      let stands : StandsAs versions hole.start hole.end bytes hole.standing =
+      All-contains (λ place. StandsAs versions place.start place.end (slice_range spliced.payload (is.start + place.start) (is.start + place.end))
+      place.standing) is.hole.places hole (hole_stands copies spliced is) there in
+      let within = All-contains (λ place. is.start + place.end ≤ is.end) is.hole.places hole (hole_within copies spliced is) there in
+      let same = versions_of_versions is.start is.end copies hole.start hole.end within in
+      sized_slice versions hole.start hole.end slice (framed_link original (is.start + hole.start) (is.start + hole.end) link) passes
+      (λ told. untold (told_out is.start is.end copies hole.end hole.start within told))
+      (subst (λ vs. IsCombination (map sized vs) slice) (sym same) among) bytes hole.standing count as_woven stands
+  sized_link place count (undivided there) link untold passes among as_woven =
+      let stands = All-contains (λ place. place.standing ≡ Undivided) (undivided_places is.start is.hole.front) place
+      (all_stand_undivided is.start is.hole.front) there in
+      (keeps_undivided place stands).woven count as_woven
+  sized_link place count (below there) link untold passes among as_woven =
+      let settled = All-contains (IsSettledUp copies is.bound spliced.payload) is.below place is.up.settled there in
+      (keeps_settled place settled.standing).woven count as_woven
+
+pub sized_is_original : SizedIsOriginal
+sized_is_original original copies spliced place count is there = sized_link original copies spliced is place count (place_of copies spliced is place there)
 
 pub woven_is_original : WovenIsOriginal
 woven_is_original original copies spliced place is there = keeps_link original copies spliced is place (place_of copies spliced is place there)
@@ -109,10 +174,38 @@ module _ (original : List ℕ) (copies : List (List ℕ)) (spliced : SplicedValu
       let at = link_at original of.whole end is_end after in
       subst (λ s. IsCut original s end) (only.others at.0 (weavable.told at.0 end (record { is_end = is_end; cut = at.1 }))) at.1
 
+  -- a link's slice is a combination of what the copies have there with its size
+  among_sized : (start end : ℕ) → IsLinkOf original start end → ((copy : List ℕ) → Contains copies copy → AreBytes copy)
+      → IsCombination (map sized (versions_at copies start end)) (slice_range original start end)
+  among_sized start end link are_bytes =
+      let told = weavable.told start end link in
+      let within = end_within original end link.is_end in
+      sized_combination copies start end told.copy (slice_range original start end) (λ copy there. omega (arith, of.one_length copy there)) told.there
+      (told_below copies start end told) are_bytes (framed_link original start end link) (weavable.among start end link)
+
+  -- of several starts the one that gives a slice is the link's, since something comes of that
+  several_cut : (start end : ℕ) (bytes : List ℕ) (count : ℕ) → IsEnd original end → IsWeaveOfSeveral copies start end bytes count → IsCut original start end
+  several_cut start end bytes count is_end h =
+      let below = told_below copies start end h.told in
+      let at = link_at original of.whole end is_end (omega arith) in
+      let link : IsLinkOf original at.0 end = record { is_end = is_end; cut = at.1 } in
+      elim (cases_eq at.0 start) [
+        | inl same ↦ subst (λ s. IsCut original s end) same at.1
+        | inr apart ↦
+            absurd (original_is_woven Slice (slice_range original at.0 end) (map sized (versions_at copies at.0 end)) (weave_missing (get_or h.tried at.0 0))
+            (framed_link original at.0 end link, weavable.passes at.0 end link) (among_sized at.0 end link h.are_bytes)
+            (h.others at.0 (weavable.told at.0 end link) apart))
+      ]
+
   cuts : (start end : ℕ) (bytes : List ℕ) (standing : Standing) → IsEnd original end → StandsAs copies start end bytes standing → IsCut original start end
   cuts start end bytes Settled is_end h = (weavable.agree end (record { start = start; bytes = bytes }) is_end h.there).0.cut
-  cuts start end bytes (Woven count) is_end h =
-      let below = stands_below copies start end bytes (Woven count) h in told_cut start end is_end (omega arith) h.told
+  cuts start end bytes (Woven count) is_end (inl h) =
+      let below = told_below copies start end h.told.there in told_cut start end is_end (omega arith) h.told
+  cuts start end bytes (Woven count) is_end (inr (inl h)) =
+      let content : HasContent 0 end = h.1.content in
+      let at = link_at original of.whole end is_end (omega arith) in
+      absurd (h.1.untold at.0 (weavable.told at.0 end (record { is_end = is_end; cut = at.1 })))
+  cuts start end bytes (Woven count) is_end (inr (inr h)) = several_cut start end bytes count is_end h
   cuts start end bytes Disputed is_end h =
       let below = stands_below copies start end bytes Disputed h in told_cut start end is_end (omega arith) h.1.told
   cuts start end bytes Missing is_end h =
@@ -132,9 +225,13 @@ module _ (original : List ℕ) (copies : List (List ℕ)) (spliced : SplicedValu
   has_link : (start end : ℕ) (bytes : List ℕ) (standing : Standing) → IsLinkOf original start end → IsSettledOrWoven standing
       → StandsAs copies start end bytes standing → bytes ≡ slice_range original start end
   has_link start end bytes Settled link right h = (settled_link original copies weavable.agree start end bytes Settled link.is_end refl h).1
-  has_link start end bytes (Woven count) link right h =
-      woven_slice copies start end (slice_range original start end) (framed_link original start end link) (weavable.passes start end link)
-      (weavable.among start end link) bytes (Woven count) count refl h
+  has_link start end bytes (Woven count) link right (inl h) =
+      slice_of_weave (slice_range original start end) (framed_link original start end link) (weavable.passes start end link)
+      (versions_at copies start end) bytes count (weavable.among start end link) h.weave'
+  has_link start end bytes (Woven count) link right (inr (inl h)) = absurd (h.1.untold start (weavable.told start end link))
+  has_link start end bytes (Woven count) link right (inr (inr h)) =
+      slice_of_weave (slice_range original start end) (framed_link original start end link) (weavable.passes start end link)
+      (map sized (versions_at copies start end)) bytes (get_or h.tried start 0) (among_sized start end link h.are_bytes) h.weave'
   has_link start end bytes Disputed link right h = absurd right
   has_link start end bytes Missing link right h = absurd right
   has_link start end bytes Undivided link right h = absurd right

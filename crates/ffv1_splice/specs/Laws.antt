@@ -4,8 +4,10 @@ use Rattle.ffv1_slice.specs.Chain.{IsEnd, IsLinkOf, piece_of}
 use Rattle.ffv1_slice.specs.Walk.{links_of}
 use Rattle.ffv1_slice.specs.Members.{HasSameMembers}
 use Rattle.ffv1_bits.specs.Parity.{PassesParity}
+use Rattle.ffv1_weave.specs.Combinations.{IsCombination}
 use Rattle.ffv1_weave.specs.Weave.{AreMany}
-use Rattle.ffv1_splice.specs.Standings.{versions_at}
+use Rattle.ffv1_splice.specs.Pieces.{IsToldStart}
+use Rattle.ffv1_splice.specs.Standings.{versions_at, sized}
 use Rattle.ffv1_splice.specs.Splice.{SplicedValue, IsSpliceOf, IsGivenBack}
 use Rattle.ffv1_splice.specs.Originals.{AreCopiesOf, AgreeWith, AgreeFromBelow, HaveEachLink, IsAmong, AreWeavable, AreNearCopies, IsIntactInSome}
 use Rattle.ffv1_splice.specs.declared.place.Standing.TheVariants.{Settled, Woven, Missing}
@@ -69,6 +71,16 @@ WovenIsOriginal =
     (original : List ℕ) (copies : List (List ℕ)) (spliced : SplicedValue) (place : Place) → IsSpliceOf copies spliced → Contains spliced.places place
     → IsLinkOf original place.start place.end → PassesParity (slice_range original place.start place.end)
     → IsAmong original copies place.start place.end → KeepsLink original copies spliced place
+
+-- Where no copy tells the start of that link, so it is woven from the front of the hole: what is woven is the original's slice, if that
+-- passes its parity and is among the combinations of what the copies have there, each with the size of a slice that is as long.
+abbrev pub SizedIsOriginal : Type 0
+SizedIsOriginal =
+    (original : List ℕ) (copies : List (List ℕ)) (spliced : SplicedValue) (place : Place) (count : ℕ) → IsSpliceOf copies spliced
+    → Contains spliced.places place → IsLinkOf original place.start place.end → (IsToldStart copies place.end place.start → ⊥)
+    → PassesParity (slice_range original place.start place.end)
+    → IsCombination (map sized (versions_at copies place.start place.end)) (slice_range original place.start place.end) → place.standing ≡ Woven count
+    → slice_range spliced.payload place.start place.end ≡ slice_range original place.start place.end
 
 -- Where the copies are weavable, a frame that is given back is the original, and its places are the original's links.
 abbrev pub GivenBackIsOriginal : Type 0

@@ -1,6 +1,7 @@
 pub mod Pieces
 pub mod Standings
 pub mod Placing
+pub mod Several
 pub mod Splice
 pub mod Told
 pub mod Faults

@@ -1,11 +1,13 @@
 -- How a place of the spliced frame stands.
-use Rattle.std.specs.Prelude.{ℕ, ◌⊎◌, List, map, slice_range}
+use Rattle.std.specs.Prelude.{ℕ, ◌-◌, ◌<◌, ◌^◌, ◌≡◌, ◌⊎◌, List, ◌++◌, Contains, length, map, take, drop, min, slice_index, slice_range, sum}
+use Rattle.byteorder.specs.Endian.{big_bytes}
+use Rattle.ffv1_bits.specs.Parity.{AreBytes}
 use Rattle.ffv1_slice.specs.Chain.{Piece}
 use Rattle.ffv1_slice.specs.Members.{IsOnly, IsOfTwo, IsOfNone}
 use Rattle.ffv1_weave.specs.Weave.{Weave, IsWeaveOf}
 use Rattle.ffv1_weave.specs.Weave.Weave.{woven, disputed, missing, too_many}
 use Rattle.ffv1_weave.specs.declared.check.Check.TheVariants.{Slice}
-use Rattle.ffv1_splice.specs.Pieces.{IsPiece, IsToldStart, IsLeast}
+use Rattle.ffv1_splice.specs.Pieces.{HasContent, IsPiece, IsToldStart, IsLeast}
 use Rattle.ffv1_splice.specs.declared.place.Standing.{Standing}
 use Rattle.ffv1_splice.specs.declared.place.Standing.TheVariants.{Settled, Woven, Disputed, Missing, Undivided}
 
@@ -20,24 +22,60 @@ pub record IsWeaveAt (copies : List (List ℕ)) (start end : ℕ) (weave : Weave
   pub told : IsOnly (IsToldStart copies end) start
   pub weave' : IsWeaveOf Slice (versions_at copies start end) weave
 
+-- The bytes with the size field of a slice that is as long as they are: three bytes, the highest first, eight before the end (RFC 9043,
+-- section 4.9.1).
+abbrev pub sized : List ℕ → List ℕ
+sized bytes = take (length bytes - 8) bytes ++ (big_bytes 3 (length bytes - 8) ++ drop (length bytes - 5) bytes)
+
+-- No piece ends there, and no footer there tells a start. But the copies begin with a slice, so its size is known, where a size field has
+-- room for it: this is the weave of what they have up to there, each with that size.
+pub record IsWeaveFromFront (copies : List (List ℕ)) (end : ℕ) (weave : Weave) : Type 0 where
+  pub none : IsOfNone (IsPiece copies end)
+  pub untold : IsOfNone (IsToldStart copies end)
+  pub content : HasContent 0 end
+  pub short : end - 8 < 2 ^ 24
+  pub weave' : IsWeaveOf Slice (map sized (versions_at copies 0 end)) weave
+
+-- No piece ends there, and the footers there tell several starts. From each of them what the copies have is woven, each with the size of a
+-- slice that is as long: from this one come these bytes, and nothing comes from any other. The list has how many combinations were tried
+-- from each place before the end, 0 where no footer tells it, and the count is their sum, or 2^64 - 1 where that is greater. The copies are
+-- of bytes, as all that the code reads, so that a size has one spelling.
+pub record IsWeaveOfSeveral (copies : List (List ℕ)) (start end : ℕ) (bytes : List ℕ) (count : ℕ) : Type 0 where
+  pub are_bytes : (copy : List ℕ) → Contains copies copy → AreBytes copy
+  pub none : IsOfNone (IsPiece copies end)
+  pub several : IsOfTwo (IsToldStart copies end)
+  pub told : IsToldStart copies end start
+  pub tried : List ℕ
+  pub places : length tried ≡ end
+  pub weave' : IsWeaveOf Slice (map sized (versions_at copies start end)) (woven bytes (slice_index tried start))
+  pub others : (other : ℕ) → IsToldStart copies end other → (other ≡ start → ⊥)
+      → IsWeaveOf Slice (map sized (versions_at copies other end)) (missing (slice_index tried other))
+  pub untold : (other : ℕ) → (IsToldStart copies end other → ⊥) → slice_index tried other ≡ 0
+  pub counted : count ≡ min (sum tried) (2 ^ 64 - 1)
+
 -- A gap: the copies whose footer there tells a start, of which there is one, all tell the same, and the least of all copies'
 -- bytes stand there.
 pub record IsGap (copies : List (List ℕ)) (start end : ℕ) (bytes : List ℕ) : Type 0 where
   pub told : IsOnly (IsToldStart copies end) start
   pub least : IsLeast copies start end bytes
 
--- Settled: the only piece that ends there. Where no piece does, the copies' versions are woven. Disputed: two pieces that differ end
--- there, or two combinations of versions are a slice; missing: no piece and no combination is one, or there are too many to be tried.
+-- Settled: the only piece that ends there. Where no piece does, the copies' versions are woven, from the start that is told, or from the one
+-- of several that gives a slice, or else from the front. Disputed: two pieces that differ end there, or two combinations of versions are a
+-- slice; missing: no piece and no combination is one, or there are too many to be tried.
 abbrev pub StandsAs : List (List ℕ) → (start end : ℕ) → List ℕ → Standing → Type 0
 StandsAs copies start end bytes Settled = IsOnly (IsPiece copies end) (record { start = start; bytes = bytes })
-StandsAs copies start end bytes (Woven count) = IsWeaveAt copies start end (woven bytes count)
+StandsAs copies start end bytes (Woven count) =
+    IsWeaveAt copies start end (woven bytes count) ⊎ ((start ≡ 0) × IsWeaveFromFront copies end (woven bytes count))
+    ⊎ IsWeaveOfSeveral copies start end bytes count
 StandsAs copies start end bytes Disputed =
     (IsOfTwo (IsPiece copies end) ⊎ IsWeaveAt copies start end disputed) × IsGap copies start end bytes
 StandsAs copies start end bytes Missing =
-    (IsWeaveAt copies start end missing ⊎ IsWeaveAt copies start end too_many) × IsGap copies start end bytes
+    (((count : ℕ) × IsWeaveAt copies start end (missing count)) ⊎ IsWeaveAt copies start end too_many) × IsGap copies start end bytes
 StandsAs copies start end bytes Undivided = ⊥
 
--- No place ends there: no piece is the only one, and no start is told alone.
+-- No place ends there: no piece is the only one, no start is told alone, and nothing is woven from the front or from several starts.
 pub record IsStop (copies : List (List ℕ)) (end : ℕ) : Type 0 where
   pub unsettled : (piece : Piece) → IsOnly (IsPiece copies end) piece → ⊥
   pub untold : (start : ℕ) → IsOnly (IsToldStart copies end) start → ⊥
+  pub unclaimed : (bytes : List ℕ) (count : ℕ) → IsWeaveFromFront copies end (woven bytes count) → ⊥
+  pub unwoven : (start : ℕ) (bytes : List ℕ) (count : ℕ) → IsWeaveOfSeveral copies start end bytes count → ⊥

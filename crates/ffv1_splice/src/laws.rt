@@ -1,6 +1,6 @@
 //! Laws of the splice, whatever it is made by.
 ghost use Rattle.ffv1_splice.specs.Whole.{GivenBackIsWhole};
-ghost use Rattle.ffv1_splice.specs.Laws.{SameCopiesSplice, OriginalIsSpliced, SettledIsOriginal, SettledWalksAreOriginal, WovenIsOriginal, GivenBackIsOriginal, NearCopiesSplice};
+ghost use Rattle.ffv1_splice.specs.Laws.{SameCopiesSplice, OriginalIsSpliced, SettledIsOriginal, SettledWalksAreOriginal, WovenIsOriginal, SizedIsOriginal, GivenBackIsOriginal, NearCopiesSplice};
 
 /// However the same copies are ordered or repeated, they have one splice.
 pub fn same_copies_splice()
@@ -29,6 +29,12 @@ pub fn settled_walks_are_original()
 /// copies have there: what is woven is the original's slice, and it is missing only where there are too many combinations.
 pub fn woven_is_original()
     ensures { WovenIsOriginal }
+{}
+
+/// At a place that is a slice of an original whose start no copy tells, where the original's slice passes its parity and is among the
+/// combinations of what the copies have there, each with the size of a slice that is as long: what is woven is the original's slice.
+pub fn sized_is_original()
+    ensures { SizedIsOriginal }
 {}
 
 /// Where no slice that passes its parity tells other than an original, the start of each of its slices is told by some copy, and each is

@@ -6,7 +6,9 @@ ghost use Rattle.ffv1_splice.specs.Standings.{versions_at};
 ghost use Rattle.ffv1_splice.specs.Placing.{written, IsPlaced, IsPlacedOrStop};
 ghost use Rattle.ffv1_splice.specs.Told.{Tells, starts_told};
 
+use crate::first::first_before;
 use crate::place::{Place, Standing};
+use crate::several::several_before;
 use crate::told::{Pieces, Starts, least_at, told_at};
 use ffv1_weave::{Check, Outcome, weave};
 use std::alloc::{AllocError, Global};
@@ -65,7 +67,8 @@ fn disputed_before(
     })
 }
 
-/// The place that ends there, where no piece does.
+/// The place that ends there, where no piece does. Where no start is told there either, it is the first slice, or there is none; where
+/// several are, it begins at one of them, or there is none.
 fn woven_before(
     alloc: Global,
     copies: &[&[u8]],
@@ -80,8 +83,10 @@ fn woven_before(
     requires told { Tells (IsToldStart (map (λ copy. copy.now) copies.now) end) (starts_told starts) }
     ensures { IfOk result (IsPlacedOrStop (map (λ copy. copy.now) copies.now) end payload.old payload.new) }
 {
-    let Starts::One(start) = starts else {
-        return Ok(None);
+    let start = match starts {
+        Starts::One(start) => start,
+        Starts::None => return first_before(alloc, copies, end, payload),
+        Starts::Two => return several_before(alloc, copies, end, payload),
     };
     let standing = weave_at(alloc, copies, start, end, payload)?;
     Ok(Some(Place {
@@ -114,7 +119,7 @@ fn weave_at(
             return Ok(Standing::Woven(count));
         }
         Outcome::Disputed => Standing::Disputed,
-        Outcome::Missing | Outcome::TooMany => Standing::Missing,
+        Outcome::Missing(_) | Outcome::TooMany => Standing::Missing,
     };
     write_at(payload, start, least_at(copies, start, end));
     Ok(standing)

@@ -7,16 +7,46 @@ use ffv1_bits::{SLICE_LIMIT, remainder_after};
 use ffv1_slice::{FOOTER_LENGTH, slice_start};
 
 /// The bytes of a shortest slice from a place: those of the first copy that has one. It ends at the bound or before it, and each copy has
-/// the bound. No copy is read past the end that was found so far.
+/// the bound. All copies are searched up to a distance from the place before any is searched up to twice that distance. So of each copy
+/// fewer ends are looked at than twice the bytes of the slice, and fewer bytes are divided than four times those, whichever copy has it.
+/// Where there is none, each end is looked at once in each copy, up to the bound or the most bytes that a slice can have, and fewer bytes
+/// are divided than three times those.
 pub(crate) fn first_from<'a>(copies: &[&'a [u8]], start: usize, bound: usize) -> Option<&'a [u8]>
     requires { All (λ copy. bound ≤ length copy.now) copies.now }
+    ensures { MatchOption result (IsOfNone (IsPieceFrom (map (λ copy. copy.now) copies.now) bound start))
+        (λ bytes. IsShortest (map (λ copy. copy.now) copies.now) bound start (record { end = start + length bytes.now; bytes = bytes.now })) }
+{
+    let reach = bound.saturating_sub(start);
+    let mut distance = FOOTER_LENGTH;
+    while distance < reach {
+        let further = distance + distance.min(reach - distance);
+        if let Some(bytes) = first_between(copies, start, start + distance, start + further) {
+            return Some(bytes);
+        }
+        distance = further;
+    }
+    None
+}
+
+/// The same where no slice from the place ends at `from` or before it. Of each copy an end after `from` is looked at once at most, and
+/// none past the end that was found so far.
+fn first_between<'a>(
+    copies: &[&'a [u8]],
+    start: usize,
+    from: usize,
+    bound: usize,
+) -> Option<&'a [u8]>
+    requires room { All (λ copy. bound ≤ length copy.now) copies.now }
+    requires none { IsOfNone (IsPieceFrom (map (λ copy. copy.now) copies.now) from start) }
+    requires content { start + 8 ≤ from }
+    requires order { from ≤ bound }
     ensures { MatchOption result (IsOfNone (IsPieceFrom (map (λ copy. copy.now) copies.now) bound start))
         (λ bytes. IsShortest (map (λ copy. copy.now) copies.now) bound start (record { end = start + length bytes.now; bytes = bytes.now })) }
 {
     let mut first = None;
     let mut within = bound;
     for copy in copies {
-        if let Some(end) = first_end(copy, start, within) {
+        if let Some(end) = first_end(copy, start, from, within) {
             first = Some(&copy[start..end]);
             within = end - 1;
         }
@@ -24,17 +54,20 @@ pub(crate) fn first_from<'a>(copies: &[&'a [u8]], start: usize, bound: usize) ->
     first
 }
 
-/// The end of a copy's shortest slice from a place. Each end is looked at once, and each byte is divided once at most.
-fn first_end(copy: &[u8], start: usize, bound: usize) -> Option<usize>
-    requires { bound ≤ length copy.now }
+/// The end of a copy's shortest slice from a place, where none ends at `from` or before it. Each end after `from` is looked at once, up to
+/// the most bytes that a slice can have, and each byte from the place on is divided once at most.
+fn first_end(copy: &[u8], start: usize, from: usize, bound: usize) -> Option<usize>
+    requires room { bound ≤ length copy.now }
+    requires none { IsOfNone (IsPieceFrom (copy.now ∷ []) from start) }
+    requires content { start + 8 ≤ from }
+    requires order { from ≤ bound }
     ensures { MatchOption result (IsOfNone (IsPieceFrom (copy.now ∷ []) bound start))
         (λ end. IsShortest (copy.now ∷ []) bound start (record { end = end; bytes = slice_range copy.now start end })) }
 {
-    let reach = bound.saturating_sub(start).min(SLICE_LIMIT as usize);
+    let last = bound.min(start.saturating_add(SLICE_LIMIT as usize));
     let mut left = 0;
     let mut judged = start;
-    for size in FOOTER_LENGTH + 1..reach + 1 {
-        let end = start + size;
+    for end in from + 1..last + 1 {
         if slice_start(copy, end) == Some(start) {
             left = remainder_after(left, &copy[judged..end]);
             if left == 0 {

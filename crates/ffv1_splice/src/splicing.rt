@@ -95,7 +95,11 @@ fn stands_whole(place: &Place) -> bool
 }
 
 /// Splices copies of one frame, of which there is one at least. Places are settled down from its end and up from its start, and the hole
-/// that is left between them is divided from its own end. However the same copies are ordered or repeated, the answer is the same.
+/// that is left between them is divided from its own end. Where no footer tells the start of a slice there, it is taken for the first of
+/// the hole, which begins with the hole and so has a known size: it is a place where it is woven. Where footers tell several starts, what the
+/// copies have is woven from each, and it is a place where it is woven from one alone, and from each other no combination is a slice: that
+/// takes a weave for each start, of which there is one at most for each copy. However the same copies are ordered or repeated, the answer
+/// is the same.
 ///
 /// `OtherLength` comes exactly where some copy is not as long as the first; the only other refusal is `Memory`.
 pub fn splice(alloc: Global, copies: &[&[u8]]) -> Result<Spliced, SpliceFault>

@@ -3,7 +3,7 @@ use Rattle.ffv1_slice.specs.Members.{IsOnly}
 use Rattle.ffv1_splice.specs.Pieces.{IsPiece, IsToldStart}
 use Rattle.ffv1_splice.specs.Told.{Tells, starts_told}
 use Rattle.ffv1_weave.proofs.References.{values_of, each_value}
-use Rattle.ffv1_splice.proofs.PlaceSteps.{two_not_only, untold, least_size, told_below}
+use Rattle.ffv1_splice.proofs.PlaceSteps.{two_not_only, two_not_none, untold, least_size, told_below}
 use Rattle.ffv1_splice.proofs.placing.disputed_before.Goals as goal
 
 pub returns-in_default : goal.returns-in_default
@@ -11,6 +11,8 @@ returns-in_default c = (
   record {
     unsettled = two_not_only (IsPiece (values_of c.args.copies.now) c.args.end) c.requires.two;
     untold = untold (IsToldStart (values_of c.args.copies.now) c.args.end) c.args.starts c.requires.told c.in_default.not-One;
+    unclaimed = λ bytes count front. two_not_none (IsPiece (values_of c.args.copies.now) c.args.end) c.requires.two front.none;
+    unwoven = λ start bytes count several. two_not_none (IsPiece (values_of c.args.copies.now) c.args.end) c.requires.two several.none;
   },
   refl,
 )

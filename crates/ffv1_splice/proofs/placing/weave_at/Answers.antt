@@ -1,4 +1,4 @@
-use Rattle.std.proofs.Common.{◌≡◌, ◌≤◌, length, refl, sym, ap, subst, ◌∙◌, inl, inr, arith}
+use Rattle.std.proofs.Common.{◌≡◌, ◌-◌, ◌≤◌, length, refl, sym, ap, subst, ◌∙◌, inl, inr, arith}
 use Rattle.ffv1_weave.specs.Weave.{Weave, IsWeaveOf, weave_told}
 use Rattle.ffv1_weave.specs.Weave.Weave.{woven, disputed, missing, too_many}
 use Rattle.ffv1_weave.specs.declared.check.Check.TheVariants.{Slice}
@@ -8,15 +8,16 @@ use Rattle.ffv1_splice.specs.Placing.{written}
 use Rattle.ffv1_splice.specs.Standings.{versions_at, IsWeaveAt, IsGap, StandsAs}
 use Rattle.ffv1_weave.proofs.References.{values_of, each_value}
 use Rattle.ffv1_splice.proofs.PlaceSteps.{told_below, least_size, stands_weave, placed_as}
-use Rattle.ffv1_splice.proofs.Versions.{one_length, weave_size}
+use Rattle.ffv1_splice.proofs.Versions.{version_length, one_length, weave_size}
 use Rattle.ffv1_splice.proofs.placing.weave_at.Goals as goal
 use Rattle.ffv1_splice.proofs.placing.weave_at.Goals.{in-Disputed, in-Missing}
 
 pub weave-requires-clause-lengths : goal.weave-requires-clause-lengths
 weave-requires-clause-lengths c =
     let below = told_below (values_of c.args.copies.now) c.args.start c.args.end c.requires.told.there in
-    one_length (values_of c.args.copies.now) c.args.start c.args.end (omega arith)
-    (each_value c.args.copies.now (λ copy. c.args.end ≤ length copy) c.requires.within) c.as_slice.result.now
+    one_length (versions_at (values_of c.args.copies.now) c.args.start c.args.end) (c.args.end - c.args.start)
+    (version_length (values_of c.args.copies.now) c.args.start c.args.end (omega arith)
+    (each_value c.args.copies.now (λ copy. c.args.end ≤ length copy) c.requires.within)) c.as_slice.result.now
     (ap values_of c.as_slice.ensures.value ∙ c.in_ok-versions.ensures)
 
 pub write_at-requires : goal.write_at-requires
@@ -49,7 +50,7 @@ returns-in-Woven c =
     record {
       bytes = c.in-Woven.bytes.items;
       ends = refl;
-      stands = at;
+      stands = inl at;
       size = weave_size (values_of c.args.copies.now) c.args.start c.args.end c.in-Woven.bytes.items c.in-Woven.count
           (each_value c.args.copies.now (λ copy. c.args.end ≤ length copy) c.requires.within) at;
       written' = c.write_at.ensures ∙ ap (written c.args.payload.now c.args.start) c.as_slice-in-Woven.ensures.value;
@@ -88,7 +89,7 @@ returns c =
           c.match-branch-3.standing
           (subst (StandsAs (values_of c.args.copies.now) c.args.start c.args.end c.least_at.result.now) (sym w.standing-is) (
             elim w.in-Missing.is [
-              | inl e ↦ inl (at missing (weave outcome.Missing e))
+              | inl e ↦ inl (e.0, at (missing e.0) (weave (outcome.Missing e.0) e.1))
               | inr e ↦ inr (at too_many (weave outcome.TooMany e))
             ],
             gap,

@@ -7,44 +7,42 @@ use Rattle.ffv1_splice.proofs.ShortestSteps.{AreJudged, claims, claims_not, judg
 use Rattle.ffv1_splice.proofs.shortest.first_end.Goals as goal
 use Rattle.ffv1_splice.proofs.shortest.first_end.Goals.{then-eq+else-left-eq0, else-eq}
 
-pub loop-size-init : goal.loop-size-init
-loop-size-init c = judged_first c.args.copy.now c.args.start
+pub loop-end-init : goal.loop-end-init
+loop-end-init c = judged_first c.args.copy.now c.args.start c.args.from (omega arith) c.requires.none
 
 pub returns-then-left-eq0 : goal.returns-then-left-eq0
 returns-then-left-eq0 c =
-    let end : ℕ = c.args.start + c.loop-size.size in
+    let end : ℕ = c.loop-end.end in
     let cut : IsCut c.args.copy.now c.args.start end =
     claims (λ p. IsCut c.args.copy.now p end) _ c.slice_start.result c.args.start c.slice_start.ensures.cut (sym c.eq.ensures ∙ c.if-eq.true) in
     let is : c.remainder_after-left.result ≡ remainder_of (bits_of (slice_range c.args.copy.now c.args.start end)) =
-    left_on c.args.copy.now c.args.start c.loop-size.judged end c.loop-size.left c.loop-size.invariant c.remainder_after-left.result
+    left_on c.args.copy.now c.args.start c.loop-end.judged end c.loop-end.left c.loop-end.invariant c.remainder_after-left.result
     c.remainder_after-left.ensures in
-    judged_passed c.args.copy.now c.args.start c.loop-size.judged end c.loop-size.left c.loop-size.invariant c.args.bound cut (omega arith)
+    judged_passed c.args.copy.now c.args.start c.loop-end.judged end c.loop-end.left c.loop-end.invariant c.args.bound cut (omega arith)
     (sym c.if-left-eq0.true ∙ is) (omega arith) (omega arith)
 
-pub loop-size-preserved : goal.loop-size-preserved
-loop-size-preserved c =
-    let end : ℕ = c.args.start + c.loop-size.size in
-    let on : end + 1 ≡ c.args.start + (c.loop-size.size + 1) = omega arith in
-    subst (λ e. AreJudged c.args.copy.now c.args.start c.if-eq.judged e c.if-eq.left) on
-    (elim c.if-eq.branch [
+pub loop-end-preserved : goal.loop-end-preserved
+loop-end-preserved c =
+    let end : ℕ = c.loop-end.end in
+    elim c.if-eq.branch [
       | then-eq+else-left-eq0 w ↦
           let is : w.remainder_after-left.result ≡ remainder_of (bits_of (slice_range c.args.copy.now c.args.start end)) =
-          left_on c.args.copy.now c.args.start c.loop-size.judged end c.loop-size.left c.loop-size.invariant w.remainder_after-left.result
+          left_on c.args.copy.now c.args.start c.loop-end.judged end c.loop-end.left c.loop-end.invariant w.remainder_after-left.result
           w.remainder_after-left.ensures in
           subst (λ j. AreJudged c.args.copy.now c.args.start j (end + 1) c.if-eq.left) (sym w.judged-is)
           (subst (AreJudged c.args.copy.now c.args.start end (end + 1)) (sym w.left-is)
-          (judged_failed c.args.copy.now c.args.start c.loop-size.judged end c.loop-size.left c.loop-size.invariant w.remainder_after-left.result is
+          (judged_failed c.args.copy.now c.args.start c.loop-end.judged end c.loop-end.left c.loop-end.invariant w.remainder_after-left.result is
           w.if-left-eq0.false))
       | else-eq w ↦
           let uncut : IsCut c.args.copy.now c.args.start end → ⊥ =
           claims_not (λ p. IsCut c.args.copy.now p end) _ c.slice_start.result c.args.start (λ none cut. none c.args.start cut)
           (λ other here cut. omega arith) c.slice_start.ensures.cut (sym c.eq.ensures ∙ w.if-eq.false) in
           subst (λ j. AreJudged c.args.copy.now c.args.start j (end + 1) c.if-eq.left) (sym w.judged-is)
-          (subst (AreJudged c.args.copy.now c.args.start c.loop-size.judged (end + 1)) (sym w.left-is)
-          (judged_unclaimed c.args.copy.now c.args.start c.loop-size.judged end c.loop-size.left c.loop-size.invariant uncut))
-    ])
+          (subst (AreJudged c.args.copy.now c.args.start c.loop-end.judged (end + 1)) (sym w.left-is)
+          (judged_unclaimed c.args.copy.now c.args.start c.loop-end.judged end c.loop-end.left c.loop-end.invariant uncut))
+    ]
 
 pub returns : goal.returns
 returns c =
-    judged_all c.args.copy.now c.args.start c.loop-size.judged (c.args.start + c.loop-size.size) c.loop-size.left c.loop-size.invariant c.args.bound
+    judged_all c.args.copy.now c.args.start c.loop-end.judged c.loop-end.end c.loop-end.left c.loop-end.invariant c.args.bound
     (λ i. omega (arith, c.type_inv.copy i)) (λ later past within short. omega arith)

@@ -1,32 +1,22 @@
-use Rattle.std.proofs.Common.{ℕ, ◌-◌, ◌≤◌, List, [], ◌∷◌, ◌++◌, length, get_or, take, arith, refl, sym, subst}
-use Rattle.ffv1_weave.proofs.References.{values_of, next_value, all_values, value_there, each_value, nowhere}
-use Rattle.ffv1_splice.proofs.ShortestSteps.{IsFirstOf, first_done, first_kept, first_more}
+use Rattle.std.proofs.Common.{◌+◌, length, arith}
+use Rattle.ffv1_splice.specs.Pieces.{PieceFrom}
+use Rattle.ffv1_weave.proofs.References.{values_of}
+use Rattle.ffv1_splice.proofs.ShortestSteps.{none_in_footer, none_lower, shortest_higher}
 use Rattle.ffv1_splice.proofs.shortest.first_from.Goals as goal
-use Rattle.ffv1_splice.proofs.shortest.first_from.Goals.{in-Some, in_default}
 
-pub loop-copy-preserved : goal.loop-copy-preserved
-loop-copy-preserved c =
-    let copy : List ℕ = (get_or c.args.copies.now c.loop-copy.copy-index nowhere).now in
-    let before : List (List ℕ) = take c.loop-copy.copy-index (values_of c.args.copies.now) in
-    subst (λ z. IsFirstOf z c.args.bound c.args.start c.match-first_end.within c.match-first_end.first)
-    (next_value c.args.copies.now c.loop-copy.copy-index nowhere (omega arith))
-    (elim c.match-first_end.branch [
-      | in-Some w ↦
-          let reach : c.args.bound ≤ length copy =
-          each_value c.args.copies.now (λ value. c.args.bound ≤ length value) c.requires copy
-          (value_there c.args.copies.now c.loop-copy.copy-index nowhere (omega arith)) in
-          subst (λ z. IsFirstOf (before ++ copy ∷ []) c.args.bound c.args.start z c.match-first_end.first) (sym w.within-is)
-          (subst (IsFirstOf (before ++ copy ∷ []) c.args.bound c.args.start (w.in-Some.end - 1)) (sym w.first-is)
-          (first_more before c.args.bound c.args.start copy c.loop-copy.within w.in-Some.end c.loop-copy.first _ (omega arith) refl w.in-Some.ensures
-          c.loop-copy.invariant))
-      | in_default w ↦
-          subst (λ z. IsFirstOf (before ++ copy ∷ []) c.args.bound c.args.start z c.match-first_end.first) (sym w.within-is)
-          (subst (IsFirstOf (before ++ copy ∷ []) c.args.bound c.args.start c.loop-copy.within) (sym w.first-is)
-          (first_kept before c.args.bound c.args.start copy c.loop-copy.within c.loop-copy.first w.in_default.ensures c.loop-copy.invariant))
-    ])
+pub loop-distance-init : goal.loop-distance-init
+loop-distance-init c = (omega arith, none_in_footer (values_of c.args.copies.now) c.args.start)
+
+pub first_between-requires-clause-none : goal.first_between-requires-clause-none
+first_between-requires-clause-none c = c.loop-distance.invariant.1
+
+pub returns-in-Some : goal.returns-in-Some
+returns-in-Some c =
+    let one : PieceFrom = record { end = c.args.start + length c.in-Some.bytes.now; bytes = c.in-Some.bytes.now } in
+    shortest_higher (values_of c.args.copies.now) c.args.start _ c.args.bound one (omega arith) c.in-Some.ensures
+
+pub loop-distance-preserved : goal.loop-distance-preserved
+loop-distance-preserved c = (omega arith, c.in_default.ensures)
 
 pub returns : goal.returns
-returns c =
-    first_done (values_of c.args.copies.now) c.args.bound c.args.start c.loop-copy.within c.loop-copy.first
-    (subst (λ z. IsFirstOf z c.args.bound c.args.start c.loop-copy.within c.loop-copy.first)
-    (all_values c.args.copies.now c.loop-copy.copy-index (omega arith)) c.loop-copy.invariant)
+returns c = none_lower (values_of c.args.copies.now) c.args.start (c.args.start + c.loop-distance.distance) c.args.bound (omega arith) c.loop-distance.invariant.1

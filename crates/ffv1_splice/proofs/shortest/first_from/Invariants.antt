@@ -1,7 +1,12 @@
-use Rattle.std.specs.Prelude.{take, map}
-use Rattle.ffv1_splice.proofs.ShortestSteps.{IsFirstOf}
+use Rattle.std.proofs.Common.{◌+◌, ◌-◌, ◌≤◌}
+use Rattle.std.specs.Prelude.{map}
+use Rattle.ffv1_slice.specs.Members.{IsOfNone}
+use Rattle.ffv1_splice.specs.Pieces.{IsPieceFrom}
 use Rattle.ffv1_splice.proofs.shortest.first_from.Given as goal
 
--- The first of the copies so far.
-abbrev pub invariant-loop-copy : goal.invariant-loop-copy
-invariant-loop-copy l = IsFirstOf (take l.copy-index (map (λ copy. copy.now) l.copies)) l.bound l.start l.within l.first
+-- No piece from the place ends within that distance.
+abbrev pub invariant-loop-distance : goal.invariant-loop-distance
+invariant-loop-distance l = (8 ≤ l.distance) × IsOfNone (IsPieceFrom (map (λ copy. copy.now) l.copies) (l.start + l.distance) l.start)
+
+abbrev pub decreases-loop-distance : goal.decreases-loop-distance
+decreases-loop-distance l = l.reach - l.distance

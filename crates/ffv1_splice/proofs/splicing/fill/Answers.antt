@@ -1,4 +1,4 @@
-use Rattle.std.proofs.Common.{◌≡◌, ℕ, ◌≤◌, List, ◌++◌, length, take, drop, sym, ap, ◌∙◌, subst, arith}
+use Rattle.std.proofs.Common.{◌≡◌, ℕ, ◌-◌, ◌≤◌, List, ◌++◌, length, take, drop, sym, ap, ◌∙◌, subst, arith}
 use Rattle.std.specs.Prelude.{All, map, reverse}
 use Rattle.std.proofs.lemmas.List.{append_assoc, length-take-le}
 use Rattle.ffv1_slice.proofs.NearLaws.{length-range}
@@ -7,7 +7,7 @@ use Rattle.ffv1_splice.specs.Splice.{SplicedValue, IsWalkUp, IsDivisionOf, moved
 use Rattle.ffv1_splice.specs.declared.place.Place.{Place}
 use Rattle.ffv1_weave.proofs.References.{values_of, each_value}
 use Rattle.ffv1_splice.proofs.PlaceSteps.{AllReach}
-use Rattle.ffv1_splice.proofs.Versions.{length_of}
+use Rattle.ffv1_splice.proofs.Versions.{version_length, length_of}
 use Rattle.ffv1_splice.proofs.BoundSteps.{bound_within}
 use Rattle.ffv1_splice.proofs.FillSteps.{division_within, front_within, division_long, front_is, length-below, filled_splice}
 use Rattle.ffv1_splice.proofs.splicing.fill.Goals as goal
@@ -29,7 +29,7 @@ divide-requires-clause-long c = λ k d lt.
     each_value c.args.copies.now (λ copy. end ≤ length copy)
     (λ i e l. let long = c.requires.long i e l in let same = c.in_ok-above.ensures.long in omega arith) in
     let is = ap values_of c.as_slice.ensures.value ∙ c.in_ok-versions.ensures in
-    length_of copies start end order reach c.as_slice.result.now is k d lt
+    length_of (versions_at copies start end) (end - start) (version_length copies start end order reach) c.as_slice.result.now is k d lt
     ∙ sym (length-range (up ++ drop bound down) start end order (length-below down up bound end front below_end within))
 
 pub push_moved-requires : goal.push_moved-requires

@@ -29,7 +29,7 @@ module _ (versions : List (List ℕ)) where
   ]
 
   -- whether they agree at each of so many places
-  some_differ : (from count : ℕ) → ((i : ℕ) → from ≤ i → i < from + count → AgreeAt versions i)
+  pub some_differ : (from count : ℕ) → ((i : ℕ) → from ≤ i → i < from + count → AgreeAt versions i)
       ⊎ ((j : ℕ) × (from ≤ j) × (j < from + count) × DifferAt versions j)
   some_differ from zero = inl (λ i low lt. absurd (omega arith))
   some_differ from (suc count) = elim (agree_or_differ (from + count)) [

@@ -1,0 +1,190 @@
+-- The first slice of copies, whose size is known: what copies have up to its end, each with that size, and what is woven of it.
+use Rattle.std.proofs.Common.{◌≡◌, ℕ, Vec, Global, ◌+◌, ◌-◌, ◌<◌, ◌≤◌, List, [], ◌++◌, length, get_or, take, drop, map, refl, sym, ap, ◌∙◌, subst, arith, inl, inr}
+use Rattle.std.specs.Prelude.{Contains, slice_range}
+use Rattle.std.proofs.lemmas.Bool.{cases_lt}
+use Rattle.std.proofs.lemmas.List.{append-nil, length-append, length-take-le, length-drop, take_all, drop_all, drop-drop}
+use borrow.Rule.Slice.PartMut.{mid_of, put_mid}
+use Rattle.byteorder.specs.Endian.{big_bytes, big_number}
+use Rattle.byteorder.specs.Numbers.{length-bytes_high_first}
+use Rattle.ffv1_slice.specs.Chain.{size_before, IsCut, IsFramed}
+use Rattle.ffv1_slice.specs.Members.{HasSameMembers, IsOfNone}
+use Rattle.ffv1_slice.proofs.NearLaws.{length-range, size_of_range}
+use Rattle.ffv1_weave.specs.Combinations.{IsCombination}
+use Rattle.ffv1_weave.specs.Regions.{HaveLength, DifferAt}
+use Rattle.ffv1_weave.specs.Weave.{weave_told}
+use Rattle.ffv1_weave.specs.Weave.Weave.{woven}
+use Rattle.ffv1_weave.specs.declared.weaving.Outcome.{Outcome}
+use Rattle.ffv1_weave.specs.declared.weaving.Outcome.TheVariants as outcomes
+use Rattle.ffv1_weave.proofs.Choices.{same_range, range_at}
+use Rattle.ffv1_splice.specs.Pieces.{HasContent, IsPiece, IsToldStart}
+use Rattle.ffv1_splice.specs.Standings.{versions_at, sized, IsWeaveFromFront, IsWeaveOfSeveral, StandsAs, IsStop}
+use Rattle.ffv1_splice.specs.declared.place.Standing.TheVariants.{Woven}
+use Rattle.ffv1_splice.proofs.PlaceSteps.{AllReach, told_below, none_not_only}
+use Rattle.ffv1_splice.proofs.Versions.{mapped_there, mapped_of, same_mapped, same_versions, version_there, version_of, version_length, weave_size}
+use Rattle.ffv1_splice.proofs.WiderRegions.{some_differ, in_region}
+
+-- ---- bytes with their size
+
+pub length-sized : (bytes : List ℕ) → 8 ≤ length bytes → length (sized bytes) ≡ length bytes
+length-sized bytes long =
+    omega (
+      arith,
+      length-append (take (length bytes - 8) bytes) (big_bytes 3 (length bytes - 8) ++ drop (length bytes - 5) bytes),
+      length-append (big_bytes 3 (length bytes - 8)) (drop (length bytes - 5) bytes),
+      length-take-le (length bytes - 8) bytes (omega arith),
+      length-bytes_high_first 3 (length bytes - 8),
+      length-drop (length bytes - 5) bytes,
+    )
+
+-- the size, written over the bytes from their footer on
+pub put_size : (bytes new : List ℕ) → 8 ≤ length bytes
+    → new ≡ big_bytes 3 (length bytes - 8) ++ drop 3 (mid_of (length bytes - 8) (length bytes - (length bytes - 8)) bytes)
+    → put_mid (length bytes - 8) (length bytes - (length bytes - 8)) bytes new ≡ sized bytes
+put_size bytes new long is =
+    let size : ℕ = length bytes - 8 in
+    let rest = length-drop (length bytes - 8) bytes in
+    let footer : mid_of size (length bytes - size) bytes ≡ drop size bytes = take_all (length bytes - size) (drop size bytes) (omega arith) in
+    let none : drop (length bytes - size) (drop size bytes) ≡ [] = drop_all (length bytes - size) (drop size bytes) (omega arith) in
+    let on : length bytes - 8 + 3 ≡ length bytes - 5 = omega arith in
+    ap (λ z. take size bytes ++ (new ++ z)) none
+    ∙ ap (λ z. take size bytes ++ z) (append-nil new ∙ is ∙ ap (λ z. big_bytes 3 size ++ drop 3 z) footer
+    ∙ ap (λ z. big_bytes 3 size ++ z) (drop-drop 3 size bytes ∙ ap (λ n. drop n bytes) on))
+
+-- the same copies have the same versions with their size
+pub same_sized : (copies others : List (List ℕ)) → HasSameMembers copies others → (start end : ℕ)
+    → HasSameMembers (map sized (versions_at copies start end)) (map sized (versions_at others start end))
+same_sized copies others same start end =
+    same_mapped sized (versions_at copies start end) (versions_at others start end) (same_versions copies others same start end)
+
+module _ (copies : List (List ℕ)) (end : ℕ) (reach : AllReach copies end) where
+  pub sized_length : (start : ℕ) → start + 8 ≤ end → HaveLength (map sized (versions_at copies start end)) (end - start)
+  sized_length start footer version there =
+      let of = mapped_of sized (versions_at copies start end) version there in
+      let size = version_length copies start end (omega arith) reach of.0 of.1 in
+      ap length of.2 ∙ length-sized of.0 (omega arith) ∙ omega arith
+
+  -- what is woven is as long as the copies are up to there
+  pub front_size : (copy bytes : List ℕ) (count : ℕ) → Contains copies copy → IsWeaveFromFront copies end (woven bytes count) → 0 + length bytes ≡ end
+  front_size copy bytes count there h =
+      let content : HasContent 0 end = h.content in
+      let version : List ℕ = sized (slice_range copy 0 end) in
+      let in_versions = mapped_there sized (versions_at copies 0 end) (slice_range copy 0 end) (version_there copies 0 end copy there) in
+      let long = sized_length 0 (omega arith) version in_versions in
+      omega (arith, h.weave'.0.there.combination.same_length version in_versions)
+
+  pub several_size : (start : ℕ) (bytes : List ℕ) (count : ℕ) → IsWeaveOfSeveral copies start end bytes count → start + length bytes ≡ end
+  several_size start bytes count h =
+      let content : HasContent start end = h.told.content in
+      let copy : List ℕ = h.told.copy in
+      let version : List ℕ = sized (slice_range copy start end) in
+      let in_versions = mapped_there sized (versions_at copies start end) (slice_range copy start end) (version_there copies start end copy h.told.there) in
+      let long = sized_length start (omega arith) version in_versions in
+      omega (arith, h.weave'.0.there.combination.same_length version in_versions)
+
+-- no place ends where no piece does and no start is told, and nothing is woven from the front
+pub stops_untold : (copies : List (List ℕ)) (end : ℕ) → IsOfNone (IsPiece copies end) → IsOfNone (IsToldStart copies end)
+    → ((bytes : List ℕ) (count : ℕ) → IsWeaveFromFront copies end (woven bytes count) → ⊥) → IsStop copies end
+stops_untold copies end none untold unclaimed =
+    record {
+      unsettled = none_not_only (IsPiece copies end) none;
+      untold = none_not_only (IsToldStart copies end) untold;
+      unclaimed = unclaimed;
+      unwoven = λ start bytes count several. untold start several.told;
+    }
+
+-- an outcome that is not woven tells of no woven bytes
+pub not_woven : (outcome : Outcome) → ((bytes : Vec ℕ Global) (count : ℕ) → outcome ≡ outcomes.Woven bytes count → ⊥) → (bytes : List ℕ) (count : ℕ)
+    → weave_told outcome ≡ woven bytes count → ⊥
+not_woven (outcomes.Woven items n) apart bytes count is = apart items n refl
+not_woven outcomes.Disputed apart bytes count is = absurd (cc)
+not_woven (outcomes.Missing n) apart bytes count is = absurd (cc)
+not_woven outcomes.TooMany apart bytes count is = absurd (cc)
+
+-- ---- what is woven, whether its start is told or known
+
+module _ (copies : List (List ℕ)) (start end : ℕ) (bytes : List ℕ) (count : ℕ) where
+  pub woven_below : StandsAs copies start end bytes (Woven count) → start + 8 ≤ end
+  woven_below (inl h) = told_below copies start end h.told.there
+  woven_below (inr (inl h)) = let content : HasContent 0 end = h.1.content in let first : start ≡ 0 = h.0 in omega arith
+  woven_below (inr (inr h)) = told_below copies start end h.told
+
+  pub woven_size : (copy : List ℕ) → Contains copies copy → AllReach copies end → StandsAs copies start end bytes (Woven count)
+      → start + length bytes ≡ end
+  woven_size copy there reach (inl h) = weave_size copies start end bytes count reach h
+  woven_size copy there reach (inr (inr h)) = several_size copies end reach start bytes count h
+  woven_size copy there reach (inr (inl h)) =
+      let size = front_size copies end reach copy bytes count there h.1 in let first : start ≡ 0 = h.0 in omega arith
+
+-- ---- a combination that tells its size
+
+-- bytes that are the same between two places have the same at each place between
+pub same_inside : (a b : List ℕ) (start end i : ℕ) → start ≤ i → i < end → slice_range a start end ≡ slice_range b start end → get_or a i 0 ≡ get_or b i 0
+same_inside a b start end i low lt same =
+    sym (range_at a start end i low lt) ∙ ap (λ z. get_or z (i - start) 0) same ∙ range_at b start end i low lt
+
+-- In 64 places in a row, or fewer, a combination has what one version has.
+module _ (versions : List (List ℕ)) (size : ℕ) (long : HaveLength versions size) (bytes : List ℕ) (is : IsCombination versions bytes) where
+  pub combination_between : (first : List ℕ) → Contains versions first → (start end : ℕ) → start ≤ end → end ≤ start + 64 → end ≤ size
+      → (version : List ℕ) × Contains versions version × (slice_range bytes start end ≡ slice_range version start end)
+  combination_between first there start end order near within =
+      let reach : end ≤ length bytes = omega (arith, is.same_length first there, long first there) in
+      elim (some_differ versions start (end - start)) [
+        | inl quiet ↦ (
+          first,
+          there,
+          same_range bytes first start end reach (omega (arith, long first there))
+              (λ i low lt. is.agrees i (quiet i low (omega arith)) first there),
+        )
+        | inr found ↦
+            let low = found.1 in
+            let lt = found.2 in
+            let wide = in_region versions size long found.0 (found.0 + 1) (record {
+              some = omega arith;
+              first = found.3;
+              last = let same : found.0 ≡ found.0 + 1 - 1 = omega arith in subst (DifferAt versions) same found.3;
+              within = λ i above below. absurd (omega arith);
+            }) in
+            let before = wide.before in
+            let beyond = wide.beyond in
+            let whole = is.parts wide.begin wide.last wide.region in (
+              whole.0,
+              whole.1,
+              same_range bytes whole.0 start end reach (omega (arith, long whole.0 whole.1)) (λ i above below. elim (cases_lt i wide.begin) [
+                | inl early ↦ is.agrees i (wide.region.before i early (omega arith)) whole.0 whole.1
+                | inr from ↦ elim (cases_lt i wide.last) [
+                  | inl inside ↦ same_inside bytes whole.0 wide.begin wide.last i from inside whole.2
+                  | inr late ↦ is.agrees i (wide.region.after i late (omega arith)) whole.0 whole.1
+                ]
+              ]),
+            )
+      ]
+
+-- a copy with the footer of a slice that ends there, and is as long as the copies are up to there, tells the start
+cut_by_footer : (copy version slice : List ℕ) (end : ℕ) → 8 ≤ end → end ≤ length copy → version ≡ slice_range copy 0 end
+    → slice_range slice (end - 8) end ≡ slice_range version (end - 8) end → size_before slice end ≡ end - 8 → IsCut copy 0 end
+cut_by_footer copy version slice end footer within is same size =
+    let long : length (slice_range copy 0 end) ≡ end = length-range copy 0 end (omega arith) within ∙ omega arith in
+    let told : size_before slice end ≡ size_before version end = ap (big_number 3) same in
+    let on : size_before version end ≡ size_before (slice_range copy 0 end) end = ap (λ v. size_before v end) is in
+    let ends = ap (size_before (slice_range copy 0 end)) long in
+    let cut = size_of_range copy 0 end footer within in
+    omega arith
+
+-- So where a slice is a combination of what the copies have, some copy has its size field, and tells its start.
+pub combination_told : (copies : List (List ℕ)) (end : ℕ) (copy slice : List ℕ) → AllReach copies end → Contains copies copy → HasContent 0 end
+    → IsFramed slice → IsCombination (versions_at copies 0 end) slice → IsToldStart copies end 0
+combination_told copies end copy slice reach there content framed is =
+    let first = version_there copies 0 end copy there in
+    let long : HaveLength (versions_at copies 0 end) end =
+    λ version in_versions. version_length copies 0 end (omega arith) reach version in_versions ∙ omega arith in
+    let size : length slice ≡ end = is.same_length (slice_range copy 0 end) first ∙ long (slice_range copy 0 end) first in
+    let part = combination_between (versions_at copies 0 end) end long slice is (slice_range copy 0 end) first (end - 8) end (omega arith) (omega arith)
+    (omega arith) in
+    let of = version_of copies 0 end part.0 part.1 in
+    let own : size_before slice end ≡ end - 8 = subst (λ n. size_before slice n ≡ n - 8) size framed.size in
+    record {
+      copy = of.0;
+      there = of.1;
+      cut = cut_by_footer of.0 part.0 slice end (omega arith) (reach of.0 of.1) of.2 part.2 own;
+      content = content;
+    }

@@ -1,0 +1,434 @@
+-- The starts that are told at an end, tried one after the other.
+use Rattle.std.proofs.Common.{◌≡◌, ℕ, Vec, Global, ◌+◌, ◌-◌, ◌<◌, ◌≤◌, List, [], ◌∷◌, ◌++◌, length, get_or, map, min, mul-zero, Option, Some, None, replicate, refl, sym, ap, ◌∙◌, subst, arith, inl, inr}
+use Rattle.std.specs.Prelude.{Contains, MatchOption, sum}
+use Rattle.std.proofs.lemmas.Bool.{cases_lt, cases_eq}
+use Rattle.std.proofs.lemmas.List.{ext_get_or, get_or_append_left, get_or-append_right, get_or-replicate, length-append, length-replicate}
+use Rattle.std.proofs.Math.ListN.{get_or-eq_default}
+use Rattle.std.proofs.Math.Seq.{get_or-append_seam}
+use Rattle.std.proofs.lemmas.List.Sums.{sum_by-append}
+use Rattle.std.proofs.lemmas.List.Folds.{sum_by-replicate}
+use Rattle.ffv1_weave.specs.Weave.{Weave, IsWeaveOf}
+use Rattle.ffv1_weave.specs.Weave.Weave.{woven, disputed, missing, too_many}
+use Rattle.ffv1_weave.specs.declared.check.Check.TheVariants.{Slice}
+use Rattle.ffv1_weave.proofs.WeaveLaws.{same_versions_weave, weave_as}
+use Rattle.ffv1_bits.specs.Parity.{AreBytes}
+use Rattle.ffv1_slice.specs.Chain.{IsCut}
+use Rattle.ffv1_slice.specs.Members.{HasSameMembers, IsOfTwo, IsOfNone}
+use Rattle.ffv1_splice.specs.Pieces.{HasContent, IsPiece, IsToldStart}
+use Rattle.ffv1_splice.specs.Standings.{versions_at, sized, IsWeaveOfSeveral}
+use Rattle.ffv1_splice.specs.declared.several.Tried.{Tried}
+use Rattle.ffv1_splice.specs.declared.several.Tried.TheVariants as tries
+use Rattle.ffv1_splice.specs.Several.{IsNextTold, TriedValue, capped, tried_more, tried_told, AreMissing, AreTriedBefore}
+use Rattle.ffv1_splice.specs.Several.TriedValue.{none_woven, one_woven, undecided}
+use Rattle.ffv1_splice.proofs.FirstSlices.{same_sized}
+use Rattle.ffv1_splice.proofs.ToldSteps.{last, start_on, start_back, one_cut}
+
+-- ---- numbers of combinations by place
+
+-- the numbers, and 0 for each place after them up to an end
+padded : List ℕ → ℕ → List ℕ
+padded tried end = tried ++ replicate (end - length tried) 0
+
+length-padded : (tried : List ℕ) (end : ℕ) → length tried ≤ end → length (padded tried end) ≡ end
+unfolding padded
+length-padded tried end within =
+    omega (arith, length-append tried (replicate (end - length tried) 0), length-replicate {A = ℕ} (end - length tried) 0)
+
+padded_before : (tried : List ℕ) (end i : ℕ) → i < length tried → get_or (padded tried end) i 0 ≡ get_or tried i 0
+unfolding padded
+padded_before tried end i lt = get_or_append_left tried (replicate (end - length tried) 0) 0 i lt
+
+pub zeros_anywhere : (n i : ℕ) → get_or {A = ℕ} (replicate n 0) i 0 ≡ 0
+zeros_anywhere n i = elim (cases_lt i n) [
+  | inl below ↦ get_or-replicate n i 0 0 below
+  | inr past ↦ get_or-eq_default (replicate n 0) 0 (omega (arith, length-replicate {A = ℕ} n 0))
+]
+
+padded_after : (tried : List ℕ) (end i : ℕ) → length tried ≤ i → get_or (padded tried end) i 0 ≡ 0
+unfolding padded
+padded_after tried end i low =
+    get_or-append_right tried (replicate (end - length tried) 0) (length tried) i 0 refl low ∙ zeros_anywhere (end - length tried) (i - length tried)
+
+sum-padded : (tried : List ℕ) (end : ℕ) → sum (padded tried end) ≡ sum tried
+unfolding padded
+sum-padded tried end =
+    let n : ℕ = end - length tried in
+    let total : sum (tried ++ replicate n 0) ≡ sum tried + sum (replicate n 0) = sum_by-append (λ x. x) tried (replicate n 0) in
+    let none : sum (replicate n 0) ≡ 0 = sum_by-replicate (λ x. x) n 0 ∙ mul-zero n in
+    omega arith
+
+-- the same with the number from one more place
+grown : List ℕ → (start count : ℕ) → List ℕ
+grown tried start count = padded tried start ++ count ∷ []
+
+length-grown : (tried : List ℕ) (start count : ℕ) → length tried ≤ start → length (grown tried start count) ≡ start + 1
+unfolding grown
+length-grown tried start count within = omega (arith, length-append (padded tried start) (count ∷ []), length-padded tried start within)
+
+grown_before : (tried : List ℕ) (start count i : ℕ) → length tried ≤ start → i < length tried → get_or (grown tried start count) i 0 ≡ get_or tried i 0
+unfolding grown
+grown_before tried start count i within lt =
+    get_or_append_left (padded tried start) (count ∷ []) 0 i (omega (arith, length-padded tried start within)) ∙ padded_before tried start i lt
+
+grown_at : (tried : List ℕ) (start count : ℕ) → length tried ≤ start → get_or (grown tried start count) start 0 ≡ count
+unfolding grown
+grown_at tried start count within =
+    ap (λ n. get_or (padded tried start ++ count ∷ []) n 0) (sym (length-padded tried start within)) ∙ get_or-append_seam (padded tried start) count [] 0
+
+grown_else : (tried : List ℕ) (start count i : ℕ) → length tried ≤ start → length tried ≤ i → (i ≡ start → ⊥) → get_or (grown tried start count) i 0 ≡ 0
+unfolding grown
+grown_else tried start count i within low apart = elim (cases_lt i start) [
+  | inl below ↦ get_or_append_left (padded tried start) (count ∷ []) 0 i (omega (arith, length-padded tried start within)) ∙ padded_after tried start i low
+  | inr above ↦ elim (cases_eq i start) [
+    | inl same ↦ absurd (apart same)
+    | inr other ↦ get_or-eq_default (padded tried start ++ count ∷ []) 0
+        (omega (arith, length-append (padded tried start) (count ∷ []), length-padded tried start within))
+  ]
+]
+
+sum-grown : (tried : List ℕ) (start count : ℕ) → sum (grown tried start count) ≡ sum tried + count
+unfolding grown
+sum-grown tried start count =
+    let total : sum (padded tried start ++ count ∷ []) ≡ sum (padded tried start) + sum (count ∷ []) = sum_by-append (λ x. x) (padded tried start) (count ∷ []) in
+    omega (arith, sum-padded tried start)
+
+counted_more : (tried : List ℕ) (start before count : ℕ) → before ≡ capped (sum tried) → capped (before + count) ≡ capped (sum (grown tried start count))
+counted_more tried start before count is =
+    let total = sum-grown tried start count in
+    ap (λ n. capped (n + count)) is ∙ capped_more (sum tried) count ∙ ap capped (sym total)
+  where
+    capped_more : (n m : ℕ) → capped (capped n + m) ≡ capped (n + m)
+    capped_more n m = omega arith
+
+-- ---- what comes of one start
+
+module _ (copies : List (List ℕ)) (end : ℕ) where
+  abbrev pub IsWeaveFrom : ℕ → Weave → Type 0
+  IsWeaveFrom start weave = IsWeaveOf Slice (map sized (versions_at copies start end)) weave
+
+  pub one_weave_from : (start : ℕ) (one other : Weave) → IsWeaveFrom start one → IsWeaveFrom start other → one ≡ other
+  one_weave_from start one other h k =
+      let versions : List (List ℕ) = map sized (versions_at copies start end) in
+      same_versions_weave Slice versions versions one other (λ version. ((λ there. there), λ there. there)) h k
+
+  -- where something else than a slice or nothing comes of a told start, no start of several is the one
+  pub not_told_alone : (from : ℕ) (weave : Weave) → IsToldStart copies end from → IsWeaveFrom from weave
+      → ((bytes : List ℕ) (count : ℕ) → weave ≡ woven bytes count → ⊥) → ((count : ℕ) → weave ≡ missing count → ⊥)
+      → (start : ℕ) (bytes : List ℕ) (count : ℕ) → IsWeaveOfSeveral copies start end bytes count → ⊥
+  not_told_alone from weave told is unwoven unmissing start bytes count h = elim (cases_eq from start) [
+    | inl same ↦
+        unwoven bytes (get_or h.tried start 0)
+        (one_weave_from from weave (woven bytes (get_or h.tried start 0)) is
+        (subst (λ s. IsWeaveFrom s (woven bytes (get_or h.tried start 0))) (sym same) h.weave'))
+    | inr apart ↦ unmissing (get_or h.tried from 0) (one_weave_from from weave (missing (get_or h.tried from 0)) is (h.others from told apart))
+  ]
+
+  -- where two told starts give a slice, neither is
+  pub not_two_told : (one other : ℕ) (a b : List ℕ) (m n : ℕ) → one < other → IsToldStart copies end one → IsToldStart copies end other
+      → IsWeaveFrom one (woven a m) → IsWeaveFrom other (woven b n)
+      → (start : ℕ) (bytes : List ℕ) (count : ℕ) → IsWeaveOfSeveral copies start end bytes count → ⊥
+  not_two_told one other a b m n below told too h k start bytes count w = elim (cases_eq one start) [
+    | inl same ↦
+        let apart : other ≡ start → ⊥ = λ also. omega arith in
+        let e = one_weave_from other (woven b n) (missing (get_or w.tried other 0)) k (w.others other too apart) in absurd (cc)
+    | inr apart ↦ let e = one_weave_from one (woven a m) (missing (get_or w.tried one 0)) h (w.others one told apart) in absurd (cc)
+  ]
+
+  -- where nothing comes of any, none is
+  pub not_all_missing : (tried : List ℕ) → AreMissing copies end end (λ start. ⊥) tried
+      → (start : ℕ) (bytes : List ℕ) (count : ℕ) → IsWeaveOfSeveral copies start end bytes count → ⊥
+  not_all_missing tried are start bytes count w =
+      let content : HasContent start end = w.told.content in
+      let e = one_weave_from start (missing (get_or tried start 0)) (woven bytes (get_or w.tried start 0))
+      (are.missing' start (omega arith) w.told (λ none. none)) w.weave' in
+      absurd (cc)
+
+  -- ---- one more start
+
+  module _ (from start : ℕ) (next : IsNextTold copies end from start) where
+    told_below : (other : ℕ) → other < start + 1 → IsToldStart copies end other → (other ≡ start → ⊥) → other < from
+    told_below other lt told apart = elim (cases_lt other from) [
+      | inl below ↦ below
+      | inr above ↦ let least = next.least other told above in absurd (apart (omega arith))
+    ]
+
+    missing_more : (IsApart : ℕ → Type 0) (tried : List ℕ) (count : ℕ) → AreMissing copies end from IsApart tried
+        → ((other : ℕ) → other ≡ start → (IsApart other → ⊥) → IsWeaveFrom other (missing count))
+        → AreMissing copies end (start + 1) IsApart (grown tried start count)
+    missing_more IsApart tried count are new =
+        let beyond = next.beyond in
+        let places = are.places in
+        record {
+          places = length-grown tried start count (omega arith);
+          missing' = λ other lt told not_apart. elim (cases_eq other start) [
+            | inl same ↦
+                let number : count ≡ get_or (grown tried start count) other 0 =
+                sym (ap (λ i. get_or (grown tried start count) i 0) same ∙ grown_at tried start count (omega arith)) in
+                subst (λ n. IsWeaveFrom other (missing n)) number (new other same not_apart)
+            | inr apart ↦
+                let below = told_below other lt told apart in
+                subst (λ n. IsWeaveFrom other (missing n)) (sym (grown_before tried start count other (omega arith) (omega arith)))
+                (are.missing' other below told not_apart)
+          ];
+          untold = λ other untold. elim (cases_lt other from) [
+            | inl below ↦ grown_before tried start count other (omega arith) (omega arith) ∙ are.untold other untold
+            | inr above ↦ grown_else tried start count other (omega arith) (omega arith)
+                (λ same. untold (subst (IsToldStart copies end) (sym same) next.there))
+          ];
+        }
+
+    -- set apart, where something comes of it
+    missing_else : (tried : List ℕ) (count : ℕ) → AreMissing copies end from (λ start. ⊥) tried
+        → AreMissing copies end (start + 1) (λ other. other ≡ start) (grown tried start count)
+    missing_else tried count are =
+        missing_more (λ other. other ≡ start) tried count
+        (record { places = are.places; missing' = λ other lt told apart. are.missing' other lt told (λ none. none); untold = are.untold })
+        (λ other same apart. absurd (apart same))
+
+    pub tried_next : (value : TriedValue) (weave : Weave) → IsWeaveFrom start weave → AreTriedBefore copies end from value
+        → AreTriedBefore copies end (start + 1) (tried_more value start weave)
+    tried_next (none_woven n) (woven bytes more) is h =
+        let beyond = next.beyond in
+        let places = h.1.places in (
+          grown h.0 start more,
+          record {
+            others = missing_else h.0 more h.1;
+            before = omega arith;
+            told = next.there;
+            weave' = subst (λ m. IsWeaveFrom start (woven bytes m)) (sym (grown_at h.0 start more (omega arith))) is;
+          },
+          counted_more h.0 start n more h.2,
+        )
+    tried_next (none_woven n) (missing more) is h = (
+      grown h.0 start more,
+      missing_more (λ start. ⊥) h.0 more h.1 (λ other same apart. subst (λ s. IsWeaveFrom s (missing more)) (sym same) is),
+      counted_more h.0 start n more h.2,
+    )
+    tried_next (none_woven n) disputed is h = not_told_alone start disputed next.there is (λ bytes count e. absurd (cc)) (λ count e. absurd (cc))
+    tried_next (none_woven n) too_many is h = not_told_alone start too_many next.there is (λ bytes count e. absurd (cc)) (λ count e. absurd (cc))
+    tried_next (one_woven first bytes n) (woven other more) is h =
+        let before = h.1.before in
+        let beyond = next.beyond in
+        not_two_told first start bytes other (get_or h.0 first 0) more (omega arith) h.1.told next.there h.1.weave' is
+    tried_next (one_woven first bytes n) (missing more) is h =
+        let before = h.1.before in
+        let beyond = next.beyond in
+        let places = h.1.others.places in (
+          grown h.0 start more,
+          record {
+            others = missing_more (λ other. other ≡ first) h.0 more h.1.others
+                (λ other same apart. subst (λ s. IsWeaveFrom s (missing more)) (sym same) is);
+            before = omega arith;
+            told = h.1.told;
+            weave' = subst (λ m. IsWeaveFrom first (woven bytes m)) (sym (grown_before h.0 start more first (omega arith) (omega arith))) h.1.weave';
+          },
+          counted_more h.0 start n more h.2,
+        )
+    tried_next (one_woven first bytes n) disputed is h =
+        not_told_alone start disputed next.there is (λ bytes count e. absurd (cc)) (λ count e. absurd (cc))
+    tried_next (one_woven first bytes n) too_many is h =
+        not_told_alone start too_many next.there is (λ bytes count e. absurd (cc)) (λ count e. absurd (cc))
+    tried_next undecided (woven bytes more) is h = h
+    tried_next undecided (missing more) is h = h
+    tried_next undecided disputed is h = h
+    tried_next undecided too_many is h = h
+
+  -- ---- no more start
+
+  module _ (from : ℕ) (within : from ≤ end) (none : (start : ℕ) → IsToldStart copies end start → start < from) where
+    missing_end : (IsApart : ℕ → Type 0) (tried : List ℕ) → AreMissing copies end from IsApart tried
+        → AreMissing copies end end IsApart (padded tried end)
+    missing_end IsApart tried are =
+        let places = are.places in
+        record {
+          places = length-padded tried end (omega arith);
+          missing' = λ start lt told apart.
+              let below = none start told in
+              subst (λ n. IsWeaveFrom start (missing n)) (sym (padded_before tried end start (omega arith))) (are.missing' start below told apart);
+          untold = λ start untold. elim (cases_lt start from) [
+            | inl below ↦ padded_before tried end start (omega arith) ∙ are.untold start untold
+            | inr above ↦ padded_after tried end start (omega arith)
+          ];
+        }
+
+    pub tried_end : (value : TriedValue) → AreTriedBefore copies end from value → AreTriedBefore copies end end value
+    tried_end (none_woven n) h = (padded h.0 end, missing_end (λ start. ⊥) h.0 h.1, h.2 ∙ ap capped (sym (sum-padded h.0 end)))
+    tried_end (one_woven start bytes n) h =
+        let before = h.1.before in
+        let places = h.1.others.places in (
+          padded h.0 end,
+          record {
+            others = missing_end (λ other. other ≡ start) h.0 h.1.others;
+            before = omega arith;
+            told = h.1.told;
+            weave' = subst (λ m. IsWeaveFrom start (woven bytes m)) (sym (padded_before h.0 end start (omega arith))) h.1.weave';
+          },
+          h.2 ∙ ap capped (sym (sum-padded h.0 end)),
+        )
+    tried_end undecided h = h
+
+  -- what was tried before the first start
+  pub tried_none : AreTriedBefore copies end 0 (none_woven 0)
+  tried_none = ([], record { places = refl; missing' = λ start lt told apart. absurd (omega arith); untold = λ start untold. refl }, refl)
+
+-- ---- as the code has it
+
+module _ (copies : List (List ℕ)) (end : ℕ) where
+  -- what is woven of several starts
+  pub several_of : (start count : ℕ) (bytes : List ℕ) → ((copy : List ℕ) → Contains copies copy → AreBytes copy) → IsOfNone (IsPiece copies end)
+      → IsOfTwo (IsToldStart copies end) → AreTriedBefore copies end end (one_woven start bytes count) → IsWeaveOfSeveral copies start end bytes count
+  several_of start count bytes are_bytes none several h =
+      record {
+        are_bytes = are_bytes;
+        none = none;
+        several = several;
+        told = h.1.told;
+        tried = h.0;
+        places = h.1.others.places;
+        weave' = h.1.weave';
+        others = λ other told apart. let content : HasContent other end = told.content in h.1.others.missing' other (omega arith) told apart;
+        untold = h.1.others.untold;
+        counted = h.2;
+      }
+
+  -- and where nothing is
+  pub none_of_several : (tried : Tried) → ((start : ℕ) (bytes : Vec ℕ Global) (count : ℕ) → tried ≡ tries.Woven start bytes count → ⊥)
+      → AreTriedBefore copies end end (tried_told tried) → (start : ℕ) (bytes : List ℕ) (count : ℕ) → IsWeaveOfSeveral copies start end bytes count → ⊥
+  none_of_several (tries.Missing count) apart h = not_all_missing copies end h.0 h.1
+  none_of_several (tries.Woven start bytes count) apart h = absurd (apart start bytes count refl)
+  none_of_several tries.Undecided apart h = h
+
+-- ---- one start is the one
+
+module _ (copies : List (List ℕ)) (end s t : ℕ) (a b : List ℕ) (m n : ℕ) (h : IsWeaveOfSeveral copies s end a m)
+    (k : IsWeaveOfSeveral copies t end b n) where
+  pub one_start : s ≡ t
+  one_start = elim (cases_eq s t) [
+    | inl same ↦ same
+    | inr apart ↦
+        let e = one_weave_from copies end s (woven a (get_or h.tried s 0)) (missing (get_or k.tried s 0)) h.weave' (k.others s h.told apart) in
+        absurd (cc)
+  ]
+
+  same_weave : woven a (get_or h.tried s 0) ≡ woven b (get_or k.tried s 0)
+  same_weave =
+      one_weave_from copies end s (woven a (get_or h.tried s 0)) (woven b (get_or k.tried s 0)) h.weave'
+      (subst (λ p. IsWeaveFrom copies end p (woven b (get_or k.tried p 0))) (sym one_start) k.weave')
+
+  same_number : (p : ℕ) → IsToldStart copies end p → get_or h.tried p 0 ≡ get_or k.tried p 0
+  same_number p told = elim (cases_eq p s) [
+    | inl same ↦ let e : get_or h.tried s 0 ≡ get_or k.tried s 0 = let e = same_weave in cc in
+        subst (λ q. get_or h.tried q 0 ≡ get_or k.tried q 0) (sym same) e
+    | inr apart ↦
+        let e = one_weave_from copies end p (missing (get_or h.tried p 0)) (missing (get_or k.tried p 0)) (h.others p told apart)
+        (k.others p told (λ same. apart (same ∙ sym one_start))) in
+        cc
+  ]
+
+  same_tried : h.tried ≡ k.tried
+  same_tried = ext_get_or 0 h.tried k.tried (h.places ∙ sym k.places) (λ p lt. elim (cases_eq (get_or h.tried p 0) (get_or k.tried p 0)) [
+    | inl same ↦ same
+    | inr apart ↦
+        let untold : IsToldStart copies end p → ⊥ = λ told. apart (same_number p told) in
+        h.untold p untold ∙ sym (k.untold p untold)
+  ])
+
+  pub one_several : woven a m ≡ woven b n
+  one_several =
+      let bytes : a ≡ b = let e = same_weave in cc in
+      let counts : m ≡ n = h.counted ∙ ap (λ tried. capped (sum tried)) same_tried ∙ sym k.counted in
+      ap (λ z. woven z m) bytes ∙ ap (woven b) counts
+
+-- ---- the same copies
+
+module _ (copies others : List (List ℕ)) (same : HasSameMembers copies others) (end : ℕ) where
+  told_as : (start : ℕ) → IsToldStart copies end start → IsToldStart others end start
+  told_as start h = record { copy = h.copy; there = (same h.copy).0 h.there; cut = h.cut; content = h.content }
+
+  told_back : (start : ℕ) → IsToldStart others end start → IsToldStart copies end start
+  told_back start h = record { copy = h.copy; there = (same h.copy).1 h.there; cut = h.cut; content = h.content }
+
+  weave_from_as : (start : ℕ) (weave : Weave) → IsWeaveFrom copies end start weave → IsWeaveFrom others end start weave
+  weave_from_as start weave h =
+      weave_as Slice (map sized (versions_at copies start end)) (map sized (versions_at others start end)) (same_sized copies others same start end) weave h
+
+  pub several_as : (start : ℕ) (bytes : List ℕ) (count : ℕ) → IsWeaveOfSeveral copies start end bytes count → IsWeaveOfSeveral others start end bytes count
+  several_as start bytes count h =
+      record {
+        are_bytes = λ copy there. h.are_bytes copy ((same copy).1 there);
+        none = λ piece p. h.none piece (record {
+          copy = p.copy;
+          there = (same p.copy).1 p.there;
+          cut = p.cut;
+          content = p.content;
+          bytes = p.bytes;
+          passes = p.passes;
+        });
+        several = record {
+          one = h.several.one;
+          other = h.several.other;
+          one_there = told_as h.several.one h.several.one_there;
+          other_there = told_as h.several.other h.several.other_there;
+          differ = h.several.differ;
+        };
+        told = told_as start h.told;
+        tried = h.tried;
+        places = h.places;
+        weave' = weave_from_as start (woven bytes (get_or h.tried start 0)) h.weave';
+        others = λ other told apart. weave_from_as other (missing (get_or h.tried other 0)) (h.others other (told_back other told) apart);
+        untold = λ other untold. h.untold other (λ told. untold (told_as other told));
+        counted = h.counted;
+      }
+
+-- ---- the next start, copy by copy
+
+abbrev pub IsNext : List (List ℕ) → (end from : ℕ) → Option ℕ → Type 0
+IsNext copies end from next =
+    MatchOption next ((start : ℕ) → IsToldStart copies end start → start < from) (IsNextTold copies end from)
+
+module _ (copies : List (List ℕ)) (copy : List ℕ) (end from : ℕ) where
+  -- a copy that tells no start from the place on
+  pub next_kept : (next : Option ℕ) → ((start : ℕ) → IsCut copy start end → HasContent start end → start < from) → IsNext copies end from next
+      → IsNext (copies ++ copy ∷ []) end from next
+  next_kept None below h = λ start told. elim (start_back copies copy end start told) [ inl there ↦ h start there | inr new ↦ below start new.0 new.1 ]
+  next_kept (Some first) below h =
+      record {
+        there = start_on copies copy end first h.there;
+        beyond = h.beyond;
+        least = λ other told low. elim (start_back copies copy end other told) [
+          | inl there ↦ h.least other there low
+          | inr new ↦ let early = below other new.0 new.1 in absurd (omega arith)
+        ];
+      }
+
+  -- and one that does
+  pub next_more : (next : Option ℕ) (start after : ℕ) → IsCut copy start end → HasContent start end → from ≤ start
+      → MatchOption next (after ≡ start) (λ first. after ≡ min first start) → IsNext copies end from next
+      → IsNextTold (copies ++ copy ∷ []) end from after
+  next_more None start after cut content low is h =
+      let new : IsToldStart (copies ++ copy ∷ []) end start =
+      record { copy = copy; there = last copies copy end; cut = cut; content = content } in
+      record {
+        there = subst (IsToldStart (copies ++ copy ∷ []) end) (sym is) new;
+        beyond = omega arith;
+        least = λ other told above. elim (start_back copies copy end other told) [
+          | inl there ↦ let early = h other there in absurd (omega arith)
+          | inr own ↦ let same = one_cut copies copy end start other cut own.0 in omega arith
+        ];
+      }
+  next_more (Some first) start after cut content low is h =
+      let new : IsToldStart (copies ++ copy ∷ []) end start =
+      record { copy = copy; there = last copies copy end; cut = cut; content = content } in
+      let beyond = h.beyond in
+      record {
+        there = elim (cases_lt first start) [
+          | inl below ↦ let same : first ≡ after = omega arith in
+              subst (IsToldStart (copies ++ copy ∷ []) end) same (start_on copies copy end first h.there)
+          | inr above ↦ let same : start ≡ after = omega arith in subst (IsToldStart (copies ++ copy ∷ []) end) same new
+        ];
+        beyond = omega arith;
+        least = λ other told high. elim (start_back copies copy end other told) [
+          | inl there ↦ let least = h.least other there high in omega arith
+          | inr own ↦ let same = one_cut copies copy end start other cut own.0 in omega arith
+        ];
+      }

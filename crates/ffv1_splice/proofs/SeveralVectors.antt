@@ -1,0 +1,239 @@
+-- Two copies of a slice, of which one is hurt in its first byte, and the other in its size field, so that they tell two starts: it is woven
+-- from the one at which it begins.
+use Rattle.std.proofs.Common.{◌≡◌, ℕ, zero, suc, ◌<◌, true, List, [], ◌∷◌, length, get_or, map, replicate, refl, sym, ap, ◌∙◌, subst, arith, inl, inr, ltb, ltb-true}
+use Rattle.std.specs.Prelude.{◌⊎◌, Contains, slice_range}
+use Rattle.std.specs.List.{list_all}
+use Rattle.std.proofs.lemmas.Bool.{and_parts}
+use Rattle.std.proofs.lemmas.List.{ext_get_or}
+use Rattle.ffv1_bits.specs.Bits.{number_bits, bits_of}
+use Rattle.ffv1_bits.specs.Parity.{AreBytes, PassesParity, polynomial_of, reduced_at, divided, remainder_of}
+use Rattle.ffv1_slice.specs.Chain.{IsCut}
+use Rattle.ffv1_slice.specs.Members.{IsOfNone}
+use Rattle.ffv1_slice.proofs.NearVectors as vectors
+use Rattle.ffv1_weave.specs.Grains.{grains}
+use Rattle.ffv1_weave.specs.Seams.{IsSegment}
+use Rattle.ffv1_weave.specs.Combinations.{IsCombinationBy, IsTriedBy}
+use Rattle.ffv1_weave.specs.Weave.{IsWeaveOf}
+use Rattle.ffv1_weave.specs.Weave.Weave.{woven, missing}
+use Rattle.ffv1_weave.specs.declared.check.Check.TheVariants.{Slice}
+use Rattle.ffv1_weave.proofs.Tried.{tried_combination}
+use Rattle.ffv1_splice.specs.Pieces.{IsPiece, IsToldStart}
+use Rattle.ffv1_splice.specs.Standings.{versions_at, sized, StandsAs}
+use Rattle.ffv1_splice.specs.declared.place.Standing.TheVariants.{Woven}
+use Rattle.ffv1_splice.proofs.FirstSlices.{same_inside}
+use Rattle.ffv1_splice.proofs.SeveralSteps.{zeros_anywhere}
+use Rattle.ffv1_splice.proofs.Vectors.{twice_one, twice_few, first_slice_passes}
+
+abbrev hurt_first : List ℕ
+hurt_first = 0xFC ∷ 0xF6 ∷ 0x80 ∷ 0 ∷ 0 ∷ 3 ∷ 0 ∷ 0x1C ∷ 0x3E ∷ 0xA0 ∷ 0x9B ∷ []
+
+-- its size field tells a slice that begins a byte later
+abbrev hurt_size : List ℕ
+hurt_size = 0xFD ∷ 0xF6 ∷ 0x80 ∷ 0 ∷ 0 ∷ 2 ∷ 0 ∷ 0x1C ∷ 0x3E ∷ 0xA0 ∷ 0x9B ∷ []
+
+abbrev pub torn_copies : List (List ℕ)
+torn_copies = hurt_first ∷ hurt_size ∷ []
+
+-- what both copies have from there on
+abbrev later : List ℕ
+later = 0xF6 ∷ 0x80 ∷ 0 ∷ 0 ∷ 2 ∷ 0 ∷ 0x1C ∷ 0x3E ∷ 0xA0 ∷ 0x9B ∷ []
+
+abbrev two : List (List ℕ)
+two = hurt_first ∷ vectors.first_slice ∷ []
+
+from_its_start : map sized (versions_at torn_copies 0 11) ≡ two
+from_its_start = refl
+
+from_the_other : map sized (versions_at torn_copies 1 11) ≡ later ∷ later ∷ []
+from_the_other = refl
+
+hurt_first_fails : PassesParity hurt_first → ⊥
+unfolding number_bits bits_of polynomial_of reduced_at divided remainder_of
+hurt_first_fails passes = absurd (omega arith)
+
+later_fails : PassesParity later → ⊥
+unfolding number_bits bits_of polynomial_of reduced_at divided remainder_of
+later_fails passes = absurd (omega arith)
+
+-- ---- what is told
+
+told_which : (copy : List ℕ) (start : ℕ) → Contains torn_copies copy → IsCut copy start 11
+    → ((copy ≡ hurt_first) × (start ≡ 0)) ⊎ ((copy ≡ hurt_size) × (start ≡ 1))
+told_which copy start (zero, lt, is) cut =
+    let told : IsCut hurt_first start 11 = subst (λ c. IsCut c start 11) (sym is) cut in inl (sym is, omega arith)
+told_which copy start (suc zero, lt, is) cut =
+    let told : IsCut hurt_size start 11 = subst (λ c. IsCut c start 11) (sym is) cut in inr (sym is, omega arith)
+told_which copy start (suc (suc k), lt, is) cut = absurd (omega arith)
+
+first_told : IsToldStart torn_copies 11 0
+first_told = record { copy = hurt_first; there = (0, omega arith, refl); cut = refl; content = omega arith }
+
+other_told : IsToldStart torn_copies 11 1
+other_told = record { copy = hurt_size; there = (1, omega arith, refl); cut = refl; content = omega arith }
+
+-- neither is a piece
+no_piece : IsOfNone (IsPiece torn_copies 11)
+no_piece piece h = elim (told_which h.copy piece.start h.there h.cut) [
+  | inl at ↦ hurt_first_fails (subst PassesParity
+      (h.bytes ∙ ap (λ s. slice_range h.copy s 11) at.1 ∙ ap (λ c. slice_range c 0 11) at.0) h.passes)
+  | inr at ↦ later_fails (subst PassesParity
+      (h.bytes ∙ ap (λ s. slice_range h.copy s 11) at.1 ∙ ap (λ c. slice_range c 1 11) at.0) h.passes)
+]
+
+-- ---- from the first start
+
+abbrev first_of : {X : Type 0} → (xs : List X) → 0 < length xs → X
+first_of [] some = absurd (omega arith)
+first_of (x ∷ xs) some = x
+
+which : (version : List ℕ) → Contains two version → (version ≡ hurt_first) ⊎ (version ≡ vectors.first_slice)
+which version (zero, lt, is) = inl (sym is)
+which version (suc zero, lt, is) = inr (sym is)
+which version (suc (suc k), lt, is) = absurd (omega arith)
+
+hurt_there : Contains two hurt_first
+hurt_there = (0, omega arith, refl)
+
+right_there : Contains two vectors.first_slice
+right_there = (1, omega arith, refl)
+
+first_byte : IsSegment 0 two 0 1
+first_byte =
+    record {
+      some = omega arith;
+      first = inl refl;
+      last = inl (record {
+        one = hurt_first;
+        other = vectors.first_slice;
+        one_there = hurt_there;
+        other_there = right_there;
+        parted = inr (record { last = 0; next = refl; differ = λ same. absurd (omega arith); after = λ i low lt. absurd (omega arith) });
+      });
+      within = λ i low lt seam. absurd (omega arith);
+    }
+
+same_rest : (i : ℕ) (one other : List ℕ) → Contains two one → Contains two other → get_or one (suc i) 0 ≡ get_or other (suc i) 0
+same_rest i one other there here = rest one there ∙ sym (rest other here)
+  where
+    rest : (version : List ℕ) → Contains two version → get_or version (suc i) 0 ≡ get_or hurt_first (suc i) 0
+    rest version there = elim (which version there) [ inl is ↦ ap (λ v. get_or v (suc i) 0) is | inr is ↦ ap (λ v. get_or v (suc i) 0) is ]
+
+length_eleven : (version : List ℕ) → Contains two version → length version ≡ 11
+length_eleven version there = elim (which version there) [ inl is ↦ ap length is | inr is ↦ ap length is ]
+
+either : (bytes : List ℕ) → IsCombinationBy (first_of grains (omega arith)) two bytes → (bytes ≡ hurt_first) ⊎ (bytes ≡ vectors.first_slice)
+either bytes is =
+    let version = is.parts 0 1 first_byte in
+    let front : get_or bytes 0 0 ≡ get_or version.0 0 0 = same_inside bytes version.0 0 1 0 (omega arith) (omega arith) version.2 in
+    let same : bytes ≡ version.0 = ext_get_or 0 bytes version.0 (is.same_length version.0 version.1) (λ i lt. at version.0 version.1 front i) in
+    elim (which version.0 version.1) [ inl hurt ↦ inl (same ∙ hurt) | inr right ↦ inr (same ∙ right) ]
+  where
+    at : (version : List ℕ) → Contains two version → get_or bytes 0 0 ≡ get_or version 0 0 → (i : ℕ) → get_or bytes i 0 ≡ get_or version i 0
+    at version there front zero = front
+    at version there front (suc i) = is.agrees (suc i) (λ one other in_one in_other. same_rest i one other in_one in_other) version there
+
+itself : (grain : _) (version : List ℕ) → Contains two version → IsCombinationBy grain two version
+itself grain version here =
+    record {
+      same_length = λ other there. length_eleven version here ∙ sym (length_eleven other there);
+      agrees = λ i agree other there. agree version other here there;
+      parts = λ start end part. (version, here, refl);
+    }
+
+abbrev numbered : ℕ → List ℕ
+numbered zero = hurt_first
+numbered (suc k) = vectors.first_slice
+
+number_there : (k : ℕ) → Contains two (numbered k)
+number_there zero = hurt_there
+number_there (suc k) = right_there
+
+apart : hurt_first ≡ vectors.first_slice → ⊥
+apart same = let e : get_or hurt_first 0 0 ≡ get_or vectors.first_slice 0 0 = ap (λ z. get_or z 0 0) same in absurd (omega arith)
+
+once : (j k : ℕ) → j < 2 → k < 2 → numbered j ≡ numbered k → j ≡ k
+once zero zero low lt same = refl
+once zero (suc k) low lt same = absurd (apart same)
+once (suc j) zero low lt same = absurd (apart (sym same))
+once (suc j) (suc k) low lt same = omega arith
+
+tried_two : IsTriedBy two (first_of grains (omega arith)) 2
+tried_two = record {
+  place = 0;
+  there = omega arith;
+  is = refl;
+  finer = λ k lt. absurd (omega arith);
+  few = record {
+    numbered = record {
+      at = numbered;
+      are = λ k lt. itself _ (numbered k) (number_there k);
+      all = λ bytes is. elim (either bytes is) [ inl hurt ↦ (0, omega arith, sym hurt) | inr right ↦ (1, omega arith, sym right) ];
+      once = once;
+    };
+    few = omega arith;
+  };
+}
+
+woven_of_two : IsWeaveOf Slice two (woven vectors.first_slice 2)
+woven_of_two = (
+  record {
+    there = record {
+      grain = _;
+      count = 2;
+      tried = tried_two;
+      combination = itself _ vectors.first_slice right_there;
+      passes = (record { footer = omega arith; size = refl }, first_slice_passes);
+    };
+    others = λ other valid. elim (either other (tried_combination two Slice (first_of grains (omega arith)) 2 tried_two other valid)) [
+      | inl hurt ↦ absurd (hurt_first_fails (subst PassesParity hurt valid.passes.1))
+      | inr right ↦ right
+    ];
+  },
+  record { grain = _; tried = tried_two },
+)
+
+missing_of_later : IsWeaveOf Slice (later ∷ later ∷ []) (missing 1)
+missing_of_later = (λ bytes valid. later_fails (subst PassesParity (twice_one later valid.grain bytes valid.combination) valid.passes.1), twice_few later)
+
+-- ---- from both
+
+bytes_by : (xs : List ℕ) → list_all (λ b. ltb b 256) xs ≡ true → AreBytes xs
+bytes_by [] h i = omega arith
+bytes_by (x ∷ xs) h zero = ltb-true x 256 (and_parts (ltb x 256) (list_all (λ b. ltb b 256) xs) h).0
+bytes_by (x ∷ xs) h (suc i) = bytes_by xs (and_parts (ltb x 256) (list_all (λ b. ltb b 256) xs) h).1 i
+
+are_bytes : (copy : List ℕ) → Contains torn_copies copy → AreBytes copy
+are_bytes copy (zero, lt, is) = subst AreBytes is (bytes_by hurt_first refl)
+are_bytes copy (suc zero, lt, is) = subst AreBytes is (bytes_by hurt_size refl)
+are_bytes copy (suc (suc k), lt, is) = absurd (omega arith)
+
+-- how many combinations were tried from each place
+abbrev tried : List ℕ
+tried = 2 ∷ 1 ∷ replicate 9 0
+
+none_tried : (start : ℕ) → (IsToldStart torn_copies 11 start → ⊥) → get_or tried start 0 ≡ 0
+none_tried zero untold = absurd (untold first_told)
+none_tried (suc zero) untold = absurd (untold other_told)
+none_tried (suc (suc start)) untold = zeros_anywhere 9 start
+
+from_another : (start : ℕ) → IsToldStart torn_copies 11 start → (start ≡ 0 → ⊥)
+    → IsWeaveOf Slice (map sized (versions_at torn_copies start 11)) (missing (get_or tried start 0))
+from_another start told other = elim (told_which told.copy start told.there told.cut) [
+  | inl at ↦ absurd (other at.1)
+  | inr at ↦ subst (λ s. IsWeaveOf Slice (map sized (versions_at torn_copies s 11)) (missing (get_or tried s 0))) (sym at.1) missing_of_later
+]
+
+-- so the slice is woven, of two combinations from its start and one from the other
+pub torn_stands : StandsAs torn_copies 0 11 vectors.first_slice (Woven 3)
+torn_stands = inr (inr (record {
+  are_bytes = are_bytes;
+  none = no_piece;
+  several = record { one = 0; other = 1; one_there = first_told; other_there = other_told; differ = λ same. absurd (omega arith) };
+  told = first_told;
+  tried = tried;
+  places = refl;
+  weave' = woven_of_two;
+  others = from_another;
+  untold = none_tried;
+  counted = refl;
+}))

@@ -1,0 +1,227 @@
+-- A combination of what copies have that tells its size is a combination of what they have with that size too.
+use Rattle.std.proofs.Common.{◌≡◌, ℕ, zero, suc, ◌+◌, ◌-◌, ◌*◌, ◌<◌, ◌≤◌, List, [], ◌∷◌, ◌++◌, length, get_or, take, drop, map, get_or-drop, refl, sym, ap, ◌∙◌, subst, arith, inl, inr}
+use Rattle.std.specs.Prelude.{◌⊎◌, Contains, slice_range}
+use Rattle.std.proofs.lemmas.Bool.{cases_lt}
+use Rattle.std.proofs.lemmas.List.{get_or_append_left, get_or-append_right, get_or-take, length-take-le}
+use Rattle.std.proofs.lemmas.Nat.{be_bytes_4}
+use Rattle.std.proofs.Math.ListN.{get_or-eq_default}
+use Rattle.byteorder.specs.Endian.{big_bytes}
+use Rattle.byteorder.specs.Numbers.{length-bytes_high_first}
+use Rattle.ffv1_bits.specs.Parity.{AreBytes}
+use Rattle.ffv1_bits.proofs.Bytes.{AreBytes-range}
+use Rattle.ffv1_slice.specs.Chain.{IsFramed}
+use Rattle.ffv1_weave.specs.Regions.{HaveLength, AgreeAt, DifferAt, IsRegion}
+use Rattle.ffv1_weave.specs.Combinations.{IsCombination}
+use Rattle.ffv1_weave.proofs.Agreeing.{agree_past}
+use Rattle.ffv1_weave.proofs.Choices.{same_range, range_at}
+use Rattle.ffv1_splice.specs.Standings.{versions_at, sized}
+use Rattle.ffv1_splice.proofs.PlaceSteps.{AllReach}
+use Rattle.ffv1_splice.proofs.Versions.{mapped_there, mapped_of, version_there, version_of, version_length}
+use Rattle.ffv1_splice.proofs.FirstSlices.{length-sized, same_inside, combination_between}
+use Rattle.ffv1_splice.proofs.WiderRegions.{IsDense, in_region}
+
+-- ---- bytes with their size, place by place
+
+-- where a place is one of the size field
+IsInField : ℕ → ℕ → Type 0
+IsInField size i = (size ≤ i + 8) × (i + 5 < size)
+
+field_or_not : (size i : ℕ) → 8 ≤ size → (IsInField size i → ⊥) ⊎ IsInField size i
+unfolding IsInField
+field_or_not size i long = elim (cases_lt (i + 8) size) [
+  | inl before ↦ inl (λ h. let low = h.0 in omega arith)
+  | inr low ↦ elim (cases_lt (i + 5) size) [
+    | inl lt ↦ inr (low, lt)
+    | inr past ↦ inl (λ h. let lt = h.1 in omega arith)
+  ]
+]
+
+module _ (bytes : List ℕ) (long : 8 ≤ length bytes) where
+  -- what stands before the field
+  length-front : length (take (length bytes - 8) bytes) ≡ length bytes - 8
+  length-front = length-take-le (length bytes - 8) bytes (omega arith)
+
+  sized_past : (i : ℕ) → length bytes ≤ i + 8
+      → get_or (sized bytes) i 0 ≡ get_or (big_bytes 3 (length bytes - 8) ++ drop (length bytes - 5) bytes) (i - (length bytes - 8)) 0
+  sized_past i low =
+      get_or-append_right (take (length bytes - 8) bytes) (big_bytes 3 (length bytes - 8) ++ drop (length bytes - 5) bytes) (length bytes - 8) i 0
+      length-front (omega arith)
+
+  -- off the field they are as they were
+  sized_off : (i : ℕ) → (IsInField (length bytes) i → ⊥) → get_or (sized bytes) i 0 ≡ get_or bytes i 0
+  unfolding IsInField
+  sized_off i off = elim (cases_lt (i + 8) (length bytes)) [
+    | inl before ↦
+        get_or_append_left (take (length bytes - 8) bytes) (big_bytes 3 (length bytes - 8) ++ drop (length bytes - 5) bytes) 0 i (omega (arith, length-front))
+        ∙ get_or-take (length bytes - 8) bytes i 0 (omega arith)
+    | inr low ↦ elim (cases_lt (i + 5) (length bytes)) [
+      | inl lt ↦ absurd (off (low, lt))
+      | inr past ↦
+          let same : length bytes - 5 + (i - (length bytes - 8) - 3) ≡ i = omega arith in
+          sized_past i low
+          ∙ get_or-append_right (big_bytes 3 (length bytes - 8)) (drop (length bytes - 5) bytes) 3 (i - (length bytes - 8)) 0
+          (length-bytes_high_first 3 (length bytes - 8)) (omega arith)
+          ∙ get_or-drop (length bytes - 5) bytes (i - (length bytes - 8) - 3) 0 ∙ ap (λ k. get_or bytes k 0) same
+    ]
+  ]
+
+  sized_in_own : (i : ℕ) → IsInField (length bytes) i
+      → get_or (sized bytes) i 0 ≡ get_or (big_bytes 3 (length bytes - 8)) (i - (length bytes - 8)) 0
+  unfolding IsInField
+  sized_in_own i field =
+      let low = field.0 in
+      let high = field.1 in
+      sized_past i low
+      ∙ get_or_append_left (big_bytes 3 (length bytes - 8)) (drop (length bytes - 5) bytes) 0 (i - (length bytes - 8))
+      (omega (arith, length-bytes_high_first 3 (length bytes - 8)))
+
+-- in the field they have the size of a slice that is as long
+sized_in : (bytes : List ℕ) (size : ℕ) → 8 ≤ size → length bytes ≡ size → (i : ℕ) → IsInField size i
+    → get_or (sized bytes) i 0 ≡ get_or (big_bytes 3 (size - 8)) (i - (size - 8)) 0
+sized_in bytes size long same i =
+    subst (λ n. IsInField n i → get_or (sized bytes) i 0 ≡ get_or (big_bytes 3 (n - 8)) (i - (n - 8)) 0) same (sized_in_own bytes (omega arith) i)
+
+-- ---- a slice that tells its size
+
+four_small : (a b c : ℕ) → a < 256 → b < 256 → c < 256 → AreBytes (0 ∷ a ∷ b ∷ c ∷ [])
+four_small a b c x y z zero = omega arith
+four_small a b c x y z (suc zero) = x
+four_small a b c x y z (suc (suc zero)) = y
+four_small a b c x y z (suc (suc (suc zero))) = z
+four_small a b c x y z (suc (suc (suc (suc i)))) = omega arith
+
+-- three bytes are those of the number in them
+three_bytes : (a b c n : ℕ) → a < 256 → b < 256 → c < 256 → n ≡ a * 65536 + (b * 256 + (c * 1 + 0)) → big_bytes 3 n ≡ a ∷ b ∷ c ∷ []
+three_bytes a b c n x y z is = ap (drop 1) (be_bytes_4 (0 ∷ a ∷ b ∷ c ∷ []) n refl (four_small a b c x y z) (omega arith))
+
+module _ (slice : List ℕ) (small : AreBytes slice) (framed : IsFramed slice) where
+  abbrev footer : List ℕ
+  footer = slice_range slice (length slice - 8) (length slice)
+
+  field_bytes : big_bytes 3 (length slice - 8) ≡ get_or footer 0 0 ∷ get_or footer 1 0 ∷ get_or footer 2 0 ∷ []
+  field_bytes =
+      let bytes : AreBytes footer = AreBytes-range slice (length slice - 8) (length slice) small in
+      three_bytes (get_or footer 0 0) (get_or footer 1 0) (get_or footer 2 0) (length slice - 8) (bytes 0) (bytes 1) (bytes 2) (sym framed.size)
+
+  field_at : (j : ℕ) → j < 3 → get_or footer j 0 ≡ get_or (big_bytes 3 (length slice - 8)) j 0
+  field_at zero lt = sym (ap (λ z. get_or z 0 0) field_bytes)
+  field_at (suc zero) lt = sym (ap (λ z. get_or z 1 0) field_bytes)
+  field_at (suc (suc zero)) lt = sym (ap (λ z. get_or z 2 0) field_bytes)
+  field_at (suc (suc (suc j))) lt = absurd (omega arith)
+
+  own_field : (i : ℕ) → IsInField (length slice) i → get_or slice i 0 ≡ get_or (big_bytes 3 (length slice - 8)) (i - (length slice - 8)) 0
+  unfolding IsInField
+  own_field i field =
+      let low = field.0 in
+      let high = field.1 in
+      sym (range_at slice (length slice - 8) (length slice) i (omega arith) (omega arith)) ∙ field_at (i - (length slice - 8)) (omega arith)
+
+field_of_slice : (slice : List ℕ) (size : ℕ) → AreBytes slice → IsFramed slice → length slice ≡ size → (i : ℕ) → IsInField size i
+    → get_or slice i 0 ≡ get_or (big_bytes 3 (size - 8)) (i - (size - 8)) 0
+field_of_slice slice size small framed same i =
+    subst (λ n. IsInField n i → get_or slice i 0 ≡ get_or (big_bytes 3 (n - 8)) (i - (n - 8)) 0) same (own_field slice small framed i)
+
+-- ---- a combination
+
+module _ (copies : List (List ℕ)) (start end : ℕ) (copy slice : List ℕ) (reach : AllReach copies end) (there : Contains copies copy)
+    (below : start + 8 ≤ end) (are_bytes : (copy : List ℕ) → Contains copies copy → AreBytes copy) (framed : IsFramed slice)
+    (is : IsCombination (versions_at copies start end) slice) where
+  abbrev versions : List (List ℕ)
+  versions = versions_at copies start end
+
+  abbrev size : ℕ
+  size = end - start
+
+  first_there : Contains versions (slice_range copy start end)
+  first_there = version_there copies start end copy there
+
+  long : HaveLength versions size
+  long = version_length copies start end (omega arith) reach
+
+  slice_length : length slice ≡ size
+  slice_length = is.same_length (slice_range copy start end) first_there ∙ long (slice_range copy start end) first_there
+
+  slice_bytes : AreBytes slice
+  slice_bytes i = elim (cases_lt i size) [
+    | inl lt ↦
+        let part = combination_between versions size long slice is (slice_range copy start end) first_there i (i + 1) (omega arith) (omega arith) (omega arith) in
+        let of = version_of copies start end part.0 part.1 in
+        let same : get_or slice i 0 ≡ get_or part.0 i 0 = same_inside slice part.0 i (i + 1) i (omega arith) (omega arith) part.2 in
+        let small : AreBytes part.0 = subst AreBytes (sym of.2) (AreBytes-range of.0 start end (are_bytes of.0 of.1)) in
+        omega (arith, small i)
+    | inr past ↦ omega (arith, get_or-eq_default slice 0 (let same = slice_length in let far : length slice ≤ i = omega arith in far))
+  ]
+
+  -- In the field the slice has what each version with its size has; elsewhere a version is as it was.
+  same_in : (version : List ℕ) → Contains versions version → (i : ℕ) → IsInField size i → get_or slice i 0 ≡ get_or (sized version) i 0
+  same_in version here i field =
+      field_of_slice slice size slice_bytes framed slice_length i field
+      ∙ sym (sized_in version size (omega arith) (long version here) i field)
+
+  same_off : (version : List ℕ) → Contains versions version → (i : ℕ) → (IsInField size i → ⊥) → get_or (sized version) i 0 ≡ get_or version i 0
+  same_off version here i off =
+      let same = long version here in
+      sized_off version (omega arith) i (λ field. off (subst (λ n. IsInField n i) same field))
+
+  -- where the versions agree, they do so with their size
+  agree_sized : (i : ℕ) → AgreeAt versions i → AgreeAt (map sized versions) i
+  agree_sized i agree one other in_one in_other =
+      let a = mapped_of sized versions one in_one in
+      let b = mapped_of sized versions other in_other in
+      let same : get_or (sized a.0) i 0 ≡ get_or (sized b.0) i 0 = elim (field_or_not size i (omega arith)) [
+        | inl off ↦ same_off a.0 a.1 i off ∙ agree a.0 b.0 a.1 b.1 ∙ sym (same_off b.0 b.1 i off)
+        | inr field ↦ sym (same_in a.0 a.1 i field) ∙ same_in b.0 b.1 i field
+      ] in
+      ap (λ z. get_or z i 0) a.2 ∙ same ∙ sym (ap (λ z. get_or z i 0) b.2)
+
+  dense : (from to : ℕ) → IsRegion (map sized versions) from to → IsDense versions from to
+  dense from to h =
+      record {
+        some = h.some;
+        first = λ agree. h.first (agree_sized from agree);
+        last = λ agree. let last : DifferAt (map sized versions) (to - 1) = h.last in last (agree_sized (to - 1) agree);
+        within = λ i low high. let spot = h.within i low high in (spot.0, spot.1, spot.2, λ agree. spot.3 (agree_sized spot.0 agree));
+      }
+
+  -- what the slice has of one version, it has of that version with its size
+  same_at : (version : List ℕ) → Contains versions version → (i : ℕ) → get_or slice i 0 ≡ get_or version i 0 → get_or slice i 0 ≡ get_or (sized version) i 0
+  same_at version here i same = elim (field_or_not size i (omega arith)) [
+    | inl off ↦ same ∙ sym (same_off version here i off)
+    | inr field ↦ same_in version here i field
+  ]
+
+  sized_size : (version : List ℕ) → Contains versions version → length (sized version) ≡ size
+  sized_size version here = let same = long version here in length-sized version (omega arith) ∙ same
+
+  pub sized_combination : IsCombination (map sized versions) slice
+  sized_combination =
+      record {
+        same_length = λ one in_one.
+            let a = mapped_of sized versions one in_one in slice_length ∙ sym (ap length a.2 ∙ sized_size a.0 a.1);
+        agrees = λ i agree one in_one.
+            let a = mapped_of sized versions one in_one in
+            let same : get_or slice i 0 ≡ get_or (sized a.0) i 0 = elim (field_or_not size i (omega arith)) [
+              | inl off ↦ is.agrees i (λ v w in_v in_w. sym (same_off v in_v i off)
+                  ∙ agree (sized v) (sized w) (mapped_there sized versions v in_v) (mapped_there sized versions w in_w)
+                  ∙ same_off w in_w i off) a.0 a.1 ∙ sym (same_off a.0 a.1 i off)
+              | inr field ↦ same_in a.0 a.1 i field
+            ] in
+            same ∙ sym (ap (λ z. get_or z i 0) a.2);
+        parts = λ from to region.
+            let wide = in_region versions size long from to (dense from to region) in
+            let whole = is.parts wide.begin wide.last wide.region in
+            let low = wide.before in
+            let high = wide.beyond in
+            let some = region.some in
+            let same = slice_length in
+            let own = sized_size whole.0 whole.1 in
+            let inside : to ≤ size = elim (cases_lt (to - 1) size) [
+              | inl lt ↦ omega arith
+              | inr past ↦ absurd (region.last (agree_sized (to - 1) (agree_past versions size (to - 1) long past)))
+            ] in (
+              sized whole.0,
+              mapped_there sized versions whole.0 whole.1,
+              same_range slice (sized whole.0) from to (omega arith) (omega arith)
+                  (λ i above lt. same_at whole.0 whole.1 i (same_inside slice whole.0 wide.begin wide.last i (omega arith) (omega arith) whole.2)),
+            );
+      }

@@ -1,0 +1,148 @@
+//! The slice that ends at a place where the footers tell several starts: it begins at the one from which it can be woven.
+ghost use Rattle.std.specs.Prelude.{◌≡◌, ◌≤◌, ◌<◌, ℕ, List, Contains, length, map, min, All, IfOk, MatchOption};
+ghost use Rattle.ffv1_bits.specs.Parity.{AreBytes};
+ghost use Rattle.ffv1_slice.specs.Chain.{IsCut};
+ghost use Rattle.ffv1_slice.specs.Members.{IsOfNone, IsOfTwo};
+ghost use Rattle.ffv1_weave.specs.Weave.{weave_told};
+ghost use Rattle.ffv1_weave.specs.Weave.Weave.{woven, missing};
+ghost use Rattle.ffv1_splice.specs.Pieces.{HasContent, IsPiece, IsToldStart};
+ghost use Rattle.ffv1_splice.specs.Placing.{IsPlacedOrStop};
+ghost use Rattle.ffv1_splice.specs.Several.{IsNextTold, AreTriedBefore, tried_told, tried_more};
+
+use crate::place::{Place, Standing};
+use crate::placing::write_at;
+use crate::sized::weave_sized;
+use crate::told::told_start;
+use ffv1_weave::Outcome;
+use std::alloc::{AllocError, Global};
+
+/// What came of the starts that were tried.
+#[derive(Drop)]
+pub(crate) enum Tried {
+    /// Nothing came of any, of so many combinations.
+    Missing(usize),
+    /// From this start these bytes were woven, and nothing came of any other, of so many combinations from all starts.
+    Woven(usize, Vec<u8>, usize),
+    /// Two starts gave a slice, or it can't be told what one of them gives.
+    Undecided,
+}
+
+impl Tried {
+    /// The same with what comes of one more start.
+    fn with(self, start: usize, outcome: Outcome) -> Tried
+        ensures { tried_told result ≡ tried_more (tried_told self) start (weave_told outcome) }
+    {
+        match outcome {
+            Outcome::Woven(bytes, more) => self.with_woven(start, bytes, more),
+            Outcome::Missing(more) => self.with_missing(more),
+            Outcome::Disputed | Outcome::TooMany => Tried::Undecided,
+        }
+    }
+
+    /// The same with one more start, from which bytes are woven.
+    fn with_woven(self, start: usize, bytes: Vec<u8>, more: usize) -> Tried
+        ensures { tried_told result ≡ tried_more (tried_told self) start (woven bytes.items more) }
+    {
+        match self {
+            Tried::Missing(count) => Tried::Woven(start, bytes, count.saturating_add(more)),
+            Tried::Woven(_, _, _) | Tried::Undecided => Tried::Undecided,
+        }
+    }
+
+    /// The same with one more start, from which nothing comes.
+    fn with_missing(self, more: usize) -> Tried
+        ensures { (start : ℕ) → tried_told result ≡ tried_more (tried_told self) start (missing more) }
+    {
+        match self {
+            Tried::Missing(count) => Tried::Missing(count.saturating_add(more)),
+            Tried::Woven(first, bytes, count) => {
+                Tried::Woven(first, bytes, count.saturating_add(more))
+            }
+            Tried::Undecided => Tried::Undecided,
+        }
+    }
+}
+
+/// The place that ends there, where no piece does, and two starts that differ are told. It is there only where it can be woven from one
+/// start alone, and from no other any combination is a slice, each copy taken with the size that the slice then has: it is written over
+/// the payload's bytes. Each copy has the end, and so has the payload. It takes memory for what each copy has from a start on.
+pub(crate) fn several_before(
+    alloc: Global,
+    copies: &[&[u8]],
+    end: usize,
+    payload: &mut [u8],
+) -> Result<Option<Place>, AllocError>
+    requires some { 0 < length copies.now }
+    requires within { All (λ copy. end ≤ length copy.now) copies.now }
+    requires room { end ≤ length payload.old }
+    requires none { IsOfNone (IsPiece (map (λ copy. copy.now) copies.now) end) }
+    requires several { IsOfTwo (IsToldStart (map (λ copy. copy.now) copies.now) end) }
+    ensures { IfOk result (IsPlacedOrStop (map (λ copy. copy.now) copies.now) end payload.old payload.new) }
+{
+    let Tried::Woven(start, bytes, count) = try_starts(alloc, copies, end)? else {
+        return Ok(None);
+    };
+    write_at(payload, start, bytes.as_slice());
+    let standing = Standing::Woven(count);
+    Ok(Some(Place {
+        start,
+        end,
+        standing,
+    }))
+}
+
+/// What comes of all starts that are told at an end. Each copy has it.
+fn try_starts(alloc: Global, copies: &[&[u8]], end: usize) -> Result<Tried, AllocError>
+    requires some { 0 < length copies.now }
+    requires within { All (λ copy. end ≤ length copy.now) copies.now }
+    ensures tried { IfOk result (λ tried. AreTriedBefore (map (λ copy. copy.now) copies.now) end end (tried_told tried)) }
+    ensures bytes { IfOk result (λ _. (copy : List ℕ) → Contains (map (λ copy. copy.now) copies.now) copy → AreBytes copy) }
+{
+    let mut tried = Tried::Missing(0);
+    let mut from = 0;
+    while let Some(start) = next_told(copies, end, from) {
+        let outcome = weave_sized(alloc, copies, start, end)?;
+        tried = tried.with(start, outcome);
+        from = start + 1;
+    }
+    Ok(tried)
+}
+
+/// The least start from a place on that is told at an end. Each copy has the end.
+fn next_told(copies: &[&[u8]], end: usize, from: usize) -> Option<usize>
+    requires { All (λ copy. end ≤ length copy.now) copies.now }
+    ensures next { MatchOption result ((start : ℕ) → IsToldStart (map (λ copy. copy.now) copies.now) end start → start < from)
+        (IsNextTold (map (λ copy. copy.now) copies.now) end from) }
+    ensures bytes { (copy : List ℕ) → Contains (map (λ copy. copy.now) copies.now) copy → AreBytes copy }
+{
+    let mut next = None;
+    for copy in copies {
+        if let Some(start) = told_from(copy, end, from) {
+            next = Some(lesser(next, start));
+        }
+    }
+    next
+}
+
+/// The start that a copy tells at an end, where it is not before a place.
+fn told_from(copy: &[u8], end: usize, from: usize) -> Option<usize>
+    requires { end ≤ length copy.now }
+    ensures told { MatchOption result ((start : ℕ) → IsCut copy.now start end → HasContent start end → start < from)
+        (λ start. IsCut copy.now start end × HasContent start end × from ≤ start) }
+    ensures bytes { AreBytes copy.now }
+{
+    let Some(start) = told_start(copy, end) else {
+        return None;
+    };
+    if from <= start { Some(start) } else { None }
+}
+
+/// The lesser of two starts, the first of which may not be there.
+fn lesser(first: Option<usize>, second: usize) -> usize
+    ensures { MatchOption first (result ≡ second) (λ first. result ≡ min first second) }
+{
+    match first {
+        Some(first) => first.min(second),
+        None => second,
+    }
+}
