@@ -62,7 +62,7 @@ room_at (c ∷ copies) (suc i) copy lt is = room_at copies i copy (omega arith) 
 
 -- ---- the versions among the cells
 
-there_among : (cells : List (Option (List ℕ))) (i : ℕ) (version : List ℕ) → get_or cells i None ≡ Some version → Contains (versions_in cells) version
+pub there_among : (cells : List (Option (List ℕ))) (i : ℕ) (version : List ℕ) → get_or cells i None ≡ Some version → Contains (versions_in cells) version
 there_among [] i version is = absurd (let no : None ≡ Some version = is in cc)
 there_among (None ∷ cells) zero version is = absurd (let no : None ≡ Some version = is in cc)
 there_among (Some v ∷ cells) zero version is = (0, omega arith, let same : v ≡ version = cc in same)

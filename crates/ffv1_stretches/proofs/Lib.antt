@@ -5,6 +5,7 @@ pub mod ListLemmas
 pub mod OrderLemmas
 pub mod CopySteps
 pub mod CellLemmas
+pub mod KnownMarks
 pub mod PassLemmas
 pub mod LineLemmas
 pub mod FileLemmas

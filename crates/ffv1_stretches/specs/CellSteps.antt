@@ -1,7 +1,10 @@
 -- What the copies have of a stretch, as the code holds it.
-use Rattle.std.specs.Prelude.{ℕ, ◌≡◌, ◌≤◌, List, Option, Some, None, MatchOption, length, map, slice_index_or, take}
+use Rattle.std.specs.Prelude.{ℕ, ◌≡◌, ◌<◌, ◌≤◌, List, [], Option, Some, None, MatchOption, length, map, slice_index_or, take}
 use Rattle.std.specs.Borrow.{Bor}
 use Rattle.std.specs.List.{zip}
+use Rattle.ffv1_mend.specs.Mended.{MendedValue}
+use Rattle.ffv1_mend.specs.declared.kind.Kind.TheVariants.{Crc32}
+use Rattle.ffv1_stretches.specs.Stretches.{StretchValue}
 
 -- what a reference reaches, if there is one
 abbrev pub cell_now : Option (Bor (List ℕ)) → Option (List ℕ)
@@ -27,3 +30,9 @@ HasVersion cells number = (version : List ℕ) × (slice_index_or cells number N
 -- a copy that has the stretch has so many bytes of it
 abbrev pub IsAsLong : ℕ → Option (List ℕ) → Type 0
 IsAsLong size cell = MatchOption cell (Unit {0}) (λ version. length version ≡ size)
+
+-- an element with parts, of which none was spliced
+pub record IsUnspliced (stretch : StretchValue) (mended : MendedValue) : Type 0 where
+  pub element : stretch.kind ≡ Crc32
+  pub parts : 0 < length stretch.parts
+  pub none : mended.splices ≡ []

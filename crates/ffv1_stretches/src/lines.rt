@@ -1,8 +1,9 @@
 //! The lines of a stretch: what becomes of it, and of what is damaged or differs the lines of its slices (own).
-ghost use Rattle.std.specs.Prelude.{◌≡◌, ◌∷◌, ◌++◌, [], map, slice_range, OnOk, IfOk, string_bytes};
+ghost use Rattle.std.specs.Prelude.{◌≡◌, ◌∷◌, ◌++◌, [], IsTrue, true, All, map, slice_range, OnOk, IfOk, string_bytes};
 ghost use Rattle.std.specs.List.{flat_map, list_all, zip};
 ghost use Rattle.std.specs.Str.{bytes_eq};
-ghost use Rattle.ffv1_stretches.specs.CellSteps.{cell_now};
+ghost use Rattle.ffv1_stretches.specs.Cells.{IsOutcome};
+ghost use Rattle.ffv1_stretches.specs.CellSteps.{cell_now, IsUnspliced};
 ghost use Rattle.ffv1_stretches.specs.Listed.{kind_word};
 ghost use Rattle.ffv1_stretches.specs.Lines.{cell_between, cells_between, is_same, mark_of, marks_of, is_settled, is_quiet, place_line, splice_lines, frame_lines, part_lines, parts_lines, state_words, stretch_line, slice_lines, stretch_text};
 
@@ -75,22 +76,33 @@ fn all_same(cells: &[Option<&[u8]>], bytes: &[u8]) -> bool
     true
 }
 
-/// The mark of a copy beside these bytes.
-fn mark_of(cell: Option<&[u8]>, bytes: &[u8]) -> &'static str
+/// The mark of a copy beside these bytes. Where it is known that the copy has the same, they are not compared again.
+fn mark_of(cell: Option<&[u8]>, bytes: &[u8], known: bool) -> &'static str
+    requires { IsTrue known → is_same bytes.now (cell_now cell) ≡ true }
     ensures { result.now ≡ mark_of bytes.now (cell_now cell.entry) ∷ [] }
 {
     let Some(version) = cell else {
         return "-";
     };
-    if are_same(version, bytes) { "1" } else { "0" }
+    if known || are_same(version, bytes) {
+        "1"
+    } else {
+        "0"
+    }
 }
 
-/// Adds a mark for each copy.
-fn push_marks(text: &mut String, cells: &[Option<&[u8]>], bytes: &[u8]) -> Result<(), AllocError>
+/// Adds a mark for each copy. Where it is known that all have the same, they are not compared again.
+fn push_marks(
+    text: &mut String,
+    cells: &[Option<&[u8]>],
+    bytes: &[u8],
+    known: bool,
+) -> Result<(), AllocError>
+    requires { IsTrue known → All (λ cell. is_same bytes.now (cell_now cell) ≡ true) cells.now }
     ensures { OnOk result (string_bytes text.new ≡ string_bytes text.old ++ marks_of (map cell_now cells.now) bytes.now) }
 {
     for cell in cells {
-        text.push_str(mark_of(*cell, bytes))?;
+        text.push_str(mark_of(*cell, bytes, known))?;
     }
     Ok(())
 }
@@ -113,6 +125,7 @@ fn push_place_line(
         text,
         narrow.as_slice(),
         between(bytes, place.start, place.end),
+        false,
     )?;
     text.push_str("\n")
 }
@@ -263,6 +276,29 @@ fn kind_word(kind: Kind) -> &'static str
     }
 }
 
+/// Whether an element is whole in all copies that have it: no part of it was spliced, of which it has one at least.
+fn is_whole_in_all(stretch: &Stretch, mended: &Mended<'_>) -> bool
+    ensures { IsTrue result → IsUnspliced stretch.now mended.now }
+{
+    stretch.kind == Kind::Crc32
+        && !stretch.parts.as_slice().is_empty()
+        && mended.splices().is_empty()
+}
+
+/// Adds a mark for each copy beside what becomes of a stretch. Where an element is whole in all copies, nothing is compared again.
+fn push_stretch_marks(
+    text: &mut String,
+    stretch: &Stretch,
+    cells: &[Option<&[u8]>],
+    mended: &Mended<'_>,
+) -> Result<(), AllocError>
+    requires { IsOutcome (map cell_now cells.now) stretch.now mended.now }
+    ensures { OnOk result (string_bytes text.new ≡ string_bytes text.old ++ marks_of (map cell_now cells.now) mended.now.bytes) }
+{
+    let known = is_whole_in_all(stretch, mended);
+    push_marks(text, cells, mended.bytes(), known)
+}
+
 /// Adds the line of the stretch with this number.
 fn push_line(
     text: &mut String,
@@ -271,13 +307,14 @@ fn push_line(
     cells: &[Option<&[u8]>],
     mended: &Mended<'_>,
 ) -> Result<(), AllocError>
+    requires { IsOutcome (map cell_now cells.now) stretch.now mended.now }
     ensures { OnOk result (string_bytes text.new ≡ string_bytes text.old ++ stretch_line number (map cell_now cells.now) stretch.now mended.now) }
 {
     let kind = kind_word(stretch.kind);
     write!(text, "stretch {number} {kind} ")?;
     push_state(text, mended.state())?;
     text.push_str(" ")?;
-    push_marks(text, cells, mended.bytes())?;
+    push_stretch_marks(text, stretch, cells, mended)?;
     text.push_str("\n")
 }
 
@@ -313,6 +350,7 @@ pub(crate) fn stretch_text(
     cells: &[Option<&[u8]>],
     mended: &Mended<'_>,
 ) -> Result<String, AllocError>
+    requires { IsOutcome (map cell_now cells.now) stretch.now mended.now }
     ensures { IfOk result (λ text. string_bytes text ≡ stretch_text number (map cell_now cells.now) stretch.now mended.now) }
 {
     let mut text = String::new(alloc);
