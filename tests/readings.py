@@ -372,6 +372,8 @@ def read_origins(text, place):
 # ---- copies of one length, put together by their footers and parities
 
 MOST_COMBINATIONS, GREATEST_DISTANCE = 4096, 64
+# The distances at which pairs of versions are split, the finest first; after them come the regions of all versions.
+DISTANCES = [0, 2, 8, GREATEST_DISTANCE]
 
 
 def told_starts(copies, end):
@@ -382,41 +384,67 @@ def told_starts(copies, end):
             yield copy, end - 8 - size
 
 
-def regions(versions):
-    """Where byte strings of one length differ: the first and the last place of each region."""
+def differing(versions):
+    """The places at which byte strings of one length differ."""
     first, *others = (int.from_bytes(version, "big") for version in versions)
     differences = 0
     for other in others:
         differences |= first ^ other
-    found = []
-    for place, differs in enumerate(differences.to_bytes(len(versions[0]), "big")):
-        if differs and found and place - found[-1][1] <= GREATEST_DISTANCE:
-            found[-1][1] = place
-        elif differs:
-            found.append([place, place])
+    return [place for place, differs in enumerate(differences.to_bytes(len(versions[0]), "big")) if differs]
+
+
+def seams(versions, distance):
+    """The places at which a streak of some two versions begins, and those after which one ends: these two differ there, and are alike in as
+    many bytes before it, or after it, as the distance. So the versions have fewer byte strings there without the place than with it."""
+    found = set()
+    for place in differing(versions):
+        start, end = max(place - distance, 0), place + 1 + distance
+        if len({version[start:place] for version in versions}) < len({version[start : place + 1] for version in versions}):
+            found.add(place)
+        if len({version[place + 1 : end] for version in versions}) < len({version[place:end] for version in versions}):
+            found.add(place + 1)
     return found
 
 
-def choices(versions):
-    """For each part of some versions, one after the other, the different bytes that they have there: one string where they all
-    agree, two or more in a region."""
-    found, end = [], 0
-    for first, last in regions(versions):
-        found += [{versions[0][end:first]}, {version[first : last + 1] for version in versions}]
-        end = last + 1
-    return [*found, {versions[0][end:]}]
+def ends_of_regions(versions):
+    """Both ends of each region: places at which versions differ are of one region if they follow each other closely enough."""
+    places = differing(versions)
+    far = [0, *(number for number, (one, next) in enumerate(itertools.pairwise(places), 1) if next - one > GREATEST_DISTANCE)]
+    return {places[number] for number in far} | {places[number - 1] + 1 for number in far} if places else set()
+
+
+def splits(versions):
+    """The places at which some versions are split, from the finest to the coarsest: their seams at each distance, and the ends of their
+    regions."""
+    yield from (seams(versions, distance) for distance in DISTANCES)
+    yield ends_of_regions(versions)
+
+
+def choices(versions, places):
+    """For each part of some versions between two places at which they are split, the different bytes that they have there."""
+    bounds = sorted({0, len(versions[0])} | places)
+    return [{version[start:end] for version in versions} for start, end in itertools.pairwise(bounds)]
 
 
 def is_slice(piece):
     return passes(piece) and int.from_bytes(piece[-8:-5], "big") == len(piece) - 8
 
 
+def sized(version):
+    """The bytes with the size field of a slice as long as they are."""
+    return version[:-8] + (len(version) - 8).to_bytes(3, "big") + version[-5:]
+
+
 def woven(versions, is_valid):
-    """How many combinations some versions have, and those that are valid; none are looked for among too many."""
-    found = choices(versions)
-    number = math.prod(map(len, found))
-    combinations = map(b"".join, itertools.product(*found)) if number <= MOST_COMBINATIONS else ()
-    return number, [whole for whole in combinations if is_valid(whole)]
+    """How many combinations some versions have where they are split as finely as can be tried, and those that are valid; none are looked
+    for where there are too many however they are split."""
+    distinct, number = sorted(set(versions)), 0
+    for places in splits(distinct):
+        found = choices(distinct, places)
+        number = math.prod(map(len, found))
+        if number <= MOST_COMBINATIONS:
+            return number, [whole for whole in map(b"".join, itertools.product(*found)) if is_valid(whole)]
+    return number, []
 
 
 def pieces_that_end(copies, end):
@@ -458,6 +486,12 @@ def place_before(copies, end):
     pieces, starts = pieces_that_end(copies, end), {start for _, start in told_starts(copies, end)}
     if len(pieces) == 1:
         return "settled", *pieces
+    if not pieces and (len(starts) > 1 or not starts and 8 < end < 8 + (1 << 24)):
+        # No start is claimed alone. From each that is, or else from the first byte, the slice would have a known size.
+        weaves = [woven([sized(copy[start:end]) for copy in copies], is_slice) for start in sorted(starts or {0})]
+        slices = [piece for _, found in weaves for piece in found]
+        few = all(number <= MOST_COMBINATIONS for number, _ in weaves)
+        return (f"woven {sum(number for number, _ in weaves)}", slices[0]) if few and len(slices) == 1 else None
     if len(starts) != 1:
         return None
     (start,) = starts

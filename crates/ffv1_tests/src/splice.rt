@@ -50,6 +50,12 @@ const SIZE_DAMAGED: Changes = &[(107, 0x80)];
 /// A footer of the first slice that does.
 const FIRST_SIZE_DAMAGED: Changes = &[(45, 0x80)];
 
+/// Such a slice whose content is damaged too: the second.
+const LOST: Changes = &[(60, 0x01), (107, 0x80)];
+
+/// And the first.
+const FIRST_LOST: Changes = &[(20, 0x01), (45, 0x80)];
+
 /// A footer of the third slice that tells a start within the second.
 const SIZE_TOO_LARGE: Changes = &[(221, 0xF8)];
 
@@ -124,9 +130,17 @@ fn slices_that_no_copy_has_whole_are_woven(rt: HostRuntime) -> Result<(), Fail> 
 }
 
 #[test]
-fn damage_at_a_distance_of_64_is_one_region(rt: HostRuntime) -> Result<(), Fail> {
+fn bytes_of_one_region_are_woven(rt: HostRuntime) -> Result<(), Fail> {
     let settled = Standing::Settled;
-    let (one, other) = (changed(&[(230, 1)]), changed(&[(294, 1)]));
+    let standings = [Standing::Woven(4), settled, settled, settled];
+    assert!(rt; changed_give(rt.alloc(), (&[(230, 1)], &[(231, 1)]), standings, &[])?);
+    Ok(())
+}
+
+#[test]
+fn a_byte_that_is_wrong_in_all_copies_is_missing(rt: HostRuntime) -> Result<(), Fail> {
+    let settled = Standing::Settled;
+    let (one, other) = (changed(&[(230, 1)]), changed(&[(230, 2)]));
     let expected = places([Standing::Missing, settled, settled, settled]);
     let least = one.as_slice().min(&other);
     assert!(rt; gives(rt.alloc(), (&one, &other), &expected, 0, least)?);
@@ -142,11 +156,18 @@ fn slices_that_differ_and_pass_are_disputed(rt: HostRuntime) -> Result<(), Fail>
 }
 
 #[test]
-fn a_size_that_all_copies_lost_hides_its_slice_alone(rt: HostRuntime) -> Result<(), Fail> {
+fn a_size_that_all_copies_lost_follows_from_its_place(rt: HostRuntime) -> Result<(), Fail> {
+    let settled = Standing::Settled;
+    let standings = [settled, settled, Standing::Woven(1), settled];
+    assert!(rt; changed_give(rt.alloc(), (SIZE_DAMAGED, SIZE_DAMAGED), standings, &[])?);
+    Ok(())
+}
+
+#[test]
+fn a_slice_that_all_copies_lost_with_its_size_is_undivided(rt: HostRuntime) -> Result<(), Fail> {
     let (settled, undivided) = (Standing::Settled, Standing::Undivided);
     let standings = [settled, settled, undivided, settled];
-    let pair = (SIZE_DAMAGED, SIZE_DAMAGED);
-    assert!(rt; changed_give(rt.alloc(), pair, standings, SIZE_DAMAGED)?);
+    assert!(rt; changed_give(rt.alloc(), (LOST, LOST), standings, LOST)?);
     Ok(())
 }
 
@@ -161,7 +182,7 @@ fn a_footer_in_the_hole_that_leads_below_it_tells_no_start(rt: HostRuntime) -> R
 
 #[test]
 fn a_front_where_no_start_is_told_is_not_divided(rt: HostRuntime) -> Result<(), Fail> {
-    let copy = changed(FIRST_SIZE_DAMAGED);
+    let copy = changed(FIRST_LOST);
     let [last, third, second, ..] = places([Standing::Settled; 4]);
     assert!(rt;
         gives(
@@ -200,7 +221,7 @@ fn tells(
 /// prints.
 type Told = (Changes, Changes, bool, Changes, &'static str);
 
-static TOLD: [Told; 5] = [
+static TOLD: [Told; 6] = [
     (
         FIRST_COPY,
         SECOND_COPY,
@@ -223,17 +244,24 @@ static TOLD: [Told; 5] = [
         "227..336 woven 4\n115..227 settled\n53..115 settled\n0..53 settled\nend whole\n",
     ),
     (
-        SIZE_DAMAGED,
-        SIZE_DAMAGED,
+        FIRST_SIZE_DAMAGED,
+        FIRST_SIZE_DAMAGED,
+        true,
+        &[],
+        "227..336 settled\n115..227 settled\n53..115 settled\n0..53 woven 1\nend whole\n",
+    ),
+    (
+        LOST,
+        LOST,
         false,
-        SIZE_DAMAGED,
+        LOST,
         "227..336 settled\n115..227 settled\n53..115 undivided\n0..53 settled\nend whole\n",
     ),
     (
-        FIRST_SIZE_DAMAGED,
-        FIRST_SIZE_DAMAGED,
+        FIRST_LOST,
+        FIRST_LOST,
         false,
-        FIRST_SIZE_DAMAGED,
+        FIRST_LOST,
         "227..336 settled\n115..227 settled\n53..115 settled\nend broken at 53\n",
     ),
 ];
