@@ -1,7 +1,7 @@
 -- What is left of bytes is a sum: what a piece changes of it rests on the piece, on what stood in its place, and on the place alone.
 use Rattle.std.proofs.Common.{◌≡◌, ℕ, ◌+◌, ◌-◌, ◌/◌, ◌%◌, ◌<◌, ◌≤◌, List, [], ◌∷◌, ◌++◌, length, get_or, take, drop, map, Bor, refl, sym, ap, ◌∙◌, subst, arith}
 use Rattle.std.specs.Prelude.{All, slice_range, bit_xor}
-use Rattle.std.specs.Int.Bits.{xor_comm}
+use Rattle.std.specs.Int.Bits.{xor_comm, xor_self}
 use Rattle.std.proofs.lemmas.List.{length-drop, length-map, get_or-map, take_more, length-take-le}
 use Rattle.std.proofs.lemmas.List.Edits.{split_between, length-between}
 use Rattle.std.proofs.lemmas.List.Elements.{All-map, All-weaker}
@@ -30,6 +30,19 @@ same_changes Slice a b c d h = remainder_changes a b c d h
 same_changes Element a b c d h = element_changes a b c d h
 
 -- ---- what is left of bytes with a piece written over them
+
+-- bytes with a piece written over them that stands there already
+written_same : (bytes : List ℕ) (start : ℕ) (piece : List ℕ) → slice_range bytes start (start + length piece) ≡ piece → written bytes start piece ≡ bytes
+written_same bytes start piece same =
+    ap (λ p. take start bytes ++ (p ++ drop (start + length piece) bytes)) (sym same)
+    ∙ sym (split_between bytes start (start + length piece) (omega arith))
+
+-- such a piece changes nothing
+pub change_of_same : (check : Check) (bytes : List ℕ) (start : ℕ) (piece : List ℕ) → slice_range bytes start (start + length piece) ≡ piece
+    → change_of check bytes start piece ≡ 0
+change_of_same check bytes start piece same =
+    ap (λ after. bit_xor (remainder_in check after) (remainder_in check bytes)) (written_same bytes start piece same)
+    ∙ xor_self (remainder_in check bytes)
 
 -- What a piece changes is the same in all bytes that are the same in its place.
 change_alike : (a b : List ℕ) (start end : ℕ) (piece : List ℕ) → length a ≡ length b → start + length piece ≡ end → end ≤ length b

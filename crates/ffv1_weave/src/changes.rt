@@ -8,7 +8,8 @@ use crate::check::Check;
 use crate::parts::Part;
 use std::alloc::{AllocError, Global};
 
-/// What a piece changes of the remainder of `first`, where it is written over it from `start` on.
+/// What a piece changes of the remainder of `first`, if it is written over the bytes from `start` on: nothing, if these are the same
+/// already.
 fn change_of(
     check: Check,
     scratch: &mut [u8],
@@ -22,8 +23,12 @@ fn change_of(
     requires base { base ≡ remainder_in check first.now }
     ensures { result ≡ change_of check first.now start piece.now }
 {
+    let end = start + piece.len();
+    if &first[start..end] == piece {
+        return 0;
+    }
     scratch.copy_from_slice(first);
-    scratch[start..start + piece.len()].copy_from_slice(piece);
+    scratch[start..end].copy_from_slice(piece);
     check.remainder(scratch) ^ base
 }
 

@@ -1,5 +1,5 @@
 //! The regions where versions of a slice differ, found from its front on.
-ghost use Rattle.std.specs.Prelude.{◌≡◌, ◌+◌, ◌-◌, ◌≤◌, ◌<◌, ℕ, length, map, All, MatchBool, MatchOption, IfSome};
+ghost use Rattle.std.specs.Prelude.{◌≡◌, ◌+◌, ◌-◌, ◌≤◌, ◌<◌, ℕ, length, map, All, IsTrue, MatchBool, MatchOption, IfSome};
 ghost use Rattle.ffv1_weave.specs.Regions.{AgreeAt, DifferAt};
 ghost use Rattle.ffv1_weave.specs.Parts.{IsPartFrom};
 ghost use Rattle.ffv1_weave.specs.declared.grains.Grain.TheVariants.{Regions};
@@ -7,6 +7,9 @@ ghost use Rattle.ffv1_weave.specs.declared.grains.Grain.TheVariants.{Regions};
 /// How many places in a row at which all versions agree part two regions: places at which versions differ are of one region where
 /// they follow each other at a distance of at most so many bytes.
 const GAP: usize = 64;
+
+/// How many bytes of versions are compared at once, as long as they are the same in all of them.
+const STEP: usize = 256;
 
 /// Whether versions differ at a place. There is one at least, and all have the place.
 pub(crate) fn differ_at(versions: &[&[u8]], place: usize) -> bool
@@ -22,6 +25,37 @@ pub(crate) fn differ_at(versions: &[&[u8]], place: usize) -> bool
     false
 }
 
+/// Whether all versions have the same bytes between two places. There is one at least, and all have the places.
+fn agree_between(versions: &[&[u8]], start: usize, end: usize) -> bool
+    requires some { 0 < length versions.now }
+    requires order { start ≤ end }
+    requires within { All (λ version. end ≤ length version.now) versions.now }
+    ensures { IsTrue result → (i : ℕ) → start ≤ i → i < end → AgreeAt (map (λ version. version.now) versions.now) i }
+{
+    for version in versions {
+        if version[start..end] != versions[0][start..end] {
+            return false;
+        }
+    }
+    true
+}
+
+/// The end of the steps from `from` on in which all versions agree, which have the length `size`.
+fn stretch_from(versions: &[&[u8]], from: usize, size: usize) -> usize
+    requires some { 0 < length versions.now }
+    requires lengths { All (λ version. length version.now ≡ size) versions.now }
+    requires within { from ≤ size }
+    ensures beyond { from ≤ result }
+    ensures within { result ≤ size }
+    ensures until { (i : ℕ) → from ≤ i → i < result → AgreeAt (map (λ version. version.now) versions.now) i }
+{
+    let mut place = from;
+    while STEP <= size - place && agree_between(versions, place, place + STEP) {
+        place += STEP;
+    }
+    place
+}
+
 /// The first place from `from` on where versions differ, or their length `size` where there is none.
 pub(crate) fn first_from(versions: &[&[u8]], from: usize, size: usize) -> usize
     requires some { 0 < length versions.now }
@@ -32,7 +66,7 @@ pub(crate) fn first_from(versions: &[&[u8]], from: usize, size: usize) -> usize
     ensures until { (i : ℕ) → from ≤ i → i < result → AgreeAt (map (λ version. version.now) versions.now) i }
     ensures there { result < size → DifferAt (map (λ version. version.now) versions.now) result }
 {
-    for place in from..size {
+    for place in stretch_from(versions, from, size)..size {
         if differ_at(versions, place) {
             return place;
         }

@@ -44,24 +44,36 @@ fn is_parted(one: &[u8], others: &[&[u8]], place: usize, distance: usize) -> boo
     false
 }
 
-/// Whether a place between the ends of versions of one length is a seam. Where all versions agree at the place and at the one before
-/// it, it is none, and no two of them are compared.
+/// Whether a place between the ends of versions of one length is a seam.
 fn is_seam(versions: &[&[u8]], place: usize, size: usize, distance: usize) -> bool
-    requires some { 0 < length versions.now }
     requires lengths { All (λ version. length version.now ≡ size) versions.now }
     requires within { place < size }
     requires inside { 0 < place }
     ensures { IsTrue result ↔ IsSeam distance (map (λ version. version.now) versions.now) place }
 {
-    if !differ_at(versions, place - 1) && !differ_at(versions, place) {
-        return false;
-    }
     for one in versions {
         if is_parted(one, versions, place, distance) {
             return true;
         }
     }
     false
+}
+
+/// The next place after one that can be a seam: the place after it where versions differ at the place itself, else the first place at
+/// which they differ, or their length `size` where there is none. Where versions agree at two places in a row, the later one is no seam.
+fn after_place(versions: &[&[u8]], place: usize, size: usize) -> usize
+    requires some { 0 < length versions.now }
+    requires lengths { All (λ version. length version.now ≡ size) versions.now }
+    requires within { place < size }
+    ensures beyond { place < result }
+    ensures within { result ≤ size }
+    ensures until { (distance i : ℕ) → place < i → i < result → IsSeam distance (map (λ version. version.now) versions.now) i → ⊥ }
+{
+    if differ_at(versions, place) {
+        place + 1
+    } else {
+        first_from(versions, place + 1, size)
+    }
 }
 
 /// The first seam from `from` on, or the versions' length `size` where there is none before it.
@@ -75,12 +87,11 @@ fn seam_from(versions: &[&[u8]], from: usize, size: usize, distance: usize) -> u
     ensures until { (i : ℕ) → from ≤ i → i < result → IsSeam distance (map (λ version. version.now) versions.now) i → ⊥ }
     ensures there { result < size → IsSeam distance (map (λ version. version.now) versions.now) result }
 {
-    for place in from..size {
-        if is_seam(versions, place, size, distance) {
-            return place;
-        }
+    let mut place = from;
+    while place < size && !is_seam(versions, place, size, distance) {
+        place = after_place(versions, place, size);
     }
-    size
+    place
 }
 
 /// The next segment at which versions differ, from `from` on, where it is their start or the end of a segment: its start and its end.

@@ -2,7 +2,6 @@ use Rattle.std.proofs.Common.{[], ◌∙◌, arith, below_more, subst, sym}
 use Rattle.std.proofs.lemmas.List.{get_or_default}
 use Rattle.ffv1_weave.specs.Seams.{AreParted}
 use Rattle.ffv1_weave.proofs.References.{values_of, value_at, length-values_of, nowhere}
-use Rattle.ffv1_weave.proofs.SeamSteps.{quiet_no_seam}
 use Rattle.ffv1_weave.proofs.segments.is_seam.Goals as goal
 
 pub loop-one-preserved : goal.loop-one-preserved
@@ -20,10 +19,4 @@ returns c = (
       absurd (c.loop-one.invariant there.0 (omega arith) seam.other seam.other_there
       (subst (λ one. AreParted c.args.distance one seam.other c.args.place)
       (sym (get_or_default (values_of c.args.versions.now) there.0 [] seam.one there.1 ∙ there.2)) seam.parted)),
-)
-
-pub returns-then-not-differ_at-2 : goal.returns-then-not-differ_at-2
-returns-then-not-differ_at-2 c = (
-  λ no. absurd (cc),
-  λ seam. absurd (quiet_no_seam c.args.distance (values_of c.args.versions.now) c.args.place c.if-not-differ_at.ensures c.if-not-differ_at-2.ensures seam),
 )

@@ -1,0 +1,10 @@
+use Rattle.std.proofs.Common.{ℕ, ◌-◌, ◌≤◌, ◌<◌, map}
+use Rattle.ffv1_weave.specs.Regions.{AgreeAt}
+use Rattle.ffv1_weave.proofs.regions.stretch_from.Given as goal
+
+abbrev pub invariant-loop-place : goal.invariant-loop-place
+invariant-loop-place l =
+    (l.from ≤ l.place) × (l.place ≤ l.size) × ((i : ℕ) → l.from ≤ i → i < l.place → AgreeAt (map (λ version. version.now) l.versions) i)
+
+abbrev pub decreases-loop-place : goal.decreases-loop-place
+decreases-loop-place l = l.size - l.place
