@@ -12,6 +12,12 @@ pub mod Finest
 pub mod Tried
 pub mod WeaveSteps
 pub mod WeaveLaws
+pub mod Distinct
+pub mod OneBit
+pub mod FoundSteps
+pub mod RepairSteps
+pub mod RepairLaws
 pub mod Coarsest
 pub mod Vectors
 pub mod SeamVectors
+pub mod RepairVectors

@@ -88,7 +88,7 @@ module _ (versions others : List (List ℕ)) (same : HasSameMembers versions oth
   has_many_as : (grain : Grain) → HasMany versions grain → HasMany others grain
   has_many_as grain h = record { at = h.at; are = λ k low. combination_as versions others same grain (h.at k) (h.are k low); once = h.once }
 
-  tried_as : (grain : Grain) (count : ℕ) → IsTriedBy versions grain count → IsTriedBy others grain count
+  pub tried_as : (grain : Grain) (count : ℕ) → IsTriedBy versions grain count → IsTriedBy others grain count
   tried_as grain count h =
       record {
         place = h.place;

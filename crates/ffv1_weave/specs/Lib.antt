@@ -7,6 +7,8 @@ pub mod Weave
 pub mod Parts
 pub mod Changes
 pub mod Laws
+pub mod Repairs
+pub mod Inversions
 -- what the clauses cite of the crates below
 pub use Rattle.ebml_crc.specs.Crc
 pub use Rattle.ebml_crc.specs.Element

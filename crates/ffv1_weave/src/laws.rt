@@ -1,5 +1,6 @@
 //! Laws of the weave, whatever it is made by.
 ghost use Rattle.ffv1_weave.specs.Laws.{SameVersionsWeave, OriginalIsWoven, TriedOriginalIsWoven, RegionsAreCoarsest, CoveredIsCombination, VersionIsCombination};
+ghost use Rattle.ffv1_weave.specs.Repairs.{SameVersionsRepair, OriginalIsRepaired};
 
 /// However the same versions are ordered or repeated, they have one weave: outcome, bytes and number of combinations.
 pub fn same_versions_weave()
@@ -31,4 +32,15 @@ pub fn covered_is_combination()
 /// Each version, of versions of one length, is a combination of regions itself.
 pub fn version_is_combination()
     ensures { VersionIsCombination }
+{}
+
+/// However the same versions are ordered or repeated, they have one repair, or none.
+pub fn same_versions_repair()
+    ensures { SameVersionsRepair }
+{}
+
+/// Where the original is a slice with its parity (RFC 9043, section 4.9.3), and one of the combinations that are tried with one bit
+/// inverted, nothing else is repaired.
+pub fn original_is_repaired()
+    ensures { OriginalIsRepaired }
 {}

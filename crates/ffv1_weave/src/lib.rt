@@ -7,15 +7,18 @@
 mod changes;
 mod check;
 mod grains;
+mod inversions;
 mod laws;
 mod parts;
 mod regions;
+mod repairing;
 mod segments;
 mod weaving;
 
 pub use check::Check;
 pub use laws::{
-    covered_is_combination, original_is_woven, regions_are_coarsest, same_versions_weave,
-    tried_original_is_woven, version_is_combination,
+    covered_is_combination, original_is_repaired, original_is_woven, regions_are_coarsest,
+    same_versions_repair, same_versions_weave, tried_original_is_woven, version_is_combination,
 };
+pub use repairing::{MOST_REPAIRS, repair};
 pub use weaving::{MOST_COMBINATIONS, Outcome, weave};

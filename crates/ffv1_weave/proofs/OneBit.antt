@@ -1,0 +1,159 @@
+-- One inverted bit changes the remainder by what is left of its power of x.
+use Rattle.std.proofs.Common.{◌≡◌, ℕ, zero, suc, ◌+◌, ◌-◌, ◌*◌, ◌/◌, ◌%◌, ◌^◌, ◌<◌, Bool, false, cond, List, [], ◌∷◌, ◌++◌, length, get_or, set, take, drop, replicate, refl, sym, ap, ◌∙◌, arith, lit<, add-zero, zero-add, append_assoc, eq-eqb}
+use Rattle.std.specs.Prelude.{bit_xor}
+use Rattle.std.specs.List.{fold}
+use Rattle.std.specs.Int.{bit_at}
+use Rattle.std.specs.Int.Bits.{xor_block, xor_comm, xor_self, xor_zero_l, xor_zero_r, xor_lt}
+use Rattle.std.proofs.Math.Nat.{mod-eq_of_lt, pow-suc}
+use Rattle.std.proofs.Math.Pow.{pow-lt}
+use Rattle.std.proofs.lemmas.Grind.{flat_map-append}
+use Rattle.std.proofs.lemmas.List.{length-drop, length-replicate, take-append-drop, drop_more, take-set, drop-set, set-set, set-get_or, get_or-set_same}
+use Rattle.std.proofs.lemmas.List.Sums.{fold-append}
+use Rattle.ffv1_bits.specs.Bits.{number_bits, bits_of}
+use Rattle.ffv1_bits.specs.Parity.{divisor, reduced_at, divided, remainder_of}
+use Rattle.ffv1_bits.proofs.Burst.{length-bits}
+use Rattle.ffv1_bits.proofs.Division.{shifted, remainder_is_fold, divided-xor, divided_low, reduced_low}
+use Rattle.ffv1_bits.proofs.Register.{remainder_push}
+use Rattle.ffv1_bits.proofs.SameChanges.{all_kept, fold_changes}
+use Rattle.ffv1_bits.proofs.Sums.{xor_twice}
+use Rattle.ffv1_weave.specs.Checks.{PassesBy}
+use Rattle.ffv1_weave.specs.Parts.{written}
+use Rattle.ffv1_weave.specs.Repairs.{inverted}
+use Rattle.ffv1_weave.specs.declared.check.Check.TheVariants.{Slice}
+use Rattle.ffv1_weave.proofs.Choices.{length-written}
+
+-- ---- what is left of a power of x
+
+abbrev pub power_left : ℕ → ℕ
+power_left zero = 1
+power_left (suc n) = reduced_at 0 (power_left n * 2)
+
+low_power : (n : ℕ) → n < 32 → power_left n ≡ 2 ^ n
+low_power zero small = refl
+low_power (suc n) small =
+    let power : 2 ^ n * 2 ≡ 2 ^ suc n = sym (pow-suc 2 n) in
+    ap (λ p. reduced_at 0 (p * 2)) (low_power n (omega arith)) ∙ ap (reduced_at 0) power ∙ reduced_low 0 (2 ^ suc n) (pow-lt small)
+
+pub zeros_after : (m n : ℕ) → fold shifted (power_left m) (replicate n false) ≡ power_left (m + n)
+unfolding shifted
+zeros_after m zero = ap power_left (sym (add-zero m))
+zeros_after m (suc n) =
+    let next : suc m + n ≡ m + suc n = omega arith in
+    ap (λ p. fold shifted (reduced_at 0 p) (replicate n false)) (add-zero (power_left m * 2)) ∙ zeros_after (suc m) n ∙ ap power_left next
+
+zeros_leave_none : (n : ℕ) → fold shifted 0 (replicate n false) ≡ 0
+unfolding shifted
+zeros_leave_none zero = refl
+zeros_leave_none (suc n) = ap (λ r. fold shifted r (replicate n false)) (reduced_low 0 0 (lit< tt)) ∙ zeros_leave_none n
+
+-- ---- a byte that is another one
+
+remainder_append : (xs ys : List ℕ) → remainder_of (bits_of (xs ++ ys)) ≡ fold shifted (remainder_of (bits_of xs)) (bits_of ys)
+unfolding bits_of
+remainder_append xs ys =
+    remainder_is_fold (bits_of (xs ++ ys)) ∙ ap (fold shifted 0) (flat_map-append (number_bits 8) xs ys) ∙ fold-append shifted 0 (bits_of xs) (bits_of ys)
+    ∙ ap (λ r. fold shifted r (bits_of ys)) (sym (remainder_is_fold (bits_of xs)))
+
+module _ (front : List ℕ) (a b : ℕ) (back : List ℕ) (a_small : a < 256) (b_small : b < 256) where
+  last_byte : bit_xor (remainder_of (bits_of (front ++ a ∷ []))) (remainder_of (bits_of (front ++ b ∷ []))) ≡ bit_xor a b
+  last_byte =
+      let r : ℕ = remainder_of (bits_of front) in
+      ap (λ x. bit_xor x (remainder_of (bits_of (front ++ b ∷ [])))) (remainder_push front a a_small)
+      ∙ ap (bit_xor (divided 8 (r * 2 ^ 8 + a))) (remainder_push front b b_small)
+      ∙ sym (divided-xor 8 (r * 2 ^ 8 + a) (r * 2 ^ 8 + b)) ∙ ap (divided 8) (xor_block 8 r r a b a_small b_small)
+      ∙ ap (λ x. divided 8 (x * 2 ^ 8 + bit_xor a b)) (xor_self r) ∙ ap (divided 8) (zero-add (bit_xor a b))
+      ∙ divided_low 8 (bit_xor a b) (let small = xor_lt 8 a b a_small b_small in omega arith)
+
+  byte_changes : bit_xor (remainder_of (bits_of (front ++ a ∷ back))) (remainder_of (bits_of (front ++ b ∷ back)))
+      ≡ fold shifted (bit_xor a b) (replicate (8 * length back) false)
+  byte_changes =
+      let zeros : List Bool = replicate (8 * length back) false in
+      let p : ℕ = remainder_of (bits_of (front ++ a ∷ [])) in
+      let q : ℕ = remainder_of (bits_of (front ++ b ∷ [])) in
+      let one : remainder_of (bits_of (front ++ a ∷ back)) ≡ fold shifted p (bits_of back) =
+      ap (λ xs. remainder_of (bits_of xs)) (sym (append_assoc front (a ∷ []) back)) ∙ remainder_append (front ++ a ∷ []) back in
+      let other : remainder_of (bits_of (front ++ b ∷ back)) ≡ fold shifted q (bits_of back) =
+      ap (λ xs. remainder_of (bits_of xs)) (sym (append_assoc front (b ∷ []) back)) ∙ remainder_append (front ++ b ∷ []) back in
+      let long : length (bits_of back) ≡ length zeros = length-bits back ∙ sym (length-replicate (8 * length back) false) in
+      ap (λ x. bit_xor x (remainder_of (bits_of (front ++ b ∷ back)))) one ∙ ap (bit_xor (fold shifted p (bits_of back))) other
+      ∙ fold_changes p q (bit_xor a b) 0 (bits_of back) (bits_of back) zeros zeros (last_byte ∙ sym (xor_zero_r (bit_xor a b)))
+      (all_kept (bits_of back) zeros long)
+      ∙ ap (bit_xor (fold shifted (bit_xor a b) zeros)) (zeros_leave_none (8 * length back)) ∙ xor_zero_r (fold shifted (bit_xor a b) zeros)
+
+-- ---- a bit that is inverted
+
+pub mask_small : (bit : ℕ) → 2 ^ (7 - bit % 8) < 256
+mask_small bit = pow-lt {i = 7 - bit % 8} {j = 8} (omega arith)
+
+split_at : (bytes : List ℕ) (i : ℕ) → i < length bytes → take i bytes ++ get_or bytes i 0 ∷ drop (i + 1) bytes ≡ bytes
+split_at bytes i lt = ap (λ back. take i bytes ++ back) (sym (drop_more bytes i 0 lt)) ∙ take-append-drop i bytes
+
+-- What is left changes by what is left of the bit's power of x: the last bit is 1, the one before it x.
+pub inverted_changes : (bytes : List ℕ) (bit : ℕ) → bit < 8 * length bytes → get_or bytes (bit / 8) 0 < 256
+    → bit_xor (remainder_of (bits_of (inverted bytes bit))) (remainder_of (bits_of bytes)) ≡ power_left (8 * length bytes - 1 - bit)
+inverted_changes bytes bit inside small =
+    let i : ℕ = bit / 8 in
+    let old : ℕ = get_or bytes i 0 in
+    let mask : ℕ = 2 ^ (7 - bit % 8) in
+    let back : List ℕ = drop (i + 1) bytes in
+    let after : length back ≡ length bytes - (i + 1) = length-drop (i + 1) bytes in
+    let place : 7 - bit % 8 + 8 * length back ≡ 8 * length bytes - 1 - bit = omega arith in
+    let mask_is : bit_xor (bit_xor old mask) old ≡ mask = ap (λ x. bit_xor x old) (xor_comm old mask) ∙ xor_twice mask old in
+    ap (λ xs. bit_xor (remainder_of (bits_of (inverted bytes bit))) (remainder_of (bits_of xs))) (sym (split_at bytes i (omega arith)))
+    ∙ byte_changes (take i bytes) (bit_xor old mask) old back (xor_lt 8 old mask small (mask_small bit)) small
+    ∙ ap (λ x. fold shifted x (replicate (8 * length back) false)) (mask_is ∙ sym (low_power (7 - bit % 8) (omega arith)))
+    ∙ zeros_after (7 - bit % 8) (8 * length back) ∙ ap power_left place
+
+-- where the inverted bytes pass, that is all that is left
+pub power_is_left : (bytes : List ℕ) (bit : ℕ) → bit < 8 * length bytes → get_or bytes (bit / 8) 0 < 256 → PassesBy Slice (inverted bytes bit)
+    → power_left (8 * length bytes - 1 - bit) ≡ remainder_of (bits_of bytes)
+power_is_left bytes bit inside small passes =
+    sym (inverted_changes bytes bit inside small) ∙ ap (λ x. bit_xor x (remainder_of (bits_of bytes))) passes.1.1
+    ∙ xor_zero_l (remainder_of (bits_of bytes))
+
+-- ---- as the code has them
+
+pub set_written : (bytes : List ℕ) (i x : ℕ) → i < length bytes → set bytes i x ≡ written bytes i (x ∷ [])
+set_written bytes i x lt =
+    sym (take-append-drop i (set bytes i x)) ∙ ap (λ front. front ++ drop i (set bytes i x)) (take-set bytes i x)
+    ∙ ap (λ back. take i bytes ++ back) (drop-set bytes i x lt)
+
+pub set_inverted : (bytes : List ℕ) (bit : ℕ) → bit < 8 * length bytes
+    → set bytes (bit / 8) (bit_xor (get_or bytes (bit / 8) 0) (1 * 2 ^ (7 - bit % 8) % 256)) ≡ inverted bytes bit
+set_inverted bytes bit inside =
+    let one : 1 * 2 ^ (7 - bit % 8) ≡ 2 ^ (7 - bit % 8) = omega arith in
+    ap (λ m. set bytes (bit / 8) (bit_xor (get_or bytes (bit / 8) 0) m)) (ap (λ n. n % 256) one ∙ mod-eq_of_lt (mask_small bit))
+    ∙ set_written bytes (bit / 8) (bit_xor (get_or bytes (bit / 8) 0) (2 ^ (7 - bit % 8))) (omega arith)
+
+pub length-inverted : (bytes : List ℕ) (bit : ℕ) → bit < 8 * length bytes → length (inverted bytes bit) ≡ length bytes
+length-inverted bytes bit inside = length-written bytes (bit / 8) (bit_xor (get_or bytes (bit / 8) 0) (2 ^ (7 - bit % 8)) ∷ []) (omega arith)
+
+pub inverted_twice : (bytes : List ℕ) (bit : ℕ) → bit < 8 * length bytes → inverted (inverted bytes bit) bit ≡ bytes
+inverted_twice bytes bit inside =
+    let i : ℕ = bit / 8 in
+    let old : ℕ = get_or bytes i 0 in
+    let mask : ℕ = 2 ^ (7 - bit % 8) in
+    let there : i < length bytes = omega arith in
+    let long : length (inverted bytes bit) ≡ length bytes = length-inverted bytes bit inside in
+    let once : inverted bytes bit ≡ set bytes i (bit_xor old mask) = sym (set_written bytes i (bit_xor old mask) there) in
+    let now : bit_xor (get_or (inverted bytes bit) i 0) mask ≡ old =
+    ap (λ xs. bit_xor (get_or xs i 0) mask) once ∙ ap (λ x. bit_xor x mask) (get_or-set_same bytes i (bit_xor old mask) 0 there) ∙ xor_twice old mask in
+    ap (λ x. written (inverted bytes bit) i (x ∷ [])) now ∙ sym (set_written (inverted bytes bit) i old (omega arith)) ∙ ap (λ xs. set xs i old) once
+    ∙ set-set bytes i (bit_xor old mask) old ∙ set-get_or bytes i 0
+
+-- the next power, as the code computes it
+pub next_reduced : (power : ℕ) → power < 2 ^ 32 → power / 2 ^ 31 ≡ 1 → bit_xor (power * 2 % 2 ^ 32) 0x04C11DB7 ≡ reduced_at 0 (power * 2)
+unfolding reduced_at
+next_reduced power small top =
+    let low : ℕ = power * 2 % 2 ^ 32 in
+    let split : power * 2 ≡ 1 * 2 ^ 32 + low = omega arith in
+    let bit : bit_at (power * 2) 32 ≡ 1 = omega arith in
+    let block : bit_xor (1 * 2 ^ 32 + low) (1 * 2 ^ 32 + 0x04C11DB7) ≡ bit_xor 1 1 * 2 ^ 32 + bit_xor low 0x04C11DB7 =
+    xor_block 32 1 1 low 0x04C11DB7 (omega arith) (lit< tt) in
+    sym (ap (λ t. cond t (bit_xor (power * 2) divisor) (power * 2)) (eq-eqb (bit_at (power * 2) 32) 1 bit)
+    ∙ ap (λ p. bit_xor p divisor) split ∙ block ∙ zero-add (bit_xor low 0x04C11DB7))
+
+pub next_low : (power : ℕ) → power < 2 ^ 32 → (power / 2 ^ 31 ≡ 1 → ⊥) → power * 2 % 2 ^ 32 ≡ reduced_at 0 (power * 2)
+next_low power small low =
+    let half : power * 2 < 2 ^ 32 = omega arith in
+    mod-eq_of_lt half ∙ sym (reduced_low 0 (power * 2) half)
