@@ -15,7 +15,10 @@ use std::alloc::{AllocError, Global};
 fn is_given(place: &Place) -> bool
     ensures { result ≡ is_given place.now.standing }
 {
-    matches!(place.standing, Standing::Settled | Standing::Woven(_))
+    matches!(
+        place.standing,
+        Standing::Settled | Standing::Woven(_) | Standing::Repaired(_)
+    )
 }
 
 /// Writes a patch over bytes from `start` on.

@@ -3,6 +3,7 @@ pub mod LeastSteps
 pub mod ShortestSteps
 pub mod PlaceSteps
 pub mod Versions
+pub mod RepairSteps
 pub mod WiderRegions
 pub mod FirstSlices
 pub mod SeveralSteps
@@ -21,6 +22,7 @@ pub mod DividedLinks
 pub mod StandingPlaces
 pub mod OriginalLaws
 pub mod WovenLaws
+pub mod RepairedLaws
 pub mod NearDivisions
 pub mod NearCopies
 pub mod WholeFrames

@@ -7,15 +7,17 @@ use Rattle.std.specs.declared.cmp.Ordering.TheVariants.{Less}
 use Rattle.ffv1_slice.specs.Chain.{Piece}
 use Rattle.ffv1_slice.specs.Members.{IsOnly, IsOfTwo, IsOfNone}
 use Rattle.ffv1_splice.specs.Pieces.{IsPiece, IsToldStart, IsLeast}
-use Rattle.ffv1_splice.specs.Standings.{versions_at, sized, IsWeaveAt, IsWeaveFromFront, StandsAs, IsGap, IsStop}
+use Rattle.ffv1_splice.specs.Standings.{versions_at, sized, IsWeaveAt, IsWeaveFromFront, IsRepairAt, IsMissingAt, StandsAs, IsGap, IsStop}
 use Rattle.ffv1_weave.specs.Weave.{Weave, IsWeaveOf}
 use Rattle.ffv1_weave.specs.Weave.Weave.{woven, disputed, missing, too_many}
+use Rattle.ffv1_weave.specs.Repairs.{IsRepairOf}
 use Rattle.ffv1_weave.specs.declared.check.Check.TheVariants.{Slice}
 use Rattle.ffv1_weave.proofs.WeaveLaws.{same_versions_weave}
+use Rattle.ffv1_weave.proofs.RepairLaws.{same_versions_repair}
 use Rattle.ffv1_splice.specs.Splice.{SplicedValue, IsDivisionOf}
 use Rattle.ffv1_slice.specs.Members.{HasSameMembers}
 use Rattle.ffv1_splice.specs.declared.place.Standing.{Standing}
-use Rattle.ffv1_splice.specs.declared.place.Standing.TheVariants.{Settled, Woven, Disputed, Missing, Undivided}
+use Rattle.ffv1_splice.specs.declared.place.Standing.TheVariants.{Settled, Woven, Repaired, Disputed, Missing, Undivided}
 use Rattle.ffv1_splice.specs.declared.place.Place.{Place}
 use Rattle.ffv1_splice.proofs.LeastSteps.{same_if_neither_below}
 use Rattle.ffv1_splice.proofs.PlaceSteps.{two_not_only, two_not_none}
@@ -85,60 +87,91 @@ module _ (copies : List (List ℕ)) (end : ℕ) where
   woven_unsettled s a m (inr (inl h)) = h.1.none
   woven_unsettled s a m (inr (inr h)) = h.none
 
-  not_disputed_and_missing : (s t : ℕ) → IsOfTwo (IsPiece copies end) ⊎ IsWeaveAt copies s end disputed
-      → ((count : ℕ) × IsWeaveAt copies t end (missing count)) ⊎ IsWeaveAt copies t end too_many → ⊥
-  not_disputed_and_missing s t (inl two) (inl w) = two_not_none (IsPiece copies end) two w.1.none
-  not_disputed_and_missing s t (inl two) (inr w) = two_not_none (IsPiece copies end) two w.none
-  not_disputed_and_missing s t (inr h) (inl w) = let e = one_weave_at s t disputed (missing w.0) h w.1 in absurd (cc)
-  not_disputed_and_missing s t (inr h) (inr w) = let e = one_weave_at s t disputed too_many h w in absurd (cc)
+  pub missing_unsettled : (s : ℕ) → IsMissingAt copies s end → IsOfNone (IsPiece copies end)
+  missing_unsettled s (inl h) = h.0.1.none
+  missing_unsettled s (inr h) = h.none
+
+  -- where something is woven, there is no other weave
+  not_woven_and : (s t : ℕ) (a : List ℕ) (m : ℕ) (w : Weave) → (woven a m ≡ w → ⊥) → StandsAs copies s end a (Woven m) → IsWeaveAt copies t end w → ⊥
+  not_woven_and s t a m w apart (inl h) k = apart (one_weave_at s t (woven a m) w h k)
+  not_woven_and s t a m w apart (inr (inl h)) k = h.1.untold t k.told.there
+  not_woven_and s t a m w apart (inr (inr h)) k = two_not_only (IsToldStart copies end) h.several t k.told
+
+  not_woven_and_repaired : (s t : ℕ) (a b : List ℕ) (m n : ℕ) → StandsAs copies s end a (Woven m) → IsRepairAt copies t end b n → ⊥
+  not_woven_and_repaired s t a b m n h k = not_woven_and s t a m (missing k.combinations) (λ e. absurd (cc)) h k.missed
 
   not_woven_and_disputed : (s t : ℕ) (a b : List ℕ) (m : ℕ) → StandsAs copies s end a (Woven m) → StandsAs copies t end b Disputed → ⊥
-  not_woven_and_disputed s t a b m (inl h) k = elim k.0 [
-    | inl two ↦ two_not_none (IsPiece copies end) two h.none
-    | inr w ↦ let e = one_weave_at s t (woven a m) disputed h w in absurd (cc)
+  not_woven_and_disputed s t a b m h k = elim k.0 [
+    | inl two ↦ two_not_none (IsPiece copies end) two (woven_unsettled s a m h)
+    | inr w ↦ not_woven_and s t a m disputed (λ e. absurd (cc)) h w
   ]
-  not_woven_and_disputed s t a b m (inr (inl h)) k = h.1.untold t k.1.told.there
-  not_woven_and_disputed s t a b m (inr (inr h)) k = two_not_only (IsToldStart copies end) h.several t k.1.told
 
-  not_woven_and_missing : (s t : ℕ) (a b : List ℕ) (m : ℕ) → StandsAs copies s end a (Woven m) → StandsAs copies t end b Missing → ⊥
-  not_woven_and_missing s t a b m (inl h) k = elim k.0 [
-    | inl w ↦ let e = one_weave_at s t (woven a m) (missing w.0) h w.1 in absurd (cc)
-    | inr w ↦ let e = one_weave_at s t (woven a m) too_many h w in absurd (cc)
-  ]
-  not_woven_and_missing s t a b m (inr (inl h)) k = h.1.untold t k.1.told.there
-  not_woven_and_missing s t a b m (inr (inr h)) k = two_not_only (IsToldStart copies end) h.several t k.1.told
+  not_woven_and_missing : (s t : ℕ) (a : List ℕ) (m : ℕ) → StandsAs copies s end a (Woven m) → IsMissingAt copies t end → ⊥
+  not_woven_and_missing s t a m h (inl w) = not_woven_and s t a m (missing w.0.0) (λ e. absurd (cc)) h w.0.1
+  not_woven_and_missing s t a m h (inr w) = not_woven_and s t a m too_many (λ e. absurd (cc)) h w
+
+  -- what is repaired there, as of the one start that is told
+  repair_from : (s t : ℕ) (a : List ℕ) (m : ℕ) → IsRepairAt copies s end a m → IsOnly (IsToldStart copies end) t → IsRepairOf (versions_at copies t end) a m
+  repair_from s t a m h told = subst (λ n. IsRepairOf (versions_at copies n end) a m) (told.others s h.missed.told.there) h.repair
+
+  one_repaired : (s t : ℕ) (a b : List ℕ) (m n : ℕ) → IsRepairAt copies s end a m → IsRepairAt copies t end b n
+      → ◌≡◌ {A = StandingValue} (record { start = s; bytes = a; standing = Repaired m }) (record { start = t; bytes = b; standing = Repaired n })
+  one_repaired s t a b m n h k =
+      let same = same_versions_repair.one (versions_at copies t end) a b m n (repair_from s t a m h k.missed.told) k.repair in
+      ap (λ i. record { start = i; bytes = a; standing = Repaired m }) (k.missed.told.others s h.missed.told.there)
+      ∙ ap (λ z. record { start = t; bytes = z; standing = Repaired m }) same.0
+      ∙ ap (λ i. record { start = t; bytes = b; standing = Repaired i }) same.1
+
+  not_repaired_and_disputed : (s t : ℕ) (a : List ℕ) (m : ℕ) → IsRepairAt copies s end a m
+      → IsOfTwo (IsPiece copies end) ⊎ IsWeaveAt copies t end disputed → ⊥
+  not_repaired_and_disputed s t a m h (inl two) = two_not_none (IsPiece copies end) two h.missed.none
+  not_repaired_and_disputed s t a m h (inr w) = let e = one_weave_at s t (missing h.combinations) disputed h.missed w in absurd (cc)
+
+  not_repaired_and_missing : (s t : ℕ) (a : List ℕ) (m : ℕ) → IsRepairAt copies s end a m → IsMissingAt copies t end → ⊥
+  not_repaired_and_missing s t a m h (inl w) = w.1 a m (repair_from s t a m h w.0.1.told)
+  not_repaired_and_missing s t a m h (inr w) = let e = one_weave_at s t (missing h.combinations) too_many h.missed w in absurd (cc)
+
+  not_disputed_and_missing : (s t : ℕ) → IsOfTwo (IsPiece copies end) ⊎ IsWeaveAt copies s end disputed → IsMissingAt copies t end → ⊥
+  not_disputed_and_missing s t (inl two) k = two_not_none (IsPiece copies end) two (missing_unsettled t k)
+  not_disputed_and_missing s t (inr h) (inl w) = let e = one_weave_at s t disputed (missing w.0.0) h w.0.1 in absurd (cc)
+  not_disputed_and_missing s t (inr h) (inr w) = let e = one_weave_at s t disputed too_many h w in absurd (cc)
 
   not_settled_and_disputed : (piece : Piece) (t : ℕ) → IsOnly (IsPiece copies end) piece → IsOfTwo (IsPiece copies end) ⊎ IsWeaveAt copies t end disputed → ⊥
   not_settled_and_disputed piece t h (inl two) = two_not_only (IsPiece copies end) two piece h
   not_settled_and_disputed piece t h (inr w) = w.none piece h.there
-
-  not_settled_and_missing : (piece : Piece) (t : ℕ) → IsOnly (IsPiece copies end) piece
-      → ((count : ℕ) × IsWeaveAt copies t end (missing count)) ⊎ IsWeaveAt copies t end too_many → ⊥
-  not_settled_and_missing piece t h (inl w) = w.1.none piece h.there
-  not_settled_and_missing piece t h (inr w) = w.none piece h.there
 
   pub one_standing : (s t : ℕ) (a b : List ℕ) (x y : Standing) → StandsAs copies s end a x → StandsAs copies t end b y
       → ◌≡◌ {A = StandingValue} (record { start = s; bytes = a; standing = x }) (record { start = t; bytes = b; standing = y })
   one_standing s t a b Settled Settled h k =
       ap (λ (p : Piece). record { start = p.start; bytes = p.bytes; standing = Settled }) (k.others (record { start = s; bytes = a }) h.there)
   one_standing s t a b Settled (Woven n) h k = absurd (woven_unsettled t b n k (record { start = s; bytes = a }) h.there)
+  one_standing s t a b Settled (Repaired n) h k = absurd (k.missed.none (record { start = s; bytes = a }) h.there)
   one_standing s t a b Settled Disputed h k = absurd (not_settled_and_disputed (record { start = s; bytes = a }) t h k.0)
-  one_standing s t a b Settled Missing h k = absurd (not_settled_and_missing (record { start = s; bytes = a }) t h k.0)
+  one_standing s t a b Settled Missing h k = absurd (missing_unsettled t k.0 (record { start = s; bytes = a }) h.there)
   one_standing s t a b (Woven m) Settled h k = absurd (woven_unsettled s a m h (record { start = t; bytes = b }) k.there)
   one_standing s t a b (Woven m) (Woven n) h k = one_woven s t a b m n h k
+  one_standing s t a b (Woven m) (Repaired n) h k = absurd (not_woven_and_repaired s t a b m n h k)
   one_standing s t a b (Woven m) Disputed h k = absurd (not_woven_and_disputed s t a b m h k)
-  one_standing s t a b (Woven m) Missing h k = absurd (not_woven_and_missing s t a b m h k)
+  one_standing s t a b (Woven m) Missing h k = absurd (not_woven_and_missing s t a m h k.0)
+  one_standing s t a b (Repaired m) Settled h k = absurd (h.missed.none (record { start = t; bytes = b }) k.there)
+  one_standing s t a b (Repaired m) (Woven n) h k = absurd (not_woven_and_repaired t s b a n m k h)
+  one_standing s t a b (Repaired m) (Repaired n) h k = one_repaired s t a b m n h k
+  one_standing s t a b (Repaired m) Disputed h k = absurd (not_repaired_and_disputed s t a m h k.0)
+  one_standing s t a b (Repaired m) Missing h k = absurd (not_repaired_and_missing s t a m h k.0)
   one_standing s t a b Disputed Settled h k = absurd (not_settled_and_disputed (record { start = t; bytes = b }) s k h.0)
   one_standing s t a b Disputed (Woven n) h k = absurd (not_woven_and_disputed t s b a n k h)
+  one_standing s t a b Disputed (Repaired n) h k = absurd (not_repaired_and_disputed t s b n k h.0)
   one_standing s t a b Disputed Disputed h k = one_gap Disputed s t a b h.1 k.1
   one_standing s t a b Disputed Missing h k = absurd (not_disputed_and_missing s t h.0 k.0)
-  one_standing s t a b Missing Settled h k = absurd (not_settled_and_missing (record { start = t; bytes = b }) s k h.0)
-  one_standing s t a b Missing (Woven n) h k = absurd (not_woven_and_missing t s b a n k h)
+  one_standing s t a b Missing Settled h k = absurd (missing_unsettled s h.0 (record { start = t; bytes = b }) k.there)
+  one_standing s t a b Missing (Woven n) h k = absurd (not_woven_and_missing t s b n k h.0)
+  one_standing s t a b Missing (Repaired n) h k = absurd (not_repaired_and_missing t s b n k h.0)
   one_standing s t a b Missing Disputed h k = absurd (not_disputed_and_missing t s k.0 h.0)
   one_standing s t a b Missing Missing h k = one_gap Missing s t a b h.1 k.1
   one_standing s t a b Undivided y h k = absurd h
   one_standing s t a b Settled Undivided h k = absurd k
   one_standing s t a b (Woven m) Undivided h k = absurd k
+  one_standing s t a b (Repaired m) Undivided h k = absurd k
   one_standing s t a b Disputed Undivided h k = absurd k
   one_standing s t a b Missing Undivided h k = absurd k
 
@@ -147,6 +180,7 @@ module _ (copies : List (List ℕ)) (end : ℕ) where
   stop_not_stands start bytes (Woven count) stop (inl h) = stop.untold start h.told
   stop_not_stands start bytes (Woven count) stop (inr (inl h)) = stop.unclaimed bytes count h.1
   stop_not_stands start bytes (Woven count) stop (inr (inr h)) = stop.unwoven start bytes count h
+  stop_not_stands start bytes (Repaired count) stop h = stop.untold start h.missed.told
   stop_not_stands start bytes Disputed stop h = stop.untold start h.1.told
   stop_not_stands start bytes Missing stop h = stop.untold start h.1.told
   stop_not_stands start bytes Undivided stop h = absurd h
@@ -244,12 +278,29 @@ module _ (copies others : List (List ℕ)) (same : HasSameMembers copies others)
             (same_sized others copies (same_back copies others same) 0 end) weave h.weave';
       }
 
+  repair_there : (start end : ℕ) (bytes : List ℕ) (count : ℕ) → IsRepairOf (versions_at copies start end) bytes count
+      → IsRepairOf (versions_at others start end) bytes count
+  repair_there start end bytes count h =
+      same_versions_repair.same (versions_at copies start end) (versions_at others start end) bytes count (same_versions copies others same start end) h
+
+  repair_here : (start end : ℕ) (bytes : List ℕ) (count : ℕ) → IsRepairOf (versions_at others start end) bytes count
+      → IsRepairOf (versions_at copies start end) bytes count
+  repair_here start end bytes count h =
+      same_versions_repair.same (versions_at others start end) (versions_at copies start end) bytes count
+      (same_versions others copies (same_back copies others same) start end) h
+
   stands_there : (start end : ℕ) (bytes : List ℕ) (standing : Standing) → StandsAs copies start end bytes standing → StandsAs others start end bytes standing
   stands_there start end bytes Settled h =
       only_same (IsPiece copies end) (IsPiece others end) (piece_there end) (piece_here end) (record { start = start; bytes = bytes }) h
   stands_there start end bytes (Woven count) (inl h) = inl (weave_at_there start end (woven bytes count) h)
   stands_there start end bytes (Woven count) (inr (inl h)) = inr (inl (h.0, front_there end (woven bytes count) h.1))
   stands_there start end bytes (Woven count) (inr (inr h)) = inr (inr (several_as copies others same end start bytes count h))
+  stands_there start end bytes (Repaired count) h =
+      record {
+        combinations = h.combinations;
+        missed = weave_at_there start end (missing h.combinations) h.missed;
+        repair = repair_there start end bytes count h.repair;
+      }
   stands_there start end bytes Disputed h = (
     elim h.0 [
       | inl two ↦ inl (two_same (IsPiece copies end) (IsPiece others end) (piece_there end) two)
@@ -259,7 +310,10 @@ module _ (copies others : List (List ℕ)) (same : HasSameMembers copies others)
   )
   stands_there start end bytes Missing h = (
     elim h.0 [
-      | inl w ↦ inl (w.0, weave_at_there start end (missing w.0) w.1)
+      | inl w ↦ inl (
+        (w.0.0, weave_at_there start end (missing w.0.0) w.0.1),
+        λ others_bytes count repair. w.1 others_bytes count (repair_here start end others_bytes count repair),
+      )
       | inr w ↦ inr (weave_at_there start end too_many w)
     ],
     gap_there start end bytes h.1,

@@ -1,8 +1,9 @@
 -- Copies that are near the slices of a setup are near copies; two of the frame of two slices, of which each has one slice intact, are
--- spliced to the frame; zeros, which read as a row of slices without content, have no places; and a slice whose size field is lost in both
--- copies is woven from the front.
+-- spliced to the frame; zeros, which read as a row of slices without content, have no places; a slice whose size field is lost in both
+-- copies is woven from the front; and places are told in words.
 use Rattle.std.proofs.Common.{◌≡◌, ℕ, zero, suc, ◌+◌, ◌-◌, ◌<◌, ◌≤◌, Bool, List, [], ◌∷◌, length, get_or, map, take, drop, replicate, refl, sym, ap, ◌∙◌, subst, arith, inl, inr}
-use Rattle.std.specs.Prelude.{◌⊎◌, ◌==◌, Contains, slice_range}
+use Rattle.std.specs.Prelude.{◌⊎◌, ◌==◌, Contains, codes, slice_range}
+use Rattle.std.specs.Fmt.{digits}
 use Rattle.std.specs.Ordering.{nat_cmp}
 use Rattle.std.specs.Cmp.Lexicographic.{slice_cmp}
 use Rattle.std.specs.declared.cmp.Ordering.TheVariants.{Less}
@@ -25,7 +26,8 @@ use Rattle.ffv1_splice.specs.Standings.{versions_at, sized, StandsAs, IsStop}
 use Rattle.ffv1_splice.specs.Splice.{SplicedValue, IsSettledDown, IsSettledUp, IsDivisionOf, IsSpliceOf}
 use Rattle.ffv1_splice.specs.Originals.{IsSound, IsIntact, IsNearCopy, AreNearCopies, IsIntactInSome}
 use Rattle.ffv1_splice.specs.Laws as laws
-use Rattle.ffv1_splice.specs.declared.place.Standing.TheVariants.{Woven}
+use Rattle.ffv1_splice.specs.Text.{standing_word, place_words}
+use Rattle.ffv1_splice.specs.declared.place.Standing.TheVariants.{Woven, Repaired}
 use Rattle.ffv1_splice.proofs.DividedLinks.{end_within}
 use Rattle.ffv1_splice.proofs.NearCopies.{near_copies_splice}
 
@@ -315,3 +317,13 @@ lost_stands = inr (inl (
     );
   },
 ))
+
+-- ---- places in words
+
+repaired_word : standing_word (Repaired 1048576) ≡ codes "repaired 1048576"
+unfolding digits
+repaired_word = refl
+
+repaired_place : place_words (record { start = 3698; end = 4515; standing = Repaired 6536 }) ≡ codes "3698..4515 repaired 6536"
+unfolding digits
+repaired_place = refl

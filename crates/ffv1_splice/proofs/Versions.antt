@@ -1,13 +1,15 @@
 -- What copies have between two places.
-use Rattle.std.proofs.Common.{◌≡◌, ℕ, ◌+◌, ◌-◌, ◌<◌, ◌≤◌, List, [], ◌∷◌, ◌++◌, Bor, length, get_or, take, map, sym, ap, ◌∙◌, subst, arith}
-use Rattle.std.specs.Prelude.{All, Contains, slice_range}
+use Rattle.std.proofs.Common.{◌≡◌, ℕ, ◌+◌, ◌-◌, ◌*◌, ◌/◌, ◌%◌, ◌<◌, ◌≤◌, List, [], ◌∷◌, ◌++◌, Bor, length, get_or, take, map, sym, ap, ◌∙◌, subst, arith}
+use Rattle.std.specs.Prelude.{◌^◌, All, Contains, bit_xor, slice_range}
 use Rattle.std.proofs.lemmas.List.{get_or-map, length-map, take_more, take_all}
 use Rattle.std.proofs.lemmas.List.Elements.{Contains-get_or}
 use Rattle.ffv1_slice.proofs.NearLaws.{length-range}
 use Rattle.ffv1_slice.specs.Members.{HasSameMembers}
 use Rattle.ffv1_weave.specs.Regions.{HaveLength}
 use Rattle.ffv1_weave.specs.Weave.Weave.{woven}
-use Rattle.ffv1_splice.specs.Standings.{versions_at, IsWeaveAt}
+use Rattle.ffv1_weave.specs.Repairs.{inverted, IsRepair}
+use Rattle.ffv1_weave.proofs.Choices.{length-written}
+use Rattle.ffv1_splice.specs.Standings.{versions_at, IsWeaveAt, IsRepairAt}
 use Rattle.ffv1_weave.proofs.References.{value_at, length-values_of, value_there}
 use Rattle.ffv1_splice.proofs.PlaceSteps.{AllReach, told_below}
 
@@ -32,6 +34,10 @@ module _ (f : List ℕ → List ℕ) where
 
 -- ---- versions
 
+length-inverted : (bytes : List ℕ) (bit : ℕ) → bit < 8 * length bytes → length (inverted bytes bit) ≡ length bytes
+length-inverted bytes bit inside =
+    length-written bytes (bit / 8) (bit_xor (get_or bytes (bit / 8) 0) (2 ^ (7 - bit % 8)) ∷ []) (omega arith)
+
 module _ (copies : List (List ℕ)) (start end : ℕ) where
   -- each copy has a version, ..
   pub version_there : (copy : List ℕ) → Contains copies copy → Contains (versions_at copies start end) (slice_range copy start end)
@@ -49,6 +55,17 @@ module _ (copies : List (List ℕ)) (start end : ℕ) where
       let below = told_below copies start end h.told.there in
       let size = length-range copy start end (omega arith) (reach copy h.told.there.there) in
       let same = h.weave'.0.there.combination.same_length (slice_range copy start end) (version_there copy h.told.there.there) in
+      omega arith
+
+  -- and so is what is repaired
+  pub repair_size : (bytes : List ℕ) (count : ℕ) → AllReach copies end → IsRepairAt copies start end bytes count → start + length bytes ≡ end
+  repair_size bytes count reach h =
+      let told = h.missed.told.there in
+      let below = told_below copies start end told in
+      let size = length-range told.copy start end (omega arith) (reach told.copy told.there) in
+      let repair : IsRepair (versions_at copies start end) bytes = h.repair.only.there in
+      let same = repair.combination.same_length (slice_range told.copy start end) (version_there told.copy told.there) in
+      let long = ap length repair.is ∙ length-inverted repair.base repair.bit repair.inside in
       omega arith
 
 -- the same copies have the same versions

@@ -10,7 +10,7 @@ use Rattle.ffv1_splice.specs.Pieces.{HasContent, IsPiece}
 use Rattle.ffv1_splice.specs.Standings.{versions_at, StandsAs}
 use Rattle.ffv1_splice.specs.Splice.{SplicedValue, LieFrom, IsSpliceOf, IsSettledOrWoven, IsGivenBack}
 use Rattle.ffv1_splice.specs.declared.place.Standing.{Standing}
-use Rattle.ffv1_splice.specs.declared.place.Standing.TheVariants.{Settled, Woven, Disputed, Missing, Undivided}
+use Rattle.ffv1_splice.specs.declared.place.Standing.TheVariants.{Settled, Woven, Repaired, Disputed, Missing, Undivided}
 use Rattle.ffv1_splice.specs.declared.place.Place.{Place}
 use Rattle.ffv1_splice.proofs.PlaceSteps.{AllReach}
 use Rattle.ffv1_splice.proofs.Walks.{ends_below}
@@ -133,6 +133,7 @@ module _ (copies : List (List ℕ)) (spliced : SplicedValue) (is : IsSpliceOf co
       let content : HasContent 0 end = stands.1.content in
       let first : start ≡ 0 = stands.0 in
       record { content = omega arith; framed = valid.passes.0; passes = valid.passes.1 }
+  hole_slice start end bytes (Repaired count) within stands right = absurd right
   hole_slice start end bytes Disputed within stands right = absurd right
   hole_slice start end bytes Missing within stands right = absurd right
   hole_slice start end bytes Undivided within stands right = absurd right

@@ -19,7 +19,7 @@ use Rattle.ffv1_splice.specs.Splice.{SplicedValue, IsSettledDown, IsSettledUp, I
 use Rattle.ffv1_splice.specs.Originals.{AreCopiesOf, IsAmong}
 use Rattle.ffv1_splice.specs.Laws.{IsItsLink, KeepsLink, WovenIsOriginal, SizedIsOriginal, GivenBackIsOriginal}
 use Rattle.ffv1_splice.specs.declared.place.Standing.{Standing}
-use Rattle.ffv1_splice.specs.declared.place.Standing.TheVariants.{Settled, Woven, Disputed, Missing, Undivided}
+use Rattle.ffv1_splice.specs.declared.place.Standing.TheVariants.{Settled, Woven, Repaired, Disputed, Missing, Undivided}
 use Rattle.ffv1_splice.specs.declared.place.Place.{Place}
 use Rattle.ffv1_splice.proofs.DividedLinks.{end_within, link_at, AreLinkPlaces, link_places, settled_link, same_payload}
 use Rattle.ffv1_splice.proofs.FirstSlices.{combination_told}
@@ -65,19 +65,31 @@ module _ (copies : List (List ℕ)) (start end : ℕ) (slice : List ℕ) (framed
   woven_slice copy bytes (Woven n) count reach there is (inr (inl h)) =
       absurd (h.1.untold 0 (combination_told copies end copy slice reach there h.1.content framed
       (subst (λ s. IsCombination (versions_at copies s end) slice) h.0 among)))
+  woven_slice copy bytes (Repaired n) count reach there is h = absurd (cc)
   woven_slice copy bytes Disputed count reach there is h = absurd (cc)
   woven_slice copy bytes Missing count reach there is h = absurd (cc)
   woven_slice copy bytes Undivided count reach there is h = absurd (cc)
 
-  -- it is missing only where there are too many combinations
+  -- it is not repaired, ..
+  pub unrepaired_slice : (bytes : List ℕ) (standing : Standing) (count : ℕ) → standing ≡ Repaired count → StandsAs copies start end bytes standing → ⊥
+  unrepaired_slice bytes Settled count is h = absurd (cc)
+  unrepaired_slice bytes (Woven n) count is h = absurd (cc)
+  unrepaired_slice bytes (Repaired n) count is h =
+      original_is_woven Slice slice (versions_at copies start end) (weave_missing h.combinations) (framed, passes) among h.missed.weave'
+  unrepaired_slice bytes Disputed count is h = absurd (cc)
+  unrepaired_slice bytes Missing count is h = absurd (cc)
+  unrepaired_slice bytes Undivided count is h = absurd (cc)
+
+  -- .. and is missing only where there are too many combinations
   pub missing_slice : (bytes : List ℕ) (standing : Standing) → standing ≡ Missing → StandsAs copies start end bytes standing
       → AreMany (versions_at copies start end)
   missing_slice bytes Settled is h = absurd (cc)
   missing_slice bytes (Woven n) is h = absurd (cc)
+  missing_slice bytes (Repaired n) is h = absurd (cc)
   missing_slice bytes Disputed is h = absurd (cc)
   missing_slice bytes Missing is h =
       elim h.0 [
-        | inl w ↦ absurd (original_is_woven Slice slice (versions_at copies start end) (weave_missing w.0) (framed, passes) among w.1.weave')
+        | inl w ↦ absurd (original_is_woven Slice slice (versions_at copies start end) (weave_missing w.0.0) (framed, passes) among w.0.1.weave')
         | inr w ↦ w.weave'
       ]
   missing_slice bytes Undivided is h = absurd (cc)
@@ -92,6 +104,7 @@ sized_slice copies start end slice framed passes untold among bytes (Woven n) co
 sized_slice copies start end slice framed passes untold among bytes (Woven n) count is (inr (inl h)) =
     slice_of_weave slice framed passes (map sized (versions_at copies 0 end)) bytes n
     (subst (λ s. IsCombination (map sized (versions_at copies s end)) slice) h.0 among) h.1.weave'
+sized_slice copies start end slice framed passes untold among bytes (Repaired n) count is h = absurd (cc)
 sized_slice copies start end slice framed passes untold among bytes Disputed count is h = absurd (cc)
 sized_slice copies start end slice framed passes untold among bytes Missing count is h = absurd (cc)
 sized_slice copies start end slice framed passes untold among bytes Undivided count is h = absurd (cc)
@@ -100,10 +113,12 @@ sized_slice copies start end slice framed passes untold among bytes Undivided co
 
 module _ (original : List ℕ) (copies : List (List ℕ)) (spliced : SplicedValue) (is : IsSpliceOf copies spliced) where
   keeps_settled : (place : Place) → place.standing ≡ Settled → KeepsLink original copies spliced place
-  keeps_settled place settled = record { woven = λ count woven. absurd (cc); missing = λ missing. absurd (cc) }
+  keeps_settled place settled =
+      record { woven = λ count woven. absurd (cc); unrepaired = λ count repaired. absurd (cc); missing = λ missing. absurd (cc) }
 
   keeps_undivided : (place : Place) → place.standing ≡ Undivided → KeepsLink original copies spliced place
-  keeps_undivided place stands = record { woven = λ count woven. absurd (cc); missing = λ missing. absurd (cc) }
+  keeps_undivided place stands =
+      record { woven = λ count woven. absurd (cc); unrepaired = λ count repaired. absurd (cc); missing = λ missing. absurd (cc) }
 
   keeps_link : (place : Place) → IsPlaceOf copies spliced is place → IsLinkOf original place.start place.end
       → PassesParity (slice_range original place.start place.end) → IsAmong original copies place.start place.end → KeepsLink original copies spliced place
@@ -123,6 +138,7 @@ module _ (original : List ℕ) (copies : List (List ℕ)) (spliced : SplicedValu
       record {
         woven = λ count woven. woven_slice versions hole.start hole.end slice framed passes all is.divided.before.copy bytes hole.standing count
             (hole_reach copies spliced is hole.end within) is.divided.before.there woven stands;
+        unrepaired = λ count repaired. unrepaired_slice versions hole.start hole.end slice framed passes all bytes hole.standing count repaired stands;
         missing = λ missing. subst AreMany same (missing_slice versions hole.start hole.end slice framed passes all bytes hole.standing missing stands);
       }
   keeps_link place (undivided there) link passes among =
@@ -206,6 +222,8 @@ module _ (original : List ℕ) (copies : List (List ℕ)) (spliced : SplicedValu
       let at = link_at original of.whole end is_end (omega arith) in
       absurd (h.1.untold at.0 (weavable.told at.0 end (record { is_end = is_end; cut = at.1 })))
   cuts start end bytes (Woven count) is_end (inr (inr h)) = several_cut start end bytes count is_end h
+  cuts start end bytes (Repaired count) is_end h =
+      let below = told_below copies start end h.missed.told.there in told_cut start end is_end (omega arith) h.missed.told
   cuts start end bytes Disputed is_end h =
       let below = stands_below copies start end bytes Disputed h in told_cut start end is_end (omega arith) h.1.told
   cuts start end bytes Missing is_end h =
@@ -232,6 +250,7 @@ module _ (original : List ℕ) (copies : List (List ℕ)) (spliced : SplicedValu
   has_link start end bytes (Woven count) link right (inr (inr h)) =
       slice_of_weave (slice_range original start end) (framed_link original start end link) (weavable.passes start end link)
       (map sized (versions_at copies start end)) bytes (get_or h.tried start 0) (among_sized start end link h.are_bytes) h.weave'
+  has_link start end bytes (Repaired count) link right h = absurd right
   has_link start end bytes Disputed link right h = absurd right
   has_link start end bytes Missing link right h = absurd right
   has_link start end bytes Undivided link right h = absurd right

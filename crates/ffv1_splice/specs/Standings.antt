@@ -6,10 +6,11 @@ use Rattle.ffv1_slice.specs.Chain.{Piece}
 use Rattle.ffv1_slice.specs.Members.{IsOnly, IsOfTwo, IsOfNone}
 use Rattle.ffv1_weave.specs.Weave.{Weave, IsWeaveOf}
 use Rattle.ffv1_weave.specs.Weave.Weave.{woven, disputed, missing, too_many}
+use Rattle.ffv1_weave.specs.Repairs.{IsRepairOf}
 use Rattle.ffv1_weave.specs.declared.check.Check.TheVariants.{Slice}
 use Rattle.ffv1_splice.specs.Pieces.{HasContent, IsPiece, IsToldStart, IsLeast}
 use Rattle.ffv1_splice.specs.declared.place.Standing.{Standing}
-use Rattle.ffv1_splice.specs.declared.place.Standing.TheVariants.{Settled, Woven, Disputed, Missing, Undivided}
+use Rattle.ffv1_splice.specs.declared.place.Standing.TheVariants.{Settled, Woven, Repaired, Disputed, Missing, Undivided}
 
 -- what each copy has between two places
 abbrev pub versions_at : List (List ℕ) → (start end : ℕ) → List (List ℕ)
@@ -53,6 +54,21 @@ pub record IsWeaveOfSeveral (copies : List (List ℕ)) (start end : ℕ) (bytes 
   pub untold : (other : ℕ) → (IsToldStart copies end other → ⊥) → slice_index tried other ≡ 0
   pub counted : count ≡ min (sum tried) (2 ^ 64 - 1)
 
+-- One start alone is told, and no combination of what the copies have from it on is a slice. But with one bit inverted one of them is: these
+-- bytes alone, of so many that are tried.
+pub record IsRepairAt (copies : List (List ℕ)) (start end : ℕ) (bytes : List ℕ) (count : ℕ) : Type 0 where
+  pub combinations : ℕ
+  pub missed : IsWeaveAt copies start end (missing combinations)
+  pub repair : IsRepairOf (versions_at copies start end) bytes count
+
+-- One start alone is told, and no combination of what the copies have from it on is a slice, with one bit inverted neither, or two that
+-- differ are. Or there are more combinations than are tried.
+abbrev pub IsMissingAt : List (List ℕ) → (start end : ℕ) → Type 0
+IsMissingAt copies start end =
+    (((count : ℕ) × IsWeaveAt copies start end (missing count))
+    × ((bytes : List ℕ) (count : ℕ) → IsRepairOf (versions_at copies start end) bytes count → ⊥))
+    ⊎ IsWeaveAt copies start end too_many
+
 -- A gap: the copies whose footer there tells a start, of which there is one, all tell the same, and the least of all copies'
 -- bytes stand there.
 pub record IsGap (copies : List (List ℕ)) (start end : ℕ) (bytes : List ℕ) : Type 0 where
@@ -60,17 +76,18 @@ pub record IsGap (copies : List (List ℕ)) (start end : ℕ) (bytes : List ℕ)
   pub least : IsLeast copies start end bytes
 
 -- Settled: the only piece that ends there. Where no piece does, the copies' versions are woven, from the start that is told, or from the one
--- of several that gives a slice, or else from the front. Disputed: two pieces that differ end there, or two combinations of versions are a
--- slice; missing: no piece and no combination is one, or there are too many to be tried.
+-- of several that gives a slice, or else from the front. Repaired: no combination of versions is a slice, but one alone is with one bit
+-- inverted. Disputed: two pieces that differ end there, or two combinations of versions are a slice; missing: no piece, no combination and
+-- no repair is one, or there are too many to be tried.
 abbrev pub StandsAs : List (List ℕ) → (start end : ℕ) → List ℕ → Standing → Type 0
 StandsAs copies start end bytes Settled = IsOnly (IsPiece copies end) (record { start = start; bytes = bytes })
 StandsAs copies start end bytes (Woven count) =
     IsWeaveAt copies start end (woven bytes count) ⊎ ((start ≡ 0) × IsWeaveFromFront copies end (woven bytes count))
     ⊎ IsWeaveOfSeveral copies start end bytes count
+StandsAs copies start end bytes (Repaired count) = IsRepairAt copies start end bytes count
 StandsAs copies start end bytes Disputed =
     (IsOfTwo (IsPiece copies end) ⊎ IsWeaveAt copies start end disputed) × IsGap copies start end bytes
-StandsAs copies start end bytes Missing =
-    (((count : ℕ) × IsWeaveAt copies start end (missing count)) ⊎ IsWeaveAt copies start end too_many) × IsGap copies start end bytes
+StandsAs copies start end bytes Missing = IsMissingAt copies start end × IsGap copies start end bytes
 StandsAs copies start end bytes Undivided = ⊥
 
 -- No place ends there: no piece is the only one, no start is told alone, and nothing is woven from the front or from several starts.

@@ -1,6 +1,6 @@
 //! Laws of the splice, whatever it is made by.
 ghost use Rattle.ffv1_splice.specs.Whole.{GivenBackIsWhole};
-ghost use Rattle.ffv1_splice.specs.Laws.{SameCopiesSplice, OriginalIsSpliced, SettledIsOriginal, SettledWalksAreOriginal, WovenIsOriginal, SizedIsOriginal, GivenBackIsOriginal, NearCopiesSplice};
+ghost use Rattle.ffv1_splice.specs.Laws.{SameCopiesSplice, OriginalIsSpliced, SettledIsOriginal, SettledWalksAreOriginal, WovenIsOriginal, SizedIsOriginal, RepairedIsOriginal, GivenBackIsOriginal, NearCopiesSplice};
 
 /// However the same copies are ordered or repeated, they have one splice.
 pub fn same_copies_splice()
@@ -35,6 +35,12 @@ pub fn woven_is_original()
 /// combinations of what the copies have there, each with the size of a slice that is as long: what is woven is the original's slice.
 pub fn sized_is_original()
     ensures { SizedIsOriginal }
+{}
+
+/// At a place where the original's slice passes its parity, and is one of the combinations of what the copies have there with one bit
+/// inverted: what is repaired is the original's slice.
+pub fn repaired_is_original()
+    ensures { RepairedIsOriginal }
 {}
 
 /// Where no slice that passes its parity tells other than an original, the start of each of its slices is told by some copy, and each is

@@ -1,8 +1,9 @@
 //! The places of a splice, each found by what all copies tell at its end, and written into the payload.
-ghost use Rattle.std.specs.Prelude.{◌≡◌, ◌+◌, ◌≤◌, ◌<◌, length, map, All, IfOk};
+ghost use Rattle.std.specs.Prelude.{◌≡◌, ◌+◌, ◌≤◌, ◌<◌, ℕ, length, map, All, IfOk};
 ghost use Rattle.ffv1_slice.specs.Members.{IsOnly, IsOfTwo, IsOfNone};
 ghost use Rattle.ffv1_splice.specs.Pieces.{IsPiece, IsToldStart};
-ghost use Rattle.ffv1_splice.specs.Standings.{versions_at};
+ghost use Rattle.ffv1_weave.specs.Weave.Weave.{missing};
+ghost use Rattle.ffv1_splice.specs.Standings.{versions_at, IsWeaveAt};
 ghost use Rattle.ffv1_splice.specs.Placing.{written, IsPlaced, IsPlacedOrStop};
 ghost use Rattle.ffv1_splice.specs.Told.{Tells, starts_told};
 
@@ -10,7 +11,7 @@ use crate::first::first_before;
 use crate::place::{Place, Standing};
 use crate::several::several_before;
 use crate::told::{Pieces, Starts, least_at, told_at};
-use ffv1_weave::{Check, Outcome, weave};
+use ffv1_weave::{Check, Outcome, repair, weave};
 use std::alloc::{AllocError, Global};
 
 /// The place that ends there, which is written over the payload's bytes. Each copy has the end, and so has the payload.
@@ -96,7 +97,7 @@ fn woven_before(
     }))
 }
 
-/// How the place between these ends stands, of which no piece is one: it is woven, or the least of all copies' bytes are written.
+/// How the place between these ends stands, of which no piece is one: it is woven or repaired, or the least of all copies' bytes are written.
 fn weave_at(
     alloc: Global,
     copies: &[&[u8]],
@@ -113,16 +114,44 @@ fn weave_at(
         (record { start = start; end = end; standing = standing })) }
 {
     let versions = versions_at(alloc, copies, start, end)?;
-    let standing = match weave(alloc, Check::Slice, versions.as_slice())? {
+    let versions = versions.as_slice();
+    let standing = match weave(alloc, Check::Slice, versions)? {
         Outcome::Woven(bytes, count) => {
             write_at(payload, start, bytes.as_slice());
             return Ok(Standing::Woven(count));
         }
         Outcome::Disputed => Standing::Disputed,
-        Outcome::Missing(_) | Outcome::TooMany => Standing::Missing,
+        Outcome::Missing(_) => return repair_at(alloc, copies, versions, start, end, payload),
+        Outcome::TooMany => Standing::Missing,
     };
     write_at(payload, start, least_at(copies, start, end));
     Ok(standing)
+}
+
+/// How the place between these ends stands, of whose versions no combination is a slice: it is repaired, or the least of all copies' bytes
+/// are written.
+fn repair_at(
+    alloc: Global,
+    copies: &[&[u8]],
+    versions: &[&[u8]],
+    start: usize,
+    end: usize,
+    payload: &mut [u8],
+) -> Result<Standing, AllocError>
+    requires some { 0 < length copies.now }
+    requires within { All (λ copy. end ≤ length copy.now) copies.now }
+    requires room { end ≤ length payload.old }
+    requires versions { map (λ version. version.now) versions.now ≡ versions_at (map (λ copy. copy.now) copies.now) start end }
+    requires missed { (count : ℕ) × IsWeaveAt (map (λ copy. copy.now) copies.now) start end (missing count) }
+    ensures { IfOk result (λ standing. IsPlaced (map (λ copy. copy.now) copies.now) end payload.old payload.new
+        (record { start = start; end = end; standing = standing })) }
+{
+    let Some((repaired, count)) = repair(alloc, versions)? else {
+        write_at(payload, start, least_at(copies, start, end));
+        return Ok(Standing::Missing);
+    };
+    write_at(payload, start, repaired.as_slice());
+    Ok(Standing::Repaired(count))
 }
 
 /// What each copy has between two places. Each has them.

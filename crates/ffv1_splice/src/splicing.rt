@@ -98,8 +98,9 @@ fn stands_whole(place: &Place) -> bool
 /// that is left between them is divided from its own end. Where no footer tells the start of a slice there, it is taken for the first of
 /// the hole, which begins with the hole and so has a known size: it is a place where it is woven. Where footers tell several starts, what the
 /// copies have is woven from each, and it is a place where it is woven from one alone, and from each other no combination is a slice: that
-/// takes a weave for each start, of which there is one at most for each copy. However the same copies are ordered or repeated, the answer
-/// is the same.
+/// takes a weave for each start, of which there is one at most for each copy. Where they tell one start, and no combination of what the
+/// copies have from it on is a slice, the place is repaired where one of these with one bit inverted alone is: that takes at most
+/// 2^20 tries. However the same copies are ordered or repeated, the answer is the same.
 ///
 /// `OtherLength` comes exactly where some copy is not as long as the first; the only other refusal is `Memory`.
 pub fn splice(alloc: Global, copies: &[&[u8]]) -> Result<Spliced, SpliceFault>
