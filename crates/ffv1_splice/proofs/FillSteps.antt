@@ -7,11 +7,12 @@ use Rattle.std.proofs.lemmas.Slice.{take-put_mid, take-put_mid_below, between-pu
 use borrow.Rule.Slice.PartMut.{put_mid}
 use Rattle.ffv1_slice.proofs.NearLaws.{length-range}
 use Rattle.ffv1_splice.specs.Standings.{versions_at}
-use Rattle.ffv1_splice.specs.Splice.{SplicedValue, LieFrom, IsWalkDown, IsBound, IsWalkUp, IsDivisionOf, IsSpliceOf, hole_places, front_of}
+use Rattle.ffv1_splice.specs.Splice.{SplicedValue, LieFrom, IsWalkDown, IsBound, IsWalkUp, Leg, IsWalkAcross, leg_places, IsDivisionOf, IsSpliceOf, hole_places, front_of}
 use Rattle.ffv1_splice.specs.declared.place.Place.{Place}
 use Rattle.ffv1_splice.proofs.Versions.{version_of}
 use Rattle.ffv1_splice.proofs.Walks.{stands_below, front_below, ends_below}
-use Rattle.ffv1_splice.proofs.SettlingSteps.{down_kept, up_kept}
+use Rattle.ffv1_splice.proofs.SettlingSteps.{take_earlier, down_kept}
+use Rattle.ffv1_splice.proofs.Crossings.{walk_kept, legs_order, legs_kept}
 
 -- ---- how long a division is
 
@@ -88,21 +89,24 @@ module _ (down up hole : List ℕ) (start bound end : ℕ) (order : start ≤ bo
       let taken = length-take-le end down within in
       omega arith
 
-  pub filled_splice : (copies : List (List ℕ)) (above under hole_list : List Place) (hole_front : ℕ)
+  pub filled_splice : (copies : List (List ℕ)) (above under hole_list : List Place) (legs : List Leg) (floor hole_front : ℕ)
       → ((copy : List ℕ) → Contains copies copy → length copy ≡ length down)
-      → IsWalkDown copies down above end → IsBound copies end bound → IsWalkUp copies bound up under start
+      → IsWalkDown copies down above end → IsBound copies end bound → IsWalkUp copies bound up 0 under floor
+      → IsWalkAcross copies bound up floor legs start
       → IsDivisionOf (versions_at copies start end) (record { places = hole_list; front = hole_front; payload = hole })
       → (places : List Place) (front_there : ℕ)
-      → places ≡ above ++ (hole_places start (record { places = hole_list; front = hole_front; payload = hole }) ++ reverse under)
+      → places ≡ above ++ (hole_places start (record { places = hole_list; front = hole_front; payload = hole }) ++ reverse (under ++ leg_places legs))
       → front_there ≡ front_of start hole_front
       → IsSpliceOf copies (record {
         places = places;
         front = front_there;
         payload = put_mid start (end - start) (up ++ drop bound down) hole;
       })
-  filled_splice copies above under hole_list hole_front one walk_down room walk_up divided places front_there are is = record {
+  filled_splice copies above under hole_list legs floor hole_front one walk_down room walk_up across divided places front_there are is = record {
     above = above;
     below = under;
+    legs = legs;
+    floor = floor;
     start = start;
     end = end;
     bound = bound;
@@ -115,11 +119,13 @@ module _ (down up hole : List ℕ) (start bound end : ℕ) (order : start ≤ bo
       stop = walk_down.stop;
     };
     room = room;
-    up = record {
-      rise = walk_up.rise;
-      settled = up_kept copies bound up (put_mid start (end - start) (up ++ drop bound down) hole) under 0 start walk_up.rise walk_up.settled
-          (sym filled_before);
-      stop = walk_up.stop;
+    up = walk_kept copies bound up (put_mid start (end - start) (up ++ drop bound down) hole) 0 under floor
+        (take_earlier up (put_mid start (end - start) (up ++ drop bound down) hole) floor start (legs_order copies bound up floor legs start across.are)
+        (sym filled_before)) walk_up;
+    across = record {
+      are = legs_kept copies bound up (put_mid start (end - start) (up ++ drop bound down) hole) floor legs start (sym filled_before) across.are;
+      few = across.few;
+      stop = across.stop;
     };
     divided = divided;
     bytes = sym filled_hole;

@@ -1,6 +1,7 @@
 pub mod ToldSteps
 pub mod LeastSteps
 pub mod ShortestSteps
+pub mod ClaimedEnds
 pub mod PlaceSteps
 pub mod Versions
 pub mod RepairSteps
@@ -14,6 +15,7 @@ pub mod SettlingSteps
 pub mod BoundSteps
 pub mod FillSteps
 pub mod PlaceLists
+pub mod Crossings
 pub mod SplicePlaces
 pub mod SameBytes
 pub mod OneDivision

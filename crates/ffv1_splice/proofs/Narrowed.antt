@@ -67,6 +67,19 @@ module _ (from to : ℕ) where
           passes = h.passes;
         }
 
+    pub piece_in : (end : ℕ) (piece : Piece) → from + end ≤ to → IsPiece copies (from + end) (record { start = from + piece.start; bytes = piece.bytes })
+        → IsPiece (versions_at copies from to) end piece
+    piece_in end piece within h =
+        let content : HasContent (from + piece.start) (from + end) = h.content in
+        record {
+          copy = slice_range h.copy from to;
+          there = version_there copies from to h.copy h.there;
+          cut = cut_in h.copy piece.start end within h.cut;
+          content = omega arith;
+          bytes = h.bytes ∙ sym (range_of_range h.copy piece.start end within);
+          passes = h.passes;
+        }
+
     pub told_in : (end start : ℕ) → from + end ≤ to → IsToldStart copies (from + end) (from + start) → IsToldStart (versions_at copies from to) end start
     told_in end start within h =
         let content : HasContent (from + start) (from + end) = h.content in

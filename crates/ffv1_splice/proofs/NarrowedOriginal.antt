@@ -1,5 +1,5 @@
 -- An original that is cut to the bytes from one end of its slices up to another, and its copies that are cut there too.
-use Rattle.std.proofs.Common.{◌≡◌, ℕ, ◌+◌, ◌-◌, ◌≤◌, List, [], ◌∷◌, length, map, sym, ap, ◌∙◌, subst, arith, refl, inl, inr}
+use Rattle.std.proofs.Common.{◌≡◌, ℕ, ◌+◌, ◌-◌, ◌<◌, ◌≤◌, List, [], ◌∷◌, length, map, sym, ap, ◌∙◌, subst, arith, refl, inl, inr}
 use Rattle.std.specs.Prelude.{◌⊎◌, ◌↔◌, All, Contains, slice_range}
 use Rattle.std.proofs.lemmas.List.Elements.{All-head, All-tail}
 use Rattle.ffv1_bits.specs.Parity.{PassesParity}
@@ -82,6 +82,23 @@ back_from original top end (before {q = q} h cut) is_end below =
       | inl same ↦ absurd (omega arith)
       | inr w ↦ subst (λ start. IsBackFrom original start end) (same_cut original w.0 top q w.1 cut) w.2
     ]
+
+-- a link begins at each end before another one, and ends no later
+pub next_end : (original : List ℕ) (start top : ℕ) → IsEnd original top → IsEnd original start → start < top
+    → (end : ℕ) × IsLinkOf original start end × (end ≤ top)
+next_end original start top is_top is_end below = of_back start (back_from original top start is_top is_end (omega arith)) below
+  where
+    within : (end : ℕ) → IsBackFrom original top end → end ≤ top
+    within end here = omega arith
+    within end (more {end = next} back cut) = let rest = within next back in omega arith
+
+    is_end_back : (end : ℕ) → IsBackFrom original top end → IsEnd original end
+    is_end_back end here = is_top
+    is_end_back end (more {end = next} back cut) = before (is_end_back next back) cut
+
+    of_back : (place : ℕ) → IsBackFrom original top place → place < top → (end : ℕ) × IsLinkOf original place end × (end ≤ top)
+    of_back place here low = absurd (omega arith)
+    of_back place (more {end = next} back cut) low = (next, record { is_end = is_end_back next back; cut = cut }, within next back)
 
 -- ---- the ends and links of the cut original
 

@@ -1,24 +1,25 @@
 -- The splice of copies that are near an original.
 use Rattle.std.proofs.Common.{◌≡◌, ℕ, List, length, get_or, sym, ◌∙◌}
 use Rattle.std.specs.Prelude.{◌↔◌, All, slice_range}
-use Rattle.std.proofs.lemmas.List.Elements.{All-weaker}
-use Rattle.ffv1_slice.specs.Chain.{piece_of}
-use Rattle.ffv1_splice.specs.Pieces.{IsPiece}
+use Rattle.std.proofs.lemmas.List.Elements.{All-append, All-weaker}
+use Rattle.ffv1_slice.specs.Chain.{IsLinkOf, piece_of}
+use Rattle.ffv1_splice.specs.Pieces.{IsPiece, IsToldStart}
 use Rattle.ffv1_splice.specs.Standings.{versions_at}
-use Rattle.ffv1_splice.specs.Splice.{SplicedValue, IsSettledDown, IsSettledUp, IsSpliceOf}
+use Rattle.ffv1_splice.specs.Splice.{SplicedValue, IsSettledDown, IsSettledUp, IsCrossed, leg_places, IsSpliceOf}
 use Rattle.ffv1_splice.specs.Originals.{AgreeWith, AgreeFromBelow, AreNearCopies, IsIntactInSome}
-use Rattle.ffv1_splice.specs.Laws.{IsItsLink, IsNearSplice, NearCopiesSplice}
+use Rattle.ffv1_splice.specs.Laws.{IsItsLink, IsLinkIfSettled, IsNearSplice, NearCopiesSplice}
 use Rattle.ffv1_splice.specs.declared.place.Standing.TheVariants.{Settled}
 use Rattle.ffv1_splice.specs.declared.place.Place.{Place}
 use Rattle.ffv1_splice.proofs.DividedLinks.{AreLinkPlaces}
 use Rattle.ffv1_splice.proofs.Narrowed.{range_of_range}
 use Rattle.ffv1_splice.proofs.NarrowedOriginal.{intact_narrowed, near_narrowed}
 use Rattle.ffv1_splice.proofs.PlaceLists.{no_undivided}
-use Rattle.ffv1_splice.proofs.SplicePlaces.{all_places, copy_at_hand, start_within}
+use Rattle.ffv1_splice.proofs.SplicePlaces.{all_legs_lower, all_places, copy_at_hand, start_within}
 use Rattle.ffv1_splice.proofs.StandingPlaces.{hole_within, hole_bytes}
-use Rattle.ffv1_splice.proofs.OriginalLaws.{AreWalkLinks, above_links, below_links, joined_links, is_original}
+use Rattle.ffv1_splice.proofs.OriginalLaws.{AreWalkLinks, AreLegLinks, above_links, below_links, across_links, joined_links, is_original}
+use Rattle.ffv1_splice.proofs.Crossings.{crossed_unsettled, crossed_no_piece}
 use Rattle.ffv1_splice.proofs.WovenLaws.{given_back_is_original}
-use Rattle.ffv1_splice.proofs.NearDivisions.{near_agree, intact_piece, piece_intact, are_copies, are_weavable, divided_links, near_divided}
+use Rattle.ffv1_splice.proofs.NearDivisions.{near_agree, told_link, intact_piece, piece_intact, are_copies, are_weavable, divided_links, near_divided}
 
 module _ (original : List ℕ) (copies : List (List ℕ)) (near : AreNearCopies original copies) (from_below : AgreeFromBelow original copies)
     (spliced : SplicedValue) (is : IsSpliceOf copies spliced) where
@@ -28,8 +29,15 @@ module _ (original : List ℕ) (copies : List (List ℕ)) (near : AreNearCopies 
   down : AreWalkLinks original spliced is.above is.end
   down = above_links original copies spliced is (are_copies original copies near) agree
 
-  up : AreWalkLinks original spliced is.below is.start
+  up : AreWalkLinks original spliced is.below is.floor
   up = below_links original copies spliced is (are_copies original copies near) agree from_below
+
+  -- each copy tells the start of each link
+  told : (start end : ℕ) → IsLinkOf original start end → IsToldStart copies end start
+  told = let copy = copy_at_hand copies spliced is in told_link original copies near copy.0 copy.1
+
+  across : AreLegLinks original spliced is.legs is.start
+  across = across_links original copies spliced is (are_copies original copies near) agree from_below told
 
   -- ---- the hole
 
@@ -38,7 +46,7 @@ module _ (original : List ℕ) (copies : List (List ℕ)) (near : AreNearCopies 
   range = slice_range original is.start is.end
 
   near_hole : AreNearCopies range (versions_at copies is.start is.end)
-  near_hole = near_narrowed is.start is.end original (start_within copies spliced is) down.is_end copies up.is_end near
+  near_hole = near_narrowed is.start is.end original (start_within copies spliced is) down.is_end copies across.is_end near
 
   hole_links : AreLinkPlaces range (length range) is.hole.places is.hole.front
   hole_links = divided_links range (versions_at copies is.start is.end) near_hole is.hole is.divided
@@ -57,6 +65,14 @@ module _ (original : List ℕ) (copies : List (List ℕ)) (near : AreNearCopies 
   settled_where place its settled piece =
       (λ _. piece_intact original copies near place.start place.end (slice_range spliced.payload place.start place.end) its.link piece, λ intact. settled)
 
+  -- a place over a lost slice is not, and neither is it settled
+  crossed_where : (place : Place) → IsCrossed copies is.bound spliced.payload place → IsLinkOf original place.start place.end → IsSettledWhere place
+  crossed_where place crossed link = (
+    λ settled. absurd (crossed_unsettled copies is.bound spliced.payload place crossed settled),
+    λ intact. absurd (crossed_no_piece copies is.bound spliced.payload place crossed (slice_range original place.start place.end)
+        (intact_piece original copies near place.start place.end link intact)),
+  )
+
   all_settled_where : All IsSettledWhere spliced.places
   all_settled_where =
       all_places copies spliced is IsSettledWhere
@@ -66,8 +82,12 @@ module _ (original : List ℕ) (copies : List (List ℕ)) (near : AreNearCopies 
       let same = intact_narrowed is.start is.end original copies place.start place.end (hole_within copies spliced is k d lt) in
       let here = hole.settled k d lt in (λ settled. same.0 (here.0 settled), λ intact. here.1 (same.1 intact)))
       (no_undivided IsSettledWhere is.start is.hole.front hole_links.whole)
+      (All-append IsSettledWhere is.below (leg_places is.legs)
       (λ k d lt. let settled : IsSettledUp copies is.bound spliced.payload (get_or is.below k d) = is.up.settled k d lt in
       settled_where (get_or is.below k d) (up.links k d lt) settled.standing settled.only.there)
+      (λ k d lt. all_legs_lower copies spliced is (λ place. IsLinkIfSettled original spliced place → IsSettledWhere place)
+      (λ place settled link. settled_where place (link.settled settled.standing) settled.standing settled.only.there)
+      (λ place crossed link. crossed_where place crossed link.link) k d lt (across.links k d lt)))
 
   abbrev HasBytesWhereSettled : Place → Type 0
   HasBytesWhereSettled place =
@@ -81,11 +101,18 @@ module _ (original : List ℕ) (copies : List (List ℕ)) (near : AreNearCopies 
       sym (hole_bytes copies spliced is k d lt) ∙ hole.bytes k d lt settled
       ∙ range_of_range is.start is.end original place.start place.end (hole_within copies spliced is k d lt))
       (no_undivided HasBytesWhereSettled is.start is.hole.front hole_links.whole)
+      (All-append HasBytesWhereSettled is.below (leg_places is.legs)
       (All-weaker (IsItsLink original spliced) HasBytesWhereSettled (λ place its settled. its.bytes) is.below up.links)
+      (All-weaker (IsLinkIfSettled original spliced) HasBytesWhereSettled (λ place its settled. (its.settled settled).bytes) (leg_places is.legs)
+      across.links))
+
+  all_links : AreLinkPlaces original (length original) spliced.places spliced.front
+  all_links =
+      joined_links original copies spliced is (are_copies original copies near) agree from_below across.links hole_links.each hole_links.whole
 
   near_splice : IsNearSplice original copies spliced
   near_splice = record {
-    places = joined_links original copies spliced is (are_copies original copies near) agree from_below hole_links.each hole_links.whole;
+    places = record { links = all_links.links; whole = all_links.whole };
     settled = all_settled_where;
     bytes = all_bytes;
   }

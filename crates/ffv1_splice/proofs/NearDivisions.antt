@@ -89,7 +89,7 @@ module _ (original : List ℕ) (copies : List (List ℕ)) (near : AreNearCopies 
   are_copies = record { whole = near.sound.whole; one_length = λ copy there. (near.near copy there).same_length }
 
   -- each copy tells the start of each link
-  told_link : (copy : List ℕ) → Contains copies copy → (start end : ℕ) → IsLinkOf original start end → IsToldStart copies end start
+  pub told_link : (copy : List ℕ) → Contains copies copy → (start end : ℕ) → IsLinkOf original start end → IsToldStart copies end start
   told_link copy there start end link =
       record {
         copy = copy;

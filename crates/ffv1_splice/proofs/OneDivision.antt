@@ -225,10 +225,10 @@ module _ (copies others : List (List ℕ)) (same : HasSameMembers copies others)
   piece_here end piece h =
       record { copy = h.copy; there = (same h.copy).1 h.there; cut = h.cut; content = h.content; bytes = h.bytes; passes = h.passes }
 
-  start_there : (end start : ℕ) → IsToldStart copies end start → IsToldStart others end start
+  pub start_there : (end start : ℕ) → IsToldStart copies end start → IsToldStart others end start
   start_there end start h = record { copy = h.copy; there = (same h.copy).0 h.there; cut = h.cut; content = h.content }
 
-  start_here : (end start : ℕ) → IsToldStart others end start → IsToldStart copies end start
+  pub start_here : (end start : ℕ) → IsToldStart others end start → IsToldStart copies end start
   start_here end start h = record { copy = h.copy; there = (same h.copy).1 h.there; cut = h.cut; content = h.content }
 
   pub only_same : {X : Type 0} (P Q : X → Type 0) → ((x : X) → P x → Q x) → ((x : X) → Q x → P x) → (x : X) → IsOnly P x → IsOnly Q x
@@ -289,7 +289,7 @@ module _ (copies others : List (List ℕ)) (same : HasSameMembers copies others)
       same_versions_repair.same (versions_at others start end) (versions_at copies start end) bytes count
       (same_versions others copies (same_back copies others same) start end) h
 
-  stands_there : (start end : ℕ) (bytes : List ℕ) (standing : Standing) → StandsAs copies start end bytes standing → StandsAs others start end bytes standing
+  pub stands_there : (start end : ℕ) (bytes : List ℕ) (standing : Standing) → StandsAs copies start end bytes standing → StandsAs others start end bytes standing
   stands_there start end bytes Settled h =
       only_same (IsPiece copies end) (IsPiece others end) (piece_there end) (piece_here end) (record { start = start; bytes = bytes }) h
   stands_there start end bytes (Woven count) (inl h) = inl (weave_at_there start end (woven bytes count) h)

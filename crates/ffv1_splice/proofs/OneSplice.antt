@@ -1,17 +1,19 @@
 -- Copies have one splice, and it rests on the set of the copies alone.
-use Rattle.std.proofs.Common.{◌≡◌, ℕ, List, [], ◌∷◌, ◌++◌, length, refl, sym, ap, ◌∙◌, subst, arith, inl, inr}
-use Rattle.std.specs.Prelude.{All, reverse, slice_range}
-use Rattle.std.proofs.lemmas.List.Elements.{All-nil, All-cons, All-head, All-tail, All-weaker}
+use Rattle.std.proofs.Common.{◌≡◌, ℕ, ◌-◌, ◌≤◌, List, [], ◌∷◌, ◌++◌, length, refl, sym, ap, ◌∙◌, subst, arith, inl, inr}
+use Rattle.std.specs.Prelude.{◌⊎◌, All, reverse, slice_range}
+use Rattle.std.proofs.lemmas.List.Elements.{All-nil, All-cons, All-head, All-tail, All-append, All-weaker}
 use Rattle.ffv1_slice.specs.Chain.{Piece, piece_of}
 use Rattle.ffv1_slice.specs.Members.{IsOnly, HasSameMembers}
-use Rattle.ffv1_splice.specs.Pieces.{IsPiece, PieceFrom, IsPieceFrom, IsShortest}
-use Rattle.ffv1_splice.specs.Standings.{versions_at}
-use Rattle.ffv1_splice.specs.Splice.{SplicedValue, LieFrom, RiseFrom, IsSettledDown, IsSettledUp, IsWalkDown, IsBound, IsWalkUp, IsDivisionOf, hole_places, front_of, IsSpliceOf}
+use Rattle.ffv1_splice.specs.Pieces.{IsPiece, IsToldStart, PieceFrom, IsPieceFrom, IsShortest}
+use Rattle.ffv1_splice.specs.Standings.{versions_at, StandsAs}
+use Rattle.ffv1_splice.specs.Splice.{SplicedValue, LieFrom, RiseFrom, IsSettledDown, IsSettledUp, IsWalkDown, IsBound, IsWalkUp, IsClaimedEnd, IsLostUpTo, IsCrossed, Leg, AreLegs, IsWalkAcross, leg_places, IsDivisionOf, hole_places, front_of, IsSpliceOf}
 use Rattle.ffv1_splice.specs.Laws.{SameCopiesSplice}
 use Rattle.ffv1_splice.specs.declared.place.Place.{Place}
+use Rattle.ffv1_splice.specs.declared.crossing.TheConstants.{MOST_CROSSED}
+use Rattle.ffv1_weave.proofs.WeaveLaws.{same_back}
 use Rattle.ffv1_splice.proofs.Versions.{same_versions}
-use Rattle.ffv1_splice.proofs.OneDivision.{piece_there, piece_here, only_same, division_there, same_copies_divide}
-use Rattle.ffv1_splice.proofs.SplicePlaces.{copy_at_hand}
+use Rattle.ffv1_splice.proofs.OneDivision.{StandingValue, one_standing, piece_there, piece_here, start_there, start_here, only_same, stands_there, division_there, same_copies_divide}
+use Rattle.ffv1_splice.proofs.SplicePlaces.{lower, copy_at_hand}
 use Rattle.ffv1_splice.proofs.BoundSteps.{one_bound}
 use Rattle.ffv1_splice.proofs.SameBytes.{IsSameAt, same_by_parts}
 
@@ -57,9 +59,9 @@ module _ (copies others : List (List ℕ)) (same : HasSameMembers copies others)
         stop = λ piece only. h.stop piece (only_here end piece only);
       }
 
-  up_there : (bound : ℕ) (payload : List ℕ) (places : List Place) (start : ℕ) → IsWalkUp copies bound payload places start
-      → IsWalkUp others bound payload places start
-  up_there bound payload places start h =
+  up_there : (bound : ℕ) (payload : List ℕ) (from : ℕ) (places : List Place) (start : ℕ) → IsWalkUp copies bound payload from places start
+      → IsWalkUp others bound payload from places start
+  up_there bound payload from places start h =
       record {
         rise = h.rise;
         settled = All-weaker (IsSettledUp copies bound payload) (IsSettledUp others bound payload)
@@ -72,20 +74,68 @@ module _ (copies others : List (List ℕ)) (same : HasSameMembers copies others)
             (only_here piece.end (record { start = start; bytes = piece.bytes }) only);
       }
 
+  lost_there : (reach end : ℕ) → IsLostUpTo copies reach end → IsLostUpTo others reach end
+  lost_there reach end h =
+      record {
+        lost = λ piece k. h.lost piece (from_here reach 0 piece k);
+        end' = only_same copies others same (IsClaimedEnd copies reach) (IsClaimedEnd others reach)
+            (λ at k. record { told = start_there copies others same at 0 k.told; within = k.within })
+            (λ at k. record { told = start_here copies others same at 0 k.told; within = k.within }) end h.end';
+        start = only_same copies others same (IsToldStart copies end) (IsToldStart others end) (start_there copies others same end)
+            (start_here copies others same end) 0 h.start;
+        none = λ piece k. h.none piece (piece_here copies others same end piece k);
+        next = (h.next.0, from_there reach end h.next.0 h.next.1);
+      }
+
+module _ (copies others : List (List ℕ)) (same : HasSameMembers copies others) where
+  legs_there : (bound : ℕ) (payload : List ℕ) (start : ℕ) (legs : List Leg) (top : ℕ) → AreLegs copies bound payload start legs top
+      → AreLegs others bound payload start legs top
+  legs_there bound payload start [] top are = are
+  legs_there bound payload start (leg ∷ legs) top are = (
+    are.0,
+    record {
+      size = are.1.size;
+      ends = are.1.ends;
+      lost = lost_there (versions_at copies leg.over.start bound) (versions_at others leg.over.start bound)
+          (same_versions copies others same leg.over.start bound) (bound - leg.over.start) are.1.size are.1.lost;
+      stands = stands_there (versions_at copies leg.over.start bound) (versions_at others leg.over.start bound)
+          (same_versions copies others same leg.over.start bound) 0 are.1.size (slice_range payload leg.over.start leg.over.end) leg.over.standing are.1.stands;
+    },
+    are.2,
+    up_there copies others same bound payload leg.over.end leg.settled are.2 are.3,
+    legs_there bound payload are.2 legs top are.4,
+  )
+
+  across_there : (bound : ℕ) (payload : List ℕ) (start : ℕ) (legs : List Leg) (top : ℕ) → IsWalkAcross copies bound payload start legs top
+      → IsWalkAcross others bound payload start legs top
+  across_there bound payload start legs top h =
+      record {
+        are = legs_there bound payload start legs top h.are;
+        few = h.few;
+        stop = elim h.stop [
+          | inl most ↦ inl most
+          | inr none ↦ inr (λ end lost. none end (lost_there (versions_at others top bound) (versions_at copies top bound)
+              (same_versions others copies (same_back copies others same) top bound) (bound - top) end lost))
+        ];
+      }
+
   -- the same copies have the splice
   pub splice_there : (spliced : SplicedValue) → IsSpliceOf copies spliced → IsSpliceOf others spliced
   splice_there spliced is =
       record {
         above = is.above;
         below = is.below;
+        legs = is.legs;
+        floor = is.floor;
         start = is.start;
         end = is.end;
         bound = is.bound;
         hole = is.hole;
         one_length = λ copy there. is.one_length copy ((same copy).1 there);
-        down = down_there spliced.payload is.above is.end is.down;
-        room = bound_there is.end is.bound is.room;
-        up = up_there is.bound spliced.payload is.below is.start is.up;
+        down = down_there copies others same spliced.payload is.above is.end is.down;
+        room = bound_there copies others same is.end is.bound is.room;
+        up = up_there copies others same is.bound spliced.payload 0 is.below is.floor is.up;
+        across = across_there is.bound spliced.payload is.floor is.legs is.start is.across;
         divided = division_there (versions_at copies is.start is.end) (versions_at others is.start is.end)
             (same_versions copies others same is.start is.end) is.hole is.divided;
         bytes = is.bytes;
@@ -188,6 +238,70 @@ module _ (copies : List (List ℕ)) (bound : ℕ) where
         (one_up p.end ps qs s t rise.1 (subst (λ n. RiseFrom n qs t) (sym ends) risen.1) (All-tail (IsSettledUp copies bound a) p ps h)
         (All-tail (IsSettledUp copies bound b) q qs k) stop halt)
 
+-- ---- one walk across
+
+-- no slice that begins there is lost in all copies
+abbrev StopsAcross : (copies : List (List ℕ)) (bound start : ℕ) → Type 0
+StopsAcross copies bound start = (end : ℕ) → IsLostUpTo (versions_at copies start bound) (bound - start) end → ⊥
+
+joined_walks : (a b : List ℕ) (ps qs more others : List Place) (s t u v : ℕ) → IsOneWalk a b ps qs s t → IsOneWalk a b more others u v
+    → IsOneWalk a b (ps ++ more) (qs ++ others) u v
+joined_walks a b ps qs more others s t u v h k =
+    record {
+      places = ap (λ z. z ++ more) h.places ∙ ap (λ z. qs ++ z) k.places;
+      stop = k.stop;
+      bytes = All-append (IsSameAt a b) ps more h.bytes k.bytes;
+    }
+
+module _ (copies : List (List ℕ)) (bound : ℕ) (a b : List ℕ) where
+  -- what two places over a lost slice have in common
+  record IsOnePlace (p q : Place) : Type 0 where
+    pub end' : p.end ≡ q.end
+    pub standing : p.standing ≡ q.standing
+    pub bytes : slice_range a p.start p.end ≡ slice_range b q.start q.end
+
+  one_crossed : (p q : Place) → p.start ≡ q.start → IsCrossed copies bound a p → IsCrossed copies bound b q → IsOnePlace p q
+  one_crossed p q starts h k =
+      let versions : List (List ℕ) = versions_at copies p.start bound in
+      let lost : IsLostUpTo versions (bound - p.start) k.size =
+      subst (λ s. IsLostUpTo (versions_at copies s bound) (bound - s) k.size) (sym starts) k.lost in
+      let size : k.size ≡ h.size = h.lost.end'.others k.size lost.end'.there in
+      let stands : StandsAs versions 0 h.size (slice_range b q.start q.end) q.standing =
+      subst (λ n. StandsAs versions 0 n (slice_range b q.start q.end) q.standing) size
+      (subst (λ s. StandsAs (versions_at copies s bound) 0 k.size (slice_range b q.start q.end) q.standing) (sym starts) k.stands) in
+      let one = one_standing versions h.size 0 0 (slice_range a p.start p.end) (slice_range b q.start q.end) p.standing q.standing h.stands stands in
+      record {
+        end' = omega (arith, h.ends, k.ends);
+        standing = ap (λ (z : StandingValue). z.standing) one;
+        bytes = ap (λ (z : StandingValue). z.bytes) one;
+      }
+
+  one_across : (most start : ℕ) (legs others : List Leg) (s t : ℕ) → AreLegs copies bound a start legs s → AreLegs copies bound b start others t
+      → length legs ≤ most → length others ≤ most → (length legs ≡ most) ⊎ StopsAcross copies bound s
+      → (length others ≡ most) ⊎ StopsAcross copies bound t → IsOneWalk a b (leg_places legs) (leg_places others) s t
+  one_across most start [] [] s t are be few less stop halt = record { places = refl; stop = sym are ∙ be; bytes = All-nil (IsSameAt a b) }
+  one_across most start [] (leg ∷ others) s t are be few less stop halt =
+      absurd (elim stop [
+        | inl same ↦ omega arith
+        | inr none ↦ subst (StopsAcross copies bound) (sym (be.0 ∙ are)) none be.1.size be.1.lost
+      ])
+  one_across most start (leg ∷ legs) [] s t are be few less stop halt =
+      absurd (elim halt [
+        | inl same ↦ omega arith
+        | inr none ↦ subst (StopsAcross copies bound) (sym (are.0 ∙ be)) none are.1.size are.1.lost
+      ])
+  one_across most start (leg ∷ legs) (other ∷ others) s t are be few less stop halt =
+      let starts : leg.over.start ≡ other.over.start = are.0 ∙ sym be.0 in
+      let over = one_crossed leg.over other.over starts are.1 be.1 in
+      let rising : IsWalkUp copies bound b leg.over.end other.settled be.2 =
+      subst (λ n. IsWalkUp copies bound b n other.settled be.2) (sym over.end') be.3 in
+      let up = one_up copies bound a b leg.over.end leg.settled other.settled are.2 be.2 are.3.rise rising.rise are.3.settled rising.settled are.3.stop rising.stop in
+      let rest = one_across (most - 1) are.2 legs others s t are.4 (subst (λ n. AreLegs copies bound b n others t) (sym up.stop) be.4)
+      (omega arith) (omega arith) (elim stop [ inl same ↦ inl (omega arith) | inr none ↦ inr none ])
+      (elim halt [ inl same ↦ inl (omega arith) | inr none ↦ inr none ]) in
+      one_more a b leg.over other.over starts over.end' (leg.settled ++ leg_places legs) (other.settled ++ leg_places others) s t over.standing over.bytes
+      (joined_walks a b leg.settled other.settled (leg_places legs) (leg_places others) are.2 be.2 s t up rest)
+
 -- ---- one splice
 
 same_value : (one other : SplicedValue) → one.places ≡ other.places → one.front ≡ other.front → one.payload ≡ other.payload → one ≡ other
@@ -203,10 +317,16 @@ one_splice copies one other is k =
     let down = one_down copies one.payload other.payload (length one.payload) is.above k.above is.end k.end is.down.lie
     (subst (λ n. LieFrom n k.above k.end) (sym long) k.down.lie) is.down.settled k.down.settled is.down.stop k.down.stop in
     let bounds : is.bound ≡ k.bound = one_bound copies k.end is.bound k.bound (subst (λ n. IsBound copies n is.bound) down.stop is.room) k.room in
-    let rising : IsWalkUp copies is.bound other.payload k.below k.start =
-    subst (λ n. IsWalkUp copies n other.payload k.below k.start) (sym bounds) k.up in
-    let up = one_up copies is.bound one.payload other.payload 0 is.below k.below is.start k.start is.up.rise rising.rise is.up.settled rising.settled
+    let rising : IsWalkUp copies is.bound other.payload 0 k.below k.floor =
+    subst (λ n. IsWalkUp copies n other.payload 0 k.below k.floor) (sym bounds) k.up in
+    let first = one_up copies is.bound one.payload other.payload 0 is.below k.below is.floor k.floor is.up.rise rising.rise is.up.settled rising.settled
     is.up.stop rising.stop in
+    let across : IsWalkAcross copies is.bound other.payload is.floor k.legs k.start =
+    subst (λ n. IsWalkAcross copies is.bound other.payload n k.legs k.start) (sym first.stop)
+    (subst (λ n. IsWalkAcross copies n other.payload k.floor k.legs k.start) (sym bounds) k.across) in
+    let up = joined_walks one.payload other.payload is.below k.below (leg_places is.legs) (leg_places k.legs) is.floor k.floor is.start k.start first
+    (one_across copies is.bound one.payload other.payload MOST_CROSSED is.floor is.legs k.legs is.start k.start is.across.are across.are is.across.few
+    across.few is.across.stop across.stop) in
     let divided : IsDivisionOf (versions_at copies is.start is.end) k.hole =
     subst (λ n. IsDivisionOf (versions_at copies n is.end) k.hole) (sym up.stop)
     (subst (λ n. IsDivisionOf (versions_at copies k.start n) k.hole) (sym down.stop) k.divided) in
@@ -216,8 +336,8 @@ one_splice copies one other is k =
     ap (λ (h : SplicedValue). h.payload) hole ∙ k.bytes ∙ sym (ap (λ n. slice_range other.payload n k.end) up.stop)
     ∙ sym (ap (λ n. slice_range other.payload is.start n) down.stop) in
     same_value one other
-    (is.places ∙ ap (λ z. z ++ (hole_places is.start is.hole ++ reverse is.below)) down.places
-    ∙ ap (λ n. k.above ++ (hole_places n is.hole ++ reverse is.below)) up.stop ∙ ap (λ h. k.above ++ (hole_places k.start h ++ reverse is.below)) hole
+    (is.places ∙ ap (λ z. z ++ (hole_places is.start is.hole ++ reverse (lower copies one is))) down.places
+    ∙ ap (λ n. k.above ++ (hole_places n is.hole ++ reverse (lower copies one is))) up.stop ∙ ap (λ h. k.above ++ (hole_places k.start h ++ reverse (lower copies one is))) hole
     ∙ ap (λ z. k.above ++ (hole_places k.start k.hole ++ reverse z)) up.places ∙ sym k.places)
     (is.front ∙ ap (λ n. front_of n is.hole.front) up.stop ∙ ap (λ (h : SplicedValue). front_of k.start h.front) hole ∙ sym k.front)
     (same_by_parts copies one is other.payload long down.bytes up.bytes bytes)

@@ -1,22 +1,25 @@
 -- The splice of copies that tell nothing other than an original.
-use Rattle.std.proofs.Common.{◌≡◌, ℕ, ◌-◌, ◌<◌, ◌≤◌, List, [], ◌∷◌, length, get_or, take, drop, sym, ap, ◌∙◌, subst, arith, inl, inr}
+use Rattle.std.proofs.Common.{◌≡◌, ℕ, ◌+◌, ◌-◌, ◌<◌, ◌≤◌, List, [], ◌∷◌, ◌++◌, length, get_or, take, drop, sym, ap, ◌∙◌, subst, arith, inl, inr}
 use Rattle.std.specs.Prelude.{All, slice_range}
-use Rattle.std.proofs.lemmas.List.Elements.{All-nil, All-cons, All-head, All-tail, All-weaker}
+use Rattle.std.proofs.lemmas.List.Elements.{All-nil, All-cons, All-head, All-tail, All-append, All-weaker}
 use Rattle.std.proofs.lemmas.Bool.{cases_lt}
-use Rattle.ffv1_slice.specs.Chain.{IsEnd, IsLinkOf, Piece, piece_of}
+use Rattle.ffv1_slice.specs.Chain.{IsCut, IsEnd, IsLinkOf, Piece, piece_of}
 use Rattle.ffv1_slice.specs.Chain.IsEnd.{last, before}
-use Rattle.ffv1_splice.specs.Pieces.{HasContent, PieceFrom}
-use Rattle.ffv1_splice.specs.Splice.{SplicedValue, LieFrom, RiseFrom, IsSettledDown, IsSettledUp, IsSpliceOf, moved_by}
+use Rattle.ffv1_splice.specs.Pieces.{HasContent, IsToldStart, PieceFrom}
+use Rattle.ffv1_splice.specs.Standings.{versions_at}
+use Rattle.ffv1_splice.specs.Splice.{SplicedValue, LieFrom, RiseFrom, IsSettledDown, IsSettledUp, IsCrossed, Leg, AreLegs, leg_places, IsSpliceOf, moved_by}
 use Rattle.ffv1_splice.specs.Originals.{AreCopiesOf, AgreeWith, AgreeFromBelow, HaveEachLink}
-use Rattle.ffv1_splice.specs.Laws.{HasLinksOf, IsOriginal, OriginalIsSpliced, SettledIsOriginal, IsItsLink, SettledWalksAreOriginal}
+use Rattle.ffv1_splice.specs.Laws.{HasLinksOf, IsOriginal, OriginalIsSpliced, SettledIsOriginal, IsItsLink, SettledWalksAreOriginal, IsLinkIfSettled, WalkAcrossIsOriginal}
 use Rattle.ffv1_splice.specs.declared.place.Standing.TheVariants.{Settled}
 use Rattle.ffv1_splice.specs.declared.place.Place.{Place}
 use Rattle.ffv1_splice.proofs.BoundSteps.{bound_within}
 use Rattle.ffv1_splice.proofs.Walks.{front_below}
-use Rattle.ffv1_splice.proofs.DividedLinks.{end_within, link_at, agree_one}
-use Rattle.ffv1_splice.proofs.NarrowedOriginal.{link_out, links_of_places}
+use Rattle.ffv1_splice.proofs.DividedLinks.{end_within, link_at, AreLinkPlaces, agree_one}
+use Rattle.ffv1_splice.proofs.NarrowedOriginal.{next_end, link_out, links_of_places}
+use Rattle.ffv1_splice.proofs.Narrowed.{told_in}
+use Rattle.ffv1_splice.proofs.Crossings.{crossed_rising, crossed_within, crossed_unsettled}
 use Rattle.ffv1_splice.proofs.PlaceLists.{no_undivided, whole_front}
-use Rattle.ffv1_splice.proofs.SplicePlaces.{all_places, copy_at_hand, places_lie, below_upright, below_within, start_within, hole_length, hole_rising, hole_upright}
+use Rattle.ffv1_splice.proofs.SplicePlaces.{all_places, copy_at_hand, places_lie, lower, lower_upright, lower_within, start_within, hole_length, hole_rising, hole_upright}
 use Rattle.ffv1_splice.proofs.StandingPlaces.{settled_piece, hole_within}
 use Rattle.ffv1_splice.proofs.SameBytes.{IsSameAt, same_by_parts}
 
@@ -75,6 +78,11 @@ module _ (original : List ℕ) (copies : List (List ℕ)) (spliced : SplicedValu
         let rest = links_up place.end places top here.link.is_end rise.1 (All-tail (IsSettledUp copies bound spliced.payload) place places settled) in
         record { links = All-cons (IsItsLink original spliced) place places here rest.links; is_end = rest.is_end }
 
+-- The places of legs are links of the original, and they stop at an end of the original.
+pub record AreLegLinks (original : List ℕ) (spliced : SplicedValue) (legs : List Leg) (stop : ℕ) : Type 0 where
+  pub links : All (IsLinkIfSettled original spliced) (leg_places legs)
+  pub is_end : IsEnd original stop
+
 -- ---- both walks
 
 module _ (original : List ℕ) (copies : List (List ℕ)) (spliced : SplicedValue) (is : IsSpliceOf copies spliced) (of : AreCopiesOf original copies)
@@ -92,9 +100,65 @@ module _ (original : List ℕ) (copies : List (List ℕ)) (spliced : SplicedValu
       let inside = end_within original is.end above_links.is_end in
       omega arith
 
-  pub below_links : AgreeFromBelow original copies → AreWalkLinks original spliced is.below is.start
+  pub below_links : AgreeFromBelow original copies → AreWalkLinks original spliced is.below is.floor
   below_links below =
-      links_up original copies spliced below is.bound bound_inside 0 is.below is.start of.whole is.up.rise is.up.settled
+      links_up original copies spliced below is.bound bound_inside 0 is.below is.floor of.whole is.up.rise is.up.settled
+
+  -- the bound is an end of the original
+  bound_end : IsEnd original is.bound
+  bound_end = elim is.room [
+    | inl none ↦ subst (IsEnd original) (sym none.1) above_links.is_end
+    | inr some ↦
+        let link = (agree is.end some.0 above_links.is_end some.1).0 in
+        subst (IsEnd original) some.2 (before link.is_end link.cut)
+  ]
+
+  -- ---- over lost slices
+
+  module _ (from_below : AgreeFromBelow original copies)
+      (told : (start end : ℕ) → IsLinkOf original start end → IsToldStart copies end start) where
+    -- the end that alone is claimed is the link's
+    crossed_link : (place : Place) → IsEnd original place.start → IsCrossed copies is.bound spliced.payload place
+        → IsLinkOf original place.start place.end
+    crossed_link place is_end crossed =
+        let rises = crossed_rising copies is.bound spliced.payload place crossed in
+        let within = crossed_within copies is.bound spliced.payload place crossed in
+        let next = next_end original place.start is.bound bound_end is_end (omega arith) in
+        let cut : IsCut original place.start next.0 = next.1.cut in
+        let inside : next.0 ≤ is.bound = next.2 in
+        let there : next.0 ≡ place.start + (next.0 - place.start) = omega arith in
+        let here : place.start ≡ place.start + 0 = omega arith in
+        let footer : IsToldStart (versions_at copies place.start is.bound) (next.0 - place.start) 0 =
+        told_in place.start is.bound copies (next.0 - place.start) 0 (omega arith)
+        (subst (IsToldStart copies (place.start + (next.0 - place.start))) here
+        (subst (λ n. IsToldStart copies n place.start) there (told place.start next.0 next.1))) in
+        let size : next.0 - place.start ≡ crossed.size =
+        crossed.lost.end'.others (next.0 - place.start) (record { told = footer; within = omega arith }) in
+        let ends : next.0 ≡ place.end = omega (arith, crossed.ends) in
+        subst (IsLinkOf original place.start) ends next.1
+
+    links_across : (start : ℕ) (legs : List Leg) (top : ℕ) → IsEnd original start → AreLegs copies is.bound spliced.payload start legs top
+        → AreLegLinks original spliced legs top
+    links_across start [] top is_end are =
+        record { links = All-nil (IsLinkIfSettled original spliced); is_end = subst (IsEnd original) are is_end }
+    links_across start (leg ∷ legs) top is_end are =
+        let link = crossed_link leg.over (subst (IsEnd original) (sym are.0) is_end) are.1 in
+        let up = links_up original copies spliced from_below is.bound bound_inside leg.over.end leg.settled are.2 link.is_end are.3.rise are.3.settled in
+        let rest = links_across are.2 legs top up.is_end are.4 in
+        record {
+          links = All-append (IsLinkIfSettled original spliced) (leg.over ∷ leg.settled) (leg_places legs)
+              (All-cons (IsLinkIfSettled original spliced) leg.over leg.settled
+              (record { link = link; settled = λ settled. absurd (crossed_unsettled copies is.bound spliced.payload leg.over are.1 settled) })
+              (All-weaker (IsItsLink original spliced) (IsLinkIfSettled original spliced)
+              (λ place its. record { link = its.link; settled = λ _. its }) leg.settled up.links)) rest.links;
+          is_end = rest.is_end;
+        }
+
+    pub across_links : AreLegLinks original spliced is.legs is.start
+    across_links = links_across is.floor is.legs is.start (below_links from_below).is_end is.across.are
+
+pub walk_across_is_original : WalkAcrossIsOriginal
+walk_across_is_original original copies spliced of agree below told is = (across_links original copies spliced is of agree below told).links
 
 pub settled_walks_are_original : SettledWalksAreOriginal
 settled_walks_are_original original copies spliced of agree below is =
@@ -104,20 +168,23 @@ settled_walks_are_original original copies spliced of agree below is =
 
 -- places that are all links, down to the first byte
 has_links : (original : List ℕ) (copies : List (List ℕ)) (spliced : SplicedValue) → IsSpliceOf copies spliced → length spliced.payload ≡ length original
-    → spliced.front ≡ 0 → All (λ place. IsLinkOf original place.start place.end) spliced.places → HasLinksOf original spliced
+    → spliced.front ≡ 0 → All (λ place. IsLinkOf original place.start place.end) spliced.places
+    → AreLinkPlaces original (length original) spliced.places spliced.front
 has_links original copies spliced is long whole links =
     record {
       links = links_of_places original (length original) spliced.places
           (subst (LieFrom (length original) spliced.places) whole
           (subst (λ end. LieFrom end spliced.places spliced.front) long (places_lie copies spliced is))) links;
       whole = whole;
+      each = links;
     }
 
--- They are where the walks agree with the original, and the hole's places are links of what the original has there.
+-- They are where the walks agree with the original, the places of the legs are its links, and the hole's places are links of what it has there.
 pub joined_links : (original : List ℕ) (copies : List (List ℕ)) (spliced : SplicedValue) (is : IsSpliceOf copies spliced) → AreCopiesOf original copies
-    → AgreeWith original copies → AgreeFromBelow original copies
-    → All (λ place. IsLinkOf (slice_range original is.start is.end) place.start place.end) is.hole.places → is.hole.front ≡ 0 → HasLinksOf original spliced
-joined_links original copies spliced is of agree from_below hole none =
+    → AgreeWith original copies → AgreeFromBelow original copies → All (IsLinkIfSettled original spliced) (leg_places is.legs)
+    → All (λ place. IsLinkOf (slice_range original is.start is.end) place.start place.end) is.hole.places → is.hole.front ≡ 0
+    → AreLinkPlaces original (length original) spliced.places spliced.front
+joined_links original copies spliced is of agree from_below across hole none =
     let above = above_links original copies spliced is of agree in
     let below = below_links original copies spliced is of agree from_below in
     has_links original copies spliced is (as_long original copies spliced is of agree) (is.front ∙ whole_front is.start is.hole.front none)
@@ -125,7 +192,9 @@ joined_links original copies spliced is of agree from_below hole none =
     (All-weaker (IsItsLink original spliced) (λ place. IsLinkOf original place.start place.end) (λ place its. its.link) is.above above.links)
     (λ k d lt. link_out is.start is.end original (start_within copies spliced is) above.is_end (get_or is.hole.places k d).start
     (get_or is.hole.places k d).end (hole k d lt)) (no_undivided (λ place. IsLinkOf original place.start place.end) is.start is.hole.front none)
-    (All-weaker (IsItsLink original spliced) (λ place. IsLinkOf original place.start place.end) (λ place its. its.link) is.below below.links))
+    (All-append (λ place. IsLinkOf original place.start place.end) is.below (leg_places is.legs)
+    (All-weaker (IsItsLink original spliced) (λ place. IsLinkOf original place.start place.end) (λ place its. its.link) is.below below.links)
+    (All-weaker (IsLinkIfSettled original spliced) (λ place. IsLinkOf original place.start place.end) (λ place its. its.link) (leg_places is.legs) across)))
 
 -- ---- copies that have each link
 
@@ -163,11 +232,11 @@ module _ (original : List ℕ) (copies : List (List ℕ)) (of : AreCopiesOf orig
       let order = hole_rising copies spliced is k d lt in
       absurd (omega arith)
 
-  none_below : (P : Place → Type 0) → All P is.below
+  none_below : (P : Place → Type 0) → All P (lower copies spliced is)
   none_below P k d lt =
       let first = to_first in
-      let within = below_within copies spliced is k d lt in
-      let order = below_upright copies spliced is k d lt in
+      let within = lower_within copies spliced is k d lt in
+      let order = lower_upright copies spliced is k d lt in
       absurd (omega arith)
 
   all_above : (P : Place → Type 0) → All P is.above → All P spliced.places
@@ -183,11 +252,12 @@ module _ (original : List ℕ) (copies : List (List ℕ)) (of : AreCopiesOf orig
 
   pub is_original : IsOriginal original spliced
   is_original =
+      let links = has_links original copies spliced is (as_long original copies spliced is of agree)
+      (is.front ∙ whole_front is.start is.hole.front no_hole_front)
+      (all_above (λ place. IsLinkOf original place.start place.end)
+      (All-weaker (IsItsLink original spliced) (λ place. IsLinkOf original place.start place.end) (λ place its. its.link) is.above walk.links)) in
       record {
-        places = has_links original copies spliced is (as_long original copies spliced is of agree)
-            (is.front ∙ whole_front is.start is.hole.front no_hole_front)
-            (all_above (λ place. IsLinkOf original place.start place.end)
-            (All-weaker (IsItsLink original spliced) (λ place. IsLinkOf original place.start place.end) (λ place its. its.link) is.above walk.links));
+        places = record { links = links.links; whole = links.whole };
         settled = all_above (λ place. place.standing ≡ Settled)
             (All-weaker (IsSettledDown copies spliced.payload) (λ place. place.standing ≡ Settled) (λ place settled. settled.standing) is.above is.down.settled);
         payload = same_by_parts copies spliced is original (as_long original copies spliced is of agree)

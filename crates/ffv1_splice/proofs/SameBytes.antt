@@ -6,7 +6,7 @@ use Rattle.std.proofs.lemmas.List.{take_all}
 use Rattle.std.proofs.lemmas.List.Elements.{All-head, All-tail, All-weaker}
 use Rattle.ffv1_splice.specs.Splice.{SplicedValue, LieFrom, RiseFrom, IsSpliceOf}
 use Rattle.ffv1_splice.specs.declared.place.Place.{Place}
-use Rattle.ffv1_splice.proofs.SplicePlaces.{above_upright, below_upright, start_within}
+use Rattle.ffv1_splice.proofs.SplicePlaces.{lower, lower_rise, above_upright, lower_upright, start_within}
 
 module _ (a b : List ℕ) where
   -- the same bytes stand there
@@ -41,14 +41,14 @@ module _ (a b : List ℕ) where
 
 -- A splice has the bytes that it has above its hole, in it and below it.
 pub same_by_parts : (copies : List (List ℕ)) (spliced : SplicedValue) (is : IsSpliceOf copies spliced) (bytes : List ℕ)
-    → length spliced.payload ≡ length bytes → All (IsSameAt spliced.payload bytes) is.above → All (IsSameAt spliced.payload bytes) is.below
+    → length spliced.payload ≡ length bytes → All (IsSameAt spliced.payload bytes) is.above → All (IsSameAt spliced.payload bytes) (lower copies spliced is)
     → is.hole.payload ≡ slice_range bytes is.start is.end → spliced.payload ≡ bytes
 same_by_parts copies spliced is bytes long above below hole =
     let a : List ℕ = spliced.payload in
     let to_start : take is.start a ≡ take is.start bytes =
-    same_up a bytes 0 is.below is.start is.up.rise
-    (All-weaker (λ place. place.start < place.end) (λ place. place.start ≤ place.end) (λ place order. omega arith) is.below
-    (below_upright copies spliced is)) below refl in
+    same_up a bytes 0 (lower copies spliced is) is.start (lower_rise copies spliced is)
+    (All-weaker (λ place. place.start < place.end) (λ place. place.start ≤ place.end) (λ place order. omega arith) (lower copies spliced is)
+    (lower_upright copies spliced is)) below refl in
     let to_end : take is.end a ≡ take is.end bytes =
     same_on a bytes is.start is.end (start_within copies spliced is) to_start (sym is.bytes ∙ hole) in
     let all : take (length a) a ≡ take (length a) bytes =

@@ -34,6 +34,10 @@ range_before a b to start end before same = front a ∙ ap (λ z. drop start (ta
     front : (bytes : List ℕ) → slice_range bytes start end ≡ drop start (take end (take to bytes))
     front bytes = between_is bytes start end ∙ ap (drop start) (sym (take-take end to bytes before))
 
+-- what is the same up to a place is so up to an earlier one
+pub take_earlier : (a b : List ℕ) (from to : ℕ) → from ≤ to → take to a ≡ take to b → take from a ≡ take from b
+take_earlier a b from to early same = sym (take-take from to a early) ∙ ap (take from) same ∙ take-take from to b early
+
 module _ (payload : List ℕ) (start end : ℕ) (bytes : List ℕ) (size : start + length bytes ≡ end) (within : end ≤ length payload) where
   -- nothing changes after what is written
   pub after_written : drop end (written payload start bytes) ≡ drop end payload
@@ -141,17 +145,17 @@ module _ (copies : List (List ℕ)) (bound : ℕ) where
         only = subst (λ z. IsOnly (IsPiece copies place.end) (record { start = place.start; bytes = z })) bytes is.only;
       }
 
-  pub up_more : (payload : List ℕ) (places : List Place) (start end : ℕ) (bytes : List ℕ) → RiseFrom 0 places start
+  pub up_more : (payload : List ℕ) (from : ℕ) (places : List Place) (start end : ℕ) (bytes : List ℕ) → RiseFrom from places start
       → All (IsSettledUp copies bound payload) places
       → IsShortest copies bound start (record { end = end; bytes = bytes }) → IsOnly (IsPiece copies end) (record { start = start; bytes = bytes })
       → start + length bytes ≡ end → end ≤ length payload
       → All (IsSettledUp copies bound (written payload start bytes)) (places ++ record { start = start; end = end; standing = Settled } ∷ [])
-  up_more payload places start end bytes rise settled first only size within =
+  up_more payload from places start end bytes rise settled first only size within =
       let place : Place = record { start = start; end = end; standing = Settled } in
       let new : List ℕ = written payload start bytes in
       let here = sym (here_written payload start end bytes size within) in
       All-append (IsSettledUp copies bound new) places (place ∷ [])
-      (up_kept payload new places 0 start rise settled (sym (before_written payload start end bytes size within)))
+      (up_kept payload new places from start rise settled (sym (before_written payload start end bytes size within)))
       (All-cons (IsSettledUp copies bound new) place [] (record {
         standing = refl;
         first = subst (λ z. IsShortest copies bound start (record { end = end; bytes = z })) here first;

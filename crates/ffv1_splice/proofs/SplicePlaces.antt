@@ -1,36 +1,60 @@
--- The places of a splice: they lie end to end, and each is settled above the hole or below it, of the hole, or what of it can't be divided.
+-- The places of a splice: they lie end to end, above the hole, in it and below it.
 use Rattle.std.proofs.Common.{◌≡◌, ℕ, zero, suc, ◌+◌, ◌<◌, ◌≤◌, List, [], ◌++◌, length, get_or, map, sym, ap, ◌∙◌, subst, arith}
 use Rattle.std.specs.Prelude.{All, Contains, reverse, slice_range}
 use Rattle.std.proofs.lemmas.List.{append_assoc}
-use Rattle.std.proofs.lemmas.List.Elements.{All-nil, All-cons, All-append, All-map, All-contains, All-contains_itself}
+use Rattle.std.proofs.lemmas.List.Elements.{All-nil, All-cons, All-append, All-map, All-weaker}
 use Rattle.ffv1_slice.proofs.NearLaws.{length-range}
 use Rattle.ffv1_splice.specs.Pieces.{HasContent}
 use Rattle.ffv1_splice.specs.Standings.{versions_at}
-use Rattle.ffv1_splice.specs.Splice.{SplicedValue, LieFrom, IsSettledDown, IsSettledUp, IsSpliceOf, moved_by, undivided_places, front_of, hole_places}
+use Rattle.ffv1_splice.specs.Splice.{SplicedValue, LieFrom, RiseFrom, IsSettledDown, IsSettledUp, IsCrossed, leg_places, IsSpliceOf, moved_by, undivided_places, front_of, hole_places}
 use Rattle.ffv1_splice.specs.declared.place.Standing.TheVariants.{Undivided}
 use Rattle.ffv1_splice.specs.declared.place.Place.{Place}
 use Rattle.ffv1_splice.proofs.Versions.{version_of}
 use Rattle.ffv1_splice.proofs.Walks.{stands_below, front_below, ends_below}
 use Rattle.ffv1_splice.proofs.BoundSteps.{bound_within}
+use Rattle.ffv1_splice.proofs.Crossings.{rise_append, crossed_rising, crossed_within, all_legs, legs_rise}
 use Rattle.ffv1_splice.proofs.PlaceLists.{All-reverse, All-left, All-right, All-mapped, lie_append, lie_moved, top_below, lie_below}
+
+-- ---- the places below the hole
+
+-- from the frame's start up: those that are settled, and those of the legs
+abbrev pub lower : (copies : List (List ℕ)) (spliced : SplicedValue) → IsSpliceOf copies spliced → List Place
+lower copies spliced is = is.below ++ leg_places is.legs
+
+module _ (copies : List (List ℕ)) (spliced : SplicedValue) (is : IsSpliceOf copies spliced) where
+  -- what is so of settled places, and of those over lost slices, is so of all of them
+  pub all_legs_lower : (P : Place → Type 0) → ((place : Place) → IsSettledUp copies is.bound spliced.payload place → P place)
+      → ((place : Place) → IsCrossed copies is.bound spliced.payload place → P place) → All P (leg_places is.legs)
+  all_legs_lower P settled crossed = all_legs copies is.bound P spliced.payload crossed settled is.floor is.legs is.start is.across.are
+
+  pub all_lower : (P : Place → Type 0) → ((place : Place) → IsSettledUp copies is.bound spliced.payload place → P place)
+      → ((place : Place) → IsCrossed copies is.bound spliced.payload place → P place) → All P (lower copies spliced is)
+  all_lower P settled crossed =
+      All-append P is.below (leg_places is.legs) (All-weaker (IsSettledUp copies is.bound spliced.payload) P settled is.below is.up.settled)
+      (all_legs_lower P settled crossed)
+
+  pub lower_rise : RiseFrom 0 (lower copies spliced is) is.start
+  lower_rise =
+      rise_append 0 is.floor is.start is.below (leg_places is.legs) is.up.rise
+      (legs_rise copies is.bound spliced.payload is.floor is.legs is.start is.across.are)
 
 -- ---- what is so of all places
 
 module _ (copies : List (List ℕ)) (spliced : SplicedValue) (is : IsSpliceOf copies spliced) (P : Place → Type 0) where
   -- what is so of each part is so of all places
   pub all_places : All P is.above → All (λ place. P (moved_by is.start place)) is.hole.places → All P (undivided_places is.start is.hole.front)
-      → All P is.below → All P spliced.places
+      → All P (lower copies spliced is) → All P spliced.places
   all_places above hole undivided below =
-      subst (All P) (sym is.places) (All-append P is.above (hole_places is.start is.hole ++ reverse is.below) above
-      (All-append P (hole_places is.start is.hole) (reverse is.below)
+      subst (All P) (sym is.places) (All-append P is.above (hole_places is.start is.hole ++ reverse (lower copies spliced is)) above
+      (All-append P (hole_places is.start is.hole) (reverse (lower copies spliced is))
       (All-append P (map (moved_by is.start) is.hole.places) (undivided_places is.start is.hole.front)
-      (All-map P (moved_by is.start) is.hole.places hole) undivided) (All-reverse P is.below below)))
+      (All-map P (moved_by is.start) is.hole.places hole) undivided) (All-reverse P (lower copies spliced is) below)))
 
-  after_above : All P spliced.places → All P (hole_places is.start is.hole ++ reverse is.below)
-  after_above all = All-right P is.above (hole_places is.start is.hole ++ reverse is.below) (subst (All P) is.places all)
+  after_above : All P spliced.places → All P (hole_places is.start is.hole ++ reverse (lower copies spliced is))
+  after_above all = All-right P is.above (hole_places is.start is.hole ++ reverse (lower copies spliced is)) (subst (All P) is.places all)
 
   all_hole_places : All P spliced.places → All P (hole_places is.start is.hole)
-  all_hole_places all = All-left P (hole_places is.start is.hole) (reverse is.below) (after_above all)
+  all_hole_places all = All-left P (hole_places is.start is.hole) (reverse (lower copies spliced is)) (after_above all)
 
   -- what is so of all places is so of the hole's, and of what of it can't be divided
   pub all_of_hole : All P spliced.places → All (λ place. P (moved_by is.start place)) is.hole.places
@@ -41,26 +65,9 @@ module _ (copies : List (List ℕ)) (spliced : SplicedValue) (is : IsSpliceOf co
   pub all_undivided : All P spliced.places → All P (undivided_places is.start is.hole.front)
   all_undivided all = All-right P (map (moved_by is.start) is.hole.places) (undivided_places is.start is.hole.front) (all_hole_places all)
 
--- ---- where a place stands
-
-pub data IsPlaceOf (copies : List (List ℕ)) (spliced : SplicedValue) (is : IsSpliceOf copies spliced) : Place → Type 0 where
-  above : {place : Place} → Contains is.above place → IsPlaceOf copies spliced is place
-  of_hole : (place : Place) → Contains is.hole.places place → IsPlaceOf copies spliced is (moved_by is.start place)
-  undivided : {place : Place} → Contains (undivided_places is.start is.hole.front) place → IsPlaceOf copies spliced is place
-  below : {place : Place} → Contains is.below place → IsPlaceOf copies spliced is place
+-- ---- how places lie
 
 module _ (copies : List (List ℕ)) (spliced : SplicedValue) (is : IsSpliceOf copies spliced) where
-  pub place_of : (place : Place) → Contains spliced.places place → IsPlaceOf copies spliced is place
-  place_of place there =
-      All-contains (IsPlaceOf copies spliced is) spliced.places place
-      (all_places copies spliced is (IsPlaceOf copies spliced is)
-      (λ k d lt. above (All-contains_itself is.above k d lt))
-      (λ k d lt. of_hole (get_or is.hole.places k d) (All-contains_itself is.hole.places k d lt))
-      (λ k d lt. undivided (All-contains_itself (undivided_places is.start is.hole.front) k d lt))
-      (λ k d lt. below (All-contains_itself is.below k d lt))) there
-
-  -- ---- how places lie
-
   -- a copy is at hand
   pub copy_at_hand : (copy : List ℕ) × Contains copies copy
   copy_at_hand = let of = version_of copies is.start is.end is.divided.before.copy is.divided.before.there in (of.0, of.1)
@@ -72,25 +79,25 @@ module _ (copies : List (List ℕ)) (spliced : SplicedValue) (is : IsSpliceOf co
       let content : HasContent place.start place.end = settled.only.there.content in
       omega arith
 
-  pub below_upright : All (λ place. place.start < place.end) is.below
-  below_upright k d lt =
-      let place : Place = get_or is.below k d in
-      let settled : IsSettledUp copies is.bound spliced.payload place = is.up.settled k d lt in
-      let content : HasContent place.start place.end = settled.only.there.content in
-      omega arith
+  pub lower_upright : All (λ place. place.start < place.end) (lower copies spliced is)
+  lower_upright =
+      all_lower copies spliced is (λ place. place.start < place.end)
+      (λ place settled. let content : HasContent place.start place.end = settled.only.there.content in omega arith)
+      (crossed_rising copies is.bound spliced.payload)
 
   pub end_within : is.end ≤ length spliced.payload
   end_within = front_below (length spliced.payload) is.above is.end above_upright is.down.lie
 
-  pub below_within : All (λ place. place.end ≤ is.end) is.below
-  below_within k d lt =
-      let settled : IsSettledUp copies is.bound spliced.payload (get_or is.below k d) = is.up.settled k d lt in
-      let inside = settled.first.there.within in
+  pub lower_within : All (λ place. place.end ≤ is.end) (lower copies spliced is)
+  lower_within =
       let below = bound_within copies is.end is.bound is.room in
-      omega arith
+      all_lower copies spliced is (λ place. place.end ≤ is.end)
+      (λ place settled. let inside = settled.first.there.within in omega arith)
+      (λ place crossed. let inside = crossed_within copies is.bound spliced.payload place crossed in omega arith)
 
   pub start_within : is.start ≤ is.end
-  start_within = top_below is.end 0 is.below is.start is.up.rise (omega arith) below_within
+  start_within =
+      top_below is.end 0 (lower copies spliced is) is.start (lower_rise copies spliced is) (omega arith) lower_within
 
   pub hole_length : is.start + length is.hole.payload ≡ is.end
   hole_length =
@@ -101,18 +108,18 @@ module _ (copies : List (List ℕ)) (spliced : SplicedValue) (is : IsSpliceOf co
   -- all places lie end to end
   pub places_lie : LieFrom (length spliced.payload) spliced.places spliced.front
   places_lie =
-      let rest = lie_below is.start is.hole.front is.below is.up.rise below_upright in
+      let rest = lie_below is.start is.hole.front (lower copies spliced is) (lower_rise copies spliced is) lower_upright in
       let hole : LieFrom is.end (map (moved_by is.start) is.hole.places) (is.start + is.hole.front) =
       subst (λ n. LieFrom n (map (moved_by is.start) is.hole.places) (is.start + is.hole.front)) hole_length
       (lie_moved is.start (length is.hole.payload) is.hole.places is.hole.front is.divided.lie) in
-      let joined : LieFrom is.end (hole_places is.start is.hole ++ reverse is.below) (front_of is.start is.hole.front) =
+      let joined : LieFrom is.end (hole_places is.start is.hole ++ reverse (lower copies spliced is)) (front_of is.start is.hole.front) =
       subst (λ z. LieFrom is.end z (front_of is.start is.hole.front))
-      (sym (append_assoc (map (moved_by is.start) is.hole.places) (undivided_places is.start is.hole.front) (reverse is.below)))
+      (sym (append_assoc (map (moved_by is.start) is.hole.places) (undivided_places is.start is.hole.front) (reverse (lower copies spliced is))))
       (lie_append is.end (is.start + is.hole.front) (front_of is.start is.hole.front) (map (moved_by is.start) is.hole.places)
-      (undivided_places is.start is.hole.front ++ reverse is.below) hole rest) in
+      (undivided_places is.start is.hole.front ++ reverse (lower copies spliced is)) hole rest) in
       subst (λ n. LieFrom (length spliced.payload) spliced.places n) (sym is.front)
       (subst (λ z. LieFrom (length spliced.payload) z (front_of is.start is.hole.front)) (sym is.places)
-      (lie_append (length spliced.payload) is.end (front_of is.start is.hole.front) is.above (hole_places is.start is.hole ++ reverse is.below)
+      (lie_append (length spliced.payload) is.end (front_of is.start is.hole.front) is.above (hole_places is.start is.hole ++ reverse (lower copies spliced is))
       is.down.lie joined))
 
   pub hole_rising : All (λ place. place.start < place.end) is.hole.places
@@ -136,7 +143,7 @@ module _ (copies : List (List ℕ)) (spliced : SplicedValue) (is : IsSpliceOf co
   upright =
       all_places copies spliced is (λ place. place.start ≤ place.end) above_upright
       (λ k d lt. let order = hole_upright k d lt in omega arith) (undivided_upright is.start is.hole.front)
-      (λ k d lt. let order = below_upright k d lt in omega arith)
+      (λ k d lt. let order = lower_upright k d lt in omega arith)
 
   -- each is within the payload
   pub places_within : All (λ place. place.start ≤ place.end × place.end ≤ length spliced.payload) spliced.places

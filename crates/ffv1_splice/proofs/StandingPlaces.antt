@@ -1,19 +1,58 @@
 -- How the places of a splice stand.
-use Rattle.std.proofs.Common.{◌≡◌, ℕ, ◌+◌, ◌≤◌, List, length, get_or, sym, ap, ◌∙◌, subst, arith}
+use Rattle.std.proofs.Common.{◌≡◌, ℕ, ◌+◌, ◌≤◌, List, length, get_or, refl, sym, ap, ◌∙◌, subst, arith}
 use Rattle.std.specs.Prelude.{All, Contains, slice_range}
-use Rattle.std.proofs.lemmas.List.Elements.{All-contains}
+use Rattle.std.proofs.lemmas.List.Elements.{All-contains, All-contains_itself}
 use Rattle.ffv1_slice.specs.Chain.{piece_of}
-use Rattle.ffv1_splice.specs.Pieces.{IsPiece}
+use Rattle.ffv1_splice.specs.Pieces.{IsPiece, IsToldStart}
 use Rattle.ffv1_splice.specs.Standings.{versions_at, StandsAs}
-use Rattle.ffv1_splice.specs.Splice.{SplicedValue, IsSettledDown, IsSettledUp, IsSpliceOf, undivided_places, IsSettledOrWoven, IsGivenBack}
+use Rattle.ffv1_splice.specs.Splice.{SplicedValue, IsSettledDown, IsSettledUp, IsCrossed, IsSpliceOf, moved_by, IsSettledOrWoven, IsGivenBack}
 use Rattle.ffv1_splice.specs.declared.place.Standing.TheVariants.{Settled, Undivided}
 use Rattle.ffv1_splice.specs.declared.place.Place.{Place}
 use Rattle.ffv1_splice.proofs.PlaceSteps.{AllReach}
 use Rattle.ffv1_splice.proofs.Walks.{ends_below}
-use Rattle.ffv1_splice.proofs.Narrowed.{range_of_range, piece_out}
+use Rattle.ffv1_splice.proofs.Narrowed.{range_of_range, versions_of_versions, piece_out, told_out}
 use Rattle.ffv1_splice.proofs.PlaceLists.{all_stand_undivided, no_front}
-use Rattle.ffv1_splice.proofs.SplicePlaces.{all_of_hole, all_undivided, IsPlaceOf, place_of, hole_length, hole_upright}
-use Rattle.ffv1_splice.proofs.SplicePlaces.IsPlaceOf.{above, of_hole, undivided, below}
+use Rattle.ffv1_splice.proofs.BoundSteps.{bound_within}
+use Rattle.ffv1_splice.proofs.Crossings.{crossed_within}
+use Rattle.ffv1_splice.proofs.Versions.{version_length}
+use Rattle.ffv1_splice.proofs.SplicePlaces.{all_lower, all_places, all_of_hole, all_undivided, end_within, hole_length, hole_upright}
+
+-- The place stands as what the copies have from one place up to another tells of it: so the hole's places do, and those over lost slices.
+pub record StandsBetween (copies : List (List ℕ)) (payload : List ℕ) (place : Place) : Type 0 where
+  pub from : ℕ
+  pub to : ℕ
+  pub start : ℕ
+  pub end : ℕ
+  pub starts : place.start ≡ from + start
+  pub ends : place.end ≡ from + end
+  pub within : from + end ≤ to
+  pub reach : AllReach copies to
+  pub stands : StandsAs (versions_at copies from to) start end (slice_range payload place.start place.end) place.standing
+
+module _ (copies : List (List ℕ)) (payload : List ℕ) (place : Place) (h : StandsBetween copies payload place) where
+  -- each of the cut copies reaches to its end
+  pub between_reach : AllReach (versions_at copies h.from h.to) h.end
+  between_reach version there =
+      let within = h.within in
+      omega (arith, version_length copies h.from h.to (omega arith) h.reach version there)
+
+  -- what the cut copies have there is what the copies have there
+  pub between_versions : versions_at (versions_at copies h.from h.to) h.start h.end ≡ versions_at copies place.start place.end
+  between_versions =
+      versions_of_versions h.from h.to copies h.start h.end h.within ∙ ap (λ n. versions_at copies n (h.from + h.end)) (sym h.starts)
+      ∙ ap (λ n. versions_at copies place.start n) (sym h.ends)
+
+  pub between_told : IsToldStart (versions_at copies h.from h.to) h.end h.start → IsToldStart copies place.end place.start
+  between_told told =
+      subst (λ s. IsToldStart copies place.end s) (sym h.starts)
+      (subst (λ e. IsToldStart copies e (h.from + h.start)) (sym h.ends) (told_out h.from h.to copies h.end h.start h.within told))
+
+-- How a place of the splice stands: settled from above or from below, by what copies that are cut tell of it, or as what can't be divided.
+pub data IsPlaceOf (copies : List (List ℕ)) (spliced : SplicedValue) (is : IsSpliceOf copies spliced) : Place → Type 0 where
+  above : {place : Place} → IsSettledDown copies spliced.payload place → IsPlaceOf copies spliced is place
+  between : {place : Place} → StandsBetween copies spliced.payload place → IsPlaceOf copies spliced is place
+  undivided : {place : Place} → place.standing ≡ Undivided → IsPlaceOf copies spliced is place
+  below : {place : Place} → IsSettledUp copies is.bound spliced.payload place → IsPlaceOf copies spliced is place
 
 module _ (copies : List (List ℕ)) (spliced : SplicedValue) (is : IsSpliceOf copies spliced) where
   -- ---- the hole's places
@@ -42,29 +81,71 @@ module _ (copies : List (List ℕ)) (spliced : SplicedValue) (is : IsSpliceOf co
       subst (λ bytes. StandsAs (versions_at copies is.start is.end) place.start place.end bytes place.standing) (hole_bytes k d lt)
       (is.divided.stand k d lt)
 
+  -- ---- where a place stands
+
+  between_hole : (place : Place) → Contains is.hole.places place → StandsBetween copies spliced.payload (moved_by is.start place)
+  between_hole place there =
+      let inside = end_within copies spliced is in
+      record {
+        from = is.start;
+        to = is.end;
+        start = place.start;
+        end = place.end;
+        starts = refl;
+        ends = refl;
+        within = All-contains (λ place. is.start + place.end ≤ is.end) is.hole.places place hole_within there;
+        reach = λ copy copy_there. omega (arith, is.one_length copy copy_there);
+        stands = All-contains (λ place. StandsAs (versions_at copies is.start is.end) place.start place.end
+            (slice_range spliced.payload (is.start + place.start) (is.start + place.end)) place.standing) is.hole.places place hole_stands there;
+      }
+
+  pub between_crossed : (place : Place) → IsCrossed copies is.bound spliced.payload place → StandsBetween copies spliced.payload place
+  between_crossed place crossed =
+      let inside = end_within copies spliced is in
+      let below = bound_within copies is.end is.bound is.room in
+      let within = crossed_within copies is.bound spliced.payload place crossed in
+      let ends = crossed.ends in
+      record {
+        from = place.start;
+        to = is.bound;
+        start = 0;
+        end = crossed.size;
+        starts = omega arith;
+        ends = ends;
+        within = omega arith;
+        reach = λ copy there. omega (arith, is.one_length copy there);
+        stands = crossed.stands;
+      }
+
+  pub place_of : (place : Place) → Contains spliced.places place → IsPlaceOf copies spliced is place
+  place_of place there =
+      All-contains (IsPlaceOf copies spliced is) spliced.places place
+      (all_places copies spliced is (IsPlaceOf copies spliced is)
+      (λ k d lt. above (is.down.settled k d lt))
+      (λ k d lt. between (between_hole (get_or is.hole.places k d) (All-contains_itself is.hole.places k d lt)))
+      (λ k d lt. undivided (all_stand_undivided is.start is.hole.front k d lt))
+      (all_lower copies spliced is (IsPlaceOf copies spliced is) (λ place settled. below settled)
+      (λ place crossed. between (between_crossed place crossed)))) there
+
   -- ---- settled places
 
   -- each is a piece, with the bytes that the splice has there
   settled_at : (place : Place) → IsPlaceOf copies spliced is place → place.standing ≡ Settled
       → IsPiece copies place.end (piece_of spliced.payload place.start place.end)
-  settled_at place (above there) settled = (All-contains (IsSettledDown copies spliced.payload) is.above place is.down.settled there).only.there
-  settled_at place (of_hole hole there) settled =
-      let bytes : List ℕ = slice_range spliced.payload (is.start + hole.start) (is.start + hole.end) in
-      let stands : StandsAs (versions_at copies is.start is.end) hole.start hole.end bytes Settled =
-      subst (StandsAs (versions_at copies is.start is.end) hole.start hole.end bytes) settled
-      (All-contains (λ place. StandsAs (versions_at copies is.start is.end) place.start place.end
-      (slice_range spliced.payload (is.start + place.start) (is.start + place.end)) place.standing) is.hole.places hole hole_stands there) in
-      piece_out is.start is.end copies hole.end (record { start = hole.start; bytes = bytes })
-      (All-contains (λ place. is.start + place.end ≤ is.end) is.hole.places hole hole_within there) stands.there
-  settled_at place (undivided there) settled =
-      let stands = All-contains (λ place. place.standing ≡ Undivided) (undivided_places is.start is.hole.front) place
-      (all_stand_undivided is.start is.hole.front) there in
-      absurd (cc)
-  settled_at place (below there) settled = (All-contains (IsSettledUp copies is.bound spliced.payload) is.below place is.up.settled there).only.there
+  settled_at place (above settled_down) settled = settled_down.only.there
+  settled_at place (between h) settled =
+      let bytes : List ℕ = slice_range spliced.payload place.start place.end in
+      let stands : StandsAs (versions_at copies h.from h.to) h.start h.end bytes Settled =
+      subst (StandsAs (versions_at copies h.from h.to) h.start h.end bytes) settled h.stands in
+      subst (λ s. IsPiece copies place.end (record { start = s; bytes = bytes })) (sym h.starts)
+      (subst (λ e. IsPiece copies e (record { start = h.from + h.start; bytes = bytes })) (sym h.ends)
+      (piece_out h.from h.to copies h.end (record { start = h.start; bytes = bytes }) h.within stands.there))
+  settled_at place (undivided stands) settled = absurd (cc)
+  settled_at place (below settled_up) settled = settled_up.only.there
 
   pub settled_piece : (place : Place) → Contains spliced.places place → place.standing ≡ Settled
       → IsPiece copies place.end (piece_of spliced.payload place.start place.end)
-  settled_piece place there = settled_at place (place_of copies spliced is place there)
+  settled_piece place there = settled_at place (place_of place there)
 
   -- ---- the hole of a splice that is given back
 

@@ -5,7 +5,7 @@ use Rattle.std.proofs.lemmas.List.Elements.{Contains-append_left, Contains-appen
 use Rattle.ffv1_bits.specs.Parity.{PassesParity}
 use Rattle.ffv1_slice.specs.Chain.{IsCut, Piece, piece_of}
 use Rattle.ffv1_splice.specs.Pieces.{HasContent, IsPiece, IsToldStart}
-use Rattle.ffv1_splice.specs.Told.{Told, Tells, TellsMore}
+use Rattle.ffv1_splice.specs.Told.{Told, Tells, TellsMore, TellsBoth}
 use Rattle.ffv1_splice.specs.Told.Told.{none, one, two}
 
 -- ---- any fact
@@ -33,6 +33,18 @@ tells_more P Q (one first) after value on new cases more h =
 tells_more P Q two after value on new cases more h =
     subst (Tells Q) (sym more)
     (record { one = h.one; other = h.other; one_there = on h.one h.one_there; other_there = on h.other h.other_there; differ = h.differ })
+
+-- and all that others tell
+pub tells_both : {X : Type 0} (P Q R : X → Type 0) (told others after : Told X) → ((x : X) → P x → R x) → ((x : X) → Q x → R x) → ((x : X) → R x → P x ⊎ Q x)
+    → TellsBoth told others after → Tells P told → Tells Q others → Tells R after
+tells_both P Q R told none after mine theirs cases both h k =
+    subst (Tells R) (sym both)
+    (tells_same P R told mine (λ x r. elim (cases x r) [ inl p ↦ p | inr q ↦ absurd (k x q) ]) h)
+tells_both P Q R told (one value) after mine theirs cases both h k =
+    tells_more P R told after value mine (theirs value k.there) (λ x r. elim (cases x r) [ inl p ↦ inl p | inr q ↦ inr (k.others x q) ]) both h
+tells_both P Q R told two after mine theirs cases both h k =
+    subst (Tells R) (sym both)
+    (record { one = k.one; other = k.other; one_there = theirs k.one k.one_there; other_there = theirs k.other k.other_there; differ = k.differ })
 
 -- ---- one more copy
 

@@ -201,6 +201,8 @@ pub zeros_are_spliced : IsSpliceOf (zeros ∷ []) zeros_spliced
 zeros_are_spliced = record {
   above = [];
   below = [];
+  legs = [];
+  floor = 0;
   start = 0;
   end = 16;
   bound = 16;
@@ -213,6 +215,12 @@ zeros_are_spliced = record {
     settled = All-nil (IsSettledUp (zeros ∷ []) 16 zeros);
     stop = λ piece first only.
         zeros_cut only.there.copy 0 piece.end only.there.there first.there.within only.there.cut only.there.content;
+  };
+  across = record {
+    are = refl;
+    few = omega arith;
+    stop = inr (λ end lost. let claimed = lost.end'.there in
+        zeros_cut claimed.told.copy 0 end claimed.told.there claimed.within claimed.told.cut claimed.told.content);
   };
   divided = zeros_divided;
   bytes = refl;

@@ -1,7 +1,7 @@
 -- A frame that is given back: its chain is whole, and each of its links passes its parity.
 use Rattle.std.proofs.Common.{◌≡◌, ℕ, ◌+◌, ◌≤◌, List, [], ◌∷◌, length, get_or, sym, ◌∙◌, subst, arith, inl, inr}
 use Rattle.std.specs.Prelude.{All, slice_range}
-use Rattle.std.proofs.lemmas.List.Elements.{All-head, All-tail}
+use Rattle.std.proofs.lemmas.List.Elements.{All-head, All-tail, All-contains_itself}
 use Rattle.ffv1_bits.specs.Parity.{PassesParity}
 use Rattle.ffv1_slice.specs.Chain.{IsCut, IsEnd, IsFramed, Piece, piece_of}
 use Rattle.ffv1_slice.specs.Chain.IsEnd.{last, before}
@@ -13,11 +13,11 @@ use Rattle.ffv1_splice.specs.declared.place.Standing.{Standing}
 use Rattle.ffv1_splice.specs.declared.place.Standing.TheVariants.{Settled, Woven, Repaired, Disputed, Missing, Undivided}
 use Rattle.ffv1_splice.specs.declared.place.Place.{Place}
 use Rattle.ffv1_splice.proofs.PlaceSteps.{AllReach}
-use Rattle.ffv1_splice.proofs.Walks.{ends_below}
+use Rattle.ffv1_splice.proofs.Walks.{reach_less}
 use Rattle.ffv1_splice.proofs.Narrowed.{piece_out}
-use Rattle.ffv1_splice.proofs.PlaceLists.{no_undivided}
-use Rattle.ffv1_splice.proofs.SplicePlaces.{all_places, places_lie, places_within, above_upright, below_within, end_within}
-use Rattle.ffv1_splice.proofs.StandingPlaces.{hole_within, hole_stands, hole_given_back}
+use Rattle.ffv1_splice.proofs.SplicePlaces.{places_lie, places_within}
+use Rattle.ffv1_splice.proofs.StandingPlaces.{IsPlaceOf, place_of}
+use Rattle.ffv1_splice.proofs.StandingPlaces.IsPlaceOf.{above, between, undivided, below}
 use Rattle.ffv1_splice.specs.Whole.{IsWholeFrame, GivenBackIsWhole}
 
 -- ---- places that are links of the frame
@@ -112,31 +112,30 @@ module _ (copies : List (List ℕ)) (spliced : SplicedValue) (is : IsSpliceOf co
   reach_to : (end : ℕ) → end ≤ length spliced.payload → AllReach copies end
   reach_to end within copy there = omega (arith, is.one_length copy there)
 
-  -- in the hole, with its places counted from the frame's start
-  hole_slice : (start end : ℕ) (bytes : List ℕ) (standing : Standing) → is.start + end ≤ is.end
-      → StandsAs (versions_at copies is.start is.end) start end bytes standing → IsSettledOrWoven standing
-      → IsWholeSlice (is.start + start) (is.start + end) bytes
-  hole_slice start end bytes Settled within stands right =
-      let inside = end_within copies spliced is in
-      slice_of_piece copies (is.start + end) (record { start = is.start + start; bytes = bytes }) (reach_to (is.start + end) (omega arith))
-      (piece_out is.start is.end copies end (record { start = start; bytes = bytes }) within stands.there)
-  hole_slice start end bytes (Woven count) within (inl stands) right =
+  -- as copies that are cut tell of it
+  cut_slice : (from to start end : ℕ) (bytes : List ℕ) (standing : Standing) → from + end ≤ to → AllReach copies to
+      → StandsAs (versions_at copies from to) start end bytes standing → IsSettledOrWoven standing
+      → IsWholeSlice (from + start) (from + end) bytes
+  cut_slice from to start end bytes Settled within reach stands right =
+      slice_of_piece copies (from + end) (record { start = from + start; bytes = bytes }) (reach_less copies to (from + end) within reach)
+      (piece_out from to copies end (record { start = start; bytes = bytes }) within stands.there)
+  cut_slice from to start end bytes (Woven count) within reach (inl stands) right =
       let valid = stands.weave'.0.there in
       let content : HasContent start end = stands.told.there.content in
       record { content = omega arith; framed = valid.passes.0; passes = valid.passes.1 }
-  hole_slice start end bytes (Woven count) within (inr (inr stands)) right =
+  cut_slice from to start end bytes (Woven count) within reach (inr (inr stands)) right =
       let valid = stands.weave'.0.there in
       let content : HasContent start end = stands.told.content in
       record { content = omega arith; framed = valid.passes.0; passes = valid.passes.1 }
-  hole_slice start end bytes (Woven count) within (inr (inl stands)) right =
+  cut_slice from to start end bytes (Woven count) within reach (inr (inl stands)) right =
       let valid = stands.1.weave'.0.there in
       let content : HasContent 0 end = stands.1.content in
       let first : start ≡ 0 = stands.0 in
       record { content = omega arith; framed = valid.passes.0; passes = valid.passes.1 }
-  hole_slice start end bytes (Repaired count) within stands right = absurd right
-  hole_slice start end bytes Disputed within stands right = absurd right
-  hole_slice start end bytes Missing within stands right = absurd right
-  hole_slice start end bytes Undivided within stands right = absurd right
+  cut_slice from to start end bytes (Repaired count) within reach stands right = absurd right
+  cut_slice from to start end bytes Disputed within reach stands right = absurd right
+  cut_slice from to start end bytes Missing within reach stands right = absurd right
+  cut_slice from to start end bytes Undivided within reach stands right = absurd right
 
   abbrev IsSliceThere : Place → Type 0
   IsSliceThere place = IsWholeSlice place.start place.end (slice_range spliced.payload place.start place.end)
@@ -146,19 +145,22 @@ module _ (copies : List (List ℕ)) (spliced : SplicedValue) (is : IsSpliceOf co
   slice_there place within piece =
       slice_of_piece copies place.end (piece_of spliced.payload place.start place.end) (reach_to place.end within) piece
 
+  place_slice : (place : Place) → place.end ≤ length spliced.payload → IsSettledOrWoven place.standing → IsPlaceOf copies spliced is place
+      → IsSliceThere place
+  place_slice place within right (above settled) = slice_there place within settled.only.there
+  place_slice place within right (between h) =
+      let bytes : List ℕ = slice_range spliced.payload place.start place.end in
+      subst (λ s. IsWholeSlice s place.end bytes) (sym h.starts)
+      (subst (λ e. IsWholeSlice (h.from + h.start) e bytes) (sym h.ends)
+      (cut_slice h.from h.to h.start h.end bytes place.standing h.within h.reach h.stands right))
+  place_slice place within right (undivided stands) = absurd (subst IsSettledOrWoven stands right)
+  place_slice place within right (below settled) = slice_there place within settled.only.there
+
   all_slices : All IsSliceThere spliced.places
-  all_slices =
-      let hole = hole_given_back copies spliced is given in
-      all_places copies spliced is IsSliceThere
-      (λ k d lt. slice_there (get_or is.above k d)
-      (ends_below (length spliced.payload) is.above is.end (above_upright copies spliced is) is.down.lie k d lt) (is.down.settled k d lt).only.there)
-      (λ k d lt. let place : Place = get_or is.hole.places k d in
-      hole_slice place.start place.end (slice_range spliced.payload (is.start + place.start) (is.start + place.end)) place.standing
-      (hole_within copies spliced is k d lt) (hole_stands copies spliced is k d lt) (hole.1 k d lt))
-      (no_undivided IsSliceThere is.start is.hole.front hole.0)
-      (λ k d lt. let inside = end_within copies spliced is in
-      let within = below_within copies spliced is k d lt in
-      slice_there (get_or is.below k d) (omega arith) (is.up.settled k d lt).only.there)
+  all_slices k d lt =
+      let place : Place = get_or spliced.places k d in
+      place_slice place (places_within copies spliced is k d lt).1 (given.1 k d lt)
+      (place_of copies spliced is place (All-contains_itself spliced.places k d lt))
 
   link_of : (place : Place) → place.end ≤ length spliced.payload → IsSliceThere place → IsLinkPlace spliced.payload place
   link_of place within slice =

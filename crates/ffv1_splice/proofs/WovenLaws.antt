@@ -1,7 +1,7 @@
 -- What is woven of copies of an original.
 use Rattle.std.proofs.Common.{◌≡◌, ℕ, ◌+◌, ◌<◌, ◌≤◌, List, length, get_or, map, refl, sym, ◌∙◌, subst, arith, inl, inr}
 use Rattle.std.specs.Prelude.{All, Contains, slice_range}
-use Rattle.std.proofs.lemmas.List.Elements.{All-contains, All-weaker}
+use Rattle.std.proofs.lemmas.List.Elements.{All-contains_itself}
 use Rattle.std.proofs.lemmas.Bool.{cases_eq}
 use Rattle.ffv1_bits.specs.Parity.{AreBytes, PassesParity}
 use Rattle.ffv1_slice.specs.Chain.{IsCut, IsEnd, IsLinkOf, IsFramed}
@@ -16,24 +16,23 @@ use Rattle.ffv1_weave.proofs.Coarsest.{original_is_woven}
 use Rattle.ffv1_splice.specs.Pieces.{HasContent, IsToldStart}
 use Rattle.ffv1_splice.specs.Standings.{versions_at, sized, IsWeaveOfSeveral, StandsAs}
 use Rattle.ffv1_splice.specs.Splice.{SplicedValue, IsSettledDown, IsSettledUp, IsDivisionOf, IsSpliceOf, undivided_places, IsSettledOrWoven, IsGivenBack}
-use Rattle.ffv1_splice.specs.Originals.{AreCopiesOf, IsAmong}
-use Rattle.ffv1_splice.specs.Laws.{IsItsLink, KeepsLink, WovenIsOriginal, SizedIsOriginal, GivenBackIsOriginal}
+use Rattle.ffv1_splice.specs.Originals.{AreCopiesOf, IsAmong, AreWeavable}
+use Rattle.ffv1_splice.specs.Laws.{KeepsLink, WovenIsOriginal, SizedIsOriginal, GivenBackIsOriginal}
 use Rattle.ffv1_splice.specs.declared.place.Standing.{Standing}
 use Rattle.ffv1_splice.specs.declared.place.Standing.TheVariants.{Settled, Woven, Repaired, Disputed, Missing, Undivided}
 use Rattle.ffv1_splice.specs.declared.place.Place.{Place}
 use Rattle.ffv1_splice.proofs.DividedLinks.{end_within, link_at, AreLinkPlaces, link_places, settled_link, same_payload}
 use Rattle.ffv1_splice.proofs.FirstSlices.{combination_told}
-use Rattle.ffv1_splice.proofs.Narrowed.{versions_of_versions, told_out}
+use Rattle.ffv1_splice.proofs.Versions.{version_there}
 use Rattle.ffv1_splice.proofs.PlaceSteps.{AllReach, told_below}
 use Rattle.ffv1_splice.proofs.SizedCombinations.{sized_combination}
 use Rattle.ffv1_splice.proofs.NarrowedOriginal.{AreWeavableDown, copies_narrowed, weavable_narrowed}
 use Rattle.ffv1_splice.proofs.Walks.{IsSpliceBefore, division_walk, stands_below}
-use Rattle.ffv1_splice.proofs.PlaceLists.{all_stand_undivided}
-use Rattle.ffv1_splice.proofs.SplicePlaces.{IsPlaceOf, place_of, start_within}
-use Rattle.ffv1_splice.proofs.SplicePlaces.IsPlaceOf.{above, of_hole, undivided, below}
-use Rattle.ffv1_splice.proofs.StandingPlaces.{hole_within, hole_reach, hole_stands, hole_given_back}
-use Rattle.ffv1_splice.proofs.SameBytes.{IsSameAt, same_by_parts}
-use Rattle.ffv1_splice.proofs.OriginalLaws.{as_long, above_links, below_links, joined_links}
+use Rattle.ffv1_splice.proofs.SplicePlaces.{copy_at_hand, places_lie, start_within}
+use Rattle.ffv1_splice.proofs.StandingPlaces.{between_reach, between_versions, between_told, IsPlaceOf, place_of, hole_given_back}
+use Rattle.ffv1_splice.proofs.StandingPlaces.IsPlaceOf.{above, between, undivided, below}
+use Rattle.ffv1_splice.proofs.SameBytes.{IsSameAt}
+use Rattle.ffv1_splice.proofs.OriginalLaws.{settled_is_original, as_long, above_links, across_links, joined_links}
 
 -- a link's slice has its footer
 framed_link : (original : List ℕ) (start end : ℕ) → IsLinkOf original start end → IsFramed (slice_range original start end)
@@ -122,57 +121,37 @@ module _ (original : List ℕ) (copies : List (List ℕ)) (spliced : SplicedValu
 
   keeps_link : (place : Place) → IsPlaceOf copies spliced is place → IsLinkOf original place.start place.end
       → PassesParity (slice_range original place.start place.end) → IsAmong original copies place.start place.end → KeepsLink original copies spliced place
-  keeps_link place (above there) link passes among =
-      keeps_settled place (All-contains (IsSettledDown copies spliced.payload) is.above place is.down.settled there).standing
-  keeps_link place (of_hole hole there) link passes among =
-      let bytes : List ℕ = slice_range spliced.payload (is.start + hole.start) (is.start + hole.end) in
-      let slice : List ℕ = slice_range original (is.start + hole.start) (is.start + hole.end) in
-      let versions : List (List ℕ) = versions_at copies is.start is.end in
-      let stands : StandsAs versions hole.start hole.end bytes hole.standing =
-      All-contains (λ place. StandsAs versions place.start place.end (slice_range spliced.payload (is.start + place.start) (is.start + place.end))
-      place.standing) is.hole.places hole (hole_stands copies spliced is) there in
-      let within = All-contains (λ place. is.start + place.end ≤ is.end) is.hole.places hole (hole_within copies spliced is) there in
-      let same = versions_of_versions is.start is.end copies hole.start hole.end within in
-      let framed = framed_link original (is.start + hole.start) (is.start + hole.end) link in
-      let all : IsCombination (versions_at versions hole.start hole.end) slice = subst (λ vs. IsCombination vs slice) (sym same) among in
+  keeps_link place (above settled) link passes among = keeps_settled place settled.standing
+  keeps_link place (between h) link passes among =
+      let bytes : List ℕ = slice_range spliced.payload place.start place.end in
+      let slice : List ℕ = slice_range original place.start place.end in
+      let versions : List (List ℕ) = versions_at copies h.from h.to in
+      let copy = copy_at_hand copies spliced is in
+      let same = between_versions copies spliced.payload place h in
+      let framed = framed_link original place.start place.end link in
+      let all : IsCombination (versions_at versions h.start h.end) slice = subst (λ vs. IsCombination vs slice) (sym same) among in
       record {
-        woven = λ count woven. woven_slice versions hole.start hole.end slice framed passes all is.divided.before.copy bytes hole.standing count
-            (hole_reach copies spliced is hole.end within) is.divided.before.there woven stands;
-        unrepaired = λ count repaired. unrepaired_slice versions hole.start hole.end slice framed passes all bytes hole.standing count repaired stands;
-        missing = λ missing. subst AreMany same (missing_slice versions hole.start hole.end slice framed passes all bytes hole.standing missing stands);
+        woven = λ count woven. woven_slice versions h.start h.end slice framed passes all (slice_range copy.0 h.from h.to) bytes place.standing count
+            (between_reach copies spliced.payload place h) (version_there copies h.from h.to copy.0 copy.1) woven h.stands;
+        unrepaired = λ count repaired. unrepaired_slice versions h.start h.end slice framed passes all bytes place.standing count repaired h.stands;
+        missing = λ missing. subst AreMany same (missing_slice versions h.start h.end slice framed passes all bytes place.standing missing h.stands);
       }
-  keeps_link place (undivided there) link passes among =
-      keeps_undivided place (All-contains (λ place. place.standing ≡ Undivided) (undivided_places is.start is.hole.front) place
-      (all_stand_undivided is.start is.hole.front) there)
-  keeps_link place (below there) link passes among =
-      keeps_settled place (All-contains (IsSettledUp copies is.bound spliced.payload) is.below place is.up.settled there).standing
+  keeps_link place (undivided stands) link passes among = keeps_undivided place stands
+  keeps_link place (below settled) link passes among = keeps_settled place settled.standing
 
   sized_link : (place : Place) (count : ℕ) → IsPlaceOf copies spliced is place → IsLinkOf original place.start place.end
       → (IsToldStart copies place.end place.start → ⊥) → PassesParity (slice_range original place.start place.end)
       → IsCombination (map sized (versions_at copies place.start place.end)) (slice_range original place.start place.end) → place.standing ≡ Woven count
       → slice_range spliced.payload place.start place.end ≡ slice_range original place.start place.end
-  sized_link place count (above there) link untold passes among as_woven =
-      let settled = All-contains (IsSettledDown copies spliced.payload) is.above place is.down.settled there in
-      (keeps_settled place settled.standing).woven count as_woven
-  sized_link place count (of_hole hole there) link untold passes among as_woven =
-      let bytes : List ℕ = slice_range spliced.payload (is.start + hole.start) (is.start + hole.end) in
-      let slice : List ℕ = slice_range original (is.start + hole.start) (is.start + hole.end) in
-      let versions : List (List ℕ) = versions_at copies is.start is.end in
-      let stands : StandsAs versions hole.start hole.end bytes hole.standing =
-      All-contains (λ place. StandsAs versions place.start place.end (slice_range spliced.payload (is.start + place.start) (is.start + place.end))
-      place.standing) is.hole.places hole (hole_stands copies spliced is) there in
-      let within = All-contains (λ place. is.start + place.end ≤ is.end) is.hole.places hole (hole_within copies spliced is) there in
-      let same = versions_of_versions is.start is.end copies hole.start hole.end within in
-      sized_slice versions hole.start hole.end slice (framed_link original (is.start + hole.start) (is.start + hole.end) link) passes
-      (λ told. untold (told_out is.start is.end copies hole.end hole.start within told))
-      (subst (λ vs. IsCombination (map sized vs) slice) (sym same) among) bytes hole.standing count as_woven stands
-  sized_link place count (undivided there) link untold passes among as_woven =
-      let stands = All-contains (λ place. place.standing ≡ Undivided) (undivided_places is.start is.hole.front) place
-      (all_stand_undivided is.start is.hole.front) there in
-      (keeps_undivided place stands).woven count as_woven
-  sized_link place count (below there) link untold passes among as_woven =
-      let settled = All-contains (IsSettledUp copies is.bound spliced.payload) is.below place is.up.settled there in
-      (keeps_settled place settled.standing).woven count as_woven
+  sized_link place count (above settled) link untold passes among as_woven = (keeps_settled place settled.standing).woven count as_woven
+  sized_link place count (between h) link untold passes among as_woven =
+      let slice : List ℕ = slice_range original place.start place.end in
+      sized_slice (versions_at copies h.from h.to) h.start h.end slice (framed_link original place.start place.end link) passes
+      (λ told. untold (between_told copies spliced.payload place h told))
+      (subst (λ vs. IsCombination (map sized vs) slice) (sym (between_versions copies spliced.payload place h)) among)
+      (slice_range spliced.payload place.start place.end) place.standing count as_woven h.stands
+  sized_link place count (undivided stands) link untold passes among as_woven = (keeps_undivided place stands).woven count as_woven
+  sized_link place count (below settled) link untold passes among as_woven = (keeps_settled place settled.standing).woven count as_woven
 
 pub sized_is_original : SizedIsOriginal
 sized_is_original original copies spliced place count is there = sized_link original copies spliced is place count (place_of copies spliced is place there)
@@ -266,16 +245,40 @@ module _ (original : List ℕ) (copies : List (List ℕ)) (spliced : SplicedValu
 
 -- ---- splices that are given back
 
+-- a link's place that is settled or woven has the link's bytes
+given_link : (original : List ℕ) (copies : List (List ℕ)) (spliced : SplicedValue) → AreWeavable original copies → IsSpliceOf copies spliced
+    → (place : Place) → Contains spliced.places place → IsLinkOf original place.start place.end → IsSettledOrWoven place.standing
+    → (standing : Standing) → place.standing ≡ standing → IsSameAt spliced.payload original place
+given_link original copies spliced weavable is place there link right Settled stands =
+    (settled_is_original original copies spliced place weavable.agree is there stands link.is_end).1
+given_link original copies spliced weavable is place there link right (Woven count) stands =
+    (woven_is_original original copies spliced place is there link (weavable.passes place.start place.end link)
+    (weavable.among place.start place.end link)).woven count stands
+given_link original copies spliced weavable is place there link right (Repaired count) stands = absurd (subst IsSettledOrWoven stands right)
+given_link original copies spliced weavable is place there link right Disputed stands = absurd (subst IsSettledOrWoven stands right)
+given_link original copies spliced weavable is place there link right Missing stands = absurd (subst IsSettledOrWoven stands right)
+given_link original copies spliced weavable is place there link right Undivided stands = absurd (subst IsSettledOrWoven stands right)
+
+module _ (original : List ℕ) (copies : List (List ℕ)) (spliced : SplicedValue) (of : AreCopiesOf original copies) (weavable : AreWeavable original copies)
+    (is : IsSpliceOf copies spliced) (given : IsGivenBack spliced) where
+  given_links : AreLinkPlaces original (length original) spliced.places spliced.front
+  given_links =
+      let down = above_links original copies spliced is of weavable.agree in
+      let across = across_links original copies spliced is of weavable.agree weavable.below weavable.told in
+      let order = start_within copies spliced is in
+      let hole = given_back_divided (slice_range original is.start is.end) (versions_at copies is.start is.end) is.hole
+      (copies_narrowed is.start is.end original order down.is_end copies across.is_end of.one_length)
+      (weavable_narrowed is.start is.end original order down.is_end copies weavable) is.divided (hole_given_back copies spliced is given) in
+      joined_links original copies spliced is of weavable.agree weavable.below across.links hole.0.each hole.0.whole
+
+  given_same : spliced.payload ≡ original
+  given_same =
+      same_payload original spliced (length original) given_links (places_lie copies spliced is) (as_long original copies spliced is of weavable.agree)
+      (λ k d lt. let place : Place = get_or spliced.places k d in
+      given_link original copies spliced weavable is place (All-contains_itself spliced.places k d lt) (given_links.each k d lt) (given.1 k d lt)
+      place.standing refl)
+
 pub given_back_is_original : GivenBackIsOriginal
 given_back_is_original original copies spliced of weavable is given =
-    let down = above_links original copies spliced is of weavable.agree in
-    let up = below_links original copies spliced is of weavable.agree weavable.below in
-    let order = start_within copies spliced is in
-    let hole = given_back_divided (slice_range original is.start is.end) (versions_at copies is.start is.end) is.hole
-    (copies_narrowed is.start is.end original order down.is_end copies up.is_end of.one_length)
-    (weavable_narrowed is.start is.end original order down.is_end copies weavable) is.divided (hole_given_back copies spliced is given) in (
-      joined_links original copies spliced is of weavable.agree weavable.below hole.0.each hole.0.whole,
-      same_by_parts copies spliced is original (as_long original copies spliced is of weavable.agree)
-          (All-weaker (IsItsLink original spliced) (IsSameAt spliced.payload original) (λ place its. its.bytes) is.above down.links)
-          (All-weaker (IsItsLink original spliced) (IsSameAt spliced.payload original) (λ place its. its.bytes) is.below up.links) hole.1,
-    )
+    let links = given_links original copies spliced of weavable is given in
+    (record { links = links.links; whole = links.whole }, given_same original copies spliced of weavable is given)

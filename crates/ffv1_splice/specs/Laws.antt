@@ -9,7 +9,7 @@ use Rattle.ffv1_weave.specs.Weave.{AreMany}
 use Rattle.ffv1_weave.specs.Repairs.{IsRepair}
 use Rattle.ffv1_splice.specs.Pieces.{IsToldStart}
 use Rattle.ffv1_splice.specs.Standings.{versions_at, sized}
-use Rattle.ffv1_splice.specs.Splice.{SplicedValue, IsSpliceOf, IsGivenBack}
+use Rattle.ffv1_splice.specs.Splice.{SplicedValue, IsSpliceOf, IsGivenBack, leg_places}
 use Rattle.ffv1_splice.specs.Originals.{AreCopiesOf, AgreeWith, AgreeFromBelow, HaveEachLink, IsAmong, AreWeavable, AreNearCopies, IsIntactInSome}
 use Rattle.ffv1_splice.specs.declared.place.Standing.TheVariants.{Settled, Woven, Repaired, Missing}
 use Rattle.ffv1_splice.specs.declared.place.Place.{Place}
@@ -56,6 +56,18 @@ SettledWalksAreOriginal =
     (original : List ℕ) (copies : List (List ℕ)) (spliced : SplicedValue) → AreCopiesOf original copies → AgreeWith original copies
     → AgreeFromBelow original copies → (is : IsSpliceOf copies spliced)
     → All (IsItsLink original spliced) is.above × All (IsItsLink original spliced) is.below
+
+-- Where besides some copy tells the start of each link, the places over slices that are lost in all copies are links of the original too, and
+-- those that are settled after them, byte for byte.
+pub record IsLinkIfSettled (original : List ℕ) (spliced : SplicedValue) (place : Place) : Type 0 where
+  pub link : IsLinkOf original place.start place.end
+  pub settled : place.standing ≡ Settled → IsItsLink original spliced place
+
+abbrev pub WalkAcrossIsOriginal : Type 0
+WalkAcrossIsOriginal =
+    (original : List ℕ) (copies : List (List ℕ)) (spliced : SplicedValue) → AreCopiesOf original copies → AgreeWith original copies
+    → AgreeFromBelow original copies → ((start end : ℕ) → IsLinkOf original start end → IsToldStart copies end start)
+    → (is : IsSpliceOf copies spliced) → All (IsLinkIfSettled original spliced) (leg_places is.legs)
 
 -- ---- what is woven
 

@@ -1,12 +1,15 @@
--- The frame that copies of one length are spliced to: settled down from its end, settled up from its start, and the hole that is left.
-use Rattle.std.specs.Prelude.{ℕ, zero, suc, ◌+◌, ◌≡◌, ◌≤◌, ◌⊎◌, List, [], ◌∷◌, ◌++◌, All, Contains, length, map, reverse, take, slice_range}
+-- The frame that copies of one length are spliced to: settled down from its end, settled up from its start, over slices that are lost in
+-- all copies too, and the hole that is left.
+use Rattle.std.specs.Prelude.{ℕ, zero, suc, ◌+◌, ◌-◌, ◌≡◌, ◌<◌, ◌≤◌, ◌⊎◌, List, [], ◌∷◌, ◌++◌, All, Contains, length, map, reverse, take, slice_range}
+use Rattle.std.specs.List.{flat_map}
 use Rattle.ffv1_slice.specs.Chain.{Piece, piece_of}
 use Rattle.ffv1_slice.specs.Members.{IsOnly, IsOfNone}
-use Rattle.ffv1_splice.specs.Pieces.{IsPiece, PieceFrom, IsShortest, IsLeast}
+use Rattle.ffv1_splice.specs.Pieces.{IsPiece, IsToldStart, PieceFrom, IsPieceFrom, IsShortest, IsLeast}
 use Rattle.ffv1_splice.specs.Standings.{versions_at, StandsAs, IsStop}
 use Rattle.ffv1_splice.specs.declared.place.Standing.{Standing}
 use Rattle.ffv1_splice.specs.declared.place.Standing.TheVariants.{Settled, Woven, Undivided}
 use Rattle.ffv1_splice.specs.declared.place.Place.{Place}
+use Rattle.ffv1_splice.specs.declared.crossing.TheConstants.{MOST_CROSSED}
 
 -- what a splice gives: its places from the frame's end on, where the last of them begins, and all bytes
 pub record SplicedValue : Type 0 where
@@ -53,12 +56,63 @@ pub record IsSettledUp (copies : List (List ℕ)) (bound : ℕ) (payload : List 
   pub first : IsShortest copies bound place.start (record { end = place.end; bytes = slice_range payload place.start place.end })
   pub only : IsOnly (IsPiece copies place.end) (piece_of payload place.start place.end)
 
--- Places settled from the payload's start up to the first start from which none can be.
-pub record IsWalkUp (copies : List (List ℕ)) (bound : ℕ) (payload : List ℕ) (places : List Place) (start : ℕ) : Type 0 where
-  pub rise : RiseFrom 0 places start
+-- Places settled from a place of the payload up to the first start from which none can be.
+pub record IsWalkUp (copies : List (List ℕ)) (bound : ℕ) (payload : List ℕ) (from : ℕ) (places : List Place) (start : ℕ) : Type 0 where
+  pub rise : RiseFrom from places start
   pub settled : All (IsSettledUp copies bound payload) places
   pub stop : (piece : PieceFrom) → IsShortest copies bound start piece
       → IsOnly (IsPiece copies piece.end) (record { start = start; bytes = piece.bytes }) → ⊥
+
+-- ---- up over slices that are lost in all copies
+
+-- A footer that ends there in some copy tells that its slice begins where the copies do, and the place lies within reach.
+pub record IsClaimedEnd (copies : List (List ℕ)) (reach end : ℕ) : Type 0 where
+  pub told : IsToldStart copies end 0
+  pub within : end ≤ reach
+
+-- the first that one copy claims after a place
+pub record IsNextClaimed (copy : List ℕ) (from reach end : ℕ) : Type 0 where
+  pub claimed : IsClaimedEnd (copy ∷ []) reach end
+  pub after : from < end
+  pub first : (other : ℕ) → from < other → IsClaimedEnd (copy ∷ []) reach other → end ≤ other
+
+-- The slice with which the copies begin is lost in all of them, and ends here: no piece begins with them, this end alone is claimed, no
+-- other start is told at it, and no piece ends there. But a piece begins there, which bears the end out.
+pub record IsLostUpTo (copies : List (List ℕ)) (reach end : ℕ) : Type 0 where
+  pub lost : IsOfNone (IsPieceFrom copies reach 0)
+  pub end' : IsOnly (IsClaimedEnd copies reach) end
+  pub start : IsOnly (IsToldStart copies end) 0
+  pub none : IsOfNone (IsPiece copies end)
+  pub next : (piece : PieceFrom) × IsPieceFrom copies reach end piece
+
+-- A place over such a slice. It stands as what the copies have from its start up to the bound tells of it, and nothing before that.
+pub record IsCrossed (copies : List (List ℕ)) (bound : ℕ) (payload : List ℕ) (place : Place) : Type 0 where
+  pub size : ℕ
+  pub ends : place.end ≡ place.start + size
+  pub lost : IsLostUpTo (versions_at copies place.start bound) (bound - place.start) size
+  pub stands : StandsAs (versions_at copies place.start bound) 0 size (slice_range payload place.start place.end) place.standing
+
+-- one such place, and the places that are settled after it
+pub record Leg : Type 0 where
+  pub over : Place
+  pub settled : List Place
+
+-- Legs from a start up to a top, each from where the one before it ends.
+abbrev pub AreLegs : List (List ℕ) → (bound : ℕ) → (payload : List ℕ) → (start : ℕ) → List Leg → (top : ℕ) → Type 0
+AreLegs copies bound payload start [] top = start ≡ top
+AreLegs copies bound payload start (leg ∷ legs) top =
+    (leg.over.start ≡ start) × IsCrossed copies bound payload leg.over
+    × (next : ℕ) × IsWalkUp copies bound payload leg.over.end leg.settled next × AreLegs copies bound payload next legs top
+
+-- Legs as far as there are any, and 64 at most.
+pub record IsWalkAcross (copies : List (List ℕ)) (bound : ℕ) (payload : List ℕ) (start : ℕ) (legs : List Leg) (top : ℕ) : Type 0 where
+  pub are : AreLegs copies bound payload start legs top
+  pub few : length legs ≤ MOST_CROSSED
+  pub stop : (length legs ≡ MOST_CROSSED) ⊎ ((end : ℕ) → IsLostUpTo (versions_at copies top bound) (bound - top) end → ⊥)
+
+-- their places, from the start up
+abbrev pub leg_places : List Leg → List Place
+leg_places legs = flat_map (λ leg. leg.over ∷ leg.settled) legs
 
 -- ---- the hole between them
 
@@ -91,11 +145,14 @@ hole_places start hole = map (moved_by start) hole.places ++ undivided_places st
 
 -- ---- the frame
 
--- The splice is as long as each copy. Places are settled down from its end, and up from its start. The hole between them is divided by
--- what the copies have there alone, so no footer leads out of it.
+-- The splice is as long as each copy. Places are settled down from its end, and up from its start, up to a floor. From there places lie over
+-- slices that are lost in all copies, and are settled between them. The hole that is left is divided by what the copies have there alone, so no
+-- footer leads out of it.
 pub record IsSpliceOf (copies : List (List ℕ)) (spliced : SplicedValue) : Type 0 where
   pub above : List Place
   pub below : List Place
+  pub legs : List Leg
+  pub floor : ℕ
   pub start : ℕ
   pub end : ℕ
   pub bound : ℕ
@@ -103,10 +160,11 @@ pub record IsSpliceOf (copies : List (List ℕ)) (spliced : SplicedValue) : Type
   pub one_length : (copy : List ℕ) → Contains copies copy → length copy ≡ length spliced.payload
   pub down : IsWalkDown copies spliced.payload above end
   pub room : IsBound copies end bound
-  pub up : IsWalkUp copies bound spliced.payload below start
+  pub up : IsWalkUp copies bound spliced.payload 0 below floor
+  pub across : IsWalkAcross copies bound spliced.payload floor legs start
   pub divided : IsDivisionOf (versions_at copies start end) hole
   pub bytes : hole.payload ≡ slice_range spliced.payload start end
-  pub places : spliced.places ≡ above ++ (hole_places start hole ++ reverse below)
+  pub places : spliced.places ≡ above ++ (hole_places start hole ++ reverse (below ++ leg_places legs))
   pub front : spliced.front ≡ front_of start hole.front
 
 -- a slice that passes its parity stands there

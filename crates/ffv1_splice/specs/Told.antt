@@ -24,6 +24,12 @@ TellsMore none value after = after ≡ one value
 TellsMore (one first) value after = ((first ≡ value) × (after ≡ one first)) ⊎ ((first ≡ value → ⊥) × (after ≡ two))
 TellsMore two value after = after ≡ two
 
+-- what is told with all that others tell
+abbrev pub TellsBoth : {X : Type 0} → Told X → Told X → Told X → Type 0
+TellsBoth told none after = after ≡ told
+TellsBoth told (one value) after = TellsMore told value after
+TellsBoth told two after = after ≡ two
+
 -- ---- what the code counts
 
 abbrev pub pieces_told : Pieces → Told Piece

@@ -1,6 +1,6 @@
 //! Laws of the splice, whatever it is made by.
 ghost use Rattle.ffv1_splice.specs.Whole.{GivenBackIsWhole};
-ghost use Rattle.ffv1_splice.specs.Laws.{SameCopiesSplice, OriginalIsSpliced, SettledIsOriginal, SettledWalksAreOriginal, WovenIsOriginal, SizedIsOriginal, RepairedIsOriginal, GivenBackIsOriginal, NearCopiesSplice};
+ghost use Rattle.ffv1_splice.specs.Laws.{SameCopiesSplice, OriginalIsSpliced, SettledIsOriginal, SettledWalksAreOriginal, WalkAcrossIsOriginal, WovenIsOriginal, SizedIsOriginal, RepairedIsOriginal, GivenBackIsOriginal, NearCopiesSplice};
 
 /// However the same copies are ordered or repeated, they have one splice.
 pub fn same_copies_splice()
@@ -23,6 +23,12 @@ pub fn settled_is_original()
 /// from a start of one: each settled place above the hole of the splice and below it is a slice of the original.
 pub fn settled_walks_are_original()
     ensures { SettledWalksAreOriginal }
+{}
+
+/// Where besides some copy tells the start of each slice of the original, the places over slices that are lost in all copies are slices of
+/// the original, and those that are settled after them are so byte for byte.
+pub fn walk_across_is_original()
+    ensures { WalkAcrossIsOriginal }
 {}
 
 /// At a place that is a slice of an original, where the original's slice passes its parity and is among the combinations of what the

@@ -98,7 +98,7 @@ fn woven_before(
 }
 
 /// How the place between these ends stands, of which no piece is one: it is woven or repaired, or the least of all copies' bytes are written.
-fn weave_at(
+pub(crate) fn weave_at(
     alloc: Global,
     copies: &[&[u8]],
     start: usize,

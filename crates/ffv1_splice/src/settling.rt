@@ -1,9 +1,10 @@
 //! The settled walks of a splice: down from its end, and up from its start.
-ghost use Rattle.std.specs.Prelude.{◌≡◌, ◌+◌, ◌<◌, ◌≤◌, length, map, All, IfOk, MatchOption};
+ghost use Rattle.std.specs.Prelude.{◌≡◌, ◌+◌, ◌++◌, ◌<◌, ◌≤◌, List, length, map, take, All, IfOk, MatchOption};
 ghost use Rattle.ffv1_slice.specs.Chain.{Piece};
 ghost use Rattle.ffv1_slice.specs.Members.{IsOnly};
 ghost use Rattle.ffv1_splice.specs.Pieces.{IsPiece, PieceFrom, IsShortest};
 ghost use Rattle.ffv1_splice.specs.Splice.{IsWalkDown, IsBound, IsWalkUp};
+ghost use Rattle.ffv1_splice.specs.declared.place.Place.{Place};
 
 use crate::place::{Place, Standing};
 use crate::placing::write_at;
@@ -84,21 +85,24 @@ fn settled_from<'a>(copies: &[&'a [u8]], start: usize, bound: usize) -> Option<&
     }
 }
 
-/// Settles places from the payload's start up, and writes each over the payload's bytes: each is the shortest slice from where the one
-/// before it ends, no other one ends at its end, and it ends in the payload. The places from the start on, and the start at which that
+/// Settles places from a place of the payload up, writes each over the payload's bytes, and adds it to those that there are: each is the
+/// shortest slice from where the one before it ends, no other one ends at its end, and it ends in the payload. The start at which that
 /// stops. Each copy has the payload's places.
 pub(crate) fn settle_up(
-    alloc: Global,
     copies: &[&[u8]],
+    from: usize,
     payload: &mut [u8],
-) -> Result<(Vec<Place>, usize), AllocError>
-    requires { All (λ copy. length payload.old ≤ length copy.now) copies.now }
-    ensures walk { IfOk result (λ walk. IsWalkUp (map (λ copy. copy.now) copies.now) (length payload.old) payload.new walk.0.items walk.1) }
-    ensures within { IfOk result (λ walk. walk.1 ≤ length payload.new) }
+    places: &mut Vec<Place>,
+) -> Result<usize, AllocError>
+    requires long { All (λ copy. length payload.old ≤ length copy.now) copies.now }
+    requires within { from ≤ length payload.old }
+    ensures walk { IfOk result (λ start. (added : List Place) × (places.new.items ≡ places.old.items ++ added)
+        × IsWalkUp (map (λ copy. copy.now) copies.now) (length payload.old) payload.new from added start) }
+    ensures within { IfOk result (λ start. start ≤ length payload.new) }
     ensures long { IfOk result (λ _. length payload.new ≡ length payload.old) }
+    ensures before { IfOk result (λ _. take from payload.new ≡ take from payload.old) }
 {
-    let mut places = Vec::new(alloc);
-    let mut start = 0;
+    let mut start = from;
     while let Some(bytes) = settled_from(copies, start, payload.len()) {
         write_at(payload, start, bytes);
         let end = start + bytes.len();
@@ -110,5 +114,5 @@ pub(crate) fn settle_up(
         })?;
         start = end;
     }
-    Ok((places, start))
+    Ok(start)
 }

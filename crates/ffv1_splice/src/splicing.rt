@@ -3,10 +3,11 @@ ghost use Rattle.std.specs.Prelude.{◌≡◌, ◌<◌, ◌≤◌, ◌+◌, ◌^
 ghost use Rattle.ffv1_splice.specs.Splice.{IsSpliceOf, IsSettledOrWoven, IsGivenBack, moved_by, undivided_places};
 ghost use Rattle.ffv1_splice.specs.Faults.{HasOneLength, IsOfOtherLength, IsSpliceFault};
 
+use crate::crossing::walk_up;
 use crate::dividing::divide;
 use crate::place::{Place, Standing};
 use crate::placing::versions_at;
-use crate::settling::{bound_below, settle_down, settle_up};
+use crate::settling::{bound_below, settle_down};
 use std::alloc::{AllocError, AllocFailed, Global};
 use std::marker::Model;
 
@@ -94,8 +95,9 @@ fn stands_whole(place: &Place) -> bool
     matches!(place.standing, Standing::Settled | Standing::Woven(_))
 }
 
-/// Splices copies of one frame, of which there is one at least. Places are settled down from its end and up from its start, and the hole
-/// that is left between them is divided from its own end. Where no footer tells the start of a slice there, it is taken for the first of
+/// Splices copies of one frame, of which there is one at least. Places are settled down from its end and up from its start. From there the
+/// walk up goes on over slices that are lost in all copies, 64 at most: where one end alone is claimed by a footer that leads back to the
+/// lost slice's start, and a slice that passes its parity begins there. The hole that is left is divided from its own end. Where no footer tells the start of a slice there, it is taken for the first of
 /// the hole, which begins with the hole and so has a known size: it is a place where it is woven. Where footers tell several starts, what the
 /// copies have is woven from each, and it is a place where it is woven from one alone, and from each other no combination is a slice: that
 /// takes a weave for each start, of which there is one at most for each copy. Where they tell one start, and no combination of what the
@@ -134,7 +136,7 @@ fn fill(
 {
     let (above, end) = settle_down(alloc, copies, payload)?;
     let bound = bound_below(copies, end);
-    let (mut below, start) = settle_up(alloc, copies, &mut payload[..bound])?;
+    let (mut below, start) = walk_up(alloc, copies, &mut payload[..bound])?;
     let versions = versions_at(alloc, copies, start, end)?;
     let (hole, front) = divide(alloc, versions.as_slice(), &mut payload[start..end])?;
     let mut places = above;

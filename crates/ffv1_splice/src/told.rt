@@ -2,7 +2,7 @@
 ghost use Rattle.std.specs.Prelude.{◌≡◌, ◌≤◌, ◌<◌, ◌↔◌, ℕ, IsTrue, length, map, All, MatchOption};
 ghost use Rattle.ffv1_slice.specs.Chain.{IsCut};
 ghost use Rattle.ffv1_splice.specs.Pieces.{HasContent, IsPiece, IsToldStart, IsLeast};
-ghost use Rattle.ffv1_splice.specs.Told.{Tells, TellsMore, pieces_told, starts_told};
+ghost use Rattle.ffv1_splice.specs.Told.{Tells, TellsMore, TellsBoth, pieces_told, starts_told};
 
 use ffv1_bits::passes;
 use ffv1_slice::{FOOTER_LENGTH, slice_start};
@@ -62,6 +62,17 @@ impl Starts {
             Starts::None => Starts::One(start),
             Starts::One(same) if same == start => self,
             _ => Starts::Two,
+        }
+    }
+
+    /// The same with all that others are.
+    pub(crate) fn joined(self, others: Starts) -> Starts
+        ensures { TellsBoth (starts_told self) (starts_told others) (starts_told result) }
+    {
+        match others {
+            Starts::None => self,
+            Starts::One(start) => self.with(start),
+            Starts::Two => Starts::Two,
         }
     }
 }

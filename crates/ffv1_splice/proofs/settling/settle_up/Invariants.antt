@@ -1,13 +1,17 @@
-use Rattle.std.proofs.Common.{◌≡◌, ◌≤◌, ◌-◌, length, map, All}
+use Rattle.std.proofs.Common.{◌≡◌, ◌≤◌, ◌-◌, ◌++◌, List, length, take, map, All}
 use Rattle.ffv1_splice.specs.Splice.{RiseFrom, IsSettledUp}
+use Rattle.ffv1_splice.specs.declared.place.Place.{Place}
 use Rattle.ffv1_splice.proofs.settling.settle_up.Given as goal
 
+-- The places that were added rise to the start, and nothing before them changed.
 abbrev pub invariant-loop-bytes : goal.invariant-loop-bytes
 invariant-loop-bytes l = record {
   same_length : length l.payload ≡ length l.initial.payload;
   within : l.start ≤ length l.payload;
-  rise : RiseFrom 0 l.places.items l.start;
-  settled : All (IsSettledUp (map (λ copy. copy.now) l.copies) (length l.initial.payload) l.payload) l.places.items;
+  after : l.from ≤ l.start;
+  before : take l.from l.payload ≡ take l.from l.initial.payload;
+  added : (added : List Place) × (l.places.items ≡ l.initial.places.items ++ added) × RiseFrom l.from added l.start
+      × All (IsSettledUp (map (λ copy. copy.now) l.copies) (length l.initial.payload) l.payload) added;
 }
 
 abbrev pub decreases-loop-bytes : goal.decreases-loop-bytes

@@ -3,7 +3,7 @@ use Rattle.std.specs.Prelude.{All, map, reverse}
 use Rattle.std.proofs.lemmas.List.{append_assoc, length-take-le}
 use Rattle.ffv1_slice.proofs.NearLaws.{length-range}
 use Rattle.ffv1_splice.specs.Standings.{versions_at}
-use Rattle.ffv1_splice.specs.Splice.{SplicedValue, IsWalkUp, IsDivisionOf, moved_by, undivided_places}
+use Rattle.ffv1_splice.specs.Splice.{SplicedValue, IsWalkUp, IsWalkAcross, IsDivisionOf, moved_by, undivided_places}
 use Rattle.ffv1_splice.specs.declared.place.Place.{Place}
 use Rattle.ffv1_weave.proofs.References.{values_of, each_value}
 use Rattle.ffv1_splice.proofs.PlaceSteps.{AllReach}
@@ -21,7 +21,7 @@ divide-requires-clause-long c = λ k d lt.
     let bound : ℕ = c.bound_below-bound.result in
     let below_end : bound ≤ end = bound_within copies end bound c.bound_below-bound.ensures in
     let down : List ℕ = c.settle_down.new.payload in
-    let up : List ℕ = c.settle_up.new.payload in
+    let up : List ℕ = c.walk_up.new.payload in
     let within : end ≤ length down = c.in_ok-above.ensures.within in
     let front : length up ≡ bound = c.in_ok-below.ensures.long ∙ length-take-le bound down (omega arith) in
     let order : start ≤ end = let below = c.in_ok-below.ensures.within in omega arith in
@@ -40,7 +40,7 @@ push_moved-requires c = λ k d lt.
     let bound : ℕ = c.bound_below-bound.result in
     let below_end : bound ≤ end = bound_within copies end bound c.bound_below-bound.ensures in
     let down : List ℕ = c.settle_down.new.payload in
-    let up : List ℕ = c.settle_up.new.payload in
+    let up : List ℕ = c.walk_up.new.payload in
     let within : end ≤ length down = c.in_ok-above.ensures.within in
     let front : length up ≡ bound = c.in_ok-below.ensures.long ∙ length-take-le bound down (omega arith) in
     let order : start ≤ end = let below = c.in_ok-below.ensures.within in omega arith in
@@ -63,7 +63,7 @@ push_undivided-requires c =
     let bound : ℕ = c.bound_below-bound.result in
     let below_end : bound ≤ end = bound_within copies end bound c.bound_below-bound.ensures in
     let down : List ℕ = c.settle_down.new.payload in
-    let up : List ℕ = c.settle_up.new.payload in
+    let up : List ℕ = c.walk_up.new.payload in
     let within : end ≤ length down = c.in_ok-above.ensures.within in
     let front : length up ≡ bound = c.in_ok-below.ensures.long ∙ length-take-le bound down (omega arith) in
     let order : start ≤ end = let below = c.in_ok-below.ensures.within in omega arith in
@@ -83,7 +83,7 @@ returns c =
     let bound : ℕ = c.bound_below-bound.result in
     let below_end : bound ≤ end = bound_within copies end bound c.bound_below-bound.ensures in
     let down : List ℕ = c.settle_down.new.payload in
-    let up : List ℕ = c.settle_up.new.payload in
+    let up : List ℕ = c.walk_up.new.payload in
     let hole : List Place = c.in_ok-hole.hole.items in
     let above : List Place = c.in_ok-above.above.items in
     let below : List Place = c.in_ok-below.below.items in
@@ -97,7 +97,9 @@ returns c =
     subst (λ versions. IsDivisionOf versions divided) (ap values_of c.as_slice.ensures.value ∙ c.in_ok-versions.ensures) c.in_ok-hole.ensures in
     let one = each_value c.args.copies.now (λ copy. length copy ≡ length c.args.payload.now) c.requires.long in
     let size = division_long copies start end (length c.args.payload.now) divided one order (omega (arith, c.in_ok-above.ensures.long)) is in
-    let walk_up = subst (λ n. IsWalkUp copies n up below start) long c.in_ok-below.ensures.walk in
+    let walk = c.in_ok-below.ensures.walk in
+    let walk_up = subst (λ n. IsWalkUp copies n up 0 walk.0 walk.2) long walk.4 in
+    let across = subst (λ n. IsWalkAcross copies n up walk.2 walk.1 start) long walk.5 in
     let moved : c.push_moved.new.places.items ≡ above ++ map (moved_by start) hole =
     c.in_ok-push_moved.ensures ∙ ap (λ z. above ++ map (moved_by start) z) c.as_slice-2.ensures.value in
     let more = undivided_places start c.in_ok-hole.front in
@@ -105,9 +107,10 @@ returns c =
     ∙ ap (λ z. (c.push_undivided.new.places.items) ++ reverse z) c.deref_mut.ensures.value
     ∙ ap (λ z. z ++ reverse below) (c.in_ok-push_undivided.ensures ∙ ap (λ z. z ++ more) moved)
     ∙ ap (λ z. z ++ reverse below) (append_assoc above (map (moved_by start) hole) more)
-    ∙ append_assoc above (map (moved_by start) hole ++ more) (reverse below) in
-    filled_splice down up c.divide.new.payload start bound end low below_end within front size copies above below hole c.in_ok-hole.front
-    (λ copy there. one copy there ∙ sym c.in_ok-above.ensures.long) c.in_ok-above.ensures.walk c.bound_below-bound.ensures walk_up is
+    ∙ append_assoc above (map (moved_by start) hole ++ more) (reverse below)
+    ∙ ap (λ z. above ++ ((map (moved_by start) hole ++ more) ++ reverse z)) walk.3 in
+    filled_splice down up c.divide.new.payload start bound end low below_end within front size copies above walk.0 hole walk.1 walk.2 c.in_ok-hole.front
+    (λ copy there. one copy there ∙ sym c.in_ok-above.ensures.long) c.in_ok-above.ensures.walk c.bound_below-bound.ensures walk_up across is
     c.push_fallen.new.places.items c.if-start-eq0.result places (front_is start c.in_ok-hole.front c.if-start-eq0.result
     (λ here. elim c.if-start-eq0.branch [ then-start-eq0 w ↦ w.result-is | else-start-eq0 w ↦ absurd (omega (arith, w.if-start-eq0.false)) ])
     (λ apart. elim c.if-start-eq0.branch [ then-start-eq0 w ↦ absurd (apart (omega (arith, w.if-start-eq0.true))) | else-start-eq0 w ↦ w.result-is ]))

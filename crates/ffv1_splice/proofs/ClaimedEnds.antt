@@ -1,0 +1,123 @@
+-- The ends that copies claim of the slice with which they begin.
+use Rattle.std.proofs.Common.{◌≡◌, ℕ, ◌+◌, ◌<◌, ◌≤◌, List, [], ◌∷◌, ◌++◌, take, drop, refl, sym, subst, arith, inl, inr, take-append-drop}
+use Rattle.std.specs.Prelude.{◌⊎◌, Contains}
+use Rattle.std.proofs.lemmas.Bool.{cases_lt}
+use Rattle.std.proofs.lemmas.List.Elements.{Contains-append_left, Contains-append_right, Contains-append_cases}
+use Rattle.ffv1_bits.specs.Limits.{slice_limit}
+use Rattle.ffv1_bits.specs.Parity.{AreBytes}
+use Rattle.ffv1_slice.specs.Chain.{IsCut}
+use Rattle.ffv1_slice.specs.Members.{IsOnly, IsOfTwo, IsOfNone}
+use Rattle.ffv1_splice.specs.Pieces.{HasContent}
+use Rattle.ffv1_splice.specs.Splice.{IsClaimedEnd, IsNextClaimed}
+use Rattle.ffv1_splice.specs.Told.{Told, Tells, TellsBoth}
+use Rattle.ffv1_splice.proofs.ToldSteps.{alone, tells_both}
+use Rattle.ffv1_splice.proofs.ShortestSteps.{cut_is_short}
+
+-- ---- one copy
+
+-- the next end is not claimed either
+pub none_further : (copy : List ℕ) (from place : ℕ) → ((end : ℕ) → from < end → end ≤ place → IsCut copy 0 end → ⊥) → (IsCut copy 0 (place + 1) → ⊥)
+    → (end : ℕ) → from < end → end ≤ place + 1 → IsCut copy 0 end → ⊥
+none_further copy from place none uncut end after within cut =
+    elim (cases_lt place end) [
+      | inl beyond ↦ let last : end ≡ place + 1 = omega arith in uncut (subst (IsCut copy 0) last cut)
+      | inr up ↦ none end after up cut
+    ]
+
+module _ (copy : List ℕ) (reach : ℕ) where
+  pub claimed_of_cut : (end : ℕ) → IsCut copy 0 end → 8 < end → end ≤ reach → IsClaimedEnd (copy ∷ []) reach end
+  claimed_of_cut end cut content within =
+      record { told = record { copy = copy; there = (0, omega arith, refl); cut = cut; content = omega arith }; within = within }
+
+  pub cut_of_claimed : (end : ℕ) → IsClaimedEnd (copy ∷ []) reach end → IsCut copy 0 end
+  cut_of_claimed end h = subst (λ c. IsCut c 0 end) (alone copy h.told.copy h.told.there) h.told.cut
+
+  -- where no end up to a place is claimed, and the search went as far as one can be, none is
+  pub none_claimed : (from place : ℕ) → AreBytes copy → ((end : ℕ) → from < end → end ≤ place → IsCut copy 0 end → ⊥)
+      → ((end : ℕ) → place < end → end ≤ reach → end ≤ slice_limit → ⊥) → (end : ℕ) → from < end → IsClaimedEnd (copy ∷ []) reach end → ⊥
+  none_claimed from place small none far end after h =
+      let cut = cut_of_claimed end h in
+      let short = cut_is_short copy 0 end small cut in
+      none end after (elim (cases_lt place end) [ inl beyond ↦ absurd (far end beyond h.within (omega arith)) | inr up ↦ up ]) cut
+
+  -- the first of them
+  pub next_claimed : (from end : ℕ) → ((other : ℕ) → from < other → other < end → IsCut copy 0 other → ⊥) → IsCut copy 0 end → 8 < end → from < end
+      → end ≤ reach → IsNextClaimed copy from reach end
+  next_claimed from end none cut content after within =
+      record {
+        claimed = claimed_of_cut end cut content within;
+        after = after;
+        first = λ other past h. elim (cases_lt other end) [ inl earlier ↦ absurd (none other past earlier (cut_of_claimed other h)) | inr later ↦ later ];
+      }
+
+  claimed_after_footer : (end : ℕ) → IsClaimedEnd (copy ∷ []) reach end → 8 < end
+  claimed_after_footer end h = let content : HasContent 0 end = h.told.content in omega arith
+
+  pub no_claimed : ((end : ℕ) → 8 < end → IsClaimedEnd (copy ∷ []) reach end → ⊥) → IsOfNone (IsClaimedEnd (copy ∷ []) reach)
+  no_claimed none end h = none end (claimed_after_footer end h) h
+
+  -- the first, with none after it, is the only one
+  pub only_claimed : (first : ℕ) → IsNextClaimed copy 8 reach first → ((end : ℕ) → first < end → IsClaimedEnd (copy ∷ []) reach end → ⊥)
+      → IsOnly (IsClaimedEnd (copy ∷ []) reach) first
+  only_claimed first next none =
+      record {
+        there = next.claimed;
+        others = λ other h. elim (cases_lt first other) [
+          | inl beyond ↦ absurd (none other beyond h)
+          | inr up ↦ let least = next.first other (claimed_after_footer other h) h in omega arith
+        ];
+      }
+
+-- ---- one copy more
+
+module _ (copies : List (List ℕ)) (copy : List ℕ) (reach : ℕ) where
+  claimed_left : (end : ℕ) → IsClaimedEnd copies reach end → IsClaimedEnd (copies ++ copy ∷ []) reach end
+  claimed_left end h =
+      record {
+        told = record { copy = h.told.copy; there = Contains-append_left copies (copy ∷ []) h.told.copy h.told.there; cut = h.told.cut; content = h.told.content };
+        within = h.within;
+      }
+
+  claimed_right : (end : ℕ) → IsClaimedEnd (copy ∷ []) reach end → IsClaimedEnd (copies ++ copy ∷ []) reach end
+  claimed_right end h =
+      record {
+        told = record { copy = h.told.copy; there = Contains-append_right copies (copy ∷ []) h.told.copy h.told.there; cut = h.told.cut; content = h.told.content };
+        within = h.within;
+      }
+
+  claimed_cases : (end : ℕ) → IsClaimedEnd (copies ++ copy ∷ []) reach end → IsClaimedEnd copies reach end ⊎ IsClaimedEnd (copy ∷ []) reach end
+  claimed_cases end h =
+      elim (Contains-append_cases copies (copy ∷ []) h.told.copy h.told.there) [
+        | inl there ↦ inl (record { told = record { copy = h.told.copy; there = there; cut = h.told.cut; content = h.told.content }; within = h.within })
+        | inr there ↦ inr (record { told = record { copy = h.told.copy; there = there; cut = h.told.cut; content = h.told.content }; within = h.within })
+      ]
+
+  pub ends_joined : (told others after : Told ℕ) → TellsBoth told others after → Tells (IsClaimedEnd copies reach) told
+      → Tells (IsClaimedEnd (copy ∷ []) reach) others → Tells (IsClaimedEnd (copies ++ copy ∷ []) reach) after
+  ends_joined told others after both =
+      tells_both (IsClaimedEnd copies reach) (IsClaimedEnd (copy ∷ []) reach) (IsClaimedEnd (copies ++ copy ∷ []) reach) told others after
+      claimed_left claimed_right claimed_cases both
+
+-- two ends that some of the copies claim
+pub two_of_first : (copies : List (List ℕ)) (count reach : ℕ) → IsOfTwo (IsClaimedEnd (take count copies) reach) → IsOfTwo (IsClaimedEnd copies reach)
+two_of_first copies count reach two =
+    record {
+      one = two.one;
+      other = two.other;
+      one_there = on two.one two.one_there;
+      other_there = on two.other two.other_there;
+      differ = two.differ;
+    }
+  where
+    on : (end : ℕ) → IsClaimedEnd (take count copies) reach end → IsClaimedEnd copies reach end
+    on end h =
+        record {
+          told = record {
+            copy = h.told.copy;
+            there = subst (λ z. Contains z h.told.copy) (take-append-drop count copies)
+                (Contains-append_left (take count copies) (drop count copies) h.told.copy h.told.there);
+            cut = h.told.cut;
+            content = h.told.content;
+          };
+          within = h.within;
+        }

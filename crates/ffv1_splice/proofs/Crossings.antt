@@ -1,0 +1,290 @@
+-- The walk over slices that are lost in all copies: where its places lie, and one more of them.
+use Rattle.std.proofs.Common.{◌≡◌, ℕ, suc, ◌+◌, ◌-◌, ◌<◌, ◌≤◌, true, false, List, [], ◌∷◌, ◌++◌, Bor, Option, Some, None, length, take, drop, refl, sym, ap, ◌∙◌, subst, arith}
+use Rattle.std.specs.Prelude.{◌⊎◌, All, MatchOption, slice_range}
+use Rattle.std.specs.Option.{is_some}
+use Rattle.std.proofs.Math.Seq.{drop-append_seam}
+use Rattle.std.specs.List.{flat_map}
+use Rattle.std.proofs.lemmas.Grind.{flat_map-append}
+use Rattle.std.proofs.lemmas.List.{append_assoc, append-nil, length-append, length-take-le, take-append-le}
+use Rattle.std.proofs.lemmas.List.Elements.{All-nil, All-cons, All-append, All-weaker}
+use Rattle.ffv1_slice.specs.Members.{IsOnly, IsOfNone}
+use Rattle.ffv1_splice.specs.Pieces.{HasContent, IsPiece, IsToldStart, PieceFrom, IsPieceFrom, IsShortest}
+use Rattle.ffv1_splice.specs.Told.{Tells, pieces_told, starts_told}
+use Rattle.ffv1_splice.specs.declared.told.Pieces.{Pieces}
+use Rattle.ffv1_splice.specs.declared.told.Pieces.TheVariants as pieces
+use Rattle.ffv1_splice.specs.declared.told.Starts.{Starts}
+use Rattle.ffv1_splice.specs.declared.told.Starts.TheVariants as starts
+use Rattle.ffv1_splice.specs.Placing.{IsPlaced}
+use Rattle.ffv1_splice.specs.Standings.{versions_at, StandsAs}
+use Rattle.ffv1_splice.specs.Splice.{RiseFrom, IsSettledUp, IsWalkUp, IsClaimedEnd, IsLostUpTo, IsCrossed, Leg, AreLegs, IsWalkAcross, leg_places}
+use Rattle.ffv1_splice.specs.declared.place.Standing.{Standing}
+use Rattle.ffv1_splice.specs.declared.place.Standing.TheVariants.{Settled}
+use Rattle.ffv1_splice.specs.declared.place.Place.{Place}
+use Rattle.ffv1_splice.specs.declared.crossing.TheConstants.{MOST_CROSSED}
+use Rattle.ffv1_splice.proofs.Narrowed.{piece_in}
+use Rattle.ffv1_splice.proofs.PlaceSteps.{untold}
+use Rattle.ffv1_splice.proofs.PlaceLists.{start_below}
+use Rattle.ffv1_splice.proofs.SettlingSteps.{range_before, take_earlier, here_written, up_upright, up_kept}
+use Rattle.ffv1_splice.proofs.SpliceSteps.{length-written}
+
+-- ---- lists
+
+pub rise_append : (start middle top : ℕ) (places others : List Place) → RiseFrom start places middle → RiseFrom middle others top
+    → RiseFrom start (places ++ others) top
+rise_append start middle top [] others rise more = subst (λ n. RiseFrom n others top) (sym rise) more
+rise_append start middle top (place ∷ places) others rise more = (rise.0, rise_append place.end middle top places others rise.1 more)
+
+leg_places-append : (legs : List Leg) (leg : Leg) → leg_places (legs ++ leg ∷ []) ≡ leg_places legs ++ (leg.over ∷ leg.settled)
+leg_places-append legs leg =
+    flat_map-append (λ (leg : Leg). leg.over ∷ leg.settled) legs (leg ∷ [])
+    ∙ ap (λ z. leg_places legs ++ z) (append-nil (leg.over ∷ leg.settled))
+
+-- ---- a lost slice
+
+module _ (copies : List (List ℕ)) (reach : ℕ) where
+  -- what is found of the slice with which the copies begin
+  abbrev pub IsFirst : Option (Bor (List ℕ)) → Type 0
+  IsFirst first = MatchOption first (IsOfNone (IsPieceFrom copies reach 0))
+      (λ bytes. IsShortest copies reach 0 (record { end = 0 + length bytes.now; bytes = bytes.now }))
+
+  -- where a piece begins with the copies, no slice there is lost
+  pub lost_begun : (first : Option (Bor (List ℕ))) → is_some first ≡ true → IsFirst first → (end : ℕ) → IsLostUpTo copies reach end → ⊥
+  lost_begun None some h end lost = absurd (cc)
+  lost_begun (Some bytes) some h end lost = lost.lost _ h.there
+
+  pub not_begun : (first : Option (Bor (List ℕ))) → is_some first ≡ false → IsFirst first → IsOfNone (IsPieceFrom copies reach 0)
+  not_begun None some h = h
+  not_begun (Some bytes) some h = absurd (cc)
+
+  pub lost_where_claimed : (told : Starts) → Tells (IsClaimedEnd copies reach) (starts_told told) → ((end : ℕ) → told ≡ starts.One end → ⊥)
+      → (end : ℕ) → IsLostUpTo copies reach end → ⊥
+  lost_where_claimed told are none end lost = untold (IsClaimedEnd copies reach) told are none end lost.end'
+
+  module _ (claimed : ℕ) (only : IsOnly (IsClaimedEnd copies reach) claimed) where
+    lost_there : (end : ℕ) → IsLostUpTo copies reach end → IsLostUpTo copies reach claimed
+    lost_there end lost = subst (IsLostUpTo copies reach) (only.others end lost.end'.there) lost
+
+    pub lost_where_no_piece : (told : Pieces) → Tells (IsPiece copies claimed) (pieces_told told) → (told ≡ pieces.None → ⊥)
+        → (end : ℕ) → IsLostUpTo copies reach end → ⊥
+    lost_where_no_piece pieces.None are some end lost = some refl
+    lost_where_no_piece (pieces.One start bytes) are some end lost = (lost_there end lost).none _ are.there
+    lost_where_no_piece pieces.Two are some end lost = (lost_there end lost).none _ are.one_there
+
+    pub lost_where_told : (told : Starts) → Tells (IsToldStart copies claimed) (starts_told told) → ((start : ℕ) → told ≡ starts.One start → ⊥)
+        → (end : ℕ) → IsLostUpTo copies reach end → ⊥
+    lost_where_told told are none end lost = untold (IsToldStart copies claimed) told are none 0 (lost_there end lost).start
+
+    pub lost_where_borne_out : IsOfNone (IsPieceFrom copies reach claimed) → (end : ℕ) → IsLostUpTo copies reach end → ⊥
+    lost_where_borne_out none end lost = let next = (lost_there end lost).next in none next.0 next.1
+
+    pub is_lost : (start : ℕ) (piece : PieceFrom) → IsOfNone (IsPieceFrom copies reach 0) → IsOnly (IsToldStart copies claimed) start
+        → IsOfNone (IsPiece copies claimed) → IsShortest copies reach claimed piece → IsLostUpTo copies reach claimed
+    is_lost start piece lost told none next =
+        let first : start ≡ 0 = sym (told.others 0 only.there.told) in
+        record {
+          lost = lost;
+          end' = only;
+          start = subst (IsOnly (IsToldStart copies claimed)) first told;
+          none = none;
+          next = (piece, next.there);
+        }
+
+pub lost_content : (copies : List (List ℕ)) (reach end : ℕ) → IsLostUpTo copies reach end → 8 < end
+lost_content copies reach end h = let content : HasContent 0 end = h.end'.there.told.content in omega arith
+
+module _ (copies : List (List ℕ)) (bound : ℕ) where
+  pub crossed_rising : (payload : List ℕ) (place : Place) → IsCrossed copies bound payload place → place.start < place.end
+  crossed_rising payload place h =
+      let content = lost_content (versions_at copies place.start bound) (bound - place.start) h.size h.lost in
+      let ends = h.ends in
+      omega arith
+
+  pub crossed_within : (payload : List ℕ) (place : Place) → IsCrossed copies bound payload place → place.end ≤ bound
+  crossed_within payload place h =
+      let content = lost_content (versions_at copies place.start bound) (bound - place.start) h.size h.lost in
+      let within = h.lost.end'.there.within in
+      let ends = h.ends in
+      omega arith
+
+  -- no piece ends there, so it is not settled
+  pub crossed_unsettled : (payload : List ℕ) (place : Place) → IsCrossed copies bound payload place → place.standing ≡ Settled → ⊥
+  crossed_unsettled payload place h settled =
+      let bytes : List ℕ = slice_range payload place.start place.end in
+      let stands : StandsAs (versions_at copies place.start bound) 0 h.size bytes Settled =
+      subst (StandsAs (versions_at copies place.start bound) 0 h.size bytes) settled h.stands in
+      h.lost.none (record { start = 0; bytes = bytes }) stands.there
+
+  pub crossed_no_piece : (payload : List ℕ) (place : Place) → IsCrossed copies bound payload place → (bytes : List ℕ)
+      → IsPiece copies place.end (record { start = place.start; bytes = bytes }) → ⊥
+  crossed_no_piece payload place h bytes piece =
+      let within = crossed_within payload place h in
+      let ends = h.ends in
+      let here : place.start ≡ place.start + 0 = omega arith in
+      h.lost.none (record { start = 0; bytes = bytes })
+      (piece_in place.start bound copies h.size (record { start = 0; bytes = bytes }) (omega arith)
+      (subst (λ s. IsPiece copies (place.start + h.size) (record { start = s; bytes = bytes })) here
+      (subst (λ e. IsPiece copies e (record { start = place.start; bytes = bytes })) ends piece)))
+
+  crossed_kept : (a b : List ℕ) (place : Place) → slice_range a place.start place.end ≡ slice_range b place.start place.end
+      → IsCrossed copies bound a place → IsCrossed copies bound b place
+  crossed_kept a b place same h =
+      record {
+        size = h.size;
+        ends = h.ends;
+        lost = h.lost;
+        stands = subst (λ bytes. StandsAs (versions_at copies place.start bound) 0 h.size bytes place.standing) same h.stands;
+      }
+
+  pub walk_kept : (a b : List ℕ) (from : ℕ) (places : List Place) (top : ℕ) → take top a ≡ take top b → IsWalkUp copies bound a from places top
+      → IsWalkUp copies bound b from places top
+  walk_kept a b from places top same h =
+      record { rise = h.rise; settled = up_kept copies bound a b places from top h.rise h.settled same; stop = h.stop }
+
+  walk_order : (payload : List ℕ) (from : ℕ) (places : List Place) (top : ℕ) → IsWalkUp copies bound payload from places top → from ≤ top
+  walk_order payload from places top h = start_below from places top h.rise (up_upright copies bound payload places h.settled)
+
+  -- ---- legs
+
+  -- what is so of each place over a lost slice, and of each settled place, is so of all
+  pub all_legs : (P : Place → Type 0) (payload : List ℕ) → ((place : Place) → IsCrossed copies bound payload place → P place)
+      → ((place : Place) → IsSettledUp copies bound payload place → P place) → (start : ℕ) (legs : List Leg) (top : ℕ)
+      → AreLegs copies bound payload start legs top → All P (leg_places legs)
+  all_legs P payload crossed settled start [] top are = All-nil P
+  all_legs P payload crossed settled start (leg ∷ legs) top are =
+      All-append P (leg.over ∷ leg.settled) (leg_places legs)
+      (All-cons P leg.over leg.settled (crossed leg.over are.1)
+      (All-weaker (IsSettledUp copies bound payload) P settled leg.settled are.3.settled))
+      (all_legs P payload crossed settled are.2 legs top are.4)
+
+  pub legs_rise : (payload : List ℕ) (start : ℕ) (legs : List Leg) (top : ℕ) → AreLegs copies bound payload start legs top
+      → RiseFrom start (leg_places legs) top
+  legs_rise payload start [] top are = are
+  legs_rise payload start (leg ∷ legs) top are =
+      (are.0, rise_append leg.over.end are.2 top leg.settled (leg_places legs) are.3.rise (legs_rise payload are.2 legs top are.4))
+
+  pub legs_order : (payload : List ℕ) (start : ℕ) (legs : List Leg) (top : ℕ) → AreLegs copies bound payload start legs top → start ≤ top
+  legs_order payload start [] top are = omega (arith, are)
+  legs_order payload start (leg ∷ legs) top are =
+      let starts = are.0 in
+      let rises = crossed_rising payload leg.over are.1 in
+      let on = walk_order payload leg.over.end leg.settled are.2 are.3 in
+      let rest = legs_order payload are.2 legs top are.4 in
+      omega arith
+
+  pub legs_kept : (a b : List ℕ) (start : ℕ) (legs : List Leg) (top : ℕ) → take top a ≡ take top b → AreLegs copies bound a start legs top
+      → AreLegs copies bound b start legs top
+  legs_kept a b start [] top same are = are
+  legs_kept a b start (leg ∷ legs) top same are =
+      let on = walk_order a leg.over.end leg.settled are.2 are.3 in
+      let rest = legs_order a are.2 legs top are.4 in (
+        are.0,
+        crossed_kept a b leg.over (range_before a b top leg.over.start leg.over.end (omega arith) same) are.1,
+        are.2,
+        walk_kept a b leg.over.end leg.settled are.2 (take_earlier a b are.2 top rest same) are.3,
+        legs_kept a b are.2 legs top same are.4,
+      )
+
+  legs_more : (payload : List ℕ) (start : ℕ) (legs : List Leg) (middle : ℕ) (leg : Leg) (top : ℕ) → AreLegs copies bound payload start legs middle
+      → leg.over.start ≡ middle → IsCrossed copies bound payload leg.over → IsWalkUp copies bound payload leg.over.end leg.settled top
+      → AreLegs copies bound payload start (legs ++ leg ∷ []) top
+  legs_more payload start [] middle leg top are starts crossed walk = (starts ∙ sym are, crossed, top, walk, refl)
+  legs_more payload start (first ∷ legs) middle leg top are starts crossed walk =
+      (are.0, are.1, are.2, are.3, legs_more payload are.2 legs middle leg top are.4 starts crossed walk)
+
+-- A slice that is lost, and what is woven there written over the bytes from its start on.
+pub crossed_place : (copies versions : List (List ℕ)) (start bound size : ℕ) (payload old new after : List ℕ) (standing : Standing)
+    → versions ≡ versions_at copies start bound → start ≤ length payload → size ≤ length old → IsLostUpTo (versions_at copies start bound) (bound - start) size
+    → IsPlaced versions size old new (record { start = 0; end = size; standing = standing })
+    → IsCrossed copies bound (take start payload ++ (new ++ after)) (record { start = start; end = start + size; standing = standing })
+crossed_place copies versions start bound size payload old new after standing are within room lost placed =
+    let bytes : List ℕ = placed.bytes in
+    let front : length (take start payload) ≡ start = length-take-le start payload within in
+    let long : start + size - start ≡ size = omega arith in
+    let kept : length new ≡ length old = ap length placed.written' ∙ length-written old 0 bytes (omega (arith, placed.size)) in
+    let first : take (size - 0) new ≡ bytes =
+    ap (λ z. slice_range z 0 size) placed.written' ∙ here_written old 0 size bytes placed.size room in
+    let none : size - 0 ≡ size = omega arith in
+    let here : slice_range (take start payload ++ (new ++ after)) start (start + size) ≡ bytes =
+    ap (λ n. take n (drop start (take start payload ++ (new ++ after)))) long
+    ∙ ap (λ n. take size (drop n (take start payload ++ (new ++ after)))) (sym front)
+    ∙ ap (take size) (drop-append_seam (take start payload) (new ++ after))
+    ∙ take-append-le size new after (omega arith) ∙ ap (λ n. take n new) (sym none) ∙ first in
+    record {
+      size = size;
+      ends = refl;
+      lost = lost;
+      stands = subst (λ z. StandsAs (versions_at copies start bound) 0 size z standing) (sym here)
+          (subst (λ vs. StandsAs vs 0 size bytes standing) are placed.stands);
+    }
+
+-- ---- the walk so far
+
+-- places up to a start, over so many lost slices
+pub record IsWalkSoFar (copies : List (List ℕ)) (bound : ℕ) (payload : List ℕ) (places : List Place) (start crossed : ℕ) : Type 0 where
+  pub below : List Place
+  pub legs : List Leg
+  pub floor : ℕ
+  pub are_places : places ≡ below ++ leg_places legs
+  pub up : IsWalkUp copies bound payload 0 below floor
+  pub are : AreLegs copies bound payload floor legs start
+  pub count : length legs ≡ crossed
+
+module _ (copies : List (List ℕ)) (bound : ℕ) where
+  pub walk_first : (payload : List ℕ) (places : List Place) (start : ℕ) → IsWalkUp copies bound payload 0 places start
+      → IsWalkSoFar copies bound payload places start 0
+  walk_first payload places start up =
+      record { below = places; legs = []; floor = start; are_places = sym (append-nil places); up = up; are = refl; count = refl }
+
+  -- it stays so where the bytes before its start stay
+  pub so_far_kept : (a b : List ℕ) (places : List Place) (start crossed : ℕ) → take start a ≡ take start b
+      → IsWalkSoFar copies bound a places start crossed → IsWalkSoFar copies bound b places start crossed
+  so_far_kept a b places start crossed same h =
+      record {
+        below = h.below;
+        legs = h.legs;
+        floor = h.floor;
+        are_places = h.are_places;
+        up = walk_kept copies bound a b 0 h.below h.floor (take_earlier a b h.floor start (legs_order copies bound a h.floor h.legs start h.are) same) h.up;
+        are = legs_kept copies bound a b h.floor h.legs start same h.are;
+        count = h.count;
+      }
+
+  -- one more lost slice, and what is settled after it
+  pub walk_more : (a b c : List ℕ) (places : List Place) (start crossed : ℕ) (leg : Leg) (top : ℕ) → IsWalkSoFar copies bound a places start crossed
+      → leg.over.start ≡ start → IsCrossed copies bound b leg.over → take start b ≡ take start a → take leg.over.end c ≡ take leg.over.end b
+      → IsWalkUp copies bound c leg.over.end leg.settled top
+      → IsWalkSoFar copies bound c (places ++ (leg.over ∷ leg.settled)) top (crossed + 1)
+  walk_more a b c places start crossed leg top far starts over first second walk =
+      let rises = crossed_rising copies bound b leg.over over in
+      let same : take start a ≡ take start c = sym (take_earlier c b start leg.over.end (omega arith) second ∙ first) in
+      let h = so_far_kept a c places start crossed same far in
+      record {
+        below = h.below;
+        legs = h.legs ++ leg ∷ [];
+        floor = h.floor;
+        are_places = ap (λ z. z ++ (leg.over ∷ leg.settled)) h.are_places ∙ append_assoc h.below (leg_places h.legs) (leg.over ∷ leg.settled)
+            ∙ ap (λ z. h.below ++ z) (sym (leg_places-append h.legs leg));
+        up = h.up;
+        are = legs_more copies bound c h.floor h.legs start leg top h.are starts
+            (crossed_kept copies bound b c leg.over (range_before b c leg.over.end leg.over.start leg.over.end (omega arith) (sym second)) over) walk;
+        count = length-append h.legs (leg ∷ []) ∙ ap (λ n. n + 1) h.count;
+      }
+
+  -- the walk where it stops
+  pub walk_stopped : (payload : List ℕ) (places : List Place) (start crossed : ℕ) → IsWalkSoFar copies bound payload places start crossed
+      → crossed ≤ MOST_CROSSED
+      → (crossed ≡ MOST_CROSSED) ⊎ ((end : ℕ) → IsLostUpTo (versions_at copies start bound) (bound - start) end → ⊥)
+      → (below : List Place) × (legs : List Leg) × (floor : ℕ) × (places ≡ below ++ leg_places legs) × IsWalkUp copies bound payload 0 below floor
+      × IsWalkAcross copies bound payload floor legs start
+  walk_stopped payload places start crossed h few stop = (
+    h.below,
+    h.legs,
+    h.floor,
+    h.are_places,
+    h.up,
+    record {
+      are = h.are;
+      few = omega (arith, h.count);
+      stop = subst (λ n. (n ≡ MOST_CROSSED) ⊎ ((end : ℕ) → IsLostUpTo (versions_at copies start bound) (bound - start) end → ⊥)) (sym h.count) stop;
+    },
+  )

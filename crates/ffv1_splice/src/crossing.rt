@@ -1,0 +1,148 @@
+//! The walk of a splice up from its start: places are settled, and where that stops, the walk goes on over slices that are lost in all copies.
+ghost use Rattle.std.specs.Prelude.{◌≡◌, ◌+◌, ◌-◌, ◌++◌, ◌<◌, ◌≤◌, ℕ, List, [], ◌∷◌, length, map, take, All, IfOk, MatchOption};
+ghost use Rattle.ffv1_slice.specs.Chain.{IsCut};
+ghost use Rattle.ffv1_splice.specs.Standings.{versions_at};
+ghost use Rattle.ffv1_splice.specs.Told.{Tells, starts_told};
+ghost use Rattle.ffv1_splice.specs.Splice.{IsWalkUp, IsWalkAcross, IsCrossed, IsClaimedEnd, IsNextClaimed, IsLostUpTo, Leg, leg_places};
+ghost use Rattle.ffv1_splice.specs.declared.place.Place.{Place};
+
+use crate::place::Place;
+use crate::placing::{versions_at, weave_at};
+use crate::settling::settle_up;
+use crate::shortest::first_from;
+use crate::told::{Pieces, Starts, told_at};
+use ffv1_bits::SLICE_LIMIT;
+use ffv1_slice::{FOOTER_LENGTH, slice_start};
+use std::alloc::{AllocError, Global};
+
+/// Over so many slices that are lost in all copies the walk goes at most: for each of them the copies are searched once for its end.
+const MOST_CROSSED: usize = 64;
+
+/// Walks up from the payload's start, and writes each place over the payload's bytes. The places from the start on, and the start at which
+/// that stops. Each copy has the payload's places, and there is one at least.
+pub(crate) fn walk_up(
+    alloc: Global,
+    copies: &[&[u8]],
+    payload: &mut [u8],
+) -> Result<(Vec<Place>, usize), AllocError>
+    requires some { 0 < length copies.now }
+    requires long { All (λ copy. length payload.old ≤ length copy.now) copies.now }
+    ensures walk { IfOk result (λ walk. (below : List Place) × (legs : List Leg) × (floor : ℕ)
+        × (walk.0.items ≡ below ++ leg_places legs)
+        × IsWalkUp (map (λ copy. copy.now) copies.now) (length payload.old) payload.new 0 below floor
+        × IsWalkAcross (map (λ copy. copy.now) copies.now) (length payload.old) payload.new floor legs walk.1) }
+    ensures within { IfOk result (λ walk. walk.1 ≤ length payload.new) }
+    ensures long { IfOk result (λ _. length payload.new ≡ length payload.old) }
+{
+    let mut places = Vec::new(alloc);
+    let mut start = settle_up(copies, 0, payload, &mut places)?;
+    for _ in 0..MOST_CROSSED {
+        let Some(place) = place_across(alloc, copies, start, payload)? else {
+            return Ok((places, start));
+        };
+        places.push(place)?;
+        start = settle_up(copies, place.end, payload, &mut places)?;
+    }
+    Ok((places, start))
+}
+
+/// The place over a slice that begins there and is lost in all copies, written over the payload's bytes, if there is one. Each copy has the
+/// payload's places, and there is one at least.
+fn place_across(
+    alloc: Global,
+    copies: &[&[u8]],
+    start: usize,
+    payload: &mut [u8],
+) -> Result<Option<Place>, AllocError>
+    requires some { 0 < length copies.now }
+    requires long { All (λ copy. length payload.old ≤ length copy.now) copies.now }
+    requires within { start ≤ length payload.old }
+    ensures across { IfOk result (λ found. MatchOption found
+        ((end : ℕ) → IsLostUpTo (versions_at (map (λ copy. copy.now) copies.now) start (length payload.old)) (length payload.old - start) end → ⊥)
+        (λ place. (place.start ≡ start) × IsCrossed (map (λ copy. copy.now) copies.now) (length payload.old) payload.new place)) }
+    ensures long { IfOk result (λ _. length payload.new ≡ length payload.old) }
+    ensures before { IfOk result (λ _. take start payload.new ≡ take start payload.old) }
+{
+    let reach = payload.len() - start;
+    let versions = versions_at(alloc, copies, start, payload.len())?;
+    let Some(size) = lost_up_to(versions.as_slice(), reach) else {
+        return Ok(None);
+    };
+    let standing = weave_at(alloc, versions.as_slice(), 0, size, &mut payload[start..])?;
+    let end = start + size;
+    Ok(Some(Place {
+        start,
+        end,
+        standing,
+    }))
+}
+
+/// Where the slice ends with which the copies begin, if it is lost in all of them.
+fn lost_up_to(copies: &[&[u8]], reach: usize) -> Option<usize>
+    requires { All (λ copy. reach ≤ length copy.now) copies.now }
+    ensures { MatchOption result ((end : ℕ) → IsLostUpTo (map (λ copy. copy.now) copies.now) reach end → ⊥)
+        (IsLostUpTo (map (λ copy. copy.now) copies.now) reach) }
+{
+    if first_from(copies, 0, reach).is_some() {
+        return None;
+    }
+    let Starts::One(end) = claimed_ends(copies, reach) else {
+        return None;
+    };
+    let (pieces, starts) = told_at(copies, end);
+    let Pieces::None = pieces else {
+        return None;
+    };
+    let Starts::One(_) = starts else {
+        return None;
+    };
+    match first_from(copies, end, reach) {
+        Some(_) => Some(end),
+        None => None,
+    }
+}
+
+/// The ends up to a reach at which copies claim that the slice ends with which they begin. Each copy has the reach.
+fn claimed_ends(copies: &[&[u8]], reach: usize) -> Starts
+    requires { All (λ copy. reach ≤ length copy.now) copies.now }
+    ensures { Tells (IsClaimedEnd (map (λ copy. copy.now) copies.now) reach) (starts_told result) }
+{
+    let mut ends = Starts::None;
+    for copy in copies {
+        ends = ends.joined(claimed_by(copy, reach));
+        if let Starts::Two = ends {
+            return Starts::Two;
+        }
+    }
+    ends
+}
+
+/// The ends up to a reach that one copy claims.
+fn claimed_by(copy: &[u8], reach: usize) -> Starts
+    requires { reach ≤ length copy.now }
+    ensures { Tells (IsClaimedEnd (copy.now ∷ []) reach) (starts_told result) }
+{
+    let Some(first) = next_claimed(copy, FOOTER_LENGTH, reach) else {
+        return Starts::None;
+    };
+    match next_claimed(copy, first, reach) {
+        Some(_) => Starts::Two,
+        None => Starts::One(first),
+    }
+}
+
+/// The first end after a place, and up to a reach, that a copy claims. Each end is looked at once, up to the most bytes that a slice can
+/// have.
+fn next_claimed(copy: &[u8], from: usize, reach: usize) -> Option<usize>
+    requires room { reach ≤ length copy.now }
+    requires content { 8 ≤ from }
+    ensures { MatchOption result ((end : ℕ) → from < end → IsClaimedEnd (copy.now ∷ []) reach end → ⊥) (IsNextClaimed copy.now from reach) }
+{
+    let last = reach.min(SLICE_LIMIT as usize);
+    for end in from..last {
+        if slice_start(copy, end + 1) == Some(0) {
+            return Some(end + 1);
+        }
+    }
+    None
+}
