@@ -1,14 +1,12 @@
 -- The walk over slices that are lost in all copies: where its places lie, and one more of them.
-use Rattle.std.proofs.Common.{◌≡◌, ℕ, suc, ◌+◌, ◌-◌, ◌<◌, ◌≤◌, true, false, List, [], ◌∷◌, ◌++◌, Bor, Option, Some, None, length, take, drop, refl, sym, ap, ◌∙◌, subst, arith}
-use Rattle.std.specs.Prelude.{◌⊎◌, All, MatchOption, slice_range}
-use Rattle.std.specs.Option.{is_some}
+use Rattle.std.proofs.Common.{◌≡◌, ℕ, ◌+◌, ◌-◌, ◌<◌, ◌≤◌, List, [], ◌∷◌, ◌++◌, length, take, drop, refl, sym, ap, ◌∙◌, subst, arith}
+use Rattle.std.specs.Prelude.{◌⊎◌, All, slice_range}
 use Rattle.std.proofs.Math.Seq.{drop-append_seam}
-use Rattle.std.specs.List.{flat_map}
 use Rattle.std.proofs.lemmas.Grind.{flat_map-append}
 use Rattle.std.proofs.lemmas.List.{append_assoc, append-nil, length-append, length-take-le, take-append-le}
 use Rattle.std.proofs.lemmas.List.Elements.{All-nil, All-cons, All-append, All-weaker}
 use Rattle.ffv1_slice.specs.Members.{IsOnly, IsOfNone}
-use Rattle.ffv1_splice.specs.Pieces.{HasContent, IsPiece, IsToldStart, PieceFrom, IsPieceFrom, IsShortest}
+use Rattle.ffv1_splice.specs.Pieces.{HasContent, IsPiece, IsClaimedStart, PieceFrom, IsPieceFrom, IsShortest}
 use Rattle.ffv1_splice.specs.Told.{Tells, pieces_told, starts_told}
 use Rattle.ffv1_splice.specs.declared.told.Pieces.{Pieces}
 use Rattle.ffv1_splice.specs.declared.told.Pieces.TheVariants as pieces
@@ -42,20 +40,6 @@ leg_places-append legs leg =
 -- ---- a lost slice
 
 module _ (copies : List (List ℕ)) (reach : ℕ) where
-  -- what is found of the slice with which the copies begin
-  abbrev pub IsFirst : Option (Bor (List ℕ)) → Type 0
-  IsFirst first = MatchOption first (IsOfNone (IsPieceFrom copies reach 0))
-      (λ bytes. IsShortest copies reach 0 (record { end = 0 + length bytes.now; bytes = bytes.now }))
-
-  -- where a piece begins with the copies, no slice there is lost
-  pub lost_begun : (first : Option (Bor (List ℕ))) → is_some first ≡ true → IsFirst first → (end : ℕ) → IsLostUpTo copies reach end → ⊥
-  lost_begun None some h end lost = absurd (cc)
-  lost_begun (Some bytes) some h end lost = lost.lost _ h.there
-
-  pub not_begun : (first : Option (Bor (List ℕ))) → is_some first ≡ false → IsFirst first → IsOfNone (IsPieceFrom copies reach 0)
-  not_begun None some h = h
-  not_begun (Some bytes) some h = absurd (cc)
-
   pub lost_where_claimed : (told : Starts) → Tells (IsClaimedEnd copies reach) (starts_told told) → ((end : ℕ) → told ≡ starts.One end → ⊥)
       → (end : ℕ) → IsLostUpTo copies reach end → ⊥
   lost_where_claimed told are none end lost = untold (IsClaimedEnd copies reach) told are none end lost.end'
@@ -70,21 +54,29 @@ module _ (copies : List (List ℕ)) (reach : ℕ) where
     lost_where_no_piece (pieces.One start bytes) are some end lost = (lost_there end lost).none _ are.there
     lost_where_no_piece pieces.Two are some end lost = (lost_there end lost).none _ are.one_there
 
-    pub lost_where_told : (told : Starts) → Tells (IsToldStart copies claimed) (starts_told told) → ((start : ℕ) → told ≡ starts.One start → ⊥)
+    pub lost_where_told : (told : Starts) → Tells (IsClaimedStart copies claimed) (starts_told told) → ((start : ℕ) → told ≡ starts.One start → ⊥)
         → (end : ℕ) → IsLostUpTo copies reach end → ⊥
-    lost_where_told told are none end lost = untold (IsToldStart copies claimed) told are none 0 (lost_there end lost).start
+    lost_where_told told are none end lost = untold (IsClaimedStart copies claimed) told are none 0 (lost_there end lost).start
 
     pub lost_where_borne_out : IsOfNone (IsPieceFrom copies reach claimed) → (end : ℕ) → IsLostUpTo copies reach end → ⊥
     lost_where_borne_out none end lost = let next = (lost_there end lost).next in none next.0 next.1
 
-    pub is_lost : (start : ℕ) (piece : PieceFrom) → IsOfNone (IsPieceFrom copies reach 0) → IsOnly (IsToldStart copies claimed) start
-        → IsOfNone (IsPiece copies claimed) → IsShortest copies reach claimed piece → IsLostUpTo copies reach claimed
-    is_lost start piece lost told none next =
+    -- a piece that begins with the copies would end at the end that is claimed
+    none_begins : IsOfNone (IsPiece copies claimed) → IsOfNone (IsPieceFrom copies reach 0)
+    none_begins none piece from =
+        let there = from.there in
+        let told : IsClaimedStart copies piece.end 0 = record { copy = there.copy; there = there.there; cut = there.cut; content = there.content } in
+        let ends : piece.end ≡ claimed = only.others piece.end (record { told = told; within = from.within }) in
+        none (record { start = 0; bytes = piece.bytes }) (subst (λ end. IsPiece copies end (record { start = 0; bytes = piece.bytes })) ends there)
+
+    pub is_lost : (start : ℕ) (piece : PieceFrom) → IsOnly (IsClaimedStart copies claimed) start → IsOfNone (IsPiece copies claimed)
+        → IsShortest copies reach claimed piece → IsLostUpTo copies reach claimed
+    is_lost start piece told none next =
         let first : start ≡ 0 = sym (told.others 0 only.there.told) in
         record {
-          lost = lost;
+          lost = none_begins none;
           end' = only;
-          start = subst (IsOnly (IsToldStart copies claimed)) first told;
+          start = subst (IsOnly (IsClaimedStart copies claimed)) first told;
           none = none;
           next = (piece, next.there);
         }
@@ -230,11 +222,6 @@ pub record IsWalkSoFar (copies : List (List ℕ)) (bound : ℕ) (payload : List 
   pub count : length legs ≡ crossed
 
 module _ (copies : List (List ℕ)) (bound : ℕ) where
-  pub walk_first : (payload : List ℕ) (places : List Place) (start : ℕ) → IsWalkUp copies bound payload 0 places start
-      → IsWalkSoFar copies bound payload places start 0
-  walk_first payload places start up =
-      record { below = places; legs = []; floor = start; are_places = sym (append-nil places); up = up; are = refl; count = refl }
-
   -- it stays so where the bytes before its start stay
   pub so_far_kept : (a b : List ℕ) (places : List Place) (start crossed : ℕ) → take start a ≡ take start b
       → IsWalkSoFar copies bound a places start crossed → IsWalkSoFar copies bound b places start crossed

@@ -16,7 +16,7 @@ use Rattle.ffv1_weave.specs.Weave.Weave.{woven}
 use Rattle.ffv1_weave.specs.declared.weaving.Outcome.{Outcome}
 use Rattle.ffv1_weave.specs.declared.weaving.Outcome.TheVariants as outcomes
 use Rattle.ffv1_weave.proofs.Choices.{same_range, range_at}
-use Rattle.ffv1_splice.specs.Pieces.{HasContent, IsPiece, IsToldStart}
+use Rattle.ffv1_splice.specs.Pieces.{HasContent, IsPiece, IsClaimedStart}
 use Rattle.ffv1_splice.specs.Standings.{versions_at, sized, IsWeaveFromFront, IsWeaveOfSeveral, StandsAs, IsStop}
 use Rattle.ffv1_splice.specs.declared.place.Standing.TheVariants.{Woven}
 use Rattle.ffv1_splice.proofs.PlaceSteps.{AllReach, told_below, none_not_only}
@@ -81,13 +81,13 @@ module _ (copies : List (List ℕ)) (end : ℕ) (reach : AllReach copies end) wh
       let long = sized_length start (omega arith) version in_versions in
       omega (arith, h.weave'.0.there.combination.same_length version in_versions)
 
--- no place ends where no piece does and no start is told, and nothing is woven from the front
-pub stops_untold : (copies : List (List ℕ)) (end : ℕ) → IsOfNone (IsPiece copies end) → IsOfNone (IsToldStart copies end)
+-- no place ends where no piece does and no start is claimed, and nothing is woven from the front
+pub stops_untold : (copies : List (List ℕ)) (end : ℕ) → IsOfNone (IsPiece copies end) → IsOfNone (IsClaimedStart copies end)
     → ((bytes : List ℕ) (count : ℕ) → IsWeaveFromFront copies end (woven bytes count) → ⊥) → IsStop copies end
 stops_untold copies end none untold unclaimed =
     record {
       unsettled = none_not_only (IsPiece copies end) none;
-      untold = none_not_only (IsToldStart copies end) untold;
+      untold = none_not_only (IsClaimedStart copies end) untold;
       unclaimed = unclaimed;
       unwoven = λ start bytes count several. untold start several.told;
     }
@@ -100,7 +100,7 @@ not_woven outcomes.Disputed apart bytes count is = absurd (cc)
 not_woven (outcomes.Missing n) apart bytes count is = absurd (cc)
 not_woven outcomes.TooMany apart bytes count is = absurd (cc)
 
--- ---- what is woven, whether its start is told or known
+-- ---- what is woven, whether its start is claimed or known
 
 module _ (copies : List (List ℕ)) (start end : ℕ) (bytes : List ℕ) (count : ℕ) where
   pub woven_below : StandsAs copies start end bytes (Woven count) → start + 8 ≤ end
@@ -159,7 +159,7 @@ module _ (versions : List (List ℕ)) (size : ℕ) (long : HaveLength versions s
             )
       ]
 
--- a copy with the footer of a slice that ends there, and is as long as the copies are up to there, tells the start
+-- a copy with the footer of a slice that ends there, and is as long as the copies are up to there, claims the start
 cut_by_footer : (copy version slice : List ℕ) (end : ℕ) → 8 ≤ end → end ≤ length copy → version ≡ slice_range copy 0 end
     → slice_range slice (end - 8) end ≡ slice_range version (end - 8) end → size_before slice end ≡ end - 8 → IsCut copy 0 end
 cut_by_footer copy version slice end footer within is same size =
@@ -170,9 +170,9 @@ cut_by_footer copy version slice end footer within is same size =
     let cut = size_of_range copy 0 end footer within in
     omega arith
 
--- So where a slice is a combination of what the copies have, some copy has its size field, and tells its start.
+-- So where a slice is a combination of what the copies have, some copy has its size field, and claims its start.
 pub combination_told : (copies : List (List ℕ)) (end : ℕ) (copy slice : List ℕ) → AllReach copies end → Contains copies copy → HasContent 0 end
-    → IsFramed slice → IsCombination (versions_at copies 0 end) slice → IsToldStart copies end 0
+    → IsFramed slice → IsCombination (versions_at copies 0 end) slice → IsClaimedStart copies end 0
 combination_told copies end copy slice reach there content framed is =
     let first = version_there copies 0 end copy there in
     let long : HaveLength (versions_at copies 0 end) end =

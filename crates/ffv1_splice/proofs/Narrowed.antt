@@ -6,7 +6,7 @@ use Rattle.std.proofs.lemmas.Bool.{cases_lt}
 use Rattle.std.proofs.lemmas.List.{drop-drop, drop-take, take-take}
 use mathlib.Core.List.{map-map}
 use Rattle.ffv1_slice.specs.Chain.{size_before, IsCut, Piece}
-use Rattle.ffv1_splice.specs.Pieces.{HasContent, IsPiece, IsToldStart}
+use Rattle.ffv1_splice.specs.Pieces.{HasContent, IsPiece, IsClaimedStart}
 use Rattle.ffv1_splice.specs.Standings.{versions_at}
 use Rattle.ffv1_splice.proofs.Versions.{version_there, version_of}
 
@@ -80,7 +80,7 @@ module _ (from to : ℕ) where
           passes = h.passes;
         }
 
-    pub told_in : (end start : ℕ) → from + end ≤ to → IsToldStart copies (from + end) (from + start) → IsToldStart (versions_at copies from to) end start
+    pub told_in : (end start : ℕ) → from + end ≤ to → IsClaimedStart copies (from + end) (from + start) → IsClaimedStart (versions_at copies from to) end start
     told_in end start within h =
         let content : HasContent (from + start) (from + end) = h.content in
         record {
@@ -90,7 +90,7 @@ module _ (from to : ℕ) where
           content = omega arith;
         }
 
-    pub told_out : (end start : ℕ) → from + end ≤ to → IsToldStart (versions_at copies from to) end start → IsToldStart copies (from + end) (from + start)
+    pub told_out : (end start : ℕ) → from + end ≤ to → IsClaimedStart (versions_at copies from to) end start → IsClaimedStart copies (from + end) (from + start)
     told_out end start within h =
         let of = version_of copies from to h.copy h.there in
         let content : HasContent start end = h.content in

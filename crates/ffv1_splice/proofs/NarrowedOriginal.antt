@@ -11,7 +11,7 @@ use Rattle.ffv1_slice.specs.Walk.{walked, walk_at}
 use Rattle.ffv1_slice.proofs.Links.{walked-none, turn_some}
 use Rattle.ffv1_slice.proofs.NearLaws.{length-range}
 use Rattle.ffv1_weave.specs.Combinations.{IsCombination}
-use Rattle.ffv1_splice.specs.Pieces.{HasContent, IsToldStart}
+use Rattle.ffv1_splice.specs.Pieces.{HasContent, IsClaimedStart}
 use Rattle.ffv1_splice.specs.Standings.{versions_at}
 use Rattle.ffv1_splice.specs.Splice.{LieFrom}
 use Rattle.ffv1_splice.specs.Originals.{AreCopiesOf, AgreeWith, IsAmong, AreWeavable, IsSound, IsNearCopy, AreNearCopies, IsIntactInSome}
@@ -23,7 +23,7 @@ use Rattle.ffv1_splice.proofs.Narrowed.{range_of_range, cut_out, cut_in, version
 -- What weavable copies tell from an end of the original: as much as a division rests on.
 pub record AreWeavableDown (original : List ℕ) (copies : List (List ℕ)) : Type 0 where
   pub agree : AgreeWith original copies
-  pub told : (start end : ℕ) → IsLinkOf original start end → IsToldStart copies end start
+  pub told : (start end : ℕ) → IsLinkOf original start end → IsClaimedStart copies end start
   pub passes : (start end : ℕ) → IsLinkOf original start end → PassesParity (slice_range original start end)
   pub among : (start end : ℕ) → IsLinkOf original start end → IsAmong original copies start end
 

@@ -3,7 +3,7 @@ use Rattle.std.proofs.Common.{◌≡◌, ℕ, List, length, get_or, sym, ◌∙�
 use Rattle.std.specs.Prelude.{◌↔◌, All, slice_range}
 use Rattle.std.proofs.lemmas.List.Elements.{All-append, All-weaker}
 use Rattle.ffv1_slice.specs.Chain.{IsLinkOf, piece_of}
-use Rattle.ffv1_splice.specs.Pieces.{IsPiece, IsToldStart}
+use Rattle.ffv1_splice.specs.Pieces.{IsPiece, IsClaimedStart}
 use Rattle.ffv1_splice.specs.Standings.{versions_at}
 use Rattle.ffv1_splice.specs.Splice.{SplicedValue, IsSettledDown, IsSettledUp, IsCrossed, leg_places, IsSpliceOf}
 use Rattle.ffv1_splice.specs.Originals.{AgreeWith, AgreeFromBelow, AreNearCopies, IsIntactInSome}
@@ -32,8 +32,8 @@ module _ (original : List ℕ) (copies : List (List ℕ)) (near : AreNearCopies 
   up : AreWalkLinks original spliced is.below is.floor
   up = below_links original copies spliced is (are_copies original copies near) agree from_below
 
-  -- each copy tells the start of each link
-  told : (start end : ℕ) → IsLinkOf original start end → IsToldStart copies end start
+  -- each copy claims the start of each link
+  told : (start end : ℕ) → IsLinkOf original start end → IsClaimedStart copies end start
   told = let copy = copy_at_hand copies spliced is in told_link original copies near copy.0 copy.1
 
   across : AreLegLinks original spliced is.legs is.start

@@ -7,7 +7,7 @@ use Rattle.ffv1_bits.proofs.Bytes.{AreBytes-range}
 use Rattle.ffv1_slice.specs.Chain.{size_before, IsCut, IsEnd, IsLinkOf, piece_of}
 use Rattle.ffv1_slice.specs.Chain.IsEnd.{last}
 use Rattle.ffv1_slice.proofs.NearLaws.{same_size_field, length-range, size_of_range}
-use Rattle.ffv1_splice.specs.Pieces.{HasContent, IsPiece, IsToldStart}
+use Rattle.ffv1_splice.specs.Pieces.{HasContent, IsPiece, IsClaimedStart}
 use Rattle.ffv1_splice.specs.Standings.{StandsAs, IsStop}
 use Rattle.ffv1_splice.specs.Splice.{SplicedValue, IsDivisionOf}
 use Rattle.ffv1_splice.specs.Originals.{AreCopiesOf, AgreeWith, AgreeFromBelow, IsAmong, AreWeavable, IsSound, IsIntact, IsNearCopy, AreNearCopies, IsIntactInSome}
@@ -56,9 +56,9 @@ module _ (original copy : List ℕ) (sound : IsSound original) (near : IsNearCop
       ]
 
 module _ (original : List ℕ) (copies : List (List ℕ)) (near : AreNearCopies original copies) where
-  -- a start that is told is that of the original's link
-  told_start : (end start told : ℕ) → IsLinkOf original start end → IsToldStart copies end told → told ≡ start
-  told_start end start told link h =
+  -- a start that is claimed is that of the original's link
+  claimed_start : (end start told : ℕ) → IsLinkOf original start end → IsClaimedStart copies end told → told ≡ start
+  claimed_start end start told link h =
       let cut : IsCut h.copy start end = near_cut original h.copy near.sound (near.near h.copy h.there) start end link in
       same_cut h.copy told start end h.cut cut
 
@@ -67,7 +67,7 @@ module _ (original : List ℕ) (copies : List (List ℕ)) (near : AreNearCopies 
       let cut : IsCut h.copy piece.start end = h.cut in
       let at = link_at original near.sound.whole end is_end (omega arith) in
       let link : IsLinkOf original at.0 end = record { is_end = is_end; cut = at.1 } in
-      let start : piece.start ≡ at.0 = told_start end at.0 piece.start link
+      let start : piece.start ≡ at.0 = claimed_start end at.0 piece.start link
       (record { copy = h.copy; there = h.there; cut = h.cut; content = h.content }) in
       let mine : IsLinkOf original piece.start end = subst (λ s. IsLinkOf original s end) (sym start) link in
       let intact : IsIntact original h.copy piece.start end =
@@ -88,8 +88,8 @@ module _ (original : List ℕ) (copies : List (List ℕ)) (near : AreNearCopies 
   pub are_copies : AreCopiesOf original copies
   are_copies = record { whole = near.sound.whole; one_length = λ copy there. (near.near copy there).same_length }
 
-  -- each copy tells the start of each link
-  pub told_link : (copy : List ℕ) → Contains copies copy → (start end : ℕ) → IsLinkOf original start end → IsToldStart copies end start
+  -- each copy claims the start of each link
+  pub told_link : (copy : List ℕ) → Contains copies copy → (start end : ℕ) → IsLinkOf original start end → IsClaimedStart copies end start
   told_link copy there start end link =
       record {
         copy = copy;
@@ -116,14 +116,14 @@ module _ (original : List ℕ) (copies : List (List ℕ)) (near : AreNearCopies 
   -- ---- a division
 
   module _ (spliced : SplicedValue) (is : IsDivisionOf copies spliced) where
-    told_cut : (start end : ℕ) → IsEnd original end → IsToldStart copies end start → IsCut original start end
+    told_cut : (start end : ℕ) → IsEnd original end → IsClaimedStart copies end start → IsCut original start end
     told_cut start end is_end told =
         let cut : IsCut told.copy start end = told.cut in
         let at = link_at original near.sound.whole end is_end (omega arith) in
-        subst (λ s. IsCut original s end) (sym (told_start end at.0 start (record { is_end = is_end; cut = at.1 }) told)) at.1
+        subst (λ s. IsCut original s end) (sym (claimed_start end at.0 start (record { is_end = is_end; cut = at.1 }) told)) at.1
 
-    -- at each end some copy tells a start
-    told_at : (end : ℕ) → IsEnd original end → 0 < end → (start : ℕ) × IsToldStart copies end start
+    -- at each end some copy claims a start
+    told_at : (end : ℕ) → IsEnd original end → 0 < end → (start : ℕ) × IsClaimedStart copies end start
     told_at end is_end after =
         let at = link_at original near.sound.whole end is_end after in
         (at.0, told_link is.before.copy is.before.there at.0 end (record { is_end = is_end; cut = at.1 }))
@@ -150,7 +150,7 @@ module _ (original : List ℕ) (copies : List (List ℕ)) (near : AreNearCopies 
         let link : IsLinkOf original at.0 end = record { is_end = is_end; cut = at.1 } in
         stop.untold at.0 (record {
           there = told_link is.before.copy is.before.there at.0 end link;
-          others = λ other told. told_start end at.0 other link told;
+          others = λ other told. claimed_start end at.0 other link told;
         })
 
     pub divided_links : AreLinkPlaces original (length original) spliced.places spliced.front

@@ -6,7 +6,7 @@ use Rattle.std.specs.Cmp.Lexicographic.{slice_cmp}
 use Rattle.std.specs.declared.cmp.Ordering.TheVariants.{Less}
 use Rattle.ffv1_slice.specs.Chain.{Piece}
 use Rattle.ffv1_slice.specs.Members.{IsOnly, IsOfTwo, IsOfNone}
-use Rattle.ffv1_splice.specs.Pieces.{IsPiece, IsToldStart, IsLeast}
+use Rattle.ffv1_splice.specs.Pieces.{IsPiece, IsClaimedStart, IsLeast}
 use Rattle.ffv1_splice.specs.Standings.{versions_at, sized, IsWeaveAt, IsWeaveFromFront, IsRepairAt, IsMissingAt, StandsAs, IsGap, IsStop}
 use Rattle.ffv1_weave.specs.Weave.{Weave, IsWeaveOf}
 use Rattle.ffv1_weave.specs.Weave.Weave.{woven, disputed, missing, too_many}
@@ -69,10 +69,10 @@ module _ (copies : List (List ℕ)) (end : ℕ) where
   one_woven s t a b m n (inl h) (inl k) =
       same_woven s t a b m n (k.told.others s h.told.there) (one_weave_at s t (woven a m) (woven b n) h k)
   one_woven s t a b m n (inl h) (inr (inl k)) = absurd (k.1.untold s h.told.there)
-  one_woven s t a b m n (inl h) (inr (inr k)) = absurd (two_not_only (IsToldStart copies end) k.several s h.told)
+  one_woven s t a b m n (inl h) (inr (inr k)) = absurd (two_not_only (IsClaimedStart copies end) k.several s h.told)
   one_woven s t a b m n (inr (inl h)) (inl k) = absurd (h.1.untold t k.told.there)
   one_woven s t a b m n (inr (inl h)) (inr (inr k)) = absurd (h.1.untold t k.told)
-  one_woven s t a b m n (inr (inr h)) (inl k) = absurd (two_not_only (IsToldStart copies end) h.several t k.told)
+  one_woven s t a b m n (inr (inr h)) (inl k) = absurd (two_not_only (IsClaimedStart copies end) h.several t k.told)
   one_woven s t a b m n (inr (inr h)) (inr (inl k)) = absurd (k.1.untold s h.told)
   one_woven s t a b m n (inr (inr h)) (inr (inr k)) =
       same_woven s t a b m n (one_start copies end s t a b m n h k) (one_several copies end s t a b m n h k)
@@ -95,7 +95,7 @@ module _ (copies : List (List ℕ)) (end : ℕ) where
   not_woven_and : (s t : ℕ) (a : List ℕ) (m : ℕ) (w : Weave) → (woven a m ≡ w → ⊥) → StandsAs copies s end a (Woven m) → IsWeaveAt copies t end w → ⊥
   not_woven_and s t a m w apart (inl h) k = apart (one_weave_at s t (woven a m) w h k)
   not_woven_and s t a m w apart (inr (inl h)) k = h.1.untold t k.told.there
-  not_woven_and s t a m w apart (inr (inr h)) k = two_not_only (IsToldStart copies end) h.several t k.told
+  not_woven_and s t a m w apart (inr (inr h)) k = two_not_only (IsClaimedStart copies end) h.several t k.told
 
   not_woven_and_repaired : (s t : ℕ) (a b : List ℕ) (m n : ℕ) → StandsAs copies s end a (Woven m) → IsRepairAt copies t end b n → ⊥
   not_woven_and_repaired s t a b m n h k = not_woven_and s t a m (missing k.combinations) (λ e. absurd (cc)) h k.missed
@@ -110,8 +110,8 @@ module _ (copies : List (List ℕ)) (end : ℕ) where
   not_woven_and_missing s t a m h (inl w) = not_woven_and s t a m (missing w.0.0) (λ e. absurd (cc)) h w.0.1
   not_woven_and_missing s t a m h (inr w) = not_woven_and s t a m too_many (λ e. absurd (cc)) h w
 
-  -- what is repaired there, as of the one start that is told
-  repair_from : (s t : ℕ) (a : List ℕ) (m : ℕ) → IsRepairAt copies s end a m → IsOnly (IsToldStart copies end) t → IsRepairOf (versions_at copies t end) a m
+  -- what is repaired there, as of the one start that is claimed
+  repair_from : (s t : ℕ) (a : List ℕ) (m : ℕ) → IsRepairAt copies s end a m → IsOnly (IsClaimedStart copies end) t → IsRepairOf (versions_at copies t end) a m
   repair_from s t a m h told = subst (λ n. IsRepairOf (versions_at copies n end) a m) (told.others s h.missed.told.there) h.repair
 
   one_repaired : (s t : ℕ) (a b : List ℕ) (m n : ℕ) → IsRepairAt copies s end a m → IsRepairAt copies t end b n
@@ -225,10 +225,10 @@ module _ (copies others : List (List ℕ)) (same : HasSameMembers copies others)
   piece_here end piece h =
       record { copy = h.copy; there = (same h.copy).1 h.there; cut = h.cut; content = h.content; bytes = h.bytes; passes = h.passes }
 
-  pub start_there : (end start : ℕ) → IsToldStart copies end start → IsToldStart others end start
+  pub start_there : (end start : ℕ) → IsClaimedStart copies end start → IsClaimedStart others end start
   start_there end start h = record { copy = h.copy; there = (same h.copy).0 h.there; cut = h.cut; content = h.content }
 
-  pub start_here : (end start : ℕ) → IsToldStart others end start → IsToldStart copies end start
+  pub start_here : (end start : ℕ) → IsClaimedStart others end start → IsClaimedStart copies end start
   start_here end start h = record { copy = h.copy; there = (same h.copy).1 h.there; cut = h.cut; content = h.content }
 
   pub only_same : {X : Type 0} (P Q : X → Type 0) → ((x : X) → P x → Q x) → ((x : X) → Q x → P x) → (x : X) → IsOnly P x → IsOnly Q x
@@ -244,7 +244,7 @@ module _ (copies others : List (List ℕ)) (same : HasSameMembers copies others)
   gap_there : (start end : ℕ) (bytes : List ℕ) → IsGap copies start end bytes → IsGap others start end bytes
   gap_there start end bytes h =
       record {
-        told = only_same (IsToldStart copies end) (IsToldStart others end) (start_there end) (start_here end) start h.told;
+        told = only_same (IsClaimedStart copies end) (IsClaimedStart others end) (start_there end) (start_here end) start h.told;
         least = least_there start end bytes h.least;
       }
 
@@ -252,7 +252,7 @@ module _ (copies others : List (List ℕ)) (same : HasSameMembers copies others)
   weave_at_there start end weave h =
       record {
         none = λ piece p. h.none piece (piece_here end piece p);
-        told = only_same (IsToldStart copies end) (IsToldStart others end) (start_there end) (start_here end) start h.told;
+        told = only_same (IsClaimedStart copies end) (IsClaimedStart others end) (start_there end) (start_here end) start h.told;
         weave' = weave_as Slice (versions_at copies start end) (versions_at others start end) (same_versions copies others same start end) weave h.weave';
       }
 
@@ -324,7 +324,7 @@ module _ (copies others : List (List ℕ)) (same : HasSameMembers copies others)
   stop_there end h =
       record {
         unsettled = λ piece only. h.unsettled piece (only_same (IsPiece others end) (IsPiece copies end) (piece_here end) (piece_there end) piece only);
-        untold = λ start only. h.untold start (only_same (IsToldStart others end) (IsToldStart copies end) (start_here end) (start_there end) start only);
+        untold = λ start only. h.untold start (only_same (IsClaimedStart others end) (IsClaimedStart copies end) (start_here end) (start_there end) start only);
         unclaimed = λ bytes count front. h.unclaimed bytes count (front_here end (woven bytes count) front);
         unwoven = λ start bytes count several.
             h.unwoven start bytes count (several_as others copies (same_back copies others same) end start bytes count several);

@@ -4,7 +4,7 @@ use Rattle.std.specs.Prelude.{◌⊎◌, All, reverse, slice_range}
 use Rattle.std.proofs.lemmas.List.Elements.{All-nil, All-cons, All-head, All-tail, All-append, All-weaker}
 use Rattle.ffv1_slice.specs.Chain.{Piece, piece_of}
 use Rattle.ffv1_slice.specs.Members.{IsOnly, HasSameMembers}
-use Rattle.ffv1_splice.specs.Pieces.{IsPiece, IsToldStart, PieceFrom, IsPieceFrom, IsShortest}
+use Rattle.ffv1_splice.specs.Pieces.{IsPiece, IsClaimedStart, PieceFrom, IsPieceFrom, IsShortest}
 use Rattle.ffv1_splice.specs.Standings.{versions_at, StandsAs}
 use Rattle.ffv1_splice.specs.Splice.{SplicedValue, LieFrom, RiseFrom, IsSettledDown, IsSettledUp, IsWalkDown, IsBound, IsWalkUp, IsClaimedEnd, IsLostUpTo, IsCrossed, Leg, AreLegs, IsWalkAcross, leg_places, IsDivisionOf, hole_places, front_of, IsSpliceOf}
 use Rattle.ffv1_splice.specs.Laws.{SameCopiesSplice}
@@ -81,7 +81,7 @@ module _ (copies others : List (List ℕ)) (same : HasSameMembers copies others)
         end' = only_same copies others same (IsClaimedEnd copies reach) (IsClaimedEnd others reach)
             (λ at k. record { told = start_there copies others same at 0 k.told; within = k.within })
             (λ at k. record { told = start_here copies others same at 0 k.told; within = k.within }) end h.end';
-        start = only_same copies others same (IsToldStart copies end) (IsToldStart others end) (start_there copies others same end)
+        start = only_same copies others same (IsClaimedStart copies end) (IsClaimedStart others end) (start_there copies others same end)
             (start_here copies others same end) 0 h.start;
         none = λ piece k. h.none piece (piece_here copies others same end piece k);
         next = (h.next.0, from_there reach end h.next.0 h.next.1);

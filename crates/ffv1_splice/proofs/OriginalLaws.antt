@@ -1,15 +1,15 @@
 -- The splice of copies that tell nothing other than an original.
-use Rattle.std.proofs.Common.{◌≡◌, ℕ, ◌+◌, ◌-◌, ◌<◌, ◌≤◌, List, [], ◌∷◌, ◌++◌, length, get_or, take, drop, sym, ap, ◌∙◌, subst, arith, inl, inr}
+use Rattle.std.proofs.Common.{◌≡◌, ℕ, ◌+◌, ◌-◌, ◌<◌, ◌≤◌, List, [], ◌∷◌, length, get_or, take, drop, sym, ap, ◌∙◌, subst, arith, inl, inr}
 use Rattle.std.specs.Prelude.{All, slice_range}
 use Rattle.std.proofs.lemmas.List.Elements.{All-nil, All-cons, All-head, All-tail, All-append, All-weaker}
 use Rattle.std.proofs.lemmas.Bool.{cases_lt}
 use Rattle.ffv1_slice.specs.Chain.{IsCut, IsEnd, IsLinkOf, Piece, piece_of}
 use Rattle.ffv1_slice.specs.Chain.IsEnd.{last, before}
-use Rattle.ffv1_splice.specs.Pieces.{HasContent, IsToldStart, PieceFrom}
+use Rattle.ffv1_splice.specs.Pieces.{HasContent, IsClaimedStart, PieceFrom}
 use Rattle.ffv1_splice.specs.Standings.{versions_at}
 use Rattle.ffv1_splice.specs.Splice.{SplicedValue, LieFrom, RiseFrom, IsSettledDown, IsSettledUp, IsCrossed, Leg, AreLegs, leg_places, IsSpliceOf, moved_by}
 use Rattle.ffv1_splice.specs.Originals.{AreCopiesOf, AgreeWith, AgreeFromBelow, HaveEachLink}
-use Rattle.ffv1_splice.specs.Laws.{HasLinksOf, IsOriginal, OriginalIsSpliced, SettledIsOriginal, IsItsLink, SettledWalksAreOriginal, IsLinkIfSettled, WalkAcrossIsOriginal}
+use Rattle.ffv1_splice.specs.Laws.{IsOriginal, OriginalIsSpliced, SettledIsOriginal, IsItsLink, SettledWalksAreOriginal, IsLinkIfSettled, WalkAcrossIsOriginal}
 use Rattle.ffv1_splice.specs.declared.place.Standing.TheVariants.{Settled}
 use Rattle.ffv1_splice.specs.declared.place.Place.{Place}
 use Rattle.ffv1_splice.proofs.BoundSteps.{bound_within}
@@ -116,7 +116,7 @@ module _ (original : List ℕ) (copies : List (List ℕ)) (spliced : SplicedValu
   -- ---- over lost slices
 
   module _ (from_below : AgreeFromBelow original copies)
-      (told : (start end : ℕ) → IsLinkOf original start end → IsToldStart copies end start) where
+      (told : (start end : ℕ) → IsLinkOf original start end → IsClaimedStart copies end start) where
     -- the end that alone is claimed is the link's
     crossed_link : (place : Place) → IsEnd original place.start → IsCrossed copies is.bound spliced.payload place
         → IsLinkOf original place.start place.end
@@ -128,10 +128,10 @@ module _ (original : List ℕ) (copies : List (List ℕ)) (spliced : SplicedValu
         let inside : next.0 ≤ is.bound = next.2 in
         let there : next.0 ≡ place.start + (next.0 - place.start) = omega arith in
         let here : place.start ≡ place.start + 0 = omega arith in
-        let footer : IsToldStart (versions_at copies place.start is.bound) (next.0 - place.start) 0 =
+        let footer : IsClaimedStart (versions_at copies place.start is.bound) (next.0 - place.start) 0 =
         told_in place.start is.bound copies (next.0 - place.start) 0 (omega arith)
-        (subst (IsToldStart copies (place.start + (next.0 - place.start))) here
-        (subst (λ n. IsToldStart copies n place.start) there (told place.start next.0 next.1))) in
+        (subst (IsClaimedStart copies (place.start + (next.0 - place.start))) here
+        (subst (λ n. IsClaimedStart copies n place.start) there (told place.start next.0 next.1))) in
         let size : next.0 - place.start ≡ crossed.size =
         crossed.lost.end'.others (next.0 - place.start) (record { told = footer; within = omega arith }) in
         let ends : next.0 ≡ place.end = omega (arith, crossed.ends) in

@@ -4,7 +4,7 @@ use Rattle.std.specs.Prelude.{Contains}
 use Rattle.ffv1_slice.specs.Chain.{IsCut, Piece}
 use Rattle.ffv1_slice.proofs.NearLaws.{length-range}
 use Rattle.ffv1_slice.specs.Members.{IsOnly, IsOfTwo, IsOfNone}
-use Rattle.ffv1_splice.specs.Pieces.{IsPiece, IsToldStart, IsLeast}
+use Rattle.ffv1_splice.specs.Pieces.{IsPiece, IsClaimedStart, IsLeast}
 use Rattle.ffv1_weave.specs.Weave.{Weave, IsWeaveOf}
 use Rattle.ffv1_weave.specs.declared.check.Check.TheVariants.{Slice}
 use Rattle.ffv1_splice.specs.Standings.{versions_at, IsWeaveAt, StandsAs, IsGap}
@@ -22,7 +22,7 @@ none_not_only P none x h = none x h.there
 pub two_not_only : {X : Type 0} (P : X → Type 0) → IsOfTwo P → (x : X) → IsOnly P x → ⊥
 two_not_only P two x h = two.differ (h.others two.one two.one_there ∙ sym (h.others two.other two.other_there))
 
--- where not one start alone is told, none is
+-- where not one start alone is claimed, none is
 pub untold : (P : ℕ → Type 0) (told : Starts) → Tells P (starts_told told) → ((x : ℕ) → told ≡ starts.One x → ⊥) → (start : ℕ) → IsOnly P start → ⊥
 untold P starts.None h apart = none_not_only P h
 untold P (starts.One x) h apart = λ start only. apart x refl
@@ -40,7 +40,7 @@ AllReach copies end = (copy : List ℕ) → Contains copies copy → end ≤ len
 pub cut_below : (copy : List ℕ) (start end : ℕ) → IsCut copy start end → start + 8 ≤ end
 cut_below copy start end cut = omega arith
 
-pub told_below : (copies : List (List ℕ)) (start end : ℕ) → IsToldStart copies end start → start + 8 ≤ end
+pub told_below : (copies : List (List ℕ)) (start end : ℕ) → IsClaimedStart copies end start → start + 8 ≤ end
 told_below copies start end h = cut_below h.copy start end h.cut
 
 pub piece_size : (copies : List (List ℕ)) (end : ℕ) (piece : Piece) → AllReach copies end → IsPiece copies end piece → piece.start + length piece.bytes ≡ end
@@ -63,7 +63,7 @@ gap_size copies start end bytes reach h =
 
 -- ---- how it stands
 
-pub stands_weave : (copies : List (List ℕ)) (start end : ℕ) (weave : Weave) → IsOfNone (IsPiece copies end) → IsOnly (IsToldStart copies end) start
+pub stands_weave : (copies : List (List ℕ)) (start end : ℕ) (weave : Weave) → IsOfNone (IsPiece copies end) → IsOnly (IsClaimedStart copies end) start
     → IsWeaveOf Slice (versions_at copies start end) weave → IsWeaveAt copies start end weave
 stands_weave copies start end weave none told is = record { none = none; told = told; weave' = is }
 

@@ -1,7 +1,6 @@
 -- What is repaired of copies of an original.
-use Rattle.std.proofs.Common.{◌≡◌, ℕ, ◌+◌, ◌≤◌, List, sym, subst}
+use Rattle.std.proofs.Common.{◌≡◌, ℕ, List, sym, subst}
 use Rattle.std.specs.Prelude.{slice_range}
-use Rattle.std.proofs.lemmas.List.Elements.{All-contains}
 use Rattle.ffv1_weave.specs.Repairs.{IsRepair}
 use Rattle.ffv1_weave.proofs.RepairLaws.{original_is_repaired}
 use Rattle.ffv1_splice.specs.Standings.{versions_at, StandsAs}

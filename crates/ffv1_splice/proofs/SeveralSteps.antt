@@ -1,4 +1,4 @@
--- The starts that are told at an end, tried one after the other.
+-- The starts that are claimed at an end, tried one after the other.
 use Rattle.std.proofs.Common.{◌≡◌, ℕ, Vec, Global, ◌+◌, ◌-◌, ◌<◌, ◌≤◌, List, [], ◌∷◌, ◌++◌, length, get_or, map, min, mul-zero, Option, Some, None, replicate, refl, sym, ap, ◌∙◌, subst, arith, inl, inr}
 use Rattle.std.specs.Prelude.{Contains, MatchOption, sum}
 use Rattle.std.proofs.lemmas.Bool.{cases_lt, cases_eq}
@@ -14,11 +14,11 @@ use Rattle.ffv1_weave.proofs.WeaveLaws.{same_versions_weave, weave_as}
 use Rattle.ffv1_bits.specs.Parity.{AreBytes}
 use Rattle.ffv1_slice.specs.Chain.{IsCut}
 use Rattle.ffv1_slice.specs.Members.{HasSameMembers, IsOfTwo, IsOfNone}
-use Rattle.ffv1_splice.specs.Pieces.{HasContent, IsPiece, IsToldStart}
+use Rattle.ffv1_splice.specs.Pieces.{HasContent, IsPiece, IsClaimedStart}
 use Rattle.ffv1_splice.specs.Standings.{versions_at, sized, IsWeaveOfSeveral}
 use Rattle.ffv1_splice.specs.declared.several.Tried.{Tried}
 use Rattle.ffv1_splice.specs.declared.several.Tried.TheVariants as tries
-use Rattle.ffv1_splice.specs.Several.{IsNextTold, TriedValue, capped, tried_more, tried_told, AreMissing, AreTriedBefore}
+use Rattle.ffv1_splice.specs.Several.{IsNextClaimedStart, TriedValue, capped, tried_more, tried_told, AreMissing, AreTriedBefore}
 use Rattle.ffv1_splice.specs.Several.TriedValue.{none_woven, one_woven, undecided}
 use Rattle.ffv1_splice.proofs.FirstSlices.{same_sized}
 use Rattle.ffv1_splice.proofs.ToldSteps.{last, start_on, start_back, one_cut}
@@ -111,8 +111,8 @@ module _ (copies : List (List ℕ)) (end : ℕ) where
       let versions : List (List ℕ) = map sized (versions_at copies start end) in
       same_versions_weave Slice versions versions one other (λ version. ((λ there. there), λ there. there)) h k
 
-  -- where something else than a slice or nothing comes of a told start, no start of several is the one
-  pub not_told_alone : (from : ℕ) (weave : Weave) → IsToldStart copies end from → IsWeaveFrom from weave
+  -- where something else than a slice or nothing comes of a claimed start, no start of several is the one
+  pub not_told_alone : (from : ℕ) (weave : Weave) → IsClaimedStart copies end from → IsWeaveFrom from weave
       → ((bytes : List ℕ) (count : ℕ) → weave ≡ woven bytes count → ⊥) → ((count : ℕ) → weave ≡ missing count → ⊥)
       → (start : ℕ) (bytes : List ℕ) (count : ℕ) → IsWeaveOfSeveral copies start end bytes count → ⊥
   not_told_alone from weave told is unwoven unmissing start bytes count h = elim (cases_eq from start) [
@@ -123,8 +123,8 @@ module _ (copies : List (List ℕ)) (end : ℕ) where
     | inr apart ↦ unmissing (get_or h.tried from 0) (one_weave_from from weave (missing (get_or h.tried from 0)) is (h.others from told apart))
   ]
 
-  -- where two told starts give a slice, neither is
-  pub not_two_told : (one other : ℕ) (a b : List ℕ) (m n : ℕ) → one < other → IsToldStart copies end one → IsToldStart copies end other
+  -- where two claimed starts give a slice, neither is
+  pub not_two_told : (one other : ℕ) (a b : List ℕ) (m n : ℕ) → one < other → IsClaimedStart copies end one → IsClaimedStart copies end other
       → IsWeaveFrom one (woven a m) → IsWeaveFrom other (woven b n)
       → (start : ℕ) (bytes : List ℕ) (count : ℕ) → IsWeaveOfSeveral copies start end bytes count → ⊥
   not_two_told one other a b m n below told too h k start bytes count w = elim (cases_eq one start) [
@@ -145,8 +145,8 @@ module _ (copies : List (List ℕ)) (end : ℕ) where
 
   -- ---- one more start
 
-  module _ (from start : ℕ) (next : IsNextTold copies end from start) where
-    told_below : (other : ℕ) → other < start + 1 → IsToldStart copies end other → (other ≡ start → ⊥) → other < from
+  module _ (from start : ℕ) (next : IsNextClaimedStart copies end from start) where
+    told_below : (other : ℕ) → other < start + 1 → IsClaimedStart copies end other → (other ≡ start → ⊥) → other < from
     told_below other lt told apart = elim (cases_lt other from) [
       | inl below ↦ below
       | inr above ↦ let least = next.least other told above in absurd (apart (omega arith))
@@ -173,7 +173,7 @@ module _ (copies : List (List ℕ)) (end : ℕ) where
           untold = λ other untold. elim (cases_lt other from) [
             | inl below ↦ grown_before tried start count other (omega arith) (omega arith) ∙ are.untold other untold
             | inr above ↦ grown_else tried start count other (omega arith) (omega arith)
-                (λ same. untold (subst (IsToldStart copies end) (sym same) next.there))
+                (λ same. untold (subst (IsClaimedStart copies end) (sym same) next.there))
           ];
         }
 
@@ -235,7 +235,7 @@ module _ (copies : List (List ℕ)) (end : ℕ) where
 
   -- ---- no more start
 
-  module _ (from : ℕ) (within : from ≤ end) (none : (start : ℕ) → IsToldStart copies end start → start < from) where
+  module _ (from : ℕ) (within : from ≤ end) (none : (start : ℕ) → IsClaimedStart copies end start → start < from) where
     missing_end : (IsApart : ℕ → Type 0) (tried : List ℕ) → AreMissing copies end from IsApart tried
         → AreMissing copies end end IsApart (padded tried end)
     missing_end IsApart tried are =
@@ -276,7 +276,7 @@ module _ (copies : List (List ℕ)) (end : ℕ) where
 module _ (copies : List (List ℕ)) (end : ℕ) where
   -- what is woven of several starts
   pub several_of : (start count : ℕ) (bytes : List ℕ) → ((copy : List ℕ) → Contains copies copy → AreBytes copy) → IsOfNone (IsPiece copies end)
-      → IsOfTwo (IsToldStart copies end) → AreTriedBefore copies end end (one_woven start bytes count) → IsWeaveOfSeveral copies start end bytes count
+      → IsOfTwo (IsClaimedStart copies end) → AreTriedBefore copies end end (one_woven start bytes count) → IsWeaveOfSeveral copies start end bytes count
   several_of start count bytes are_bytes none several h =
       record {
         are_bytes = are_bytes;
@@ -315,7 +315,7 @@ module _ (copies : List (List ℕ)) (end s t : ℕ) (a b : List ℕ) (m n : ℕ)
       one_weave_from copies end s (woven a (get_or h.tried s 0)) (woven b (get_or k.tried s 0)) h.weave'
       (subst (λ p. IsWeaveFrom copies end p (woven b (get_or k.tried p 0))) (sym one_start) k.weave')
 
-  same_number : (p : ℕ) → IsToldStart copies end p → get_or h.tried p 0 ≡ get_or k.tried p 0
+  same_number : (p : ℕ) → IsClaimedStart copies end p → get_or h.tried p 0 ≡ get_or k.tried p 0
   same_number p told = elim (cases_eq p s) [
     | inl same ↦ let e : get_or h.tried s 0 ≡ get_or k.tried s 0 = let e = same_weave in cc in
         subst (λ q. get_or h.tried q 0 ≡ get_or k.tried q 0) (sym same) e
@@ -329,7 +329,7 @@ module _ (copies : List (List ℕ)) (end s t : ℕ) (a b : List ℕ) (m n : ℕ)
   same_tried = ext_get_or 0 h.tried k.tried (h.places ∙ sym k.places) (λ p lt. elim (cases_eq (get_or h.tried p 0) (get_or k.tried p 0)) [
     | inl same ↦ same
     | inr apart ↦
-        let untold : IsToldStart copies end p → ⊥ = λ told. apart (same_number p told) in
+        let untold : IsClaimedStart copies end p → ⊥ = λ told. apart (same_number p told) in
         h.untold p untold ∙ sym (k.untold p untold)
   ])
 
@@ -342,10 +342,10 @@ module _ (copies : List (List ℕ)) (end s t : ℕ) (a b : List ℕ) (m n : ℕ)
 -- ---- the same copies
 
 module _ (copies others : List (List ℕ)) (same : HasSameMembers copies others) (end : ℕ) where
-  told_as : (start : ℕ) → IsToldStart copies end start → IsToldStart others end start
+  told_as : (start : ℕ) → IsClaimedStart copies end start → IsClaimedStart others end start
   told_as start h = record { copy = h.copy; there = (same h.copy).0 h.there; cut = h.cut; content = h.content }
 
-  told_back : (start : ℕ) → IsToldStart others end start → IsToldStart copies end start
+  told_back : (start : ℕ) → IsClaimedStart others end start → IsClaimedStart copies end start
   told_back start h = record { copy = h.copy; there = (same h.copy).1 h.there; cut = h.cut; content = h.content }
 
   weave_from_as : (start : ℕ) (weave : Weave) → IsWeaveFrom copies end start weave → IsWeaveFrom others end start weave
@@ -384,7 +384,7 @@ module _ (copies others : List (List ℕ)) (same : HasSameMembers copies others)
 
 abbrev pub IsNext : List (List ℕ) → (end from : ℕ) → Option ℕ → Type 0
 IsNext copies end from next =
-    MatchOption next ((start : ℕ) → IsToldStart copies end start → start < from) (IsNextTold copies end from)
+    MatchOption next ((start : ℕ) → IsClaimedStart copies end start → start < from) (IsNextClaimedStart copies end from)
 
 module _ (copies : List (List ℕ)) (copy : List ℕ) (end from : ℕ) where
   -- a copy that tells no start from the place on
@@ -404,12 +404,12 @@ module _ (copies : List (List ℕ)) (copy : List ℕ) (end from : ℕ) where
   -- and one that does
   pub next_more : (next : Option ℕ) (start after : ℕ) → IsCut copy start end → HasContent start end → from ≤ start
       → MatchOption next (after ≡ start) (λ first. after ≡ min first start) → IsNext copies end from next
-      → IsNextTold (copies ++ copy ∷ []) end from after
+      → IsNextClaimedStart (copies ++ copy ∷ []) end from after
   next_more None start after cut content low is h =
-      let new : IsToldStart (copies ++ copy ∷ []) end start =
+      let new : IsClaimedStart (copies ++ copy ∷ []) end start =
       record { copy = copy; there = last copies copy end; cut = cut; content = content } in
       record {
-        there = subst (IsToldStart (copies ++ copy ∷ []) end) (sym is) new;
+        there = subst (IsClaimedStart (copies ++ copy ∷ []) end) (sym is) new;
         beyond = omega arith;
         least = λ other told above. elim (start_back copies copy end other told) [
           | inl there ↦ let early = h other there in absurd (omega arith)
@@ -417,14 +417,14 @@ module _ (copies : List (List ℕ)) (copy : List ℕ) (end from : ℕ) where
         ];
       }
   next_more (Some first) start after cut content low is h =
-      let new : IsToldStart (copies ++ copy ∷ []) end start =
+      let new : IsClaimedStart (copies ++ copy ∷ []) end start =
       record { copy = copy; there = last copies copy end; cut = cut; content = content } in
       let beyond = h.beyond in
       record {
         there = elim (cases_lt first start) [
           | inl below ↦ let same : first ≡ after = omega arith in
-              subst (IsToldStart (copies ++ copy ∷ []) end) same (start_on copies copy end first h.there)
-          | inr above ↦ let same : start ≡ after = omega arith in subst (IsToldStart (copies ++ copy ∷ []) end) same new
+              subst (IsClaimedStart (copies ++ copy ∷ []) end) same (start_on copies copy end first h.there)
+          | inr above ↦ let same : start ≡ after = omega arith in subst (IsClaimedStart (copies ++ copy ∷ []) end) same new
         ];
         beyond = omega arith;
         least = λ other told high. elim (start_back copies copy end other told) [

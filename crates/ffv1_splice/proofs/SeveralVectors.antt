@@ -17,7 +17,7 @@ use Rattle.ffv1_weave.specs.Weave.{IsWeaveOf}
 use Rattle.ffv1_weave.specs.Weave.Weave.{woven, missing}
 use Rattle.ffv1_weave.specs.declared.check.Check.TheVariants.{Slice}
 use Rattle.ffv1_weave.proofs.Tried.{tried_combination}
-use Rattle.ffv1_splice.specs.Pieces.{IsPiece, IsToldStart}
+use Rattle.ffv1_splice.specs.Pieces.{IsPiece, IsClaimedStart}
 use Rattle.ffv1_splice.specs.Standings.{versions_at, sized, StandsAs}
 use Rattle.ffv1_splice.specs.declared.place.Standing.TheVariants.{Woven}
 use Rattle.ffv1_splice.proofs.FirstSlices.{same_inside}
@@ -65,10 +65,10 @@ told_which copy start (suc zero, lt, is) cut =
     let told : IsCut hurt_size start 11 = subst (λ c. IsCut c start 11) (sym is) cut in inr (sym is, omega arith)
 told_which copy start (suc (suc k), lt, is) cut = absurd (omega arith)
 
-first_told : IsToldStart torn_copies 11 0
+first_told : IsClaimedStart torn_copies 11 0
 first_told = record { copy = hurt_first; there = (0, omega arith, refl); cut = refl; content = omega arith }
 
-other_told : IsToldStart torn_copies 11 1
+other_told : IsClaimedStart torn_copies 11 1
 other_told = record { copy = hurt_size; there = (1, omega arith, refl); cut = refl; content = omega arith }
 
 -- neither is a piece
@@ -211,12 +211,12 @@ are_bytes copy (suc (suc k), lt, is) = absurd (omega arith)
 abbrev tried : List ℕ
 tried = 2 ∷ 1 ∷ replicate 9 0
 
-none_tried : (start : ℕ) → (IsToldStart torn_copies 11 start → ⊥) → get_or tried start 0 ≡ 0
+none_tried : (start : ℕ) → (IsClaimedStart torn_copies 11 start → ⊥) → get_or tried start 0 ≡ 0
 none_tried zero untold = absurd (untold first_told)
 none_tried (suc zero) untold = absurd (untold other_told)
 none_tried (suc (suc start)) untold = zeros_anywhere 9 start
 
-from_another : (start : ℕ) → IsToldStart torn_copies 11 start → (start ≡ 0 → ⊥)
+from_another : (start : ℕ) → IsClaimedStart torn_copies 11 start → (start ≡ 0 → ⊥)
     → IsWeaveOf Slice (map sized (versions_at torn_copies start 11)) (missing (get_or tried start 0))
 from_another start told other = elim (told_which told.copy start told.there told.cut) [
   | inl at ↦ absurd (other at.1)

@@ -3,7 +3,7 @@ use Rattle.std.proofs.Common.{◌≡◌, ℕ, ◌+◌, ◌≤◌, List, length, 
 use Rattle.std.specs.Prelude.{All, Contains, slice_range}
 use Rattle.std.proofs.lemmas.List.Elements.{All-contains, All-contains_itself}
 use Rattle.ffv1_slice.specs.Chain.{piece_of}
-use Rattle.ffv1_splice.specs.Pieces.{IsPiece, IsToldStart}
+use Rattle.ffv1_splice.specs.Pieces.{IsPiece, IsClaimedStart}
 use Rattle.ffv1_splice.specs.Standings.{versions_at, StandsAs}
 use Rattle.ffv1_splice.specs.Splice.{SplicedValue, IsSettledDown, IsSettledUp, IsCrossed, IsSpliceOf, moved_by, IsSettledOrWoven, IsGivenBack}
 use Rattle.ffv1_splice.specs.declared.place.Standing.TheVariants.{Settled, Undivided}
@@ -42,10 +42,10 @@ module _ (copies : List (List ℕ)) (payload : List ℕ) (place : Place) (h : St
       versions_of_versions h.from h.to copies h.start h.end h.within ∙ ap (λ n. versions_at copies n (h.from + h.end)) (sym h.starts)
       ∙ ap (λ n. versions_at copies place.start n) (sym h.ends)
 
-  pub between_told : IsToldStart (versions_at copies h.from h.to) h.end h.start → IsToldStart copies place.end place.start
+  pub between_told : IsClaimedStart (versions_at copies h.from h.to) h.end h.start → IsClaimedStart copies place.end place.start
   between_told told =
-      subst (λ s. IsToldStart copies place.end s) (sym h.starts)
-      (subst (λ e. IsToldStart copies e (h.from + h.start)) (sym h.ends) (told_out h.from h.to copies h.end h.start h.within told))
+      subst (λ s. IsClaimedStart copies place.end s) (sym h.starts)
+      (subst (λ e. IsClaimedStart copies e (h.from + h.start)) (sym h.ends) (told_out h.from h.to copies h.end h.start h.within told))
 
 -- How a place of the splice stands: settled from above or from below, by what copies that are cut tell of it, or as what can't be divided.
 pub data IsPlaceOf (copies : List (List ℕ)) (spliced : SplicedValue) (is : IsSpliceOf copies spliced) : Place → Type 0 where
@@ -62,9 +62,6 @@ module _ (copies : List (List ℕ)) (spliced : SplicedValue) (is : IsSpliceOf co
       let long = hole_length copies spliced is in
       let within = ends_below (length is.hole.payload) is.hole.places is.hole.front (hole_upright copies spliced is) is.divided.lie k d lt in
       omega arith
-
-  pub hole_reach : (end : ℕ) → is.start + end ≤ is.end → AllReach (versions_at copies is.start is.end) end
-  hole_reach end within version there = let long = hole_length copies spliced is in omega (arith, is.divided.one_length version there)
 
   -- the bytes of the hole, as the splice has them
   pub hole_bytes : All (λ place. slice_range is.hole.payload place.start place.end

@@ -4,7 +4,7 @@ use Rattle.std.specs.Prelude.{◌⊎◌, Contains, slice_range}
 use Rattle.std.proofs.lemmas.List.Elements.{Contains-append_left, Contains-append_right, Contains-append_cases}
 use Rattle.ffv1_bits.specs.Parity.{PassesParity}
 use Rattle.ffv1_slice.specs.Chain.{IsCut, Piece, piece_of}
-use Rattle.ffv1_splice.specs.Pieces.{HasContent, IsPiece, IsToldStart}
+use Rattle.ffv1_splice.specs.Pieces.{HasContent, IsPiece, IsClaimedStart}
 use Rattle.ffv1_splice.specs.Told.{Told, Tells, TellsMore, TellsBoth}
 use Rattle.ffv1_splice.specs.Told.Told.{none, one, two}
 
@@ -69,7 +69,7 @@ module _ (copies : List (List ℕ)) (copy : List ℕ) (end : ℕ) where
         passes = h.passes;
       }
 
-  pub start_on : (start : ℕ) → IsToldStart copies end start → IsToldStart (copies ++ copy ∷ []) end start
+  pub start_on : (start : ℕ) → IsClaimedStart copies end start → IsClaimedStart (copies ++ copy ∷ []) end start
   start_on start h = record { copy = h.copy; there = Contains-append_left copies (copy ∷ []) h.copy h.there; cut = h.cut; content = h.content }
 
   pub piece_back : (piece : Piece) → IsPiece (copies ++ copy ∷ []) end piece
@@ -89,14 +89,14 @@ module _ (copies : List (List ℕ)) (copy : List ℕ) (end : ℕ) where
             )
       ]
 
-  pub start_back : (start : ℕ) → IsToldStart (copies ++ copy ∷ []) end start → IsToldStart copies end start ⊎ (IsCut copy start end × HasContent start end)
+  pub start_back : (start : ℕ) → IsClaimedStart (copies ++ copy ∷ []) end start → IsClaimedStart copies end start ⊎ (IsCut copy start end × HasContent start end)
   start_back start h =
       elim (Contains-append_cases copies (copy ∷ []) h.copy h.there) [
         | inl there ↦ inl (record { copy = h.copy; there = there; cut = h.cut; content = h.content })
         | inr there ↦ inr (subst (λ c. IsCut c start end) (alone copy h.copy there) h.cut, h.content)
       ]
 
-  -- a copy's footer tells one start
+  -- a copy's footer claims one start
   pub one_cut : (start other : ℕ) → IsCut copy start end → IsCut copy other end → other ≡ start
   one_cut start other h k = omega arith
 
@@ -107,10 +107,10 @@ module _ (copies : List (List ℕ)) (copy : List ℕ) (end : ℕ) where
       tells_same (IsPiece copies end) (IsPiece (copies ++ copy ∷ []) end) told piece_on
       (λ piece q. elim (piece_back piece q) [ inl p ↦ p | inr cut ↦ absurd (uncut piece.start cut.0 cut.1) ]) h
 
-  pub starts-uncut : (told : Told ℕ) → ((start : ℕ) → IsCut copy start end → HasContent start end → ⊥) → Tells (IsToldStart copies end) told
-      → Tells (IsToldStart (copies ++ copy ∷ []) end) told
+  pub starts-uncut : (told : Told ℕ) → ((start : ℕ) → IsCut copy start end → HasContent start end → ⊥) → Tells (IsClaimedStart copies end) told
+      → Tells (IsClaimedStart (copies ++ copy ∷ []) end) told
   starts-uncut told uncut h =
-      tells_same (IsToldStart copies end) (IsToldStart (copies ++ copy ∷ []) end) told start_on
+      tells_same (IsClaimedStart copies end) (IsClaimedStart (copies ++ copy ∷ []) end) told start_on
       (λ start q. elim (start_back start q) [ inl p ↦ p | inr cut ↦ absurd (uncut start cut.0 cut.1) ]) h
 
   -- nor does one that fails its parity tell a piece
@@ -154,9 +154,9 @@ module _ (copies : List (List ℕ)) (copy : List ℕ) (end : ℕ) where
       }
 
   pub starts-cut : (told after : Told ℕ) (start : ℕ) → IsCut copy start end → HasContent start end → TellsMore told start after
-      → Tells (IsToldStart copies end) told
-      → Tells (IsToldStart (copies ++ copy ∷ []) end) after
+      → Tells (IsClaimedStart copies end) told
+      → Tells (IsClaimedStart (copies ++ copy ∷ []) end) after
   starts-cut told after start cut content more h =
-      tells_more (IsToldStart copies end) (IsToldStart (copies ++ copy ∷ []) end) told after start start_on
+      tells_more (IsClaimedStart copies end) (IsClaimedStart (copies ++ copy ∷ []) end) told after start start_on
       (record { copy = copy; there = last; cut = cut; content = content })
       (λ other q. elim (start_back other q) [ inl p ↦ inl p | inr new ↦ inr (one_cut start other cut new.0) ]) more h

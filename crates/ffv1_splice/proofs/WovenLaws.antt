@@ -1,5 +1,5 @@
 -- What is woven of copies of an original.
-use Rattle.std.proofs.Common.{◌≡◌, ℕ, ◌+◌, ◌<◌, ◌≤◌, List, length, get_or, map, refl, sym, ◌∙◌, subst, arith, inl, inr}
+use Rattle.std.proofs.Common.{◌≡◌, ℕ, ◌<◌, List, length, get_or, map, refl, sym, ◌∙◌, subst, arith, inl, inr}
 use Rattle.std.specs.Prelude.{All, Contains, slice_range}
 use Rattle.std.proofs.lemmas.List.Elements.{All-contains_itself}
 use Rattle.std.proofs.lemmas.Bool.{cases_eq}
@@ -13,9 +13,9 @@ use Rattle.ffv1_weave.specs.Weave.{IsWeaveOf, AreMany}
 use Rattle.ffv1_weave.specs.Weave.Weave.{woven as weave_woven, missing as weave_missing}
 use Rattle.ffv1_weave.specs.declared.check.Check.TheVariants.{Slice}
 use Rattle.ffv1_weave.proofs.Coarsest.{original_is_woven}
-use Rattle.ffv1_splice.specs.Pieces.{HasContent, IsToldStart}
+use Rattle.ffv1_splice.specs.Pieces.{HasContent, IsClaimedStart}
 use Rattle.ffv1_splice.specs.Standings.{versions_at, sized, IsWeaveOfSeveral, StandsAs}
-use Rattle.ffv1_splice.specs.Splice.{SplicedValue, IsSettledDown, IsSettledUp, IsDivisionOf, IsSpliceOf, undivided_places, IsSettledOrWoven, IsGivenBack}
+use Rattle.ffv1_splice.specs.Splice.{SplicedValue, IsDivisionOf, IsSpliceOf, IsSettledOrWoven, IsGivenBack}
 use Rattle.ffv1_splice.specs.Originals.{AreCopiesOf, IsAmong, AreWeavable}
 use Rattle.ffv1_splice.specs.Laws.{KeepsLink, WovenIsOriginal, SizedIsOriginal, GivenBackIsOriginal}
 use Rattle.ffv1_splice.specs.declared.place.Standing.{Standing}
@@ -52,7 +52,7 @@ slice_of_weave slice framed passes versions bytes count among h = original_is_wo
 
 module _ (copies : List (List ℕ)) (start end : ℕ) (slice : List ℕ) (framed : IsFramed slice) (passes : PassesParity slice)
     (among : IsCombination (versions_at copies start end) slice) where
-  -- What is woven is the slice. Its start is told: some copy has its size field.
+  -- What is woven is the slice. Its start is claimed: some copy has its size field.
   pub woven_slice : (copy bytes : List ℕ) (standing : Standing) (count : ℕ) → AllReach copies end → Contains copies copy → standing ≡ Woven count
       → StandsAs copies start end bytes standing → bytes ≡ slice
   woven_slice copy bytes Settled count reach there is h = absurd (cc)
@@ -93,8 +93,8 @@ module _ (copies : List (List ℕ)) (start end : ℕ) (slice : List ℕ) (framed
       ]
   missing_slice bytes Undivided is h = absurd (cc)
 
--- Where its start is told by no copy, and it is a combination of the versions with their size, what is woven is the slice.
-sized_slice : (copies : List (List ℕ)) (start end : ℕ) (slice : List ℕ) → IsFramed slice → PassesParity slice → (IsToldStart copies end start → ⊥)
+-- Where its start is claimed by no copy, and it is a combination of the versions with their size, what is woven is the slice.
+sized_slice : (copies : List (List ℕ)) (start end : ℕ) (slice : List ℕ) → IsFramed slice → PassesParity slice → (IsClaimedStart copies end start → ⊥)
     → IsCombination (map sized (versions_at copies start end)) slice → (bytes : List ℕ) (standing : Standing) (count : ℕ) → standing ≡ Woven count
     → StandsAs copies start end bytes standing → bytes ≡ slice
 sized_slice copies start end slice framed passes untold among bytes Settled count is h = absurd (cc)
@@ -140,7 +140,7 @@ module _ (original : List ℕ) (copies : List (List ℕ)) (spliced : SplicedValu
   keeps_link place (below settled) link passes among = keeps_settled place settled.standing
 
   sized_link : (place : Place) (count : ℕ) → IsPlaceOf copies spliced is place → IsLinkOf original place.start place.end
-      → (IsToldStart copies place.end place.start → ⊥) → PassesParity (slice_range original place.start place.end)
+      → (IsClaimedStart copies place.end place.start → ⊥) → PassesParity (slice_range original place.start place.end)
       → IsCombination (map sized (versions_at copies place.start place.end)) (slice_range original place.start place.end) → place.standing ≡ Woven count
       → slice_range spliced.payload place.start place.end ≡ slice_range original place.start place.end
   sized_link place count (above settled) link untold passes among as_woven = (keeps_settled place settled.standing).woven count as_woven
@@ -163,8 +163,8 @@ woven_is_original original copies spliced place is there = keeps_link original c
 
 module _ (original : List ℕ) (copies : List (List ℕ)) (spliced : SplicedValue) (of : AreCopiesOf original copies)
     (weavable : AreWeavableDown original copies) (is : IsDivisionOf copies spliced) (given : IsGivenBack spliced) where
-  -- a start that is told alone is the link's
-  told_cut : (start end : ℕ) → IsEnd original end → 0 < end → IsOnly (IsToldStart copies end) start → IsCut original start end
+  -- a start that is claimed alone is the link's
+  told_cut : (start end : ℕ) → IsEnd original end → 0 < end → IsOnly (IsClaimedStart copies end) start → IsCut original start end
   told_cut start end is_end after only =
       let at = link_at original of.whole end is_end after in
       subst (λ s. IsCut original s end) (only.others at.0 (weavable.told at.0 end (record { is_end = is_end; cut = at.1 }))) at.1

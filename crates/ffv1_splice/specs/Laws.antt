@@ -7,7 +7,7 @@ use Rattle.ffv1_bits.specs.Parity.{PassesParity}
 use Rattle.ffv1_weave.specs.Combinations.{IsCombination}
 use Rattle.ffv1_weave.specs.Weave.{AreMany}
 use Rattle.ffv1_weave.specs.Repairs.{IsRepair}
-use Rattle.ffv1_splice.specs.Pieces.{IsToldStart}
+use Rattle.ffv1_splice.specs.Pieces.{IsClaimedStart}
 use Rattle.ffv1_splice.specs.Standings.{versions_at, sized}
 use Rattle.ffv1_splice.specs.Splice.{SplicedValue, IsSpliceOf, IsGivenBack, leg_places}
 use Rattle.ffv1_splice.specs.Originals.{AreCopiesOf, AgreeWith, AgreeFromBelow, HaveEachLink, IsAmong, AreWeavable, AreNearCopies, IsIntactInSome}
@@ -57,16 +57,17 @@ SettledWalksAreOriginal =
     → AgreeFromBelow original copies → (is : IsSpliceOf copies spliced)
     → All (IsItsLink original spliced) is.above × All (IsItsLink original spliced) is.below
 
--- Where besides some copy tells the start of each link, the places over slices that are lost in all copies are links of the original too, and
--- those that are settled after them, byte for byte.
+-- a place is a link of the original, and byte for byte where it is settled
 pub record IsLinkIfSettled (original : List ℕ) (spliced : SplicedValue) (place : Place) : Type 0 where
   pub link : IsLinkOf original place.start place.end
   pub settled : place.standing ≡ Settled → IsItsLink original spliced place
 
+-- And where some copy claims the start of each link besides, each place over a slice that is lost in all copies is a link of the original,
+-- and each that is settled after one is so byte for byte.
 abbrev pub WalkAcrossIsOriginal : Type 0
 WalkAcrossIsOriginal =
     (original : List ℕ) (copies : List (List ℕ)) (spliced : SplicedValue) → AreCopiesOf original copies → AgreeWith original copies
-    → AgreeFromBelow original copies → ((start end : ℕ) → IsLinkOf original start end → IsToldStart copies end start)
+    → AgreeFromBelow original copies → ((start end : ℕ) → IsLinkOf original start end → IsClaimedStart copies end start)
     → (is : IsSpliceOf copies spliced) → All (IsLinkIfSettled original spliced) (leg_places is.legs)
 
 -- ---- what is woven
@@ -87,18 +88,18 @@ WovenIsOriginal =
     → IsLinkOf original place.start place.end → PassesParity (slice_range original place.start place.end)
     → IsAmong original copies place.start place.end → KeepsLink original copies spliced place
 
--- Where no copy tells the start of that link, so it is woven from the front of the hole: what is woven is the original's slice, if that
+-- Where no copy claims the start of that link, so it is woven from the front of the hole: what is woven is the original's slice, if that
 -- passes its parity and is among the combinations of what the copies have there, each with the size of a slice that is as long.
 abbrev pub SizedIsOriginal : Type 0
 SizedIsOriginal =
     (original : List ℕ) (copies : List (List ℕ)) (spliced : SplicedValue) (place : Place) (count : ℕ) → IsSpliceOf copies spliced
-    → Contains spliced.places place → IsLinkOf original place.start place.end → (IsToldStart copies place.end place.start → ⊥)
+    → Contains spliced.places place → IsLinkOf original place.start place.end → (IsClaimedStart copies place.end place.start → ⊥)
     → PassesParity (slice_range original place.start place.end)
     → IsCombination (map sized (versions_at copies place.start place.end)) (slice_range original place.start place.end) → place.standing ≡ Woven count
     → slice_range spliced.payload place.start place.end ≡ slice_range original place.start place.end
 
--- Where the original's slice passes its parity, and is one of the combinations of what the copies have there with one bit inverted: what is
--- repaired is the original's slice.
+-- Where the original's slice passes its parity, and is one of the combinations of what the copies have there that are tried, with one bit
+-- inverted: what is repaired is the original's slice.
 abbrev pub RepairedIsOriginal : Type 0
 RepairedIsOriginal =
     (original : List ℕ) (copies : List (List ℕ)) (spliced : SplicedValue) (place : Place) (count : ℕ) → IsSpliceOf copies spliced

@@ -4,7 +4,7 @@ use Rattle.ffv1_bits.specs.Parity.{AreBytes, PassesParity}
 use Rattle.ffv1_slice.specs.Chain.{IsEnd, IsLinkOf, Piece, piece_of}
 use Rattle.ffv1_slice.specs.Near.{IsHurtWithin32}
 use Rattle.ffv1_weave.specs.Combinations.{IsCombination}
-use Rattle.ffv1_splice.specs.Pieces.{HasContent, IsPiece, IsToldStart, PieceFrom}
+use Rattle.ffv1_splice.specs.Pieces.{HasContent, IsPiece, IsClaimedStart, PieceFrom}
 use Rattle.ffv1_splice.specs.Standings.{versions_at}
 
 -- The chain of the original is whole, and all copies are as long as it is.
@@ -38,7 +38,7 @@ IsAmong original copies start end = IsCombination (versions_at copies start end)
 pub record AreWeavable (original : List ℕ) (copies : List (List ℕ)) : Type 0 where
   pub agree : AgreeWith original copies
   pub below : AgreeFromBelow original copies
-  pub told : (start end : ℕ) → IsLinkOf original start end → IsToldStart copies end start
+  pub told : (start end : ℕ) → IsLinkOf original start end → IsClaimedStart copies end start
   pub passes : (start end : ℕ) → IsLinkOf original start end → PassesParity (slice_range original start end)
   pub among : (start end : ℕ) → IsLinkOf original start end → IsAmong original copies start end
 

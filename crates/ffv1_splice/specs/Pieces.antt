@@ -7,7 +7,7 @@ use Rattle.std.specs.declared.cmp.Ordering.TheVariants.{Less}
 use Rattle.ffv1_bits.specs.Parity.{PassesParity}
 use Rattle.ffv1_slice.specs.Chain.{IsCut, Piece}
 
--- The slice between two places has content before its footer. One without is neither a piece nor a told start: a sector of zeros reads
+-- The slice between two places has content before its footer. One without is neither a piece nor a claimed start: a sector of zeros reads
 -- as a row of links of size 0, each of which passes its parity, and no slice of a frame is without content.
 abbrev pub HasContent : (start end : ℕ) → Type 0
 HasContent start end = start + 8 < end
@@ -23,7 +23,7 @@ pub record IsPiece (copies : List (List ℕ)) (end : ℕ) (piece : Piece) : Type
   pub passes : PassesParity piece.bytes
 
 -- The footer that ends there in some copy tells this start, of a slice that has content, whatever the parity.
-pub record IsToldStart (copies : List (List ℕ)) (end start : ℕ) : Type 0 where
+pub record IsClaimedStart (copies : List (List ℕ)) (end start : ℕ) : Type 0 where
   pub copy : List ℕ
   pub there : Contains copies copy
   pub cut : IsCut copy start end

@@ -1,18 +1,18 @@
--- The starts that are told at an end, as they are tried one after the other.
+-- The starts that are claimed at an end, as they are tried one after the other.
 use Rattle.std.specs.Prelude.{ℕ, ◌+◌, ◌-◌, ◌^◌, ◌<◌, ◌≤◌, ◌≡◌, List, length, map, min, slice_index, sum}
 use Rattle.ffv1_weave.specs.Weave.{Weave, IsWeaveOf}
 use Rattle.ffv1_weave.specs.Weave.Weave.{woven, missing}
 use Rattle.ffv1_weave.specs.declared.check.Check.TheVariants.{Slice}
-use Rattle.ffv1_splice.specs.Pieces.{IsToldStart}
+use Rattle.ffv1_splice.specs.Pieces.{IsClaimedStart}
 use Rattle.ffv1_splice.specs.Standings.{versions_at, sized, IsWeaveOfSeveral}
 use Rattle.ffv1_splice.specs.declared.several.Tried.{Tried}
 use Rattle.ffv1_splice.specs.declared.several.Tried.TheVariants as tries
 
--- The least start from a place on that is told at an end.
-pub record IsNextTold (copies : List (List ℕ)) (end from start : ℕ) : Type 0 where
-  pub there : IsToldStart copies end start
+-- The least start from a place on that is claimed at an end.
+pub record IsNextClaimedStart (copies : List (List ℕ)) (end from start : ℕ) : Type 0 where
+  pub there : IsClaimedStart copies end start
   pub beyond : from ≤ start
-  pub least : (other : ℕ) → IsToldStart copies end other → from ≤ other → start ≤ other
+  pub least : (other : ℕ) → IsClaimedStart copies end other → from ≤ other → start ≤ other
 
 -- what came of the starts so far, of how many combinations
 pub data TriedValue : Type 0 where
@@ -37,19 +37,19 @@ tried_told (tries.Missing count) = none_woven count
 tried_told (tries.Woven start bytes count) = one_woven start bytes.items count
 tried_told tries.Undecided = undecided
 
--- How many combinations were tried from each place before one, 0 where no start is told there; and nothing comes of any start but one that
+-- How many combinations were tried from each place before one, 0 where no start is claimed there; and nothing comes of any start but one that
 -- is set apart.
 pub record AreMissing (copies : List (List ℕ)) (end from : ℕ) (IsApart : ℕ → Type 0) (tried : List ℕ) : Type 0 where
   pub places : length tried ≡ from
-  pub missing' : (start : ℕ) → start < from → IsToldStart copies end start → (IsApart start → ⊥)
+  pub missing' : (start : ℕ) → start < from → IsClaimedStart copies end start → (IsApart start → ⊥)
       → IsWeaveOf Slice (map sized (versions_at copies start end)) (missing (slice_index tried start))
-  pub untold : (start : ℕ) → (IsToldStart copies end start → ⊥) → slice_index tried start ≡ 0
+  pub untold : (start : ℕ) → (IsClaimedStart copies end start → ⊥) → slice_index tried start ≡ 0
 
 -- something comes of one start alone
 pub record IsOneWoven (copies : List (List ℕ)) (end from start : ℕ) (bytes : List ℕ) (tried : List ℕ) : Type 0 where
   pub others : AreMissing copies end from (λ other. other ≡ start) tried
   pub before : start < from
-  pub told : IsToldStart copies end start
+  pub told : IsClaimedStart copies end start
   pub weave' : IsWeaveOf Slice (map sized (versions_at copies start end)) (woven bytes (slice_index tried start))
 
 -- what comes of the starts before a place

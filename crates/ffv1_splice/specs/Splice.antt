@@ -4,7 +4,7 @@ use Rattle.std.specs.Prelude.{ℕ, zero, suc, ◌+◌, ◌-◌, ◌≡◌, ◌<�
 use Rattle.std.specs.List.{flat_map}
 use Rattle.ffv1_slice.specs.Chain.{Piece, piece_of}
 use Rattle.ffv1_slice.specs.Members.{IsOnly, IsOfNone}
-use Rattle.ffv1_splice.specs.Pieces.{IsPiece, IsToldStart, PieceFrom, IsPieceFrom, IsShortest, IsLeast}
+use Rattle.ffv1_splice.specs.Pieces.{IsPiece, IsClaimedStart, PieceFrom, IsPieceFrom, IsShortest, IsLeast}
 use Rattle.ffv1_splice.specs.Standings.{versions_at, StandsAs, IsStop}
 use Rattle.ffv1_splice.specs.declared.place.Standing.{Standing}
 use Rattle.ffv1_splice.specs.declared.place.Standing.TheVariants.{Settled, Woven, Undivided}
@@ -65,9 +65,9 @@ pub record IsWalkUp (copies : List (List ℕ)) (bound : ℕ) (payload : List ℕ
 
 -- ---- up over slices that are lost in all copies
 
--- A footer that ends there in some copy tells that its slice begins where the copies do, and the place lies within reach.
+-- A footer that ends there in some copy claims that its slice begins where the copies do, and the place lies within reach.
 pub record IsClaimedEnd (copies : List (List ℕ)) (reach end : ℕ) : Type 0 where
-  pub told : IsToldStart copies end 0
+  pub told : IsClaimedStart copies end 0
   pub within : end ≤ reach
 
 -- the first that one copy claims after a place
@@ -77,15 +77,16 @@ pub record IsNextClaimed (copy : List ℕ) (from reach end : ℕ) : Type 0 where
   pub first : (other : ℕ) → from < other → IsClaimedEnd (copy ∷ []) reach other → end ≤ other
 
 -- The slice with which the copies begin is lost in all of them, and ends here: no piece begins with them, this end alone is claimed, no
--- other start is told at it, and no piece ends there. But a piece begins there, which bears the end out.
+-- other start is claimed at it, and no piece ends there. But a piece begins there, which bears the end out.
 pub record IsLostUpTo (copies : List (List ℕ)) (reach end : ℕ) : Type 0 where
   pub lost : IsOfNone (IsPieceFrom copies reach 0)
   pub end' : IsOnly (IsClaimedEnd copies reach) end
-  pub start : IsOnly (IsToldStart copies end) 0
+  pub start : IsOnly (IsClaimedStart copies end) 0
   pub none : IsOfNone (IsPiece copies end)
   pub next : (piece : PieceFrom) × IsPieceFrom copies reach end piece
 
--- A place over such a slice. It stands as what the copies have from its start up to the bound tells of it, and nothing before that.
+-- A place over such a slice. How it stands follows from what the copies have from its start up to the bound. What they have before does not
+-- count.
 pub record IsCrossed (copies : List (List ℕ)) (bound : ℕ) (payload : List ℕ) (place : Place) : Type 0 where
   pub size : ℕ
   pub ends : place.end ≡ place.start + size

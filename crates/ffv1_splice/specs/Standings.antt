@@ -8,7 +8,7 @@ use Rattle.ffv1_weave.specs.Weave.{Weave, IsWeaveOf}
 use Rattle.ffv1_weave.specs.Weave.Weave.{woven, disputed, missing, too_many}
 use Rattle.ffv1_weave.specs.Repairs.{IsRepairOf}
 use Rattle.ffv1_weave.specs.declared.check.Check.TheVariants.{Slice}
-use Rattle.ffv1_splice.specs.Pieces.{HasContent, IsPiece, IsToldStart, IsLeast}
+use Rattle.ffv1_splice.specs.Pieces.{HasContent, IsPiece, IsClaimedStart, IsLeast}
 use Rattle.ffv1_splice.specs.declared.place.Standing.{Standing}
 use Rattle.ffv1_splice.specs.declared.place.Standing.TheVariants.{Settled, Woven, Repaired, Disputed, Missing, Undivided}
 
@@ -16,11 +16,11 @@ use Rattle.ffv1_splice.specs.declared.place.Standing.TheVariants.{Settled, Woven
 abbrev pub versions_at : List (List ℕ) → (start end : ℕ) → List (List ℕ)
 versions_at copies start end = map (λ copy. slice_range copy start end) copies
 
--- No piece ends there. The copies whose footer there tells a start all tell this one, and this is the weave of what the copies have
+-- No piece ends there. The copies whose footer there claims a start all claim this one, and this is the weave of what the copies have
 -- from it on.
 pub record IsWeaveAt (copies : List (List ℕ)) (start end : ℕ) (weave : Weave) : Type 0 where
   pub none : IsOfNone (IsPiece copies end)
-  pub told : IsOnly (IsToldStart copies end) start
+  pub told : IsOnly (IsClaimedStart copies end) start
   pub weave' : IsWeaveOf Slice (versions_at copies start end) weave
 
 -- The bytes with the size field of a slice that is as long as they are: three bytes, the highest first, eight before the end (RFC 9043,
@@ -28,57 +28,57 @@ pub record IsWeaveAt (copies : List (List ℕ)) (start end : ℕ) (weave : Weave
 abbrev pub sized : List ℕ → List ℕ
 sized bytes = take (length bytes - 8) bytes ++ (big_bytes 3 (length bytes - 8) ++ drop (length bytes - 5) bytes)
 
--- No piece ends there, and no footer there tells a start. But the copies begin with a slice, so its size is known, where a size field has
+-- No piece ends there, and no footer there claims a start. But the copies begin with a slice, so its size is known, where a size field has
 -- room for it: this is the weave of what they have up to there, each with that size.
 pub record IsWeaveFromFront (copies : List (List ℕ)) (end : ℕ) (weave : Weave) : Type 0 where
   pub none : IsOfNone (IsPiece copies end)
-  pub untold : IsOfNone (IsToldStart copies end)
+  pub untold : IsOfNone (IsClaimedStart copies end)
   pub content : HasContent 0 end
   pub short : end - 8 < 2 ^ 24
   pub weave' : IsWeaveOf Slice (map sized (versions_at copies 0 end)) weave
 
--- No piece ends there, and the footers there tell several starts. From each of them what the copies have is woven, each with the size of a
+-- No piece ends there, and the footers there claim several starts. From each of them what the copies have is woven, each with the size of a
 -- slice that is as long: from this one come these bytes, and nothing comes from any other. The list has how many combinations were tried
 -- from each place before the end, 0 where no footer tells it, and the count is their sum, or 2^64 - 1 where that is greater. The copies are
 -- of bytes, as all that the code reads, so that a size has one spelling.
 pub record IsWeaveOfSeveral (copies : List (List ℕ)) (start end : ℕ) (bytes : List ℕ) (count : ℕ) : Type 0 where
   pub are_bytes : (copy : List ℕ) → Contains copies copy → AreBytes copy
   pub none : IsOfNone (IsPiece copies end)
-  pub several : IsOfTwo (IsToldStart copies end)
-  pub told : IsToldStart copies end start
+  pub several : IsOfTwo (IsClaimedStart copies end)
+  pub told : IsClaimedStart copies end start
   pub tried : List ℕ
   pub places : length tried ≡ end
   pub weave' : IsWeaveOf Slice (map sized (versions_at copies start end)) (woven bytes (slice_index tried start))
-  pub others : (other : ℕ) → IsToldStart copies end other → (other ≡ start → ⊥)
+  pub others : (other : ℕ) → IsClaimedStart copies end other → (other ≡ start → ⊥)
       → IsWeaveOf Slice (map sized (versions_at copies other end)) (missing (slice_index tried other))
-  pub untold : (other : ℕ) → (IsToldStart copies end other → ⊥) → slice_index tried other ≡ 0
+  pub untold : (other : ℕ) → (IsClaimedStart copies end other → ⊥) → slice_index tried other ≡ 0
   pub counted : count ≡ min (sum tried) (2 ^ 64 - 1)
 
--- One start alone is told, and no combination of what the copies have from it on is a slice. But with one bit inverted one of them is: these
+-- One start alone is claimed, and no combination of what the copies have from it on is a slice. But with one bit inverted one of them is: these
 -- bytes alone, of so many that are tried.
 pub record IsRepairAt (copies : List (List ℕ)) (start end : ℕ) (bytes : List ℕ) (count : ℕ) : Type 0 where
   pub combinations : ℕ
   pub missed : IsWeaveAt copies start end (missing combinations)
   pub repair : IsRepairOf (versions_at copies start end) bytes count
 
--- One start alone is told, and no combination of what the copies have from it on is a slice, with one bit inverted neither, or two that
--- differ are. Or there are more combinations than are tried.
+-- One start alone is claimed, no combination of what the copies have from it on is a slice, and they have no repair. Or there are more
+-- combinations than are tried.
 abbrev pub IsMissingAt : List (List ℕ) → (start end : ℕ) → Type 0
 IsMissingAt copies start end =
     (((count : ℕ) × IsWeaveAt copies start end (missing count))
     × ((bytes : List ℕ) (count : ℕ) → IsRepairOf (versions_at copies start end) bytes count → ⊥))
     ⊎ IsWeaveAt copies start end too_many
 
--- A gap: the copies whose footer there tells a start, of which there is one, all tell the same, and the least of all copies'
+-- A gap: the copies whose footer there claims a start, of which there is one, all claim the same, and the least of all copies'
 -- bytes stand there.
 pub record IsGap (copies : List (List ℕ)) (start end : ℕ) (bytes : List ℕ) : Type 0 where
-  pub told : IsOnly (IsToldStart copies end) start
+  pub told : IsOnly (IsClaimedStart copies end) start
   pub least : IsLeast copies start end bytes
 
--- Settled: the only piece that ends there. Where no piece does, the copies' versions are woven, from the start that is told, or from the one
+-- Settled: the only piece that ends there. Where no piece does, the copies' versions are woven, from the start that is claimed, or from the one
 -- of several that gives a slice, or else from the front. Repaired: no combination of versions is a slice, but one alone is with one bit
--- inverted. Disputed: two pieces that differ end there, or two combinations of versions are a slice; missing: no piece, no combination and
--- no repair is one, or there are too many to be tried.
+-- inverted. Disputed: two pieces that differ end there, or two combinations of versions are a slice; missing: no piece and no
+-- combination is one, and there is no repair, or there are too many combinations to be tried.
 abbrev pub StandsAs : List (List ℕ) → (start end : ℕ) → List ℕ → Standing → Type 0
 StandsAs copies start end bytes Settled = IsOnly (IsPiece copies end) (record { start = start; bytes = bytes })
 StandsAs copies start end bytes (Woven count) =
@@ -90,9 +90,9 @@ StandsAs copies start end bytes Disputed =
 StandsAs copies start end bytes Missing = IsMissingAt copies start end × IsGap copies start end bytes
 StandsAs copies start end bytes Undivided = ⊥
 
--- No place ends there: no piece is the only one, no start is told alone, and nothing is woven from the front or from several starts.
+-- No place ends there: no piece is the only one, no start is claimed alone, and nothing is woven from the front or from several starts.
 pub record IsStop (copies : List (List ℕ)) (end : ℕ) : Type 0 where
   pub unsettled : (piece : Piece) → IsOnly (IsPiece copies end) piece → ⊥
-  pub untold : (start : ℕ) → IsOnly (IsToldStart copies end) start → ⊥
+  pub untold : (start : ℕ) → IsOnly (IsClaimedStart copies end) start → ⊥
   pub unclaimed : (bytes : List ℕ) (count : ℕ) → IsWeaveFromFront copies end (woven bytes count) → ⊥
   pub unwoven : (start : ℕ) (bytes : List ℕ) (count : ℕ) → IsWeaveOfSeveral copies start end bytes count → ⊥

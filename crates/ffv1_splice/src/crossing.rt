@@ -77,15 +77,13 @@ fn place_across(
     }))
 }
 
-/// Where the slice ends with which the copies begin, if it is lost in all of them.
+/// Where the slice ends with which the copies begin, if it is lost in all of them. A slice that passes and begins with them would end at
+/// the one end that is claimed, and none does, so none is looked for.
 fn lost_up_to(copies: &[&[u8]], reach: usize) -> Option<usize>
     requires { All (λ copy. reach ≤ length copy.now) copies.now }
     ensures { MatchOption result ((end : ℕ) → IsLostUpTo (map (λ copy. copy.now) copies.now) reach end → ⊥)
         (IsLostUpTo (map (λ copy. copy.now) copies.now) reach) }
 {
-    if first_from(copies, 0, reach).is_some() {
-        return None;
-    }
     let Starts::One(end) = claimed_ends(copies, reach) else {
         return None;
     };

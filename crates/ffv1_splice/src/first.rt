@@ -1,7 +1,7 @@
-//! The first slice of a hole, where no footer tells its start: it begins with the hole, so its size is known.
+//! The first slice of a hole, where no footer claims its start: it begins with the hole, so its size is known.
 ghost use Rattle.std.specs.Prelude.{◌≤◌, ◌<◌, length, map, All, IfOk};
 ghost use Rattle.ffv1_slice.specs.Members.{IsOfNone};
-ghost use Rattle.ffv1_splice.specs.Pieces.{IsPiece, IsToldStart};
+ghost use Rattle.ffv1_splice.specs.Pieces.{IsPiece, IsClaimedStart};
 ghost use Rattle.ffv1_splice.specs.Placing.{IsPlacedOrStop};
 
 use crate::place::{Place, Standing};
@@ -12,7 +12,7 @@ use ffv1_slice::FOOTER_LENGTH;
 use ffv1_weave::Outcome;
 use std::alloc::{AllocError, Global};
 
-/// The place from the copies' start up to an end at which no piece ends and no start is told. It is there only where one combination alone
+/// The place from the copies' start up to an end at which no piece ends and no start is claimed. It is there only where one combination alone
 /// of what the copies have, each with the size that the slice then has, is a slice: that is written over the payload's bytes. Each copy
 /// has the end, and so has the payload. It takes memory for what each copy has up to the end.
 pub(crate) fn first_before(
@@ -25,7 +25,7 @@ pub(crate) fn first_before(
     requires within { All (λ copy. end ≤ length copy.now) copies.now }
     requires room { end ≤ length payload.old }
     requires none { IsOfNone (IsPiece (map (λ copy. copy.now) copies.now) end) }
-    requires untold { IsOfNone (IsToldStart (map (λ copy. copy.now) copies.now) end) }
+    requires untold { IsOfNone (IsClaimedStart (map (λ copy. copy.now) copies.now) end) }
     ensures { IfOk result (IsPlacedOrStop (map (λ copy. copy.now) copies.now) end payload.old payload.new) }
 {
     if end <= FOOTER_LENGTH || end > SLICE_LIMIT as usize {

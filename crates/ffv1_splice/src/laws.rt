@@ -25,8 +25,9 @@ pub fn settled_walks_are_original()
     ensures { SettledWalksAreOriginal }
 {}
 
-/// Where besides some copy tells the start of each slice of the original, the places over slices that are lost in all copies are slices of
-/// the original, and those that are settled after them are so byte for byte.
+/// Where no slice with content that passes its parity tells other than an original, neither from an end of the original's slices nor
+/// from a start of one, and some copy claims the start of each of them: each place over a slice that is lost in all copies lies where a
+/// slice of the original does, and each that is settled after one is that slice, byte for byte.
 pub fn walk_across_is_original()
     ensures { WalkAcrossIsOriginal }
 {}
@@ -43,8 +44,8 @@ pub fn sized_is_original()
     ensures { SizedIsOriginal }
 {}
 
-/// At a place where the original's slice passes its parity, and is one of the combinations of what the copies have there with one bit
-/// inverted: what is repaired is the original's slice.
+/// At a place where the original's slice passes its parity, and is one of the combinations of what the copies have there that are tried,
+/// with one bit inverted: what is repaired is the original's slice.
 pub fn repaired_is_original()
     ensures { RepairedIsOriginal }
 {}

@@ -1,7 +1,7 @@
 //! The places of a splice, each found by what all copies tell at its end, and written into the payload.
 ghost use Rattle.std.specs.Prelude.{◌≡◌, ◌+◌, ◌≤◌, ◌<◌, ℕ, length, map, All, IfOk};
 ghost use Rattle.ffv1_slice.specs.Members.{IsOnly, IsOfTwo, IsOfNone};
-ghost use Rattle.ffv1_splice.specs.Pieces.{IsPiece, IsToldStart};
+ghost use Rattle.ffv1_splice.specs.Pieces.{IsPiece, IsClaimedStart};
 ghost use Rattle.ffv1_weave.specs.Weave.Weave.{missing};
 ghost use Rattle.ffv1_splice.specs.Standings.{versions_at, IsWeaveAt};
 ghost use Rattle.ffv1_splice.specs.Placing.{written, IsPlaced, IsPlacedOrStop};
@@ -53,7 +53,7 @@ fn disputed_before(
     requires within { All (λ copy. end ≤ length copy.now) copies.now }
     requires room { end ≤ length payload.old }
     requires two { IsOfTwo (IsPiece (map (λ copy. copy.now) copies.now) end) }
-    requires told { Tells (IsToldStart (map (λ copy. copy.now) copies.now) end) (starts_told starts) }
+    requires told { Tells (IsClaimedStart (map (λ copy. copy.now) copies.now) end) (starts_told starts) }
     ensures { IsPlacedOrStop (map (λ copy. copy.now) copies.now) end payload.old payload.new result }
 {
     let Starts::One(start) = starts else {
@@ -68,7 +68,7 @@ fn disputed_before(
     })
 }
 
-/// The place that ends there, where no piece does. Where no start is told there either, it is the first slice, or there is none; where
+/// The place that ends there, where no piece does. Where no start is claimed there either, it is the first slice, or there is none; where
 /// several are, it begins at one of them, or there is none.
 fn woven_before(
     alloc: Global,
@@ -81,7 +81,7 @@ fn woven_before(
     requires within { All (λ copy. end ≤ length copy.now) copies.now }
     requires room { end ≤ length payload.old }
     requires none { IsOfNone (IsPiece (map (λ copy. copy.now) copies.now) end) }
-    requires told { Tells (IsToldStart (map (λ copy. copy.now) copies.now) end) (starts_told starts) }
+    requires told { Tells (IsClaimedStart (map (λ copy. copy.now) copies.now) end) (starts_told starts) }
     ensures { IfOk result (IsPlacedOrStop (map (λ copy. copy.now) copies.now) end payload.old payload.new) }
 {
     let start = match starts {
@@ -109,7 +109,7 @@ pub(crate) fn weave_at(
     requires within { All (λ copy. end ≤ length copy.now) copies.now }
     requires room { end ≤ length payload.old }
     requires none { IsOfNone (IsPiece (map (λ copy. copy.now) copies.now) end) }
-    requires told { IsOnly (IsToldStart (map (λ copy. copy.now) copies.now) end) start }
+    requires told { IsOnly (IsClaimedStart (map (λ copy. copy.now) copies.now) end) start }
     ensures { IfOk result (λ standing. IsPlaced (map (λ copy. copy.now) copies.now) end payload.old payload.new
         (record { start = start; end = end; standing = standing })) }
 {

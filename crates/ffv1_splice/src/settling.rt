@@ -9,7 +9,7 @@ ghost use Rattle.ffv1_splice.specs.declared.place.Place.{Place};
 use crate::place::{Place, Standing};
 use crate::placing::write_at;
 use crate::shortest::first_from;
-use crate::told::{Pieces, told_at, told_start};
+use crate::told::{Pieces, claimed_start, told_at};
 use ffv1_bits::passes;
 use std::alloc::{AllocError, Global};
 
@@ -60,7 +60,7 @@ pub(crate) fn bound_below(copies: &[&[u8]], end: usize) -> usize
 {
     let mut bound = end;
     for copy in copies {
-        if let Some(start) = told_start(copy, end) {
+        if let Some(start) = claimed_start(copy, end) {
             if start < bound && passes(&copy[start..end]) {
                 bound = start;
             }

@@ -1,18 +1,18 @@
-//! The slice that ends at a place where the footers tell several starts: it begins at the one from which it can be woven.
+//! The slice that ends at a place where the footers claim several starts: it begins at the one from which it can be woven.
 ghost use Rattle.std.specs.Prelude.{◌≡◌, ◌≤◌, ◌<◌, ℕ, List, Contains, length, map, min, All, IfOk, MatchOption};
 ghost use Rattle.ffv1_bits.specs.Parity.{AreBytes};
 ghost use Rattle.ffv1_slice.specs.Chain.{IsCut};
 ghost use Rattle.ffv1_slice.specs.Members.{IsOfNone, IsOfTwo};
 ghost use Rattle.ffv1_weave.specs.Weave.{weave_told};
 ghost use Rattle.ffv1_weave.specs.Weave.Weave.{woven, missing};
-ghost use Rattle.ffv1_splice.specs.Pieces.{HasContent, IsPiece, IsToldStart};
+ghost use Rattle.ffv1_splice.specs.Pieces.{HasContent, IsPiece, IsClaimedStart};
 ghost use Rattle.ffv1_splice.specs.Placing.{IsPlacedOrStop};
-ghost use Rattle.ffv1_splice.specs.Several.{IsNextTold, AreTriedBefore, tried_told, tried_more};
+ghost use Rattle.ffv1_splice.specs.Several.{IsNextClaimedStart, AreTriedBefore, tried_told, tried_more};
 
 use crate::place::{Place, Standing};
 use crate::placing::write_at;
 use crate::sized::weave_sized;
-use crate::told::told_start;
+use crate::told::claimed_start;
 use ffv1_weave::Outcome;
 use std::alloc::{AllocError, Global};
 
@@ -76,7 +76,7 @@ pub(crate) fn several_before(
     requires within { All (λ copy. end ≤ length copy.now) copies.now }
     requires room { end ≤ length payload.old }
     requires none { IsOfNone (IsPiece (map (λ copy. copy.now) copies.now) end) }
-    requires several { IsOfTwo (IsToldStart (map (λ copy. copy.now) copies.now) end) }
+    requires several { IsOfTwo (IsClaimedStart (map (λ copy. copy.now) copies.now) end) }
     ensures { IfOk result (IsPlacedOrStop (map (λ copy. copy.now) copies.now) end payload.old payload.new) }
 {
     let Tried::Woven(start, bytes, count) = try_starts(alloc, copies, end)? else {
@@ -91,7 +91,7 @@ pub(crate) fn several_before(
     }))
 }
 
-/// What comes of all starts that are told at an end. Each copy has it.
+/// What comes of all starts that are claimed at an end. Each copy has it.
 fn try_starts(alloc: Global, copies: &[&[u8]], end: usize) -> Result<Tried, AllocError>
     requires some { 0 < length copies.now }
     requires within { All (λ copy. end ≤ length copy.now) copies.now }
@@ -100,7 +100,7 @@ fn try_starts(alloc: Global, copies: &[&[u8]], end: usize) -> Result<Tried, Allo
 {
     let mut tried = Tried::Missing(0);
     let mut from = 0;
-    while let Some(start) = next_told(copies, end, from) {
+    while let Some(start) = next_claimed_start(copies, end, from) {
         let outcome = weave_sized(alloc, copies, start, end)?;
         tried = tried.with(start, outcome);
         from = start + 1;
@@ -108,16 +108,16 @@ fn try_starts(alloc: Global, copies: &[&[u8]], end: usize) -> Result<Tried, Allo
     Ok(tried)
 }
 
-/// The least start from a place on that is told at an end. Each copy has the end.
-fn next_told(copies: &[&[u8]], end: usize, from: usize) -> Option<usize>
+/// The least start from a place on that is claimed at an end. Each copy has the end.
+fn next_claimed_start(copies: &[&[u8]], end: usize, from: usize) -> Option<usize>
     requires { All (λ copy. end ≤ length copy.now) copies.now }
-    ensures next { MatchOption result ((start : ℕ) → IsToldStart (map (λ copy. copy.now) copies.now) end start → start < from)
-        (IsNextTold (map (λ copy. copy.now) copies.now) end from) }
+    ensures next { MatchOption result ((start : ℕ) → IsClaimedStart (map (λ copy. copy.now) copies.now) end start → start < from)
+        (IsNextClaimedStart (map (λ copy. copy.now) copies.now) end from) }
     ensures bytes { (copy : List ℕ) → Contains (map (λ copy. copy.now) copies.now) copy → AreBytes copy }
 {
     let mut next = None;
     for copy in copies {
-        if let Some(start) = told_from(copy, end, from) {
+        if let Some(start) = claimed_from(copy, end, from) {
             next = Some(lesser(next, start));
         }
     }
@@ -125,13 +125,13 @@ fn next_told(copies: &[&[u8]], end: usize, from: usize) -> Option<usize>
 }
 
 /// The start that a copy tells at an end, where it is not before a place.
-fn told_from(copy: &[u8], end: usize, from: usize) -> Option<usize>
+fn claimed_from(copy: &[u8], end: usize, from: usize) -> Option<usize>
     requires { end ≤ length copy.now }
     ensures told { MatchOption result ((start : ℕ) → IsCut copy.now start end → HasContent start end → start < from)
         (λ start. IsCut copy.now start end × HasContent start end × from ≤ start) }
     ensures bytes { AreBytes copy.now }
 {
-    let Some(start) = told_start(copy, end) else {
+    let Some(start) = claimed_start(copy, end) else {
         return None;
     };
     if from <= start { Some(start) } else { None }

@@ -96,13 +96,14 @@ fn stands_whole(place: &Place) -> bool
 }
 
 /// Splices copies of one frame, of which there is one at least. Places are settled down from its end and up from its start. From there the
-/// walk up goes on over slices that are lost in all copies, 64 at most: where one end alone is claimed by a footer that leads back to the
-/// lost slice's start, and a slice that passes its parity begins there. The hole that is left is divided from its own end. Where no footer tells the start of a slice there, it is taken for the first of
-/// the hole, which begins with the hole and so has a known size: it is a place where it is woven. Where footers tell several starts, what the
-/// copies have is woven from each, and it is a place where it is woven from one alone, and from each other no combination is a slice: that
-/// takes a weave for each start, of which there is one at most for each copy. Where they tell one start, and no combination of what the
-/// copies have from it on is a slice, the place is repaired where one of these with one bit inverted alone is: that takes at most
-/// 2^20 tries. However the same copies are ordered or repeated, the answer is the same.
+/// walk up goes on over slices that are lost in all copies, 64 at most: where no slice that passes its parity begins at the lost slice's
+/// start, one end alone is claimed for it, at which no other start is claimed and no slice that passes ends, and a slice that passes begins
+/// there. The hole that is left is divided from its own end. Where no footer claims the start of a slice there, it is taken for the first
+/// of the hole, which begins with the hole and so has a known size: it is a place where it is woven. Where footers claim several starts,
+/// what the copies have is woven from each, and it is a place where it is woven from one alone, and from each other no combination is a
+/// slice: that takes a weave for each start, of which there is one at most for each copy. Where they claim one start, and no combination of
+/// what the copies have from it on is a slice, the place is repaired where one of these with one bit inverted alone is, if these are at
+/// most 2^20. However the same copies are ordered or repeated, the answer is the same.
 ///
 /// `OtherLength` comes exactly where some copy is not as long as the first; the only other refusal is `Memory`.
 pub fn splice(alloc: Global, copies: &[&[u8]]) -> Result<Spliced, SpliceFault>

@@ -1,7 +1,7 @@
 //! What copies tell of the slice that ends at a place, each looked at once.
 ghost use Rattle.std.specs.Prelude.{◌≡◌, ◌≤◌, ◌<◌, ◌↔◌, ℕ, IsTrue, length, map, All, MatchOption};
 ghost use Rattle.ffv1_slice.specs.Chain.{IsCut};
-ghost use Rattle.ffv1_splice.specs.Pieces.{HasContent, IsPiece, IsToldStart, IsLeast};
+ghost use Rattle.ffv1_splice.specs.Pieces.{HasContent, IsPiece, IsClaimedStart, IsLeast};
 ghost use Rattle.ffv1_splice.specs.Told.{Tells, TellsMore, TellsBoth, pieces_told, starts_told};
 
 use ffv1_bits::passes;
@@ -18,12 +18,12 @@ pub(crate) enum Pieces<'a> {
     Two,
 }
 
-/// The starts that the footers tell which end at a place, of slices with content.
+/// What footers claim of slices with content: the starts of those that end at a place, or the ends of those that begin at one.
 #[derive(Clone, Copy)]
 pub(crate) enum Starts {
-    /// None tells one.
+    /// None claims one.
     None,
-    /// All that tell one tell this.
+    /// All that claim one claim this.
     One(usize),
     /// Two differ.
     Two,
@@ -79,7 +79,7 @@ impl Starts {
 
 /// Where the slice begins whose footer ends at this place, as `slice_start` says; but `None` too where it has no content. Zeros read
 /// as a row of such slices, each of which passes its parity.
-pub(crate) fn told_start(copy: &[u8], end: usize) -> Option<usize>
+pub(crate) fn claimed_start(copy: &[u8], end: usize) -> Option<usize>
     requires { end ≤ length copy.now }
     ensures { MatchOption result ((start : ℕ) → IsCut copy.now start end → HasContent start end → ⊥)
         (λ start. IsCut copy.now start end × HasContent start end) }
@@ -90,16 +90,16 @@ pub(crate) fn told_start(copy: &[u8], end: usize) -> Option<usize>
     }
 }
 
-/// The pieces that end at a place, and the starts that are told there. Each copy has the place.
+/// The pieces that end at a place, and the starts that are claimed there. Each copy has the place.
 pub(crate) fn told_at<'a>(copies: &[&'a [u8]], end: usize) -> (Pieces<'a>, Starts)
     requires { All (λ copy. end ≤ length copy.now) copies.now }
     ensures pieces { Tells (IsPiece (map (λ copy. copy.now) copies.now) end) (pieces_told result.0) }
-    ensures starts { Tells (IsToldStart (map (λ copy. copy.now) copies.now) end) (starts_told result.1) }
+    ensures starts { Tells (IsClaimedStart (map (λ copy. copy.now) copies.now) end) (starts_told result.1) }
 {
     let mut pieces = Pieces::None;
     let mut starts = Starts::None;
     for copy in copies {
-        if let Some(start) = told_start(copy, end) {
+        if let Some(start) = claimed_start(copy, end) {
             let bytes = &copy[start..end];
             starts = starts.with(start);
             if !pieces.stays_with(start, bytes) && passes(bytes) {

@@ -1,4 +1,4 @@
-use Rattle.std.proofs.Common.{◌+◌, ℕ, List, ◌∷◌, [], ◌++◌, get_or, take, arith, subst}
+use Rattle.std.proofs.Common.{◌+◌, ℕ, List, get_or, take, arith, subst}
 use Rattle.ffv1_splice.specs.Splice.{IsClaimedEnd}
 use Rattle.ffv1_splice.specs.Told.{Tells, starts_told}
 use Rattle.ffv1_weave.proofs.References.{values_of, next_value, all_values, nowhere}

@@ -1,15 +1,11 @@
-use Rattle.std.proofs.Common.{◌+◌, ℕ, List, length, sym, ◌∙◌, subst}
-use Rattle.ffv1_slice.specs.Members.{IsOnly, IsOfNone}
-use Rattle.ffv1_splice.specs.Pieces.{IsPiece, IsToldStart, PieceFrom}
+use Rattle.std.proofs.Common.{◌+◌, ℕ, List, length, subst}
+use Rattle.ffv1_slice.specs.Members.{IsOnly}
+use Rattle.ffv1_splice.specs.Pieces.{IsPiece, IsClaimedStart, PieceFrom}
 use Rattle.ffv1_splice.specs.Splice.{IsClaimedEnd}
 use Rattle.ffv1_splice.specs.Told.{Tells, pieces_told, starts_told}
 use Rattle.ffv1_weave.proofs.References.{values_of}
-use Rattle.ffv1_splice.proofs.Crossings.{lost_begun, not_begun, lost_where_claimed, lost_where_no_piece, lost_where_told, lost_where_borne_out, is_lost}
+use Rattle.ffv1_splice.proofs.Crossings.{lost_where_claimed, lost_where_no_piece, lost_where_told, lost_where_borne_out, is_lost}
 use Rattle.ffv1_splice.proofs.crossing.lost_up_to.Goals as goal
-
-pub returns-then-is_some : goal.returns-then-is_some
-returns-then-is_some c =
-    lost_begun (values_of c.args.copies.now) c.args.reach c.first_from.result (sym c.is_some.ensures ∙ c.if-is_some.true) c.first_from.ensures
 
 pub returns-in_default : goal.returns-in_default
 returns-in_default c =
@@ -36,8 +32,7 @@ returns-in-Some c =
     subst (λ told. Tells (IsClaimedEnd copies c.args.reach) (starts_told told)) c.in-One.is c.claimed_ends.ensures in
     let next : PieceFrom = record { end = c.in-One.end + length c.in-Some.field-0.now; bytes = c.in-Some.field-0.now } in
     is_lost copies c.args.reach c.in-One.end only c.in-One-starts.field-0 next
-    (not_begun copies c.args.reach c.first_from.result (sym c.is_some.ensures ∙ c.if-is_some.false) c.first_from.ensures)
-    (subst (λ told. Tells (IsToldStart copies c.in-One.end) (starts_told told)) c.in-One-starts.is c.told_at-starts.ensures.starts)
+    (subst (λ told. Tells (IsClaimedStart copies c.in-One.end) (starts_told told)) c.in-One-starts.is c.told_at-starts.ensures.starts)
     (subst (λ told. Tells (IsPiece copies c.in-One.end) (pieces_told told)) c.in-None.is c.told_at-starts.ensures.pieces)
     c.in-Some.ensures
 

@@ -9,7 +9,7 @@ use Rattle.ffv1_weave.specs.declared.weaving.Outcome.{Outcome}
 use Rattle.ffv1_weave.specs.declared.weaving.Outcome.TheVariants as outcomes
 use Rattle.ffv1_weave.proofs.WeaveLaws.{same_versions_weave}
 use Rattle.ffv1_weave.proofs.References.{values_of, length-values_of, each_value}
-use Rattle.ffv1_splice.specs.Pieces.{HasContent, IsPiece, IsToldStart}
+use Rattle.ffv1_splice.specs.Pieces.{HasContent, IsPiece, IsClaimedStart}
 use Rattle.ffv1_splice.specs.Placing.{written}
 use Rattle.ffv1_splice.specs.Standings.{versions_at, sized, IsWeaveFromFront}
 use Rattle.ffv1_splice.proofs.FirstSlices.{front_size, stops_untold, not_woven}
@@ -20,7 +20,7 @@ first_there : (copies : List (Bor (List ℕ))) → 0 < length copies → Contain
 first_there copies some = Contains-get_or (values_of copies) 0 [] (omega (arith, length-values_of copies))
 
 -- what the weave of the versions with their size tells, where it is woven
-front_of : (copies : List (List ℕ)) (end : ℕ) → IsOfNone (IsPiece copies end) → IsOfNone (IsToldStart copies end) → HasContent 0 end
+front_of : (copies : List (List ℕ)) (end : ℕ) → IsOfNone (IsPiece copies end) → IsOfNone (IsClaimedStart copies end) → HasContent 0 end
     → end - 8 < 2 ^ 24 → (outcome : Outcome) (bytes : Vec ℕ Global) (count : ℕ)
     → outcome ≡ outcomes.Woven bytes count → IsWeaveOf Slice (map sized (versions_at copies 0 end)) (weave_told outcome) → IsWeaveFromFront copies end (woven bytes.items count)
 front_of copies end none untold content short outcome bytes count is weave =

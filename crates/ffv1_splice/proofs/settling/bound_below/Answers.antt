@@ -11,8 +11,8 @@ loop-copy-preserved c =
     let before : List (List ℕ) = take c.loop-copy.copy-index (values_of c.args.copies.now) in
     let end : ℕ = c.args.end in
     let bound : ℕ = c.loop-copy.bound in
-    subst (λ z. IsBound z end c.match-told_start.bound) (next_value c.args.copies.now c.loop-copy.copy-index nowhere (omega arith))
-    (elim c.match-told_start.branch [
+    subst (λ z. IsBound z end c.match-claimed_start.bound) (next_value c.args.copies.now c.loop-copy.copy-index nowhere (omega arith))
+    (elim c.match-claimed_start.branch [
       | in-Some+then-start-bound+then-passes w ↦
           subst (IsBound (before ++ copy ∷ []) end) (sym w.bound-is)
           (bound_lower before copy end bound w.in-Some.start w.in-Some.ensures.0 w.in-Some.ensures.1 (w.passes.ensures.0 w.if-passes.true)

@@ -1,6 +1,6 @@
 use Rattle.std.proofs.Common.{◌≤◌, ℕ, List, length, refl, ap, subst, ◌∙◌, inr, arith}
 use Rattle.ffv1_weave.proofs.References.{values_of, each_value}
-use Rattle.ffv1_splice.specs.Pieces.{IsPiece, IsToldStart}
+use Rattle.ffv1_splice.specs.Pieces.{IsPiece, IsClaimedStart}
 use Rattle.ffv1_splice.specs.Placing.{written}
 use Rattle.ffv1_splice.specs.Several.{AreTriedBefore, tried_told}
 use Rattle.ffv1_splice.proofs.PlaceSteps.{none_not_only, two_not_only, two_not_none}
@@ -12,8 +12,8 @@ pub returns-in_default : goal.returns-in_default
 returns-in_default c = (
   record {
     unsettled = none_not_only (IsPiece (values_of c.args.copies.now) c.args.end) c.requires.none;
-    untold = two_not_only (IsToldStart (values_of c.args.copies.now) c.args.end) c.requires.several;
-    unclaimed = λ bytes count front. two_not_none (IsToldStart (values_of c.args.copies.now) c.args.end) c.requires.several front.untold;
+    untold = two_not_only (IsClaimedStart (values_of c.args.copies.now) c.args.end) c.requires.several;
+    unclaimed = λ bytes count front. two_not_none (IsClaimedStart (values_of c.args.copies.now) c.args.end) c.requires.several front.untold;
     unwoven = none_of_several (values_of c.args.copies.now) c.args.end c.in_ok-start.field-0 c.in_default.not-Woven c.in_ok-start.ensures.tried;
   },
   refl,

@@ -2,7 +2,7 @@ use Rattle.std.proofs.Common.{◌+◌, sym, subst, arith}
 use Rattle.ffv1_weave.specs.Weave.{weave_told}
 use Rattle.ffv1_weave.proofs.References.{values_of}
 use Rattle.ffv1_splice.specs.Pieces.{HasContent}
-use Rattle.ffv1_splice.specs.Several.{IsNextTold, AreTriedBefore, tried_told}
+use Rattle.ffv1_splice.specs.Several.{IsNextClaimedStart, AreTriedBefore, tried_told}
 use Rattle.ffv1_splice.proofs.ShortestSteps.{cut_is_short}
 use Rattle.ffv1_splice.proofs.SeveralSteps.{tried_none, tried_next, tried_end}
 use Rattle.ffv1_splice.proofs.several.try_starts.Goals as goal
@@ -15,8 +15,8 @@ weave_sized-requires-clause-footer c = let content : HasContent c.in-Some.start 
 
 pub weave_sized-requires-clause-short : goal.weave_sized-requires-clause-short
 weave_sized-requires-clause-short c =
-    let next : IsNextTold (values_of c.args.copies.now) c.args.end c.loop-start.from c.in-Some.start = c.in-Some.ensures.next in
-    let short = cut_is_short next.there.copy c.in-Some.start c.args.end (c.next_told.ensures.bytes next.there.copy next.there.there) next.there.cut in
+    let next : IsNextClaimedStart (values_of c.args.copies.now) c.args.end c.loop-start.from c.in-Some.start = c.in-Some.ensures.next in
+    let short = cut_is_short next.there.copy c.in-Some.start c.args.end (c.next_claimed_start.ensures.bytes next.there.copy next.there.there) next.there.cut in
     omega arith
 
 pub loop-start-preserved : goal.loop-start-preserved
@@ -35,4 +35,4 @@ returns-clause-tried c =
     (tried_told c.loop-start.tried) c.loop-start.invariant.tried
 
 pub returns-clause-bytes : goal.returns-clause-bytes
-returns-clause-bytes c = c.next_told.ensures.bytes
+returns-clause-bytes c = c.next_claimed_start.ensures.bytes

@@ -2,7 +2,7 @@ use Rattle.std.proofs.Common.{◌≡◌, ℕ, List, [], ◌∷◌, ◌++◌, get
 use Rattle.std.specs.Prelude.{slice_range}
 use Rattle.ffv1_bits.specs.Parity.{PassesParity}
 use Rattle.ffv1_slice.specs.Chain.{IsCut}
-use Rattle.ffv1_splice.specs.Pieces.{HasContent, IsPiece, IsToldStart}
+use Rattle.ffv1_splice.specs.Pieces.{HasContent, IsPiece, IsClaimedStart}
 use Rattle.ffv1_splice.specs.Told.{Tells, pieces_told, starts_told}
 use Rattle.ffv1_splice.specs.declared.told.Pieces.{Pieces}
 use Rattle.ffv1_splice.specs.declared.told.Starts.{Starts}
@@ -16,14 +16,14 @@ loop-copy-preserved c =
     let copy : List ℕ = (get_or c.args.copies.now c.loop-copy.copy-index nowhere).now in
     let before : List (List ℕ) = take c.loop-copy.copy-index (values_of c.args.copies.now) in
     let more = next_value c.args.copies.now c.loop-copy.copy-index nowhere (omega arith) in
-    let next_pieces = λ (pieces : Pieces) (is : c.match-told_start.pieces ≡ pieces) (told : Tells (IsPiece (before ++ copy ∷ []) c.args.end) (pieces_told pieces)).
-    subst (λ z. Tells (IsPiece z c.args.end) (pieces_told c.match-told_start.pieces)) more
+    let next_pieces = λ (pieces : Pieces) (is : c.match-claimed_start.pieces ≡ pieces) (told : Tells (IsPiece (before ++ copy ∷ []) c.args.end) (pieces_told pieces)).
+    subst (λ z. Tells (IsPiece z c.args.end) (pieces_told c.match-claimed_start.pieces)) more
     (subst (λ p. Tells (IsPiece (before ++ copy ∷ []) c.args.end) (pieces_told p)) (sym is) told) in
-    let next_starts = λ (starts : Starts) (is : c.match-told_start.starts ≡ starts)
-    (told : Tells (IsToldStart (before ++ copy ∷ []) c.args.end) (starts_told starts)).
-    subst (λ z. Tells (IsToldStart z c.args.end) (starts_told c.match-told_start.starts)) more
-    (subst (λ p. Tells (IsToldStart (before ++ copy ∷ []) c.args.end) (starts_told p)) (sym is) told) in
-    elim c.match-told_start.branch [
+    let next_starts = λ (starts : Starts) (is : c.match-claimed_start.starts ≡ starts)
+    (told : Tells (IsClaimedStart (before ++ copy ∷ []) c.args.end) (starts_told starts)).
+    subst (λ z. Tells (IsClaimedStart z c.args.end) (starts_told c.match-claimed_start.starts)) more
+    (subst (λ p. Tells (IsClaimedStart (before ++ copy ∷ []) c.args.end) (starts_told p)) (sym is) told) in
+    elim c.match-claimed_start.branch [
       | in-Some+then-not-stays_with+then-passes w ↦
           let cut : IsCut copy w.in-Some.start c.args.end = w.in-Some.ensures.0 in
           let content : HasContent w.in-Some.start c.args.end = w.in-Some.ensures.1 in
@@ -71,5 +71,5 @@ returns-clause-pieces c =
 
 pub returns-clause-starts : goal.returns-clause-starts
 returns-clause-starts c =
-    subst (λ z. Tells (IsToldStart z c.args.end) (starts_told c.loop-copy.starts)) (all_values c.args.copies.now c.loop-copy.copy-index (omega arith))
+    subst (λ z. Tells (IsClaimedStart z c.args.end) (starts_told c.loop-copy.starts)) (all_values c.args.copies.now c.loop-copy.copy-index (omega arith))
     c.loop-copy.invariant.starts

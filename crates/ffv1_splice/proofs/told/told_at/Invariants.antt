@@ -1,5 +1,5 @@
 use Rattle.std.specs.Prelude.{take, map}
-use Rattle.ffv1_splice.specs.Pieces.{IsPiece, IsToldStart}
+use Rattle.ffv1_splice.specs.Pieces.{IsPiece, IsClaimedStart}
 use Rattle.ffv1_splice.specs.Told.{Tells, pieces_told, starts_told}
 use Rattle.ffv1_splice.proofs.told.told_at.Given as goal
 
@@ -7,5 +7,5 @@ use Rattle.ffv1_splice.proofs.told.told_at.Given as goal
 abbrev pub invariant-loop-copy : goal.invariant-loop-copy
 invariant-loop-copy l = record {
   pieces : Tells (IsPiece (take l.copy-index (map (λ copy. copy.now) l.copies)) l.end) (pieces_told l.pieces);
-  starts : Tells (IsToldStart (take l.copy-index (map (λ copy. copy.now) l.copies)) l.end) (starts_told l.starts);
+  starts : Tells (IsClaimedStart (take l.copy-index (map (λ copy. copy.now) l.copies)) l.end) (starts_told l.starts);
 }

@@ -5,8 +5,8 @@ use Rattle.ffv1_bits.specs.Parity.{AreBytes}
 use Rattle.ffv1_weave.proofs.References.{values_of, next_value, all_values, nowhere}
 use Rattle.ffv1_splice.proofs.ToldSteps.{alone}
 use Rattle.ffv1_splice.proofs.SeveralSteps.{IsNext, next_kept, next_more}
-use Rattle.ffv1_splice.proofs.several.next_told.Goals as goal
-use Rattle.ffv1_splice.proofs.several.next_told.Goals.{in-Some, in_default}
+use Rattle.ffv1_splice.proofs.several.next_claimed_start.Goals as goal
+use Rattle.ffv1_splice.proofs.several.next_claimed_start.Goals.{in-Some, in_default}
 
 -- one more copy of bytes
 bytes_more : (copies : List (List ℕ)) (copy : List ℕ) → ((one : List ℕ) → Contains copies one → AreBytes one) → AreBytes copy
@@ -21,11 +21,11 @@ loop-copy-preserved c =
     let copy : List ℕ = (get_or c.args.copies.now c.loop-copy.copy-index nowhere).now in
     let before : List (List ℕ) = take c.loop-copy.copy-index (values_of c.args.copies.now) in
     let more = next_value c.args.copies.now c.loop-copy.copy-index nowhere (omega arith) in
-    let next = λ (next : Option ℕ) (is : c.match-told_from.next ≡ next) (h : IsNext (before ++ copy ∷ []) c.args.end c.args.from next).
-    subst (λ copies. IsNext copies c.args.end c.args.from c.match-told_from.next) more
+    let next = λ (next : Option ℕ) (is : c.match-claimed_from.next ≡ next) (h : IsNext (before ++ copy ∷ []) c.args.end c.args.from next).
+    subst (λ copies. IsNext copies c.args.end c.args.from c.match-claimed_from.next) more
     (subst (IsNext (before ++ copy ∷ []) c.args.end c.args.from) (sym is) h) in
     record {
-      next = elim c.match-told_from.branch [
+      next = elim c.match-claimed_from.branch [
         | in-Some w ↦
             next (Some w.lesser.result) w.next-is
             (next_more before copy c.args.end c.args.from c.loop-copy.next w.in-Some.start w.lesser.result w.in-Some.ensures.told.0
@@ -35,7 +35,7 @@ loop-copy-preserved c =
             (next_kept before copy c.args.end c.args.from c.loop-copy.next w.in_default.ensures.told c.loop-copy.invariant.next)
       ];
       bytes = subst (λ copies. (one : List ℕ) → Contains copies one → AreBytes one) more
-          (bytes_more before copy c.loop-copy.invariant.bytes c.told_from.ensures.bytes);
+          (bytes_more before copy c.loop-copy.invariant.bytes c.claimed_from.ensures.bytes);
     }
 
 pub returns-clause-next : goal.returns-clause-next

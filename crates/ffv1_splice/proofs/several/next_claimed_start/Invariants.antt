@@ -2,7 +2,7 @@ use Rattle.std.proofs.Common.{ℕ, List, map, take}
 use Rattle.std.specs.Prelude.{Contains}
 use Rattle.ffv1_bits.specs.Parity.{AreBytes}
 use Rattle.ffv1_splice.proofs.SeveralSteps.{IsNext}
-use Rattle.ffv1_splice.proofs.several.next_told.Given as goal
+use Rattle.ffv1_splice.proofs.several.next_claimed_start.Given as goal
 
 -- The least start that the copies so far tell from the place on.
 abbrev pub invariant-loop-copy : goal.invariant-loop-copy

@@ -1,6 +1,6 @@
 use Rattle.std.proofs.Common.{arith}
 use Rattle.ffv1_slice.specs.Chain.{IsCut}
-use Rattle.ffv1_splice.proofs.several.told_from.Goals as goal
+use Rattle.ffv1_splice.proofs.several.claimed_from.Goals as goal
 
 pub returns-else-from-start-clause-told : goal.returns-else-from-start-clause-told
 returns-else-from-start-clause-told c = λ start cut content.
