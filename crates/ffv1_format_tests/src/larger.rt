@@ -1,6 +1,8 @@
 //! The greatest frames: sides of 65535 samples, 4096 tiles, and the run index that lines of that length reach.
 use crate::frames::{are_zeros, frame_of, setup_by, setup_of};
-use ffv1_bits::{Bits, GREATEST_SIDE};
+use ffv1_bits::{
+    Bits, FILE_LIMIT, GREATEST_SIDE, MOST_TILES, PAYLOAD_LIMIT, RECORD_LIMIT, SLICE_LIMIT,
+};
 use ffv1_plane::{TileFault, TilePicture, decode_tile};
 use ffv1_range::{Setup, SetupFault, TileRect};
 use ffv1_rice::{RunIndex, RunWord};
@@ -9,8 +11,17 @@ use ffv1_vectors::{
     MakeFault, RecordSpec, SuiteCase, SuiteContent, SuiteTables, make_record, spell_record,
     suite_record,
 };
+use ffv1_weave::{MOST_COMBINATIONS, MOST_REPAIRS};
 use std::alloc::{AllocError, Global};
 use std::test::Fail;
+
+#[test]
+fn limits_are_these_numbers(rt: HostRuntime) {
+    assert!(rt; GREATEST_SIDE == 65535 && MOST_TILES == 4096);
+    assert!(rt; PAYLOAD_LIMIT == 1_073_741_824 && SLICE_LIMIT == 16_777_223);
+    assert!(rt; RECORD_LIMIT == 16_777_216 && FILE_LIMIT == 2_147_483_648);
+    assert!(rt; MOST_COMBINATIONS == 4096 && MOST_REPAIRS == 1_048_576);
+}
 
 /// What a gray record of a grid is to say, its tables of one run each.
 fn gray_spec(alloc: Global, grid: (u32, u32)) -> Result<RecordSpec, AllocError> {

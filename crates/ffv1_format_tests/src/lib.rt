@@ -1,5 +1,5 @@
-//! Tests of the public calls that read and make bits, codes, records, slices, tiles and frames, and weave slices: worked rows,
-//! recorded frames, made ones, and the greatest.
+//! Tests of the public calls that read and make bits, codes, records, slices, tiles and frames, and weave and repair slices: worked
+//! rows, recorded frames, made ones, and the greatest.
 #![tactic(auto)]
 
 #[cfg(test)]
@@ -20,6 +20,8 @@ mod range;
 mod recorded;
 #[cfg(test)]
 mod records;
+#[cfg(test)]
+mod repair;
 #[cfg(test)]
 mod rice;
 #[cfg(test)]

@@ -7,10 +7,10 @@ use std::alloc::{AllocError, Global};
 const FOOTER: [u8; 8] = [0x00, 0x04, 0x05, 0x00, 0x18, 0x4B, 0x2B, 0x5C];
 
 /// Places of a slice, and what is added to the bytes there, by XOR.
-type Damage<'a> = &'a [(usize, u8)];
+pub(crate) type Damage<'a> = &'a [(usize, u8)];
 
 /// The first slice of `QUARTERED` with this damage, at places that it has. It has 1037 bytes.
-fn version_of(alloc: Global, damage: Damage<'_>) -> Result<Vec<u8>, AllocError> {
+pub(crate) fn version_of(alloc: Global, damage: Damage<'_>) -> Result<Vec<u8>, AllocError> {
     let mut bytes = Vec::from_slice(alloc, QUARTERED[0].0)?;
     bytes.extend_from_slice(&FOOTER)?;
     for (place, change) in damage {

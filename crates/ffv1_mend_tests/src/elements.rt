@@ -49,6 +49,25 @@ fn frames_are_spliced_and_the_rest_is_woven(rt: HostRuntime) -> Result<(), Alloc
 }
 
 #[test]
+fn frames_with_one_wrong_bit_are_repaired(rt: HostRuntime) -> Result<(), AllocError> {
+    let (one, two) = (changed(&[(53, 1), (360, 1)]), changed(&[(53, 1), (450, 1)]));
+    let alone = changed(&[(53, 1)]);
+    let woven = mended(rt.alloc(), &one, &two)?;
+    let passed = mended(rt.alloc(), &alone, &alone)?;
+    assert!(rt;
+        stands(&woven, State::Woven(4), &[], 1) && stands(&passed, State::Woven(1), &[], 1)
+    );
+    assert!(rt;
+        passed.is_good()
+            && passed
+                .splices()
+                .iter()
+                .all(|spliced| !spliced.is_given_back())
+    );
+    Ok(())
+}
+
+#[test]
 fn versions_that_pass_stand(rt: HostRuntime) -> Result<(), AllocError> {
     let (one, right, other) = (changed(ONE), changed(&[]), changed(OTHER));
     let whole = mended(rt.alloc(), &right, &one)?;

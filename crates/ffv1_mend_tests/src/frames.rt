@@ -32,9 +32,17 @@ fn frames_stand_by_their_splices(rt: HostRuntime) -> Result<(), AllocError> {
     let (one, two) = (changed(&[(150, 1)]), changed(&[(230, 1)]));
     let woven = mended(rt.alloc(), &one, &two)?;
     assert!(rt; stands(&woven, State::Woven(4), &[]) && woven.is_good());
-    let (one, two) = (changed(&[(53, 1)]), changed(&[(53, 2)]));
+    let (one, two) = (changed(&[(53, 3)]), changed(&[(53, 12)]));
     let missing = mended(rt.alloc(), &one, &two)?;
     assert!(rt; missing.state() == State::Missing && !missing.is_good());
+    Ok(())
+}
+
+#[test]
+fn frames_with_one_wrong_bit_are_repaired_but_missing(rt: HostRuntime) -> Result<(), AllocError> {
+    let wrong = changed(&[(53, 1)]);
+    let made = mended(rt.alloc(), &wrong, &wrong)?;
+    assert!(rt; stands(&made, State::Missing, &[]) && !made.is_good());
     Ok(())
 }
 

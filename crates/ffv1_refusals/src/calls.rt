@@ -13,7 +13,7 @@ use ffv1_plane::{TileFault, decode_tile};
 use ffv1_range::{Setup, SetupFault};
 use ffv1_slice::content_of;
 use ffv1_splice::{SpliceFault, splice};
-use ffv1_weave::{Check, Outcome as Woven, weave};
+use ffv1_weave::{Check, Outcome as Woven, repair, weave};
 use std::alloc::Global;
 use std::io;
 use std::io::ErrorKind;
@@ -386,6 +386,25 @@ impl Attempt for Weave {
             &[&one[LAST_SLICE..], &other[LAST_SLICE..]],
         ) {
             Ok(Woven::Woven(bytes, 4)) if bytes.as_slice() == &RECORDED[LAST_SLICE..] => {
+                Outcome::Answer(remainder(&bytes))
+            }
+            Ok(_) => Outcome::Wrong,
+            Err(_) => Outcome::Memory,
+        }
+    }
+}
+
+/// `repair` of the last slice of both torn copies, where one bit is wrong in both.
+#[derive(Drop)]
+pub struct Repair;
+
+impl Attempt for Repair {
+    fn attempt(&mut self, alloc: Global) -> Outcome {
+        let [mut one, mut other] = torn_copies();
+        one[250] ^= 1;
+        other[250] ^= 1;
+        match repair(alloc, &[&one[LAST_SLICE..], &other[LAST_SLICE..]]) {
+            Ok(Some((bytes, 3488))) if bytes.as_slice() == &RECORDED[LAST_SLICE..] => {
                 Outcome::Answer(remainder(&bytes))
             }
             Ok(_) => Outcome::Wrong,

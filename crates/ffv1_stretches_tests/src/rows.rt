@@ -24,10 +24,21 @@ fn frames_have_the_lines_of_their_splice(rt: HostRuntime) -> Result<(), Fail> {
 
 #[test]
 fn frame_that_is_missing_has_lines_where_one_copy_has_it(rt: HostRuntime) -> Result<(), Fail> {
+    let mut torn = LEFT_DAMAGED;
+    torn[1] ^= 1;
     let lines =
         "stretch 1 frame missing -1\n  11..22 settled -1\n  0..11 missing -1\n  end whole\n";
+    let pass = pass_of_files(rt.alloc(), "frame 22 2 - 0\n", b"", &torn)?;
+    assert!(rt; pass.came_to(Ok(false), &torn, lines));
+    Ok(())
+}
+
+#[test]
+fn frame_that_is_repaired_is_told_as_missing(rt: HostRuntime) -> Result<(), Fail> {
+    let lines =
+        "stretch 1 frame missing -0\n  11..22 settled -1\n  0..11 repaired 88 -0\n  end whole\n";
     let pass = pass_of_files(rt.alloc(), "frame 22 2 - 0\n", b"", &LEFT_DAMAGED)?;
-    assert!(rt; pass.came_to(Ok(false), &LEFT_DAMAGED, lines));
+    assert!(rt; pass.came_to(Ok(false), &FRAME, lines));
     Ok(())
 }
 

@@ -4,7 +4,7 @@ use ffv1_devices::{
     CutShort, FromRead, FromWrite, NextFault, Sink, Source, ThroughWrite, WholeFault, WriteFailed,
     fill, next_byte, pass_over, read_full, read_next, read_whole, write_field, write_pair,
 };
-use std::alloc::Global;
+use std::alloc::{AllocError, Global};
 use std::io;
 use std::io::{ErrorKind, Write};
 
@@ -86,6 +86,57 @@ fn sixty_five_interrupted_writes_are_a_failure(rt: HostRuntime) {
     assert!(rt; answer == Err(WriteFailed) && is_left);
 }
 
+/// A writer that takes all that it is given, and counts the writes and the bytes.
+#[derive(Drop)]
+struct Counting {
+    writes: usize,
+    bytes: usize,
+}
+
+impl Write for Counting {
+    fn write(&mut self, buf: &[u8]) -> io::Result<usize> {
+        self.writes = self.writes.saturating_add(1);
+        self.bytes = self.bytes.saturating_add(buf.len());
+        Ok(buf.len())
+    }
+
+    fn flush(&mut self) -> io::Result<()> {
+        Ok(())
+    }
+}
+
+/// How many writes two fields of these lengths are, and of how many bytes; or `None` where they are not written.
+fn writes_of_pair(
+    alloc: Global,
+    first: usize,
+    second: usize,
+) -> Result<Option<(usize, usize)>, AllocError> {
+    let (first, second) = (vec![in alloc; 1; first]?, vec![in alloc; 2; second]?);
+    let mut sink = FromWrite::new(Counting {
+        writes: 0,
+        bytes: 0,
+    });
+    let answer = write_pair(&mut sink, &first, &second);
+    let counting = sink.into_inner();
+    Ok(answer.is_ok().then_some((counting.writes, counting.bytes)))
+}
+
+/// The lengths of two fields, and how many writes they are, of how many bytes.
+static PAIRS: [((usize, usize), (usize, usize)); 4] = [
+    ((1, 4095), (1, 4096)),
+    ((4095, 1), (1, 4096)),
+    ((1, 4096), (2, 4097)),
+    ((4096, 1), (2, 4097)),
+];
+
+#[test]
+fn two_fields_of_at_most_4096_bytes_are_one_write(rt: HostRuntime) {
+    for &((first, second), told) in &PAIRS {
+        let found = writes_of_pair(rt.alloc(), first, second);
+        assert!(rt; found == Ok(Some(told)), "{first} and {second}");
+    }
+}
+
 /// Whether bytes are written through a borrow of a list as these.
 fn is_written_as(alloc: Global, bytes: &[u8], wanted: &[u8]) -> bool {
     let mut written = Vec::new(alloc);
@@ -115,7 +166,32 @@ fn next_bytes_come_to_the_front_of_a_room(rt: HostRuntime) {
     let shorter = read_next(&mut source, 2, &mut room);
     assert!(rt; shorter == Ok(()) && room.as_slice() == b"fge".as_slice());
     let claimed = read_next(&mut source, usize::MAX, &mut room);
-    assert!(rt; claimed == Err(NextFault::Read) && room.len() <= 65539);
+    assert!(rt; claimed == Err(NextFault::Read) && room.len() == 3);
+}
+
+/// How long a room is in which a source of so many bytes was to have more than it has, or `None` where that is not told.
+fn room_after(alloc: Global, bytes: usize) -> Result<Option<usize>, AllocError> {
+    let bytes = vec![in alloc; 7; bytes]?;
+    let mut source = FromRead::new(bytes.as_slice());
+    let mut room = Vec::new(alloc);
+    let claimed = read_next(&mut source, usize::MAX, &mut room);
+    Ok((claimed == Err(NextFault::Read)).then_some(room.len()))
+}
+
+/// How many bytes come, and how long the room is then: 65536 bytes at first, and then always as many more as came.
+static ROOMS: [(usize, usize); 5] = [
+    (0, 65536),
+    (65535, 65536),
+    (65536, 131_072),
+    (131_071, 131_072),
+    (131_072, 262_144),
+];
+
+#[test]
+fn room_is_made_as_bytes_come(rt: HostRuntime) {
+    for &(bytes, room) in &ROOMS {
+        assert!(rt; room_after(rt.alloc(), bytes) == Ok(Some(room)), "{bytes}");
+    }
 }
 
 #[test]

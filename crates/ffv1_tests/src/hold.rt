@@ -7,7 +7,7 @@ use ffv1_hold::{
     write_hold,
 };
 use ffv1_range::SetupFault;
-use std::alloc::Global;
+use std::alloc::{AllocError, Global};
 use std::io;
 use std::io::{ErrorKind, Read};
 use std::test::Fail;
@@ -225,16 +225,50 @@ fn an_entry_out_of_order_comes_before_the_device(rt: HostRuntime) -> Result<(), 
     Ok(())
 }
 
+/// A file, a place of it, the greatest number that may stand there, in four bytes, and one more.
+static NUMBERS: [(&[u8], usize, u32, u32); 3] = [
+    // how many bytes the record has, how many a slice, and how many digests stand after a slice
+    (&FILE, 16, 16_777_216, 16_777_217),
+    (&FILE, 40, 16_777_223, 16_777_224),
+    (&SECOND, 55, 67_108_864, 67_108_865),
+];
+
+/// What stands before a place of a file, and then this number.
+fn front_with(
+    alloc: Global,
+    file: &[u8],
+    place: usize,
+    number: u32,
+) -> Result<Vec<u8>, AllocError> {
+    let mut front = Vec::from_slice(alloc, file.get(..place).unwrap_or(&[]))?;
+    front.extend_from_slice(&number.to_be_bytes())?;
+    Ok(front)
+}
+
+/// Whether a file goes on after the one number, so that the device fails, and ends in the other, which is too great.
+fn ends_at(
+    alloc: Global,
+    file: &[u8],
+    place: usize,
+    most: u32,
+    more: u32,
+) -> Result<bool, AllocError> {
+    let most = front_with(alloc, file, place, most)?;
+    let more = front_with(alloc, file, place, more)?;
+    Ok(
+        fault_after(alloc, &most, true) == Some(HoldFileFault::Read)
+            && ends_in(alloc, &more, HoldFileFault::TooLong),
+    )
+}
+
 #[test]
-fn too_many_digests_come_before_the_device(rt: HostRuntime) {
-    // 2^26 are not too many, and one more are.
-    let mut changed = SECOND;
-    changed[55] = 4;
-    changed[58] = 0;
-    let fault = fault_after(rt.alloc(), &changed[..59], true);
-    assert!(rt; fault == Some(HoldFileFault::Read));
-    changed[58] = 1;
-    assert!(rt; ends_in(rt.alloc(), &changed[..59], HoldFileFault::TooLong));
+fn a_number_past_its_limit_comes_before_the_device(rt: HostRuntime) {
+    for &(file, place, most, more) in &NUMBERS {
+        assert!(rt;
+            ends_at(rt.alloc(), file, place, most, more) == Ok(true),
+            "at {place}"
+        );
+    }
 }
 
 #[test]

@@ -41,6 +41,9 @@ const FIRST_COPY: Changes = &[(39, 1), (209, 1)];
 /// Damage in the second slice and the last.
 const SECOND_COPY: Changes = &[(103, 1), (286, 1)];
 
+/// Two bits of the first slice and of the third, so that no single bit can be what is wrong.
+const TWO_BITS: Changes = &[(39, 3), (209, 3)];
+
 /// The first slice changed so that it passes its parity: by a multiple of the parity's polynomial.
 const OTHER_FIRST_SLICE: Changes = &[(10, 0x01), (11, 0x04), (12, 0xC1), (13, 0x1D), (14, 0xB7)];
 
@@ -55,6 +58,15 @@ const LOST: Changes = &[(60, 0x01), (107, 0x80)];
 
 /// And the first.
 const FIRST_LOST: Changes = &[(20, 0x01), (45, 0x80)];
+
+/// The third so, whose footer leads beyond the frame too.
+const THIRD_LOST: Changes = &[(150, 0x01), (219, 0x80)];
+
+/// And damage in the first slice besides, whose footer stands.
+const THIRD_LOST_FIRST_HURT: Changes = &[(20, 0x03), (150, 0x01), (219, 0x80)];
+
+/// The same elsewhere in the first slice.
+const THIRD_LOST_FIRST_HURT_ELSEWHERE: Changes = &[(30, 0x01), (150, 0x01), (219, 0x80)];
 
 /// A footer of the third slice that tells a start within the second.
 const SIZE_TOO_LARGE: Changes = &[(221, 0xF8)];
@@ -117,7 +129,40 @@ fn slices_that_a_copy_has_are_settled(rt: HostRuntime) -> Result<(), Fail> {
 fn slices_that_no_copy_has_are_missing(rt: HostRuntime) -> Result<(), Fail> {
     let (settled, missing) = (Standing::Settled, Standing::Missing);
     let standings = [settled, missing, settled, missing];
-    assert!(rt; changed_give(rt.alloc(), (FIRST_COPY, FIRST_COPY), standings, FIRST_COPY)?);
+    assert!(rt; changed_give(rt.alloc(), (TWO_BITS, TWO_BITS), standings, TWO_BITS)?);
+    Ok(())
+}
+
+/// Whether the splice of two copies with this damage has the frame's bytes, and is not given back.
+fn is_repaired(alloc: Global, changes: Changes) -> Result<bool, Fail> {
+    let copy = changed(changes);
+    let spliced = splice(alloc, &[&copy, &copy])?;
+    Ok(spliced.payload() == RECORDED.as_slice() && !spliced.is_given_back())
+}
+
+#[test]
+fn a_bit_that_is_wrong_in_all_copies_is_repaired(rt: HostRuntime) -> Result<(), Fail> {
+    const SECOND: Changes = &[(103, 1)];
+    let settled = Standing::Settled;
+    let standings = [settled, settled, Standing::Repaired(496), settled];
+    assert!(rt; changed_give(rt.alloc(), (SECOND, SECOND), standings, &[])?);
+    assert!(rt; is_repaired(rt.alloc(), SECOND)?);
+    let standings = [
+        settled,
+        Standing::Repaired(896),
+        settled,
+        Standing::Repaired(424),
+    ];
+    assert!(rt; changed_give(rt.alloc(), (FIRST_COPY, FIRST_COPY), standings, &[])?);
+    assert!(rt; is_repaired(rt.alloc(), FIRST_COPY)?);
+    Ok(())
+}
+
+#[test]
+fn another_bit_of_one_byte_in_each_copy_is_repaired(rt: HostRuntime) -> Result<(), Fail> {
+    let settled = Standing::Settled;
+    let standings = [Standing::Repaired(1744), settled, settled, settled];
+    assert!(rt; changed_give(rt.alloc(), (&[(230, 1)], &[(230, 2)]), standings, &[])?);
     Ok(())
 }
 
@@ -140,7 +185,7 @@ fn bytes_of_one_region_are_woven(rt: HostRuntime) -> Result<(), Fail> {
 #[test]
 fn a_byte_that_is_wrong_in_all_copies_is_missing(rt: HostRuntime) -> Result<(), Fail> {
     let settled = Standing::Settled;
-    let (one, other) = (changed(&[(230, 1)]), changed(&[(230, 2)]));
+    let (one, other) = (changed(&[(230, 3)]), changed(&[(230, 12)]));
     let expected = places([Standing::Missing, settled, settled, settled]);
     let least = one.as_slice().min(&other);
     assert!(rt; gives(rt.alloc(), (&one, &other), &expected, 0, least)?);
@@ -168,6 +213,18 @@ fn a_slice_that_all_copies_lost_with_its_size_is_undivided(rt: HostRuntime) -> R
     let (settled, undivided) = (Standing::Settled, Standing::Undivided);
     let standings = [settled, settled, undivided, settled];
     assert!(rt; changed_give(rt.alloc(), (LOST, LOST), standings, LOST)?);
+    Ok(())
+}
+
+#[test]
+fn places_go_on_over_a_slice_that_all_copies_lost(rt: HostRuntime) -> Result<(), Fail> {
+    let (settled, undivided) = (Standing::Settled, Standing::Undivided);
+    let woven = [settled, undivided, settled, Standing::Woven(4)];
+    let pair = (THIRD_LOST_FIRST_HURT, THIRD_LOST_FIRST_HURT_ELSEWHERE);
+    assert!(rt; changed_give(rt.alloc(), pair, woven, THIRD_LOST)?);
+    let missing = [settled, undivided, settled, Standing::Missing];
+    let pair = (THIRD_LOST_FIRST_HURT, THIRD_LOST_FIRST_HURT);
+    assert!(rt; changed_give(rt.alloc(), pair, missing, THIRD_LOST_FIRST_HURT)?);
     Ok(())
 }
 
@@ -221,7 +278,7 @@ fn tells(
 /// prints.
 type Told = (Changes, Changes, bool, Changes, &'static str);
 
-static TOLD: [Told; 6] = [
+static TOLD: [Told; 7] = [
     (
         FIRST_COPY,
         SECOND_COPY,
@@ -230,11 +287,18 @@ static TOLD: [Told; 6] = [
         "227..336 settled\n115..227 settled\n53..115 settled\n0..53 settled\nend whole\n",
     ),
     (
+        TWO_BITS,
+        TWO_BITS,
+        false,
+        TWO_BITS,
+        "227..336 settled\n115..227 missing\n53..115 settled\n0..53 missing\nend whole\n",
+    ),
+    (
         FIRST_COPY,
         FIRST_COPY,
         false,
-        FIRST_COPY,
-        "227..336 settled\n115..227 missing\n53..115 settled\n0..53 missing\nend whole\n",
+        &[],
+        "227..336 settled\n115..227 repaired 896\n53..115 settled\n0..53 repaired 424\nend whole\n",
     ),
     (
         &[(230, 1)],

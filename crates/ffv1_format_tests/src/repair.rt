@@ -1,0 +1,136 @@
+//! Slices of which one bit is wrong in all versions.
+use crate::parity::with_parity;
+use crate::weave::{Damage, version_of};
+use ffv1_weave::{MOST_REPAIRS, repair};
+use std::alloc::{AllocError, Global};
+
+/// What comes of repairing versions of a slice.
+#[derive(Clone, Copy, PartialEq, Eq)]
+enum Told {
+    /// The slice itself, of so many that were tried.
+    Slice(usize),
+    Other,
+    Nothing,
+    /// The versions are of no one length, or there are none.
+    Uneven,
+}
+
+/// What comes of repairing these versions of a slice.
+fn told_of(alloc: Global, slice: &[u8], versions: &[&[u8]]) -> Result<Told, AllocError> {
+    if versions.is_empty()
+        || !versions
+            .iter()
+            .all(|version| version.len() == versions[0].len())
+    {
+        return Ok(Told::Uneven);
+    }
+    Ok(match repair(alloc, versions)? {
+        Some((bytes, count)) if bytes.as_slice() == slice => Told::Slice(count),
+        Some(_) => Told::Other,
+        None => Told::Nothing,
+    })
+}
+
+/// What comes of repairing the slice's versions with these damages.
+fn told_of_damages(alloc: Global, damages: &[Damage<'_>]) -> Result<Told, AllocError> {
+    let slice = version_of(alloc, &[])?;
+    let mut copies = Vec::new(alloc);
+    for damage in damages {
+        copies.push(version_of(alloc, damage)?)?;
+    }
+    let mut versions = Vec::new(alloc);
+    for copy in copies.as_slice() {
+        versions.push(copy.as_slice())?;
+    }
+    told_of(alloc, &slice, &versions)
+}
+
+/// How many bits the slice has. It has 1029 bytes of content, 3 of its size, its status, and 4 of its parity.
+const BITS: usize = 8 * 1037;
+
+/// Versions by their damage, and what is repaired of them.
+static ROWS: [(&[Damage<'static>], Told); 16] = [
+    // the first bit of the content in one version, two and three
+    (&[&[(0, 0x80)]], Told::Slice(BITS)),
+    (&[&[(0, 0x80)], &[(0, 0x80)]], Told::Slice(BITS)),
+    (
+        &[&[(0, 0x80)], &[(0, 0x80)], &[(0, 0x80)]],
+        Told::Slice(BITS),
+    ),
+    // the last bit of the parity, and another one
+    (&[&[(1036, 1)]], Told::Slice(BITS)),
+    (&[&[(1036, 1)], &[(1036, 1)]], Told::Slice(BITS)),
+    (&[&[(1033, 0x10)]], Told::Slice(BITS)),
+    // the status, and the size
+    (&[&[(1032, 0x08)]], Told::Slice(BITS)),
+    (&[&[(1031, 1)]], Told::Slice(BITS)),
+    // different damage too, in two versions and in three, in whatever order
+    (
+        &[&[(3, 1), (9, 2)], &[(3, 1), (100, 4)]],
+        Told::Slice(4 * BITS),
+    ),
+    (
+        &[&[(3, 1), (9, 2)], &[(3, 1), (100, 4)], &[(3, 1), (9, 2)]],
+        Told::Slice(4 * BITS),
+    ),
+    (
+        &[&[(3, 1), (9, 2)], &[(3, 1), (100, 4)], &[(3, 1), (200, 8)]],
+        Told::Slice(8 * BITS),
+    ),
+    // another bit of one byte in each
+    (&[&[(3, 1)], &[(3, 2)]], Told::Slice(2 * BITS)),
+    // no bit, two bits, and two that are wrong in all versions beside what differs
+    (&[&[]], Told::Nothing),
+    (&[&[(3, 3)], &[(3, 3)]], Told::Nothing),
+    (&[&[(3, 1), (9, 3)], &[(9, 3), (100, 4)]], Told::Nothing),
+    // two slices that differ and pass, each with the same wrong bit
+    (
+        &[
+            &[(3, 1)],
+            &[
+                (3, 1),
+                (10, 0x01),
+                (11, 0x04),
+                (12, 0xC1),
+                (13, 0x1D),
+                (14, 0xB7),
+            ],
+        ],
+        Told::Nothing,
+    ),
+];
+
+#[test]
+fn one_wrong_bit_is_repaired(rt: HostRuntime) {
+    for &(damages, told) in &ROWS {
+        assert!(rt; told_of_damages(rt.alloc(), damages) == Ok(told));
+    }
+}
+
+/// The greatest length of a slice that is repaired, in bytes.
+const GREATEST: u32 = 131_072;
+
+/// A slice with so many bytes of content, all of them `5A`.
+fn slice_of(alloc: Global, content: u32) -> Result<Vec<u8>, AllocError> {
+    let mut bytes = vec![in alloc; 0x5A; content as usize]?;
+    let [_, high, middle, low] = content.to_be_bytes();
+    bytes.extend_from_slice(&[high, middle, low, 0])?;
+    with_parity(bytes)
+}
+
+/// What comes of repairing one version of such a slice whose first bit is wrong.
+fn told_of_content(alloc: Global, content: u32) -> Result<Told, AllocError> {
+    let slice = slice_of(alloc, content)?;
+    let mut version = Vec::from_slice(alloc, &slice)?;
+    if let Some(byte) = version.first_mut() {
+        *byte ^= 0x80;
+    }
+    told_of(alloc, &slice, &[&version])
+}
+
+#[test]
+fn at_most_2_to_the_20_repairs_are_tried(rt: HostRuntime) {
+    let most = told_of_content(rt.alloc(), GREATEST - 8);
+    let more = told_of_content(rt.alloc(), GREATEST - 7);
+    assert!(rt; most == Ok(Told::Slice(MOST_REPAIRS)) && more == Ok(Told::Nothing));
+}
