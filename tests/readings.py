@@ -371,7 +371,7 @@ def read_origins(text, place):
 
 # ---- copies of one length, put together by their footers and parities
 
-MOST_COMBINATIONS, GREATEST_DISTANCE = 4096, 64
+MOST_COMBINATIONS, GREATEST_DISTANCE, MOST_REPAIRS, MOST_CROSSED = 4096, 64, 1 << 20, 64
 # The distances at which pairs of versions are split, the finest first; after them come the regions of all versions.
 DISTANCES = [0, 2, 8, GREATEST_DISTANCE]
 
@@ -435,16 +435,50 @@ def sized(version):
     return version[:-8] + (len(version) - 8).to_bytes(3, "big") + version[-5:]
 
 
-def woven(versions, is_valid):
-    """How many combinations some versions have where they are split as finely as can be tried, and those that are valid; none are looked
-    for where there are too many however they are split."""
+def combinations(versions):
+    """How many combinations some versions have where they are split as finely as can be tried, and these; none of them where there are too
+    many however they are split."""
     distinct, number = sorted(set(versions)), 0
     for places in splits(distinct):
         found = choices(distinct, places)
         number = math.prod(map(len, found))
         if number <= MOST_COMBINATIONS:
-            return number, [whole for whole in map(b"".join, itertools.product(*found)) if is_valid(whole)]
-    return number, []
+            return number, map(b"".join, itertools.product(*found))
+    return number, ()
+
+
+def woven(versions, is_valid):
+    """How many combinations some versions have, and those that are valid."""
+    number, wholes = combinations(versions)
+    return number, [whole for whole in wholes if is_valid(whole)]
+
+
+DIVISOR = 0x104C11DB7
+# What a bit changes of the parity, the last bit first: each twice what the one after it does, less the divisor where that goes past it.
+CHANGES = [parity(b"\x01")]
+
+
+def changes_of_bits(bits):
+    """What each of so many bits changes of the parity, the last bit first."""
+    while len(CHANGES) < bits:
+        twice = CHANGES[-1] << 1
+        CHANGES.append(min(twice, twice ^ DIVISOR))
+    return CHANGES[:bits]
+
+
+def repaired(versions):
+    """How many byte strings are a combination of some versions with one bit inverted, and those that are slices. None are looked for where
+    there are too many."""
+    number, wholes = combinations(versions)
+    bits = 8 * len(versions[0])
+    if number > MOST_COMBINATIONS or number * bits > MOST_REPAIRS:
+        return number * bits, set()
+    places, found = {change: bit for bit, change in enumerate(changes_of_bits(bits))}, set()
+    for whole in wholes:
+        bit = places.get(parity(whole))
+        if bit is not None:
+            found.add((int.from_bytes(whole, "big") ^ 1 << bit).to_bytes(len(whole), "big"))
+    return number * bits, {piece for piece in found if is_slice(piece)}
 
 
 def pieces_that_end(copies, end):
@@ -470,15 +504,36 @@ def settled_down(copies):
     return found, end
 
 
-def settled_up(copies, end):
+def settled_up(copies, top):
     """The only shortest piece that begins at the copies' start, the one that begins where it ends, and so on, as long as no other piece
-    ends where it ends; and where the last ends. None goes past the end below which the walk down stopped, nor into a piece that ends there."""
-    found, start = [], 0
-    top = min((end - len(piece) for piece in pieces_that_end(copies, end)), default=end)
-    while len(pieces := pieces_that_begin(copies, start, top)) == 1 and pieces_that_end(copies, start + len(*pieces)) == pieces:
-        found += pieces
-        start += len(found[-1])
+    ends where it ends; and where the last ends. None goes past the top. Where that stops, it goes on over slices that are lost in all copies:
+    each place as how it stands and its bytes."""
+    found, start, crossed = [], 0, 0
+    while start < top:
+        if len(pieces := pieces_that_begin(copies, start, top)) == 1 and pieces_that_end(copies, start + len(*pieces)) == pieces:
+            found.append(("settled", *pieces))
+        elif crossed < MOST_CROSSED and (place := lost_place([copy[start:top] for copy in copies])):
+            found.append(place)
+            crossed += 1
+        else:
+            break
+        start += len(found[-1][1])
     return found, start
+
+
+def lost_place(copies):
+    """The place at the copies' start of a slice that is lost in all of them: no piece begins there, and one end alone is claimed, at which no
+    piece ends, but one begins. None where it is not so."""
+    top = len(copies[0])
+    if pieces_that_begin(copies, 0, top):
+        return None
+    ends = {end for end in range(9, top + 1) if any(start == 0 for _, start in told_starts(copies, end))}
+    if len(ends) != 1:
+        return None
+    (end,) = ends
+    if not pieces_that_begin(copies, end, top) or pieces_that_end(copies, end) or {start for _, start in told_starts(copies, end)} != {0}:
+        return None
+    return place_before(copies, end)
 
 
 def place_before(copies, end):
@@ -499,7 +554,10 @@ def place_before(copies, end):
     number, slices = (0, []) if pieces else woven(versions, is_slice)
     if len(slices) == 1:
         return f"woven {number}", slices[0]
-    return "disputed" if pieces or slices else "missing", versions[0]
+    if pieces or slices:
+        return "disputed", versions[0]
+    number, slices = repaired(versions)
+    return (f"repaired {number}", *slices) if len(slices) == 1 else ("missing", versions[0])
 
 
 def divided(copies):
@@ -517,10 +575,12 @@ class Splice:
 
     def __init__(self, copies):
         above, top = settled_down(copies)
-        below, bottom = settled_up(copies, top)
+        # Nothing is settled from the start into a piece that ends where the walk down stopped.
+        bound = min((top - len(piece) for piece in pieces_that_end(copies, top)), default=top)
+        below, bottom = settled_up(copies, bound)
         hole, rest = divided([copy[bottom:top] for copy in copies])
         least = min(copy[bottom : bottom + rest] for copy in copies)
-        found = [("settled", piece) for piece in above] + hole + [("undivided", least)] + [("settled", piece) for piece in reversed(below)]
+        found = [("settled", piece) for piece in above] + hole + [("undivided", least)] + list(reversed(below))
         self.payload = b"".join(piece for _, piece in reversed(found))
         # What can't be divided is a place of its own only where places stand below it.
         self.front = 0 if below else rest
@@ -657,10 +717,10 @@ def with_part(content, offset, piece):
 
 
 def improved(versions, parts, splices):
-    """The versions of an element, each with the bytes of all settled and woven places of the splices of its parts."""
+    """The versions of an element, each with the bytes of all settled, woven and repaired places of the splices of its parts."""
     for (offset, _), splice in zip(parts, splices):
         for start, end, stands in splice.places:
-            if is_sure(stands):
+            if is_sure(stands) or stands.startswith("repaired"):
                 versions = {with_part(version, offset + start, splice.payload[start:end]) for version in versions}
     return sorted(versions)
 
