@@ -1,4 +1,5 @@
 """The report for machines, and the page."""
+import dataclasses
 import html.parser
 import io
 import json
@@ -7,7 +8,7 @@ import re
 import unittest
 from unittest import mock
 
-from .test_verdict import element, missing, plain, recording, settled, undivided
+from .test_verdict import element, missing, plain, recording, repaired, settled, undivided
 from mend_reel import machine, report, timeline
 from mend_reel.account import Account, CopyFacts, Role
 from mend_reel.digests import Compared
@@ -116,6 +117,17 @@ class PageTest(unittest.TestCase):
         self.assertIn("0 to 40: that of copy 2", words)
         self.assertIn("woven from several copies, one of 4 combinations", words)
         self.assertNotIn("100 to 300", words)
+
+    def test_a_repaired_slice_is_shown(self):
+        slices = (settled("11", 100), repaired("00", 0, 100))
+        _, words = self.page(account(recording(), Outcome(element(1), State.MISSING, 0, "00", {0: slices})))
+        self.assertIn("0 to 100: one wrong bit inverted, one of 2400 repairs", words)
+
+    def test_a_repaired_slice_of_a_frame_that_decodes_is_shown(self):
+        slices = (settled("11", 100), repaired("00", 0, 100))
+        found = judge(Evidence(recording(), recording().stretches, [Outcome(element(1), State.MISSING, 0, "00", {0: slices})], recording(), decoded={724}))
+        _, words = self.page(dataclasses.replace(account(recording()), verdict=found))
+        self.assertIn("woven 0 to 100: one wrong bit inverted, one of 2400 repairs", words)
 
     def test_a_place_that_is_not_divided_is_shown(self):
         slices = (settled("11", 200), undivided("10", 100, 200), settled("01", 0, 100))

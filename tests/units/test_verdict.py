@@ -63,6 +63,10 @@ def missing(marks="10", start=0, end=300):
     return Place(start, end, "missing", 0, marks)
 
 
+def repaired(marks="00", start=0, end=300):
+    return Place(start, end, "repaired", 2400, marks)
+
+
 def undivided(marks="10", start=0, end=300):
     return Place(start, end, "undivided", 0, marks)
 
@@ -119,6 +123,13 @@ class FateTest(unittest.TestCase):
         slices = (settled("10", 200), undivided("00", 100, 200), settled("01", 0, 100))
         fates = self.fates(recording(), Outcome(element(1), State.WOVEN, 4, "00", {0: slices}))
         self.assertEqual((fates.frames[1].fate, fates.frames[1].damaged, fates.sums().open), (Fate.WOVEN, (0, 1), 0))
+
+    def test_a_repaired_slice_is_lost_where_no_checksum_vouches_for_it(self):
+        slices = (settled("10", 200), repaired("00", 100, 200), settled("01", 0, 100))
+        lost, whole, woven = (self.fates(recording(), Outcome(element(1), state, 0, "00", {0: slices})) for state in
+                              (State.MISSING, State.WHOLE, State.WOVEN))
+        self.assertEqual([fates.frames[1].fate for fates in (lost, whole, woven)], [Fate.LOST, Fate.RESTORED, Fate.WOVEN])
+        self.assertEqual((lost.sums().verified, lost.sums().open), (5 * 500, 500))
 
     def test_woven(self):
         fates = self.fates(recording(), Outcome(element(0), State.WHOLE, 0, "00", {0: (Place(0, 300, "woven", 4, "00"),)}),
@@ -201,6 +212,13 @@ class VerdictTest(unittest.TestCase):
     def test_damage_beside_the_frames(self):
         found = verdict(recording(), Outcome(element(1), State.MISSING, 0, "10", {}))
         self.assertEqual((whys(found), found.counts.damaged), ([Why.BESIDE], 0))
+
+    def test_repaired_slices(self):
+        slices = [(settled("11", 100), repaired("00", 0, 100)), (missing("00", 100), repaired("00", 0, 100))]
+        found = verdict(recording(), *(Outcome(element(number), State.MISSING, 0, "00", {0: each}) for number, each in enumerate(slices, 1)))
+        self.assertEqual((whys(found), found.status), ([Why.REPAIRED, Why.DAMAGED], 3))
+        self.assertEqual(found.reasons[0].text(), "frame 1 (0:00:00.040, bytes 724 to 1024): damaged in every copy; OUT has it with inverted bits, "
+                         "one in a slice, by which all slices pass. That can be by chance; a further copy may restore it")
 
     def test_one_copy(self):
         layout = recording()

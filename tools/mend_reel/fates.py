@@ -71,17 +71,23 @@ def is_given(slices: typing.Sequence[Place]) -> bool:
     return all(place.state in GIVEN for place in slices)
 
 
+def is_repaired(slices: typing.Sequence[Place]) -> bool:
+    """Whether all slices of a frame are settled, woven or repaired, and some are repaired."""
+    return not is_given(slices) and all(place.state in (*GIVEN, "repaired") for place in slices)
+
+
 def copies_of(marks: str, mark: str, columns: typing.Sequence[int]) -> typing.Set[int]:
     """The copies that have a mark. Several marks may be of one copy."""
     return {columns[at] for at, each in enumerate(marks) if each == mark}
 
 
 class Fates:
-    """What became of the frames of a recording. `columns` has the copy that each mark of an outcome is of."""
+    """What became of the frames of a recording. `columns` has the copy that each mark of an outcome is of; `decoded` the places of frames
+    with repaired slices that decode."""
 
     def __init__(self, layout: Layout, stretches: typing.Sequence[Stretch], outcomes: typing.Iterable[Outcome],
-                 columns: typing.Sequence[int]) -> None:
-        self.layout, self.stretches, self.columns = layout, stretches, columns
+                 columns: typing.Sequence[int], decoded: typing.AbstractSet[int] = frozenset()) -> None:
+        self.layout, self.stretches, self.columns, self.decoded = layout, stretches, columns, decoded
         self.places = [frame.place for frame in layout.frames]
         self.orders = count_in_tracks(layout.frames)
         self.outcomes = {outcome.number: outcome for outcome in outcomes}
@@ -132,7 +138,7 @@ class Fates:
         damaged = self.damaged(self.stretches[number].kind, outcome, part is not None, slices)
         if not damaged:
             return None
-        fate = how_it_stands(outcome.state, slices, part is not None)
+        fate = Fate.WOVEN if self.places[at] in self.decoded else how_it_stands(outcome.state, slices, part is not None)
         return FrameFate(at, self.orders[at], self.layout.frames[at], number, fate, tuple(sorted(damaged)), tuple(sorted(lacking)), slices)
 
     def damaged(self, kind: Kind, outcome: Outcome, is_part: bool, slices: typing.Sequence[Place]) -> typing.Set[int]:
@@ -184,6 +190,13 @@ class Fates:
     def state(self, number: int) -> State:
         return self.states[number]
 
+    def is_vouched(self, number: int) -> bool:
+        """Whether a checksum or all copies vouch for a stretch, or it is a frame that decodes with repaired slices."""
+        return self.states[number].is_good() or self.is_decoded(self.stretches[number])
+
+    def is_decoded(self, stretch: Stretch) -> bool:
+        return stretch.kind is Kind.FRAME and bool(stretch.parts) and all(frame.place in self.decoded for frame in stretch.parts)
+
     def find_state(self, number: int, stretch: Stretch) -> State:
         """The state of a stretch. Those that the program did not list are undamaged."""
         outcome, having = self.outcomes.get(number), self.having[number]
@@ -194,8 +207,8 @@ class Fates:
         return State.WHOLE if stretch.kind is not Kind.PLAIN else State.AGREED if having > 1 else State.ALONE
 
     def verified(self, number: int, stretch: Stretch) -> int:
-        """How many bytes of a stretch pass a checksum in OUT: all, or those of its frames that are given back."""
-        if self.state(number) in (State.WHOLE, State.WOVEN):
+        """How many bytes of a stretch pass a checksum in OUT: all, or those of its frames that are given back, or decode with repaired slices."""
+        if self.state(number) in (State.WHOLE, State.WOVEN) or self.is_decoded(stretch):
             return stretch.size
         if stretch.kind is not Kind.ELEMENT:
             return 0
@@ -203,7 +216,7 @@ class Fates:
         given = 0
         for at in self.numbers(stretch):
             fate = self.frames.get(at)
-            if not fate or fate.slices and is_given(fate.slices):
+            if not fate or fate.slices and is_given(fate.slices) or self.places[at] in self.decoded:
                 given += parts.get(self.places[at], 0)
         return given
 

@@ -190,9 +190,9 @@ def open_copy(path: str) -> Copy:
 
 @dataclasses.dataclass(frozen=True)
 class Place:
-    """A slice of a frame as the program tells it: from where to where in the frame, its state (`settled`, `woven`, `disputed`,
-    `missing`, or for what its footers do not divide `undivided` between slices, and `broken` at the frame's start), how many
-    combinations were tried, and a mark for each copy."""
+    """A slice of a frame as the program tells it: from where to where in the frame, its state (`settled`, `woven`, `repaired`,
+    `disputed`, `missing`, or for what its footers do not divide `undivided` between slices, and `broken` at the frame's start), how many
+    combinations or repairs were tried, and a mark for each copy."""
 
     start: int
     end: int

@@ -7,7 +7,7 @@ import pathlib
 import stat
 import typing
 
-from . import choice, differences, heads, health, listing, matching, matroska, packets, probe
+from . import choice, differences, heads, health, listing, matching, matroska, packets, probe, repairs
 from .columns import Columns, add_other_files
 from .fates import Fate
 from .files import Files, check_room, leftovers
@@ -28,12 +28,13 @@ NOWHERE, MATROSKA = "/dev/null", "matroska"
 @dataclasses.dataclass
 class Made:
     """What was made: the stretches in the order of OUT, what became of those that are not undamaged, by their numbers there, what lies where
-    in OUT when it is read again, and its path while it is made."""
+    in OUT when it is read again, its path while it is made, and the places of frames with repaired slices that decode."""
 
     stretches: typing.List[Stretch]
     outcomes: typing.List[Outcome]
     out: Layout
     part: typing.Optional[str] = None
+    decoded: typing.FrozenSet[int] = frozenset()
 
 
 class Session:
@@ -67,7 +68,7 @@ class Session:
         told += [other.told for other in others.values()]
         made = self.make(layout, columns)
         verdict = judge(Evidence(layout, made.stretches, made.outcomes, made.out, told, arrangement.matched, arrangement.left, columns.numbers,
-                                 {number: other.tracks for number, other in others.items()}, self.has_damaged_heads))
+                                 {number: other.tracks for number, other in others.items()}, self.has_damaged_heads, made.decoded))
         self.keep_frames(layout, columns, made, verdict)
         account = Reporter(self.options, self.program, self.files, self.notes).report(copies, arrangement, layout, verdict, made.part)
         self.keeper.hand_over(self.options.copies)
@@ -139,7 +140,9 @@ class Session:
             os.close(file)
         out = open_copy(part)
         try:
-            return Made(*mended, matching.describe([out], self.judge, False), part)
+            self.progress.begin("decoding repaired frames")
+            decoded = repairs.decoded(layout, *mended, repairs.Decoder(os.path.abspath(part)))
+            return Made(*mended, matching.describe([out], self.judge, False), part, decoded)
         finally:
             os.close(out.file)
 

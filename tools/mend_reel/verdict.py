@@ -6,7 +6,7 @@ import dataclasses
 import typing
 
 from .completeness import Seen, find_lacks
-from .fates import Counts, Fate, Fates, FrameFate, Sums
+from .fates import Counts, Fate, Fates, FrameFate, Sums, is_repaired
 from .matching import Left, Matched
 from .model import Because, Content, Kind, Layout, Outcome, State, Stretch, Told, Track
 from .reasons import Reason, Why, join
@@ -20,8 +20,8 @@ PLAYED = (Content.SOUND, Content.VIDEO, Content.SUBTITLES)
 class Evidence:
     """What the verdict is judged by: what OUT was made by and its stretches as they were listed; what became of those that are not undamaged;
     what lies where in OUT as it was read again (None where nothing can be read); what the containers of copies tell of the recording; copies
-    that are other files; copies that are left out; which copy each mark of an outcome is of; the tracks of the other files; and whether
-    damaged element headers of copies were left out."""
+    that are other files; copies that are left out; which copy each mark of an outcome is of; the tracks of the other files; whether
+    damaged element headers of copies were left out; and the places of frames with repaired slices that decode."""
 
     layout: Layout
     stretches: typing.Sequence[Stretch]
@@ -33,6 +33,7 @@ class Evidence:
     columns: typing.Sequence[int] = ()
     tracks: typing.Mapping[int, typing.Sequence[Track]] = dataclasses.field(default_factory=dict)
     has_damaged_heads: bool = False
+    decoded: typing.AbstractSet[int] = frozenset()
 
 
 @dataclasses.dataclass
@@ -61,7 +62,7 @@ class Verdict:
 def judge(evidence: Evidence) -> Verdict:
     """The verdict on OUT."""
     columns = evidence.columns or range(max((len(stretch.places) for stretch in evidence.stretches), default=0))
-    fates = Fates(evidence.layout, evidence.stretches, evidence.outcomes, columns)
+    fates = Fates(evidence.layout, evidence.stretches, evidence.outcomes, columns, evidence.decoded)
     sums, counts = fates.sums(), fates.counts()
     found = [*of_gaps(evidence.layout), *of_stretches(fates)]
     found.sort(key=lambda reason: reason.bytes or (0, 0))
@@ -122,7 +123,7 @@ def of_stretches(fates: Fates) -> typing.Iterator[Reason]:
     """The stretches of OUT that are not whole, woven, agreed or alone."""
     for number, stretch in enumerate(fates.stretches):
         state = fates.state(number)
-        if not state.is_good():
+        if not fates.is_vouched(number):
             lost = [fate for fate in fates.within(number) if fate.fate is Fate.LOST]
             yield from of_stretch(stretch, state, lost, fates.source(stretch))
 
@@ -138,7 +139,9 @@ def of_stretch(stretch: Stretch, state: State, lost: typing.Sequence[FrameFate],
     elif state is State.DISPUTED:
         yield of_bytes(Why.DISPUTED, stretch, source)
     elif lost:
-        yield from (of_frame(Why.DISPUTED if is_disputed(frame) else damaged, frame, source) for frame in lost)
+        for frame in lost:
+            why = Why.DISPUTED if is_disputed(frame) else Why.REPAIRED if is_repaired(frame.slices) else damaged
+            yield of_frame(why, frame, source)
     elif stretch.kind is Kind.ELEMENT and stretch.what.content in OF_CLUSTERS and having > 1:
         yield of_bytes(Why.BESIDE, stretch)
     else:
