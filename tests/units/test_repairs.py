@@ -6,17 +6,16 @@ import tempfile
 import unittest
 import unittest.mock
 
+import readings
 from .test_verdict import element, missing, plain, recording, repaired, settled, verdict, whys
 from mend_reel.fates import Fate
 from mend_reel.model import Content, Frame, Outcome, State, Track
 from mend_reel.reasons import Why
-from mend_reel.records import coder_of
+from mend_reel.records import AFTER_ONE, coder_of
 from mend_reel.repairs import Decoder, decoded
 
 REAL = pathlib.Path(__file__).resolve().parent.parent / "real"
 SLICES = (settled("11", 100), repaired("00", 0, 100))
-
-
 RECORDS = {name: (REAL / name / "record").read_bytes() for name in ("gray-48x32-4-slices", "bgra-32x28-4-slices", "yuv420p10-48x40-6-slices")}
 
 
@@ -88,6 +87,9 @@ class DecoderTest(unittest.TestCase):
 class CoderTest(unittest.TestCase):
     def test_the_third_number_of_a_record(self):
         self.assertEqual([coder_of(record) for record in RECORDS.values()], [0, 2, 1])
+
+    def test_the_states_are_those_of_the_second_reading(self):
+        self.assertEqual(list(AFTER_ONE), readings.AFTER_ONE)
 
     def test_no_record(self):
         self.assertEqual([coder_of(record) for record in (b"", b"\xff" * 40, bytes(40), bytes(5))], [None] * 4)
