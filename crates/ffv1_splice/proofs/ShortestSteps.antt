@@ -1,8 +1,8 @@
 -- The shortest piece from a place: of one copy end by end, of copies one by one, and of ends that lie further and further from there.
-use Rattle.std.proofs.Common.{◌≡◌, ℕ, ◌+◌, ◌-◌, ◌<◌, ◌≤◌, true, false, eqb, List, [], ◌∷◌, ◌++◌, Bor, Option, Some, None, length, take, drop, refl, sym, ap, ◌∙◌, subst, arith, inl, inr}
-use Rattle.std.specs.Prelude.{◌⊎◌, Contains, MatchOption, slice_range}
+use Rattle.std.proofs.Common.{◌≡◌, ℕ, ◌+◌, ◌-◌, ◌<◌, ◌≤◌, true, false, eqb, Bool, List, [], ◌∷◌, ◌++◌, Bor, Option, Some, None, length, take, drop, refl, sym, ap, ◌∙◌, subst, arith, inl, inr}
+use Rattle.std.specs.Prelude.{◌⊎◌, ◌↔◌, Contains, MatchOption, slice_range}
 use Rattle.std.specs.Option.{option_eq}
-use Rattle.std.proofs.lemmas.Bool.{cases_lt, eqb-true, eqb-false}
+use Rattle.std.proofs.lemmas.Bool.{cases_lt, eqb-true, eqb-false, true_from_ne_false}
 use Rattle.std.proofs.Math.Seq.{take-add}
 use Rattle.std.proofs.lemmas.List.{drop-drop}
 use Rattle.std.proofs.lemmas.List.Elements.{Contains-append_left, Contains-append_right, Contains-append_cases}
@@ -53,6 +53,16 @@ pub claims_not : (P : ℕ → Type 0) (Q : Type 0) (found : Option ℕ) (start :
     → MatchOption found Q P → option_eq eqb found (Some start) ≡ false → P start → ⊥
 claims_not P Q None start none one h apart claim = none h claim
 claims_not P Q (Some other) start none one h apart claim = eqb-false other start apart (one other h claim)
+
+-- so it says whether the footer gives the place
+pub claims_if : (copy : List ℕ) (start end : ℕ) (found : Option ℕ) (answer : Bool)
+    → MatchOption found ((p : ℕ) → IsCut copy p end → ⊥) (λ p. IsCut copy p end) → answer ≡ option_eq eqb found (Some start)
+    → (answer ≡ true) ↔ IsCut copy start end
+claims_if copy start end found answer h is = (
+  λ yes. claims (λ p. IsCut copy p end) _ found start h (sym is ∙ yes),
+  λ cut. true_from_ne_false answer (λ no.
+      claims_not (λ p. IsCut copy p end) _ found start (λ none here. none start here) (λ other here there. omega arith) h (sym is ∙ no) cut),
+)
 
 -- a size field has three bytes
 pub cut_is_short : (copy : List ℕ) (start end : ℕ) → AreBytes copy → IsCut copy start end → end ≤ start + slice_limit

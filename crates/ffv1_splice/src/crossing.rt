@@ -9,10 +9,10 @@ ghost use Rattle.ffv1_splice.specs.declared.place.Place.{Place};
 use crate::place::Place;
 use crate::placing::{versions_at, weave_at};
 use crate::settling::settle_up;
-use crate::shortest::first_from;
+use crate::shortest::{claims, first_from};
 use crate::told::{Pieces, Starts, told_at};
 use ffv1_bits::SLICE_LIMIT;
-use ffv1_slice::{FOOTER_LENGTH, slice_start};
+use ffv1_slice::FOOTER_LENGTH;
 use std::alloc::{AllocError, Global};
 
 /// Over so many slices that are lost in all copies the walk goes at most: for each of them the copies are searched once for its end.
@@ -138,7 +138,7 @@ fn next_claimed(copy: &[u8], from: usize, reach: usize) -> Option<usize>
 {
     let last = reach.min(SLICE_LIMIT as usize);
     for end in from..last {
-        if slice_start(copy, end + 1) == Some(0) {
+        if claims(copy, 0, end + 1) {
             return Some(end + 1);
         }
     }

@@ -1,5 +1,6 @@
 //! The shortest slice that begins at a place: of those with content that pass their parity, one that ends first.
-ghost use Rattle.std.specs.Prelude.{◌+◌, ◌≤◌, [], ◌∷◌, length, map, slice_range, All, MatchOption};
+ghost use Rattle.std.specs.Prelude.{◌+◌, ◌≤◌, ◌↔◌, [], ◌∷◌, length, map, slice_range, All, IsTrue, MatchOption};
+ghost use Rattle.ffv1_slice.specs.Chain.{IsCut};
 ghost use Rattle.ffv1_slice.specs.Members.{IsOfNone};
 ghost use Rattle.ffv1_splice.specs.Pieces.{IsPieceFrom, IsShortest};
 
@@ -68,7 +69,7 @@ fn first_end(copy: &[u8], start: usize, from: usize, bound: usize) -> Option<usi
     let mut left = 0;
     let mut judged = start;
     for end in from + 1..last + 1 {
-        if slice_start(copy, end) == Some(start) {
+        if claims(copy, start, end) {
             left = remainder_after(left, &copy[judged..end]);
             if left == 0 {
                 return Some(end);
@@ -77,4 +78,15 @@ fn first_end(copy: &[u8], start: usize, from: usize, bound: usize) -> Option<usi
         }
     }
     None
+}
+
+/// Whether the footer that ends there gives this start (RFC 9043, section 4.9.1). The lowest byte of its size is looked at first, since that
+/// rules out most ends. There is room for the footer after the start.
+pub(crate) fn claims(copy: &[u8], start: usize, end: usize) -> bool
+    requires content { start + 8 ≤ end }
+    requires within { end ≤ length copy.now }
+    ensures { IsTrue result ↔ IsCut copy.now start end }
+{
+    let size = end - FOOTER_LENGTH - start;
+    usize::from(copy[end - 6]) == size % 256 && slice_start(copy, end) == Some(start)
 }
