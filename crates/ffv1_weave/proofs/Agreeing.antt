@@ -11,7 +11,7 @@ abbrev pub AgreeSoFar : List (List ℕ) → ℕ → ℕ → Type 0
 AgreeSoFar versions count i = (k : ℕ) → k < count → get_or (get_or versions k []) i 0 ≡ get_or (get_or versions 0 []) i 0
 
 module _ (versions : List (List ℕ)) where
-  at_index : (version : List ℕ) (h : Contains versions version) → get_or versions h.0 [] ≡ version
+  pub at_index : (version : List ℕ) (h : Contains versions version) → get_or versions h.0 [] ≡ version
   at_index version h = get_or_default versions h.0 [] version h.1 ∙ h.2
 
   pub agree_from : (i : ℕ) → AgreeSoFar versions (length versions) i → AgreeAt versions i

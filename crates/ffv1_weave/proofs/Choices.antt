@@ -1,6 +1,6 @@
 -- The combinations by number: each number gives one, each has one, and no two numbers give the same.
-use Rattle.std.proofs.Common.{◌≡◌, ℕ, ◌+◌, ◌-◌, ◌*◌, ◌/◌, ◌%◌, ◌<◌, ◌≤◌, List, [], ◌∷◌, ◌++◌, length, get_or, take, drop, refl, sym, ap, ◌∙◌, subst, arith, inl, inr}
-use Rattle.std.specs.Prelude.{All, Contains, slice_index, slice_range}
+use Rattle.std.proofs.Common.{◌≡◌, ℕ, zero, suc, ◌+◌, ◌-◌, ◌*◌, ◌/◌, ◌%◌, ◌<◌, ◌≤◌, List, [], ◌∷◌, ◌++◌, length, get_or, take, drop, refl, sym, ap, ◌∙◌, subst, arith, inl, inr}
+use Rattle.std.specs.Prelude.{◌⊎◌, All, Contains, slice_index, slice_range}
 use Rattle.std.proofs.Math.Nat.{div-lt_iff_lt-mul, mul-add-mod_self_right, mod-eq_of_lt, mul_comm}
 use Rattle.std.proofs.lemmas.Nat.{div-mul-add, mul-add-lt, div-add-mod'}
 use Rattle.std.proofs.lemmas.Bool.{cases_lt}
@@ -8,11 +8,16 @@ use Rattle.std.proofs.lemmas.List.{get_or_append_left, get_or-append_right, get_
 use Rattle.std.proofs.lemmas.List.Edits.{get_or-between, length-between}
 use Rattle.std.proofs.lemmas.List.Elements.{All-head, All-tail}
 use Rattle.ffv1_weave.specs.Regions.{AgreeAt, HaveLength}
-use Rattle.ffv1_weave.specs.Grains.{IsPartBy}
-use Rattle.ffv1_weave.specs.Combinations.{IsCombinationBy, AreNumbered, AreMoreThan}
-use Rattle.ffv1_weave.specs.Parts.{Part, ArePieces, ArePartsFrom, AreAllParts, IsPartFrom, IsEdge, IsFit, parts_end, count_of, chosen, written}
+use Rattle.ffv1_weave.specs.Seams.{IsSeam}
+use Rattle.ffv1_weave.specs.Grains.{IsPartBy, IsPieceBy}
+use Rattle.ffv1_weave.specs.Numbers.{AreNumbered, AreMoreThan}
+use Rattle.ffv1_weave.specs.Combinations.{IsCombinationBy}
+use Rattle.ffv1_weave.specs.Parts.{Part, ArePartsFrom, AreAllParts, IsPartFrom, IsFit, parts_end, count_of, chosen, written}
 use Rattle.ffv1_weave.specs.declared.grains.Grain.{Grain}
-use Rattle.ffv1_weave.proofs.GrainSteps.{part_some, part_within, one_part, part_beyond}
+use Rattle.ffv1_weave.specs.declared.grains.Grain.TheVariants.{Pairs, Regions, Most}
+use Rattle.ffv1_weave.proofs.GrainSteps.{part_some, part_within, one_part}
+use Rattle.ffv1_weave.proofs.NextSegment.{IsNextSegment, next_segment}
+use Rattle.ffv1_weave.proofs.MostSteps.{piece_of_some, some_most}
 
 -- ---- a piece written over bytes
 
@@ -206,12 +211,11 @@ module _ (grain : Grain) (versions : List (List ℕ)) where
       → IsAlike versions from bytes combination → (k : ℕ) × (k < count_of parts) × (chosen parts k bytes ≡ combination)
   chosen_all from [] bytes combination are rest fit is h = (0, omega arith, alike_end grain versions from bytes combination rest h)
   chosen_all from (part ∷ parts) bytes combination are rest fit is h =
-      let version = is.parts part.start part.end are.0.part in
-      let here = are.1.each version.0 version.1 in
+      let here = are.1.each (slice_range combination part.start part.end) (is.parts part.start part.end are.0.part) in
       let d : ℕ = here.0 in
       let n : ℕ = length part.pieces in
       let lies : slice_range combination part.start part.end ≡ piece_of part d =
-      version.2 ∙ sym (get_or_default part.pieces d [] (slice_range version.0 part.start part.end) here.1 ∙ here.2) in
+      sym (get_or_default part.pieces d [] (slice_range combination part.start part.end) here.1 ∙ here.2) in
       let long = length-written bytes part.start (piece_of part d) (fits_in (length bytes) part parts fit d here.1) in
       let number = chosen_all part.end parts (written bytes part.start (piece_of part d)) combination are.2 rest
       (fit_as _ (length bytes) parts long (fit_tail (length bytes) part parts fit)) is
@@ -261,138 +265,200 @@ module _ (grain : Grain) (versions : List (List ℕ)) where
       (same ∙ ap (λ p. chosen parts (k / n) (written bytes part.start p)) (sym pieces)) in
       sym (div-add-mod' j n) ∙ ap (λ q. q * n + j % n) ups ∙ ap (λ r. k / n * n + r) digits ∙ div-add-mod' k n
 
--- ---- each number gives a combination
+-- ---- a piece written over a part
 
--- Bytes that are a combination as far as to a place, where a part can begin, and from there on are as a version.
-pub record IsGoodBefore (grain : Grain) (versions : List (List ℕ)) (first : List ℕ) (from : ℕ) (bytes : List ℕ) : Type 0 where
-  pub same_length : (version : List ℕ) → Contains versions version → length bytes ≡ length version
-  pub agrees : (i : ℕ) → AgreeAt versions i → (version : List ℕ) → Contains versions version → slice_index bytes i ≡ slice_index version i
-  pub parts : (start end : ℕ) → IsPartBy grain versions start end → end ≤ from
-      → (version : List ℕ) × Contains versions version × (slice_range bytes start end ≡ slice_range version start end)
-  pub rest : (i : ℕ) → from ≤ i → get_or bytes i 0 ≡ get_or first i 0
-  pub edge : IsEdge grain versions from
+module _ (grain : Grain) (versions : List (List ℕ)) (size : ℕ) (all_long : HaveLength versions size) where
+  module _ (part : Part) (k : ℕ) (is_part : IsPartBy grain versions part.start part.end) (fit : IsFit size part) (lt : k < length part.pieces)
+      (taken : IsPieceBy grain versions part.start part.end (piece_of part k)) (bytes : List ℕ) (long : length bytes ≡ size) where
+    fits_bytes : part.start + length (piece_of part k) ≤ length bytes
+    fits_bytes = let within = fit.within in omega (arith, piece_size size part fit k lt)
 
-module _ (grain : Grain) (versions : List (List ℕ)) (first : List ℕ) (all_long : HaveLength versions (length first)) (there : Contains versions first) where
-  -- a part before the next one at which versions differ is as the first version
-  quiet_part : (from until : ℕ) (bytes : List ℕ) → length bytes ≡ length first → ((i : ℕ) → from ≤ i → i < until → get_or bytes i 0 ≡ get_or first i 0)
-      → (start end : ℕ) → IsPartBy grain versions start end → from ≤ start → end ≤ until
-      → (version : List ℕ) × Contains versions version × (slice_range bytes start end ≡ slice_range version start end)
-  quiet_part from until bytes size same start end part low high =
-      let within = part_within versions (length first) all_long grain start end part in (
-        first,
-        there,
-        same_range bytes first start end (omega arith) within (λ i above below. same i (omega arith) (omega arith)),
-      )
+    length-over : length (written bytes part.start (piece_of part k)) ≡ size
+    length-over = length-written bytes part.start (piece_of part k) fits_bytes ∙ long
 
-  -- the part that is written over is as the version of its piece
-  pieced : (part : Part) (k : ℕ) (bytes : List ℕ) → ArePieces versions part.start part.end part.pieces → IsFit (length bytes) part
-      → k < length part.pieces → length bytes ≡ length first
-      → (version : List ℕ) × Contains versions version
-      × (slice_range (written bytes part.start (piece_of part k)) part.start part.end ≡ slice_range version part.start part.end)
-  pieced part k bytes pieces fit lt same =
-      let long = piece_size (length bytes) part fit k lt in
-      let within = fit.within in
-      let fits : part.start + length (piece_of part k) ≤ length bytes = omega arith in
-      let size = length-written bytes part.start (piece_of part k) fits in
-      let of = pieces.only k lt in (
-        of.0,
-        of.1,
-        same_range (written bytes part.start (piece_of part k)) of.0 part.start part.end (omega arith) (omega (arith, all_long of.0 of.1))
-            (λ i low under. written_inside bytes part.start (piece_of part k) fits i low (omega arith)
-            ∙ ap (λ p. get_or p (i - part.start) 0) of.2 ∙ range_at of.0 part.start part.end i low under),
-      )
+    -- the part has the piece
+    has_piece : slice_range (written bytes part.start (piece_of part k)) part.start part.end ≡ piece_of part k
+    has_piece =
+        let ends = piece_size size part fit k lt in
+        let within = fit.within in
+        let here = length-between (written bytes part.start (piece_of part k)) part.start part.end (omega (arith, length-over)) in
+        ext_get_or 0 (slice_range (written bytes part.start (piece_of part k)) part.start part.end) (piece_of part k) (omega arith) (λ i below.
+        let there : part.start + i - part.start ≡ i = omega arith in
+        get_or-between (written bytes part.start (piece_of part k)) part.start part.end i 0 (omega arith)
+        ∙ written_inside bytes part.start (piece_of part k) fits_bytes (part.start + i) (omega arith) (omega arith)
+        ∙ ap (λ m. get_or (piece_of part k) m 0) there)
 
-  good_more : (from : ℕ) (part : Part) (k : ℕ) (bytes : List ℕ) → IsPartFrom grain versions from part.start part.end
-      → ArePieces versions part.start part.end part.pieces → IsFit (length bytes) part → k < length part.pieces
-      → IsGoodBefore grain versions first from bytes → IsGoodBefore grain versions first part.end (written bytes part.start (piece_of part k))
-  good_more from part k bytes next pieces fit lt h =
-      let long = piece_size (length bytes) part fit k lt in
-      let within = fit.within in
-      let order = fit.order in
-      let beyond = next.beyond in
-      let fits : part.start + length (piece_of part k) ≤ length bytes = omega arith in
-      let size = length-written bytes part.start (piece_of part k) fits in
-      let of = pieces.only k lt in
-      let here = pieced part k bytes pieces fit lt (h.same_length first there) in
-      record {
-        same_length = λ version is. size ∙ h.same_length version is;
-        agrees = λ i same version is. elim (cases_lt i part.start) [
-          | inl outside ↦ written_before bytes part.start (piece_of part k) fits i outside ∙ h.agrees i same version is
-          | inr low ↦ elim (cases_lt i part.end) [
-            | inl below ↦ written_inside bytes part.start (piece_of part k) fits i low (omega arith)
-                ∙ ap (λ p. get_or p (i - part.start) 0) of.2
-                ∙ range_at of.0 part.start part.end i low below ∙ same of.0 version of.1 is
-            | inr after ↦ written_after bytes part.start (piece_of part k) fits i (omega arith) ∙ h.agrees i same version is
+    -- what is outside of it stays
+    has_rest : (start end : ℕ) → end ≤ size → (end ≤ part.start) ⊎ (part.end ≤ start)
+        → slice_range (written bytes part.start (piece_of part k)) start end ≡ slice_range bytes start end
+    has_rest start end within apart =
+        let ends = piece_size size part fit k lt in
+        same_range (written bytes part.start (piece_of part k)) bytes start end (omega (arith, length-over)) (omega arith) (λ i low below. elim apart [
+          | inl before ↦ written_before bytes part.start (piece_of part k) fits_bytes i (omega arith)
+          | inr beyond ↦ written_after bytes part.start (piece_of part k) fits_bytes i (omega arith)
+        ])
+
+    -- The part, and each other one that had what can be taken there, has what can be taken there.
+    part_over : (start end : ℕ) → IsPartBy grain versions start end
+        → ((end ≤ part.start) ⊎ (part.end ≤ start) → IsPieceBy grain versions start end (slice_range bytes start end))
+        → IsPieceBy grain versions start end (slice_range (written bytes part.start (piece_of part k)) start end)
+    part_over start end other rest =
+        let within = part_within versions size all_long grain start end other in
+        let outside = λ (apart : (end ≤ part.start) ⊎ (part.end ≤ start)). subst (IsPieceBy grain versions start end) (sym (has_rest start end within apart)) (rest apart) in
+        elim (cases_lt part.start end) [
+          | inr before ↦ outside (inl before)
+          | inl late ↦ elim (cases_lt start part.end) [
+            | inr beyond ↦ outside (inr beyond)
+            | inl early ↦
+                let one = one_part versions size all_long grain part.start part.end start end is_part other late early in
+                subst (λ s. IsPieceBy grain versions s end (slice_range (written bytes part.start (piece_of part k)) s end)) one.0
+                (subst (λ e. IsPieceBy grain versions part.start e (slice_range (written bytes part.start (piece_of part k)) part.start e)) one.1
+                (subst (IsPieceBy grain versions part.start part.end) (sym has_piece) taken))
           ]
-        ];
-        parts = λ start end other below. elim (cases_lt from end) [
-          | inl over ↦
-              let some = part_some grain versions start end other in
-              let low = part_beyond versions (length first) all_long grain from start end h.edge other over in
-              elim (cases_lt part.start end) [
-                | inl late ↦
-                    let one = one_part versions (length first) all_long grain part.start part.end start end next.part other late (omega arith) in (
-                      here.0,
-                      here.1,
-                      subst (λ s. slice_range (written bytes part.start (piece_of part k)) s end ≡ slice_range here.0 s end) one.0
-                          (subst (λ e. slice_range (written bytes part.start (piece_of part k)) part.start e ≡ slice_range here.0 part.start e) one.1 here.2),
-                    )
-                | inr early ↦ quiet_part from part.start (written bytes part.start (piece_of part k)) (size ∙ h.same_length first there)
-                    (λ i above under. written_before bytes part.start (piece_of part k) fits i under ∙ h.rest i above) start end other low early
-              ]
-          | inr old ↦
-              let version = h.parts start end other old in
-              let some = part_some grain versions start end other in (
-                version.0,
-                version.1,
-                same_range (written bytes part.start (piece_of part k)) bytes start end (omega arith) (omega arith)
-                    (λ i low under. written_before bytes part.start (piece_of part k) fits i (omega arith)) ∙ version.2,
-              )
-        ];
-        rest = λ i low. written_after bytes part.start (piece_of part k) fits i (omega arith) ∙ h.rest i (omega arith);
-        edge = inr (part.start, next.part);
-      }
+        ]
 
-  pub chosen_are : (from : ℕ) (parts : List Part) (code : ℕ) (bytes : List ℕ) → ArePartsFrom grain versions from parts → All (IsFit (length bytes)) parts
-      → IsGoodBefore grain versions first from bytes → IsCombinationBy grain versions (chosen parts code bytes)
-  chosen_are from [] code bytes are fit h =
+    -- where all versions agree it is as they are, if it was before
+    agrees_over : (i : ℕ) → AgreeAt versions i → (version : List ℕ) → Contains versions version → get_or bytes i 0 ≡ get_or version i 0
+        → get_or (written bytes part.start (piece_of part k)) i 0 ≡ get_or version i 0
+    agrees_over i same version there before =
+        let ends = piece_size size part fit k lt in
+        let of = piece_of_some grain versions part.start part.end (piece_of part k) taken in
+        elim (cases_lt i part.start) [
+          | inl outside ↦ written_before bytes part.start (piece_of part k) fits_bytes i outside ∙ before
+          | inr low ↦ elim (cases_lt i part.end) [
+            | inl below ↦ written_inside bytes part.start (piece_of part k) fits_bytes i low (omega arith)
+                ∙ ap (λ p. get_or p (i - part.start) 0) of.2
+                ∙ range_at of.0 part.start part.end i low below ∙ same of.0 version of.1 there
+            | inr after ↦ written_after bytes part.start (piece_of part k) fits_bytes i (omega arith) ∙ before
+          ]
+        ]
+
+    -- A combination stays one.
+    combination_over : IsCombinationBy grain versions bytes → IsCombinationBy grain versions (written bytes part.start (piece_of part k))
+    combination_over h =
+        record {
+          same_length = λ version there. length-over ∙ sym (all_long version there);
+          agrees = λ i same version there. agrees_over i same version there (h.agrees i same version there);
+          parts = λ start end other. part_over start end other (λ _. h.parts start end other);
+        }
+
+-- ---- there is a combination
+
+-- Bytes that are a combination as far as to a place.
+record IsGoodBefore (grain : Grain) (versions : List (List ℕ)) (from : ℕ) (bytes : List ℕ) : Type 0 where
+  same_length : (version : List ℕ) → Contains versions version → length bytes ≡ length version
+  agrees : (i : ℕ) → AgreeAt versions i → (version : List ℕ) → Contains versions version → slice_index bytes i ≡ slice_index version i
+  parts : (start end : ℕ) → IsPartBy grain versions start end → end ≤ from → IsPieceBy grain versions start end (slice_range bytes start end)
+
+module _ (versions : List (List ℕ)) (first : List ℕ) (all_long : HaveLength versions (length first)) (there : Contains versions first) where
+  good_whole : (grain : Grain) (from : ℕ) (bytes : List ℕ) → length first ≤ from → IsGoodBefore grain versions from bytes
+      → IsCombinationBy grain versions bytes
+  good_whole grain from bytes past h =
       record {
         same_length = h.same_length;
         agrees = h.agrees;
-        parts = λ start end part. elim (cases_lt from end) [
-          | inl over ↦ quiet_part from end bytes (h.same_length first there) (λ i low below. h.rest i low) start end part
-              (part_beyond versions (length first) all_long grain from start end h.edge part over) (omega arith)
-          | inr old ↦ h.parts start end part old
-        ];
+        parts = λ start end part. h.parts start end part (let within = part_within versions (length first) all_long grain start end part in omega arith);
       }
-  chosen_are from (part ∷ parts) code bytes are fit h =
-      let digit = digit_below (length bytes) part (fit_head (length bytes) part parts fit) code in
-      let long = length-written bytes part.start (piece_of part (code % length part.pieces))
-      (fits_in (length bytes) part parts fit (code % length part.pieces) digit) in
-      chosen_are part.end parts (code / length part.pieces) (written bytes part.start (piece_of part (code % length part.pieces))) are.2
-      (fit_as _ (length bytes) parts long (fit_tail (length bytes) part parts fit))
-      (good_more from part (code % length part.pieces) bytes are.0 are.1 (fit_head (length bytes) part parts fit) digit h)
 
-  -- ---- from the first version on
-
-  pub first_is_good : IsGoodBefore grain versions first 0 first
-  first_is_good =
+  good_first : (grain : Grain) → IsGoodBefore grain versions 0 first
+  good_first grain =
       record {
         same_length = λ version here. sym (all_long version here);
         agrees = λ i same version here. same first version there here;
         parts = λ start end part below. let some = part_some grain versions start end part in absurd (omega arith);
-        rest = λ i low. refl;
-        edge = inl refl;
       }
 
+  module _ (distance : ℕ) where
+    -- one segment more, with what most versions have there
+    good_next : (from : ℕ) (bytes : List ℕ) (next : IsNextSegment distance versions from (length first)) → IsGoodBefore (Most distance) versions from bytes
+        → (more : List ℕ) × IsGoodBefore (Most distance) versions next.end more
+    good_next from bytes next h =
+        let some_versions : 0 < length versions = omega (arith, there.1) in
+        let order = part_some (Most distance) versions from next.end next.segment in
+        let within = next.within in
+        let most = some_most versions from next.end some_versions in
+        let piece : List ℕ = slice_range most.0 from next.end in
+        let part : Part = record { start = from; end = next.end; pieces = piece ∷ [] } in
+        let fit : IsFit (length first) part =
+        record {
+          order = omega arith;
+          within = within;
+          some = omega arith;
+          fill = λ k lt. let first_piece : k ≡ 0 = omega arith in
+              ap (λ n. length (get_or (piece ∷ []) n [])) first_piece ∙ length-between most.0 from next.end (omega (arith, all_long most.0 most.1));
+        } in
+        let taken : IsPieceBy (Most distance) versions from next.end piece = ((most.0, most.1, refl), most.2) in
+        let long = h.same_length first there in (
+          written bytes from piece,
+          record {
+            same_length = λ version here. length-over (Most distance) versions (length first) all_long part 0 next.segment fit (omega arith) taken bytes long
+                ∙ sym (all_long version here);
+            agrees = λ i same version here.
+                agrees_over (Most distance) versions (length first) all_long part 0 next.segment fit (omega arith) taken bytes long i same version here
+                (h.agrees i same version here);
+            parts = λ start end other below.
+                part_over (Most distance) versions (length first) all_long part 0 next.segment fit (omega arith) taken bytes long start end other (λ apart.
+                let some = part_some (Most distance) versions start end other in
+                h.parts start end other (elim apart [ inl before ↦ before | inr beyond ↦ omega arith ]));
+          },
+        )
+
+    good_until : (fuel from : ℕ) (bytes : List ℕ) → length first ≤ from + fuel → (from ≡ 0) ⊎ IsSeam distance versions from
+        → IsGoodBefore (Most distance) versions from bytes → (more : List ℕ) × IsCombinationBy (Most distance) versions more
+    good_until zero from bytes past edge h = (bytes, good_whole (Most distance) from bytes (omega arith) h)
+    good_until (suc fuel) from bytes past edge h = elim (cases_lt from (length first)) [
+      | inr done ↦ (bytes, good_whole (Most distance) from bytes done h)
+      | inl below ↦
+          let next = next_segment distance versions from (length first) all_long (omega (arith, there.1)) below edge in
+          let order = part_some (Most distance) versions from next.end next.segment in
+          let more = good_next from bytes next h in
+          elim next.last [
+            | inl seam ↦ good_until fuel next.end more.0 (omega arith) (inr seam) more.1
+            | inr whole ↦ (more.0, good_whole (Most distance) next.end more.0 (omega arith) more.1)
+          ]
+    ]
+
+  version_by : (grain : Grain) → ((start end : ℕ) → IsPieceBy grain versions start end (slice_range first start end)) → IsCombinationBy grain versions first
+  version_by grain has =
+      record {
+        same_length = λ version here. sym (all_long version here);
+        agrees = λ i same version here. same first version there here;
+        parts = λ start end part. has start end;
+      }
+
+  -- By each grain there is a combination: a version, or what most versions have in each segment.
+  pub some_combination : (grain : Grain) → (bytes : List ℕ) × IsCombinationBy grain versions bytes
+  some_combination (Pairs distance) = (first, version_by (Pairs distance) (λ start end. (first, there, refl)))
+  some_combination Regions = (first, version_by Regions (λ start end. (first, there, refl)))
+  some_combination (Most distance) = good_until distance (length first) 0 first (omega arith) (inl refl) (good_first (Most distance))
+
+-- ---- each number gives a combination
+
+module _ (grain : Grain) (versions : List (List ℕ)) (size : ℕ) (all_long : HaveLength versions size) where
+  pub chosen_are : (from : ℕ) (parts : List Part) (code : ℕ) (bytes : List ℕ) → length bytes ≡ size → ArePartsFrom grain versions from parts
+      → All (IsFit size) parts → IsCombinationBy grain versions bytes → IsCombinationBy grain versions (chosen parts code bytes)
+  chosen_are from [] code bytes long are fit h = h
+  chosen_are from (part ∷ parts) code bytes long are fit h =
+      let head = fit_head size part parts fit in
+      let digit = digit_below size part head code in
+      let taken = are.1.only (code % length part.pieces) digit in
+      chosen_are part.end parts (code / length part.pieces) (written bytes part.start (piece_of part (code % length part.pieces)))
+      (length-over grain versions size all_long part (code % length part.pieces) are.0.part head digit taken bytes long) are.2
+      (fit_tail size part parts fit)
+      (combination_over grain versions size all_long part (code % length part.pieces) are.0.part head digit taken bytes long h)
+
+module _ (grain : Grain) (versions : List (List ℕ)) (first : List ℕ) (all_long : HaveLength versions (length first)) (there : Contains versions first) where
   -- More parts than are tried give more combinations, whatever follows them.
   pub many_chosen : (parts : List Part) (most : ℕ) → ArePartsFrom grain versions 0 parts → All (IsFit (length first)) parts → most < count_of parts
       → AreMoreThan (IsCombinationBy grain versions) most
   many_chosen parts most are fit over =
+      let base = some_combination versions first all_long there grain in
+      let long = base.1.same_length first there in
       record {
-        at = λ k. chosen parts k first;
-        are = λ k low. chosen_are 0 parts k first are fit first_is_good;
-        once = λ j k low lt same. chosen_once grain versions 0 parts first j k are fit (omega arith) (omega arith) same;
+        at = λ k. chosen parts k base.0;
+        are = λ k low. chosen_are grain versions (length first) all_long 0 parts k base.0 long are fit base.1;
+        once = λ j k low lt same. chosen_once grain versions 0 parts base.0 j k are (fit_as (length base.0) (length first) parts long fit)
+            (omega arith) (omega arith) same;
       }
 
 module _ (grain : Grain) (versions : List (List ℕ)) where
@@ -408,14 +474,23 @@ module _ (grain : Grain) (versions : List (List ℕ)) where
   pub alike_back : (from : ℕ) (a b : List ℕ) → IsAlike versions from a b → IsAlike versions from b a
   alike_back from a b h = record { size = sym h.size; front = λ i lt. sym (h.front i lt); agree = λ i same. sym (h.agree i same) }
 
-  -- the combinations are numbered
-  abbrev pub numbered : (parts : List Part) (first : List ℕ) → HaveLength versions (length first) → Contains versions first
-      → AreAllParts grain versions parts → All (IsFit (length first)) parts → AreNumbered (IsCombinationBy grain versions) (count_of parts)
-  numbered parts first long there are fit =
-      record {
-        at = λ k. chosen parts k first;
-        are = λ k lt. chosen_are grain versions first long there 0 parts k first are.next fit (first_is_good grain versions first long there);
-        all = λ combination is. chosen_all grain versions 0 parts first combination are.next are.rest fit is
-            (alike_back 0 combination first (combination_alike first combination there is));
-        once = λ j k low lt same. chosen_once grain versions 0 parts first j k are.next fit low lt same;
-      }
+  module _ (parts : List Part) (first : List ℕ) (long : HaveLength versions (length first)) (there : Contains versions first)
+      (are : AreAllParts grain versions parts) (fit : All (IsFit (length first)) parts) where
+    -- written over the first version is what is written over any combination
+    pub chosen_first : (code : ℕ) → IsCombinationBy grain versions (chosen parts code first)
+    chosen_first code =
+        let base = some_combination versions first long there grain in
+        let alike = alike_back 0 base.0 first (combination_alike first base.0 there base.1) in
+        subst (IsCombinationBy grain versions) (sym (chosen_alike grain versions 0 parts code first base.0 are.next are.rest fit alike))
+        (chosen_are grain versions (length first) long 0 parts code base.0 (base.1.same_length first there) are.next fit base.1)
+
+    -- the combinations are numbered
+    abbrev pub numbered : AreNumbered (IsCombinationBy grain versions) (count_of parts)
+    numbered =
+        record {
+          at = λ k. chosen parts k first;
+          are = λ k lt. chosen_first k;
+          all = λ combination is. chosen_all grain versions 0 parts first combination are.next are.rest fit is
+              (alike_back 0 combination first (combination_alike first combination there is));
+          once = λ j k low lt same. chosen_once grain versions 0 parts first j k are.next fit low lt same;
+        }

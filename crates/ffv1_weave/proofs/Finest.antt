@@ -5,14 +5,15 @@ use Rattle.std.proofs.lemmas.List.{get_or_default}
 use Rattle.std.proofs.lemmas.List.Elements.{All-push, Contains-get_or}
 use Rattle.ffv1_weave.specs.Regions.{HaveLength, AgreeAt}
 use Rattle.ffv1_weave.specs.Grains.{grains}
-use Rattle.ffv1_weave.specs.Combinations.{IsCombinationBy, AreNumbered, HasFew, HasMany}
+use Rattle.ffv1_weave.specs.Numbers.{AreNumbered}
+use Rattle.ffv1_weave.specs.Combinations.{IsCombinationBy, HasFew, HasMany}
 use Rattle.ffv1_weave.specs.Weave.{AreMany}
-use Rattle.ffv1_weave.specs.Parts.{Part, ArePieces, IsEdge, IsPartFrom, ArePartsFrom, AreFewParts, AreTriedParts, IsFit, parts_end, count_of}
+use Rattle.ffv1_weave.specs.Parts.{Part, ArePiecesBy, IsEdge, IsPartFrom, ArePartsFrom, AreFewParts, AreTriedParts, IsFit, parts_end, count_of}
 use Rattle.ffv1_weave.specs.declared.grains.Grain.{Grain}
 use Rattle.ffv1_weave.specs.declared.grains.Grain.TheVariants.{Regions}
 use Rattle.ffv1_weave.specs.declared.weaving.TheConstants.{MOST_COMBINATIONS}
 use Rattle.ffv1_weave.proofs.GrainSteps.{part_some}
-use Rattle.ffv1_weave.proofs.PieceSteps.{pieces_fit}
+use Rattle.ffv1_weave.proofs.MostSteps.{pieces_fit}
 use Rattle.ffv1_weave.proofs.PartSteps.{parts_end_push, parts_push, count_push, count_over, count_fits, count_positive}
 use Rattle.ffv1_weave.proofs.Choices.{fit_as, many_chosen, numbered}
 
@@ -53,7 +54,7 @@ all_so_far grain versions size from parts count h rest =
 module _ (grain : Grain) (versions : List (List ℕ)) (size : ℕ) (long : HaveLength versions size) (some : 0 < length versions) where
   module _ (from : ℕ) (parts : List Part) (count : ℕ) (h : ArePartsSoFar grain versions size from parts count)
       (part : Part) (next : IsPartFrom grain versions from part.start part.end) (within : part.end ≤ size)
-      (pieces : ArePieces versions part.start part.end part.pieces) where
+      (pieces : ArePiecesBy grain versions part.start part.end part.pieces) where
     more_after : ArePartsFrom grain versions 0 (parts ++ part ∷ [])
     more_after =
         parts_push grain versions 0 parts part h.after (subst (λ place. IsPartFrom grain versions place part.start part.end) (sym h.ends) next) pieces
@@ -61,7 +62,7 @@ module _ (grain : Grain) (versions : List (List ℕ)) (size : ℕ) (long : HaveL
     part_fits : IsFit size part
     part_fits =
         let order = part_some grain versions part.start part.end next.part in
-        pieces_fit part.start part.end versions part.pieces size long some (omega arith) within pieces
+        pieces_fit grain part.start part.end versions part.pieces size long some (omega arith) within pieces
 
     more_fit : All (IsFit size) (parts ++ part ∷ [])
     more_fit = All-push (IsFit size) parts part h.fit part_fits
@@ -95,7 +96,7 @@ module _ (grain : Grain) (versions : List (List ℕ)) (size : ℕ) (long : HaveL
 
   -- ---- the finest grain by which there are few enough
 
-  has_few : (parts : List Part) (count : ℕ) → AreFewParts grain versions size parts count → HasFew versions grain count
+  pub has_few : (parts : List Part) (count : ℕ) → AreFewParts grain versions size parts count → HasFew versions grain count
   has_few parts count few =
       let first : List ℕ = get_or versions 0 [] in
       let there = Contains-get_or versions 0 [] some in

@@ -3,9 +3,8 @@ use Rattle.std.proofs.Common.{◌≡◌, ℕ, ◌-◌, ◌<◌, ◌≤◌, List,
 use Rattle.std.proofs.lemmas.Bool.{cases_lt}
 use Rattle.ffv1_weave.specs.Regions.{HaveLength, IsRegion}
 use Rattle.ffv1_weave.specs.Grains.{IsPartBy}
-use Rattle.ffv1_weave.specs.Parts.{IsEdge}
 use Rattle.ffv1_weave.specs.declared.grains.Grain.{Grain}
-use Rattle.ffv1_weave.specs.declared.grains.Grain.TheVariants.{Pairs, Regions}
+use Rattle.ffv1_weave.specs.declared.grains.Grain.TheVariants.{Pairs, Regions, Most}
 use Rattle.ffv1_weave.proofs.Agreeing.{agree_past}
 use Rattle.ffv1_weave.proofs.RegionSteps.{one_region}
 use Rattle.ffv1_weave.proofs.SeamSteps.{segment_within, one_segment}
@@ -13,6 +12,7 @@ use Rattle.ffv1_weave.proofs.SeamSteps.{segment_within, one_segment}
 pub part_some : (grain : Grain) (versions : List (List ℕ)) (start end : ℕ) → IsPartBy grain versions start end → start < end
 part_some (Pairs distance) versions start end h = h.some
 part_some Regions versions start end h = h.some
+part_some (Most distance) versions start end h = h.some
 
 pub region_within : (versions : List (List ℕ)) (size start end : ℕ) → HaveLength versions size → IsRegion versions start end → end ≤ size
 region_within versions size start end long h =
@@ -26,22 +26,10 @@ module _ (versions : List (List ℕ)) (size : ℕ) (long : HaveLength versions s
   pub part_within : (grain : Grain) (start end : ℕ) → IsPartBy grain versions start end → end ≤ size
   part_within (Pairs distance) start end h = segment_within distance versions size start end long h
   part_within Regions start end h = region_within versions size start end long h
+  part_within (Most distance) start end h = segment_within distance versions size start end long h
 
   -- two parts that overlap are one
   pub one_part : (grain : Grain) (s e t f : ℕ) → IsPartBy grain versions s e → IsPartBy grain versions t f → s < f → t < e → (s ≡ t) × (e ≡ f)
   one_part (Pairs distance) s e t f h k low high = one_segment distance versions size s e t f long h k low high
   one_part Regions s e t f h k low high = one_region versions s e t f h k low high
-
-  -- no part lies on both sides of where another ends
-  pub part_beyond : (grain : Grain) (from start end : ℕ) → IsEdge grain versions from → IsPartBy grain versions start end → from < end → from ≤ start
-  part_beyond grain from start end edge h over = elim edge [
-    | inl zero ↦ omega arith
-    | inr ended ↦ elim (cases_lt start from) [
-      | inr above ↦ above
-      | inl below ↦
-          let some = part_some grain versions ended.0 from ended.1 in
-          let one = one_part grain ended.0 from start end ended.1 h (omega arith) below in
-          let same = one.1 in
-          absurd (omega arith)
-    ]
-  ]
+  one_part (Most distance) s e t f h k low high = one_segment distance versions size s e t f long h k low high

@@ -2,7 +2,7 @@
 use Rattle.std.proofs.Common.{◌≡◌, ℕ, zero, suc, ◌+◌, ◌<◌, ◌≤◌, cond, eqb, eq-eqb, true, false, refl, sym, ap, ◌∙◌, arith, inl, inr}
 use Rattle.std.specs.Prelude.{◌⊎◌}
 use Rattle.std.proofs.lemmas.Bool.{cases_lt, cases_eq, eqb-true}
-use Rattle.ffv1_weave.specs.Combinations.{AreNumbered, AreMoreThan}
+use Rattle.ffv1_weave.specs.Numbers.{AreNumbered, AreMoreThan}
 
 -- numbers below the one go to different ones below the other
 pub record IsInto (f : ℕ → ℕ) (m n : ℕ) : Type 0 where

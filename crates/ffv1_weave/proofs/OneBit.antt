@@ -10,7 +10,7 @@ use Rattle.std.proofs.lemmas.Grind.{flat_map-append}
 use Rattle.std.proofs.lemmas.List.{length-drop, length-replicate, take-append-drop, drop_more, take-set, drop-set, set-set, set-get_or, get_or-set_same}
 use Rattle.std.proofs.lemmas.List.Sums.{fold-append}
 use Rattle.ffv1_bits.specs.Bits.{number_bits, bits_of}
-use Rattle.ffv1_bits.specs.Parity.{divisor, reduced_at, divided, remainder_of}
+use Rattle.ffv1_bits.specs.Parity.{divisor, reduced_at, divided, remainder_of, polynomial_of}
 use Rattle.ffv1_bits.proofs.Burst.{length-bits}
 use Rattle.ffv1_bits.proofs.Division.{shifted, remainder_is_fold, divided-xor, divided_low, reduced_low}
 use Rattle.ffv1_bits.proofs.Register.{remainder_push}
@@ -18,6 +18,7 @@ use Rattle.ffv1_bits.proofs.SameChanges.{all_kept, fold_changes}
 use Rattle.ffv1_bits.proofs.Sums.{xor_twice}
 use Rattle.ffv1_weave.specs.Checks.{PassesBy}
 use Rattle.ffv1_weave.specs.Parts.{written}
+use Rattle.ffv1_weave.specs.Inversions.{times_x}
 use Rattle.ffv1_weave.specs.Repairs.{inverted}
 use Rattle.ffv1_weave.specs.declared.check.Check.TheVariants.{Slice}
 use Rattle.ffv1_weave.proofs.Choices.{length-written}
@@ -25,8 +26,7 @@ use Rattle.ffv1_weave.proofs.Choices.{length-written}
 -- ---- what is left of a power of x
 
 abbrev pub power_left : ℕ → ℕ
-power_left zero = 1
-power_left (suc n) = reduced_at 0 (power_left n * 2)
+power_left n = times_x 1 n
 
 low_power : (n : ℕ) → n < 32 → power_left n ≡ 2 ^ n
 low_power zero small = refl
@@ -34,12 +34,19 @@ low_power (suc n) small =
     let power : 2 ^ n * 2 ≡ 2 ^ suc n = sym (pow-suc 2 n) in
     ap (λ p. reduced_at 0 (p * 2)) (low_power n (omega arith)) ∙ ap (reduced_at 0) power ∙ reduced_low 0 (2 ^ suc n) (pow-lt small)
 
-pub zeros_after : (m n : ℕ) → fold shifted (power_left m) (replicate n false) ≡ power_left (m + n)
+pub times_zeros : (left m n : ℕ) → fold shifted (times_x left m) (replicate n false) ≡ times_x left (m + n)
 unfolding shifted
-zeros_after m zero = ap power_left (sym (add-zero m))
-zeros_after m (suc n) =
+times_zeros left m zero = ap (times_x left) (sym (add-zero m))
+times_zeros left m (suc n) =
     let next : suc m + n ≡ m + suc n = omega arith in
-    ap (λ p. fold shifted (reduced_at 0 p) (replicate n false)) (add-zero (power_left m * 2)) ∙ zeros_after (suc m) n ∙ ap power_left next
+    ap (λ p. fold shifted (reduced_at 0 p) (replicate n false)) (add-zero (times_x left m * 2)) ∙ times_zeros left (suc m) n ∙ ap (times_x left) next
+
+pub zeros_after : (m n : ℕ) → fold shifted (power_left m) (replicate n false) ≡ power_left (m + n)
+zeros_after m n = times_zeros 1 m n
+
+-- one power after another
+pub times_more : (left m n : ℕ) → times_x (times_x left m) n ≡ times_x left (m + n)
+times_more left m n = ap (times_x (times_x left m)) (sym (zero-add n)) ∙ sym (times_zeros (times_x left m) 0 n) ∙ times_zeros left m n
 
 zeros_leave_none : (n : ℕ) → fold shifted 0 (replicate n false) ≡ 0
 unfolding shifted
@@ -110,6 +117,38 @@ pub power_is_left : (bytes : List ℕ) (bit : ℕ) → bit < 8 * length bytes �
 power_is_left bytes bit inside small passes =
     sym (inverted_changes bytes bit inside small) ∙ ap (λ x. bit_xor x (remainder_of (bits_of bytes))) passes.1.1
     ∙ xor_zero_l (remainder_of (bits_of bytes))
+
+-- and with so many zeros after it a higher power
+pub power_shifted : (bytes : List ℕ) (bit more : ℕ) → bit < 8 * length bytes → get_or bytes (bit / 8) 0 < 256 → PassesBy Slice (inverted bytes bit)
+    → times_x (remainder_of (bits_of bytes)) more ≡ power_left (8 * length bytes - 1 - bit + more)
+power_shifted bytes bit more inside small passes =
+    ap (λ r. times_x r more) (sym (power_is_left bytes bit inside small passes)) ∙ times_more 1 (8 * length bytes - 1 - bit) more
+
+-- ---- eight bytes of zeros
+
+zero_bytes : (n : ℕ) → bits_of (replicate n 0) ≡ replicate (8 * n) false
+unfolding bits_of number_bits
+zero_bytes zero = refl
+zero_bytes (suc n) =
+    let eight : suc (suc (suc (suc (suc (suc (suc (suc (8 * n)))))))) ≡ 8 * suc n = omega arith in
+    ap (λ bits. false ∷ false ∷ false ∷ false ∷ false ∷ false ∷ false ∷ false ∷ bits) (zero_bytes n) ∙ ap (λ m. replicate m false) eight
+
+one_left : remainder_of (bits_of (1 ∷ [])) ≡ 1
+unfolding bits_of number_bits remainder_of divided polynomial_of reduced_at
+one_left = refl
+
+-- what is left of 1 and so many bytes of zeros
+power_of_bytes : (n : ℕ) → remainder_of (bits_of (1 ∷ replicate n 0)) ≡ power_left (8 * n)
+power_of_bytes n =
+    remainder_append (1 ∷ []) (replicate n 0) ∙ ap (λ r. fold shifted r (bits_of (replicate n 0))) one_left ∙ ap (fold shifted 1) (zero_bytes n) ∙ zeros_after 0 (8 * n) ∙ ap power_left (zero-add (8 * n))
+
+pub eight_zeros : (i power next : ℕ) → power ≡ power_left (64 * i)
+    → ((front : List ℕ) → power ≡ remainder_of (bits_of front) → next ≡ remainder_of (bits_of (front ++ replicate 8 0))) → next ≡ power_left (64 * i + 64)
+eight_zeros i power next is after =
+    let bits : 8 * (8 * i) ≡ 64 * i = omega arith in
+    after (1 ∷ replicate (8 * i) 0) (is ∙ sym (power_of_bytes (8 * i) ∙ ap power_left bits))
+    ∙ remainder_append (1 ∷ replicate (8 * i) 0) (replicate 8 0) ∙ ap (fold shifted (remainder_of (bits_of (1 ∷ replicate (8 * i) 0)))) (zero_bytes 8)
+    ∙ ap (λ r. fold shifted r (replicate 64 false)) (power_of_bytes (8 * i) ∙ ap power_left bits) ∙ zeros_after (64 * i) 64
 
 -- ---- as the code has them
 

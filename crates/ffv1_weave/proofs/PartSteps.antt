@@ -2,7 +2,7 @@
 use Rattle.std.proofs.Common.{◌≡◌, ℕ, ◌*◌, ◌/◌, ◌<◌, ◌≤◌, List, [], ◌∷◌, ◌++◌, length, refl, sym, ap, ◌∙◌, arith, inl, inr}
 use Rattle.std.proofs.Math.Nat.{le-div_iff_mul-le, mul_comm, mul_assoc, mul-lt-mul_of_pos_left}
 use Rattle.std.proofs.lemmas.Bool.{cases_lt}
-use Rattle.ffv1_weave.specs.Parts.{Part, ArePieces, ArePartsFrom, IsPartFrom, parts_end, count_of}
+use Rattle.ffv1_weave.specs.Parts.{Part, ArePiecesBy, ArePartsFrom, IsPartFrom, parts_end, count_of}
 use Rattle.ffv1_weave.specs.declared.grains.Grain.{Grain}
 
 -- ---- one part more
@@ -13,7 +13,7 @@ parts_end_push from (other ∷ parts) part = parts_end_push other.end parts part
 
 module _ (grain : Grain) (versions : List (List ℕ)) where
   pub parts_push : (from : ℕ) (parts : List Part) (part : Part) → ArePartsFrom grain versions from parts
-      → IsPartFrom grain versions (parts_end from parts) part.start part.end → ArePieces versions part.start part.end part.pieces
+      → IsPartFrom grain versions (parts_end from parts) part.start part.end → ArePiecesBy grain versions part.start part.end part.pieces
       → ArePartsFrom grain versions from (parts ++ part ∷ [])
   parts_push from [] part are next pieces = (next, pieces, tt)
   parts_push from (other ∷ parts) part are next pieces = (are.0, are.1, parts_push other.end parts part are.2 next pieces)

@@ -1,9 +1,8 @@
 -- The byte strings that versions have between two places, with one more version.
-use Rattle.std.proofs.Common.{◌≡◌, ℕ, ◌-◌, ◌<◌, ◌≤◌, List, [], ◌∷◌, ◌++◌, length, get_or, take, map, Bor, Bool, true, false, eqb, refl, sym, ap, ◌∙◌, subst, arith, inl, inr}
+use Rattle.std.proofs.Common.{◌≡◌, ℕ, ◌-◌, ◌<◌, List, [], ◌∷◌, ◌++◌, length, get_or, take, map, Bor, Bool, true, false, eqb, refl, sym, ap, ◌∙◌, subst, arith, inl, inr}
 use Rattle.std.specs.Prelude.{Contains, slice_range}
 use Rattle.std.proofs.lemmas.Bool.{cases_lt, false≢true}
 use Rattle.std.proofs.lemmas.List.{get_or_append_left, get_or_push, get_or_default, get_or-map, length-map, length_push, take_all}
-use Rattle.std.proofs.lemmas.List.Edits.{length-between}
 use Rattle.std.proofs.lemmas.List.Elements.{Contains-append_left, Contains-append_right, Contains-append_cases, Contains-get_or}
 use Rattle.std.specs.List.{IsAnyAnswer}
 use Rattle.std.proofs.lemmas.Slice.Eq.{slice_eq-Decides}
@@ -12,9 +11,9 @@ use lib.Pointwise.{pointwise}
 use Rattle.ffv1_slice.specs.Members.{HasSameMembers}
 use Rattle.ffv1_weave.specs.Regions.{HaveLength}
 use Rattle.ffv1_weave.proofs.References.{nowhere}
-use Rattle.ffv1_weave.specs.Parts.{ArePieces, IsFit}
+use Rattle.ffv1_weave.specs.Parts.{ArePieces}
 
-alone : (version other : List ℕ) → Contains (version ∷ []) other → other ≡ version
+pub alone : (version other : List ℕ) → Contains (version ∷ []) other → other ≡ version
 alone version other h = let first : h.0 ≡ 0 = omega (arith, h.1) in sym h.2 ∙ ap (λ k. get_or (version ∷ []) k other) first
 
 module _ (start end : ℕ) where
@@ -79,16 +78,6 @@ module _ (start end : ℕ) where
 
       apart : (k : ℕ) → k < length pieces → get_or pieces k [] ≡ slice_range version start end → ⊥
       apart k lt is = new (k, lt, get_or_default pieces k (slice_range version start end) [] lt ∙ is)
-
-  pub pieces_fit : (versions pieces : List (List ℕ)) (size : ℕ) → HaveLength versions size → 0 < length versions → start ≤ end → end ≤ size
-      → ArePieces versions start end pieces → IsFit size (record { start = start; end = end; pieces = pieces })
-  pieces_fit versions pieces size long some order within h =
-      record {
-        order = order;
-        within = within;
-        some = let first = h.each (get_or versions 0 []) (Contains-get_or versions 0 [] some) in omega (arith, first.1);
-        fill = λ k lt. let p = h.only k lt in ap length p.2 ∙ length-between p.0 start end (omega (arith, long p.0 p.1));
-      }
 
 -- ---- the pieces of the whole length are the versions, each once
 

@@ -12,12 +12,13 @@ use Rattle.ffv1_slice.specs.Members.{IsOnly}
 use Rattle.ffv1_weave.specs.Checks.{PassesBy}
 use Rattle.ffv1_weave.specs.Regions.{HaveLength, AgreeAt}
 use Rattle.ffv1_weave.specs.Parts.{AreFewParts}
-use Rattle.ffv1_weave.specs.Inversions.{IsFoundSlice, inversions}
+use Rattle.ffv1_weave.specs.Found.{PassesAmong}
+use Rattle.ffv1_weave.specs.Inversions.{inversions}
 use Rattle.ffv1_weave.specs.Repairs.{inverted, IsRepairOf}
 use Rattle.ffv1_weave.specs.declared.check.Check.TheVariants.{Slice}
 use Rattle.ffv1_weave.specs.declared.grains.Grain.TheVariants.{Pairs}
 use Rattle.ffv1_weave.proofs.Finest.{finest}
-use Rattle.ffv1_weave.proofs.FoundSteps.{inversion_there, inversion_of}
+use Rattle.ffv1_weave.proofs.InversionSteps.{inversion_there, inversion_of}
 use Rattle.ffv1_weave.proofs.OneBit.{power_left, zeros_after, power_is_left, length-inverted, inverted_twice, mask_small, set_written}
 use Rattle.ffv1_weave.proofs.RepairSteps.{repair_found}
 use Rattle.ffv1_weave.proofs.WeaveSteps.{HaveParts}
@@ -109,10 +110,10 @@ powers_differ a b low lt same =
 
 -- ---- a slice of one byte, with its footer and its parity
 
-pub small_slice : List ℕ
+unfoldable pub small_slice : List ℕ
 small_slice = 0x5A ∷ 0x00 ∷ 0x00 ∷ 0x01 ∷ 0x00 ∷ 0x84 ∷ 0xF2 ∷ 0x04 ∷ 0x92 ∷ []
 
-small_passes : PassesBy Slice small_slice
+pub small_passes : PassesBy Slice small_slice
 unfolding small_slice number_bits bits_of polynomial_of reduced_at divided remainder_of
 small_passes = (record { footer = omega arith; size = refl }, (omega arith, refl))
 
@@ -171,7 +172,7 @@ module _ (bit : ℕ) (inside : bit < 72) where
       (left_by other low passes ∙ sym (left_by bit inside (subst (PassesBy Slice) (sym mended) small_passes))) in
       omega (arith, same)
 
-  only_repair : IsOnly (IsFoundSlice (inversions damaged ++ [])) small_slice
+  only_repair : IsOnly (PassesAmong Slice (inversions damaged ++ [])) small_slice
   only_repair = record { there = record { there = there; passes = small_passes }; others = others }
     where
       there : Contains (inversions damaged ++ []) small_slice
@@ -179,7 +180,7 @@ module _ (bit : ℕ) (inside : bit < 72) where
           Contains-append_left (inversions damaged) [] small_slice
           (subst (Contains (inversions damaged)) mended (inversion_there damaged 0 (8 * length damaged) bit (omega arith) (omega (arith, damaged_long))))
 
-      others : (other : List ℕ) → IsFoundSlice (inversions damaged ++ []) other → other ≡ small_slice
+      others : (other : List ℕ) → PassesAmong Slice (inversions damaged ++ []) other → other ≡ small_slice
       others other h = elim (Contains-append_cases (inversions damaged) [] other h.there) [
         | inl inside_them ↦ let is = inversion_of damaged 0 (8 * length damaged) other inside_them in
             let low : is.0 < 72 = omega (arith, is.1, damaged_long) in
@@ -190,7 +191,7 @@ module _ (bit : ℕ) (inside : bit < 72) where
 
   pub small_repaired : IsRepairOf (inverted small_slice bit ∷ []) small_slice 72
   unfolding damaged
-  small_repaired = repair_found (damaged ∷ []) [] 1 (have damaged) small_slice 72 only_repair (ap (λ n. 1 * (8 * n)) (sym damaged_long)) (omega arith)
+  small_repaired = repair_found (have damaged) small_slice 72 only_repair (ap (λ n. 1 * (8 * n)) (sym damaged_long)) (omega arith)
 
 -- one bit of its content, of its status byte and of its parity
 content_repaired : IsRepairOf ((0x4A ∷ 0x00 ∷ 0x00 ∷ 0x01 ∷ 0x00 ∷ 0x84 ∷ 0xF2 ∷ 0x04 ∷ 0x92 ∷ []) ∷ []) small_slice 72

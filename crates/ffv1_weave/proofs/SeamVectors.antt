@@ -6,10 +6,11 @@ use Rattle.ffv1_weave.specs.Regions.{HaveLength, DifferAt, IsRegion}
 use Rattle.ffv1_weave.specs.Seams.{IsSeam, IsSegment}
 use Rattle.ffv1_weave.specs.Checks.{PassesBy}
 use Rattle.ffv1_weave.specs.Combinations.{IsCombinationBy, IsCombination, IsTriedBy, IsValid}
-use Rattle.ffv1_weave.specs.Parts.{Part, ArePieces, IsPartFrom, AreAllParts, IsFit}
+use Rattle.ffv1_weave.specs.Parts.{Part, ArePiecesBy, IsPartFrom, AreAllParts, IsFit}
 use Rattle.ffv1_weave.specs.declared.check.Check.{Check}
 use Rattle.ffv1_weave.specs.declared.grains.Grain.TheVariants.{Pairs}
 use Rattle.ffv1_weave.proofs.Agreeing.{agree_past, differ_from}
+use Rattle.ffv1_weave.proofs.MostSteps.{pieces_of_pairs}
 use Rattle.ffv1_weave.proofs.Choices.{numbered}
 use Rattle.ffv1_weave.proofs.Tried.{valid_by}
 
@@ -140,8 +141,9 @@ one_piece (suc zero) zero low lt same = let e = ap (λ z. get_or z 0 0) same in 
 one_piece (suc (suc j)) k low lt same = absurd (omega arith)
 one_piece j (suc (suc k)) low lt same = absurd (omega arith)
 
-pieces : (place : ℕ) → place < 3 → ArePieces three place (place + 1) two
-pieces place lt = record { each = each_piece place lt; only = only_piece place lt; once = one_piece }
+pieces : (place : ℕ) → place < 3 → ArePiecesBy (Pairs 0) three place (place + 1) two
+pieces place lt =
+    pieces_of_pairs three place (place + 1) two (record { each = each_piece place lt; only = only_piece place lt; once = one_piece }) 0
 
 abbrev parts : List Part
 parts = record { start = 0; end = 1; pieces = two } ∷ record { start = 1; end = 2; pieces = two } ∷ record { start = 2; end = 3; pieces = two } ∷ []

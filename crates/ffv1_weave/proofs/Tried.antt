@@ -14,7 +14,7 @@ use Rattle.ffv1_weave.specs.declared.weaving.TheConstants.{MOST_COMBINATIONS}
 use Rattle.ffv1_weave.proofs.Numbering.{one_number, number_above}
 
 module _ (versions : List (List ℕ)) where
-  few_or_many : (grain : Grain) (count : ℕ) → HasFew versions grain count → HasMany versions grain → ⊥
+  pub few_or_many : (grain : Grain) (count : ℕ) → HasFew versions grain count → HasMany versions grain → ⊥
   few_or_many grain count few many =
       let low = few.few in omega (arith, number_above (IsCombinationBy grain versions) MOST_COMBINATIONS count many few.numbered)
 

@@ -1,14 +1,16 @@
 -- Laws of the weave.
 use Rattle.std.proofs.Common.{◌≡◌, ℕ, ◌-◌, List, get_or, refl, sym, ap, ◌∙◌, inl, inr}
+use Rattle.std.specs.Prelude.{slice_range}
 use Rattle.ffv1_weave.specs.Regions.{AgreeAt, DifferAt, IsRegion}
 use Rattle.ffv1_weave.specs.Seams.{IsSeam, IsSegment}
-use Rattle.ffv1_weave.specs.Grains.{IsPartBy, grains}
-use Rattle.ffv1_weave.specs.Combinations.{IsCombinationBy, IsValid, AreNumbered, HasMany, IsTriedBy}
+use Rattle.ffv1_weave.specs.Grains.{IsPartBy, IsPieceOf, IsPieceBy, HasPiece, IsMost, grains}
+use Rattle.ffv1_weave.specs.Numbers.{AreNumbered}
+use Rattle.ffv1_weave.specs.Combinations.{IsCombinationBy, IsValid, HasFew, HasMany, IsTriedBy}
 use Rattle.ffv1_weave.specs.Weave.{Weave, IsWeaveOf, AreFew, AreMany}
 use Rattle.ffv1_weave.specs.Weave.Weave.{woven, disputed, missing, too_many}
 use Rattle.ffv1_weave.specs.declared.check.Check.{Check}
 use Rattle.ffv1_weave.specs.declared.grains.Grain.{Grain}
-use Rattle.ffv1_weave.specs.declared.grains.Grain.TheVariants.{Pairs, Regions}
+use Rattle.ffv1_weave.specs.declared.grains.Grain.TheVariants.{Pairs, Regions, Most}
 use Rattle.ffv1_slice.specs.Members.{HasSameMembers}
 use Rattle.ffv1_weave.specs.Laws.{SameVersionsWeave, CoveredIsCombination}
 use Rattle.ffv1_weave.proofs.Tried.{one_count, few_not_many}
@@ -46,6 +48,46 @@ module _ (versions others : List (List ℕ)) (same : HasSameMembers versions oth
         parted = h.parted;
       }
 
+-- ---- and so does what is taken in them
+
+module _ (versions others : List (List ℕ)) (same : HasSameMembers versions others) (start end : ℕ) where
+  has_as : (piece version : List ℕ) → HasPiece versions start end piece version → HasPiece others start end piece version
+  has_as piece version h = record { there = (same version).0 h.there; has = h.has }
+
+  has_back : (piece version : List ℕ) → HasPiece others start end piece version → HasPiece versions start end piece version
+  has_back piece version h = record { there = (same version).1 h.there; has = h.has }
+
+module _ (versions others : List (List ℕ)) (same : HasSameMembers versions others) where
+  have_as : (start end : ℕ) (piece : List ℕ) (count : ℕ) → AreNumbered (HasPiece versions start end piece) count
+      → AreNumbered (HasPiece others start end piece) count
+  have_as start end piece count h =
+      record {
+        at = h.at;
+        are = λ k lt. has_as versions others same start end piece (h.at k) (h.are k lt);
+        all = λ version has. h.all version (has_back versions others same start end piece version has);
+        once = h.once;
+      }
+
+module _ (versions others : List (List ℕ)) (same : HasSameMembers versions others) where
+  most_as : (start end : ℕ) (piece : List ℕ) → IsMost versions start end piece → IsMost others start end piece
+  most_as start end piece h =
+      record {
+        count = h.count;
+        have = have_as versions others same start end piece h.count h.have;
+        others = λ other more numbers.
+            h.others other more (have_as others versions (same_back versions others same) start end other more numbers);
+      }
+
+  some_as : (start end : ℕ) (piece : List ℕ) → IsPieceOf versions start end piece → IsPieceOf others start end piece
+  some_as start end piece h = (h.0, (same h.0).0 h.1, h.2)
+
+  taken_as : (grain : Grain) (start end : ℕ) (piece : List ℕ) → IsPieceBy grain versions start end piece → IsPieceBy grain others start end piece
+  taken_as (Pairs distance) start end piece h = some_as start end piece h
+  taken_as Regions start end piece h = some_as start end piece h
+  taken_as (Most distance) start end piece h = (some_as start end piece h.0, most_as start end piece h.1)
+
+-- ---- and so the combinations
+
 module _ (versions others : List (List ℕ)) (same : HasSameMembers versions others) where
   segment_back : (distance start end : ℕ) → IsSegment distance others start end → IsSegment distance versions start end
   segment_back distance start end h =
@@ -63,17 +105,17 @@ module _ (versions others : List (List ℕ)) (same : HasSameMembers versions oth
   part_back : (grain : Grain) (start end : ℕ) → IsPartBy grain others start end → IsPartBy grain versions start end
   part_back (Pairs distance) start end h = segment_back distance start end h
   part_back Regions start end h = region_back versions others same start end h
+  part_back (Most distance) start end h = segment_back distance start end h
 
   pub combination_as : (grain : Grain) (bytes : List ℕ) → IsCombinationBy grain versions bytes → IsCombinationBy grain others bytes
   combination_as grain bytes h =
       record {
         same_length = λ version there. h.same_length version ((same version).1 there);
         agrees = λ i agree version there. h.agrees i (agree_back versions others same i agree) version ((same version).1 there);
-        parts = λ start end part. let version = h.parts start end (part_back grain start end part) in
-            (version.0, (same version.0).0 version.1, version.2);
+        parts = λ start end part. taken_as versions others same grain start end (slice_range bytes start end) (h.parts start end (part_back grain start end part));
       }
 
--- ---- and so do the combinations that are tried
+-- ---- and those that are tried
 
 module _ (versions others : List (List ℕ)) (same : HasSameMembers versions others) where
   numbered_as : (grain : Grain) (count : ℕ) → AreNumbered (IsCombinationBy grain versions) count → AreNumbered (IsCombinationBy grain others) count
@@ -85,7 +127,10 @@ module _ (versions others : List (List ℕ)) (same : HasSameMembers versions oth
         once = h.once;
       }
 
-  has_many_as : (grain : Grain) → HasMany versions grain → HasMany others grain
+  pub has_few_as : (grain : Grain) (count : ℕ) → HasFew versions grain count → HasFew others grain count
+  has_few_as grain count h = record { numbered = numbered_as grain count h.numbered; few = h.few }
+
+  pub has_many_as : (grain : Grain) → HasMany versions grain → HasMany others grain
   has_many_as grain h = record { at = h.at; are = λ k low. combination_as versions others same grain (h.at k) (h.are k low); once = h.once }
 
   pub tried_as : (grain : Grain) (count : ℕ) → IsTriedBy versions grain count → IsTriedBy others grain count
@@ -95,7 +140,7 @@ module _ (versions others : List (List ℕ)) (same : HasSameMembers versions oth
         there = h.there;
         is = h.is;
         finer = λ k below. has_many_as (get_or grains k Regions) (h.finer k below);
-        few = record { numbered = numbered_as grain count h.few.numbered; few = h.few.few };
+        few = has_few_as grain count h.few;
       }
 
   pub valid_as : (check : Check) (bytes : List ℕ) → IsValid check versions bytes → IsValid check others bytes

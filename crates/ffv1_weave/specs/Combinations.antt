@@ -1,38 +1,26 @@
 -- What can be put together of the versions of a slice, or of an element.
 use Rattle.std.specs.Prelude.{ℕ, ◌<◌, ◌≤◌, ◌≡◌, List, Contains, length, slice_index, slice_index_or, slice_range}
 use Rattle.ffv1_weave.specs.Regions.{AgreeAt}
-use Rattle.ffv1_weave.specs.Grains.{IsPartBy, grains}
+use Rattle.ffv1_weave.specs.Numbers.{AreNumbered, AreMoreThan}
+use Rattle.ffv1_weave.specs.Grains.{IsPartBy, IsPieceBy, grains}
 use Rattle.ffv1_weave.specs.Checks.{PassesBy}
 use Rattle.ffv1_weave.specs.declared.check.Check.{Check}
 use Rattle.ffv1_weave.specs.declared.grains.Grain.{Grain}
 use Rattle.ffv1_weave.specs.declared.grains.Grain.TheVariants.{Regions}
 use Rattle.ffv1_weave.specs.declared.weaving.TheConstants.{MOST_COMBINATIONS}
 
--- A combination by a grain: where all versions agree it is as they are, and in each part it is as some version is in all of the part.
+-- A combination by a grain: where all versions agree it is as they are, and in each part it is as some version is in all of the part, or as
+-- most versions are.
 pub record IsCombinationBy (grain : Grain) (versions : List (List ℕ)) (bytes : List ℕ) : Type 0 where
   pub same_length : (version : List ℕ) → Contains versions version → length bytes ≡ length version
   pub agrees : (i : ℕ) → AgreeAt versions i → (version : List ℕ) → Contains versions version → slice_index bytes i ≡ slice_index version i
-  pub parts : (start end : ℕ) → IsPartBy grain versions start end
-      → (version : List ℕ) × Contains versions version × (slice_range bytes start end ≡ slice_range version start end)
+  pub parts : (start end : ℕ) → IsPartBy grain versions start end → IsPieceBy grain versions start end (slice_range bytes start end)
 
 -- A combination of regions. It is one by each finer grain too (`RegionsAreCoarsest`).
 abbrev pub IsCombination : List (List ℕ) → List ℕ → Type 0
 IsCombination versions bytes = IsCombinationBy Regions versions bytes
 
 -- ---- how many there are
-
--- There are so many values of a fact: they can be numbered from 0 up to the count, each once.
-pub record AreNumbered {X : Type 0} (P : X → Type 0) (count : ℕ) : Type 0 where
-  pub at : ℕ → X
-  pub are : (k : ℕ) → k < count → P (at k)
-  pub all : (value : X) → P value → (k : ℕ) × (k < count) × (at k ≡ value)
-  pub once : (j k : ℕ) → j < count → k < count → at j ≡ at k → j ≡ k
-
--- There are more values of a fact than so many: the numbers from 0 up to the count, and the count itself, give one each, and no two the same.
-pub record AreMoreThan {X : Type 0} (P : X → Type 0) (count : ℕ) : Type 0 where
-  pub at : ℕ → X
-  pub are : (k : ℕ) → k ≤ count → P (at k)
-  pub once : (j k : ℕ) → j ≤ count → k ≤ count → at j ≡ at k → j ≡ k
 
 -- By a grain the versions have so many combinations, few enough to be tried: at most 4096.
 pub record HasFew (versions : List (List ℕ)) (grain : Grain) (count : ℕ) : Type 0 where

@@ -1,15 +1,42 @@
--- How finely versions are parted.
-use Rattle.std.specs.Prelude.{ℕ, List, [], ◌∷◌}
+-- How finely versions are parted, and what is taken in each part.
+use Rattle.std.specs.Prelude.{ℕ, ◌≤◌, ◌≡◌, List, [], ◌∷◌, Contains, slice_range}
+use Rattle.ffv1_weave.specs.Numbers.{AreNumbered}
 use Rattle.ffv1_weave.specs.Regions.{IsRegion}
 use Rattle.ffv1_weave.specs.Seams.{IsSegment}
 use Rattle.ffv1_weave.specs.declared.grains.Grain.{Grain}
-use Rattle.ffv1_weave.specs.declared.grains.Grain.TheVariants.{Pairs, Regions}
+use Rattle.ffv1_weave.specs.declared.grains.Grain.TheVariants.{Pairs, Regions, Most}
 
 -- A part by a grain, from its start up to its end: a segment between the seams at a distance, or a region.
 abbrev pub IsPartBy : Grain → List (List ℕ) → ℕ → ℕ → Type 0
 IsPartBy (Pairs distance) versions start end = IsSegment distance versions start end
 IsPartBy Regions versions start end = IsRegion versions start end
+IsPartBy (Most distance) versions start end = IsSegment distance versions start end
 
--- the grains that are tried, finest first
+-- what some version has between two places
+abbrev pub IsPieceOf : List (List ℕ) → (start end : ℕ) → List ℕ → Type 0
+IsPieceOf versions start end piece = (version : List ℕ) × Contains versions version × (piece ≡ slice_range version start end)
+
+-- A version that has this between two places.
+pub record HasPiece (versions : List (List ℕ)) (start end : ℕ) (piece version : List ℕ) : Type 0 where
+  pub there : Contains versions version
+  pub has : piece ≡ slice_range version start end
+
+-- No other byte string stands between two places in more versions. Versions that are equal count as one.
+pub record IsMost (versions : List (List ℕ)) (start end : ℕ) (piece : List ℕ) : Type 0 where
+  pub count : ℕ
+  pub have : AreNumbered (HasPiece versions start end piece) count
+  pub others : (other : List ℕ) (more : ℕ) → AreNumbered (HasPiece versions start end other) more → more ≤ count
+
+-- What is taken in a part: what some version has there, or what most versions have.
+abbrev pub IsPieceBy : Grain → List (List ℕ) → (start end : ℕ) → List ℕ → Type 0
+IsPieceBy (Pairs distance) versions start end piece = IsPieceOf versions start end piece
+IsPieceBy Regions versions start end piece = IsPieceOf versions start end piece
+IsPieceBy (Most distance) versions start end piece = IsPieceOf versions start end piece × IsMost versions start end piece
+
+-- the grains by which versions are woven, finest first
 abbrev pub grains : List Grain
 grains = Pairs 0 ∷ Pairs 2 ∷ Pairs 8 ∷ Pairs 64 ∷ Regions ∷ []
+
+-- the grains by which they vote, finest first
+abbrev pub votes : List Grain
+votes = Most 0 ∷ Most 2 ∷ Most 8 ∷ Most 64 ∷ []

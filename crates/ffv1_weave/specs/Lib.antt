@@ -1,6 +1,7 @@
 pub mod Checks
 pub mod Regions
 pub mod Seams
+pub mod Numbers
 pub mod Grains
 pub mod Combinations
 pub mod Weave
@@ -8,7 +9,9 @@ pub mod Parts
 pub mod Changes
 pub mod Laws
 pub mod Repairs
+pub mod Found
 pub mod Inversions
+pub mod Votes
 -- what the clauses cite of the crates below
 pub use Rattle.ebml_crc.specs.Crc
 pub use Rattle.ebml_crc.specs.Element

@@ -1,7 +1,7 @@
 -- The parts of versions as they are gone over: from the front on, each with what differs in it, and the combinations by number.
-use Rattle.std.specs.Prelude.{ℕ, ◌+◌, ◌-◌, ◌*◌, ◌/◌, ◌%◌, ◌<◌, ◌≤◌, ◌≡◌, ◌⊎◌, All, List, [], ◌∷◌, ◌++◌, Contains, length, take, drop, slice_index_or, slice_range}
+use Rattle.std.specs.Prelude.{ℕ, zero, suc, ◌+◌, ◌-◌, ◌*◌, ◌/◌, ◌%◌, ◌<◌, ◌≤◌, ◌≡◌, ◌⊎◌, All, List, [], ◌∷◌, ◌++◌, Contains, length, take, drop, slice_index_or, slice_range}
 use Rattle.ffv1_weave.specs.Regions.{AgreeAt}
-use Rattle.ffv1_weave.specs.Grains.{IsPartBy}
+use Rattle.ffv1_weave.specs.Grains.{IsPartBy, IsPieceBy}
 use Rattle.ffv1_weave.specs.Combinations.{IsTriedBy}
 use Rattle.ffv1_weave.specs.declared.grains.Grain.{Grain}
 use Rattle.ffv1_weave.specs.declared.weaving.TheConstants.{MOST_COMBINATIONS}
@@ -19,6 +19,16 @@ pub record ArePieces (versions : List (List ℕ)) (start end : ℕ) (pieces : Li
       → (version : List ℕ) × Contains versions version × (slice_index_or pieces k [] ≡ slice_range version start end)
   pub once : (j k : ℕ) → j < length pieces → k < length pieces → slice_index_or pieces j [] ≡ slice_index_or pieces k [] → j ≡ k
 
+-- All byte strings that can be taken in a part by a grain, and no others, each once.
+pub record ArePiecesBy (grain : Grain) (versions : List (List ℕ)) (start end : ℕ) (pieces : List (List ℕ)) : Type 0 where
+  pub each : (piece : List ℕ) → IsPieceBy grain versions start end piece → Contains pieces piece
+  pub only : (k : ℕ) → k < length pieces → IsPieceBy grain versions start end (slice_index_or pieces k [])
+  pub once : (j k : ℕ) → j < length pieces → k < length pieces → slice_index_or pieces j [] ≡ slice_index_or pieces k [] → j ≡ k
+
+-- Versions that all differ.
+abbrev pub AreDistinct : List (List ℕ) → Type 0
+AreDistinct versions = (j k : ℕ) → j < length versions → k < length versions → slice_index_or versions j [] ≡ slice_index_or versions k [] → j ≡ k
+
 -- Parts can be sought from a place on: it is the versions' start, or a part ends there.
 abbrev pub IsEdge : Grain → List (List ℕ) → ℕ → Type 0
 IsEdge grain versions from = (from ≡ 0) ⊎ ((start : ℕ) × IsPartBy grain versions start from)
@@ -33,7 +43,7 @@ pub record IsPartFrom (grain : Grain) (versions : List (List ℕ)) (from start e
 abbrev pub ArePartsFrom : Grain → List (List ℕ) → ℕ → List Part → Type 0
 ArePartsFrom grain versions from [] = Unit {0}
 ArePartsFrom grain versions from (part ∷ parts) =
-    IsPartFrom grain versions from part.start part.end × ArePieces versions part.start part.end part.pieces
+    IsPartFrom grain versions from part.start part.end × ArePiecesBy grain versions part.start part.end part.pieces
     × ArePartsFrom grain versions part.end parts
 
 -- where the last of the parts ends
@@ -80,3 +90,8 @@ abbrev pub chosen : List Part → ℕ → List ℕ → List ℕ
 chosen [] code bytes = bytes
 chosen (part ∷ parts) code bytes =
     chosen parts (code / length part.pieces) (written bytes part.start (slice_index_or part.pieces (code % length part.pieces) []))
+
+-- the byte strings of the combinations whose number is below one
+abbrev pub chosen_below : List Part → List ℕ → ℕ → List (List ℕ)
+chosen_below parts first zero = []
+chosen_below parts first (suc code) = chosen parts code first ∷ chosen_below parts first code

@@ -1,28 +1,25 @@
 //! Bytes with one bit inverted: which of them are slices with their parity. Where a bit is inverted the remainder changes by a power of x,
 //! and only where that is all that is left of the bytes are they looked at.
-ghost use Rattle.std.specs.Prelude.{◌≡◌, ◌*◌, ◌<◌, ◌≤◌, ℕ, List, ◌∷◌, ◌++◌, length, IfOk};
-ghost use Rattle.ffv1_bits.specs.Parity.{reduced_at};
+ghost use Rattle.std.specs.Prelude.{◌≡◌, ◌+◌, ◌-◌, ◌*◌, ◌<◌, ◌≤◌, ℕ, List, ◌∷◌, ◌++◌, length, slice_index, IfOk};
+ghost use Rattle.ffv1_bits.specs.Bits.{bits_of};
+ghost use Rattle.ffv1_bits.specs.Parity.{reduced_at, remainder_of};
 ghost use Rattle.ffv1_weave.specs.Repairs.{inverted};
-ghost use Rattle.ffv1_weave.specs.Inversions.{IsFoundAmong, inversions};
+ghost use Rattle.ffv1_weave.specs.Found.{IsFoundAmong};
+ghost use Rattle.ffv1_weave.specs.Inversions.{inversions_from, inversions, times_x};
+ghost use Rattle.ffv1_weave.specs.declared.inversions.TheConstants.{WIDTH};
+ghost use Rattle.ffv1_weave.specs.declared.check.Check.TheVariants.{Slice};
 ghost use Rattle.ffv1_weave.specs.declared.repairing.TheConstants.{MOST_REPAIRS};
 
 use crate::check::Check;
-use ffv1_bits::remainder;
+use crate::found::{Found, with_bytes};
+use ffv1_bits::{remainder, remainder_after};
 use std::alloc::{AllocError, Global};
 
 /// The parity's polynomial without x^32 (RFC 9043, section 4.9.3).
 const LOW_DIVISOR: u32 = 0x04C11DB7;
 
-/// What is found among byte strings that are tried: slices with their parity.
-#[derive(Drop)]
-pub(crate) enum Found {
-    /// None of them is one.
-    Nothing,
-    /// These bytes alone are one.
-    One(Vec<u8>),
-    /// Two that differ are.
-    Several,
-}
+/// So many bits are tried beside each other.
+const WIDTH: usize = 64;
 
 /// Inverts a bit.
 fn invert(bytes: &mut [u8], bit: usize)
@@ -44,26 +41,6 @@ fn next_power(power: u32) -> u32
     }
 }
 
-/// What is found where these bytes are tried too.
-fn with_bytes(alloc: Global, bytes: &[u8], found: Found) -> Result<Found, AllocError>
-    ensures { IfOk result (λ more. (tried : List (List ℕ)) → IsFoundAmong tried found → IsFoundAmong (bytes.now ∷ tried) more) }
-{
-    if !Check::Slice.passes(bytes) {
-        return Ok(found);
-    }
-    match found {
-        Found::Nothing => Ok(Found::One(Vec::from_slice(alloc, bytes)?)),
-        Found::One(other) => {
-            if other.as_slice() == bytes {
-                Ok(Found::One(other))
-            } else {
-                Ok(Found::Several)
-            }
-        }
-        Found::Several => Ok(Found::Several),
-    }
-}
-
 /// What is found where the bytes with this bit inverted are tried too.
 fn with_inverted(
     alloc: Global,
@@ -73,12 +50,51 @@ fn with_inverted(
 ) -> Result<Found, AllocError>
     requires { bit < 8 * length bytes.old }
     ensures same { bytes.new ≡ bytes.old }
-    ensures found { IfOk result (λ more. (tried : List (List ℕ)) → IsFoundAmong tried found → IsFoundAmong (inverted bytes.old bit ∷ tried) more) }
+    ensures found { IfOk result (λ more. (tried : List (List ℕ)) → IsFoundAmong Slice tried found → IsFoundAmong Slice (inverted bytes.old bit ∷ tried) more) }
 {
     invert(bytes, bit);
-    let more = with_bytes(alloc, bytes, found);
+    let more = with_bytes(alloc, Check::Slice, bytes, found);
     invert(bytes, bit);
     more
+}
+
+/// What is left of a polynomial times each power of x from the first one on, by what is left of it.
+fn shifts(left: u32) -> [u32; WIDTH]
+    ensures { (j : ℕ) → j < WIDTH → slice_index result j ≡ times_x left (j + 1) }
+{
+    let mut shifts = [0; WIDTH];
+    let mut power = left;
+    for shift in 0..WIDTH {
+        power = next_power(power);
+        shifts[shift] = power;
+    }
+    shifts
+}
+
+/// What is found where the bytes with one of the `WIDTH` bits before this one inverted are tried too, each in turn, or one of all bits before it
+/// if they are fewer. With a bit inverted, nothing is left of the bytes only if what is left of them is the power of x of that bit. Then the
+/// power for `WIDTH` bits before this one is one of its shifts.
+fn with_bits_before(
+    alloc: Global,
+    bytes: &mut [u8],
+    shifts: &[u32; WIDTH],
+    power: u32,
+    bit: usize,
+    mut found: Found,
+) -> Result<Found, AllocError>
+    requires shifts { (j : ℕ) → j < WIDTH → slice_index shifts.now j ≡ times_x (remainder_of (bits_of bytes.old)) (j + 1) }
+    requires power { power ≡ times_x 1 (8 * length bytes.old - bit + WIDTH) }
+    requires within { bit ≤ 8 * length bytes.old }
+    ensures same { bytes.new ≡ bytes.old }
+    ensures found { IfOk result (λ more. (tried : List (List ℕ)) → IsFoundAmong Slice (inversions_from bytes.old bit (8 * length bytes.old - bit) ++ tried) found
+        → IsFoundAmong Slice (inversions_from bytes.old (bit - WIDTH) (8 * length bytes.old - (bit - WIDTH)) ++ tried) more) }
+{
+    for at in 0..bit.min(WIDTH) {
+        if shifts[WIDTH - 1 - at] == power {
+            found = with_inverted(alloc, bytes, bit - 1 - at, found)?;
+        }
+    }
+    Ok(found)
 }
 
 /// What is found where the bytes with each of their bits inverted are tried too.
@@ -89,15 +105,15 @@ pub(crate) fn with_inversions(
 ) -> Result<Found, AllocError>
     requires { 8 * length bytes.old ≤ MOST_REPAIRS }
     ensures same { bytes.new ≡ bytes.old }
-    ensures found { IfOk result (λ more. (tried : List (List ℕ)) → IsFoundAmong tried found → IsFoundAmong (inversions bytes.old ++ tried) more) }
+    ensures found { IfOk result (λ more. (tried : List (List ℕ)) → IsFoundAmong Slice tried found → IsFoundAmong Slice (inversions bytes.old ++ tried) more) }
 {
-    let left = remainder(bytes);
+    let shifts = shifts(remainder(bytes));
     let mut power = 1;
-    for bit in (0..8 * bytes.len()).rev() {
-        if power == left {
-            found = with_inverted(alloc, bytes, bit, found)?;
-        }
-        power = next_power(power);
+    let mut bit = 8 * bytes.len();
+    while 0 < bit {
+        power = remainder_after(power, &[0; WIDTH / 8]);
+        found = with_bits_before(alloc, bytes, &shifts, power, bit, found)?;
+        bit = bit.saturating_sub(WIDTH);
     }
     Ok(found)
 }

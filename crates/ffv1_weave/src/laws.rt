@@ -1,6 +1,7 @@
 //! Laws of the weave, whatever it is made by.
 ghost use Rattle.ffv1_weave.specs.Laws.{SameVersionsWeave, OriginalIsWoven, TriedOriginalIsWoven, RegionsAreCoarsest, CoveredIsCombination, VersionIsCombination};
 ghost use Rattle.ffv1_weave.specs.Repairs.{SameVersionsRepair, OriginalIsRepaired};
+ghost use Rattle.ffv1_weave.specs.Votes.{SameVersionsVote, OriginalIsVoted};
 
 /// However the same versions are ordered or repeated, they have one weave: outcome, bytes and number of combinations.
 pub fn same_versions_weave()
@@ -43,4 +44,15 @@ pub fn same_versions_repair()
 /// inverted, nothing else is repaired.
 pub fn original_is_repaired()
     ensures { OriginalIsRepaired }
+{}
+
+/// However the same versions are ordered or repeated, they have one vote, or none.
+pub fn same_versions_vote()
+    ensures { SameVersionsVote }
+{}
+
+/// Where the original is a slice with its parity (RFC 9043, section 4.9.3), and among what most versions have at a distance that is tried,
+/// nothing else is voted.
+pub fn original_is_voted()
+    ensures { OriginalIsVoted }
 {}

@@ -3,9 +3,10 @@ ghost use Rattle.std.specs.Prelude.{◌≡◌, ◌≤◌, ◌<◌, ℕ, length, 
 ghost use Rattle.ffv1_weave.specs.Regions.{AgreeAt};
 ghost use Rattle.ffv1_weave.specs.Combinations.{HasMany};
 ghost use Rattle.ffv1_weave.specs.Weave.{AreMany};
-ghost use Rattle.ffv1_weave.specs.Parts.{ArePieces, IsEdge, IsPartFrom, IsFit, AreFewParts, AreTriedParts, chosen};
+ghost use Rattle.ffv1_weave.specs.Parts.{ArePieces, ArePiecesBy, AreDistinct, IsEdge, IsPartFrom, IsFit, AreFewParts, AreTriedParts, chosen};
 
 use crate::grains::{GRAINS, Grain};
+use crate::most::most_between;
 use crate::regions::region_from;
 use crate::segments::segment_from;
 use crate::weaving::MOST_COMBINATIONS;
@@ -57,6 +58,25 @@ pub(crate) fn pieces_between<'a>(
     Ok(pieces)
 }
 
+/// The byte strings that can be taken between two places by a grain, each once. Each version has the places, and no two are equal.
+fn pieces_by<'a>(
+    alloc: Global,
+    grain: Grain,
+    versions: &[&'a [u8]],
+    start: usize,
+    end: usize,
+) -> Result<Vec<&'a [u8]>, AllocError>
+    requires order { start ≤ end }
+    requires within { All (λ version. end ≤ length version.now) versions.now }
+    requires distinct { AreDistinct (map (λ version. version.now) versions.now) }
+    ensures { IfOk result (λ pieces. ArePiecesBy grain (map (λ version. version.now) versions.now) start end (map (λ piece. piece.now) pieces.items)) }
+{
+    match grain {
+        Grain::Pairs(_) | Grain::Regions => pieces_between(alloc, versions, start, end),
+        Grain::Most(_) => most_between(alloc, versions, start, end),
+    }
+}
+
 /// The next part by a grain at which versions differ, from `from` on, where it is their start or the end of a part: its start and its end.
 fn part_from(grain: Grain, versions: &[&[u8]], from: usize, size: usize) -> Option<(usize, usize)>
     requires some { 0 < length versions.now }
@@ -68,14 +88,16 @@ fn part_from(grain: Grain, versions: &[&[u8]], from: usize, size: usize) -> Opti
     ensures within { IfSome result (λ (start, end). end ≤ size) }
 {
     match grain {
-        Grain::Pairs(distance) => segment_from(versions, from, size, distance),
+        Grain::Pairs(distance) | Grain::Most(distance) => {
+            segment_from(versions, from, size, distance)
+        }
         Grain::Regions => region_from(versions, from, size),
     }
 }
 
 /// The parts of versions of one length by a grain, from the front on, where they have few enough combinations to be tried: where not,
-/// no further part is looked for. There is one version at least.
-fn parts_by<'a>(
+/// no further part is looked for. There is one version at least, and no two are equal.
+pub(crate) fn parts_by<'a>(
     alloc: Global,
     grain: Grain,
     versions: &[&'a [u8]],
@@ -83,6 +105,7 @@ fn parts_by<'a>(
 ) -> Result<Option<Parts<'a>>, AllocError>
     requires some { 0 < length versions.now }
     requires lengths { All (λ version. length version.now ≡ size) versions.now }
+    requires distinct { AreDistinct (map (λ version. version.now) versions.now) }
     ensures { IfOk result (λ found. MatchOption found (HasMany (map (λ version. version.now) versions.now) grain)
         (λ few. AreFewParts grain (map (λ version. version.now) versions.now) size few.parts.items few.count)) }
 {
@@ -90,7 +113,7 @@ fn parts_by<'a>(
     let mut count = 1;
     let mut from = 0;
     while let Some((start, end)) = part_from(grain, versions, from, size) {
-        let pieces = pieces_between(alloc, versions, start, end)?;
+        let pieces = pieces_by(alloc, grain, versions, start, end)?;
         let many = pieces.len();
         if many > MOST_COMBINATIONS / count {
             return Ok(None);
@@ -103,7 +126,7 @@ fn parts_by<'a>(
 }
 
 /// The parts of versions of one length by the finest grain by which they have few enough combinations to be tried, if there is one.
-/// There is one version at least.
+/// There is one version at least, and no two are equal.
 pub(crate) fn finest_parts<'a>(
     alloc: Global,
     versions: &[&'a [u8]],
@@ -111,6 +134,7 @@ pub(crate) fn finest_parts<'a>(
 ) -> Result<Option<Parts<'a>>, AllocError>
     requires some { 0 < length versions.now }
     requires lengths { All (λ version. length version.now ≡ size) versions.now }
+    requires distinct { AreDistinct (map (λ version. version.now) versions.now) }
     ensures { IfOk result (λ found. MatchOption found (AreMany (map (λ version. version.now) versions.now))
         (λ tried. AreTriedParts (map (λ version. version.now) versions.now) size tried.parts.items tried.count)) }
 {

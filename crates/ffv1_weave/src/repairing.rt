@@ -1,8 +1,10 @@
 //! The repair of versions of one slice in which one bit is wrong in all of them: each combination is tried with each of its bits inverted.
 ghost use Rattle.std.specs.Prelude.{◌≡◌, ◌<◌, ℕ, List, [], length, map, All, IfOk, MatchOption, slice_index_or};
 ghost use Rattle.ffv1_weave.specs.Repairs.{IsRepairOf};
+ghost use Rattle.ffv1_weave.specs.Parts.{AreDistinct};
 
-use crate::inversions::{Found, with_inversions};
+use crate::found::Found;
+use crate::inversions::with_inversions;
 use crate::parts::{choose, finest_parts, pieces_between};
 use std::alloc::{AllocError, Global};
 
@@ -41,6 +43,7 @@ fn repair_distinct(
 ) -> Result<Option<(Vec<u8>, usize)>, AllocError>
     requires some { 0 < length versions.now }
     requires lengths { All (λ version. length version.now ≡ length (slice_index_or (map (λ version. version.now) versions.now) 0 [])) versions.now }
+    requires distinct { AreDistinct (map (λ version. version.now) versions.now) }
     ensures { IfOk result (λ found. MatchOption found
         ((bytes : List ℕ) (count : ℕ) → IsRepairOf (map (λ version. version.now) versions.now) bytes count → ⊥)
         (λ (bytes, count). IsRepairOf (map (λ version. version.now) versions.now) bytes.items count)) }

@@ -1,11 +1,12 @@
-//! The weave of versions of one slice or element: each combination is tried. What is left of it is summed of what each of its pieces
-//! changes, and only where that is 0 are its bytes written and looked at.
+//! The weave of versions of one slice or element: each combination is tried.
 ghost use Rattle.std.specs.Prelude.{◌≡◌, ◌<◌, [], length, map, All, IfOk, slice_index_or};
 ghost use Rattle.ffv1_weave.specs.Weave.{IsWeaveOf, weave_told};
+ghost use Rattle.ffv1_weave.specs.Parts.{AreDistinct};
 
-use crate::changes::{changed, tables_of};
 use crate::check::Check;
-use crate::parts::{choose, finest_parts, pieces_between};
+use crate::found::Found;
+use crate::parts::{finest_parts, pieces_between};
+use crate::trying::with_combinations;
 use std::alloc::{AllocError, Global};
 
 /// The greatest number of combinations that are tried: where versions have more however they are parted, none is.
@@ -30,33 +31,17 @@ pub enum Outcome {
 fn weave_distinct(alloc: Global, check: Check, versions: &[&[u8]]) -> Result<Outcome, AllocError>
     requires some { 0 < length versions.now }
     requires lengths { All (λ version. length version.now ≡ length (slice_index_or (map (λ version. version.now) versions.now) 0 [])) versions.now }
+    requires distinct { AreDistinct (map (λ version. version.now) versions.now) }
     ensures { IfOk result (λ outcome. IsWeaveOf check (map (λ version. version.now) versions.now) (weave_told outcome)) }
 {
     let Some(tried) = finest_parts(alloc, versions, versions[0].len())? else {
         return Ok(Outcome::TooMany);
     };
-    let base = check.remainder(versions[0]);
-    let tables = tables_of(alloc, check, versions[0], base, tried.parts.as_slice())?;
-    let mut bytes = Vec::from_slice(alloc, versions[0])?;
-    let mut found = None;
-    for code in 0..tried.count {
-        if changed(tables.as_slice(), base, code) != 0 {
-            continue;
-        }
-        choose(&mut bytes, tried.parts.as_slice(), code);
-        if !check.passes(bytes.as_slice()) {
-            continue;
-        }
-        if found.is_some() {
-            return Ok(Outcome::Disputed);
-        }
-        found = Some(code);
+    match with_combinations(alloc, check, versions, &tried, Found::Nothing)? {
+        Found::One(bytes) => Ok(Outcome::Woven(bytes, tried.count)),
+        Found::Several => Ok(Outcome::Disputed),
+        Found::Nothing => Ok(Outcome::Missing(tried.count)),
     }
-    let Some(code) = found else {
-        return Ok(Outcome::Missing(tried.count));
-    };
-    choose(&mut bytes, tried.parts.as_slice(), code);
-    Ok(Outcome::Woven(bytes, tried.count))
 }
 
 /// Weaves versions of a slice, each with its footer, or of an element, by the check: what several copies have at its place. There is one

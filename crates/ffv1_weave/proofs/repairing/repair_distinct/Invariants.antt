@@ -1,6 +1,6 @@
 use Rattle.std.proofs.Common.{[], map, get_or}
-use Rattle.ffv1_weave.specs.Inversions.{IsFoundAmong}
-use Rattle.ffv1_weave.specs.Parts.{chosen}
+use Rattle.ffv1_weave.specs.Found.{IsFoundAmong}
+use Rattle.ffv1_weave.specs.declared.check.Check.TheVariants.{Slice}
 use Rattle.ffv1_weave.proofs.Choices.{IsAlike}
 use Rattle.ffv1_weave.proofs.RepairSteps.{all_inversions}
 use Rattle.ffv1_weave.proofs.repairing.repair_distinct.Given as goal
@@ -9,5 +9,5 @@ use Rattle.ffv1_weave.proofs.repairing.repair_distinct.Given as goal
 abbrev pub invariant-loop-code : goal.invariant-loop-code
 invariant-loop-code l = record {
   alike : IsAlike (map (λ version. version.now) l.versions) 0 l.bytes.items (get_or (map (λ version. version.now) l.versions) 0 []);
-  found : IsFoundAmong (all_inversions (λ k. chosen l.tried.parts.items k (get_or (map (λ version. version.now) l.versions) 0 [])) l.code) l.found;
+  found : IsFoundAmong Slice (all_inversions l.tried.parts.items (get_or (map (λ version. version.now) l.versions) 0 []) l.code) l.found;
 }

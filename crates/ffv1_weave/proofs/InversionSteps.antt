@@ -1,0 +1,49 @@
+-- The inversions of one byte string, and what is found among them.
+use Rattle.std.proofs.Common.{◌≡◌, ℕ, zero, suc, ◌+◌, ◌-◌, ◌*◌, ◌<◌, ◌≤◌, List, ◌∷◌, ◌++◌, length, sym, ap, subst, arith, inl, inr}
+use Rattle.std.specs.Prelude.{Contains}
+use Rattle.std.proofs.lemmas.Bool.{cases_lt}
+use Rattle.ffv1_slice.proofs.Links.{Contains-head, Contains-cons}
+use Rattle.ffv1_weave.specs.Found.{IsFoundAmong}
+use Rattle.ffv1_weave.specs.Inversions.{inversions_from, inversions}
+use Rattle.ffv1_weave.specs.Repairs.{inverted}
+use Rattle.ffv1_weave.specs.declared.check.Check.TheVariants.{Slice}
+use Rattle.ffv1_weave.specs.declared.found.Found.{Found}
+use Rattle.ffv1_weave.proofs.FoundSteps.{more_cases}
+
+module _ (bytes : List ℕ) where
+  pub inversion_there : (from count bit : ℕ) → from ≤ bit → bit < from + count → Contains (inversions_from bytes from count) (inverted bytes bit)
+  inversion_there from zero bit low high = absurd (omega arith)
+  inversion_there from (suc count) bit low high =
+      elim (cases_lt from bit) [
+        | inl later ↦ Contains-cons (inverted bytes from) (inverted bytes bit) (inversions_from bytes (from + 1) count)
+            (inversion_there (from + 1) count bit (omega arith) (omega arith))
+        | inr here ↦ let same : from ≡ bit = omega arith in
+            subst (λ n. Contains (inverted bytes from ∷ inversions_from bytes (from + 1) count) (inverted bytes n)) same
+            (Contains-head (inverted bytes from) (inversions_from bytes (from + 1) count))
+      ]
+
+  pub inversion_of : (from count : ℕ) (other : List ℕ) → Contains (inversions_from bytes from count) other
+      → (bit : ℕ) × (bit < from + count) × (inverted bytes bit ≡ other)
+  inversion_of from zero other there = let none = there.1 in absurd (omega arith)
+  inversion_of from (suc count) other there =
+      elim (more_cases (inverted bytes from) (inversions_from bytes (from + 1) count) other there) [
+        | inl same ↦ (from, omega arith, same)
+        | inr later ↦ let bit = inversion_of (from + 1) count other later in (bit.0, (let low = bit.1 in omega arith), bit.2)
+      ]
+
+-- the bytes with one bit more inverted, from the last bit on
+pub found_bit_before : (bytes : List ℕ) (bit next : ℕ) (tried : List (List ℕ)) → bit + 1 ≡ next → bit < 8 * length bytes → (what : Found)
+    → IsFoundAmong Slice (inverted bytes bit ∷ (inversions_from bytes next (8 * length bytes - next) ++ tried)) what
+    → IsFoundAmong Slice (inversions_from bytes bit (8 * length bytes - bit) ++ tried) what
+found_bit_before bytes bit next tried near inside what h =
+    let here : 8 * length bytes - bit ≡ suc (8 * length bytes - next) = omega arith in
+    subst (λ n. IsFoundAmong Slice (inversions_from bytes bit n ++ tried) what) (sym here)
+    (subst (λ k. IsFoundAmong Slice (inverted bytes bit ∷ (inversions_from bytes k (8 * length bytes - next) ++ tried)) what) (sym near) h)
+
+pub found_all_bits : (bytes first : List ℕ) (bit : ℕ) (tried : List (List ℕ)) → bit ≡ 0 → bytes ≡ first → (what : Found)
+    → IsFoundAmong Slice (inversions_from bytes bit (8 * length bytes - bit) ++ tried) what → IsFoundAmong Slice (inversions first ++ tried) what
+found_all_bits bytes first bit tried none same what h =
+    let all : 8 * length bytes - bit ≡ 8 * length first = omega (arith, ap length same) in
+    subst (λ xs. IsFoundAmong Slice (inversions_from xs 0 (8 * length first) ++ tried) what) same
+    (subst (λ n. IsFoundAmong Slice (inversions_from bytes 0 n ++ tried) what) all
+    (subst (λ k. IsFoundAmong Slice (inversions_from bytes k (8 * length bytes - bit) ++ tried) what) none h))

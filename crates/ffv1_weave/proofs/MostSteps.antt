@@ -1,0 +1,418 @@
+-- What most versions have between two places: how many versions have a byte string there, and that there is one that most have.
+use Rattle.std.proofs.Common.{◌≡◌, ℕ, zero, suc, ◌+◌, ◌<◌, ◌≤◌, List, [], ◌∷◌, ◌++◌, length, get_or, take, true, false, refl, sym, ap, ◌∙◌, subst, arith, inl, inr}
+use Rattle.std.specs.Prelude.{◌⊎◌, Contains, slice_range}
+use Rattle.std.specs.Bool.{Decides}
+use Rattle.std.specs.Str.{bytes_eq}
+use Rattle.std.proofs.lemmas.Bool.{cases_lt, false≢true}
+use Rattle.std.proofs.lemmas.List.{get_or_append_left, get_or_push, length_push, get_or_default, get_or-take, length-take-le, take_more, take_all}
+use Rattle.std.proofs.lemmas.List.Edits.{length-between}
+use Rattle.std.proofs.lemmas.List.Elements.{Contains-append_left, Contains-append_right, Contains-append_cases, Contains-get_or}
+use Rattle.std.proofs.lemmas.Slice.Eq.{bytes_eq-Decides}
+use Rattle.ffv1_weave.specs.Numbers.{AreNumbered}
+use Rattle.ffv1_weave.specs.Grains.{IsPieceOf, IsPieceBy, HasPiece, IsMost}
+use Rattle.ffv1_weave.specs.Regions.{HaveLength}
+use Rattle.ffv1_weave.specs.Parts.{ArePieces, ArePiecesBy, AreDistinct, IsFit}
+use Rattle.ffv1_weave.specs.declared.grains.Grain.{Grain}
+use Rattle.ffv1_weave.specs.declared.grains.Grain.TheVariants.{Pairs, Regions, Most}
+use Rattle.ffv1_weave.proofs.PieceSteps.{alone}
+use Rattle.ffv1_weave.proofs.Numbering.{one_number}
+use Rattle.ffv1_weave.proofs.Agreeing.{at_index}
+use Rattle.ffv1_weave.proofs.NextSegment.{one_or_none}
+
+-- what is taken in a part some version has there
+pub piece_of_some : (grain : Grain) (versions : List (List ℕ)) (start end : ℕ) (piece : List ℕ) → IsPieceBy grain versions start end piece
+    → IsPieceOf versions start end piece
+piece_of_some (Pairs distance) versions start end piece h = h
+piece_of_some Regions versions start end piece h = h
+piece_of_some (Most distance) versions start end piece h = h.0
+
+-- ---- whether byte strings are the same
+
+same_or_not : (one other : List ℕ) → (one ≡ other) ⊎ (one ≡ other → ⊥)
+same_or_not one other = elim (bytes_eq one other) as (λ b. Decides b (one ≡ other) → (one ≡ other) ⊎ (one ≡ other → ⊥)) [
+  | true ↦ λ e. inl (e.0 refl)
+  | false ↦ λ e. inr (λ is. false≢true (e.1 is))
+] (bytes_eq-Decides one other)
+
+-- ---- one version more
+
+module _ (start end : ℕ) (piece : List ℕ) (versions : List (List ℕ)) (version : List ℕ) where
+  has_left : (other : List ℕ) → HasPiece versions start end piece other → HasPiece (versions ++ version ∷ []) start end piece other
+  has_left other h = record { there = Contains-append_left versions (version ∷ []) other h.there; has = h.has }
+
+  has_last : piece ≡ slice_range version start end → HasPiece (versions ++ version ∷ []) start end piece version
+  has_last is = record { there = Contains-append_right versions (version ∷ []) version (0, omega arith, refl); has = is }
+
+  -- none has the piece who did not before
+  pub have_same : (count : ℕ) → (piece ≡ slice_range version start end → Contains versions version) → AreNumbered (HasPiece versions start end piece) count
+      → AreNumbered (HasPiece (versions ++ version ∷ []) start end piece) count
+  have_same count known h =
+      record {
+        at = h.at;
+        are = λ k lt. has_left (h.at k) (h.are k lt);
+        all = λ other has. h.all other (record {
+          there = elim (Contains-append_cases versions (version ∷ []) other has.there) [
+            | inl there ↦ there
+            | inr new ↦ let is = alone version other new in
+                subst (Contains versions) (sym is) (known (has.has ∙ ap (λ v. slice_range v start end) is))
+          ];
+          has = has.has;
+        });
+        once = h.once;
+      }
+
+  at_more : (ℕ → List ℕ) → (count k : ℕ) → (k < count) ⊎ (count ≤ k) → List ℕ
+  at_more at count k (inl below) = at k
+  at_more at count k (inr above) = version
+
+  -- one has it who was not among them
+  pub have_more : (count : ℕ) → (Contains versions version → ⊥) → piece ≡ slice_range version start end → AreNumbered (HasPiece versions start end piece) count
+      → AreNumbered (HasPiece (versions ++ version ∷ []) start end piece) (count + 1)
+  unfolding at_more
+  have_more count new is h =
+      record {
+        at = λ k. at_more h.at count k (cases_lt k count);
+        are = λ k lt. elim (cases_lt k count) as (λ c. HasPiece (versions ++ version ∷ []) start end piece (at_more h.at count k c)) [
+          | inl below ↦ has_left (h.at k) (h.are k below)
+          | inr above ↦ has_last is
+        ];
+        all = λ other has. elim (Contains-append_cases versions (version ∷ []) other has.there) [
+          | inl there ↦ let k = h.all other (record { there = there; has = has.has }) in
+              (k.0, (let lt = k.1 in omega arith), at_below k.0 k.1 (cases_lt k.0 count) ∙ k.2)
+          | inr last ↦ (count, omega arith, at_count count (omega arith) (cases_lt count count) ∙ sym (alone version other last))
+        ];
+        once = λ j k low lt same. once_more j k (cases_lt j count) (cases_lt k count) low lt same;
+      }
+    where
+      at_below : (k : ℕ) → k < count → (c : (k < count) ⊎ (count ≤ k)) → at_more h.at count k c ≡ h.at k
+      at_below k lt (inl below) = refl
+      at_below k lt (inr above) = absurd (omega arith)
+
+      at_count : (k : ℕ) → count ≤ k → (c : (k < count) ⊎ (count ≤ k)) → at_more h.at count k c ≡ version
+      at_count k low (inl below) = absurd (omega arith)
+      at_count k low (inr above) = refl
+
+      apart : (k : ℕ) → k < count → h.at k ≡ version → ⊥
+      apart k lt e = let has = h.are k lt in new (subst (Contains versions) e has.there)
+
+      once_more : (j k : ℕ) (c : (j < count) ⊎ (count ≤ j)) (d : (k < count) ⊎ (count ≤ k)) → j < count + 1 → k < count + 1
+          → at_more h.at count j c ≡ at_more h.at count k d → j ≡ k
+      once_more j k (inl j_below) (inl k_below) low lt same = h.once j k j_below k_below same
+      once_more j k (inl j_below) (inr k_above) low lt same = absurd (apart j j_below same)
+      once_more j k (inr j_above) (inl k_below) low lt same = absurd (apart k k_below (sym same))
+      once_more j k (inr j_above) (inr k_above) low lt same = omega arith
+
+pub have_none : (start end : ℕ) (piece : List ℕ) → AreNumbered (HasPiece [] start end piece) 0
+have_none start end piece =
+    record {
+      at = λ k. [];
+      are = λ k lt. absurd (omega arith);
+      all = λ other has. absurd (omega (arith, has.there.1));
+      once = λ j k low lt same. absurd (omega arith);
+    }
+
+-- ---- different versions
+
+-- none of them stands before itself
+pub not_before : (versions : List (List ℕ)) (i : ℕ) → AreDistinct versions → i < length versions → Contains (take i versions) (get_or versions i []) → ⊥
+not_before versions i distinct lt there =
+    let long = length-take-le i versions (omega arith) in
+    let low : there.0 < i = omega (arith, there.1) in
+    let same = distinct there.0 i (omega arith) lt
+    (sym (get_or-take i versions there.0 [] low) ∙ get_or_default (take i versions) there.0 [] (get_or versions i []) there.1 ∙ there.2) in
+    omega arith
+
+-- ---- how many there are
+
+contains_or_not : (versions : List (List ℕ)) (version : List ℕ) → Contains versions version ⊎ (Contains versions version → ⊥)
+contains_or_not versions version = elim (one_or_none versions (λ other. other ≡ version) (λ other. same_or_not other version)) [
+  | inl found ↦ inl (subst (Contains versions) found.2 found.1)
+  | inr none ↦ inr (λ there. none version there refl)
+]
+
+module _ (versions : List (List ℕ)) (start end : ℕ) where
+  -- the numbers of the versions so far that have a piece
+  count_first : (piece : List ℕ) (n : ℕ) → n ≤ length versions → (count : ℕ) × AreNumbered (HasPiece (take n versions) start end piece) count
+  count_first piece zero within = (0, have_none start end piece)
+  count_first piece (suc n) within =
+      let rest = count_first piece n (omega arith) in
+      let version : List ℕ = get_or versions n [] in
+      let next : take n versions ++ version ∷ [] ≡ take (suc n) versions =
+      sym (take_more versions n [] (omega arith)) ∙ (let more : n + 1 ≡ suc n = omega arith in ap (λ m. take m versions) more) in
+      elim (same_or_not piece (slice_range version start end)) [
+        | inr apart ↦ (
+          rest.0,
+          subst (λ vs. AreNumbered (HasPiece vs start end piece) rest.0) next
+              (have_same start end piece (take n versions) version rest.0 (λ is. absurd (apart is)) rest.1),
+        )
+        | inl is ↦ elim (contains_or_not (take n versions) version) [
+          | inl known ↦ (
+            rest.0,
+            subst (λ vs. AreNumbered (HasPiece vs start end piece) rest.0) next
+                (have_same start end piece (take n versions) version rest.0 (λ _. known) rest.1),
+          )
+          | inr new ↦ (
+            rest.0 + 1,
+            subst (λ vs. AreNumbered (HasPiece vs start end piece) (rest.0 + 1)) next
+                (have_more start end piece (take n versions) version rest.0 new is rest.1),
+          )
+        ]
+      ]
+
+  -- For each byte string there is a number of versions that have it.
+  pub count_all : (piece : List ℕ) → (count : ℕ) × AreNumbered (HasPiece versions start end piece) count
+  count_all piece =
+      let all = count_first piece (length versions) (omega arith) in
+      (all.0, subst (λ vs. AreNumbered (HasPiece vs start end piece) all.0) (take_all (length versions) versions (omega arith)) all.1)
+
+  -- ---- what most have
+
+  abbrev pub votes_for : List ℕ → ℕ
+  votes_for piece = (count_all piece).0
+
+  -- It is enough to look at what the versions have.
+  pub most_of : (piece : List ℕ) (count : ℕ) → AreNumbered (HasPiece versions start end piece) count
+      → ((version : List ℕ) (more : ℕ) → Contains versions version → AreNumbered (HasPiece versions start end (slice_range version start end)) more → more ≤ count)
+      → IsMost versions start end piece
+  most_of piece count have least =
+      record {
+        count = count;
+        have = have;
+        others = λ other more numbers. elim (cases_lt 0 more) [
+          | inr none ↦ omega arith
+          | inl some ↦
+              let has = numbers.are 0 some in
+              least (numbers.at 0) more has.there (subst (λ p. AreNumbered (HasPiece versions start end p) more) has.has numbers)
+        ];
+      }
+
+  record HasGreatest (n : ℕ) : Type 0 where
+    version : List ℕ
+    there : Contains versions version
+    greatest : (k : ℕ) → k < n → votes_for (slice_range (get_or versions k []) start end) ≤ votes_for (slice_range version start end)
+
+  greatest_first : (n : ℕ) → n ≤ length versions → 0 < length versions → HasGreatest n
+  greatest_first zero within some =
+      record { version = get_or versions 0 []; there = Contains-get_or versions 0 [] some; greatest = λ k lt. absurd (omega arith) }
+  greatest_first (suc n) within some =
+      let rest = greatest_first n (omega arith) some in
+      let old : ℕ = votes_for (slice_range rest.version start end) in
+      let new : ℕ = votes_for (slice_range (get_or versions n []) start end) in
+      elim (cases_lt old new) [
+        | inr low ↦ record {
+          version = rest.version;
+          there = rest.there;
+          greatest = λ k lt. elim (cases_lt k n) [
+            | inl below ↦ rest.greatest k below
+            | inr above ↦ let here : n ≡ k = omega arith in
+                subst (λ m. votes_for (slice_range (get_or versions m []) start end) ≤ old) here low
+          ];
+        }
+        | inl high ↦ record {
+          version = get_or versions n [];
+          there = Contains-get_or versions n [] (omega arith);
+          greatest = λ k lt. elim (cases_lt k n) [
+            | inl below ↦ let least = rest.greatest k below in omega arith
+            | inr above ↦ let here : n ≡ k = omega arith in
+                subst (λ m. votes_for (slice_range (get_or versions m []) start end) ≤ new) here (omega arith)
+          ];
+        }
+      ]
+
+  -- There is a byte string that most versions have.
+  pub some_most : 0 < length versions → (version : List ℕ) × Contains versions version × IsMost versions start end (slice_range version start end)
+  some_most some =
+      let first = greatest_first (length versions) (omega arith) some in
+      let have = count_all (slice_range first.version start end) in (
+        first.version,
+        first.there,
+        most_of (slice_range first.version start end) have.0 have.1 (λ version more there numbers.
+            let here = count_all (slice_range version start end) in
+            let same : more ≡ here.0 = one_number (HasPiece versions start end (slice_range version start end)) more here.0 numbers here.1 in
+            let low : here.0 ≤ have.0 =
+            subst (λ v. votes_for (slice_range v start end) ≤ have.0) (at_index versions version there) (first.greatest there.0 there.1) in
+            omega arith),
+      )
+
+-- ---- what can be taken in a part
+
+-- something can be taken
+pub some_taken : (grain : Grain) (versions : List (List ℕ)) (start end : ℕ) → 0 < length versions → (piece : List ℕ) × IsPieceBy grain versions start end piece
+some_taken (Pairs distance) versions start end some =
+    (slice_range (get_or versions 0 []) start end, (get_or versions 0 [], Contains-get_or versions 0 [] some, refl))
+some_taken Regions versions start end some =
+    (slice_range (get_or versions 0 []) start end, (get_or versions 0 [], Contains-get_or versions 0 [] some, refl))
+some_taken (Most distance) versions start end some =
+    let most = some_most versions start end some in
+    (slice_range most.0 start end, ((most.0, most.1, refl), most.2))
+
+module _ (grain : Grain) (start end : ℕ) where
+  pub pieces_fit : (versions pieces : List (List ℕ)) (size : ℕ) → HaveLength versions size → 0 < length versions → start ≤ end → end ≤ size
+      → ArePiecesBy grain versions start end pieces → IsFit size (record { start = start; end = end; pieces = pieces })
+  pieces_fit versions pieces size long some order within h =
+      record {
+        order = order;
+        within = within;
+        some = let taken = some_taken grain versions start end some in let there = h.each taken.0 taken.1 in omega (arith, there.1);
+        fill = λ k lt. let p = piece_of_some grain versions start end (get_or pieces k []) (h.only k lt) in
+            ap length p.2 ∙ length-between p.0 start end (omega (arith, long p.0 p.1));
+      }
+
+module _ (versions : List (List ℕ)) (start end : ℕ) (pieces : List (List ℕ)) (are : ArePieces versions start end pieces) where
+  of_some : (piece : List ℕ) → IsPieceOf versions start end piece → Contains pieces piece
+  of_some piece h = subst (Contains pieces) (sym h.2) (are.each h.0 h.1)
+
+  -- all that versions have, where that is what can be taken
+  pub pieces_of_pairs : (distance : ℕ) → ArePiecesBy (Pairs distance) versions start end pieces
+  pieces_of_pairs distance = record { each = of_some; only = are.only; once = are.once }
+
+  pub pieces_of_regions : ArePiecesBy Regions versions start end pieces
+  pieces_of_regions = record { each = of_some; only = are.only; once = are.once }
+
+-- ---- what most have, of the pieces so far
+
+-- so many versions have the byte string
+abbrev pub Have : List (List ℕ) → (start end : ℕ) → List ℕ → ℕ → Type 0
+Have versions start end piece count = AreNumbered (HasPiece versions start end piece) count
+
+module _ (versions : List (List ℕ)) (start end : ℕ) (pieces : List (List ℕ)) where
+  -- Of the first pieces these are all that so many versions have, and more have none of them.
+  pub record AreMostSoFar (i : ℕ) (most : List (List ℕ)) (greatest : ℕ) : Type 0 where
+    pub within : i ≤ length pieces
+    pub least : (k count : ℕ) → k < i → Have versions start end (get_or pieces k []) count → count ≤ greatest
+    pub reached : (greatest ≡ 0) ⊎ ((piece : List ℕ) × Have versions start end piece greatest)
+    pub each : (k : ℕ) → k < i → Have versions start end (get_or pieces k []) greatest → Contains most (get_or pieces k [])
+    pub only : (k : ℕ) → k < length most → (j : ℕ) × (j < i) × (get_or most k [] ≡ get_or pieces j []) × Have versions start end (get_or pieces j []) greatest
+    pub once : (j k : ℕ) → j < length most → k < length most → get_or most j [] ≡ get_or most k [] → j ≡ k
+
+  pub most_none : AreMostSoFar 0 [] 0
+  most_none =
+      record {
+        within = omega arith;
+        least = λ k count lt have. absurd (omega arith);
+        reached = inl refl;
+        each = λ k lt have. absurd (omega arith);
+        only = λ k lt. absurd (omega arith);
+        once = λ j k low lt same. absurd (omega arith);
+      }
+
+module _ (versions : List (List ℕ)) (start end : ℕ) (pieces : List (List ℕ)) (are : ArePieces versions start end pieces) where
+  module _ (i : ℕ) (most : List (List ℕ)) (greatest count : ℕ) (lt_i : i < length pieces) (have : Have versions start end (get_or pieces i []) count)
+      (h : AreMostSoFar versions start end pieces i most greatest) where
+    same_count : (k other : ℕ) → k ≡ i → Have versions start end (get_or pieces k []) other → other ≡ count
+    same_count k other is numbers =
+        one_number (HasPiece versions start end (get_or pieces i [])) other count (subst (λ n. Have versions start end (get_or pieces n []) other) is numbers) have
+
+    -- fewer have the next one
+    pub most_fewer : count < greatest → AreMostSoFar versions start end pieces (i + 1) most greatest
+    most_fewer less =
+        record {
+          within = omega arith;
+          least = λ k other lt numbers. elim (cases_lt k i) [
+            | inl below ↦ h.least k other below numbers
+            | inr above ↦ let same = same_count k other (omega arith) numbers in omega arith
+          ];
+          reached = h.reached;
+          each = λ k lt numbers. elim (cases_lt k i) [
+            | inl below ↦ h.each k below numbers
+            | inr above ↦ let same = same_count k greatest (omega arith) numbers in absurd (omega arith)
+          ];
+          only = λ k lt. let of = h.only k lt in (of.0, (let low = of.1 in omega arith), of.2, of.3);
+          once = h.once;
+        }
+
+    -- more have it
+    pub most_more : greatest < count → AreMostSoFar versions start end pieces (i + 1) (get_or pieces i [] ∷ []) count
+    most_more more =
+        record {
+          within = omega arith;
+          least = λ k other lt numbers. elim (cases_lt k i) [
+            | inl below ↦ let low = h.least k other below numbers in omega arith
+            | inr above ↦ let same = same_count k other (omega arith) numbers in omega arith
+          ];
+          reached = inr (get_or pieces i [], have);
+          each = λ k lt numbers. elim (cases_lt k i) [
+            | inl below ↦ let low = h.least k count below numbers in absurd (omega arith)
+            | inr above ↦ let here : k ≡ i = omega arith in (0, omega arith, ap (λ n. get_or pieces n []) (sym here))
+          ];
+          only = λ k lt. let first : k ≡ 0 = omega arith in
+              (i, omega arith, ap (λ n. get_or (get_or pieces i [] ∷ []) n []) first, have);
+          once = λ j k low lt same. omega arith;
+        }
+
+    -- as many have it
+    pub most_too : count ≡ greatest → AreMostSoFar versions start end pieces (i + 1) (most ++ get_or pieces i [] ∷ []) greatest
+    most_too as_many =
+        record {
+          within = omega arith;
+          least = λ k other lt numbers. elim (cases_lt k i) [
+            | inl below ↦ h.least k other below numbers
+            | inr above ↦ let same = same_count k other (omega arith) numbers in omega arith
+          ];
+          reached = h.reached;
+          each = λ k lt numbers. elim (cases_lt k i) [
+            | inl below ↦ Contains-append_left most (piece ∷ []) (get_or pieces k []) (h.each k below numbers)
+            | inr above ↦ let here : k ≡ i = omega arith in
+                Contains-append_right most (piece ∷ []) (get_or pieces k []) (0, omega arith, ap (λ n. get_or pieces n []) (sym here))
+          ];
+          only = λ k lt. elim (cases_lt k (length most)) [
+            | inl below ↦ let of = h.only k below in (of.0, (let low = of.1 in omega arith), at_left k below ∙ of.2, of.3)
+            | inr above ↦ (i, omega arith, at_last k (omega (arith, length_push most piece)), subst (Have versions start end piece) as_many have)
+          ];
+          once = λ j k low lt same. elim (cases_lt j (length most)) [
+            | inl j_below ↦ elim (cases_lt k (length most)) [
+              | inl k_below ↦ h.once j k j_below k_below (sym (at_left j j_below) ∙ same ∙ at_left k k_below)
+              | inr k_above ↦ absurd (apart j j_below (sym (at_left j j_below) ∙ same ∙ at_last k (omega (arith, length_push most piece))))
+            ]
+            | inr j_above ↦ elim (cases_lt k (length most)) [
+              | inl k_below ↦ absurd (apart k k_below (sym (at_left k k_below) ∙ sym same ∙ at_last j (omega (arith, length_push most piece))))
+              | inr k_above ↦ omega (arith, length_push most piece)
+            ]
+          ];
+        }
+      where
+        piece : List ℕ
+        piece = get_or pieces i []
+
+        at_left : (k : ℕ) → k < length most → get_or (most ++ get_or pieces i [] ∷ []) k [] ≡ get_or most k []
+        at_left k lt = get_or_append_left most (get_or pieces i [] ∷ []) [] k lt
+
+        at_last : (k : ℕ) → k ≡ length most → get_or (most ++ get_or pieces i [] ∷ []) k [] ≡ get_or pieces i []
+        at_last k is = get_or_push most (get_or pieces i []) [] k (sym is)
+
+        apart : (k : ℕ) → k < length most → get_or most k [] ≡ get_or pieces i [] → ⊥
+        apart k lt is =
+            let of = h.only k lt in
+            let low = of.1 in
+            let same = are.once of.0 i (omega arith) lt_i (sym of.2 ∙ is) in
+            omega arith
+
+  -- Of all pieces these are what most have.
+  pub most_all : (i : ℕ) (most : List (List ℕ)) (greatest distance : ℕ) → length pieces ≤ i → AreMostSoFar versions start end pieces i most greatest
+      → ArePiecesBy (Most distance) versions start end most
+  most_all i most greatest distance whole h =
+      record {
+        each = λ piece taken.
+            let here = of_some versions start end pieces are piece taken.0 in
+            let is : get_or pieces here.0 [] ≡ piece = get_or_default pieces here.0 [] piece here.1 ∙ here.2 in
+            let low = h.least here.0 taken.1.count (omega (arith, here.1)) (subst (λ p. Have versions start end p taken.1.count) (sym is) taken.1.have) in
+            let high : greatest ≤ taken.1.count = elim h.reached [
+              | inl none ↦ omega arith
+              | inr other ↦ taken.1.others other.0 greatest other.1
+            ] in
+            let same : taken.1.count ≡ greatest = omega arith in
+            subst (Contains most) is
+            (h.each here.0 (omega (arith, here.1)) (subst (Have versions start end (get_or pieces here.0 [])) same (subst (λ p. Have versions start end p taken.1.count) (sym is) taken.1.have)));
+        only = λ k lt.
+            let of = h.only k lt in
+            let low = of.1 in
+            let have = subst (λ p. Have versions start end p greatest) (sym of.2) of.3 in
+            let some = are.only of.0 (let within = h.within in omega arith) in (
+              (some.0, some.1, of.2 ∙ some.2),
+              most_of versions start end (get_or most k []) greatest have (λ version more there numbers.
+                  let here = are.each version there in
+                  let is : get_or pieces here.0 [] ≡ slice_range version start end = get_or_default pieces here.0 [] (slice_range version start end) here.1 ∙ here.2 in
+                  h.least here.0 more (omega (arith, here.1)) (subst (λ p. Have versions start end p more) (sym is) numbers)),
+            );
+        once = h.once;
+      }

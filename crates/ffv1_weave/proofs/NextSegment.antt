@@ -1,0 +1,156 @@
+-- The next segment after a place: whether a place is a seam, and where the next one is.
+use Rattle.std.proofs.Common.{◌≡◌, ℕ, zero, suc, ◌+◌, ◌-◌, ◌<◌, ◌≤◌, List, [], length, get_or, refl, sym, ◌∙◌, subst, arith, inl, inr}
+use Rattle.std.specs.Prelude.{◌⊎◌, Contains}
+use Rattle.std.proofs.lemmas.Bool.{cases_lt, cases_eq}
+use Rattle.std.proofs.lemmas.List.Elements.{Contains-get_or}
+use Rattle.ffv1_weave.specs.Regions.{HaveLength}
+use Rattle.ffv1_weave.specs.Seams.{BeginsStreak, EndsStreak, AreParted, IsSeam, IsSegment}
+use Rattle.ffv1_weave.proofs.Agreeing.{at_index}
+
+-- ---- two versions
+
+module _ (one other : List ℕ) where
+  -- whether they agree at each of so many places
+  same_places : (from count : ℕ) → ((i : ℕ) → from ≤ i → i < from + count → get_or one i 0 ≡ get_or other i 0)
+      ⊎ ((i : ℕ) × (from ≤ i) × (i < from + count) × (get_or one i 0 ≡ get_or other i 0 → ⊥))
+  same_places from zero = inl (λ i low lt. absurd (omega arith))
+  same_places from (suc count) = elim (cases_eq (get_or one (from + count) 0) (get_or other (from + count) 0)) [
+    | inr apart ↦ inr (from + count, omega arith, omega arith, apart)
+    | inl same ↦ elim (same_places from count) [
+      | inr found ↦ inr (found.0, found.1, (let below = found.2 in omega arith), found.3)
+      | inl rest ↦ inl (λ i low lt. elim (cases_lt i (from + count)) [
+        | inl below ↦ rest i low below
+        | inr above ↦ let here : from + count ≡ i = omega arith in subst (λ n. get_or one n 0 ≡ get_or other n 0) here same
+      ])
+    ]
+  ]
+
+  begins_or_not : (distance place : ℕ) → BeginsStreak distance one other place ⊎ (BeginsStreak distance one other place → ⊥)
+  begins_or_not distance place = elim (cases_eq (get_or one place 0) (get_or other place 0)) [
+    | inl same ↦ inr (λ h. h.differ same)
+    | inr apart ↦ elim (same_places (place - distance) (place - (place - distance))) [
+      | inl before ↦ inl (record { differ = apart; before = λ i lt near. before i (omega arith) (omega arith) })
+      | inr found ↦ inr (λ h. let low = found.1 in let lt = found.2 in found.3 (h.before found.0 (omega arith) (omega arith)))
+    ]
+  ]
+
+  ends_or_not : (distance place : ℕ) → EndsStreak distance one other place ⊎ (EndsStreak distance one other place → ⊥)
+  ends_or_not distance zero = inr (λ h. let next = h.next in absurd (omega arith))
+  ends_or_not distance (suc last) = elim (cases_eq (get_or one last 0) (get_or other last 0)) [
+    | inl same ↦ inr (λ h. let next = h.next in let is : last ≡ h.last = omega arith in
+        h.differ (subst (λ n. get_or one n 0 ≡ get_or other n 0) is same))
+    | inr apart ↦ elim (same_places (suc last) distance) [
+      | inl after ↦ inl (record { last = last; next = omega arith; differ = apart; after = λ i low lt. after i low lt })
+      | inr found ↦ inr (λ h. found.3 (h.after found.0 found.1 found.2))
+    ]
+  ]
+
+  parted_or_not : (distance place : ℕ) → AreParted distance one other place ⊎ (AreParted distance one other place → ⊥)
+  parted_or_not distance place = elim (begins_or_not distance place) [
+    | inl begins ↦ inl (inl begins)
+    | inr new ↦ elim (ends_or_not distance place) [
+      | inl ends ↦ inl (inr ends)
+      | inr goes ↦ inr (λ h. elim h [ inl begins ↦ new begins | inr ends ↦ goes ends ])
+    ]
+  ]
+
+-- ---- all versions
+
+-- whether it is so of some version
+some_or_none : (versions : List (List ℕ)) (P : List ℕ → Type 0) → ((version : List ℕ) → P version ⊎ (P version → ⊥)) → (n : ℕ) → n ≤ length versions
+    → ((version : List ℕ) × Contains versions version × P version) ⊎ ((k : ℕ) → k < n → P (get_or versions k []) → ⊥)
+some_or_none versions P whether zero within = inr (λ k lt. absurd (omega arith))
+some_or_none versions P whether (suc n) within = elim (whether (get_or versions n [])) [
+  | inl is ↦ inl (get_or versions n [], Contains-get_or versions n [] (omega arith), is)
+  | inr never ↦ elim (some_or_none versions P whether n (omega arith)) [
+    | inl found ↦ inl found
+    | inr none ↦ inr (λ k lt is. elim (cases_lt k n) [
+      | inl below ↦ none k below is
+      | inr above ↦ let here : k ≡ n = omega arith in never (subst (λ m. P (get_or versions m [])) here is)
+    ])
+  ]
+]
+
+pub one_or_none : (versions : List (List ℕ)) (P : List ℕ → Type 0) → ((version : List ℕ) → P version ⊎ (P version → ⊥))
+    → ((version : List ℕ) × Contains versions version × P version) ⊎ ((version : List ℕ) → Contains versions version → P version → ⊥)
+one_or_none versions P whether = elim (some_or_none versions P whether (length versions) (omega arith)) [
+  | inl found ↦ inl found
+  | inr none ↦ inr (λ version there is. none there.0 there.1 (subst P (sym (at_index versions version there)) is))
+]
+
+module _ (distance : ℕ) (versions : List (List ℕ)) where
+  abbrev HasParted : ℕ → List ℕ → Type 0
+  HasParted place one = (other : List ℕ) × Contains versions other × AreParted distance one other place
+
+  has_parted_or_not : (place : ℕ) (one : List ℕ) → HasParted place one ⊎ (HasParted place one → ⊥)
+  has_parted_or_not place one = elim (one_or_none versions (λ other. AreParted distance one other place) (λ other. parted_or_not one other distance place)) [
+    | inl found ↦ inl found
+    | inr none ↦ inr (λ h. none h.0 h.1 h.2)
+  ]
+
+  pub seam_or_not : (place : ℕ) → IsSeam distance versions place ⊎ (IsSeam distance versions place → ⊥)
+  seam_or_not place = elim (one_or_none versions (HasParted place) (has_parted_or_not place)) [
+    | inl found ↦ inl (record { one = found.0; other = found.2.0; one_there = found.1; other_there = found.2.1; parted = found.2.2 })
+    | inr none ↦ inr (λ h. none h.one h.one_there (h.other, h.other_there, h.parted))
+  ]
+
+  -- the next seam, or the versions' end
+  record HasNext (from size : ℕ) : Type 0 where
+    end : ℕ
+    beyond : from < end
+    within : end ≤ size
+    quiet : (i : ℕ) → from < i → i < end → IsSeam distance versions i → ⊥
+    last : IsSeam distance versions end ⊎ (end ≡ size)
+
+  -- as far as it is sought there is none, or it is found
+  sought : (from size n : ℕ) → from + n < size → ((i : ℕ) → from < i → i ≤ from + n → IsSeam distance versions i → ⊥) ⊎ HasNext from size
+  sought from size zero below = inl (λ i low high seam. omega arith)
+  sought from size (suc n) below = elim (sought from size n (omega arith)) [
+    | inr found ↦ inr found
+    | inl none ↦ elim (seam_or_not (from + suc n)) [
+      | inl seam ↦ inr (record {
+        end = from + suc n;
+        beyond = omega arith;
+        within = omega arith;
+        quiet = λ i low lt. none i low (omega arith);
+        last = inl seam;
+      })
+      | inr never ↦ inl (λ i low high seam. elim (cases_lt i (from + suc n)) [
+        | inl before ↦ none i low (omega arith) seam
+        | inr above ↦ let here : i ≡ from + suc n = omega arith in never (subst (IsSeam distance versions) here seam)
+      ])
+    ]
+  ]
+
+  next_seam : (from size : ℕ) → from < size → HasNext from size
+  next_seam from size below = elim (sought from size (size - from - 1) (omega arith)) [
+    | inr found ↦ found
+    | inl none ↦ record { end = size; beyond = below; within = omega arith; quiet = λ i low lt. none i low (omega arith); last = inr refl }
+  ]
+
+  pub record IsNextSegment (from size : ℕ) : Type 0 where
+    pub end : ℕ
+    pub within : end ≤ size
+    pub segment : IsSegment distance versions from end
+    pub last : IsSeam distance versions end ⊎ (end ≡ size)
+
+  -- From the versions' start, or from a seam, there is a next segment.
+  pub next_segment : (from size : ℕ) → HaveLength versions size → 0 < length versions → from < size → (from ≡ 0) ⊎ IsSeam distance versions from
+      → IsNextSegment from size
+  next_segment from size long some below first =
+      let next = next_seam from size below in
+      let there = Contains-get_or versions 0 [] some in
+      record {
+        end = next.end;
+        within = next.within;
+        segment = record {
+          some = next.beyond;
+          first = first;
+          last = elim next.last [
+            | inl seam ↦ inl seam
+            | inr at_end ↦ inr (get_or versions 0 [], there, at_end ∙ sym (long (get_or versions 0 []) there))
+          ];
+          within = next.quiet;
+        };
+        last = next.last;
+      }

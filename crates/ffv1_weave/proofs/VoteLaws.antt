@@ -1,0 +1,112 @@
+-- Laws of votes.
+use Rattle.std.proofs.Common.{◌≡◌, ℕ, List, get_or, Option, Some, None, Result, Vec, Global, sym, ap, ◌∙◌, arith, inl, inr}
+use Rattle.std.specs.Prelude.{IfOk, MatchOption, sum}
+use Rattle.std.specs.declared.alloc.AllocError.{AllocError}
+use Rattle.std.proofs.lemmas.Result.{IfOk-weaker}
+use Rattle.std.proofs.lemmas.List.{ext_get_or}
+use Rattle.ffv1_slice.specs.Members.{HasSameMembers}
+use Rattle.ffv1_weave.specs.Combinations.{IsCombinationBy}
+use Rattle.ffv1_weave.specs.Grains.{votes}
+use Rattle.ffv1_weave.specs.Votes.{AreThree, AreTriedBy, IsVote, IsVoteOf, SameVersionsVote, OriginalIsVoted}
+use Rattle.ffv1_weave.specs.declared.grains.Grain.{Grain}
+use Rattle.ffv1_weave.specs.declared.grains.Grain.TheVariants.{Regions}
+use Rattle.ffv1_weave.proofs.Numbering.{one_number}
+use Rattle.ffv1_weave.proofs.Tried.{few_or_many}
+use Rattle.ffv1_weave.proofs.WeaveLaws.{same_back, combination_as, has_few_as, has_many_as}
+
+module _ (versions others : List (List ℕ)) (same : HasSameMembers versions others) where
+  three_as : AreThree versions → AreThree others
+  three_as h =
+      record {
+        one = h.one;
+        other = h.other;
+        third = h.third;
+        one_there = (same h.one).0 h.one_there;
+        other_there = (same h.other).0 h.other_there;
+        third_there = (same h.third).0 h.third_there;
+        one_other = h.one_other;
+        one_third = h.one_third;
+        other_third = h.other_third;
+      }
+
+  vote_as : (bytes : List ℕ) → IsVote versions bytes → IsVote others bytes
+  vote_as bytes h =
+      record {
+        three = three_as h.three;
+        grain = h.grain;
+        there = h.there;
+        count = h.count;
+        few = has_few_as versions others same h.grain h.count h.few;
+        combination = combination_as versions others same h.grain bytes h.combination;
+        passes = h.passes;
+      }
+
+  tried_by_as : (grain : Grain) (count : ℕ) → AreTriedBy versions grain count → AreTriedBy others grain count
+  tried_by_as grain count h = elim h [
+    | inl few ↦ inl (has_few_as versions others same grain count few)
+    | inr many ↦ inr (has_many_as versions others same grain many.0, many.1)
+  ]
+
+pub vote_of_as : (versions others : List (List ℕ)) → HasSameMembers versions others → (bytes : List ℕ) (count : ℕ) → IsVoteOf versions bytes count
+    → IsVoteOf others bytes count
+vote_of_as versions others same bytes count h =
+    record {
+      only = record {
+        there = vote_as versions others same bytes h.only.there;
+        others = λ other vote. h.only.others other (vote_as others versions (same_back versions others same) other vote);
+      };
+      tried = h.tried;
+      all = h.all;
+      each = λ k lt. tried_by_as versions others same (get_or votes k Regions) (get_or h.tried k 0) (h.each k lt);
+      counted = h.counted;
+    }
+
+-- as many are tried by a grain, whoever counts
+one_tried_by : (versions : List (List ℕ)) (grain : Grain) (m n : ℕ) → AreTriedBy versions grain m → AreTriedBy versions grain n → m ≡ n
+one_tried_by versions grain m n h k = elim h [
+  | inl few ↦ elim k [
+    | inl other ↦ one_number (IsCombinationBy grain versions) m n few.numbered other.numbered
+    | inr many ↦ absurd (few_or_many versions grain m few many.0)
+  ]
+  | inr many ↦ elim k [
+    | inl few ↦ absurd (few_or_many versions grain n few many.0)
+    | inr other ↦ many.1 ∙ sym other.1
+  ]
+]
+
+module _ (versions : List (List ℕ)) (bytes others : List ℕ) (count other : ℕ) (h : IsVoteOf versions bytes count) (k : IsVoteOf versions others other) where
+  same_tried : h.tried ≡ k.tried
+  same_tried =
+      let long = h.all in
+      ext_get_or 0 h.tried k.tried (long ∙ sym k.all) (λ i lt.
+      one_tried_by versions (get_or votes i Regions) (get_or h.tried i 0) (get_or k.tried i 0) (h.each i (omega (arith, long))) (k.each i (omega (arith, long))))
+
+  one_vote : (bytes ≡ others) × (count ≡ other)
+  one_vote = (k.only.others bytes h.only.there, h.counted ∙ ap sum same_tried ∙ sym k.counted)
+
+pub same_versions_vote : SameVersionsVote
+same_versions_vote =
+    record {
+      same = λ versions others bytes count same h. vote_of_as versions others same bytes count h;
+      one = λ versions bytes others count other h k. one_vote versions bytes others count other h k;
+    }
+
+pub original_is_voted : OriginalIsVoted
+original_is_voted original versions bytes count original_there h = sym (h.only.others original original_there)
+
+-- ---- an answer for versions is one for others with the same members
+
+abbrev IsToldBy : List (List ℕ) → Option (Vec ℕ Global × ℕ) → Type 0
+IsToldBy versions found =
+    MatchOption found ((bytes : List ℕ) (count : ℕ) → IsVoteOf versions bytes count → ⊥) (λ (bytes, count). IsVoteOf versions bytes.items count)
+
+abbrev pub IsVoteAnswered : List (List ℕ) → Result (Option (Vec ℕ Global × ℕ)) AllocError → Type 0
+IsVoteAnswered versions answer = IfOk answer (IsToldBy versions)
+
+module _ (versions others : List (List ℕ)) (same : HasSameMembers versions others) where
+  told_as : (found : Option (Vec ℕ Global × ℕ)) → IsToldBy versions found → IsToldBy others found
+  told_as None h = λ bytes count vote. h bytes count (vote_of_as others versions (same_back versions others same) bytes count vote)
+  told_as (Some voted) h = vote_of_as versions others same voted.0.items voted.1 h
+
+  pub vote_answered_as : (answer : Result (Option (Vec ℕ Global × ℕ)) AllocError) → IsVoteAnswered versions answer → IsVoteAnswered others answer
+  vote_answered_as answer h = IfOk-weaker answer (IsToldBy versions) (IsToldBy others) told_as h

@@ -1,0 +1,372 @@
+-- Three versions of one slice of nine bytes. Each of its first three bytes is damaged in another version: at each distance the undamaged slice
+-- is the only combination of what most versions have, and it is what they vote. Two versions vote nothing, also where one is there twice.
+use Rattle.std.proofs.Common.{◌≡◌, ℕ, zero, suc, ◌+◌, ◌<◌, ◌≤◌, List, [], ◌∷◌, length, get_or, refl, sym, ap, ◌∙◌, subst, arith, inl, inr}
+use Rattle.std.specs.Prelude.{◌⊎◌, All, Contains, slice_range}
+use Rattle.ffv1_slice.specs.Members.{HasSameMembers}
+use Rattle.ffv1_weave.specs.Regions.{HaveLength, AgreeAt}
+use Rattle.ffv1_weave.specs.Numbers.{AreNumbered}
+use Rattle.ffv1_weave.specs.Seams.{IsSeam}
+use Rattle.ffv1_weave.specs.Grains.{HasPiece, IsMost, IsPieceBy, votes}
+use Rattle.ffv1_weave.specs.Combinations.{IsCombinationBy, HasFew}
+use Rattle.ffv1_weave.specs.Parts.{Part, ArePiecesBy, IsPartFrom, AreFewParts, IsFit}
+use Rattle.ffv1_weave.specs.Votes.{AreThree, AreTriedBy, IsVoteOf}
+use Rattle.ffv1_weave.specs.declared.grains.Grain.{Grain}
+use Rattle.ffv1_weave.specs.declared.grains.Grain.TheVariants.{Regions, Most}
+use Rattle.ffv1_weave.proofs.Agreeing.{agree_from}
+use Rattle.ffv1_weave.proofs.Numbering.{one_number}
+use Rattle.ffv1_weave.proofs.PieceSteps.{alone}
+use Rattle.ffv1_weave.proofs.MostSteps.{have_none, have_same, have_more, most_of, pieces_fit}
+use Rattle.ffv1_weave.proofs.Finest.{has_few}
+use Rattle.ffv1_weave.proofs.WeaveSteps.{HaveFewParts, chosen_where}
+use Rattle.ffv1_weave.proofs.VoteLaws.{vote_of_as}
+use Rattle.ffv1_weave.proofs.VoteSteps.{no_vote_of_two}
+use Rattle.ffv1_weave.proofs.MostVectors.{none_there}
+use Rattle.ffv1_weave.proofs.RepairVectors.{small_slice, small_passes}
+
+abbrev original : List ℕ
+original = 0x5A ∷ 0x00 ∷ 0x00 ∷ 0x01 ∷ 0x00 ∷ 0x84 ∷ 0xF2 ∷ 0x04 ∷ 0x92 ∷ []
+
+abbrev one : List ℕ
+one = 0x5B ∷ 0x00 ∷ 0x00 ∷ 0x01 ∷ 0x00 ∷ 0x84 ∷ 0xF2 ∷ 0x04 ∷ 0x92 ∷ []
+
+abbrev other : List ℕ
+other = 0x5A ∷ 0x01 ∷ 0x00 ∷ 0x01 ∷ 0x00 ∷ 0x84 ∷ 0xF2 ∷ 0x04 ∷ 0x92 ∷ []
+
+abbrev third : List ℕ
+third = 0x5A ∷ 0x00 ∷ 0x01 ∷ 0x01 ∷ 0x00 ∷ 0x84 ∷ 0xF2 ∷ 0x04 ∷ 0x92 ∷ []
+
+abbrev pub three : List (List ℕ)
+three = one ∷ other ∷ third ∷ []
+
+one_there : Contains three one
+one_there = (0, omega arith, refl)
+
+other_there : Contains three other
+other_there = (1, omega arith, refl)
+
+third_there : Contains three third
+third_there = (2, omega arith, refl)
+
+not_one : Contains (one ∷ []) other → ⊥
+not_one (zero, lt, is) = let e = ap (λ z. get_or z 0 0) is in omega arith
+not_one (suc k, lt, is) = omega arith
+
+not_two : Contains (one ∷ other ∷ []) third → ⊥
+not_two (zero, lt, is) = let e = ap (λ z. get_or z 0 0) is in omega arith
+not_two (suc zero, lt, is) = let e = ap (λ z. get_or z 1 0) is in omega arith
+not_two (suc (suc k), lt, is) = omega arith
+
+long : HaveLength three 9
+long version (zero, lt, is) = ap length (sym is)
+long version (suc zero, lt, is) = ap length (sym is)
+long version (suc (suc zero), lt, is) = ap length (sym is)
+long version (suc (suc (suc k)), lt, is) = absurd (omega arith)
+
+rest_agrees : (i : ℕ) → 3 ≤ i → AgreeAt three i
+rest_agrees zero low = absurd (omega arith)
+rest_agrees (suc zero) low = absurd (omega arith)
+rest_agrees (suc (suc zero)) low = absurd (omega arith)
+rest_agrees (suc (suc (suc i))) low = agree_from three (suc (suc (suc i))) same
+  where
+    same : (k : ℕ) → k < 3 → get_or (get_or three k []) (suc (suc (suc i))) 0 ≡ get_or one (suc (suc (suc i))) 0
+    same zero lt = refl
+    same (suc zero) lt = refl
+    same (suc (suc zero)) lt = refl
+    same (suc (suc (suc k))) lt = absurd (omega arith)
+
+-- ---- the segments, which are the same at each distance
+
+module _ (distance : ℕ) where
+  -- the second and the third version differ from the second byte on
+  seam_one : IsSeam distance three 1
+  seam_one =
+      record {
+        one = other;
+        other = third;
+        one_there = other_there;
+        other_there = third_there;
+        parted = inl (record { differ = λ same. absurd (omega arith); before = before });
+      }
+    where
+      before : (i : ℕ) → i < 1 → 1 ≤ i + distance → get_or other i 0 ≡ get_or third i 0
+      before zero lt near = refl
+      before (suc i) lt near = absurd (omega arith)
+
+  -- the first and the second version differ up to the third byte
+  seam_two : IsSeam distance three 2
+  seam_two =
+      record {
+        one = one;
+        other = other;
+        one_there = one_there;
+        other_there = other_there;
+        parted = inr (record { last = 1; next = refl; differ = λ same. absurd (omega arith); after = after });
+      }
+    where
+      after : (i : ℕ) → 2 ≤ i → i < 2 + distance → get_or one i 0 ≡ get_or other i 0
+      after zero low lt = absurd (omega arith)
+      after (suc zero) low lt = absurd (omega arith)
+      after (suc (suc i)) low lt = refl
+
+  -- the first and the third version differ up to the fourth
+  seam_three : IsSeam distance three 3
+  seam_three =
+      record {
+        one = one;
+        other = third;
+        one_there = one_there;
+        other_there = third_there;
+        parted = inr (record { last = 2; next = refl; differ = λ same. absurd (omega arith); after = after });
+      }
+    where
+      after : (i : ℕ) → 3 ≤ i → i < 3 + distance → get_or one i 0 ≡ get_or third i 0
+      after zero low lt = absurd (omega arith)
+      after (suc zero) low lt = absurd (omega arith)
+      after (suc (suc zero)) low lt = absurd (omega arith)
+      after (suc (suc (suc i))) low lt = refl
+
+  next : (start : ℕ) → (start ≡ 0) ⊎ IsSeam distance three start → IsSeam distance three (start + 1) → IsPartFrom (Most distance) three start start (start + 1)
+  next start first last =
+      record {
+        beyond = omega arith;
+        until = λ i low lt. absurd (omega arith);
+        part = record { some = omega arith; first = first; last = inl last; within = λ i low lt seam. absurd (omega arith) };
+      }
+
+-- ---- what most have: at each of the three places two versions have the byte of the original, and one has another
+
+two_first : AreNumbered (HasPiece three 0 1 (0x5A ∷ [])) 2
+two_first =
+    have_more 0 1 (0x5A ∷ []) (one ∷ other ∷ []) third 1 not_two refl
+    (have_more 0 1 (0x5A ∷ []) (one ∷ []) other 0 not_one refl
+    (have_same 0 1 (0x5A ∷ []) [] one 0 (λ is. let e = ap (λ z. get_or z 0 0) is in absurd (omega arith))
+    (have_none 0 1 (0x5A ∷ []))))
+
+one_first : AreNumbered (HasPiece three 0 1 (0x5B ∷ [])) 1
+one_first =
+    have_same 0 1 (0x5B ∷ []) (one ∷ other ∷ []) third 1 (λ is. let e = ap (λ z. get_or z 0 0) is in absurd (omega arith))
+    (have_same 0 1 (0x5B ∷ []) (one ∷ []) other 1 (λ is. let e = ap (λ z. get_or z 0 0) is in absurd (omega arith))
+    (have_more 0 1 (0x5B ∷ []) [] one 0 (none_there one) refl
+    (have_none 0 1 (0x5B ∷ []))))
+
+two_second : AreNumbered (HasPiece three 1 2 (0x00 ∷ [])) 2
+two_second =
+    have_more 1 2 (0x00 ∷ []) (one ∷ other ∷ []) third 1 not_two refl
+    (have_same 1 2 (0x00 ∷ []) (one ∷ []) other 1 (λ is. let e = ap (λ z. get_or z 0 0) is in absurd (omega arith))
+    (have_more 1 2 (0x00 ∷ []) [] one 0 (none_there one) refl
+    (have_none 1 2 (0x00 ∷ []))))
+
+one_second : AreNumbered (HasPiece three 1 2 (0x01 ∷ [])) 1
+one_second =
+    have_same 1 2 (0x01 ∷ []) (one ∷ other ∷ []) third 1 (λ is. let e = ap (λ z. get_or z 0 0) is in absurd (omega arith))
+    (have_more 1 2 (0x01 ∷ []) (one ∷ []) other 0 not_one refl
+    (have_same 1 2 (0x01 ∷ []) [] one 0 (λ is. let e = ap (λ z. get_or z 0 0) is in absurd (omega arith))
+    (have_none 1 2 (0x01 ∷ []))))
+
+two_third : AreNumbered (HasPiece three 2 3 (0x00 ∷ [])) 2
+two_third =
+    have_same 2 3 (0x00 ∷ []) (one ∷ other ∷ []) third 2 (λ is. let e = ap (λ z. get_or z 0 0) is in absurd (omega arith))
+    (have_more 2 3 (0x00 ∷ []) (one ∷ []) other 1 not_one refl
+    (have_more 2 3 (0x00 ∷ []) [] one 0 (none_there one) refl
+    (have_none 2 3 (0x00 ∷ []))))
+
+one_third : AreNumbered (HasPiece three 2 3 (0x01 ∷ [])) 1
+one_third =
+    have_more 2 3 (0x01 ∷ []) (one ∷ other ∷ []) third 0 not_two refl
+    (have_same 2 3 (0x01 ∷ []) (one ∷ []) other 0 (λ is. let e = ap (λ z. get_or z 0 0) is in absurd (omega arith))
+    (have_same 2 3 (0x01 ∷ []) [] one 0 (λ is. let e = ap (λ z. get_or z 0 0) is in absurd (omega arith))
+    (have_none 2 3 (0x01 ∷ []))))
+
+-- each version has the one or the other
+Either : (place : ℕ) → List ℕ → List ℕ → Type 0
+Either place right wrong =
+    (version : List ℕ) → Contains three version → (right ≡ slice_range version place (place + 1)) ⊎ (wrong ≡ slice_range version place (place + 1))
+
+either_first : Either 0 (0x5A ∷ []) (0x5B ∷ [])
+unfolding Either
+either_first version (zero, lt, is) = inr (ap (λ v. slice_range v 0 1) is)
+either_first version (suc zero, lt, is) = inl (ap (λ v. slice_range v 0 1) is)
+either_first version (suc (suc zero), lt, is) = inl (ap (λ v. slice_range v 0 1) is)
+either_first version (suc (suc (suc k)), lt, is) = absurd (omega arith)
+
+either_second : Either 1 (0x00 ∷ []) (0x01 ∷ [])
+unfolding Either
+either_second version (zero, lt, is) = inl (ap (λ v. slice_range v 1 2) is)
+either_second version (suc zero, lt, is) = inr (ap (λ v. slice_range v 1 2) is)
+either_second version (suc (suc zero), lt, is) = inl (ap (λ v. slice_range v 1 2) is)
+either_second version (suc (suc (suc k)), lt, is) = absurd (omega arith)
+
+either_third : Either 2 (0x00 ∷ []) (0x01 ∷ [])
+unfolding Either
+either_third version (zero, lt, is) = inl (ap (λ v. slice_range v 2 3) is)
+either_third version (suc zero, lt, is) = inl (ap (λ v. slice_range v 2 3) is)
+either_third version (suc (suc zero), lt, is) = inr (ap (λ v. slice_range v 2 3) is)
+either_third version (suc (suc (suc k)), lt, is) = absurd (omega arith)
+
+module _ (place : ℕ) (right wrong : List ℕ) (two : AreNumbered (HasPiece three place (place + 1) right) 2)
+    (single : AreNumbered (HasPiece three place (place + 1) wrong) 1) (either : Either place right wrong) where
+  abbrev Have : List ℕ → ℕ → Type 0
+  Have piece count = AreNumbered (HasPiece three place (place + 1) piece) count
+
+  right_is_most : IsMost three place (place + 1) right
+  unfolding Either
+  right_is_most = most_of three place (place + 1) right 2 two (λ version more there numbers. elim (either version there) [
+    | inl is ↦ let same = one_number (HasPiece three place (place + 1) right) more 2 (subst (λ p. Have p more) (sym is) numbers) two in omega arith
+    | inr is ↦ let same = one_number (HasPiece three place (place + 1) wrong) more 1 (subst (λ p. Have p more) (sym is) numbers) single in omega arith
+  ])
+
+  wrong_is_not : IsMost three place (place + 1) wrong → ⊥
+  wrong_is_not h =
+      let same = one_number (HasPiece three place (place + 1) wrong) h.count 1 h.have single in
+      let more = h.others right 2 two in
+      omega arith
+
+  -- so the byte of the original alone can be taken
+  taken : (distance : ℕ) → ArePiecesBy (Most distance) three place (place + 1) (right ∷ [])
+  unfolding Either
+  taken distance =
+      record {
+        each = λ piece is. elim (either is.0.0 is.0.1) [
+          | inl same ↦ subst (Contains (right ∷ [])) (same ∙ sym is.0.2) (0, omega arith, refl)
+          | inr same ↦ absurd (wrong_is_not (subst (IsMost three place (place + 1)) (is.0.2 ∙ sym same) is.1))
+        ];
+        only = only;
+        once = λ j k low lt same. omega arith;
+      }
+    where
+      version_with : (version : List ℕ) × Contains three version × (right ≡ slice_range version place (place + 1))
+      version_with = let has = two.are 0 (omega arith) in (two.at 0, has.there, has.has)
+
+      only : (k : ℕ) → k < 1 → IsPieceBy (Most distance) three place (place + 1) (get_or (right ∷ []) k [])
+      only zero lt = (version_with, right_is_most)
+      only (suc k) lt = absurd (omega arith)
+
+-- ---- one combination at each distance
+
+abbrev parts : List Part
+parts =
+    record { start = 0; end = 1; pieces = (0x5A ∷ []) ∷ [] } ∷ record { start = 1; end = 2; pieces = (0x00 ∷ []) ∷ [] }
+    ∷ record { start = 2; end = 3; pieces = (0x00 ∷ []) ∷ [] } ∷ []
+
+module _ (distance : ℕ) where
+  first_taken : ArePiecesBy (Most distance) three 0 1 ((0x5A ∷ []) ∷ [])
+  first_taken = taken 0 (0x5A ∷ []) (0x5B ∷ []) two_first one_first either_first distance
+
+  second_taken : ArePiecesBy (Most distance) three 1 2 ((0x00 ∷ []) ∷ [])
+  second_taken = taken 1 (0x00 ∷ []) (0x01 ∷ []) two_second one_second either_second distance
+
+  third_taken : ArePiecesBy (Most distance) three 2 3 ((0x00 ∷ []) ∷ [])
+  third_taken = taken 2 (0x00 ∷ []) (0x01 ∷ []) two_third one_third either_third distance
+
+  fit : All (IsFit 9) parts
+  fit zero d lt = pieces_fit (Most distance) 0 1 three ((0x5A ∷ []) ∷ []) 9 long (omega arith) (omega arith) (omega arith) first_taken
+  fit (suc zero) d lt = pieces_fit (Most distance) 1 2 three ((0x00 ∷ []) ∷ []) 9 long (omega arith) (omega arith) (omega arith) second_taken
+  fit (suc (suc zero)) d lt = pieces_fit (Most distance) 2 3 three ((0x00 ∷ []) ∷ []) 9 long (omega arith) (omega arith) (omega arith) third_taken
+  fit (suc (suc (suc k))) d lt = absurd (omega arith)
+
+  few_parts : AreFewParts (Most distance) three 9 parts 1
+  few_parts =
+      record {
+        all = record {
+          next = (
+            next distance 0 (inl refl) (seam_one distance),
+            first_taken,
+            (
+              next distance 1 (inr (seam_one distance)) (seam_two distance),
+              second_taken,
+              (next distance 2 (inr (seam_two distance)) (seam_three distance), third_taken, tt),
+            ),
+          );
+          rest = rest_agrees;
+        };
+        fit = fit;
+        counted = refl;
+        few = omega arith;
+      }
+
+  has_one : HasFew three (Most distance) 1
+  has_one = has_few (Most distance) three 9 long (omega arith) parts 1 few_parts
+
+  have_parts : HaveFewParts (Most distance) three parts 1
+  have_parts = record { some = omega arith; long = long; few = few_parts }
+
+  -- It is the original, and no other.
+  original_is_combination : IsCombinationBy (Most distance) three original
+  original_is_combination = (chosen_where have_parts original).0 (0, omega arith, refl)
+
+  only_combination : (bytes : List ℕ) → IsCombinationBy (Most distance) three bytes → bytes ≡ original
+  only_combination bytes h = alone original bytes ((chosen_where have_parts bytes).1 h)
+
+-- ---- the vote
+
+three_differ : AreThree three
+three_differ =
+    record {
+      one = one;
+      other = other;
+      third = third;
+      one_there = one_there;
+      other_there = other_there;
+      third_there = third_there;
+      one_other = λ same. let e = ap (λ z. get_or z 0 0) same in absurd (omega arith);
+      one_third = λ same. let e = ap (λ z. get_or z 0 0) same in absurd (omega arith);
+      other_third = λ same. let e = ap (λ z. get_or z 1 0) same in absurd (omega arith);
+    }
+
+-- The original is voted, of one combination at each of the four distances.
+pub original_voted : IsVoteOf three small_slice 4
+unfolding small_slice
+original_voted =
+    record {
+      only = record {
+        there = record {
+          three = three_differ;
+          grain = Most 0;
+          there = (0, omega arith, refl);
+          count = 1;
+          few = has_one 0;
+          combination = original_is_combination 0;
+          passes = small_passes;
+        };
+        others = λ bytes vote. only_one vote.grain bytes vote.there vote.combination;
+      };
+      tried = 1 ∷ 1 ∷ 1 ∷ 1 ∷ [];
+      all = refl;
+      each = each;
+      counted = refl;
+    }
+  where
+    only_one : (grain : Grain) (bytes : List ℕ) → Contains votes grain → IsCombinationBy grain three bytes → bytes ≡ original
+    only_one grain bytes (zero, lt, is) h = only_combination 0 bytes (subst (λ g. IsCombinationBy g three bytes) (sym is) h)
+    only_one grain bytes (suc zero, lt, is) h = only_combination 2 bytes (subst (λ g. IsCombinationBy g three bytes) (sym is) h)
+    only_one grain bytes (suc (suc zero), lt, is) h = only_combination 8 bytes (subst (λ g. IsCombinationBy g three bytes) (sym is) h)
+    only_one grain bytes (suc (suc (suc zero)), lt, is) h = only_combination 64 bytes (subst (λ g. IsCombinationBy g three bytes) (sym is) h)
+    only_one grain bytes (suc (suc (suc (suc k))), lt, is) h = absurd (omega arith)
+
+    each : (k : ℕ) → k < 4 → AreTriedBy three (get_or votes k Regions) (get_or (1 ∷ 1 ∷ 1 ∷ 1 ∷ []) k 0)
+    each zero lt = inl (has_one 0)
+    each (suc zero) lt = inl (has_one 2)
+    each (suc (suc zero)) lt = inl (has_one 8)
+    each (suc (suc (suc zero))) lt = inl (has_one 64)
+    each (suc (suc (suc (suc k)))) lt = absurd (omega arith)
+
+-- ---- two versions
+
+-- One that is there twice counts once.
+pub twice_is_once : (bytes : List ℕ) (count : ℕ) → IsVoteOf (one ∷ other ∷ one ∷ []) bytes count → ⊥
+twice_is_once bytes count vote =
+    no_vote_of_two (one ∷ other ∷ []) (omega arith) bytes count (vote_of_as (one ∷ other ∷ one ∷ []) (one ∷ other ∷ []) same bytes count vote)
+  where
+    same : HasSameMembers (one ∷ other ∷ one ∷ []) (one ∷ other ∷ [])
+    same version = (fewer, more)
+      where
+        fewer : Contains (one ∷ other ∷ one ∷ []) version → Contains (one ∷ other ∷ []) version
+        fewer (zero, lt, is) = (0, omega arith, is)
+        fewer (suc zero, lt, is) = (1, omega arith, is)
+        fewer (suc (suc zero), lt, is) = (0, omega arith, is)
+        fewer (suc (suc (suc k)), lt, is) = absurd (omega arith)
+
+        more : Contains (one ∷ other ∷ []) version → Contains (one ∷ other ∷ one ∷ []) version
+        more (zero, lt, is) = (0, omega arith, is)
+        more (suc zero, lt, is) = (1, omega arith, is)
+        more (suc (suc k), lt, is) = absurd (omega arith)
