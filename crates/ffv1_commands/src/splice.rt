@@ -18,8 +18,8 @@ use std::io::{Read, Write};
 
 /// Reads copies of a frame to their ends, one after the other; splices them, and writes the splice to `out`; and then prints a line
 /// for each of its places, from its end, as `1833..3698 missing`, with the number of combinations where it is woven, as
-/// `3698..4515 woven 4`, or of those with one bit inverted where it is repaired, as `1833..3698 repaired 14920`; and last `end whole`,
-/// or `end broken at 1833` where the front before that place can't be divided.
+/// `3698..4515 woven 4`, of what most copies have where it is voted, as `3698..4515 voted 4`, or of those with one bit inverted where it is
+/// repaired, as `1833..3698 repaired 14920`; and last `end whole`, or `end broken at 1833` where the front before that place can't be divided.
 /// Answers whether all of the frame is given back: the places cover it, and each is settled or woven.
 ///
 /// `Read` comes with the first copy that can't be read, or is longer than 2^30 bytes, and no copy after it is read; `Splice`, where all are read, with the first

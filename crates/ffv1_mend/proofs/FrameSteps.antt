@@ -4,7 +4,7 @@ use Rattle.std.proofs.Math.Nat.{mul_assoc, le-mul_of_pos_right}
 use Rattle.std.proofs.lemmas.Bool.{cases_lt}
 use Rattle.std.proofs.lemmas.List.{take_more, map-append}
 use Rattle.ffv1_splice.specs.declared.place.Standing.{Standing}
-use Rattle.ffv1_splice.specs.declared.place.Standing.TheVariants.{Settled, Woven, Repaired, Disputed, Missing, Undivided}
+use Rattle.ffv1_splice.specs.declared.place.Standing.TheVariants.{Settled, Woven, Voted, Repaired, Disputed, Missing, Undivided}
 use Rattle.ffv1_splice.specs.declared.place.Place.{Place}
 use Rattle.ffv1_mend.specs.Mended.{count_at, product}
 
@@ -27,6 +27,7 @@ min_product p (suc c) most = elim (cases_lt most p) [
 count_of_other : (standing : Standing) → ((count : ℕ) → standing ≡ Woven count → ⊥) → count_at standing ≡ 1
 count_of_other Settled apart = refl
 count_of_other (Woven count) apart = absurd (apart count refl)
+count_of_other (Voted count) apart = refl
 count_of_other (Repaired count) apart = refl
 count_of_other Disputed apart = refl
 count_of_other Missing apart = refl

@@ -5,7 +5,7 @@ use Rattle.ffv1_weave.specs.Parts.{written}
 use Rattle.ffv1_splice.specs.Standings.{versions_at}
 use Rattle.ffv1_splice.specs.Splice.{SplicedValue, IsSpliceOf}
 use Rattle.ffv1_splice.specs.declared.place.Standing.{Standing}
-use Rattle.ffv1_splice.specs.declared.place.Standing.TheVariants.{Settled, Woven, Repaired}
+use Rattle.ffv1_splice.specs.declared.place.Standing.TheVariants.{Settled, Woven, Voted, Repaired}
 use Rattle.ffv1_mend.specs.declared.part.Part.{Part}
 
 -- a part lies within so many bytes
@@ -34,10 +34,11 @@ IsRight original patch = patch.bytes ≡ slice_range original patch.start (patch
 abbrev pub is_given : Standing → Bool
 is_given Settled = true
 is_given (Woven count) = true
+is_given (Voted count) = true
 is_given (Repaired count) = true
 is_given _ = false
 
--- what the splice of a part gives: the bytes of its settled, woven and repaired places
+-- what the splice of a part gives: the bytes of its settled, woven, voted and repaired places
 abbrev pub patches_of : Part → SplicedValue → List Patch
 patches_of part spliced =
     map (λ place. record { start = part.start + place.start; bytes = slice_range spliced.payload place.start place.end })

@@ -80,7 +80,7 @@ HasOriginal Plain original versions parts mended = Contains versions original
 
 -- Then a stretch that is good is the original, and an element is kept. The original of an element is among the combinations where each region
 -- in which the improved versions differ is intact in one of them, and where all agree they are right; and so where it is so of the versions
--- as they were given, and what the splices give is right.
+-- as they were given, and what the splices give, voted and repaired places too, is right.
 pub record OriginalIsMended : Type 0 where
   pub original : (kind : Kind) (original : List ℕ) (versions : List (List ℕ)) (from : List ℕ) (parts : List Part) (mended : MendedValue)
       → HasOriginal kind original versions parts mended → IsMendOf kind versions from parts mended → is_good mended.state ≡ true

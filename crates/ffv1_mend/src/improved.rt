@@ -17,7 +17,7 @@ fn is_given(place: &Place) -> bool
 {
     matches!(
         place.standing,
-        Standing::Settled | Standing::Woven(_) | Standing::Repaired(_)
+        Standing::Settled | Standing::Woven(_) | Standing::Voted(_) | Standing::Repaired(_)
     )
 }
 

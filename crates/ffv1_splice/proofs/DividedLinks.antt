@@ -14,8 +14,9 @@ use Rattle.ffv1_splice.specs.Standings.{StandsAs, IsStop}
 use Rattle.ffv1_splice.specs.Splice.{SplicedValue, LieFrom}
 use Rattle.ffv1_splice.specs.Originals.{AgreeWith}
 use Rattle.ffv1_splice.specs.declared.place.Standing.{Standing}
-use Rattle.ffv1_splice.specs.declared.place.Standing.TheVariants.{Settled, Woven, Repaired, Disputed, Missing, Undivided}
+use Rattle.ffv1_splice.specs.declared.place.Standing.TheVariants.{Settled, Woven, Voted, Repaired, Disputed, Missing, Undivided}
 use Rattle.ffv1_splice.specs.declared.place.Place.{Place}
+use Rattle.ffv1_splice.proofs.PlaceSteps.{unwoven_weave}
 use Rattle.ffv1_splice.proofs.OneDivision.{woven_unsettled, missing_unsettled}
 use Rattle.ffv1_splice.proofs.Walks.{IsSpliceBefore}
 use Rattle.ffv1_splice.proofs.Walks.IsSpliceBefore.{stops, goes}
@@ -110,6 +111,7 @@ module _ (original : List ℕ) (copies : List (List ℕ)) (agree : AgreeWith ori
   settled_link start end bytes Settled is_end is h =
       let told = agree end (record { start = start; bytes = bytes }) is_end h.there in (told.0, ap (λ (p : Piece). p.bytes) told.1)
   settled_link start end bytes (Woven count) is_end is h = absurd (cc)
+  settled_link start end bytes (Voted count) is_end is h = absurd (cc)
   settled_link start end bytes (Repaired count) is_end is h = absurd (cc)
   settled_link start end bytes Disputed is_end is h = absurd (cc)
   settled_link start end bytes Missing is_end is h = absurd (cc)
@@ -120,6 +122,8 @@ module _ (original : List ℕ) (copies : List (List ℕ)) (agree : AgreeWith ori
       → StandsAs copies start end bytes standing → standing ≡ Settled
   settled_where start end bytes Settled link is_end piece h = refl
   settled_where start end bytes (Woven count) link is_end piece h = absurd (woven_unsettled copies end start bytes count h (piece_of original link end) piece)
+  settled_where start end bytes (Voted count) link is_end piece h =
+      absurd ((unwoven_weave copies start end h.unwoven).1.none (piece_of original link end) piece)
   settled_where start end bytes (Repaired count) link is_end piece h = absurd (h.missed.none (piece_of original link end) piece)
   settled_where start end bytes Disputed link is_end piece h =
       elim h.0 [ inl two ↦ absurd (undisputed end is_end two) | inr w ↦ absurd (w.none (piece_of original link end) piece) ]

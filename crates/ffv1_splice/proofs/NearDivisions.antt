@@ -13,7 +13,8 @@ use Rattle.ffv1_splice.specs.Splice.{SplicedValue, IsDivisionOf}
 use Rattle.ffv1_splice.specs.Originals.{AreCopiesOf, AgreeWith, AgreeFromBelow, IsAmong, AreWeavable, IsSound, IsIntact, IsNearCopy, AreNearCopies, IsIntactInSome}
 use Rattle.ffv1_splice.specs.Laws.{IsNearSplice}
 use Rattle.ffv1_splice.specs.declared.place.Standing.{Standing}
-use Rattle.ffv1_splice.specs.declared.place.Standing.TheVariants.{Settled, Woven, Repaired, Disputed, Missing, Undivided}
+use Rattle.ffv1_splice.specs.declared.place.Standing.TheVariants.{Settled, Woven, Voted, Repaired, Disputed, Missing, Undivided}
+use Rattle.ffv1_splice.proofs.PlaceSteps.{unwoven_weave}
 use Rattle.ffv1_splice.proofs.DividedLinks.{end_within, link_at, same_cut, AreLinkPlaces, link_places, settled_link, settled_where}
 use Rattle.ffv1_splice.proofs.Walks.{IsSpliceBefore, division_walk}
 
@@ -139,6 +140,7 @@ module _ (original : List ℕ) (copies : List (List ℕ)) (near : AreNearCopies 
         | inr w ↦ told_cut start end is_end w.told
       ]
     ]
+    cuts start end bytes (Voted count) is_end h = told_cut start end is_end (unwoven_weave copies start end h.unwoven).1.told.there
     cuts start end bytes (Repaired count) is_end h = told_cut start end is_end h.missed.told.there
     cuts start end bytes Disputed is_end h = told_cut start end is_end h.1.told.there
     cuts start end bytes Missing is_end h = told_cut start end is_end h.1.told.there
@@ -164,6 +166,7 @@ module _ (original : List ℕ) (copies : List (List ℕ)) (near : AreNearCopies 
         → standing ≡ Settled → IsIntactInSome original copies start end
     intact_where start end bytes Settled link h e = piece_intact start end bytes link h.there
     intact_where start end bytes (Woven count) link h e = absurd (cc)
+    intact_where start end bytes (Voted count) link h e = absurd (cc)
     intact_where start end bytes (Repaired count) link h e = absurd (cc)
     intact_where start end bytes Disputed link h e = absurd (cc)
     intact_where start end bytes Missing link h e = absurd (cc)

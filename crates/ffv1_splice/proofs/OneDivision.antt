@@ -7,20 +7,22 @@ use Rattle.std.specs.declared.cmp.Ordering.TheVariants.{Less}
 use Rattle.ffv1_slice.specs.Chain.{Piece}
 use Rattle.ffv1_slice.specs.Members.{IsOnly, IsOfTwo, IsOfNone}
 use Rattle.ffv1_splice.specs.Pieces.{IsPiece, IsClaimedStart, IsLeast}
-use Rattle.ffv1_splice.specs.Standings.{versions_at, sized, IsWeaveAt, IsWeaveFromFront, IsRepairAt, IsMissingAt, StandsAs, IsGap, IsStop}
+use Rattle.ffv1_splice.specs.Standings.{versions_at, sized, IsWeaveAt, IsWeaveFromFront, IsUnwovenAt, IsVoteAt, IsUnvotedAt, IsRepairAt, IsMissingAt, StandsAs, IsGap, IsStop}
 use Rattle.ffv1_weave.specs.Weave.{Weave, IsWeaveOf}
 use Rattle.ffv1_weave.specs.Weave.Weave.{woven, disputed, missing, too_many}
 use Rattle.ffv1_weave.specs.Repairs.{IsRepairOf}
+use Rattle.ffv1_weave.specs.Votes.{IsVoteOf}
 use Rattle.ffv1_weave.specs.declared.check.Check.TheVariants.{Slice}
 use Rattle.ffv1_weave.proofs.WeaveLaws.{same_versions_weave}
 use Rattle.ffv1_weave.proofs.RepairLaws.{same_versions_repair}
+use Rattle.ffv1_weave.proofs.VoteLaws.{same_versions_vote}
 use Rattle.ffv1_splice.specs.Splice.{SplicedValue, IsDivisionOf}
 use Rattle.ffv1_slice.specs.Members.{HasSameMembers}
 use Rattle.ffv1_splice.specs.declared.place.Standing.{Standing}
-use Rattle.ffv1_splice.specs.declared.place.Standing.TheVariants.{Settled, Woven, Repaired, Disputed, Missing, Undivided}
+use Rattle.ffv1_splice.specs.declared.place.Standing.TheVariants.{Settled, Woven, Voted, Repaired, Disputed, Missing, Undivided}
 use Rattle.ffv1_splice.specs.declared.place.Place.{Place}
 use Rattle.ffv1_splice.proofs.LeastSteps.{same_if_neither_below}
-use Rattle.ffv1_splice.proofs.PlaceSteps.{two_not_only, two_not_none}
+use Rattle.ffv1_splice.proofs.PlaceSteps.{two_not_only, two_not_none, unwoven_weave, missing_unwoven}
 use Rattle.ffv1_weave.proofs.WeaveLaws.{same_back, weave_as}
 use Rattle.ffv1_splice.proofs.Versions.{same_versions}
 use Rattle.ffv1_splice.proofs.FirstSlices.{same_sized}
@@ -56,13 +58,19 @@ module _ (copies : List (List ℕ)) (end : ℕ) where
       same_versions_weave Slice (versions_at copies t end) (versions_at copies t end) v w (λ version. ((λ there. there), λ there. there))
       (subst (λ n. IsWeaveOf Slice (versions_at copies n end) v) starts h.weave') k.weave'
 
+  -- what is made of as many that were tried
+  same_made : (made : ℕ → Standing) (s t : ℕ) (a b : List ℕ) (m n : ℕ) → s ≡ t → a ≡ b → m ≡ n
+      → ◌≡◌ {A = StandingValue} (record { start = s; bytes = a; standing = made m }) (record { start = t; bytes = b; standing = made n })
+  same_made made s t a b m n starts bytes counts =
+      ap (λ i. record { start = i; bytes = a; standing = made m }) starts ∙ ap (λ z. record { start = t; bytes = z; standing = made m }) bytes
+      ∙ ap (λ i. record { start = t; bytes = b; standing = made i }) counts
+
   same_woven : (s t : ℕ) (a b : List ℕ) (m n : ℕ) → s ≡ t → woven a m ≡ woven b n
       → ◌≡◌ {A = StandingValue} (record { start = s; bytes = a; standing = Woven m }) (record { start = t; bytes = b; standing = Woven n })
   same_woven s t a b m n starts same =
       let bytes : a ≡ b = cc in
       let counts : m ≡ n = cc in
-      ap (λ i. record { start = i; bytes = a; standing = Woven m }) starts ∙ ap (λ z. record { start = t; bytes = z; standing = Woven m }) bytes
-      ∙ ap (λ i. record { start = t; bytes = b; standing = Woven i }) counts
+      same_made Woven s t a b m n starts bytes counts
 
   one_woven : (s t : ℕ) (a b : List ℕ) (m n : ℕ) → StandsAs copies s end a (Woven m) → StandsAs copies t end b (Woven n)
       → ◌≡◌ {A = StandingValue} (record { start = s; bytes = a; standing = Woven m }) (record { start = t; bytes = b; standing = Woven n })
@@ -87,9 +95,11 @@ module _ (copies : List (List ℕ)) (end : ℕ) where
   woven_unsettled s a m (inr (inl h)) = h.1.none
   woven_unsettled s a m (inr (inr h)) = h.none
 
+  unwoven_unsettled : (s : ℕ) → IsUnwovenAt copies s end → IsOfNone (IsPiece copies end)
+  unwoven_unsettled s h = (unwoven_weave copies s end h).1.none
+
   pub missing_unsettled : (s : ℕ) → IsMissingAt copies s end → IsOfNone (IsPiece copies end)
-  missing_unsettled s (inl h) = h.0.1.none
-  missing_unsettled s (inr h) = h.none
+  missing_unsettled s h = unwoven_unsettled s (missing_unwoven copies s end h)
 
   -- where something is woven, there is no other weave
   not_woven_and : (s t : ℕ) (a : List ℕ) (m : ℕ) (w : Weave) → (woven a m ≡ w → ⊥) → StandsAs copies s end a (Woven m) → IsWeaveAt copies t end w → ⊥
@@ -106,9 +116,31 @@ module _ (copies : List (List ℕ)) (end : ℕ) where
     | inr w ↦ not_woven_and s t a m disputed (λ e. absurd (cc)) h w
   ]
 
+  not_woven_and_unwoven : (s t : ℕ) (a : List ℕ) (m : ℕ) → StandsAs copies s end a (Woven m) → IsUnwovenAt copies t end → ⊥
+  not_woven_and_unwoven s t a m h (inl w) = not_woven_and s t a m (missing w.0) (λ e. absurd (cc)) h w.1
+  not_woven_and_unwoven s t a m h (inr w) = not_woven_and s t a m too_many (λ e. absurd (cc)) h w
+
   not_woven_and_missing : (s t : ℕ) (a : List ℕ) (m : ℕ) → StandsAs copies s end a (Woven m) → IsMissingAt copies t end → ⊥
-  not_woven_and_missing s t a m h (inl w) = not_woven_and s t a m (missing w.0.0) (λ e. absurd (cc)) h w.0.1
-  not_woven_and_missing s t a m h (inr w) = not_woven_and s t a m too_many (λ e. absurd (cc)) h w
+  not_woven_and_missing s t a m h k = not_woven_and_unwoven s t a m h (missing_unwoven copies t end k)
+
+  -- what is voted there, as of the one start that is claimed
+  voted_told : (s : ℕ) (a : List ℕ) (m : ℕ) → IsVoteAt copies s end a m → IsOnly (IsClaimedStart copies end) s
+  voted_told s a m h = (unwoven_weave copies s end h.unwoven).1.told
+
+  vote_from : (s t : ℕ) (a : List ℕ) (m : ℕ) → IsVoteAt copies s end a m → IsOnly (IsClaimedStart copies end) t → IsVoteOf (versions_at copies t end) a m
+  vote_from s t a m h told = subst (λ n. IsVoteOf (versions_at copies n end) a m) (told.others s (voted_told s a m h).there) h.vote
+
+  one_voted : (s t : ℕ) (a b : List ℕ) (m n : ℕ) → IsVoteAt copies s end a m → IsVoteAt copies t end b n
+      → ◌≡◌ {A = StandingValue} (record { start = s; bytes = a; standing = Voted m }) (record { start = t; bytes = b; standing = Voted n })
+  one_voted s t a b m n h k =
+      let same = same_versions_vote.one (versions_at copies t end) a b m n (vote_from s t a m h (voted_told t b n k)) k.vote in
+      same_made Voted s t a b m n ((voted_told t b n k).others s (voted_told s a m h).there) same.0 same.1
+
+  not_voted_and_repaired : (s t : ℕ) (a b : List ℕ) (m n : ℕ) → IsVoteAt copies s end a m → IsRepairAt copies t end b n → ⊥
+  not_voted_and_repaired s t a b m n h k = k.unvoted a m (vote_from s t a m h k.missed.told)
+
+  not_voted_and_missing : (s t : ℕ) (a : List ℕ) (m : ℕ) → IsVoteAt copies s end a m → IsMissingAt copies t end → ⊥
+  not_voted_and_missing s t a m h k = k.1 a m (vote_from s t a m h (unwoven_weave copies t end (missing_unwoven copies t end k)).1.told)
 
   -- what is repaired there, as of the one start that is claimed
   repair_from : (s t : ℕ) (a : List ℕ) (m : ℕ) → IsRepairAt copies s end a m → IsOnly (IsClaimedStart copies end) t → IsRepairOf (versions_at copies t end) a m
@@ -118,9 +150,7 @@ module _ (copies : List (List ℕ)) (end : ℕ) where
       → ◌≡◌ {A = StandingValue} (record { start = s; bytes = a; standing = Repaired m }) (record { start = t; bytes = b; standing = Repaired n })
   one_repaired s t a b m n h k =
       let same = same_versions_repair.one (versions_at copies t end) a b m n (repair_from s t a m h k.missed.told) k.repair in
-      ap (λ i. record { start = i; bytes = a; standing = Repaired m }) (k.missed.told.others s h.missed.told.there)
-      ∙ ap (λ z. record { start = t; bytes = z; standing = Repaired m }) same.0
-      ∙ ap (λ i. record { start = t; bytes = b; standing = Repaired i }) same.1
+      same_made Repaired s t a b m n (k.missed.told.others s h.missed.told.there) same.0 same.1
 
   not_repaired_and_disputed : (s t : ℕ) (a : List ℕ) (m : ℕ) → IsRepairAt copies s end a m
       → IsOfTwo (IsPiece copies end) ⊎ IsWeaveAt copies t end disputed → ⊥
@@ -128,13 +158,16 @@ module _ (copies : List (List ℕ)) (end : ℕ) where
   not_repaired_and_disputed s t a m h (inr w) = let e = one_weave_at s t (missing h.combinations) disputed h.missed w in absurd (cc)
 
   not_repaired_and_missing : (s t : ℕ) (a : List ℕ) (m : ℕ) → IsRepairAt copies s end a m → IsMissingAt copies t end → ⊥
-  not_repaired_and_missing s t a m h (inl w) = w.1 a m (repair_from s t a m h w.0.1.told)
-  not_repaired_and_missing s t a m h (inr w) = let e = one_weave_at s t (missing h.combinations) too_many h.missed w in absurd (cc)
+  not_repaired_and_missing s t a m h (inl w, unvoted) = w.1 a m (repair_from s t a m h w.0.1.told)
+  not_repaired_and_missing s t a m h (inr w, unvoted) = let e = one_weave_at s t (missing h.combinations) too_many h.missed w in absurd (cc)
+
+  not_disputed_and_unwoven : (s t : ℕ) → IsOfTwo (IsPiece copies end) ⊎ IsWeaveAt copies s end disputed → IsUnwovenAt copies t end → ⊥
+  not_disputed_and_unwoven s t (inl two) k = two_not_none (IsPiece copies end) two (unwoven_unsettled t k)
+  not_disputed_and_unwoven s t (inr h) (inl w) = let e = one_weave_at s t disputed (missing w.0) h w.1 in absurd (cc)
+  not_disputed_and_unwoven s t (inr h) (inr w) = let e = one_weave_at s t disputed too_many h w in absurd (cc)
 
   not_disputed_and_missing : (s t : ℕ) → IsOfTwo (IsPiece copies end) ⊎ IsWeaveAt copies s end disputed → IsMissingAt copies t end → ⊥
-  not_disputed_and_missing s t (inl two) k = two_not_none (IsPiece copies end) two (missing_unsettled t k)
-  not_disputed_and_missing s t (inr h) (inl w) = let e = one_weave_at s t disputed (missing w.0.0) h w.0.1 in absurd (cc)
-  not_disputed_and_missing s t (inr h) (inr w) = let e = one_weave_at s t disputed too_many h w in absurd (cc)
+  not_disputed_and_missing s t h k = not_disputed_and_unwoven s t h (missing_unwoven copies t end k)
 
   not_settled_and_disputed : (piece : Piece) (t : ℕ) → IsOnly (IsPiece copies end) piece → IsOfTwo (IsPiece copies end) ⊎ IsWeaveAt copies t end disputed → ⊥
   not_settled_and_disputed piece t h (inl two) = two_not_only (IsPiece copies end) two piece h
@@ -145,32 +178,44 @@ module _ (copies : List (List ℕ)) (end : ℕ) where
   one_standing s t a b Settled Settled h k =
       ap (λ (p : Piece). record { start = p.start; bytes = p.bytes; standing = Settled }) (k.others (record { start = s; bytes = a }) h.there)
   one_standing s t a b Settled (Woven n) h k = absurd (woven_unsettled t b n k (record { start = s; bytes = a }) h.there)
+  one_standing s t a b Settled (Voted n) h k = absurd (unwoven_unsettled t k.unwoven (record { start = s; bytes = a }) h.there)
   one_standing s t a b Settled (Repaired n) h k = absurd (k.missed.none (record { start = s; bytes = a }) h.there)
   one_standing s t a b Settled Disputed h k = absurd (not_settled_and_disputed (record { start = s; bytes = a }) t h k.0)
   one_standing s t a b Settled Missing h k = absurd (missing_unsettled t k.0 (record { start = s; bytes = a }) h.there)
   one_standing s t a b (Woven m) Settled h k = absurd (woven_unsettled s a m h (record { start = t; bytes = b }) k.there)
   one_standing s t a b (Woven m) (Woven n) h k = one_woven s t a b m n h k
+  one_standing s t a b (Woven m) (Voted n) h k = absurd (not_woven_and_unwoven s t a m h k.unwoven)
   one_standing s t a b (Woven m) (Repaired n) h k = absurd (not_woven_and_repaired s t a b m n h k)
   one_standing s t a b (Woven m) Disputed h k = absurd (not_woven_and_disputed s t a b m h k)
   one_standing s t a b (Woven m) Missing h k = absurd (not_woven_and_missing s t a m h k.0)
+  one_standing s t a b (Voted m) Settled h k = absurd (unwoven_unsettled s h.unwoven (record { start = t; bytes = b }) k.there)
+  one_standing s t a b (Voted m) (Woven n) h k = absurd (not_woven_and_unwoven t s b n k h.unwoven)
+  one_standing s t a b (Voted m) (Voted n) h k = one_voted s t a b m n h k
+  one_standing s t a b (Voted m) (Repaired n) h k = absurd (not_voted_and_repaired s t a b m n h k)
+  one_standing s t a b (Voted m) Disputed h k = absurd (not_disputed_and_unwoven t s k.0 h.unwoven)
+  one_standing s t a b (Voted m) Missing h k = absurd (not_voted_and_missing s t a m h k.0)
   one_standing s t a b (Repaired m) Settled h k = absurd (h.missed.none (record { start = t; bytes = b }) k.there)
   one_standing s t a b (Repaired m) (Woven n) h k = absurd (not_woven_and_repaired t s b a n m k h)
+  one_standing s t a b (Repaired m) (Voted n) h k = absurd (not_voted_and_repaired t s b a n m k h)
   one_standing s t a b (Repaired m) (Repaired n) h k = one_repaired s t a b m n h k
   one_standing s t a b (Repaired m) Disputed h k = absurd (not_repaired_and_disputed s t a m h k.0)
   one_standing s t a b (Repaired m) Missing h k = absurd (not_repaired_and_missing s t a m h k.0)
   one_standing s t a b Disputed Settled h k = absurd (not_settled_and_disputed (record { start = t; bytes = b }) s k h.0)
   one_standing s t a b Disputed (Woven n) h k = absurd (not_woven_and_disputed t s b a n k h)
+  one_standing s t a b Disputed (Voted n) h k = absurd (not_disputed_and_unwoven s t h.0 k.unwoven)
   one_standing s t a b Disputed (Repaired n) h k = absurd (not_repaired_and_disputed t s b n k h.0)
   one_standing s t a b Disputed Disputed h k = one_gap Disputed s t a b h.1 k.1
   one_standing s t a b Disputed Missing h k = absurd (not_disputed_and_missing s t h.0 k.0)
   one_standing s t a b Missing Settled h k = absurd (missing_unsettled s h.0 (record { start = t; bytes = b }) k.there)
   one_standing s t a b Missing (Woven n) h k = absurd (not_woven_and_missing t s b n k h.0)
+  one_standing s t a b Missing (Voted n) h k = absurd (not_voted_and_missing t s b n k h.0)
   one_standing s t a b Missing (Repaired n) h k = absurd (not_repaired_and_missing t s b n k h.0)
   one_standing s t a b Missing Disputed h k = absurd (not_disputed_and_missing t s k.0 h.0)
   one_standing s t a b Missing Missing h k = one_gap Missing s t a b h.1 k.1
   one_standing s t a b Undivided y h k = absurd h
   one_standing s t a b Settled Undivided h k = absurd k
   one_standing s t a b (Woven m) Undivided h k = absurd k
+  one_standing s t a b (Voted m) Undivided h k = absurd k
   one_standing s t a b (Repaired m) Undivided h k = absurd k
   one_standing s t a b Disputed Undivided h k = absurd k
   one_standing s t a b Missing Undivided h k = absurd k
@@ -180,6 +225,7 @@ module _ (copies : List (List ℕ)) (end : ℕ) where
   stop_not_stands start bytes (Woven count) stop (inl h) = stop.untold start h.told
   stop_not_stands start bytes (Woven count) stop (inr (inl h)) = stop.unclaimed bytes count h.1
   stop_not_stands start bytes (Woven count) stop (inr (inr h)) = stop.unwoven start bytes count h
+  stop_not_stands start bytes (Voted count) stop h = stop.untold start (voted_told start bytes count h)
   stop_not_stands start bytes (Repaired count) stop h = stop.untold start h.missed.told
   stop_not_stands start bytes Disputed stop h = stop.untold start h.1.told
   stop_not_stands start bytes Missing stop h = stop.untold start h.1.told
@@ -289,16 +335,43 @@ module _ (copies others : List (List ℕ)) (same : HasSameMembers copies others)
       same_versions_repair.same (versions_at others start end) (versions_at copies start end) bytes count
       (same_versions others copies (same_back copies others same) start end) h
 
+  vote_there : (start end : ℕ) (bytes : List ℕ) (count : ℕ) → IsVoteOf (versions_at copies start end) bytes count
+      → IsVoteOf (versions_at others start end) bytes count
+  vote_there start end bytes count h =
+      same_versions_vote.same (versions_at copies start end) (versions_at others start end) bytes count (same_versions copies others same start end) h
+
+  unvoted_there : (start end : ℕ) → IsUnvotedAt copies start end → IsUnvotedAt others start end
+  unvoted_there start end h bytes count vote =
+      h bytes count (same_versions_vote.same (versions_at others start end) (versions_at copies start end) bytes count
+      (same_versions others copies (same_back copies others same) start end) vote)
+
+  unwoven_there : (start end : ℕ) → IsUnwovenAt copies start end → IsUnwovenAt others start end
+  unwoven_there start end (inl h) = inl (h.0, weave_at_there start end (missing h.0) h.1)
+  unwoven_there start end (inr h) = inr (weave_at_there start end too_many h)
+
+  missing_there : (start end : ℕ) → IsMissingAt copies start end → IsMissingAt others start end
+  missing_there start end (inl h, unvoted) = (
+    inl (
+      (h.0.0, weave_at_there start end (missing h.0.0) h.0.1),
+      λ bytes count repair. h.1 bytes count (repair_here start end bytes count repair),
+    ),
+    unvoted_there start end unvoted,
+  )
+  missing_there start end (inr h, unvoted) = (inr (weave_at_there start end too_many h), unvoted_there start end unvoted)
+
   pub stands_there : (start end : ℕ) (bytes : List ℕ) (standing : Standing) → StandsAs copies start end bytes standing → StandsAs others start end bytes standing
   stands_there start end bytes Settled h =
       only_same (IsPiece copies end) (IsPiece others end) (piece_there end) (piece_here end) (record { start = start; bytes = bytes }) h
   stands_there start end bytes (Woven count) (inl h) = inl (weave_at_there start end (woven bytes count) h)
   stands_there start end bytes (Woven count) (inr (inl h)) = inr (inl (h.0, front_there end (woven bytes count) h.1))
   stands_there start end bytes (Woven count) (inr (inr h)) = inr (inr (several_as copies others same end start bytes count h))
+  stands_there start end bytes (Voted count) h =
+      record { unwoven = unwoven_there start end h.unwoven; vote = vote_there start end bytes count h.vote }
   stands_there start end bytes (Repaired count) h =
       record {
         combinations = h.combinations;
         missed = weave_at_there start end (missing h.combinations) h.missed;
+        unvoted = unvoted_there start end h.unvoted;
         repair = repair_there start end bytes count h.repair;
       }
   stands_there start end bytes Disputed h = (
@@ -308,16 +381,7 @@ module _ (copies others : List (List ℕ)) (same : HasSameMembers copies others)
     ],
     gap_there start end bytes h.1,
   )
-  stands_there start end bytes Missing h = (
-    elim h.0 [
-      | inl w ↦ inl (
-        (w.0.0, weave_at_there start end (missing w.0.0) w.0.1),
-        λ others_bytes count repair. w.1 others_bytes count (repair_here start end others_bytes count repair),
-      )
-      | inr w ↦ inr (weave_at_there start end too_many w)
-    ],
-    gap_there start end bytes h.1,
-  )
+  stands_there start end bytes Missing h = (missing_there start end h.0, gap_there start end bytes h.1)
   stands_there start end bytes Undivided h = absurd h
 
   stop_there : (end : ℕ) → IsStop copies end → IsStop others end

@@ -1,14 +1,16 @@
 -- The place that ends at an end of the splice: how long it is, and how it stands.
-use Rattle.std.proofs.Common.{◌≡◌, ℕ, ◌+◌, ◌≤◌, List, length, refl, sym, ap, ◌∙◌, arith}
+use Rattle.std.proofs.Common.{◌≡◌, ℕ, ◌+◌, ◌≤◌, List, length, refl, sym, ap, ◌∙◌, inl, inr, arith}
 use Rattle.std.specs.Prelude.{Contains}
 use Rattle.ffv1_slice.specs.Chain.{IsCut, Piece}
 use Rattle.ffv1_slice.proofs.NearLaws.{length-range}
 use Rattle.ffv1_slice.specs.Members.{IsOnly, IsOfTwo, IsOfNone}
 use Rattle.ffv1_splice.specs.Pieces.{IsPiece, IsClaimedStart, IsLeast}
 use Rattle.ffv1_weave.specs.Weave.{Weave, IsWeaveOf}
+use Rattle.ffv1_weave.specs.Weave.Weave.{missing, too_many}
 use Rattle.ffv1_weave.specs.declared.check.Check.TheVariants.{Slice}
-use Rattle.ffv1_splice.specs.Standings.{versions_at, IsWeaveAt, StandsAs, IsGap}
-use Rattle.ffv1_splice.specs.Placing.{written, IsPlaced}
+use Rattle.ffv1_splice.specs.Standings.{versions_at, IsWeaveAt, IsUnwovenAt, IsMissingAt, StandsAs, IsGap}
+use Rattle.ffv1_splice.specs.Placing.{IsPlaced}
+use Rattle.ffv1_weave.specs.Parts.{written}
 use Rattle.ffv1_splice.specs.declared.place.Standing.{Standing}
 use Rattle.ffv1_splice.specs.Told.{Tells, starts_told}
 use Rattle.ffv1_splice.specs.declared.told.Starts.{Starts}
@@ -66,6 +68,16 @@ gap_size copies start end bytes reach h =
 pub stands_weave : (copies : List (List ℕ)) (start end : ℕ) (weave : Weave) → IsOfNone (IsPiece copies end) → IsOnly (IsClaimedStart copies end) start
     → IsWeaveOf Slice (versions_at copies start end) weave → IsWeaveAt copies start end weave
 stands_weave copies start end weave none told is = record { none = none; told = told; weave' = is }
+
+-- where nothing is woven, there is a weave, which is empty
+pub unwoven_weave : (copies : List (List ℕ)) (start end : ℕ) → IsUnwovenAt copies start end → (weave : Weave) × IsWeaveAt copies start end weave
+unwoven_weave copies start end (inl h) = (missing h.0, h.1)
+unwoven_weave copies start end (inr h) = (too_many, h)
+
+-- where a place is missing, nothing is woven
+pub missing_unwoven : (copies : List (List ℕ)) (start end : ℕ) → IsMissingAt copies start end → IsUnwovenAt copies start end
+missing_unwoven copies start end (inl h, unvoted) = inl h.0
+missing_unwoven copies start end (inr h, unvoted) = inr h
 
 pub placed_as : (copies : List (List ℕ)) (start end : ℕ) (old new bytes : List ℕ) (standing : Standing) → StandsAs copies start end bytes standing
     → start + length bytes ≡ end → new ≡ written old start bytes

@@ -1,37 +1,62 @@
--- The repair of a place, as the code answers it.
-use Rattle.std.proofs.Common.{◌≡◌, ℕ, Vec, Global, List, Option, None, Some, refl, subst, inl}
-use Rattle.std.specs.Prelude.{MatchOption}
+-- The vote and the repair of a place, as the code answers them.
+use Rattle.std.proofs.Common.{◌≡◌, ℕ, Vec, Global, List, Option, None, Some, Bool, true, false, refl, subst, inl, inr}
+use Rattle.std.specs.Prelude.{MatchOption, IsTrue, IsFalse}
 use Rattle.std.proofs.lemmas.Option.{MatchOption-at_none, MatchOption-at_some}
-use Rattle.ffv1_weave.specs.Weave.Weave.{missing}
+use Rattle.ffv1_weave.specs.Weave.Weave.{missing, too_many}
 use Rattle.ffv1_weave.specs.Repairs.{IsRepairOf}
-use Rattle.ffv1_splice.specs.Standings.{versions_at, IsWeaveAt, IsRepairAt, IsMissingAt}
+use Rattle.ffv1_weave.specs.Votes.{IsVoteOf}
+use Rattle.ffv1_splice.specs.Standings.{versions_at, IsWeaveAt, IsUnwovenAt, IsVoteAt, IsUnvotedAt, IsRepairAt, IsMissingAt}
 
 absent : {X : Type 0} (found : Option X) → ((x : X) → found ≡ Some x → ⊥) → found ≡ None
 absent None h = refl
 absent (Some x) h = absurd (h x refl)
 
--- what is answered of versions: the bytes of their repair and the number of those that are tried, or that there is none
-abbrev pub IsRepairAnswer : List (List ℕ) → Option (Vec ℕ Global × ℕ) → Type 0
-IsRepairAnswer versions found =
-    MatchOption found ((bytes : List ℕ) (count : ℕ) → IsRepairOf versions bytes count → ⊥) (λ (bytes, count). IsRepairOf versions bytes.items count)
+-- nothing is woven, whether all combinations were tried or not
+pub unwoven_by : (copies : List (List ℕ)) (start end : ℕ) (all_tried : Bool)
+    → (IsTrue all_tried → (count : ℕ) × IsWeaveAt copies start end (missing count)) → (IsFalse all_tried → IsWeaveAt copies start end too_many)
+    → IsUnwovenAt copies start end
+unwoven_by copies start end true missed many = inl (missed refl)
+unwoven_by copies start end false missed many = inr (many refl)
+
+-- what is answered: bytes that are made, and the number of those that are tried, or that none are
+abbrev pub IsAnswer : (List ℕ → ℕ → Type 0) → Option (Vec ℕ Global × ℕ) → Type 0
+IsAnswer P found = MatchOption found ((bytes : List ℕ) (count : ℕ) → P bytes count → ⊥) (λ (bytes, count). P bytes.items count)
+
+-- what is answered of versions, said of them as the copies have them
+module _ (P : List (List ℕ) → List ℕ → ℕ → Type 0) (versions all : List (List ℕ)) (are : versions ≡ all) (found : Option (Vec ℕ Global × ℕ))
+    (answer : IsAnswer (P versions) found) where
+  made_there : (bytes : Vec ℕ Global) (count : ℕ) → found ≡ Some (bytes, count) → P all bytes.items count
+  made_there bytes count is =
+      subst (λ vs. P vs bytes.items count) are
+      (MatchOption-at_some ((bytes : List ℕ) (count : ℕ) → P versions bytes count → ⊥) (λ (bytes, count). P versions bytes.items count) (bytes, count) is
+      answer)
+
+  none_there : ((x : Vec ℕ Global × ℕ) → found ≡ Some x → ⊥) → (bytes : List ℕ) (count : ℕ) → P all bytes count → ⊥
+  none_there apart =
+      subst (λ vs. (bytes : List ℕ) (count : ℕ) → P vs bytes count → ⊥) are
+      (MatchOption-at_none ((bytes : List ℕ) (count : ℕ) → P versions bytes count → ⊥) (λ (bytes, count). P versions bytes.items count)
+      (absent found apart) answer)
 
 module _ (copies : List (List ℕ)) (start end : ℕ) (versions : List (List ℕ)) (are : versions ≡ versions_at copies start end)
-    (missed : (count : ℕ) × IsWeaveAt copies start end (missing count)) (found : Option (Vec ℕ Global × ℕ)) (answer : IsRepairAnswer versions found) where
-  pub is_repaired : (bytes : Vec ℕ Global) (count : ℕ) → found ≡ Some (bytes, count) → IsRepairAt copies start end bytes.items count
-  is_repaired bytes count is =
-      record {
-        combinations = missed.0;
-        missed = missed.1;
-        repair = subst (λ vs. IsRepairOf vs bytes.items count) are
-            (MatchOption-at_some ((bytes : List ℕ) (count : ℕ) → IsRepairOf versions bytes count → ⊥)
-            (λ (bytes, count). IsRepairOf versions bytes.items count) (bytes, count) is answer);
-      }
+    (found : Option (Vec ℕ Global × ℕ)) where
+  pub is_voted : IsUnwovenAt copies start end → IsAnswer (IsVoteOf versions) found → (bytes : Vec ℕ Global) (count : ℕ) → found ≡ Some (bytes, count)
+      → IsVoteAt copies start end bytes.items count
+  is_voted unwoven answer bytes count is =
+      record { unwoven = unwoven; vote = made_there IsVoteOf versions (versions_at copies start end) are found answer bytes count is }
 
-  pub is_missing : ((x : Vec ℕ Global × ℕ) → found ≡ Some x → ⊥) → IsMissingAt copies start end
-  is_missing apart =
-      inl (
-        missed,
-        subst (λ vs. (bytes : List ℕ) (count : ℕ) → IsRepairOf vs bytes count → ⊥) are
-            (MatchOption-at_none ((bytes : List ℕ) (count : ℕ) → IsRepairOf versions bytes count → ⊥)
-            (λ (bytes, count). IsRepairOf versions bytes.items count) (absent found apart) answer),
-      )
+  pub is_unvoted : IsAnswer (IsVoteOf versions) found → ((x : Vec ℕ Global × ℕ) → found ≡ Some x → ⊥) → IsUnvotedAt copies start end
+  is_unvoted answer apart = none_there IsVoteOf versions (versions_at copies start end) are found answer apart
+
+  module _ (missed : (count : ℕ) × IsWeaveAt copies start end (missing count)) (unvoted : IsUnvotedAt copies start end)
+      (answer : IsAnswer (IsRepairOf versions) found) where
+    pub is_repaired : (bytes : Vec ℕ Global) (count : ℕ) → found ≡ Some (bytes, count) → IsRepairAt copies start end bytes.items count
+    is_repaired bytes count is =
+        record {
+          combinations = missed.0;
+          missed = missed.1;
+          unvoted = unvoted;
+          repair = made_there IsRepairOf versions (versions_at copies start end) are found answer bytes count is;
+        }
+
+    pub is_missing : ((x : Vec ℕ Global × ℕ) → found ≡ Some x → ⊥) → IsMissingAt copies start end
+    is_missing apart = (inl (missed, none_there IsRepairOf versions (versions_at copies start end) are found answer apart), unvoted)

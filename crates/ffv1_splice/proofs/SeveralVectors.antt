@@ -22,7 +22,7 @@ use Rattle.ffv1_splice.specs.Standings.{versions_at, sized, StandsAs}
 use Rattle.ffv1_splice.specs.declared.place.Standing.TheVariants.{Woven}
 use Rattle.ffv1_splice.proofs.FirstSlices.{same_inside}
 use Rattle.ffv1_splice.proofs.SeveralSteps.{zeros_anywhere}
-use Rattle.ffv1_splice.proofs.Vectors.{twice_one, twice_few, first_slice_passes}
+use Rattle.ffv1_splice.proofs.Vectors.{first_of, twice_one, twice_few, first_slice_passes}
 
 abbrev hurt_first : List ℕ
 hurt_first = 0xFC ∷ 0xF6 ∷ 0x80 ∷ 0 ∷ 0 ∷ 3 ∷ 0 ∷ 0x1C ∷ 0x3E ∷ 0xA0 ∷ 0x9B ∷ []
@@ -82,10 +82,6 @@ no_piece piece h = elim (told_which h.copy piece.start h.there h.cut) [
 
 -- ---- from the first start
 
-abbrev first_of : {X : Type 0} → (xs : List X) → 0 < length xs → X
-first_of [] some = absurd (omega arith)
-first_of (x ∷ xs) some = x
-
 which : (version : List ℕ) → Contains two version → (version ≡ hurt_first) ⊎ (version ≡ vectors.first_slice)
 which version (zero, lt, is) = inl (sym is)
 which version (suc zero, lt, is) = inr (sym is)
@@ -132,8 +128,8 @@ either bytes is =
     at version there front zero = front
     at version there front (suc i) = is.agrees (suc i) (λ one other in_one in_other. same_rest i one other in_one in_other) version there
 
-itself : (grain : _) (version : List ℕ) → Contains two version → IsCombinationBy grain two version
-itself grain version here =
+itself : (version : List ℕ) → Contains two version → IsCombinationBy (first_of grains (omega arith)) two version
+itself version here =
     record {
       same_length = λ other there. length_eleven version here ∙ sym (length_eleven other there);
       agrees = λ i agree other there. agree version other here there;
@@ -166,7 +162,7 @@ tried_two = record {
   few = record {
     numbered = record {
       at = numbered;
-      are = λ k lt. itself _ (numbered k) (number_there k);
+      are = λ k lt. itself (numbered k) (number_there k);
       all = λ bytes is. elim (either bytes is) [ inl hurt ↦ (0, omega arith, sym hurt) | inr right ↦ (1, omega arith, sym right) ];
       once = once;
     };
@@ -181,7 +177,7 @@ woven_of_two = (
       grain = _;
       count = 2;
       tried = tried_two;
-      combination = itself _ vectors.first_slice right_there;
+      combination = itself vectors.first_slice right_there;
       passes = (record { footer = omega arith; size = refl }, first_slice_passes);
     };
     others = λ other valid. elim (either other (tried_combination two Slice (first_of grains (omega arith)) 2 tried_two other valid)) [

@@ -19,7 +19,8 @@ use Rattle.ffv1_slice.proofs.Places.{starts_none, IsCutAt, end_of_tile, tile_of_
 use Rattle.ffv1_slice.proofs.FoundLaws.{original_cut, bytes_of_tile}
 use Rattle.ffv1_slice.proofs.NearLaws.{length-range, size_of_range}
 use Rattle.ffv1_slice.proofs.NearVectors as vectors
-use Rattle.ffv1_weave.specs.Combinations.{IsCombinationBy}
+use Rattle.ffv1_weave.specs.Grains.{grains}
+use Rattle.ffv1_weave.specs.Combinations.{IsCombinationBy, IsTriedBy}
 use Rattle.ffv1_weave.specs.Weave.{AreFew}
 use Rattle.ffv1_splice.specs.Pieces.{HasContent, IsLeast}
 use Rattle.ffv1_splice.specs.Standings.{versions_at, sized, StandsAs, IsStop}
@@ -27,7 +28,7 @@ use Rattle.ffv1_splice.specs.Splice.{SplicedValue, IsSettledDown, IsSettledUp, I
 use Rattle.ffv1_splice.specs.Originals.{IsSound, IsIntact, IsNearCopy, AreNearCopies, IsIntactInSome}
 use Rattle.ffv1_splice.specs.Laws as laws
 use Rattle.ffv1_splice.specs.Text.{standing_word, place_words}
-use Rattle.ffv1_splice.specs.declared.place.Standing.TheVariants.{Woven, Repaired}
+use Rattle.ffv1_splice.specs.declared.place.Standing.TheVariants.{Woven, Voted, Repaired}
 use Rattle.ffv1_splice.proofs.DividedLinks.{end_within}
 use Rattle.ffv1_splice.proofs.NearCopies.{near_copies_splice}
 
@@ -253,6 +254,10 @@ lost_cut copy start there cut content = at there.0 there.1 there.2
 
 -- ---- a slice that both copies have
 
+abbrev pub first_of : {X : Type 0} → (xs : List X) → 0 < length xs → X
+first_of [] some = absurd (omega arith)
+first_of (x ∷ xs) some = x
+
 module _ (slice : List ℕ) where
   twice : (copy : List ℕ) → Contains (slice ∷ slice ∷ []) copy → copy ≡ slice
   twice copy there = at there.0 there.1 there.2
@@ -268,33 +273,33 @@ module _ (slice : List ℕ) where
       ext_get_or 0 bytes slice (is.same_length slice here) (λ i lt.
       is.agrees i (λ one other in_one in_other. ap (λ v. get_or v i 0) (twice one in_one ∙ sym (twice other in_other))) slice here)
 
-  twice_combination : (grain : _) → IsCombinationBy grain (slice ∷ slice ∷ []) slice
-  twice_combination grain =
+  twice_combination : IsCombinationBy (first_of grains (omega arith)) (slice ∷ slice ∷ []) slice
+  twice_combination =
       record {
         same_length = λ version there. ap length (sym (twice version there));
         agrees = λ i agree version there. ap (λ v. get_or v i 0) (sym (twice version there));
         parts = λ start end part. (slice, (0, omega arith, refl), refl);
       }
 
-  pub twice_few : AreFew (slice ∷ slice ∷ []) 1
-  twice_few = record {
-    grain = _;
-    tried = record {
-      place = 0;
-      there = omega arith;
-      is = refl;
-      finer = λ k lt. absurd (omega arith);
-      few = record {
-        numbered = record {
-          at = λ k. slice;
-          are = λ k lt. twice_combination _;
-          all = λ bytes is. (0, omega arith, sym (twice_one _ bytes is));
-          once = λ j k low lt same. omega arith;
-        };
-        few = omega arith;
+  twice_tried : IsTriedBy (slice ∷ slice ∷ []) (first_of grains (omega arith)) 1
+  twice_tried = record {
+    place = 0;
+    there = omega arith;
+    is = refl;
+    finer = λ k lt. absurd (omega arith);
+    few = record {
+      numbered = record {
+        at = λ k. slice;
+        are = λ k lt. twice_combination;
+        all = λ bytes is. (0, omega arith, sym (twice_one _ bytes is));
+        once = λ j k low lt same. omega arith;
       };
+      few = omega arith;
     };
   }
+
+  pub twice_few : AreFew (slice ∷ slice ∷ []) 1
+  twice_few = record { grain = first_of grains (omega arith); tried = twice_tried }
 
 -- so the first slice is, once both copies have its size
 pub first_slice_passes : PassesParity vectors.first_slice
@@ -313,10 +318,10 @@ lost_stands = inr (inl (
     weave' = (
       record {
         there = record {
-          grain = (twice_few vectors.first_slice).grain;
+          grain = first_of grains (omega arith);
           count = 1;
-          tried = (twice_few vectors.first_slice).tried;
-          combination = twice_combination vectors.first_slice (twice_few vectors.first_slice).grain;
+          tried = twice_tried vectors.first_slice;
+          combination = twice_combination vectors.first_slice;
           passes = (record { footer = omega arith; size = refl }, first_slice_passes);
         };
         others = λ other valid. twice_one vectors.first_slice valid.grain other valid.combination;
@@ -327,6 +332,14 @@ lost_stands = inr (inl (
 ))
 
 -- ---- places in words
+
+voted_word : standing_word (Voted 4096) ≡ codes "voted 4096"
+unfolding digits
+voted_word = refl
+
+voted_place : place_words (record { start = 1833; end = 3698; standing = Voted 12 }) ≡ codes "1833..3698 voted 12"
+unfolding digits
+voted_place = refl
 
 repaired_word : standing_word (Repaired 1048576) ≡ codes "repaired 1048576"
 unfolding digits

@@ -9,9 +9,9 @@ use Rattle.ffv1_weave.specs.Regions.{HaveLength}
 use Rattle.ffv1_weave.specs.Weave.Weave.{woven}
 use Rattle.ffv1_weave.specs.Repairs.{inverted, IsRepair}
 use Rattle.ffv1_weave.proofs.Choices.{length-written}
-use Rattle.ffv1_splice.specs.Standings.{versions_at, IsWeaveAt, IsRepairAt}
+use Rattle.ffv1_splice.specs.Standings.{versions_at, IsWeaveAt, IsVoteAt, IsRepairAt}
 use Rattle.ffv1_weave.proofs.References.{value_at, length-values_of, value_there}
-use Rattle.ffv1_splice.proofs.PlaceSteps.{AllReach, told_below}
+use Rattle.ffv1_splice.proofs.PlaceSteps.{AllReach, told_below, unwoven_weave}
 
 -- ---- what is made of each member
 
@@ -57,7 +57,16 @@ module _ (copies : List (List ℕ)) (start end : ℕ) where
       let same = h.weave'.0.there.combination.same_length (slice_range copy start end) (version_there copy h.told.there.there) in
       omega arith
 
-  -- and so is what is repaired
+  -- and so is what is voted, ..
+  pub vote_size : (bytes : List ℕ) (count : ℕ) → AllReach copies end → IsVoteAt copies start end bytes count → start + length bytes ≡ end
+  vote_size bytes count reach h =
+      let told = (unwoven_weave copies start end h.unwoven).1.told.there in
+      let below = told_below copies start end told in
+      let size = length-range told.copy start end (omega arith) (reach told.copy told.there) in
+      let same = h.vote.only.there.combination.same_length (slice_range told.copy start end) (version_there told.copy told.there) in
+      omega arith
+
+  -- .. and what is repaired
   pub repair_size : (bytes : List ℕ) (count : ℕ) → AllReach copies end → IsRepairAt copies start end bytes count → start + length bytes ≡ end
   repair_size bytes count reach h =
       let told = h.missed.told.there in

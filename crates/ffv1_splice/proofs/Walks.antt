@@ -9,11 +9,11 @@ use Rattle.ffv1_splice.specs.Pieces.{IsLeast}
 use Rattle.ffv1_splice.specs.Standings.{StandsAs, IsStop}
 use Rattle.ffv1_splice.specs.Splice.{SplicedValue, LieFrom, IsDivisionOf}
 use Rattle.ffv1_splice.specs.declared.place.Standing.{Standing}
-use Rattle.ffv1_splice.specs.declared.place.Standing.TheVariants.{Settled, Woven, Repaired, Disputed, Missing, Undivided}
+use Rattle.ffv1_splice.specs.declared.place.Standing.TheVariants.{Settled, Woven, Voted, Repaired, Disputed, Missing, Undivided}
 use Rattle.ffv1_splice.specs.declared.place.Place.{Place}
 use Rattle.ffv1_splice.proofs.FirstSlices.{woven_below, woven_size}
-use Rattle.ffv1_splice.proofs.Versions.{repair_size}
-use Rattle.ffv1_splice.proofs.PlaceSteps.{AllReach, cut_below, told_below, piece_size, gap_size, least_size}
+use Rattle.ffv1_splice.proofs.Versions.{vote_size, repair_size}
+use Rattle.ffv1_splice.proofs.PlaceSteps.{AllReach, cut_below, told_below, piece_size, gap_size, least_size, unwoven_weave}
 
 -- What stands before an end. Where no place ends, it is one front that can't be divided; else the place that ends there, and what stands
 -- before its start.
@@ -52,6 +52,7 @@ slice-take bytes count start end e c =
 pub stands_below : (copies : List (List ℕ)) (start end : ℕ) (bytes : List ℕ) (standing : Standing) → StandsAs copies start end bytes standing → start + 8 ≤ end
 stands_below copies start end bytes Settled h = cut_below h.there.copy start end h.there.cut
 stands_below copies start end bytes (Woven count) h = woven_below copies start end bytes count h
+stands_below copies start end bytes (Voted count) h = told_below copies start end (unwoven_weave copies start end h.unwoven).1.told.there
 stands_below copies start end bytes (Repaired count) h = told_below copies start end h.missed.told.there
 stands_below copies start end bytes Disputed h = told_below copies start end h.1.told.there
 stands_below copies start end bytes Missing h = told_below copies start end h.1.told.there
@@ -62,6 +63,7 @@ module _ (copies : List (List ℕ)) (copy : List ℕ) (there : Contains copies c
       → start + length bytes ≡ end
   stands_size start end bytes Settled reach h = piece_size copies end (record { start = start; bytes = bytes }) reach h.there
   stands_size start end bytes (Woven count) reach h = woven_size copies start end bytes count copy there reach h
+  stands_size start end bytes (Voted count) reach h = vote_size copies start end bytes count reach h
   stands_size start end bytes (Repaired count) reach h = repair_size copies start end bytes count reach h
   stands_size start end bytes Disputed reach h = gap_size copies start end bytes reach h.1
   stands_size start end bytes Missing reach h = gap_size copies start end bytes reach h.1

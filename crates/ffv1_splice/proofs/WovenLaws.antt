@@ -14,17 +14,17 @@ use Rattle.ffv1_weave.specs.Weave.Weave.{woven as weave_woven, missing as weave_
 use Rattle.ffv1_weave.specs.declared.check.Check.TheVariants.{Slice}
 use Rattle.ffv1_weave.proofs.Coarsest.{original_is_woven}
 use Rattle.ffv1_splice.specs.Pieces.{HasContent, IsClaimedStart}
-use Rattle.ffv1_splice.specs.Standings.{versions_at, sized, IsWeaveOfSeveral, StandsAs}
+use Rattle.ffv1_splice.specs.Standings.{versions_at, sized, IsUnwovenAt, IsWeaveOfSeveral, StandsAs}
 use Rattle.ffv1_splice.specs.Splice.{SplicedValue, IsDivisionOf, IsSpliceOf, IsSettledOrWoven, IsGivenBack}
 use Rattle.ffv1_splice.specs.Originals.{AreCopiesOf, IsAmong, AreWeavable}
 use Rattle.ffv1_splice.specs.Laws.{KeepsLink, WovenIsOriginal, SizedIsOriginal, GivenBackIsOriginal}
 use Rattle.ffv1_splice.specs.declared.place.Standing.{Standing}
-use Rattle.ffv1_splice.specs.declared.place.Standing.TheVariants.{Settled, Woven, Repaired, Disputed, Missing, Undivided}
+use Rattle.ffv1_splice.specs.declared.place.Standing.TheVariants.{Settled, Woven, Voted, Repaired, Disputed, Missing, Undivided}
 use Rattle.ffv1_splice.specs.declared.place.Place.{Place}
 use Rattle.ffv1_splice.proofs.DividedLinks.{end_within, link_at, AreLinkPlaces, link_places, settled_link, same_payload}
 use Rattle.ffv1_splice.proofs.FirstSlices.{combination_told}
 use Rattle.ffv1_splice.proofs.Versions.{version_there}
-use Rattle.ffv1_splice.proofs.PlaceSteps.{AllReach, told_below}
+use Rattle.ffv1_splice.proofs.PlaceSteps.{AllReach, told_below, unwoven_weave, missing_unwoven}
 use Rattle.ffv1_splice.proofs.SizedCombinations.{sized_combination}
 use Rattle.ffv1_splice.proofs.NarrowedOriginal.{AreWeavableDown, copies_narrowed, weavable_narrowed}
 use Rattle.ffv1_splice.proofs.Walks.{IsSpliceBefore, division_walk, stands_below}
@@ -64,6 +64,7 @@ module _ (copies : List (List ℕ)) (start end : ℕ) (slice : List ℕ) (framed
   woven_slice copy bytes (Woven n) count reach there is (inr (inl h)) =
       absurd (h.1.untold 0 (combination_told copies end copy slice reach there h.1.content framed
       (subst (λ s. IsCombination (versions_at copies s end) slice) h.0 among)))
+  woven_slice copy bytes (Voted n) count reach there is h = absurd (cc)
   woven_slice copy bytes (Repaired n) count reach there is h = absurd (cc)
   woven_slice copy bytes Disputed count reach there is h = absurd (cc)
   woven_slice copy bytes Missing count reach there is h = absurd (cc)
@@ -73,25 +74,39 @@ module _ (copies : List (List ℕ)) (start end : ℕ) (slice : List ℕ) (framed
   pub unrepaired_slice : (bytes : List ℕ) (standing : Standing) (count : ℕ) → standing ≡ Repaired count → StandsAs copies start end bytes standing → ⊥
   unrepaired_slice bytes Settled count is h = absurd (cc)
   unrepaired_slice bytes (Woven n) count is h = absurd (cc)
+  unrepaired_slice bytes (Voted n) count is h = absurd (cc)
   unrepaired_slice bytes (Repaired n) count is h =
       original_is_woven Slice slice (versions_at copies start end) (weave_missing h.combinations) (framed, passes) among h.missed.weave'
   unrepaired_slice bytes Disputed count is h = absurd (cc)
   unrepaired_slice bytes Missing count is h = absurd (cc)
   unrepaired_slice bytes Undivided count is h = absurd (cc)
 
-  -- .. and is missing only where there are too many combinations
+  -- .. and where nothing is woven there are too many combinations: ..
+  unwoven_slice : IsUnwovenAt copies start end → AreMany (versions_at copies start end)
+  unwoven_slice (inl h) = absurd (original_is_woven Slice slice (versions_at copies start end) (weave_missing h.0) (framed, passes) among h.1.weave')
+  unwoven_slice (inr h) = h.weave'
+
+  -- .. so where it is missing, ..
   pub missing_slice : (bytes : List ℕ) (standing : Standing) → standing ≡ Missing → StandsAs copies start end bytes standing
       → AreMany (versions_at copies start end)
   missing_slice bytes Settled is h = absurd (cc)
   missing_slice bytes (Woven n) is h = absurd (cc)
+  missing_slice bytes (Voted n) is h = absurd (cc)
   missing_slice bytes (Repaired n) is h = absurd (cc)
   missing_slice bytes Disputed is h = absurd (cc)
-  missing_slice bytes Missing is h =
-      elim h.0 [
-        | inl w ↦ absurd (original_is_woven Slice slice (versions_at copies start end) (weave_missing w.0.0) (framed, passes) among w.0.1.weave')
-        | inr w ↦ w.weave'
-      ]
+  missing_slice bytes Missing is h = unwoven_slice (missing_unwoven copies start end h.0)
   missing_slice bytes Undivided is h = absurd (cc)
+
+  -- .. and where it is voted
+  pub voted_slice : (bytes : List ℕ) (standing : Standing) (count : ℕ) → standing ≡ Voted count → StandsAs copies start end bytes standing
+      → AreMany (versions_at copies start end)
+  voted_slice bytes Settled count is h = absurd (cc)
+  voted_slice bytes (Woven n) count is h = absurd (cc)
+  voted_slice bytes (Voted n) count is h = unwoven_slice h.unwoven
+  voted_slice bytes (Repaired n) count is h = absurd (cc)
+  voted_slice bytes Disputed count is h = absurd (cc)
+  voted_slice bytes Missing count is h = absurd (cc)
+  voted_slice bytes Undivided count is h = absurd (cc)
 
 -- Where its start is claimed by no copy, and it is a combination of the versions with their size, what is woven is the slice.
 sized_slice : (copies : List (List ℕ)) (start end : ℕ) (slice : List ℕ) → IsFramed slice → PassesParity slice → (IsClaimedStart copies end start → ⊥)
@@ -103,6 +118,7 @@ sized_slice copies start end slice framed passes untold among bytes (Woven n) co
 sized_slice copies start end slice framed passes untold among bytes (Woven n) count is (inr (inl h)) =
     slice_of_weave slice framed passes (map sized (versions_at copies 0 end)) bytes n
     (subst (λ s. IsCombination (map sized (versions_at copies s end)) slice) h.0 among) h.1.weave'
+sized_slice copies start end slice framed passes untold among bytes (Voted n) count is h = absurd (cc)
 sized_slice copies start end slice framed passes untold among bytes (Repaired n) count is h = absurd (cc)
 sized_slice copies start end slice framed passes untold among bytes Disputed count is h = absurd (cc)
 sized_slice copies start end slice framed passes untold among bytes Missing count is h = absurd (cc)
@@ -113,11 +129,21 @@ sized_slice copies start end slice framed passes untold among bytes Undivided co
 module _ (original : List ℕ) (copies : List (List ℕ)) (spliced : SplicedValue) (is : IsSpliceOf copies spliced) where
   keeps_settled : (place : Place) → place.standing ≡ Settled → KeepsLink original copies spliced place
   keeps_settled place settled =
-      record { woven = λ count woven. absurd (cc); unrepaired = λ count repaired. absurd (cc); missing = λ missing. absurd (cc) }
+      record {
+        woven = λ count woven. absurd (cc);
+        unrepaired = λ count repaired. absurd (cc);
+        missing = λ missing. absurd (cc);
+        voted = λ count voted. absurd (cc);
+      }
 
   keeps_undivided : (place : Place) → place.standing ≡ Undivided → KeepsLink original copies spliced place
   keeps_undivided place stands =
-      record { woven = λ count woven. absurd (cc); unrepaired = λ count repaired. absurd (cc); missing = λ missing. absurd (cc) }
+      record {
+        woven = λ count woven. absurd (cc);
+        unrepaired = λ count repaired. absurd (cc);
+        missing = λ missing. absurd (cc);
+        voted = λ count voted. absurd (cc);
+      }
 
   keeps_link : (place : Place) → IsPlaceOf copies spliced is place → IsLinkOf original place.start place.end
       → PassesParity (slice_range original place.start place.end) → IsAmong original copies place.start place.end → KeepsLink original copies spliced place
@@ -135,6 +161,7 @@ module _ (original : List ℕ) (copies : List (List ℕ)) (spliced : SplicedValu
             (between_reach copies spliced.payload place h) (version_there copies h.from h.to copy.0 copy.1) woven h.stands;
         unrepaired = λ count repaired. unrepaired_slice versions h.start h.end slice framed passes all bytes place.standing count repaired h.stands;
         missing = λ missing. subst AreMany same (missing_slice versions h.start h.end slice framed passes all bytes place.standing missing h.stands);
+        voted = λ count voted. subst AreMany same (voted_slice versions h.start h.end slice framed passes all bytes place.standing count voted h.stands);
       }
   keeps_link place (undivided stands) link passes among = keeps_undivided place stands
   keeps_link place (below settled) link passes among = keeps_settled place settled.standing
@@ -201,6 +228,9 @@ module _ (original : List ℕ) (copies : List (List ℕ)) (spliced : SplicedValu
       let at = link_at original of.whole end is_end (omega arith) in
       absurd (h.1.untold at.0 (weavable.told at.0 end (record { is_end = is_end; cut = at.1 })))
   cuts start end bytes (Woven count) is_end (inr (inr h)) = several_cut start end bytes count is_end h
+  cuts start end bytes (Voted count) is_end h =
+      let told = (unwoven_weave copies start end h.unwoven).1.told in
+      let below = told_below copies start end told.there in told_cut start end is_end (omega arith) told
   cuts start end bytes (Repaired count) is_end h =
       let below = told_below copies start end h.missed.told.there in told_cut start end is_end (omega arith) h.missed.told
   cuts start end bytes Disputed is_end h =
@@ -229,6 +259,7 @@ module _ (original : List ℕ) (copies : List (List ℕ)) (spliced : SplicedValu
   has_link start end bytes (Woven count) link right (inr (inr h)) =
       slice_of_weave (slice_range original start end) (framed_link original start end link) (weavable.passes start end link)
       (map sized (versions_at copies start end)) bytes (get_or h.tried start 0) (among_sized start end link h.are_bytes) h.weave'
+  has_link start end bytes (Voted count) link right h = absurd right
   has_link start end bytes (Repaired count) link right h = absurd right
   has_link start end bytes Disputed link right h = absurd right
   has_link start end bytes Missing link right h = absurd right
@@ -254,6 +285,7 @@ given_link original copies spliced weavable is place there link right Settled st
 given_link original copies spliced weavable is place there link right (Woven count) stands =
     (woven_is_original original copies spliced place is there link (weavable.passes place.start place.end link)
     (weavable.among place.start place.end link)).woven count stands
+given_link original copies spliced weavable is place there link right (Voted count) stands = absurd (subst IsSettledOrWoven stands right)
 given_link original copies spliced weavable is place there link right (Repaired count) stands = absurd (subst IsSettledOrWoven stands right)
 given_link original copies spliced weavable is place there link right Disputed stands = absurd (subst IsSettledOrWoven stands right)
 given_link original copies spliced weavable is place there link right Missing stands = absurd (subst IsSettledOrWoven stands right)

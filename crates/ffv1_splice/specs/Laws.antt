@@ -7,11 +7,12 @@ use Rattle.ffv1_bits.specs.Parity.{PassesParity}
 use Rattle.ffv1_weave.specs.Combinations.{IsCombination}
 use Rattle.ffv1_weave.specs.Weave.{AreMany}
 use Rattle.ffv1_weave.specs.Repairs.{IsRepair}
+use Rattle.ffv1_weave.specs.Votes.{IsVote}
 use Rattle.ffv1_splice.specs.Pieces.{IsClaimedStart}
 use Rattle.ffv1_splice.specs.Standings.{versions_at, sized}
 use Rattle.ffv1_splice.specs.Splice.{SplicedValue, IsSpliceOf, IsGivenBack, leg_places}
 use Rattle.ffv1_splice.specs.Originals.{AreCopiesOf, AgreeWith, AgreeFromBelow, HaveEachLink, IsAmong, AreWeavable, AreNearCopies, IsIntactInSome}
-use Rattle.ffv1_splice.specs.declared.place.Standing.TheVariants.{Settled, Woven, Repaired, Missing}
+use Rattle.ffv1_splice.specs.declared.place.Standing.TheVariants.{Settled, Woven, Voted, Repaired, Missing}
 use Rattle.ffv1_splice.specs.declared.place.Place.{Place}
 
 -- The same copies have one splice.
@@ -72,13 +73,14 @@ WalkAcrossIsOriginal =
 
 -- ---- what is woven
 
--- What is woven at a place is the original's slice; it is never repaired; and where it is missing, there are more combinations than are
--- tried.
+-- What is woven at a place is the original's slice; it is never repaired; and where it is missing or voted, there are more combinations than
+-- are tried.
 pub record KeepsLink (original : List ℕ) (copies : List (List ℕ)) (spliced : SplicedValue) (place : Place) : Type 0 where
   pub woven : (count : ℕ) → place.standing ≡ Woven count
       → slice_range spliced.payload place.start place.end ≡ slice_range original place.start place.end
   pub unrepaired : (count : ℕ) → place.standing ≡ Repaired count → ⊥
   pub missing : place.standing ≡ Missing → AreMany (versions_at copies place.start place.end)
+  pub voted : (count : ℕ) → place.standing ≡ Voted count → AreMany (versions_at copies place.start place.end)
 
 -- So it is at each place that is a link of the original, where the original's slice passes its parity and is among the combinations
 -- of what the copies have there.
@@ -105,6 +107,14 @@ RepairedIsOriginal =
     (original : List ℕ) (copies : List (List ℕ)) (spliced : SplicedValue) (place : Place) (count : ℕ) → IsSpliceOf copies spliced
     → Contains spliced.places place → IsRepair (versions_at copies place.start place.end) (slice_range original place.start place.end)
     → place.standing ≡ Repaired count
+    → slice_range spliced.payload place.start place.end ≡ slice_range original place.start place.end
+
+-- Where the original's slice is a vote of what the copies have there that passes its parity: what is voted is the original's slice.
+abbrev pub VotedIsOriginal : Type 0
+VotedIsOriginal =
+    (original : List ℕ) (copies : List (List ℕ)) (spliced : SplicedValue) (place : Place) (count : ℕ) → IsSpliceOf copies spliced
+    → Contains spliced.places place → IsVote (versions_at copies place.start place.end) (slice_range original place.start place.end)
+    → place.standing ≡ Voted count
     → slice_range spliced.payload place.start place.end ≡ slice_range original place.start place.end
 
 -- Where the copies are weavable, a frame that is given back is the original, and its places are the original's links.

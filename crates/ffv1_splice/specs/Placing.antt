@@ -1,11 +1,8 @@
 -- A place that was found and written over a payload.
-use Rattle.std.specs.Prelude.{ℕ, ◌≡◌, ◌+◌, ◌++◌, List, Option, MatchOption, take, drop, length}
+use Rattle.std.specs.Prelude.{ℕ, ◌≡◌, ◌+◌, List, Option, MatchOption, length}
+use Rattle.ffv1_weave.specs.Parts.{written}
 use Rattle.ffv1_splice.specs.Standings.{StandsAs, IsStop}
 use Rattle.ffv1_splice.specs.declared.place.Place.{Place}
-
--- bytes written over those of a payload from a place on
-abbrev pub written : List ℕ → ℕ → List ℕ → List ℕ
-written payload start bytes = take start payload ++ (bytes ++ drop (start + length bytes) payload)
 
 -- The place that ends there, with its bytes written over those of the payload.
 pub record IsPlaced (copies : List (List ℕ)) (end : ℕ) (old new : List ℕ) (place : Place) : Type 0 where

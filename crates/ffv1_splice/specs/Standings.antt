@@ -7,10 +7,11 @@ use Rattle.ffv1_slice.specs.Members.{IsOnly, IsOfTwo, IsOfNone}
 use Rattle.ffv1_weave.specs.Weave.{Weave, IsWeaveOf}
 use Rattle.ffv1_weave.specs.Weave.Weave.{woven, disputed, missing, too_many}
 use Rattle.ffv1_weave.specs.Repairs.{IsRepairOf}
+use Rattle.ffv1_weave.specs.Votes.{IsVoteOf}
 use Rattle.ffv1_weave.specs.declared.check.Check.TheVariants.{Slice}
 use Rattle.ffv1_splice.specs.Pieces.{HasContent, IsPiece, IsClaimedStart, IsLeast}
 use Rattle.ffv1_splice.specs.declared.place.Standing.{Standing}
-use Rattle.ffv1_splice.specs.declared.place.Standing.TheVariants.{Settled, Woven, Repaired, Disputed, Missing, Undivided}
+use Rattle.ffv1_splice.specs.declared.place.Standing.TheVariants.{Settled, Woven, Voted, Repaired, Disputed, Missing, Undivided}
 
 -- what each copy has between two places
 abbrev pub versions_at : List (List ℕ) → (start end : ℕ) → List (List ℕ)
@@ -54,20 +55,35 @@ pub record IsWeaveOfSeveral (copies : List (List ℕ)) (start end : ℕ) (bytes 
   pub untold : (other : ℕ) → (IsClaimedStart copies end other → ⊥) → slice_index tried other ≡ 0
   pub counted : count ≡ min (sum tried) (2 ^ 64 - 1)
 
--- One start alone is claimed, and no combination of what the copies have from it on is a slice. But with one bit inverted one of them is: these
--- bytes alone, of so many that are tried.
+-- No combination of what the copies have from the one start that is claimed is a slice, or there are more than are tried.
+abbrev pub IsUnwovenAt : List (List ℕ) → (start end : ℕ) → Type 0
+IsUnwovenAt copies start end = ((count : ℕ) × IsWeaveAt copies start end (missing count)) ⊎ IsWeaveAt copies start end too_many
+
+-- It is not woven, but of what most copies have there one combination alone is a slice: these bytes, of so many that are tried.
+pub record IsVoteAt (copies : List (List ℕ)) (start end : ℕ) (bytes : List ℕ) (count : ℕ) : Type 0 where
+  pub unwoven : IsUnwovenAt copies start end
+  pub vote : IsVoteOf (versions_at copies start end) bytes count
+
+-- It is not voted.
+abbrev pub IsUnvotedAt : List (List ℕ) → (start end : ℕ) → Type 0
+IsUnvotedAt copies start end = (bytes : List ℕ) (count : ℕ) → IsVoteOf (versions_at copies start end) bytes count → ⊥
+
+-- One start alone is claimed, no combination of what the copies have from it on is a slice, and there is no vote. But with one bit inverted one
+-- combination is a slice: these bytes alone, of so many that are tried.
 pub record IsRepairAt (copies : List (List ℕ)) (start end : ℕ) (bytes : List ℕ) (count : ℕ) : Type 0 where
   pub combinations : ℕ
   pub missed : IsWeaveAt copies start end (missing combinations)
+  pub unvoted : IsUnvotedAt copies start end
   pub repair : IsRepairOf (versions_at copies start end) bytes count
 
 -- One start alone is claimed, no combination of what the copies have from it on is a slice, and they have no repair. Or there are more
--- combinations than are tried.
+-- combinations than are tried. And there is no vote.
 abbrev pub IsMissingAt : List (List ℕ) → (start end : ℕ) → Type 0
 IsMissingAt copies start end =
-    (((count : ℕ) × IsWeaveAt copies start end (missing count))
+    ((((count : ℕ) × IsWeaveAt copies start end (missing count))
     × ((bytes : List ℕ) (count : ℕ) → IsRepairOf (versions_at copies start end) bytes count → ⊥))
-    ⊎ IsWeaveAt copies start end too_many
+    ⊎ IsWeaveAt copies start end too_many)
+    × IsUnvotedAt copies start end
 
 -- A gap: the copies whose footer there claims a start, of which there is one, all claim the same, and the least of all copies'
 -- bytes stand there.
@@ -76,14 +92,16 @@ pub record IsGap (copies : List (List ℕ)) (start end : ℕ) (bytes : List ℕ)
   pub least : IsLeast copies start end bytes
 
 -- Settled: the only piece that ends there. Where no piece does, the copies' versions are woven, from the start that is claimed, or from the one
--- of several that gives a slice, or else from the front. Repaired: no combination of versions is a slice, but one alone is with one bit
--- inverted. Disputed: two pieces that differ end there, or two combinations of versions are a slice; missing: no piece and no
--- combination is one, and there is no repair, or there are too many combinations to be tried.
+-- of several that gives a slice, or else from the front. Voted: they are not woven, but one alone of what most of them have is a slice.
+-- Repaired: no combination of versions is a slice, and nothing is voted, but one alone is with one bit inverted. Disputed: two pieces that
+-- differ end there, or two combinations of versions are a slice; missing: no piece and no combination is one, and there is no repair, or
+-- there are too many combinations to be tried; and nothing is voted.
 abbrev pub StandsAs : List (List ℕ) → (start end : ℕ) → List ℕ → Standing → Type 0
 StandsAs copies start end bytes Settled = IsOnly (IsPiece copies end) (record { start = start; bytes = bytes })
 StandsAs copies start end bytes (Woven count) =
     IsWeaveAt copies start end (woven bytes count) ⊎ ((start ≡ 0) × IsWeaveFromFront copies end (woven bytes count))
     ⊎ IsWeaveOfSeveral copies start end bytes count
+StandsAs copies start end bytes (Voted count) = IsVoteAt copies start end bytes count
 StandsAs copies start end bytes (Repaired count) = IsRepairAt copies start end bytes count
 StandsAs copies start end bytes Disputed =
     (IsOfTwo (IsPiece copies end) ⊎ IsWeaveAt copies start end disputed) × IsGap copies start end bytes

@@ -2,13 +2,14 @@
 use Rattle.std.specs.Prelude.{ℕ, ◌==◌, ◌++◌, List, codes, if◌then◌else◌}
 use Rattle.std.specs.Fmt.{decimal}
 use Rattle.ffv1_splice.specs.declared.place.Standing.{Standing}
-use Rattle.ffv1_splice.specs.declared.place.Standing.TheVariants.{Settled, Woven, Repaired, Disputed, Missing, Undivided}
+use Rattle.ffv1_splice.specs.declared.place.Standing.TheVariants.{Settled, Woven, Voted, Repaired, Disputed, Missing, Undivided}
 use Rattle.ffv1_splice.specs.declared.place.Place.{Place}
 
--- how a place stands, and where it is woven or repaired, among how many that were tried
+-- how a place stands, and where it is woven, voted or repaired, among how many that were tried
 abbrev pub standing_word : Standing → List ℕ
 standing_word Settled = codes "settled"
 standing_word (Woven count) = codes "woven " ++ decimal count
+standing_word (Voted count) = codes "voted " ++ decimal count
 standing_word (Repaired count) = codes "repaired " ++ decimal count
 standing_word Disputed = codes "disputed"
 standing_word Missing = codes "missing"

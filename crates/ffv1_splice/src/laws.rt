@@ -1,6 +1,6 @@
 //! Laws of the splice, whatever it is made by.
 ghost use Rattle.ffv1_splice.specs.Whole.{GivenBackIsWhole};
-ghost use Rattle.ffv1_splice.specs.Laws.{SameCopiesSplice, OriginalIsSpliced, SettledIsOriginal, SettledWalksAreOriginal, WalkAcrossIsOriginal, WovenIsOriginal, SizedIsOriginal, RepairedIsOriginal, GivenBackIsOriginal, NearCopiesSplice};
+ghost use Rattle.ffv1_splice.specs.Laws.{SameCopiesSplice, OriginalIsSpliced, SettledIsOriginal, SettledWalksAreOriginal, WalkAcrossIsOriginal, WovenIsOriginal, SizedIsOriginal, RepairedIsOriginal, VotedIsOriginal, GivenBackIsOriginal, NearCopiesSplice};
 
 /// However the same copies are ordered or repeated, they have one splice.
 pub fn same_copies_splice()
@@ -33,7 +33,8 @@ pub fn walk_across_is_original()
 {}
 
 /// At a place that is a slice of an original, where the original's slice passes its parity and is among the combinations of what the
-/// copies have there: what is woven is the original's slice, and it is missing only where there are too many combinations.
+/// copies have there: what is woven is the original's slice, it is never repaired, and it is missing or voted only where there are too
+/// many combinations.
 pub fn woven_is_original()
     ensures { WovenIsOriginal }
 {}
@@ -48,6 +49,12 @@ pub fn sized_is_original()
 /// with one bit inverted: what is repaired is the original's slice.
 pub fn repaired_is_original()
     ensures { RepairedIsOriginal }
+{}
+
+/// At a place where the original's slice passes its parity, and is one of the combinations of what most copies have there that are tried:
+/// what is voted is the original's slice.
+pub fn voted_is_original()
+    ensures { VotedIsOriginal }
 {}
 
 /// Where no slice that passes its parity tells other than an original, the start of each of its slices is told by some copy, and each is

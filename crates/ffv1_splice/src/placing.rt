@@ -1,17 +1,18 @@
 //! The places of a splice, each found by what all copies tell at its end, and written into the payload.
-ghost use Rattle.std.specs.Prelude.{◌≡◌, ◌+◌, ◌≤◌, ◌<◌, ℕ, length, map, All, IfOk};
+ghost use Rattle.std.specs.Prelude.{◌≡◌, ◌+◌, ◌≤◌, ◌<◌, ℕ, length, map, All, IfOk, IsTrue, IsFalse};
 ghost use Rattle.ffv1_slice.specs.Members.{IsOnly, IsOfTwo, IsOfNone};
 ghost use Rattle.ffv1_splice.specs.Pieces.{IsPiece, IsClaimedStart};
-ghost use Rattle.ffv1_weave.specs.Weave.Weave.{missing};
-ghost use Rattle.ffv1_splice.specs.Standings.{versions_at, IsWeaveAt};
-ghost use Rattle.ffv1_splice.specs.Placing.{written, IsPlaced, IsPlacedOrStop};
+ghost use Rattle.ffv1_weave.specs.Weave.Weave.{missing, too_many};
+ghost use Rattle.ffv1_splice.specs.Standings.{versions_at, IsWeaveAt, IsUnvotedAt};
+ghost use Rattle.ffv1_splice.specs.Placing.{IsPlaced, IsPlacedOrStop};
+ghost use Rattle.ffv1_weave.specs.Parts.{written};
 ghost use Rattle.ffv1_splice.specs.Told.{Tells, starts_told};
 
 use crate::first::first_before;
 use crate::place::{Place, Standing};
 use crate::several::several_before;
 use crate::told::{Pieces, Starts, least_at, told_at};
-use ffv1_weave::{Check, Outcome, repair, weave};
+use ffv1_weave::{Check, Outcome, repair, vote, weave};
 use std::alloc::{AllocError, Global};
 
 /// The place that ends there, which is written over the payload's bytes. Each copy has the end, and so has the payload.
@@ -97,7 +98,8 @@ fn woven_before(
     }))
 }
 
-/// How the place between these ends stands, of which no piece is one: it is woven or repaired, or the least of all copies' bytes are written.
+/// How the place between these ends stands, of which no piece is one: it is woven, voted or repaired, or the least of all copies' bytes
+/// are written.
 pub(crate) fn weave_at(
     alloc: Global,
     copies: &[&[u8]],
@@ -115,21 +117,54 @@ pub(crate) fn weave_at(
 {
     let versions = versions_at(alloc, copies, start, end)?;
     let versions = versions.as_slice();
-    let standing = match weave(alloc, Check::Slice, versions)? {
+    let all_tried = match weave(alloc, Check::Slice, versions)? {
         Outcome::Woven(bytes, count) => {
             write_at(payload, start, bytes.as_slice());
             return Ok(Standing::Woven(count));
         }
-        Outcome::Disputed => Standing::Disputed,
-        Outcome::Missing(_) => return repair_at(alloc, copies, versions, start, end, payload),
-        Outcome::TooMany => Standing::Missing,
+        Outcome::Disputed => {
+            write_at(payload, start, least_at(copies, start, end));
+            return Ok(Standing::Disputed);
+        }
+        Outcome::Missing(_) => true,
+        Outcome::TooMany => false,
     };
-    write_at(payload, start, least_at(copies, start, end));
-    Ok(standing)
+    vote_at(alloc, copies, versions, all_tried, start, end, payload)
 }
 
-/// How the place between these ends stands, of whose versions no combination is a slice: it is repaired, or the least of all copies' bytes
-/// are written.
+/// How the place between these ends stands, whose versions are not woven: no combination is a slice, if all are tried, or there are too many.
+/// It is voted or repaired, or the least of all copies' bytes are written.
+fn vote_at(
+    alloc: Global,
+    copies: &[&[u8]],
+    versions: &[&[u8]],
+    all_tried: bool,
+    start: usize,
+    end: usize,
+    payload: &mut [u8],
+) -> Result<Standing, AllocError>
+    requires some { 0 < length copies.now }
+    requires within { All (λ copy. end ≤ length copy.now) copies.now }
+    requires room { end ≤ length payload.old }
+    requires versions { map (λ version. version.now) versions.now ≡ versions_at (map (λ copy. copy.now) copies.now) start end }
+    requires missed { IsTrue all_tried → (count : ℕ) × IsWeaveAt (map (λ copy. copy.now) copies.now) start end (missing count) }
+    requires many { IsFalse all_tried → IsWeaveAt (map (λ copy. copy.now) copies.now) start end too_many }
+    ensures { IfOk result (λ standing. IsPlaced (map (λ copy. copy.now) copies.now) end payload.old payload.new
+        (record { start = start; end = end; standing = standing })) }
+{
+    if let Some((voted, count)) = vote(alloc, versions)? {
+        write_at(payload, start, voted.as_slice());
+        return Ok(Standing::Voted(count));
+    }
+    if all_tried {
+        return repair_at(alloc, copies, versions, start, end, payload);
+    }
+    write_at(payload, start, least_at(copies, start, end));
+    Ok(Standing::Missing)
+}
+
+/// How the place between these ends stands, of whose versions no combination is a slice, and which is not voted: it is repaired, or the least
+/// of all copies' bytes are written.
 fn repair_at(
     alloc: Global,
     copies: &[&[u8]],
@@ -143,6 +178,7 @@ fn repair_at(
     requires room { end ≤ length payload.old }
     requires versions { map (λ version. version.now) versions.now ≡ versions_at (map (λ copy. copy.now) copies.now) start end }
     requires missed { (count : ℕ) × IsWeaveAt (map (λ copy. copy.now) copies.now) start end (missing count) }
+    requires unvoted { IsUnvotedAt (map (λ copy. copy.now) copies.now) start end }
     ensures { IfOk result (λ standing. IsPlaced (map (λ copy. copy.now) copies.now) end payload.old payload.new
         (record { start = start; end = end; standing = standing })) }
 {

@@ -14,6 +14,7 @@ pub fn push_place(text: &mut String, place: Place) -> Result<(), AllocError>
     match place.standing {
         Standing::Settled => write!(text, "{start}..{end} settled"),
         Standing::Woven(count) => write!(text, "{start}..{end} woven {count}"),
+        Standing::Voted(count) => write!(text, "{start}..{end} voted {count}"),
         Standing::Repaired(count) => write!(text, "{start}..{end} repaired {count}"),
         Standing::Disputed => write!(text, "{start}..{end} disputed"),
         Standing::Missing => write!(text, "{start}..{end} missing"),

@@ -10,7 +10,7 @@ use Rattle.ffv1_weave.specs.declared.weaving.Outcome.TheVariants as outcomes
 use Rattle.ffv1_weave.proofs.WeaveLaws.{same_versions_weave}
 use Rattle.ffv1_weave.proofs.References.{values_of, length-values_of, each_value}
 use Rattle.ffv1_splice.specs.Pieces.{HasContent, IsPiece, IsClaimedStart}
-use Rattle.ffv1_splice.specs.Placing.{written}
+use Rattle.ffv1_weave.specs.Parts.{written}
 use Rattle.ffv1_splice.specs.Standings.{versions_at, sized, IsWeaveFromFront}
 use Rattle.ffv1_splice.proofs.FirstSlices.{front_size, stops_untold, not_woven}
 use Rattle.ffv1_splice.proofs.first.first_before.Goals as goal

@@ -1,5 +1,5 @@
 use Rattle.std.proofs.Common.{◌-◌, ◌≤◌, length, ap, ◌∙◌, arith}
-use Rattle.ffv1_splice.specs.Placing.{written}
+use Rattle.ffv1_weave.specs.Parts.{written}
 use Rattle.ffv1_splice.specs.Standings.{versions_at, IsGap}
 use Rattle.ffv1_splice.specs.declared.place.Standing.TheVariants.{Repaired, Missing}
 use Rattle.ffv1_weave.proofs.References.{values_of, each_value}
@@ -21,8 +21,8 @@ returns-in_default c =
     each_value c.args.copies.now (λ copy. c.args.end ≤ length copy) c.requires.within in
     let gap : IsGap (values_of c.args.copies.now) c.args.start c.args.end c.least_at.result.now =
     record { told = c.requires.missed.1.told; least = c.least_at.ensures } in
-    let missing = is_missing (values_of c.args.copies.now) c.args.start c.args.end (values_of c.args.versions.now) c.requires.versions c.requires.missed
-    c.in_ok-repaired.field-0 c.in_ok-repaired.ensures c.in_default.not-Some in
+    let missing = is_missing (values_of c.args.copies.now) c.args.start c.args.end (values_of c.args.versions.now) c.requires.versions
+    c.in_ok-repaired.field-0 c.requires.missed c.requires.unvoted c.in_ok-repaired.ensures c.in_default.not-Some in
     placed_as (values_of c.args.copies.now) c.args.start c.args.end c.args.payload.now c.write_at.new.payload c.least_at.result.now Missing (missing, gap)
     (gap_size (values_of c.args.copies.now) c.args.start c.args.end c.least_at.result.now reach gap) c.write_at.ensures
 
@@ -30,8 +30,8 @@ pub write_at-requires-2 : goal.write_at-requires-2
 write_at-requires-2 c =
     let reach : AllReach (values_of c.args.copies.now) c.args.end =
     each_value c.args.copies.now (λ copy. c.args.end ≤ length copy) c.requires.within in
-    let repaired = is_repaired (values_of c.args.copies.now) c.args.start c.args.end (values_of c.args.versions.now) c.requires.versions c.requires.missed
-    c.in_ok-repaired.field-0 c.in_ok-repaired.ensures c.in-Some.repaired c.in-Some.count c.in-Some.is in
+    let repaired = is_repaired (values_of c.args.copies.now) c.args.start c.args.end (values_of c.args.versions.now) c.requires.versions
+    c.in_ok-repaired.field-0 c.requires.missed c.requires.unvoted c.in_ok-repaired.ensures c.in-Some.repaired c.in-Some.count c.in-Some.is in
     let size = repair_size (values_of c.args.copies.now) c.args.start c.args.end c.in-Some.repaired.items c.in-Some.count reach repaired in
     let same = ap length c.as_slice.ensures.value in
     omega arith
@@ -40,8 +40,8 @@ pub returns : goal.returns
 returns c =
     let reach : AllReach (values_of c.args.copies.now) c.args.end =
     each_value c.args.copies.now (λ copy. c.args.end ≤ length copy) c.requires.within in
-    let repaired = is_repaired (values_of c.args.copies.now) c.args.start c.args.end (values_of c.args.versions.now) c.requires.versions c.requires.missed
-    c.in_ok-repaired.field-0 c.in_ok-repaired.ensures c.in-Some.repaired c.in-Some.count c.in-Some.is in
+    let repaired = is_repaired (values_of c.args.copies.now) c.args.start c.args.end (values_of c.args.versions.now) c.requires.versions
+    c.in_ok-repaired.field-0 c.requires.missed c.requires.unvoted c.in_ok-repaired.ensures c.in-Some.repaired c.in-Some.count c.in-Some.is in
     placed_as (values_of c.args.copies.now) c.args.start c.args.end c.args.payload.now c.write_at-2.new.payload c.in-Some.repaired.items
     (Repaired c.in-Some.count) repaired
     (repair_size (values_of c.args.copies.now) c.args.start c.args.end c.in-Some.repaired.items c.in-Some.count reach repaired)

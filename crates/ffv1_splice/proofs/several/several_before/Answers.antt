@@ -1,7 +1,7 @@
 use Rattle.std.proofs.Common.{◌≤◌, ℕ, List, length, refl, ap, subst, ◌∙◌, inr, arith}
 use Rattle.ffv1_weave.proofs.References.{values_of, each_value}
 use Rattle.ffv1_splice.specs.Pieces.{IsPiece, IsClaimedStart}
-use Rattle.ffv1_splice.specs.Placing.{written}
+use Rattle.ffv1_weave.specs.Parts.{written}
 use Rattle.ffv1_splice.specs.Several.{AreTriedBefore, tried_told}
 use Rattle.ffv1_splice.proofs.PlaceSteps.{none_not_only, two_not_only, two_not_none}
 use Rattle.ffv1_splice.proofs.FirstSlices.{several_size}
