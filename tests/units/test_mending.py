@@ -16,6 +16,7 @@ stretch 2 crc32 woven 2 00-
   0..844 settled 01-
   end whole
   part 3
+  90..99 voted 4 00-
   80..90 repaired 80 00-
   70..80 missing 00-
   end broken at 70
@@ -39,7 +40,7 @@ class ReaderTest(unittest.TestCase):
     def test_each_stretch_with_its_slices(self):
         parts = {
             0: (Place(4515, 6117, "settled", 0, "10-"), Place(844, 4515, "woven", 4, "00-"), Place(0, 844, "settled", 0, "01-")),
-            2: (Place(80, 90, "repaired", 80, "00-"), Place(70, 80, "missing", 0, "00-"), Place(0, 70, "broken")),
+            2: (Place(90, 99, "voted", 4, "00-"), Place(80, 90, "repaired", 80, "00-"), Place(70, 80, "missing", 0, "00-"), Place(0, 70, "broken")),
         }
         wanted = [
             Outcome(0, State.WHOLE, 0, "11-"),

@@ -1,4 +1,4 @@
-"""Frames with repaired slices, and whether they decode."""
+"""Frames with guessed slices, and whether they decode."""
 import os
 import pathlib
 import stat
@@ -7,7 +7,7 @@ import unittest
 import unittest.mock
 
 import readings
-from .test_verdict import element, missing, plain, recording, repaired, settled, verdict, whys
+from .test_verdict import element, missing, plain, recording, repaired, settled, verdict, voted, whys
 from mend_reel.fates import Fate
 from mend_reel.model import Content, Frame, Outcome, State, Track
 from mend_reel.reasons import Why
@@ -35,6 +35,10 @@ class DecodedTest(unittest.TestCase):
         outcomes = [Outcome(element(number), State.MISSING, 0, "00", {0: SLICES}) for number in (1, 3)]
         self.assertEqual(self.decoded(layout, outcomes), ({724, 1748}, [(1, 724, 0), (1, 1748, 0)]))
         self.assertEqual(self.decoded(layout, outcomes, False), (set(), [(1, 724, 0), (1, 1748, 0)]))
+
+    def test_a_frame_with_a_voted_slice_is_asked_about(self):
+        outcome = Outcome(element(1), State.MISSING, 0, "00", {0: (settled("11", 100), voted("00", 0, 100))})
+        self.assertEqual(self.decoded(recording(), [outcome]), ({724}, [(1, 724, 0)]))
 
     def test_others_are_not(self):
         slices = (missing("00", 100), repaired("00", 0, 100)), (settled("11", 100), settled("01", 0, 100))

@@ -8,7 +8,7 @@ import re
 import unittest
 from unittest import mock
 
-from .test_verdict import element, missing, plain, recording, repaired, settled, undivided
+from .test_verdict import element, missing, plain, recording, repaired, settled, undivided, voted
 from mend_reel import machine, report, timeline
 from mend_reel.account import Account, CopyFacts, Role
 from mend_reel.digests import Compared
@@ -122,6 +122,11 @@ class PageTest(unittest.TestCase):
         slices = (settled("11", 100), repaired("00", 0, 100))
         _, words = self.page(account(recording(), Outcome(element(1), State.MISSING, 0, "00", {0: slices})))
         self.assertIn("0 to 100: one wrong bit inverted, one of 2400 repairs", words)
+
+    def test_a_voted_slice_is_shown(self):
+        slices = (settled("11", 100), voted("00", 0, 100))
+        _, words = self.page(account(recording(), Outcome(element(1), State.MISSING, 0, "00", {0: slices})))
+        self.assertIn("0 to 100: what most copies have, one of 4 combinations", words)
 
     def test_a_repaired_slice_of_a_frame_that_decodes_is_shown(self):
         slices = (settled("11", 100), repaired("00", 0, 100))

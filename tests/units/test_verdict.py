@@ -67,6 +67,10 @@ def repaired(marks="00", start=0, end=300):
     return Place(start, end, "repaired", 2400, marks)
 
 
+def voted(marks="00", start=0, end=300):
+    return Place(start, end, "voted", 4, marks)
+
+
 def undivided(marks="10", start=0, end=300):
     return Place(start, end, "undivided", 0, marks)
 
@@ -219,6 +223,13 @@ class VerdictTest(unittest.TestCase):
         self.assertEqual((whys(found), found.status), ([Why.REPAIRED, Why.DAMAGED], 3))
         self.assertEqual(found.reasons[0].text(), "frame 1 (0:00:00.040, bytes 724 to 1024): damaged in every copy; OUT has it with inverted bits, "
                          "one in a slice, by which all slices pass. That can be by chance; a further copy may restore it")
+
+    def test_voted_slices(self):
+        slices = [(settled("11", 100), voted("00", 0, 100)), (missing("00", 100), voted("00", 0, 100)), (repaired("00", 100), voted("00", 0, 100))]
+        found = verdict(recording(), *(Outcome(element(number), State.MISSING, 0, "00", {0: each}) for number, each in enumerate(slices, 1)))
+        self.assertEqual((whys(found), found.status), ([Why.VOTED, Why.DAMAGED, Why.GUESSED], 3))
+        self.assertEqual(found.reasons[0].text(), "frame 1 (0:00:00.040, bytes 724 to 1024): damaged in every copy; OUT has it as most copies have "
+                         "each part of a slice, by which all slices pass. That can be by chance; a further copy may restore it")
 
     def test_one_copy(self):
         layout = recording()

@@ -10,6 +10,7 @@ import typing
 from .model import Frame, Kind, Layout, Outcome, Place, State, Stretch
 
 GIVEN = ("settled", "woven")
+GUESSED = ("voted", "repaired")
 
 
 class Fate(enum.Enum):
@@ -71,9 +72,9 @@ def is_given(slices: typing.Sequence[Place]) -> bool:
     return all(place.state in GIVEN for place in slices)
 
 
-def is_repaired(slices: typing.Sequence[Place]) -> bool:
-    """Whether all slices of a frame are settled, woven or repaired, and some are repaired."""
-    return not is_given(slices) and all(place.state in (*GIVEN, "repaired") for place in slices)
+def is_guessed(slices: typing.Sequence[Place]) -> bool:
+    """Whether all slices of a frame are settled, woven or guessed, and some are guessed: voted or repaired."""
+    return not is_given(slices) and all(place.state in (*GIVEN, *GUESSED) for place in slices)
 
 
 def copies_of(marks: str, mark: str, columns: typing.Sequence[int]) -> typing.Set[int]:
@@ -83,7 +84,7 @@ def copies_of(marks: str, mark: str, columns: typing.Sequence[int]) -> typing.Se
 
 class Fates:
     """What became of the frames of a recording. `columns` has the copy that each mark of an outcome is of; `decoded` the places of frames
-    with repaired slices that decode."""
+    with guessed slices that decode."""
 
     def __init__(self, layout: Layout, stretches: typing.Sequence[Stretch], outcomes: typing.Iterable[Outcome],
                  columns: typing.Sequence[int], decoded: typing.AbstractSet[int] = frozenset()) -> None:
@@ -191,7 +192,7 @@ class Fates:
         return self.states[number]
 
     def is_vouched(self, number: int) -> bool:
-        """Whether a checksum or all copies vouch for a stretch, or it is a frame that decodes with repaired slices."""
+        """Whether a checksum or all copies vouch for a stretch, or it is a frame that decodes with guessed slices."""
         return self.states[number].is_good() or self.is_decoded(self.stretches[number])
 
     def is_decoded(self, stretch: Stretch) -> bool:
@@ -207,7 +208,7 @@ class Fates:
         return State.WHOLE if stretch.kind is not Kind.PLAIN else State.AGREED if having > 1 else State.ALONE
 
     def verified(self, number: int, stretch: Stretch) -> int:
-        """How many bytes of a stretch pass a checksum in OUT: all, or those of its frames that are given back, or decode with repaired slices."""
+        """How many bytes of a stretch pass a checksum in OUT: all, or those of its frames that are given back, or decode with guessed slices."""
         if self.state(number) in (State.WHOLE, State.WOVEN) or self.is_decoded(stretch):
             return stretch.size
         if stretch.kind is not Kind.ELEMENT:

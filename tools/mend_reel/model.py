@@ -190,7 +190,7 @@ def open_copy(path: str) -> Copy:
 
 @dataclasses.dataclass(frozen=True)
 class Place:
-    """A slice of a frame as the program tells it: from where to where in the frame, its state (`settled`, `woven`, `repaired`,
+    """A slice of a frame as the program tells it: from where to where in the frame, its state (`settled`, `woven`, `voted`, `repaired`,
     `disputed`, `missing`, or for what its footers do not divide `undivided` between slices, and `broken` at the frame's start), how many
     combinations or repairs were tried, and a mark for each copy."""
 

@@ -1,9 +1,10 @@
-"""Frames with repaired slices: one bit of each such slice is inverted, so that it passes. What decodes besides is taken for right."""
+"""Frames with guessed slices: each of these has what most copies have, or one bit inverted, and so passes. What decodes besides is taken for
+right."""
 from __future__ import annotations
 
 import typing
 
-from .fates import is_repaired
+from .fates import is_guessed
 from .model import Frame, Layout, Outcome, State, Stretch, Track
 from .packets import can_ask
 from .programs import run
@@ -38,7 +39,7 @@ class Decoder:
 
 
 def decoded(layout: Layout, stretches: typing.Sequence[Stretch], outcomes: typing.Sequence[Outcome], decodes: Decodes) -> typing.FrozenSet[int]:
-    """The places of those frames with repaired slices for which no other checksum vouches, and that decode. `stretches` are in the order of
+    """The places of those frames with guessed slices for which no other checksum vouches, and that decode. `stretches` are in the order of
     OUT, which lacks those that no copy has, and `outcomes` have their numbers there."""
     starts, size = [], 0
     for stretch in stretches:
@@ -49,7 +50,7 @@ def decoded(layout: Layout, stretches: typing.Sequence[Stretch], outcomes: typin
         stretch = stretches[outcome.number]
         for part, slices in outcome.slices.items():
             frame = stretch.parts[part]
-            if outcome.state is not State.MISSING or not is_repaired(slices) or frame.track not in tracks:
+            if outcome.state is not State.MISSING or not is_guessed(slices) or frame.track not in tracks:
                 continue
             if decodes(tracks[frame.track], frame, starts[outcome.number] + frame.place - stretch.start):
                 found.add(frame.place)

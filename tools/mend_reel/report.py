@@ -146,6 +146,8 @@ def how_slice(place: Place, columns: typing.Sequence[int]) -> str:
         return ("that of copy " if len(givers) == 1 else "that of copies ") + numbers(givers)
     if place.state == "woven":
         return f"woven from several copies, one of {place.count} combinations"
+    if place.state == "voted":
+        return f"what most copies have, one of {place.count} combinations"
     if place.state == "repaired":
         return f"one wrong bit inverted, one of {place.count} repairs"
     return {"disputed": "different ones pass", "missing": "none passes"}.get(place.state, "the footers do not lead there")

@@ -28,7 +28,7 @@ NOWHERE, MATROSKA = "/dev/null", "matroska"
 @dataclasses.dataclass
 class Made:
     """What was made: the stretches in the order of OUT, what became of those that are not undamaged, by their numbers there, what lies where
-    in OUT when it is read again, its path while it is made, and the places of frames with repaired slices that decode."""
+    in OUT when it is read again, its path while it is made, and the places of frames with guessed slices that decode."""
 
     stretches: typing.List[Stretch]
     outcomes: typing.List[Outcome]
@@ -140,7 +140,7 @@ class Session:
             os.close(file)
         out = open_copy(part)
         try:
-            self.progress.begin("decoding repaired frames")
+            self.progress.begin("decoding frames with voted or repaired slices")
             decoded = repairs.decoded(layout, *mended, repairs.Decoder(os.path.abspath(part)))
             return Made(*mended, matching.describe([out], self.judge, False), part, decoded)
         finally:

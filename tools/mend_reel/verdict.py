@@ -6,7 +6,7 @@ import dataclasses
 import typing
 
 from .completeness import Seen, find_lacks
-from .fates import Counts, Fate, Fates, FrameFate, Sums, is_repaired
+from .fates import Counts, Fate, Fates, FrameFate, GUESSED, Sums, is_guessed
 from .matching import Left, Matched
 from .model import Because, Content, Kind, Layout, Outcome, State, Stretch, Told, Track
 from .reasons import Reason, Why, join
@@ -21,7 +21,7 @@ class Evidence:
     """What the verdict is judged by: what OUT was made by and its stretches as they were listed; what became of those that are not undamaged;
     what lies where in OUT as it was read again (None where nothing can be read); what the containers of copies tell of the recording; copies
     that are other files; copies that are left out; which copy each mark of an outcome is of; the tracks of the other files; whether
-    damaged element headers of copies were left out; and the places of frames with repaired slices that decode."""
+    damaged element headers of copies were left out; and the places of frames with guessed slices that decode."""
 
     layout: Layout
     stretches: typing.Sequence[Stretch]
@@ -140,7 +140,7 @@ def of_stretch(stretch: Stretch, state: State, lost: typing.Sequence[FrameFate],
         yield of_bytes(Why.DISPUTED, stretch, source)
     elif lost:
         for frame in lost:
-            why = Why.DISPUTED if is_disputed(frame) else Why.REPAIRED if is_repaired(frame.slices) else damaged
+            why = Why.DISPUTED if is_disputed(frame) else guess_of(frame) or damaged
             yield of_frame(why, frame, source)
     elif stretch.kind is Kind.ELEMENT and stretch.what.content in OF_CLUSTERS and having > 1:
         yield of_bytes(Why.BESIDE, stretch)
@@ -150,6 +150,14 @@ def of_stretch(stretch: Stretch, state: State, lost: typing.Sequence[FrameFate],
 
 def is_disputed(frame: FrameFate) -> bool:
     return any(place.state == "disputed" for place in frame.slices)
+
+
+def guess_of(frame: FrameFate) -> typing.Optional[Why]:
+    """By what guesses a frame is put together, if it is by some."""
+    if not is_guessed(frame.slices):
+        return None
+    voted, repaired = (any(place.state == state for place in frame.slices) for state in GUESSED)
+    return Why.GUESSED if voted and repaired else Why.VOTED if voted else Why.REPAIRED
 
 
 def of_frame(why: Why, fate: FrameFate, source: typing.Optional[int]) -> Reason:
