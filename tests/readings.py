@@ -453,6 +453,26 @@ def woven(versions, is_valid):
     return number, [whole for whole in wholes if is_valid(whole)]
 
 
+def most_common(versions, start, end):
+    """The byte strings that most of some different versions have between two places."""
+    counts = collections.Counter(version[start:end] for version in versions)
+    return {piece for piece, count in counts.items() if count == max(counts.values())}
+
+
+def voted(versions):
+    """How many byte strings have in each segment what most versions have there, at each distance at which they are few enough to be tried; and
+    those that are slices. Fewer than three different versions do not vote."""
+    distinct, number, found = sorted(set(versions)), 0, set()
+    for distance in DISTANCES if len(distinct) > 2 else ():
+        bounds = sorted({0, len(distinct[0])} | seams(distinct, distance))
+        most = [most_common(distinct, start, end) for start, end in itertools.pairwise(bounds)]
+        count = math.prod(map(len, most))
+        if count <= MOST_COMBINATIONS:
+            number += count
+            found |= {whole for whole in map(b"".join, itertools.product(*most)) if is_slice(whole)}
+    return number, found
+
+
 DIVISOR = 0x104C11DB7
 # What a bit changes of the parity, the last bit first: each twice what the one after it does, less the divisor where that goes past it.
 CHANGES = [parity(b"\x01")]
@@ -556,8 +576,10 @@ def place_before(copies, end):
         return f"woven {number}", slices[0]
     if pieces or slices:
         return "disputed", versions[0]
-    number, slices = repaired(versions)
-    return (f"repaired {number}", *slices) if len(slices) == 1 else ("missing", versions[0])
+    for word, (number, slices) in ("voted", voted(versions)), ("repaired", repaired(versions)):
+        if len(slices) == 1:
+            return f"{word} {number}", *slices
+    return "missing", versions[0]
 
 
 def divided(copies):
@@ -717,10 +739,11 @@ def with_part(content, offset, piece):
 
 
 def improved(versions, parts, splices):
-    """The versions of an element, each with the bytes of all settled, woven and repaired places of the splices of its parts."""
+    """The versions of an element, each with the bytes of all settled, woven, voted and repaired places of the splices of its
+    parts."""
     for (offset, _), splice in zip(parts, splices):
         for start, end, stands in splice.places:
-            if is_sure(stands) or stands.startswith("repaired"):
+            if is_sure(stands) or stands.startswith(("voted", "repaired")):
                 versions = {with_part(version, offset + start, splice.payload[start:end]) for version in versions}
     return sorted(versions)
 

@@ -1,4 +1,4 @@
-//! Tests of the public calls that read and make bits, codes, records, slices, tiles and frames, and weave and repair slices: worked
+//! Tests of the public calls that read and make bits, codes, records, slices, tiles and frames, and weave, vote on and repair slices: worked
 //! rows, recorded frames, made ones, and the greatest.
 #![tactic(auto)]
 
@@ -26,5 +26,7 @@ mod repair;
 mod rice;
 #[cfg(test)]
 mod slice;
+#[cfg(test)]
+mod vote;
 #[cfg(test)]
 mod weave;

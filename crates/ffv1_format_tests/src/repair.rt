@@ -1,12 +1,19 @@
 //! Slices of which one bit is wrong in all versions.
 use crate::parity::with_parity;
 use crate::weave::{Damage, version_of};
-use ffv1_weave::{MOST_REPAIRS, repair};
+use ffv1_weave::{MOST_REPAIRS, repair, vote};
 use std::alloc::{AllocError, Global};
 
-/// What comes of repairing versions of a slice.
+/// A call that tries what may be a slice where no combination of its versions is one.
+#[derive(Clone, Copy)]
+pub(crate) enum Call {
+    Repair,
+    Vote,
+}
+
+/// What comes of such a call on versions of a slice.
 #[derive(Clone, Copy, PartialEq, Eq)]
-enum Told {
+pub(crate) enum Told {
     /// The slice itself, of so many that were tried.
     Slice(usize),
     Other,
@@ -15,8 +22,13 @@ enum Told {
     Uneven,
 }
 
-/// What comes of repairing these versions of a slice.
-fn told_of(alloc: Global, slice: &[u8], versions: &[&[u8]]) -> Result<Told, AllocError> {
+/// What comes of the call on these versions of a slice.
+fn told_of(
+    alloc: Global,
+    call: Call,
+    slice: &[u8],
+    versions: &[&[u8]],
+) -> Result<Told, AllocError> {
     if versions.is_empty()
         || !versions
             .iter()
@@ -24,15 +36,23 @@ fn told_of(alloc: Global, slice: &[u8], versions: &[&[u8]]) -> Result<Told, Allo
     {
         return Ok(Told::Uneven);
     }
-    Ok(match repair(alloc, versions)? {
+    let answer = match call {
+        Call::Repair => repair(alloc, versions)?,
+        Call::Vote => vote(alloc, versions)?,
+    };
+    Ok(match answer {
         Some((bytes, count)) if bytes.as_slice() == slice => Told::Slice(count),
         Some(_) => Told::Other,
         None => Told::Nothing,
     })
 }
 
-/// What comes of repairing the slice's versions with these damages.
-fn told_of_damages(alloc: Global, damages: &[Damage<'_>]) -> Result<Told, AllocError> {
+/// What comes of the call on the slice's versions with these damages.
+pub(crate) fn told_of_damages(
+    alloc: Global,
+    call: Call,
+    damages: &[Damage<'_>],
+) -> Result<Told, AllocError> {
     let slice = version_of(alloc, &[])?;
     let mut copies = Vec::new(alloc);
     for damage in damages {
@@ -42,7 +62,7 @@ fn told_of_damages(alloc: Global, damages: &[Damage<'_>]) -> Result<Told, AllocE
     for copy in copies.as_slice() {
         versions.push(copy.as_slice())?;
     }
-    told_of(alloc, &slice, &versions)
+    told_of(alloc, call, &slice, &versions)
 }
 
 /// How many bits the slice has. It has 1029 bytes of content, 3 of its size, its status, and 4 of its parity.
@@ -103,7 +123,7 @@ static ROWS: [(&[Damage<'static>], Told); 16] = [
 #[test]
 fn one_wrong_bit_is_repaired(rt: HostRuntime) {
     for &(damages, told) in &ROWS {
-        assert!(rt; told_of_damages(rt.alloc(), damages) == Ok(told));
+        assert!(rt; told_of_damages(rt.alloc(), Call::Repair, damages) == Ok(told));
     }
 }
 
@@ -125,7 +145,7 @@ fn told_of_content(alloc: Global, content: u32) -> Result<Told, AllocError> {
     if let Some(byte) = version.first_mut() {
         *byte ^= 0x80;
     }
-    told_of(alloc, &slice, &[&version])
+    told_of(alloc, Call::Repair, &slice, &[&version])
 }
 
 #[test]

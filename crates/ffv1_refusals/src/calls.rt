@@ -13,7 +13,7 @@ use ffv1_plane::{TileFault, decode_tile};
 use ffv1_range::{Setup, SetupFault};
 use ffv1_slice::content_of;
 use ffv1_splice::{SpliceFault, splice};
-use ffv1_weave::{Check, Outcome as Woven, repair, weave};
+use ffv1_weave::{Check, Outcome as Woven, repair, vote, weave};
 use std::alloc::Global;
 use std::io;
 use std::io::ErrorKind;
@@ -405,6 +405,30 @@ impl Attempt for Repair {
         other[250] ^= 1;
         match repair(alloc, &[&one[LAST_SLICE..], &other[LAST_SLICE..]]) {
             Ok(Some((bytes, 3488))) if bytes.as_slice() == &RECORDED[LAST_SLICE..] => {
+                Outcome::Answer(remainder(&bytes))
+            }
+            Ok(_) => Outcome::Wrong,
+            Err(_) => Outcome::Memory,
+        }
+    }
+}
+
+/// `vote` of the last slice of both torn copies and a third one, each damaged in another place.
+#[derive(Drop)]
+pub struct Vote;
+
+impl Attempt for Vote {
+    fn attempt(&mut self, alloc: Global) -> Outcome {
+        let [one, other] = torn_copies();
+        let mut third = RECORDED;
+        third[260] ^= 1;
+        let versions = [
+            &one[LAST_SLICE..],
+            &other[LAST_SLICE..],
+            &third[LAST_SLICE..],
+        ];
+        match vote(alloc, &versions) {
+            Ok(Some((bytes, 4))) if bytes.as_slice() == &RECORDED[LAST_SLICE..] => {
                 Outcome::Answer(remainder(&bytes))
             }
             Ok(_) => Outcome::Wrong,

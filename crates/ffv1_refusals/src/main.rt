@@ -16,7 +16,7 @@ mod stock;
 use attempt::{Attempt, Outcome};
 use calls::{
     DecodeFrame, DecodeTile, JoinStreams, JoinWith, MakeDecoder, MakeHolding, Picture, ReadHold,
-    ReadSetup, Repair, Report, Restore, Splice, Take, TakeAll, Weave, WriteHold,
+    ReadSetup, Repair, Report, Restore, Splice, Take, TakeAll, Vote, Weave, WriteHold,
 };
 use commands::{Command, Run};
 use mending::{Mend, MendStretches, ReadList};
@@ -75,6 +75,7 @@ fn tell_pictures(rt: &HostRuntime, stock: &Stock) -> io::Result<()> {
 fn tell_splices(rt: &HostRuntime) -> io::Result<()> {
     tell(rt, "weave", Weave)?;
     tell(rt, "repair", Repair)?;
+    tell(rt, "vote", Vote)?;
     tell(rt, "splice", Splice)
 }
 
