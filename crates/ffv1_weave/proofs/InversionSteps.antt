@@ -3,12 +3,13 @@ use Rattle.std.proofs.Common.{◌≡◌, ℕ, zero, suc, ◌+◌, ◌-◌, ◌*�
 use Rattle.std.specs.Prelude.{Contains}
 use Rattle.std.proofs.lemmas.Bool.{cases_lt}
 use Rattle.ffv1_slice.proofs.Links.{Contains-head, Contains-cons}
+use Rattle.ffv1_weave.specs.Checks.{PassesBy}
 use Rattle.ffv1_weave.specs.Found.{IsFoundAmong}
 use Rattle.ffv1_weave.specs.Inversions.{inversions_from, inversions}
 use Rattle.ffv1_weave.specs.Repairs.{inverted}
 use Rattle.ffv1_weave.specs.declared.check.Check.TheVariants.{Slice}
 use Rattle.ffv1_weave.specs.declared.found.Found.{Found}
-use Rattle.ffv1_weave.proofs.FoundSteps.{more_cases}
+use Rattle.ffv1_weave.proofs.FoundSteps.{more_cases, found_skipped}
 
 module _ (bytes : List ℕ) where
   pub inversion_there : (from count bit : ℕ) → from ≤ bit → bit < from + count → Contains (inversions_from bytes from count) (inverted bytes bit)
@@ -39,6 +40,24 @@ found_bit_before bytes bit next tried near inside what h =
     let here : 8 * length bytes - bit ≡ suc (8 * length bytes - next) = omega arith in
     subst (λ n. IsFoundAmong Slice (inversions_from bytes bit n ++ tried) what) (sym here)
     (subst (λ k. IsFoundAmong Slice (inverted bytes bit ∷ (inversions_from bytes k (8 * length bytes - next) ++ tried)) what) (sym near) h)
+
+-- so many bits more, where the bytes with one of them inverted never pass
+pub found_bits_skipped : (bytes : List ℕ) (bit : ℕ) (tried : List (List ℕ)) → bit ≤ 8 * length bytes → (what : Found) (count : ℕ)
+    → ((next : ℕ) → next < bit → bit ≤ next + count → PassesBy Slice (inverted bytes next) → ⊥)
+    → IsFoundAmong Slice (inversions_from bytes bit (8 * length bytes - bit) ++ tried) what
+    → IsFoundAmong Slice (inversions_from bytes (bit - count) (8 * length bytes - (bit - count)) ++ tried) what
+found_bits_skipped bytes bit tried within what zero fails h =
+    let here : bit ≡ bit - 0 = omega arith in
+    subst (λ b. IsFoundAmong Slice (inversions_from bytes b (8 * length bytes - b) ++ tried) what) here h
+found_bits_skipped bytes bit tried within what (suc count) fails h =
+    let fewer = found_bits_skipped bytes bit tried within what count (λ next low high. fails next low (omega arith)) h in
+    elim (cases_lt count bit) [
+      | inl more ↦ found_bit_before bytes (bit - suc count) (bit - count) tried (omega arith) (omega arith) what
+          (found_skipped Slice (inverted bytes (bit - suc count)) (inversions_from bytes (bit - count) (8 * length bytes - (bit - count)) ++ tried)
+          (fails (bit - suc count) (omega arith) (omega arith)) what fewer)
+      | inr none ↦ let same : bit - count ≡ bit - suc count = omega arith in
+          subst (λ b. IsFoundAmong Slice (inversions_from bytes b (8 * length bytes - b) ++ tried) what) same fewer
+    ]
 
 pub found_all_bits : (bytes first : List ℕ) (bit : ℕ) (tried : List (List ℕ)) → bit ≡ 0 → bytes ≡ first → (what : Found)
     → IsFoundAmong Slice (inversions_from bytes bit (8 * length bytes - bit) ++ tried) what → IsFoundAmong Slice (inversions first ++ tried) what

@@ -1,12 +1,12 @@
 //! Bytes with one bit inverted: which of them are slices with their parity. Where a bit is inverted the remainder changes by a power of x,
 //! and only where that is all that is left of the bytes are they looked at.
-ghost use Rattle.std.specs.Prelude.{◌≡◌, ◌+◌, ◌-◌, ◌*◌, ◌<◌, ◌≤◌, ℕ, List, ◌∷◌, ◌++◌, length, slice_index, IfOk};
+ghost use Rattle.std.specs.Prelude.{◌≡◌, ◌+◌, ◌-◌, ◌*◌, ◌%◌, ◌<◌, ◌≤◌, ℕ, true, false, List, ◌∷◌, ◌++◌, length, slice_index, slice_index_or, IfOk};
 ghost use Rattle.ffv1_bits.specs.Bits.{bits_of};
 ghost use Rattle.ffv1_bits.specs.Parity.{reduced_at, remainder_of};
 ghost use Rattle.ffv1_weave.specs.Repairs.{inverted};
 ghost use Rattle.ffv1_weave.specs.Found.{IsFoundAmong};
 ghost use Rattle.ffv1_weave.specs.Inversions.{inversions_from, inversions, times_x};
-ghost use Rattle.ffv1_weave.specs.declared.inversions.TheConstants.{WIDTH};
+ghost use Rattle.ffv1_weave.specs.declared.inversions.TheConstants.{WIDTH, MARKS};
 ghost use Rattle.ffv1_weave.specs.declared.check.Check.TheVariants.{Slice};
 ghost use Rattle.ffv1_weave.specs.declared.repairing.TheConstants.{MOST_REPAIRS};
 
@@ -20,6 +20,9 @@ const LOW_DIVISOR: u32 = 0x04C11DB7;
 
 /// So many bits are tried beside each other.
 const WIDTH: usize = 64;
+
+/// Numbers are marked by their remainder of division by this one.
+const MARKS: usize = 1024;
 
 /// Inverts a bit.
 fn invert(bytes: &mut [u8], bit: usize)
@@ -71,6 +74,17 @@ fn shifts(left: u32) -> [u32; WIDTH]
     shifts
 }
 
+/// Marks the shifts: a number whose mark is missing is none of them.
+fn marked(shifts: &[u32; WIDTH]) -> [bool; MARKS]
+    ensures { (j : ℕ) → j < WIDTH → slice_index_or result (slice_index shifts.now j % MARKS) false ≡ true }
+{
+    let mut marks = [false; MARKS];
+    for shift in shifts {
+        marks[*shift as usize % MARKS] = true;
+    }
+    marks
+}
+
 /// What is found where the bytes with one of the `WIDTH` bits before this one inverted are tried too, each in turn, or one of all bits before it
 /// if they are fewer. With a bit inverted, nothing is left of the bytes only if what is left of them is the power of x of that bit. Then the
 /// power for `WIDTH` bits before this one is one of its shifts.
@@ -108,11 +122,14 @@ pub(crate) fn with_inversions(
     ensures found { IfOk result (λ more. (tried : List (List ℕ)) → IsFoundAmong Slice tried found → IsFoundAmong Slice (inversions bytes.old ++ tried) more) }
 {
     let shifts = shifts(remainder(bytes));
+    let marks = marked(&shifts);
     let mut power = 1;
     let mut bit = 8 * bytes.len();
     while 0 < bit {
         power = remainder_after(power, &[0; WIDTH / 8]);
-        found = with_bits_before(alloc, bytes, &shifts, power, bit, found)?;
+        if marks[power as usize % MARKS] {
+            found = with_bits_before(alloc, bytes, &shifts, power, bit, found)?;
+        }
         bit = bit.saturating_sub(WIDTH);
     }
     Ok(found)
