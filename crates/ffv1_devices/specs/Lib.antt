@@ -1,5 +1,4 @@
 pub mod Exact
-pub mod Files
 pub mod Logs
 pub mod Results
 pub mod Streams

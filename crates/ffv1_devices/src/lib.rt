@@ -4,14 +4,12 @@
 
 mod exact;
 mod failures;
-mod files;
 mod reads;
 mod streams;
 mod whole;
 mod writes;
 
 pub use exact::{CutShort, NextFault, fill, pass_over, read_next};
-pub use files::{InputFile, OutputFile};
 pub use reads::{ReadFailed, next_byte, read_full, read_some};
 pub use streams::{FromRead, FromWrite, Sink, Source, ThroughWrite};
 pub use whole::{WholeFault, read_whole};

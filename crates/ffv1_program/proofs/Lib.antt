@@ -1,0 +1,4 @@
+pub mod Equals
+pub mod Words
+pub mod Zips
+pub mod Begun

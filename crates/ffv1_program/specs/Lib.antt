@@ -1,0 +1,21 @@
+pub mod Merging
+pub mod Splicing
+pub mod Running
+-- those that the commands and their faults are told by
+pub use Rattle.ffv1_commands.specs.Paths
+pub use Rattle.ffv1_commands.specs.Fault
+pub use Rattle.ffv1_commands.specs.Devices
+pub use Rattle.ffv1_commands.specs.Lists
+pub use Rattle.ffv1_commands.specs.ChainText
+pub use Rattle.ffv1_commands.specs.ScanText
+pub use Rattle.ffv1_commands.specs.ShowText
+pub use Rattle.ffv1_commands.specs.TakeText
+pub use Rattle.ffv1_commands.specs.JoinText
+pub use Rattle.ffv1_commands.specs.MergeText
+pub use Rattle.ffv1_commands.specs.ReportedText
+pub use Rattle.ffv1_commands.specs.RestoreText
+pub use Rattle.ffv1_commands.specs.PictureText
+pub use Rattle.ffv1_commands.specs.SpliceText
+pub use Rattle.ffv1_commands.specs.MendText
+pub use Rattle.ffv1_commands.specs.DecodeText
+pub use Rattle.ffv1_words.specs.WordPaths

@@ -1,0 +1,30 @@
+-- Why `splice` and `mend` stopped, which make their file where nothing was written to it.
+use Rattle.std.specs.Prelude.{ℕ, ◌≡◌, ◌⊎◌, Bool, List, [], map, Option}
+use Rattle.std.specs.List.{Contains}
+use Rattle.std.specs.Borrow.{Bor}
+use Rattle.ffv1_commands.specs.SpliceText.{SplicesCopies, SpliceStops}
+use Rattle.ffv1_commands.specs.MendText.{MendsFiles, MendStops}
+use Rattle.ffv1_commands.specs.declared.fault.CliFault.{CliFault}
+use Rattle.ffv1_commands.specs.declared.fault.CliFault.TheVariants as faults
+use Rattle.ffv1_commands.specs.declared.path.CommandPath.TheVariants as paths
+
+-- All was done, whatever the answer, but for making the file.
+abbrev pub IsUnmade : (Bool → Type 0) → CliFault → Type 0
+IsUnmade Done fault = (fault ≡ faults.Write paths.Out) × ((answer : Bool) × Done answer)
+
+-- Why copies were not spliced: there is none; or splicing them stopped; or all was done, but the file was not made.
+abbrev pub StopsSplicing : List (Option (List ℕ)) → (out_before out_after printed_before printed_after : Option (List ℕ)) → CliFault → Type 0
+StopsSplicing copies out_before out_after printed_before printed_after fault =
+    ((copies ≡ []) × (fault ≡ faults.Words)) ⊎ SpliceStops copies out_before out_after printed_before printed_after fault
+    ⊎ IsUnmade (SplicesCopies copies out_before out_after printed_before printed_after) fault
+
+-- Why a file was not mended: it is refused, as it is one of the inputs; or mending it stopped; or all was done, but the file was not made.
+abbrev pub StopsMendingFiles : (refused : Type 0) → (list : Option (List ℕ)) → List (Option (List ℕ))
+    → (out_before out_after printed_before printed_after : Option (List ℕ)) → CliFault → Type 0
+StopsMendingFiles refused list copies out_before out_after printed_before printed_after fault =
+    (refused × (fault ≡ faults.Write paths.Out)) ⊎ MendStops list copies out_before out_after printed_before printed_after fault
+    ⊎ IsUnmade (MendsFiles list copies out_before out_after printed_before printed_after) fault
+
+-- The word of the file that is made is that of the list, or of a copy.
+abbrev pub IsInput : (out list : List ℕ) (copies : List (Bor (List ℕ))) → Type 0
+IsInput out list copies = (out ≡ list) ⊎ Contains (map (λ copy. copy.now) copies) out

@@ -1,0 +1,116 @@
+//! A command of words, run on the files that they name (own).
+ghost use Rattle.std.specs.Prelude.{◌≡◌, IfOk, IfErr, IsErrOf, MatchResult, true};
+ghost use Rattle.std.specs.Io.KnownBytes.{Appends};
+ghost use Rattle.ffv1_help.specs.Texts.{help_text, version_text};
+ghost use Rattle.ffv1_commands.specs.Fault.{NamesPath};
+ghost use Rattle.ffv1_words.specs.WordPaths.{IsPathOf};
+ghost use Rattle.ffv1_program.specs.Running.{out_word, IfNoneMade, IfAlwaysMade, IsRefused, DoesCommand, StopsCommand, StopsPrinting, KeepsAtFault};
+
+use crate::files::{FileSystem, MakeFile};
+use crate::frames::{chain_file, scan_files, show_record, splice_files};
+use crate::holdings::{join_files, merge_files, report_file, restore_file, take_files};
+use crate::pictures::{decode_files, picture_file};
+use crate::stretches::mend_files;
+use ffv1_commands::{CliFault, CommandPath};
+use ffv1_help::{run_help, run_version};
+use ffv1_words::Words;
+use std::alloc::Global;
+use std::io::Write;
+
+/// The word of the file that a command makes, which is empty where it makes none.
+pub fn out_word<'a>(words: &Words<'a>) -> &'a str
+    ensures { result.now ≡ out_word words.now }
+{
+    match words {
+        Words::Take { out, .. }
+        | Words::Join { out, .. }
+        | Words::Merge { out, .. }
+        | Words::Restore { out, .. }
+        | Words::Picture { out, .. }
+        | Words::Splice { out, .. }
+        | Words::Mend { out, .. }
+        | Words::Decode { out, .. } => *out,
+        _ => "",
+    }
+}
+
+/// Prints the help. If that fails, standard output is at fault.
+fn print_help<W: Write>(output: &mut W) -> Result<(), CliFault>
+    ensures told { MatchResult result (λ _. Appends (W.contents output.old) (W.contents output.new) help_text)
+        (StopsPrinting help_text (W.contents output.old) (W.contents output.new)) }
+    ensures names { IfErr result (NamesPath (λ path. path ≡ CommandPath.StandardOutput)) }
+{
+    match run_help(output) {
+        Ok(()) => Ok(()),
+        Err(_) => Err(CliFault::Write(CommandPath::StandardOutput)),
+    }
+}
+
+/// Prints the version. If that fails, standard output is at fault.
+fn print_version<W: Write>(output: &mut W) -> Result<(), CliFault>
+    ensures told { MatchResult result (λ _. Appends (W.contents output.old) (W.contents output.new) version_text)
+        (StopsPrinting version_text (W.contents output.old) (W.contents output.new)) }
+    ensures names { IfErr result (NamesPath (λ path. path ≡ CommandPath.StandardOutput)) }
+{
+    match run_version(output) {
+        Ok(()) => Ok(()),
+        Err(_) => Err(CliFault::Write(CommandPath::StandardOutput)),
+    }
+}
+
+/// Runs a command on the files that its words name; `made` is the one that it makes. Answers `false` where `picture` wrote its file and some
+/// tile has no samples, or `splice` its own and not all of the frame is given back, or `mend` its own and a stretch is missing, disputed or
+/// open, or `scan` found a range that is not whole with all its links passing; else `true`.
+///
+/// It stops where the command does. A command that makes no file leaves `made` untouched.
+pub fn run<'a, F: FileSystem<'a>, O: MakeFile, W: Write>(
+    alloc: Global,
+    files: &F,
+    words: &Words<'a>,
+    made: &mut O,
+    output: &mut W,
+) -> Result<bool, CliFault>
+    requires { O.is_unmade_at made.old (out_word words.now) }
+    ensures ok { IfOk result (DoesCommand (F.bytes_at files.now) words.now
+        (O.contents made.old) (O.contents made.new) (W.contents output.old) (W.contents output.new)) }
+    ensures err { IfErr result (StopsCommand (F.bytes_at files.now) words.now
+        (O.contents made.old) (O.contents made.new) (W.contents output.old) (W.contents output.new)) }
+    ensures kept { IfErr result (KeepsAtFault words.now (made.new ≡ made.old) (output.new ≡ output.old)) }
+    ensures refused { IsRefused words.now → IsErrOf result (CliFault.Write CommandPath.Out)
+        × (made.new ≡ made.old) × (output.new ≡ output.old) }
+    ensures none_made { IfNoneMade words.now (made.new ≡ made.old) }
+    ensures always_made { IfOk result (λ _. IfAlwaysMade words.now (O.is_made made.new)) }
+    ensures names { IfErr result (NamesPath (IsPathOf words.now)) }
+{
+    match words {
+        Words::Chain { frame } => chain_file(alloc, files, frame, output)?,
+        Words::Scan { ranges, file } => return scan_files(alloc, files, ranges, file, output),
+        Words::Show { recording } => show_record(alloc, files, recording, output)?,
+        Words::Take {
+            recording,
+            copies,
+            ..
+        } => take_files(alloc, files, recording, copies.as_slice(), made, output)?,
+        Words::Join { first, others, .. } => {
+            join_files(alloc, files, first, others.as_slice(), made, output)?
+        }
+        Words::Merge { out, left, right } => merge_files(alloc, files, left, right, out, made)?,
+        Words::Report { file } => report_file(alloc, files, file, output)?,
+        Words::Restore { file, .. } => restore_file(alloc, files, file, made, output)?,
+        Words::Picture { file, .. } => return picture_file(alloc, files, file, made, output),
+        Words::Splice { copies, .. } => {
+            return splice_files(alloc, files, copies.as_slice(), made, output);
+        }
+        Words::Mend { list, out, copies } => {
+            return mend_files(alloc, files, list, copies.as_slice(), out, made, output);
+        }
+        Words::Decode {
+            recording,
+            frame,
+            ..
+        } => decode_files(alloc, files, recording, frame, made, output)?,
+        Words::Help => print_help(output)?,
+        Words::Version => print_version(output)?,
+    }
+    Ok(true)
+}

@@ -1,0 +1,44 @@
+//! The files of a program by their paths (own): those that it reads, and the one that it makes.
+ghost use Rattle.std.specs.Prelude.{◌≡◌, ℕ, List, Option, IfOk};
+
+use std::io;
+use std::io::{Read, Write};
+
+/// A file that is read, and opened at its first read.
+pub trait ReadFile: Read {
+    ghost is_opened: { Self → Type 0 };
+
+    /// Opens the file, if it was not opened yet: so that it is there to be read. Where that fails, the error is why.
+    fn open(&mut self) -> io::Result<()>
+        ensures bytes { Self.remaining self.new ≡ Self.remaining self.old }
+        ensures opened { IfOk result (λ _. is_opened self.new) };
+}
+
+/// The files that are read, by their paths.
+pub trait FileSystem<'a> {
+    type Input: ReadFile + Drop;
+
+    // the bytes of the file of each path, where they are told
+    ghost bytes_at: { Self → List ℕ → Option (List ℕ) };
+
+    // this is the input of that path, of which nothing is read yet
+    ghost is_input_at: { Self → List ℕ → Self.Input → Type 0 };
+
+    /// The file of this path, not opened yet.
+    fn input(&self, path: &'a str) -> Self::Input
+        ensures at { is_input_at self.now path.now result }
+        ensures bytes { Self.Input.remaining result ≡ bytes_at self.now path.now };
+}
+
+/// A file that is made at its first write.
+pub trait MakeFile: Write {
+    // this is the file of that path, which is not made yet
+    ghost is_unmade_at: { Self → List ℕ → Type 0 };
+
+    ghost is_made: { Self → Type 0 };
+
+    /// Makes the file, if it is not made yet: so a file of no bytes is made, to which nothing is written.
+    fn make(&mut self) -> io::Result<()>
+        ensures bytes { Self.contents self.new ≡ Self.contents self.old }
+        ensures made { IfOk result (λ _. is_made self.new) };
+}

@@ -1,0 +1,20 @@
+//! The commands of the program over the files that their words name (own): which file each reads, with which numbers and in which
+//! order, and which file it makes.
+#![tactic(auto)]
+
+mod command;
+mod disk;
+mod files;
+mod frames;
+mod holdings;
+mod inputs;
+mod pictures;
+mod stretches;
+
+pub use command::{out_word, run};
+pub use disk::Disk;
+pub use files::{FileSystem, MakeFile, ReadFile};
+pub use frames::{chain_file, scan_files, show_record, splice_files};
+pub use holdings::{join_files, merge_files, report_file, restore_file, take_files};
+pub use pictures::{decode_files, picture_file};
+pub use stretches::mend_files;

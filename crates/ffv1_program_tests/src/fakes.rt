@@ -1,0 +1,151 @@
+//! Files that tell in which order they are opened and made. The path of each is a digit: that of 0 is not there, and can't be made.
+ghost use Rattle.std.specs.Prelude.{◌≡◌};
+
+use ffv1_program::{FileSystem, MakeFile, ReadFile};
+use std::cell::Cell;
+use std::io;
+use std::io::{ErrorKind, Read, Write};
+
+/// The paths of the files that were opened and made, in their order: the digits of a number.
+#[derive(Drop)]
+pub(crate) struct Order {
+    number: Cell<u32>,
+}
+
+impl Order {
+    /// Of no files.
+    pub(crate) fn new() -> Order {
+        Order {
+            number: Cell::new(0),
+        }
+    }
+
+    /// The number.
+    pub(crate) fn number(&self) -> u32 {
+        self.number.get()
+    }
+
+    /// Adds a file of this path, which fails for that of 0.
+    fn add(&self, path: &str) -> io::Result<()> {
+        let digit = path.parse::<u8>().unwrap_or(0);
+        if digit == 0 {
+            return Err(io::Error::from(ErrorKind::NotFound));
+        }
+        let number = self.number.get().wrapping_mul(10);
+        self.number.set(number.wrapping_add(u32::from(digit)));
+        Ok(())
+    }
+}
+
+/// Files that are read: the one of the path 1 has bytes of its own, and all others have the same.
+#[derive(Drop)]
+pub(crate) struct Fakes<'a> {
+    pub(crate) order: &'a Order,
+    pub(crate) first: &'a [u8],
+    pub(crate) others: &'a [u8],
+}
+
+/// A file that is read.
+#[derive(Drop)]
+pub(crate) struct FakeInput<'a> {
+    order: &'a Order,
+    path: &'a str,
+    left: &'a [u8],
+    is_open: bool,
+}
+
+impl Read for FakeInput<'_> {
+    ghost use Rattle.std.specs.Prelude.{Some};
+
+    ghost remaining = { λ file. Some file.left.now };
+
+    fn read(&mut self, buf: &mut [u8]) -> io::Result<usize> {
+        self.open()?;
+        let mut left = self.left;
+        let count = left.read(buf)?;
+        self.left = left;
+        Ok(count)
+    }
+}
+
+impl ReadFile for FakeInput<'_> {
+    ghost use Rattle.std.specs.Prelude.{◌≡◌, true};
+
+    ghost is_opened = { λ file. file.is_open ≡ true };
+
+    fn open(&mut self) -> io::Result<()> {
+        if !self.is_open {
+            self.order.add(self.path)?;
+            self.is_open = true;
+        }
+        Ok(())
+    }
+}
+
+impl<'a> FileSystem<'a> for Fakes<'a> {
+    ghost use Rattle.std.specs.Prelude.{◌≡◌, Some, codes, if◌then◌else◌};
+    ghost use Rattle.std.specs.Str.{bytes_eq};
+
+    type Input = FakeInput<'a>;
+
+    ghost bytes_at = { λ files path. Some (if bytes_eq path (codes "1") then files.first.now else files.others.now) };
+
+    ghost is_input_at = { λ _ path input. input.path.now ≡ path };
+
+    fn input(&self, path: &'a str) -> FakeInput<'a> {
+        FakeInput {
+            order: self.order,
+            path,
+            left: if path == "1" { self.first } else { self.others },
+            is_open: false,
+        }
+    }
+}
+
+/// A file that is made.
+#[derive(Drop)]
+pub(crate) struct FakeOutput<'a> {
+    order: &'a Order,
+    path: &'a str,
+    is_made: bool,
+}
+
+impl<'a> FakeOutput<'a> {
+    /// The file of this path, not made yet.
+    pub(crate) fn new(order: &'a Order, path: &'a str) -> FakeOutput<'a>
+        ensures { ⟦<FakeOutput<'a> as MakeFile>⟧.is_unmade_at result path.now }
+    {
+        FakeOutput {
+            order,
+            path,
+            is_made: false,
+        }
+    }
+}
+
+impl Write for FakeOutput<'_> {
+    fn write(&mut self, buf: &[u8]) -> io::Result<usize> {
+        self.make()?;
+        Ok(buf.len())
+    }
+
+    fn flush(&mut self) -> io::Result<()> {
+        Ok(())
+    }
+}
+
+impl MakeFile for FakeOutput<'_> {
+    ghost use Rattle.std.specs.Prelude.{◌≡◌, true, false};
+
+    ghost is_unmade_at = { λ file path. (file.path.now ≡ path) × (file.is_made ≡ false) };
+
+    ghost is_made = { λ file. file.is_made ≡ true };
+
+    fn make(&mut self) -> io::Result<()> {
+        if !self.is_made {
+            self.order.add(self.path)?;
+            self.is_made = true;
+        }
+        Ok(())
+    }
+}
