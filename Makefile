@@ -29,7 +29,7 @@ test:
 	tests/memory $(CALLS) $(PROGRAM)
 	$(MAKE) rot
 
-# The unit tests of mend-reel.
+# The unit tests in Python: of mend-reel, and of the table of definitions in docs/MAP.md.
 units:
 	PYTHONPATH=tools PYTHONDONTWRITEBYTECODE=1 python3 -m unittest discover -s tests/units -t tests
 
