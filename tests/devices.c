@@ -81,7 +81,7 @@ static void tell(const char *what, const char *name)
         _exit(99);
 }
 
-/* Whether a try fails, with what it answers; else how many bytes it may take of so many. */
+/* Whether a try fails, with what it returns; else how many bytes it may take of so many. */
 static int fails(struct device *device, size_t *count, ssize_t *answer)
 {
     *answer = -1;

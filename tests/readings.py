@@ -117,7 +117,7 @@ class Coder:
 
 
 def table_runs(coder, scale):
-    """Reads a table of a set, and answers the scale after it."""
+    """Reads a table of a set, and returns the scale after it."""
     row, filled, runs = [128] * 32, 0, 0
     while filled < 128:
         filled += coder.number(row) + 1
@@ -376,8 +376,8 @@ MOST_COMBINATIONS, GREATEST_DISTANCE, MOST_REPAIRS, MOST_CROSSED = 4096, 64, 1 <
 DISTANCES = [0, 2, 8, GREATEST_DISTANCE]
 
 
-def told_starts(copies, end):
-    """Each copy whose footer there tells a start, with it: one of size 0 tells none, nor one of more bytes than come before it."""
+def claimed_starts(copies, end):
+    """Each copy whose footer there gives a start, with it: one of size 0 gives none, nor one of more bytes than come before it."""
     for copy in copies:
         size = int.from_bytes(copy[end - 8 : end - 5], "big") if end >= 8 else 0
         if 0 < size <= end - 8:
@@ -502,15 +502,15 @@ def repaired(versions):
 
 
 def pieces_that_end(copies, end):
-    """The different pieces that end there: the footer that ends there in a copy tells where one begins, and it passes."""
-    return {piece for piece in {copy[start:end] for copy, start in told_starts(copies, end)} if passes(piece)}
+    """The different pieces that end there: the footer that ends there in a copy gives where one begins, and it passes."""
+    return {piece for piece in {copy[start:end] for copy, start in claimed_starts(copies, end)} if passes(piece)}
 
 
 def pieces_that_begin(copies, start, top):
     """Of the pieces that begin there and end at the top or before it, the different ones that end first."""
     for end in range(start + 9, top + 1):
-        told = {copy[start:end] for copy, told_start in told_starts(copies, end) if told_start == start}
-        if pieces := {piece for piece in told if passes(piece)}:
+        cuts = {copy[start:end] for copy, claimed_start in claimed_starts(copies, end) if claimed_start == start}
+        if pieces := {piece for piece in cuts if passes(piece)}:
             return pieces
     return set()
 
@@ -547,18 +547,19 @@ def lost_place(copies):
     top = len(copies[0])
     if pieces_that_begin(copies, 0, top):
         return None
-    ends = {end for end in range(9, top + 1) if any(start == 0 for _, start in told_starts(copies, end))}
+    ends = {end for end in range(9, top + 1) if any(start == 0 for _, start in claimed_starts(copies, end))}
     if len(ends) != 1:
         return None
     (end,) = ends
-    if not pieces_that_begin(copies, end, top) or pieces_that_end(copies, end) or {start for _, start in told_starts(copies, end)} != {0}:
+    if (not pieces_that_begin(copies, end, top) or pieces_that_end(copies, end)
+            or {start for _, start in claimed_starts(copies, end)} != {0}):
         return None
     return place_before(copies, end)
 
 
 def place_before(copies, end):
     """The place that ends there: how it stands, and the bytes that stand there; None where what lies before it can't be divided."""
-    pieces, starts = pieces_that_end(copies, end), {start for _, start in told_starts(copies, end)}
+    pieces, starts = pieces_that_end(copies, end), {start for _, start in claimed_starts(copies, end)}
     if len(pieces) == 1:
         return "settled", *pieces
     if not pieces and (len(starts) > 1 or not starts and 8 < end < 8 + (1 << 24)):
@@ -631,7 +632,7 @@ def spliced(copies):
 
 
 def ranges_of(text):
-    """The ranges that a list tells, each as its place and size; a fault has the number of the first wrong line."""
+    """The ranges that a list gives, each as its place and size; a fault has the number of the first wrong line."""
     lines, ranges, end = text.split(b"\n"), [], 0
     for number, line in enumerate(lines if lines[-1] else lines[:-1], 1):
         found = re.fullmatch(rb"0*([0-9]{1,20}) 0*([0-9]{1,20})", line)

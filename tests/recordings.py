@@ -12,7 +12,7 @@ TESTS = pathlib.Path(__file__).resolve().parent
 @dataclasses.dataclass
 class Command:
     """A command with its words, of which some are names of files; what it prints and makes of them; and contents of its inputs that are
-    refused, each with what is told then."""
+    refused, each with what is reported then."""
     words: list
     printed: bytes = b""
     made: bytes = None

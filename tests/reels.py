@@ -51,12 +51,12 @@ class Damaged:
 
 
 def packets(path, stream="0:v:0"):
-    """What a container tells of a stream: the place and the bytes of each packet, which FFmpeg writes. A packet that is not found at
+    """What a container says of a stream: the place and the bytes of each packet, which FFmpeg writes. A packet that is not found at
     its place, or some bytes after, is left out."""
-    told = run("ffprobe", "-v", "quiet", "-select_streams", stream[2:], "-show_entries", "packet=size,pos", "-of", "csv=p=0", path)
+    probed = run("ffprobe", "-v", "quiet", "-select_streams", stream[2:], "-show_entries", "packet=size,pos", "-of", "csv=p=0", path)
     payloads = run("ffmpeg", "-v", "quiet", "-i", path, "-map", stream, "-c", "copy", "-f", "data", "-").stdout
     content, found, start = path.read_bytes(), [], 0
-    for size, place in (line.split(",")[:2] for line in told.stdout.decode().split()):
+    for size, place in (line.split(",")[:2] for line in probed.stdout.decode().split()):
         payload = payloads[start : start + int(size)]
         start += int(size)
         at = content.find(payload, int(place), int(place) + len(payload) + 64) if payload and place.isdigit() else -1

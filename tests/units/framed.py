@@ -5,7 +5,7 @@ import typing
 
 from . import made
 from mend_reel import judging
-from mend_reel.model import Content, Frame, Kind, Layout, Stretch, Told, Track, What
+from mend_reel.model import Claims, Content, Frame, Kind, Layout, Stretch, Track, What
 
 VIDEO = Track(1, Content.VIDEO, "ffv1", True, 48, 40, b"record", 0.04)
 SOUND = Track(2, Content.SOUND, "pcm")
@@ -61,4 +61,4 @@ def plain_file(frames: typing.Sequence[bytes], gap: int = 8) -> typing.Tuple[byt
         content += payload
         stretches.append(Stretch(Kind.PLAIN, len(content), gap, What(Content.SOUND, 2, 0.04 * number), (len(content),)))
         content += made.noise(500 + number, gap)
-    return content, Layout(len(content), [VIDEO, SOUND], found, stretches, Told(0.04 * len(frames)))
+    return content, Layout(len(content), [VIDEO, SOUND], found, stretches, Claims(0.04 * len(frames)))

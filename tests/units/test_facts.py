@@ -1,4 +1,4 @@
-"""What a Matroska file tells of itself, and the footers of slices."""
+"""What a Matroska file says of itself, and the footers of slices."""
 from __future__ import annotations
 
 import struct
@@ -24,17 +24,17 @@ class Facts(unittest.TestCase):
         self.assertEqual(found[1], Track(2, Content.SOUND, "A_PCM/INT/LIT"))
         self.assertEqual([(track.is_ffv1, track.record) for track in found[2:]], [(True, b"extra"), (False, header.replace(b"FFV1", b"HFYU")), (False, b"")])
 
-    def test_what_a_file_tells(self) -> None:
+    def test_what_a_file_claims(self) -> None:
         simple = made.element(0x67C8, made.element(0x45A3, b"NUMBER_OF_FRAMES"), made.element(0x4487, b"8"))
         tags = made.element(made.TAGS, made.element(0x7373, made.element(0x63C0, made.number(0x63C5, 1001)), simple))
         content = made.information(320), made.tracks(), tags, made.cues((0, 1, 9), (80, 1, 10), (80, 2, 10))
-        told = read(*content).told
-        self.assertEqual((told.duration, told.counts, told.index), (0.32, {1: 8}, {1: [0.0, 0.08], 2: [0.08]}))
-        self.assertIsNone(read(made.tracks()).told.duration)
+        claims = read(*content).claims
+        self.assertEqual((claims.duration, claims.counts, claims.index), (0.32, {1: 8}, {1: [0.0, 0.08], 2: [0.08]}))
+        self.assertIsNone(read(made.tracks()).claims.duration)
 
     def test_numbers_that_lie(self) -> None:
         for duration in (float("inf"), float("nan"), -1.0):
-            self.assertIsNone(facts.read({facts.INFORMATION: made.element(0x4489, struct.pack(">d", duration))}).told.duration)
+            self.assertIsNone(facts.read({facts.INFORMATION: made.element(0x4489, struct.pack(">d", duration))}).claims.duration)
 
 
 class Footers(unittest.TestCase):

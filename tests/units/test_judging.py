@@ -1,4 +1,4 @@
-"""Which frames are intact, and which slices two versions share."""
+"""Which frames pass, and which slices two versions share."""
 import os
 import pathlib
 import stat

@@ -5,7 +5,7 @@ import unittest
 
 from . import made
 from .framed import frame, judge, matroska
-from mend_reel.matching import Leaving, arrange, group, told_size
+from mend_reel.matching import Leaving, arrange, claimed_size, group
 from mend_reel.model import Fault, open_copy
 
 FRAMES = [(0.04 * number, frame(number, 200, 150 + number)) for number in range(10)]
@@ -58,11 +58,11 @@ class GroupTest(unittest.TestCase):
     def test_a_short_copy_joins_what_it_is_a_front_of(self):
         self.assertEqual(self.group(REEL, OTHER, OTHER[:3000], REEL[:2500]), [[0, 3], [1, 2]])
 
-    def test_the_size_that_a_header_tells(self):
+    def test_the_size_that_a_header_claims(self):
         avi = b"RIFF" + (5000).to_bytes(4, "little") + bytes(90)
         mov = (20).to_bytes(4, "big") + b"ftyp" + bytes(12) + (1).to_bytes(4, "big") + b"mdat" + (9000).to_bytes(8, "big") + bytes(90)
         with made.opened(REEL, REEL[:400], avi, mov, mov[:20] + bytes(90), b"", bytes(50)) as copies:
-            self.assertEqual([told_size(copy) for copy in copies], [len(REEL), len(REEL), 5008, 9020, None, None, None])
+            self.assertEqual([claimed_size(copy) for copy in copies], [len(REEL), len(REEL), 5008, 9020, None, None, None])
 
     def test_the_same_file_counts_once(self):
         with tempfile.TemporaryDirectory() as folder:
@@ -116,7 +116,7 @@ class ArrangeTest(unittest.TestCase):
         self.assertEqual(arrangement.basis, [1])
         self.assertEqual(sorted(arrangement.matched[0].places), list(range(9)))
 
-    def test_a_file_that_lost_bytes_is_told_from_one_written_anew(self):
+    def test_a_file_that_lost_bytes_is_distinguished_from_one_written_anew(self):
         cut = place_of(4) + 50
         self.assertTrue(self.arrange(spoilt(REEL, 7), REEL[:cut] + REEL[cut + 90 :]).matched[0].is_shifted)
         self.assertFalse(self.arrange(spoilt(REEL, 7), REWRAPPED).matched[0].is_shifted)
@@ -141,7 +141,7 @@ class ArrangeTest(unittest.TestCase):
         self.assertEqual(sorted(arrangement.matched[0].places), list(range(2, 10)))
         self.assertEqual(arrangement.matched[0].places[5], place_of(5) + 250 - begin)
 
-    def test_frames_without_a_place_are_told(self):
+    def test_frames_without_a_place_are_reported(self):
         damaged = bytearray(frame(56, 300))
         damaged[7] ^= 1
         other = matroska([*FRAMES[:4], (0.16, frame(55, 400)), (0.2, bytes(damaged))], seed=9)

@@ -209,7 +209,7 @@ class OneCopyDamaged(Case):
                 self.assertEqual([stretch.vouched for stretch in found.stretches if stretch.start <= place < stretch.end], [{order.index(REEL)}])
 
     def test_size_of_the_segment_where_a_copy_ends(self) -> None:
-        """Elements go on after the end that the Segment tells, so it is not where OUT ends."""
+        """Elements go on after the end that the Segment claims, so it is not where OUT ends."""
         place, end = len(made.ebml_header()) + 4, layout(REEL).frames[3].end + 167
         lying = made.damaged(REEL, (place, made.size_of(end - place - 2, 2)))
         self.covered(layout(lying, lying[:end]), len(REEL))

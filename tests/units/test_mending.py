@@ -29,7 +29,7 @@ STRETCHES = [Stretch(Kind.PLAIN, 10 * number, 10, What(Content.UNKNOWN)) for num
 
 
 def program(folder, body):
-    """A program that does what a shell is told to."""
+    """A program that does what a shell script says."""
     path = folder / "program"
     path.write_text(f"#!/bin/sh\n{body}\n")
     path.chmod(path.stat().st_mode | stat.S_IXUSR)
@@ -74,13 +74,13 @@ class MendTest(unittest.TestCase):
         self.temporary.cleanup()
 
     def mend(self, body):
-        told = []
-        found = mend(program(self.folder, body), STRETCHES, self.folder / "list", str(self.folder / "out"), "OUT", [self.copy] * 3, self.folder, told.append)
-        return found, told
+        reported = []
+        found = mend(program(self.folder, body), STRETCHES, self.folder / "list", str(self.folder / "out"), "OUT", [self.copy] * 3, self.folder, reported.append)
+        return found, reported
 
-    def test_what_is_damaged_is_returned_and_all_is_told(self):
-        found, told = self.mend(f"cat {self.folder}/lines; exit 3")
-        self.assertEqual(([outcome.number for outcome in found], told), ([1, 2, 3], [10, 20, 30, 40]))
+    def test_what_is_damaged_is_returned_and_all_is_reported(self):
+        found, reported = self.mend(f"cat {self.folder}/lines; exit 3")
+        self.assertEqual(([outcome.number for outcome in found], reported), ([1, 2, 3], [10, 20, 30, 40]))
 
     def test_program_is_called_with_a_name_that_is_text(self):
         body = f'[ "$1" = mend ] && [ "$2" = {self.folder}/list ] && [ "$3" = {self.folder}/out ] && cmp -s "$4" {self.folder}/a*mkv || exit 1'

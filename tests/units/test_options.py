@@ -9,10 +9,10 @@ from mend_reel.options import VERSION, read
 class OptionsTest(unittest.TestCase):
     def refused(self, *words):
         """The status and the last line of a command line that is not understood."""
-        told = io.StringIO()
-        with contextlib.redirect_stderr(told), self.assertRaises(SystemExit) as ended:
+        printed = io.StringIO()
+        with contextlib.redirect_stderr(printed), self.assertRaises(SystemExit) as ended:
             read(words)
-        return ended.exception.code, told.getvalue().splitlines()[-1]
+        return ended.exception.code, printed.getvalue().splitlines()[-1]
 
     def test_out_comes_first(self):
         options = read(["--force", "out", "a", "--jobs", "2", "b"])
@@ -41,10 +41,10 @@ class OptionsTest(unittest.TestCase):
                 self.assertEqual(self.refused(*words), (2, f"mend-reel: error: {line}"))
 
     def test_version(self):
-        told = io.StringIO()
-        with contextlib.redirect_stdout(told), self.assertRaises(SystemExit) as ended:
+        printed = io.StringIO()
+        with contextlib.redirect_stdout(printed), self.assertRaises(SystemExit) as ended:
             read(["--version"])
-        self.assertEqual((ended.exception.code, told.getvalue()), (0, f"mend-reel {VERSION}\n"))
+        self.assertEqual((ended.exception.code, printed.getvalue()), (0, f"mend-reel {VERSION}\n"))
 
 
 if __name__ == "__main__":

@@ -17,7 +17,7 @@ class PairingTest(unittest.TestCase):
         self.addCleanup(self.stack.close)
 
     def recording(self, frames, times=None, gap=8, damage=None, track=1):
-        """A file of some frames, at other times than theirs if so told."""
+        """A file of some frames, at other times than theirs if some are given."""
         content, layout = plain_file(frames, gap)
         layout.frames = [dataclasses.replace(each, track=track, time=round(time, 3)) for each, time in
                          zip(layout.frames, times or [each.time for each in layout.frames])]
@@ -128,7 +128,7 @@ class PairingTest(unittest.TestCase):
     # ---- by the bytes that a file lost
 
     def shifted(self, cut, size, damage=None, zeros=0, places=None):
-        """Where frames are found in a file that lost bytes, and no container tells of it."""
+        """Where frames are found in a file that lost bytes, and no container says so."""
         ours = self.recording(FRAMES)
         content = bytearray(ours.copies[0].read(0, ours.layout.size))
         if damage:

@@ -6,7 +6,7 @@ from unittest import mock
 from . import made
 from .framed import SOUND, VIDEO, frame, judge
 from mend_reel import probe
-from mend_reel.model import Content, Kind, Told
+from mend_reel.model import Claims, Content, Kind
 from mend_reel.packets import Container, Packet
 
 TRACK = dataclasses.replace(VIDEO, number=0)
@@ -32,8 +32,8 @@ class ProbeTest(unittest.TestCase):
             end = stretch.end
         return layout
 
-    def container(self, *packets, form="nut", told=Told()):
-        return Container(form, [TRACK, SOUND], told, list(packets))
+    def container(self, *packets, form="nut", claims=Claims()):
+        return Container(form, [TRACK, SOUND], claims, list(packets))
 
     def test_frames_sound_and_what_lies_between(self):
         container = self.container(packet(0, 50, 30), packet(0, 80, 20, 2), packet(0.02, 100, 20, 2), packet(0.04, 130, 30))
@@ -71,7 +71,7 @@ class ProbeTest(unittest.TestCase):
         self.assertEqual(max(each.size for each in layout.stretches), probe.LONGEST_PLAIN)
 
     def test_frames_of_all_streams(self):
-        both = Container("nut", [TRACK, dataclasses.replace(TRACK, number=1)], Told(), [packet(0, 50, 30), packet(0, 90, 30, 1)])
+        both = Container("nut", [TRACK, dataclasses.replace(TRACK, number=1)], Claims(), [packet(0, 50, 30), packet(0, 90, 30, 1)])
         self.assertEqual([each.track for each in self.layout([made.noise(1, 200)], [both]).frames], [0, 1])
 
     def test_frames_of_an_avi_file_are_counted_anew_where_one_was_hidden(self):
@@ -84,9 +84,9 @@ class ProbeTest(unittest.TestCase):
         layout = self.layout([made.noise(1, 200)], [self.container(packet(0, 50, 30), packet(0, 70, 20, 2), packet(0, 85, 10, 2), packet(0, 90, 9, 2))])
         self.assertEqual([(each.start, each.end) for each in layout.stretches if each.what.content is Content.SOUND], [(85, 95)])
 
-    def test_what_most_copies_tell(self):
-        containers = [self.container(packet(0, 50, 30), packet(1, 90, 9), told=Told(9.0)), self.container(told=Told(2.0)), self.container(told=Told(2.0))]
-        self.assertEqual(self.layout([made.noise(1, 200)] * 3, containers).told.duration, 2.0)
+    def test_what_most_copies_claim(self):
+        containers = [self.container(packet(0, 50, 30), packet(1, 90, 9), claims=Claims(9.0)), self.container(claims=Claims(2.0)), self.container(claims=Claims(2.0))]
+        self.assertEqual(self.layout([made.noise(1, 200)] * 3, containers).claims.duration, 2.0)
 
     def test_a_file_without_frames(self):
         layout = self.layout([made.noise(1, 200)], [Container()])

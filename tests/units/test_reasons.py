@@ -32,9 +32,9 @@ class TextTest(unittest.TestCase):
 
     def test_every_reason_is_a_sentence(self):
         for why in Why:
-            told = Reason(why, Content.FRAME, 1, None, (1, 2), (0.5, 0.7), 0, 3, 4, 5).text("The file")
-            self.assertNotIn("{", told)
-            self.assertRegex(told, r"^[^ ].*: \S.*[a-z0-9]$", why)
+            line = Reason(why, Content.FRAME, 1, None, (1, 2), (0.5, 0.7), 0, 3, 4, 5).text("The file")
+            self.assertNotIn("{", line)
+            self.assertRegex(line, r"^[^ ].*: \S.*[a-z0-9]$", why)
 
     def test_out_has_another_name(self):
         self.assertTrue(of_bytes(99, 611).text("the mended file").endswith("; the mended file has that of copy 2"))
@@ -72,6 +72,6 @@ class JoinTest(unittest.TestCase):
         self.assertEqual(len(join(made_)), 2)
 
     def test_so_many_lines_at_most(self):
-        told = lines([of_frames(2 * number) for number in range(60)])
-        self.assertEqual((len(told), told[-1]), (51, "and 10 more"))
+        shown = lines([of_frames(2 * number) for number in range(60)])
+        self.assertEqual((len(shown), shown[-1]), (51, "and 10 more"))
         self.assertEqual(len(lines([of_frames(2 * number) for number in range(50)])), 50)

@@ -6,7 +6,7 @@ from .framed import SOUND, VIDEO
 from mend_reel.completeness import Excuses, Seen, misplaced
 from mend_reel.fates import Fate, Fates
 from mend_reel.matching import Leaving, Left, Matched
-from mend_reel.model import Content, Frame, Kind, Layout, Outcome, Place, State, Stretch, Told, What
+from mend_reel.model import Claims, Content, Frame, Kind, Layout, Outcome, Place, State, Stretch, What
 from mend_reel.reasons import Why
 from mend_reel.times import constant_step, end_of, lasts
 from mend_reel.verdict import Evidence, judge
@@ -37,7 +37,7 @@ def recording(count=6):
                   (Kind.ELEMENT, 500, What(Content.CLUSTER, None, 0.04 * number, 0.04 * number), [(100, 300)])]
     size = 100 + 512 * count
     stretches, frames = stretches_of(size, *kinds)
-    return Layout(size, [VIDEO], frames, stretches, Told(0.04 * count))
+    return Layout(size, [VIDEO], frames, stretches, Claims(0.04 * count))
 
 
 def plain(count=6):
@@ -48,7 +48,7 @@ def plain(count=6):
                   (Kind.PLAIN, 100, What(Content.SOUND, 2, 0.04 * number), [])]
     size = 100 + 440 * count
     stretches, frames = stretches_of(size, *kinds)
-    return Layout(size, [VIDEO, SOUND], frames, stretches, Told(0.04 * count))
+    return Layout(size, [VIDEO, SOUND], frames, stretches, Claims(0.04 * count))
 
 
 def element(number):
@@ -283,14 +283,14 @@ class CompletenessTest(unittest.TestCase):
         self.assertNotIn(Why.HIDDEN, whys(found))
         self.assertIn(Why.ABSENT, whys(found))
 
-    def hidden_everywhere(self, layout, *numbers, **told):
+    def hidden_everywhere(self, layout, *numbers, **claims):
         """The verdict on a recording of which no container shows some frames: they are neither listed nor in OUT."""
         frames = without(layout, *numbers).frames
         stretches = []
         for stretch in layout.stretches:
             lost = stretch.kind is Kind.FRAME and stretch.parts[0] not in frames
             stretches.append(dataclasses.replace(stretch, kind=Kind.PLAIN, parts=(), what=What(Content.UNKNOWN)) if lost else stretch)
-        return verdict(dataclasses.replace(layout, frames=frames, stretches=stretches, told=Told(**told)))
+        return verdict(dataclasses.replace(layout, frames=frames, stretches=stretches, claims=Claims(**claims)))
 
     def test_a_hole_in_the_times(self):
         found = self.hidden_everywhere(plain(), 2, 3)
@@ -303,7 +303,7 @@ class CompletenessTest(unittest.TestCase):
     def test_a_hole_between_verified_bytes_was_recorded(self):
         layout = recording()
         layout.frames = [dataclasses.replace(frame, time=frame.time + 0.04 * (number > 2)) for number, frame in enumerate(layout.frames)]
-        layout.told = Told(0.28)
+        layout.claims = Claims(0.28)
         self.assertEqual(verdict(layout).reasons, [])
         self.assertEqual(whys(verdict(layout, Outcome(element(3), State.MISSING, 0, "10", {0: (settled("10"),)}))), [Why.BESIDE, Why.HOLE])
 
@@ -311,14 +311,14 @@ class CompletenessTest(unittest.TestCase):
         layout = plain()
         layout.frames = [dataclasses.replace(frame, time=frame.time + 0.04 * (number > 2)) for number, frame in enumerate(layout.frames)]
         self.assertEqual(whys(verdict(layout)), [Why.HOLE])
-        layout.told = Told(None, {1: 6})
+        layout.claims = Claims(None, {1: 6})
         self.assertEqual(verdict(layout).reasons, [])
 
     def test_no_hole_where_steps_vary(self):
         layout = plain()
         times = (0, 0.1, 0.13, 0.3, 0.36, 0.7)
         layout.frames = [dataclasses.replace(frame, time=time) for frame, time in zip(layout.frames, times)]
-        layout.told = Told()
+        layout.claims = Claims()
         layout.tracks = [dataclasses.replace(VIDEO, step=None), SOUND]
         self.assertEqual(verdict(layout).reasons, [])
 
@@ -333,9 +333,9 @@ class CompletenessTest(unittest.TestCase):
     def test_sound_may_be_longer(self):
         layout = plain()
         layout.stretches[-1] = dataclasses.replace(layout.stretches[-1], what=What(Content.SOUND, 2, 5.0, 5.1))
-        layout.told = Told(5.2)
+        layout.claims = Claims(5.2)
         self.assertEqual(verdict(layout).reasons, [])
-        layout.told = Told(5.5)
+        layout.claims = Claims(5.5)
         self.assertEqual(whys(verdict(layout)), [Why.SHORT])
 
     def test_the_count(self):
@@ -346,12 +346,12 @@ class CompletenessTest(unittest.TestCase):
     def test_an_index_that_points_at_nothing(self):
         self.assertEqual(whys(self.hidden_everywhere(plain(), 5, index={1: [0.0, 0.08, 0.2]})), [Why.INDEX])
         self.assertEqual(whys(self.hidden_everywhere(plain(), 3, index={1: [0.12]})), [Why.HOLE])
-        self.assertEqual(verdict(dataclasses.replace(plain(), told=Told(None, {}, {1: [0.0, 0.2], 9: [77.0]}))).reasons, [])
+        self.assertEqual(verdict(dataclasses.replace(plain(), claims=Claims(None, {}, {1: [0.0, 0.2], 9: [77.0]}))).reasons, [])
 
     def test_a_copy_speaks_where_out_says_nothing(self):
-        layout = dataclasses.replace(recording(), told=Told(0.24, {1: 6}))
-        self.assertEqual(verdict(layout, told=[Told(99.0, {1: 50})]).reasons, [])
-        self.assertEqual(whys(verdict(dataclasses.replace(layout, told=Told()), told=[Told(99.0, {1: 50})])), [Why.COUNT, Why.SHORT])
+        layout = dataclasses.replace(recording(), claims=Claims(0.24, {1: 6}))
+        self.assertEqual(verdict(layout, claims=[Claims(99.0, {1: 50})]).reasons, [])
+        self.assertEqual(whys(verdict(dataclasses.replace(layout, claims=Claims()), claims=[Claims(99.0, {1: 50})])), [Why.COUNT, Why.SHORT])
 
     def test_what_other_files_have(self):
         frame = Frame(0, 0.5, 7, 8)
@@ -371,7 +371,7 @@ class TimesTest(unittest.TestCase):
 
     def test_a_file_that_is_cut_short(self):
         self.assertIsNone(lasts(recording()))
-        self.assertEqual(lasts(dataclasses.replace(recording(), told=Told(1.0))), 1.0)
+        self.assertEqual(lasts(dataclasses.replace(recording(), claims=Claims(1.0))), 1.0)
         self.assertEqual(end_of(Layout(0, [], [], [])), (0.0, 0.002))
 
     def test_unverified_bytes(self):

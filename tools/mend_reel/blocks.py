@@ -258,8 +258,8 @@ class Clusters:
             yield Item(child.place, child.end, Content.UNKNOWN, is_gap=True)
             return
         numbers = [track.number for track in tracks]
-        told = [head.track for head in self._heads(payload - BLOCK_FIELDS, BLOCK_FIELDS, child.end, start) if head.track in numbers]
-        number = told[0] if told else min(numbers, key=lambda each: self._expected.get(each, 0.0))
+        named = [head.track for head in self._heads(payload - BLOCK_FIELDS, BLOCK_FIELDS, child.end, start) if head.track in numbers]
+        number = named[0] if named else min(numbers, key=lambda each: self._expected.get(each, 0.0))
         head = BlockHead(number, 0, KEY, payload)
         time, track = self._time(head, None), self.tracks[number]
         yield Item(child.place, payload, Content.FRAMING, number, time, is_gap=True)

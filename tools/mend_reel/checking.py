@@ -28,10 +28,10 @@ class Standing:
 
     def text(self) -> str:
         """What is damaged, in a few words."""
-        told = [] if not self.frames else [f"{self.frames} frame{'s' if self.frames > 1 else ''}"]
-        told += [what if count == 1 else f"{what} in {count} places" for what, count in self.others.items()]
-        told += [f"{self.lacking} bytes are missing"] if self.lacking else []
-        return "no damage was found" if not told else "damaged: " + ", ".join(told)
+        found = [] if not self.frames else [f"{self.frames} frame{'s' if self.frames > 1 else ''}"]
+        found += [what if count == 1 else f"{what} in {count} places" for what, count in self.others.items()]
+        found += [f"{self.lacking} bytes are missing"] if self.lacking else []
+        return "no damage was found" if not found else "damaged: " + ", ".join(found)
 
 
 def standings(fates: Fates, sizes: typing.Mapping[int, int]) -> typing.Dict[int, Standing]:

@@ -64,7 +64,7 @@ def choose(layout: Layout, copies: typing.Sequence[Copy], health: typing.Sequenc
     cases = judged(list(differing(layout.stretches, copies, found, unlike)), copies, judge)
     for case in cases:
         narrow(case, by_check(case), Because.CONFIRMED)
-        tell(case, copies, found)
+        note(case, copies, found)
         narrow(case, without_zeros(case, copies, found), Because.NOT_LOST)
     ranks = [(-health.verified, health.damaged.count()) for health in found]
     for case in cases:
@@ -159,7 +159,7 @@ def healthiest(case: Case, ranks: typing.Sequence[typing.Tuple[int, int]]) -> Ca
 # ---- what is known to be wrong
 
 
-def tell(case: Case, copies: typing.Sequence[Copy], found: typing.Sequence[Health]) -> None:
+def note(case: Case, copies: typing.Sequence[Copy], found: typing.Sequence[Health]) -> None:
     """Counts what passes, and marks the sectors in which the other copies differ from it."""
     right = [group for group in case.groups if case.passing.issuperset(group)]
     if case.stretch.kind is not Kind.PLAIN:
@@ -184,7 +184,7 @@ def mark_differences(stretch: Stretch, copies: typing.Sequence[Copy], right: int
 
 def mark_piece(stretch: Stretch, offset: int, ours: bytes, theirs: bytes, wrong: typing.Sequence[int],
                found: typing.Sequence[Health]) -> None:
-    """Marks the sectors of the first and of the last byte in which pieces of at most a sector differ."""
+    """Marks the sectors of the first and of the last byte in which byte strings of at most a sector differ."""
     unequal = [at for at, pair in enumerate(zip(ours, theirs)) if pair[0] != pair[1]]
     for number in wrong if unequal else ():
         place = (stretch.places[number] or 0) + offset

@@ -9,7 +9,7 @@ import typing
 from .fates import Fates
 from .lifting import longest_chain
 from .matching import Matched
-from .model import Content, Frame, Layout, State, Told
+from .model import Claims, Content, Frame, Layout, State
 from .reasons import Reason, Why
 from .times import THOUSANDTHS, TrackTimes, end_of, tracks_of
 
@@ -20,27 +20,27 @@ MICROSECONDS = 1_000_000
 
 @dataclasses.dataclass
 class Seen:
-    """What OUT was made by, what lies where in it as it was read again, what became of its stretches, what containers tell of the recording,
-    and the copies that are other files."""
+    """What OUT was made by, what lies where in it as it was read again, what became of its stretches, what containers claim of the
+    recording, and the copies that are other files."""
 
     layout: Layout
     out: typing.Optional[Layout]
     fates: Fates
-    told: typing.Sequence[Told] = ()
+    claims: typing.Sequence[Claims] = ()
     matched: typing.Sequence[Matched] = ()
 
-    def all_told(self) -> typing.List[Told]:
-        """What OUT tells, and what lies in OUT by all its copies; and what single copies tell where OUT says nothing. Where it does, their bytes
-        were compared."""
-        known = [self.out.told] if self.out else []
-        if self.layout.told not in known:
-            known.append(self.layout.told)
+    def all_claims(self) -> typing.List[Claims]:
+        """What OUT claims, and what lies in OUT by all its copies; and what single copies claim where OUT says nothing. Where it does,
+        their bytes were compared."""
+        known = [self.out.claims] if self.out else []
+        if self.layout.claims not in known:
+            known.append(self.layout.claims)
         own = known[0]
-        for told in self.told:
-            counts = {track: count for track, count in told.counts.items() if track not in own.counts}
-            index = {track: times for track, times in told.index.items() if track not in own.index}
-            ends = {track: end for track, end in told.ends.items() if track not in own.ends}
-            more = Told(None if own.duration else told.duration, counts, index, ends)
+        for claims in self.claims:
+            counts = {track: count for track, count in claims.counts.items() if track not in own.counts}
+            index = {track: times for track, times in claims.index.items() if track not in own.index}
+            ends = {track: end for track, end in claims.ends.items() if track not in own.ends}
+            more = Claims(None if own.duration else claims.duration, counts, index, ends)
             if more not in known:
                 known.append(more)
         return known
@@ -92,9 +92,9 @@ class Excuses:
     sides of it are verified, so that no frame can be hidden there."""
 
     def __init__(self, seen: Seen, tracks: typing.Sequence[TrackTimes]) -> None:
-        told = [each.counts for each in seen.all_told()]
+        claimed = [each.counts for each in seen.all_claims()]
         self.counted = {track.number for track in tracks
-                        if {each[track.number] for each in told if track.number in each} == {len(track.frames)}}
+                        if {each[track.number] for each in claimed if track.number in each} == {len(track.frames)}}
         self.starts: typing.List[int] = []
         self.sums = [0]
         for number, stretch in enumerate(seen.fates.stretches):
@@ -133,20 +133,20 @@ def counts(seen: Seen, tracks: typing.Sequence[TrackTimes]) -> typing.Iterator[R
     """Where fewer frames are shown than the file counts."""
     has = {track.number: len(track.frames) for track in tracks}
     for track in (track for track in seen.layout.tracks if track.is_ffv1):
-        count = max((told.counts.get(track.number, 0) for told in seen.all_told()), default=0)
+        count = max((claims.counts.get(track.number, 0) for claims in seen.all_claims()), default=0)
         if count > has.get(track.number, 0):
             yield Reason(Why.COUNT, track=track.number, has=has.get(track.number, 0), count=count)
 
 
 def ends(seen: Seen, tracks: typing.Sequence[TrackTimes]) -> typing.Iterator[Reason]:
-    """Where OUT ends before the time that the file tells, or a track does, or a copy that is another file and is cut short itself."""
+    """Where OUT ends before the time that the file claims, or a track does, or a copy that is another file and is cut short itself."""
     for track in tracks:
-        told = [each.ends[track.number] for each in seen.all_told() if track.number in each.ends]
-        if told and max(told) - track.end() > 0.5 * track.most_step():
-            yield Reason(Why.SHORT, track=track.number, times=(track.end(), max(told)))
+        claimed = [each.ends[track.number] for each in seen.all_claims() if track.number in each.ends]
+        if claimed and max(claimed) - track.end() > 0.5 * track.most_step():
+            yield Reason(Why.SHORT, track=track.number, times=(track.end(), max(claimed)))
     if seen.out:
         end, room = end_of(seen.out)
-        durations = [told.duration for told in seen.all_told() if told.duration]
+        durations = [claims.duration for claims in seen.all_claims() if claims.duration]
         if durations and max(durations) - end > room:
             yield Reason(Why.SHORT, times=(end, max(durations)))
         for matched in seen.matched:
@@ -158,7 +158,7 @@ def indexed(seen: Seen, track: TrackTimes, known: typing.Sequence[typing.Tuple[f
     """The times that an index has of a track, at which no frame is shown. Those in holes are known already."""
     times, near = track.times, 0.5 * track.most_step() or THOUSANDTHS
     starts = [start for start, _ in known]
-    for time in sorted({time for told in seen.all_told() for time in told.index.get(track.number, ())}):
+    for time in sorted({time for claims in seen.all_claims() for time in claims.index.get(track.number, ())}):
         at, before = bisect.bisect(times, time), bisect.bisect(starts, time + near)
         in_hole = before and time <= known[before - 1][1] + near
         if not in_hole and all(abs(other - time) > near for other in times[max(at - 1, 0) : at + 1]):

@@ -83,7 +83,8 @@ def split(stretch: Stretch, copies: typing.Sequence[Copy]) -> typing.List[Stretc
 
 
 def _runs(pieces: typing.Sequence[bytes], size: int) -> typing.Iterator[Run]:
-    """Yields the runs of some pieces of one size. A bit stands for each pair of versions; it turns where they begin or end to differ."""
+    """Yields the runs of some byte strings of one size. A bit stands for each pair of versions; it turns where they begin or end to
+    differ."""
     versions = list(dict.fromkeys(pieces))
     indexes = [versions.index(piece) for piece in pieces]
     pairs = list(itertools.combinations(range(len(versions)), 2))
@@ -117,7 +118,7 @@ def _label(turned: int, pairs: typing.Sequence[typing.Tuple[int, int]], indexes:
 
 
 def _sectors(pieces: typing.Sequence[bytes], size: int) -> typing.Iterator[Run]:
-    """Yields a run for each sector of some pieces between which there are too many differences to tell each."""
+    """Yields a run for each sector of some byte strings between which there are too many differences to list each."""
     for start in range(0, size, SECTOR):
         end = min(start + SECTOR, size)
         is_agreed = all(piece[start:end] == pieces[0][start:end] for piece in pieces)

@@ -1,4 +1,4 @@
-"""What a Matroska file tells of itself: its tracks, its scale of time, how long it plays, its index and its counts of frames (RFC 9559)."""
+"""What a Matroska file says of itself: its tracks, its scale of time, how long it plays, its index and its counts of frames (RFC 9559)."""
 from __future__ import annotations
 
 import dataclasses
@@ -6,7 +6,7 @@ import functools
 import typing
 
 from . import ebml
-from .model import Content, Told, Track
+from .model import Claims, Content, Track
 
 TRACKS, INFORMATION, CUES, TAGS = 0x1654AE6B, 0x1549A966, 0x1C53BB6B, 0x1254C367
 READ = frozenset({TRACKS, INFORMATION, CUES, TAGS})
@@ -24,18 +24,18 @@ BY_TYPE = {1: Content.VIDEO, 2: Content.SOUND, 0x11: Content.SUBTITLES}
 
 @dataclasses.dataclass(frozen=True)
 class Facts:
-    """What a file tells of itself. `scale` is what its time stamps count, in nanoseconds."""
+    """What a file says of itself. `scale` is what its time stamps count, in nanoseconds."""
 
     tracks: typing.Sequence[Track] = ()
     scale: int = 1_000_000
-    told: Told = Told()
+    claims: Claims = Claims()
 
     def by_number(self) -> typing.Dict[int, Track]:
         return {track.number: track for track in self.tracks}
 
 
 def read(contents: typing.Mapping[int, bytes]) -> Facts:
-    """Returns what the contents of some top-level elements tell, by their IDs."""
+    """Returns what the contents of some top-level elements say, by their IDs."""
     entries = [dict(ebml.children(content)) for identity, content in ebml.children(contents.get(TRACKS, b"")) if identity == TRACK]
     tracks = [track for track in map(read_track, entries[:MOST_TRACKS]) if track]
     numbers = {ebml.number(entry.get(TRACK_UID, b"")): ebml.number(entry.get(TRACK_NUMBER, b"")) for entry in entries}
@@ -43,7 +43,8 @@ def read(contents: typing.Mapping[int, bytes]) -> Facts:
     scale = ebml.number(information.get(SCALE, b"")) or Facts.scale
     duration = ebml.real(information.get(DURATION, b"")) * scale / NANOSECONDS
     counts = read_counts(contents.get(TAGS, b""), numbers)
-    return Facts(tracks, scale, Told(duration if 0 < duration < float("inf") else None, counts, read_index(contents.get(CUES, b""), scale)))
+    index = read_index(contents.get(CUES, b""), scale)
+    return Facts(tracks, scale, Claims(duration if 0 < duration < float("inf") else None, counts, index))
 
 
 def read_track(entry: typing.Mapping[int, bytes]) -> typing.Optional[Track]:

@@ -122,8 +122,8 @@ def compare(digest_file: str, path: str, named: str) -> Compared:
     what = f"{count} {'decoded ' if decoded else ''}frames"
     if not found:
         return Compared(True, f"{named} has the original's frames: the digests of all {what} are those of {digest_file}", False)
-    told = "; ".join(f"stream {number}: {runs(frames)}" for number, frames in found.items())
-    return Compared(False, f"{named} does not have the original's frames: digests of {digest_file} differ: {told}", False, found)
+    differing = "; ".join(f"stream {number}: {runs(frames)}" for number, frames in found.items())
+    return Compared(False, f"{named} does not have the original's frames: digests of {digest_file} differ: {differing}", False, found)
 
 
 def runs(numbers: typing.Sequence[int]) -> str:
@@ -134,6 +134,6 @@ def runs(numbers: typing.Sequence[int]) -> str:
             found[-1][1] = number
         else:
             found.append([number, number])
-    told = [str(first) if first == last else f"{first} to {last}" for first, last in found[:MOST_RUNS]]
+    ranges = [str(first) if first == last else f"{first} to {last}" for first, last in found[:MOST_RUNS]]
     more = f" and {len(found) - MOST_RUNS} more" if len(found) > MOST_RUNS else ""
-    return ("frame " if len(numbers) == 1 else "frames ") + ", ".join(told) + more
+    return ("frame " if len(numbers) == 1 else "frames ") + ", ".join(ranges) + more

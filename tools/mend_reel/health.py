@@ -13,7 +13,7 @@ MOST_SAMPLES = 16
 
 @dataclasses.dataclass(frozen=True)
 class Health:
-    """Of a copy: how many frames its file has, how many of them are intact in it, how many of its bytes pass a checksum, and whether all
+    """Of a copy: how many frames its file has, how many of them pass in it, how many of its bytes pass a checksum, and whether all
     that has one passes."""
 
     frames: int = 0

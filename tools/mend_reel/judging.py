@@ -1,4 +1,4 @@
-"""Which frames of a copy are intact, as the program reports it, and which slices two versions of a frame have in common."""
+"""Which frames of a copy pass, as the program reports it, and which slices two versions of a frame have in common."""
 from __future__ import annotations
 
 import dataclasses
@@ -34,7 +34,7 @@ Judge = typing.Callable[[Copy, typing.Sequence[Range]], typing.List[Judged]]
 
 
 class Scan:
-    """Judges frames by `ffv1restore scan`, and remembers what it was told."""
+    """Judges frames by `ffv1restore scan`, and remembers what that reported."""
 
     def __init__(self, program: str, work: pathlib.Path) -> None:
         self.program, self.work = program, work

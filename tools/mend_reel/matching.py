@@ -43,8 +43,8 @@ class Left:
 @dataclasses.dataclass
 class Matched:
     """A copy that is another file: where it has frames of OUT, by their numbers in the layout, and its frames that OUT has no place for, at
-    times of OUT: `unplaced` where OUT has no frame, `contrary` intact ones where OUT has another. `lasts` is how long it says that it
-    lasts, if it is cut short itself. `is_shifted` is whether it is OUT's file with bytes lost or added: its header tells the same size."""
+    times of OUT: `unplaced` where OUT has no frame, `contrary` passing ones where OUT has another. `lasts` is how long it says that it
+    lasts, if it is cut short itself. `is_shifted` is whether it is OUT's file with bytes lost or added: its header gives the same size."""
 
     number: int
     places: typing.Dict[int, int]
@@ -100,11 +100,11 @@ def is_same_file(one: Copy, other: Copy) -> bool:
     if one.size == other.size:
         return True
     short = one if one.size == length else other
-    return told_size(short) != length and is_quarter([last_alike(one, other, length)])
+    return claimed_size(short) != length and is_quarter([last_alike(one, other, length)])
 
 
-def told_size(copy: Copy) -> typing.Optional[int]:
-    """The size that a file's own header tells, of Matroska and AVI files: a file that has it was not cut short. Of a MOV file it is
+def claimed_size(copy: Copy) -> typing.Optional[int]:
+    """The size that a file's own header claims, of Matroska and AVI files: a file that has it was not cut short. Of a MOV file it is
     where the first large atom ends."""
     data = copy.read(0, HEADER)
     if data[:4] == b"RIFF":
@@ -145,7 +145,7 @@ def is_quarter(samples: typing.Sequence[typing.Tuple[int, int]]) -> bool:
 
 
 def alike(one: Copy, other: Copy, place: int, size: int) -> typing.Tuple[int, int]:
-    """How many bytes of a piece are alike, of how many that were compared. A sector of one value is lost, or says nothing."""
+    """How many bytes of a range are alike, of how many that were compared. A sector of one value is lost, or says nothing."""
     first, second = one.read(place, size), other.read(place, size)
     same = compared = 0
     for at in range(0, min(len(first), len(second)), SECTOR):
@@ -175,7 +175,7 @@ class File:
     health: typing.Dict[int, Health] = dataclasses.field(default_factory=dict)
 
     def intact(self, places: typing.Mapping[int, int], frames: typing.Sequence[Frame], judge: Judge) -> typing.Set[int]:
-        """The numbers of those frames that are intact at these places in some copy of the file."""
+        """The numbers of those frames that pass at these places in some copy of the file."""
         found: typing.Set[int] = set()
         for copy in self.recording.copies:
             judged = judge(copy, [(place, frames[number].size) for number, place in places.items()])
@@ -183,8 +183,8 @@ class File:
         return found
 
     def best(self) -> typing.Tuple[int, bool, int, int, int, int]:
-        """What speaks for a file: how many tracks it has, that a copy is undamaged, how many copies there are, the best one's intact frames
-        and verified bytes, and that it came first."""
+        """What speaks for a file: how many tracks it has, that a copy is undamaged, how many copies there are, the best one's passing
+        frames and verified bytes, and that it came first."""
         copies = len(self.numbers)
         return max((len(self.recording.layout.tracks), health.is_undamaged, copies, health.intact, health.verified, -number)
                    for number, health in self.health.items())
@@ -210,7 +210,7 @@ def arrange(copies: typing.Sequence[Copy], judge: Judge,
 
 def choose(files: typing.Sequence[File], copies: typing.Sequence[Copy],
            judge: Judge) -> typing.Tuple[File, typing.List[typing.Optional[Pairing]]]:
-    """The file that OUT is made of, and where the others have its frames: the file of which most frames are intact in some copy of any
+    """The file that OUT is made of, and where the others have its frames: the file of which most frames pass in some copy of any
     file, then the one that has most tracks, then an undamaged copy, most copies, the best copy. A file that shares nothing with any other
     serves only if it has several copies, or alone has frames."""
     shown = [file for file in files if file.recording.layout.frames]
@@ -237,7 +237,7 @@ def relate(basis: File, other: File) -> typing.Optional[Pairing]:
 
 
 def count_intact(file: File, others: typing.Sequence[File], pairings: typing.Sequence[typing.Optional[Pairing]], judge: Judge) -> int:
-    """How many frames of a file are intact in some copy of it, or of another file."""
+    """How many frames of a file pass in some copy of it, or of another file."""
     frames = file.recording.layout.frames
     found = file.intact({number: frame.place for number, frame in enumerate(frames)}, frames, judge)
     for other, pairing in zip(others, pairings):
@@ -250,7 +250,7 @@ def assemble(basis: File, others: typing.Sequence[File], pairings: typing.Sequen
              judge: Judge) -> Arrangement:
     made = Arrangement(basis.numbers, basis.recording.layout, left=left, health=dict(basis.health))
     frames = basis.recording.layout.frames
-    sizes = {told_size(copy) for copy in basis.recording.copies} - {None}
+    sizes = {claimed_size(copy) for copy in basis.recording.copies} - {None}
     for file, pairing in zip(others, pairings):
         made.health.update(file.health)
         if pairing is None:
@@ -261,7 +261,7 @@ def assemble(basis: File, others: typing.Sequence[File], pairings: typing.Sequen
             places = {each: place for each, place in pairing.places.items() if place + frames[each].size <= copy.size}
             contrary = [frame for frame, judged in zip(pairing.contrary, judge(copy, ranges)) if judged.is_intact()]
             made.matched.append(Matched(number, places, [frame for frame in pairing.unplaced if frame.end <= copy.size], contrary,
-                                        lasts(file.recording.layout), told_size(copy) in sizes))
+                                        lasts(file.recording.layout), claimed_size(copy) in sizes))
     made.left.sort(key=lambda each: each.number)
     made.matched.sort(key=lambda each: each.number)
     return made

@@ -5,7 +5,7 @@ import dataclasses
 import typing
 
 from . import blocks, ebml, facts, footers, walk
-from .model import Content, Copy, Layout, Told, Track, What
+from .model import Claims, Content, Copy, Layout, Track, What
 from .stretches import MOST_STRETCH, Stretches
 from .view import NONE, WINDOW, Budget, Numbers, View
 
@@ -84,8 +84,8 @@ class Reader:
 
     def layout(self) -> Layout:
         segment = next((child for child in self.top if child.identity == SEGMENT), None)
-        told_end, sized = self._read_end(segment) if segment else (None, NONE)
-        size = self._size(told_end)
+        claimed_end, sized = self._read_end(segment) if segment else (None, NONE)
+        size = self._size(claimed_end)
         live: typing.List[walk.Child] = []
         for child in self.top:
             if child.identity in STRONG or child.identity == walk.UNDIVIDED:
@@ -96,13 +96,14 @@ class Reader:
             elif child is segment:
                 self._add_head(child._replace(sized=sized))
             elif child.place < size:
-                self._add(child, told_end)
+                self._add(child, claimed_end)
         self._add_live(live)
-        if told_end is not None and told_end > size:
-            self.gaps.append((size, told_end - size))
-        if segment and told_end is not None and any(child.place < told_end < child.end for child in self.top if child.identity in STRONG):
+        if claimed_end is not None and claimed_end > size:
+            self.gaps.append((size, claimed_end - size))
+        strong = [child for child in self.top if child.identity in STRONG]
+        if segment and claimed_end is not None and any(child.place < claimed_end < child.end for child in strong):
             self.gaps.insert(0, (segment.place, segment.content - segment.place))
-        return Layout(size, list(self.facts.tracks), self.stretches.frames, self.stretches.made, self.facts.told, self.gaps, rises=True)
+        return Layout(size, list(self.facts.tracks), self.stretches.frames, self.stretches.made, self.facts.claims, self.gaps, rises=True)
 
     # ---- the file as a whole
 
@@ -121,11 +122,11 @@ class Reader:
         end = max(ends, key=lambda each: (each == last, each in sizes, len(ends[each])))
         return end, frozenset(ends[end]) if end == last or end in sizes else NONE
 
-    def _size(self, told_end: typing.Optional[int]) -> int:
+    def _size(self, claimed_end: typing.Optional[int]) -> int:
         """Returns the size of OUT: up to the Segment's end where a copy ends there, or that of the longest copy."""
-        if told_end is not None and any(copy.size == told_end for copy in self.copies):
+        if claimed_end is not None and any(copy.size == claimed_end for copy in self.copies):
             last = max((child.end for child in self.top if child.identity in STRONG), default=0)
-            return told_end if last <= told_end else self.view.end
+            return claimed_end if last <= claimed_end else self.view.end
         return self.view.end
 
     def _without_head(self, child: walk.Child) -> typing.Optional[walk.Child]:
@@ -134,10 +135,10 @@ class Reader:
         if child.identity in TOP.known:
             return None
         heads = [self.view.peek(number, child.place, 4) for number in self.view.numbers]
-        told = [identity for identity in CHILDREN if identity.to_bytes(4, "big") in heads] or list(CHILDREN)
+        named = [identity for identity in CHILDREN if identity.to_bytes(4, "big") in heads] or list(CHILDREN)
         first, last = (child.place + 5, child.place + 13) if child.identity == walk.UNDIVIDED else (child.content, child.content + 1)
         for content in range(first, min(last, child.end)):
-            for identity in told:
+            for identity in named:
                 if walk.divides(self.view, content, child.end, CHILDREN[identity]):
                     return walk.Child(identity, child.place, content, child.end, is_headless=True)
         return None
@@ -179,10 +180,10 @@ class Reader:
         for item in blocks.framing(child):
             self.stretches.plain(item.start, item.end, What(Content.FRAMING), item.vouched)
 
-    def _add(self, child: walk.Child, told_end: typing.Optional[int]) -> None:
+    def _add(self, child: walk.Child, claimed_end: typing.Optional[int]) -> None:
         """Adds a top-level element, or bytes that no copy divides: after the Segment's end they are no gap."""
         if child.identity == walk.UNDIVIDED:
-            if told_end is not None and child.place >= told_end:
+            if claimed_end is not None and child.place >= claimed_end:
                 self.stretches.plain(child.place, child.end, What(Content.UNKNOWN))
             else:
                 self._add_items(self.clusters.read(child.place, child.end))
@@ -251,10 +252,10 @@ def layout(copies: typing.Sequence[Copy]) -> Layout:
     return Reader(copies).layout()
 
 
-def told(copies: typing.Sequence[Copy], layout: Layout) -> typing.Iterator[Told]:
-    """Yields what each copy of the file that a layout describes tells of the recording."""
+def claims(copies: typing.Sequence[Copy], layout: Layout) -> typing.Iterator[Claims]:
+    """Yields what each copy of the file that a layout describes claims of the recording."""
     identities = {content: identity for identity, content in CONTENTS.items() if identity in facts.READ}
-    known: typing.Dict[typing.Tuple[typing.Tuple[int, bytes], ...], Told] = {}
+    known: typing.Dict[typing.Tuple[typing.Tuple[int, bytes], ...], Claims] = {}
     for number, copy in enumerate(copies):
         contents: typing.Dict[int, bytes] = {}
         for stretch in layout.stretches:
@@ -263,5 +264,5 @@ def told(copies: typing.Sequence[Copy], layout: Layout) -> typing.Iterator[Told]
                 contents[identity] = contents.get(identity, b"") + copy.read(place, min(stretch.size, MOST_FACTS))
         key = tuple(sorted(contents.items()))
         if key not in known:
-            known[key] = facts.read(contents).told
+            known[key] = facts.read(contents).claims
         yield known[key]

@@ -68,9 +68,9 @@ class Reader:
 
 
 def mend(program: str, stretches: typing.Sequence[Stretch], listed: pathlib.Path, out: str, out_name: str, copies: typing.Sequence[Copy],
-         work: pathlib.Path, tell: typing.Callable[[int], None]) -> typing.List[Outcome]:
+         work: pathlib.Path, report: typing.Callable[[int], None]) -> typing.List[Outcome]:
     """Has the program write `out`, which a person knows by another name, by a list, and returns what became of each stretch that some copy has
-    otherwise, or that is open. `tell` is called with how many bytes of OUT are done."""
+    otherwise, or that is open. `report` is called with how many bytes of OUT are done."""
     names = [link_to(copy, work) for copy in copies]
     command = [program, "mend", str(listed), out, *map(str, names)]
     found, done, count, is_understood = [], 0, 0, True
@@ -88,7 +88,7 @@ def mend(program: str, stretches: typing.Sequence[Stretch], listed: pathlib.Path
                     count += 1
                     if not outcome.is_undamaged():
                         found.append(outcome)
-                    tell(done)
+                    report(done)
             except (ValueError, IndexError):
                 is_understood = False
                 child.kill()

@@ -1,4 +1,4 @@
-"""What the parts of mend-reel tell each other: copies, what lies where in a file, and what became of it.
+"""What the parts of mend-reel pass to each other: copies, what lies where in a file, and what became of it.
 
 Places and sizes count bytes, times are in seconds. Copies count from 0 here, and from 1 wherever a person reads them.
 """
@@ -71,7 +71,7 @@ class What:
 
 @dataclasses.dataclass(frozen=True)
 class Track:
-    """A track as the container describes it. `step` is the time from a frame to the next, where the container tells it."""
+    """A track as the container describes it. `step` is the time from a frame to the next, where the container gives it."""
 
     number: int
     content: Content
@@ -99,8 +99,8 @@ class Frame:
 
 
 @dataclasses.dataclass(frozen=True)
-class Told:
-    """What a file tells of itself beside its frames: how long it plays, and by track how many frames it has, at what times its index
+class Claims:
+    """What a file claims of itself beside its frames: how long it plays, and by track how many frames it has, at what times its index
     says that some lie, and when it ends. Nothing where it does not say."""
 
     duration: typing.Optional[float] = None
@@ -153,7 +153,7 @@ class Layout:
     tracks: typing.List[Track]
     frames: typing.List[Frame]
     stretches: typing.List[Stretch]
-    told: Told = Told()
+    claims: Claims = Claims()
     gaps: typing.List[typing.Tuple[int, int]] = dataclasses.field(default_factory=list)
     rises: bool = False
 
@@ -190,7 +190,7 @@ def open_copy(path: str) -> Copy:
 
 @dataclasses.dataclass(frozen=True)
 class Place:
-    """A slice of a frame as the program tells it: from where to where in the frame, its state (`settled`, `woven`, `voted`, `repaired`,
+    """A slice of a frame as the program reports it: from where to where in the frame, its state (`settled`, `woven`, `voted`, `repaired`,
     `disputed`, `missing`, or for what its footers do not divide `undivided` between slices, and `broken` at the frame's start), how many
     combinations or repairs were tried, and a mark for each copy."""
 

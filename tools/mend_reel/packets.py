@@ -1,4 +1,4 @@
-"""The packets of a file that FFmpeg reads, and what else its container tells, as ffprobe reports it."""
+"""The packets of a file that FFmpeg reads, and what else its container says, as ffprobe reports it."""
 from __future__ import annotations
 
 import collections
@@ -14,7 +14,7 @@ import zlib
 
 from . import footers
 from .judging import MOST_BYTES
-from .model import Content, Copy, Fault, Told, Track
+from .model import Claims, Content, Copy, Fault, Track
 from .programs import run
 
 # How far after the place that ffprobe reports a packet's bytes are looked for, and after how many misses they no longer are.
@@ -23,9 +23,9 @@ MOST_REMEMBERED = 64
 ENTRIES = ("packet=stream_index,pts_time,dts_time,size,pos,flags"
            "{more}:stream=index,codec_type,codec_name,width,height,avg_frame_rate,nb_frames,duration,start_time:format=format_name,duration")
 CONTENTS = {"video": Content.VIDEO, "audio": Content.SOUND, "subtitle": Content.SUBTITLES}
-# The containers whose header tells how long they play: of others FFmpeg guesses. An AVI file counts empty frames too.
-TELL_DURATION = {"avi", "mov", "mxf"}
-TELL_COUNTS = {"mov", "mxf"}
+# The containers whose header gives how long they play: of others FFmpeg guesses. An AVI file counts empty frames too.
+GIVE_DURATION = {"avi", "mov", "mxf"}
+GIVE_COUNTS = {"mov", "mxf"}
 
 
 class Packet(typing.NamedTuple):
@@ -33,7 +33,7 @@ class Packet(typing.NamedTuple):
 
     stream: int
     time: float
-    told: int
+    reported: int
     size: int
     key: bool
     digest: typing.Optional[int] = None
@@ -46,7 +46,7 @@ class Container:
 
     form: str = ""
     tracks: typing.List[Track] = dataclasses.field(default_factory=list)
-    told: Told = Told()
+    claims: Claims = Claims()
     packets: typing.List[Packet] = dataclasses.field(default_factory=list)
 
     def video(self) -> typing.Set[int]:
@@ -82,28 +82,28 @@ def whole(text: typing.Optional[str], base: int = 10) -> typing.Optional[int]:
     return int(text, base) if text and len(text) < 20 and not text.strip(digits) else None
 
 
-def read_packet(told: typing.Mapping[str, str]) -> typing.Optional[Packet]:
-    time = number(told.get("pts_time"))
-    time = number(told.get("dts_time")) if time is None else time
-    stream, place, size = (whole(told.get(name)) for name in ("stream_index", "pos", "size"))
-    digest = told.get("data_hash", "").rpartition(":")[2]
+def read_packet(values: typing.Mapping[str, str]) -> typing.Optional[Packet]:
+    time = number(values.get("pts_time"))
+    time = number(values.get("dts_time")) if time is None else time
+    stream, place, size = (whole(values.get(name)) for name in ("stream_index", "pos", "size"))
+    digest = values.get("data_hash", "").rpartition(":")[2]
     sum_ = whole(digest, 16)
     if time is None or stream is None or place is None or not size or digest and (sum_ is None or len(digest) != 8):
         return None
-    return Packet(stream, time, place, size, "K" in told.get("flags", ""), sum_)
+    return Packet(stream, time, place, size, "K" in values.get("flags", ""), sum_)
 
 
-def read_track(told: typing.Mapping[str, str]) -> Track:
-    codec, rate = told.get("codec_name", ""), told.get("avg_frame_rate", "0/0").split("/")
+def read_track(values: typing.Mapping[str, str]) -> Track:
+    codec, rate = values.get("codec_name", ""), values.get("avg_frame_rate", "0/0").split("/")
     frames, seconds = (number(rate[0]), number(rate[-1]))
     step = seconds / frames if frames and seconds and codec == "ffv1" else None
-    return Track(int(told["index"]), CONTENTS.get(told.get("codec_type", ""), Content.UNKNOWN), codec, codec == "ffv1",
-                 int(number(told.get("width")) or 0), int(number(told.get("height")) or 0), step=step)
+    return Track(int(values["index"]), CONTENTS.get(values.get("codec_type", ""), Content.UNKNOWN), codec, codec == "ffv1",
+                 int(number(values.get("width")) or 0), int(number(values.get("height")) or 0), step=step)
 
 
-def read_end(told: typing.Mapping[str, str]) -> typing.Optional[float]:
-    duration = number(told.get("duration"))
-    return None if duration is None else duration + (number(told.get("start_time")) or 0.0)
+def read_end(values: typing.Mapping[str, str]) -> typing.Optional[float]:
+    duration = number(values.get("duration"))
+    return None if duration is None else duration + (number(values.get("start_time")) or 0.0)
 
 
 def read_lines(lines: typing.Iterable[str]) -> Container:
@@ -112,23 +112,23 @@ def read_lines(lines: typing.Iterable[str]) -> Container:
     ends: typing.Dict[int, float] = {}
     counts: typing.Dict[int, int] = {}
     for line in lines:
-        kind, told = fields(line)
+        kind, values = fields(line)
         if kind == "packet":
-            packet = read_packet(told)
+            packet = read_packet(values)
             if packet:
                 container.packets.append(packet)
-        elif kind == "stream" and whole(told.get("index")) is not None:
-            track, end = read_track(told), read_end(told)
+        elif kind == "stream" and whole(values.get("index")) is not None:
+            track, end = read_track(values), read_end(values)
             container.tracks.append(track)
-            count = whole(told.get("nb_frames"))
+            count = whole(values.get("nb_frames"))
             if count is not None:
                 counts[track.number] = count
             if end is not None:
                 ends[track.number] = end
         elif kind == "format":
-            container.form, duration = told.get("format_name", "").split(",")[0], number(told.get("duration"))
-    if container.form in TELL_DURATION:
-        container.told = Told(duration, counts if container.form in TELL_COUNTS else {}, {}, ends)
+            container.form, duration = values.get("format_name", "").split(",")[0], number(values.get("duration"))
+    if container.form in GIVE_DURATION:
+        container.claims = Claims(duration, counts if container.form in GIVE_COUNTS else {}, {}, ends)
     return container
 
 
@@ -207,7 +207,7 @@ class Locator:
         self.misses, self.end = 0, -1
 
     def place(self, packet: Packet) -> typing.Optional[int]:
-        if packet.size > MOST_BYTES or packet.told + packet.size > self.copy.size:
+        if packet.size > MOST_BYTES or packet.reported + packet.size > self.copy.size:
             return None
         place = self.search(packet)
         self.misses = 0 if place is not None else self.misses + 1
@@ -216,11 +216,11 @@ class Locator:
 
     def search(self, packet: Packet) -> typing.Optional[int]:
         for step in self.steps if self.misses < MOST_MISSES else self.steps[:3]:
-            if self.lies(packet, packet.told + step):
+            if self.lies(packet, packet.reported + step):
                 self.steps.remove(step)
                 self.steps.insert(0, step)
-                return packet.told + step
-        if packet.told < self.end <= packet.told + FARTHEST + packet.size and self.lies(packet, self.end):
+                return packet.reported + step
+        if packet.reported < self.end <= packet.reported + FARTHEST + packet.size and self.lies(packet, self.end):
             return self.end
         return None
 
@@ -235,5 +235,5 @@ class Locator:
 def locate(copy: Copy, packets: typing.Sequence[Packet], video: typing.Container[int]) -> typing.List[Packet]:
     """The packets with their places. Without a digest those that are not of FFV1 tracks lie where they are reported, or some bytes after."""
     locators: typing.Dict[int, Locator] = collections.defaultdict(lambda: Locator(copy))
-    return [packet._replace(place=packet.told) if packet.digest is None and packet.stream not in video
+    return [packet._replace(place=packet.reported) if packet.digest is None and packet.stream not in video
             else packet._replace(place=locators[packet.stream].place(packet)) for packet in packets]

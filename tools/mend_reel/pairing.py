@@ -12,7 +12,7 @@ from .model import Copy, Frame, Layout
 TAIL = 32
 MOST_READ = 4
 NEAR = 0.4
-# What tells a frame from others: its size and its last bytes.
+# What distinguishes a frame from others: its size and its last bytes.
 Key = typing.Tuple[int, bytes]
 
 

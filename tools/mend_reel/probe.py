@@ -8,7 +8,7 @@ import itertools
 import typing
 
 from .judging import Judge, Judged
-from .model import Content, Copy, Frame, Kind, Layout, Stretch, Told, Track, What
+from .model import Claims, Content, Copy, Frame, Kind, Layout, Stretch, Track, What
 from .packets import Container, Packet, contain, with_records
 
 LONGEST_PLAIN = 1 << 20
@@ -36,7 +36,7 @@ def layout(copies: typing.Sequence[Copy], judge: typing.Optional[Judge] = None, 
     found = shown.frames(judge)
     stretches = Cover([copy.size for copy in copies], found, shown.others(found), base.tracks).stretches()
     tracks = with_records(copies[containers.index(base)], base.tracks) if records else base.tracks
-    return Layout(max(copy.size for copy in copies), tracks, found, stretches, common_told(containers, base))
+    return Layout(max(copy.size for copy in copies), tracks, found, stretches, common_claims(containers, base))
 
 
 class Shown:
@@ -71,7 +71,7 @@ class Shown:
         return clear
 
     def worth(self, spots: typing.Sequence[Spot], judge: typing.Optional[Judge]) -> typing.Dict[Spot, typing.Tuple[bool, int, int]]:
-        """Whether a spot has an intact frame in some copy, how many slices of it pass at most, and how many containers show it."""
+        """Whether a spot has a passing frame in some copy, how many slices of it pass at most, and how many containers show it."""
         ranges = [spot[:2] for spot in spots]
         judged = [judge(copy, ranges) for copy in self.copies] if judge else [[Judged()] * len(spots)]
         return {spot: (any(each.is_intact() for each in answers), max(each.passing for each in answers), len(self.spots[spot]))
@@ -131,10 +131,10 @@ def chosen_without_overlaps(spots: typing.Iterable[Spot]) -> typing.List[Spot]:
     return chosen
 
 
-def common_told(containers: typing.Sequence[Container], base: Container) -> Told:
-    """What most of the containers tell, or else the base."""
-    told = [container.told for container in containers if container.form == base.form]
-    return max(told, key=lambda each: (told.count(each), each == base.told))
+def common_claims(containers: typing.Sequence[Container], base: Container) -> Claims:
+    """What most of the containers claim, or else the base."""
+    claims = [container.claims for container in containers if container.form == base.form]
+    return max(claims, key=lambda each: (claims.count(each), each == base.claims))
 
 
 @dataclasses.dataclass

@@ -98,9 +98,9 @@ class Reason:
 
     def text(self, out: str = "OUT") -> str:
         """The reason in a line, in which OUT has a name."""
-        told = self.why.value.format(it="them" if self.is_many() else "it", source=one_more(self.source), because=self.because.value,
-                                     copy=one_more(self.copy), has=self.has, count=self.count, out=out)
-        return f"{self.subject(out)}{self.where()}: {told}"
+        why = self.why.value.format(it="them" if self.is_many() else "it", source=one_more(self.source), because=self.because.value,
+                                    copy=one_more(self.copy), has=self.has, count=self.count, out=out)
+        return f"{self.subject(out)}{self.where()}: {why}"
 
 
 def one_more(number: typing.Optional[int]) -> str:
@@ -167,5 +167,5 @@ def join(reasons: typing.Iterable[Reason]) -> typing.List[Reason]:
 
 def lines(reasons: typing.Sequence[Reason], out: str = "OUT", most: int = MOST_LINES) -> typing.List[str]:
     """The reasons in lines, so many at most, and how many more there are."""
-    told = [reason.text(out) for reason in reasons[:most]]
-    return told + ([f"and {len(reasons) - most} more"] if len(reasons) > most else [])
+    shown = [reason.text(out) for reason in reasons[:most]]
+    return shown + ([f"and {len(reasons) - most} more"] if len(reasons) > most else [])

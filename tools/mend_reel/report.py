@@ -63,8 +63,8 @@ def doubts(account: Account) -> str:
     return made + ("<h2>Notes</h2>" + items(notes) if notes else "")
 
 
-def items(told: typing.Iterable[str]) -> str:
-    return "<ul>" + "".join(f"<li>{text(line)}</li>" for line in told) + "</ul>"
+def items(entries: typing.Iterable[str]) -> str:
+    return "<ul>" + "".join(f"<li>{text(line)}</li>" for line in entries) + "</ul>"
 
 
 def counts(account: Account) -> str:
@@ -131,12 +131,12 @@ def table(heads: typing.Sequence[str], rows: str, count: int) -> str:
 
 def frame_row(fate: FrameFate, columns: typing.Sequence[int], several: bool) -> str:
     damaged = [place for place in fate.slices if place.state != "settled" or "0" in place.marks]
-    told = [f"{', '.join(f'{place.start} to {place.end}' for place in group)}: {how}"
-            for how, group in itertools.groupby(damaged[:MOST_SLICES], key=lambda place: how_slice(place, columns))]
-    told += [f"and {len(damaged) - MOST_SLICES} more slices"] if len(damaged) > MOST_SLICES else []
+    spans = [f"{', '.join(f'{place.start} to {place.end}' for place in group)}: {how}"
+             for how, group in itertools.groupby(damaged[:MOST_SLICES], key=lambda place: how_slice(place, columns))]
+    spans += [f"and {len(damaged) - MOST_SLICES} more slices"] if len(damaged) > MOST_SLICES else []
     track = f'<td class="n">{fate.frame.track}</td>' if several else ""
     return (f'<tr><td class="n">{fate.order}</td>{track}<td class="n">{clock(fate.frame.time)}</td><td>{numbers(fate.damaged)}</td>'
-            f"<td class=\"k\">{fate.fate.value}</td><td>{'<br>'.join(map(text, told))}</td></tr>")
+            f"<td class=\"k\">{fate.fate.value}</td><td>{'<br>'.join(map(text, spans))}</td></tr>")
 
 
 def how_slice(place: Place, columns: typing.Sequence[int]) -> str:

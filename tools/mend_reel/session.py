@@ -15,7 +15,7 @@ from .jobs import of_each
 from .judging import Scan
 from .keeping import Held, Keeper
 from .mending import mend
-from .model import Copy, Frame, Layout, Outcome, Stretch, Told, open_copy
+from .model import Claims, Copy, Frame, Layout, Outcome, Stretch, open_copy
 from .options import Options
 from .programs import find_ffv1restore
 from .progress import Progress
@@ -62,13 +62,14 @@ class Session:
         if health.lack_parities(layout, columns.files):
             layout = health.without_parts(layout)
             self.notes.append(health.NO_PARITIES)
-        told = self.compare(layout, columns)
+        claims = self.compare(layout, columns)
         add_other_files(columns, layout, copies, arrangement.matched, self.work)
         others = {matched.number: matching.describe([copies[matched.number]], self.judge, False) for matched in arrangement.matched}
-        told += [other.told for other in others.values()]
+        claims += [other.claims for other in others.values()]
         made = self.make(layout, columns)
-        verdict = judge(Evidence(layout, made.stretches, made.outcomes, made.out, told, arrangement.matched, arrangement.left, columns.numbers,
-                                 {number: other.tracks for number, other in others.items()}, self.has_damaged_heads, made.decoded))
+        verdict = judge(Evidence(layout, made.stretches, made.outcomes, made.out, claims, arrangement.matched, arrangement.left,
+                                 columns.numbers, {number: other.tracks for number, other in others.items()}, self.has_damaged_heads,
+                                 made.decoded))
         self.keep_frames(layout, columns, made, verdict)
         account = Reporter(self.options, self.program, self.files, self.notes).report(copies, arrangement, layout, verdict, made.part)
         self.keeper.hand_over(self.options.copies)
@@ -83,11 +84,11 @@ class Session:
 
     # ---- the list
 
-    def compare(self, layout: Layout, columns: Columns) -> typing.List[Told]:
-        """Splits plain stretches where copies begin and end to differ, and takes away broken element headers. Returns what each copy tells of
-        the recording."""
+    def compare(self, layout: Layout, columns: Columns) -> typing.List[Claims]:
+        """Splits plain stretches where copies begin and end to differ, and takes away broken element headers. Returns what each copy claims
+        of the recording."""
         copies, stretches = list(columns.files), []
-        told = self.told(layout, copies)
+        claims = self.claims(layout, copies)
         self.progress.begin("comparing the copies")
         for stretch in layout.stretches:
             stretches += differences.split(stretch, copies)
@@ -101,17 +102,17 @@ class Session:
             places = f"{count} places" if count > 1 else "one place"
             self.has_damaged_heads = True
             self.notes.append(f"copy {columns.numbers[number] + 1} has damaged element headers in {places}, where those of another copy lead on")
-        return told
+        return claims
 
     @staticmethod
-    def told(layout: Layout, copies: typing.Sequence[Copy]) -> typing.List[Told]:
-        """What the copies of one file tell of the recording: those of a Matroska file in the same elements."""
+    def claims(layout: Layout, copies: typing.Sequence[Copy]) -> typing.List[Claims]:
+        """What the copies of one file claim of the recording: those of a Matroska file in the same elements."""
         if any(copy.form == MATROSKA for copy in copies):
-            return [layout.told, *matroska.told(copies, layout)]
-        return [packets.contain(copy).told for copy in copies]
+            return [layout.claims, *matroska.claims(copies, layout)]
+        return [packets.contain(copy).claims for copy in copies]
 
     def passing(self, frames: typing.Sequence[Stretch], copies: typing.Sequence[Copy]) -> typing.List[typing.FrozenSet[int]]:
-        """For each of some frames the copies that have it intact."""
+        """For each of some frames the copies in which it passes."""
         def intact(number: int) -> typing.Set[int]:
             having = [(at, place) for at, frame in enumerate(frames) if (place := frame.places[number]) is not None]
             judged = self.judge(copies[number], [(place, frames[at].size) for at, place in having])

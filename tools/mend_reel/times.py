@@ -51,16 +51,16 @@ def tracks_of(layout: Layout) -> typing.List[TrackTimes]:
     return made
 
 
-def constant_step(times: typing.Sequence[float], told: typing.Optional[float]) -> typing.Optional[float]:
-    """The time from a frame to the next, if it is constant: what the container tells, if the frames have it so; else what most have."""
+def constant_step(times: typing.Sequence[float], claimed: typing.Optional[float]) -> typing.Optional[float]:
+    """The time from a frame to the next, if it is constant: what the container claims, if the frames have it so; else what most have."""
     steps = [after - before for before, after in zip(times, times[1:]) if after > before]
     if not steps:
-        return told
+        return claimed
     usual = statistics.median(steps)
-    if told and 0.75 * told < usual < 1.25 * told:
-        usual = told
+    if claimed and 0.75 * claimed < usual < 1.25 * claimed:
+        usual = claimed
     near = sum(0.5 * usual < step < 1.5 * usual for step in steps)
-    return usual if near >= CONSTANT * len(steps) or usual == told and 2 * near > len(steps) else None
+    return usual if near >= CONSTANT * len(steps) or usual == claimed and 2 * near > len(steps) else None
 
 
 def end_of(layout: Layout) -> typing.Tuple[float, float]:
@@ -76,5 +76,5 @@ def end_of(layout: Layout) -> typing.Tuple[float, float]:
 def lasts(layout: Layout) -> typing.Optional[float]:
     """How long a file says that it lasts, if it ends before."""
     end, room = end_of(layout)
-    duration = layout.told.duration
+    duration = layout.claims.duration
     return duration if duration and duration - end > room else None

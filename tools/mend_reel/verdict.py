@@ -8,7 +8,7 @@ import typing
 from .completeness import Seen, find_lacks
 from .fates import Counts, Fate, Fates, FrameFate, GUESSED, Sums, is_guessed
 from .matching import Left, Matched
-from .model import Because, Content, Kind, Layout, Outcome, State, Stretch, Told, Track
+from .model import Because, Claims, Content, Kind, Layout, Outcome, State, Stretch, Track
 from .reasons import Reason, Why, join
 
 # What remains of a cluster when the frames in it that are not restored are named.
@@ -19,15 +19,15 @@ PLAYED = (Content.SOUND, Content.VIDEO, Content.SUBTITLES)
 @dataclasses.dataclass
 class Evidence:
     """What the verdict is judged by: what OUT was made by and its stretches as they were listed; what became of those that are not undamaged;
-    what lies where in OUT as it was read again (None where nothing can be read); what the containers of copies tell of the recording; copies
-    that are other files; copies that are left out; which copy each mark of an outcome is of; the tracks of the other files; whether
+    what lies where in OUT as it was read again (None where nothing can be read); what the containers of copies claim of the recording;
+    copies that are other files; copies that are left out; which copy each mark of an outcome is of; the tracks of the other files; whether
     damaged element headers of copies were left out; and the places of frames with guessed slices that decode."""
 
     layout: Layout
     stretches: typing.Sequence[Stretch]
     outcomes: typing.Sequence[Outcome]
     out: typing.Optional[Layout]
-    told: typing.Sequence[Told] = ()
+    claims: typing.Sequence[Claims] = ()
     matched: typing.Sequence[Matched] = ()
     left: typing.Sequence[Left] = ()
     columns: typing.Sequence[int] = ()
@@ -66,7 +66,7 @@ def judge(evidence: Evidence) -> Verdict:
     sums, counts = fates.sums(), fates.counts()
     found = [*of_gaps(evidence.layout), *of_stretches(fates)]
     found.sort(key=lambda reason: reason.bytes or (0, 0))
-    found += find_lacks(Seen(evidence.layout, evidence.out, fates, evidence.told, evidence.matched))
+    found += find_lacks(Seen(evidence.layout, evidence.out, fates, evidence.claims, evidence.matched))
     found += of_tracks(evidence)
     if sum(track.is_ffv1 for track in evidence.layout.tracks) == 1:
         found = [dataclasses.replace(reason, track=None) if reason.content is Content.FRAME else reason for reason in found]

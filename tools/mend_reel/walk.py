@@ -125,7 +125,7 @@ class Walk:
 
     # ---- where they do not
 
-    def _told(self, place: int, live: bool, known: bool = True) -> typing.List[Child]:
+    def _candidates(self, place: int, live: bool, known: bool = True) -> typing.List[Child]:
         """Returns the children that may begin at a place: the ID that any copy has there with the size that any has after it."""
         data = {number: self.view.peek(number, place, ebml.LONGEST_HEAD) for number in self.view.numbers}
         identities: typing.Dict[typing.Tuple[int, int], typing.Set[int]] = {}
@@ -133,7 +133,7 @@ class Walk:
             identity = ebml.read_identity(each, 0)
             if identity and self._is_known(identity[0], live) == known:
                 identities.setdefault(identity, set()).add(number)
-        told = []
+        found = []
         for (value, length), identified in sorted(identities.items()):
             sizes: typing.Dict[typing.Tuple[typing.Optional[int], int], typing.Set[int]] = {}
             for number, each in data.items():
@@ -145,8 +145,8 @@ class Walk:
                 head = ebml.Head(value, place + length, content, None if size_ is None else content + size_)
                 child = self._child(place, head, frozenset(identified), frozenset(sized))
                 if child:
-                    told.append(child)
-        return told
+                    found.append(child)
+        return found
 
     def _leads_on(self, child: Child, live: bool, depth: int = 0) -> bool:
         """Reports whether a child ends where the master does, or where something known begins: an element with a strong ID, or several."""
@@ -158,7 +158,7 @@ class Walk:
         if (place, live, depth) not in self._leads:
             self._leads[place, live, depth] = any(
                 each.identity in self.level.strong or depth + 1 >= MOST_STEPS or self._leads_on(each, live, depth + 1)
-                for each in self._told(place, live))
+                for each in self._candidates(place, live))
         return self._leads[place, live, depth]
 
     def _passes(self, child: Child) -> bool:
@@ -169,26 +169,27 @@ class Walk:
 
     def _hides(self, child: Child) -> bool:
         """Reports whether an element with a strong ID begins within a child of an unknown one: it is an opened element with a wrong ID."""
-        return any(each.identity in self.level.strong and self._leads_on(each, False) for each in self._told(child.content, False))
+        return any(each.identity in self.level.strong and self._leads_on(each, False) for each in self._candidates(child.content, False))
 
     def _edges(self, place: int, live: bool) -> typing.List[typing.Tuple[Cost, Child]]:
         """Returns the steps from a place, and what each costs."""
-        told, reach = self._told(place, live), len(self.view.reaching(place))
-        is_known = bool(told)
+        candidates, reach = self._candidates(place, live), len(self.view.reaching(place))
+        is_known = bool(candidates)
         if not is_known:
-            told = [child for child in self._told(place, live, known=False) if self._leads_on(child, live) and not self._hides(child)]
-        if len(told) == 1 and len(told[0].vouched) == reach and self._leads_on(told[0], live):
-            return [((0, 0, 0), told[0])]
+            candidates = [child for child in self._candidates(place, live, known=False)
+                          if self._leads_on(child, live) and not self._hides(child)]
+        if len(candidates) == 1 and len(candidates[0].vouched) == reach and self._leads_on(candidates[0], live):
+            return [((0, 0, 0), candidates[0])]
         # A known ID with a wrong bit leads on too.
-        told = told if is_known else [child._replace(identified=NONE) for child in told]
-        passing = [child for child in told if self._passes(child)]
+        candidates = candidates if is_known else [child._replace(identified=NONE) for child in candidates]
+        passing = [child for child in candidates if self._passes(child)]
         if passing:
             return [((0, 0, 0), decided(child, passing)) for child in passing]
-        leading = [child for child in told if self._leads_on(child, live)]
-        shows = {child: self._confirms(child) for child in told if len(told) > 1 or not leading}
-        shown = [child for child in told if shows.get(child)]
+        leading = [child for child in candidates if self._leads_on(child, live)]
+        shows = {child: self._confirms(child) for child in candidates if len(candidates) > 1 or not leading}
+        shown = [child for child in candidates if shows.get(child)]
         edges = []
-        for child in told:
+        for child in candidates:
             if child in shown or child in leading:
                 weaker = reach if shown and child not in shown else 0
                 edges.append(((0, 0, reach - len(child.vouched) + weaker), decided(child, shown or leading)))
@@ -258,8 +259,8 @@ class Walk:
             place += size
 
     def _is_sure(self, place: int) -> bool:
-        told = [child for child in self._told(place, False) if not self.level.strong or child.identity in self.level.strong]
-        return any(self._leads_on(child, False) or self._confirms(child) or self._passes(child) for child in told)
+        candidates = [child for child in self._candidates(place, False) if not self.level.strong or child.identity in self.level.strong]
+        return any(self._leads_on(child, False) or self._confirms(child) or self._passes(child) for child in candidates)
 
 
 def divide(view: View, start: int, end: int, level: Level, budget: Budget, is_cut: bool = False) -> typing.List[Child]:

@@ -1,5 +1,5 @@
--- Elements whose first child is a CRC-32 element (RFC 8794, section 11.3.1): its ID BF, its size 4 as 84, and the CRC-32 of all that follows
--- it in its parent, the lowest byte first.
+-- Elements whose first child is a CRC-32 element (RFC 8794, section 11.3.1): its ID BF, its size 4 as 84, and the CRC-32 of all that
+-- follows it in its parent, the lowest byte first.
 use Rattle.std.specs.Prelude.{ℕ, ◌+◌, ◌≡◌, List, ◌∷◌, ◌++◌, length, take, drop, bit_xor}
 use Rattle.std.specs.Int.{w32, to_le_bytes}
 use Rattle.ffv1_bits.specs.Parity.{AreBytes}

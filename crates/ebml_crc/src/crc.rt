@@ -1,5 +1,6 @@
 //! The CRC-32 of bytes, sixteen at once. It is the remainder by which slices are judged, of bits that stand in another order: each
-//! byte's lowest comes first. The register is held in that order too, with the bit of x ^ 31 as the lowest, so bytes go into it as they are.
+//! byte's lowest comes first. The register is held in that order too, with the bit of x ^ 31 as the lowest, so bytes go into it as they
+//! are.
 ghost use Rattle.std.specs.Prelude.{◌≡◌, ◌+◌, ◌*◌, ◌≤◌, [], ◌∷◌};
 ghost use Rattle.std.specs.Int.{w64, to_le_bytes};
 ghost use Rattle.std.specs.List.{concat};

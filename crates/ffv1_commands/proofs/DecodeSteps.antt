@@ -25,7 +25,7 @@ abbrev IsMemory : FrameFault → Type 0
 IsMemory frames.Memory = Unit {0}
 IsMemory fault = ⊥
 
--- a payload's fault is told as such, and Memory as its own
+-- a payload's fault is reported as `Frame`, and memory as `Memory`
 pub frame_refused : (setup : SetupValue) (a b : ReadLog) (payload : List ℕ) → TakesWhole a b payload → (fault : FrameFault)
     → IsFirstFault setup payload fault → FrameStops setup a b (of_frame fault)
 frame_refused setup a b payload read frames.Memory first = (payload, read.read, read.few)

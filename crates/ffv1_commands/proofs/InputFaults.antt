@@ -1,4 +1,4 @@
--- What a fault that comes before anything is written says: which path it names, and that it tells nothing of the outputs.
+-- What a fault that comes before anything is written says: which path it names, and that the outputs are as they were.
 use Rattle.std.proofs.Common.{◌≡◌, ℕ, List, Option, IfSome, refl, sym, subst}
 use Rattle.ffv1_hold.specs.FileFaults.{IsFaultOf}
 use Rattle.ffv1_hold.specs.declared.file_fault.HoldFileFault.{HoldFileFault}

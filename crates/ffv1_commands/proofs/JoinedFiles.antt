@@ -1,4 +1,4 @@
--- What joining files tells of them and of the outputs.
+-- What joining files says of them and of the outputs.
 use Rattle.std.proofs.Common.{◌≡◌, ◌≢◌, ℕ, suc, ◌+◌, ◌<◌, List, [], ◌∷◌, ◌++◌, length, map, get_or, Option, None, IfSome, Result, Ok, Err, OnOk, IfErr, refl, sym, ap, ◌∙◌, subst, inl, inr, arith}
 use Rattle.std.proofs.KnownBytes.{Consumes-nil}
 use Rattle.std.proofs.lemmas.List.{length-map}
@@ -25,7 +25,7 @@ use Rattle.ffv1_commands.proofs.MadeFiles.{made_says, made_bytes}
 
 -- ---- one file
 
--- a file that was read and joined is joined as its input tells
+-- a file that was read and joined is joined as its input's bytes say
 abbrev file_joined : (a b : ReadLog) (number : ℕ) (old new : Contents) (lines lines' : List ℕ) → JoinsOne (ReadsHolding a b) number old new lines lines'
     → JoinsOne (IsHoldingFile a.remaining) number old new lines lines'
 file_joined a b number old new lines lines' one = record {
@@ -51,7 +51,7 @@ unbuffered path whole input = (
   )),
 )
 
--- a file that was read is refused for its reel, or memory was
+-- a file that was read is refused for its reel, or memory ran out
 pub join_refused : (before : ℕ) (a b : ReadLog) (whole other : Contents) → ReadsHolding a b other → (r : Result ℕ HoldFault) (fault : HoldFault)
     → r ≡ Err fault → (r ≡ Err holds.OtherReel → ¬ IsSameReel whole other) → r ≢ Err holds.PayloadTooLong
     → JoinBreaks (paths.Hold before) whole (of_hold fault) a b
@@ -148,7 +148,7 @@ later_kept inputs old new (faults.Hold fault) stops = stops
 later_kept inputs old new (faults.HoldFile fault) stops = inl stops
 later_kept inputs old new fault stops = tt
 
--- ---- what is told over the logs
+-- ---- over the logs of the devices
 
 IsFaultOfFiles-unwritten : (inputs : List (Option (List ℕ))) (fault : CliFault) → IsFaultOfFiles inputs fault → IsUnwritten fault
 IsFaultOfFiles-unwritten inputs (faults.Write path) (i, lt, before, stops) = absurd stops

@@ -54,7 +54,7 @@ none_is_bad copies text stretches number list bad =
     let front = front_listed copies (bad.earlier ++ bad.line ∷ []) bad.later stretches listed in
     bad.bad front.0 front.1
 
--- what the text of a list says, where it is told
+-- what the text of a list says, where it is known
 list_says : (P : List ℕ → Type 0) (list : List ℕ) → IsList P (Some list) → P list
 list_says P list is = subst P (sym is.whole.told) is.says
 

@@ -1,4 +1,4 @@
--- A file that is mended over devices, told over the bytes of its list, its copies and its outputs.
+-- A file that is mended over devices, stated of the bytes of its list, its copies and its outputs.
 use Rattle.std.proofs.Common.{◌≡◌, ℕ, zero, suc, ◌<◌, List, [], ◌∷◌, ◌++◌, length, map, Option, Bool, Result, Ok, Err, IfOk, IfErr, sym, ap, ◌∙◌, subst, inl, inr, arith}
 use Rattle.std.specs.Prelude.{All}
 use Rattle.std.proofs.lemmas.List.Elements.{All-nil, All-cons}

@@ -127,7 +127,7 @@ merge_names : (f : HoldFileFault) → NamesPath IsMergePath (of_merge f)
 merge_names files.Read = tt
 merge_names fault = tt
 
--- what is told over bytes
+-- the same of bytes
 pub record MergeOfBytes {T : Type 0} (r : Result T CliFault) (left right before after : Option (List ℕ)) : Type 0 where
   pub ok : OnOk r (MergesFiles left right before after)
   pub err : IfErr r (IsMergeFault left right)
@@ -152,7 +152,7 @@ module _ {T : Type 0} (old new : Devices) where
     names = merge_names f;
   })
 
--- ---- answers
+-- ---- what the command returns
 
 outside_other : (f : HoldFileFault) → IsOutside f → AnswersOtherHeads (Err (of_merge f))
 outside_other files.Read out = tt

@@ -1,4 +1,4 @@
--- Lines of numbers, by their pieces: those of tiles, of a frame, of copies and of holding files.
+-- Lines of numbers, by the texts that are written one after the other: those of tiles, of a frame, of copies and of holding files.
 use Rattle.std.proofs.Common.{◌≡◌, ℕ, ◌++◌, List, ◌∙◌, append_assoc}
 use Rattle.std.specs.Prelude.{codes}
 use Rattle.std.specs.Fmt.{decimal}
@@ -8,7 +8,7 @@ use Rattle.ffv1_commands.specs.TakeText.{copy_line}
 use Rattle.ffv1_commands.specs.JoinText.{file_line}
 use Rattle.ffv1_commands.specs.RestoreText.{restored_line}
 
--- nine pieces grouped from the right, as they are written one after the other
+-- nine texts grouped from the right, as they are written one after the other
 append-nine : (a b c d e f g h i : List ℕ) → a ++ b ++ c ++ d ++ e ++ f ++ g ++ h ++ i ≡ a ++ (b ++ (c ++ (d ++ (e ++ (f ++ (g ++ (h ++ i)))))))
 append-nine a b c d e f g h i =
     append_assoc (a ++ b ++ c ++ d ++ e ++ f ++ g) h i ∙ append_assoc (a ++ b ++ c ++ d ++ e ++ f) g (h ++ i)

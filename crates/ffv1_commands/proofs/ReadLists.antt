@@ -1,4 +1,4 @@
--- What is told of a list that was read.
+-- What holds of a list that was read.
 use Rattle.std.proofs.Common.{ℕ, List}
 use Rattle.ffv1_devices.specs.Logs.{ReadLog}
 use Rattle.ffv1_commands.specs.Lists.{ReadsList, IsList}

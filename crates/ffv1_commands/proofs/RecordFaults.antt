@@ -24,7 +24,7 @@ RecordStops-says P width height a b faults.Memory read memory first within = mem
 RecordStops-says P width height a b (faults.Setup setup) read memory first (config, took, is) = first setup config took is
 RecordStops-says P width height a b fault read memory first stops = absurd stops
 
--- a setup's fault is Memory, or told as its own
+-- a setup's fault is Memory, or reported as `Setup`
 setups : (P : CliFault → Type 0) (fault : SetupFault) → P faults.Memory → P (faults.Setup fault) → P (of_setup fault)
 setups P setup.Memory memory other = memory
 setups P fault memory other = other

@@ -1,4 +1,4 @@
--- A scan over devices, told over the bytes of its inputs and its output.
+-- A scan over devices, stated of the bytes of its inputs and its output.
 use Rattle.std.proofs.Common.{◌≡◌, ℕ, List, Option, Bool, Result, Ok, Err, IfOk, IfErr, sym, subst, inl, inr}
 use Rattle.std.proofs.KnownBytes.{Keeps-refl}
 use Rattle.std.specs.Io.KnownBytes.{Appends, Keeps}
@@ -16,7 +16,7 @@ use Rattle.ffv1_commands.specs.declared.fault.CliFault.TheVariants as faults
 use Rattle.ffv1_commands.proofs.InputLaws.{begins}
 use Rattle.ffv1_commands.proofs.ReadLists.{list_of_bytes}
 
--- what is read and written is told in another way
+-- what is read and written is stated in another way
 abbrev told_as : (ranges front : List ByteRange) (Read Read' Wrote Wrote' : List ℕ → Type 0) → ((bytes : List ℕ) → Read bytes → Read' bytes)
     → ((text : List ℕ) → Wrote text → Wrote' text) → ScansFront ranges front Read Wrote → ScansFront ranges front Read' Wrote'
 told_as ranges front Read Read' Wrote Wrote' read wrote scan = record {

@@ -1,4 +1,4 @@
--- What telling a setup does to the output, and what it says of the bytes.
+-- What printing a setup does to the output, and what it says of the bytes.
 use Rattle.std.proofs.Common.{◌≡◌, ℕ, ◌≤◌, List, length, Option, IfSome, Result, Ok, Err, OnOk, IfErr, refl, sym, subst}
 use Rattle.std.specs.Io.KnownBytes.{Keeps}
 use Rattle.std.proofs.KnownBytes.{Consumes-whole, Keeps-refl}
@@ -38,7 +38,7 @@ pub record ShowOfBytes {T : Type 0} (r : Result T CliFault) (width height : ℕ)
   pub names : IfErr r (NamesPath IsShowPath)
 
 module _ (a b : ReadLog) (config : List ℕ) (took : TakesWhole a b config) where
-  -- what holds of the bytes that were read holds of those that the input tells
+  -- what holds of the bytes that were read holds of those that the input has, if they are known
   of_input : (P : List ℕ → Type 0) → P config → IfSome a.remaining P
   of_input P here = let whole = whole_of a b config took in Consumes-whole _ _ config P whole.taken whole.end here
 

@@ -25,7 +25,7 @@ use Rattle.ffv1_commands.proofs.CommandLaws.{whole_inputs}
 
 -- ---- what is made is what the splice says
 
--- the command's answer, as the splice says it
+-- what the command makes and returns, as the splice says it
 pub record IsMadeBy (copies : List (List ℕ)) (spliced : SplicedValue) (made : Made) : Type 0 where
   pub is_splice : IsSpliceOf copies spliced
   pub file : made.file ≡ spliced.payload

@@ -1,4 +1,4 @@
--- One copy more is taken and told.
+-- One copy more is taken, and its line is added.
 use Rattle.std.proofs.Common.{◌≡◌, ℕ, ◌+◌, ◌-◌, List, [], ◌∷◌, ◌++◌, length, Option, sym, ap, ◌∙◌, append_assoc, append-nil}
 use Rattle.ffv1_slice.specs.Walk.{links_of}
 use Rattle.ffv1_slice.specs.Slices.{found_slices}

@@ -1,4 +1,4 @@
--- What taking copies tells of the record, the copies and the outputs.
+-- What taking copies says of the record, the copies and the outputs.
 use Rattle.std.proofs.Common.{◌≡◌, ℕ, ◌+◌, ◌<◌, List, length, map, take, Option, Result, Ok, Err, OnOk, IfErr, refl, sym, ap, subst, inl, inr, arith}
 use Rattle.std.specs.Io.KnownBytes.{Appends}
 use Rattle.std.proofs.lemmas.List.{length-map}
@@ -69,7 +69,7 @@ copy_untaken before a b copy took holds.Memory short = (copy, took.read, took.fe
 copy_untaken before a b copy took holds.PayloadTooLong long = absurd (omega (arith, took.few, long))
 copy_untaken before a b copy took holds.OtherReel none = absurd none
 
--- ---- what is told over the logs
+-- ---- over the logs of the devices
 
 -- the record is that of its reel
 pub reel_read : (a b : ReadLog) (config : List ℕ) (width height : ℕ) (reel : Reel) → TakesWhole a b config → IsReelOf config width height reel

@@ -1,4 +1,4 @@
--- What is told of the bytes of a file, by how it was read.
+-- What holds of the bytes of a file, by how it was read.
 use Rattle.std.proofs.Common.{◌<◌, ℕ, List, length, Option, None, Some, IfSome, refl, ap, arith, length-append}
 use Rattle.std.specs.Io.KnownBytes.{Consumes}
 use Rattle.ffv1_devices.specs.Logs.{ReadLog}

@@ -1,4 +1,4 @@
--- A frame that the command `splice` tells whole.
+-- What the command `splice` wrote is a whole frame where it returned `true`.
 use Rattle.std.proofs.Common.{sym, subst}
 use Rattle.ffv1_splice.specs.Whole.{IsWholeFrame}
 use Rattle.ffv1_splice.proofs.WholeFrames.{given_back_is_whole}

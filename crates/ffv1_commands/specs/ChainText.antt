@@ -1,4 +1,4 @@
--- The text that tells the chain of a payload: a line for each link, from the payload's end, and a line for its end.
+-- What the command `chain` prints: the chain of a payload, with a line for each link, from the payload's end, and a line for its end.
 use Rattle.std.specs.Prelude.{ℕ, ◌+◌, ◌-◌, ◌≡◌, ◌==◌, ◌++◌, List, length, Option, IfSome, Result, Ok, Err, codes, if◌then◌else◌}
 use Rattle.std.specs.List.{flat_map}
 use Rattle.std.specs.Fmt.{decimal}
@@ -34,7 +34,7 @@ abbrev pub end_line : ChainEnd → List ℕ
 end_line Whole = codes "end whole\n"
 end_line (Broken place) = codes "end broken at " ++ decimal place ++ codes "\n"
 
--- The text tells all links of the payload, only links, from its end, and how its chain ends.
+-- The text has a line for each link of the payload, and for links alone, from its end, and a line for how its chain ends.
 pub record IsChainText (payload text : List ℕ) : Type 0 where
   pub links : List Piece
   pub are_links : AreLinksOf payload links

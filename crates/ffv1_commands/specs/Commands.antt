@@ -23,7 +23,7 @@ use Rattle.ffv1_commands.specs.declared.fault.CliFault.{CliFault}
 use Rattle.ffv1_commands.specs.declared.fault.CliFault.TheVariants as faults
 
 -- The file is what commands make of the copies, for one record and size: `take` made it of the copies themselves, or `join` or `merge` of
--- files that are each made of a part of them. The readers tell their bytes, and what is written is told, into a file that was empty.
+-- files that are each made of a part of them. The bytes of the readers are known, and those that are written, into a file that was empty.
 pub data IsMadeOf (config : List ℕ) (width height : ℕ) : List (List ℕ) → List ℕ → Type 0 where
   by_take : (copies : List (List ℕ)) (file : List ℕ) (printed_before printed_after : Option (List ℕ))
       → TakesCopies (Some config) width height (map Some copies) (Some []) (Some file) printed_before printed_after
@@ -45,16 +45,16 @@ IsOfDevices (faults.Write path) = Unit {0}
 IsOfDevices faults.Memory = Unit {0}
 IsOfDevices _ = ⊥
 
--- What is restored of a file is these bytes: where `restore` answers Ok, it wrote them and nothing else, and where it is refused, a device
--- failed or memory was refused.
+-- What is restored of a file is these bytes: where `restore` returns Ok, it wrote them and nothing else, and where it is refused, a device
+-- failed or memory ran out.
 pub record RestoresOnly (file original : List ℕ) : Type 0 where
   pub written : (out_before out_after printed_before printed_after : Option (List ℕ))
       → RestoresFile (Some file) out_before out_after printed_before printed_after → Appends out_before out_after original
   pub refused : (out_before out_after printed_before printed_after : Option (List ℕ)) (fault : CliFault)
       → RestoreStops (Some file) out_before out_after printed_before printed_after fault → IsOfDevices fault
 
--- What is shown of a file is what the slices spell: where `picture` answers, it wrote the samples of a frame, each of which is the one that
--- the greatest decoded tile covering it spells, by these slices of the tiles; where it is refused, a device failed or memory was refused.
+-- What is shown of a file is what the slices spell: where `picture` returns Ok, it wrote the samples of a frame, each of which is the one
+-- that the greatest decoded tile covering it spells, by these slices of the tiles; where it is refused, a device failed or memory ran out.
 pub record ShowsOnly (setup : SetupValue) (file : List ℕ) (slices : List (List ℕ)) : Type 0 where
   pub written : (out_before out_after printed_before printed_after : Option (List ℕ)) (whole : Bool)
       → ShowsFile (Some file) out_before out_after printed_before printed_after whole

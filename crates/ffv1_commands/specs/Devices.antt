@@ -55,15 +55,15 @@ abbrev pub ReadsCopy : {T : Type 0} → (T → List ℕ) → CommandPath → Res
 ReadsCopy items path (Ok x) old new = TakesWhole old new (items x)
 ReadsCopy items path (Err fault) old new = CopyStops path fault old new
 
--- An input has these bytes, where it tells its bytes.
+-- An input has these bytes, if its bytes are known.
 abbrev pub Tells : Option (List ℕ) → List ℕ → Type 0
 Tells input bytes = IfSome input (λ told. told ≡ bytes)
 
--- An input begins with these bytes, where it tells its bytes.
+-- An input begins with these bytes, if its bytes are known.
 abbrev pub BeginsWith : Option (List ℕ) → List ℕ → Type 0
 BeginsWith input bytes = IfSome input (λ told. (rest : List ℕ) × (told ≡ bytes ++ rest))
 
--- An input is read whole as these bytes: it has them, where it tells its bytes, and they are not too many.
+-- An input is read whole as these bytes: it has them, if its bytes are known, and they are not too many.
 pub record IsWholeInput (input : Option (List ℕ)) (bytes : List ℕ) : Type 0 where
   pub told : Tells input bytes
   pub few : length bytes ≤ payload_limit
@@ -75,7 +75,7 @@ AreWholeInputs [] (bytes ∷ rest) = ⊥
 AreWholeInputs (input ∷ inputs) [] = ⊥
 AreWholeInputs (input ∷ inputs) (bytes ∷ rest) = IsWholeInput input bytes × AreWholeInputs inputs rest
 
--- An input is longer than a payload may be, where it tells its bytes.
+-- An input is longer than a payload may be, if its bytes are known.
 abbrev pub IsPayloadTooLong : Option (List ℕ) → Type 0
 IsPayloadTooLong input = IfSome input (λ bytes. payload_limit < length bytes)
 

@@ -1,4 +1,4 @@
--- What a fault of a command tells: its line and its exit status, and which path of the command it names.
+-- How a fault of a command is reported: its line and its exit status, and which path of the command it names.
 use Rattle.std.specs.Prelude.{ℕ, List, ◌++◌, codes, Option, Some, None}
 use Rattle.std.specs.Fmt.{decimal}
 use Rattle.ffv1_range.specs.declared.fault.SetupFault.{SetupFault}
@@ -77,7 +77,7 @@ hold_file_fault_number file.Memory = 10
 hold_file_fault_number file.TooLong = 11
 hold_file_fault_number file.OtherReel = 12
 
--- the line that tells a frame's fault: its number, and its place in slices from the payload's front, or its tile
+-- the line that reports a frame's fault: its number, and its place in slices from the payload's front, or its tile
 abbrev pub frame_fault_line : FrameFault → List ℕ
 frame_fault_line frame.Chain = codes "frame fault 1"
 frame_fault_line (frame.Slice place cause) = codes "frame fault 2 at " ++ decimal place
@@ -85,7 +85,7 @@ frame_fault_line (frame.Order place) = codes "frame fault 3 at " ++ decimal plac
 frame_fault_line (frame.Tile tile cause) = codes "frame fault 4 at " ++ decimal tile
 frame_fault_line frame.Memory = codes "frame fault 5"
 
--- the line that tells a fault, where this is the text of the path that it names
+-- the line that reports a fault, where this is the text of the path that it names
 abbrev pub fault_line : List ℕ → CliFault → List ℕ
 fault_line text (faults.Read path) = codes "cannot read " ++ text
 fault_line text (faults.Write path) = codes "cannot write " ++ text

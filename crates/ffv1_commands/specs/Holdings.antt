@@ -16,7 +16,7 @@ use Rattle.ffv1_commands.specs.declared.fault.CliFault.TheVariants as faults
 use Rattle.ffv1_commands.specs.declared.path.CommandPath.{CommandPath}
 use Rattle.ffv1_commands.specs.declared.path.CommandPath.TheVariants as paths
 
--- The whole input is a text of the holding, where it tells its bytes: that of version 2, or, where no origins are known, that of version 1.
+-- The whole input is a text of the holding, if its bytes are known: that of version 2, or, where no origins are known, that of version 1.
 pub record IsHoldingFile (input : Option (List ℕ)) (h : Contents) : Type 0 where
   pub version : Version
   pub text : Tells input (file_text version h)
@@ -48,7 +48,7 @@ MadeStops h text out_before out_after text_before text_after fault = IsFileFault
 
 -- ---- over the log of the file
 
--- The file that is this path of the command was not read as that of a holding: a fault of reading it is told as one of the command.
+-- The file that is this path of the command was not read as that of a holding: a fault of reading it is reported as one of the command.
 abbrev pub HoldingStops : CommandPath → CliFault → ReadLog → ReadLog → Type 0
 HoldingStops path fault old new = (f : HoldFileFault) × (fault ≡ of_hold_file path f) × ReadsFile (Err f) old new
 

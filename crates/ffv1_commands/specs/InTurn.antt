@@ -18,7 +18,7 @@ abbrev pub log_of : Option (List ℕ) → ReadLog
 log_of input = record { remaining = input; tries = no_failures; taken = 0 }
 
 -- An input was read by a source of its own, whose log went so. That source is gone once the call ends, so this says that such a log exists.
--- The input's bytes bind it, where they are told. Nothing that the caller keeps binds its tries.
+-- The input's bytes bind it, if they are known. Nothing that the caller keeps binds its tries.
 abbrev pub ReadsAlone : (ReadLog → ReadLog → Type 0) → Option (List ℕ) → Type 0
 ReadsAlone Went input = (log : ReadLog) × Went (log_of input) log
 

@@ -41,7 +41,7 @@ AreHoldingFiles [] (h ∷ hs) = ⊥
 AreHoldingFiles (input ∷ inputs) [] = ⊥
 AreHoldingFiles (input ∷ inputs) (h ∷ hs) = IsHoldingFile input h × AreHoldingFiles inputs hs
 
--- The holdings of the files were joined, and told.
+-- The holdings of the files were joined, and this text has a line for each.
 pub record JoinsEach (inputs : List (Option (List ℕ))) (whole : Contents) (text : List ℕ) : Type 0 where
   pub first : Contents
   pub others : List Contents
@@ -50,7 +50,7 @@ pub record JoinsEach (inputs : List (Option (List ℕ))) (whole : Contents) (tex
   pub held : whole ≡ joined_all joined first others
   pub lines : text ≡ join_text first others
 
--- The holding of a file, which was read so, was joined into another, and told with this number.
+-- The holding of a file, which was read so, was joined into another, and a line with this number was added.
 pub record JoinsOne (IsRead : Contents → Type 0) (number : ℕ) (old new : Contents) (before after : List ℕ) : Type 0 where
   pub other : Contents
   pub file : IsRead other
@@ -126,7 +126,7 @@ AreHeld [] (h ∷ hs) = ⊥
 AreHeld (input ∷ inputs) [] = ⊥
 AreHeld (input ∷ inputs) (h ∷ hs) = IsHeld input h × AreHeld inputs hs
 
--- a file was not joined, since it was not read, or since memory was refused once it was
+-- a file was not joined, since it was not read, or since memory ran out once it was
 abbrev pub FileBreaks : CommandPath → CliFault → (old new : ReadLog) → Type 0
 FileBreaks path fault old new = HoldingStops path fault old new ⊎ ((fault ≡ faults.Memory) × ((h : Contents) × ReadsHolding old new h))
 
@@ -136,7 +136,7 @@ JoinBreaks path whole fault old new =
     FileBreaks path fault old new
     ⊎ ((fault ≡ faults.Hold holds.OtherReel) × ((other : Contents) × ReadsHolding old new other × (¬ IsSameReel whole other)))
 
--- A file was read, joined into a holding and told, after so many others; or it was not joined.
+-- A file was read and joined into a holding, and its line was added, after so many others; or it was not joined.
 abbrev pub JoinsFile : {T : Type 0} → Result T CliFault → (before : ℕ) → (whole_old whole_new : Contents) → (lines_old lines_new : List ℕ)
     → (file_old file_new : ReadLog) → Type 0
 JoinsFile (Ok x) before whole_old whole_new lines_old lines_new file_old file_new =
@@ -144,7 +144,7 @@ JoinsFile (Ok x) before whole_old whole_new lines_old lines_new file_old file_ne
 JoinsFile (Err fault) before whole_old whole_new lines_old lines_new file_old file_new =
     JoinBreaks (paths.Hold before) whole_old fault file_old file_new
 
--- The first file was read, and each other one by a source of its own; their holdings were joined, and told.
+-- The first file was read, and each other one by a source of its own; their holdings were joined, and this text has a line for each.
 pub record JoinsAll (inputs : List (Option (List ℕ))) (old new : ReadLog) (whole : Contents) (text : List ℕ) : Type 0 where
   pub each : JoinsEach (old.remaining ∷ inputs) whole text
   pub first : ReadsHolding old new each.first

@@ -12,7 +12,7 @@ pub record ReadsList (P : List ℕ → Type 0) (old new : ReadLog) : Type 0 wher
   pub whole : TakesWhole old new text
   pub says : P text
 
--- The input is a list; P is what its text says, where it is told.
+-- The input is a list; P is what its text says, which is the input's bytes, if these are known.
 pub record IsList (P : List ℕ → Type 0) (input : Option (List ℕ)) : Type 0 where
   pub text : List ℕ
   pub whole : IsWholeInput input text

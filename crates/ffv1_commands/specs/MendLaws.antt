@@ -26,7 +26,7 @@ pub record IsMadeOfStretches (copies : List (List ℕ)) (stretches : List Stretc
   pub printed : made.printed ≡ mend_text 1 copies stretches mended
   pub answer : made.answer ≡ list_all (λ one. is_good one.state) mended
 
--- The command makes the original of the copies where it answers `true`, and is refused only by a device or because memory ran out.
+-- The command makes the original of the copies where it returns `true`, and is refused only by a device or because memory ran out.
 pub record GiveOnlyIfGood (list : List ℕ) (copies : List (List ℕ)) (original : List ℕ) : Type 0 where
   pub made : (made : Made) → MendsTo list copies made → made.answer ≡ true → made.file ≡ original
   pub refused : (out_before out_after printed_before printed_after : Option (List ℕ)) (fault : CliFault)
@@ -49,7 +49,7 @@ AnyOrderMakesOneFile =
     → (one.file ≡ other.file) × (one.answer ≡ other.answer)
     × ((mended : List MendedValue) × IsMadeOfStretches copies stretches mended one × IsMadeOfStretches others reordered mended other)
 
--- Where the command answers `true`, what becomes of each stretch is vouched for.
+-- Where the command returns `true`, what becomes of each stretch is vouched for.
 abbrev pub TrueIsVouched : Type 0
 TrueIsVouched =
     (list : List ℕ) (copies : List (List ℕ)) (stretches : List StretchValue) (made : Made) → AreStretches (length copies) list stretches

@@ -44,7 +44,7 @@ TellsMend (Err fault) list_old list_new old new out_old out_new output_old outpu
 
 -- ---- over the bytes of inputs and outputs
 
--- The list lists these stretches of the copies. Each copy, where it tells its bytes, begins with what was read of it. Of that the
+-- The list lists these stretches of the copies. Each copy, if its bytes are known, begins with what was read of it. Of that the
 -- stretches of a front become this.
 pub record MendsSome (list : Option (List ℕ)) (copies : List (Option (List ℕ))) (stretches front : List StretchValue) (files : List (List ℕ))
     (mended : List MendedValue) : Type 0 where
@@ -52,7 +52,7 @@ pub record MendsSome (list : Option (List ℕ)) (copies : List (Option (List ℕ
   pub begin : AllZip BeginsWith copies files
   pub mends : MendsFront stretches front files mended
 
--- What becomes of all stretches was written to OUT, and their lines were printed, and the answer is whether each is good.
+-- What becomes of all stretches was written to OUT, and their lines were printed, and the command returned whether each is good.
 pub record MendsFiles (list : Option (List ℕ)) (copies : List (Option (List ℕ))) (out_before out_after printed_before printed_after : Option (List ℕ))
     (good : Bool) : Type 0 where
   pub stretches : List StretchValue
@@ -93,7 +93,7 @@ PassStops list copies out_before out_after printed_before printed_after stops.Ou
     × MendsSome list copies stretches front files mended
     × Appends out_before out_after (bytes_of mended) × WritesFront printed_before printed_after (mend_text 1 files front mended)
 
--- What a fault says, and what it left: nothing is written where the list lists no stretches, or memory is refused before a copy is read; else
+-- What a fault says, and what it left: nothing is written where the list lists no stretches, or memory runs out before a copy is read; else
 -- the pass over the copies stopped.
 pub data MendStops (list : Option (List ℕ)) (copies : List (Option (List ℕ))) (out_before out_after printed_before printed_after : Option (List ℕ)) :
     CliFault → Type 0 where

@@ -29,7 +29,7 @@ pub record MergesFiles (left right out_before out_after : Option (List ℕ)) : T
   pub has_file : HasFile (joined one other)
   pub written : Appends out_before out_after (holding_text (joined one other))
 
--- The inputs, where they tell their bytes, begin with the heads and the entries of two holdings of one reel, and this is their union.
+-- The inputs, if their bytes are known, begin with the heads and the entries of two holdings of one reel, and this is their union.
 pub record BeginsUnion (left right : Option (List ℕ)) (union : Contents) : Type 0 where
   pub one : Contents
   pub other : Contents
@@ -38,7 +38,7 @@ pub record BeginsUnion (left right : Option (List ℕ)) (union : Contents) : Typ
   pub same : IsSameReel one other
   pub is : union ≡ joined one other
 
--- The inputs, where they tell their bytes, begin with heads of two reels.
+-- The inputs, if their bytes are known, begin with heads of two reels.
 pub record HeadsDiffer (left right : Option (List ℕ)) : Type 0 where
   pub one : Reel
   pub other : Reel
@@ -82,9 +82,9 @@ MergeLeaves left right out_before out_after (faults.Write path) = (union : Conte
     × WritesFront out_before out_after (holding_text union)
 MergeLeaves left right out_before out_after _ = LeavesEntries left right out_before out_after
 
--- ---- answers
+-- ---- what the command returns
 
--- the answer to the files of two holdings of one reel whose union is this
+-- what it returns for the files of two holdings of one reel whose union is this
 abbrev pub AnswersFiles : Contents → Result (Unit {0}) CliFault → Type 0
 AnswersFiles union (Ok _) = Unit {0}
 AnswersFiles union (Err (faults.Read path)) = Unit {0}
@@ -93,7 +93,7 @@ AnswersFiles union (Err faults.Memory) = Unit {0}
 AnswersFiles union (Err (faults.HoldFile fault)) = (fault ≡ files.TooLong) × (file_limit < length (holding_text union))
 AnswersFiles union (Err _) = ⊥
 
--- the answer to inputs that begin with heads of two reels
+-- what it returns for inputs that begin with heads of two reels
 abbrev pub AnswersOtherHeads : Result (Unit {0}) CliFault → Type 0
 AnswersOtherHeads (Err (faults.HoldFile fault)) = fault ≡ files.OtherReel
 AnswersOtherHeads (Err (faults.Read path)) = Unit {0}
@@ -122,7 +122,7 @@ pub record MergeStops (f : HoldFileFault) (old new : Devices) : Type 0 where
   pub leaves : LeavesFront f old new
   pub went : OneStops f old new (0, 0)
 
--- The file of the union was written; or joining stopped at a fault, which is told as one of the command.
+-- The file of the union was written; or joining stopped at a fault, which is reported as one of the command.
 abbrev pub TellsMerge : {T : Type 0} → Result T CliFault → Devices → Devices → Type 0
 TellsMerge (Ok x) old new =
     WritesUnion (inputs_of old new) old.sink.contents new.sink.contents × AllGoOn old new (0, 0) (file_limit, file_limit)

@@ -25,7 +25,7 @@ ReportStops input before after fault = IsHoldingFault (paths.Hold 0) input fault
 
 -- ---- over the logs of the devices
 
--- How the report of a holding was not printed: memory was refused, which leaves the output as it was, or a front of the report was.
+-- How the report of a holding was not printed: memory ran out, which leaves the output as it was, or a front of the report was printed.
 abbrev pub ReportBreaks : Contents → (output_old output_new : WriteLog) → CliFault → Type 0
 ReportBreaks h output_old output_new faults.Memory = output_new ≡ output_old
 ReportBreaks h output_old output_new (faults.Write path) = (path ≡ paths.StandardOutput) × StopsWriting output_old output_new (report_text h)

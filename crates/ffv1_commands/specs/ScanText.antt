@@ -17,14 +17,14 @@ use Rattle.ffv1_commands.specs.declared.path.CommandPath.TheVariants as paths
 
 -- ---- over devices
 
--- why the list told no ranges
+-- why the list gave no ranges
 abbrev pub IsRangesFault : (old new : ReadLog) → CliFault → Type 0
 IsRangesFault old new (faults.Read path) = (path ≡ paths.Ranges) × IsUnread old new
 IsRangesFault old new (faults.Ranges number) = ReadsList (λ text. IsFirstWrong text number) old new
 IsRangesFault old new faults.Memory = Unit {0}
 IsRangesFault old new _ = ⊥
 
--- The list told ranges, and this came of them.
+-- The list gave ranges, and this came of them.
 abbrev pub ScansListed : (list_old list_new : ReadLog) → (List ByteRange → Type 0) → Type 0
 ScansListed list_old list_new P = (ranges : List ByteRange) × ReadsList (λ text. AreRanges text ranges) list_old list_new × P ranges
 
@@ -38,7 +38,7 @@ StopsAtRange list_old list_new file_old file_new out_old out_new faults.Memory =
     ScansListed list_old list_new (λ ranges. ScansRanges ranges (Err scans.Memory) file_old file_new out_old out_new)
 StopsAtRange list_old list_new file_old file_new out_old out_new _ = ⊥
 
--- All ranges were scanned; or the list told none, and neither the file nor the output was touched; or the scan stopped at a range.
+-- All ranges were scanned; or the list gave none, and neither the file nor the output was touched; or the scan stopped at a range.
 abbrev pub ScansDevices : Result Bool CliFault → (list_old list_new file_old file_new : ReadLog) (out_old out_new : WriteLog) → Type 0
 ScansDevices (Ok sound) list_old list_new file_old file_new out_old out_new =
     ScansListed list_old list_new (λ ranges. ScansRanges ranges (Ok sound) file_old file_new out_old out_new)
@@ -48,8 +48,8 @@ ScansDevices (Err fault) list_old list_new file_old file_new out_old out_new =
 
 -- ---- over the bytes of inputs and outputs
 
--- The lines of all ranges were printed, each judged as its bytes alone, and the answer is whether each is whole, has a link and has all
--- its links pass.
+-- The lines of all ranges were printed, each judged as its bytes alone, and the command returned whether each is whole, has a link and
+-- has all its links pass.
 pub record ScansFile (list file before after : Option (List ℕ)) (sound : Bool) : Type 0 where
   pub ranges : List ByteRange
   pub list' : IsList (λ text. AreRanges text ranges) list
@@ -63,7 +63,7 @@ pub record ScansSome (list file : Option (List ℕ)) (Prints : List ℕ → Type
   pub front : List ByteRange
   pub scan : ScansFront ranges front (BeginsWith file) Prints
 
--- What a fault left in the output: nothing where the list told no ranges; else the lines of the ranges before it, or a front of lines where
+-- What a fault left in the output: nothing where the list gave no ranges; else the lines of the ranges before it, or a front of lines where
 -- printing them failed.
 abbrev pub ScanStops : (list file before after : Option (List ℕ)) → CliFault → Type 0
 ScanStops list file before after (faults.Read path) =

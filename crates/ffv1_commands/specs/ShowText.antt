@@ -1,4 +1,4 @@
--- The text that tells a setup.
+-- What the command `show` prints: the setup of a record.
 use Rattle.std.specs.Prelude.{ℕ, ◌*◌, ◌≡◌, ◌++◌, List, length, Option, IfSome, Result, Ok, Err, codes, if◌then◌else◌}
 use Rattle.std.specs.List.{flat_map}
 use Rattle.std.specs.Fmt.{decimal}
@@ -39,7 +39,7 @@ end_lines setup = codes "ec " ++ decimal setup.ec ++ codes " intra " ++ decimal 
 abbrev pub show_text : SetupValue → List ℕ
 show_text setup = version_lines setup ++ planes_line setup ++ grid_line setup ++ tables_line setup ++ end_lines setup
 
--- The setup of the record was told.
+-- The setup of the record was printed.
 abbrev pub PrintsSetup : List ℕ → ℕ → ℕ → Option (List ℕ) → Option (List ℕ) → Type 0
 PrintsSetup config width height before after = (setup : SetupValue) × IsSetupOf config width height setup × Appends before after (show_text setup)
 
@@ -65,7 +65,7 @@ ShowBreaks width height input_old input_new output_old output_new (faults.Write 
 ShowBreaks width height input_old input_new output_old output_new fault =
     RecordStops width height input_old input_new fault × (output_new ≡ output_old)
 
--- The setup of the record was told, or a fault stopped the command.
+-- The setup of the record was printed, or a fault stopped the command.
 abbrev pub TellsShow : {T : Type 0} → Result T CliFault → (width height : ℕ) → (input_old input_new : ReadLog) → (output_old output_new : WriteLog)
     → Type 0
 TellsShow (Ok x) width height input_old input_new output_old output_new =

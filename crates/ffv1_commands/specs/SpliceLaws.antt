@@ -1,5 +1,5 @@
 -- The laws of the command `splice`, for copies that are read as they were written: the same copies give the same, and copies of an
--- original that tell nothing else give the original.
+-- original that no slice in them contradicts give the original.
 use Rattle.std.specs.Prelude.{ℕ, ◌+◌, ◌≡◌, ◌++◌, Bool, true, List, [], length, map, Option, Some, codes}
 use Rattle.std.specs.List.{flat_map}
 use Rattle.ffv1_slice.specs.Chain.{IsLinkOf, Piece}
@@ -12,7 +12,7 @@ use Rattle.ffv1_commands.specs.Commands.{IsOfDevices}
 use Rattle.ffv1_commands.specs.SpliceText.{standing_line, SplicesCopies, SpliceStops}
 use Rattle.ffv1_commands.specs.declared.fault.CliFault.{CliFault}
 
--- What the command makes: the file OUT, what it prints, and its answer.
+-- What the command makes: the file OUT, what it prints, and what it returns.
 pub record Made : Type 0 where
   pub file : List ℕ
   pub printed : List ℕ
@@ -36,7 +36,7 @@ pub record GiveOnly (copies : List (List ℕ)) (original : List ℕ) : Type 0 wh
   pub refused : (out_before out_after printed_before printed_after : Option (List ℕ)) (fault : CliFault)
       → SpliceStops (map Some copies) out_before out_after printed_before printed_after fault → IsOfDevices fault
 
--- Where the command answers `true`, it made the original of the copies; and it is refused only by a device or because memory ran out.
+-- Where the command returns `true`, it made the original of the copies; and it is refused only by a device or because memory ran out.
 pub record GiveOnlyIfTrue (copies : List (List ℕ)) (original : List ℕ) : Type 0 where
   pub made : (made : Made) → SplicesTo copies made → made.answer ≡ true → made.file ≡ original
   pub refused : (out_before out_after printed_before printed_after : Option (List ℕ)) (fault : CliFault)
@@ -49,7 +49,7 @@ abbrev pub SameCopiesMakeOneSplice : Type 0
 SameCopiesMakeOneSplice =
     (copies others : List (List ℕ)) (one other : Made) → HasSameMembers copies others → SplicesTo copies one → SplicesTo others other → one ≡ other
 
--- Where no slice in the copies tells other than the original, and each of its links is found in some copy, the copies give the original.
+-- Where no slice in the copies contradicts the original, and each of its links is found in some copy, the copies give the original.
 abbrev pub SpliceGivesTheOriginal : Type 0
 SpliceGivesTheOriginal =
     (original : List ℕ) (copies : List (List ℕ)) → AreCopiesOf original copies → AgreeWith original copies → HaveEachLink original copies
@@ -62,19 +62,19 @@ SpliceGivesNearCopies =
     → ((start end : ℕ) → IsLinkOf original start end → IsIntactInSome original copies start end)
     → GiveOnly copies original
 
--- Where some links are intact in no copy, but each start is told by a footer of some copy, and each link is among the combinations of
--- what the copies have there: where it answers `true`, what it wrote is the original.
+-- Where some links are intact in no copy, but a footer of some copy claims each start, and each link is among the combinations of
+-- what the copies have there: where it returns `true`, what it wrote is the original.
 abbrev pub SpliceGivesWovenCopies : Type 0
 SpliceGivesWovenCopies =
     (original : List ℕ) (copies : List (List ℕ)) → AreCopiesOf original copies → AreWeavable original copies → GiveOnlyIfTrue copies original
 
--- So it is of near copies where each link is among the combinations, and no slice that begins at a start of a link tells another.
+-- So it is of near copies where each link is among the combinations, and each slice that begins at a start of a link is that link.
 abbrev pub SpliceGivesNearWovenCopies : Type 0
 SpliceGivesNearWovenCopies =
     (original : List ℕ) (copies : List (List ℕ)) → AreNearCopies original copies → AgreeFromBelow original copies
     → ((start end : ℕ) → IsLinkOf original start end → IsAmong original copies start end)
     → GiveOnlyIfTrue copies original
 
--- Where it answers `true`, the file is a frame in one piece.
+-- Where it returns `true`, the file is a whole frame.
 abbrev pub TrueIsWhole : Type 0
 TrueIsWhole = (copies : List (List ℕ)) (made : Made) → SplicesTo copies made → made.answer ≡ true → IsWholeFrame made.file

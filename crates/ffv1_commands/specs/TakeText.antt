@@ -41,14 +41,14 @@ lines_after reel before (copy ∷ copies) = line_after reel before copy ++ lines
 abbrev pub take_text : Reel → List (List ℕ) → List ℕ
 take_text reel copies = lines_after reel [] copies
 
--- The copies were read, each by a source of its own, taken into an empty holding, and told.
+-- The copies were read, each by a source of its own, and taken into an empty holding, and this text has a line for each.
 pub record TakesEach (inputs : List (Option (List ℕ))) (reel : Reel) (h : Contents) (text : List ℕ) : Type 0 where
   pub copies : List (List ℕ)
   pub read : AreTaken inputs copies
   pub held : h ≡ holding_of reel copies
   pub lines : text ≡ take_text reel copies
 
--- A copy, which was read so, was taken, and told with this number.
+-- A copy, which was read so, was taken, and a line with this number was added.
 pub record TakesOne (IsRead : List ℕ → Type 0) (number : ℕ) (old new : Contents) (before after : List ℕ) : Type 0 where
   pub copy : List ℕ
   pub read : IsRead copy
@@ -107,14 +107,14 @@ TakeStops record' width height inputs out_before out_after printed_before printe
 
 -- ---- over the logs of the devices
 
--- A copy was read whole, taken and told, after so many others, or it was not read.
+-- A copy was read whole and taken, and its line was added, after so many others, or it was not read.
 abbrev pub TakesCopy : {T : Type 0} → Result T CliFault → (before : ℕ) → (held_old held_new : Contents) → (lines_old lines_new : List ℕ)
     → (copy_old copy_new : ReadLog) → Type 0
 TakesCopy (Ok x) before held_old held_new lines_old lines_new copy_old copy_new =
     TakesOne (TakesWhole copy_old copy_new) (before + 1) held_old held_new lines_old lines_new
 TakesCopy (Err fault) before held_old held_new lines_old lines_new copy_old copy_new = CopyStops (paths.Copy before) fault copy_old copy_new
 
--- The record was read, and the copies were taken, and told.
+-- The record was read, and the copies were taken, and this text has a line for each.
 pub record TakesAll (width height : ℕ) (inputs : List (Option (List ℕ))) (old new : ReadLog) (held : Contents) (text : List ℕ) : Type 0 where
   pub reel : Reel
   pub of_record : TakesReel width height old new reel

@@ -1,4 +1,4 @@
-//! The command `chain`: tells the links of a frame payload and how their chain ends (RFC 9043, section 4.9).
+//! The command `chain`: prints the links of a frame payload and how their chain ends (RFC 9043, section 4.9).
 ghost use Rattle.std.specs.Prelude.{◌≡◌, ◌+◌, ◌≤◌, List, ℕ, [], ◌∷◌, ◌++◌, length, IfErr, OnOk, OnErr, IfSome, IfNone, string_bytes, string_len, string_capacity};
 ghost use Rattle.ffv1_bits.specs.Limits.{payload_limit};
 ghost use Rattle.ffv1_commands.specs.Fault.{NamesPath};
@@ -23,9 +23,8 @@ use std::io::{Read, Write};
 /// each, as `11..22 size 3 status 0 pass` (from this byte of the payload up to that one, the bytes before the footer, the
 /// error status, and `pass` or `fail` for the parity), then `end whole` or `end broken at 5`.
 ///
-/// Any bytes are a payload. `Read` comes where the frame can't be read or is
-/// longer than 2^30 bytes, and `Memory` where a growth is refused: then nothing was written. `Write` comes where the
-/// output fails: a front of the text was written.
+/// Any bytes are a payload. Returns `Read` if the frame can't be read or is longer than 2^30 bytes, and `Memory` if an
+/// allocation fails: then nothing was written. Returns `Write` if the output fails: then a front of the text was written.
 pub fn run_chain<R: Read, W: Write>(
     alloc: Global,
     frame: &mut R,
@@ -63,7 +62,7 @@ pub fn chain_of<R: Source, W: Sink>(
     }
 }
 
-/// Prints the text that tells a payload's chain, line by line, through an empty text with room for many of them.
+/// Prints the text of a payload's chain, line by line, through an empty text with room for many of them.
 fn print_chain<W: Sink>(
     payload: &[u8],
     text: &mut String,
@@ -134,7 +133,7 @@ fn push_state(text: &mut String, link: &Link<'_>)
     push_word(text, "\n");
 }
 
-/// Whether a link's parity is right, as it is told.
+/// The word for whether a link's parity is right.
 fn parity_word(link: &Link<'_>) -> &'static str
     ensures word { result.now ≡ parity_word link.now.bytes }
     ensures short { length result.now ≤ 4 }

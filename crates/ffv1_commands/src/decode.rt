@@ -19,9 +19,9 @@ use std::io::{Read, Write};
 /// Decodes a frame's payload, for a configuration record and the size of the frame in samples; writes its planes Y,
 /// Cb and Cr to `out`, row by row, a byte a sample, and then prints its size, as `decoded 720 x 576 planes 3`.
 ///
-/// The record is judged before the payload is read. `Read` comes where one of them can't be read, or is longer than
-/// 2^30 bytes; `Setup` with the record's first fault; `Frame` with the payload's; `Memory` where a growth is refused:
-/// then nothing was written, and `out` was not touched. `Write` comes where `out` or the output fails: a front of the
+/// The record is judged before the payload is read. Returns `Read` if one of them can't be read, or is longer than
+/// 2^30 bytes; `Setup` with the record's first fault; `Frame` with the payload's; `Memory` if an allocation fails:
+/// then nothing was written, and `out` was not touched. Returns `Write` if `out` or the output fails: then a front of the
 /// samples was written, or all samples and a front of the line.
 pub fn run_decode<R: Read, F: Read, O: Write, W: Write>(
     alloc: Global,
@@ -96,7 +96,7 @@ fn read_frame<F: Source>(alloc: Global, decoder: &Decoder, input: &mut F) -> Res
     Ok(decoder.decode_frame(payload.as_slice())?)
 }
 
-/// The line that tells a frame's size in luma samples, and how many planes it has.
+/// The line of a frame's size in luma samples, and of how many planes it has.
 fn decoded_text(alloc: Global, width: u32, height: u32, planes: usize) -> Result<String, AllocError>
     ensures { IfOk result (λ line. string_bytes line ≡ decoded_line width height planes) }
 {

@@ -12,7 +12,7 @@ use std::io::{BufReader, Read};
 
 /// A reader as a source, through a buffer of 8 KiB: short fields then take no call of the system each.
 ///
-/// `Memory` comes where the buffer is refused; then nothing was read.
+/// Returns `Memory` if the buffer can't be allocated; then nothing was read.
 pub(crate) fn buffered<'a, R: Read>(
     alloc: Global,
     reader: &'a mut R,
@@ -22,14 +22,14 @@ pub(crate) fn buffered<'a, R: Read>(
 {
     match BufReader::new(alloc, reader) {
         Ok(reader) => Ok(FromRead::new(reader)),
-        // It is refused for memory alone.
+        // It fails only if the buffer can't be allocated.
         Err(_) => Err(CliFault::Memory),
     }
 }
 
 /// All bytes of the file that is this path of the command, at most 2^30.
 ///
-/// `Read` comes where the source failed, or one byte more than the limit came, and `Memory` where a growth is refused.
+/// Returns `Read` if the source failed, or one byte more than the limit came, and `Memory` if an allocation fails.
 pub(crate) fn read_file<S: Source>(
     alloc: Global,
     source: &mut S,
@@ -47,8 +47,8 @@ pub(crate) fn read_file<S: Source>(
 
 /// All bytes of the copy that is this path of the command, at most 2^30.
 ///
-/// `Read` comes where the source failed, `Hold` with `PayloadTooLong` where one byte more than the limit came, and `Memory`
-/// where a growth is refused.
+/// Returns `Read` if the source failed, `Hold` with `PayloadTooLong` if one byte more than the limit came, and `Memory`
+/// if an allocation fails.
 pub(crate) fn read_copy<S: Source>(
     alloc: Global,
     source: &mut S,

@@ -1,4 +1,4 @@
-//! Why a command stopped, and how that is told.
+//! Why a command stopped, and how that is reported.
 ghost use Rattle.std.specs.Prelude.{◌≡◌, IfOk, string_bytes};
 ghost use Rattle.ffv1_commands.specs.Fault.{named_path, fault_line, setup_fault_number, hold_fault_number, hold_file_fault_number, frame_fault_line, of_hold_file, of_merge, status_of};
 
@@ -52,7 +52,7 @@ pub enum CliFault {
     /// The copy is not as long as the first one.
     #[error("{0:?} was not spliced")]
     Splice(CommandPath),
-    /// A growth of memory was refused.
+    /// An allocation failed.
     #[error("no memory")]
     Memory,
     /// The program's words name no command, or not exactly its words.
@@ -71,8 +71,8 @@ impl CliFault {
         }
     }
 
-    /// The line that tells the fault, without the program's name and the line feed, where this is the text of the
-    /// path that it names. It fails where memory is refused.
+    /// The line that reports the fault, without the program's name and the line feed, where this is the text of the
+    /// path that it names. It fails if an allocation fails.
     pub fn line(&self, alloc: Global, path: &str) -> Result<String, AllocError>
         ensures { IfOk result (λ line. string_bytes line ≡ fault_line path.now self.now) }
     {
@@ -119,7 +119,7 @@ impl From<SetupFault> for CliFault {
 
     ghost from_gives = { λ fault result. result ≡ of_setup fault };
 
-    /// Memory is told as such.
+    /// Memory is reported as `Memory`.
     fn from(fault: SetupFault) -> CliFault {
         match fault {
             SetupFault::Memory => CliFault::Memory,
@@ -134,7 +134,7 @@ impl From<HoldFault> for CliFault {
 
     ghost from_gives = { λ fault result. result ≡ of_hold fault };
 
-    /// Memory is told as such.
+    /// Memory is reported as `Memory`.
     fn from(fault: HoldFault) -> CliFault {
         match fault {
             HoldFault::Memory => CliFault::Memory,
@@ -149,7 +149,7 @@ impl From<FrameFault> for CliFault {
 
     ghost from_gives = { λ fault result. result ≡ of_frame fault };
 
-    /// Memory is told as such.
+    /// Memory is reported as `Memory`.
     fn from(fault: FrameFault) -> CliFault {
         match fault {
             FrameFault::Memory => CliFault::Memory,
@@ -164,7 +164,7 @@ impl From<RestoreFault> for CliFault {
 
     ghost from_gives = { λ fault result. result ≡ of_restore fault };
 
-    /// Memory is told as such.
+    /// Memory is reported as `Memory`.
     fn from(fault: RestoreFault) -> CliFault {
         match fault {
             RestoreFault::Missing(tile) => CliFault::Missing(tile),
@@ -180,7 +180,7 @@ impl From<MendFault> for CliFault {
 
     ghost from_gives = { λ fault result. result ≡ of_mend fault };
 
-    /// A device is told by its path, and memory as such.
+    /// A device is reported by its path, and memory as `Memory`.
     fn from(fault: MendFault) -> CliFault {
         match fault {
             MendFault::Read(copy) => CliFault::Read(CommandPath::Copy(copy)),
@@ -213,8 +213,8 @@ impl<T: Drop> From<AllocFailed<T>> for CliFault {
     }
 }
 
-/// The fault of the holding file that is this path of the command: those of its device and Memory are told as
-/// such.
+/// The fault of the holding file that is this path of the command: those of its device are reported by this path, and
+/// memory as `Memory`.
 pub(crate) fn of_hold_file(path: CommandPath, fault: HoldFileFault) -> CliFault
     ensures { result ≡ of_hold_file path fault }
 {
@@ -226,7 +226,8 @@ pub(crate) fn of_hold_file(path: CommandPath, fault: HoldFileFault) -> CliFault
     }
 }
 
-/// The fault of two holding files that are joined as streams: those of the devices and Memory are told as such.
+/// The fault of two holding files that are joined as streams: those of the devices are reported by their paths, and memory
+/// as `Memory`.
 pub(crate) fn of_merge(fault: HoldFileFault) -> CliFault
     ensures { result ≡ of_merge fault }
 {
@@ -295,7 +296,7 @@ fn setup_fault_number(fault: SetupFault) -> u32
     }
 }
 
-/// The line that tells a frame's fault: its number, and its place in slices from the payload's front, or its tile.
+/// The line that reports a frame's fault: its number, and its place in slices from the payload's front, or its tile.
 fn frame_fault_line(alloc: Global, fault: FrameFault) -> Result<String, AllocError>
     ensures { IfOk result (λ line. string_bytes line ≡ frame_fault_line fault) }
 {

@@ -23,7 +23,7 @@ pub(crate) fn read_holding<S: Source>(
     }
 }
 
-/// Writes the file of a holding to OUT. `HoldFile` comes where the holding has none, and then OUT is not touched.
+/// Writes the file of a holding to OUT. Returns `HoldFile` if the holding has none, and then OUT is not touched.
 fn write_holding<O: Sink>(out: &mut O, holding: &Holding) -> Result<(), CliFault>
     ensures told { SavesNamed result holding.now (O.log out.old) (O.log out.new) }
     ensures untouched { IfErr result (λ fault. UnlessWriting fault (out.new ≡ out.old)) }

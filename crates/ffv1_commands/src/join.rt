@@ -17,11 +17,11 @@ use std::io::{Read, Write};
 /// Joins the holdings of files, one after the other; writes the file of their union to `out`, and then prints a line
 /// for each file, as `file 1 new 1`: how many of its slices no earlier file had.
 ///
-/// Each file is joined before the next is read: at a fault of one those after it are as they were. `Read` comes where a
-/// file can't be read; `HoldFile` with the first fault of a file in the order of its bytes, or where the union's file would
-/// pass its limit; `Hold` where a file is of another record or size than the first; `Memory` where a growth is refused:
-/// then nothing was written, and `out` was not touched. `Write` comes where `out` or the output fails: a front of the file
-/// was written, or the whole file and a front of the lines.
+/// Each file is joined before the next is read: at a fault of one those after it are as they were. Returns `Read` if a
+/// file can't be read; `HoldFile` with the first fault of a file in the order of its bytes, or if the union's file would
+/// pass its limit; `Hold` if a file is of another record or size than the first; `Memory` if an allocation fails:
+/// then nothing was written, and `out` was not touched. Returns `Write` if `out` or the output fails: then a front of the
+/// file was written, or the whole file and a front of the lines.
 ///
 /// The other files are fewer than 2^63, as those of a `Vec` always are, so that each has a number.
 pub fn run_join<R: Read, O: Write, W: Write>(
@@ -71,7 +71,7 @@ pub fn join_of<F: Source, R: Read, O: Sink, W: Sink>(
     write_made(out, &whole, output, lines.as_str())
 }
 
-/// Joins the holdings of files, and tells each in a line.
+/// Joins the holdings of files, and adds a line for each.
 fn join_files<F: Source, R: Read>(
     alloc: Global,
     first: &mut F,
@@ -93,7 +93,7 @@ fn join_files<F: Source, R: Read>(
     Ok(whole)
 }
 
-/// Joins the holding of a file, before which stand so many others, into another, and tells it in a line.
+/// Joins the holding of a file, before which stand so many others, into another, and adds a line for it.
 fn join_file<R: Read>(
     alloc: Global,
     whole: &mut Holding,

@@ -24,7 +24,7 @@ pub fn commands_restore_the_original()
     ensures near { CommandsRestoreNearCopies }
 {}
 
-/// However the same copies are ordered or repeated, `splice` writes the same file, prints the same lines and answers the
+/// However the same copies are ordered or repeated, `splice` writes the same file, prints the same lines and returns the
 /// same.
 pub fn same_copies_make_one_splice()
     ensures { SameCopiesMakeOneSplice }
@@ -32,7 +32,7 @@ pub fn same_copies_make_one_splice()
 
 /// Where each slice with content that passes its parity and ends at an end of an original is the original's there, and
 /// each of the original's slices is found so in some copy, `splice` writes the original byte for byte, prints that each
-/// of its slices is settled, and answers `true`; or it is refused by a device or because memory ran out. So it is where all
+/// of its slices is settled, and returns `true`; or it is refused by a device or because memory ran out. So it is where all
 /// copies differ from the original only within 32 bits of each slice, its size field unhurt, and each of its slices is
 /// intact in one of them.
 pub fn splice_gives_the_original()
@@ -40,23 +40,23 @@ pub fn splice_gives_the_original()
     ensures near { SpliceGivesNearCopies }
 {}
 
-/// Where some of the original's slices are intact in no copy, but the start of each is told by a footer of some copy, and
+/// Where some of the original's slices are intact in no copy, but a footer of some copy claims the start of each, and
 /// each is a combination of what the copies have there (so it is where each region in which they differ is intact in
-/// some copy): where `splice` answers `true`, what it wrote is the original byte for byte; and it is refused only by a
+/// some copy): where `splice` returns `true`, what it wrote is the original byte for byte; and it is refused only by a
 /// device or because memory ran out. Of near copies the starts need not be asked for.
 pub fn splice_weaves_the_original()
     ensures original { SpliceGivesWovenCopies }
     ensures near { SpliceGivesNearWovenCopies }
 {}
 
-/// Where `splice` answers `true`, what it wrote is a frame in one piece: by its own footers its chain is whole, and each
-/// of its slices has content and passes its parity.
+/// Where `splice` returns `true`, what it wrote is a whole frame: by its own footers its chain is whole, and each of its
+/// slices has content and passes its parity.
 pub fn splice_tells_whole_frames()
     ensures { TrueIsWhole }
 {}
 
 /// What `mend` makes is what becomes of the stretches that the list lists, and nothing else: OUT is their bytes, one after the other, the
-/// lines are theirs, and the answer is whether each is whole, woven, agreed or alone. What stands in a copy after its last stretch
+/// lines are theirs, and it returns whether each is whole, woven, agreed or alone. What stands in a copy after its last stretch
 /// changes nothing.
 pub fn mend_makes_what_is_listed()
     ensures { ListedIsMade }
@@ -68,8 +68,8 @@ pub fn any_order_makes_one_file()
     ensures { AnyOrderMakesOneFile }
 {}
 
-/// Where `mend` returns `true`, what becomes of each stretch is vouched for: an element passes its CRC-32; a frame is in one piece, each of
-/// whose slices passes its parity; and bytes without a checksum are what every copy has that has them.
+/// Where `mend` returns `true`, what becomes of each stretch is vouched for: an element passes its CRC-32; a frame's chain is whole, and
+/// each of its slices passes its parity; and bytes without a checksum are what every copy has that has them.
 pub fn mend_claims_what_is_vouched()
     ensures { TrueIsVouched }
 {}

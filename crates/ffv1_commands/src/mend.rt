@@ -25,10 +25,10 @@ use std::io::{Read, Write};
 /// what each word means. Each copy is read once, from its start on, no further than to the end of its last stretch; a copy without a
 /// stretch is not read. One stretch of each copy is held at a time.
 ///
-/// `Read` comes with the list where it can't be read or is longer than 2^30 bytes, and with a copy that can't be read or ends within a
+/// Returns `Read` with the list if it can't be read or is longer than 2^30 bytes, and with a copy that can't be read or ends within a
 /// stretch; `List` with the first line that is neither a stretch after those before it nor a part of the element before it. The list
 /// is judged whole before a copy is read, and a fault of it leaves `out` and output untouched. At a later fault what became of
-/// the stretches before it was written and printed: `Memory` comes where a growth is refused, and `Write` where `out` or the output
+/// the stretches before it was written and printed: `Memory` if an allocation fails, and `Write` if `out` or the output
 /// fails, after a front of what was to be written to it.
 pub fn run_mend<R: Read, C: Read + Drop, O: Write, W: Write>(
     alloc: Global,

@@ -18,10 +18,10 @@ use std::io::{Read, Write};
 /// Joins two holding files as streams, and writes the file of their union to `out`. At most one entry of each input is
 /// held, however long the files are: the next one is read over it. Nothing is printed.
 ///
-/// The file is the one that `join` writes of both. `Read` of the inputs comes where one of them fails; `HoldFile`
-/// with the first fault of one of them, with `OtherReel` where their heads are of another record, width or height,
-/// before `out` is touched, or with `TooLong` where the file would pass its limit; `Memory` where a growth is
-/// refused; `Write` where `out` fails. After `Write` a front of the file was written; after another fault nothing, or
+/// The file is the one that `join` writes of both. Returns `Read` of the inputs if one of them fails; `HoldFile`
+/// with the first fault of one of them, with `OtherReel` if their heads are of another record, width or height,
+/// before `out` is touched, or with `TooLong` if the file would pass its limit; `Memory` if an allocation
+/// fails; `Write` if `out` fails. After `Write` a front of the file was written; after another fault nothing, or
 /// its head and whole entries: no end tag, so that what is there is no holding file.
 pub fn run_merge<R: Read, Q: Read, O: Write>(
     alloc: Global,

@@ -17,13 +17,12 @@ use std::alloc::{AllocError, Global};
 use std::io::{Read, Write};
 
 /// Reads a holding file to its end; writes its partial picture to `out`, planes Y, Cb and Cr row by row, a byte a sample,
-/// 128 where there is none; and then prints a line for each tile without samples, as `tile 0 missing`. Answers whether each
+/// 128 where there is none; and then prints a line for each tile without samples, as `tile 0 missing`. Returns whether each
 /// tile has samples.
 ///
-/// `Read` comes where the file can't be read; `HoldFile` with its
-/// first fault in the order of its bytes; `Memory` where a growth is refused: then nothing was written, and `out` was not
-/// touched. `Write` comes where `out` or the output fails: a front of the samples was written, or all samples and a front
-/// of the lines.
+/// Returns `Read` if the file can't be read; `HoldFile` with its first fault in the order of its bytes; `Memory` if an
+/// allocation fails: then nothing was written, and `out` was not touched. Returns `Write` if `out` or the output fails: then
+/// a front of the samples was written, or all samples and a front of the lines.
 pub fn run_picture<R: Read, O: Write, W: Write>(
     alloc: Global,
     file: &mut R,

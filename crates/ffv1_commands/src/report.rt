@@ -17,9 +17,8 @@ use std::io::{Read, Write};
 /// Reads a holding file to its end, and prints its damage report: a line for the recording, one for each tile, one that
 /// counts them, and one for the whole frame.
 ///
-/// `Read` comes where the file can't be read; `HoldFile` with its first fault in the
-/// order of its bytes; `Memory` where a growth is refused: then nothing was written. `Write` comes where the output fails: a
-/// front of the report was written.
+/// Returns `Read` if the file can't be read; `HoldFile` with its first fault in the order of its bytes; `Memory` if an
+/// allocation fails: then nothing was written. Returns `Write` if the output fails: then a front of the report was written.
 pub fn run_report<R: Read, W: Write>(
     alloc: Global,
     file: &mut R,

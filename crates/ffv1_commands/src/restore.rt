@@ -16,9 +16,9 @@ use std::io::{Read, Write};
 /// Reads a holding file to its end, writes the settled slices, joined in tile order, to `out`, and then prints how
 /// many bytes they are, as `restored 22 bytes`.
 ///
-/// `Read` comes where the file can't be read; `HoldFile` with its first fault in the order of its bytes; `Missing` or
-/// `Disputed` for the first tile that isn't settled; `Memory` where a growth is refused: then nothing was written,
-/// and `out` was not touched. `Write` comes where `out` or the output fails: a front of the payload was written, or
+/// Returns `Read` if the file can't be read; `HoldFile` with its first fault in the order of its bytes; `Missing` or
+/// `Disputed` for the first tile that isn't settled; `Memory` if an allocation fails: then nothing was written,
+/// and `out` was not touched. Returns `Write` if `out` or the output fails: then a front of the payload was written, or
 /// the whole payload and a front of the line.
 pub fn run_restore<R: Read, O: Write, W: Write>(
     alloc: Global,
@@ -59,7 +59,7 @@ pub fn restore_of<R: Source, O: Sink, W: Sink>(
     write_both(out, payload.as_slice(), output, line.as_str())
 }
 
-/// The line that tells how many bytes were restored.
+/// The line of how many bytes were restored.
 fn restored_text(alloc: Global, count: usize) -> Result<String, AllocError>
     ensures { IfOk result (λ line. string_bytes line ≡ restored_line count) }
 {

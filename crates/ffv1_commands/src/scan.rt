@@ -17,16 +17,16 @@ use std::io::{Read, Write};
 
 /// Reads a list of ranges to its end, scans these ranges of a file, and prints a line for each, as `range 3 links 24 pass 23
 /// whole` or `range 4 links 3 pass 3 broken at 112233`: its number, counted from 1, how many links its chain has, how many of them
-/// have content and pass their parity, and how the chain ends, with the place counted in bytes from the range's start. Answers
+/// have content and pass their parity, and how the chain ends, with the place counted in bytes from the range's start. Returns
 /// whether each range is whole, has a link, and has all its links pass.
 ///
 /// A line of the list is a range, as `4096 300000`: where it begins, counted in bytes from the file's start, and how many bytes
 /// it has. The file is read once, from its start on, no further than to the end of the last range, and one range is held at a time.
 ///
-/// `Read` comes with the list where it can't be read or is longer than 2^30 bytes, and with the file where it can't be read or
+/// Returns `Read` with the list if it can't be read or is longer than 2^30 bytes, and with the file if it can't be read or
 /// ends before a range does; `Ranges` with the first line that is no range, or begins before the end of the one before it. The list
 /// is judged whole before the file is read, and a fault of it leaves file and output untouched. At a later fault the lines of the
-/// ranges before it were printed: `Memory` where a growth is refused, `Write` where the output fails.
+/// ranges before it were printed: `Memory` if an allocation fails, `Write` if the output fails.
 pub fn run_scan<R: Read, F: Read, W: Write>(
     alloc: Global,
     ranges: &mut R,
@@ -66,7 +66,7 @@ pub fn scan_of<R: Source, F: Source, W: Sink>(
     }
 }
 
-/// The ranges that a list tells.
+/// The ranges that a list gives.
 fn told_ranges<R: Source>(alloc: Global, list: &mut R) -> Result<Vec<ByteRange>, CliFault>
     ensures ok { IfOk result (λ ranges. ReadsList (λ text. AreRanges text ranges.items) (R.log list.old) (R.log list.new)) }
     ensures err { IfErr result (IsRangesFault (R.log list.old) (R.log list.new)) }

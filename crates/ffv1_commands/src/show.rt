@@ -1,4 +1,4 @@
-//! The command `show`: tells the setup that a configuration record gives for frames of one size (RFC 9043,
+//! The command `show`: prints the setup that a configuration record gives for frames of one size (RFC 9043,
 //! section 4.3).
 ghost use Rattle.std.specs.Prelude.{◌≡◌, ◌≤◌, ◌++◌, length, IfOk, IfErr, OnOk, IfSome, string_bytes};
 ghost use Rattle.ffv1_bits.specs.Limits.{payload_limit};
@@ -20,9 +20,9 @@ use std::io::{Read, Write};
 /// versions, the planes with the logarithms of the chroma subsampling, the grid, the sets of quantization tables with
 /// their contexts, ec and intra.
 ///
-/// `Read` comes where the record can't be read or is longer than 2^30 bytes,
-/// `Setup` with the first fault of the record where it gives no setup of the profile, and `Memory` where a growth is
-/// refused: then nothing was written. `Write` comes where the output fails: a front of the text was written.
+/// Returns `Read` if the record can't be read or is longer than 2^30 bytes, `Setup` with the first fault of the record if
+/// it gives no setup of the profile, and `Memory` if an allocation fails: then nothing was written. Returns `Write` if the
+/// output fails: then a front of the text was written.
 pub fn run_show<R: Read, W: Write>(
     alloc: Global,
     input: &mut R,
@@ -64,7 +64,7 @@ pub fn show_of<R: Source, W: Sink>(
     write_file(output, CommandPath::StandardOutput, text.as_bytes())
 }
 
-/// The text that tells a setup.
+/// The text of a setup.
 fn setup_text(alloc: Global, setup: &Setup) -> Result<String, AllocError>
     ensures { IfOk result (λ text. string_bytes text ≡ show_text setup.now) }
 {

@@ -20,11 +20,12 @@ use std::io::{Read, Write};
 /// for each of its places, from its end, as `1833..3698 missing`, with the number of combinations where it is woven, as
 /// `3698..4515 woven 4`, of what most copies have where it is voted, as `3698..4515 voted 4`, or of those with one bit inverted where it is
 /// repaired, as `1833..3698 repaired 14920`; and last `end whole`, or `end broken at 1833` where the front before that place can't be divided.
-/// Answers whether all of the frame is given back: the places cover it, and each is settled or woven.
+/// Returns whether all of the frame is given back: the places cover it, and each is settled or woven.
 ///
-/// `Read` comes with the first copy that can't be read, or is longer than 2^30 bytes, and no copy after it is read; `Splice`, where all are read, with the first
-/// copy that is not as long as the first one; `Memory` where a growth is refused: then nothing was written, and `out` was not
-/// touched. `Write` comes where `out` or the output fails: a front of the splice was written, or the whole and a front of the lines.
+/// Returns `Read` with the first copy that can't be read, or is longer than 2^30 bytes, and no copy after it is read; `Splice`, if all
+/// are read, with the first copy that is not as long as the first one; `Memory` if an allocation fails: then nothing was written, and
+/// `out` was not touched. Returns `Write` if `out` or the output fails: then a front of the splice was written, or the whole and a
+/// front of the lines.
 pub fn run_splice<C: Read, O: Write, W: Write>(
     alloc: Global,
     copies: &mut [C],

@@ -21,11 +21,11 @@ use std::io::{Read, Write};
 /// `copy 1 links 2 slices 1 new 1`: its links, those that are slices, and the slices that no earlier copy gave.
 ///
 /// The record is judged before the first copy is read, and each copy is taken before the next is read: at a fault of one
-/// those after it are as they were. `Read` comes where the record or a copy can't be read, or the record is longer than
-/// 2^30 bytes; `Setup` with the record's first fault; `Hold` where a copy is longer than 2^30 bytes; `HoldFile` where the
-/// holding's file would pass its limit; `Memory` where a growth is refused: then nothing was written, and `out` was not
-/// touched. `Write` comes where `out` or the output fails: a front of the file was written, or the whole file and a front
-/// of the lines.
+/// those after it are as they were. Returns `Read` if the record or a copy can't be read, or the record is longer than
+/// 2^30 bytes; `Setup` with the record's first fault; `Hold` if a copy is longer than 2^30 bytes; `HoldFile` if the
+/// holding's file would pass its limit; `Memory` if an allocation fails: then nothing was written, and `out` was not
+/// touched. Returns `Write` if `out` or the output fails: then a front of the file was written, or the whole file and a
+/// front of the lines.
 ///
 /// The copies are fewer than 2^63, as those of a `Vec` always are, so that each has a number.
 pub fn run_take<R: Read, C: Read, O: Write, W: Write>(
@@ -82,7 +82,7 @@ pub fn take_of<R: Source, C: Read, O: Sink, W: Sink>(
     write_made(out, &holding, output, lines.as_str())
 }
 
-/// Takes copies into an empty holding, and tells each in a line.
+/// Takes copies into an empty holding, and adds a line for each.
 fn take_copies<C: Read>(
     alloc: Global,
     holding: &mut Holding,
@@ -103,7 +103,7 @@ fn take_copies<C: Read>(
     Ok(lines)
 }
 
-/// Takes a copy, before which stand so many others, and tells it in a line.
+/// Takes a copy, before which stand so many others, and adds a line for it.
 fn take_copy<C: Read>(
     alloc: Global,
     holding: &mut Holding,

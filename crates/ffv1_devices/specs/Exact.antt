@@ -30,12 +30,12 @@ ReadsNext size (Ok x) room old new = Reads old new (take size room) × (size ≤
 ReadsNext size (Err faults.Read) room old new = EndsBefore size old new
 ReadsNext size (Err faults.Memory) room old new = (bytes : List ℕ) × Reads old new bytes × (length bytes < size)
 
--- room is made for at least so many bytes at once
+-- the size of a block: room is made for at least so many bytes at once
 abbrev pub piece : ℕ
 piece = PIECE
 
 -- Room for bytes that are read grew as they came, from one length to another: it is as long as it was, or these bytes came and it has
--- at most as many more than they are, or a piece more. Whatever size is claimed, it takes no more.
+-- at most as many more than they are, or a block more. Whatever size is claimed, it takes no more.
 abbrev pub GrowsAsRead : (before after : ℕ) → (old new : ReadLog) → Type 0
 GrowsAsRead before after old new =
     (after ≤ before) ⊎ ((bytes : List ℕ) × (Reads old new bytes ⊎ BreaksOff old new bytes) × (after ≤ length bytes + max (length bytes) piece))

@@ -11,14 +11,14 @@ pub record Tries : Type 0 where
   pub broken : ℕ
   pub in_row : ℕ
 
--- What is known of a source: the bytes that are left, where they are told, how its tries went, and how many bytes were taken,
+-- The log of a source: the bytes that are left, if they are known, how its tries went, and how many bytes were taken,
 -- `u64::MAX` for more.
 pub record ReadLog : Type 0 where
   pub remaining : Option (List ℕ)
   pub tries : Tries
   pub taken : ℕ
 
--- What is known of a sink: the bytes that it holds, where they are told, how its tries went, and which reference it writes through,
+-- The log of a sink: the bytes that it holds, if they are known, how its tries went, and which reference it writes through,
 -- where it borrows its writer.
 pub record WriteLog : Type 0 where
   pub contents : Option (List ℕ)

@@ -1,4 +1,4 @@
--- What the calls of this crate answer, and how they move the log of their device.
+-- What the calls of this crate return, and how they move the log of their device.
 use Rattle.std.specs.Prelude.{ℕ, ◌≡◌, ◌+◌, ◌<◌, ◌≤◌, List, [], ◌∷◌, length, take, Option, Some, None, Result, Ok, Err}
 use Rattle.std.specs.Io.KnownBytes.{IsAtEnd}
 use Rattle.ffv1_devices.specs.declared.whole.WholeFault.{WholeFault}
@@ -22,7 +22,7 @@ ReadsByte (Ok None) old new = Reads old new [] × IsAtEnd new.remaining
 ReadsByte (Err e) old new = BreaksOff old new []
 
 -- All bytes up to the end, which are not more than the limit; or one more than the limit; or fewer, after which the source was given up
--- or memory refused.
+-- or memory ran out.
 abbrev pub ReadsInput : {T : Type 0} → (T → List ℕ) → ℕ → Result T WholeFault → ReadLog → ReadLog → Type 0
 ReadsInput items limit (Ok x) old new = Reads old new (items x) × IsAtEnd new.remaining × (length (items x) ≤ limit)
 ReadsInput items limit (Err faults.TooLong) old new = (bytes : List ℕ) × Reads old new bytes × (length bytes ≡ limit + 1)

@@ -19,7 +19,7 @@ pub struct CutShort;
 pub enum NextFault {
     /// The source failed, or ended, before all of them came.
     Read,
-    /// A growth of memory was refused.
+    /// An allocation failed.
     Memory,
 }
 
@@ -47,7 +47,7 @@ impl From<AllocError> for NextFault {
 
 /// Fills a buffer with the next bytes.
 ///
-/// `CutShort` comes where the source failed, or ended, before the buffer was full; then fewer bytes were read than it has.
+/// Returns `CutShort` if the source failed, or ended, before the buffer was full; then fewer bytes were read than it has.
 pub fn fill<S: Source>(source: &mut S, buf: &mut [u8]) -> Result<(), CutShort>
     ensures { Fills (length buf.old) result buf.new (S.log source.old) (S.log source.new) }
 {
@@ -57,9 +57,9 @@ pub fn fill<S: Source>(source: &mut S, buf: &mut [u8]) -> Result<(), CutShort>
     }
 }
 
-/// Reads so many bytes, and lets them go. They pass through `room`, which has a byte at least, in pieces of its length.
+/// Reads so many bytes, and lets them go. They pass through `room`, which has a byte at least, in blocks of its length.
 ///
-/// `CutShort` comes where the source failed, or ended, before that many came; then fewer bytes were read.
+/// Returns `CutShort` if the source failed, or ended, before that many came; then fewer bytes were read.
 pub fn pass_over<S: Source>(source: &mut S, count: u64, room: &mut [u8]) -> Result<(), CutShort>
     requires { 0 < length room.old }
     ensures { PassesOver count result (S.log source.old) (S.log source.new) }
@@ -97,8 +97,8 @@ fn next_room(room: &mut Vec<u8>, filled: usize, size: usize) -> Result<usize, Al
 /// more than came so far or 65536 bytes, whichever is more, and to `size` at most: a size that is only claimed takes no memory. So
 /// `grown` says, also after a fault: room that grew has at most as many bytes more than were read as were read, or 65536 more.
 ///
-/// `Read` comes where the source failed, or ended, before that many came, `Memory` where a growth is refused; then fewer bytes were
-/// read, and what `room` has is left open.
+/// Returns `Read` if the source failed, or ended, before that many came, and `Memory` if an allocation fails; then fewer bytes were
+/// read, and nothing is said of what `room` has.
 pub fn read_next<S: Source>(
     source: &mut S,
     size: usize,

@@ -13,7 +13,7 @@ use std::io::{Read, Write};
 pub trait Source {
     ghost log: { Self → ReadLog };
 
-    /// One try: answers how many bytes came to the front of `buf`. It may be interrupted; each error counts as a failure.
+    /// One try: returns how many bytes came to the front of `buf`. It may be interrupted; each error counts as a failure.
     fn read(&mut self, buf: &mut [u8]) -> io::Result<usize>
         ensures bound { ReadsAtMost result buf.new }
         ensures tried { TriesRead result buf.new (log self.old) (log self.new) };
@@ -35,7 +35,7 @@ pub trait Source {
 pub trait Sink {
     ghost log: { Self → WriteLog };
 
-    /// One try: answers how many of the first bytes were taken. It may be interrupted; an error counts as a failure, and so
+    /// One try: returns how many of the first bytes were taken. It may be interrupted; an error counts as a failure, and so
     /// does taking none of some bytes.
     fn write(&mut self, buf: &[u8]) -> io::Result<usize>
         ensures bound { WritesAtMost result buf.now }

@@ -13,7 +13,7 @@ pub enum WholeFault {
     Read,
     /// One byte more than the limit came.
     TooLong,
-    /// A growth of memory was refused.
+    /// An allocation failed.
     Memory,
 }
 
@@ -41,9 +41,9 @@ impl From<ReadFailed> for WholeFault {
 
 /// All bytes of a source, up to so many.
 ///
-/// `TooLong` comes exactly where one byte more than the limit came, and none is read after it. `Read` comes only where the
+/// Returns `TooLong` exactly if one byte more than the limit came, and none is read after it. Returns `Read` only if the
 /// source counted a failure that was no interruption, or 65 interruptions in a row; the first failure that is no interruption is
-/// told. `Memory` comes where a growth is refused, before the limit is passed.
+/// reported. Returns `Memory` if an allocation fails, before the limit is passed.
 pub fn read_whole<S: Source>(
     alloc: Global,
     source: &mut S,

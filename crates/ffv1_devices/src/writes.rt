@@ -41,8 +41,8 @@ fn write_some<S: Sink>(sink: &mut S, bytes: &[u8]) -> Result<usize, WriteFailed>
 
 /// Writes all of the bytes.
 ///
-/// It is refused only where the sink counted a failure: an interrupted try is made again, and 65 in a row are a failure; the
-/// first failure that is no interruption is told. Then a front of the bytes was written, none or all of them among it.
+/// It fails only if the sink counted a failure: an interrupted try is made again, and 65 in a row are a failure; the first
+/// failure that is no interruption is reported. Then a front of the bytes was written, none or all of them among it.
 pub fn write_field<S: Sink>(sink: &mut S, bytes: &[u8]) -> Result<(), WriteFailed>
     ensures { WritesAll result (S.log sink.old) (S.log sink.new) bytes.now }
 {

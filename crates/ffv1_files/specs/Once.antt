@@ -16,7 +16,7 @@ abbrev pub tells_end : {E : Type 0} → Result ℕ E → List ℕ → Bool
 tells_end (Ok count) buf = (count == 0) && not (length buf == 0)
 tells_end (Err _) buf = false
 
--- The result of a read is that of the open file, which is closed if that tells its end, and else open as the read left it. A file
+-- The result of a read is that of the open file, which is closed if the read reached its end, and else open as the read left it. A file
 -- that is not open gives no bytes, and stays as it is.
 abbrev pub ReadsOpen : {O F E : Type 0} → (F → Result ℕ E → List ℕ → F → Type 0) → Once O F → Result ℕ E → List ℕ → Once O F → Type 0
 ReadsOpen {F} reads (Open file) result buf new =

@@ -40,12 +40,12 @@ pub trait OpenedFile: Drop {
     // what a write of bytes may come to: its result, and the file after it
     ghost writes: { Self → Result ℕ Error → List ℕ → Self → Type 0 };
 
-    /// One read: answers how many bytes came to the front of `buf`.
+    /// One read: returns how many bytes came to the front of `buf`.
     fn read_once(&mut self, buf: &mut [u8]) -> io::Result<usize>
         ensures bound { ReadsAtMost result buf.new }
         ensures step { reads self.old result buf.new self.new };
 
-    /// One write: answers how many of the first bytes were taken.
+    /// One write: returns how many of the first bytes were taken.
     fn write_once(&mut self, buf: &[u8]) -> io::Result<usize>
         ensures bound { WritesAtMost result buf.now }
         ensures step { writes self.old result buf.now self.new };
@@ -78,7 +78,7 @@ pub enum Once<O, F> {
     Closed,
 }
 
-/// Whether a read told the end of the file: no byte came to a buffer that has room.
+/// Whether a read reached the end of the file: no byte came to a buffer that has room.
 fn tells_end(read: &io::Result<usize>, buf: &[u8]) -> bool
     ensures { result ≡ tells_end read.now buf.now }
 {

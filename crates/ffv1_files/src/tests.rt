@@ -22,7 +22,7 @@ fn written(file: &mut impl Write, bytes: &[u8]) -> Result<usize, ErrorKind> {
     kind_of(file.write(bytes))
 }
 
-/// What was answered, or the kind of the error.
+/// What was returned, or the kind of the error.
 fn kind_of<T: Drop>(answer: io::Result<T>) -> Result<T, ErrorKind> {
     match answer {
         Ok(value) => Ok(value),

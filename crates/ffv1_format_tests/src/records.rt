@@ -1,4 +1,4 @@
-//! Records and slices made to measure, and what reading them answers.
+//! Records and slices made to measure, and what reading them returns.
 ghost use Rattle.std.specs.Prelude.{◌<◌};
 ghost use Rattle.ffv1_range.specs.Decoder.{AreStates};
 
@@ -526,7 +526,7 @@ fn recorded_records_are_made(rt: HostRuntime) {
     }
 }
 
-/// The tables of eight sets, which their third tables tell apart.
+/// The tables of eight sets, which their third tables distinguish.
 static EIGHT: [[&[u32]; 5]; 8] = [
     [ONE, ONE, ONE, ONE, ONE],
     [ONE, ONE, TWO, ONE, ONE],
@@ -545,7 +545,7 @@ fn eight_sets(alloc: Global) -> Result<Setup, MakeFault> {
     setup_by(alloc, &spec, (1, 1))
 }
 
-/// Whether the setup has so many sets, each with so many contexts, which its third table alone tells apart.
+/// Whether the setup has so many sets, each with so many contexts, which its third table alone distinguishes.
 fn has_contexts(setup: &Setup, contexts: &[u32]) -> bool {
     for (set, wanted) in contexts.iter().enumerate() {
         if set >= setup.sets() {

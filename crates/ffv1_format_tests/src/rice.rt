@@ -5,7 +5,7 @@ use ffv1_bits::Bits;
 use ffv1_rice::{CodeFault, RunIndex, RunWord, VlcState, fold};
 use std::test::*;
 
-/// What reading a word of a line with so many samples left answers, after `skipped` bits and `words` whole words, and
+/// What reading a word of a line with so many samples left returns, after `skipped` bits and `words` whole words, and
 /// the index and the place after it.
 fn word_after(
     bytes: &[u8],

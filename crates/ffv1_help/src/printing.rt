@@ -11,7 +11,7 @@ use std::io::Write;
 
 /// Prints the help: each command with its words, the exit statuses and the faults.
 ///
-/// `WriteFailed` comes where the output fails: a front of the text was printed.
+/// Returns `WriteFailed` if the output fails: then a front of the text was printed.
 pub fn run_help<W: Write>(output: &mut W) -> Result<(), WriteFailed>
     ensures ok { OnOk result (Appends (W.contents output.old) (W.contents output.new) help_text) }
     ensures err { OnErr result (WritesFront (W.contents output.old) (W.contents output.new) help_text) }
@@ -28,7 +28,7 @@ pub fn print_help<W: Sink>(output: &mut W) -> Result<(), WriteFailed>
 
 /// Prints the version, and the kit that proved it.
 ///
-/// `WriteFailed` comes where the output fails: a front of the text was printed.
+/// Returns `WriteFailed` if the output fails: then a front of the text was printed.
 pub fn run_version<W: Write>(output: &mut W) -> Result<(), WriteFailed>
     ensures ok { OnOk result (Appends (W.contents output.old) (W.contents output.new) version_text) }
     ensures err { OnErr result (WritesFront (W.contents output.old) (W.contents output.new) version_text) }

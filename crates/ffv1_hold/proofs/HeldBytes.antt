@@ -1,4 +1,4 @@
--- Bytes that are read over others, piece by piece: how they compare, and what stands where.
+-- Bytes that are read over others, block after block: how they compare, and what stands where.
 use Rattle.std.proofs.Common.{◌≡◌, ℕ, ◌+◌, ◌-◌, ◌≤◌, List, [], ◌∷◌, ◌++◌, length, take, drop, min, max, replicate, slice_range, refl, sym, ap, ◌∙◌, inl, inr, arith, append_assoc, append-nil, length-append, length-drop, length-take-le, drop_at}
 use Rattle.std.specs.Cmp.{nat_cmp_is}
 use Rattle.std.specs.Ordering.{nat_cmp, ordering_then}
@@ -16,7 +16,7 @@ then_then Less b c = refl
 then_then Equal b c = refl
 then_then Greater b c = refl
 
--- as many of the held bytes as a piece has decide, and else the rest
+-- as many of the held bytes as a block has decide, and else the rest
 pub bytes_cmp-append : (held piece rest : List ℕ)
     → bytes_cmp held (piece ++ rest) ≡ ordering_then (bytes_cmp (take (length piece) held) piece) (bytes_cmp (drop (length piece) held) rest)
 bytes_cmp-append held [] rest = refl
@@ -41,7 +41,7 @@ more_held m n (x ∷ xs) h is = nat_cmp_is m n Greater (omega (arith, is))
 pub bytes_cmp-drop : (held : List ℕ) (n : ℕ) → n ≤ length held → bytes_cmp (drop n held) [] ≡ nat_cmp (length held) n
 bytes_cmp-drop held n h = more_held (length held) n (drop n held) h (length-drop n held)
 
--- ---- a piece over held bytes, where zeros stand after them up to its end
+-- ---- a block over held bytes, where zeros stand after them up to its end
 
 take-few : (k n : ℕ) (xs : List ℕ) → k ≡ min n (length xs) → take k xs ≡ take n xs
 take-few k n xs is = elim (cases_lt n (length xs)) [
@@ -76,7 +76,7 @@ module _ (from n size : ℕ) (old : List ℕ) (within : from ≤ length old) (la
         ap (drop (from + n)) (grown_is ∙ ap (λ k. old ++ replicate k 0) none ∙ append-nil old)
   ]
 
-  -- the piece in the place of these
+  -- the block in the place of these
   pub put_mid-grown : (piece : List ℕ) → put_mid from n grown piece ≡ take from old ++ piece ++ drop (from + n) old
   put_mid-grown piece =
       sym (append_assoc (take from grown) piece (drop n (drop from grown)))
@@ -107,7 +107,7 @@ module _ (from n size : ℕ) (old : List ℕ) (within : from ≤ length old) (la
       ) in
       take_at put _ len whole_length ∙ put_is ∙ ap (λ k. take from old ++ piece ++ drop (from + k) old) (sym long)
 
--- ---- after a piece
+-- ---- after a block
 
 module _ (old items piece next : List ℕ) (done : ℕ) (order : Ordering) (within : done ≤ length items)
     (is : next ≡ take done items ++ piece ++ drop (done + length piece) items)

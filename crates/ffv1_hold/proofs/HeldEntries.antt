@@ -1,4 +1,4 @@
--- The entries of a holding, as its files tell them.
+-- The entries of a holding, as its files give them.
 use Rattle.std.proofs.Common.{◌≡◌, ℕ, zero, suc, ◌<◌, ◌≤◌, Bool, true, false, ◌||◌, ◌&&◌, List, [], ◌∷◌, ◌++◌, length, map, get_or, Some, refl, sym, ap, ◌∙◌, subst, arith, drop}
 use mathlib.Core.Bool.{true≢false, or-false}
 use Rattle.std.specs.List.{AllByRecursion, list_any}
@@ -114,7 +114,7 @@ module _ (h : Contents) (e : Entry) (ds : List (List ℕ)) where
     pub last-with_entry : IsHolding h → IsRising bytes_cmp ds → last_of (file_entries (with_entry h e ds)) ≡ Some (e, ds)
     last-with_entry is up = ap last_of (entries-with_entry is up) ∙ last_of-push (file_entries h) (e, ds)
 
-    -- and a version that tells both tells it
+    -- and a version that can give the origins of the holding and the entry's digests can give both together
     pub told-with_entry : (v : Version) → IsHolding h → AreDigestsIn v ds → IsTold v h → IsTold v (with_entry h e ds)
     told-with_entry First is are was =
         ap (λ (xs : List (List ℕ)). set.union h.origins (set.from_list (with_each e xs))) are

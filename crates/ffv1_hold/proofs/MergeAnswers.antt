@@ -1,4 +1,4 @@
--- What joining two files answers to texts of one reel, and to heads of two.
+-- What joining two files returns for texts of one reel, and to heads of two.
 use Rattle.std.proofs.Common.{◌≡◌, ℕ, ◌<◌, List, [], ◌∷◌, ◌++◌, length, Option, Some, None, Result, Ok, Err, IfErr, OnOk, IsErrOf, rules, refl, sym, ap, ◌∙◌, subst, inl, inr, arith, append_assoc, length-append}
 use Rattle.std.specs.Prelude.{◌⊎◌}
 use Rattle.std.specs.Io.KnownBytes.{Consumes, Appends}
@@ -120,7 +120,7 @@ module _ (i : Inputs) (w v : Option (List ℕ)) (g h : Reel) (left : BeginsWithH
 
 -- ---- texts of one reel
 
--- what is told of a holding
+-- the slices and origins of a holding
 abbrev facts_of : Contents → Facts
 facts_of h = (h.slices, h.origins)
 

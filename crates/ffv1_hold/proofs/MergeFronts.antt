@@ -1,4 +1,4 @@
--- What the first entries of a holding's file tell is held by it.
+-- A holding has what the first entries of its file give.
 use Rattle.std.proofs.Common.{◌≡◌, ℕ, true, List, [], ◌∷◌, ◌++◌, map, sym, ap, ◌∙◌, drop}
 use mathlib.Core.Bool.{true≢false}
 use Rattle.std.specs.List.{list_any}

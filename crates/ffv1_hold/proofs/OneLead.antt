@@ -72,7 +72,7 @@ chunks_back (d ∷ ds) y all =
     (λ i. (ap (take 32) apart ∙ front_of d 32 (whole ds ++ y) all.0) i ∷
     (ap (λ z. chunks (length ds) (drop 32 z)) apart ∙ ap (chunks (length ds)) (back_of d 32 (whole ds ++ y) all.0) ∙ chunks_back ds y all.1) i)
 
--- the one that bytes tell, if they tell any
+-- the one that bytes give, if they give any
 abbrev told_length : List ℕ → ℕ
 told_length x = from_be_bytes w32 (take 4 (drop 2 (drop 1 x)))
 

@@ -47,7 +47,7 @@ one_reel config width height r s is also =
     let setup = one_setup config width height r.setup s.setup is.1 also.1 in
     λ i. record { config = (is.0 ∙ sym also.0) i; setup = setup i }
 
--- what is held of near copies is the original's slices, where a holding is answered that is exactly what the copies give
+-- what is held of near copies is the original's slices, where a holding is returned that is exactly what the copies give
 pub near_of_meaning : {E : Type 0} (r : Result Contents E) (original : List ℕ) (slices copies : List (List ℕ))
     → IfOk r (λ h. h ≡ holding_of h.reel copies) → IfOk r (λ h. AreNear h.reel.setup original slices copies → HoldsExactly h slices)
 near_of_meaning r original slices copies meaning =

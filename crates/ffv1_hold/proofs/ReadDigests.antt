@@ -1,4 +1,4 @@
--- The digests that a text gives a slice, by what was read of it: where the next entry follows the slice, the entries that were read tell
+-- The digests that a text gives a slice, by what was read of it: where the next entry follows the slice, the entries that were read give
 -- all of them.
 use Rattle.std.proofs.Common.{◌≡◌, ℕ, suc, ◌<◌, cond, Bool, true, false, ◌||◌, List, [], ◌∷◌, ◌++◌, length, map, get_or, Option, Some, None, IfSome, refl, sym, ap, ◌∙◌, subst, inr, arith, append-nil}
 use mathlib.Core.Bool.{true≢false}
@@ -33,7 +33,7 @@ use Rattle.ffv1_hold.proofs.TileTexts.{own}
 use Rattle.ffv1_hold.proofs.MergeFacts.{IsWithin, own_digests}
 use Rattle.ffv1_hold.proofs.MergeLeads.{front_entries, rest_entries, all_lie_whole}
 
--- ---- the digests that entries tell
+-- ---- the digests that entries give
 
 -- those of the entry of this slice, and none where there is no such entry
 abbrev pub told_in : List FileEntry → Entry → List (List ℕ)
@@ -70,7 +70,7 @@ told_front : (xs rest : List FileEntry) (e : Entry) → told_in rest e ≡ [] �
 told_front [] rest e none = none
 told_front (x ∷ xs) rest e none = ap (cond (eq_by_cmp entry_cmp e x.0) x.1) (told_front xs rest e none)
 
--- entries that all follow the slice tell none
+-- entries that all follow the slice give none
 told_above : (x : FileEntry) (rest : List FileEntry) (e : Entry) → IsRising file_entry_cmp (x ∷ rest) → entry_cmp e x.0 ≡ Less → told_in (x ∷ rest) e ≡ []
 told_above x [] e up less = ap (λ o. cond (is_eq o) x.1 []) less
 told_above x (y ∷ rest) e up less =
@@ -98,7 +98,7 @@ held_read old new v r f place next h = record { sound = h.sound; told = h.told; 
 pub all_read_to : (old new : Option (List ℕ)) (r : Reel) (f : Facts) (a : ReadsAll old new (part r f)) → IsReadTo old new a.file.version r f None
 all_read_to old new r f a = record { sound = a.sound; told = a.file.fits.told; entry = tt; taken = a.file.taken }
 
--- what follows the entries that were read, the next one and others, tells nothing of a slice before it
+-- what follows the entries that were read, the next one and others, gives no digests of a slice before it
 rest_tells_none : (w : Version) (r : Reel) → IsFileReel r → (e : Entry) (rest : List FileEntry) (bytes : List ℕ) (next : Option FileEntry)
     → IfSome next (IsFileEntryOf w r.setup) → IfSome next (λ n. entry_cmp e n.0 ≡ Less) → AreFitting w rest → IsRising file_entry_cmp rest
     → entries_text w rest ++ 0 ∷ [] ≡ next_text w next ++ bytes → told_in rest e ≡ []
@@ -111,7 +111,7 @@ rest_tells_none w r is e rest bytes (Some x) entry below fit up same =
     ap (λ (es : List FileEntry). told_in es e) front.1
     ∙ told_above x front.0 e (subst (IsRising file_entry_cmp) front.1 up) below
 
--- the entries that were read tell all digests of a slice before the next one
+-- the entries that were read give all digests of a slice before the next one
 digests_read : (v w : Version) (h : Contents) (r : Reel) (is : IsFileReel r) (old new : Option (List ℕ)) (f : Facts) (next : Option FileEntry) → IsFileOf old v h
     → IsReadTo old new w r f next → (e : Entry) → IfSome next (λ n. entry_cmp e n.0 ≡ Less) → digests_of h e ≡ digests_of (part r f) e
 digests_read v w h r is old new f next file read e below =

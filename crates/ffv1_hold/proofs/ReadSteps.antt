@@ -22,7 +22,7 @@ use Rattle.ffv1_hold.proofs.Entries.{part_of_entries, entries_show}
 use Rattle.ffv1_hold.proofs.OriginReads.{origins_none}
 use Rattle.ffv1_hold.proofs.HeldEntries.{entries-none, are_entries, entries-with_entry, last-with_entry, told-with_entry, holding-with_entry}
 
--- what a version can tell of a slice are digests
+-- what a version can give for a slice are digests
 pub digests_in_version : (v : Version) (ds : List (List ℕ)) → AreDigestsIn v ds → AreOrigins ds
 digests_in_version First ds are = subst AreOrigins (sym are) origins_none
 digests_in_version Second ds are = are.0

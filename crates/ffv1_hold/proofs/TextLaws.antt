@@ -58,7 +58,7 @@ module _ (v : Version) where
   fitting_all r is [] each = tt
   fitting_all r is (e ∷ es) each = (entry_has_text r is e each.0, fitting_all r is es each.1)
 
-  -- the entries of a holding that the version tells have texts
+  -- the entries of a holding whose origins the version can give have texts
   pub fitting_items : (h : Contents) → IsHolding h → IsTold v h → AreFitting v (file_entries h)
   fitting_items h is told = fitting_all h.reel is.reel (file_entries h) (are_entries v h is told).each
 

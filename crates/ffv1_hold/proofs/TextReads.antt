@@ -150,7 +150,7 @@ StopsAt-part P P' Q a b i f fits r p =
 
 -- ---- what is derived
 
--- `Read` comes only where the source counted a failure
+-- `Read` is returned only if the source counted a failure
 pub HasFailed-read : {T : Type 0} (f : HoldFileFault) (a b : Tries) → WentBefore (is_read f) a b → IsErrOf {T = T} (Err f) faults.Read → HasFailed a.failures b.failures
 HasFailed-read f a b w is =
     let same : f ≡ faults.Read = cc in

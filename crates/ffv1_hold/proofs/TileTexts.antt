@@ -132,7 +132,7 @@ own_within h q (x ∷ xs) there =
     (λ tie. omega (arith, ap (λ (e : Entry). length (digests_of h e)) (entry_tie q x tie)))
     (λ rest. omega (arith, own_within h q xs rest))
 
--- a text within the limit tells its origins
+-- a text within the limit gives its origins
 pub told_begun : (h : Contents) → IsHolding h → length (begun_text Second h) ≤ file_limit → IsTold Second h
 unfolding file_entries
 told_begun h is fits q there =

@@ -1,4 +1,4 @@
--- Which bytes begin a holding file, and which show a fault in it. Judged are, in byte order: the magic, which tells the version; the
+-- Which bytes begin a holding file, and which show a fault in it. Judged are, in byte order: the magic, which gives the version; the
 -- record's length; the setup, after the record; each tag; each slice's length; after a slice's bytes whether they are a slice of its
 -- tile, and then whether it stands in order; and in version 2 the count of its digests, and each digest, whether it stands in order.
 use Rattle.std.specs.Prelude.{ℕ, ◌≡◌, ◌≢◌, ◌==◌, ◌+◌, ◌^◌, ◌<◌, ◌≤◌, ◌⊎◌, List, [], ◌∷◌, ◌++◌, length, take, Option, Some, Result, Ok, Err}
@@ -188,7 +188,7 @@ IsOutside _ = ⊥
 abbrev pub IsFaultOf : List ℕ → HoldFileFault → Type 0
 IsFaultOf input f = (¬ IsOutside f) × ((left : Option (List ℕ)) × Refuses IsPartOfFile FileIsWhole FileShows (Some input) left 0 f)
 
--- the answer to the text of a holding
+-- what is returned for the text of a holding
 abbrev pub Answers : Contents → Result Contents HoldFileFault → Type 0
 Answers h (Ok g) = g ≡ h
 Answers h (Err f) = IsOutside f

@@ -1,4 +1,4 @@
--- The texts of a holding (own): holding files of version 1, which tell its slices, and of version 2, which tell their origins too.
+-- The texts of a holding (own): holding files of version 1, which give its slices, and of version 2, which give their origins too.
 use Rattle.std.specs.Prelude.{ℕ, ◌≡◌, ◌≤◌, true, List, [], ◌∷◌, ◌++◌, length, map, Option}
 use Rattle.std.specs.List.{flat_map}
 use Rattle.std.specs.Io.KnownBytes.{Consumes}
@@ -86,7 +86,7 @@ file_text v h = begun_text v h ++ 0 ∷ []
 abbrev pub holding_text : Contents → List ℕ
 holding_text h = file_text Second h
 
--- what the version can tell: in version 1 no origins, in version 2 at most 2^26 of each slice
+-- what the version can give: in version 1 no origins, in version 2 at most 2^26 of each slice
 abbrev pub IsTold : Version → Contents → Type 0
 IsTold First h = h.origins ≡ set.empty
 IsTold Second h = (e : Entry) → set.contains h.slices e ≡ true → length (digests_of h e) ≤ origins_limit
@@ -95,7 +95,7 @@ IsTold Second h = (e : Entry) → set.contains h.slices e ≡ true → length (d
 abbrev pub IsTextOf : List ℕ → Contents → Type 0
 IsTextOf text h = (v : Version) × IsTold v h × (text ≡ file_text v h)
 
--- A holding has a file of a version where that can tell its origins, and its text and its record are within their limits.
+-- A holding has a file of a version where that can give its origins, and its text and its record are within their limits.
 pub record FitsInFile (v : Version) (h : Contents) : Type 0 where
   pub told : IsTold v h
   pub record' : length h.reel.config ≤ record_limit

@@ -40,7 +40,7 @@ pub record OneStops (f : HoldFileFault) (old new : Devices) (from : ℕ × ℕ) 
   pub sink' : WentBefore (is_write f) old.sink.tries new.sink.tries
   pub few : TakesAtMost old new from (file_limit + 1, file_limit + 1)
 
--- how the devices went up to an answer, and up to a fault
+-- how the devices went up to a result, and up to a fault
 abbrev pub JoinWent : {T : Type 0} → Result T HoldFileFault → Devices → Devices → (from to : ℕ × ℕ) → Type 0
 JoinWent (Ok x) old new from to = AllGoOn old new from to
 JoinWent (Err f) old new from to = OneStops f old new from

@@ -29,7 +29,7 @@ pub record IsFileOf (input : Option (List ℕ)) (v : Version) (h : Contents) : T
   pub fits : FitsInFile v h
   pub text : input ≡ Some (file_text v h)
 
--- the input is the file of the holding, where one is told
+-- the input is the file of the holding, if one is given
 abbrev pub IsFileOfSome : Option (List ℕ) → Option Contents → Type 0
 IsFileOfSome input None = Unit {0}
 IsFileOfSome input (Some h) = (v : Version) × IsFileOf input v h
@@ -54,7 +54,7 @@ pub record WritesUnion (i : Inputs) (old new : Option (List ℕ)) : Type 0 where
   pub fits : FitsInFile Second (joined left right)
   pub written : Appends old new (holding_text (joined left right))
 
--- the answer to two texts of one reel whose union is this
+-- what is returned for two texts of one reel whose union is this
 abbrev pub AnswersUnion : Contents → Result (Unit {0}) HoldFileFault → Type 0
 AnswersUnion union (Ok _) = Unit {0}
 AnswersUnion union (Err f) = IsOutside f ⊎ ((f ≡ faults.Write) ⊎ ((f ≡ faults.TooLong) × (file_limit < length (holding_text union))))
@@ -80,7 +80,7 @@ pub record BeginsWithHead (input : Option (List ℕ)) (r : Reel) : Type 0 where
   pub rest : List ℕ
   pub split : input ≡ Some (head_text version r ++ rest)
 
--- the answer to inputs that begin with heads of two reels
+-- what is returned for inputs that begin with heads of two reels
 abbrev pub AnswersOther : Result (Unit {0}) HoldFileFault → Type 0
 AnswersOther (Ok _) = ⊥
 AnswersOther (Err f) = IsOutside f ⊎ (f ≡ faults.OtherReel)
@@ -118,7 +118,7 @@ pub record UnionPasses (i : Inputs) : Type 0 where
 
 -- ---- refusals
 
--- the fault of an input, as `read_hold` answers it
+-- the fault of an input, as `read_hold` returns it
 abbrev pub InputRefuses : Option (List ℕ) → Option (List ℕ) → HoldFileFault → Type 0
 InputRefuses old new f = Refuses IsPartOfFile FileIsWhole FileShows old new 0 f
 
@@ -146,7 +146,7 @@ JoinRefuses i f = OneRefuses i f ⊎ BothRefuse i f
 
 -- ---- what was written
 
--- the input, where its bytes are told, begins with these
+-- the input, if its bytes are given, begins with these
 abbrev pub BeginsWith : Option (List ℕ) → List ℕ → Type 0
 BeginsWith None bytes = Unit {0}
 BeginsWith (Some input) bytes = (rest : List ℕ) × (input ≡ bytes ++ rest)

@@ -9,7 +9,7 @@ use Rattle.ffv1_hold.specs.declared.version.Version.TheVariants.{Second}
 use Rattle.ffv1_hold.specs.HoldingText.{FileEntry, head_text, entry_text, entries_text, file_entries, file_text}
 use Rattle.ffv1_hold.specs.FileEntries.{HasText}
 
--- All digests of an entry's slice: exactly those that the holding and the other one give it. Where no other is told, they are some
+-- All digests of an entry's slice: exactly those that the holding and the other one give it. If no other is given, they are some
 -- among which are the entry's own.
 abbrev pub AreAllDigests : Contents → Option Contents → FileEntry → List (List ℕ) → Type 0
 AreAllDigests h None e digests = AllByRecursion (Contains digests) e.1

@@ -175,8 +175,8 @@ with_digests e others = (e.0, digests_union e.1 others)
 abbrev pub IsWritten : FileEntry → Type 0
 IsWritten e = (length e.0.1 ≤ slice_limit) × AreOrigins e.1 × (length e.1 ≤ origins_limit)
 
--- The smaller of two next entries, with the digests of the other where their slices are equal, and how the left one stands to the
--- right one, where an end comes after all.
+-- The smaller of two next entries, with the digests of the other where their slices are equal, and the order of the left one and the right
+-- one, where an end comes after all.
 abbrev pub IsTurn : Option FileEntry → Option FileEntry → FileEntry → List (List ℕ) → Ordering → Type 0
 IsTurn left right e others Less = (left ≡ Some e) × (others ≡ []) × IfSome right (λ f. entry_cmp e.0 f.0 ≡ Less)
 IsTurn left right e others Greater = (right ≡ Some e) × (others ≡ []) × IfSome left (λ f. entry_cmp e.0 f.0 ≡ Less)

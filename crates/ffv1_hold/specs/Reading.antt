@@ -89,7 +89,7 @@ pub record StopsAt (P : List ℕ → Type 0) (W Q : HoldFileFault → List ℕ �
   pub tries' : WentBefore (is_read f) old.tries new.tries
   pub few : new.taken + from ≤ old.taken + file_limit + 1
 
--- the text of what is answered was read off the source, or reading it stopped at the first fault
+-- the text of what is returned was read off the source, or reading it stopped at the first fault
 abbrev pub ReadsText : {T : Type 0} → (T → List ℕ) → (List ℕ → Type 0) → (W Q : HoldFileFault → List ℕ → Type 0) → ReadLog → ReadLog → (from to : ℕ)
     → Result T HoldFileFault → Type 0
 ReadsText text P W Q old new from to (Ok x) = TakesText old new from to (text x)

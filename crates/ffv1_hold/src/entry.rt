@@ -49,7 +49,7 @@ impl TileSlice {
         by_tile.then_with(|| self.bytes.as_slice().cmp(other.bytes.as_slice()))
     }
 
-    /// Reads the next slice over this one, after its tag, and answers how this one stood to it.
+    /// Reads the next slice over this one, after its tag, and returns the order of this one, as it was, and the next one.
     fn read_next<S: Source>(
         &mut self,
         source: &mut S,
@@ -73,7 +73,7 @@ impl TileSlice {
         Ok(by_tile.then(by_bytes))
     }
 
-    /// Whether it is a slice of its tile, and then whether it follows the last one, which is told.
+    /// Whether it is a slice of its tile, and then whether it follows the last one, which `follows` says.
     fn judge(&self, setup: &Setup, follows: bool) -> Result<(), HoldFileFault>
         ensures slice { OnOk result (IsSliceOf setup.now self.now.1 (self.now.0 == 0) self.now.0) }
         ensures place { OnOk result (IsTrue follows) }
@@ -117,7 +117,7 @@ impl HeldSlice {
     }
 }
 
-/// Reads a slice after its tag, over that of the last entry, and answers with it whether it follows that one. The last
+/// Reads a slice after its tag, over that of the last entry, and returns it and whether it follows that one. The last
 /// entry's digests are let go first.
 fn read_tile_slice<S: Source>(
     alloc: Global,
@@ -147,7 +147,7 @@ fn read_tile_slice<S: Source>(
     }
 }
 
-/// Reads the next entry over the last one, which it follows, or answers `None` at the end tag.
+/// Reads the next entry over the last one, which it follows, or returns `None` at the end tag.
 pub(crate) fn read_entry<S: Source>(
     alloc: Global,
     source: &mut S,

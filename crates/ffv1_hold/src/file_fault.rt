@@ -28,7 +28,7 @@ pub enum HoldFileFault {
     Read,
     /// The sink failed.
     Write,
-    /// A growth of memory was refused, before a fault was met.
+    /// An allocation of memory failed, before a fault was met.
     Memory,
     /// The record has more than 2^24 bytes, a slice more than 16777223 bytes or 2^26 digests, or the file more than 2^31 bytes.
     TooLong,

@@ -20,7 +20,7 @@ use std::alloc::Global;
 /// What a holding file begins with, before its version.
 const NAME: [u8; 7] = *b"FFV1HLD";
 
-/// Reads the name and the version, byte by byte: a wrong byte is told whatever the device would do after it.
+/// Reads the name and the version, byte by byte: a wrong byte is reported whatever the device would do after it.
 pub(crate) fn read_magic<S: Source>(
     source: &mut S,
     place: &mut u32,

@@ -16,7 +16,7 @@ use ffv1_pool::Reel;
 use ffv1_range::Setup;
 use std::alloc::Global;
 
-/// How far a holding file was read, its version, which the magic tells, and the entry that was read last: none before
+/// How far a holding file was read, its version, which the magic gives, and the entry that was read last: none before
 /// the first, and none after the end tag.
 #[derive(Drop)]
 pub(crate) struct HoldReader {

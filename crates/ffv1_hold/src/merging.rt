@@ -31,15 +31,15 @@ use std::cmp::Ordering;
 ///
 /// Both heads are read and judged before anything is written. Then the smaller of the inputs' next entries is
 /// written, once where both have its slice, and then with the digests of both, and its input is read on: at most one
-/// entry of each input is held, and the next one is read over it, piece by piece, and compared with it. `OtherReel`
-/// comes exactly where both heads were read and their record, width or height differ, before anything is written.
-/// `TooLong` comes where an input passes its limits, or where what is written would pass 2^31 bytes; each other fault is
-/// the one that `read_hold` tells of that input. The end tag is written only where both inputs were read to their ends
-/// and show no fault. `Read` and `Write` come only where a source or the sink counted a failure: an interrupted try is
+/// entry of each input is held, and the next one is read over it, block after block, and compared with it. Returns `OtherReel` exactly if
+/// both heads were read and their record, width or height differ, before anything is written.
+/// Returns `TooLong` if an input passes its limits, or if what is written would pass 2^31 bytes; each other fault is the one that
+/// `read_hold` returns for that input. The end tag is written only where both inputs were read to their ends
+/// and show no fault. `Read` and `Write` are returned only if a source or the sink counted a failure: an interrupted try is
 /// made again, and 65 in a row are a failure. After `Write` each input that is a text was read at most to the end of its
 /// first entry that is not whole in what was written, or to its own end where all are whole: an entry is whole there
 /// once its slice stands there with exactly the digests that both inputs give it, where the other one is a text too, and
-/// else with its own among others. `Memory` comes where a growth is refused.
+/// else with its own among others. Returns `Memory` if an allocation fails.
 pub fn join_streams<R: Source, Q: Source, W: Sink>(
     alloc: Global,
     left: &mut R,
@@ -54,11 +54,11 @@ pub fn join_streams<R: Source, Q: Source, W: Sink>(
       right_new = (Q.log right.new).remaining;
     }) (W.log sink.old).contents (W.log sink.new).contents) }
 
-    // Such inputs are answered by that, by `Read`, `Write` or `Memory`, or by `TooLong` where the union has no text.
+    // For such inputs the result is that, `Read`, `Write` or `Memory`, or `TooLong` where the union has no text.
     ensures only { (v w : Version) (g h : Contents) → IsSameReel g h → IsFileOf (R.log left.old).remaining v g → IsFileOf (Q.log right.old).remaining w h
         → AnswersUnion (joined g h) result }
 
-    // Inputs that begin with heads of two reels are answered by `OtherReel`, or by `Read` or `Memory`.
+    // For inputs that begin with heads of two reels the result is `OtherReel`, `Read` or `Memory`.
     ensures other { (g h : Reel) → BeginsWithHead (R.log left.old).remaining g → BeginsWithHead (Q.log right.old).remaining h → ¬ (g ≡ h)
         → AnswersOther result }
     ensures untouched { IsErrOf result HoldFileFault.OtherReel → sink.new ≡ sink.old }
@@ -311,8 +311,8 @@ impl Merge {
     }
 }
 
-/// The smaller of the next entries of both inputs, with the digests of the other where their slices are equal, and how the
-/// left one's slice stands to the right one's, where an end comes after all.
+/// The smaller of the next entries of both inputs, with the digests of the other where their slices are equal, and the order of the left
+/// one's slice and the right one's, where an end comes after all.
 fn next_entry<'a>(
     left: &'a Option<HeldSlice>,
     right: &'a Option<HeldSlice>,

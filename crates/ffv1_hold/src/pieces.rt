@@ -1,4 +1,4 @@
-//! Bytes that are read over others, piece by piece, and compared with them (own).
+//! Bytes that are read over others, block after block, and compared with them (own).
 ghost use Rattle.std.specs.Prelude.{◌≡◌, ◌+◌, ◌<◌, ◌≤◌, ◌++◌, length, take, drop, OnOk, IfOk};
 ghost use Rattle.ffv1_bits.specs.Limits.{file_limit};
 ghost use Rattle.ffv1_pool.specs.SliceOrder.{bytes_cmp};
@@ -12,7 +12,7 @@ use std::cmp::Ordering;
 /// How many bytes are read at a time.
 const PIECE: usize = 16384;
 
-/// Reads that many bytes over those of the vector, and answers how the old bytes stood to the new ones. Memory grows with the
+/// Reads that many bytes over those of the vector, and returns the order of the old bytes and the new ones. Memory grows with the
 /// bytes that are read, where more come than there were: a count alone asks for none.
 pub(crate) fn read_over<S: Source>(
     source: &mut S,
@@ -40,8 +40,8 @@ pub(crate) fn read_over<S: Source>(
     Ok(order.then(by_length))
 }
 
-/// Fills a buffer, puts it over the bytes from a place on, and answers how those that stood there, up to as many, stood to
-/// it. Memory for it is asked for before it is read.
+/// Fills a buffer, puts it over the bytes from a place on, and returns the order of those that stood there, up to as many, and the buffer.
+/// Memory for it is asked for before it is read.
 fn read_piece<S: Source>(
     source: &mut S,
     place: &mut u32,

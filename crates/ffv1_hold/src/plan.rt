@@ -91,8 +91,8 @@ impl From<HoldFileFault> for PlanFault {
 /// Carries a plan out. What is held then is exactly what is found in the plan's copies, however they are ordered, grouped
 /// or repeated. A refusal is that of the plan's first step that is refused, where all steps before it are carried out.
 ///
-/// `config` is the configuration record, `width` and `height` the frames' size in samples. `Setup` comes with the record's
-/// first fault, `Hold` where a copy has more than 2^30 bytes, `File` where a holding that is reread has no file; each also
+/// `config` is the configuration record, `width` and `height` the frames' size in samples. Returns `Setup` with the record's first fault,
+/// `Hold` if a copy has more than 2^30 bytes, `File` if a holding that is reread has no file; each also
 /// because memory ran out.
 pub fn run(
     alloc: Global,
@@ -178,7 +178,7 @@ fn through_file(alloc: Global, holding: Holding) -> Result<Holding, PlanFault>
     Ok(reread(alloc, &holding)?)
 }
 
-/// Writes a holding file to memory, and reads it again. `TooLong` comes exactly where the holding has none; the only other
+/// Writes a holding file to memory, and reads it again. Returns `TooLong` exactly if the holding has none; the only other
 /// refusal is `Memory`.
 fn reread(alloc: Global, holding: &Holding) -> Result<Holding, HoldFileFault>
     requires { IsHolding holding.now }

@@ -15,19 +15,18 @@ use ffv1_devices::Source;
 use ffv1_pool::Holding;
 use std::alloc::Global;
 
-/// Reads a holding file of either version, to the end of the input. One of version 1 tells no origins.
+/// Reads a holding file of either version, to the end of the input. One of version 1 gives no origins.
 ///
-/// The faults are judged in byte order, those of the first eight bytes too, and at most 2^31 + 1 bytes are read. `Read` comes
-/// only where the source counted a failure: an interrupted try is made again, and 65 in a row are a failure. `Memory` comes
-/// where a growth is refused. Both come only before a fault is met; within the record, memory for its setup is wanted where
-/// `Setup::read` tells.
+/// The faults are judged in byte order, those of the first eight bytes too, and at most 2^31 + 1 bytes are read. `Read` is returned only if
+/// the source counted a failure: an interrupted try is made again, and 65 in a row are a failure. Returns `Memory` if an allocation fails.
+/// Both are returned only before a fault is met; within the record, memory for its setup is wanted where `Setup::read` says.
 pub fn read_hold<R: Source>(alloc: Global, source: &mut R) -> Result<Holding, HoldFileFault>
     // The whole input is the holding's text of version 2, or, where it has no origins, that of version 1. Or the bytes that were
     // read show the fault; at `Read` and `Memory` they show none: they are unfinished, or a text whose end was looked for, or a head
     // whose setup needs memory before a fault.
     ensures read { ReadsFile result (R.log source.old) (R.log source.new) }
 
-    // An input that is such a text of a holding is answered by that holding, or by `Read` or `Memory`.
+    // For an input that is such a text of a holding the result is that holding, `Read` or `Memory`.
     ensures only { (v : Version) (h : Contents) → IsHolding h → FitsInFile v h → (R.log source.old).remaining ≡ Some (file_text v h)
         → Answers h result }
 {

@@ -20,10 +20,10 @@ use ffv1_pool::{Holding, Reel};
 
 /// Writes the holding file of a holding, of version 2.
 ///
-/// `TooLong` comes exactly where the record has more than 2^24 bytes or the file would have more than 2^31, before
-/// anything is written; more than 2^26 origins of one slice never fit. After `Write`, which comes only where the sink
-/// counted a failure, a front of the file was written; the first failure that is no interruption is told. No other fault
-/// comes: nothing is allocated.
+/// Returns `TooLong` exactly if the record has more than 2^24 bytes or the file would have more than 2^31, before
+/// anything is written; more than 2^26 origins of one slice never fit. After `Write`, which is returned only if the sink counted a failure,
+/// a front of the file was written; the first failure that is no interruption is reported. No other fault is returned: nothing is
+/// allocated.
 pub fn write_hold<W: Sink>(holding: &Holding, sink: &mut W) -> Result<(), HoldFileFault>
     ensures saved { SavesFile result holding.now (W.log sink.old) (W.log sink.new) }
     ensures sound { IsHolding holding.now }

@@ -8,7 +8,7 @@ ghost use Rattle.ffv1_hold.specs.Merging.{digests_union};
 use ffv1_devices::{Sink, WriteFailed, write_field};
 use std::cmp::Ordering;
 
-/// The least digest of both, and what stands after it in each, or `None` where both are empty.
+/// The smallest digest of both, and what stands after it in each, or `None` where both are empty.
 fn next_digest<'a>(
     left: &'a [[u8; 32]],
     right: &'a [[u8; 32]],

@@ -1,6 +1,6 @@
 //! The versions of holding files (own).
 
-/// A version of holding files. The second tells the origins of each slice too, the first tells none.
+/// A version of holding files. The second gives the origins of each slice too, the first gives none.
 #[derive(Clone, Copy, Debug, PartialEq, Eq)]
 pub enum Version {
     /// Its magic ends in 1.

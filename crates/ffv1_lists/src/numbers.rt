@@ -2,8 +2,8 @@
 ghost use Rattle.std.specs.Prelude.{ℕ, MatchOption};
 ghost use Rattle.ffv1_lists.specs.Numbers.{IsNumber};
 
-/// The number that decimal digits write, and nothing else. `None` comes where there is no digit, where a byte is none, and where the
-/// number is 2^64 or more.
+/// The number that decimal digits write, and nothing else. Returns `None` if there is no digit, if a byte is none, and if the number is
+/// 2^64 or more.
 pub fn read_number(digits: &[u8]) -> Option<u64>
     ensures { MatchOption result ((n : ℕ) → IsNumber digits.now n → ⊥) (λ n. IsNumber digits.now n) }
 {

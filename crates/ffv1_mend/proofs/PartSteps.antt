@@ -47,7 +47,7 @@ zip_take (x ∷ xs) [] i d e long lt = absurd (omega arith)
 zip_take (x ∷ xs) (y ∷ ys) zero d e long lt = refl
 zip_take (x ∷ xs) (y ∷ ys) (suc i) d e long lt = ap (λ more. (x, y) ∷ more) (zip_take xs ys i d e (omega arith) (omega arith))
 
--- ---- a piece that is there already
+-- ---- bytes that are there already
 
 pub written_there : (bytes : List ℕ) (start : ℕ) (piece : List ℕ) → piece ≡ slice_range bytes start (start + length piece) → written bytes start piece ≡ bytes
 written_there bytes start piece there =

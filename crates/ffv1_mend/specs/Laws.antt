@@ -43,7 +43,8 @@ pub record SameVersionsMend : Type 0 where
 
 -- ---- what vouches
 
--- An element passes its CRC-32. A frame is in one piece, each of whose slices passes its parity. Bytes without a checksum are every version.
+-- An element passes its CRC-32. A frame is whole, and each of its slices has content and passes its parity. Bytes without a checksum are
+-- every version.
 abbrev pub IsVouched : Kind → List (List ℕ) → List ℕ → Type 0
 IsVouched Frame versions bytes = IsWholeFrame bytes
 IsVouched Crc32 versions bytes = PassesCrc32 bytes
@@ -64,8 +65,8 @@ pub record IsOriginalOf (original : List ℕ) (versions : List (List ℕ)) (part
   pub alone : (version : List ℕ) → Contains versions version → PassesCrc32 version → version ≡ original
   pub among : IsCombination (improved versions parts mended.splices) original
 
--- Nothing but the original is whole or woven; it is never disputed, and missing only where there are too many combinations, or where another
--- one passes too.
+-- Nothing but the original is whole or woven; it is never disputed, and missing only where there are too many combinations, or where
+-- another one passes too.
 abbrev pub KeepsOriginal : List ℕ → List (List ℕ) → List Part → MendedValue → State → Type 0
 KeepsOriginal original versions parts mended Missing =
     AreMany (improved versions parts mended.splices) ⊎ IsOfTwo (IsValid Element (improved versions parts mended.splices))
@@ -78,9 +79,9 @@ HasOriginal Frame original versions parts mended = AreCopiesOf original versions
 HasOriginal Crc32 original versions parts mended = IsOriginalOf original versions parts mended
 HasOriginal Plain original versions parts mended = Contains versions original
 
--- Then a stretch that is good is the original, and an element is kept. The original of an element is among the combinations where each region
--- in which the improved versions differ is intact in one of them, and where all agree they are right; and so where it is so of the versions
--- as they were given, and what the splices give, voted and repaired places too, is right.
+-- Then a stretch that is good is the original, and an element is kept. The original of an element is among the combinations where each
+-- region in which the improved versions differ is intact in one of them, and where all agree they are right; and so where it is so of the
+-- versions as they were given, and what the splices give, voted and repaired places too, is right.
 pub record OriginalIsMended : Type 0 where
   pub original : (kind : Kind) (original : List ℕ) (versions : List (List ℕ)) (from : List ℕ) (parts : List Part) (mended : MendedValue)
       → HasOriginal kind original versions parts mended → IsMendOf kind versions from parts mended → is_good mended.state ≡ true
@@ -105,9 +106,9 @@ pub record AreNearVersions (original : List ℕ) (versions : List (List ℕ)) : 
   pub passes : PassesCrc32 original
   pub near : (version : List ℕ) → Contains versions version → IsNearVersion original version
 
--- Then no version that passes differs from the original: what is whole is the original, and nothing is disputed. A frame that is good is the
--- original where each link of each version is near the original's, and is among the combinations, and each slice that passes and begins where
--- a link of the original begins is that link.
+-- Then no version that passes differs from the original: what is whole is the original, and nothing is disputed. A frame that is good is
+-- the original where each link of each version is near the original's, and is among the combinations, and each slice that passes and begins
+-- where a link of the original begins is that link.
 pub record NearVersionsMend : Type 0 where
   pub alone : (original : List ℕ) (versions : List (List ℕ)) → AreNearVersions original versions → (version : List ℕ) → Contains versions version
       → PassesCrc32 version → version ≡ original

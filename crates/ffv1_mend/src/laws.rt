@@ -8,7 +8,7 @@ pub fn same_versions_mend()
     ensures { SameVersionsMend }
 {}
 
-/// Where a stretch is good, an element passes its CRC-32; a frame is in one piece: by its own footers its chain is whole, and each of its
+/// Where a stretch is good, an element passes its CRC-32; a frame is whole by its own footers: its chain is whole, and each of its
 /// slices has content and passes its parity; and bytes without a checksum are what every version has.
 pub fn good_is_vouched()
     ensures { GoodIsVouched }

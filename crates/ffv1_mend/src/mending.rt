@@ -17,13 +17,13 @@ use std::alloc::{AllocError, Global};
 ///
 /// A frame is spliced of its versions, and has the splice's bytes. An element is the version that passes its CRC-32. Where none does, the
 /// parts are spliced, what the splices give stands in each version, and the versions are woven. Where nothing is woven either, or two
-/// versions that differ pass, it has what each splice has in its part, and elsewhere the bytes of `from`. Bytes without a checksum are those
-/// of `from`.
+/// versions that differ pass, it has what each splice has in its part, and elsewhere the bytes of `from`. Bytes without a checksum are
+/// those of `from`.
 ///
 /// The order of the versions changes nothing, and repeating one changes only `Alone` to `Agreed`; `from` changes only bytes that are not
 /// good (`same_versions_mend`). Bytes that are good pass the checksum (`good_is_vouched`), and are the original's where that is among the
-/// combinations (`original_is_mended`). Equal versions are judged once, and a version that stands as it is is lent, and not copied. The only
-/// refusal is that of a growth of memory.
+/// combinations (`original_is_mended`). Equal versions are judged once, and a version that stands as it is is lent, and not copied. The
+/// only refusal is that of an allocation of memory.
 pub fn mend<'a>(
     alloc: Global,
     kind: Kind,

@@ -82,7 +82,7 @@ module _ (h : Contents) where
     is_frame = with_any before.pictures more.picture n old new before.count before.is_frame more.drawn;
   }
 
--- ---- what a call answered
+-- ---- what a call returned
 
 -- the content of a link that was read by its place
 pub same_content : (links : List Piece) (tile : ℕ) (link : Piece) (bytes : List ℕ) → tile < length links → link ≡ get_or links tile link → bytes ≡ link.bytes
@@ -90,7 +90,7 @@ pub same_content : (links : List Piece) (tile : ℕ) (link : Piece) (bytes : Lis
 same_content links tile link bytes lt is same =
     ap content_of (same ∙ ap (λ (l : Piece). l.bytes) (sym (get_or_default links tile no_piece link lt ∙ sym is)))
 
--- an answer that is no error
+-- a result that is no error
 pub ok_value : {X E : Type 0} (r : Result X E) (P : X → Type 0) → IfOk r P → ((e : E) → r ≡ Err e → ⊥) → (x : X) × P x
 ok_value (Ok x) P is other = (x, is)
 ok_value (Err e) P is other = absurd (other e refl)

@@ -18,7 +18,7 @@ use Rattle.ffv1_picture.specs.Drawing.{Draws, FitsIn, area, plane_at}
 abbrev pub first_rows : TileRect → ℕ → TileRect
 first_rows r rows = record { x = r.x; y = r.y; w = r.w; h = rows }
 
--- ---- a piece of a list that is written over
+-- ---- items of a list in a row that are overwritten
 
 module _ (a w : ℕ) (old piece : List ℕ) (fits : a + w ≤ length old) (long : length piece ≡ w) where
   abbrev with_piece : List ℕ

@@ -47,7 +47,7 @@ module _ (setup : SetupValue) (payload : List ℕ) (pictures : List Planes) (spe
         ext_get_or [] is.drawn.pictures pictures (is.drawn.count ∙ sym spells.count) (λ tile lt. one_picture tile (omega (arith, lt, is.drawn.count))) in
         subst (λ (ps : List Planes). IsFrameOf setup (map Some ps) frame) same is.drawn.is_frame
 
-  -- an answer that is a frame of the payload or its first fault
+  -- a result that is a frame of the payload or its first fault
   pub found : IsInProfile setup → (r : Result Frame FrameFault) → IfOk r (IsDecodedFrame setup payload) → IfErr r (IsFirstFault setup payload)
       → MatchResult r (IsFrameOf setup (map Some pictures)) (λ fault. fault ≡ Memory)
   found profile (Ok frame) is first = one_frame profile frame is

@@ -52,7 +52,7 @@ module _ (h : Contents) (stands : Standing → Bool) (n count : ℕ) (so_far : c
 
 -- ---- text that is added
 
--- a piece after a piece
+-- text after text
 pub then_pushed : {E : Type 0} (r : Result (Unit {0}) E) (old mid new first second second' : List ℕ) → mid ≡ old ++ first → OnOk r (new ≡ mid ++ second)
     → second ≡ second'
     → OnOk r (new ≡ old ++ (first ++ second'))

@@ -7,7 +7,7 @@ use Rattle.ffv1_plane.specs.declared.tile.TileFault.TheVariants.{Memory}
 use Rattle.ffv1_picture.specs.TilePictures.{IsUnreadable}
 use Rattle.ffv1_plane.specs.StuckLaws.{IsRefusedFor}
 
--- what is told of a tile's fault
+-- what is said of a tile's fault
 pub record IsToldOf (setup : SetupValue) (tile : ℕ) (content : List ℕ) (cause : TileFault) : Type 0 where
   pub found : (picture : PictureValue) → IsPictureOf setup tile content picture → cause ≡ Memory
   pub refused : (cause ≡ Memory) ⊎ IsRefusedFor setup tile content cause

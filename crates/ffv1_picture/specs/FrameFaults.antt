@@ -38,7 +38,7 @@ IsFirstUnreadable setup links fault = ⊥
 
 -- The first fault of a payload: its chain; then for each place upwards whether there is a slice, of the tile of that number; then
 -- for each tile upwards whether its slice spells a picture. As the slice has a header of its tile, a code after that can't be read.
--- Memory is told of no payload whose chain is at fault.
+-- Memory is reported for no payload whose chain is at fault.
 abbrev pub IsFirstFault : SetupValue → List ℕ → FrameFault → Type 0
 IsFirstFault setup payload Chain = ¬ HasWholeChain setup payload
 IsFirstFault setup payload (Slice place cause) = HasWholeChain setup payload × IsFirstDisorder setup (links_from_front payload) (Slice place cause)

@@ -43,7 +43,7 @@ impl Decoder {
     pub fn new(alloc: Global, config: &[u8], width: u32, height: u32) -> Result<Decoder, SetupFault>
         ensures setup { IfOk result (λ decoder. IsSetupOf config.now width height decoder) }
 
-        // A record that has a setup is answered with its decoder, or because memory ran out.
+        // For a record that has a setup the result is its decoder, or `Memory`.
         ensures only { (s : SetupValue) → IsSetupOf config.now width height s
             → MatchResult result (λ decoder. decoder ≡ s) (λ fault. fault ≡ SetupFault.Memory) }
 
@@ -59,11 +59,11 @@ impl Decoder {
     /// error status. In chroma a sample that two tiles cover is the greater tile's, and one that none covers is 128.
     ///
     /// Refused with the first fault: `Chain`; then for each place upwards `Slice` or `Order`; then for each tile upwards
-    /// `Tile`. `Memory` comes where a growth is refused, and never before `Chain`.
+    /// `Tile`. Returns `Memory` if an allocation fails, and never before `Chain`.
     pub fn decode_frame(&self, payload: &[u8]) -> Result<Frame, FrameFault>
         ensures frame { IfOk result (IsDecodedFrame self.now payload.now) }
 
-        // Wherever the payload spells pictures, the answer is the frame of them, or Memory.
+        // Wherever the payload spells pictures, the result is the frame of them, or Memory.
         ensures found { (pictures : List Planes) → SpellsPictures self.now payload.now pictures
             → MatchResult result (IsFrameOf self.now (map Some pictures)) (λ fault. fault ≡ FrameFault.Memory) }
 

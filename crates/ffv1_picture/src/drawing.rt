@@ -15,7 +15,7 @@ use ffv1_range::{Grid, Setup, TileRect};
 use ffv1_slice::content_of;
 use std::alloc::Global;
 
-/// Decodes a slice of a tile, draws its picture onto a frame, and answers how many bits of it are spare. After a refusal the
+/// Decodes a slice of a tile, draws its picture onto a frame, and returns how many bits of it are spare. After a refusal the
 /// frame is unchanged.
 pub(crate) fn draw_slice(
     alloc: Global,

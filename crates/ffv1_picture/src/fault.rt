@@ -30,7 +30,7 @@ pub enum FrameFault {
         /// Why its slice spells no picture, which is a `Code`: the slice has a header of the tile.
         cause: TileFault,
     },
-    /// A growth of memory was refused.
+    /// An allocation of memory failed.
     Memory,
 }
 

@@ -60,7 +60,7 @@ pub fn picture(alloc: Global, holding: &Holding) -> Result<Partial, AllocError>
     Ok(Partial { frame, tiles })
 }
 
-/// Draws a tile's settled slice, if it has one with a picture, and answers how the tile came out.
+/// Draws a tile's settled slice, if it has one with a picture, and returns how the tile came out.
 fn show_tile(
     alloc: Global,
     holding: &Holding,

@@ -20,8 +20,8 @@ impl From<WriteFailed> for WriteFault {
 
 /// Writes the samples of a frame, a byte each: planes Y, Cb and Cr one after the other, each row by row.
 ///
-/// After `Write`, which comes only where the sink counted a failure, a front of the samples was written; the first failure
-/// that is no interruption is told. It takes no memory.
+/// After `Write`, which is returned only if the sink counted a failure, a front of the samples was written; the first failure
+/// that is no interruption is reported. It takes no memory.
 pub fn write_raw<W: Sink>(frame: &Frame, sink: &mut W) -> Result<(), WriteFault>
     ensures { WritesAll result (W.log sink.old) (W.log sink.new) (flat_map (λ plane. plane.items) frame.now.planes.items) }
 {

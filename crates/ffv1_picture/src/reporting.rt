@@ -13,7 +13,7 @@ use sha2::{Digest, Sha256};
 use std::alloc::{AllocError, Global};
 
 /// The damage report of a holding: a line for the recording, one for each tile, one that counts them, and one for the whole
-/// frame. A settled slice and a whole frame are told by their length in bytes and their SHA-256 digest. After the line of a
+/// frame. A settled slice and a whole frame are reported by their length in bytes and their SHA-256 digest. After the line of a
 /// settled tile stands one for each copy that is known to have given its slice, by the copy's SHA-256 digest, in rising order.
 ///
 /// It fails where memory is refused.
@@ -123,7 +123,7 @@ fn push_settled(text: &mut String, slice: &[u8], held: usize) -> Result<(), Allo
     push_digest(text, &Sha256::digest(slice))
 }
 
-/// Adds the numbers that tell a settled tile.
+/// Adds the numbers that report a settled tile.
 fn push_settled_numbers(text: &mut String, slice: &[u8], held: usize) -> Result<(), AllocError>
     requires { 8 ≤ length slice.now }
     ensures { OnOk result (string_bytes text.new ≡ string_bytes text.old ++ settled_numbers slice.now held) }

@@ -34,7 +34,7 @@ pub struct Restoration {
 pub enum RestorationFault {
     /// The plan was not carried out.
     Plan(PlanFault),
-    /// A growth of memory was refused.
+    /// An allocation of memory failed.
     Memory,
 }
 
@@ -60,15 +60,15 @@ impl From<AllocError> for RestorationFault {
     }
 }
 
-/// Carries a plan out, for a configuration record and the size of its frames in samples, and answers the restored
-/// payload, the report and the picture of what is held then.
+/// Carries a plan out, for a configuration record and the size of its frames in samples, and returns the restored payload, the report and
+/// the picture of what is held then.
 ///
 /// However the same copies are ordered, grouped or repeated, the holdings are equal in every tile, origin, file byte and
 /// report line. If every slice found in them is the original's for its tile, and each tile's is found in some
 /// copy, the restored payload is the original byte for byte, and each sample is the one that the greatest decoded
 /// tile covering it spells.
 ///
-/// `Plan` comes with a refusal of one of the plan's steps, `Memory` where a growth is refused after them.
+/// Returns `Plan` with a refusal of one of the plan's steps, `Memory` if an allocation fails after them.
 pub fn restored(
     alloc: Global,
     plan: &Plan<'_>,

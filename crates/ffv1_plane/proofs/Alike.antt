@@ -66,7 +66,7 @@ values_alike (suc n) p q g h tests values =
     rw (filter-append p, filter-append q, map-append g, map-append h, ind)
     (ap (λ l. map h (filter q (samples_before n)) ++ l) (rw test (kept (q n) n g h value)))
 
--- a level's difference isn't 0, so its value tells it
+-- a level's difference isn't 0, so its value gives it
 one_difference : (level : Bool) (x y : ℤ) → (level ≡ true → x ≢ pos 0) → (level ≡ true → y ≢ pos 0) → decoded_value level x ≡ decoded_value level y → x ≡ y
 one_difference false x y some other same = same
 one_difference true x y some other same = let p : x ≢ pos 0 = some refl in let q : y ≢ pos 0 = other refl in grind (arith, ints)
@@ -108,7 +108,7 @@ same_test false false m n h = refl
 same_test true false m n h = absurd (omega arith)
 same_test false true m n h = absurd (omega arith)
 
--- the run's length tells whether its first sample is skipped ..
+-- by the run's length it is known whether its first sample is skipped ..
 first_skipped : (r q : Residuals) (s count m n : ℕ) → count ≡ suc m → skipped_among r count s ≡ skipped_among q count s → is_skipped r s ≡ is_skipped q s
 unfolding skipped_among
 first_skipped r q s count m n is same =

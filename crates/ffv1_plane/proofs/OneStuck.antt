@@ -198,7 +198,7 @@ stuck_is_one setup tile content fault other plane level y v x u profile inside s
     stuck_one setup p.head profile there a.planes b.planes (bits_of (drop p.place content)) a.front b.front fault other plane level y v x u a.sizes b.sizes
     a.stuck b.stuck
 
--- ---- answers
+-- ---- results
 
 -- a content with a header has no fault of the header, and no other header
 no_head_fault : (setup : SetupValue) (tile : ℕ) (content : List ℕ) (fault : HeadFault) (head : SliceHead) (place : ℕ)

@@ -53,7 +53,7 @@ pub record IsHalted (earlier : ℕ → List ℤ) (r : Residuals) (bits : List Bo
   pub begins : bits ≡ part ++ others
   pub refused : IsWordRefused earlier r sample part others fault
 
--- That sample is in the rest of the line, and all is told of every plane that begins with these samples.
+-- That sample is in the rest of the line, and all is said of every plane that begins with these samples.
 pub record IsLineHalted (earlier : ℕ → List ℤ) (width : ℕ) (entry : ℕ → ℕ → ℤ) (old : List ℕ) (bits : List Bool) (fault : CodeFault) (sample : ℕ) : Type 0 where
   pub samples : List ℕ
   pub bytes : (s : ℕ) → get_or samples s 0 < 256

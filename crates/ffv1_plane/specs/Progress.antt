@@ -46,7 +46,7 @@ pub record IsRunBegun (left index : ℕ) (bits : List Bool) (done next : ℕ) (r
   pub front : SpellsFront done index words next
   pub completes : (m last : ℕ) (others : List Bool) → SpellsRun m (left - done) next others last → SpellsRun (done + m) left index (words ++ others) last
 
--- The next sample x is read by one code. All is told of every plane that begins with the samples and x.
+-- The next sample x is read by one code. All is said of every plane that begins with the samples and x.
 pub record IsSampleRead (width : ℕ) (entry : ℕ → ℕ → ℤ) (level : Bool) (old : List ℕ) (states : List ContextState) (bits : List Bool) (new : List ℕ)
     (after : List ContextState) (rest : List Bool) : Type 0 where
   pub sample : ℕ

@@ -1,4 +1,4 @@
--- The bits that spell a plane (RFC 9043, section 3.8.2). Nothing here reads a bit: all is told of the whole plane.
+-- The bits that spell a plane (RFC 9043, section 3.8.2). Nothing here reads a bit: all is said of the whole plane.
 use Rattle.std.specs.Prelude.{◌≡◌, ℕ, zero, suc, ◌+◌, ◌-◌, ◌%◌, ◌==◌, Bool, true, false, not, ◌&&◌, ◌||◌, List, [], ◌∷◌, ◌++◌, length, map, ℤ, pos, nat_abs, if◌then◌else◌, fold, filter}
 use Rattle.std.specs.Ordering.{int_eq}
 use Rattle.ffv1_rice.specs.States.{ContextState, start_state, after_value}

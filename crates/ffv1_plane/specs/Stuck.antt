@@ -1,4 +1,4 @@
--- Where the content of a slice can't be read on (RFC 9043, section 3.8.2). As in Spelling, all is told of a whole picture
+-- Where the content of a slice can't be read on (RFC 9043, section 3.8.2). As in Spelling, all is said of a whole picture
 -- and its bits: those of its words that start before a sample are there, and a word that is due at the sample isn't.
 use Rattle.std.specs.Prelude.{◌≡◌, ℕ, zero, suc, ◌+◌, ◌*◌, ◌<◌, ◌≤◌, ◌==◌, ◌⊎◌, Bool, true, false, List, [], ◌∷◌, ◌++◌, drop, ℤ, if◌then◌else◌}
 use Rattle.ffv1_bits.specs.Bits.{bits_of}

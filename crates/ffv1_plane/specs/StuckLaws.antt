@@ -46,7 +46,7 @@ StuckIsOne =
     → tile < tile_count (grid_of setup)
     → IsStuckAt setup tile content fault plane y x → IsStuckAt setup tile content other level v u → IsOnePlace fault other plane level y v x u
 
--- ---- the answers of a tile
+-- ---- the results of a tile
 
 -- A content is refused so: its header can't be read, or is that of another tile, or a word after it can't be read.
 abbrev pub IsRefusedFor : SetupValue → ℕ → List ℕ → TileFault → Type 0

@@ -23,7 +23,7 @@ use std::alloc::{AllocError, AllocFailed, Global};
 pub(crate) enum PlaneFault {
     /// No word or code can be read. The sample, in scan order, is that at which it begins.
     Code { fault: CodeFault, sample: usize },
-    /// A growth of memory was refused.
+    /// An allocation of memory failed.
     Memory,
 }
 
@@ -49,7 +49,7 @@ pub(crate) struct PlaneReader<'t, 's, 'b> {
 }
 
 impl PlaneReader<'_, '_, '_> {
-    /// Reads the next sample, a run's level or a scalar, by one code, and answers it.
+    /// Reads the next sample, a run's level or a scalar, by one code, and returns it.
     #[inline(always)]
     fn read_code(&mut self, near: &Neighbours, context: i32, level: bool) -> Result<u8, PlaneFault>
         requires inside { self.old.lines.x < self.old.lines.width }
@@ -81,7 +81,7 @@ impl PlaneReader<'_, '_, '_> {
         Ok(sample)
     }
 
-    /// Reads the level after a run, and answers its sample.
+    /// Reads the level after a run, and returns its sample.
     fn read_level(&mut self) -> Result<u8, PlaneFault>
         requires states { HasStates self.old }
         requires inside { self.old.lines.x < self.old.lines.width }
@@ -100,7 +100,7 @@ impl PlaneReader<'_, '_, '_> {
         self.read_code(&near, context, true)
     }
 
-    /// Reads a scalar, or a run with the level that ends it, after the sample to the left, and answers the last sample:
+    /// Reads a scalar, or a run with the level that ends it, after the sample to the left, and returns the last sample:
     /// it stays at hand, where a look into the line would wait for it. After a run up to the line's end it is any.
     #[inline(always)]
     fn read_next(&mut self, left: u8) -> Result<u8, PlaneFault>

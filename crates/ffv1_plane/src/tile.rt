@@ -41,7 +41,7 @@ pub enum TileFault {
         y: usize,
         x: usize,
     },
-    /// A growth of memory was refused.
+    /// An allocation of memory failed.
     Memory,
 }
 
@@ -92,7 +92,7 @@ pub struct TilePicture {
 /// most 2^30 bytes; that of tile 0 is read as the payload's first, with a keyframe bit before its header.
 ///
 /// Refused with `Head` where the content has no header of the profile, then `OtherTile` where the header is that of
-/// another tile, then `Code` where the bits after it spell no picture; `Memory` comes where a growth was refused. A
+/// another tile, then `Code` where the bits after it spell no picture; returns `Memory` if an allocation fails. A
 /// picture takes memory for its planes and, while they are decoded, for the adaptive states of Y, then of Cb and Cr.
 pub fn decode_tile(
     alloc: Global,
@@ -103,10 +103,10 @@ pub fn decode_tile(
     requires tile { index < tile_count (grid_of setup.now) }
     requires content { length content.now ≤ payload_limit }
 
-    // The answer is the picture that the content spells.
+    // What is returned is the picture that the content spells.
     ensures ok { IfOk result (λ picture. IsPictureOf setup.now index content.now (picture_value picture)) }
 
-    // Wherever the content spells a picture, that is the answer, or Memory.
+    // Wherever the content spells a picture, that is returned, or Memory.
     ensures found { (picture : PictureValue) → IsPictureOf setup.now index content.now picture
         → MatchResult result (λ read. picture_value read ≡ picture) (λ fault. fault ≡ TileFault.Memory) }
 
@@ -118,10 +118,10 @@ pub fn decode_tile(
         → result ≡ Err TileFault.OtherTile }
 
     // .. and each refusal but Memory is the one that the content gives: with a header of this tile, a fault of a run
-    // word or a code, which tells where the content is stuck ..
+    // word or a code, which says where the content is stuck ..
     ensures refused { IfErr result (λ fault. (fault ≡ TileFault.Memory) ⊎ IsRefusedFor setup.now index content.now fault) }
 
-    // .. and wherever it is stuck, that is the answer, or Memory.
+    // .. and wherever it is stuck, that is returned, or Memory.
     ensures stuck { (fault : CodeFault) (plane y x : ℕ) → IsStuckAt setup.now index content.now fault plane y x
         → MatchResult result (λ read. ⊥) (λ told. (told ≡ TileFault.Memory) ⊎ (told ≡ TileFault.Code fault plane y x)) }
 {
@@ -201,7 +201,7 @@ fn decode_chroma(
     Ok((cb, cr))
 }
 
-/// The start state for each context of a set of a setup (RFC 9043, section 3.8.2.4). A growth of memory can be refused.
+/// The start state for each context of a set of a setup (RFC 9043, section 3.8.2.4). An allocation of memory can fail.
 pub fn start_states(alloc: Global, setup: &Setup, set: usize) -> Result<Vec<VlcState>, AllocError>
     requires { set < length setup.now.sets }
     ensures len { IfOk result (λ states. length states.items ≡ set_contexts setup.now set) }

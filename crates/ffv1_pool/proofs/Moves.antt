@@ -1,4 +1,4 @@
--- The slices of new entries go after the bytes that are there, and the entries tell it.
+-- The slices of new entries go after the bytes that are there, and the entries say where they lie.
 use Rattle.std.proofs.Common.{◌≡◌, ℕ, ◌+◌, ◌<◌, ◌≤◌, List, ◌++◌, length, drop, get_or, set, sym, refl, ap, subst, ◌∙◌, inl, inr, arith}
 use Rattle.std.proofs.lemmas.Bool.{cases_order}
 use Rattle.std.proofs.lemmas.List.{length-take-le, length-drop, get_or_default, get_or-set_same, get_or-set_other}

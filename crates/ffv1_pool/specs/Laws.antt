@@ -8,8 +8,8 @@ use Rattle.ffv1_pool.specs.Reels.{Reel}
 use Rattle.ffv1_pool.specs.Contents.{holding_of, slices_of_copies, origins_of_copies}
 use Rattle.ffv1_pool.specs.Originals.{AreCopiesOf, AreNear, HoldsExactly}
 
--- Where every slice that is found in the copies is the original's for its tile, and each of the original's is found in some copy, the holding of the copies
--- holds exactly the original's slices.
+-- Where every slice that is found in the copies is the original's for its tile, and each of the original's is found in some copy, the
+-- holding of the copies holds exactly the original's slices.
 abbrev pub CopiesHoldTheOriginal : Type 0
 CopiesHoldTheOriginal =
     (reel : Reel) (payload : List ℕ) (slices copies : List (List ℕ)) → IsOriginal reel.setup payload slices → AreCopiesOf reel.setup slices copies

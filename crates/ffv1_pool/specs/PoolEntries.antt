@@ -1,4 +1,4 @@
--- Slices whose bytes lie in one piece of memory, and the entries that say where.
+-- Slices whose bytes lie in one block of memory, and the entries that say where.
 use Rattle.std.specs.Prelude.{◌≡◌, ℕ, ◌+◌, ◌<◌, ◌≤◌, List, length, take, drop, map, slice_index_or}
 use Rattle.ffv1_slice.specs.Chain.{IsFramed}
 use Rattle.ffv1_pool.specs.SliceOrder.{Entry, entry_cmp, bytes_cmp}

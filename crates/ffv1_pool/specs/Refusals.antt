@@ -5,7 +5,7 @@ use Rattle.ffv1_pool.specs.Standing.{missing, disputed, tile_state, IsLeastUnset
 use Rattle.ffv1_pool.specs.declared.restore.RestoreFault.{RestoreFault}
 use Rattle.ffv1_pool.specs.declared.restore.RestoreFault.TheVariants.{Missing, Disputed, Memory}
 
--- It names the first tile that isn't settled, and how that stands. Memory comes only where every tile is settled.
+-- It names the first tile that isn't settled, and how that stands. Memory is returned only if every tile is settled.
 abbrev pub IsRefusal : Contents → RestoreFault → Type 0
 IsRefusal h (Missing tile) = IsLeastUnsettled h tile × (tile_state h tile ≡ missing)
 IsRefusal h (Disputed tile) = IsLeastUnsettled h tile × ((n : ℕ) × (tile_state h tile ≡ disputed n))

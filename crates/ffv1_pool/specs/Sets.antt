@@ -2,7 +2,7 @@
 --     SetOf R, code      of keys in the order R;  its code, from that of the keys
 --     empty, contains, insert, from_list, items, size      as Rust's `BTreeSet`;  `items` rises, and `from_list` is the set of any list's items
 --     union s t      the set of the items of s and of t
---     contains-.., size-..      what `contains` and `size` answer
+--     contains-.., size-..      what `contains` and `size` give
 --     same_set      two sets with the same members are equal, where only equal keys tie
 --     union_comm, union_assoc, union_same      the union commutes, groups, and repeats without effect
 use Rattle.std.specs.Prelude.{◌≡◌, ℕ, ◌+◌, Bool, true, false, cond, ◌||◌, List, [], ◌∷◌, ◌++◌, is_some}

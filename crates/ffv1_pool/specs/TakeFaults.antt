@@ -9,7 +9,7 @@ abbrev pub AreShort : List (List ℕ) → Type 0
 AreShort [] = Unit {0}
 AreShort (copy ∷ copies) = (length copy ≤ payload_limit) × AreShort copies
 
--- A copy that is too long is told as that, and one that isn't can only meet Memory.
+-- A copy that is too long is reported as that, and one that isn't can only meet Memory.
 abbrev pub IsTakeFault : List ℕ → HoldFault → Type 0
 IsTakeFault copy PayloadTooLong = payload_limit < length copy
 IsTakeFault copy Memory = length copy ≤ payload_limit

@@ -11,7 +11,7 @@ pub enum HoldFault {
     OtherReel,
     /// The copy has more than 2^30 bytes.
     PayloadTooLong,
-    /// A growth of memory was refused.
+    /// An allocation of memory failed.
     Memory,
 }
 

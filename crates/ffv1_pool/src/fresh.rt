@@ -78,7 +78,7 @@ pub(crate) fn put_slices(
     spread(entries, fresh);
 }
 
-/// Puts the slices of new entries, which lie in `from`, after the other bytes, and tells the entries so. There has
+/// Puts the slices of new entries, which lie in `from`, after the other bytes, and sets the entries to their new places. There has
 /// to be room.
 fn move_slices(from: &[u8], bytes: &mut Vec<u8>, fresh: &mut [Fresh<PoolEntry>])
     requires room { vec_len bytes.old + sum_by (λ new. new.item.length) fresh.old ≤ vec_capacity bytes.old }

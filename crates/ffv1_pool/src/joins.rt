@@ -16,13 +16,13 @@ pub trait Join {
     /// The value whose meaning is the union of the two.
     ghost union: { Self → Self → Self };
 
-    /// How many members that part of the meaning has whose growth joining answers: all of it, or what an implementation
+    /// How many members that part of the meaning has whose growth joining returns: all of it, or what an implementation
     /// names.
     ghost size: { Self → ℕ };
 
-    /// Joins `other` into this one, and answers how many members of that part are new.
+    /// Joins `other` into this one, and returns how many members of that part are new.
     ///
-    /// `OtherReel` comes exactly where the two cannot be joined, before any growth; the only other refusal is `Memory`.
+    /// Returns `OtherReel` exactly if the two cannot be joined, before any allocation; the only other refusal is `Memory`.
     /// After either this value is unchanged.
     fn join_with(&mut self, other: &Self) -> Result<usize, HoldFault>
         ensures joined { OnOk result (self.new ≡ union self.old other.now) }
@@ -53,7 +53,7 @@ pub struct JoinAllFault {
     pub cause: HoldFault,
 }
 
-/// Joins each of `others` into `whole`, and answers how many members of the counted part are new. Where any two of them
+/// Joins each of `others` into `whole`, and returns how many members of the counted part are new. Where any two of them
 /// can be joined, their order and their repetition do not matter.
 ///
 /// It stops at the first that is refused: `whole` is then joined with just those before it, and the fault says how

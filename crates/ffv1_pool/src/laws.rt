@@ -2,8 +2,7 @@
 ghost use Rattle.ffv1_pool.specs.Laws.{CopiesHoldTheOriginal, NearCopiesHoldTheOriginal, HeldIsFound, OriginIsACopy};
 
 /// Where every slice that is found in the copies is the original's for its tile, and each of the original's is found
-/// in some copy, the holding of the copies holds exactly the original's slices. With `restore`, it then answers the
-/// original.
+/// in some copy, the holding of the copies holds exactly the original's slices. With `restore`, it then returns the original.
 pub fn copies_hold_the_original()
     ensures { CopiesHoldTheOriginal }
 {}

@@ -9,7 +9,7 @@ use crate::holding::Holding;
 
 impl Holding {
     /// The SHA-256 digests of the whole copies that gave a slice of a tile, which is given with its footer: each once,
-    /// rising by their bytes. `None` comes exactly where that slice is not held of the tile. Tiles count from 0, row by
+    /// rising by their bytes. Returns `None` exactly if that slice is not held of the tile. Tiles count from 0, row by
     /// row of the grid.
     ///
     /// A slice that came by `insert` has the digests that came with it, and may have none.
@@ -22,7 +22,7 @@ impl Holding {
         self.held.origins(tile, slice)
     }
 
-    /// The digests that `origins` tells of the slice of a tile at a place of the rising order of their bytes, which is the
+    /// The digests that `origins` returns for the slice of a tile at a place of the rising order of their bytes, which is the
     /// one that `slice` lends. Both count from 0; `tile` must be less than the number of tiles, and `place` less than
     /// `held(tile)`.
     pub fn origins_at(&self, tile: usize, place: usize) -> &[[u8; 32]]

@@ -1,4 +1,4 @@
-//! The slices that are held of all tiles (own), in one piece of memory.
+//! The slices that are held of all tiles (own), in one block of memory.
 ghost use Rattle.std.specs.Prelude.{◌≡◌, ℕ, ◌+◌, ◌<◌, ◌≤◌, true, false, List, length, map, replicate, sum_by, slice_index_or, vec_len, vec_capacity, IfSome, IfNone, IfOk, OnOk, OnErr};
 ghost use Rattle.std.specs.List.Sorted.{IsNonDecreasingBy};
 ghost use Rattle.sha2.specs.Sha256.{sha256};

@@ -22,7 +22,7 @@ impl PoolEntry {
         &rest[..self.length.min(rest.len())]
     }
 
-    /// How it stands to a slice of a tile: by tile, then by bytes.
+    /// Its order and that of a slice of a tile: by tile, then by bytes.
     pub(crate) fn compare(&self, bytes: &[u8], tile: usize, slice: &[u8]) -> Ordering
         ensures { result ≡ entry_cmp (entry_in bytes.now self.now) (tile, slice.now) }
     {
@@ -32,7 +32,7 @@ impl PoolEntry {
         }
     }
 
-    /// How its slice stands to that of another in the same bytes: by tile, then by bytes. Where both lie in the same
+    /// The order of its slice and that of another in the same bytes: by tile, then by bytes. Where both lie in the same
     /// place, no byte is looked at.
     pub(crate) fn compare_to(&self, bytes: &[u8], other: PoolEntry) -> Ordering
         ensures { result ≡ entry_cmp (entry_in bytes.now self.now) (entry_in bytes.now other) }

@@ -22,7 +22,7 @@ pub enum RestoreFault {
     Missing(usize),
     /// Several slices of this tile have the least error_status. No earlier tile is unsettled.
     Disputed(usize),
-    /// A growth of memory was refused.
+    /// An allocation of memory failed.
     Memory,
 }
 
@@ -83,21 +83,21 @@ impl Holding {
 
     /// The settled slices, joined in tile order: the frame's payload.
     ///
-    /// `Missing` or `Disputed` comes exactly where a tile is not settled, for the first such tile, before any growth.
-    /// `Memory` comes only where every tile is settled. The holding is unchanged in any case.
+    /// Returns `Missing` or `Disputed` exactly if a tile is not settled, for the first such tile, before any allocation.
+    /// `Memory` is returned only if every tile is settled. The holding is unchanged in any case.
     pub fn restore(&self) -> Result<Vec<u8>, RestoreFault>
         ensures ok { IfOk result (λ payload. payload.items ≡ restored_payload self.now) }
         ensures settled { OnOk result (AreSettled self.now) }
         ensures refused { IfErr result (IsRefusal self.now) }
 
-        // Where just the original's slices are held, no answer is another payload, and the only refusal is `Memory`.
+        // Where just the original's slices are held, no other payload is returned, and the only refusal is `Memory`.
         ensures original { (payload : List ℕ) (slices : List (List ℕ)) → IsOriginal self.now.reel.setup payload slices → HoldsExactly self.now slices
             → IfOk result (λ restored. restored.items ≡ payload) }
         ensures original_settled { (payload : List ℕ) (slices : List (List ℕ)) → IsOriginal self.now.reel.setup payload slices → HoldsExactly self.now slices
             → OnErr result (result ≡ Err RestoreFault.Memory) }
 
-        // Where what is held is of copies that are near an original, with each of its slices intact in one of them, no answer is
-        // another payload, and the only refusal is `Memory`.
+        // Where what is held is of copies that are near an original, with each of its slices intact in one of them, no other payload is
+        // returned, and the only refusal is `Memory`.
         ensures near { (payload : List ℕ) (slices copies : List (List ℕ)) → AreNear self.now.reel.setup payload slices copies
             → self.now.slices ≡ slices_of_copies self.now.reel.setup copies → IfOk result (λ restored. restored.items ≡ payload) }
         ensures near_settled { (payload : List ℕ) (slices copies : List (List ℕ)) → AreNear self.now.reel.setup payload slices copies

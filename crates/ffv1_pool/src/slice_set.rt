@@ -57,7 +57,7 @@ impl SliceSet {
         self.slices[place].as_slice()
     }
 
-    /// Adds a slice, and answers whether it is new.
+    /// Adds a slice, and returns whether it is new.
     ///
     /// The only refusal is `Memory`: then the set is unchanged.
     pub fn insert(&mut self, slice: &[u8]) -> Result<bool, HoldFault>

@@ -41,7 +41,7 @@ pub struct TakeAllFault {
 impl Holding {
     /// Adds the slices that are found in a copy, and the SHA-256 digest of the whole copy to the origins of each.
     ///
-    /// `PayloadTooLong` comes exactly where the copy has more than 2^30 bytes, before any link is looked at; the only
+    /// Returns `PayloadTooLong` exactly if the copy has more than 2^30 bytes, before any link is looked at; the only
     /// other refusal is `Memory`. After either the holding is unchanged.
     pub fn take(&mut self, payload: &[u8]) -> Result<Taken, HoldFault>
         ensures ok { OnOk result (self.new ≡ with_found self.old payload.now) }
@@ -107,7 +107,7 @@ impl Holding {
     }
 }
 
-/// Lists the slices that are found in a copy, from its end, after no others, and answers how many links it has.
+/// Lists the slices that are found in a copy, from its end, after no others, and returns how many links it has.
 fn list_found(setup: &Setup, payload: &[u8], found: &mut Vec<PoolEntry>) -> Result<usize, HoldFault>
     requires short { length payload.now ≤ payload_limit }
     requires none { found.old.items ≡ [] }

@@ -7,7 +7,7 @@ use Rattle.ffv1_commands.specs.declared.fault.CliFault.TheVariants as faults
 use Rattle.ffv1_commands.specs.declared.path.CommandPath.TheVariants as paths
 use Rattle.ffv1_program.specs.Merging.{IfNotBegun}
 
--- joining two files as streams tells no input by itself, and keeps what it keeps where their heads differ
+-- joining two files as streams names no input by itself, and keeps what it keeps where their heads differ
 pub not_begun : {T : Type 0} (left right : Option (List ℕ)) (P : Type 0) (result : Result T CliFault)
     → IfErr result (IsMergeFault left right) → (result ≡ Err (faults.HoldFile files.OtherReel) → P) → IfErr result (λ fault. IfNotBegun fault P)
 not_begun left right P (Ok value) is kept = tt

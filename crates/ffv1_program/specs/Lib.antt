@@ -1,7 +1,7 @@
 pub mod Merging
 pub mod Splicing
 pub mod Running
--- those that the commands and their faults are told by
+-- those by which the commands and their faults are described
 pub use Rattle.ffv1_commands.specs.Paths
 pub use Rattle.ffv1_commands.specs.Fault
 pub use Rattle.ffv1_commands.specs.Devices

@@ -1,5 +1,5 @@
--- What each command does with the files that its words name: where it answers, why it stops, and what it leaves untouched then. The bytes of
--- the file of a path, where they are told, are `bytes_at` of it.
+-- What each command does with the files that its words name: what it returns, why it stops, and what it leaves untouched then. The bytes of
+-- the file of a path, if they are known, are `bytes_at` of it.
 use Rattle.std.specs.Prelude.{ℕ, ◌≡◌, List, [], ◌∷◌, map, Bool, true, Option, IfSome}
 use Rattle.std.specs.Borrow.{Bor}
 use Rattle.std.specs.Io.KnownBytes.{Appends}
@@ -78,7 +78,7 @@ IsRefused _ = ⊥
 abbrev pub bytes_of_all : (List ℕ → Option (List ℕ)) → List (Bor (List ℕ)) → List (Option (List ℕ))
 bytes_of_all bytes_at words = map (λ word. bytes_at word.now) words
 
--- What the command made and printed, and what it answers.
+-- What the command made and printed, and what it returns.
 abbrev pub DoesCommand : (List ℕ → Option (List ℕ)) → Words → (out_before out_after printed_before printed_after : Option (List ℕ))
     → Bool → Type 0
 DoesCommand bytes_at (Chain frame) out_before out_after printed_before printed_after answer =

@@ -8,7 +8,7 @@ use Rattle.ffv1_commands.specs.declared.fault.CliFault.{CliFault}
 use Rattle.ffv1_commands.specs.declared.fault.CliFault.TheVariants as faults
 use Rattle.ffv1_commands.specs.declared.path.CommandPath.TheVariants as paths
 
--- All was done, whatever the answer, but for making the file.
+-- All was done, whatever it returned, but for making the file.
 abbrev pub IsUnmade : (Bool → Type 0) → CliFault → Type 0
 IsUnmade Done fault = (fault ≡ faults.Write paths.Out) × ((answer : Bool) × Done answer)
 

@@ -18,7 +18,7 @@ pub trait ReadFile: Read {
 pub trait FileSystem<'a> {
     type Input: ReadFile + Drop;
 
-    // the bytes of the file of each path, where they are told
+    // the bytes of the file of each path, if they are known
     ghost bytes_at: { Self → List ℕ → Option (List ℕ) };
 
     // this is the input of that path, of which nothing is read yet

@@ -21,8 +21,8 @@ use std::io::Write;
 
 /// Takes the copies of these paths into the file that is made.
 ///
-/// It stops where `run_take` does, and with `Memory` where memory for the copies is refused. After a fault that is not `Write` nothing was
-/// written or printed.
+/// It stops where `run_take` does, and with `Memory` if memory for the copies can't be allocated. After a fault that is not `Write` nothing
+/// was written or printed.
 pub fn take_files<'a, F: FileSystem<'a>, O: Write, W: Write>(
     alloc: Global,
     files: &F,
@@ -54,8 +54,8 @@ pub fn take_files<'a, F: FileSystem<'a>, O: Write, W: Write>(
 
 /// Joins the holding files of these paths into the file that is made.
 ///
-/// It stops where `run_join` does, and with `Memory` where memory for the files is refused. After a fault that is not `Write` nothing was
-/// written or printed.
+/// It stops where `run_join` does, and with `Memory` if memory for the files can't be allocated. After a fault that is not `Write` nothing
+/// was written or printed.
 pub fn join_files<'a, F: FileSystem<'a>, O: Write, W: Write>(
     alloc: Global,
     files: &F,

@@ -5,7 +5,7 @@ ghost use Rattle.std.specs.List.{AllZip};
 use crate::files::FileSystem;
 use std::alloc::{AllocError, Global};
 
-/// The files of paths, in their order, none of which is opened yet. It fails where memory is refused.
+/// The files of paths, in their order, none of which is opened yet. It fails if an allocation fails.
 pub(crate) fn inputs_of<'a, F: FileSystem<'a>>(
     alloc: Global,
     files: &F,

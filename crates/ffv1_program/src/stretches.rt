@@ -23,8 +23,8 @@ fn is_among(word: &str, words: &[&str]) -> bool
 /// Makes a file of its stretches in the copies of these paths, of which `out` is the word. No file is opened where `out` is the word of the
 /// list or of a copy, which would be overwritten. Where the list lists no stretch, nothing is written to the file, and it is made after that.
 ///
-/// It stops where `run_mend` does; with `Write` where `out` is the word of an input, or the file can't be made; and with `Memory` where
-/// memory for the copies is refused. After a fault of the list, or where `out` is an input, nothing was written or printed.
+/// It stops where `run_mend` does; with `Write` where `out` is the word of an input, or the file can't be made; and with `Memory` if
+/// memory for the copies can't be allocated. After a fault of the list, or where `out` is an input, nothing was written or printed.
 pub fn mend_files<'a, F: FileSystem<'a>, O: MakeFile, W: Write>(
     alloc: Global,
     files: &F,

@@ -1,4 +1,4 @@
-//! Files that tell in which order they are opened and made. The path of each is a digit: that of 0 is not there, and can't be made.
+//! Files that note in which order they are opened and made. The path of each is a digit: that of 0 is not there, and can't be made.
 ghost use Rattle.std.specs.Prelude.{◌≡◌};
 
 use ffv1_program::{FileSystem, MakeFile, ReadFile};

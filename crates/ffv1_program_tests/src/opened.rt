@@ -1,4 +1,4 @@
-//! Each command on files that tell when they are opened and made.
+//! Each command on files that note when they are opened and made.
 ghost use Rattle.ffv1_commands.specs.Fault.{NamesPath};
 ghost use Rattle.ffv1_words.specs.WordPaths.{IsPathOf};
 
@@ -10,8 +10,8 @@ use ffv1_words::{Words, read_words};
 use std::alloc::Global;
 use std::test::Fail;
 
-/// Words of the program, after its name; the bytes of the file of the path 1, and of each other; and then in which order files are opened and
-/// made, and what is told.
+/// Words of the program, after its name; the bytes of the file of the path 1, and of each other; and then in which order files are opened
+/// and made, and what the command returns, or the line of its fault.
 type Row = (
     &'static [&'static str],
     &'static [u8],
@@ -143,7 +143,7 @@ fn line_of(alloc: Global, fault: &CliFault, words: &Words<'_>) -> Result<String,
     }
 }
 
-/// Runs the command of these words, of which the first is the program's name, and tells its answer or its fault.
+/// Runs the command of these words, of which the first is the program's name, and gives what it returns, or the line of its fault.
 fn told<'a>(
     alloc: Global,
     given: &'a [String],
@@ -176,7 +176,7 @@ fn given_of(alloc: Global, words: &[&str]) -> Result<Vec<String>, Fail> {
     Ok(given)
 }
 
-/// In which order the command of these words opens and makes its files, and what is told of it.
+/// In which order the command of these words opens and makes its files, and what it returns, or the line of its fault.
 fn opened(
     alloc: Global,
     words: &[&str],

@@ -29,7 +29,7 @@ pub record AreRowsOf (rows : Rows) (two : TwoRows) : Type 0 where
   pub main : rows 0 ≡ two.0
   pub deltas : (k : ℕ) → k < 32 → rows (1 + k) ≡ slice_index_or two.1 k []
 
--- From p to q these pieces are coded, whatever the other rows are.
+-- From p to q these bits of rows are coded, whatever the other rows are.
 abbrev pub AreCoded : Bool → List Piece → PlaceOf TwoRows → PlaceOf TwoRows → Type 0
 AreCoded closed pieces p q =
     (rows : Rows) → AreRowsOf rows p.states → (after : Rows) × IsRowsRun closed (place_of p.coder rows) pieces (place_of q.coder after)
@@ -142,14 +142,14 @@ context-found closed (suc n) k c deltas y e h =
           (place_of y.1.coder (main, y.1.states)) (d.coded main) (r.coded main);
     }
 
--- What is read up to z, where its pieces are coded.
+-- What is read up to z, where its bits of rows are coded.
 pub record DeltasRead (closed : Bool) (form : Form (List (List ℕ)) (Unit {0}) SetupFault) (c : Coder) (main : List ℕ) (deltas : List (List ℕ))
     (z : PlaceOf Rows) : Type 0 where
   pub after : List (List ℕ)
   pub read : form closed (place_of c deltas) ≡ Ok (tt, place_of z.coder after)
   pub matches : AreRowsOf z.states (main, after)
 
--- where no pieces are coded, a form that ends at once reads up to there
+-- where no bits are coded, a form that ends at once reads up to there
 nothing_read : (closed : Bool) (form : Form (List (List ℕ)) (Unit {0}) SetupFault) (c : Coder) (main : List ℕ) (deltas : List (List ℕ)) (rows : Rows)
     (z : PlaceOf Rows) → form closed (place_of c deltas) ≡ Ok (tt, place_of c deltas) → AreRowsOf rows (main, deltas) → place_of c rows ≡ z
     → DeltasRead closed form c main deltas z

@@ -125,7 +125,7 @@ pub chroma_left : (coder space depth : ℕ) (r s t u : Reader) (x y z w : List �
 chroma_left coder space depth r s t u x y z w h i j k l m =
     number_passed (number_passed (number_passed (planes_left r x) h (search rules)) j (search rules)) l (is_depth depth m)
 
--- the answer of a frame that has chroma, and of a gray one
+-- what is read of a frame that has chroma, and of a gray one
 pub chroma_answer : (chroma : Bool) (shift_h shift_v : ℕ) (r s : Reader) (x y : List ℕ) → chroma ≡ true
     → Reads Range planes r x (Ok (record { has_chroma = chroma; shift_h = if chroma then shift_h else 0; shift_v = if chroma then shift_v else 0 })) s y
     → Reads Range planes r x (Ok (record { has_chroma = chroma; shift_h = shift_h; shift_v = shift_v })) s y

@@ -1,4 +1,4 @@
--- Pieces at several rows of states.
+-- Bits at several rows of states.
 use Rattle.std.proofs.Common.{◌≡◌, ◌≢◌, ℕ, suc, ◌+◌, Bool, List, [], ◌∷◌, ◌++◌, length, refl, sym, ap, ◌∙◌, subst, arith}
 use Rattle.std.specs.Prelude.{if◌then◌else◌}
 use Rattle.std.proofs.lemmas.Bool.{eq-eqb, ne_eqb}
@@ -31,13 +31,13 @@ with_row-same rows number row = ap (λ b. if b then row else rows number) (eq-eq
 pub with_row-other : (rows : Rows) (number k : ℕ) (row : List ℕ) → k ≢ number → with_row rows number row k ≡ rows k
 with_row-other rows number k row h = ap (λ b. if b then row else rows k) (ne_eqb k number h)
 
--- one piece
+-- the bits at one row of states
 pub one_piece : (closed : Bool) (c : Coder) (rows : Rows) (number : ℕ) (row : List ℕ) (bits : List (ℕ × Bool)) (q : Place) → rows number ≡ row
     → IsRangeRun closed (place_of c row) bits q → IsRowsRun closed (place_of c rows) ((number, bits) ∷ []) (place_of q.coder (with_row rows number q.states))
 unfolding IsRowsRun
 one_piece closed c rows number row bits q e h = (q, subst (λ z. IsRangeRun closed (place_of c z) bits q) (sym e) h, refl)
 
--- the pieces of more tables
+-- the bits of more tables, at the row of each
 pub table_pieces-append : (n : ℕ) (xs ys : List (List ℕ)) → table_pieces n (xs ++ ys) ≡ table_pieces n xs ++ table_pieces (n + length xs) ys
 unfolding table_pieces
 table_pieces-append n [] ys = let e : n ≡ n + 0 = omega arith in ap (λ z. table_pieces z ys) e

@@ -171,7 +171,7 @@ without_memory config width height value h =
     ∙ ap (λ z. value_of (from_place Range z (λ c. setup_form false width height true (place_of c fresh_row)))) o.started
     ∙ ap value_of (bind_ok (front_form width height true (place_of o.start fresh_row)) (λ x. front_rest false width height x.0 true x.1) a.0 a.1)
 
--- ---- an answer that reading gives
+-- ---- a result that reading gives
 
 only_of : (config : List ℕ) (width height : ℕ) (granted : Bool) (e : SetupFault) (setup : SetupValue) → setup_read granted config width height ≡ Err e
     → IsSetupOf config width height setup → e ≡ Memory
@@ -184,7 +184,7 @@ only_of config width height false e setup h s = same_err e Memory (sym h ∙ wit
     same_err : (a b : SetupFault) → ◌≡◌ {A = Result SetupValue SetupFault} (Err a) (Err b) → a ≡ b
     same_err a b h = cc
 
--- what the contract says of an answer
+-- what the contract says of a result
 abbrev pub Answered : List ℕ → ℕ → ℕ → Result SetupValue SetupFault → Type 0
 Answered config width height result =
     record {

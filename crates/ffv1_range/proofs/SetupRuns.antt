@@ -97,7 +97,7 @@ record PartsCoded (c : Coder) (first : List FieldValue) (sets : List SetFields) 
   end : Place
   last_coded : IsRangeRun true (place_of deltas (later 0)) (fields_bits last) end
 
--- the pieces of a record, one part after the other
+-- the bits of a record by their rows of states, one part after the other
 pieces_coded : (r : RecordFields) (c : Coder) (first last : List FieldValue) (parts : PartsCoded c first r.sets last)
     → last ≡ back_fields r → first ≡ front_fields r
     → IsRowsRun true (place_of c fresh_states) (record_pieces r) (place_of parts.end.coder (with_row parts.later 0 parts.end.states))

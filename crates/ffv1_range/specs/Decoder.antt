@@ -28,7 +28,7 @@ ReadsBit r state (Ok bit) s after =
     (c : Coder) × (reads_bit r state ≡ Ok (bit, c)) × (s ≡ reader_at r (Ok c)) × (after ≡ state_after state bit)
 ReadsBit r state (Err e) s after = reads_bit r state ≡ Err e
 
--- After a fault the decoder keeps that fault, and so answers it from then on.
+-- After a fault the decoder keeps that fault, and so returns it from then on.
 abbrev pub KeepsFault : {A : Type 0} → Reader → Result A RangeFault → Reader → Type 0
 KeepsFault r (Ok a) s = Unit {0}
 KeepsFault r (Err e) s = s ≡ reader_at r (Err e)

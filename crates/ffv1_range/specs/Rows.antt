@@ -14,7 +14,7 @@ with_row rows number row k = if k == number then row else rows k
 abbrev pub Piece : Type 0
 Piece = ℕ × List (ℕ × Bool)
 
--- From p these pieces are coded, one after the other, up to q.
+-- From p these bits are coded, those at one row of states after those at another, up to q.
 unfoldable pub IsRowsRun : Bool → PlaceOf Rows → List Piece → PlaceOf Rows → Type 0
 IsRowsRun closed p [] q = p ≡ q
 IsRowsRun closed p (piece ∷ pieces) q =

@@ -136,7 +136,7 @@ abbrev pub deltas_pieces : Option (List (List ℤ)) → List Piece
 deltas_pieces None = (0, fields_bits (bit false ∷ [])) ∷ []
 deltas_pieces (Some contexts) = (0, fields_bits (bit true ∷ [])) ∷ flat_map (context_pieces 0) contexts
 
--- the whole record, piece by piece
+-- the whole record, the bits at one row of states after those at another
 abbrev pub record_pieces : RecordFields → List Piece
 record_pieces r =
     (0, fields_bits (front_fields r))

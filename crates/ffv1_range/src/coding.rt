@@ -46,7 +46,7 @@ struct Interval<'a> {
     rest: &'a [u8],
 }
 
-/// Reads range-coded values from the front of a content. Once it met a fault, it answers that fault.
+/// Reads range-coded values from the front of a content. Once it met a fault, it returns that fault.
 #[derive(Drop)]
 pub struct RangeDecoder<'a> {
     interval: Interval<'a>,
@@ -154,7 +154,7 @@ impl<'a> RangeDecoder<'a> {
         })
     }
 
-    /// Reads the bit at state 129 that ends the values, and answers the place, in bytes from the content's start, of the
+    /// Reads the bit at state 129 that ends the values, and returns the place, in bytes from the content's start, of the
     /// first byte after them: one less than the bytes that were read. Only in sentinel mode.
     ///
     /// Refused with `Short` where that bit wants a byte past the content, or with the fault that was met before.
@@ -171,8 +171,8 @@ impl<'a> RangeDecoder<'a> {
 
     /// Reads one bit at a state in 8..=248 (RFC 9043, section 3.8.1.1). The state becomes the one that follows the bit.
     ///
-    /// Refused with `Short` where a byte past the content is wanted in sentinel mode. A fault is answered by each later
-    /// call too, and leaves the state as it was.
+    /// Refused with `Short` where a byte past the content is wanted in sentinel mode. A fault is returned by each later call too, and
+    /// leaves the state as it was.
     pub fn bit(&mut self, state: &mut u8) -> Result<bool, RangeFault>
         requires { IsState state.old }
         ensures read { ReadsBit self.old state.old result self.new state.new }
@@ -207,7 +207,7 @@ impl<'a> RangeDecoder<'a> {
         self.bit(&mut states[slot])
     }
 
-    /// Keeps a fault, so that it is answered from then on.
+    /// Keeps a fault, so that it is returned from then on.
     pub(crate) fn keep_fault(&mut self, fault: RangeFault)
         ensures { self.new ≡ reader_at self.old (Err fault) }
     {

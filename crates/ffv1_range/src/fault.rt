@@ -40,7 +40,7 @@ pub enum SetupFault {
     ParityMode,
     /// The width or the height is not in 1..=`GREATEST_SIDE`.
     Size,
-    /// A growth of memory was refused.
+    /// An allocation of memory failed.
     Memory,
 }
 

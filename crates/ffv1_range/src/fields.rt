@@ -47,7 +47,7 @@ pub(crate) struct Front {
     pub(crate) sets: u32,
 }
 
-/// Reads version and micro_version, and answers the second.
+/// Reads version and micro_version, and returns the second.
 pub(crate) fn read_versions(
     decoder: &mut RangeDecoder<'_>,
     states: &mut [u8; 32],
@@ -158,7 +158,7 @@ pub(crate) fn read_set_count(
     Ok(count)
 }
 
-/// Reads ec and intra, and answers the second.
+/// Reads ec and intra, and returns the second.
 pub(crate) fn read_last_fields(
     decoder: &mut RangeDecoder<'_>,
     states: &mut [u8; 32],

@@ -12,8 +12,8 @@ ghost use Rattle.ffv1_range.specs.Views.{limits_of};
 use crate::coding::{RangeDecoder, RangeFault};
 use crate::setup::Setup;
 
-/// Why a slice's content has no header of the profile. `Range` and `NotKey` come where they are met; the others come,
-/// in this order, after all of the header was read.
+/// Why a slice's content has no header of the profile. `Range` and `NotKey` are returned where they are met; the others are returned, in
+/// this order, after all of the header was read.
 #[derive(Clone, Copy, Debug, PartialEq, Eq)]
 pub enum HeadFault {
     /// A range-coded value can't be read.
@@ -54,7 +54,7 @@ pub struct SliceHead {
     /// The set of quantization tables of the planes Cb and Cr.
     pub table_c: usize,
     /// How the fields of a frame follow each other (section 4.6.6): 0 unknown, 1 top field first, 2 bottom field first,
-    /// 3 progressive; others are answered as they stand.
+    /// 3 progressive; others are returned as they stand.
     pub picture_structure: u32,
     /// The numerator of a sample's aspect ratio (section 4.6.7).
     pub sar_num: u32,
@@ -74,8 +74,8 @@ struct Limits {
 /// content stand before it. The content is the slice without its footer; it is `first` where it is the payload's first,
 /// and then the keyframe bit stands before its header. It takes no memory.
 ///
-/// `Range` comes where a range-coded value can't be read, and `NotKey` straight after a keyframe bit 0. Once all of the
-/// header was read, `OutsideGrid`, `Spans`, `TableIndex` and `FirstElsewhere` come in this order.
+/// Returns `Range` if a range-coded value can't be read, and `NotKey` straight after a keyframe bit 0. Once all of the
+/// header was read, `OutsideGrid`, `Spans`, `TableIndex` and `FirstElsewhere` are returned in this order.
 pub fn read_head(
     setup: &Setup,
     content: &[u8],

@@ -52,10 +52,10 @@ impl Setup {
     /// which they are read, each as soon as its value was read; those of the grid after both of its numbers, that of
     /// the contexts after each table of a set. `Memory` stands between the number of sets and the first set.
     pub fn read(alloc: Global, config: &[u8], width: u32, height: u32) -> Result<Setup, SetupFault>
-        // The answer is the record's setup.
+        // What is returned is the record's setup.
         ensures found { IfOk result (IsSetupOf config.now width height) }
 
-        // A record that has a setup is answered with it, or because memory ran out.
+        // For a record that has a setup the result is that setup, or `Memory`.
         ensures only { (setup : SetupValue) → IsSetupOf config.now width height setup → MatchResult result (λ read. read ≡ setup) (λ fault. fault ≡ Memory) }
 
         // A refusal is the first that reading meets, or Memory ..

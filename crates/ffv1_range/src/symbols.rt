@@ -13,7 +13,7 @@ impl RangeDecoder<'_> {
     /// slots that it meets become those that follow its bits.
     ///
     /// Refused with `Short` where a byte past the content is wanted in sentinel mode, and with `SymbolTooLong` where
-    /// the exponent would pass 31. A fault is answered by each later call too, and leaves all states in 8..=248.
+    /// the exponent would pass 31. A fault is returned by each later call too, and leaves all states in 8..=248.
     pub fn unsigned(&mut self, states: &mut [u8; 32]) -> Result<u32, RangeFault>
         requires { AreStates states.old }
         ensures read { Reads same_fault symbol_form self.old states.old result self.new states.new }

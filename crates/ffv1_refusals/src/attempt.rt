@@ -4,11 +4,11 @@ use std::alloc::Global;
 /// What a call came to.
 #[derive(Clone, Copy, PartialEq, Eq)]
 pub enum Outcome {
-    /// It answered, and this is the remainder of the answer's bytes.
+    /// It succeeded, and this is the remainder of the bytes that it gave.
     Answer(u32),
-    /// It answered that a growth was refused.
+    /// It reported that an allocation failed.
     Memory,
-    /// It answered anything else.
+    /// It returned anything else.
     Wrong,
 }
 

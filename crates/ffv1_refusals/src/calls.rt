@@ -77,7 +77,7 @@ pub struct Take {
 }
 
 impl Take {
-    /// Holds the first copy. It fails where memory is refused.
+    /// Holds the first copy. It fails if an allocation fails.
     pub fn new(alloc: Global) -> io::Result<Take> {
         let held = holding_of(alloc, &[&first_copy()])?;
         let before = remainder_of(&held);
@@ -111,7 +111,7 @@ pub struct TakeAll {
 }
 
 impl TakeAll {
-    /// Holds none. It fails where memory is refused.
+    /// Holds none. It fails if an allocation fails.
     pub fn new(alloc: Global) -> io::Result<TakeAll> {
         let first = Take::new(alloc)?.before;
         let held = holding_of(alloc, &[])?;
@@ -151,7 +151,7 @@ pub struct JoinWith<'a> {
 }
 
 impl<'a> JoinWith<'a> {
-    /// Holds the first copy. It fails where memory is refused.
+    /// Holds the first copy. It fails if an allocation fails.
     pub fn new(alloc: Global, stock: &'a Stock) -> io::Result<JoinWith<'a>> {
         let Take { held, before } = Take::new(alloc)?;
         Ok(JoinWith {
@@ -314,7 +314,7 @@ pub struct DecodeFrame {
 }
 
 impl DecodeFrame {
-    /// A decoder of the recording. It fails where memory is refused.
+    /// A decoder of the recording. It fails if an allocation fails.
     pub fn new(alloc: Global) -> io::Result<DecodeFrame> {
         match Decoder::new(alloc, &RECORDED_RECORD, SIZE.0, SIZE.1) {
             Ok(decoder) => Ok(DecodeFrame { decoder }),

@@ -29,7 +29,7 @@ impl Outputs {
         self.made.is_empty() && self.printed.is_empty()
     }
 
-    /// What the command came to, by its answer.
+    /// What the command came to, by what it returned.
     fn outcome(&self, answer: Result<(), CliFault>) -> Outcome {
         match answer {
             Ok(()) => Outcome::Answer(
@@ -114,7 +114,7 @@ impl<'a> Run<'a> {
     }
 }
 
-/// A command's answer, without whether all was found.
+/// What a command returned, without whether all was found.
 fn unit(answer: Result<bool, CliFault>) -> Result<(), CliFault> {
     match answer {
         Ok(_) => Ok(()),

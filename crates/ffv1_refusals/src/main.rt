@@ -1,9 +1,9 @@
-//! Makes calls that take memory, and makes each again where it answers that a growth was refused.
+//! Makes calls that take memory, and makes each again if it reports that an allocation failed.
 //!
-//! `tests/memory` runs this program while one growth after the other is refused, and compares what it prints: a line
-//! for each call with the remainder of its answer's bytes, before which stands a line with `memory` where the call
-//! answered that, and in whose place stands `wrong` where the answer is another or what the call was made on has
-//! changed. The exit status is 2 where the growth was refused to what the calls are made on.
+//! `tests/memory` runs this program while one allocation after the other is refused, and compares what it prints: a line
+//! for each call with the remainder of the bytes that it gave, before which stands a line with `memory` if the call
+//! reported that, and in whose place stands `wrong` if it returned anything else or what the call was made on has
+//! changed. The exit status is 2 if the allocation was refused to what the calls are made on.
 #![tactic(auto)]
 
 mod attempt;
@@ -24,7 +24,7 @@ use std::io;
 use std::process::ExitCode;
 use stock::Stock;
 
-/// Makes a call, and again where memory is refused, and prints what it answered.
+/// Makes a call, and again if an allocation failed, and prints what it came to.
 fn tell<C: Attempt>(rt: &HostRuntime, name: &str, mut call: C) -> io::Result<()> {
     let mut outcome = call.attempt(rt.alloc());
     if outcome == Outcome::Memory {

@@ -95,7 +95,7 @@ pub struct Held {
 }
 
 impl Held {
-    /// The holding of copies. It fails where memory is refused.
+    /// The holding of copies. It fails if an allocation fails.
     fn new(alloc: Global, copies: &[&[u8]]) -> io::Result<Held> {
         let holding = holding_of(alloc, copies)?;
         let file = file_of(&holding);
@@ -113,7 +113,7 @@ pub struct Alone {
 }
 
 impl Alone {
-    /// The holdings of both copies. It fails where memory is refused.
+    /// The holdings of both copies. It fails if an allocation fails.
     fn new(alloc: Global) -> io::Result<Alone> {
         let first = Held::new(alloc, &[&first_copy()])?;
         let second = Held::new(alloc, &[&second_copy()])?;
@@ -131,7 +131,7 @@ pub struct Stock {
 }
 
 impl Stock {
-    /// All of it. It fails where memory is refused.
+    /// All of it. It fails if an allocation fails.
     pub fn new(alloc: Global) -> io::Result<Stock> {
         let alone = Alone::new(alloc)?;
         let both = Held::new(alloc, &[&first_copy(), &second_copy()])?;

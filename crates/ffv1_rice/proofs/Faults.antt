@@ -1,4 +1,4 @@
--- Where a fault is told no code is there, and it is one.
+-- Where bits have a fault no code is there, and it is one.
 use Rattle.std.proofs.Common.{◌≡◌, ℕ, ◌+◌, ◌*◌, ◌/◌, ◌^◌, ◌≤◌, Bool, true, List, ◌∷◌, ◌++◌, length, length-append, refl, sym, ap, subst, ◌∙◌, arith, ltb, cond, append_assoc, ◌⊎◌, inl, inr, ⊎_elim, ℤ, pos}
 use Rattle.std.proofs.lemmas.Int.{ints}
 use Rattle.ffv1_bits.specs.Bits.{number_bits}
@@ -60,7 +60,7 @@ no_code_large k u bits rest small is fault =
     let one = one_number_code_of k fault.number u fault.rest rest (large_parts k bits fault) (byte_parts k u small) (sym fault.begins ∙ is) in
     omega (arith, one.0, fault.large)
 
--- where a number's fault is told, no byte's code is there
+-- where bits have the fault of a number, no byte's code is there
 no_number_at_fault : (k u : ℕ) (bits rest : List Bool) (fault : CodeFault) → u ≤ 255 → bits ≡ code_bits u k ++ rest → IsNumberFault k bits fault → ⊥
 no_number_at_fault k u bits rest faults.Truncated small is told = no_code_cut k u bits rest (byte_parts k u small) is told
 no_number_at_fault k u bits rest faults.EscapeNotNeeded small is told = no_code_needless k u bits rest (byte_parts k u small) is told

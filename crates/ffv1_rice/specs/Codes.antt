@@ -113,7 +113,7 @@ CodesAreOne =
     (state : ContextState) (v w : ℤ) (code other rest more : List Bool) → IsDifference v → IsDifference w
     → SpellsValue state v code → SpellsValue state w other → code ++ rest ≡ other ++ more → (v ≡ w) × (rest ≡ more)
 
--- Where a fault is told, no difference has a code.
+-- Where bits have a fault, no difference has a code.
 abbrev pub FaultsExcludeCodes : Type 0
 FaultsExcludeCodes =
     (state : ContextState) (level : Bool) (fault : CodeFault) (difference : ℤ) (bits code rest : List Bool)

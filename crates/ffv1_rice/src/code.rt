@@ -73,7 +73,7 @@ fn number_ahead(bits: &Bits, k: u32) -> Result<NumberAhead, CodeFault>
     }
 }
 
-/// `long_ahead`, whose answer has a place of its own in memory. It is made here, so that it costs nothing where the code is
+/// `long_ahead`, whose result has a place of its own in memory. It is made here, so that it costs nothing where the code is
 /// short.
 #[inline(always)]
 fn held_ahead(bits: &Bits, k: u32) -> Result<NumberAhead, CodeFault>
@@ -256,7 +256,7 @@ impl VlcState {
         ensures ok { IfOk result (λ difference. IsCoded self.old level difference bits.old bits.new) }
         ensures state { IfOk result (λ difference. self.new ≡ after_value self.old (decoded_value level difference)) }
 
-        // Wherever a difference has its code next, it is answered.
+        // Wherever a difference has its code next, it is returned.
         ensures found { (difference : ℤ) (after : Reading) → IsCodedDifference level difference → IsCoded self.old level difference bits.old after
             → result ≡ Ok difference }
 
@@ -277,7 +277,7 @@ pub fn codes_are_one()
     ensures { CodesAreOne }
 {}
 
-/// Where a fault is told, no difference has a code.
+/// Where bits have a fault, no difference has a code.
 pub fn faults_exclude_codes()
     ensures { FaultsExcludeCodes }
 {}

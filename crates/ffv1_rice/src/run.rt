@@ -72,8 +72,8 @@ impl RunIndex {
         self.index
     }
 
-    /// The exponent of a run's whole length at the index: a word of one bit 1 is of 2^exponent samples, and else as many bits
-    /// tell the rest.
+    /// The exponent of a run's whole length at the index: a word of one bit 1 is of 2^exponent samples, and else as many bits give the
+    /// rest.
     pub fn exponent(&self) -> u32
         ensures value { result ≡ run_exponent self.now }
         ensures low { result ≤ 16 }
@@ -92,7 +92,7 @@ impl RunIndex {
         requires few_left { left ≤ greatest_side }
         ensures ok { IfOk result (λ word. IsRead left self.old word bits.old self.new bits.new) }
 
-        // Wherever a word comes next, it is answered.
+        // Wherever a word comes next, it is returned.
         ensures found { (word : RunWord) (next : ℕ) (after : Reading) → IsRead left self.old word bits.old next after → result ≡ Ok word }
 
         ensures truncated { OnErr result (result ≡ Err CodeFault.Truncated) }

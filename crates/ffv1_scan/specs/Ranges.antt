@@ -34,7 +34,7 @@ abbrev pub end_of : ℕ → List ByteRange → ℕ
 end_of from [] = from
 end_of from (range ∷ ranges) = end_of (range.place + range.size) ranges
 
--- The text tells these ranges, in order and without overlap.
+-- The text gives these ranges, in order and without overlap.
 pub record AreRanges (text : List ℕ) (ranges : List ByteRange) : Type 0 where
   pub lines : List (List ℕ)
   pub are_lines : AreLines text lines

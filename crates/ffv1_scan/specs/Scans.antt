@@ -28,8 +28,8 @@ abbrev pub FirstEndsAfter : ℕ → List ByteRange → Type 0
 FirstEndsAfter place [] = ⊥
 FirstEndsAfter place (range ∷ ranges) = place < range.place + range.size
 
--- All ranges were judged and their lines written, and the answer is whether all are sound. Or the file was given up; or it ended before the
--- end of the first range that is not judged; or memory was refused; or the output was given up.
+-- All ranges were judged and their lines written, and what is returned is whether all are sound. Or the file was given up; or it ended
+-- before the end of the first range that is not judged; or memory was refused; or the output was given up.
 abbrev pub ScansRanges : List ByteRange → Result Bool ScanFault → ReadLog → ReadLog → WriteLog → WriteLog → Type 0
 ScansRanges ranges (Ok sound) old new out_old out_new =
     (scan : ScansFront ranges ranges (Reads old new) (Writes out_old out_new)) × (sound ≡ list_all is_sound scan.verdicts)

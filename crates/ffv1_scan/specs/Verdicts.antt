@@ -1,4 +1,4 @@
--- How the bytes of a range stand as a frame payload (RFC 9043, section 4.9), and the line that tells it.
+-- How the bytes of a range stand as a frame payload (RFC 9043, section 4.9), and the line that reports it.
 use Rattle.std.specs.Prelude.{ℕ, ◌≡◌, ◌+◌, ◌==◌, ◌++◌, Bool, true, false, ◌&&◌, List, [], ◌∷◌, length, drop, take, count_by, nat_lt, codes}
 use Rattle.std.specs.Fmt.{decimal}
 use Rattle.ffv1_slice.specs.Bits.{bits_of}
@@ -14,7 +14,7 @@ use Rattle.ffv1_scan.specs.declared.verdict.Verdict.{Verdict}
 abbrev pub is_intact : Piece → Bool
 is_intact link = nat_lt 8 (length link.bytes) && remainder_of (bits_of link.bytes) == 0
 
--- How many links the bytes have, how many of these are intact, and how their chain ends.
+-- How many links the bytes have, how many of these have content and pass their parity, and how their chain ends.
 pub record IsVerdictOf (bytes : List ℕ) (verdict : Verdict) : Type 0 where
   pub links : List Piece
   pub are_links : AreLinksOf bytes links
@@ -37,7 +37,7 @@ abbrev pub is_whole : ChainEnd → Bool
 is_whole Whole = true
 is_whole (Broken place) = false
 
--- a range is whole, has a link, and all its links are intact
+-- a range is whole, has a link, and all its links have content and pass their parity
 abbrev pub is_sound : Verdict → Bool
 is_sound verdict = is_whole verdict.end && (nat_lt 0 verdict.links && verdict.passing == verdict.links)
 

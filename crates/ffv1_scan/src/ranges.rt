@@ -1,4 +1,4 @@
-//! The ranges of a file, as a text tells them (own).
+//! The ranges of a file, as a text gives them (own).
 ghost use Rattle.std.specs.Prelude.{◌≡◌, ◌+◌, ◌≤◌, ◌↔◌, IsTrue, IfOk, IfErr, MatchOption};
 ghost use Rattle.ffv1_scan.specs.Ranges.{IsRangeLine, AreRanges, IsRangesFault};
 
@@ -15,12 +15,12 @@ pub struct ByteRange {
     pub size: u64,
 }
 
-/// Why a text tells no ranges.
+/// Why a text gives no ranges.
 #[derive(Clone, Copy, Debug, PartialEq, Eq)]
 pub enum RangesFault {
     /// The line with this number, counted from 1, is the first that is no range, or begins before the end of the one before.
     Line(usize),
-    /// A growth of memory was refused.
+    /// An allocation of memory failed.
     Memory,
 }
 
@@ -44,12 +44,12 @@ impl ByteRange {
     }
 }
 
-/// Reads the ranges that a text tells: a line for each, as `4096 300000`, of its place and its size in decimal digits, with
+/// Reads the ranges that a text gives: a line for each, as `4096 300000`, of its place and its size in decimal digits, with
 /// one space between them. A line feed ends each line; the last may go without. Ranges rise and do not overlap. A number is
 /// under 2^64, a size at most 2^30.
 ///
 /// `Line` names the first line that is no range, or begins before the end of the range before it; an empty line is no
-/// range. `Memory` comes where a growth is refused.
+/// range. Returns `Memory` if an allocation fails.
 pub fn read_ranges(alloc: Global, text: &[u8]) -> Result<Vec<ByteRange>, RangesFault>
     ensures ok { IfOk result (λ ranges. AreRanges text.now ranges.items) }
     ensures fault { IfErr result (IsRangesFault text.now) }

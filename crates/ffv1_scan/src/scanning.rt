@@ -22,7 +22,7 @@ pub enum ScanFault {
     Read,
     /// The output failed.
     Write,
-    /// A growth of memory was refused.
+    /// An allocation of memory failed.
     Memory,
 }
 
@@ -64,12 +64,12 @@ impl From<AllocError> for ScanFault {
 
 /// Scans the ranges of a file, which rise and do not overlap: judges each as its bytes alone, and writes a line for each to the
 /// output, with its number, counted from 1, as `range 3 links 24 pass 23 whole` or `range 4 links 3 pass 3 broken at
-/// 112233`, whose place is counted in bytes from the range's start. Answers whether each range is whole, has a link,
+/// 112233`, whose place is counted in bytes from the range's start. Returns whether each range is whole, has a link,
 /// and has all its links pass.
 ///
-/// The file is read once, in order, and no further than to the end of the last range. One range is held at a time. `Read`
-/// comes where the file failed or ended before a range did, `Memory` where a growth is refused: the lines of the ranges before
-/// were written. `Write` comes where the output failed: a front of the lines so far was written.
+/// The file is read once, in order, and no further than to the end of the last range. One range is held at a time. Returns `Read` if the
+/// file failed or ended before a range did, `Memory` if an allocation fails: the lines of the ranges before
+/// were written. Returns `Write` if the output failed: a front of the lines so far was written.
 pub fn scan<S: Source, W: Sink>(
     alloc: Global,
     ranges: &[ByteRange],
@@ -92,7 +92,7 @@ pub fn scan<S: Source, W: Sink>(
     Ok(sound)
 }
 
-/// Reads no byte of a file: one that can't be read is told so where there is no range too.
+/// Reads no byte of a file: one that can't be read is reported so where there is no range too.
 fn open<S: Source>(file: &mut S) -> Result<(), ScanFault>
     ensures read { Opens result (S.log file.old) (S.log file.new) }
     ensures fault { IfErr result (λ fault. fault ≡ ScanFault.Read) }
@@ -103,7 +103,7 @@ fn open<S: Source>(file: &mut S) -> Result<(), ScanFault>
     }
 }
 
-/// Room for a piece.
+/// Room for a block.
 fn empty_room(alloc: Global) -> Result<Vec<u8>, ScanFault>
     ensures ok { IfOk result (λ room. 0 < vec_len room) }
     ensures err { IfErr result (λ fault. fault ≡ ScanFault.Memory) }

@@ -34,7 +34,7 @@ pub same_size_field : (slice piece : List ℕ) → 8 ≤ length slice → 8 ≤ 
     → size_before piece (length piece) ≡ size_before slice (length slice)
 same_size_field slice piece long other same = size_field-size piece other ∙ ap (big_number 3) same ∙ sym (size_field-size slice long)
 
--- ---- a piece where it stands
+-- ---- bytes where they stand
 
 pub length-range : (xs : List ℕ) (p q : ℕ) → p ≤ q → q ≤ length xs → length (slice_range xs p q) ≡ q - p
 length-range xs p q low high = length-take-le (q - p) (drop p xs) (omega (arith, length-drop p xs))
@@ -47,7 +47,7 @@ around_range xs p q low =
     ∙ ap (λ ys. take p xs ++ ys) (take-append-drop (q - p) (drop p xs))
     ∙ take-append-drop p xs
 
--- the footer that ends at q is that of the piece that ends there
+-- the footer that ends at q is that of the bytes that end there
 pub size_of_range : (xs : List ℕ) (p q : ℕ) → p + 8 ≤ q → q ≤ length xs → size_before xs q ≡ size_before (slice_range xs p q) (length (slice_range xs p q))
 size_of_range xs p q low high =
     let piece = slice_range xs p q in
@@ -70,7 +70,7 @@ module _ (setup : SetupValue) (original : List ℕ) (slices : List (List ℕ)) (
   next : (k : ℕ) → k < length slices → starts_at slices (k + 1) ≡ starts_at slices k + length (get_or slices k [])
   next k lt = starts_next slices k [] lt
 
-  -- a piece is within the copy
+  -- what stands at a slice's places is within the copy
   inside : (k : ℕ) → k < length slices → starts_at slices (k + 1) ≤ length copy
   inside k lt =
       let long : 8 ≤ length (get_or slices k []) = cut.long k lt in
@@ -109,7 +109,7 @@ module _ (setup : SetupValue) (original : List ℕ) (slices : List (List ℕ)) (
         omega arith;
   }
 
-  -- a piece that is a slice passes its parity, and so does the original's: it is intact
+  -- what stands at a slice's places and passes its parity, as the original's slice does, is intact
   intact : (k : ℕ) → k < length slices → PassesParity (piece_at slices copy k) → piece_at slices copy k ≡ get_or slices k []
   intact k lt passes =
       elim (near.each k [] lt) [

@@ -1,4 +1,4 @@
--- How a chain ends (own: what stands before the last slice that can be reached is told by its place).
+-- How a chain ends (own: what stands before the last slice that can be reached is given by its place).
 use Rattle.std.specs.Prelude.{ℕ, ◌≤◌, List}
 use Rattle.ffv1_slice.specs.Chain.{IsEnd}
 use Rattle.ffv1_slice.specs.declared.chain.ChainEnd.{ChainEnd}

@@ -1,4 +1,4 @@
--- Facts of what several copies tell, which rest on the set of the copies: on which there are, and not on how often or in what order.
+-- Facts of what several copies have, which rest on the set of the copies: on which there are, and not on how often or in what order.
 use Rattle.std.specs.Prelude.{◌≡◌, List, Contains}
 
 -- each member of one list is one of the other, in whatever order and however often

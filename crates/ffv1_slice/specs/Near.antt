@@ -17,7 +17,7 @@ piece_at slices copy tile = slice_range copy (starts_at slices tile) (starts_at 
 abbrev pub size_field : List ℕ → List ℕ
 size_field slice = slice_range slice (length slice - 8) (length slice - 5)
 
--- A piece differs from a slice only within 32 consecutive bits, and not in the size field.
+-- Bytes differ from a slice only within 32 consecutive bits, and not in the size field.
 pub record IsHurtWithin32 (slice piece : List ℕ) : Type 0 where
   pub at : ℕ
   pub differ : DifferWithin32 slice piece at

@@ -18,7 +18,7 @@ pub fn content_of(slice: &[u8]) -> &[u8]
 }
 
 /// The error status of a slice (RFC 9043, section 4.9.2), the byte after the three of its size: 0 no error, 1 correctable,
-/// 2 uncorrectable errors; others are reserved, and are answered as they stand. The slice has room for a footer.
+/// 2 uncorrectable errors; others are reserved, and are returned as they stand. The slice has room for a footer.
 pub fn status_of(slice: &[u8]) -> u8
     requires { 8 ≤ length slice.now }
     ensures { result ≡ status_before slice.now (length slice.now) }

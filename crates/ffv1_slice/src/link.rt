@@ -72,7 +72,7 @@ impl<'a> Link<'a> {
     }
 
     /// The footer's error status (RFC 9043, section 4.9.2): 0 no error, 1 correctable, 2 uncorrectable errors; others
-    /// are reserved, and are answered as they stand.
+    /// are reserved, and are returned as they stand.
     pub fn status(&self) -> u8
         ensures { result ≡ status_before self.now.bytes (length self.now.bytes) }
     {

@@ -22,7 +22,7 @@ pub enum LinkFault {
 /// The tile of which a link is a slice, counted from 0 row by row. A link at the payload's start is read with the
 /// keyframe bit, and has to be of tile 0; no other may be. It takes no memory.
 ///
-/// `Parity` comes exactly where the link fails its parity; `Head` has the fault of its header, in `read_head`'s order.
+/// Returns `Parity` exactly if the link fails its parity; `Head` has the fault of its header, in `read_head`'s order.
 pub fn slice_of(setup: &Setup, link: &Link<'_>) -> Result<usize, LinkFault>
     ensures found { IfOk result (λ tile. IsSliceOf setup.now link.now.bytes (link.now.start == 0) tile) }
     ensures only { (tile : ℕ) → IsSliceOf setup.now link.now.bytes (link.now.start == 0) tile → result ≡ Ok tile }
@@ -37,8 +37,8 @@ pub fn slice_of(setup: &Setup, link: &Link<'_>) -> Result<usize, LinkFault>
 /// The tile of which these bytes, footer and all, are a slice. They are read with the keyframe bit where they are `first`
 /// of their payload. It takes no memory.
 ///
-/// `Parity` comes where there is no footer, where its size field is not the number of bytes before it, and where the
-/// bytes do not pass their parity; `Head` has the fault of the header.
+/// Returns `Parity` if there is no footer, if its size field is not the number of bytes before it, and if the bytes do not pass their
+/// parity; `Head` has the fault of the header.
 pub fn read_slice(setup: &Setup, slice: &[u8], first: bool) -> Result<usize, LinkFault>
     ensures found { IfOk result (λ tile. IsSliceOf setup.now slice.now first tile) }
     ensures only { (tile : ℕ) → IsSliceOf setup.now slice.now first tile → result ≡ Ok tile }
@@ -69,8 +69,8 @@ fn is_whole(slice: &[u8]) -> bool
     is_framed(slice) && passes(slice)
 }
 
-/// Bytes are read as a slice of a tile exactly where they are one: what the found slices of a payload are told by is what a
-/// slice is.
+/// Bytes are read as a slice of a tile exactly where they are one: the reading by which the slices of a payload are found is what a slice
+/// is.
 pub fn slice_read_is_slice()
     ensures { SliceReadIsSlice }
 {}

@@ -92,7 +92,7 @@ stops_untold copies end none untold unclaimed =
       unwoven = λ start bytes count several. untold start several.told;
     }
 
--- an outcome that is not woven tells of no woven bytes
+-- an outcome other than `Woven` has no woven bytes
 pub not_woven : (outcome : Outcome) → ((bytes : Vec ℕ Global) (count : ℕ) → outcome ≡ outcomes.Woven bytes count → ⊥) → (bytes : List ℕ) (count : ℕ)
     → weave_told outcome ≡ woven bytes count → ⊥
 not_woven (outcomes.Woven items n) apart bytes count is = apart items n refl
@@ -115,7 +115,7 @@ module _ (copies : List (List ℕ)) (start end : ℕ) (bytes : List ℕ) (count 
   woven_size copy there reach (inr (inl h)) =
       let size = front_size copies end reach copy bytes count there h.1 in let first : start ≡ 0 = h.0 in omega arith
 
--- ---- a combination that tells its size
+-- ---- a combination whose footer gives its own size
 
 -- bytes that are the same between two places have the same at each place between
 pub same_inside : (a b : List ℕ) (start end i : ℕ) → start ≤ i → i < end → slice_range a start end ≡ slice_range b start end → get_or a i 0 ≡ get_or b i 0

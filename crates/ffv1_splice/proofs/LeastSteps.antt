@@ -1,4 +1,4 @@
--- The least of what lies in copies between two places, copy after copy.
+-- The lexicographically smallest bytes that a copy has between two places, copy after copy.
 use Rattle.std.proofs.Common.{◌≡◌, ℕ, ◌+◌, ◌<◌, Bool, true, false, List, [], length, Bor, get_or, refl, sym, ap, ◌∙◌, subst, arith, cond, inl, inr}
 use Rattle.std.specs.Prelude.{◌⊎◌, Contains, slice_range}
 use Rattle.std.specs.Ordering.{nat_cmp, ord_min, is_lt, ordering_reverse}
@@ -14,7 +14,7 @@ use Rattle.std.specs.declared.cmp.Ordering.TheVariants.{Less, Equal, Greater}
 pub never_below_itself : (x : List ℕ) → slice_cmp nat_cmp x x ≡ Less → ⊥
 never_below_itself x h = let tied = tied_itself nat_list_cmp_total x in let apart : Less ≡ Equal = sym h ∙ tied in absurd (cc)
 
--- of two that are not below each other neither differs
+-- two of which neither is below the other are the same
 pub same_if_neither_below : (x y : List ℕ) → (slice_cmp nat_cmp x y ≡ Less → ⊥) → (slice_cmp nat_cmp y x ≡ Less → ⊥) → x ≡ y
 same_if_neither_below x y h k =
     elim (slice_cmp nat_cmp x y) as (λ o. slice_cmp nat_cmp x y ≡ o → x ≡ y) [
@@ -23,7 +23,7 @@ same_if_neither_below x y h k =
       | Greater ↦ λ e. absurd (k (nat_list_cmp_total.antisymm y x ∙ ap ordering_reverse e))
     ] refl
 
--- the least of the first copies
+-- the smallest bytes of the first copies
 pub record IsLeastSoFar (copies : List (List ℕ)) (count start end : ℕ) (bytes : List ℕ) : Type 0 where
   pub copy : List ℕ
   pub there : Contains copies copy

@@ -1,4 +1,5 @@
--- What copies tell when each is cut to the bytes between two places. In the cut copies places count from the first of the two.
+-- The pieces and claimed starts of copies, when each is cut to the bytes between two places. In the cut copies places count from the first
+-- of the two.
 use Rattle.std.proofs.Common.{◌≡◌, ℕ, ◌+◌, ◌-◌, ◌≤◌, List, map, take, drop, sym, ap, ◌∙◌, subst, arith, inl, inr}
 use Rattle.std.specs.Prelude.{slice_range}
 use Rattle.std.proofs.Math.Path.{fun_ext}

@@ -20,7 +20,7 @@ use Rattle.ffv1_splice.proofs.DividedLinks.{end_within, same_cut}
 use Rattle.ffv1_splice.proofs.Versions.{version_there, version_of}
 use Rattle.ffv1_splice.proofs.Narrowed.{range_of_range, cut_out, cut_in, versions_of_versions, piece_out, told_in}
 
--- What weavable copies tell from an end of the original: as much as a division rests on.
+-- What makes copies weavable, except that no piece contradicts the original from below: as much as a division rests on.
 pub record AreWeavableDown (original : List ℕ) (copies : List (List ℕ)) : Type 0 where
   pub agree : AgreeWith original copies
   pub told : (start end : ℕ) → IsLinkOf original start end → IsClaimedStart copies end start

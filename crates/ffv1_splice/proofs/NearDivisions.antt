@@ -1,4 +1,4 @@
--- What copies that are near an original tell, and how they are divided.
+-- The pieces and claimed starts of copies that are near an original, and how they are divided.
 use Rattle.std.proofs.Common.{◌≡◌, ℕ, ◌+◌, ◌<◌, ◌≤◌, List, length, get_or, refl, sym, ap, ◌∙◌, subst, arith, inl, inr}
 use Rattle.std.specs.Prelude.{Contains, slice_range}
 use Rattle.ffv1_bits.specs.Parity.{PassesParity}

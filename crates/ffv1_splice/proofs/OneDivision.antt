@@ -260,7 +260,7 @@ one_division copies end ps qs f g a b (goes {start = s} {front = u} {standing = 
     ap (λ z. value_more end z (value_of more u c)) place
     ∙ ap (λ z. value_more end (record { start = t; bytes = others_bytes; standing = y }) z) rest
 
--- ---- the same copies tell the same
+-- ---- the same copies have the same pieces and claimed starts
 
 module _ (copies others : List (List ℕ)) (same : HasSameMembers copies others) where
   pub piece_there : (end : ℕ) (piece : Piece) → IsPiece copies end piece → IsPiece others end piece

@@ -1,4 +1,4 @@
--- The splice of copies that tell nothing other than an original.
+-- The splice of copies of which no piece contradicts an original.
 use Rattle.std.proofs.Common.{◌≡◌, ℕ, ◌+◌, ◌-◌, ◌<◌, ◌≤◌, List, [], ◌∷◌, length, get_or, take, drop, sym, ap, ◌∙◌, subst, arith, inl, inr}
 use Rattle.std.specs.Prelude.{All, slice_range}
 use Rattle.std.proofs.lemmas.List.Elements.{All-nil, All-cons, All-head, All-tail, All-append, All-weaker}
@@ -179,7 +179,8 @@ has_links original copies spliced is long whole links =
       each = links;
     }
 
--- They are where the walks agree with the original, the places of the legs are its links, and the hole's places are links of what it has there.
+-- They are where the walks agree with the original, the places of the legs are its links, and the hole's places are links of what it has
+-- there.
 pub joined_links : (original : List ℕ) (copies : List (List ℕ)) (spliced : SplicedValue) (is : IsSpliceOf copies spliced) → AreCopiesOf original copies
     → AgreeWith original copies → AgreeFromBelow original copies → All (IsLinkIfSettled original spliced) (leg_places is.legs)
     → All (λ place. IsLinkOf (slice_range original is.start is.end) place.start place.end) is.hole.places → is.hole.front ≡ 0

@@ -1,4 +1,4 @@
--- The vote and the repair of a place, as the code answers them.
+-- The vote and the repair of a place, as the code returns them.
 use Rattle.std.proofs.Common.{◌≡◌, ℕ, Vec, Global, List, Option, None, Some, Bool, true, false, refl, subst, inl, inr}
 use Rattle.std.specs.Prelude.{MatchOption, IsTrue, IsFalse}
 use Rattle.std.proofs.lemmas.Option.{MatchOption-at_none, MatchOption-at_some}
@@ -18,11 +18,11 @@ pub unwoven_by : (copies : List (List ℕ)) (start end : ℕ) (all_tried : Bool)
 unwoven_by copies start end true missed many = inl (missed refl)
 unwoven_by copies start end false missed many = inr (many refl)
 
--- what is answered: bytes that are made, and the number of those that are tried, or that none are
+-- what is returned: bytes that are made, and the number of those that are tried, or that none are
 abbrev pub IsAnswer : (List ℕ → ℕ → Type 0) → Option (Vec ℕ Global × ℕ) → Type 0
 IsAnswer P found = MatchOption found ((bytes : List ℕ) (count : ℕ) → P bytes count → ⊥) (λ (bytes, count). P bytes.items count)
 
--- what is answered of versions, said of them as the copies have them
+-- what is returned for versions, said of them as the copies have them
 module _ (P : List (List ℕ) → List ℕ → ℕ → Type 0) (versions all : List (List ℕ)) (are : versions ≡ all) (found : Option (Vec ℕ Global × ℕ))
     (answer : IsAnswer (P versions) found) where
   made_there : (bytes : Vec ℕ Global) (count : ℕ) → found ≡ Some (bytes, count) → P all bytes.items count

@@ -387,7 +387,7 @@ IsNext copies end from next =
     MatchOption next ((start : ℕ) → IsClaimedStart copies end start → start < from) (IsNextClaimedStart copies end from)
 
 module _ (copies : List (List ℕ)) (copy : List ℕ) (end from : ℕ) where
-  -- a copy that tells no start from the place on
+  -- a copy that claims no start from the place on
   pub next_kept : (next : Option ℕ) → ((start : ℕ) → IsCut copy start end → HasContent start end → start < from) → IsNext copies end from next
       → IsNext (copies ++ copy ∷ []) end from next
   next_kept None below h = λ start told. elim (start_back copies copy end start told) [ inl there ↦ h start there | inr new ↦ below start new.0 new.1 ]

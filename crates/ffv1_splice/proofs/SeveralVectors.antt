@@ -1,5 +1,5 @@
--- Two copies of a slice, of which one is hurt in its first byte, and the other in its size field, so that they tell two starts: it is woven
--- from the one at which it begins.
+-- Two copies of a slice, of which one is hurt in its first byte, and the other in its size field, so that they claim two starts: it is
+-- woven from the one at which it begins.
 use Rattle.std.proofs.Common.{◌≡◌, ℕ, zero, suc, ◌<◌, true, List, [], ◌∷◌, length, get_or, map, replicate, refl, sym, ap, ◌∙◌, subst, arith, inl, inr, ltb, ltb-true}
 use Rattle.std.specs.Prelude.{◌⊎◌, Contains, slice_range}
 use Rattle.std.specs.List.{list_all}
@@ -27,7 +27,7 @@ use Rattle.ffv1_splice.proofs.Vectors.{first_of, twice_one, twice_few, first_sli
 abbrev hurt_first : List ℕ
 hurt_first = 0xFC ∷ 0xF6 ∷ 0x80 ∷ 0 ∷ 0 ∷ 3 ∷ 0 ∷ 0x1C ∷ 0x3E ∷ 0xA0 ∷ 0x9B ∷ []
 
--- its size field tells a slice that begins a byte later
+-- its size field gives a slice that begins a byte later
 abbrev hurt_size : List ℕ
 hurt_size = 0xFD ∷ 0xF6 ∷ 0x80 ∷ 0 ∷ 0 ∷ 2 ∷ 0 ∷ 0x1C ∷ 0x3E ∷ 0xA0 ∷ 0x9B ∷ []
 
@@ -55,7 +55,7 @@ later_fails : PassesParity later → ⊥
 unfolding number_bits bits_of polynomial_of reduced_at divided remainder_of
 later_fails passes = absurd (omega arith)
 
--- ---- what is told
+-- ---- what is claimed
 
 told_which : (copy : List ℕ) (start : ℕ) → Contains torn_copies copy → IsCut copy start 11
     → ((copy ≡ hurt_first) × (start ≡ 0)) ⊎ ((copy ≡ hurt_size) × (start ≡ 1))

@@ -1,4 +1,4 @@
--- A combination of what copies have that tells its size is a combination of what they have with that size too.
+-- A combination of what copies have whose footer gives its own size is a combination of what they have with that size too.
 use Rattle.std.proofs.Common.{◌≡◌, ℕ, zero, suc, ◌+◌, ◌-◌, ◌*◌, ◌<◌, ◌≤◌, List, [], ◌∷◌, ◌++◌, length, get_or, take, drop, map, get_or-drop, refl, sym, ap, ◌∙◌, subst, arith, inl, inr}
 use Rattle.std.specs.Prelude.{◌⊎◌, Contains, slice_range}
 use Rattle.std.proofs.lemmas.Bool.{cases_lt}
@@ -81,7 +81,7 @@ sized_in : (bytes : List ℕ) (size : ℕ) → 8 ≤ size → length bytes ≡ s
 sized_in bytes size long same i =
     subst (λ n. IsInField n i → get_or (sized bytes) i 0 ≡ get_or (big_bytes 3 (n - 8)) (i - (n - 8)) 0) same (sized_in_own bytes (omega arith) i)
 
--- ---- a slice that tells its size
+-- ---- a slice whose footer gives its own size
 
 four_small : (a b c : ℕ) → a < 256 → b < 256 → c < 256 → AreBytes (0 ∷ a ∷ b ∷ c ∷ [])
 four_small a b c x y z zero = omega arith

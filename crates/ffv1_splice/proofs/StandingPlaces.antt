@@ -17,7 +17,7 @@ use Rattle.ffv1_splice.proofs.Crossings.{crossed_within}
 use Rattle.ffv1_splice.proofs.Versions.{version_length}
 use Rattle.ffv1_splice.proofs.SplicePlaces.{all_lower, all_places, all_of_hole, all_undivided, end_within, hole_length, hole_upright}
 
--- The place stands as what the copies have from one place up to another tells of it: so the hole's places do, and those over lost slices.
+-- The place stands as follows from what the copies have from one place up to another: so the hole's places do, and those over lost slices.
 pub record StandsBetween (copies : List (List ℕ)) (payload : List ℕ) (place : Place) : Type 0 where
   pub from : ℕ
   pub to : ℕ
@@ -47,7 +47,7 @@ module _ (copies : List (List ℕ)) (payload : List ℕ) (place : Place) (h : St
       subst (λ s. IsClaimedStart copies place.end s) (sym h.starts)
       (subst (λ e. IsClaimedStart copies e (h.from + h.start)) (sym h.ends) (told_out h.from h.to copies h.end h.start h.within told))
 
--- How a place of the splice stands: settled from above or from below, by what copies that are cut tell of it, or as what can't be divided.
+-- How a place of the splice stands: settled from above or from below, as follows from copies that are cut, or as what can't be divided.
 pub data IsPlaceOf (copies : List (List ℕ)) (spliced : SplicedValue) (is : IsSpliceOf copies spliced) : Place → Type 0 where
   above : {place : Place} → IsSettledDown copies spliced.payload place → IsPlaceOf copies spliced is place
   between : {place : Place} → StandsBetween copies spliced.payload place → IsPlaceOf copies spliced is place

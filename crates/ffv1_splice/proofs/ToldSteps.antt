@@ -1,4 +1,4 @@
--- What one more copy tells of the slice that ends at a place.
+-- The pieces that end at a place, and the starts that are claimed there, with one more copy.
 use Rattle.std.proofs.Common.{◌≡◌, ℕ, List, [], ◌∷◌, ◌++◌, get_or, refl, sym, ap, ◌∙◌, subst, arith, inl, inr}
 use Rattle.std.specs.Prelude.{◌⊎◌, Contains, slice_range}
 use Rattle.std.proofs.lemmas.List.Elements.{Contains-append_left, Contains-append_right, Contains-append_cases}
@@ -10,7 +10,7 @@ use Rattle.ffv1_splice.specs.Told.Told.{none, one, two}
 
 -- ---- any fact
 
--- what is so of the same values is told alike
+-- facts that are so of the same values are counted alike
 pub tells_same : {X : Type 0} (P Q : X → Type 0) (told : Told X) → ((x : X) → P x → Q x) → ((x : X) → Q x → P x) → Tells P told → Tells Q told
 tells_same P Q none on back h = λ x q. h x (back x q)
 tells_same P Q (one value) on back h = record { there = on value h.there; others = λ x q. h.others x (back x q) }
@@ -34,7 +34,7 @@ tells_more P Q two after value on new cases more h =
     subst (Tells Q) (sym more)
     (record { one = h.one; other = h.other; one_there = on h.one h.one_there; other_there = on h.other h.other_there; differ = h.differ })
 
--- and all that others tell
+-- and all values of another count
 pub tells_both : {X : Type 0} (P Q R : X → Type 0) (told others after : Told X) → ((x : X) → P x → R x) → ((x : X) → Q x → R x) → ((x : X) → R x → P x ⊎ Q x)
     → TellsBoth told others after → Tells P told → Tells Q others → Tells R after
 tells_both P Q R told none after mine theirs cases both h k =
@@ -100,7 +100,7 @@ module _ (copies : List (List ℕ)) (copy : List ℕ) (end : ℕ) where
   pub one_cut : (start other : ℕ) → IsCut copy start end → IsCut copy other end → other ≡ start
   one_cut start other h k = omega arith
 
-  -- a copy with no cut there, or one without content, tells nothing
+  -- a copy with no cut there, or one without content, adds no piece and no claimed start
   pub pieces-uncut : (told : Told Piece) → ((start : ℕ) → IsCut copy start end → HasContent start end → ⊥) → Tells (IsPiece copies end) told
       → Tells (IsPiece (copies ++ copy ∷ []) end) told
   pieces-uncut told uncut h =
@@ -113,7 +113,7 @@ module _ (copies : List (List ℕ)) (copy : List ℕ) (end : ℕ) where
       tells_same (IsClaimedStart copies end) (IsClaimedStart (copies ++ copy ∷ []) end) told start_on
       (λ start q. elim (start_back start q) [ inl p ↦ p | inr cut ↦ absurd (uncut start cut.0 cut.1) ]) h
 
-  -- nor does one that fails its parity tell a piece
+  -- nor does one that fails its parity add a piece
   pub pieces-failed : (told : Told Piece) (start : ℕ) → IsCut copy start end → (PassesParity (slice_range copy start end) → ⊥) → Tells (IsPiece copies end) told
       → Tells (IsPiece (copies ++ copy ∷ []) end) told
   pieces-failed told start cut fails h =

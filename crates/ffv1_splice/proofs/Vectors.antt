@@ -1,6 +1,6 @@
 -- Copies that are near the slices of a setup are near copies; two of the frame of two slices, of which each has one slice intact, are
 -- spliced to the frame; zeros, which read as a row of slices without content, have no places; a slice whose size field is lost in both
--- copies is woven from the front; and places are told in words.
+-- copies is woven from the front; and places are written in words.
 use Rattle.std.proofs.Common.{◌≡◌, ℕ, zero, suc, ◌+◌, ◌-◌, ◌<◌, ◌≤◌, Bool, List, [], ◌∷◌, length, get_or, map, take, drop, replicate, refl, sym, ap, ◌∙◌, subst, arith, inl, inr}
 use Rattle.std.specs.Prelude.{◌⊎◌, ◌==◌, Contains, codes, slice_range}
 use Rattle.std.specs.Fmt.{digits}
@@ -138,7 +138,7 @@ only_copy alone copy there =
     let here : there.0 ≡ 0 = omega (arith, there.1) in
     sym there.2 ∙ ap (λ k. get_or (alone ∷ []) k copy) here
 
--- each footer within them tells size 0
+-- each footer within them gives size 0
 zeros_size : (end : ℕ) → 8 ≤ end → end ≤ 16 → size_before zeros end ≡ 0
 zeros_size end footer within =
     let eight : end - (end - 8) ≡ 8 = omega arith in
@@ -231,7 +231,7 @@ zeros_are_spliced = record {
 
 -- ---- a first slice whose size field is lost in each copy
 
--- the size field that is lost in one copy tells more than there is, and in the other that there is no content
+-- the size field that is lost in one copy gives more than there is, and in the other no content
 abbrev lost : List ℕ
 lost = 0xFD ∷ 0xF6 ∷ 0x80 ∷ 0xFF ∷ 0xFF ∷ 0xFF ∷ 0 ∷ 0x1C ∷ 0x3E ∷ 0xA0 ∷ 0x9B ∷ []
 

@@ -1,4 +1,4 @@
--- A division as it is found, place by place from an end, and as it is told, place by place of the whole payload.
+-- A division as it is found, place by place from an end, and as it is stated, place by place of the whole payload.
 use Rattle.std.proofs.Common.{◌≡◌, ℕ, ◌+◌, ◌-◌, ◌≤◌, List, [], ◌∷◌, ◌++◌, length, get_or, take, drop, refl, sym, ap, ◌∙◌, subst, arith, inl, inr, take-append-drop}
 use Rattle.std.specs.Prelude.{All, Contains, slice_range}
 use Rattle.std.proofs.Math.Seq.{drop-append_seam}
@@ -93,7 +93,7 @@ ends_below end (place ∷ places) front up lie =
 
 -- ---- from the one to the other
 
--- what is told of the bytes before an end
+-- what is stated of the bytes before an end
 pub record IsToldBefore (copies : List (List ℕ)) (end : ℕ) (places : List Place) (front : ℕ) (payload : List ℕ) : Type 0 where
   pub size : length payload ≡ end
   pub lie : LieFrom end places front

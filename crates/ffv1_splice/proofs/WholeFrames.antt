@@ -112,7 +112,7 @@ module _ (copies : List (List ℕ)) (spliced : SplicedValue) (is : IsSpliceOf co
   reach_to : (end : ℕ) → end ≤ length spliced.payload → AllReach copies end
   reach_to end within copy there = omega (arith, is.one_length copy there)
 
-  -- as copies that are cut tell of it
+  -- where it stands as follows from copies that are cut
   cut_slice : (from to start end : ℕ) (bytes : List ℕ) (standing : Standing) → from + end ≤ to → AllReach copies to
       → StandsAs (versions_at copies from to) start end bytes standing → IsSettledOrWoven standing
       → IsWholeSlice (from + start) (from + end) bytes

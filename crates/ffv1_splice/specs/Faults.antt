@@ -17,7 +17,7 @@ pub record IsOfOtherLength (copies : List (List ℕ)) (index : ℕ) : Type 0 whe
   pub other : length_at copies index ≡ length_at copies 0 → ⊥
   pub earlier : (before : ℕ) → before < index → length_at copies before ≡ length_at copies 0
 
--- A copy of another length is told first; memory can be wanted only where there is none.
+-- A copy of another length is reported first; `Memory` is possible only if there is none.
 abbrev pub IsSpliceFault : List (List ℕ) → SpliceFault → Type 0
 IsSpliceFault copies (OtherLength index) = IsOfOtherLength copies index
 IsSpliceFault copies Memory = HasOneLength copies

@@ -33,13 +33,13 @@ pub record IsOriginal (original : List ℕ) (spliced : SplicedValue) : Type 0 wh
   pub settled : All (λ place. place.standing ≡ Settled) spliced.places
   pub payload : spliced.payload ≡ original
 
--- Where no piece tells other than the original, and each of its links is a piece, the splice is the original.
+-- Where no piece contradicts the original, and each of its links is a piece, the splice is the original.
 abbrev pub OriginalIsSpliced : Type 0
 OriginalIsSpliced =
     (original : List ℕ) (copies : List (List ℕ)) (spliced : SplicedValue) → AreCopiesOf original copies → AgreeWith original copies
     → HaveEachLink original copies → IsSpliceOf copies spliced → IsOriginal original spliced
 
--- Where no piece tells other than the original, each settled place that ends at an end of the original is its link there, byte for byte.
+-- Where no piece contradicts the original, each settled place that ends at an end of the original is its link there, byte for byte.
 abbrev pub SettledIsOriginal : Type 0
 SettledIsOriginal =
     (original : List ℕ) (copies : List (List ℕ)) (spliced : SplicedValue) (place : Place) → AgreeWith original copies → IsSpliceOf copies spliced
@@ -51,7 +51,7 @@ pub record IsItsLink (original : List ℕ) (spliced : SplicedValue) (place : Pla
   pub link : IsLinkOf original place.start place.end
   pub bytes : slice_range spliced.payload place.start place.end ≡ slice_range original place.start place.end
 
--- And where no piece tells other than the original from below, each settled place above the hole and below it is a link of the original.
+-- And where no piece contradicts the original from below, each settled place above the hole and below it is a link of the original.
 abbrev pub SettledWalksAreOriginal : Type 0
 SettledWalksAreOriginal =
     (original : List ℕ) (copies : List (List ℕ)) (spliced : SplicedValue) → AreCopiesOf original copies → AgreeWith original copies
@@ -73,8 +73,8 @@ WalkAcrossIsOriginal =
 
 -- ---- what is woven
 
--- What is woven at a place is the original's slice; it is never repaired; and where it is missing or voted, there are more combinations than
--- are tried.
+-- What is woven at a place is the original's slice; it is never repaired; and where it is missing or voted, there are more combinations
+-- than are tried.
 pub record KeepsLink (original : List ℕ) (copies : List (List ℕ)) (spliced : SplicedValue) (place : Place) : Type 0 where
   pub woven : (count : ℕ) → place.standing ≡ Woven count
       → slice_range spliced.payload place.start place.end ≡ slice_range original place.start place.end
@@ -132,8 +132,8 @@ pub record IsNearSplice (original : List ℕ) (copies : List (List ℕ)) (splice
   pub bytes : All (λ place. place.standing ≡ Settled → slice_range spliced.payload place.start place.end ≡ slice_range original place.start place.end)
       spliced.places
 
--- Of near copies no piece tells other than the original from an end; where each link is intact in some copy, the splice is the original.
--- Where none tells other than the original from below either, the places are the original's links; and where each is among the
+-- Of near copies no piece contradicts the original from an end; where each link is intact in some copy, the splice is the original.
+-- Where none contradicts the original from below either, the places are the original's links; and where each is among the
 -- combinations, a frame that is given back is the original.
 pub record NearCopiesSplice : Type 0 where
   pub agree : (original : List ℕ) (copies : List (List ℕ)) → AreNearCopies original copies → AgreeWith original copies

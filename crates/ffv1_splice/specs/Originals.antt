@@ -1,4 +1,4 @@
--- Copies of an original: what they tell of its links.
+-- Copies of an original: what they have and claim of its links.
 use Rattle.std.specs.Prelude.{ℕ, ◌≡◌, ◌≤◌, ◌⊎◌, List, Contains, length, slice_range}
 use Rattle.ffv1_bits.specs.Parity.{AreBytes, PassesParity}
 use Rattle.ffv1_slice.specs.Chain.{IsEnd, IsLinkOf, Piece, piece_of}
@@ -12,7 +12,7 @@ pub record AreCopiesOf (original : List ℕ) (copies : List (List ℕ)) : Type 0
   pub whole : IsEnd original 0
   pub one_length : (copy : List ℕ) → Contains copies copy → length copy ≡ length original
 
--- No piece tells other than the original: each that ends at an end of the original is the original's link there.
+-- No piece contradicts the original: each that ends at an end of the original is the original's link there.
 abbrev pub AgreeWith : List ℕ → List (List ℕ) → Type 0
 AgreeWith original copies =
     (end : ℕ) (piece : Piece) → IsEnd original end → IsPiece copies end piece → IsLinkOf original piece.start end × (piece ≡ piece_of original piece.start end)
@@ -33,7 +33,7 @@ HaveEachLink original copies = (start end : ℕ) → IsLinkOf original start end
 abbrev pub IsAmong : List ℕ → List (List ℕ) → (start end : ℕ) → Type 0
 IsAmong original copies start end = IsCombination (versions_at copies start end) (slice_range original start end)
 
--- No piece tells other than the original, from an end or from a start of its links. The start of each link is told by a footer of some
+-- No piece contradicts the original, from an end or from a start of its links. The start of each link is claimed by a footer of some
 -- copy, and its slice, which passes its parity, is among the combinations of what the copies have there.
 pub record AreWeavable (original : List ℕ) (copies : List (List ℕ)) : Type 0 where
   pub agree : AgreeWith original copies

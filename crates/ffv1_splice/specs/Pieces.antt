@@ -1,4 +1,4 @@
--- What copies of a frame tell of the slice that ends at a place, by its footer alone (RFC 9043, section 4.9). No setup is asked
+-- What copies of a frame have and claim of the slice that ends at a place, by its footer alone (RFC 9043, section 4.9). No setup is asked
 -- for: every FFV1 version 3 frame with parity has these footers, whatever its samples are coded by.
 use Rattle.std.specs.Prelude.{ℕ, ◌+◌, ◌<◌, ◌≤◌, ◌≡◌, List, Contains, slice_range}
 use Rattle.std.specs.Ordering.{nat_cmp}
@@ -12,7 +12,7 @@ use Rattle.ffv1_slice.specs.Chain.{IsCut, Piece}
 abbrev pub HasContent : (start end : ℕ) → Type 0
 HasContent start end = start + 8 < end
 
--- A piece: what lies in some copy between the end and the start that the copy's footer there tells, where it has content and passes
+-- A piece: what lies in some copy between the end and the start that the copy's footer there gives, where it has content and passes
 -- its parity.
 pub record IsPiece (copies : List (List ℕ)) (end : ℕ) (piece : Piece) : Type 0 where
   pub copy : List ℕ
@@ -22,7 +22,7 @@ pub record IsPiece (copies : List (List ℕ)) (end : ℕ) (piece : Piece) : Type
   pub bytes : piece.bytes ≡ slice_range copy piece.start end
   pub passes : PassesParity piece.bytes
 
--- The footer that ends there in some copy tells this start, of a slice that has content, whatever the parity.
+-- The footer that ends there in some copy claims this start, of a slice that has content, whatever the parity.
 pub record IsClaimedStart (copies : List (List ℕ)) (end start : ℕ) : Type 0 where
   pub copy : List ℕ
   pub there : Contains copies copy
@@ -46,9 +46,10 @@ pub record IsShortest (copies : List (List ℕ)) (bound start : ℕ) (piece : Pi
   pub there : IsPieceFrom copies bound start piece
   pub least : (other : PieceFrom) → IsPieceFrom copies bound start other → piece.end ≤ other.end
 
--- ---- what lies there where no piece tells
+-- ---- what lies there if no piece decides
 
--- The bytes are those of a copy between two places, and no copy has lesser ones there: the first byte that differs decides.
+-- The bytes are those of a copy between two places, and no copy has lexicographically smaller ones there: the first byte that differs
+-- decides.
 pub record IsLeast (copies : List (List ℕ)) (start end : ℕ) (bytes : List ℕ) : Type 0 where
   pub copy : List ℕ
   pub there : Contains copies copy

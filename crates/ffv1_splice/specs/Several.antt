@@ -20,7 +20,7 @@ pub data TriedValue : Type 0 where
   one_woven : (start : ℕ) (bytes : List ℕ) (count : ℕ) → TriedValue
   undecided : TriedValue
 
--- a number of combinations, as far as it is told
+-- a number of combinations, or 2^64 - 1 if it is greater
 abbrev pub capped : ℕ → ℕ
 capped count = min count (2 ^ 64 - 1)
 
@@ -37,8 +37,8 @@ tried_told (tries.Missing count) = none_woven count
 tried_told (tries.Woven start bytes count) = one_woven start bytes.items count
 tried_told tries.Undecided = undecided
 
--- How many combinations were tried from each place before one, 0 where no start is claimed there; and nothing comes of any start but one that
--- is set apart.
+-- How many combinations were tried from each place before one, 0 where no start is claimed there; and nothing comes of any start but one
+-- that is set apart.
 pub record AreMissing (copies : List (List ℕ)) (end from : ℕ) (IsApart : ℕ → Type 0) (tried : List ℕ) : Type 0 where
   pub places : length tried ≡ from
   pub missing' : (start : ℕ) → start < from → IsClaimedStart copies end start → (IsApart start → ⊥)

@@ -42,8 +42,8 @@ pub record IsWalkDown (copies : List (List ℕ)) (payload : List ℕ) (places : 
 
 -- ---- up from the start
 
--- How far up from the start places can be settled below an end: to the end, where no piece ends there. Where pieces that differ end there, to
--- the first byte of them all, since nothing tells which of them goes with the slices below.
+-- How far up from the start places can be settled below an end: to the end, where no piece ends there. Where pieces that differ end there,
+-- to the first byte of them all, since nothing decides which of them goes with the slices below.
 abbrev pub IsBound : List (List ℕ) → (end bound : ℕ) → Type 0
 IsBound copies end bound =
     (IsOfNone (IsPiece copies end) × (bound ≡ end))
@@ -117,9 +117,9 @@ leg_places legs = flat_map (λ leg. leg.over ∷ leg.settled) legs
 
 -- ---- the hole between them
 
--- Copies divided from their end alone. The places lie end to end from the end back to a front. Each stands as the copies tell of
--- it, with the bytes that the payload has there. At the front no place ends: what stands before it can't be divided, and is
--- the least that a copy has there. The front is the start where the places cover all.
+-- Copies divided from their end alone. The places lie end to end from the end back to a front. Each stands as follows from the copies, with
+-- the bytes that the payload has there. At the front no place ends: what stands before it can't be divided, and is
+-- the lexicographically smallest bytes that a copy has there. The front is the start where the places cover all.
 pub record IsDivisionOf (copies : List (List ℕ)) (divided : SplicedValue) : Type 0 where
   pub one_length : (copy : List ℕ) → Contains copies copy → length copy ≡ length divided.payload
   pub lie : LieFrom (length divided.payload) divided.places divided.front
@@ -146,9 +146,9 @@ hole_places start hole = map (moved_by start) hole.places ++ undivided_places st
 
 -- ---- the frame
 
--- The splice is as long as each copy. Places are settled down from its end, and up from its start, up to a floor. From there places lie over
--- slices that are lost in all copies, and are settled between them. The hole that is left is divided by what the copies have there alone, so no
--- footer leads out of it.
+-- The splice is as long as each copy. Places are settled down from its end, and up from its start, up to a floor. From there places lie
+-- over slices that are lost in all copies, and are settled between them. The hole that is left is divided by what the copies have there
+-- alone, so no footer leads out of it.
 pub record IsSpliceOf (copies : List (List ℕ)) (spliced : SplicedValue) : Type 0 where
   pub above : List Place
   pub below : List Place

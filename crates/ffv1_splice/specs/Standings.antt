@@ -40,8 +40,8 @@ pub record IsWeaveFromFront (copies : List (List ℕ)) (end : ℕ) (weave : Weav
 
 -- No piece ends there, and the footers there claim several starts. From each of them what the copies have is woven, each with the size of a
 -- slice that is as long: from this one come these bytes, and nothing comes from any other. The list has how many combinations were tried
--- from each place before the end, 0 where no footer tells it, and the count is their sum, or 2^64 - 1 where that is greater. The copies are
--- of bytes, as all that the code reads, so that a size has one spelling.
+-- from each place before the end, 0 where no footer claims it, and the count is their sum, or 2^64 - 1 where that is greater. The copies
+-- are of bytes, as all that the code reads, so that a size has one spelling.
 pub record IsWeaveOfSeveral (copies : List (List ℕ)) (start end : ℕ) (bytes : List ℕ) (count : ℕ) : Type 0 where
   pub are_bytes : (copy : List ℕ) → Contains copies copy → AreBytes copy
   pub none : IsOfNone (IsPiece copies end)
@@ -68,8 +68,8 @@ pub record IsVoteAt (copies : List (List ℕ)) (start end : ℕ) (bytes : List �
 abbrev pub IsUnvotedAt : List (List ℕ) → (start end : ℕ) → Type 0
 IsUnvotedAt copies start end = (bytes : List ℕ) (count : ℕ) → IsVoteOf (versions_at copies start end) bytes count → ⊥
 
--- One start alone is claimed, no combination of what the copies have from it on is a slice, and there is no vote. But with one bit inverted one
--- combination is a slice: these bytes alone, of so many that are tried.
+-- One start alone is claimed, no combination of what the copies have from it on is a slice, and there is no vote. But with one bit inverted
+-- one combination is a slice: these bytes alone, of so many that are tried.
 pub record IsRepairAt (copies : List (List ℕ)) (start end : ℕ) (bytes : List ℕ) (count : ℕ) : Type 0 where
   pub combinations : ℕ
   pub missed : IsWeaveAt copies start end (missing combinations)
@@ -85,14 +85,14 @@ IsMissingAt copies start end =
     ⊎ IsWeaveAt copies start end too_many)
     × IsUnvotedAt copies start end
 
--- A gap: the copies whose footer there claims a start, of which there is one, all claim the same, and the least of all copies'
--- bytes stand there.
+-- A gap: the copies whose footer there claims a start, of which there is one, all claim the same, and the lexicographically smallest of the
+-- copies' bytes stand there.
 pub record IsGap (copies : List (List ℕ)) (start end : ℕ) (bytes : List ℕ) : Type 0 where
   pub told : IsOnly (IsClaimedStart copies end) start
   pub least : IsLeast copies start end bytes
 
--- Settled: the only piece that ends there. Where no piece does, the copies' versions are woven, from the start that is claimed, or from the one
--- of several that gives a slice, or else from the front. Voted: they are not woven, but one alone of what most of them have is a slice.
+-- Settled: the only piece that ends there. Where no piece does, the copies' versions are woven, from the start that is claimed, or from the
+-- one of several that gives a slice, or else from the front. Voted: they are not woven, but one alone of what most of them have is a slice.
 -- Repaired: no combination of versions is a slice, and nothing is voted, but one alone is with one bit inverted. Disputed: two pieces that
 -- differ end there, or two combinations of versions are a slice; missing: no piece and no combination is one, and there is no repair, or
 -- there are too many combinations to be tried; and nothing is voted.

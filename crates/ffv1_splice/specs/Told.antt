@@ -1,4 +1,4 @@
--- What copies tell of the slice that ends at a place, as it is counted: of no value, of one alone, or of two.
+-- How many values a fact holds of, as it is counted: of none, of one alone, or of two.
 use Rattle.std.specs.Prelude.{ℕ, ◌≡◌, ◌⊎◌}
 use Rattle.ffv1_slice.specs.Chain.{Piece}
 use Rattle.ffv1_slice.specs.Members.{IsOnly, IsOfTwo, IsOfNone}
@@ -12,19 +12,19 @@ pub data Told (X : Type 0) : Type 0 where
   one : X → Told X
   two : Told X
 
--- A fact is told of no value, of one alone, or of two that differ.
+-- A fact holds of no value, of one alone, or of two that differ.
 abbrev pub Tells : {X : Type 0} → (X → Type 0) → Told X → Type 0
 Tells P none = IsOfNone P
 Tells P (one value) = IsOnly P value
 Tells P two = IsOfTwo P
 
--- what is told with one more value
+-- the count with one more value
 abbrev pub TellsMore : {X : Type 0} → Told X → X → Told X → Type 0
 TellsMore none value after = after ≡ one value
 TellsMore (one first) value after = ((first ≡ value) × (after ≡ one first)) ⊎ ((first ≡ value → ⊥) × (after ≡ two))
 TellsMore two value after = after ≡ two
 
--- what is told with all that others tell
+-- the count with all values of another count
 abbrev pub TellsBoth : {X : Type 0} → Told X → Told X → Told X → Type 0
 TellsBoth told none after = after ≡ told
 TellsBoth told (one value) after = TellsMore told value after

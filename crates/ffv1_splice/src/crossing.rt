@@ -1,4 +1,5 @@
-//! The walk of a splice up from its start: places are settled, and where that stops, the walk goes on over slices that are lost in all copies.
+//! The walk of a splice up from its start: places are settled, and where that stops, the walk goes on over slices that are lost in all
+//! copies.
 ghost use Rattle.std.specs.Prelude.{◌≡◌, ◌+◌, ◌-◌, ◌++◌, ◌<◌, ◌≤◌, ℕ, List, [], ◌∷◌, length, map, take, All, IfOk, MatchOption};
 ghost use Rattle.ffv1_slice.specs.Chain.{IsCut};
 ghost use Rattle.ffv1_splice.specs.Standings.{versions_at};

@@ -12,9 +12,9 @@ use ffv1_slice::FOOTER_LENGTH;
 use ffv1_weave::Outcome;
 use std::alloc::{AllocError, Global};
 
-/// The place from the copies' start up to an end at which no piece ends and no start is claimed. It is there only where one combination alone
-/// of what the copies have, each with the size that the slice then has, is a slice: that is written over the payload's bytes. Each copy
-/// has the end, and so has the payload. It takes memory for what each copy has up to the end.
+/// The place from the copies' start up to an end at which no piece ends and no start is claimed. It is there only where one combination
+/// alone of what the copies have, each with the size that the slice then has, is a slice: that is written over the payload's bytes. Each
+/// copy has the end, and so has the payload. It takes memory for what each copy has up to the end.
 pub(crate) fn first_before(
     alloc: Global,
     copies: &[&[u8]],

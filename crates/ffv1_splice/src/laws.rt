@@ -19,13 +19,13 @@ pub fn settled_is_original()
     ensures { SettledIsOriginal }
 {}
 
-/// Where no slice with content that passes its parity tells other than an original, neither from an end of the original's slices nor
+/// Where no slice with content that passes its parity contradicts an original, neither from an end of the original's slices nor
 /// from a start of one: each settled place above the hole of the splice and below it is a slice of the original.
 pub fn settled_walks_are_original()
     ensures { SettledWalksAreOriginal }
 {}
 
-/// Where no slice with content that passes its parity tells other than an original, neither from an end of the original's slices nor
+/// Where no slice with content that passes its parity contradicts an original, neither from an end of the original's slices nor
 /// from a start of one, and some copy claims the start of each of them: each place over a slice that is lost in all copies lies where a
 /// slice of the original does, and each that is settled after one is that slice, byte for byte.
 pub fn walk_across_is_original()
@@ -39,7 +39,7 @@ pub fn woven_is_original()
     ensures { WovenIsOriginal }
 {}
 
-/// At a place that is a slice of an original whose start no copy tells, where the original's slice passes its parity and is among the
+/// At a place that is a slice of an original whose start no copy claims, where the original's slice passes its parity and is among the
 /// combinations of what the copies have there, each with the size of a slice that is as long: what is woven is the original's slice.
 pub fn sized_is_original()
     ensures { SizedIsOriginal }
@@ -57,7 +57,7 @@ pub fn voted_is_original()
     ensures { VotedIsOriginal }
 {}
 
-/// Where no slice that passes its parity tells other than an original, the start of each of its slices is told by some copy, and each is
+/// Where no slice that passes its parity contradicts an original, the start of each of its slices is claimed by some copy, and each is
 /// among the combinations of what the copies have there: a splice all of whose places are settled or woven is the original.
 pub fn given_back_is_original()
     ensures { GivenBackIsOriginal }
@@ -69,7 +69,7 @@ pub fn near_copies_splice()
     ensures { NearCopiesSplice }
 {}
 
-/// A frame that is given back is in one piece: by its own footers its chain is whole, and each of its slices has content and passes its
+/// A frame that is given back is whole by its own footers: its chain is whole, and each of its slices has content and passes its
 /// parity.
 pub fn given_back_is_whole()
     ensures { GivenBackIsWhole }

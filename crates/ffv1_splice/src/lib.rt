@@ -1,5 +1,5 @@
 //! Copies of one frame are spliced by their footers alone (RFC 9043, section 4.9): where a slice ends in one copy and passes
-//! its parity there, it stands, whatever became of the copy's other slices. Footers that tell size 0 are passed over, since no
+//! its parity there, it stands, whatever became of the copy's other slices. Footers that give size 0 are passed over, since no
 //! slice of a frame is without content, and a sector of zeros reads as a row of such footers, which all pass their parity. No
 //! setup is asked for, so this is for frames of any FFV1 version 3 recording with parity.
 #![tactic(auto)]

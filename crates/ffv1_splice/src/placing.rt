@@ -1,4 +1,5 @@
-//! The places of a splice, each found by what all copies tell at its end, and written into the payload.
+//! The places of a splice, each found by the pieces that end at its end in all copies, and by the starts that are claimed there, and
+//! written into the payload.
 ghost use Rattle.std.specs.Prelude.{◌≡◌, ◌+◌, ◌≤◌, ◌<◌, ℕ, length, map, All, IfOk, IsTrue, IsFalse};
 ghost use Rattle.ffv1_slice.specs.Members.{IsOnly, IsOfTwo, IsOfNone};
 ghost use Rattle.ffv1_splice.specs.Pieces.{IsPiece, IsClaimedStart};
@@ -98,8 +99,8 @@ fn woven_before(
     }))
 }
 
-/// How the place between these ends stands, of which no piece is one: it is woven, voted or repaired, or the least of all copies' bytes
-/// are written.
+/// How the place between these ends stands, of which no piece is one: it is woven, voted or repaired, or the lexicographically smallest of
+/// the copies' bytes are written.
 pub(crate) fn weave_at(
     alloc: Global,
     copies: &[&[u8]],
@@ -132,8 +133,8 @@ pub(crate) fn weave_at(
     vote_at(alloc, copies, versions, all_tried, start, end, payload)
 }
 
-/// How the place between these ends stands, whose versions are not woven: no combination is a slice, if all are tried, or there are too many.
-/// It is voted or repaired, or the least of all copies' bytes are written.
+/// How the place between these ends stands, whose versions are not woven: no combination is a slice, if all are tried, or there are too
+/// many. It is voted or repaired, or the lexicographically smallest of the copies' bytes are written.
 fn vote_at(
     alloc: Global,
     copies: &[&[u8]],
@@ -163,8 +164,8 @@ fn vote_at(
     Ok(Standing::Missing)
 }
 
-/// How the place between these ends stands, of whose versions no combination is a slice, and which is not voted: it is repaired, or the least
-/// of all copies' bytes are written.
+/// How the place between these ends stands, of whose versions no combination is a slice, and which is not voted: it is repaired, or the
+/// lexicographically smallest of the copies' bytes are written.
 fn repair_at(
     alloc: Global,
     copies: &[&[u8]],

@@ -23,7 +23,7 @@ pub(crate) enum Tried {
     Missing(usize),
     /// From this start these bytes were woven, and nothing came of any other, of so many combinations from all starts.
     Woven(usize, Vec<u8>, usize),
-    /// Two starts gave a slice, or it can't be told what one of them gives.
+    /// Two starts gave a slice, or for one of them it is not known what it gives.
     Undecided,
 }
 
@@ -63,7 +63,7 @@ impl Tried {
     }
 }
 
-/// The place that ends there, where no piece does, and two starts that differ are told. It is there only where it can be woven from one
+/// The place that ends there, where no piece does, and two starts that differ are claimed. It is there only where it can be woven from one
 /// start alone, and from no other any combination is a slice, each copy taken with the size that the slice then has: it is written over
 /// the payload's bytes. Each copy has the end, and so has the payload. It takes memory for what each copy has from a start on.
 pub(crate) fn several_before(
@@ -124,7 +124,7 @@ fn next_claimed_start(copies: &[&[u8]], end: usize, from: usize) -> Option<usize
     next
 }
 
-/// The start that a copy tells at an end, where it is not before a place.
+/// The start that a copy claims at an end, if it is not before a place.
 fn claimed_from(copy: &[u8], end: usize, from: usize) -> Option<usize>
     requires { end ≤ length copy.now }
     ensures told { MatchOption result ((start : ℕ) → IsCut copy.now start end → HasContent start end → start < from)

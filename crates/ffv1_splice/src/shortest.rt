@@ -80,8 +80,8 @@ fn first_end(copy: &[u8], start: usize, from: usize, bound: usize) -> Option<usi
     None
 }
 
-/// Whether the footer that ends there gives this start (RFC 9043, section 4.9.1). The lowest byte of its size is looked at first, since that
-/// rules out most ends. There is room for the footer after the start.
+/// Whether the footer that ends there gives this start (RFC 9043, section 4.9.1). The lowest byte of its size is looked at first, since
+/// that rules out most ends. There is room for the footer after the start.
 pub(crate) fn claims(copy: &[u8], start: usize, end: usize) -> bool
     requires content { start + 8 ≤ end }
     requires within { end ≤ length copy.now }

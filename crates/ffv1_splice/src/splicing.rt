@@ -16,7 +16,7 @@ use std::marker::Model;
 pub enum SpliceFault {
     /// The copy at this index, counted from 0, is the first that is not as long as the first.
     OtherLength(usize),
-    /// A growth of memory was refused.
+    /// An allocation of memory failed.
     Memory,
 }
 
@@ -102,12 +102,12 @@ fn stands_whole(place: &Place) -> bool
 /// of the hole, which begins with the hole and so has a known size: it is a place where it is woven. Where footers claim several starts,
 /// what the copies have is woven from each, and it is a place where it is woven from one alone, and from each other no combination is a
 /// slice: that takes a weave for each start, of which there is one at most for each copy. Where they claim one start, and what the copies
-/// have from it on is not woven, since no combination is a slice or there are too many to be tried, the place is voted where three copies or
-/// more differ there, and one combination alone of what most have in each segment is a slice. Where it is not voted either, and no
+/// have from it on is not woven, since no combination is a slice or there are too many to be tried, the place is voted where three copies
+/// or more differ there, and one combination alone of what most have in each segment is a slice. Where it is not voted either, and no
 /// combination is a slice, it is repaired where one of these with one bit inverted alone is, if these are at most 2^20. However the same
-/// copies are ordered or repeated, the answer is the same.
+/// copies are ordered or repeated, the splice is the same.
 ///
-/// `OtherLength` comes exactly where some copy is not as long as the first; the only other refusal is `Memory`.
+/// Returns `OtherLength` exactly if some copy is not as long as the first; the only other refusal is `Memory`.
 pub fn splice(alloc: Global, copies: &[&[u8]]) -> Result<Spliced, SpliceFault>
     requires { 0 < length copies.now }
     ensures ok { IfOk result (λ spliced. IsSpliceOf (map (λ copy. copy.now) copies.now) spliced) }

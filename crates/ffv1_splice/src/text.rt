@@ -6,7 +6,7 @@ use crate::place::{Place, Standing};
 use std::alloc::AllocError;
 
 /// Adds where a place lies and how it stands, as `4515..6117 settled`, or `3698..4515 woven 4` with the number of combinations. No line
-/// feed ends it. It fails only where a growth is refused; then a front of it may be added.
+/// feed ends it. It fails only if an allocation fails; then a front of it may be added.
 pub fn push_place(text: &mut String, place: Place) -> Result<(), AllocError>
     ensures { OnOk result (string_bytes text.new ≡ string_bytes text.old ++ place_words place) }
 {
@@ -23,7 +23,7 @@ pub fn push_place(text: &mut String, place: Place) -> Result<(), AllocError>
 }
 
 /// Adds the line that says whether the places cover the frame: `end whole`, or `end broken at 844` where so many bytes stand before the
-/// first of them. It fails only where a growth is refused; then a front of the line may be added.
+/// first of them. It fails only if an allocation fails; then a front of the line may be added.
 pub fn push_front(text: &mut String, front: usize) -> Result<(), AllocError>
     ensures { OnOk result (string_bytes text.new ≡ string_bytes text.old ++ front_line front) }
 {

@@ -1,4 +1,4 @@
-//! What copies tell of the slice that ends at a place, each looked at once.
+//! The pieces that end at a place, and the starts that copies claim there, each copy looked at once.
 ghost use Rattle.std.specs.Prelude.{◌≡◌, ◌≤◌, ◌<◌, ◌↔◌, ℕ, IsTrue, length, map, All, MatchOption};
 ghost use Rattle.ffv1_slice.specs.Chain.{IsCut};
 ghost use Rattle.ffv1_splice.specs.Pieces.{HasContent, IsPiece, IsClaimedStart, IsLeast};
@@ -110,7 +110,7 @@ pub(crate) fn told_at<'a>(copies: &[&'a [u8]], end: usize) -> (Pieces<'a>, Start
     (pieces, starts)
 }
 
-/// The least of what lies in the copies between two places, of which there is one at least. Each copy has them.
+/// The lexicographically smallest bytes between two places of the copies, of which there is one at least. Each copy has them.
 pub(crate) fn least_at<'a>(copies: &[&'a [u8]], start: usize, end: usize) -> &'a [u8]
     requires some { 0 < length copies.now }
     requires within { All (λ copy. end ≤ length copy.now) copies.now }

@@ -1,4 +1,4 @@
--- The lines of a stretch, piece by piece.
+-- The lines of a stretch, one part after the other.
 use Rattle.std.proofs.Common.{◌≡◌, ℕ, zero, suc, ◌+◌, ◌<◌, ◌≤◌, Bool, true, false, ◌&&◌, List, [], ◌∷◌, ◌++◌, Option, None, Bor, length, get_or, take, map, refl, sym, ap, ◌∙◌, arith, min}
 use Rattle.std.specs.Prelude.{slice_range}
 use Rattle.std.specs.List.{list_all, zip}

@@ -144,7 +144,7 @@ module _ (copies : ℕ) (lines : List (List ℕ)) (line : List ℕ) (words : Lis
         })
   ]
 
--- ---- what adding a line does, as it is answered
+-- ---- what adding a line does, as it is returned
 
 module _ {E : Type 0} (line : List ℕ) (words : List (List ℕ)) (ends : List End) (old new : List StretchValue) (are : AreWords line words)
     (listed_to : IsListedTo ends old) where

@@ -48,7 +48,7 @@ pub record EndsWithin (copy : ℕ) (rest : List StretchValue) (files : List (Lis
   pub short : length (slice_index_or files copy []) < place + stretch.size
 
 -- What a pass over all stretches did: each copy was read to the end of its last stretch, and no further; what becomes of the stretches was
--- written to OUT, and their lines to the output, and the answer is whether all are good.
+-- written to OUT, and their lines to the output, and what is returned is whether all are good.
 pub record MendsAll (stretches : List StretchValue) (old new : List ReadLog) (out_old out_new output_old output_new : WriteLog) (good : Bool) : Type 0 where
   pub files : List (List ℕ)
   pub read : AreRead old new files
@@ -58,10 +58,10 @@ pub record MendsAll (stretches : List StretchValue) (old new : List ReadLog) (ou
   pub printed : Writes output_old output_new (mend_text 1 files stretches mended)
   pub answer : good ≡ list_all (λ one. is_good one.state) mended
 
--- What a pass did that stopped. `Read`: the copy of this number was given up, or ended within the first stretch after a front, and all of the
--- front was written and printed. `Memory`: the same, but no copy stopped. `Out`: OUT was given up; a front of what becomes of the stretches of a
--- front was written, and the lines of those before the last. `Output`: the output was given up; what becomes of the stretches of a front
--- was written, and a front of their lines.
+-- What a pass did that stopped. `Read`: the copy of this number was given up, or ended within the first stretch after a front, and all of
+-- the front was written and printed. `Memory`: the same, but no copy stopped. `Out`: OUT was given up; a front of what becomes of the
+-- stretches of a front was written, and the lines of those before the last. `Output`: the output was given up; what becomes of the
+-- stretches of a front was written, and a front of their lines.
 abbrev pub StopsMending : List StretchValue → (old new : List ReadLog) → (out_old out_new output_old output_new : WriteLog) → MendFault → Type 0
 StopsMending stretches old new out_old out_new output_old output_new (faults.Read copy) =
     (front : List StretchValue) × (files : List (List ℕ)) × (mended : List MendedValue) × AreReadBut copy old new files

@@ -6,7 +6,7 @@ ghost use Rattle.ffv1_stretches.specs.Copies.{state_of, unread, ReadsCopy};
 use ffv1_devices::{CutShort, NextFault, Source, pass_over, read_next};
 use std::alloc::Global;
 
-/// What stands between two stretches of a copy is passed over in pieces of so many bytes.
+/// What stands between two stretches of a copy is passed over in blocks of so many bytes.
 const PIECE: usize = 8192;
 
 /// A copy of a file, which is read from its start on, in the order of its stretches. The last one read is held.

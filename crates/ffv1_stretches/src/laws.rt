@@ -7,15 +7,16 @@ pub fn any_order_mends()
     ensures { AnyOrderMends }
 {}
 
-/// What becomes of a stretch that is good is vouched for: an element passes its CRC-32 (RFC 8794, section 11.3.1); a frame is in one piece,
-/// each of whose slices passes its parity (RFC 9043, section 4.9); and bytes without a checksum are what every copy has that has them.
+/// What becomes of a stretch that is good is vouched for: an element passes its CRC-32 (RFC 8794, section 11.3.1); a frame is whole, each
+/// of whose slices passes its parity (RFC 9043, section 4.9); and bytes without a checksum are what every copy has that has them.
 pub fn good_stretches_are_vouched()
     ensures { GoodStretchesAreVouched }
 {}
 
-/// Where all stretches are good, OUT is the original file, byte for byte, if the original of each is known again: that of an element passes,
-/// no version that passes differs from it, and it is among the combinations of the improved versions; no slice of a version of a frame that
-/// passes its parity differs from the original's, and the versions can be woven; and some version of bytes without a checksum has them.
+/// Where all stretches are good, OUT is the original file, byte for byte, if the original of each is known again: that of an element
+/// passes, no version that passes differs from it, and it is among the combinations of the improved versions; no slice of a version of a
+/// frame that passes its parity differs from the original's, and the versions can be woven; and some version of bytes without a checksum
+/// has them.
 pub fn original_file_is_mended()
     ensures { OriginalFileIsMended }
 {}

@@ -17,7 +17,7 @@ pub enum ListFault {
     /// The line with this number, counted from 1, is the first that is neither a stretch that follows those before it, nor a part of the
     /// element before it.
     Line(usize),
-    /// A growth of memory was refused.
+    /// An allocation of memory failed.
     Memory,
 }
 
@@ -105,7 +105,7 @@ fn add_line(
 /// The copy FROM has the stretch. The places of each copy rise without overlap. So do the parts of an element, which lie within it and
 /// not in its first six bytes.
 ///
-/// `Line` names the first line that is not so; an empty line is one. `Memory` comes where a growth is refused.
+/// `Line` names the first line that is not so; an empty line is one. Returns `Memory` if an allocation fails.
 pub fn read_list(alloc: Global, text: &[u8], copies: usize) -> Result<Vec<Stretch>, ListFault>
     ensures ok { IfOk result (λ stretches. AreStretches copies text.now stretches.items) }
     ensures order { IfOk result (λ stretches. AreInOrder copies (replicate copies 0) stretches.items) }

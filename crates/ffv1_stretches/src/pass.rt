@@ -25,7 +25,7 @@ pub enum MendFault {
     Out,
     /// The output failed.
     Output,
-    /// A growth of memory was refused.
+    /// An allocation of memory failed.
     Memory,
 }
 
@@ -124,15 +124,15 @@ fn write_output<W: Sink>(output: &mut W, lines: &str) -> Result<(), MendFault>
     }
 }
 
-/// Makes a file of its stretches, in one pass over its copies: reads a stretch of each copy that has it, in the order of the copies, and over
-/// what stands between stretches; writes what becomes of it to `out`; and then prints its lines to `output`, as `stretch 3 plain
+/// Makes a file of its stretches, in one pass over its copies: reads a stretch of each copy that has it, in the order of the copies, and
+/// over what stands between stretches; writes what becomes of it to `out`; and then prints its lines to `output`, as `stretch 3 plain
 /// agreed 111`: its number, from 1, its kind and state, and for each copy `1` where it has what OUT has, `0` where it has others,
 /// and `-` where it does not have the stretch; and below it of what is damaged or differs the lines of its slices. Returns whether each
 /// stretch is whole, woven, agreed or alone.
 ///
 /// Each copy is read once, from its start on, and no further than to the end of its last stretch; a copy that has none is not read. One
-/// stretch of each copy is held, and room for it grows as its bytes come. `Read` comes with the copy that failed or ended within a
-/// stretch, `Memory` where a growth is refused, `Out` and `Output` where these fail: what became of the stretches before was written and
+/// stretch of each copy is held, and room for it grows as its bytes come. Returns `Read` with the copy that failed or ended within a
+/// stretch, `Memory` if an allocation fails, `Out` and `Output` if these fail: what became of the stretches before was written and
 /// printed.
 pub fn mend_stretches<S: Source, O: Sink, W: Sink>(
     alloc: Global,

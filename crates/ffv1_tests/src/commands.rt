@@ -9,7 +9,7 @@ use std::test::Fail;
 
 const FRAME_TEXT: &str = "11..22 size 3 status 0 pass\n0..11 size 3 status 0 pass\nend whole\n";
 
-/// Whether `chain` prints the frame that is interrupted so often before each byte, or else tells that it was not read, and
+/// Whether `chain` prints the frame that is interrupted so often before each byte, or else reports that it was not read, and
 /// prints nothing.
 fn interruptions_are_told(alloc: Global, before_each: u32, is_read: bool) -> bool {
     let mut frame = Input::interrupted(&FRAME, before_each);
@@ -99,7 +99,7 @@ fn union_is_restored(alloc: Global, one: &[u8], both: &[u8]) -> Result<bool, Fai
     )
 }
 
-/// Whether the frame is restored of two copies, and each command tells what it did.
+/// Whether the frame is restored of two copies, and each command reports what it did.
 fn two_copies_are_restored(alloc: Global) -> Result<bool, Fail> {
     let (a, b) = (left_damaged(), right_damaged());
     let (both, lines) = taken(alloc, &TWO_TILES, (2, 1), &mut [&b, &a])?;
@@ -133,15 +133,15 @@ static BYTE_TURNED: [u8; 146] = [
     0, 0, 0, 0, 0, 0, 0, 0, 0, 0, 0, 0, 0, 0, 0, 0, 0, 0, 0, 0, 4,
 ];
 
-/// Whether a fault is told as the one of a holding file that has this number.
+/// Whether a fault is reported as the one of a holding file that has this number.
 fn is_numbered(alloc: Global, fault: &CliFault, number: u8) -> Result<bool, Fail> {
     let expected = format!(in alloc; "holding file fault {number}")?;
     let line = fault.line(alloc, "HOLD")?;
     Ok(line == expected)
 }
 
-/// Whether this answer of `restore`, with these outputs, tells this fault and leaves the outputs alone; for 0, whether it
-/// restores the frame.
+/// Whether `restore`, which returned this and left these outputs, reports this fault and leaves the outputs alone; for 0,
+/// whether it restores the frame.
 fn answer_is_told(
     alloc: Global,
     answer: &Result<(), CliFault>,
@@ -161,7 +161,7 @@ fn answer_is_told(
     }
 }
 
-/// Whether `restore` tells this fault of a holding file and leaves the outputs alone; for 0, whether it restores the frame.
+/// Whether `restore` reports this fault of a holding file and leaves the outputs alone; for 0, whether it restores the frame.
 fn is_told(alloc: Global, mut file: &[u8], number: u8) -> Result<bool, Fail> {
     let mut payload: Vec<u8> = Vec::new(alloc);
     let mut printed: Vec<u8> = Vec::new(alloc);
@@ -169,7 +169,7 @@ fn is_told(alloc: Global, mut file: &[u8], number: u8) -> Result<bool, Fail> {
     answer_is_told(alloc, &answer, (&payload, &printed), number)
 }
 
-/// Whether this fault is told where the byte at a place is changed by the mask.
+/// Whether this fault is reported where the byte at a place is changed by the mask.
 fn change_is_told(
     alloc: Global,
     file: &[u8],
@@ -184,7 +184,7 @@ fn change_is_told(
     is_told(alloc, &changed, number)
 }
 
-/// Whether each of these faults is told where the byte at its place is changed by the mask.
+/// Whether each of these faults is reported where the byte at its place is changed by the mask.
 fn are_told(alloc: Global, file: &[u8], mask: u8, numbers: &[u8]) -> Result<bool, Fail> {
     for (place, number) in numbers.iter().enumerate() {
         if !change_is_told(alloc, file, place, mask, *number)? {
@@ -194,7 +194,7 @@ fn are_told(alloc: Global, file: &[u8], mask: u8, numbers: &[u8]) -> Result<bool
     Ok(true)
 }
 
-/// Whether the file of both tiles is as long as these lists of faults, and each of them is told where the bytes are changed so.
+/// Whether the file of both tiles is as long as these lists of faults, and each of them is reported where the bytes are changed so.
 fn changes_are_told(alloc: Global, mask: u8, numbers: &[u8]) -> Result<bool, Fail> {
     let (left, right) = (left_damaged(), right_damaged());
     let (both, _) = taken(alloc, &TWO_TILES, (2, 1), &mut [&left, &right])?;

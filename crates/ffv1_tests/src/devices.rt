@@ -169,7 +169,7 @@ fn next_bytes_come_to_the_front_of_a_room(rt: HostRuntime) {
     assert!(rt; claimed == Err(NextFault::Read) && room.len() == 3);
 }
 
-/// How long a room is in which a source of so many bytes was to have more than it has, or `None` where that is not told.
+/// How long a room is into which more was to be read than a source of so many bytes has, or `None` where that is not reported.
 fn room_after(alloc: Global, bytes: usize) -> Result<Option<usize>, AllocError> {
     let bytes = vec![in alloc; 7; bytes]?;
     let mut source = FromRead::new(bytes.as_slice());

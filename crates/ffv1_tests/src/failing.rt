@@ -1,4 +1,4 @@
-//! The commands on devices that fail after any number of bytes: which path is told, and what is left in the outputs.
+//! The commands on devices that fail after any number of bytes: which path is named, and what is left in the outputs.
 use crate::commands::{ended, taken};
 use crate::streams::Narrow;
 use crate::suite::merged;
@@ -229,12 +229,12 @@ fn holding_files(alloc: Global) -> Result<Files, Fail> {
     Ok(Files { part, whole, union })
 }
 
-/// Whether a command's answer is that this path was not read.
+/// Whether a command reports that this path was not read.
 fn is_unread(answer: &Result<(), CliFault>, path: Option<CommandPath>) -> bool {
     matches!(answer, Err(CliFault::Read(told)) if Some(*told) == path)
 }
 
-/// Whether a command's answer is that this path was not written.
+/// Whether a command reports that this path was not written.
 fn is_unwritten(answer: &Result<(), CliFault>, path: CommandPath) -> bool {
     matches!(answer, Err(CliFault::Write(told)) if *told == path)
 }
@@ -245,7 +245,7 @@ fn is_left(command: Command, files: &Files, out: &[u8]) -> bool {
     out.is_empty() || front && out.len() < files.union.len()
 }
 
-/// Whether a failure after so many bytes of the first or the second input is told as that, and no more is written.
+/// Whether a failure after so many bytes of the first or the second input is reported as that, and no more is written.
 fn input_is_told(
     alloc: Global,
     command: Command,
@@ -270,7 +270,7 @@ fn input_is_told(
         && printed.narrow.bytes.is_empty()
 }
 
-/// After how many bytes of the first or the second input a failure is not told as that.
+/// After how many bytes of the first or the second input a failure is not reported as that.
 fn untold_after(alloc: Global, command: Command, files: &Files, is_second: bool) -> Option<usize> {
     let (first, second) = command.inputs(files);
     let input = if is_second { second } else { first };
@@ -301,7 +301,7 @@ fn inputs_that_fail_are_told(rt: HostRuntime) -> Result<(), Fail> {
     Ok(())
 }
 
-/// What a command answers, makes and prints where there is so much room for what it makes and for what it prints.
+/// What a command returns, makes and prints where there is so much room for what it makes and for what it prints.
 fn ran_with_room(
     alloc: Global,
     command: Command,
@@ -386,7 +386,7 @@ fn outputs_that_fail_have_a_front(rt: HostRuntime) -> Result<(), Fail> {
     Ok(())
 }
 
-/// What a command answers where one of its devices, its inputs and then its outputs, is interrupted so often in a row.
+/// What a command returns where one of its devices, its inputs and then its outputs, is interrupted so often in a row.
 fn interrupted(
     alloc: Global,
     command: Command,
@@ -406,7 +406,7 @@ fn interrupted(
     run(alloc, command, first, second, &mut out, &mut printed)
 }
 
-/// Whether 64 interruptions of a device are passed over, and 65 told; or a device that the command has not is left alone.
+/// Whether 64 interruptions of a device are passed over, and 65 reported; or a device that the command has not is left alone.
 fn interruptions_are_told(alloc: Global, command: Command, files: &Files, device: usize) -> bool {
     let passed = interrupted(alloc, command, files, device, 64);
     let told = interrupted(alloc, command, files, device, 65);
@@ -444,7 +444,7 @@ fn sixty_five_interruptions_in_a_row_are_told(rt: HostRuntime) -> Result<(), Fai
     Ok(())
 }
 
-/// Whether `restore` tells this fault of a holding file that never ends.
+/// Whether `restore` reports this fault of a holding file that never ends.
 fn endless_shows(alloc: Global, file: &[u8], fault: HoldFileFault) -> bool {
     let mut input = Input::new(file);
     input.after = After::Zeros;
@@ -453,7 +453,7 @@ fn endless_shows(alloc: Global, file: &[u8], fault: HoldFileFault) -> bool {
     matches!(answer, Err(CliFault::HoldFile(told)) if told == fault)
 }
 
-/// Whether files that never end are told so: one of zeros alone is none, and a whole one has trailing bytes.
+/// Whether files that never end are reported so: one of zeros alone is no holding file, and a whole one has trailing bytes.
 fn endless_are_told(alloc: Global) -> Result<bool, Fail> {
     let files = holding_files(alloc)?;
     let is_none = endless_shows(alloc, &[], HoldFileFault::Magic);

@@ -78,7 +78,7 @@ pub(crate) fn is_file_of(alloc: Global, holding: &Holding, file: &[u8]) -> Resul
     Ok(written(alloc, holding)?.as_slice() == file)
 }
 
-/// Why these bytes are refused where the device after them ends, or fails first.
+/// Why these bytes are refused if the device after them ends, or fails first.
 fn fault_after(alloc: Global, bytes: &[u8], fails: bool) -> Option<HoldFileFault> {
     let mut source = FromRead::new(Failing {
         bytes,
@@ -88,7 +88,7 @@ fn fault_after(alloc: Global, bytes: &[u8], fails: bool) -> Option<HoldFileFault
     read_hold(alloc, &mut source).err()
 }
 
-/// Whether a file that is cut is told as that, and a device that fails there as that, at every place.
+/// Whether a file that is cut is reported as cut, and a device that fails there as failed, at every place.
 fn each_front_is_told(alloc: Global, file: &[u8]) -> bool {
     for length in 0..file.len() {
         let front = &file[..length];
@@ -119,7 +119,7 @@ fn fronts_of_files_are_told(rt: HostRuntime) {
     assert!(rt; first && second);
 }
 
-/// Whether a sink that fails after so many bytes has that front of the file, and its failure is told and counted.
+/// Whether a sink that fails after so many bytes has that front of the file, and its failure is reported and counted.
 fn has_front(alloc: Global, holding: &Holding, room: usize, file: &[u8]) -> bool {
     let mut sink = narrow_sink(alloc, room);
     let is_failed = write_hold(holding, &mut sink) == Err(HoldFileFault::Write);

@@ -6,7 +6,7 @@ use sha2::{Digest, Sha256};
 use std::alloc::Global;
 use std::test::Fail;
 
-/// The slice of tile 0 with one sample 1, whose error status tells that it can't be corrected.
+/// The slice of tile 0 with one sample 1, whose error status says that it can't be corrected.
 const DARK_DAMAGED: [u8; 11] = [0xFD, 0xF6, 0x40, 0, 0, 3, 2, 0x1E, 0xE2, 0x9E, 0x17];
 
 /// The slice of tile 0 with one sample 0 and the error status 1: it passes, and differs from `BLACK` within 33 bits.
@@ -39,7 +39,7 @@ fn held_beside(alloc: Global, tiles: u32, copies: [&[u8]; 2]) -> Result<Holding,
 /// Slices that are put into a set, and whether each is new to it.
 static INSERTED: [(&[u8], bool); 3] = [(&BLACK, true), (&DARK, true), (&BLACK, false)];
 
-/// Whether an empty set takes those slices, and tells of each whether it is new.
+/// Whether an empty set takes those slices, and returns of each whether it is new.
 fn takes_each_once(set: &mut SliceSet) -> bool {
     for &(slice, new) in &INSERTED {
         if set.insert(slice) != Ok(new) {
@@ -175,7 +175,7 @@ fn restored(
 /// Tiles beside each other, two copies of them, and what they are restored to.
 type Settled = (u32, [&'static [u8]; 2], &'static [u8]);
 
-/// Whether these copies are restored to what the row tells.
+/// Whether these copies are restored to what the row says.
 fn is_restored(alloc: Global, (tiles, copies, wanted): &Settled) -> Result<bool, Fail> {
     Ok(restored(alloc, *tiles, *copies)??.as_slice() == *wanted)
 }
@@ -238,7 +238,7 @@ fn tells(held: &Holding, tile: usize, (slices, status, bests): (usize, Option<u8
 /// Tiles beside each other, two copies of them, and what `tells` has of one of the tiles.
 type Told = (u32, [&'static [u8]; 2], usize, (usize, Option<u8>, usize));
 
-/// Whether the tile of these copies' holding tells what the row has.
+/// Whether the tile of these copies' holding is as the row says.
 fn is_told(alloc: Global, (tiles, copies, tile, told): &Told) -> Result<bool, Fail> {
     let held = held_beside(alloc, *tiles, *copies)?;
     Ok(tells(&held, *tile, *told))
@@ -262,13 +262,13 @@ fn tiles_tell_what_is_held_of_them(rt: HostRuntime) -> Result<(), Fail> {
     Ok(())
 }
 
-/// What joining the holding of a frame of one tile to another holding answers.
+/// What joining the holding of a frame of one tile to another holding returns.
 fn sample_joined(alloc: Global, held: &mut Holding) -> Result<Result<usize, HoldFault>, Fail> {
     let sample = held_beside(alloc, 1, [&BLACK, &DARK])?;
     Ok(held.join_with(&sample))
 }
 
-/// What joining the holding of a frame of one tile to that of a frame of two answers.
+/// What joining the holding of a frame of one tile to that of a frame of two returns.
 fn sizes_joined(alloc: Global) -> Result<Result<usize, HoldFault>, Fail> {
     let mut frame = held_beside(alloc, 2, [&FRAME, &FRAME])?;
     sample_joined(alloc, &mut frame)

@@ -128,7 +128,7 @@ fn has_left(ran: &Ran, (made, printed): (usize, usize)) -> bool {
         && Some(ran.printed.as_slice()) == PRINTED.get(..printed)
 }
 
-/// Whether the answer is that this device failed.
+/// Whether the command reports that this device failed.
 fn is_named(answer: &Result<bool, CliFault>, device: Device) -> bool {
     match device {
         Device::List => matches!(answer, Err(CliFault::Read(CommandPath::List))),

@@ -118,13 +118,13 @@ fn pair_with(alloc: Global, one: &[u8]) -> Result<Pair, Fail> {
     })
 }
 
-/// Whether a cut file among two is told, and what was written is a front of their union's file, without its end.
+/// Whether a cut file among two is reported, and what was written is a front of their union's file, without its end.
 fn is_cut_off(alloc: Global, left: &[u8], right: &[u8], union: &[u8]) -> bool {
     let (answer, file) = merged(alloc, left, right);
     answer == Err(HoldFileFault::Truncated) && file.len() < union.len() && union.starts_with(&file)
 }
 
-/// Whether a cut of the first file at any place is told beside the second file, as either input.
+/// Whether a cut of the first file at any place is reported beside the second file, as either input.
 fn each_cut_is_told(alloc: Global, both: &[u8], one: &[u8]) -> bool {
     for place in 0..both.len() {
         let front = &both[..place];
@@ -215,7 +215,7 @@ fn failed(
     (answer, sink.into_inner())
 }
 
-/// Whether the failure of a file among two is told, and what was written is a front of their union's file, without its end.
+/// Whether the failure of a file among two is reported, and what was written is a front of their union's file, without its end.
 fn is_failure_told(
     alloc: Global,
     file: &[u8],
@@ -227,7 +227,7 @@ fn is_failure_told(
     answer == Err(HoldFileFault::Read) && front.as_slice() != union && union.starts_with(&front)
 }
 
-/// Whether a failure of the first file at any place is told beside the second file, as either input.
+/// Whether a failure of the first file at any place is reported beside the second file, as either input.
 fn each_failure_is_told(alloc: Global, both: &[u8], one: &[u8]) -> bool {
     for place in 0..=both.len() {
         let front = &both[..place];
@@ -247,7 +247,7 @@ fn an_input_that_fails_is_told_and_leaves_no_end(rt: HostRuntime) -> Result<(), 
     Ok(())
 }
 
-/// What joining a file, after which tries are interrupted so many times in a row, with itself answers.
+/// What joining a file, after which tries are interrupted so many times in a row, with itself returns.
 fn interrupted(alloc: Global, file: &[u8], times: u32) -> Result<(), HoldFileFault> {
     let mut left = FromRead::new(Failing {
         bytes: file,

@@ -118,7 +118,7 @@ fn record_is_judged(alloc: Global, made: &Made, rotten: &[u8]) -> bool {
     }
 }
 
-/// Whether a fault is one that may be told of a rotten holding file: that it is cut where it is shorter, else one of its
+/// Whether a fault is one that may be reported of a rotten holding file: that it is cut where it is shorter, else one of its
 /// bytes, if any has changed.
 fn is_told_of(fault: HoldFileFault, file: &[u8], rotten: &[u8]) -> bool {
     match fault {
@@ -128,8 +128,8 @@ fn is_told_of(fault: HoldFileFault, file: &[u8], rotten: &[u8]) -> bool {
     }
 }
 
-/// Whether a rotten holding file is told as cut, or for a fault of its bytes, or is the file of what is read of it: nothing
-/// of it has changed, or a digest.
+/// Whether a rotten holding file is reported as cut, or for a fault of its bytes, or is the file of what is read of it:
+/// nothing of it has changed, or a digest.
 fn file_is_judged(alloc: Global, file: &[u8], rotten: &[u8]) -> Result<bool, Fail> {
     match read_hold(alloc, &mut FromRead::new(rotten)) {
         Ok(holding) => is_file_of(alloc, &holding, rotten),

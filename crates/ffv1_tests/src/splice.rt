@@ -1,4 +1,4 @@
-//! The splice of copies of a recorded frame, as the call gives it, and as the command writes and tells it.
+//! The splice of copies of a recorded frame, as the call gives it, and as the command writes and reports it.
 use ffv1_commands::{CliFault, CommandPath, run_splice};
 use ffv1_frames::RECORDED;
 use ffv1_splice::{Place, SpliceFault, Spliced, Standing, splice};
@@ -47,7 +47,7 @@ const TWO_BITS: Changes = &[(39, 3), (209, 3)];
 /// The first slice changed so that it passes its parity: by a multiple of the parity's polynomial.
 const OTHER_FIRST_SLICE: Changes = &[(10, 0x01), (11, 0x04), (12, 0xC1), (13, 0x1D), (14, 0xB7)];
 
-/// A footer of the second slice that tells a size beyond the frame.
+/// A footer of the second slice that gives a size beyond the frame.
 const SIZE_DAMAGED: Changes = &[(107, 0x80)];
 
 /// A footer of the first slice that does.
@@ -68,7 +68,7 @@ const THIRD_LOST_FIRST_HURT: Changes = &[(20, 0x03), (150, 0x01), (219, 0x80)];
 /// The same elsewhere in the first slice.
 const THIRD_LOST_FIRST_HURT_ELSEWHERE: Changes = &[(30, 0x01), (150, 0x01), (219, 0x80)];
 
-/// A footer of the third slice that tells a start within the second.
+/// A footer of the third slice that gives a start within the second.
 const SIZE_TOO_LARGE: Changes = &[(221, 0xF8)];
 
 /// The frame where these bytes are changed.
@@ -259,7 +259,7 @@ fn copies_of_another_length_are_told(rt: HostRuntime) {
     assert!(rt; fault == Some(SpliceFault::OtherLength(2)));
 }
 
-/// Whether the command answers this of two copies, writes these bytes and prints these lines.
+/// Whether the command returns this for two copies, writes these bytes and prints these lines.
 fn tells(
     alloc: Global,
     (one, other): (&[u8], &[u8]),
@@ -274,7 +274,7 @@ fn tells(
         && printed.as_slice() == lines.as_bytes()
 }
 
-/// What is changed in two copies, what the command answers of them, what is changed in the frame that it writes, and what it
+/// What is changed in two copies, what the command returns for them, what is changed in the frame that it writes, and what it
 /// prints.
 type Told = (Changes, Changes, bool, Changes, &'static str);
 
@@ -330,7 +330,7 @@ static TOLD: [Told; 7] = [
     ),
 ];
 
-/// Whether the command tells of two changed copies what the row has.
+/// Whether the command returns, writes and prints for two changed copies what the row has.
 fn tells_of_changed(alloc: Global, told: &Told) -> bool {
     let &(one, other, answer, payload, lines) = told;
     let copies = (changed(one), changed(other));
@@ -351,7 +351,7 @@ fn the_command_writes_and_tells_the_splice(rt: HostRuntime) {
     assert!(rt; tells(rt.alloc(), (&[], &[]), true, &[], "end whole\n"));
 }
 
-/// Whether the command tells that the second copy is not as long as the first, and writes nothing.
+/// Whether the command reports that the second copy is not as long as the first, and writes nothing.
 fn other_length_is_told(alloc: Global) -> bool {
     let (mut out, mut printed) = (Vec::new(alloc), Vec::new(alloc));
     let mut copies = [RECORDED.as_slice(), &RECORDED[1..]];

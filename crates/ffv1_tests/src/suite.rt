@@ -286,7 +286,8 @@ fn are_restored(
     Ok(is_printed(alloc, frame, copies, lines)? && is_restored(alloc, frame, copies)?)
 }
 
-/// Whether a frame is restored, and told so, of a copy with one whole slice and of one with three, in either order.
+/// Whether a frame is restored of a copy with one whole slice and of one with three, in either order, and `take` prints so
+/// many slices of each.
 fn are_restored_in_turn(
     alloc: Global,
     frame: &Made,
@@ -338,7 +339,8 @@ fn flipped_in(alloc: Global, payload: &[u8], tiles: &[usize]) -> Result<Vec<u8>,
     Ok(copy)
 }
 
-/// Whether a frame is restored, and told so, of copies with a bit flipped in these tiles and in those.
+/// Whether a frame is restored of copies with a bit flipped in these tiles and in those, and `take` prints these lines of
+/// them.
 fn flipped_is_restored(
     alloc: Global,
     frame: &Made,
@@ -396,7 +398,7 @@ fn even_and_odd_tiles_of_4096_are_restored(rt: HostRuntime) -> Result<(), Fail> 
     Ok(())
 }
 
-/// Whether a copy has a chain that breaks at this place, and `take` tells so of two such copies.
+/// Whether a copy has a chain that breaks at this place, and `take` prints one link and one slice of each of two such copies.
 fn breaks_at(alloc: Global, frame: &Made, copy: &[u8], place: usize) -> Result<bool, Fail> {
     let lines = "copy 1 links 1 slices 1 new 1\ncopy 2 links 1 slices 1 new 0\n";
     let is_broken = Chain::new(copy).end() == ChainEnd::Broken(place);

@@ -1,4 +1,4 @@
--- A setup whose getters answer what was asked is the one asked for.
+-- A setup whose getters return what was asked is the one asked for.
 use Rattle.std.proofs.Common.{◌≡◌, ℕ, zero, suc, ◌+◌, ◌-◌, ◌*◌, ◌/◌, ◌<◌, Bool, true, false, List, [], ◌∷◌, length, map, drop, get_or, refl, sym, ap, ◌∙◌, subst, arith, add-one}
 use Rattle.std.specs.Prelude.{pos, neg_ℤ, ℤ, ◌==◌, nat_lt, if◌then◌else◌, slice_index}
 use Rattle.std.specs.List.{All}
@@ -88,7 +88,7 @@ same_setup : (m n : ℕ) (c d : Bool) (h i v w a b e f : ℕ) (s t : List SetVal
     → s ≡ t → p ≡ q → x ≡ y → g ≡ k → l ≡ o → setup_with m c h v a e s p x g l ≡ setup_with n d i w b f t q y k o
 same_setup m n c d h i v w a b e f s t p q x y g k l o e0 e1 e2 e3 e4 e5 e6 e7 e8 e9 e10 = cc
 
--- The setup of a record is the one asked for, where its getters answer what was asked.
+-- The setup of a record is the one asked for, where its getters return what was asked.
 pub asked_is_read : (config : List ℕ) (setup : SetupValue) (spec : RecordSpec) → IsSetupOf config greatest_side greatest_side setup → HasAskedFields setup spec
     → length setup.sets ≡ length spec.sets.items → HasSets setup 0 (asked_sets spec) → IsSetupOf config greatest_side greatest_side (asked_setup spec)
 unfolding setup_with

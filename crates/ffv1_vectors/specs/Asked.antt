@@ -35,7 +35,7 @@ pub record IsProfile (spec : RecordSpec) : Type 0 where
   pub extra_plane : spec.extra_plane ≡ false
   pub set_count : spec.set_count ≡ length spec.sets.items
 
--- ---- the same as the getters of a setup tell it
+-- ---- the same as the getters of a setup return it
 
 -- the setup's values but for its tables
 pub record HasAskedFields (setup : SetupValue) (spec : RecordSpec) : Type 0 where

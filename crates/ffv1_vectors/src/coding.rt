@@ -51,7 +51,7 @@ fn write_line(
     Ok(())
 }
 
-/// Writes a sample, or a run with the level that ends it, and answers the column after.
+/// Writes a sample, or a run with the level that ends it, and returns the column after.
 fn write_next(
     writer: &mut BitWriter,
     states: &mut Vec<VlcState>,

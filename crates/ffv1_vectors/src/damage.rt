@@ -1,5 +1,5 @@
 //! Damage made to measure: copies of some bytes that differ from them in one stated way. Each call leaves what it was
-//! given as it was, and fails only where a growth of memory was refused.
+//! given as it was, and fails only if an allocation of memory failed.
 ghost use Rattle.std.specs.Prelude.{◌≡◌, ◌+◌, ◌-◌, ◌*◌, ◌<◌, ◌≤◌, ◌++◌, false, not, length, take, drop, replicate, slice_index_or, slice_set, IfOk};
 ghost use Rattle.ffv1_bits.specs.Bits.{bits_of};
 ghost use Rattle.ffv1_bits.specs.Parity.{DifferWithin32};

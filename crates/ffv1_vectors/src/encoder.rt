@@ -65,8 +65,8 @@ impl RangeEncoder {
         }
     }
 
-    /// Writes one bit at a state in 8..=248, which becomes the one after that bit (section 3.8.1.5). `Memory`, the one
-    /// fault, comes where a growth of memory was refused, and leaves the encoder and the state as they were.
+    /// Writes one bit at a state in 8..=248, which becomes the one after that bit (section 3.8.1.5). `Memory`, the one fault, is returned
+    /// if an allocation of memory failed, and leaves the encoder and the state as they were.
     pub fn bit(&mut self, state: &mut u8, bit: bool) -> Result<(), MakeFault>
         requires { IsState state.old }
         ensures in_range { IsState state.new }
@@ -90,7 +90,7 @@ impl RangeEncoder {
     }
 
     /// Writes an unsigned symbol (section 3.8.1.2) at a row of states in 8..=248, which change and stay in 8..=248.
-    /// `Memory`, the one fault, comes where a growth of memory was refused, and leaves the encoder and the states as they
+    /// `Memory`, the one fault, is returned if an allocation of memory failed, and leaves the encoder and the states as they
     /// were.
     pub fn unsigned(&mut self, states: &mut [u8; 32], value: u32) -> Result<(), MakeFault>
         requires { AreStates states.old }
@@ -131,8 +131,7 @@ impl RangeEncoder {
         Ok(())
     }
 
-    /// Ends values that zero bytes follow, and answers their bytes. `Memory`, the one fault, comes where a growth of memory
-    /// was refused.
+    /// Ends values that zero bytes follow, and returns their bytes. `Memory`, the one fault, is returned if an allocation of memory failed.
     pub fn finish_closed(self) -> Result<Vec<u8>, MakeFault>
         ensures { IfErr result (λ fault. fault ≡ Memory) }
     {
@@ -141,8 +140,8 @@ impl RangeEncoder {
         Ok(last.into_bytes())
     }
 
-    /// Ends values that codes follow: writes a bit 0 at state 129, and answers the bytes up to the codes. `Memory`, the one
-    /// fault, comes where a growth of memory was refused.
+    /// Ends values that codes follow: writes a bit 0 at state 129, and returns the bytes up to the codes. `Memory`, the one
+    /// fault, is returned if an allocation of memory failed.
     pub fn finish_sentinel(self) -> Result<Vec<u8>, MakeFault>
         ensures { IfErr result (λ fault. fault ≡ Memory) }
     {
@@ -258,7 +257,7 @@ impl Writing {
         *state = next_state(*state, bit);
     }
 
-    /// Ends the values, and answers the bytes.
+    /// Ends the values, and returns the bytes.
     fn into_bytes(self) -> Vec<u8>
         requires room { vec_len self.bytes < vec_capacity self.bytes }
     {

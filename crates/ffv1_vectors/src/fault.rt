@@ -6,7 +6,7 @@ use std::alloc::{AllocError, AllocFailed};
 pub enum MakeFault {
     /// What is asked for does not fit or passes a limit, or what was made does not read back as it.
     NotSelf,
-    /// A growth of memory was refused.
+    /// An allocation of memory failed.
     Memory,
 }
 

@@ -49,13 +49,13 @@ pub struct TileSpec {
 }
 
 /// A frame's payload: one slice a tile in tile order, each with its header, its planes in Golomb-Rice codes and runs, and
-/// its footer; the first begins with a keyframe bit 1. It is answered only where each slice was read back: as one of its
+/// its footer; the first begins with a keyframe bit 1. It is returned only if each slice was read back: as one of its
 /// tile, with the header, the error status and the planes asked for.
 ///
-/// `NotSelf` comes where the spec does not fit the setup, and then before any growth of memory: where the tiles are not
+/// Returns `NotSelf` if the spec does not fit the setup, and then before any allocation of memory: where the tiles are not
 /// as many as the setup has, the planes of a tile not as many or not of the sizes, or a table set is named that it does
-/// not have. It comes too where a slice passes 16777223 bytes or the payload 2^30, and where a slice does not read back.
-/// `Memory` comes where a growth of memory was refused.
+/// not have. It is returned too where a slice passes 16777223 bytes or the payload 2^30, and where a slice does not read back.
+/// Returns `Memory` if an allocation of memory failed.
 pub fn make_frame(alloc: Global, setup: &Setup, spec: &FrameSpec) -> Result<Vec<u8>, MakeFault>
     ensures made { IfOk result (λ payload. IsMadeFrame setup.now spec.now payload.items) }
     ensures fits { IfOk result (λ payload. FitsSetup setup.now spec.now) }

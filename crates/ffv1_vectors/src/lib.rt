@@ -1,4 +1,4 @@
-//! Vectors: records, slices and frames made to measure, each read back before it is answered; damage that is exact; and
+//! Vectors: records, slices and frames made to measure, each read back before it is returned; damage that is exact; and
 //! the suite of cases on which all calls are tried.
 #![tactic(auto)]
 

@@ -58,7 +58,7 @@ pub struct RecordSpec {
 /// Numbers that are at least 1 are coded less 1, and a 0 in the place of one is coded as 1 is. Deltas are written for
 /// half the scale after a set's last table, rounded up, contexts; the scale stays at `u32::MAX` where it would pass that.
 ///
-/// `Memory` comes where a growth of memory was refused, and nothing else is refused.
+/// Returns `Memory` if an allocation of memory failed, and nothing else is refused.
 pub fn spell_record(alloc: Global, spec: &RecordSpec) -> Result<Vec<u8>, MakeFault>
     ensures { IfErr result (λ fault. fault ≡ Memory) }
 {
@@ -67,11 +67,11 @@ pub fn spell_record(alloc: Global, spec: &RecordSpec) -> Result<Vec<u8>, MakeFau
     with_parity(encoder.finish_closed()?)
 }
 
-/// The record with its parity, answered only where it reads back as what was asked: `Setup::read` for frames whose
+/// The record with its parity, returned only if it reads back as what was asked: `Setup::read` for frames whose
 /// sides have `GREATEST_SIDE` samples gives the setup asked for, all tables included. The shifts of a gray record count as 0.
 ///
-/// `NotSelf` comes where the record does not read back so, as where what is asked is not of the profile; `Memory` where a
-/// growth of memory was refused.
+/// Returns `NotSelf` if the record does not read back so, as where what is asked is not of the profile; `Memory` if an allocation of memory
+/// failed.
 pub fn make_record(alloc: Global, spec: &RecordSpec) -> Result<Vec<u8>, MakeFault>
     ensures asked { IfOk result (λ bytes. IsSetupOf bytes.items greatest_side greatest_side (asked_setup spec.now)) }
     ensures profile { IfOk result (λ bytes. IsProfile spec.now) }

@@ -21,8 +21,8 @@ const MOST_CONTENT: usize = 0xFF_FFFF;
 /// footer of size, error status and parity. The fields are slice_x, slice_y, slice_width - 1, slice_height - 1, the two
 /// table sets, picture_structure, sar_num and sar_den; they need not be of the profile.
 ///
-/// `NotSelf` comes where there are no codes, where header and codes pass 16777215 bytes, and where the header does not
-/// read back as these fields and the place of the codes; `Memory` where a growth of memory was refused.
+/// Returns `NotSelf` where there are no codes, where header and codes pass 16777215 bytes, and where the header does not
+/// read back as these fields and the place of the codes; `Memory` if an allocation of memory failed.
 pub fn spell_slice(
     alloc: Global,
     first: bool,

@@ -77,7 +77,7 @@ pub fn suite_case(tables: SuiteTables, number: usize) -> Option<SuiteCase>
     ensures numbered { IfSome result (IsNumbered tables number) }
     ensures coarse { IfSome result IsCoarse }
 
-    // Every case whose grid is not too fine is answered.
+    // Every case whose grid is not too fine is returned.
     ensures found { (case : SuiteCase) → IsNumbered tables number case → IsCoarse case → result ≡ Some case }
 {
     let case = numbered_case(tables, number);
@@ -104,7 +104,7 @@ fn is_coarse(case: &SuiteCase) -> bool
     case.grid.0 <= case.size.0 && case.grid.1 <= case.size.1
 }
 
-/// The record of a case. It fails only where a growth of memory was refused.
+/// The record of a case. It fails only if an allocation of memory failed.
 pub fn suite_record(alloc: Global, case: &SuiteCase) -> Result<RecordSpec, AllocError>
     ensures { IfOk result (IsRecordOf case.now) }
 {
@@ -158,7 +158,7 @@ fn suite_runs(tables: SuiteTables, table: usize) -> &'static [u32]
 /// The frame of a case, for its setup: a tile for each of the setup's, whose planes have the case's content. A flat or rising
 /// plane begins with the sum of 50 times its tile's number and 7 times its own, modulo 256. Each slice has the error status
 /// 0, and its header (RFC 9043, section 4.6) the first set of tables, a progressive picture and an unknown sample aspect
-/// ratio. It fails only where a growth of memory was refused.
+/// ratio. It fails only if an allocation of memory failed.
 pub fn suite_frame(alloc: Global, case: &SuiteCase, setup: &Setup) -> Result<FrameSpec, AllocError>
     ensures fits { IfOk result (FitsSetup setup.now) }
     ensures tiles { IfOk result (λ spec. (tile : ℕ) (d : TileSpec) → tile < length spec.tiles.items

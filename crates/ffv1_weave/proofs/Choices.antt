@@ -19,7 +19,7 @@ use Rattle.ffv1_weave.proofs.GrainSteps.{part_some, part_within, one_part}
 use Rattle.ffv1_weave.proofs.NextSegment.{IsNextSegment, next_segment}
 use Rattle.ffv1_weave.proofs.MostSteps.{piece_of_some, some_most}
 
--- ---- a piece written over bytes
+-- ---- a byte string written over bytes
 
 module _ (bytes : List ℕ) (start : ℕ) (piece : List ℕ) (fits : start + length piece ≤ length bytes) where
   pub length-written : length (written bytes start piece) ≡ length bytes
@@ -65,7 +65,7 @@ range_at a start end i low lt =
 
 -- ---- a fitting part
 
--- the piece of a number
+-- the choice of a number
 abbrev pub piece_of : Part → ℕ → List ℕ
 piece_of part k = get_or part.pieces k []
 
@@ -96,7 +96,7 @@ module _ (grain : Grain) (versions : List (List ℕ)) where
   alike_until from start end a b next h i lt =
       elim (cases_lt i from) [ inl below ↦ h.front i below | inr above ↦ h.agree i (next.until i above lt) ]
 
-  -- both with the same piece
+  -- both with the same choice
   alike_both : (from : ℕ) (part : Part) (k : ℕ) (a b : List ℕ) → IsPartFrom grain versions from part.start part.end → IsFit (length a) part
       → k < length part.pieces → IsAlike versions from a b
       → IsAlike versions part.end (written a part.start (piece_of part k)) (written b part.start (piece_of part k))
@@ -126,7 +126,7 @@ module _ (grain : Grain) (versions : List (List ℕ)) where
         ];
       }
 
-  -- one with the piece that the other has
+  -- one with the choice that the other has
   alike_piece : (from : ℕ) (part : Part) (k : ℕ) (a b : List ℕ) → IsPartFrom grain versions from part.start part.end → IsFit (length a) part
       → k < length part.pieces → slice_range b part.start part.end ≡ piece_of part k → IsAlike versions from a b
       → IsAlike versions part.end (written a part.start (piece_of part k)) b
@@ -265,7 +265,7 @@ module _ (grain : Grain) (versions : List (List ℕ)) where
       (same ∙ ap (λ p. chosen parts (k / n) (written bytes part.start p)) (sym pieces)) in
       sym (div-add-mod' j n) ∙ ap (λ q. q * n + j % n) ups ∙ ap (λ r. k / n * n + r) digits ∙ div-add-mod' k n
 
--- ---- a piece written over a part
+-- ---- a choice written over a part
 
 module _ (grain : Grain) (versions : List (List ℕ)) (size : ℕ) (all_long : HaveLength versions size) where
   module _ (part : Part) (k : ℕ) (is_part : IsPartBy grain versions part.start part.end) (fit : IsFit size part) (lt : k < length part.pieces)
@@ -276,7 +276,7 @@ module _ (grain : Grain) (versions : List (List ℕ)) (size : ℕ) (all_long : H
     length-over : length (written bytes part.start (piece_of part k)) ≡ size
     length-over = length-written bytes part.start (piece_of part k) fits_bytes ∙ long
 
-    -- the part has the piece
+    -- the part has the choice
     has_piece : slice_range (written bytes part.start (piece_of part k)) part.start part.end ≡ piece_of part k
     has_piece =
         let ends = piece_size size part fit k lt in

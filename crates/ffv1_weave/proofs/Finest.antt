@@ -84,7 +84,7 @@ module _ (grain : Grain) (versions : List (List ℕ)) (size : ℕ) (long : HaveL
           few = count_fits count (length part.pieces) MOST_COMBINATIONS h.some few;
         }
 
-    -- with the pieces of this part there are too many, whatever follows
+    -- with the choices of this part there are too many, whatever follows
     pub too_many_more : MOST_COMBINATIONS / count < length part.pieces → HasMany versions grain
     too_many_more over =
         let first : List ℕ = get_or versions 0 [] in

@@ -9,7 +9,7 @@ use Rattle.ffv1_weave.specs.declared.check.Check.{Check}
 use Rattle.ffv1_weave.specs.declared.found.Found.{Found}
 use Rattle.ffv1_weave.specs.declared.found.Found.TheVariants as found
 
--- ---- the same fact, told in another way
+-- ---- the same fact, said in another way
 
 module _ {X : Type 0} (P Q : X → Type 0) (to : (value : X) → P value → Q value) (from : (value : X) → Q value → P value) where
   pub none_as : IsOfNone P → IsOfNone Q

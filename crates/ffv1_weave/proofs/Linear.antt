@@ -1,4 +1,4 @@
--- What is left of bytes is a sum: what a piece changes of it rests on the piece, on what stood in its place, and on the place alone.
+-- What is left of bytes is a sum: what a choice changes of it rests on the choice, on what stood in its place, and on the place alone.
 use Rattle.std.proofs.Common.{◌≡◌, ℕ, ◌+◌, ◌-◌, ◌/◌, ◌%◌, ◌<◌, ◌≤◌, List, [], ◌∷◌, ◌++◌, length, get_or, take, drop, map, Bor, refl, sym, ap, ◌∙◌, subst, arith}
 use Rattle.std.specs.Prelude.{All, slice_range, bit_xor}
 use Rattle.std.specs.Int.Bits.{xor_comm, xor_self}
@@ -29,22 +29,22 @@ same_changes : (check : Check) (a b c d : List ℕ) → AreSameChanges a b c d
 same_changes Slice a b c d h = remainder_changes a b c d h
 same_changes Element a b c d h = element_changes a b c d h
 
--- ---- what is left of bytes with a piece written over them
+-- ---- what is left of bytes with a byte string written over them
 
--- bytes with a piece written over them that stands there already
+-- bytes with a byte string written over them that stands there already
 written_same : (bytes : List ℕ) (start : ℕ) (piece : List ℕ) → slice_range bytes start (start + length piece) ≡ piece → written bytes start piece ≡ bytes
 written_same bytes start piece same =
     ap (λ p. take start bytes ++ (p ++ drop (start + length piece) bytes)) (sym same)
     ∙ sym (split_between bytes start (start + length piece) (omega arith))
 
--- such a piece changes nothing
+-- such a byte string changes nothing
 pub change_of_same : (check : Check) (bytes : List ℕ) (start : ℕ) (piece : List ℕ) → slice_range bytes start (start + length piece) ≡ piece
     → change_of check bytes start piece ≡ 0
 change_of_same check bytes start piece same =
     ap (λ after. bit_xor (remainder_in check after) (remainder_in check bytes)) (written_same bytes start piece same)
     ∙ xor_self (remainder_in check bytes)
 
--- What a piece changes is the same in all bytes that are the same in its place.
+-- What a byte string changes is the same in all bytes that are the same in its place.
 change_alike : (a b : List ℕ) (start end : ℕ) (piece : List ℕ) → length a ≡ length b → start + length piece ≡ end → end ≤ length b
     → slice_range a start end ≡ slice_range b start end → AreSameChanges (written a start piece) a (written b start piece) b
 change_alike a b start end piece long ends within same =
@@ -107,7 +107,7 @@ module _ (check : Check) (grain : Grain) (versions : List (List ℕ)) (first : L
       (length-written bytes part.start piece fits ∙ long)
       (λ i low. written_after bytes part.start piece fits i (omega arith) ∙ same i (omega arith))
 
--- ---- the pieces of a part, as the code has them
+-- ---- the choices of a part, as the code has them
 
 pub piece_there : (pieces : List (Bor (List ℕ))) (part : Part) (i : ℕ) (d : Bor (List ℕ)) → values_of pieces ≡ part.pieces → i < length pieces
     → (i < length part.pieces) × ((get_or pieces i d).now ≡ piece_of part i)

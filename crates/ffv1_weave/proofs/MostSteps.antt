@@ -43,7 +43,7 @@ module _ (start end : ℕ) (piece : List ℕ) (versions : List (List ℕ)) (vers
   has_last : piece ≡ slice_range version start end → HasPiece (versions ++ version ∷ []) start end piece version
   has_last is = record { there = Contains-append_right versions (version ∷ []) version (0, omega arith, refl); has = is }
 
-  -- none has the piece who did not before
+  -- none has the byte string who did not before
   pub have_same : (count : ℕ) → (piece ≡ slice_range version start end → Contains versions version) → AreNumbered (HasPiece versions start end piece) count
       → AreNumbered (HasPiece (versions ++ version ∷ []) start end piece) count
   have_same count known h =
@@ -131,7 +131,7 @@ contains_or_not versions version = elim (one_or_none versions (λ other. other �
 ]
 
 module _ (versions : List (List ℕ)) (start end : ℕ) where
-  -- the numbers of the versions so far that have a piece
+  -- the numbers of the versions so far that have a byte string
   count_first : (piece : List ℕ) (n : ℕ) → n ≤ length versions → (count : ℕ) × AreNumbered (HasPiece (take n versions) start end piece) count
   count_first piece zero within = (0, have_none start end piece)
   count_first piece (suc n) within =
@@ -269,14 +269,14 @@ module _ (versions : List (List ℕ)) (start end : ℕ) (pieces : List (List ℕ
   pub pieces_of_regions : ArePiecesBy Regions versions start end pieces
   pieces_of_regions = record { each = of_some; only = are.only; once = are.once }
 
--- ---- what most have, of the pieces so far
+-- ---- what most have, of the byte strings so far
 
 -- so many versions have the byte string
 abbrev pub Have : List (List ℕ) → (start end : ℕ) → List ℕ → ℕ → Type 0
 Have versions start end piece count = AreNumbered (HasPiece versions start end piece) count
 
 module _ (versions : List (List ℕ)) (start end : ℕ) (pieces : List (List ℕ)) where
-  -- Of the first pieces these are all that so many versions have, and more have none of them.
+  -- Of the first byte strings these are all that so many versions have, and more have none of them.
   pub record AreMostSoFar (i : ℕ) (most : List (List ℕ)) (greatest : ℕ) : Type 0 where
     pub within : i ≤ length pieces
     pub least : (k count : ℕ) → k < i → Have versions start end (get_or pieces k []) count → count ≤ greatest
@@ -387,7 +387,7 @@ module _ (versions : List (List ℕ)) (start end : ℕ) (pieces : List (List ℕ
             let same = are.once of.0 i (omega arith) lt_i (sym of.2 ∙ is) in
             omega arith
 
-  -- Of all pieces these are what most have.
+  -- Of all byte strings these are what most have.
   pub most_all : (i : ℕ) (most : List (List ℕ)) (greatest distance : ℕ) → length pieces ≤ i → AreMostSoFar versions start end pieces i most greatest
       → ArePiecesBy (Most distance) versions start end most
   most_all i most greatest distance whole h =

@@ -79,7 +79,7 @@ module _ (start end : ℕ) where
       apart : (k : ℕ) → k < length pieces → get_or pieces k [] ≡ slice_range version start end → ⊥
       apart k lt is = new (k, lt, get_or_default pieces k (slice_range version start end) [] lt ∙ is)
 
--- ---- the pieces of the whole length are the versions, each once
+-- ---- the byte strings of the whole length are the versions, each once
 
 whole_range : (size : ℕ) (version : List ℕ) → length version ≡ size → slice_range version 0 size ≡ version
 whole_range size version long = let same : size - 0 ≡ size = omega arith in ap (λ n. take n version) same ∙ take_all size version (omega arith)
@@ -99,7 +99,7 @@ pub pieces_some : (versions pieces : List (List ℕ)) (start end : ℕ) → 0 < 
 pieces_some versions pieces start end some h =
     let first = h.each (get_or versions 0 []) (Contains-get_or versions 0 [] some) in omega (arith, first.1)
 
--- ---- whether a piece is among others, as the code asks
+-- ---- whether a byte string is among others, as the code asks
 
 -- some reference is to the same bytes
 abbrev pub IsAsked : List (Bor (List ℕ)) → List ℕ → Bool → Type 0

@@ -50,7 +50,7 @@ same_versions_repair =
 pub original_is_repaired : OriginalIsRepaired
 original_is_repaired original versions bytes count original_there h = sym (h.only.others original original_there)
 
--- ---- an answer for versions is one for others with the same members
+-- ---- what is returned for versions is right for others with the same members
 
 abbrev IsToldBy : List (List ℕ) → Option (Vec ℕ Global × ℕ) → Type 0
 IsToldBy versions found =

@@ -1,5 +1,5 @@
--- Three versions of three bytes, each damaged at another place: they are one region, but three segments at distance 0, so that the undamaged
--- bytes are a combination by segments alone.
+-- Three versions of three bytes, each damaged at another place: they are one region, but three segments at distance 0, so that the
+-- undamaged bytes are a combination by segments alone.
 use Rattle.std.proofs.Common.{◌≡◌, ℕ, zero, suc, ◌+◌, ◌-◌, ◌<◌, List, [], ◌∷◌, length, get_or, refl, sym, ap, ◌∙◌, subst, arith, inl, inr}
 use Rattle.std.specs.Prelude.{◌⊎◌, All, Contains, slice_range}
 use Rattle.ffv1_weave.specs.Regions.{HaveLength, DifferAt, IsRegion}

@@ -94,7 +94,7 @@ same_versions_vote =
 pub original_is_voted : OriginalIsVoted
 original_is_voted original versions bytes count original_there h = sym (h.only.others original original_there)
 
--- ---- an answer for versions is one for others with the same members
+-- ---- what is returned for versions is right for others with the same members
 
 abbrev IsToldBy : List (List ℕ) → Option (Vec ℕ Global × ℕ) → Type 0
 IsToldBy versions found =

@@ -1,5 +1,6 @@
--- Three versions of one slice of nine bytes. Each of its first three bytes is damaged in another version: at each distance the undamaged slice
--- is the only combination of what most versions have, and it is what they vote. Two versions vote nothing, also where one is there twice.
+-- Three versions of one slice of nine bytes. Each of its first three bytes is damaged in another version: at each distance the undamaged
+-- slice is the only combination of what most versions have, and it is what they vote. Two versions vote nothing, also where one is there
+-- twice.
 use Rattle.std.proofs.Common.{◌≡◌, ℕ, zero, suc, ◌+◌, ◌<◌, ◌≤◌, List, [], ◌∷◌, length, get_or, refl, sym, ap, ◌∙◌, subst, arith, inl, inr}
 use Rattle.std.specs.Prelude.{◌⊎◌, All, Contains, slice_range}
 use Rattle.ffv1_slice.specs.Members.{HasSameMembers}

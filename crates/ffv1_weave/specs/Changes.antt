@@ -1,4 +1,4 @@
--- What pieces change of what is left of bytes. It is a sum, so the changes of pieces in different places add up.
+-- What choices change of what is left of bytes. It is a sum, so the changes of choices in different places add up.
 use Rattle.std.specs.Prelude.{ℕ, ◌/◌, ◌%◌, List, [], ◌∷◌, map, length, slice_index, bit_xor}
 use Rattle.ffv1_bits.specs.Bits.{bits_of}
 use Rattle.ffv1_bits.specs.Parity.{remainder_of}
@@ -12,15 +12,15 @@ abbrev pub remainder_in : Check → List ℕ → ℕ
 remainder_in Slice bytes = remainder_of (bits_of bytes)
 remainder_in Element bytes = element_left bytes
 
--- what a piece changes of the remainder of bytes, where it is written over them
+-- what a byte string changes of the remainder of bytes, where it is written over them
 abbrev pub change_of : Check → List ℕ → ℕ → List ℕ → ℕ
 change_of check bytes start piece = bit_xor (remainder_in check (written bytes start piece)) (remainder_in check bytes)
 
--- what each piece of a part changes
+-- what each choice of a part changes
 abbrev pub changes_of : Check → List ℕ → Part → List ℕ
 changes_of check bytes part = map (change_of check bytes part.start) part.pieces
 
--- The remainder with the changes of a combination, by its number, as `chosen` writes its pieces.
+-- The remainder with the changes of a combination, by its number, as `chosen` writes its choices.
 abbrev pub changed : List (List ℕ) → ℕ → ℕ → ℕ
 changed [] code register = register
 changed (changes ∷ tables) code register =

@@ -56,14 +56,14 @@ pub record AreAllParts (grain : Grain) (versions : List (List ℕ)) (parts : Lis
   pub next : ArePartsFrom grain versions 0 parts
   pub rest : (i : ℕ) → parts_end 0 parts ≤ i → AgreeAt versions i
 
--- A part lies within so many bytes, and has a piece at least; each fills it.
+-- A part lies within so many bytes, and has a choice at least; each fills it.
 pub record IsFit (size : ℕ) (part : Part) : Type 0 where
   pub order : part.start ≤ part.end
   pub within : part.end ≤ size
   pub some : 0 < length part.pieces
   pub fill : (k : ℕ) → k < length part.pieces → length (slice_index_or part.pieces k []) ≡ part.end - part.start
 
--- how many combinations there are: one piece of each part
+-- how many combinations there are: one choice in each part
 abbrev pub count_of : List Part → ℕ
 count_of [] = 1
 count_of (part ∷ parts) = length part.pieces * count_of parts
@@ -81,11 +81,11 @@ pub record AreTriedParts (versions : List (List ℕ)) (size : ℕ) (parts : List
   pub tried : IsTriedBy versions grain count
   pub few : AreFewParts grain versions size parts count
 
--- bytes with a piece written over them from a place on
+-- bytes with a byte string written over them from a place on
 abbrev pub written : List ℕ → ℕ → List ℕ → List ℕ
 written bytes start piece = take start bytes ++ (piece ++ drop (start + length piece) bytes)
 
--- The bytes with the pieces of a combination written over them. Its number is one of mixed digits, the first part's the lowest.
+-- The bytes with the choices of a combination written over them. Its number is one of mixed digits, the first part's the lowest.
 abbrev pub chosen : List Part → ℕ → List ℕ → List ℕ
 chosen [] code bytes = bytes
 chosen (part ∷ parts) code bytes =

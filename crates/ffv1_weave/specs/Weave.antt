@@ -30,7 +30,7 @@ IsWeaveOf check versions disputed = IsOfTwo (IsValid check versions) × ((count 
 IsWeaveOf check versions (missing count) = IsOfNone (IsValid check versions) × AreFew versions count
 IsWeaveOf check versions too_many = AreMany versions
 
--- what the code answers
+-- what the code returns
 abbrev pub weave_told : Outcome → Weave
 weave_told (outcome.Woven bytes count) = woven bytes.items count
 weave_told outcome.Disputed = disputed

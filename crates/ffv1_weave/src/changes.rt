@@ -1,5 +1,5 @@
-//! What the pieces of parts change of what is left: each is computed once, and a combination's remainder is the
-//! sum of those of its pieces.
+//! What the choices of parts change of what is left: each is computed once, and a combination's remainder is the
+//! sum of those of its choices.
 ghost use Rattle.std.specs.Prelude.{◌≡◌, ◌+◌, ◌≤◌, ◌<◌, length, map, All, IfOk};
 ghost use Rattle.ffv1_weave.specs.Parts.{IsFit};
 ghost use Rattle.ffv1_weave.specs.Changes.{remainder_in, change_of, changes_of, changed};
@@ -8,7 +8,7 @@ use crate::check::Check;
 use crate::parts::Part;
 use std::alloc::{AllocError, Global};
 
-/// What a piece changes of the remainder of `first`, if it is written over the bytes from `start` on: nothing, if these are the same
+/// What a choice changes of the remainder of `first`, if it is written over the bytes from `start` on: nothing, if these are the same
 /// already.
 fn change_of(
     check: Check,
@@ -32,7 +32,7 @@ fn change_of(
     check.remainder(scratch) ^ base
 }
 
-/// What each piece of a part changes.
+/// What each choice of a part changes.
 fn changes_of(
     alloc: Global,
     check: Check,
@@ -54,7 +54,7 @@ fn changes_of(
     Ok(changes)
 }
 
-/// What each piece of each part changes of the remainder of `first`, which is `base`.
+/// What each choice of each part changes of the remainder of `first`, which is `base`.
 pub(crate) fn tables_of(
     alloc: Global,
     check: Check,

@@ -7,10 +7,10 @@ use ebml_crc::{element_left, passes_crc32};
 use ffv1_bits::{passes, remainder};
 use ffv1_slice::is_framed;
 
-/// What versions are of, and so what tells bytes that were not damaged.
+/// What versions are of, and so what distinguishes bytes that were not damaged.
 #[derive(Clone, Copy, Debug, PartialEq, Eq)]
 pub enum Check {
-    /// A slice with its footer, which tells its length (RFC 9043, section 4.9.1), and with its parity, which it passes (section 4.9.3).
+    /// A slice with its footer, which gives its length (RFC 9043, section 4.9.1), and with its parity, which it passes (section 4.9.3).
     Slice,
     /// What is in an element whose first child is a CRC-32 element that is right: `BF 84`, four bytes of CRC-32, lowest first, and the
     /// rest, of which it is the CRC-32 (RFC 8794, section 11.3.1).

@@ -85,9 +85,9 @@ fn marked(shifts: &[u32; WIDTH]) -> [bool; MARKS]
     marks
 }
 
-/// What is found where the bytes with one of the `WIDTH` bits before this one inverted are tried too, each in turn, or one of all bits before it
-/// if they are fewer. With a bit inverted, nothing is left of the bytes only if what is left of them is the power of x of that bit. Then the
-/// power for `WIDTH` bits before this one is one of its shifts.
+/// What is found where the bytes with one of the `WIDTH` bits before this one inverted are tried too, each in turn, or one of all bits
+/// before it if they are fewer. With a bit inverted, nothing is left of the bytes only if what is left of them is the power of x of that
+/// bit. Then the power for `WIDTH` bits before this one is one of its shifts.
 fn with_bits_before(
     alloc: Global,
     bytes: &mut [u8],

@@ -146,7 +146,7 @@ pub(crate) fn finest_parts<'a>(
     Ok(None)
 }
 
-/// Writes the pieces of the combination of this number over the bytes.
+/// Writes the choices of the combination of this number over the bytes.
 pub(crate) fn choose(bytes: &mut [u8], parts: &[Part<'_>], code: usize)
     requires { All (IsFit (length bytes.old)) parts.now }
     ensures { bytes.new ≡ chosen parts.now code bytes.old }

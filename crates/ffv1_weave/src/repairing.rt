@@ -15,16 +15,16 @@ pub const MOST_REPAIRS: usize = 1 << 20;
 /// combination of them is a slice as it is, is not looked at. There is one version at least, and all are as long as the first.
 ///
 /// What is tried are repairs: each combination that `weave` tries, with each of its bits inverted, if these are at most `MOST_REPAIRS`. One
-/// passes if its footer tells its length (section 4.9.1) and it passes the parity (section 4.9.3). If exactly one byte string passes, it is
+/// passes if its footer gives its length (section 4.9.1) and it passes the parity (section 4.9.3). If exactly one byte string passes, it is
 /// returned, with the number of repairs that were tried; `None` is returned if none passes, if two that differ do, and if there are too
 /// many to be tried.
 ///
-/// However versions are ordered or repeated, the answer is the same (`same_versions_repair`). If the original is among what is tried,
+/// However versions are ordered or repeated, what is returned is the same (`same_versions_repair`). If the original is among what is tried,
 /// nothing else is returned (`original_is_repaired`). If it is not, as where more than one bit is wrong, one of them passes by chance once
 /// in 2^32 divided by their number, so at most once in 4096.
 ///
 /// It takes memory for two copies of a version and for lists of the different versions and of their parts. The only refusal is that of such
-/// a growth.
+/// an allocation.
 pub fn repair(alloc: Global, versions: &[&[u8]]) -> Result<Option<(Vec<u8>, usize)>, AllocError>
     requires some { 0 < length versions.now }
     requires lengths { All (λ version. length version.now ≡ length (slice_index_or (map (λ version. version.now) versions.now) 0 [])) versions.now }

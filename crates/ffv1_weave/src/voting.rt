@@ -16,16 +16,16 @@ use std::alloc::{AllocError, Global};
 ///
 /// What is tried are combinations that have in each segment what most versions have there: that stands in no fewer versions than any other
 /// byte string. Where several stand in as many, each is tried. Segments are those of `weave`, at distance 0, 2, 8 and 64, each where the
-/// combinations are at most `MOST_COMBINATIONS`. One passes if its footer gives its length (section 4.9.1) and it passes the parity (section
-/// 4.9.3). If exactly one byte string passes, it is returned, with the number of combinations that were tried at all distances, which is at
-/// most 16384; `None` is returned if none passes, and if two that differ do.
+/// combinations are at most `MOST_COMBINATIONS`. One passes if its footer gives its length (section 4.9.1) and it passes the parity
+/// (section 4.9.3). If exactly one byte string passes, it is returned, with the number of combinations that were tried at all distances,
+/// which is at most 16384; `None` is returned if none passes, and if two that differ do.
 ///
-/// However versions are ordered or repeated, the answer is the same (`same_versions_vote`). If the original is among what is tried, nothing
-/// else is returned (`original_is_voted`). If it is not, one of them passes by chance once in 2^32 divided by their number, so at most once
-/// in 262144.
+/// However versions are ordered or repeated, what is returned is the same (`same_versions_vote`). If the original is among what is tried,
+/// nothing else is returned (`original_is_voted`). If it is not, one of them passes by chance once in 2^32 divided by their number, so at
+/// most once in 262144.
 ///
-/// It takes memory for three copies of a version, for a list of the different versions, and for one of the segments in which they differ: one
-/// for each byte at most. The only refusal is that of such a growth.
+/// It takes memory for three copies of a version, for a list of the different versions, and for one of the segments in which they differ:
+/// one for each byte at most. The only refusal is that of such an allocation.
 pub fn vote(alloc: Global, versions: &[&[u8]]) -> Result<Option<(Vec<u8>, usize)>, AllocError>
     requires some { 0 < length versions.now }
     requires lengths { All (λ version. length version.now ≡ length (slice_index_or (map (λ version. version.now) versions.now) 0 [])) versions.now }

@@ -13,7 +13,7 @@ use std::alloc::{AllocError, Global};
 pub const MOST_COMBINATIONS: usize = 4096;
 
 /// What comes of weaving versions of a slice or of an element. A combination is valid where it passes the check: a slice where its
-/// footer tells its length (RFC 9043, section 4.9.1) and it passes the parity (section 4.9.3), an element where it begins with its
+/// footer gives its length (RFC 9043, section 4.9.1) and it passes the parity (section 4.9.3), an element where it begins with its
 /// CRC-32 (RFC 8794, section 11.3.1).
 #[derive(Debug, Drop)]
 pub enum Outcome {
@@ -57,15 +57,15 @@ fn weave_distinct(alloc: Global, check: Check, versions: &[&[u8]]) -> Result<Out
 ///
 /// What is tried are the combinations of the segments at distance 0 where these are at most `MOST_COMBINATIONS`, else at distance 2, 8 or
 /// 64, else of the regions. A combination of regions is one of segments at each of these distances too (`regions_are_coarsest`). However
-/// versions are ordered or repeated, the answer is the same; where the original is one of the combinations that are tried, nothing else is
-/// woven (`tried_original_is_woven`), and where it is not, one of them passes by chance once in 2^32 divided by their number.
+/// versions are ordered or repeated, what is returned is the same; where the original is one of the combinations that are tried, nothing
+/// else is woven (`tried_original_is_woven`), and where it is not, one of them passes by chance once in 2^32 divided by their number.
 ///
 /// The time goes into the different versions: a repeated one is only found to be so. They are read from the front on once for each
 /// distance that is tried, as far as there are not too many combinations yet. Two versions are compared only next to places at which
 /// versions differ.
 ///
 /// It takes memory for two copies of a version, for a list of the different versions, and for one of the parts at which they differ.
-/// The only refusal is that of such a growth.
+/// The only refusal is that of such an allocation.
 pub fn weave(alloc: Global, check: Check, versions: &[&[u8]]) -> Result<Outcome, AllocError>
     requires some { 0 < length versions.now }
     requires lengths { All (λ version. length version.now ≡ length (slice_index_or (map (λ version. version.now) versions.now) 0 [])) versions.now }

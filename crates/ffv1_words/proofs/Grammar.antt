@@ -23,7 +23,7 @@ pub raw_values-words : (m : ArgMatches) (name : Text) (words : List Text) → op
     → AreWords (rows_in m) name words
 raw_values-words m name words is = sym (raw_values-rows (found_of m) name) ∙ is
 
--- what is found is as it has to be, or the fault told in place of it names no path
+-- what is found is as it has to be, or the fault that is returned in place of it names no path
 pub found_or : {T : Type 0} (P : T → Type 0) (found : Option T) (fault : CliFault) (r : Result T CliFault) → r ≡ ok_or found fault
     → ((value : T) → found ≡ Some value → P value) → NamesNoPath fault → MatchResult r P NamesNoPath
 found_or P None fault r is there none = subst (λ r. MatchResult r P NamesNoPath) (sym is) none

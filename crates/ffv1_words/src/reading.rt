@@ -250,7 +250,7 @@ fn words_of<'a>(alloc: Global, name: &str, matches: &ArgMatches<'a>) -> Result<W
 
 /// The command that the program's words name, the first of which is the program's own: they are read as `clap` reads them, by the
 /// commands of `specs/Grammar.antt`. All other words are refused with `Words`, `--help` and `help` with a word after it among them, and
-/// a width or height that is no number under 2^32; `Memory` comes where a growth is refused.
+/// a width or height that is no number under 2^32. Returns `Memory` if an allocation fails.
 pub fn read_words<'a>(alloc: Global, words: &'a [String]) -> Result<Words<'a>, CliFault>
     ensures ok { IfOk result (AreReadFrom (map (λ word. string_bytes word) words.now)) }
     ensures err { IfErr result NamesNoPath }

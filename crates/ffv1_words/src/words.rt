@@ -18,7 +18,7 @@ pub struct Recording<'a> {
 /// A command and its words, each a path except the numbers of a recording. No path is opened or judged yet.
 #[derive(Drop)]
 pub enum Words<'a> {
-    /// Tells the chain of a frame payload.
+    /// Prints the chain of a frame payload.
     Chain {
         /// The payload.
         frame: &'a str,
@@ -30,7 +30,7 @@ pub enum Words<'a> {
         /// The file.
         file: &'a str,
     },
-    /// Tells the setup of a configuration record, for frames of its size.
+    /// Prints the setup of a configuration record, for frames of its size.
     Show {
         /// The record and the size.
         recording: Recording<'a>,
@@ -62,7 +62,7 @@ pub enum Words<'a> {
         /// The other.
         right: &'a str,
     },
-    /// Tells the damage report of a holding file.
+    /// Prints the damage report of a holding file.
     Report {
         /// The holding file.
         file: &'a str,

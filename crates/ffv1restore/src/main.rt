@@ -1,4 +1,4 @@
-//! Restores FFV1 frames from several damaged copies: reads the words, opens what they name, and tells a fault in one
+//! Restores FFV1 frames from several damaged copies: reads the words, opens what they name, and reports a fault in one
 //! line on standard error.
 #![tactic(auto)]
 
@@ -20,26 +20,26 @@ use std::fs::File;
 use std::process::ExitCode;
 use std::{env, io};
 
-/// Tells a fault in one line on standard error, and answers its exit status. The path is the text of the one that the
+/// Reports a fault in one line on standard error, and returns its exit status. The path is the text of the one that the
 /// fault names.
 fn tell(rt: &(impl Eprint + AllocGlobal), fault: &CliFault, path: &str) -> ExitCode {
     let told = match fault.line(rt.alloc(), path) {
         Ok(line) => eprintln!(rt; "ffv1restore: {line}"),
         Err(_) => eprintln!(rt; "ffv1restore: memory"),
     };
-    // Nothing is left to tell where standard error fails too.
+    // Nothing more can be reported if standard error fails too.
     let _ = told;
     ExitCode::from(fault.status())
 }
 
-/// Tells a fault that comes before there is a command, whose paths it could name.
+/// Reports a fault that comes before there is a command, whose paths it could name.
 fn tell_early(rt: &(impl Eprint + AllocGlobal), fault: &CliFault) -> ExitCode
     requires { NamesNoPath fault.now }
 {
     tell(rt, fault, "")
 }
 
-/// Tells a fault of the command of these words.
+/// Reports a fault of the command of these words.
 fn tell_of(rt: &(impl Eprint + AllocGlobal), fault: &CliFault, words: &Words<'_>) -> ExitCode
     requires { NamesPath (IsPathOf words.now) fault.now }
 {
@@ -85,7 +85,7 @@ fn run_words<'a>(rt: &'a HostRuntime, words: &Words<'a>) -> Result<bool, CliFaul
     )
 }
 
-/// Reads the words that the program was given, runs their command, tells its fault, and answers the exit status.
+/// Reads the words that the program was given, runs their command, reports its fault, and returns the exit status.
 fn run_given<'a>(rt: &'a HostRuntime, given: &'a [String]) -> ExitCode {
     let words = match read_words(rt.alloc(), given) {
         Ok(words) => words,

@@ -175,7 +175,7 @@ impl Write for Opened<'_> {
     }
 }
 
-/// The answer of what no test asks for.
+/// What calls return that no test makes.
 fn not_asked<T: Drop>() -> io::Result<T> {
     Err(io::Error::from(ErrorKind::Unsupported))
 }

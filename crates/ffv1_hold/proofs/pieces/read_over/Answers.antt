@@ -11,7 +11,7 @@ use Rattle.ffv1_hold.proofs.pieces.read_over.Goals as goal
 pub loop-done-init : goal.loop-done-init
 loop-done-init g c = record { few = omega arith; within = omega arith; read = TakesText-nil _ _ c.requires; order = λ rest. refl }
 
--- what was read so far decides, and else this piece does
+-- what was read so far decides, and else this block does
 pub loop-done-preserved : goal.loop-done-preserved
 loop-done-preserved g c =
     let inv = c.loop-done.invariant in

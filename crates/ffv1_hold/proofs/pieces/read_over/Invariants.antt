@@ -4,7 +4,7 @@ use Rattle.ffv1_pool.specs.SliceOrder.{bytes_cmp}
 use Rattle.ffv1_hold.specs.Reading.{TakesText}
 use Rattle.ffv1_hold.proofs.pieces.read_over.Given as goal
 
--- In front stands what was read, and after it what is left of the old bytes. What was read decides as the order tells, and else what is
+-- In front stands what was read, and after it what is left of the old bytes. What was read decides as the order says, and else what is
 -- left does.
 abbrev pub invariant-loop-done : goal.invariant-loop-done
 invariant-loop-done g l = record {

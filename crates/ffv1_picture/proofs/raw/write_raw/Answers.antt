@@ -8,7 +8,7 @@ use Rattle.ffv1_picture.proofs.raw.write_raw.Goals as goal
 abbrev items_of : Vec ℕ Global → List ℕ
 items_of v = v.items
 
--- the pieces before a place, the one there, and those after it
+-- the lists before a place, the one there, and those after it
 flat_map-at : {X : Type 0} (f : X → List ℕ) (xs : List X) (i : ℕ) (d : X) → i < length xs
     → flat_map f (take i xs) ++ (f (get_or xs i d) ++ flat_map f (drop (i + 1) xs)) ≡ flat_map f xs
 flat_map-at f [] i d lt = absurd (omega arith)

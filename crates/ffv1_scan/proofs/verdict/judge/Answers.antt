@@ -5,7 +5,7 @@ use Rattle.ffv1_slice.specs.Ending.{EndsAs}
 use Rattle.ffv1_scan.specs.Verdicts.{is_intact}
 use Rattle.ffv1_scan.proofs.verdict.judge.Goals as goal
 
--- the intact ones of links are those after the first one, and this one, if it is intact
+-- the passing ones of links are those after the first one, and this one, if it passes
 first_counted : {intact : Bool} {all links : List Piece} {link : Piece} → intact ≡ is_intact link → all ≡ link ∷ links
     → count_by is_intact all ≡ cond intact 1 0 + count_by is_intact links
 first_counted {links = links} {link = link} is split = rw (split, is) (sum_by-cons (λ l. cond (is_intact l) 1 0) link links)

@@ -19,7 +19,7 @@ use Rattle.ffv1_splice.proofs.first.first_before.Goals.{then-end-le-FOOTER_LENGT
 first_there : (copies : List (Bor (List ℕ))) → 0 < length copies → Contains (values_of copies) (get_or (values_of copies) 0 [])
 first_there copies some = Contains-get_or (values_of copies) 0 [] (omega (arith, length-values_of copies))
 
--- what the weave of the versions with their size tells, where it is woven
+-- if the weave of the versions with their size is woven, it is a weave from the front
 front_of : (copies : List (List ℕ)) (end : ℕ) → IsOfNone (IsPiece copies end) → IsOfNone (IsClaimedStart copies end) → HasContent 0 end
     → end - 8 < 2 ^ 24 → (outcome : Outcome) (bytes : Vec ℕ Global) (count : ℕ)
     → outcome ≡ outcomes.Woven bytes count → IsWeaveOf Slice (map sized (versions_at copies 0 end)) (weave_told outcome) → IsWeaveFromFront copies end (woven bytes.items count)

@@ -17,7 +17,7 @@ of_equal same P (Ok x) t h e = elim (eqb_tells x t) [
 ]
 of_equal same P (Err f) t h e = absurd (false≢true e)
 
--- what holds at all holds where this is answered
+-- what holds at all holds where this is returned
 where_ok : {E : Type 0} (X : Type 0) (r : Result Bool E) → X → IfOk r (λ same. IsTrue same → X)
 where_ok X (Ok same) x = λ yes. x
 where_ok X (Err f) x = tt

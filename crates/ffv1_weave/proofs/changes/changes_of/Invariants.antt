@@ -2,7 +2,7 @@ use Rattle.std.proofs.Common.{◌≡◌, take, length}
 use Rattle.ffv1_weave.specs.Changes.{changes_of}
 use Rattle.ffv1_weave.proofs.changes.changes_of.Given as goal
 
--- the changes of the pieces so far
+-- the changes of the choices so far
 abbrev pub invariant-loop-piece : goal.invariant-loop-piece
 invariant-loop-piece l = record {
   same_length : length l.scratch ≡ length l.first;

@@ -2,7 +2,7 @@ use Rattle.std.proofs.Common.{◌≡◌, length, drop}
 use Rattle.ffv1_weave.specs.Parts.{chosen}
 use Rattle.ffv1_weave.proofs.parts.choose.Given as goal
 
--- The pieces of the rest make of these bytes what all make of the first.
+-- The choices in the rest make of these bytes what all make of the first.
 abbrev pub invariant-loop-part : goal.invariant-loop-part
 invariant-loop-part l = record {
   same_length : length l.bytes ≡ length l.initial.bytes;

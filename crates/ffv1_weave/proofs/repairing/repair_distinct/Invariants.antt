@@ -5,7 +5,7 @@ use Rattle.ffv1_weave.proofs.Choices.{IsAlike}
 use Rattle.ffv1_weave.proofs.RepairSteps.{all_inversions}
 use Rattle.ffv1_weave.proofs.repairing.repair_distinct.Given as goal
 
--- The bytes are still those of the first version where all agree, and what was found is told of the combinations so far.
+-- The bytes are still those of the first version where all agree, and what was found is what is found among the combinations so far.
 abbrev pub invariant-loop-code : goal.invariant-loop-code
 invariant-loop-code l = record {
   alike : IsAlike (map (λ version. version.now) l.versions) 0 l.bytes.items (get_or (map (λ version. version.now) l.versions) 0 []);
