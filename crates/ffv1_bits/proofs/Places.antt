@@ -6,7 +6,7 @@ use Rattle.std.specs.Prelude.{bit_and}
 use Rattle.std.proofs.lemmas.List.{get_or_append_left, get_or-append-add, drop_more, drop_all, drop-drop, take-append-drop}
 use Rattle.std.proofs.lemmas.Nat.Bits.{shr_and_one}
 use Rattle.ffv1_bits.specs.Bits.{has_bit, bit_value, number_bits, bits_of}
-use Rattle.ffv1_bits.specs.Reader.{Reading, Reads, PlaceAndLeftAddUp}
+use Rattle.ffv1_bits.specs.Reader.{Reading, ReadsBits, PlaceAndLeftAddUp}
 use Rattle.ffv1_bits.proofs.Burst.{length-bits}
 use Rattle.ffv1_bits.proofs.Numbers.{length-number_bits, number_bits-push}
 
@@ -54,21 +54,21 @@ bits_left bytes place = length-drop place (bits_of bytes) ∙ ap (λ n. n - plac
 
 -- ---- bits read one after the other
 
-pub Reads-append : (old mid new : Reading) (bits more : List Bool) → Reads old bits mid → Reads mid more new → Reads old (bits ++ more) new
-Reads-append old mid new bits more first second = record {
+pub ReadsBits-append : (old mid new : Reading) (bits more : List Bool) → ReadsBits old bits mid → ReadsBits mid more new → ReadsBits old (bits ++ more) new
+ReadsBits-append old mid new bits more first second = record {
   begins = first.begins ∙ ap (λ l. bits ++ l) second.begins ∙ sym (append_assoc bits more new.left);
   moves = omega (arith, first.moves, second.moves, length-append bits more);
 }
 
 -- bits that are passed over
 pub skipped : (old : Reading) (whole : List Bool) (count place : ℕ) → old.left ≡ drop place whole → old.place ≡ place → count ≤ length old.left
-    → Reads old (take count old.left) (record { place = place + count; left = drop (place + count) whole })
+    → ReadsBits old (take count old.left) (record { place = place + count; left = drop (place + count) whole })
 skipped old whole count place left at enough = record {
   begins = sym (take-append-drop count old.left) ∙ ap (λ l. take count old.left ++ l) (ap (drop count) left ∙ drop-drop count place whole);
   moves = omega (arith, at, length-take count old.left);
 }
 
-pub none_read : (reading : Reading) → Reads reading (number_bits 0 0) reading
+pub none_read : (reading : Reading) → ReadsBits reading (number_bits 0 0) reading
 unfolding number_bits
 none_read reading = record { begins = refl; moves = omega arith }
 
@@ -81,16 +81,16 @@ fits_more count n v true small value = let wide : 2 ^ (count + 1) ≡ 2 ^ count 
 fits_more count n v false small value = let wide : 2 ^ (count + 1) ≡ 2 ^ count * 2 = rw add-one (pow-suc 2 count) in omega arith
 
 -- one more bit of a number
-pub one_more : (old mid new : Reading) (count n m v : ℕ) (bit : Bool) → Reads old (number_bits count n) mid → Reads mid (bit ∷ []) new → v ≡ bool_byte bit
-    → m ≡ 2 * n + v → Reads old (number_bits (count + 1) m) new
+pub one_more : (old mid new : Reading) (count n m v : ℕ) (bit : Bool) → ReadsBits old (number_bits count n) mid → ReadsBits mid (bit ∷ []) new → v ≡ bool_byte bit
+    → m ≡ 2 * n + v → ReadsBits old (number_bits (count + 1) m) new
 one_more old mid new count n m v bit before now value is =
     let longer : number_bits (count + 1) m ≡ number_bits count n ++ (bit ∷ []) =
     ap (λ c. number_bits c m) (let e : count + 1 ≡ suc count = omega arith in e)
     ∙ ap (number_bits (suc count)) (is ∙ ap (λ x. 2 * n + x) (value ∙ bool_byte-bit_value bit)) ∙ number_bits-push count n bit in
-    rw longer (Reads-append old mid new (number_bits count n) (bit ∷ []) before now)
+    rw longer (ReadsBits-append old mid new (number_bits count n) (bit ∷ []) before now)
 
 -- the bits end within a number
-pub ended : (old mid : Reading) (read n count : ℕ) → Reads old (number_bits read n) mid → mid.left ≡ [] → read < count → length old.left < count
+pub ended : (old mid : Reading) (read n count : ℕ) → ReadsBits old (number_bits read n) mid → mid.left ≡ [] → read < count → length old.left < count
 ended old mid read n count before none few =
     omega (arith, ap length before.begins, length-append (number_bits read n) mid.left, length-number_bits read n, ap length none)
 

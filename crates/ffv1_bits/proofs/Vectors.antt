@@ -1,7 +1,7 @@
 -- Outside vectors, computed.
 use Rattle.std.proofs.Common.{◌≡◌, true, false, [], ◌∷◌, ◌++◌, refl}
 use Rattle.ffv1_bits.specs.Bits.{number_bits, bits_of}
-use Rattle.ffv1_bits.specs.Reader.{Reads}
+use Rattle.ffv1_bits.specs.Reader.{ReadsBits}
 use Rattle.ffv1_bits.specs.Parity.{polynomial_of, reduced_at, divided, remainder_of}
 
 one : remainder_of (bits_of (0x01 ∷ [])) ≡ 1
@@ -40,6 +40,6 @@ two_bytes : bits_of (0xB6 ∷ 0x0F ∷ []) ≡ number_bits 4 0xB ++ number_bits 
 unfolding number_bits bits_of
 two_bytes = refl
 
-read_three : Reads (record { place = 8; left = bits_of (0xB6 ∷ []) }) (number_bits 3 5) (record { place = 11; left = number_bits 5 0x16 })
+read_three : ReadsBits (record { place = 8; left = bits_of (0xB6 ∷ []) }) (number_bits 3 5) (record { place = 11; left = number_bits 5 0x16 })
 unfolding number_bits bits_of
 read_three = record { begins = refl; moves = refl }

@@ -8,7 +8,7 @@ pub record Reading : Type 0 where
   pub left : List Bool
 
 -- From one reading to another exactly these bits were read.
-pub record Reads (old : Reading) (bits : List Bool) (new : Reading) : Type 0 where
+pub record ReadsBits (old : Reading) (bits : List Bool) (new : Reading) : Type 0 where
   pub begins : old.left ≡ bits ++ new.left
   pub moves : new.place ≡ old.place + length bits
 
@@ -17,4 +17,4 @@ pub record Reads (old : Reading) (bits : List Bool) (new : Reading) : Type 0 whe
 -- Bytes have eight bits each, and the bits read and those left stay as many as they were.
 pub record PlaceAndLeftAddUp : Type 0 where
   pub whole : (bytes : List ℕ) → length (bits_of bytes) ≡ 8 * length bytes
-  pub kept : (old new : Reading) (bits : List Bool) → Reads old bits new → new.place + length new.left ≡ old.place + length old.left
+  pub kept : (old new : Reading) (bits : List Bool) → ReadsBits old bits new → new.place + length new.left ≡ old.place + length old.left

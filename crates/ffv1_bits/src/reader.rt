@@ -4,7 +4,7 @@
 ghost use Rattle.std.specs.Prelude.{◌≡◌, ℕ, ◌+◌, ◌*◌, ◌^◌, ◌<◌, ◌≤◌, List, Bool, [], ◌∷◌, ◌++◌, length, take, drop, IfSome, IfNone};
 ghost use Rattle.ffv1_bits.specs.Limits.{payload_limit};
 ghost use Rattle.ffv1_bits.specs.Bits.{bits_of, number_bits};
-ghost use Rattle.ffv1_bits.specs.Reader.{Reading, Reads, PlaceAndLeftAddUp};
+ghost use Rattle.ffv1_bits.specs.Reader.{Reading, ReadsBits, PlaceAndLeftAddUp};
 
 use std::marker::Model;
 
@@ -66,7 +66,7 @@ impl<'a> Bits<'a> {
 
     /// The next bit; None where none is left, and then nothing changes.
     pub fn bit(&mut self) -> Option<bool>
-        ensures some { IfSome result (λ bit. Reads self.old (bit ∷ []) self.new) }
+        ensures some { IfSome result (λ bit. ReadsBits self.old (bit ∷ []) self.new) }
         ensures none { IfNone result (self.old.left ≡ []) }
         ensures unchanged { IfNone result (self.new ≡ self.old) }
     {
@@ -92,7 +92,7 @@ impl<'a> Bits<'a> {
     #[inline(always)]
     pub fn skip(&mut self, count: usize)
         requires { count ≤ length self.old.left }
-        ensures { Reads self.old (take count self.old.left) self.new }
+        ensures { ReadsBits self.old (take count self.old.left) self.new }
     {
         self.place += count;
     }
@@ -101,7 +101,7 @@ impl<'a> Bits<'a> {
     /// and then nothing changes.
     pub fn take(&mut self, count: u32) -> Option<u32>
         requires { count ≤ 24 }
-        ensures some { IfSome result (λ number. Reads self.old (number_bits count number) self.new) }
+        ensures some { IfSome result (λ number. ReadsBits self.old (number_bits count number) self.new) }
         ensures fits { IfSome result (λ number. number < 2 ^ count) }
         ensures none { IfNone result (length self.old.left < count) }
         ensures unchanged { IfNone result (self.new ≡ self.old) }

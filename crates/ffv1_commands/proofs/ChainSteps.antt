@@ -4,14 +4,14 @@ use Rattle.std.specs.Io.KnownBytes.{Keeps}
 use Rattle.std.proofs.KnownBytes.{Consumes-whole, Keeps-refl}
 use Rattle.ffv1_bits.specs.Limits.{payload_limit}
 use Rattle.std.specs.List.{flat_map}
-use Rattle.ffv1_slice.specs.Chain.{Piece, AreLinksOf}
+use Rattle.ffv1_slice.specs.Chain.{LinkValue, AreLinksOf}
 use Rattle.ffv1_slice.specs.Ending.{EndsAs}
 use Rattle.ffv1_slice.specs.declared.chain.ChainEnd.{ChainEnd}
 use Rattle.ffv1_devices.specs.Logs.{ReadLog, WriteLog, StopsWriting}
 use Rattle.ffv1_devices.specs.Results.{WritesAll}
 use Rattle.ffv1_devices.proofs.Steps.{StopsWriting-of}
 use Rattle.ffv1_commands.specs.Lines.{PrintsFront}
-use Rattle.ffv1_commands.specs.ChainText.{link_line, end_line, IsChainText, PrintsChain, ChainStops, ChainBreaks, TellsChain}
+use Rattle.ffv1_commands.specs.ChainText.{link_line, end_line, IsChainText, PrintsChain, ChainStops, ChainBreaks, ReportsChain}
 use Rattle.ffv1_commands.specs.Devices.{UnlessWriting, WritesFront, FileStops}
 use Rattle.ffv1_commands.specs.Fault.{NamesPath}
 use Rattle.ffv1_commands.specs.Paths.{IsChainPath}
@@ -19,23 +19,23 @@ use Rattle.ffv1_commands.specs.declared.fault.CliFault.{CliFault}
 use Rattle.ffv1_commands.specs.declared.fault.CliFault.TheVariants as faults
 use Rattle.ffv1_commands.specs.declared.path.CommandPath.TheVariants as paths
 use Rattle.ffv1_commands.proofs.UnreadFiles.{file_says}
-use Rattle.ffv1_commands.proofs.Telling.{whole_of}
+use Rattle.ffv1_commands.proofs.Reporting.{whole_of}
 use Rattle.ffv1_commands.proofs.PrintSteps.{front_rest, front-fails}
 
 -- one link more
-pub lines-more : (lines all : List ℕ) (link : Piece) (left rest : List Piece) → lines ++ flat_map link_line left ≡ all → left ≡ link ∷ rest
+pub lines-more : (lines all : List ℕ) (link : LinkValue) (left rest : List LinkValue) → lines ++ flat_map link_line left ≡ all → left ≡ link ∷ rest
     → (lines ++ link_line link) ++ flat_map link_line rest ≡ all
 lines-more lines all link left rest split next =
     append_assoc lines (link_line link) (flat_map link_line rest) ∙ ap (λ ls. lines ++ flat_map link_line ls) (sym next) ∙ split
 
-module _ (a b c : WriteLog) (waits lines : List ℕ) (links left : List Piece) (end : ChainEnd)
+module _ (a b c : WriteLog) (waits lines : List ℕ) (links left : List LinkValue) (end : ChainEnd)
     (split : lines ++ flat_map link_line left ≡ flat_map link_line links) (front : PrintsFront a b waits lines) (payload : List ℕ)
     (are : AreLinksOf payload links) (ends : EndsAs payload end) where
   abbrev all : List ℕ
   all = flat_map link_line links ++ end_line end
 
-  told : IsChainText payload all
-  told = record { links = links; are_links = are; end = end; ends = ends; told = refl }
+  reported : IsChainText payload all
+  reported = record { links = links; are_links = are; end = end; ends = ends; reported = refl }
 
   -- the lines so far, and then the rest of the text
   rest-all : lines ++ (flat_map link_line left ++ end_line end) ≡ all
@@ -45,7 +45,7 @@ module _ (a b c : WriteLog) (waits lines : List ℕ) (links left : List Piece) (
   pub link_fails : StopsWriting b c waits → (text : List ℕ) × IsChainText payload text × StopsWriting a c text
   link_fails fails = (
     all,
-    told,
+    reported,
     subst (StopsWriting a c) rest-all (front-fails a b c waits lines (flat_map link_line left ++ end_line end) front
         (StopsWriting-of b c waits (flat_map link_line left ++ end_line end) fails)),
   )
@@ -55,7 +55,7 @@ module _ (a b c : WriteLog) (waits lines : List ℕ) (links left : List Piece) (
       → (text : List ℕ) × IsChainText payload text × WritesAll r a c text
   end_printed r none wrote =
       let last-all : lines ++ end_line end ≡ all = ap (λ ls. lines ++ (flat_map link_line ls ++ end_line end)) (sym none) ∙ rest-all in
-      (all, told, subst (WritesAll r a c) last-all (front_rest a b c waits lines (end_line end) front r wrote))
+      (all, reported, subst (WritesAll r a c) last-all (front_rest a b c waits lines (end_line end) front r wrote))
 
 -- ---- a payload that was not read
 
@@ -75,11 +75,11 @@ pub record ChainOfBytes {T : Type 0} (r : Result T CliFault) (frame old new : Op
   pub names : IfErr r (NamesPath IsChainPath)
 
 module _ {T : Type 0} (a b : ReadLog) (old new : WriteLog) where
-  pub chain_of_bytes : (r : Result T CliFault) → TellsChain r a b old new → ChainOfBytes r a.remaining old.contents new.contents
-  chain_of_bytes (Ok x) (payload, text, took, told, wrote) =
+  pub chain_of_bytes : (r : Result T CliFault) → ReportsChain r a b old new → ChainOfBytes r a.remaining old.contents new.contents
+  chain_of_bytes (Ok x) (payload, text, took, reported, wrote) =
       let whole = whole_of a b payload took in
       record {
-        ok = Consumes-whole _ _ payload (λ bytes. PrintsChain bytes old.contents new.contents) whole.taken whole.end (text, told, wrote.bytes');
+        ok = Consumes-whole _ _ payload (λ bytes. PrintsChain bytes old.contents new.contents) whole.taken whole.end (text, reported, wrote.bytes');
         few = Consumes-whole _ _ payload (λ bytes. length bytes ≤ payload_limit) whole.taken whole.end whole.few;
         err = tt;
         names = tt;
@@ -90,7 +90,7 @@ module _ {T : Type 0} (a b : ReadLog) (old new : WriteLog) where
     err = (same, subst (λ (log : WriteLog). Keeps old.contents log.contents) (sym kept) (Keeps-refl old.contents));
     names = subst IsChainPath (sym same) tt;
   }
-  chain_of_bytes (Err (faults.Write path)) (same, (payload, text, took, told, stopped)) =
+  chain_of_bytes (Err (faults.Write path)) (same, (payload, text, took, reported, stopped)) =
       let whole = whole_of a b payload took in
       record {
         ok = tt;
@@ -98,7 +98,7 @@ module _ {T : Type 0} (a b : ReadLog) (old new : WriteLog) where
         err = (
           same,
           Consumes-whole _ _ payload (λ bytes. (all : List ℕ) × IsChainText bytes all × WritesFront old.contents new.contents all) whole.taken whole.end
-              (text, told, stopped.front),
+              (text, reported, stopped.front),
         );
         names = subst IsChainPath (sym same) tt;
       }

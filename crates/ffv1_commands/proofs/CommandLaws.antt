@@ -14,7 +14,7 @@ use Rattle.ffv1_hold.specs.Headline.{IsReelOf}
 use Rattle.ffv1_hold.specs.HoldingText.{holding_text}
 use Rattle.ffv1_hold.specs.declared.version.Version.TheVariants.{Second}
 use Rattle.ffv1_pool.specs.Joins.{joined_all}
-use Rattle.ffv1_pool.specs.Originals.{AreCopiesOf, HoldsExactly}
+use Rattle.ffv1_pool.specs.Originals.{AreCopiesOfSlices, HoldsExactly}
 use Rattle.ffv1_pool.specs.Standing.{restored_payload, IsLeastUnsettled}
 use Rattle.ffv1_hold.proofs.Answered.{refused_outside}
 use Rattle.ffv1_pool.proofs.ExactlyHeld.{exactly_held, near_are_copies}
@@ -54,14 +54,14 @@ whole_inputs [] [] each = refl
 whole_inputs [] (b ∷ bs) each = absurd each
 whole_inputs (c ∷ cs) [] each = absurd each
 whole_inputs (c ∷ cs) (b ∷ bs) each =
-    let first : c ≡ b = each.0.told in
+    let first : c ≡ b = each.0.reported in
     let rest : cs ≡ bs = whole_inputs cs bs each.1 in
     cc
 
 -- a file is that of one holding
 one_holding : (g h : Contents) (file : List ℕ) → IsHoldingFile (Some file) g → file ≡ holding_text h → HasFile h → g ≡ h
 one_holding g h file is text has = one_text g h file is.sound has.sound is.fits.record' has.fits.record'
-    (is.version, is.fits.told, is.text) (Second, has.fits.told, text)
+    (is.version, is.fits.reported, is.text) (Second, has.fits.reported, text)
 
 -- ---- a tree of commands
 
@@ -70,10 +70,10 @@ module _ (config : List ℕ) (width height : ℕ) where
       → TakesCopies (Some config) width height (map Some copies) (Some []) (Some file) before after → IsFileOf config width height copies file
   of_take copies file before after takes =
       let same : copies ≡ takes.copies = whole_inputs copies takes.copies takes.read in
-      let told : config ≡ takes.reel.config = takes.of_record.read.told in
+      let reported : config ≡ takes.reel.config = takes.of_record.read.reported in
       record {
         reel = takes.reel;
-        of_record = (sym told, subst (λ (c : List ℕ). IsSetupOf c width height takes.reel.setup) (sym told) takes.of_record.is_setup);
+        of_record = (sym reported, subst (λ (c : List ℕ). IsSetupOf c width height takes.reel.setup) (sym reported) takes.of_record.is_setup);
         text = takes.file ∙ ap (λ cs. holding_text (holding_of takes.reel cs)) (sym same);
         has = subst (λ (cs : List (List ℕ)). HasFile (holding_of takes.reel cs)) (sym same) takes.has_file;
       }
@@ -165,11 +165,11 @@ module _ (config : List ℕ) (width height : ℕ) (copies others : List (List �
 
   one_report : (report other_report : List ℕ) → ReportsFile (Some file) (Some []) (Some report) → ReportsFile (Some other) (Some []) (Some other_report)
       → report ≡ other_report
-  one_report report other_report told other_told =
-      told.printed
-      ∙ ap report_text (one_holding told.held (holding_of is.reel copies) file told.file is.text is.has ∙ one_of_copies
-      ∙ sym (one_holding other_told.held (holding_of also.reel others) other other_told.file also.text also.has))
-      ∙ sym other_told.printed
+  one_report report other_report reported other_reported =
+      reported.printed
+      ∙ ap report_text (one_holding reported.held (holding_of is.reel copies) file reported.file is.text is.has ∙ one_of_copies
+      ∙ sym (one_holding other_reported.held (holding_of also.reel others) other other_reported.file also.text also.has))
+      ∙ sym other_reported.printed
 
   one_holding_read : (h g : Contents) → IsHoldingFile (Some file) h → IsHoldingFile (Some other) g → AreEqualInAll h g
   one_holding_read h g h_is g_is =
@@ -193,9 +193,9 @@ same_copies_make_one_file config width height copies others file other is also s
     one_file config width height copies others file other (made config width height copies file is) (made config width height others other also) same
 
 pub same_copies_make_one_report : SameCopiesMakeOneReport
-same_copies_make_one_report config width height copies others file other report other_report is also same told other_told =
+same_copies_make_one_report config width height copies others file other report other_report is also same reported other_reported =
     one_report config width height copies others file other (made config width height copies file is)
-    (made config width height others other also) same report other_report told other_told
+    (made config width height others other also) same report other_report reported other_reported
 
 -- ---- copies of an original
 
@@ -208,12 +208,12 @@ no_fault h file text has fault stops =
 
 module _ (config : List ℕ) (width height : ℕ) (setup : SetupValue) (copies : List (List ℕ)) (file original : List ℕ) (slices : List (List ℕ))
     (is_setup : IsSetupOf config width height setup) (is : IsFileOf config width height copies file)
-    (is_original : IsOriginal setup original slices) (are : AreCopiesOf setup slices copies) where
+    (is_original : IsOriginal setup original slices) (are : AreCopiesOfSlices setup slices copies) where
   same_setup : setup ≡ is.reel.setup
   same_setup = one_setup config width height setup is.reel.setup is_setup is.of_record.1
 
   exact : HoldsExactly (holding_of is.reel copies) slices
-  exact = exactly_held is.reel slices copies (subst (λ (s : SetupValue). AreCopiesOf s slices copies) same_setup are)
+  exact = exactly_held is.reel slices copies (subst (λ (s : SetupValue). AreCopiesOfSlices s slices copies) same_setup are)
 
   own : IsOriginal is.reel.setup original slices
   own = subst (λ (s : SetupValue). IsOriginal s original slices) same_setup is_original
@@ -280,7 +280,7 @@ commands_restore_near_copies config width height setup copies file original slic
 whole_inputs-all : (copies : List (List ℕ)) → ((i : ℕ) → i < length copies → length (get_or copies i []) ≤ payload_limit)
     → AreWholeInputs (map Some copies) copies
 whole_inputs-all [] few = tt
-whole_inputs-all (c ∷ cs) few = (record { told = refl; few = few 0 (omega arith) }, whole_inputs-all cs (λ i lt. few (suc i) (omega arith)))
+whole_inputs-all (c ∷ cs) few = (record { reported = refl; few = few 0 (omega arith) }, whole_inputs-all cs (λ i lt. few (suc i) (omega arith)))
 
 -- where a record has a setup, copies and record are short enough, and their holding has a file, that file is made of them
 taken : (config : List ℕ) (width height : ℕ) (reel : Reel) (copies : List (List ℕ)) → IsReelOf config width height reel → length config ≤ payload_limit
@@ -291,7 +291,7 @@ taken config width height reel copies is short few has =
     by_take copies (holding_text (holding_of reel copies)) None None (record {
       reel = reel;
       of_record = record {
-        read = record { told = same; few = omega (arith, ap length same) };
+        read = record { reported = same; few = omega (arith, ap length same) };
         is_setup = subst (λ (c : List ℕ). IsSetupOf c width height reel.setup) same is.1;
       };
       copies = copies;

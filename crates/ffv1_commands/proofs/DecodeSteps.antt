@@ -10,8 +10,8 @@ use Rattle.ffv1_commands.specs.Devices.{TakesWhole, IsWholeInput, BothStop, Writ
 use Rattle.ffv1_commands.specs.RecordInputs.{IsSetupInput, TakesSetup, RecordStops}
 use Rattle.ffv1_commands.specs.Fault.{of_frame}
 use Rattle.ffv1_commands.specs.Paths.{IsDecodePath}
-use Rattle.ffv1_commands.specs.SamplesText.{raw_bytes, frame_line}
-use Rattle.ffv1_commands.specs.DecodeText.{IsFrameInput, DecodesFile, DecodeStops, TakesFrame, FrameStops, TellsDecode}
+use Rattle.ffv1_commands.specs.SamplesText.{raw_bytes, decoded_frame_line}
+use Rattle.ffv1_commands.specs.DecodeText.{IsFrameInput, DecodesFile, DecodeStops, TakesFrame, FrameStops, ReportsDecode}
 use Rattle.ffv1_commands.specs.declared.fault.CliFault.{CliFault}
 use Rattle.ffv1_commands.specs.declared.fault.CliFault.TheVariants as faults
 use Rattle.ffv1_commands.specs.declared.path.CommandPath.TheVariants as paths
@@ -41,10 +41,10 @@ FrameStops-says P setup a b fault read memory frame stops = absurd stops
 
 module _ (width height : ℕ) (config config' input input' : ReadLog) (out out' output output' : WriteLog) (setup : SetupValue)
     (set : TakesSetup width height config config' setup) (frame : Frame) (is : TakesFrame setup input input' frame) (line : List ℕ)
-    (size : line ≡ frame_line frame) where
+    (size : line ≡ decoded_frame_line frame) where
   -- the samples and the size were written, or not whole
   pub decoded : {T : Type 0} (r : Result T CliFault) → WritesBoth r (raw_bytes frame) line out out' output output'
-      → TellsDecode r width height config config' input input' out out' output output'
+      → ReportsDecode r width height config config' input input' out out' output output'
   decoded (Ok x) (wrote, printed) = (setup, frame, set, is, wrote, subst (Writes output output') size printed)
   decoded (Err f) stops =
       inr (setup, set, inr (frame, is, subst (λ (l : List ℕ). BothStop f (raw_bytes frame) l out out' output output') size stops))
@@ -94,13 +94,13 @@ module _ (width height : ℕ) (config config' input input' : ReadLog) (out out' 
       frame_bytes fault stops = absurd stops
 
       writing_bytes : (frame : Frame) → TakesFrame setup input input' frame → (f : CliFault)
-          → BothStop f (raw_bytes frame) (frame_line frame) out out' output output' → OfBytes Did Stops IsDecodePath (Err f)
-      writing_bytes frame is = both_says (raw_bytes frame) (frame_line frame) out out' output output'
+          → BothStop f (raw_bytes frame) (decoded_frame_line frame) out out' output output' → OfBytes Did Stops IsDecodePath (Err f)
+      writing_bytes frame is = both_says (raw_bytes frame) (decoded_frame_line frame) out out' output output'
           (λ f. OfBytes Did Stops IsDecodePath (Err f))
-          (unwritten_bytes Did Stops IsDecodePath (raw_bytes frame) (frame_line frame) out out' output output' tt tt
+          (unwritten_bytes Did Stops IsDecodePath (raw_bytes frame) (decoded_frame_line frame) out out' output output' tt tt
           (λ named at. (frame, frame_input width height config config' input input' setup set frame is, at)))
 
-    pub decode_of_bytes : (r : Result T CliFault) → TellsDecode r width height config config' input input' out out' output output'
+    pub decode_of_bytes : (r : Result T CliFault) → ReportsDecode r width height config config' input input' out out' output output'
         → OfBytes Did Stops IsDecodePath r
     decode_of_bytes (Ok x) (setup, frame, set, is, wrote, printed) = record {
       ok = record { frame = frame; is_frame = frame_input width height config config' input input' setup set frame is; samples = wrote.bytes'; printed = printed.bytes' };

@@ -11,7 +11,7 @@ use Rattle.ffv1_commands.specs.declared.fault.CliFault.{CliFault}
 use Rattle.ffv1_commands.specs.declared.path.CommandPath.{CommandPath}
 use Rattle.ffv1_commands.specs.declared.path.CommandPath.TheVariants as paths
 use Rattle.ffv1_commands.proofs.InputFaults.{IsUnwritten, untouched_one, untouched_both, IsHoldingFault-says}
-use Rattle.ffv1_commands.proofs.Telling.{hold_refused}
+use Rattle.ffv1_commands.proofs.Reporting.{hold_refused}
 
 module _ (a b : ReadLog) where
   -- a file that was read whole is that of its holding
@@ -20,7 +20,7 @@ module _ (a b : ReadLog) where
       let text = file_text read.file.version h in
       record {
         version = read.file.version;
-        text = Consumes-whole _ _ text (λ told. told ≡ text) read.file.taken read.at_end refl;
+        text = Consumes-whole _ _ text (λ reported. reported ≡ text) read.file.taken read.at_end refl;
         sound = read.sound;
         fits = read.file.fits;
       }

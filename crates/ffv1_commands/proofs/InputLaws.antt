@@ -4,18 +4,18 @@ use Rattle.std.proofs.lemmas.List.{length-map, length-take-le, take_all}
 use Rattle.std.proofs.KnownBytes.{Consumes-whole}
 use Rattle.std.specs.Io.KnownBytes.{Consumes}
 use Rattle.ffv1_devices.specs.Logs.{ReadLog}
-use Rattle.ffv1_commands.specs.Devices.{ReadsWhole, BeginsWith, Tells, IsWholeInput, AreWholeInputs}
+use Rattle.ffv1_commands.specs.Devices.{ReadsWhole, InputBegins, HasBytes, IsWholeInput, AreWholeInputs}
 use Rattle.ffv1_commands.specs.InTurn.{log_of, ReadsAlone, IsTaken, AreTaken}
 
 -- what was read to the end is what the input has
-pub tells_whole : (before after : Option (List ℕ)) (bytes : List ℕ) → ReadsWhole before after bytes → Tells before bytes
-tells_whole before after bytes whole = Consumes-whole before after bytes (λ told. told ≡ bytes) whole.taken whole.end refl
+pub reports_whole : (before after : Option (List ℕ)) (bytes : List ℕ) → ReadsWhole before after bytes → HasBytes before bytes
+reports_whole before after bytes whole = Consumes-whole before after bytes (λ reported. reported ≡ bytes) whole.taken whole.end refl
 
 pub whole_input : (before after : Option (List ℕ)) (bytes : List ℕ) → ReadsWhole before after bytes → IsWholeInput before bytes
-whole_input before after bytes whole = record { told = tells_whole before after bytes whole; few = whole.few }
+whole_input before after bytes whole = record { reported = reports_whole before after bytes whole; few = whole.few }
 
 -- an input begins with what was taken from it
-pub begins : (before after : Option (List ℕ)) (bytes : List ℕ) → Consumes before after bytes → BeginsWith before bytes
+pub begins : (before after : Option (List ℕ)) (bytes : List ℕ) → Consumes before after bytes → InputBegins before bytes
 begins None after bytes taken = tt
 begins (Some all) None bytes taken = absurd taken
 begins (Some all) (Some rest) bytes taken = (rest, taken)
@@ -48,10 +48,10 @@ taken_whole (i ∷ is) (b ∷ bs) ((log, took), rest) =
 
 -- ---- a list of inputs that are read in turn
 
-module _ {C : Type 0} (tells : C → Option (List ℕ)) where
+module _ {C : Type 0} (reports : C → Option (List ℕ)) where
   -- so many come before a place
-  pub length-inputs : (old : List C) (i : ℕ) → i ≤ length old → i ≡ length (take i (map tells old))
-  length-inputs old i le = let few : i ≤ length (map tells old) = omega (arith, length-map old tells) in sym (length-take-le i (map tells old) few)
+  pub length-inputs : (old : List C) (i : ℕ) → i ≤ length old → i ≡ length (take i (map reports old))
+  length-inputs old i le = let few : i ≤ length (map reports old) = omega (arith, length-map old reports) in sym (length-take-le i (map reports old) few)
 
-  pub inputs_all : (old : List C) (i : ℕ) → length old ≤ i → take i (map tells old) ≡ map tells old
-  inputs_all old i le = let few : length (map tells old) ≤ i = omega (arith, length-map old tells) in take_all i (map tells old) few
+  pub inputs_all : (old : List C) (i : ℕ) → length old ≤ i → take i (map reports old) ≡ map reports old
+  inputs_all old i le = let few : length (map reports old) ≤ i = omega (arith, length-map old reports) in take_all i (map reports old) few

@@ -44,13 +44,13 @@ lines_from-push number whole (o ∷ os) other =
 
 abbrev pub joins_first : (input : Option (List ℕ)) (h : Contents) (text : List ℕ) → text ≡ file_line 1 (set.size h.slices) → IsHoldingFile input h
     → JoinsEach (input ∷ []) h text
-joins_first input h text told file = record {
+joins_first input h text reported file = record {
   first = h;
   others = [];
   files = (file, tt);
   joinable = tt;
   held = refl;
-  lines = told ∙ sym (append-nil (file_line 1 (set.size h.slices)));
+  lines = reported ∙ sym (append-nil (file_line 1 (set.size h.slices)));
 }
 
 abbrev pub joins_more : (inputs : List (Option (List ℕ))) (old new : Contents) (before after : List ℕ) (input : Option (List ℕ)) (number : ℕ)

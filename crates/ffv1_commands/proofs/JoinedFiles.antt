@@ -13,7 +13,7 @@ use Rattle.ffv1_commands.specs.Fault.{NamesPath, of_hold}
 use Rattle.ffv1_commands.specs.Paths.{IsJoinPath}
 use Rattle.ffv1_commands.specs.InTurn.{AreKeptFrom, log_of, ReadsAlone}
 use Rattle.ffv1_commands.specs.Holdings.{IsHoldingFile, MadeStops, WritesMade}
-use Rattle.ffv1_commands.specs.JoinText.{file_line, JoinsEach, JoinsOne, JoinsFiles, IsFaultOfFiles, IsFaultOfFile, StopsAtPlace, LaterFilesKept, JoinStops, IsHeld, AreHeld, FileBreaks, JoinBreaks, JoinsAll, StopsAtFile, TellsJoin}
+use Rattle.ffv1_commands.specs.JoinText.{file_line, JoinsEach, JoinsOne, JoinsFiles, IsFaultOfFiles, IsFaultOfInput, StopsAtPlace, LaterFilesKept, JoinStops, IsReadAsFile, AreReadAsFiles, FileBreaks, JoinBreaks, JoinsAll, StopsAtFile, ReportsJoin}
 use Rattle.ffv1_commands.specs.declared.fault.CliFault.{CliFault}
 use Rattle.ffv1_commands.specs.declared.fault.CliFault.TheVariants as faults
 use Rattle.ffv1_commands.specs.declared.path.CommandPath.{CommandPath}
@@ -63,14 +63,14 @@ join_refused before a b whole other read r holds.Memory was differs short = inl 
 
 pub all_first : (a b : ReadLog) (h : Contents) (text : List ℕ) → text ≡ file_line 1 (set.size h.slices) → ReadsHolding a b h
     → JoinsAll [] a b h text
-all_first a b h text told read = record { each = joins_first a.remaining h text told (held_file a b h read); first = read; others = tt }
+all_first a b h text reported read = record { each = joins_first a.remaining h text reported (held_file a b h read); first = read; others = tt }
 
-AreHeld-push : (inputs : List (Option (List ℕ))) (hs : List Contents) (input : Option (List ℕ)) (h : Contents) → AreHeld inputs hs → IsHeld input h
-    → AreHeld (inputs ++ input ∷ []) (hs ++ h ∷ [])
-AreHeld-push [] [] input h each one = (one, tt)
-AreHeld-push [] (g ∷ gs) input h each one = absurd each
-AreHeld-push (i ∷ is) [] input h each one = absurd each
-AreHeld-push (i ∷ is) (g ∷ gs) input h each one = (each.0, AreHeld-push is gs input h each.1 one)
+AreReadAsFiles-push : (inputs : List (Option (List ℕ))) (hs : List Contents) (input : Option (List ℕ)) (h : Contents) → AreReadAsFiles inputs hs → IsReadAsFile input h
+    → AreReadAsFiles (inputs ++ input ∷ []) (hs ++ h ∷ [])
+AreReadAsFiles-push [] [] input h each one = (one, tt)
+AreReadAsFiles-push [] (g ∷ gs) input h each one = absurd each
+AreReadAsFiles-push (i ∷ is) [] input h each one = absurd each
+AreReadAsFiles-push (i ∷ is) (g ∷ gs) input h each one = (each.0, AreReadAsFiles-push is gs input h each.1 one)
 
 pub all_more : (inputs : List (Option (List ℕ))) (a b : ReadLog) (old new : Contents) (before after : List ℕ) (input : Option (List ℕ)) (i : ℕ)
     (log : ReadLog) → JoinsAll inputs a b old before → i ≡ length inputs → JoinsOne (ReadsHolding (log_of input) log) (i + 1 + 1) old new before after
@@ -79,7 +79,7 @@ all_more inputs a b old new before after input i log all n one = record {
   each = joins_more (a.remaining ∷ inputs) old new before after input (i + 1) all.each (omega (arith, n))
       (file_joined (log_of input) log (i + 1 + 1) old new before after one);
   first = all.first;
-  others = AreHeld-push inputs all.each.others input one.other all.others (log, one.file);
+  others = AreReadAsFiles-push inputs all.each.others input one.other all.others (log, one.file);
 }
 
 -- the same inputs, written otherwise
@@ -92,14 +92,14 @@ all_as inputs others a b whole text same all = subst (λ (i : List (Option (List
 -- a later file's fault, where those before it were joined
 module _ (first input : Option (List ℕ)) (rest : List (Option (List ℕ))) (i : ℕ) (at : get_or rest i None ≡ input)
     (whole of_first : Contents) (file : IsHoldingFile first of_first) (same : whole.reel ≡ of_first.reel) where
-  other_refused : (fault : CliFault) → ReadsAlone (JoinBreaks (paths.Hold (i + 1)) whole fault) input → IsFaultOfFile (first ∷ rest) (suc i) fault
+  other_refused : (fault : CliFault) → ReadsAlone (JoinBreaks (paths.Hold (i + 1)) whole fault) input → IsFaultOfInput (first ∷ rest) (suc i) fault
   other_refused fault (log, inl (inl stops)) =
       let next : i + 1 ≡ suc i = omega arith in
-      IsHoldingFault-says (IsFaultOfFile (first ∷ rest) (suc i)) (paths.Hold (i + 1)) input fault (ap paths.Hold next) tt
+      IsHoldingFault-says (IsFaultOfInput (first ∷ rest) (suc i)) (paths.Hold (i + 1)) input fault (ap paths.Hold next) tt
       (λ file is. subst (λ (x : Option (List ℕ)). IfSome x (λ bytes. IsFaultOf bytes file)) (sym at) is)
       (unread_file (log_of input) log (paths.Hold (i + 1)) fault stops)
-  other_refused fault (log, inl (inr (is, read))) = subst (IsFaultOfFile (first ∷ rest) (suc i)) (sym is) tt
-  other_refused fault (log, inr (is, (other, read, differs))) = subst (IsFaultOfFile (first ∷ rest) (suc i)) (sym is) (
+  other_refused fault (log, inl (inr (is, read))) = subst (IsFaultOfInput (first ∷ rest) (suc i)) (sym is) tt
+  other_refused fault (log, inr (is, (other, read, differs))) = subst (IsFaultOfInput (first ∷ rest) (suc i)) (sym is) (
     refl,
     (
       of_first,
@@ -110,22 +110,22 @@ module _ (first input : Option (List ℕ)) (rest : List (Option (List ℕ))) (i 
     ),
   )
 
-module _ {R : Type 0} (tells : R → Option (List ℕ)) (a b : ReadLog) (old new : List R) where
-  first_refused : (fault : CliFault) → FileBreaks (paths.Hold 0) fault a b → IsFaultOfFile (a.remaining ∷ map tells old) 0 fault
+module _ {R : Type 0} (reports : R → Option (List ℕ)) (a b : ReadLog) (old new : List R) where
+  first_refused : (fault : CliFault) → FileBreaks (paths.Hold 0) fault a b → IsFaultOfInput (a.remaining ∷ map reports old) 0 fault
   first_refused fault (inl stops) =
-      IsHoldingFault-says (IsFaultOfFile (a.remaining ∷ map tells old) 0) (paths.Hold 0) a.remaining fault refl tt (λ file is. is)
+      IsHoldingFault-says (IsFaultOfInput (a.remaining ∷ map reports old) 0) (paths.Hold 0) a.remaining fault refl tt (λ file is. is)
       (unread_file a b (paths.Hold 0) fault stops)
-  first_refused fault (inr (is, read)) = subst (IsFaultOfFile (a.remaining ∷ map tells old) 0) (sym is) tt
+  first_refused fault (inr (is, read)) = subst (IsFaultOfInput (a.remaining ∷ map reports old) 0) (sym is) tt
 
-  at_place : (fault : CliFault) → StopsAtFile tells a b old new fault → StopsAtPlace (a.remaining ∷ map tells old) old new fault
+  at_place : (fault : CliFault) → StopsAtFile reports a b old new fault → StopsAtPlace (a.remaining ∷ map reports old) old new fault
   at_place fault (inl (breaks, same)) = (0, omega arith, inl refl, first_refused fault breaks, same)
   at_place fault (inr (i, lt, (whole, text, all, stops), later)) =
-      let few : suc i < length (a.remaining ∷ map tells old) = omega (arith, length-map old tells) in
+      let few : suc i < length (a.remaining ∷ map reports old) = omega (arith, length-map old reports) in
       let next : i + 1 ≡ suc i = omega arith in (
         suc i,
         few,
         inr (whole, text, all.each),
-        other_refused a.remaining (get_or (map tells old) i None) (map tells old) i refl whole all.each.first all.each.files.0
+        other_refused a.remaining (get_or (map reports old) i None) (map reports old) i refl whole all.each.first all.each.files.0
             (joins_reel _ _ _ all.each) fault stops,
         subst (λ n. AreKeptFrom n old new) next later,
       )
@@ -155,17 +155,17 @@ IsFaultOfFiles-unwritten inputs (faults.Write path) (i, lt, before, stops) = abs
 IsFaultOfFiles-unwritten inputs fault stops = tt
 
 -- where a file was not joined nothing was written
-pub files-unwritten : {R : Type 0} (tells : R → Option (List ℕ)) (a b : ReadLog) (old new : List R) (fault : CliFault) → StopsAtFile tells a b old new fault
+pub files-unwritten : {R : Type 0} (reports : R → Option (List ℕ)) (a b : ReadLog) (old new : List R) (fault : CliFault) → StopsAtFile reports a b old new fault
     → IsUnwritten fault
-files-unwritten tells a b old new fault stops =
-    IsFaultOfFiles-unwritten (a.remaining ∷ map tells old) fault (of_files _ old new fault (at_place tells a b old new fault stops))
+files-unwritten reports a b old new fault stops =
+    IsFaultOfFiles-unwritten (a.remaining ∷ map reports old) fault (of_files _ old new fault (at_place reports a b old new fault stops))
 
 -- the file and the lines were written once all was joined, or were not
-pub made_joined : {T R : Type 0} (tells : R → Option (List ℕ)) (a b : ReadLog) (old new : List R) (out out' output output' : WriteLog)
-    (whole : Contents) (text : List ℕ) → JoinsAll (map tells old) a b whole text → (r : Result T CliFault)
-    → WritesMade r whole text out out' output output' → TellsJoin r tells a b old new out out' output output'
-made_joined tells a b old new out out' output output' whole text all (Ok x) made = (whole, text, all, made)
-made_joined tells a b old new out out' output output' whole text all (Err fault) breaks = inr (whole, text, all, breaks)
+pub made_joined : {T R : Type 0} (reports : R → Option (List ℕ)) (a b : ReadLog) (old new : List R) (out out' output output' : WriteLog)
+    (whole : Contents) (text : List ℕ) → JoinsAll (map reports old) a b whole text → (r : Result T CliFault)
+    → WritesMade r whole text out out' output output' → ReportsJoin r reports a b old new out out' output output'
+made_joined reports a b old new out out' output output' whole text all (Ok x) made = (whole, text, all, made)
+made_joined reports a b old new out out' output output' whole text all (Err fault) breaks = inr (whole, text, all, breaks)
 
 -- ---- the same of bytes
 
@@ -205,11 +205,11 @@ pub record JoinOfBytes {T R : Type 0} (r : Result T CliFault) (inputs : List (Op
   pub later : IfErr r (LaterFilesKept inputs old new)
   pub names : IfErr r (NamesPath (IsJoinPath (length old + 1)))
 
-module _ {R : Type 0} (tells : R → Option (List ℕ)) (a b : ReadLog) (old new : List R) (out out' output output' : WriteLog) where
+module _ {R : Type 0} (reports : R → Option (List ℕ)) (a b : ReadLog) (old new : List R) (out out' output output' : WriteLog) where
   abbrev of_bytes : {T : Type 0} → Result T CliFault → Type 0
-  of_bytes r = JoinOfBytes r (a.remaining ∷ map tells old) old new out.contents out'.contents output.contents output'.contents
+  of_bytes r = JoinOfBytes r (a.remaining ∷ map reports old) old new out.contents out'.contents output.contents output'.contents
 
-  pub join_of_bytes : {T : Type 0} (r : Result T CliFault) → TellsJoin r tells a b old new out out' output output' → of_bytes r
+  pub join_of_bytes : {T : Type 0} (r : Result T CliFault) → ReportsJoin r reports a b old new out out' output output' → of_bytes r
   join_of_bytes (Ok x) (whole, text, all, made) = record {
     ok = record {
       whole = whole;
@@ -224,17 +224,17 @@ module _ {R : Type 0} (tells : R → Option (List ℕ)) (a b : ReadLog) (old new
     names = tt;
   }
   join_of_bytes (Err fault) (inl (stops, kept)) =
-      let inputs = a.remaining ∷ map tells old in
-      let place = at_place tells a b old new fault stops in
+      let inputs = a.remaining ∷ map reports old in
+      let place = at_place reports a b old new fault stops in
       let refused = of_files inputs old new fault place in
       record {
         ok = tt;
         err = files_refused inputs out.contents out'.contents output.contents output'.contents fault refused;
         later = later_kept inputs old new fault place;
-        names = files_name inputs (length old) (omega (arith, length-map old tells)) fault refused;
+        names = files_name inputs (length old) (omega (arith, length-map old reports)) fault refused;
       }
   join_of_bytes (Err fault) (inr (whole, text, all, breaks)) =
-      let inputs = a.remaining ∷ map tells old in
+      let inputs = a.remaining ∷ map reports old in
       let stops = made_bytes whole text out out' output output' fault breaks in
       record {
         ok = tt;

@@ -25,19 +25,19 @@ module _ {C : Type 0} (old now : List C) (i : ℕ) (same : AreKeptFrom i old now
   pub rest_kept : (new : C) → AreKeptFrom (i + 1) old (set now i new)
   rest_kept new = drop-set-lt (i + 1) now i new (omega arith) ∙ sym (drop-drop 1 i now) ∙ ap (drop 1) same ∙ drop-drop 1 i old
 
-  module _ (tells : C → Option (List ℕ)) (there : i < length old) (d : C) where
+  module _ (reports : C → Option (List ℕ)) (there : i < length old) (d : C) where
     -- one input more
-    pub inputs_more : take i (map tells old) ++ tells (get_or now i d) ∷ [] ≡ take (i + 1) (map tells old)
-    inputs_more = ap (λ c. take i (map tells old) ++ tells c ∷ []) (next_kept d) ∙ map_more tells old i d there
+    pub inputs_more : take i (map reports old) ++ reports (get_or now i d) ∷ [] ≡ take (i + 1) (map reports old)
+    inputs_more = ap (λ c. take i (map reports old) ++ reports c ∷ []) (next_kept d) ∙ map_more reports old i d there
 
     -- the input at this place
-    pub input_here : get_or (map tells old) i None ≡ tells (get_or now i d)
-    input_here = get_or-map tells old i d None there ∙ ap tells (sym (next_kept d))
+    pub input_here : get_or (map reports old) i None ≡ reports (get_or now i d)
+    input_here = get_or-map reports old i d None there ∙ ap reports (sym (next_kept d))
 
     -- the command stopped there
     pub stops_here : (Stops : CommandPath → CliFault → ReadLog → ReadLog → Type 0) (new : C) (fault : CliFault) (copies : List (List ℕ))
-        → AreTaken (take i (map tells old)) copies → ReadsAlone (Stops (paths.Copy i) fault) (tells (get_or now i d))
-        → StopsAtCopy Stops tells old (set now i new) fault
+        → AreTaken (take i (map reports old)) copies → ReadsAlone (Stops (paths.Copy i) fault) (reports (get_or now i d))
+        → StopsAtCopy Stops reports old (set now i new) fault
     stops_here Stops new fault copies earlier stopped = record {
       index = i;
       there = there;

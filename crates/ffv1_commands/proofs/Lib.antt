@@ -1,7 +1,7 @@
 pub mod Shows
 pub mod InputLaws
 pub mod ReadLists
-pub mod Telling
+pub mod Reporting
 pub mod RecordFaults
 pub mod InputFaults
 pub mod WrittenBoth
@@ -25,7 +25,7 @@ pub mod Wrapped
 pub mod NamedFiles
 pub mod MadeFiles
 pub mod LaterInputs
-pub mod TakeTold
+pub mod TakeReported
 pub mod JoinedFiles
 pub mod MergedFiles
 pub mod ScanCommandSteps

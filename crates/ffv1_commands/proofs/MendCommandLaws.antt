@@ -19,7 +19,7 @@ use Rattle.ffv1_stretches.proofs.FileLemmas.{joined, kept_all}
 use Rattle.ffv1_stretches.proofs.ListLemmas.{LastLine, last_line, listed_once}
 use Rattle.ffv1_stretches.proofs.OrderLemmas.{listed_in_order}
 use Rattle.ffv1_commands.specs.Commands.{IsOfDevices}
-use Rattle.ffv1_commands.specs.Devices.{BeginsWith}
+use Rattle.ffv1_commands.specs.Devices.{InputBegins}
 use Rattle.ffv1_commands.specs.Fault.{of_mend}
 use Rattle.ffv1_commands.specs.Lists.{IsList}
 use Rattle.ffv1_commands.specs.MendLaws.{MendsTo, IsMadeOfStretches, ListedIsMade, AnyOrderMakesOneFile, TrueIsVouched, MendGivesTheOriginal}
@@ -56,11 +56,11 @@ none_is_bad copies text stretches number list bad =
 
 -- what the text of a list says, where it is known
 list_says : (P : List ℕ → Type 0) (list : List ℕ) → IsList P (Some list) → P list
-list_says P list is = subst P (sym is.whole.told) is.says
+list_says P list is = subst P (sym is.whole.reported) is.says
 
 -- ---- the copies begin with what was read of them
 
-rests_of : (copies files : List (List ℕ)) → AllZip BeginsWith (map Some copies) files → (rests : List (List ℕ)) × (length rests ≡ length files) × (joined files rests ≡ copies)
+rests_of : (copies files : List (List ℕ)) → AllZip InputBegins (map Some copies) files → (rests : List (List ℕ)) × (length rests ≡ length files) × (joined files rests ≡ copies)
 unfolding joined
 rests_of [] [] begin = ([], refl, refl)
 rests_of [] (file ∷ files) begin = absurd begin
@@ -70,7 +70,7 @@ rests_of (copy ∷ copies) (file ∷ files) ((rest, is), begin) =
     let whole : (file ++ rest) ∷ joined files others.0 ≡ copy ∷ copies = ap (λ c. c ∷ joined files others.0) (sym is) ∙ ap (λ cs. copy ∷ cs) others.2 in
     (rest ∷ others.0, ap suc others.1, whole)
 
-as_many_read : (copies files : List (List ℕ)) → AllZip BeginsWith (map Some copies) files → length files ≡ length copies
+as_many_read : (copies files : List (List ℕ)) → AllZip InputBegins (map Some copies) files → length files ≡ length copies
 as_many_read [] [] begin = refl
 as_many_read [] (file ∷ files) begin = absurd begin
 as_many_read (copy ∷ copies) [] begin = absurd begin
@@ -136,12 +136,12 @@ all_good P (s ∷ stretches) (m ∷ mended) each good =
     (each.0 all.0, all_good P stretches mended each.1 all.1)
 
 pub true_is_vouched : TrueIsVouched
-true_is_vouched list copies stretches made listed is told =
+true_is_vouched list copies stretches made listed is reported =
     let (mended, of_made) = listed_is_made list copies stretches made listed is in (
       mended,
       of_made,
       all_good (λ stretch one. IsVouched stretch.kind (versions_in (cells_of copies stretch)) one.bytes) stretches mended
-          (good_stretches_are_vouched copies stretches mended of_made.outcomes) (sym of_made.answer ∙ told),
+          (good_stretches_are_vouched copies stretches mended of_made.outcomes) (sym of_made.answer ∙ reported),
     )
 
 -- ---- the original
@@ -174,10 +174,10 @@ only_devices list copies stretches listed ob oa pb pa fault (of_pass stop passed
 
 pub mend_gives_the_original : MendGivesTheOriginal
 mend_gives_the_original list copies stretches mended originals listed outcomes have = record {
-  made = λ made is told.
+  made = λ made is reported.
       let (own, of_made) = listed_is_made list copies stretches made listed is in
       let same : own ≡ mended = any_order_mends copies copies stretches stretches own mended (reordered_none copies stretches) of_made.outcomes outcomes in
-      let good = ap (list_all (λ (one : MendedValue). is_good one.state)) (sym same) ∙ sym of_made.answer ∙ told in
+      let good = ap (list_all (λ (one : MendedValue). is_good one.state)) (sym same) ∙ sym of_made.answer ∙ reported in
       of_made.file ∙ ap (λ all. bytes_of all) same ∙ original_file_is_mended copies stretches mended originals outcomes have good;
   refused = only_devices list (map Some copies) stretches (subst (λ n. AreStretches n list stretches) (sym (length-map copies Some)) listed);
 }

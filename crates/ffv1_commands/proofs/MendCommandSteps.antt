@@ -16,11 +16,11 @@ use Rattle.ffv1_stretches.specs.Passes.{AreRead, AreReadBut, MendsFront, StopsMe
 use Rattle.ffv1_stretches.specs.Stretches.{StretchValue}
 use Rattle.ffv1_stretches.specs.declared.pass.MendFault.{MendFault}
 use Rattle.ffv1_stretches.specs.declared.pass.MendFault.TheVariants as stops
-use Rattle.ffv1_commands.specs.Devices.{BeginsWith}
+use Rattle.ffv1_commands.specs.Devices.{InputBegins}
 use Rattle.ffv1_commands.specs.Fault.{NamesPath, of_mend}
 use Rattle.ffv1_commands.specs.InTurn.{log_of}
 use Rattle.ffv1_commands.specs.Lists.{ReadsList, IsList, IfOfList}
-use Rattle.ffv1_commands.specs.MendText.{IsListFault, MendsListed, TellsMend, MendsSome, MendsFiles, PassStops, MendStops, of_list, of_pass}
+use Rattle.ffv1_commands.specs.MendText.{IsFaultOfList, MendsListed, ReportsMend, MendsSome, MendsFiles, PassStops, MendStops, of_list, of_pass}
 use Rattle.ffv1_commands.specs.Paths.{IsMendPath}
 use Rattle.ffv1_commands.specs.declared.fault.CliFault.{CliFault}
 use Rattle.ffv1_commands.specs.declared.fault.CliFault.TheVariants as faults
@@ -71,16 +71,16 @@ module _ {C D : Type 0} (state : C → CopyState) (remaining : D → Option (Lis
 
 -- ---- each copy begins with what was read of it
 
-begin_all : (old new : List ReadLog) (files : List (List ℕ)) → AreRead old new files → AllZip BeginsWith (inputs_of old) files
+begin_all : (old new : List ReadLog) (files : List (List ℕ)) → AreRead old new files → AllZip InputBegins (inputs_of old) files
 begin_all [] [] [] read = tt
 begin_all (a ∷ old) (b ∷ new) (file ∷ files) (read, reads) = (begins a.remaining b.remaining file read.bytes', begin_all old new files reads)
 begin_all old new files read = absurd read
 
-begin_stopped : (a b : ReadLog) (file : List ℕ) → StopsReading a b file → BeginsWith a.remaining file
+begin_stopped : (a b : ReadLog) (file : List ℕ) → StopsReading a b file → InputBegins a.remaining file
 begin_stopped a b file (inl broke) = begins a.remaining b.remaining file broke.bytes'
 begin_stopped a b file (inr (read, end)) = begins a.remaining b.remaining file read.bytes'
 
-begin_but : (copy : ℕ) (old new : List ReadLog) (files : List (List ℕ)) → AreReadBut copy old new files → AllZip BeginsWith (inputs_of old) files
+begin_but : (copy : ℕ) (old new : List ReadLog) (files : List (List ℕ)) → AreReadBut copy old new files → AllZip InputBegins (inputs_of old) files
 begin_but zero (a ∷ old) (b ∷ new) (file ∷ files) (stopped, reads) = (begin_stopped a b file stopped, begin_all old new files reads)
 begin_but (suc copy) (a ∷ old) (b ∷ new) (file ∷ files) (read, reads) =
     (begins a.remaining b.remaining file read.bytes', begin_but copy old new files reads)
@@ -113,7 +113,7 @@ module _ (a b : ReadLog) (old new : List ReadLog) (o o' p p' : WriteLog) where
   as_many = sym (length-map old (λ log. log.remaining))
 
   abbrev some : (stretches front : List StretchValue) (files : List (List ℕ)) (mended : List MendedValue)
-      → ReadsList (λ text. AreStretches (length old) text stretches) a b → AllZip BeginsWith (inputs_of old) files
+      → ReadsList (λ text. AreStretches (length old) text stretches) a b → AllZip InputBegins (inputs_of old) files
       → MendsFront stretches front files mended → MendsSome a.remaining (inputs_of old) stretches front files mended
   some stretches front files mended list begin mends = record {
     list' = subst (λ (n : ℕ). IsList (λ text. AreStretches n text stretches) a.remaining) as_many (list_of_bytes _ a b list);
@@ -148,7 +148,7 @@ module _ (a b : ReadLog) (old new : List ReadLog) (o o' p p' : WriteLog) where
   abbrev OfBytes : Result Bool CliFault → Type 0
   OfBytes r = MendOfBytes r a.remaining (inputs_of old) o.contents o'.contents p.contents p'.contents
 
-  unlisted : (fault : CliFault) → o' ≡ o → p' ≡ p → IsListFault (length old) a b fault → OfBytes (Err fault)
+  unlisted : (fault : CliFault) → o' ≡ o → p' ≡ p → IsFaultOfList (length old) a b fault → OfBytes (Err fault)
   unlisted (faults.Read path) out output (is, unread) = record {
     ok = tt;
     err = of_list (faults.Read path) is (kept o o' out) (kept p p' output);
@@ -162,7 +162,7 @@ module _ (a b : ReadLog) (old new : List ReadLog) (o o' p p' : WriteLog) where
   unlisted faults.Memory out output memory = record { ok = tt; err = of_list faults.Memory tt (kept o o' out) (kept p p' output); names = tt }
   unlisted fault out output none = absurd none
 
-  pub mend_of_bytes : (r : Result Bool CliFault) → TellsMend r a b old new o o' p p' → OfBytes r
+  pub mend_of_bytes : (r : Result Bool CliFault) → ReportsMend r a b old new o o' p p' → OfBytes r
   mend_of_bytes (Ok good) (stretches, list, all) = record {
     ok = record {
       stretches = stretches;
@@ -186,12 +186,12 @@ module _ (a b : ReadLog) (old new : List ReadLog) (o o' p p' : WriteLog) where
 -- the same, of readers
 pub mend_of_files : {C D : Type 0} (state : C → CopyState) (remaining : D → Option (List ℕ)) (readers now : List C) (copies : List D) → now ≡ readers
     → map state readers ≡ states_of state remaining copies → (a b : ReadLog) (new : List ReadLog) (o o' p p' : WriteLog) (r : Result Bool CliFault)
-    → TellsMend r a b (map (λ reader. (state reader).log) now) new o o' p p'
+    → ReportsMend r a b (map (λ reader. (state reader).log) now) new o o' p p'
     → MendOfBytes r a.remaining (map remaining copies) o.contents o'.contents p.contents p'.contents
-mend_of_files state remaining readers now copies value same a b new o o' p p' r told =
+mend_of_files state remaining readers now copies value same a b new o o' p p' r reported =
     let inputs = ap (λ all. inputs_of (map (λ reader. (state reader).log) all)) value ∙ inputs_are state remaining readers copies same in
     subst (λ (inputs : List (Option (List ℕ))). MendOfBytes r a.remaining inputs o.contents o'.contents p.contents p'.contents) inputs
-    (mend_of_bytes a b _ new o o' p p' r told)
+    (mend_of_bytes a b _ new o o' p p' r reported)
 
 -- ---- the list that was read
 

@@ -9,8 +9,8 @@ use Rattle.ffv1_hold.proofs.HeldEntries.{holding-joined}
 use Rattle.ffv1_hold.specs.HoldingText.{head_text, begun_text, file_text, holding_text}
 use Rattle.ffv1_hold.specs.declared.version.Version.TheVariants.{Second}
 use Rattle.ffv1_hold.specs.FileFaults.{IsOutside, IsFaultOf}
-use Rattle.ffv1_hold.specs.JoinedStreams.{Inputs, InputRefuses, OneRefuses, JoinRefuses, EntriesPass, UnionPasses, ReadsAll, ReadsSoFar, ReadsOtherHeads, WritesUnion, WritesNoEnd, WritesFrontSoFar, AnswersOther, BeginsWith, BeginsWithPart}
-use Rattle.ffv1_hold.specs.JoinLogs.{Devices}
+use Rattle.ffv1_hold.specs.MergedStreams.{Inputs, InputRefuses, OneRefuses, JoinRefuses, EntriesPass, UnionPasses, ReadsAll, ReadsSoFar, ReadsOtherHeads, WritesUnion, WritesNoEnd, WritesFrontSoFar, AnswersOther, StreamBegins, BeginsWithPart}
+use Rattle.ffv1_hold.specs.MergeLogs.{Devices}
 use Rattle.ffv1_hold.specs.declared.file_fault.HoldFileFault.{HoldFileFault}
 use Rattle.ffv1_hold.specs.declared.file_fault.HoldFileFault.TheVariants as files
 use Rattle.ffv1_hold.proofs.MergeSteps.{part_begins}
@@ -18,18 +18,18 @@ use Rattle.ffv1_hold.proofs.MergeStarts.{all_part}
 use Rattle.ffv1_commands.specs.Fault.{NamesPath, of_merge}
 use Rattle.ffv1_commands.specs.Paths.{IsMergePath}
 use Rattle.ffv1_commands.specs.Holdings.{IsHoldingFile}
-use Rattle.ffv1_commands.specs.MergeText.{MergesFiles, BeginsUnion, HeadsDiffer, IsFaultOfEither, IsMergeFault, LeavesEntries, MergeLeaves, AnswersOtherHeads, inputs_of, LeavesFront, TellsMerge}
+use Rattle.ffv1_commands.specs.MergeText.{MergesFiles, BeginsUnion, HeadsDiffer, IsFaultOfEither, IsMergeFault, LeavesEntries, MergeLeaves, AnswersOtherHeads, inputs_of, LeavesFront, ReportsMerge}
 use Rattle.ffv1_commands.specs.declared.fault.CliFault.{CliFault}
 
 holding_file : (old new : Option (List ℕ)) (h : Contents) → ReadsAll old new h → IsHoldingFile old h
 holding_file old new h a = record {
   version = a.file.version;
-  text = Consumes-whole old new (file_text a.file.version h) (λ told. told ≡ file_text a.file.version h) a.file.taken a.at_end refl;
+  text = Consumes-whole old new (file_text a.file.version h) (λ reported. reported ≡ file_text a.file.version h) a.file.taken a.at_end refl;
   sound = a.sound;
   fits = a.file.fits;
 }
 
-taken_begins : (old new : Option (List ℕ)) (bytes : List ℕ) → Consumes old new bytes → BeginsWith old bytes
+taken_begins : (old new : Option (List ℕ)) (bytes : List ℕ) → Consumes old new bytes → StreamBegins old bytes
 taken_begins None new bytes t = tt
 taken_begins (Some xs) None bytes t = absurd t
 taken_begins (Some xs) (Some ys) bytes t = (ys, t)
@@ -143,7 +143,7 @@ module _ {T : Type 0} (old new : Devices) where
   abbrev OfBytes : Result T CliFault → Type 0
   OfBytes r = MergeOfBytes r old.left.remaining old.right.remaining old.sink.contents new.sink.contents
 
-  pub merge_of_bytes : (r : Result T CliFault) → TellsMerge r old new → OfBytes r
+  pub merge_of_bytes : (r : Result T CliFault) → ReportsMerge r old new → OfBytes r
   merge_of_bytes (Ok x) (union, went) = record { ok = merges (inputs_of old new) old.sink.contents new.sink.contents union; err = tt; leaves = tt; names = tt }
   merge_of_bytes (Err fault) (f, is, stops) = subst (λ (g : CliFault). OfBytes (Err g)) (sym is) (record {
     ok = tt;

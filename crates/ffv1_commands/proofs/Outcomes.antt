@@ -2,7 +2,7 @@
 use Rattle.std.proofs.Common.{◌≡◌, ℕ, ◌++◌, List, ◌∙◌, append_assoc}
 use Rattle.std.specs.Prelude.{codes}
 use Rattle.std.specs.Fmt.{decimal}
-use Rattle.ffv1_commands.specs.PictureText.{place_line}
+use Rattle.ffv1_commands.specs.PictureText.{stuck_line}
 use Rattle.ffv1_commands.specs.SamplesText.{decoded_line}
 use Rattle.ffv1_commands.specs.TakeText.{copy_line}
 use Rattle.ffv1_commands.specs.JoinText.{file_line}
@@ -26,27 +26,27 @@ append-seven a b c d e f g =
 append-five : (a b c d e : List ℕ) → a ++ b ++ c ++ d ++ e ≡ a ++ (b ++ (c ++ (d ++ e)))
 append-five a b c d e = append_assoc (a ++ b ++ c) d e ∙ append_assoc (a ++ b) c (d ++ e) ∙ append_assoc a b (c ++ (d ++ e))
 
-pub copy_line-pieces : (number links slices new : ℕ) → copy_line number links slices new
+pub copy_line-fragments : (number links slices new : ℕ) → copy_line number links slices new
     ≡ codes "copy " ++ (decimal number ++ (codes " links " ++ (decimal links ++
     (codes " slices " ++ (decimal slices ++ (codes " new " ++ (decimal new ++ codes "\n")))))))
-copy_line-pieces number links slices new =
+copy_line-fragments number links slices new =
     append-nine (codes "copy ") (decimal number) (codes " links ") (decimal links) (codes " slices ") (decimal slices) (codes " new ") (decimal new)
     (codes "\n")
 
-pub file_line-pieces : (number new : ℕ) → file_line number new
+pub file_line-fragments : (number new : ℕ) → file_line number new
     ≡ codes "file " ++ (decimal number ++ (codes " new " ++ (decimal new ++ codes "\n")))
-file_line-pieces number new = append-five (codes "file ") (decimal number) (codes " new ") (decimal new) (codes "\n")
+file_line-fragments number new = append-five (codes "file ") (decimal number) (codes " new ") (decimal new) (codes "\n")
 
-pub restored_line-pieces : (count : ℕ) → restored_line count ≡ codes "restored " ++ (decimal count ++ codes " bytes\n")
-restored_line-pieces count = append_assoc (codes "restored ") (decimal count) (codes " bytes\n")
+pub restored_line-fragments : (count : ℕ) → restored_line count ≡ codes "restored " ++ (decimal count ++ codes " bytes\n")
+restored_line-fragments count = append_assoc (codes "restored ") (decimal count) (codes " bytes\n")
 
-pub place_line-pieces : (tile plane y x : ℕ) → place_line tile plane y x
+pub stuck_line-fragments : (tile plane y x : ℕ) → stuck_line tile plane y x
     ≡ codes "tile " ++ (decimal tile ++ (codes " fault plane " ++ (decimal plane ++
     (codes " y " ++ (decimal y ++ (codes " x " ++ (decimal x ++ codes "\n")))))))
-place_line-pieces tile plane y x =
+stuck_line-fragments tile plane y x =
     append-nine (codes "tile ") (decimal tile) (codes " fault plane ") (decimal plane) (codes " y ") (decimal y) (codes " x ") (decimal x) (codes "\n")
 
-pub decoded_line-pieces : (width height planes : ℕ) → decoded_line width height planes
+pub decoded_line-fragments : (width height planes : ℕ) → decoded_line width height planes
     ≡ codes "decoded " ++ (decimal width ++ (codes " x " ++ (decimal height ++ (codes " planes " ++ (decimal planes ++ codes "\n")))))
-decoded_line-pieces width height planes =
+decoded_line-fragments width height planes =
     append-seven (codes "decoded ") (decimal width) (codes " x ") (decimal height) (codes " planes ") (decimal planes) (codes "\n")

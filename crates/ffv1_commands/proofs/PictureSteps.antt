@@ -9,7 +9,7 @@ use Rattle.ffv1_picture.specs.declared.partial.Partial.{Partial}
 use Rattle.ffv1_commands.specs.Devices.{BothStop}
 use Rattle.ffv1_commands.specs.Paths.{IsHoldPath}
 use Rattle.ffv1_commands.specs.SamplesText.{raw_bytes}
-use Rattle.ffv1_commands.specs.PictureText.{picture_text, IsDecoded, ShowsFile, PictureStops, PictureRefuses, WritesPicture, TellsPicture}
+use Rattle.ffv1_commands.specs.PictureText.{picture_text, IsDecoded, ShowsFile, PictureStops, PictureRefuses, WritesPicture, ReportsPicture}
 use Rattle.ffv1_commands.specs.declared.fault.CliFault.{CliFault}
 use Rattle.ffv1_commands.specs.declared.fault.CliFault.TheVariants as faults
 use Rattle.ffv1_commands.proofs.HeldFiles.{held_file}
@@ -50,7 +50,7 @@ module _ (file file' : ReadLog) (out out' output output' : WriteLog) where
       (λ named at. (h, partial, held_file file file' h read, is, at)) named stops
   refused_bytes h read fault stops = absurd stops
 
-  pub picture_of_bytes : (r : Result Bool CliFault) → TellsPicture r file file' out out' output output' → OfBytes Did Stops IsHoldPath r
+  pub picture_of_bytes : (r : Result Bool CliFault) → ReportsPicture r file file' out out' output output' → OfBytes Did Stops IsHoldPath r
   picture_of_bytes (Ok whole) (h, read, wrote) = record {
     ok = record {
       held = h;

@@ -6,7 +6,7 @@ use Rattle.ffv1_hold.specs.FileFaults.{ReadsHolding}
 use Rattle.ffv1_picture.specs.ReportText.{report_text}
 use Rattle.ffv1_commands.specs.Devices.{WritesNamed}
 use Rattle.ffv1_commands.specs.Paths.{IsReportPath}
-use Rattle.ffv1_commands.specs.ReportedText.{ReportsFile, ReportStops, ReportBreaks, TellsReport}
+use Rattle.ffv1_commands.specs.ReportedText.{ReportsFile, ReportStops, ReportBreaks, ReportsReport}
 use Rattle.ffv1_commands.specs.declared.fault.CliFault.{CliFault}
 use Rattle.ffv1_commands.specs.declared.fault.CliFault.TheVariants as faults
 use Rattle.ffv1_commands.specs.declared.path.CommandPath.TheVariants as paths
@@ -15,7 +15,7 @@ use Rattle.ffv1_commands.proofs.OfBytes.{OfBytes, unread_bytes}
 
 -- the report was printed once the file was read, or was not
 pub reported : {T : Type 0} (a b : ReadLog) (old new : WriteLog) (h : Contents) → ReadsHolding a b h → (r : Result T CliFault)
-    → WritesNamed paths.StandardOutput r old new (report_text h) → TellsReport r a b old new
+    → WritesNamed paths.StandardOutput r old new (report_text h) → ReportsReport r a b old new
 reported a b old new h read (Ok x) wrote = (h, read, wrote)
 reported a b old new h read (Err fault) (is, stopped) = inr (h, read, subst (ReportBreaks h old new) (sym is) (refl, stopped))
 
@@ -35,7 +35,7 @@ module _ (a b : ReadLog) (old new : WriteLog) where
         record { ok = tt; err = (same, (h, held_file a b h read, stopped.front)); names = subst IsReportPath (sym same) tt }
     unreported h read fault stops = absurd stops
 
-    pub report_of_bytes : (r : Result T CliFault) → TellsReport r a b old new → OfBytes Did Stops IsReportPath r
+    pub report_of_bytes : (r : Result T CliFault) → ReportsReport r a b old new → OfBytes Did Stops IsReportPath r
     report_of_bytes (Ok x) (h, read, wrote) =
         record { ok = record { held = h; file = held_file a b h read; printed = wrote.bytes' }; err = tt; names = tt }
     report_of_bytes (Err fault) (inl (stops, kept)) = unread_bytes Did Stops IsReportPath a b fault (omega arith) refl tt (λ file shown. shown) stops

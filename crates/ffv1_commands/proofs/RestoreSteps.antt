@@ -10,7 +10,7 @@ use Rattle.ffv1_pool.specs.declared.restore.RestoreFault.TheVariants as refusals
 use Rattle.ffv1_commands.specs.Devices.{BothStop, WritesBoth}
 use Rattle.ffv1_commands.specs.Fault.{of_restore}
 use Rattle.ffv1_commands.specs.Paths.{IsHoldPath}
-use Rattle.ffv1_commands.specs.RestoreText.{restored_line, RestoresFile, RestoreStops, RestoreRefuses, TellsRestore}
+use Rattle.ffv1_commands.specs.RestoreText.{restored_line, RestoresFile, RestoreStops, RestoreRefuses, ReportsRestore}
 use Rattle.ffv1_commands.specs.declared.fault.CliFault.{CliFault}
 use Rattle.ffv1_commands.specs.declared.fault.CliFault.TheVariants as faults
 use Rattle.ffv1_commands.proofs.HeldFiles.{held_file}
@@ -30,13 +30,13 @@ refused_at h out output (refusals.Disputed tile) refused = (refused, (refl, refl
 refused_at h out output refusals.Memory refused = (refused, (refl, refl))
 
 module _ (file file' : ReadLog) (out out' output output' : WriteLog) (h : Contents) (payload line : List ℕ) (read : ReadsHolding file file' h)
-    (settled : AreSettled h) (is : payload ≡ restored_payload h) (told : line ≡ restored_line (length payload)) where
+    (settled : AreSettled h) (is : payload ≡ restored_payload h) (reported : line ≡ restored_line (length payload)) where
   line_is : line ≡ restored_line (length (restored_payload h))
-  line_is = told ∙ ap (λ p. restored_line (length p)) is
+  line_is = reported ∙ ap (λ p. restored_line (length p)) is
 
   -- the payload and the line were written, or not whole
   pub restored : {T : Type 0} (r : Result T CliFault) → WritesBoth r payload line out out' output output'
-      → TellsRestore r file file' out out' output output'
+      → ReportsRestore r file file' out out' output output'
   restored (Ok x) (wrote, printed) =
       (h, read, settled, subst (Writes out out') is wrote, subst (Writes output output') line_is printed)
   restored (Err f) stops = inr (
@@ -67,7 +67,7 @@ module _ (file file' : ReadLog) (out out' output output' : WriteLog) where
         (λ named at. (h, held_file file file' h read, settled, at)) named stops
     refused_bytes h read fault stops = absurd stops
 
-    pub restore_of_bytes : (r : Result T CliFault) → TellsRestore r file file' out out' output output' → OfBytes Did Stops IsHoldPath r
+    pub restore_of_bytes : (r : Result T CliFault) → ReportsRestore r file file' out out' output output' → OfBytes Did Stops IsHoldPath r
     restore_of_bytes (Ok x) (h, read, settled, wrote, printed) = record {
       ok = record { held = h; file = held_file file file' h read; settled = settled; payload = wrote.bytes'; printed = printed.bytes' };
       err = tt;

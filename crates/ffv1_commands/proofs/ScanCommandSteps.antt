@@ -8,7 +8,7 @@ use Rattle.ffv1_scan.specs.declared.scanning.ScanFault.{ScanFault}
 use Rattle.ffv1_scan.specs.declared.scanning.ScanFault.TheVariants as scans
 use Rattle.ffv1_scan.specs.Ranges.{AreRanges}
 use Rattle.ffv1_scan.specs.Scans.{ScansFront, ScansRanges}
-use Rattle.ffv1_commands.specs.Devices.{BeginsWith, WritesFront}
+use Rattle.ffv1_commands.specs.Devices.{InputBegins, WritesFront}
 use Rattle.ffv1_commands.specs.Lists.{ReadsList}
 use Rattle.ffv1_commands.specs.ScanText.{ScansDevices, ScansListed, ScansFile, ScansSome, ScanStops}
 use Rattle.ffv1_commands.specs.declared.fault.CliFault.{CliFault}
@@ -17,9 +17,9 @@ use Rattle.ffv1_commands.proofs.InputLaws.{begins}
 use Rattle.ffv1_commands.proofs.ReadLists.{list_of_bytes}
 
 -- what is read and written is stated in another way
-abbrev told_as : (ranges front : List ByteRange) (Read Read' Wrote Wrote' : List ℕ → Type 0) → ((bytes : List ℕ) → Read bytes → Read' bytes)
+abbrev reported_as : (ranges front : List ByteRange) (Read Read' Wrote Wrote' : List ℕ → Type 0) → ((bytes : List ℕ) → Read bytes → Read' bytes)
     → ((text : List ℕ) → Wrote text → Wrote' text) → ScansFront ranges front Read Wrote → ScansFront ranges front Read' Wrote'
-told_as ranges front Read Read' Wrote Wrote' read wrote scan = record {
+reported_as ranges front Read Read' Wrote Wrote' read wrote scan = record {
   rest = scan.rest;
   split = scan.split;
   bytes = scan.bytes;
@@ -44,14 +44,14 @@ module _ (a b c d : ReadLog) (x y : WriteLog) where
   kept : y ≡ x → Keeps x.contents y.contents
   kept same = subst (λ (log : WriteLog). Keeps x.contents log.contents) (sym same) (Keeps-refl x.contents)
 
-  some : (Went : List ℕ → Type 0) → ((bytes : List ℕ) → Went bytes → BeginsWith c.remaining bytes) → (Wrote Prints : List ℕ → Type 0)
+  some : (Went : List ℕ → Type 0) → ((bytes : List ℕ) → Went bytes → InputBegins c.remaining bytes) → (Wrote Prints : List ℕ → Type 0)
       → ((text : List ℕ) → Wrote text → Prints text) → (ranges front : List ByteRange) → ReadsList (λ text. AreRanges text ranges) a b
       → ScansFront ranges front Went Wrote → ScansSome a.remaining c.remaining Prints
   some Went read Wrote Prints wrote ranges front list scan = record {
     ranges = ranges;
     list' = list_of_bytes _ a b list;
     front = front;
-    scan = told_as ranges front Went (BeginsWith c.remaining) Wrote Prints read wrote scan;
+    scan = reported_as ranges front Went (InputBegins c.remaining) Wrote Prints read wrote scan;
   }
 
   stopped : ScansListed a b (λ ranges. ScansRanges ranges (Err scans.Read) c d x y) → ScansSome a.remaining c.remaining (Appends x.contents y.contents)
@@ -65,7 +65,7 @@ module _ (a b c d : ReadLog) (x y : WriteLog) where
     ok = record {
       ranges = ranges;
       list' = list_of_bytes _ a b list;
-      scan = told_as ranges ranges (Reads c d) (BeginsWith c.remaining) (Writes x y) (Appends x.contents y.contents)
+      scan = reported_as ranges ranges (Reads c d) (InputBegins c.remaining) (Writes x y) (Appends x.contents y.contents)
           (λ bytes went. begins c.remaining d.remaining bytes went.bytes') (λ text wrote. wrote.bytes') scan;
       answer = answer;
     };

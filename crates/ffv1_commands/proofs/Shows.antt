@@ -10,15 +10,15 @@ use Rattle.ffv1_commands.specs.Devices.{WritesFront, TakesWhole, WritesNamed}
 use Rattle.ffv1_commands.specs.Fault.{NamesPath}
 use Rattle.ffv1_commands.specs.Paths.{IsShowPath}
 use Rattle.ffv1_commands.specs.RecordInputs.{TakesSetup, RecordStops}
-use Rattle.ffv1_commands.specs.ShowText.{show_text, PrintsSetup, ShowStops, ShowBreaks, TellsShow}
+use Rattle.ffv1_commands.specs.ShowText.{show_text, PrintsSetup, ShowStops, ShowBreaks, ReportsShow}
 use Rattle.ffv1_commands.specs.declared.fault.CliFault.{CliFault}
 use Rattle.ffv1_commands.specs.declared.fault.CliFault.TheVariants as faults
 use Rattle.ffv1_commands.specs.declared.path.CommandPath.TheVariants as paths
-use Rattle.ffv1_commands.proofs.Telling.{whole_of}
+use Rattle.ffv1_commands.proofs.Reporting.{whole_of}
 
 -- the setup was printed once the record was read, or was not
 pub setup_printed : {T : Type 0} (width height : ℕ) (a b : ReadLog) (old new : WriteLog) (setup : SetupValue) → TakesSetup width height a b setup
-    → (r : Result T CliFault) → WritesNamed paths.StandardOutput r old new (show_text setup) → TellsShow r width height a b old new
+    → (r : Result T CliFault) → WritesNamed paths.StandardOutput r old new (show_text setup) → ReportsShow r width height a b old new
 setup_printed width height a b old new setup read (Ok x) wrote = (setup, read, wrote)
 setup_printed width height a b old new setup read (Err fault) (is, stopped) =
     subst (ShowBreaks width height a b old new) (sym is) (refl, (setup, read, stopped))
@@ -46,7 +46,7 @@ module _ (width height : ℕ) (a b : ReadLog) (old new : WriteLog) where
   kept : new ≡ old → Keeps old.contents new.contents
   kept same = subst (λ (log : WriteLog). Keeps old.contents log.contents) (sym same) (Keeps-refl old.contents)
 
-  pub show_of_bytes : {T : Type 0} (r : Result T CliFault) → TellsShow r width height a b old new
+  pub show_of_bytes : {T : Type 0} (r : Result T CliFault) → ReportsShow r width height a b old new
       → ShowOfBytes r width height a.remaining old.contents new.contents
   show_of_bytes (Ok x) (setup, read, wrote) = record {
     ok = of_input a b read.config read.read (λ bytes. PrintsSetup bytes width height old.contents new.contents) (setup, read.is_setup, wrote.bytes');

@@ -3,7 +3,7 @@ use Rattle.std.proofs.Common.{◌≡◌, ℕ, ◌+◌, ◌<◌, ◌≤◌, Bool,
 use Rattle.std.specs.Prelude.{◌↔◌, IsTrue, All, slice_range}
 use Rattle.std.specs.List.{flat_map}
 use Rattle.std.proofs.lemmas.List.Elements.{All-head, All-tail, Contains-get_or}
-use Rattle.ffv1_slice.specs.Chain.{piece_of}
+use Rattle.ffv1_slice.specs.Chain.{link_of}
 use Rattle.ffv1_slice.specs.Walk.{links_of}
 use Rattle.ffv1_slice.proofs.NearLaws.{length-range}
 use Rattle.ffv1_splice.specs.Splice.{SplicedValue, IsSpliceOf, IsSettledOrWoven, IsGivenBack}
@@ -71,14 +71,14 @@ same_copies_make_one_splice copies others one other same h k =
 -- the lines of settled places that are links of the original
 settled_lines : (original : List ℕ) (places : List Place) → All (λ place. place.standing ≡ Settled) places
     → All (λ place. place.start ≤ place.end × place.end ≤ length original) places
-    → flat_map standing_line places ≡ flat_map settled_line (map (λ place. piece_of original place.start place.end) places)
+    → flat_map standing_line places ≡ flat_map settled_line (map (λ place. link_of original place.start place.end) places)
 settled_lines original [] settled within = refl
 settled_lines original (place ∷ places) settled within =
     let stands : place.standing ≡ Settled = All-head (λ place. place.standing ≡ Settled) place places settled in
     let inside = All-head (λ place. place.start ≤ place.end × place.end ≤ length original) place places within in
     let end : place.end ≡ place.start + length (slice_range original place.start place.end) =
     omega (arith, length-range original place.start place.end inside.0 inside.1) in
-    let line : standing_line place ≡ settled_line (piece_of original place.start place.end) =
+    let line : standing_line place ≡ settled_line (link_of original place.start place.end) =
     λ i. standing_line (record { start = place.start; end = end i; standing = stands i }) in
     let rest = settled_lines original places (All-tail (λ place. place.standing ≡ Settled) place places settled)
     (All-tail (λ place. place.start ≤ place.end × place.end ≤ length original) place places within) in
@@ -128,9 +128,9 @@ gives_back original copies = (spliced : SplicedValue) → IsSpliceOf copies spli
 gives_if_true : (original : List ℕ) (copies : List (List ℕ)) → ((i : ℕ) → i < length copies → length (get_or copies i []) ≡ length original)
     → gives_back original copies → GiveOnlyIfTrue copies original
 gives_if_true original copies one given = record {
-  made = λ made is told.
+  made = λ made is reported.
       let by = made_by copies made is in
-      by.1.file ∙ given by.0 by.1.is_splice (by.1.answer.0 told);
+      by.1.file ∙ given by.0 by.1.is_splice (by.1.answer.0 reported);
   refused = only_devices copies (length original) one;
 }
 

@@ -9,7 +9,7 @@ use Rattle.ffv1_commands.specs.Devices.{AreWholeInputs, FileStops, BothStop}
 use Rattle.ffv1_commands.specs.InTurn.{AreTaken, StopsAtCopy}
 use Rattle.ffv1_commands.specs.Fault.{NamesPath}
 use Rattle.ffv1_commands.specs.Paths.{IsSplicePath}
-use Rattle.ffv1_commands.specs.SpliceText.{splice_text, IsLengthFault, SplicesCopies, SpliceStops, LaterCopiesKept, WritesSplice, SpliceRefuses, TellsSplice}
+use Rattle.ffv1_commands.specs.SpliceText.{splice_text, IsLengthFault, SplicesCopies, SpliceStops, LaterCopiesKept, WritesSplice, SpliceRefuses, ReportsSplice}
 use Rattle.ffv1_commands.specs.declared.fault.CliFault.{CliFault}
 use Rattle.ffv1_commands.specs.declared.fault.CliFault.TheVariants as faults
 use Rattle.ffv1_commands.specs.declared.path.CommandPath.TheVariants as paths
@@ -104,7 +104,7 @@ module _ {C : Type 0} (remaining : C → Option (List ℕ)) (old new : List C) (
         }
     refused_bytes fault stops = absurd stops
 
-  pub splice_of_bytes : (r : Result Bool CliFault) → TellsSplice remaining r old new out out' output output' → OfBytes r
+  pub splice_of_bytes : (r : Result Bool CliFault) → ReportsSplice remaining r old new out out' output output' → OfBytes r
   splice_of_bytes (Ok answer) (copies, taken, wrote) = record {
     ok = record {
       copies = copies;

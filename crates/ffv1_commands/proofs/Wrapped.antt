@@ -37,7 +37,7 @@ both_through r out out' output output' o w made printed kept =
     (λ same. (ap writer_of same.0 ∙ made, ap writer_of same.1 ∙ printed)) kept
 
 -- a reader whose buffer is refused stops the command with Memory
-pub buffer_refused : {T : Type 0} (r : Result T CliFault) (fault : CliFault) → IsErrAnd r (λ told. told ≡ fault) → fault ≡ faults.Memory
+pub buffer_refused : {T : Type 0} (r : Result T CliFault) (fault : CliFault) → IsErrAnd r (λ reported. reported ≡ fault) → fault ≡ faults.Memory
     → r ≡ Err faults.Memory
 buffer_refused (Ok x) fault is memory = absurd is
-buffer_refused (Err told) fault is memory = ap Err (is ∙ memory)
+buffer_refused (Err reported) fault is memory = ap Err (is ∙ memory)

@@ -5,7 +5,7 @@ use Rattle.std.specs.Fmt.{decimal}
 use Rattle.std.specs.Io.KnownBytes.{Appends, Keeps}
 use Rattle.ffv1_slice.specs.Bits.{bits_of}
 use Rattle.ffv1_slice.specs.Parity.{remainder_of}
-use Rattle.ffv1_slice.specs.Chain.{Piece, AreLinksOf, status_before}
+use Rattle.ffv1_slice.specs.Chain.{LinkValue, AreLinksOf, status_before}
 use Rattle.ffv1_slice.specs.Ending.{EndsAs}
 use Rattle.ffv1_slice.specs.declared.chain.ChainEnd.{ChainEnd}
 use Rattle.ffv1_slice.specs.declared.chain.ChainEnd.TheVariants.{Whole, Broken}
@@ -20,14 +20,14 @@ abbrev pub parity_word : List ℕ → List ℕ
 parity_word slice = if remainder_of (bits_of slice) == 0 then codes "pass" else codes "fail"
 
 -- where the slice lies, and how many of its bytes stand before its footer
-abbrev pub link_place : Piece → List ℕ
+abbrev pub link_place : LinkValue → List ℕ
 link_place link = decimal link.start ++ codes ".." ++ decimal (link.start + length link.bytes) ++ codes " size " ++ decimal (length link.bytes - 8)
 
 -- its error status, and whether its parity passes
-abbrev pub link_state : Piece → List ℕ
+abbrev pub link_state : LinkValue → List ℕ
 link_state link = codes " status " ++ decimal (status_before link.bytes (length link.bytes)) ++ codes " " ++ parity_word link.bytes ++ codes "\n"
 
-abbrev pub link_line : Piece → List ℕ
+abbrev pub link_line : LinkValue → List ℕ
 link_line link = link_place link ++ link_state link
 
 abbrev pub end_line : ChainEnd → List ℕ
@@ -36,11 +36,11 @@ end_line (Broken place) = codes "end broken at " ++ decimal place ++ codes "\n"
 
 -- The text has a line for each link of the payload, and for links alone, from its end, and a line for how its chain ends.
 pub record IsChainText (payload text : List ℕ) : Type 0 where
-  pub links : List Piece
+  pub links : List LinkValue
   pub are_links : AreLinksOf payload links
   pub end : ChainEnd
   pub ends : EndsAs payload end
-  pub told : text ≡ flat_map link_line links ++ end_line end
+  pub reported : text ≡ flat_map link_line links ++ end_line end
 
 -- The text of the payload was written.
 abbrev pub PrintsChain : List ℕ → Option (List ℕ) → Option (List ℕ) → Type 0
@@ -67,7 +67,7 @@ ChainBreaks frame_old frame_new output_old output_new faults.Memory = StopsWithi
 ChainBreaks frame_old frame_new output_old output_new _ = ⊥
 
 -- The payload was read whole and its text was written, or a fault stopped the command.
-abbrev pub TellsChain : {T : Type 0} → Result T CliFault → (frame_old frame_new : ReadLog) → (output_old output_new : WriteLog) → Type 0
-TellsChain (Ok x) frame_old frame_new output_old output_new =
+abbrev pub ReportsChain : {T : Type 0} → Result T CliFault → (frame_old frame_new : ReadLog) → (output_old output_new : WriteLog) → Type 0
+ReportsChain (Ok x) frame_old frame_new output_old output_new =
     (payload text : List ℕ) × TakesWhole frame_old frame_new payload × IsChainText payload text × Writes output_old output_new text
-TellsChain (Err fault) frame_old frame_new output_old output_new = ChainBreaks frame_old frame_new output_old output_new fault
+ReportsChain (Err fault) frame_old frame_new output_old output_new = ChainBreaks frame_old frame_new output_old output_new fault

@@ -8,7 +8,7 @@ use Rattle.ffv1_slice.specs.Slices.{IsOriginal}
 use Rattle.ffv1_pool.specs.Reels.{Reel}
 use Rattle.ffv1_pool.specs.Contents.{Contents, holding_of, HasSameCopies}
 use Rattle.ffv1_hold.specs.Headline.{IsReelOf}
-use Rattle.ffv1_pool.specs.Originals.{AreCopiesOf, AreNear}
+use Rattle.ffv1_pool.specs.Originals.{AreCopiesOfSlices, AreNear}
 use Rattle.ffv1_picture.specs.Headline.{AreEqualInAll, ShowsSlices}
 use Rattle.ffv1_picture.specs.declared.frame.Frame.{Frame}
 use Rattle.ffv1_commands.specs.Holdings.{IsHoldingFile}
@@ -101,7 +101,7 @@ abbrev pub CommandsRestoreTheOriginal : Type 0
 CommandsRestoreTheOriginal =
     (config : List ℕ) (width height : ℕ) (setup : SetupValue) (copies : List (List ℕ)) (file original : List ℕ) (slices : List (List ℕ))
     → IsSetupOf config width height setup → IsMadeOf config width height copies file
-    → IsOriginal setup original slices → AreCopiesOf setup slices copies
+    → IsOriginal setup original slices → AreCopiesOfSlices setup slices copies
     → RestoresOnly file original × ShowsOnly setup file slices
 
 -- So it is where each copy is near the original, and each of its slices is intact in one of them.

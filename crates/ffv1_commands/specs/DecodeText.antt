@@ -10,7 +10,7 @@ use Rattle.ffv1_picture.specs.declared.frame.Frame.{Frame}
 use Rattle.ffv1_picture.specs.declared.fault.FrameFault.TheVariants as frames
 use Rattle.ffv1_commands.specs.Devices.{IsWholeInput, WriteStops, TakesWhole, IsUnread, StopsWithin, BothStop, BothKept}
 use Rattle.ffv1_commands.specs.RecordInputs.{IsSetupInput, TakesSetup, RecordStops}
-use Rattle.ffv1_commands.specs.SamplesText.{raw_bytes, frame_line}
+use Rattle.ffv1_commands.specs.SamplesText.{raw_bytes, decoded_frame_line}
 use Rattle.ffv1_commands.specs.declared.fault.CliFault.{CliFault}
 use Rattle.ffv1_commands.specs.declared.fault.CliFault.TheVariants as faults
 use Rattle.ffv1_commands.specs.declared.path.CommandPath.TheVariants as paths
@@ -28,7 +28,7 @@ pub record DecodesFile (record' : Option (List ℕ)) (width height : ℕ) (input
   pub frame : Frame
   pub is_frame : IsFrameInput record' width height input frame
   pub samples : Appends out_before out_after (raw_bytes frame)
-  pub printed : Appends printed_before printed_after (frame_line frame)
+  pub printed : Appends printed_before printed_after (decoded_frame_line frame)
 
 -- What a fault says, and what it left in the outputs where writing failed: that the record or the frame was not read, the record's
 -- first fault, the payload's, or a front of what is written.
@@ -42,7 +42,7 @@ DecodeStops record' width height input out_before out_after printed_before print
     × ((payload : List ℕ) × IsWholeInput input payload × IsFirstFault setup payload fault) × (fault ≢ frames.Memory)
 DecodeStops record' width height input out_before out_after printed_before printed_after (faults.Write path) =
     (frame : Frame) × IsFrameInput record' width height input frame
-    × WriteStops (raw_bytes frame) (frame_line frame) out_before out_after printed_before printed_after (faults.Write path)
+    × WriteStops (raw_bytes frame) (decoded_frame_line frame) out_before out_after printed_before printed_after (faults.Write path)
 DecodeStops record' width height input out_before out_after printed_before printed_after faults.Memory = Unit {0}
 DecodeStops record' width height input out_before out_after printed_before printed_after _ = ⊥
 
@@ -67,16 +67,16 @@ abbrev pub DecodeRefuses : SetupValue → (input_old input_new : ReadLog) → (o
 DecodeRefuses setup input_old input_new out_old out_new output_old output_new fault =
     (FrameStops setup input_old input_new fault × BothKept out_old out_new output_old output_new)
     ⊎ ((frame : Frame) × TakesFrame setup input_old input_new frame
-    × BothStop fault (raw_bytes frame) (frame_line frame) out_old out_new output_old output_new)
+    × BothStop fault (raw_bytes frame) (decoded_frame_line frame) out_old out_new output_old output_new)
 
 -- The samples of the payload's frame and then its size were written; or the record gave no setup, and neither the payload nor an output
 -- was touched; or it did, and the command stopped after that.
-abbrev pub TellsDecode : {T : Type 0} → Result T CliFault → (width height : ℕ) → (record_old record_new input_old input_new : ReadLog)
+abbrev pub ReportsDecode : {T : Type 0} → Result T CliFault → (width height : ℕ) → (record_old record_new input_old input_new : ReadLog)
     → (out_old out_new output_old output_new : WriteLog) → Type 0
-TellsDecode (Ok x) width height record_old record_new input_old input_new out_old out_new output_old output_new =
+ReportsDecode (Ok x) width height record_old record_new input_old input_new out_old out_new output_old output_new =
     (setup : SetupValue) × (frame : Frame) × TakesSetup width height record_old record_new setup × TakesFrame setup input_old input_new frame
-    × Writes out_old out_new (raw_bytes frame) × Writes output_old output_new (frame_line frame)
-TellsDecode (Err fault) width height record_old record_new input_old input_new out_old out_new output_old output_new =
+    × Writes out_old out_new (raw_bytes frame) × Writes output_old output_new (decoded_frame_line frame)
+ReportsDecode (Err fault) width height record_old record_new input_old input_new out_old out_new output_old output_new =
     (RecordStops width height record_old record_new fault × (input_new ≡ input_old) × BothKept out_old out_new output_old output_new)
     ⊎ ((setup : SetupValue) × TakesSetup width height record_old record_new setup
     × DecodeRefuses setup input_old input_new out_old out_new output_old output_new fault)

@@ -51,21 +51,21 @@ CopyStops path faults.Memory old new = StopsWithin old new
 CopyStops path _ old new = ⊥
 
 -- the copy that is this path of the command was read whole, or it was not
-abbrev pub ReadsCopy : {T : Type 0} → (T → List ℕ) → CommandPath → Result T CliFault → ReadLog → ReadLog → Type 0
-ReadsCopy items path (Ok x) old new = TakesWhole old new (items x)
-ReadsCopy items path (Err fault) old new = CopyStops path fault old new
+abbrev pub ReadsWholeCopy : {T : Type 0} → (T → List ℕ) → CommandPath → Result T CliFault → ReadLog → ReadLog → Type 0
+ReadsWholeCopy items path (Ok x) old new = TakesWhole old new (items x)
+ReadsWholeCopy items path (Err fault) old new = CopyStops path fault old new
 
 -- An input has these bytes, if its bytes are known.
-abbrev pub Tells : Option (List ℕ) → List ℕ → Type 0
-Tells input bytes = IfSome input (λ told. told ≡ bytes)
+abbrev pub HasBytes : Option (List ℕ) → List ℕ → Type 0
+HasBytes input bytes = IfSome input (λ reported. reported ≡ bytes)
 
 -- An input begins with these bytes, if its bytes are known.
-abbrev pub BeginsWith : Option (List ℕ) → List ℕ → Type 0
-BeginsWith input bytes = IfSome input (λ told. (rest : List ℕ) × (told ≡ bytes ++ rest))
+abbrev pub InputBegins : Option (List ℕ) → List ℕ → Type 0
+InputBegins input bytes = IfSome input (λ reported. (rest : List ℕ) × (reported ≡ bytes ++ rest))
 
 -- An input is read whole as these bytes: it has them, if its bytes are known, and they are not too many.
 pub record IsWholeInput (input : Option (List ℕ)) (bytes : List ℕ) : Type 0 where
-  pub told : Tells input bytes
+  pub reported : HasBytes input bytes
   pub few : length bytes ≤ payload_limit
 
 -- Each of the inputs is read whole as its bytes.

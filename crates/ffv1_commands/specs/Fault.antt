@@ -143,6 +143,6 @@ of_restore (restore.Missing tile) = faults.Missing tile
 of_restore (restore.Disputed tile) = faults.Disputed tile
 of_restore restore.Memory = faults.Memory
 
-abbrev pub status_of : CliFault → ℕ
-status_of faults.Words = 2
-status_of _ = 1
+abbrev pub exit_status_of : CliFault → ℕ
+exit_status_of faults.Words = 2
+exit_status_of _ = 1

@@ -9,7 +9,7 @@ use Rattle.ffv1_hold.specs.FileFaults.{IsFaultOf, ReadsHolding, ReadsFile}
 use Rattle.ffv1_hold.specs.Saving.{IsTooLong}
 use Rattle.ffv1_hold.specs.declared.file_fault.HoldFileFault.{HoldFileFault}
 use Rattle.ffv1_hold.specs.declared.file_fault.HoldFileFault.TheVariants as files
-use Rattle.ffv1_commands.specs.Devices.{Tells, WriteStops}
+use Rattle.ffv1_commands.specs.Devices.{HasBytes, WriteStops}
 use Rattle.ffv1_commands.specs.Fault.{of_hold_file}
 use Rattle.ffv1_commands.specs.declared.fault.CliFault.{CliFault}
 use Rattle.ffv1_commands.specs.declared.fault.CliFault.TheVariants as faults
@@ -19,7 +19,7 @@ use Rattle.ffv1_commands.specs.declared.path.CommandPath.TheVariants as paths
 -- The whole input is a text of the holding, if its bytes are known: that of version 2, or, where no origins are known, that of version 1.
 pub record IsHoldingFile (input : Option (List ℕ)) (h : Contents) : Type 0 where
   pub version : Version
-  pub text : Tells input (file_text version h)
+  pub text : HasBytes input (file_text version h)
   pub sound : IsHolding h
   pub fits : FitsInFile version h
 

@@ -93,16 +93,16 @@ JoinStops inputs out_before out_after printed_before printed_after faults.Memory
 JoinStops inputs out_before out_after printed_before printed_after fault = IsFaultOfFiles inputs fault
 
 -- why the file at this place gave no holding, or one of another record or size than the first
-abbrev pub IsFaultOfFile : List (Option (List ℕ)) → ℕ → CliFault → Type 0
-IsFaultOfFile inputs i (faults.Hold fault) =
+abbrev pub IsFaultOfInput : List (Option (List ℕ)) → ℕ → CliFault → Type 0
+IsFaultOfInput inputs i (faults.Hold fault) =
     (fault ≡ holds.OtherReel) × ((first other : Contents) × IsHoldingFile (slice_index_or inputs 0 None) first
     × IsHoldingFile (slice_index_or inputs i None) other × (¬ IsSameReel first other))
-IsFaultOfFile inputs i fault = IsHoldingFault (paths.Hold i) (slice_index_or inputs i None) fault
+IsFaultOfInput inputs i fault = IsHoldingFault (paths.Hold i) (slice_index_or inputs i None) fault
 
 -- One of the files was not joined; those before it were, and those after it are as they were. Old and new are those after the first.
 abbrev pub StopsAtPlace : {R : Type 0} → List (Option (List ℕ)) → (old new : List R) → CliFault → Type 0
 StopsAtPlace inputs old new fault =
-    (i : ℕ) × (i < length inputs) × AreJoinedBefore inputs i × IsFaultOfFile inputs i fault × AreKeptFrom i old new
+    (i : ℕ) × (i < length inputs) × AreJoinedBefore inputs i × IsFaultOfInput inputs i fault × AreKeptFrom i old new
 
 -- What a fault of a file leaves: the files after it, as they were. That the union has no file is a fault of none.
 abbrev pub LaterFilesKept : {R : Type 0} → List (Option (List ℕ)) → (old new : List R) → CliFault → Type 0
@@ -116,15 +116,15 @@ LaterFilesKept inputs old new _ = Unit {0}
 -- ---- over the logs of the devices
 
 -- the input was read as the file of this holding, by a source of its own
-abbrev pub IsHeld : Option (List ℕ) → Contents → Type 0
-IsHeld input h = ReadsAlone (λ old new. ReadsHolding old new h) input
+abbrev pub IsReadAsFile : Option (List ℕ) → Contents → Type 0
+IsReadAsFile input h = ReadsAlone (λ old new. ReadsHolding old new h) input
 
 -- so was each of the inputs
-abbrev pub AreHeld : List (Option (List ℕ)) → List Contents → Type 0
-AreHeld [] [] = Unit {0}
-AreHeld [] (h ∷ hs) = ⊥
-AreHeld (input ∷ inputs) [] = ⊥
-AreHeld (input ∷ inputs) (h ∷ hs) = IsHeld input h × AreHeld inputs hs
+abbrev pub AreReadAsFiles : List (Option (List ℕ)) → List Contents → Type 0
+AreReadAsFiles [] [] = Unit {0}
+AreReadAsFiles [] (h ∷ hs) = ⊥
+AreReadAsFiles (input ∷ inputs) [] = ⊥
+AreReadAsFiles (input ∷ inputs) (h ∷ hs) = IsReadAsFile input h × AreReadAsFiles inputs hs
 
 -- a file was not joined, since it was not read, or since memory ran out once it was
 abbrev pub FileBreaks : CommandPath → CliFault → (old new : ReadLog) → Type 0
@@ -148,26 +148,26 @@ JoinsFile (Err fault) before whole_old whole_new lines_old lines_new file_old fi
 pub record JoinsAll (inputs : List (Option (List ℕ))) (old new : ReadLog) (whole : Contents) (text : List ℕ) : Type 0 where
   pub each : JoinsEach (old.remaining ∷ inputs) whole text
   pub first : ReadsHolding old new each.first
-  pub others : AreHeld inputs each.others
+  pub others : AreReadAsFiles inputs each.others
 
 -- How one of the files was not joined: the first was not, and the others are as they were; or one of those was not, those before it were,
 -- and those after it are as they were.
 abbrev pub StopsAtFile : {R : Type 0} → (R → Option (List ℕ)) → (first_old first_new : ReadLog) → (old new : List R) → CliFault → Type 0
-StopsAtFile tells first_old first_new old new fault =
+StopsAtFile reports first_old first_new old new fault =
     (FileBreaks (paths.Hold 0) fault first_old first_new × (new ≡ old))
     ⊎ ((i : ℕ) × (i < length old)
-    × ((whole : Contents) × (text : List ℕ) × JoinsAll (take i (map tells old)) first_old first_new whole text
-    × ReadsAlone (JoinBreaks (paths.Hold (i + 1)) whole fault) (slice_index_or (map tells old) i None))
+    × ((whole : Contents) × (text : List ℕ) × JoinsAll (take i (map reports old)) first_old first_new whole text
+    × ReadsAlone (JoinBreaks (paths.Hold (i + 1)) whole fault) (slice_index_or (map reports old) i None))
     × AreKeptFrom (i + 1) old new)
 
 -- The files were joined, and the file of their union and the lines were written; or one was not joined, and both outputs are as they were;
 -- or all were, and the file and the lines were not written whole.
-abbrev pub TellsJoin : {T R : Type 0} → Result T CliFault → (R → Option (List ℕ)) → (first_old first_new : ReadLog) → (others_old others_new : List R)
+abbrev pub ReportsJoin : {T R : Type 0} → Result T CliFault → (R → Option (List ℕ)) → (first_old first_new : ReadLog) → (others_old others_new : List R)
     → (out_old out_new output_old output_new : WriteLog) → Type 0
-TellsJoin (Ok x) tells first_old first_new others_old others_new out_old out_new output_old output_new =
-    (whole : Contents) × (text : List ℕ) × JoinsAll (map tells others_old) first_old first_new whole text
+ReportsJoin (Ok x) reports first_old first_new others_old others_new out_old out_new output_old output_new =
+    (whole : Contents) × (text : List ℕ) × JoinsAll (map reports others_old) first_old first_new whole text
     × IsMade whole text out_old out_new output_old output_new
-TellsJoin (Err fault) tells first_old first_new others_old others_new out_old out_new output_old output_new =
-    (StopsAtFile tells first_old first_new others_old others_new fault × BothKept out_old out_new output_old output_new)
-    ⊎ ((whole : Contents) × (text : List ℕ) × JoinsAll (map tells others_old) first_old first_new whole text
+ReportsJoin (Err fault) reports first_old first_new others_old others_new out_old out_new output_old output_new =
+    (StopsAtFile reports first_old first_new others_old others_new fault × BothKept out_old out_new output_old output_new)
+    ⊎ ((whole : Contents) × (text : List ℕ) × JoinsAll (map reports others_old) first_old first_new whole text
     × MadeBreaks whole text out_old out_new output_old output_new fault)

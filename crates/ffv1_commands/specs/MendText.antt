@@ -11,7 +11,7 @@ use Rattle.ffv1_stretches.specs.Lines.{mend_text}
 use Rattle.ffv1_stretches.specs.Passes.{MendsFront, EndsWithin, bytes_of, MendsAll, StopsMending}
 use Rattle.ffv1_stretches.specs.declared.pass.MendFault.{MendFault}
 use Rattle.ffv1_stretches.specs.declared.pass.MendFault.TheVariants as stops
-use Rattle.ffv1_commands.specs.Devices.{BeginsWith, BothKept, IsUnread, WritesFront}
+use Rattle.ffv1_commands.specs.Devices.{InputBegins, BothKept, IsUnread, WritesFront}
 use Rattle.ffv1_commands.specs.Fault.{of_mend}
 use Rattle.ffv1_commands.specs.Lists.{ReadsList, IsList}
 use Rattle.ffv1_commands.specs.declared.fault.CliFault.{CliFault}
@@ -21,11 +21,11 @@ use Rattle.ffv1_commands.specs.declared.path.CommandPath.TheVariants as paths
 -- ---- over devices
 
 -- why the list lists no stretches of so many copies
-abbrev pub IsListFault : ℕ → (old new : ReadLog) → CliFault → Type 0
-IsListFault copies old new (faults.Read path) = (path ≡ paths.List) × IsUnread old new
-IsListFault copies old new (faults.List number) = ReadsList (λ text. IsFirstBadLine copies text number) old new
-IsListFault copies old new faults.Memory = Unit {0}
-IsListFault copies old new _ = ⊥
+abbrev pub IsFaultOfList : ℕ → (old new : ReadLog) → CliFault → Type 0
+IsFaultOfList copies old new (faults.Read path) = (path ≡ paths.List) × IsUnread old new
+IsFaultOfList copies old new (faults.List number) = ReadsList (λ text. IsFirstBadLine copies text number) old new
+IsFaultOfList copies old new faults.Memory = Unit {0}
+IsFaultOfList copies old new _ = ⊥
 
 -- The list lists stretches of so many copies, and this came of them.
 abbrev pub MendsListed : ℕ → (old new : ReadLog) → (List StretchValue → Type 0) → Type 0
@@ -33,12 +33,12 @@ MendsListed copies old new P = (stretches : List StretchValue) × ReadsList (λ 
 
 -- All stretches were mended; or the list lists none, and neither the copies nor the outputs were touched; or the pass over the copies
 -- stopped.
-abbrev pub TellsMend : Result Bool CliFault → (list_old list_new : ReadLog) → (old new : List ReadLog) → (out_old out_new output_old output_new : WriteLog)
+abbrev pub ReportsMend : Result Bool CliFault → (list_old list_new : ReadLog) → (old new : List ReadLog) → (out_old out_new output_old output_new : WriteLog)
     → Type 0
-TellsMend (Ok good) list_old list_new old new out_old out_new output_old output_new =
+ReportsMend (Ok good) list_old list_new old new out_old out_new output_old output_new =
     MendsListed (length old) list_old list_new (λ stretches. MendsAll stretches old new out_old out_new output_old output_new good)
-TellsMend (Err fault) list_old list_new old new out_old out_new output_old output_new =
-    (IsListFault (length old) list_old list_new fault × (new ≡ old) × BothKept out_old out_new output_old output_new)
+ReportsMend (Err fault) list_old list_new old new out_old out_new output_old output_new =
+    (IsFaultOfList (length old) list_old list_new fault × (new ≡ old) × BothKept out_old out_new output_old output_new)
     ⊎ ((stop : MendFault) × (fault ≡ of_mend stop)
     × MendsListed (length old) list_old list_new (λ stretches. StopsMending stretches old new out_old out_new output_old output_new stop))
 
@@ -49,7 +49,7 @@ TellsMend (Err fault) list_old list_new old new out_old out_new output_old outpu
 pub record MendsSome (list : Option (List ℕ)) (copies : List (Option (List ℕ))) (stretches front : List StretchValue) (files : List (List ℕ))
     (mended : List MendedValue) : Type 0 where
   pub list' : IsList (λ text. AreStretches (length copies) text stretches) list
-  pub begin : AllZip BeginsWith copies files
+  pub begin : AllZip InputBegins copies files
   pub mends : MendsFront stretches front files mended
 
 -- What becomes of all stretches was written to OUT, and their lines were printed, and the command returned whether each is good.

@@ -7,8 +7,8 @@ use Rattle.ffv1_pool.specs.Reels.{Reel}
 use Rattle.ffv1_pool.specs.Contents.{Contents, IsSameReel, joined}
 use Rattle.ffv1_hold.specs.HoldingText.{head_text, begun_text, holding_text}
 use Rattle.ffv1_hold.specs.FileFaults.{IsFileReel, IsFaultOf}
-use Rattle.ffv1_hold.specs.JoinedStreams.{Inputs, BeginsWith, BeginsWithPart, JoinRefuses, WritesUnion, WritesNoEnd, WritesFrontSoFar}
-use Rattle.ffv1_hold.specs.JoinLogs.{Devices, AllGoOn, OneStops}
+use Rattle.ffv1_hold.specs.MergedStreams.{Inputs, StreamBegins, BeginsWithPart, JoinRefuses, WritesUnion, WritesNoEnd, WritesFrontSoFar}
+use Rattle.ffv1_hold.specs.MergeLogs.{Devices, AllGoOn, OneStops}
 use Rattle.ffv1_hold.specs.declared.version.Version.{Version}
 use Rattle.ffv1_hold.specs.declared.version.Version.TheVariants.{Second}
 use Rattle.ffv1_hold.specs.declared.file_fault.HoldFileFault.{HoldFileFault}
@@ -46,8 +46,8 @@ pub record HeadsDiffer (left right : Option (List ℕ)) : Type 0 where
   pub other_is : IsFileReel other
   pub left_version : Version
   pub right_version : Version
-  pub left_begins : BeginsWith left (head_text left_version one)
-  pub right_begins : BeginsWith right (head_text right_version other)
+  pub left_begins : StreamBegins left (head_text left_version one)
+  pub right_begins : StreamBegins right (head_text right_version other)
   pub differ : ¬ (one ≡ other)
 
 -- ---- why two files were not merged
@@ -123,7 +123,7 @@ pub record MergeStops (f : HoldFileFault) (old new : Devices) : Type 0 where
   pub went : OneStops f old new (0, 0)
 
 -- The file of the union was written; or joining stopped at a fault, which is reported as one of the command.
-abbrev pub TellsMerge : {T : Type 0} → Result T CliFault → Devices → Devices → Type 0
-TellsMerge (Ok x) old new =
+abbrev pub ReportsMerge : {T : Type 0} → Result T CliFault → Devices → Devices → Type 0
+ReportsMerge (Ok x) old new =
     WritesUnion (inputs_of old new) old.sink.contents new.sink.contents × AllGoOn old new (0, 0) (file_limit, file_limit)
-TellsMerge (Err fault) old new = (f : HoldFileFault) × (fault ≡ of_merge f) × MergeStops f old new
+ReportsMerge (Err fault) old new = (f : HoldFileFault) × (fault ≡ of_merge f) × MergeStops f old new

@@ -26,8 +26,8 @@ abbrev pub disputed_line : (tile slices : ℕ) → List ℕ
 disputed_line tile slices = codes "tile " ++ decimal tile ++ codes " disputed " ++ decimal slices ++ codes "\n"
 
 -- the sample at which a word or a code of a tile's settled slice can't be read
-abbrev pub place_line : (tile plane y x : ℕ) → List ℕ
-place_line tile plane y x =
+abbrev pub stuck_line : (tile plane y x : ℕ) → List ℕ
+stuck_line tile plane y x =
     codes "tile " ++ decimal tile ++ codes " fault plane " ++ decimal plane ++ codes " y " ++ decimal y ++ codes " x " ++ decimal x ++ codes "\n"
 
 abbrev pub header_line : ℕ → List ℕ
@@ -35,7 +35,7 @@ header_line tile = codes "tile " ++ decimal tile ++ codes " fault header\n"
 
 -- why a tile's settled slice spells no picture
 abbrev pub unreadable_line : ℕ → TileFault → List ℕ
-unreadable_line tile (tiles.Code fault plane y x) = place_line tile plane y x
+unreadable_line tile (tiles.Code fault plane y x) = stuck_line tile plane y x
 unreadable_line tile cause = header_line tile
 
 -- the line of a tile without samples; a tile that has them has none
@@ -92,9 +92,9 @@ pub record WritesPicture (h : Contents) (out_old out_new output_old output_new :
 
 -- The file was read, and its picture was written; or it was not read, and both outputs are as they were; or it was, and the command
 -- stopped after that.
-abbrev pub TellsPicture : Result Bool CliFault → (file_old file_new : ReadLog) → (out_old out_new output_old output_new : WriteLog) → Type 0
-TellsPicture (Ok whole) file_old file_new out_old out_new output_old output_new =
+abbrev pub ReportsPicture : Result Bool CliFault → (file_old file_new : ReadLog) → (out_old out_new output_old output_new : WriteLog) → Type 0
+ReportsPicture (Ok whole) file_old file_new out_old out_new output_old output_new =
     (h : Contents) × ReadsHolding file_old file_new h × WritesPicture h out_old out_new output_old output_new whole
-TellsPicture (Err fault) file_old file_new out_old out_new output_old output_new =
+ReportsPicture (Err fault) file_old file_new out_old out_new output_old output_new =
     (HoldingStops (paths.Hold 0) fault file_old file_new × BothKept out_old out_new output_old output_new)
     ⊎ ((h : Contents) × ReadsHolding file_old file_new h × PictureRefuses h out_old out_new output_old output_new fault)

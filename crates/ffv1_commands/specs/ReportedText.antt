@@ -33,9 +33,9 @@ ReportBreaks h output_old output_new _ = ⊥
 
 -- The file was read and its report was printed; or it was not read, and the output is as it was; or it was read, and its report was not
 -- printed.
-abbrev pub TellsReport : {T : Type 0} → Result T CliFault → (file_old file_new : ReadLog) → (output_old output_new : WriteLog) → Type 0
-TellsReport (Ok x) file_old file_new output_old output_new =
+abbrev pub ReportsReport : {T : Type 0} → Result T CliFault → (file_old file_new : ReadLog) → (output_old output_new : WriteLog) → Type 0
+ReportsReport (Ok x) file_old file_new output_old output_new =
     (h : Contents) × ReadsHolding file_old file_new h × Writes output_old output_new (report_text h)
-TellsReport (Err fault) file_old file_new output_old output_new =
+ReportsReport (Err fault) file_old file_new output_old output_new =
     (HoldingStops (paths.Hold 0) fault file_old file_new × (output_new ≡ output_old))
     ⊎ ((h : Contents) × ReadsHolding file_old file_new h × ReportBreaks h output_old output_new fault)

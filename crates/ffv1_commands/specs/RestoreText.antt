@@ -53,10 +53,10 @@ RestoreRefuses h out_old out_new output_old output_new _ = ⊥
 
 -- The file was read, and its payload and then the line were written; or it was not read, and both outputs are as they were; or it was,
 -- and the command stopped after that.
-abbrev pub TellsRestore : {T : Type 0} → Result T CliFault → (file_old file_new : ReadLog) → (out_old out_new output_old output_new : WriteLog) → Type 0
-TellsRestore (Ok x) file_old file_new out_old out_new output_old output_new =
+abbrev pub ReportsRestore : {T : Type 0} → Result T CliFault → (file_old file_new : ReadLog) → (out_old out_new output_old output_new : WriteLog) → Type 0
+ReportsRestore (Ok x) file_old file_new out_old out_new output_old output_new =
     (h : Contents) × ReadsHolding file_old file_new h × AreSettled h
     × Writes out_old out_new (restored_payload h) × Writes output_old output_new (restored_line (length (restored_payload h)))
-TellsRestore (Err fault) file_old file_new out_old out_new output_old output_new =
+ReportsRestore (Err fault) file_old file_new out_old out_new output_old output_new =
     (HoldingStops (paths.Hold 0) fault file_old file_new × BothKept out_old out_new output_old output_new)
     ⊎ ((h : Contents) × ReadsHolding file_old file_new h × RestoreRefuses h out_old out_new output_old output_new fault)

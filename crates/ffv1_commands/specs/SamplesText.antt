@@ -12,5 +12,5 @@ raw_bytes frame = flat_map (λ plane. plane.items) frame.planes.items
 abbrev pub decoded_line : (width height planes : ℕ) → List ℕ
 decoded_line width height planes = codes "decoded " ++ decimal width ++ codes " x " ++ decimal height ++ codes " planes " ++ decimal planes ++ codes "\n"
 
-abbrev pub frame_line : Frame → List ℕ
-frame_line frame = decoded_line frame.width frame.height (vec_len frame.planes)
+abbrev pub decoded_frame_line : Frame → List ℕ
+decoded_frame_line frame = decoded_line frame.width frame.height (vec_len frame.planes)

@@ -9,7 +9,7 @@ use Rattle.ffv1_scan.specs.declared.scanning.ScanFault.TheVariants as scans
 use Rattle.ffv1_scan.specs.Ranges.{AreRanges, IsFirstWrong}
 use Rattle.ffv1_scan.specs.Verdicts.{is_sound}
 use Rattle.ffv1_scan.specs.Scans.{ScansFront, ScansRanges}
-use Rattle.ffv1_commands.specs.Devices.{BeginsWith, IsUnread, WritesFront}
+use Rattle.ffv1_commands.specs.Devices.{InputBegins, IsUnread, WritesFront}
 use Rattle.ffv1_commands.specs.Lists.{ReadsList, IsList}
 use Rattle.ffv1_commands.specs.declared.fault.CliFault.{CliFault}
 use Rattle.ffv1_commands.specs.declared.fault.CliFault.TheVariants as faults
@@ -18,11 +18,11 @@ use Rattle.ffv1_commands.specs.declared.path.CommandPath.TheVariants as paths
 -- ---- over devices
 
 -- why the list gave no ranges
-abbrev pub IsRangesFault : (old new : ReadLog) → CliFault → Type 0
-IsRangesFault old new (faults.Read path) = (path ≡ paths.Ranges) × IsUnread old new
-IsRangesFault old new (faults.Ranges number) = ReadsList (λ text. IsFirstWrong text number) old new
-IsRangesFault old new faults.Memory = Unit {0}
-IsRangesFault old new _ = ⊥
+abbrev pub IsFaultOfRanges : (old new : ReadLog) → CliFault → Type 0
+IsFaultOfRanges old new (faults.Read path) = (path ≡ paths.Ranges) × IsUnread old new
+IsFaultOfRanges old new (faults.Ranges number) = ReadsList (λ text. IsFirstWrong text number) old new
+IsFaultOfRanges old new faults.Memory = Unit {0}
+IsFaultOfRanges old new _ = ⊥
 
 -- The list gave ranges, and this came of them.
 abbrev pub ScansListed : (list_old list_new : ReadLog) → (List ByteRange → Type 0) → Type 0
@@ -43,7 +43,7 @@ abbrev pub ScansDevices : Result Bool CliFault → (list_old list_new file_old f
 ScansDevices (Ok sound) list_old list_new file_old file_new out_old out_new =
     ScansListed list_old list_new (λ ranges. ScansRanges ranges (Ok sound) file_old file_new out_old out_new)
 ScansDevices (Err fault) list_old list_new file_old file_new out_old out_new =
-    (IsRangesFault list_old list_new fault × (file_new ≡ file_old) × (out_new ≡ out_old))
+    (IsFaultOfRanges list_old list_new fault × (file_new ≡ file_old) × (out_new ≡ out_old))
     ⊎ StopsAtRange list_old list_new file_old file_new out_old out_new fault
 
 -- ---- over the bytes of inputs and outputs
@@ -53,7 +53,7 @@ ScansDevices (Err fault) list_old list_new file_old file_new out_old out_new =
 pub record ScansFile (list file before after : Option (List ℕ)) (sound : Bool) : Type 0 where
   pub ranges : List ByteRange
   pub list' : IsList (λ text. AreRanges text ranges) list
-  pub scan : ScansFront ranges ranges (BeginsWith file) (Appends before after)
+  pub scan : ScansFront ranges ranges (InputBegins file) (Appends before after)
   pub answer : sound ≡ list_all is_sound scan.verdicts
 
 -- The ranges of a front were judged, and this was printed.
@@ -61,7 +61,7 @@ pub record ScansSome (list file : Option (List ℕ)) (Prints : List ℕ → Type
   pub ranges : List ByteRange
   pub list' : IsList (λ text. AreRanges text ranges) list
   pub front : List ByteRange
-  pub scan : ScansFront ranges front (BeginsWith file) Prints
+  pub scan : ScansFront ranges front (InputBegins file) Prints
 
 -- What a fault left in the output: nothing where the list gave no ranges; else the lines of the ranges before it, or a front of lines where
 -- printing them failed.

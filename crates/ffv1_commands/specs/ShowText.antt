@@ -66,9 +66,9 @@ ShowBreaks width height input_old input_new output_old output_new fault =
     RecordStops width height input_old input_new fault × (output_new ≡ output_old)
 
 -- The setup of the record was printed, or a fault stopped the command.
-abbrev pub TellsShow : {T : Type 0} → Result T CliFault → (width height : ℕ) → (input_old input_new : ReadLog) → (output_old output_new : WriteLog)
+abbrev pub ReportsShow : {T : Type 0} → Result T CliFault → (width height : ℕ) → (input_old input_new : ReadLog) → (output_old output_new : WriteLog)
     → Type 0
-TellsShow (Ok x) width height input_old input_new output_old output_new =
+ReportsShow (Ok x) width height input_old input_new output_old output_new =
     (setup : SetupValue) × TakesSetup width height input_old input_new setup × Writes output_old output_new (show_text setup)
-TellsShow (Err fault) width height input_old input_new output_old output_new =
+ReportsShow (Err fault) width height input_old input_new output_old output_new =
     ShowBreaks width height input_old input_new output_old output_new fault

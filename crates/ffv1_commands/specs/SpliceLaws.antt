@@ -2,11 +2,11 @@
 -- original that no slice in them contradicts give the original.
 use Rattle.std.specs.Prelude.{ℕ, ◌+◌, ◌≡◌, ◌++◌, Bool, true, List, [], length, map, Option, Some, codes}
 use Rattle.std.specs.List.{flat_map}
-use Rattle.ffv1_slice.specs.Chain.{IsLinkOf, Piece}
+use Rattle.ffv1_slice.specs.Chain.{IsLinkOf, LinkValue}
 use Rattle.ffv1_slice.specs.Members.{HasSameMembers}
 use Rattle.ffv1_slice.specs.Walk.{links_of}
 use Rattle.ffv1_splice.specs.Whole.{IsWholeFrame}
-use Rattle.ffv1_splice.specs.Originals.{AreCopiesOf, AgreeWith, AgreeFromBelow, HaveEachLink, IsAmong, AreWeavable, AreNearCopies, IsIntactInSome}
+use Rattle.ffv1_splice.specs.Originals.{AreCopiesOf, AreConsistentWith, AreConsistentFromBelow, HaveEachLink, IsAmong, AreWeavable, AreNearCopies, IsIntactInSome}
 use Rattle.ffv1_splice.specs.declared.place.Standing.TheVariants.{Settled}
 use Rattle.ffv1_commands.specs.Commands.{IsOfDevices}
 use Rattle.ffv1_commands.specs.SpliceText.{standing_line, SplicesCopies, SpliceStops}
@@ -23,7 +23,7 @@ abbrev pub SplicesTo : List (List ℕ) → Made → Type 0
 SplicesTo copies made = SplicesCopies (map Some copies) (Some []) (Some made.file) (Some []) (Some made.printed) made.answer
 
 -- the line of a link that is settled
-abbrev pub settled_line : Piece → List ℕ
+abbrev pub settled_line : LinkValue → List ℕ
 settled_line link = standing_line (record { start = link.start; end = link.start + length link.bytes; standing = Settled })
 
 -- The original itself, a settled line for each of its links from its end, and `end whole`.
@@ -52,7 +52,7 @@ SameCopiesMakeOneSplice =
 -- Where no slice in the copies contradicts the original, and each of its links is found in some copy, the copies give the original.
 abbrev pub SpliceGivesTheOriginal : Type 0
 SpliceGivesTheOriginal =
-    (original : List ℕ) (copies : List (List ℕ)) → AreCopiesOf original copies → AgreeWith original copies → HaveEachLink original copies
+    (original : List ℕ) (copies : List (List ℕ)) → AreCopiesOf original copies → AreConsistentWith original copies → HaveEachLink original copies
     → GiveOnly copies original
 
 -- So do copies that are near the original, where each of its links is intact in one of them.
@@ -71,7 +71,7 @@ SpliceGivesWovenCopies =
 -- So it is of near copies where each link is among the combinations, and each slice that begins at a start of a link is that link.
 abbrev pub SpliceGivesNearWovenCopies : Type 0
 SpliceGivesNearWovenCopies =
-    (original : List ℕ) (copies : List (List ℕ)) → AreNearCopies original copies → AgreeFromBelow original copies
+    (original : List ℕ) (copies : List (List ℕ)) → AreNearCopies original copies → AreConsistentFromBelow original copies
     → ((start end : ℕ) → IsLinkOf original start end → IsAmong original copies start end)
     → GiveOnlyIfTrue copies original
 

@@ -90,10 +90,10 @@ SpliceRefuses copies out_old out_new output_old output_new _ = ⊥
 
 -- All copies were read, and their splice was written; or one was not read, and both outputs are as they were; or all were, and the
 -- command stopped after that.
-abbrev pub TellsSplice : {C : Type 0} → (C → Option (List ℕ)) → Result Bool CliFault → (copies_old copies_new : List C)
+abbrev pub ReportsSplice : {C : Type 0} → (C → Option (List ℕ)) → Result Bool CliFault → (copies_old copies_new : List C)
     → (out_old out_new output_old output_new : WriteLog) → Type 0
-TellsSplice remaining (Ok answer) copies_old copies_new out_old out_new output_old output_new =
+ReportsSplice remaining (Ok answer) copies_old copies_new out_old out_new output_old output_new =
     (copies : List (List ℕ)) × AreTaken (map remaining copies_old) copies × WritesSplice copies out_old out_new output_old output_new answer
-TellsSplice remaining (Err fault) copies_old copies_new out_old out_new output_old output_new =
+ReportsSplice remaining (Err fault) copies_old copies_new out_old out_new output_old output_new =
     (StopsAtCopy FileStops remaining copies_old copies_new fault × BothKept out_old out_new output_old output_new)
     ⊎ ((copies : List (List ℕ)) × AreTaken (map remaining copies_old) copies × SpliceRefuses copies out_old out_new output_old output_new fault)

@@ -78,13 +78,13 @@ IsFaultOfInputs inputs fault = (i : ℕ) × IsFaultAt inputs i fault
 
 -- The same, and the copies after it are as they were.
 abbrev pub FaultKeepsLater : {C : Type 0} → (C → Option (List ℕ)) → (old new : List C) → CliFault → Type 0
-FaultKeepsLater tells old new fault = (i : ℕ) × IsFaultAt (map tells old) i fault × AreKeptFrom (i + 1) old new
+FaultKeepsLater reports old new fault = (i : ℕ) × IsFaultAt (map reports old) i fault × AreKeptFrom (i + 1) old new
 
 -- What a fault of a copy, which was not read or is too long, leaves: the copies after it, as they were.
 abbrev pub LaterKept : {C : Type 0} → (C → Option (List ℕ)) → (old new : List C) → CliFault → Type 0
-LaterKept tells old new (faults.Read (paths.Copy place)) = AreKeptFrom (place + 1) old new
-LaterKept tells old new (faults.Hold fault) = FaultKeepsLater tells old new (faults.Hold fault)
-LaterKept tells old new _ = Unit {0}
+LaterKept reports old new (faults.Read (paths.Copy place)) = AreKeptFrom (place + 1) old new
+LaterKept reports old new (faults.Hold fault) = FaultKeepsLater reports old new (faults.Hold fault)
+LaterKept reports old new _ = Unit {0}
 
 -- What a fault says, and what it left in the outputs where writing failed: the record's fault, that of a copy, that the holding
 -- of the copies has no file, or a front of what is written.
@@ -123,14 +123,14 @@ pub record TakesAll (width height : ℕ) (inputs : List (Option (List ℕ))) (ol
 -- The record and the copies were taken, and the file and the lines were written; or the record gave no reel, and all else is as it was; or
 -- a copy was not taken, and those after it and both outputs are as they were; or all were taken, and the file and the lines were not
 -- written whole.
-abbrev pub TellsTake : {T C : Type 0} → Result T CliFault → (C → Option (List ℕ)) → (width height : ℕ) → (record_old record_new : ReadLog)
+abbrev pub ReportsTake : {T C : Type 0} → Result T CliFault → (C → Option (List ℕ)) → (width height : ℕ) → (record_old record_new : ReadLog)
     → (copies_old copies_new : List C) → (out_old out_new output_old output_new : WriteLog) → Type 0
-TellsTake (Ok x) tells width height record_old record_new copies_old copies_new out_old out_new output_old output_new =
-    (held : Contents) × (text : List ℕ) × TakesAll width height (map tells copies_old) record_old record_new held text
+ReportsTake (Ok x) reports width height record_old record_new copies_old copies_new out_old out_new output_old output_new =
+    (held : Contents) × (text : List ℕ) × TakesAll width height (map reports copies_old) record_old record_new held text
     × IsMade held text out_old out_new output_old output_new
-TellsTake (Err fault) tells width height record_old record_new copies_old copies_new out_old out_new output_old output_new =
+ReportsTake (Err fault) reports width height record_old record_new copies_old copies_new out_old out_new output_old output_new =
     (RecordStops width height record_old record_new fault × (copies_new ≡ copies_old) × BothKept out_old out_new output_old output_new)
-    ⊎ ((reel : Reel) × TakesReel width height record_old record_new reel × StopsAtCopy CopyStops tells copies_old copies_new fault
+    ⊎ ((reel : Reel) × TakesReel width height record_old record_new reel × StopsAtCopy CopyStops reports copies_old copies_new fault
     × BothKept out_old out_new output_old output_new)
-    ⊎ ((held : Contents) × (text : List ℕ) × TakesAll width height (map tells copies_old) record_old record_new held text
+    ⊎ ((held : Contents) × (text : List ℕ) × TakesAll width height (map reports copies_old) record_old record_new held text
     × MadeBreaks held text out_old out_new output_old output_new fault)

@@ -7,7 +7,7 @@ ghost use Rattle.ffv1_devices.specs.Logs.{StopsWriting};
 ghost use Rattle.ffv1_devices.specs.Results.{WritesAll};
 ghost use Rattle.ffv1_commands.specs.Devices.{UnlessWriting};
 ghost use Rattle.ffv1_commands.specs.Lines.{room, longest_line, PrintsFront};
-ghost use Rattle.ffv1_commands.specs.ChainText.{link_place, link_state, link_line, parity_word, end_line, IsChainText, PrintsChain, ChainStops, TellsChain};
+ghost use Rattle.ffv1_commands.specs.ChainText.{link_place, link_state, link_line, parity_word, end_line, IsChainText, PrintsChain, ChainStops, ReportsChain};
 ghost use Rattle.ffv1_slice.specs.Chain.{IsFramed};
 
 use crate::devices::read_file;
@@ -51,7 +51,7 @@ pub fn chain_of<R: Source, W: Sink>(
     frame: &mut R,
     output: &mut W,
 ) -> Result<(), CliFault>
-    ensures told { TellsChain result (R.log frame.old) (R.log frame.new) (W.log output.old) (W.log output.new) }
+    ensures reported { ReportsChain result (R.log frame.old) (R.log frame.new) (W.log output.old) (W.log output.new) }
     ensures untouched { IfErr result (λ fault. UnlessWriting fault (output.new ≡ output.old)) }
 {
     let payload = read_file(alloc, frame, CommandPath::Frame)?;

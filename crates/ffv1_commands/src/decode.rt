@@ -5,7 +5,7 @@ ghost use Rattle.ffv1_commands.specs.Paths.{IsDecodePath};
 ghost use Rattle.ffv1_commands.specs.Devices.{UnlessWriting, IfOfRecord};
 ghost use Rattle.ffv1_commands.specs.SamplesText.{decoded_line};
 ghost use Rattle.ffv1_commands.specs.RecordInputs.{TakesSetup, RecordStops};
-ghost use Rattle.ffv1_commands.specs.DecodeText.{DecodesFile, DecodeStops, TakesFrame, FrameStops, TellsDecode};
+ghost use Rattle.ffv1_commands.specs.DecodeText.{DecodesFile, DecodeStops, TakesFrame, FrameStops, ReportsDecode};
 
 use crate::devices::read_file;
 use crate::fault::CliFault;
@@ -62,7 +62,7 @@ pub fn decode_of<R: Source, F: Source, O: Sink, W: Sink>(
     out: &mut O,
     output: &mut W,
 ) -> Result<(), CliFault>
-    ensures told { TellsDecode result width height (R.log configuration.old) (R.log configuration.new) (F.log input.old) (F.log input.new)
+    ensures reported { ReportsDecode result width height (R.log configuration.old) (R.log configuration.new) (F.log input.old) (F.log input.new)
         (O.log out.old) (O.log out.new) (W.log output.old) (W.log output.new) }
     ensures untouched { IfErr result (λ fault. UnlessWriting fault ((out.new ≡ out.old) × (output.new ≡ output.old))) }
     ensures in_turn { IfErr result (λ fault. IfOfRecord fault (input.new ≡ input.old)) }

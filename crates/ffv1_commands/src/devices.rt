@@ -1,6 +1,6 @@
 //! Whole files, read from a source and written to a sink, and which path of the command a fault names.
 ghost use Rattle.std.specs.Prelude.{◌≡◌, IfOk, IfErr};
-ghost use Rattle.ffv1_commands.specs.Devices.{ReadsCopy, ReadsNamed, WritesNamed, WritesBoth};
+ghost use Rattle.ffv1_commands.specs.Devices.{ReadsWholeCopy, ReadsNamed, WritesNamed, WritesBoth};
 ghost use Rattle.ffv1_commands.specs.InTurn.{log_of};
 
 use crate::fault::CliFault;
@@ -54,7 +54,7 @@ pub(crate) fn read_copy<S: Source>(
     source: &mut S,
     path: CommandPath,
 ) -> Result<Vec<u8>, CliFault>
-    ensures { ReadsCopy (λ v. v.items) path result (S.log source.old) (S.log source.new) }
+    ensures { ReadsWholeCopy (λ v. v.items) path result (S.log source.old) (S.log source.new) }
 {
     match read_whole(alloc, source, PAYLOAD_LIMIT) {
         Ok(bytes) => Ok(bytes),

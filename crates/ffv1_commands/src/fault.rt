@@ -1,6 +1,6 @@
 //! Why a command stopped, and how that is reported.
 ghost use Rattle.std.specs.Prelude.{◌≡◌, IfOk, string_bytes};
-ghost use Rattle.ffv1_commands.specs.Fault.{named_path, fault_line, setup_fault_number, hold_fault_number, hold_file_fault_number, frame_fault_line, of_hold_file, of_merge, status_of};
+ghost use Rattle.ffv1_commands.specs.Fault.{named_path, fault_line, setup_fault_number, hold_fault_number, hold_file_fault_number, frame_fault_line, of_hold_file, of_merge, exit_status_of};
 
 use crate::path::CommandPath;
 use ffv1_hold::{HoldFault, HoldFileFault, RestoreFault};
@@ -104,7 +104,7 @@ impl CliFault {
 
     /// The program's exit status for the fault: 2 where the words were refused, else 1.
     pub fn status(&self) -> u8
-        ensures { result ≡ status_of self.now }
+        ensures { result ≡ exit_status_of self.now }
     {
         match self {
             CliFault::Words => 2,

@@ -25,7 +25,7 @@ pub(crate) fn read_holding<S: Source>(
 
 /// Writes the file of a holding to OUT. Returns `HoldFile` if the holding has none, and then OUT is not touched.
 fn write_holding<O: Sink>(out: &mut O, holding: &Holding) -> Result<(), CliFault>
-    ensures told { SavesNamed result holding.now (O.log out.old) (O.log out.new) }
+    ensures reported { SavesNamed result holding.now (O.log out.old) (O.log out.new) }
     ensures untouched { IfErr result (λ fault. UnlessWriting fault (out.new ≡ out.old)) }
 {
     match write_hold(holding, out) {
@@ -43,7 +43,7 @@ pub(crate) fn write_made<O: Sink, W: Sink>(
     output: &mut W,
     text: &str,
 ) -> Result<(), CliFault>
-    ensures told { WritesMade result holding.now text.now (O.log out.old) (O.log out.new) (W.log output.old) (W.log output.new) }
+    ensures reported { WritesMade result holding.now text.now (O.log out.old) (O.log out.new) (W.log output.old) (W.log output.new) }
     ensures untouched { IfErr result (λ fault. UnlessWriting fault ((out.new ≡ out.old) × (output.new ≡ output.old))) }
 {
     write_holding(out, holding)?;

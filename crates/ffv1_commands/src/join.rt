@@ -4,7 +4,7 @@ ghost use Rattle.ffv1_commands.specs.Fault.{NamesPath};
 ghost use Rattle.ffv1_commands.specs.Paths.{IsJoinPath};
 ghost use Rattle.ffv1_commands.specs.Devices.{UnlessWriting};
 ghost use Rattle.ffv1_commands.specs.InTurn.{ReadsAlone};
-ghost use Rattle.ffv1_commands.specs.JoinText.{file_line, JoinsFile, JoinsAll, JoinsFiles, StopsAtFile, LaterFilesKept, JoinStops, TellsJoin};
+ghost use Rattle.ffv1_commands.specs.JoinText.{file_line, JoinsFile, JoinsAll, JoinsFiles, StopsAtFile, LaterFilesKept, JoinStops, ReportsJoin};
 
 use crate::devices::buffered;
 use crate::fault::CliFault;
@@ -62,7 +62,7 @@ pub fn join_of<F: Source, R: Read, O: Sink, W: Sink>(
     output: &mut W,
 ) -> Result<(), CliFault>
     requires { length others.old < 2 ^ 63 }
-    ensures told { TellsJoin result R.remaining (F.log first.old) (F.log first.new) others.old others.new
+    ensures reported { ReportsJoin result R.remaining (F.log first.old) (F.log first.new) others.old others.new
         (O.log out.old) (O.log out.new) (W.log output.old) (W.log output.new) }
     ensures untouched { IfErr result (λ fault. UnlessWriting fault ((out.new ≡ out.old) × (output.new ≡ output.old))) }
 {

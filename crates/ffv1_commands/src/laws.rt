@@ -51,7 +51,7 @@ pub fn splice_weaves_the_original()
 
 /// Where `splice` returns `true`, what it wrote is a whole frame: by its own footers its chain is whole, and each of its
 /// slices has content and passes its parity.
-pub fn splice_tells_whole_frames()
+pub fn splice_reports_whole_frames()
     ensures { TrueIsWhole }
 {}
 

@@ -6,7 +6,7 @@ ghost use Rattle.ffv1_stretches.specs.Stretches.{AreInOrder};
 ghost use Rattle.ffv1_commands.specs.Fault.{NamesPath};
 ghost use Rattle.ffv1_commands.specs.InTurn.{log_of};
 ghost use Rattle.ffv1_commands.specs.Lists.{ReadsList, IfOfList};
-ghost use Rattle.ffv1_commands.specs.MendText.{IsListFault, TellsMend, MendsFiles, MendStops};
+ghost use Rattle.ffv1_commands.specs.MendText.{IsFaultOfList, ReportsMend, MendsFiles, MendStops};
 ghost use Rattle.ffv1_commands.specs.Paths.{IsMendPath};
 
 use crate::devices::read_file;
@@ -65,7 +65,7 @@ pub fn mend_of<R: Source, S: Source, O: Sink, W: Sink>(
     output: &mut W,
 ) -> Result<bool, CliFault>
     requires { All (λ copy. (state_of S.log copy).end ≡ 0) copies.old }
-    ensures told { TellsMend result (R.log list.old) (R.log list.new) (map (λ copy. S.log copy.source) copies.old) (map (λ copy. S.log copy.source) copies.new)
+    ensures reported { ReportsMend result (R.log list.old) (R.log list.new) (map (λ copy. S.log copy.source) copies.old) (map (λ copy. S.log copy.source) copies.new)
         (O.log out.old) (O.log out.new) (W.log output.old) (W.log output.new) }
     ensures untouched { IfErr result (λ fault. IfOfList CommandPath.List fault
         ((copies.new ≡ copies.old) × (out.new ≡ out.old) × (output.new ≡ output.old))) }
@@ -82,7 +82,7 @@ fn listed_stretches<R: Source>(
 ) -> Result<Vec<Stretch>, CliFault>
     ensures ok { IfOk result (λ stretches. ReadsList (λ text. AreStretches copies text stretches.items) (R.log list.old) (R.log list.new)) }
     ensures order { IfOk result (λ stretches. AreInOrder copies (replicate copies 0) stretches.items) }
-    ensures err { IfErr result (IsListFault copies (R.log list.old) (R.log list.new)) }
+    ensures err { IfErr result (IsFaultOfList copies (R.log list.old) (R.log list.new)) }
 {
     let text = read_file(alloc, list, CommandPath::List)?;
     match read_list(alloc, text.as_slice(), copies) {

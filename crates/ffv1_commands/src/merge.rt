@@ -4,10 +4,10 @@ ghost use Rattle.ffv1_bits.specs.Limits.{file_limit};
 ghost use Rattle.ffv1_pool.specs.Reels.{Reel};
 ghost use Rattle.ffv1_pool.specs.Contents.{Contents, IsSameReel, joined};
 ghost use Rattle.ffv1_hold.specs.declared.version.Version.{Version};
-ghost use Rattle.ffv1_hold.specs.JoinedStreams.{IsFileOf, BeginsWithHead, WritesAtMost};
+ghost use Rattle.ffv1_hold.specs.MergedStreams.{IsFileOf, BeginsWithHead, WritesAtMost};
 ghost use Rattle.ffv1_commands.specs.Fault.{NamesPath};
 ghost use Rattle.ffv1_commands.specs.Paths.{IsMergePath};
-ghost use Rattle.ffv1_commands.specs.MergeText.{MergesFiles, IsMergeFault, MergeLeaves, AnswersFiles, AnswersOtherHeads, TellsMerge};
+ghost use Rattle.ffv1_commands.specs.MergeText.{MergesFiles, IsMergeFault, MergeLeaves, AnswersFiles, AnswersOtherHeads, ReportsMerge};
 
 use crate::fault::{CliFault, of_merge};
 use crate::path::CommandPath;
@@ -57,7 +57,7 @@ pub fn merge_of<R: Source, Q: Source, O: Sink>(
     right: &mut Q,
     out: &mut O,
 ) -> Result<(), CliFault>
-    ensures told { TellsMerge result (record { left = R.log left.old; right = Q.log right.old; sink = O.log out.old })
+    ensures reported { ReportsMerge result (record { left = R.log left.old; right = Q.log right.old; sink = O.log out.old })
         (record { left = R.log left.new; right = Q.log right.new; sink = O.log out.new }) }
     ensures most { WritesAtMost (O.log out.old).contents (O.log out.new).contents file_limit }
 

@@ -3,7 +3,7 @@ ghost use Rattle.std.specs.Prelude.{◌≡◌, ◌++◌, ◌<◌, ◌^◌, ◌�
 ghost use Rattle.ffv1_commands.specs.Fault.{NamesPath};
 ghost use Rattle.ffv1_commands.specs.Paths.{IsHoldPath};
 ghost use Rattle.ffv1_commands.specs.Devices.{UnlessWriting};
-ghost use Rattle.ffv1_commands.specs.PictureText.{place_line, header_line, unreadable_line, outcome_line, picture_text, IsDecoded, ShowsFile, PictureStops, TellsPicture};
+ghost use Rattle.ffv1_commands.specs.PictureText.{stuck_line, header_line, unreadable_line, outcome_line, picture_text, IsDecoded, ShowsFile, PictureStops, ReportsPicture};
 
 use crate::devices::buffered;
 use crate::fault::CliFault;
@@ -51,7 +51,7 @@ pub fn picture_of<R: Source, O: Sink, W: Sink>(
     out: &mut O,
     output: &mut W,
 ) -> Result<bool, CliFault>
-    ensures told { TellsPicture result (R.log file.old) (R.log file.new) (O.log out.old) (O.log out.new) (W.log output.old) (W.log output.new) }
+    ensures reported { ReportsPicture result (R.log file.old) (R.log file.new) (O.log out.old) (O.log out.new) (W.log output.old) (W.log output.new) }
     ensures untouched { IfErr result (λ fault. UnlessWriting fault ((out.new ≡ out.old) × (output.new ≡ output.old))) }
 {
     let partial = {
@@ -113,7 +113,7 @@ fn push_code_place(
     y: usize,
     x: usize,
 ) -> Result<(), AllocError>
-    ensures { OnOk result (string_bytes text.new ≡ string_bytes text.old ++ place_line tile plane y x) }
+    ensures { OnOk result (string_bytes text.new ≡ string_bytes text.old ++ stuck_line tile plane y x) }
 {
     writeln!(text, "tile {tile} fault plane {plane} y {y} x {x}")
 }

@@ -3,7 +3,7 @@ ghost use Rattle.std.specs.Prelude.{◌≡◌, IfErr, OnOk};
 ghost use Rattle.ffv1_commands.specs.Fault.{NamesPath};
 ghost use Rattle.ffv1_commands.specs.Paths.{IsReportPath};
 ghost use Rattle.ffv1_commands.specs.Devices.{UnlessWriting};
-ghost use Rattle.ffv1_commands.specs.ReportedText.{ReportsFile, ReportStops, TellsReport};
+ghost use Rattle.ffv1_commands.specs.ReportedText.{ReportsFile, ReportStops, ReportsReport};
 
 use crate::devices::{buffered, write_file};
 use crate::fault::CliFault;
@@ -40,7 +40,7 @@ pub fn report_of<R: Source, W: Sink>(
     file: &mut R,
     output: &mut W,
 ) -> Result<(), CliFault>
-    ensures told { TellsReport result (R.log file.old) (R.log file.new) (W.log output.old) (W.log output.new) }
+    ensures reported { ReportsReport result (R.log file.old) (R.log file.new) (W.log output.old) (W.log output.new) }
     ensures untouched { IfErr result (λ fault. UnlessWriting fault (output.new ≡ output.old)) }
 {
     let holding = read_holding(alloc, file, CommandPath::Hold(0))?;

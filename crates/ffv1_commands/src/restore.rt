@@ -3,7 +3,7 @@ ghost use Rattle.std.specs.Prelude.{◌≡◌, IfOk, IfErr, OnOk, string_bytes};
 ghost use Rattle.ffv1_commands.specs.Fault.{NamesPath};
 ghost use Rattle.ffv1_commands.specs.Paths.{IsHoldPath};
 ghost use Rattle.ffv1_commands.specs.Devices.{UnlessWriting};
-ghost use Rattle.ffv1_commands.specs.RestoreText.{restored_line, RestoresFile, RestoreStops, TellsRestore};
+ghost use Rattle.ffv1_commands.specs.RestoreText.{restored_line, RestoresFile, RestoreStops, ReportsRestore};
 
 use crate::devices::{buffered, write_both};
 use crate::fault::CliFault;
@@ -48,7 +48,7 @@ pub fn restore_of<R: Source, O: Sink, W: Sink>(
     out: &mut O,
     output: &mut W,
 ) -> Result<(), CliFault>
-    ensures told { TellsRestore result (R.log file.old) (R.log file.new) (O.log out.old) (O.log out.new) (W.log output.old) (W.log output.new) }
+    ensures reported { ReportsRestore result (R.log file.old) (R.log file.new) (O.log out.old) (O.log out.new) (W.log output.old) (W.log output.new) }
     ensures untouched { IfErr result (λ fault. UnlessWriting fault ((out.new ≡ out.old) × (output.new ≡ output.old))) }
 {
     let payload = {

@@ -5,7 +5,7 @@ ghost use Rattle.ffv1_scan.specs.Ranges.{AreRanges};
 ghost use Rattle.ffv1_commands.specs.Fault.{NamesPath};
 ghost use Rattle.ffv1_commands.specs.Lists.{ReadsList, IfOfList};
 ghost use Rattle.ffv1_commands.specs.Paths.{IsScanPath};
-ghost use Rattle.ffv1_commands.specs.ScanText.{IsRangesFault, ScansDevices, ScansFile, ScanStops};
+ghost use Rattle.ffv1_commands.specs.ScanText.{IsFaultOfRanges, ScansDevices, ScansFile, ScanStops};
 
 use crate::devices::read_file;
 use crate::fault::CliFault;
@@ -57,7 +57,7 @@ pub fn scan_of<R: Source, F: Source, W: Sink>(
     ensures in_turn { IfErr result (λ fault. IfOfList CommandPath.Ranges fault ((file.new ≡ file.old) × (output.new ≡ output.old))) }
     ensures names { IfErr result (NamesPath IsScanPath) }
 {
-    let list = told_ranges(alloc, ranges)?;
+    let list = reported_ranges(alloc, ranges)?;
     match scan(alloc, list.as_slice(), file, output) {
         Ok(sound) => Ok(sound),
         Err(ScanFault::Read) => Err(CliFault::Read(CommandPath::File)),
@@ -67,9 +67,9 @@ pub fn scan_of<R: Source, F: Source, W: Sink>(
 }
 
 /// The ranges that a list gives.
-fn told_ranges<R: Source>(alloc: Global, list: &mut R) -> Result<Vec<ByteRange>, CliFault>
+fn reported_ranges<R: Source>(alloc: Global, list: &mut R) -> Result<Vec<ByteRange>, CliFault>
     ensures ok { IfOk result (λ ranges. ReadsList (λ text. AreRanges text ranges.items) (R.log list.old) (R.log list.new)) }
-    ensures err { IfErr result (IsRangesFault (R.log list.old) (R.log list.new)) }
+    ensures err { IfErr result (IsFaultOfRanges (R.log list.old) (R.log list.new)) }
 {
     let text = read_file(alloc, list, CommandPath::Ranges)?;
     match read_ranges(alloc, text.as_slice()) {

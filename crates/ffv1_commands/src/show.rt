@@ -4,7 +4,7 @@ ghost use Rattle.std.specs.Prelude.{◌≡◌, ◌≤◌, ◌++◌, length, IfOk
 ghost use Rattle.ffv1_bits.specs.Limits.{payload_limit};
 ghost use Rattle.ffv1_commands.specs.Fault.{NamesPath};
 ghost use Rattle.ffv1_commands.specs.Paths.{IsShowPath};
-ghost use Rattle.ffv1_commands.specs.ShowText.{version_lines, planes_line, grid_line, contexts_word, tables_line, end_lines, show_text, PrintsSetup, ShowStops, TellsShow};
+ghost use Rattle.ffv1_commands.specs.ShowText.{version_lines, planes_line, grid_line, contexts_word, tables_line, end_lines, show_text, PrintsSetup, ShowStops, ReportsShow};
 ghost use Rattle.std.specs.List.{flat_map};
 ghost use Rattle.ffv1_commands.specs.Devices.{UnlessWriting};
 
@@ -55,7 +55,7 @@ pub fn show_of<R: Source, W: Sink>(
     height: u32,
     output: &mut W,
 ) -> Result<(), CliFault>
-    ensures told { TellsShow result width height (R.log input.old) (R.log input.new) (W.log output.old) (W.log output.new) }
+    ensures reported { ReportsShow result width height (R.log input.old) (R.log input.new) (W.log output.old) (W.log output.new) }
     ensures untouched { IfErr result (λ fault. UnlessWriting fault (output.new ≡ output.old)) }
 {
     let config = read_file(alloc, input, CommandPath::Record)?;

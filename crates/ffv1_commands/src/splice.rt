@@ -6,7 +6,7 @@ ghost use Rattle.ffv1_commands.specs.Fault.{NamesPath};
 ghost use Rattle.ffv1_commands.specs.Paths.{IsSplicePath};
 ghost use Rattle.ffv1_commands.specs.Devices.{UnlessWriting, FileStops, ReadsNamed};
 ghost use Rattle.ffv1_commands.specs.InTurn.{ReadsAlone, AreTaken, StopsAtCopy};
-ghost use Rattle.ffv1_commands.specs.SpliceText.{standing_line, splice_text, IsLengthFault, SplicesCopies, SpliceStops, LaterCopiesKept, TellsSplice};
+ghost use Rattle.ffv1_commands.specs.SpliceText.{standing_line, splice_text, IsLengthFault, SplicesCopies, SpliceStops, LaterCopiesKept, ReportsSplice};
 
 use crate::devices::{read_file, write_both};
 use crate::fault::CliFault;
@@ -59,7 +59,7 @@ pub fn splice_of<C: Read, O: Sink, W: Sink>(
     output: &mut W,
 ) -> Result<bool, CliFault>
     requires { 0 < length copies.old }
-    ensures told { TellsSplice C.remaining result copies.old copies.new (O.log out.old) (O.log out.new) (W.log output.old) (W.log output.new) }
+    ensures reported { ReportsSplice C.remaining result copies.old copies.new (O.log out.old) (O.log out.new) (W.log output.old) (W.log output.new) }
     ensures untouched { IfErr result (λ fault. UnlessWriting fault ((out.new ≡ out.old) × (output.new ≡ output.old))) }
 {
     let read = read_copies(alloc, copies)?;

@@ -6,7 +6,7 @@ ghost use Rattle.ffv1_commands.specs.Fault.{NamesPath};
 ghost use Rattle.ffv1_commands.specs.Paths.{IsTakePath};
 ghost use Rattle.ffv1_commands.specs.Devices.{IfOfRecord, CopyStops, UnlessWriting};
 ghost use Rattle.ffv1_commands.specs.InTurn.{ReadsAlone, StopsAtCopy};
-ghost use Rattle.ffv1_commands.specs.TakeText.{copy_line, TakesEach, TakesCopy, TakesCopies, LaterKept, TakeStops, TellsTake};
+ghost use Rattle.ffv1_commands.specs.TakeText.{copy_line, TakesEach, TakesCopy, TakesCopies, LaterKept, TakeStops, ReportsTake};
 
 use crate::devices::{read_copy, read_file};
 use crate::fault::CliFault;
@@ -72,7 +72,7 @@ pub fn take_of<R: Source, C: Read, O: Sink, W: Sink>(
     output: &mut W,
 ) -> Result<(), CliFault>
     requires { length copies.old < 2 ^ 63 }
-    ensures told { TellsTake result C.remaining width height (R.log configuration.old) (R.log configuration.new) copies.old copies.new
+    ensures reported { ReportsTake result C.remaining width height (R.log configuration.old) (R.log configuration.new) copies.old copies.new
         (O.log out.old) (O.log out.new) (W.log output.old) (W.log output.new) }
     ensures untouched { IfErr result (λ fault. UnlessWriting fault ((out.new ≡ out.old) × (output.new ≡ output.old))) }
 {
@@ -112,7 +112,7 @@ fn take_copy<C: Read>(
     lines: &mut String,
 ) -> Result<(), CliFault>
     requires { before < 2 ^ 63 }
-    ensures told { ReadsAlone (TakesCopy result before holding.old holding.new (string_bytes lines.old) (string_bytes lines.new)) (C.remaining copy.old) }
+    ensures reported { ReadsAlone (TakesCopy result before holding.old holding.new (string_bytes lines.old) (string_bytes lines.new)) (C.remaining copy.old) }
     ensures reel { holding.new.reel ≡ holding.old.reel }
 {
     take_copy_of(alloc, holding, &mut FromRead::new(copy), before, lines)
@@ -127,7 +127,7 @@ fn take_copy_of<C: Source>(
     lines: &mut String,
 ) -> Result<(), CliFault>
     requires { before < 2 ^ 63 }
-    ensures told { TakesCopy result before holding.old holding.new (string_bytes lines.old) (string_bytes lines.new) (C.log copy.old) (C.log copy.new) }
+    ensures reported { TakesCopy result before holding.old holding.new (string_bytes lines.old) (string_bytes lines.new) (C.log copy.old) (C.log copy.new) }
     ensures reel { holding.new.reel ≡ holding.old.reel }
 {
     let payload = read_copy(alloc, copy, CommandPath::Copy(before))?;

@@ -4,7 +4,7 @@ use Rattle.std.proofs.lemmas.Bool.{cases_lt}
 use Rattle.std.specs.Io.KnownBytes.{IsAtEnd}
 use Rattle.ffv1_devices.specs.Logs.{ReadLog, Reads, BreaksOff}
 use Rattle.ffv1_devices.proofs.Steps.{Reads-trans, BreaksOff-after}
-use Rattle.ffv1_devices.specs.Exact.{StopsReading, EndsBefore, GrowsAsRead, piece}
+use Rattle.ffv1_devices.specs.Exact.{StopsReading, EndsBefore, GrowsAsRead, block}
 
 pub StopsReading-after : (a b c : ReadLog) (xs ys : List ℕ) → Reads a b xs → StopsReading b c ys → StopsReading a c (xs ++ ys)
 StopsReading-after a b c xs ys p q =
@@ -25,7 +25,7 @@ came a b bytes stops =
 
 -- room grew for what came first, and then the source stopped
 pub GrowsAsRead-stopped : (a b c : ReadLog) (xs : List ℕ) (m before after : ℕ) → Reads a b xs → EndsBefore m b c
-    → after ≤ max before (length xs + max (length xs) piece) → GrowsAsRead before after a c
+    → after ≤ max before (length xs + max (length xs) block) → GrowsAsRead before after a c
 GrowsAsRead-stopped a b c xs m before after p ends grown =
     ⊎_elim (λ (more : before < after). inr (
       xs ++ ends.0,

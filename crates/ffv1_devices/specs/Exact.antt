@@ -31,11 +31,11 @@ ReadsNext size (Err faults.Read) room old new = EndsBefore size old new
 ReadsNext size (Err faults.Memory) room old new = (bytes : List ℕ) × Reads old new bytes × (length bytes < size)
 
 -- the size of a block: room is made for at least so many bytes at once
-abbrev pub piece : ℕ
-piece = PIECE
+abbrev pub block : ℕ
+block = PIECE
 
 -- Room for bytes that are read grew as they came, from one length to another: it is as long as it was, or these bytes came and it has
 -- at most as many more than they are, or a block more. Whatever size is claimed, it takes no more.
 abbrev pub GrowsAsRead : (before after : ℕ) → (old new : ReadLog) → Type 0
 GrowsAsRead before after old new =
-    (after ≤ before) ⊎ ((bytes : List ℕ) × (Reads old new bytes ⊎ BreaksOff old new bytes) × (after ≤ length bytes + max (length bytes) piece))
+    (after ≤ before) ⊎ ((bytes : List ℕ) × (Reads old new bytes ⊎ BreaksOff old new bytes) × (after ≤ length bytes + max (length bytes) block))

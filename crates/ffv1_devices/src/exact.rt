@@ -1,7 +1,7 @@
 //! Reads of just so many bytes (own).
 
 ghost use Rattle.std.specs.Prelude.{◌≡◌, ◌+◌, ◌<◌, ◌≤◌, length, max, take, vec_len, IfOk};
-ghost use Rattle.ffv1_devices.specs.Exact.{Fills, PassesOver, ReadsNext, GrowsAsRead, piece};
+ghost use Rattle.ffv1_devices.specs.Exact.{Fills, PassesOver, ReadsNext, GrowsAsRead, block};
 
 use crate::reads::read_full;
 use crate::streams::Source;
@@ -83,7 +83,7 @@ fn next_room(room: &mut Vec<u8>, filled: usize, size: usize) -> Result<usize, Al
     ensures same { take filled room.new.items ≡ take filled room.old.items }
     ensures least { vec_len room.old ≤ vec_len room.new }
     ensures most { vec_len room.new ≤ max (vec_len room.old) size }
-    ensures grown { vec_len room.new ≤ max (vec_len room.old) (filled + max filled piece) }
+    ensures grown { vec_len room.new ≤ max (vec_len room.old) (filled + max filled block) }
 {
     if room.len() == filled {
         let more = filled.max(PIECE).min(size - filled);

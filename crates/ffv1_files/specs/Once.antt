@@ -12,15 +12,15 @@ OpensOnce opens old (Ok _) new = new ≡ old
 OpensOnce opens old (Err _) new = ⊥
 
 -- no byte came to a buffer that has room
-abbrev pub tells_end : {E : Type 0} → Result ℕ E → List ℕ → Bool
-tells_end (Ok count) buf = (count == 0) && not (length buf == 0)
-tells_end (Err _) buf = false
+abbrev pub reports_end : {E : Type 0} → Result ℕ E → List ℕ → Bool
+reports_end (Ok count) buf = (count == 0) && not (length buf == 0)
+reports_end (Err _) buf = false
 
 -- The result of a read is that of the open file, which is closed if the read reached its end, and else open as the read left it. A file
 -- that is not open gives no bytes, and stays as it is.
 abbrev pub ReadsOpen : {O F E : Type 0} → (F → Result ℕ E → List ℕ → F → Type 0) → Once O F → Result ℕ E → List ℕ → Once O F → Type 0
 ReadsOpen {F} reads (Open file) result buf new =
-    (left : F) × reads file result buf left × (new ≡ (if tells_end result buf then Closed else Open left))
+    (left : F) × reads file result buf left × (new ≡ (if reports_end result buf then Closed else Open left))
 ReadsOpen reads old result buf new = (result ≡ Ok 0) × (new ≡ old)
 
 -- A file is opened if it is not opened yet. If that fails, the result is its error. Else the opened file is used so.

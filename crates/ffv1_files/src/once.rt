@@ -3,7 +3,7 @@ ghost use Rattle.std.specs.Prelude.{◌≡◌, ℕ, List, Result, Ok, Err, IfOk,
 ghost use Rattle.std.specs.declared.io.Error.{Error};
 ghost use Rattle.std.specs.Io.{ReadsAtMost, WritesAtMost};
 ghost use Rattle.std.specs.Io.KnownBytes.{ReadConsumes, WriteAppends};
-ghost use Rattle.ffv1_files.specs.Once.{OpensOnce, ReadsOpen, WritesOpen, tells_end};
+ghost use Rattle.ffv1_files.specs.Once.{OpensOnce, ReadsOpen, WritesOpen, reports_end};
 
 use std::io::{Read, Write};
 use std::{io, mem};
@@ -79,8 +79,8 @@ pub enum Once<O, F> {
 }
 
 /// Whether a read reached the end of the file: no byte came to a buffer that has room.
-fn tells_end(read: &io::Result<usize>, buf: &[u8]) -> bool
-    ensures { result ≡ tells_end read.now buf.now }
+fn reports_end(read: &io::Result<usize>, buf: &[u8]) -> bool
+    ensures { result ≡ reports_end read.now buf.now }
 {
     matches!(read, Ok(0)) && !buf.is_empty()
 }
@@ -119,7 +119,7 @@ impl<O: Opener> Once<O, O::File> {
             return Ok(0);
         };
         let read = file.read_once(buf);
-        if tells_end(&read, buf) {
+        if reports_end(&read, buf) {
             *self = Once::Closed;
         }
         read

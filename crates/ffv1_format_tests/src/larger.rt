@@ -177,8 +177,8 @@ fn codes_zeros(
 #[test]
 fn longest_lines_of_zeros(rt: HostRuntime) -> Result<(), Fail> {
     for &(rows, samples, content, spare_bits) in &LINES {
-        let told = codes_zeros(rt.alloc(), rows, content, (samples, spare_bits))?;
-        assert!(rt; told == (true, true));
+        let reported = codes_zeros(rt.alloc(), rows, content, (samples, spare_bits))?;
+        assert!(rt; reported == (true, true));
     }
     Ok(())
 }

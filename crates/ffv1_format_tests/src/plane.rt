@@ -182,16 +182,17 @@ fn gray_fault(
 }
 
 #[test]
-fn codes_without_a_sample_are_told(rt: HostRuntime) -> Result<(), Fail> {
+fn codes_without_a_sample_are_reported(rt: HostRuntime) -> Result<(), Fail> {
     for &(content, size, fault, y, x) in &UNREADABLE {
-        let told = gray_fault(rt.alloc(), content, size)?;
+        let reported = gray_fault(rt.alloc(), content, size)?;
         assert!(rt;
-            told == Some(TileFault::Code {
-                fault,
-                plane: 0,
-                y,
-                x
-            })
+            reported
+                == Some(TileFault::Code {
+                    fault,
+                    plane: 0,
+                    y,
+                    x
+                })
         );
     }
     Ok(())
@@ -204,10 +205,10 @@ static HEADLESS: [(&[u8], HeadFault); 2] = [
 ];
 
 #[test]
-fn contents_without_a_header_are_told(rt: HostRuntime) -> Result<(), Fail> {
+fn contents_without_a_header_are_reported(rt: HostRuntime) -> Result<(), Fail> {
     for &(content, fault) in &HEADLESS {
-        let told = gray_fault(rt.alloc(), content, (1, 1))?;
-        assert!(rt; told == Some(TileFault::Head(fault)));
+        let reported = gray_fault(rt.alloc(), content, (1, 1))?;
+        assert!(rt; reported == Some(TileFault::Head(fault)));
     }
     Ok(())
 }

@@ -81,7 +81,7 @@ fn slice_headers_end_before_their_codes(rt: HostRuntime) {
 }
 
 #[test]
-fn short_content_is_told_again(rt: HostRuntime) {
+fn short_content_is_reported_again(rt: HostRuntime) {
     let mut decoder = RangeDecoder::sentinel(&[0x3F, 0x2B]).expect(&rt, "a start");
     let is_read = reads(&mut decoder, &[1, 0, 0, 0, 0, 0, 0]);
     let mut states = fresh_row();

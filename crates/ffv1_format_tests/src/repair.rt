@@ -13,7 +13,7 @@ pub(crate) enum Call {
 
 /// What comes of such a call on versions of a slice.
 #[derive(Clone, Copy, PartialEq, Eq)]
-pub(crate) enum Told {
+pub(crate) enum Reported {
     /// The slice itself, of so many that were tried.
     Slice(usize),
     Other,
@@ -23,36 +23,36 @@ pub(crate) enum Told {
 }
 
 /// What comes of the call on these versions of a slice.
-fn told_of(
+fn reported_of(
     alloc: Global,
     call: Call,
     slice: &[u8],
     versions: &[&[u8]],
-) -> Result<Told, AllocError> {
+) -> Result<Reported, AllocError> {
     if versions.is_empty()
         || !versions
             .iter()
             .all(|version| version.len() == versions[0].len())
     {
-        return Ok(Told::Uneven);
+        return Ok(Reported::Uneven);
     }
     let answer = match call {
         Call::Repair => repair(alloc, versions)?,
         Call::Vote => vote(alloc, versions)?,
     };
     Ok(match answer {
-        Some((bytes, count)) if bytes.as_slice() == slice => Told::Slice(count),
-        Some(_) => Told::Other,
-        None => Told::Nothing,
+        Some((bytes, count)) if bytes.as_slice() == slice => Reported::Slice(count),
+        Some(_) => Reported::Other,
+        None => Reported::Nothing,
     })
 }
 
 /// What comes of the call on the slice's versions with these damages.
-pub(crate) fn told_of_damages(
+pub(crate) fn reported_of_damages(
     alloc: Global,
     call: Call,
     damages: &[Damage<'_>],
-) -> Result<Told, AllocError> {
+) -> Result<Reported, AllocError> {
     let slice = version_of(alloc, &[])?;
     let mut copies = Vec::new(alloc);
     for damage in damages {
@@ -62,47 +62,47 @@ pub(crate) fn told_of_damages(
     for copy in copies.as_slice() {
         versions.push(copy.as_slice())?;
     }
-    told_of(alloc, call, &slice, &versions)
+    reported_of(alloc, call, &slice, &versions)
 }
 
 /// How many bits the slice has. It has 1029 bytes of content, 3 of its size, its status, and 4 of its parity.
 const BITS: usize = 8 * 1037;
 
 /// Versions by their damage, and what is repaired of them.
-static ROWS: [(&[Damage<'static>], Told); 16] = [
+static ROWS: [(&[Damage<'static>], Reported); 16] = [
     // the first bit of the content in one version, two and three
-    (&[&[(0, 0x80)]], Told::Slice(BITS)),
-    (&[&[(0, 0x80)], &[(0, 0x80)]], Told::Slice(BITS)),
+    (&[&[(0, 0x80)]], Reported::Slice(BITS)),
+    (&[&[(0, 0x80)], &[(0, 0x80)]], Reported::Slice(BITS)),
     (
         &[&[(0, 0x80)], &[(0, 0x80)], &[(0, 0x80)]],
-        Told::Slice(BITS),
+        Reported::Slice(BITS),
     ),
     // the last bit of the parity, and another one
-    (&[&[(1036, 1)]], Told::Slice(BITS)),
-    (&[&[(1036, 1)], &[(1036, 1)]], Told::Slice(BITS)),
-    (&[&[(1033, 0x10)]], Told::Slice(BITS)),
+    (&[&[(1036, 1)]], Reported::Slice(BITS)),
+    (&[&[(1036, 1)], &[(1036, 1)]], Reported::Slice(BITS)),
+    (&[&[(1033, 0x10)]], Reported::Slice(BITS)),
     // the status, and the size
-    (&[&[(1032, 0x08)]], Told::Slice(BITS)),
-    (&[&[(1031, 1)]], Told::Slice(BITS)),
+    (&[&[(1032, 0x08)]], Reported::Slice(BITS)),
+    (&[&[(1031, 1)]], Reported::Slice(BITS)),
     // different damage too, in two versions and in three, in whatever order
     (
         &[&[(3, 1), (9, 2)], &[(3, 1), (100, 4)]],
-        Told::Slice(4 * BITS),
+        Reported::Slice(4 * BITS),
     ),
     (
         &[&[(3, 1), (9, 2)], &[(3, 1), (100, 4)], &[(3, 1), (9, 2)]],
-        Told::Slice(4 * BITS),
+        Reported::Slice(4 * BITS),
     ),
     (
         &[&[(3, 1), (9, 2)], &[(3, 1), (100, 4)], &[(3, 1), (200, 8)]],
-        Told::Slice(8 * BITS),
+        Reported::Slice(8 * BITS),
     ),
     // another bit of one byte in each
-    (&[&[(3, 1)], &[(3, 2)]], Told::Slice(2 * BITS)),
+    (&[&[(3, 1)], &[(3, 2)]], Reported::Slice(2 * BITS)),
     // no bit, two bits, and two that are wrong in all versions beside what differs
-    (&[&[]], Told::Nothing),
-    (&[&[(3, 3)], &[(3, 3)]], Told::Nothing),
-    (&[&[(3, 1), (9, 3)], &[(9, 3), (100, 4)]], Told::Nothing),
+    (&[&[]], Reported::Nothing),
+    (&[&[(3, 3)], &[(3, 3)]], Reported::Nothing),
+    (&[&[(3, 1), (9, 3)], &[(9, 3), (100, 4)]], Reported::Nothing),
     // two slices that differ and pass, each with the same wrong bit
     (
         &[
@@ -116,14 +116,14 @@ static ROWS: [(&[Damage<'static>], Told); 16] = [
                 (14, 0xB7),
             ],
         ],
-        Told::Nothing,
+        Reported::Nothing,
     ),
 ];
 
 #[test]
 fn one_wrong_bit_is_repaired(rt: HostRuntime) {
-    for &(damages, told) in &ROWS {
-        assert!(rt; told_of_damages(rt.alloc(), Call::Repair, damages) == Ok(told));
+    for &(damages, reported) in &ROWS {
+        assert!(rt; reported_of_damages(rt.alloc(), Call::Repair, damages) == Ok(reported));
     }
 }
 
@@ -139,18 +139,18 @@ fn slice_of(alloc: Global, content: u32) -> Result<Vec<u8>, AllocError> {
 }
 
 /// What comes of repairing one version of such a slice whose first bit is wrong.
-fn told_of_content(alloc: Global, content: u32) -> Result<Told, AllocError> {
+fn reported_of_content(alloc: Global, content: u32) -> Result<Reported, AllocError> {
     let slice = slice_of(alloc, content)?;
     let mut version = Vec::from_slice(alloc, &slice)?;
     if let Some(byte) = version.first_mut() {
         *byte ^= 0x80;
     }
-    told_of(alloc, Call::Repair, &slice, &[&version])
+    reported_of(alloc, Call::Repair, &slice, &[&version])
 }
 
 #[test]
 fn at_most_2_to_the_20_repairs_are_tried(rt: HostRuntime) {
-    let most = told_of_content(rt.alloc(), GREATEST - 8);
-    let more = told_of_content(rt.alloc(), GREATEST - 7);
-    assert!(rt; most == Ok(Told::Slice(MOST_REPAIRS)) && more == Ok(Told::Nothing));
+    let most = reported_of_content(rt.alloc(), GREATEST - 8);
+    let more = reported_of_content(rt.alloc(), GREATEST - 7);
+    assert!(rt; most == Ok(Reported::Slice(MOST_REPAIRS)) && more == Ok(Reported::Nothing));
 }

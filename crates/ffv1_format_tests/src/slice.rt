@@ -160,18 +160,18 @@ static NO_SLICES: [(&[u8], usize, LinkFault); 4] = [
 ];
 
 #[test]
-fn links_that_are_no_slices_are_told(rt: HostRuntime) -> Result<(), Fail> {
+fn links_that_are_no_slices_are_reported(rt: HostRuntime) -> Result<(), Fail> {
     for &(payload, number, fault) in &NO_SLICES {
-        let told = link_fault(rt.alloc(), &RECORDED_RECORD, (48, 32), payload, number)?;
-        assert!(rt; told == Some(fault));
+        let reported = link_fault(rt.alloc(), &RECORDED_RECORD, (48, 32), payload, number)?;
+        assert!(rt; reported == Some(fault));
     }
     Ok(())
 }
 
 #[test]
 fn tile_1_is_outside_a_grid_of_one(rt: HostRuntime) -> Result<(), Fail> {
-    let told = link_fault(rt.alloc(), &ONE_TILE, (1, 1), &FRAME, 0)?;
-    assert!(rt; told == Some(LinkFault::Head(HeadFault::OutsideGrid)));
+    let reported = link_fault(rt.alloc(), &ONE_TILE, (1, 1), &FRAME, 0)?;
+    assert!(rt; reported == Some(LinkFault::Head(HeadFault::OutsideGrid)));
     assert!(rt; link_at(&FRAME, 0) == Some((11, 11, 0, true)));
     Ok(())
 }

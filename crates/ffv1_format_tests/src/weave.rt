@@ -23,7 +23,7 @@ pub(crate) fn version_of(alloc: Global, damage: Damage<'_>) -> Result<Vec<u8>, A
 
 /// What comes of weaving versions of the slice.
 #[derive(Clone, Copy, PartialEq, Eq)]
-enum Told {
+enum Reported {
     /// The slice itself, of so many combinations.
     Slice(usize),
     Other,
@@ -36,76 +36,80 @@ enum Told {
 }
 
 /// What comes of weaving these versions of a slice.
-fn told_of(alloc: Global, slice: &[u8], versions: &[&[u8]]) -> Result<Told, AllocError> {
+fn reported_of(alloc: Global, slice: &[u8], versions: &[&[u8]]) -> Result<Reported, AllocError> {
     if versions.is_empty()
         || !versions
             .iter()
             .all(|version| version.len() == versions[0].len())
     {
-        return Ok(Told::Uneven);
+        return Ok(Reported::Uneven);
     }
     Ok(match weave(alloc, Check::Slice, versions)? {
-        Outcome::Woven(bytes, count) if bytes.as_slice() == slice => Told::Slice(count),
-        Outcome::Woven(_, _) => Told::Other,
-        Outcome::Disputed => Told::Disputed,
-        Outcome::Missing(count) => Told::Missing(count),
-        Outcome::TooMany => Told::TooMany,
+        Outcome::Woven(bytes, count) if bytes.as_slice() == slice => Reported::Slice(count),
+        Outcome::Woven(_, _) => Reported::Other,
+        Outcome::Disputed => Reported::Disputed,
+        Outcome::Missing(count) => Reported::Missing(count),
+        Outcome::TooMany => Reported::TooMany,
     })
 }
 
 /// What comes of weaving copies of a slice.
-fn told_of_copies(alloc: Global, slice: &[u8], copies: &[Vec<u8>]) -> Result<Told, AllocError> {
+fn reported_of_copies(
+    alloc: Global,
+    slice: &[u8],
+    copies: &[Vec<u8>],
+) -> Result<Reported, AllocError> {
     let mut versions = Vec::new(alloc);
     for copy in copies {
         versions.push(copy.as_slice())?;
     }
-    told_of(alloc, slice, &versions)
+    reported_of(alloc, slice, &versions)
 }
 
 /// What comes of weaving the slice's versions with these damages.
-fn told_of_damages(alloc: Global, damages: &[Damage<'_>]) -> Result<Told, AllocError> {
+fn reported_of_damages(alloc: Global, damages: &[Damage<'_>]) -> Result<Reported, AllocError> {
     let mut copies = Vec::new(alloc);
     for damage in damages {
         copies.push(version_of(alloc, damage)?)?;
     }
-    told_of_copies(alloc, &version_of(alloc, &[])?, &copies)
+    reported_of_copies(alloc, &version_of(alloc, &[])?, &copies)
 }
 
 /// Whether this comes of weaving the slice's versions with these damages.
-fn is_told(alloc: Global, damages: &[Damage<'_>], told: Told) -> bool {
-    told_of_damages(alloc, damages) == Ok(told)
+fn is_reported(alloc: Global, damages: &[Damage<'_>], reported: Reported) -> bool {
+    reported_of_damages(alloc, damages) == Ok(reported)
 }
 
 /// Versions by their damage, and what is woven of them.
-static ROWS: [(&[Damage<'static>], Told); 10] = [
+static ROWS: [(&[Damage<'static>], Reported); 10] = [
     // apart in two copies, in whatever order and however often; in the footer's size too
-    (&[&[(3, 1), (4, 1)], &[(100, 0x80)]], Told::Slice(8)),
+    (&[&[(3, 1), (4, 1)], &[(100, 0x80)]], Reported::Slice(8)),
     (
         &[&[(100, 0x80)], &[(3, 1), (4, 1)], &[(100, 0x80)]],
-        Told::Slice(8),
+        Reported::Slice(8),
     ),
-    (&[&[(3, 1)], &[(1031, 1)]], Told::Slice(4)),
+    (&[&[(3, 1)], &[(1031, 1)]], Reported::Slice(4)),
     // beside each other, in one region, and with an intact version
-    (&[&[(3, 1)], &[(4, 1)]], Told::Slice(4)),
-    (&[&[(3, 1)], &[(67, 1)]], Told::Slice(4)),
-    (&[&[(3, 1)], &[(67, 1)], &[]], Told::Slice(4)),
-    (&[&[(3, 1)], &[(3, 2)]], Told::Missing(2)),
-    (&[&[]], Told::Slice(1)),
-    (&[&[(3, 1)]], Told::Missing(1)),
+    (&[&[(3, 1)], &[(4, 1)]], Reported::Slice(4)),
+    (&[&[(3, 1)], &[(67, 1)]], Reported::Slice(4)),
+    (&[&[(3, 1)], &[(67, 1)], &[]], Reported::Slice(4)),
+    (&[&[(3, 1)], &[(3, 2)]], Reported::Missing(2)),
+    (&[&[]], Reported::Slice(1)),
+    (&[&[(3, 1)]], Reported::Missing(1)),
     // both damages together have the parity of neither
     (
         &[
             &[(3, 1)],
             &[(100, 0x87), (101, 0x62), (102, 0xC1), (103, 0xF6)],
         ],
-        Told::Disputed,
+        Reported::Disputed,
     ),
 ];
 
 #[test]
 fn damaged_versions_are_woven(rt: HostRuntime) {
-    for &(damages, told) in &ROWS {
-        assert!(rt; is_told(rt.alloc(), damages, told));
+    for &(damages, reported) in &ROWS {
+        assert!(rt; is_reported(rt.alloc(), damages, reported));
     }
 }
 
@@ -167,7 +171,7 @@ static FARTHEST: [Damage<'static>; 2] = [
 #[test]
 fn versions_are_split_as_finely_as_can_be_tried(rt: HostRuntime) {
     for damages in [&NEAR, &FAR, &FARTHEST] {
-        assert!(rt; is_told(rt.alloc(), damages, Told::Slice(512)));
+        assert!(rt; is_reported(rt.alloc(), damages, Reported::Slice(512)));
     }
 }
 
@@ -198,12 +202,12 @@ static RUNS: [Damage<'static>; 3] = [
 
 #[test]
 fn pairs_of_versions_are_split_by_themselves(rt: HostRuntime) {
-    assert!(rt; is_told(rt.alloc(), &RUNS, Told::Slice(24)));
+    assert!(rt; is_reported(rt.alloc(), &RUNS, Reported::Slice(24)));
 }
 
 #[test]
 fn at_most_4096_combinations_are_tried(rt: HostRuntime) {
-    let most = is_told(rt.alloc(), &[&EVEN[..6], &ODD], Told::Slice(4096));
-    let more = is_told(rt.alloc(), &[&EVEN, &ODD], Told::TooMany);
+    let most = is_reported(rt.alloc(), &[&EVEN[..6], &ODD], Reported::Slice(4096));
+    let more = is_reported(rt.alloc(), &[&EVEN, &ODD], Reported::TooMany);
     assert!(rt; most && more);
 }

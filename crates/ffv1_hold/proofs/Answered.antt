@@ -7,7 +7,7 @@ use Rattle.ffv1_hold.specs.declared.file_fault.HoldFileFault.{HoldFileFault}
 use Rattle.ffv1_hold.specs.declared.file_fault.HoldFileFault.TheVariants as faults
 use Rattle.ffv1_hold.specs.declared.version.Version.{Version}
 use Rattle.ffv1_pool.specs.Contents.{Contents, IsHolding}
-use Rattle.ffv1_hold.specs.HoldingText.{file_text, head_text, entries_text, file_entries, IsTold, FitsInFile}
+use Rattle.ffv1_hold.specs.HoldingText.{file_text, head_text, entries_text, file_entries, IsStated, FitsInFile}
 use Rattle.ffv1_hold.specs.Reading.{Refuses, StopsIn}
 use Rattle.ffv1_hold.specs.FileFaults.{IsPartOfFile, FileIsWhole, FileShows, ReadsFile, IsOutside, Answers}
 use Rattle.ffv1_hold.proofs.TextLaws.{one_file, same_head, same_entries, fitting_items, text_parts}
@@ -24,9 +24,9 @@ taken_all xs bs (Some rest) is end = is ∙ ap (λ r. bs ++ r) end ∙ append-ni
 
 module _ (v : Version) (h : Contents) (is : IsHolding h) (fits : FitsInFile v h) where
   -- no text goes on after another
-  text_ends : (w : Version) (g : Contents) → IsHolding g → length g.reel.config ≤ record_limit → IsTold w g → (more : ℕ) (rest : List ℕ)
+  text_ends : (w : Version) (g : Contents) → IsHolding g → length g.reel.config ≤ record_limit → IsStated w g → (more : ℕ) (rest : List ℕ)
       → file_text v h ≡ file_text w g ++ more ∷ rest → ⊥
-  text_ends w g g_is g_fits g_told more rest same =
+  text_ends w g g_is g_fits g_stated more rest same =
       let gs = entries_text w (file_entries g) in
       let hs = entries_text v (file_entries h) in
       let heads = same_head v w h.reel g.reel (hs ++ 0 ∷ []) ((gs ++ 0 ∷ []) ++ more ∷ rest) (record { reel = is.reel; fits = fits.record' })
@@ -34,8 +34,8 @@ module _ (v : Version) (h : Contents) (is : IsHolding h) (fits : FitsInFile v h)
       (sym (text_parts v h) ∙ same ∙ ap (λ z. z ++ more ∷ rest) (text_parts w g) ∙ append_assoc (head_text w g.reel) (gs ++ 0 ∷ []) (more ∷ rest)) in
       let version = ap (λ (u : Version). entries_text u (file_entries g)) (sym heads.0) in
       let tails = heads.2 ∙ append_assoc gs (0 ∷ []) (more ∷ rest) ∙ ap (λ z. z ++ 0 ∷ more ∷ rest) version in
-      let entries = same_entries v (file_entries h) (file_entries g) [] (more ∷ rest) (fitting_items v h is fits.told)
-      (fitting_items v g g_is (subst (λ (u : Version). IsTold u g) (sym heads.0) g_told)) tails in
+      let entries = same_entries v (file_entries h) (file_entries g) [] (more ∷ rest) (fitting_items v h is fits.stated)
+      (fitting_items v g g_is (subst (λ (u : Version). IsStated u g) (sym heads.0) g_stated)) tails in
       omega (
         arith,
         ap length tails,
@@ -46,7 +46,7 @@ module _ (v : Version) (h : Contents) (is : IsHolding h) (fits : FitsInFile v h)
 
   shows_none : (fault : HoldFileFault) (new : Option (List ℕ)) → StopsIn (FileShows fault) (Some (file_text v h)) new 0 → ⊥
   shows_none fault new r = let front = taken_front (file_text v h) r.seen new r.taken in
-      text_none v h is fits.record' fits.told [] r.seen front.0 fault (append-nil (file_text v h) ∙ front.1) r.is
+      text_none v h is fits.record' fits.stated [] r.seen front.0 fault (append-nil (file_text v h) ∙ front.1) r.is
 
   -- a refusal of a text is the device's or memory's
   pub refused_outside : (f : HoldFileFault) (new : Option (List ℕ)) → Refuses IsPartOfFile FileIsWhole FileShows (Some (file_text v h)) new 0 f → IsOutside f
@@ -54,7 +54,7 @@ module _ (v : Version) (h : Contents) (is : IsHolding h) (fits : FitsInFile v h)
   refused_outside faults.Memory new r = tt
   refused_outside faults.Write new r = r
   refused_outside faults.OtherReel new r = r
-  refused_outside faults.Truncated new r = text_whole v h is fits.record' fits.told []
+  refused_outside faults.Truncated new r = text_whole v h is fits.record' fits.stated []
       (subst IsPartOfFile (sym (append-nil (file_text v h) ∙ taken_all (file_text v h) r.seen new r.taken r.at_end)) r.unfinished)
   refused_outside faults.TooLong new (inl r) = shows_none faults.TooLong new r
   refused_outside faults.TooLong new (inr r) =
@@ -77,6 +77,6 @@ module _ (v : Version) (h : Contents) (is : IsHolding h) (fits : FitsInFile v h)
       let file = read.file in
       let whole = taken_all (file_text v h) (file_text file.version g) new.remaining
       (subst (λ (o : Option (List ℕ)). Consumes o new.remaining (file_text file.version g)) known file.taken) read.at_end in
-      one_file file.version v g h read.sound is file.fits.record' fits.record' file.fits.told fits.told (sym whole)
+      one_file file.version v g h read.sound is file.fits.record' fits.record' file.fits.stated fits.stated (sym whole)
   answered old new (Err f) known stops = refused_outside f new.remaining
       (subst (λ (o : Option (List ℕ)). Refuses IsPartOfFile FileIsWhole FileShows o new.remaining 0 f) known stops.fault)

@@ -6,7 +6,7 @@ use Rattle.ffv1_hold.specs.declared.file_fault.HoldFileFault.{HoldFileFault}
 use Rattle.ffv1_hold.specs.declared.version.Version.{Version}
 use Rattle.ffv1_hold.specs.HoldingText.{FileEntry, slice_text, text_after_slice, body_text}
 use Rattle.ffv1_hold.specs.FileEntries.{AreDigestsIn, HasText}
-use Rattle.ffv1_hold.specs.FileFaults.{IsRight, IsPartOfSlice, IsPartAfter, IsPartOfBody, BodyShows}
+use Rattle.ffv1_hold.specs.FileFaults.{IsEntryInPlace, IsPartOfSlice, IsPartAfter, IsPartOfBody, BodyShows}
 use Rattle.ffv1_hold.proofs.SliceTexts.{same_slice, after_slice, slice_cut, slice_none, slice_one, part_slice_none}
 use Rattle.ffv1_hold.proofs.DigestTexts.{same_after, after_none, after_cut, after_one, part_after_none}
 
@@ -26,7 +26,7 @@ module _ (v : Version) where
 
   module _ (setup : SetupValue) (last : Option FileEntry) where
     -- a slice that is right, before other bytes
-    right_same : (e f : Entry) (x y : List ℕ) → IsRight setup last e → IsRight setup last f → slice_text e ++ x ≡ slice_text f ++ y → x ≡ y
+    right_same : (e f : Entry) (x y : List ℕ) → IsEntryInPlace setup last e → IsEntryInPlace setup last f → slice_text e ++ x ≡ slice_text f ++ y → x ≡ y
     right_same e f x y e_is f_is same = after_slice e f x y (e_is.2, e_is.0.fits) (f_is.2, f_is.0.fits) same
 
     -- a whole entry is not cut by the end
@@ -37,7 +37,7 @@ module _ (v : Version) where
         after_cut v e.1 x has.2 (subst (IsPartAfter v) (sym rest) cut)
 
     -- an entry that is right shows no fault
-    pub body_none : (e : FileEntry) (x y : List ℕ) → IsRight setup last e.0 → AreDigestsIn v e.1 → (f : HoldFileFault) (s : List ℕ)
+    pub body_none : (e : FileEntry) (x y : List ℕ) → IsEntryInPlace setup last e.0 → AreDigestsIn v e.1 → (f : HoldFileFault) (s : List ℕ)
         → body_text v e ++ x ≡ s ++ y → BodyShows v setup last f s → ⊥
     body_none e x y right are f s same (inl shown) =
         slice_none setup last e.0 (text_after_slice v e.1 ++ x) y right f s (sym (body_parts e x) ∙ same) shown

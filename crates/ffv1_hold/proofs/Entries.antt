@@ -11,7 +11,7 @@ use Rattle.ffv1_hold.specs.FileEntries.{last_of, AreEntries}
 use Rattle.ffv1_hold.specs.HoldingText.{FileEntry, slice_text, text_after_slice, body_text, entry_text, entries_text}
 use Rattle.ffv1_devices.specs.Logs.{ReadLog}
 use Rattle.ffv1_hold.specs.Reading.{TakesText, StopsAt}
-use Rattle.ffv1_hold.specs.FileFaults.{IsPartOfSlice, SliceIsTooLong, IsWrong, IsRight, IsPartAfter, ShowsAfter, IsPartOfEntry, EntryShows, IsPartOfEntries, EntriesShow}
+use Rattle.ffv1_hold.specs.FileFaults.{IsPartOfSlice, SliceIsTooLong, IsWrong, IsEntryInPlace, IsPartAfter, ShowsAfter, IsPartOfEntry, EntryShows, IsPartOfEntries, EntriesShow}
 use Rattle.ffv1_hold.proofs.TextReads.{shown}
 
 pub single : (xs : List ℕ) (v : ℕ) → length xs ≡ 1 → get_or xs 0 0 ≡ v → xs ≡ v ∷ []
@@ -34,14 +34,14 @@ module _ (v : Version) (setup : SetupValue) (last : Option FileEntry) where
   part_of_slice s h = inr (s, refl, inl h)
 
   -- and so is a right slice, and a part of what stands after it
-  pub part_after_slice : (e : Entry) → IsRight setup last e → (s : List ℕ) → IsPartAfter v s → IsPartOfEntry v setup last ((1 ∷ slice_text e) ++ s)
+  pub part_after_slice : (e : Entry) → IsEntryInPlace setup last e → (s : List ℕ) → IsPartAfter v s → IsPartOfEntry v setup last ((1 ∷ slice_text e) ++ s)
   part_after_slice e right s h = inr (slice_text e ++ s, refl, inr (e, s, refl, right, h))
 
   pub slice_shows : (f : HoldFileFault) (s : List ℕ) → SliceIsTooLong f s → EntryShows v setup last f (1 ∷ [] ++ s)
   slice_shows faults.TooLong s h = (s, refl, inl h)
   slice_shows _ s h = absurd h
 
-  pub after_shows : (e : Entry) → IsRight setup last e → (f : HoldFileFault) (s : List ℕ) → ShowsAfter v f s
+  pub after_shows : (e : Entry) → IsEntryInPlace setup last e → (f : HoldFileFault) (s : List ℕ) → ShowsAfter v f s
       → EntryShows v setup last f ((1 ∷ slice_text e) ++ s)
   after_shows e right faults.Tag s h = absurd (no_tag_after v s h)
     where

@@ -12,7 +12,7 @@ use Rattle.ffv1_hold.specs.declared.version.Version.{Version}
 use Rattle.ffv1_pool.specs.Rising.{IsRising}
 use Rattle.ffv1_pool.specs.Reels.{Reel}
 use Rattle.ffv1_pool.specs.Contents.{Contents, IsHolding}
-use Rattle.ffv1_hold.specs.HoldingText.{FileEntry, be4, magic, sized_record, head_text, body_text, entries_text, file_entries, file_text, IsTold}
+use Rattle.ffv1_hold.specs.HoldingText.{FileEntry, be4, magic, sized_record, head_text, body_text, entries_text, file_entries, file_text, IsStated}
 use Rattle.ffv1_hold.specs.FileEntries.{last_of, Follows, IsFileEntryOf, file_entry_cmp, AreEntries, HasText}
 use Rattle.ffv1_hold.specs.FileFaults.{IsFileReel, IsPartOfBody, BodyShows, IsPartOfEntry, EntryShows, IsPartOfReel, ReelShows, MagicShows, IsPartOfFile, FileShows}
 use Rattle.ffv1_pool.proofs.RisingSets.{rising_rest}
@@ -227,7 +227,7 @@ sized_cut config width height x fits (inr part) =
     let rest = after_number (length config) n _ _ two in
     omega (arith, part.6, long, ap length rest, length-append config x)
 
-module _ (v : Version) (h : Contents) (is : IsHolding h) (fits : length h.reel.config ≤ record_limit) (told : IsTold v h) where
+module _ (v : Version) (h : Contents) (is : IsHolding h) (fits : length h.reel.config ≤ record_limit) (stated : IsStated v h) where
   abbrev es : List FileEntry
   es = file_entries h
 
@@ -235,10 +235,10 @@ module _ (v : Version) (h : Contents) (is : IsHolding h) (fits : length h.reel.c
   file_reel = record { reel = is.reel; fits = fits }
 
   all_valid : AreValid v h.reel.setup None es
-  all_valid = valid_list v h.reel.setup es (are_entries v h is told)
+  all_valid = valid_list v h.reel.setup es (are_entries v h is stated)
 
   all_fit : AreFitting v es
-  all_fit = fitting_items v h is told
+  all_fit = fitting_items v h is stated
 
   -- the text, before more bytes
   text_before : (z : List ℕ) → file_text v h ++ z ≡ head_text v h.reel ++ (entries_text v es ++ 0 ∷ z)

@@ -11,7 +11,7 @@ use Rattle.ffv1_hold.specs.declared.file_fault.HoldFileFault.TheVariants as faul
 use Rattle.ffv1_pool.specs.Reels.{Reel}
 use Rattle.ffv1_hold.specs.declared.version.Version.{Version}
 use Rattle.ffv1_hold.specs.declared.version.Version.TheVariants.{First, Second}
-use Rattle.ffv1_hold.specs.HoldingText.{name, version_number, magic, be4, sized_record, head_text, entries_text, file_entries, IsTold}
+use Rattle.ffv1_hold.specs.HoldingText.{name, version_number, magic, be4, sized_record, head_text, entries_text, file_entries, IsStated}
 use Rattle.ffv1_pool.specs.Contents.{Contents, IsHolding}
 use Rattle.ffv1_devices.specs.Logs.{ReadLog}
 use Rattle.ffv1_hold.specs.Reading.{Refuses, TakesText, ReadsText}
@@ -119,16 +119,16 @@ head_file old new f r =
 
 -- a text, whose end is looked for
 abbrev IsFileOfReel : Version → Reel → List ℕ → Type 0
-IsFileOfReel v r s = (h : Contents) × (tag : List ℕ) × IsHolding h × IsTold v h × (h.reel ≡ r) × (s ≡ entries_text v (file_entries h) ++ tag) × (tag ≡ 0 ∷ [])
+IsFileOfReel v r s = (h : Contents) × (tag : List ℕ) × IsHolding h × IsStated v h × (h.reel ≡ r) × (s ≡ entries_text v (file_entries h) ++ tag) × (tag ≡ 0 ∷ [])
 
 text_of : (v : Version) (r : Reel) → IsFileReel r → (s : List ℕ) → IsFileOfReel v r s → IsHoldingText (head_text v r ++ s)
-text_of v r is s (h, tag, holding, told, reel, same, end) = (
+text_of v r is s (h, tag, holding, stated, reel, same, end) = (
   h,
   holding,
   subst (λ (x : Reel). length x.config ≤ record_limit) (sym reel) is.fits,
   (
     v,
-    told,
+    stated,
     ap (λ (x : Reel). head_text v x ++ s) (sym reel)
         ∙ ap (λ t. head_text v h.reel ++ t) (same ∙ ap (λ t. entries_text v (file_entries h) ++ t) end)
         ∙ sym (append_assoc (head_text v h.reel) (entries_text v (file_entries h)) (0 ∷ [])),

@@ -17,21 +17,21 @@ then_then Equal b c = refl
 then_then Greater b c = refl
 
 -- as many of the held bytes as a block has decide, and else the rest
-pub bytes_cmp-append : (held piece rest : List ℕ)
-    → bytes_cmp held (piece ++ rest) ≡ ordering_then (bytes_cmp (take (length piece) held) piece) (bytes_cmp (drop (length piece) held) rest)
+pub bytes_cmp-append : (held block rest : List ℕ)
+    → bytes_cmp held (block ++ rest) ≡ ordering_then (bytes_cmp (take (length block) held) block) (bytes_cmp (drop (length block) held) rest)
 bytes_cmp-append held [] rest = refl
-bytes_cmp-append [] (x ∷ piece) rest = refl
-bytes_cmp-append (h ∷ held) (x ∷ piece) rest =
-    ap (ordering_then (nat_cmp h x)) (bytes_cmp-append held piece rest)
-    ∙ then_then (nat_cmp h x) (bytes_cmp (take (length piece) held) piece) (bytes_cmp (drop (length piece) held) rest)
+bytes_cmp-append [] (x ∷ block) rest = refl
+bytes_cmp-append (h ∷ held) (x ∷ block) rest =
+    ap (ordering_then (nat_cmp h x)) (bytes_cmp-append held block rest)
+    ∙ then_then (nat_cmp h x) (bytes_cmp (take (length block) held) block) (bytes_cmp (drop (length block) held) rest)
 
 -- and so after bytes that decided so
-pub then-bytes_cmp : (order : Ordering) (held piece rest : List ℕ)
-    → ordering_then order (bytes_cmp held (piece ++ rest))
-    ≡ ordering_then (ordering_then order (bytes_cmp (take (length piece) held) piece)) (bytes_cmp (drop (length piece) held) rest)
-then-bytes_cmp order held piece rest =
-    ap (ordering_then order) (bytes_cmp-append held piece rest)
-    ∙ then_then order (bytes_cmp (take (length piece) held) piece) (bytes_cmp (drop (length piece) held) rest)
+pub then-bytes_cmp : (order : Ordering) (held block rest : List ℕ)
+    → ordering_then order (bytes_cmp held (block ++ rest))
+    ≡ ordering_then (ordering_then order (bytes_cmp (take (length block) held) block)) (bytes_cmp (drop (length block) held) rest)
+then-bytes_cmp order held block rest =
+    ap (ordering_then order) (bytes_cmp-append held block rest)
+    ∙ then_then order (bytes_cmp (take (length block) held) block) (bytes_cmp (drop (length block) held) rest)
 
 -- where they are equal so far, the longer one is greater
 more_held : (m n : ℕ) (xs : List ℕ) → n ≤ m → length xs ≡ m - n → bytes_cmp xs [] ≡ nat_cmp m n
@@ -77,20 +77,20 @@ module _ (from n size : ℕ) (old : List ℕ) (within : from ≤ length old) (la
   ]
 
   -- the block in the place of these
-  pub put_mid-grown : (piece : List ℕ) → put_mid from n grown piece ≡ take from old ++ piece ++ drop (from + n) old
-  put_mid-grown piece =
-      sym (append_assoc (take from grown) piece (drop n (drop from grown)))
-      ∙ (λ i. (ap (take from) grown_is ∙ take-append-le from old zeros within) i ++ piece ++ (drop-drop n from grown ∙ drop-grown) i)
+  pub put_mid-grown : (block : List ℕ) → put_mid from n grown block ≡ take from old ++ block ++ drop (from + n) old
+  put_mid-grown block =
+      sym (append_assoc (take from grown) block (drop n (drop from grown)))
+      ∙ (λ i. (ap (take from) grown_is ∙ take-append-le from old zeros within) i ++ block ++ (drop-drop n from grown ∙ drop-grown) i)
 
   -- and so where the whole vector is written back
-  pub put_back : (len : ℕ) (now whole buf piece : List ℕ) → now ≡ grown → whole ≡ now → buf ≡ piece → length piece ≡ n → len ≡ length now
+  pub put_back : (len : ℕ) (now whole buf block : List ℕ) → now ≡ grown → whole ≡ now → buf ≡ block → length block ≡ n → len ≡ length now
       → take len (put_mid from ((from + n) - from) whole buf ++ drop (length (put_mid from ((from + n) - from) whole buf)) now)
-      ≡ take from old ++ piece ++ drop (from + length piece) old
-  put_back len now whole buf piece now_is whole_is buf_is long all =
+      ≡ take from old ++ block ++ drop (from + length block) old
+  put_back len now whole buf block now_is whole_is buf_is long all =
       let same : (from + n) - from ≡ n = omega arith in
       let put = put_mid from ((from + n) - from) whole buf in
-      let put_is : put ≡ take from old ++ piece ++ drop (from + n) old =
-      (λ i. put_mid from (same i) ((whole_is ∙ now_is) i) (buf_is i)) ∙ put_mid-grown piece in
+      let put_is : put ≡ take from old ++ block ++ drop (from + n) old =
+      (λ i. put_mid from (same i) ((whole_is ∙ now_is) i) (buf_is i)) ∙ put_mid-grown block in
       let whole_length : length put ≡ len = omega (
         arith,
         ap length put_is,
@@ -99,40 +99,40 @@ module _ (from n size : ℕ) (old : List ℕ) (within : from ≤ length old) (la
         ap length grown_is,
         length-append old zeros,
         length-replicate {A = ℕ} (size - length old) 0,
-        length-append (take from old ++ piece) (drop (from + n) old),
-        length-append (take from old) piece,
+        length-append (take from old ++ block) (drop (from + n) old),
+        length-append (take from old) block,
         length-take-le from old within,
         length-drop (from + n) old,
         long,
       ) in
-      take_at put _ len whole_length ∙ put_is ∙ ap (λ k. take from old ++ piece ++ drop (from + k) old) (sym long)
+      take_at put _ len whole_length ∙ put_is ∙ ap (λ k. take from old ++ block ++ drop (from + k) old) (sym long)
 
 -- ---- after a block
 
-module _ (old items piece next : List ℕ) (done : ℕ) (order : Ordering) (within : done ≤ length items)
-    (is : next ≡ take done items ++ piece ++ drop (done + length piece) items)
+module _ (old items block next : List ℕ) (done : ℕ) (order : Ordering) (within : done ≤ length items)
+    (is : next ≡ take done items ++ block ++ drop (done + length block) items)
     (so_far : (rest : List ℕ) → bytes_cmp old (take done items ++ rest) ≡ ordering_then order (bytes_cmp (drop done items) rest)) where
-  front_long : length (take done items ++ piece) ≡ done + length piece
-  front_long = omega (arith, length-append (take done items) piece, length-take-le done items within)
+  front_long : length (take done items ++ block) ≡ done + length block
+  front_long = omega (arith, length-append (take done items) block, length-take-le done items within)
 
-  pub take-next : take (done + length piece) next ≡ take done items ++ piece
-  take-next = ap (take (done + length piece)) is ∙ take_at (take done items ++ piece) _ (done + length piece) front_long
+  pub take-next : take (done + length block) next ≡ take done items ++ block
+  take-next = ap (take (done + length block)) is ∙ take_at (take done items ++ block) _ (done + length block) front_long
 
-  pub drop-next : drop (done + length piece) next ≡ drop (length piece) (drop done items)
-  drop-next = ap (drop (done + length piece)) is ∙ drop_at (take done items ++ piece) _ (done + length piece) front_long
-      ∙ sym (drop-drop (length piece) done items)
+  pub drop-next : drop (done + length block) next ≡ drop (length block) (drop done items)
+  drop-next = ap (drop (done + length block)) is ∙ drop_at (take done items ++ block) _ (done + length block) front_long
+      ∙ sym (drop-drop (length block) done items)
 
-  pub next_long : done + length piece ≤ length next
-  next_long = omega (arith, ap length is, length-append (take done items ++ piece) (drop (done + length piece) items), front_long)
+  pub next_long : done + length block ≤ length next
+  next_long = omega (arith, ap length is, length-append (take done items ++ block) (drop (done + length block) items), front_long)
 
-  pub next_compares : (rest : List ℕ) → bytes_cmp old (take (done + length piece) next ++ rest)
-      ≡ ordering_then (ordering_then order (bytes_cmp (take (length piece) (drop done items)) piece)) (bytes_cmp (drop (done + length piece) next) rest)
+  pub next_compares : (rest : List ℕ) → bytes_cmp old (take (done + length block) next ++ rest)
+      ≡ ordering_then (ordering_then order (bytes_cmp (take (length block) (drop done items)) block)) (bytes_cmp (drop (done + length block) next) rest)
   next_compares rest =
-      let first = bytes_cmp (take (length piece) (drop done items)) piece in
+      let first = bytes_cmp (take (length block) (drop done items)) block in
       ap (λ t. bytes_cmp old (t ++ rest)) take-next
-      ∙ ap (bytes_cmp old) (append_assoc (take done items) piece rest)
-      ∙ so_far (piece ++ rest)
-      ∙ then-bytes_cmp order (drop done items) piece rest
+      ∙ ap (bytes_cmp old) (append_assoc (take done items) block rest)
+      ∙ so_far (block ++ rest)
+      ∙ then-bytes_cmp order (drop done items) block rest
       ∙ ap (λ t. ordering_then (ordering_then order first) (bytes_cmp t rest)) (sym drop-next)
 
 -- after the last one

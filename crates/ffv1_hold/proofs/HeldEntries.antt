@@ -18,37 +18,37 @@ use Rattle.ffv1_pool.proofs.EntrySteps.{or_cases, all-insert, all-union}
 use Rattle.ffv1_pool.proofs.OriginSteps.{held_union, whole_union, held_each, whole_each}
 use Rattle.ffv1_hold.specs.declared.version.Version.{Version}
 use Rattle.ffv1_hold.specs.declared.version.Version.TheVariants.{First, Second}
-use Rattle.ffv1_hold.specs.HoldingText.{FileEntry, origins_limit, file_entries, IsTold}
+use Rattle.ffv1_hold.specs.HoldingText.{FileEntry, origins_limit, file_entries, IsStated}
 use Rattle.ffv1_hold.specs.FileEntries.{last_of, Follows, IsDigest, AreOrigins, AreDigestsIn, IsFileEntryOf, AreEntries}
 use Rattle.ffv1_hold.proofs.DigestSets.{has, entry_tie, entry_self, has-digests_in, has-with_each, digests_rise, same_digests, has_all}
 
 -- an entry with digests
-abbrev pub told : (Entry → List (List ℕ)) → Entry → FileEntry
-told digests e = (e, digests e)
+abbrev pub stated : (Entry → List (List ℕ)) → Entry → FileEntry
+stated digests e = (e, digests e)
 
 -- ---- lists of entries
 
 same_map : (f g : Entry → List (List ℕ)) (xs : List Entry) → ((i : ℕ) (d : Entry) → i < length xs → f (get_or xs i d) ≡ g (get_or xs i d))
-    → map (told f) xs ≡ map (told g) xs
+    → map (stated f) xs ≡ map (stated g) xs
 same_map f g [] each = refl
 same_map f g (x ∷ xs) each = λ k. (x, each 0 x (omega arith) k) ∷ same_map f g xs (λ i d lt. each (suc i) d (omega arith)) k
 
 -- the slices of entries
-pub slices_back : (f : Entry → List (List ℕ)) (xs : List Entry) → map (λ e. e.0) (map (told f) xs) ≡ xs
+pub slices_back : (f : Entry → List (List ℕ)) (xs : List Entry) → map (λ e. e.0) (map (stated f) xs) ≡ xs
 slices_back f [] = refl
 slices_back f (x ∷ xs) = ap (λ ys. x ∷ ys) (slices_back f xs)
 
 -- where two lists of the same slices are the same, their digests are
-same_at : (f g : Entry → List (List ℕ)) (xs : List Entry) → map (told f) xs ≡ map (told g) xs → (q : Entry) → list_any (eq_by_cmp entry_cmp q) xs ≡ true
+same_at : (f g : Entry → List (List ℕ)) (xs : List Entry) → map (stated f) xs ≡ map (stated g) xs → (q : Entry) → list_any (eq_by_cmp entry_cmp q) xs ≡ true
     → f q ≡ g q
 same_at f g [] same q there = absurd (true≢false (sym there))
 same_at f g (x ∷ xs) same q there =
     or_cases (eq_by_cmp entry_cmp q x) (list_any (eq_by_cmp entry_cmp q) xs) (f q ≡ g q) there
-    (λ tie. let is = entry_tie q x tie in ap f is ∙ ap (λ es. (get_or es 0 (told f x)).1) same ∙ ap g (sym is))
+    (λ tie. let is = entry_tie q x tie in ap f is ∙ ap (λ es. (get_or es 0 (stated f x)).1) same ∙ ap g (sym is))
     (λ rest. same_at f g xs (ap (drop 1) same) q rest)
 
 -- what stands after the last entry is above all
-pub above_all : (f : Entry → List (List ℕ)) (xs : List Entry) (e : Entry) → IsRising entry_cmp xs → Follows (last_of (map (told f) xs)) e → (i : ℕ) (d : Entry)
+pub above_all : (f : Entry → List (List ℕ)) (xs : List Entry) (e : Entry) → IsRising entry_cmp xs → Follows (last_of (map (stated f) xs)) e → (i : ℕ) (d : Entry)
     → i < length xs → entry_cmp (get_or xs i d) e ≡ Less
 above_all f [] e up follows i d lt = absurd (omega arith)
 above_all f (x ∷ []) e up follows zero d lt = follows
@@ -105,8 +105,8 @@ module _ (h : Contents) (e : Entry) (ds : List (List ℕ)) where
     pub entries-with_entry : IsHolding h → IsRising bytes_cmp ds → file_entries (with_entry h e ds) ≡ file_entries h ++ (e, ds) ∷ []
     unfolding file_entries
     entries-with_entry is up =
-        ap (map (told (digests_of (with_entry h e ds)))) (items-insert_last entries_total entries_antisymmetric h.slices e below)
-        ∙ map-append (told (digests_of (with_entry h e ds))) (set.items h.slices) (e ∷ [])
+        ap (map (stated (digests_of (with_entry h e ds)))) (items-insert_last entries_total entries_antisymmetric h.slices e below)
+        ∙ map-append (stated (digests_of (with_entry h e ds))) (set.items h.slices) (e ∷ [])
         ∙ (λ i. same_map (digests_of (with_entry h e ds)) (digests_of h) (set.items h.slices)
         (λ i d lt. digests-other (get_or (set.items h.slices) i d) (less_apart (get_or (set.items h.slices) i d) e (below i d lt))) i ++
         (e, digests-own is new_slice up i) ∷ [])
@@ -115,11 +115,11 @@ module _ (h : Contents) (e : Entry) (ds : List (List ℕ)) where
     last-with_entry is up = ap last_of (entries-with_entry is up) ∙ last_of-push (file_entries h) (e, ds)
 
     -- and a version that can give the origins of the holding and the entry's digests can give both together
-    pub told-with_entry : (v : Version) → IsHolding h → AreDigestsIn v ds → IsTold v h → IsTold v (with_entry h e ds)
-    told-with_entry First is are was =
+    pub stated-with_entry : (v : Version) → IsHolding h → AreDigestsIn v ds → IsStated v h → IsStated v (with_entry h e ds)
+    stated-with_entry First is are was =
         ap (λ (xs : List (List ℕ)). set.union h.origins (set.from_list (with_each e xs))) are
         ∙ set.union_empty origins_total origins_antisymmetric h.origins ∙ was
-    told-with_entry Second is are was = λ q there.
+    stated-with_entry Second is are was = λ q there.
         or_cases (eq_by_cmp entry_cmp q e) (set.contains h.slices q) (length (digests_of (with_entry h e ds) q) ≤ origins_limit)
         (sym (set.contains-insert entries_total h.slices e q) ∙ there)
         (λ tie. subst (λ n. n ≤ origins_limit) (sym (ap length (ap (digests_of (with_entry h e ds)) (entry_tie q e tie)
@@ -162,29 +162,29 @@ origins-digests_of h is q = record {
   rising = digests_rise h.origins q;
 }
 
-told_digests : (v : Version) (h : Contents) → IsHolding h → IsTold v h → (q : Entry) → set.contains h.slices q ≡ true → AreDigestsIn v (digests_of h q)
-told_digests First h is was q held = same_digests _ [] (digests_rise h.origins q) (λ i j d lt in_range. absurd (omega arith))
+stated_digests : (v : Version) (h : Contents) → IsHolding h → IsStated v h → (q : Entry) → set.contains h.slices q ≡ true → AreDigestsIn v (digests_of h q)
+stated_digests First h is was q held = same_digests _ [] (digests_rise h.origins q) (λ i j d lt in_range. absurd (omega arith))
     (λ d. has-digests_in h.origins q d ∙ ap (λ s. set.contains s (q, d)) was ∙ set.contains-empty origin_cmp (q, d))
-told_digests Second h is was q held = (origins-digests_of h is q, was q held)
+stated_digests Second h is was q held = (origins-digests_of h is q, was q held)
 
-pub are_entries : (v : Version) (h : Contents) → IsHolding h → IsTold v h → AreEntries v h.reel.setup (file_entries h)
+pub are_entries : (v : Version) (h : Contents) → IsHolding h → IsStated v h → AreEntries v h.reel.setup (file_entries h)
 unfolding file_entries
 are_entries v h is was = record {
   each = each (set.items h.slices) (λ i d lt. contains_item entries_total h.slices i d lt);
   rising = λ i j d lt in_range.
-      let long = length-map (set.items h.slices) (told (digests_of h)) in
+      let long = length-map (set.items h.slices) (stated (digests_of h)) in
       rw (
-        get_or-map (told (digests_of h)) (set.items h.slices) i d.0 d (omega arith),
-        get_or-map (told (digests_of h)) (set.items h.slices) j d.0 d (omega arith),
+        get_or-map (stated (digests_of h)) (set.items h.slices) i d.0 d (omega arith),
+        get_or-map (stated (digests_of h)) (set.items h.slices) j d.0 d (omega arith),
       )
       (items-rising h.slices i j d.0 lt (omega arith));
 }
   where
     each : (xs : List Entry) → ((i : ℕ) (d : Entry) → i < length xs → set.contains h.slices (get_or xs i d) ≡ true)
-        → AllByRecursion (IsFileEntryOf v h.reel.setup) (map (told (digests_of h)) xs)
+        → AllByRecursion (IsFileEntryOf v h.reel.setup) (map (stated (digests_of h)) xs)
     each [] held = tt
     each (x ∷ xs) held = (
-      record { slice = is.slices x (held 0 x (omega arith)); origins = told_digests v h is was x (held 0 x (omega arith)) },
+      record { slice = is.slices x (held 0 x (omega arith)); origins = stated_digests v h is was x (held 0 x (omega arith)) },
       each xs (λ i d lt. held (suc i) d (omega arith)),
     )
 
@@ -203,7 +203,7 @@ same_contents g h g_is h_is reel entries = λ i. record { reel = reel i; slices 
     held : (b : Bool) (q : Entry) (d : List ℕ) → set.contains g.slices q ≡ b → set.contains g.origins (q, d) ≡ set.contains h.origins (q, d)
     held true q d there =
         sym (has-digests_in g.origins q d) ∙ ap (λ ds. has ds d) (same_at (digests_of g) (digests_of h) (set.items g.slices)
-        (entries ∙ ap (map (told (digests_of h))) (sym items)) q (sym (set.contains-items g.slices q) ∙ there)) ∙ has-digests_in h.origins q d
+        (entries ∙ ap (map (stated (digests_of h))) (sym items)) q (sym (set.contains-items g.slices q) ∙ there)) ∙ has-digests_in h.origins q d
     held false q d none =
         false_from_ne_true (set.contains g.origins (q, d)) (λ is. true≢false (sym (g_is.origins_held (q, d) is) ∙ none))
         ∙ sym (false_from_ne_true (set.contains h.origins (q, d))
@@ -215,4 +215,4 @@ same_contents g h g_is h_is reel entries = λ i. record { reel = reel i; slices 
 -- no entries yet
 pub entries-none : (r : Reel) → file_entries (record { reel = r; slices = set.empty; origins = set.empty }) ≡ []
 unfolding file_entries
-entries-none r = ap (map (told (digests_in set.empty))) (items-empty entry_cmp)
+entries-none r = ap (map (stated (digests_in set.empty))) (items-empty entry_cmp)

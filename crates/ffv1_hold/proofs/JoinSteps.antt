@@ -9,7 +9,7 @@ use Rattle.ffv1_hold.specs.declared.file_fault.HoldFileFault.TheVariants as faul
 use Rattle.ffv1_hold.specs.HoldingText.{FileEntry}
 use Rattle.ffv1_hold.specs.Reading.{Refuses, TakesText, StopsAt, WentBefore, is_read}
 use Rattle.ffv1_hold.specs.Merging.{EntryStops}
-use Rattle.ffv1_hold.specs.JoinLogs.{Devices, is_write, TakesAtMost, AllGoOn, OneStops, JoinWent, StopsEntry}
+use Rattle.ffv1_hold.specs.MergeLogs.{Devices, is_write, TakesAtMost, AllGoOn, OneStops, JoinWent, StopsEntry}
 use Rattle.ffv1_hold.proofs.TextReads.{went-before}
 
 -- what refuses an input is no failure of the sink

@@ -10,11 +10,11 @@ use Rattle.ffv1_pool.specs.Reels.{Reel}
 use Rattle.ffv1_pool.specs.Contents.{Contents, IsSameReel, joined}
 use Rattle.ffv1_hold.specs.declared.file_fault.HoldFileFault.{HoldFileFault}
 use Rattle.ffv1_hold.specs.declared.file_fault.HoldFileFault.TheVariants as faults
-use Rattle.ffv1_hold.specs.HoldingText.{be4, magic, sized_record, head_text, entries_text, begun_text, file_entries, file_text, holding_text, IsTold}
+use Rattle.ffv1_hold.specs.HoldingText.{be4, magic, sized_record, head_text, entries_text, begun_text, file_entries, file_text, holding_text, IsStated}
 use Rattle.ffv1_hold.specs.Reading.{Refuses, StopsIn}
 use Rattle.ffv1_hold.specs.FileFaults.{IsFileReel, IsPartOfReel, IsPartOfHead, HeadIsWhole, HeadShows, IsOutside}
-use Rattle.ffv1_hold.specs.JoinedStreams.{Inputs, IsFileOf, IsFileOfSome, BeginsWith, BeginsWithHead, InputRefuses, ShowsNoFault, BothRefuse, JoinRefuses, EntriesPass, UnionPasses, ReadsPart, ReadsAll, ReadsOtherHeads, WritesUnion, AnswersUnion, AnswersOther, WritesAtMost, WritesNoEnd, StaysInLead}
-use Rattle.ffv1_hold.specs.Merging.{Facts, both, HeadsRefuse, WriteStops, Stops, JoinStops, part}
+use Rattle.ffv1_hold.specs.MergedStreams.{Inputs, IsFileOf, IsFileOfSome, StreamBegins, BeginsWithHead, InputRefuses, ShowsNoFault, BothRefuse, JoinRefuses, EntriesPass, UnionPasses, ReadsPart, ReadsAll, ReadsOtherHeads, WritesUnion, AnswersUnion, AnswersOther, WritesAtMost, WritesNoEnd, StaysInLead}
+use Rattle.ffv1_hold.specs.Merging.{Facts, both, HeadsRefuse, StopsAtWrite, Stops, MergeIsRefused, part}
 use Rattle.ffv1_hold.proofs.Bodies.{length-be4}
 use Rattle.ffv1_hold.proofs.TextLaws.{same_head, head_parts, after_magic, text_parts, one_file, fitting_items}
 use Rattle.ffv1_hold.proofs.HeldEntries.{holding-joined}
@@ -85,7 +85,7 @@ module _ (v : Version) (r : Reel) (is : IsFileReel r) (x : List ℕ) where
 -- ---- heads of two reels
 
 -- an input that begins with two heads has one
-one_head : (input : Option (List ℕ)) (v : Version) (r q : Reel) → IsFileReel r → BeginsWith input (head_text v r) → BeginsWithHead input q → r ≡ q
+one_head : (input : Option (List ℕ)) (v : Version) (r q : Reel) → IsFileReel r → StreamBegins input (head_text v r) → BeginsWithHead input q → r ≡ q
 one_head None v r q is begins head = absurd (cc)
 one_head (Some xs) v r q is begins head =
     let same : xs ≡ head_text head.version q ++ head.rest = cc in
@@ -98,7 +98,7 @@ head_refused old new g f head refused =
     (subst (λ (o : Option (List ℕ)). Refuses IsPartOfHead HeadIsWhole HeadShows o new 0 f) head.split refused)
 
 module _ (i : Inputs) (w v : Option (List ℕ)) (g h : Reel) (left : BeginsWithHead i.left_old g) (right : BeginsWithHead i.right_old h) (other : ¬ (g ≡ h)) where
-  other_refused : (f : HoldFileFault) → JoinStops i w v f → IsOutside f ⊎ (f ≡ faults.OtherReel)
+  other_refused : (f : HoldFileFault) → MergeIsRefused i w v f → IsOutside f ⊎ (f ≡ faults.OtherReel)
   other_refused f (inl (inl (refused, same), untouched)) = inl (head_refused _ _ g f left refused)
   other_refused f (inl (inr (inl (head, refused)), untouched)) = inl (head_refused _ _ h f right refused)
   other_refused f (inl (inr (inr (is, heads)), untouched)) = inr is
@@ -114,7 +114,7 @@ module _ (i : Inputs) (w v : Option (List ℕ)) (g h : Reel) (left : BeginsWithH
       let two = one_head _ _ u.right.reel h (file_reel _ _ u.right u.read.right_read) (head_begins _ _ _ u.right (0 ∷ []) u.read.right_read.file.taken) right in
       other (sym one ∙ u.read.same ∙ two)
 
-  pub answers_other : (r : Result (Unit {0}) HoldFileFault) → OnOk r (WritesUnion i w v) → IfErr r (JoinStops i w v) → AnswersOther r
+  pub answers_other : (r : Result (Unit {0}) HoldFileFault) → OnOk r (WritesUnion i w v) → IfErr r (MergeIsRefused i w v) → AnswersOther r
   answers_other (Ok x) ok err = other_written ok
   answers_other (Err f) ok err = other_refused f err
 
@@ -136,7 +136,7 @@ part_of_text old new v h q file p =
     (sym (text_parts v h) ∙ front.1 ∙ append_assoc (begun_text w q) p.more front.0 ∙ append_assoc (head_text w q.reel) es (p.more ++ front.0)) in
     let version = heads.0 in
     let more = front_entries w (file_entries h) (file_entries q) [] (p.more ++ front.0)
-    (fitting_items w h file.sound (subst (λ (u : Version). IsTold u h) version file.fits.told)) (fitting_items w q p.sound p.told)
+    (fitting_items w h file.sound (subst (λ (u : Version). IsStated u h) version file.fits.stated)) (fitting_items w q p.sound p.stated)
     (ap (λ (u : Version). entries_text u (file_entries h) ++ 0 ∷ []) (sym version) ∙ heads.2) in
     (sym heads.1, front_within q h p.sound more.0 more.1)
 
@@ -145,7 +145,7 @@ whole_is old new v h q file a =
     let w = a.file.version in
     let all = taken_all (file_text v h) (file_text w q) new
     (subst (λ (o : Option (List ℕ)). Consumes o new (file_text w q)) file.text a.file.taken) a.at_end in
-    one_file w v q h a.sound file.sound a.file.fits.record' file.fits.record' a.file.fits.told file.fits.told (sym all)
+    one_file w v q h a.sound file.sound a.file.fits.record' file.fits.record' a.file.fits.stated file.fits.stated (sym all)
 
 file_refused : (old new : Option (List ℕ)) (v : Version) (h : Contents) (f : HoldFileFault) → IsFileOf old v h → InputRefuses old new f → IsOutside f
 file_refused old new v h f file refused =
@@ -212,7 +212,7 @@ module _ (i : Inputs) (a b : Option (List ℕ)) (v w : Version) (g h : Contents)
   both_refused faults.Read b = absurd b
   both_refused faults.Memory b = absurd b
 
-  refused : (f : HoldFileFault) → JoinStops i a b f → Outcome f
+  refused : (f : HoldFileFault) → MergeIsRefused i a b f → Outcome f
   refused f (inl (inl (r, untaken), untouched)) = inl (file_refused _ _ v g f left (head_file _ _ f r))
   refused f (inl (inr (inl (head, r)), untouched)) = inl (file_refused _ _ w h f right (head_file _ _ f r))
   refused f (inl (inr (inr (is, heads)), untouched)) = absurd (heads_same heads)
@@ -222,7 +222,7 @@ module _ (i : Inputs) (a b : Option (List ℕ)) (v w : Version) (g h : Contents)
     | inr b ↦ both_refused f b
   ]
 
-  pub answers_union : (r : Result (Unit {0}) HoldFileFault) → IfErr r (JoinStops i a b) → AnswersUnion (joined g h) r
+  pub answers_union : (r : Result (Unit {0}) HoldFileFault) → IfErr r (MergeIsRefused i a b) → AnswersUnion (joined g h) r
   answers_union (Ok x) err = tt
   answers_union (Err f) err = refused f err
 
@@ -237,7 +237,7 @@ nothing_shown old new same = record {
 }
 
 module _ (i : Inputs) (w v : Option (List ℕ)) where
-  pub join_refuses : (f : HoldFileFault) → JoinStops i w v f → JoinRefuses i f
+  pub join_refuses : (f : HoldFileFault) → MergeIsRefused i w v f → JoinRefuses i f
   join_refuses f (inl (inl (r, untaken), untouched)) = inl (inl (head_file _ _ f r, nothing_shown _ _ untaken))
   join_refuses f (inl (inr (inl ((u, q, is, taken), r)), untouched)) = inl (inr (
     head_file _ _ f r,
@@ -250,11 +250,11 @@ module _ (i : Inputs) (w v : Option (List ℕ)) where
   join_refuses f (inl (inr (inr (is, heads)), untouched)) = inr (subst (BothRefuse i) (sym is) heads)
   join_refuses f (inr s) = s.fault
 
-  pub writes_no_end : (f : HoldFileFault) → JoinStops i w v f → (f ≡ faults.Write → ⊥) → WritesNoEnd i w v
+  pub writes_no_end : (f : HoldFileFault) → MergeIsRefused i w v f → (f ≡ faults.Write → ⊥) → WritesNoEnd i w v
   writes_no_end f (inl (heads, untouched)) other = inl (subst (λ (o : Option (List ℕ)). Appends w o []) (sym untouched) (Appends-nil w))
   writes_no_end f (inr s) other = s.no_end other
 
-  writes_at_most : (f : HoldFileFault) → JoinStops i w v f → WritesAtMost w v file_limit
+  writes_at_most : (f : HoldFileFault) → MergeIsRefused i w v f → WritesAtMost w v file_limit
   writes_at_most f (inl (heads, untouched)) = record {
     done = [];
     written = subst (λ (o : Option (List ℕ)). Appends w o []) (sym untouched) (Appends-nil w);
@@ -268,38 +268,38 @@ module _ (i : Inputs) (w v : Option (List ℕ)) where
   heads_write (inr (inr (is, heads))) = absurd (cc)
 
   -- after a failed write both heads are of one reel
-  pub write_stops : JoinStops i w v faults.Write → (q : Reel) × IsFileReel q × WriteStops i q w v
+  pub write_stops : MergeIsRefused i w v faults.Write → (q : Reel) × IsFileReel q × StopsAtWrite i q w v
   write_stops (inl (heads, untouched)) = absurd (heads_write heads)
   write_stops (inr s) = (s.reel, s.is, s.write refl)
 
-  pub left_stays : (u : Version) (h : Contents) (other : Option Contents) → IsFileOf i.left_old u h → IsFileOfSome i.right_old other → JoinStops i w v faults.Write
+  pub left_stays : (u : Version) (h : Contents) (other : Option Contents) → IsFileOf i.left_old u h → IsFileOfSome i.right_old other → MergeIsRefused i w v faults.Write
       → StaysInLead u h other i.left_old i.left_new w v
   left_stays u h other file also stops = let s = write_stops stops in
       stays_in_lead u s.2.left_version h other s.0 s.1 i.left_old i.left_new i.right_old w v s.2.done file also s.2.left s.2.written
 
-  pub right_stays : (u : Version) (h : Contents) (other : Option Contents) → IsFileOf i.right_old u h → IsFileOfSome i.left_old other → JoinStops i w v faults.Write
+  pub right_stays : (u : Version) (h : Contents) (other : Option Contents) → IsFileOf i.right_old u h → IsFileOfSome i.left_old other → MergeIsRefused i w v faults.Write
       → StaysInLead u h other i.right_old i.right_new w v
   right_stays u h other file also stops = let s = write_stops stops in
       stays_in_lead u s.2.right_version h other s.0 s.1 i.right_old i.right_new i.left_old w v s.2.done file also s.2.right s.2.written
 
-  pub says : (Q : HoldFileFault → Type 0) → ((f : HoldFileFault) → JoinStops i w v f → Q f) → (r : Result (Unit {0}) HoldFileFault)
-      → IfErr r (JoinStops i w v) → IfErr r Q
+  pub says : (Q : HoldFileFault → Type 0) → ((f : HoldFileFault) → MergeIsRefused i w v f → Q f) → (r : Result (Unit {0}) HoldFileFault)
+      → IfErr r (MergeIsRefused i w v) → IfErr r Q
   says Q each (Ok x) err = tt
   says Q each (Err f) err = each f err
 
-  pub says_write : (Q : Type 0) → (JoinStops i w v faults.Write → Q) → (r : Result (Unit {0}) HoldFileFault) → IfErr r (JoinStops i w v)
+  pub says_write : (Q : Type 0) → (MergeIsRefused i w v faults.Write → Q) → (r : Result (Unit {0}) HoldFileFault) → IfErr r (MergeIsRefused i w v)
       → IsErrOf r faults.Write → Q
   says_write Q each (Ok x) err is = absurd (search rules)
   says_write Q each (Err f) err is =
       let same : f ≡ faults.Write = search rules in
-      each (subst (JoinStops i w v) same err)
+      each (subst (MergeIsRefused i w v) same err)
 
-  pub at_most : (r : Result (Unit {0}) HoldFileFault) → OnOk r (WritesAtMost w v file_limit) → IfErr r (JoinStops i w v) → WritesAtMost w v file_limit
+  pub at_most : (r : Result (Unit {0}) HoldFileFault) → OnOk r (WritesAtMost w v file_limit) → IfErr r (MergeIsRefused i w v) → WritesAtMost w v file_limit
   at_most (Ok x) ok err = ok
   at_most (Err f) ok err = writes_at_most f err
 
   -- a refusal after the heads
-  pub after_heads : (r : Result (Unit {0}) HoldFileFault) → IfErr r (Stops i w v) → IfErr r (JoinStops i w v)
+  pub after_heads : (r : Result (Unit {0}) HoldFileFault) → IfErr r (Stops i w v) → IfErr r (MergeIsRefused i w v)
   after_heads (Ok x) err = tt
   after_heads (Err f) err = inr err
 

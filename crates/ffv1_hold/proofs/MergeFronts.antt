@@ -12,16 +12,16 @@ use Rattle.ffv1_pool.specs.Contents.{Contents, IsHolding, digests_of}
 use Rattle.ffv1_pool.proofs.EntrySteps.{or_cases}
 use Rattle.ffv1_hold.specs.HoldingText.{FileEntry, file_entries}
 use Rattle.ffv1_hold.proofs.DigestSets.{has, entry_tie, has-digests_in}
-use Rattle.ffv1_hold.proofs.HeldEntries.{told, slices_back}
+use Rattle.ffv1_hold.proofs.HeldEntries.{stated, slices_back}
 use Rattle.ffv1_hold.proofs.MergeFacts.{IsWithin}
 
 -- where entries begin others, their digests are the same
-front_at : (f g : Entry → List (List ℕ)) (xs ys : List Entry) (rest : List FileEntry) → map (told g) ys ≡ map (told f) xs ++ rest → (q : Entry)
+front_at : (f g : Entry → List (List ℕ)) (xs ys : List Entry) (rest : List FileEntry) → map (stated g) ys ≡ map (stated f) xs ++ rest → (q : Entry)
     → list_any (eq_by_cmp entry_cmp q) xs ≡ true → f q ≡ g q
 front_at f g [] ys rest is q there = absurd (true≢false (sym there))
 front_at f g (x ∷ xs) [] rest is q there = absurd (cc)
 front_at f g (x ∷ xs) (y ∷ ys) rest is q there =
-    let first : told g y ≡ told f x = ap (λ es. head_or (told g y) es) is in
+    let first : stated g y ≡ stated f x = ap (λ es. head_or (stated g y) es) is in
     let same : y ≡ x = ap (λ (e : FileEntry). e.0) first in
     or_cases (eq_by_cmp entry_cmp q x) (list_any (eq_by_cmp entry_cmp q) xs) (f q ≡ g q) there
     (λ tie. let own = entry_tie q x tie in ap f own ∙ sym (ap (λ (e : FileEntry). e.1) first) ∙ ap g (same ∙ sym own))
@@ -38,7 +38,7 @@ front_within q h is rest split = record { slices = slices; origins = origins }
   where
     items : set.items h.slices ≡ set.items q.slices ++ map (λ e. e.0) rest
     items = sym (slices_back (digests_of h) (set.items h.slices)) ∙ ap (map (λ e. e.0)) split
-        ∙ map-append (λ e. e.0) (map (told (digests_of q)) (set.items q.slices)) rest
+        ∙ map-append (λ e. e.0) (map (stated (digests_of q)) (set.items q.slices)) rest
         ∙ ap (λ xs. xs ++ map (λ e. e.0) rest) (slices_back (digests_of q) (set.items q.slices))
 
     slices : (e : Entry) → set.contains q.slices e ≡ true → set.contains h.slices e ≡ true

@@ -9,11 +9,11 @@ use Rattle.ffv1_pool.specs.Reels.{Reel, IsReel}
 use Rattle.ffv1_pool.specs.Contents.{Contents, IsHolding, digests_of}
 use Rattle.ffv1_hold.specs.declared.version.Version.{Version}
 use Rattle.ffv1_hold.specs.declared.version.Version.TheVariants.{Second}
-use Rattle.ffv1_hold.specs.HoldingText.{FileEntry, head_text, entry_text, body_text, entries_text, begun_text, file_entries, file_text, IsTold}
+use Rattle.ffv1_hold.specs.HoldingText.{FileEntry, head_text, entry_text, body_text, entries_text, begun_text, file_entries, file_text, IsStated}
 use Rattle.ffv1_hold.specs.FileEntries.{IsFileEntryOf, next_text}
 use Rattle.ffv1_hold.specs.FileFaults.{IsFileReel}
 use Rattle.ffv1_hold.specs.Leads.{LiesWhole, AreAllDigests, IsLeadOf}
-use Rattle.ffv1_hold.specs.JoinedStreams.{IsFileOf, IsFileOfSome, StaysInLead}
+use Rattle.ffv1_hold.specs.MergedStreams.{IsFileOf, IsFileOfSome, StaysInLead}
 use Rattle.ffv1_hold.specs.Merging.{Facts, part, ReadsToNext}
 use Rattle.ffv1_pool.proofs.RisingSets.{contains_item}
 use Rattle.ffv1_hold.proofs.NumberTexts.{no_tag, rest_same}
@@ -60,7 +60,7 @@ module _ (v : Version) where
       (more.0, (λ i. one.0 i ∷ more.1 i), more.2)
 
 -- each entry of facts lies whole in the text of others that they are within, where these give its slice all digests
-module _ (r : Reel) (f g : Facts) (is : IsHolding (part r g)) (told : IsTold Second (part r g)) (within : IsWithin f g) (rest : List ℕ)
+module _ (r : Reel) (f g : Facts) (is : IsHolding (part r g)) (stated : IsStated Second (part r g)) (within : IsWithin f g) (rest : List ℕ)
     (AreAll : FileEntry → List (List ℕ) → Type 0)
     (all : (e : Entry) → set.contains f.0 e ≡ true → AreAll (own (part r f) e) (digests_of (part r g) e)) where
   lies_whole : (e : Entry) → set.contains f.0 e ≡ true → LiesWhole AreAll r (begun_text Second (part r g) ++ rest) (own (part r f) e)
@@ -69,7 +69,7 @@ module _ (r : Reel) (f g : Facts) (is : IsHolding (part r g)) (told : IsTold Sec
       let before = split.0 in
       let after = split.1 in
       let whole = own (part r g) e in
-      let fit = subst (AreFitting Second) split.2 (fitting_items Second (part r g) is told) in
+      let fit = subst (AreFitting Second) split.2 (fitting_items Second (part r g) is stated) in
       let es = entries_text Second before in
       let text : entries_text Second (file_entries (part r g)) ≡ es ++ entry_text Second whole ++ entries_text Second after =
       ap (entries_text Second) split.2 ∙ entries_text-split Second before (whole ∷ after)
@@ -142,7 +142,7 @@ pub record RestOf (v w : Version) (h : Contents) (r : Reel) (f : Facts) (more : 
   pub front : file_text v h ≡ (begun_text w (part r f) ++ more) ++ bytes
 
 module _ (v w : Version) (h : Contents) (r : Reel) (is : IsFileReel r) (old new : Option (List ℕ)) (file : IsFileOf old v h) (f : Facts) (more : List ℕ)
-    (sound : IsHolding (part r f)) (told : IsTold w (part r f)) (taken : Consumes old new (begun_text w (part r f) ++ more)) where
+    (sound : IsHolding (part r f)) (stated : IsStated w (part r f)) (taken : Consumes old new (begun_text w (part r f) ++ more)) where
   abbrev some : Contents
   some = part r f
 
@@ -156,10 +156,10 @@ module _ (v w : Version) (h : Contents) (r : Reel) (is : IsFileReel r) (old new 
       ∙ append_assoc (head_text w r) (entries_text w (file_entries some)) (more ++ front.0))
 
   all_fit : AreFitting w (file_entries h)
-  all_fit = subst (λ (u : Version). AreFitting u (file_entries h)) heads.0 (fitting_items v h file.sound file.fits.told)
+  all_fit = subst (λ (u : Version). AreFitting u (file_entries h)) heads.0 (fitting_items v h file.sound file.fits.stated)
 
   apart : (rest : List FileEntry) × (file_entries h ≡ file_entries some ++ rest) × (entries_text w rest ++ 0 ∷ [] ≡ more ++ front.0)
-  apart = front_entries w (file_entries h) (file_entries some) [] (more ++ front.0) all_fit (fitting_items w some sound told)
+  apart = front_entries w (file_entries h) (file_entries some) [] (more ++ front.0) all_fit (fitting_items w some sound stated)
       (ap (λ (u : Version). entries_text u (file_entries h) ++ 0 ∷ []) (sym heads.0) ∙ heads.2)
 
   pub rest_entries : RestOf v w h r f more
@@ -181,7 +181,7 @@ module _ (v w : Version) (h : Contents) (other : Option Contents) (r : Reel) (is
   read = part r s.facts
 
   left : RestOf v w h r s.facts s.more
-  left = rest_entries v w h r is old new file s.facts s.more s.sound s.told s.taken
+  left = rest_entries v w h r is old new file s.facts s.more s.sound s.stated s.taken
 
   abbrev AreWhole : List FileEntry → Type 0
   AreWhole = AllByRecursion (LiesWhole (AreAllDigests h other) h.reel done)

@@ -15,17 +15,17 @@ use Rattle.ffv1_hold.specs.declared.file_fault.HoldFileFault.{HoldFileFault}
 use Rattle.ffv1_hold.specs.declared.file_fault.HoldFileFault.TheVariants as faults
 use Rattle.ffv1_hold.specs.declared.version.Version.{Version}
 use Rattle.ffv1_hold.specs.declared.version.Version.TheVariants.{Second}
-use Rattle.ffv1_hold.specs.HoldingText.{FileEntry, head_text, entries_text, begun_text, file_text, holding_text, IsTold}
+use Rattle.ffv1_hold.specs.HoldingText.{FileEntry, head_text, entries_text, begun_text, file_text, holding_text, IsStated}
 use Rattle.ffv1_hold.specs.Reading.{Takes, Refuses}
 use Rattle.ffv1_hold.specs.FileEntries.{last_of, Follows, IsFileEntryOf, next_text}
 use Rattle.ffv1_hold.specs.FileFaults.{IsFileReel, IsPartOfEntry, EndIsWhole, EntryShows}
 use Rattle.ffv1_hold.specs.Leads.{LiesWhole, AreAllDigests}
-use Rattle.ffv1_hold.specs.JoinedStreams.{BeginsWith, InputRefuses, OneRefuses, ShowsNoFault, ReadsAll, ReadsPart, ReadsSoFar, UnionPasses, WritesUnion, WritesAtMost}
-use Rattle.ffv1_hold.specs.Merging.{Start, inputs_from, Facts, part, no_facts, both, FollowsAll, IsPassed, IsHeld, ReadsToNext, IsOpened, Stands, Stops, Ends}
+use Rattle.ffv1_hold.specs.MergedStreams.{StreamBegins, InputRefuses, OneRefuses, ShowsNoFault, ReadsAll, ReadsPart, ReadsSoFar, UnionPasses, WritesUnion, WritesAtMost}
+use Rattle.ffv1_hold.specs.Merging.{Start, inputs_from, Facts, part, no_facts, both, FollowsAll, IsPassed, IsReadUpTo, ReadsToNext, IsOpened, Stands, Stops, Ends}
 use Rattle.ffv1_hold.proofs.Slots.{entries_text-none, length-head_text}
 use Rattle.ffv1_hold.proofs.HeldEntries.{entries-none, holding-joined}
-use Rattle.ffv1_hold.proofs.ReadSteps.{holding_none, told_none}
-use Rattle.ffv1_hold.proofs.TileTexts.{told_begun, fits_within}
+use Rattle.ffv1_hold.proofs.ReadSteps.{holding_none, stated_none}
+use Rattle.ffv1_hold.proofs.TileTexts.{stated_begun, fits_within}
 use Rattle.ffv1_hold.proofs.MergeSteps.{advanced, input_refuses, part_read, passed_part, passed_shows_none, held_shows_none, head_begins, whole_begins, part_begins, stops_between, stops_reading, stops_writing}
 use Rattle.ffv1_hold.proofs.MergeFacts.{within-left, within-right}
 use Rattle.ffv1_hold.proofs.ReadDigests.{all_read_to, left_gives, right_gives, stays_beside}
@@ -45,7 +45,7 @@ pub first_passed : (old new : Option (List ℕ)) (v : Version) (r : Reel) (place
     → IsPassed old new v r no_facts place None
 first_passed old new v r place is t = record {
   sound = holding_none r is.reel;
-  told = told_none v r;
+  stated = stated_none v r;
   text = subst (Takes old new 0 place) (sym (begun-none v r)) t;
   last' = sym (ap last_of (entries-none r));
 }
@@ -53,7 +53,7 @@ first_passed old new v r place is t = record {
 -- the head was read, and the first entry or the end after it
 pub head_held : (old now new : Option (List ℕ)) (v w : Version) (r : Reel) (from to : ℕ) (last next : Option FileEntry) (setup : SetupValue) → IsFileReel r
     → last ≡ None → w ≡ v → setup ≡ r.setup → Takes old now 0 from (head_text v r) → Takes now new from to (next_text w next)
-    → IfSome next (IsFileEntryOf w setup) → IfSome next (λ e. Follows last e.0) → IfNone next (IsAtEnd new) → IsHeld old new v r no_facts to next
+    → IfSome next (IsFileEntryOf w setup) → IfSome next (λ e. Follows last e.0) → IfNone next (IsAtEnd new) → IsReadUpTo old new v r no_facts to next
 head_held old now new v w r from to last next setup is none version same head text entry follows end =
     let p = subst (λ (l : Option FileEntry). IsPassed old now v r no_facts from l) (sym none) (first_passed old now v r from is head) in
     advanced old now new v w r no_facts from to last next setup version same p text entry follows end
@@ -71,7 +71,7 @@ after_none r None = tt
 after_none r (Some e) = subst (λ (l : Option FileEntry). Follows l e.0) (sym (ap last_of (entries-none r))) tt
 
 pub first_stands : (s : Start) (l r w : Option (List ℕ)) (lp rp room : ℕ) (ln rn : Option FileEntry) → IsFileReel s.reel
-    → IsHeld s.left l s.left_version s.reel no_facts lp ln → IsHeld s.right r s.right_version s.reel no_facts rp rn → Appends s.sink w (head_text Second s.reel)
+    → IsReadUpTo s.left l s.left_version s.reel no_facts lp ln → IsReadUpTo s.right r s.right_version s.reel no_facts rp rn → Appends s.sink w (head_text Second s.reel)
     → room + (20 + length s.reel.config) ≡ file_limit → Stands s l r w lp rp room ln rn
 first_stands s l r w lp rp room ln rn is left right written room_left =
     let text = begun-both_none s.reel in
@@ -93,7 +93,7 @@ head_after : (old new beside : Option (List ℕ)) (v : Version) (r : Reel) (done
 head_after old new beside v r done is taken = record {
   facts = no_facts;
   sound = holding_none r is.reel;
-  told = told_none v r;
+  stated = stated_none v r;
   whole = λ u h other file other_file. subst (AllByRecursion (LiesWhole (AreAllDigests h other) r done)) (sym (entries-none r)) tt;
   more = [];
   next = inl refl;
@@ -113,10 +113,10 @@ module _ (s : Start) (q : Reel) (l0 r0 w0 : Option (List ℕ)) (lp rp : ℕ) (o 
   right_part : ReadsPart s.right r0 (part s.reel no_facts)
   right_part = passed_part _ _ s.right_version s.reel no_facts rp None o.reel right_first
 
-  left_begins : BeginsWith s.left (head_text s.left_version s.reel)
+  left_begins : StreamBegins s.left (head_text s.left_version s.reel)
   left_begins = whole_begins _ _ _ o.left_head.taken
 
-  right_begins : BeginsWith s.right (head_text s.right_version s.reel)
+  right_begins : StreamBegins s.right (head_text s.right_version s.reel)
   right_begins = whole_begins _ _ _ o.right_head.taken
 
   left_shows_none : ShowsNoFault s.left l0
@@ -135,18 +135,18 @@ module _ (s : Start) (q : Reel) (l0 r0 w0 : Option (List ℕ)) (lp rp : ℕ) (o 
 
   pub left_held : (l : Option (List ℕ)) (to : ℕ) (last next : Option FileEntry) (w : Version) (setup : SetupValue) → last ≡ None → w ≡ s.left_version
       → setup ≡ q.setup → Takes l0 l lp to (next_text w next) → IfSome next (IsFileEntryOf w setup) → IfSome next (λ e. Follows last e.0)
-      → IfNone next (IsAtEnd l) → IsHeld s.left l s.left_version s.reel no_facts to next
+      → IfNone next (IsAtEnd l) → IsReadUpTo s.left l s.left_version s.reel no_facts to next
   left_held l to last next w setup none version same text entry follows end =
       head_held _ _ _ s.left_version w s.reel lp to last next setup o.reel none version (setup_is setup same) o.left_head text entry follows end
 
   pub right_held : (r : Option (List ℕ)) (to : ℕ) (last next : Option FileEntry) (w : Version) (setup : SetupValue) → last ≡ None → w ≡ s.right_version
       → setup ≡ q.setup → Takes r0 r rp to (next_text w next) → IfSome next (IsFileEntryOf w setup) → IfSome next (λ e. Follows last e.0)
-      → IfNone next (IsAtEnd r) → IsHeld s.right r s.right_version s.reel no_facts to next
+      → IfNone next (IsAtEnd r) → IsReadUpTo s.right r s.right_version s.reel no_facts to next
   right_held r to last next w setup none version same text entry follows end =
       head_held _ _ _ s.right_version w s.reel rp to last next setup o.reel none version (setup_is setup same) o.right_head text entry follows end
 
   pub opened_stands : (l r new : Option (List ℕ)) (left_place right_place room : ℕ) (ln rn : Option FileEntry)
-      → IsHeld s.left l s.left_version s.reel no_facts left_place ln → IsHeld s.right r s.right_version s.reel no_facts right_place rn
+      → IsReadUpTo s.left l s.left_version s.reel no_facts left_place ln → IsReadUpTo s.right r s.right_version s.reel no_facts right_place rn
       → Appends w0 new (head_text Second q) → room + (20 + length q.config) ≡ file_limit → Stands s l r new left_place right_place room ln rn
   opened_stands l r new left_place right_place room ln rn left right wrote room_left =
       first_stands s l r new left_place right_place room ln rn o.reel left right (head_written new wrote)
@@ -184,7 +184,7 @@ module _ (s : Start) (q : Reel) (l0 r0 w0 : Option (List ℕ)) (lp rp : ℕ) (o 
 
   pub first_right_stops : (l r new : Option (List ℕ)) (to : ℕ) (ln last : Option FileEntry) (w : Version) (setup : SetupValue) (f : HoldFileFault)
       → last ≡ None → w ≡ s.right_version → setup ≡ q.setup → Refuses (IsPartOfEntry w setup last) EndIsWhole (EntryShows w setup last) r0 r rp f
-      → IsHeld s.left l s.left_version s.reel no_facts to ln → Appends w0 new (head_text Second q) → Stops (inputs_from s l r) s.sink new f
+      → IsReadUpTo s.left l s.left_version s.reel no_facts to ln → Appends w0 new (head_text Second q) → Stops (inputs_from s l r) s.sink new f
   first_right_stops l r new to ln last w setup f none version same refused held wrote =
       let input = first_refuses _ _ _ s.right_version w s.reel rp last setup f none version (setup_is setup same) o.reel o.right_head refused in
       first_stops l r new f (inr (input, held_shows_none _ _ s.left_version s.reel no_facts to ln o.reel held)) wrote
@@ -192,7 +192,7 @@ module _ (s : Start) (q : Reel) (l0 r0 w0 : Option (List ℕ)) (lp rp : ℕ) (o 
 -- ---- after the last entries
 
 pub all_part : (old new : Option (List ℕ)) (h : Contents) → ReadsAll old new h → ReadsPart old new h
-all_part old new h a = part_read old new a.file.version h a.sound a.file.fits.record' a.file.fits.told (0 ∷ []) a.file.taken
+all_part old new h a = part_read old new a.file.version h a.sound a.file.fits.record' a.file.fits.stated (0 ∷ []) a.file.taken
 
 module _ (s : Start) (left right sink : Option (List ℕ)) (room : ℕ) (e : Ends s left right sink room) where
   abbrev all : Facts
@@ -204,17 +204,17 @@ module _ (s : Start) (left right sink : Option (List ℕ)) (room : ℕ) (e : End
   right_all : ReadsPart s.right right (part s.reel e.rights)
   right_all = all_part _ _ _ e.read.right_read
 
-  left_begins_all : BeginsWith s.left (head_text e.read.left_read.file.version s.reel)
+  left_begins_all : StreamBegins s.left (head_text e.read.left_read.file.version s.reel)
   left_begins_all = head_begins _ _ _ (part s.reel e.lefts) (0 ∷ []) e.read.left_read.file.taken
 
-  right_begins_all : BeginsWith s.right (head_text e.read.right_read.file.version s.reel)
+  right_begins_all : StreamBegins s.right (head_text e.read.right_read.file.version s.reel)
   right_begins_all = head_begins _ _ _ (part s.reel e.rights) (0 ∷ []) e.read.right_read.file.taken
 
   all_sound : IsHolding (part s.reel all)
   all_sound = holding-joined (part s.reel e.lefts) (part s.reel e.rights) refl e.read.left_read.sound e.read.right_read.sound
 
-  all_told : IsTold Second (part s.reel all)
-  all_told = told_begun (part s.reel all) all_sound (omega (arith, e.room_left))
+  all_stated : IsStated Second (part s.reel all)
+  all_stated = stated_begun (part s.reel all) all_sound (omega (arith, e.room_left))
 
   union_length : length (holding_text (part s.reel all)) ≡ length (begun_text Second (part s.reel all)) + 1
   union_length = length-append (begun_text Second (part s.reel all)) (0 ∷ [])
@@ -223,7 +223,7 @@ module _ (s : Start) (left right sink : Option (List ℕ)) (room : ℕ) (e : End
   whole_shows_none old new x a = record {
     seen = file_text a.file.version (part s.reel x);
     taken = a.file.taken;
-    sound = inr (part s.reel x, a.sound, a.file.fits.record', (a.file.version, a.file.fits.told, refl));
+    sound = inr (part s.reel x, a.sound, a.file.fits.record', (a.file.version, a.file.fits.stated, refl));
   }
 
   -- there is no room for the end tag
@@ -254,9 +254,9 @@ module _ (s : Start) (left right sink : Option (List ℕ)) (room : ℕ) (e : End
       (begun ++ w.done) (Appends-trans s.sink sink new begun w.done e.written w.written)
       (omega (arith, e.room_left, some, ap length w.split, length-append w.done w.rest, length-append begun w.done))
       (stays_beside s.reel e.is _ _ _ _ _ _ e.lefts e.rights all None None left_read right_read (within-left e.lefts e.rights) tt tt
-      (left_gives s.reel e.lefts e.rights) all_sound all_told w.done)
+      (left_gives s.reel e.lefts e.rights) all_sound all_stated w.done)
       (stays_beside s.reel e.is _ _ _ _ _ _ e.rights e.lefts all None None right_read left_read (within-right e.lefts e.rights) tt tt
-      (right_gives s.reel e.lefts e.rights) all_sound all_told w.done)
+      (right_gives s.reel e.lefts e.rights) all_sound all_stated w.done)
 
   -- it was written
   pub union_written : (new : Option (List ℕ)) → 1 ≤ room → Appends sink new (0 ∷ []) → WritesUnion (inputs_from s left right) s.sink new

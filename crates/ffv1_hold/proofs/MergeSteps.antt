@@ -14,20 +14,20 @@ use Rattle.ffv1_hold.specs.declared.file_fault.HoldFileFault.{HoldFileFault}
 use Rattle.ffv1_hold.specs.declared.file_fault.HoldFileFault.TheVariants as faults
 use Rattle.ffv1_hold.specs.declared.version.Version.{Version}
 use Rattle.ffv1_hold.specs.declared.version.Version.TheVariants.{First, Second}
-use Rattle.ffv1_hold.specs.HoldingText.{FileEntry, origins_limit, head_text, entry_text, entries_text, begun_text, file_entries, IsTold}
+use Rattle.ffv1_hold.specs.HoldingText.{FileEntry, origins_limit, head_text, entry_text, entries_text, begun_text, file_entries, IsStated}
 use Rattle.ffv1_hold.specs.Reading.{Takes, Refuses}
 use Rattle.ffv1_hold.specs.FileEntries.{last_of, Follows, AreOrigins, AreDigestsIn, IsFileEntryOf, next_text}
 use Rattle.ffv1_hold.specs.FileFaults.{IsFileReel, IsPartOfFile, FileIsWhole, FileShows, IsPartOfEntry, EndIsWhole, EntryShows}
-use Rattle.ffv1_hold.specs.JoinedStreams.{ReadsPart, ReadsAll, ReadsSoFar, EntriesPass, InputRefuses, ShowsNoFault, OneRefuses, JoinRefuses, BeginsWith, BeginsWithPart, WritesFrontSoFar, Inputs}
-use Rattle.ffv1_hold.specs.Merging.{Start, AreVersions, inputs_from, Facts, part, with_file_entry, both, IsPassed, IsHeld, ReadsToNext, FollowsAll, Stands, Stops, Ends, with_digests, IsWritten, IsTurn, EntryStops}
+use Rattle.ffv1_hold.specs.MergedStreams.{ReadsPart, ReadsAll, ReadsSoFar, EntriesPass, InputRefuses, ShowsNoFault, OneRefuses, JoinRefuses, StreamBegins, BeginsWithPart, WritesFrontSoFar, Inputs}
+use Rattle.ffv1_hold.specs.Merging.{Start, AreVersions, inputs_from, Facts, part, with_file_entry, both, IsPassed, IsReadUpTo, ReadsToNext, FollowsAll, Stands, Stops, Ends, with_digests, IsWritten, IsTurn, EntryStops}
 use Rattle.ffv1_hold.proofs.ReadRefusals.{Takes-trans, Refuses-after}
 use Rattle.ffv1_hold.proofs.Entries.{part_of_entries, entries_show}
 use Rattle.ffv1_hold.proofs.Heads.{file_from_entries_part, file_from_whole_entries, file_from_entries_fault}
-use Rattle.ffv1_hold.proofs.HeldEntries.{are_entries, told-with_entry, holding-with_entry, holding-joined}
+use Rattle.ffv1_hold.proofs.HeldEntries.{are_entries, stated-with_entry, holding-with_entry, holding-joined}
 use Rattle.ffv1_hold.proofs.OriginReads.{origins_none}
 use Rattle.ffv1_hold.proofs.ReadSteps.{digests_in_version}
 use Rattle.ffv1_hold.proofs.DigestUnions.{union-rises}
-use Rattle.ffv1_hold.proofs.TileTexts.{told_begun}
+use Rattle.ffv1_hold.proofs.TileTexts.{stated_begun}
 use Rattle.ffv1_hold.proofs.MergeFacts.{within-left, within-right, both-left, both-right, both-both, with_none, begun-with, last-with}
 use Rattle.ffv1_hold.proofs.ReadDigests.{held_read, left_gives, right_gives, stays_beside}
 
@@ -39,23 +39,23 @@ pub after-more : (r : Reel) (f : Facts) (e : FileEntry) (next : Option FileEntry
 after-more r f e None is up follows h = tt
 after-more r f e (Some n) is up follows h = subst (λ (l : Option FileEntry). Follows l n.0) (sym (last-with Second r f e is up follows)) h
 
-pub passed : (old new : Option (List ℕ)) (v : Version) (r : Reel) (f : Facts) (place : ℕ) (e : FileEntry) → IsHeld old new v r f place (Some e)
+pub passed : (old new : Option (List ℕ)) (v : Version) (r : Reel) (f : Facts) (place : ℕ) (e : FileEntry) → IsReadUpTo old new v r f place (Some e)
     → IsPassed old new v r (with_file_entry f e) place (Some e)
 passed old new v r f place e h =
     let digests = digests_in_version v e.1 h.entry.origins in
     record {
       sound = holding-with_entry (part r f) e.0 e.1 h.sound h.entry.slice digests.each;
-      told = told-with_entry (part r f) e.0 e.1 h.after v h.sound h.entry.origins h.told;
+      stated = stated-with_entry (part r f) e.0 e.1 h.after v h.sound h.entry.origins h.stated;
       text = subst (Takes old new 0 place) (sym (begun-with v r f e h.sound digests.rising h.after)) h.text;
       last' = sym (last-with v r f e h.sound digests.rising h.after);
     }
 
 pub advanced : (old now new : Option (List ℕ)) (v w : Version) (r : Reel) (f : Facts) (from to : ℕ) (last next : Option FileEntry) (setup : SetupValue)
     → w ≡ v → setup ≡ r.setup → IsPassed old now v r f from last → Takes now new from to (next_text w next) → IfSome next (IsFileEntryOf w setup)
-    → IfSome next (λ e. Follows last e.0) → IfNone next (IsAtEnd new) → IsHeld old new v r f to next
+    → IfSome next (λ e. Follows last e.0) → IfNone next (IsAtEnd new) → IsReadUpTo old new v r f to next
 advanced old now new v w r f from to last next setup version same p text entry follows end = record {
   sound = p.sound;
-  told = p.told;
+  stated = p.stated;
   text = Takes-trans _ _ _ _ _ _ _ _ p.text (subst (λ (u : Version). Takes now new from to (next_text u next)) version text);
   entry = subst (λ (x : SetupValue). IfSome next (IsFileEntryOf v x)) same (subst (λ (u : Version). IfSome next (IsFileEntryOf u setup)) version entry);
   after = subst (λ (l : Option FileEntry). IfSome next (λ e. Follows l e.0)) p.last' follows;
@@ -70,10 +70,10 @@ begun-split : (v : Version) (r : Reel) (f : Facts) (x : List ℕ) → begun_text
     ≡ head_text v r ++ (entries_text v (file_entries (part r f)) ++ x)
 begun-split v r f x = append_assoc (head_text v r) (entries_text v (file_entries (part r f))) x
 
-begun-is_part : (v : Version) (r : Reel) (f : Facts) → IsFileReel r → IsHolding (part r f) → IsTold v (part r f) → IsPartOfFile (begun_text v (part r f))
-begun-is_part v r f is sound told =
+begun-is_part : (v : Version) (r : Reel) (f : Facts) → IsFileReel r → IsHolding (part r f) → IsStated v (part r f) → IsPartOfFile (begun_text v (part r f))
+begun-is_part v r f is sound stated =
     subst IsPartOfFile (sym (begun-split v r f []) ∙ append-nil (begun_text v (part r f)))
-    (file_from_entries_part v r is _ (part_of_entries v r.setup (file_entries (part r f)) (are_entries v (part r f) sound told) [] (inl refl)))
+    (file_from_entries_part v r is _ (part_of_entries v r.setup (file_entries (part r f)) (are_entries v (part r f) sound stated) [] (inl refl)))
 
 -- an entry that is refused is a fault of the file
 pub input_refuses : (old now new : Option (List ℕ)) (v w : Version) (r : Reel) (f : Facts) (place : ℕ) (last : Option FileEntry) (setup : SetupValue)
@@ -81,13 +81,13 @@ pub input_refuses : (old now new : Option (List ℕ)) (v w : Version) (r : Reel)
     → Refuses (IsPartOfEntry w setup last) EndIsWhole (EntryShows w setup last) now new place fault → InputRefuses old new fault
 input_refuses old now new v w r f place last setup fault version same is p refused =
     let es = file_entries (part r f) in
-    let entries = are_entries v (part r f) p.sound p.told in
+    let entries = are_entries v (part r f) p.sound p.stated in
     Refuses-after (IsPartOfEntry w setup last) IsPartOfFile EndIsWhole FileIsWhole (EntryShows w setup last) FileShows old now new 0 place
     (begun_text v (part r f)) fault p.text refused
     (λ x h. subst IsPartOfFile (sym (begun-split v r f x)) (file_from_entries_part v r is _ (part_of_entries v r.setup es entries x
     (subst (λ (l : Option FileEntry). IsPartOfEntry v r.setup l x) p.last' (subst (λ (y : SetupValue). IsPartOfEntry v y last x) same
     (subst (λ (u : Version). IsPartOfEntry u setup last x) version h))))))
-    (λ g x h. subst (FileIsWhole g) (sym (begun-split v r f x)) (file_from_whole_entries v r is g _ (part r f, x, p.sound, p.told, refl, refl, h)))
+    (λ g x h. subst (FileIsWhole g) (sym (begun-split v r f x)) (file_from_whole_entries v r is g _ (part r f, x, p.sound, p.stated, refl, refl, h)))
     (λ g x h. subst (FileShows g) (sym (begun-split v r f x)) (file_from_entries_fault v r is g _
     (entries_show v r.setup es entries g x (subst (λ (l : Option FileEntry). EntryShows v r.setup l g x) p.last'
     (subst (λ (y : SetupValue). EntryShows v y last g x) same (subst (λ (u : Version). EntryShows u setup last g x) version h))))))
@@ -97,37 +97,37 @@ pub passed_shows_none : (old new : Option (List ℕ)) (v : Version) (r : Reel) (
 passed_shows_none old new v r f place last is p = record {
   seen = begun_text v (part r f);
   taken = p.text.taken;
-  sound = inl (begun-is_part v r f is p.sound p.told);
+  sound = inl (begun-is_part v r f is p.sound p.stated);
 }
 
 pub held_shows_none : (old new : Option (List ℕ)) (v : Version) (r : Reel) (f : Facts) (place : ℕ) (next : Option FileEntry) → IsFileReel r
-    → IsHeld old new v r f place next → ShowsNoFault old new
+    → IsReadUpTo old new v r f place next → ShowsNoFault old new
 held_shows_none old new v r f place None is h = record {
   seen = begun_text v (part r f) ++ 0 ∷ [];
   taken = h.text.taken;
-  sound = inr (part r f, h.sound, is.fits, (v, h.told, refl));
+  sound = inr (part r f, h.sound, is.fits, (v, h.stated, refl));
 }
 held_shows_none old new v r f place (Some e) is h = passed_shows_none old new v r (with_file_entry f e) place (Some e) is (passed old new v r f place e h)
 
-pub part_read : (old new : Option (List ℕ)) (v : Version) (h : Contents) → IsHolding h → length h.reel.config ≤ record_limit → IsTold v h → (more : List ℕ)
+pub part_read : (old new : Option (List ℕ)) (v : Version) (h : Contents) → IsHolding h → length h.reel.config ≤ record_limit → IsStated v h → (more : List ℕ)
     → Consumes old new (begun_text v h ++ more) → ReadsPart old new h
-part_read old new v h sound fits told more taken = record { sound = sound; record' = fits; version = v; told = told; more = more; taken = taken }
+part_read old new v h sound fits stated more taken = record { sound = sound; record' = fits; version = v; stated = stated; more = more; taken = taken }
 
 pub held_part : (old new : Option (List ℕ)) (v : Version) (r : Reel) (f : Facts) (place : ℕ) (next : Option FileEntry) → IsFileReel r
-    → IsHeld old new v r f place next → ReadsPart old new (part r f)
-held_part old new v r f place next is h = part_read old new v (part r f) h.sound is.fits h.told (next_text v next) h.text.taken
+    → IsReadUpTo old new v r f place next → ReadsPart old new (part r f)
+held_part old new v r f place next is h = part_read old new v (part r f) h.sound is.fits h.stated (next_text v next) h.text.taken
 
 pub passed_part : (old new : Option (List ℕ)) (v : Version) (r : Reel) (f : Facts) (place : ℕ) (last : Option FileEntry) → IsFileReel r
     → IsPassed old new v r f place last → ReadsPart old new (part r f)
 passed_part old new v r f place last is p =
-    part_read old new v (part r f) p.sound is.fits p.told [] (subst (Consumes old new) (sym (append-nil (begun_text v (part r f)))) p.text.taken)
+    part_read old new v (part r f) p.sound is.fits p.stated [] (subst (Consumes old new) (sym (append-nil (begun_text v (part r f)))) p.text.taken)
 
-pub taken_begins : (old new : Option (List ℕ)) (bytes more : List ℕ) → Consumes old new (bytes ++ more) → BeginsWith old bytes
+pub taken_begins : (old new : Option (List ℕ)) (bytes more : List ℕ) → Consumes old new (bytes ++ more) → StreamBegins old bytes
 taken_begins None new bytes more t = tt
 taken_begins (Some xs) None bytes more t = absurd t
 taken_begins (Some xs) (Some ys) bytes more t = (more ++ ys, t ∙ append_assoc bytes more ys)
 
-pub whole_begins : (old new : Option (List ℕ)) (bytes : List ℕ) → Consumes old new bytes → BeginsWith old bytes
+pub whole_begins : (old new : Option (List ℕ)) (bytes : List ℕ) → Consumes old new bytes → StreamBegins old bytes
 whole_begins old new bytes t = taken_begins old new bytes [] (subst (Consumes old new) (sym (append-nil bytes)) t)
 
 pub part_begins : (old new : Option (List ℕ)) (h : Contents) → ReadsPart old new h → BeginsWithPart old h
@@ -135,12 +135,12 @@ part_begins old new h p = record {
   sound = p.sound;
   record' = p.record';
   version = p.version;
-  told = p.told;
+  stated = p.stated;
   begins = taken_begins old new (begun_text p.version h) p.more p.taken;
 }
 
 pub head_begins : (old new : Option (List ℕ)) (v : Version) (h : Contents) (more : List ℕ) → Consumes old new (begun_text v h ++ more)
-    → BeginsWith old (head_text v h.reel)
+    → StreamBegins old (head_text v h.reel)
 head_begins old new v h more t =
     taken_begins old new (head_text v h.reel) (entries_text v (file_entries h) ++ more)
     (subst (Consumes old new) (append_assoc (head_text v h.reel) (entries_text v (file_entries h)) more) t)
@@ -151,8 +151,8 @@ one_refused_outside : (i : Inputs) (f : HoldFileFault) → OneRefuses i f → (f
 one_refused_outside i f (inl r) = (λ is. subst (InputRefuses i.left_old i.left_new) is r.0, λ is. subst (InputRefuses i.left_old i.left_new) is r.0)
 one_refused_outside i f (inr r) = (λ is. subst (InputRefuses i.right_old i.right_new) is r.0, λ is. subst (InputRefuses i.right_old i.right_new) is r.0)
 
-module _ (i : Inputs) (r : Reel) (is : IsFileReel r) (v w : Version) (left_head : BeginsWith i.left_old (head_text v r))
-    (right_head : BeginsWith i.right_old (head_text w r)) (old new : Option (List ℕ)) where
+module _ (i : Inputs) (r : Reel) (is : IsFileReel r) (v w : Version) (left_head : StreamBegins i.left_old (head_text v r))
+    (right_head : StreamBegins i.right_old (head_text w r)) (old new : Option (List ℕ)) where
   -- the sink is not the fault: the head and whole entries were written
   pub stops_between : (x y : Facts) → BeginsWithPart i.left_old (part r x) → BeginsWithPart i.right_old (part r y)
       → Appends old new (begun_text Second (part r (both x y))) → length (begun_text Second (part r (both x y))) ≤ file_limit
@@ -213,14 +213,14 @@ module _ (s : Start) (left right sink : Option (List ℕ)) (lp rp room : ℕ) (l
   all_sound : IsHolding (part s.reel all)
   all_sound = holding-joined (part s.reel st.lefts) (part s.reel st.rights) refl st.left_held.sound st.right_held.sound
 
-  all_told : IsTold Second (part s.reel all)
-  all_told = told_begun (part s.reel all) all_sound (omega (arith, st.room_left))
+  all_stated : IsStated Second (part s.reel all)
+  all_stated = stated_begun (part s.reel all) all_sound (omega (arith, st.room_left))
 
-  left_at : (e : FileEntry) → ln ≡ Some e → IsHeld s.left left s.left_version s.reel st.lefts lp (Some e)
-  left_at e is = subst (λ (n : Option FileEntry). IsHeld s.left left s.left_version s.reel st.lefts lp n) is st.left_held
+  left_at : (e : FileEntry) → ln ≡ Some e → IsReadUpTo s.left left s.left_version s.reel st.lefts lp (Some e)
+  left_at e is = subst (λ (n : Option FileEntry). IsReadUpTo s.left left s.left_version s.reel st.lefts lp n) is st.left_held
 
-  right_at : (e : FileEntry) → rn ≡ Some e → IsHeld s.right right s.right_version s.reel st.rights rp (Some e)
-  right_at e is = subst (λ (n : Option FileEntry). IsHeld s.right right s.right_version s.reel st.rights rp n) is st.right_held
+  right_at : (e : FileEntry) → rn ≡ Some e → IsReadUpTo s.right right s.right_version s.reel st.rights rp (Some e)
+  right_at e is = subst (λ (n : Option FileEntry). IsReadUpTo s.right right s.right_version s.reel st.rights rp n) is st.right_held
 
   left_passed : (e : FileEntry) → ln ≡ Some e → IsPassed s.left left s.left_version s.reel (with_file_entry st.lefts e) lp ln
   left_passed e is =
@@ -280,10 +280,10 @@ module _ (s : Start) (left right sink : Option (List ℕ)) (lp rp room : ℕ) (l
     follows = subst (λ (n : Option FileEntry). FollowsAll s.reel all n) t.0 st.left_after;
   }
 
-  left_head : BeginsWith s.left (head_text s.left_version s.reel)
+  left_head : StreamBegins s.left (head_text s.left_version s.reel)
   left_head = head_begins _ _ s.left_version (part s.reel st.lefts) (next_text s.left_version ln) st.left_held.text.taken
 
-  right_head : BeginsWith s.right (head_text s.right_version s.reel)
+  right_head : StreamBegins s.right (head_text s.right_version s.reel)
   right_head = head_begins _ _ s.right_version (part s.reel st.rights) (next_text s.right_version rn) st.right_held.text.taken
 
   text_after : (w : FileEntry) → AreDigests w.1 → Follows (last_of (file_entries (part s.reel all))) w.0 → (more : Facts) → more ≡ with_file_entry all w
@@ -342,9 +342,9 @@ module _ (s : Start) (left right sink : Option (List ℕ)) (lp rp room : ℕ) (l
       stops_writing (inputs_from s left right) s.reel st.reel s.left_version s.right_version left_head right_head s.sink new left_shows_none right_shows_none
       front done written (omega (arith, st.room_left, fits, ap length w.split, length-append w.done w.rest, length-append begun w.done))
       (stays_beside s.reel st.reel _ _ _ _ s.left_version s.right_version st.lefts st.rights all ln rn left_read right_read
-      (within-left st.lefts st.rights) st.left_after st.right_after (left_gives s.reel st.lefts st.rights) all_sound all_told w.done)
+      (within-left st.lefts st.rights) st.left_after st.right_after (left_gives s.reel st.lefts st.rights) all_sound all_stated w.done)
       (stays_beside s.reel st.reel _ _ _ _ s.right_version s.left_version st.rights st.lefts all rn ln right_read left_read
-      (within-right st.lefts st.rights) st.right_after st.left_after (right_gives s.reel st.lefts st.rights) all_sound all_told w.done)
+      (within-right st.lefts st.rights) st.right_after st.left_after (right_gives s.reel st.lefts st.rights) all_sound all_stated w.done)
 
   -- the entry could not be written
   pub entry_stops : (new : Option (List ℕ)) (e : FileEntry) (others : List (List ℕ)) (o : Ordering) (f : HoldFileFault) → IsTurn ln rn e others o
@@ -395,7 +395,7 @@ module _ (s : Start) (left right sink : Option (List ℕ)) (lp rp room : ℕ) (l
 
     -- both stand after it
     stands_after : (l r : Option (List ℕ)) (lp' rp' : ℕ) (ln' rn' : Option FileEntry)
-        → IsHeld s.left l s.left_version s.reel t.lefts lp' ln' → IsHeld s.right r s.right_version s.reel t.rights rp' rn'
+        → IsReadUpTo s.left l s.left_version s.reel t.lefts lp' ln' → IsReadUpTo s.right r s.right_version s.reel t.rights rp' rn'
         → IfSome ln' (λ n. Follows (Some e) n.0) → IfSome rn' (λ n. Follows (Some e) n.0) → Stands s l r new lp' rp' room' ln' rn'
     stands_after l r lp' rp' ln' rn' left_held right_held left_follows right_follows = record {
       reel = st.reel;
@@ -417,13 +417,13 @@ module _ (s : Start) (left right sink : Option (List ℕ)) (lp rp room : ℕ) (l
       (same : setup ≡ s.reel.setup) where
     left_on : ln ≡ Some e → (l : Option (List ℕ)) (to : ℕ) (next : Option FileEntry) → Takes left l lp to (next_text v next)
         → IfSome next (IsFileEntryOf v setup) → IfSome next (λ n. Follows ln n.0) → IfNone next (IsAtEnd l)
-        → IsHeld s.left l s.left_version s.reel (with_file_entry st.lefts e) to next
+        → IsReadUpTo s.left l s.left_version s.reel (with_file_entry st.lefts e) to next
     left_on is l to next text entry follows end =
         advanced _ _ _ s.left_version v s.reel _ lp to ln next setup versions.left_is same (left_passed e is) text entry follows end
 
     right_on : (own : FileEntry) → rn ≡ Some own → (r : Option (List ℕ)) (to : ℕ) (next : Option FileEntry) → Takes right r rp to (next_text w next)
         → IfSome next (IsFileEntryOf w setup) → IfSome next (λ n. Follows rn n.0) → IfNone next (IsAtEnd r)
-        → IsHeld s.right r s.right_version s.reel (with_file_entry st.rights own) to next
+        → IsReadUpTo s.right r s.right_version s.reel (with_file_entry st.rights own) to next
     right_on own is r to next text entry follows end =
         advanced _ _ _ s.right_version w s.reel _ rp to rn next setup versions.right_is same (right_passed own is) text entry follows end
 
@@ -448,7 +448,7 @@ module _ (s : Start) (left right sink : Option (List ℕ)) (lp rp room : ℕ) (l
     -- where both have the slice, the left input is read on first
     module _ (turn : IsTurn ln rn e others Equal) (l : Option (List ℕ)) (lp' : ℕ) (ln' : Option FileEntry) (text : Takes left l lp lp' (next_text v ln'))
         (entry : IfSome ln' (IsFileEntryOf v setup)) (follows : IfSome ln' (λ n. Follows ln n.0)) (end : IfNone ln' (IsAtEnd l)) where
-      left_now : IsHeld s.left l s.left_version s.reel (with_file_entry st.lefts e) lp' ln'
+      left_now : IsReadUpTo s.left l s.left_version s.reel (with_file_entry st.lefts e) lp' ln'
       left_now = left_on turn.0 l lp' ln' text entry follows end
 
       pub left_now_shows_none : ShowsNoFault s.left l
@@ -480,13 +480,13 @@ module _ (s : Start) (left right sink : Option (List ℕ)) (lp rp room : ℕ) (l
         stops_after e others o turn new room' wrote less l r f (inr (input, shown))
 
 -- both inputs ended
-all_read : (old new : Option (List ℕ)) (v : Version) (r : Reel) (f : Facts) (place : ℕ) → IsFileReel r → IsHeld old new v r f place None
+all_read : (old new : Option (List ℕ)) (v : Version) (r : Reel) (f : Facts) (place : ℕ) → IsFileReel r → IsReadUpTo old new v r f place None
     → ReadsAll old new (part r f)
 all_read old new v r f place is h = record {
   sound = h.sound;
   file = record {
     version = v;
-    fits = record { told = h.told; record' = is.fits; text = omega (arith, h.text.moved, h.text.within) };
+    fits = record { stated = h.stated; record' = is.fits; text = omega (arith, h.text.moved, h.text.within) };
     taken = h.text.taken;
   };
   at_end = h.at_end;
@@ -495,8 +495,8 @@ all_read old new v r f place is h = record {
 pub ends : (s : Start) (left right sink : Option (List ℕ)) (lp rp room : ℕ) (ln rn : Option FileEntry) → ln ≡ None → rn ≡ None
     → Stands s left right sink lp rp room ln rn → Ends s left right sink room
 ends s left right sink lp rp room ln rn l r st =
-    let left_held = subst (λ (n : Option FileEntry). IsHeld s.left left s.left_version s.reel st.lefts lp n) l st.left_held in
-    let right_held = subst (λ (n : Option FileEntry). IsHeld s.right right s.right_version s.reel st.rights rp n) r st.right_held in
+    let left_held = subst (λ (n : Option FileEntry). IsReadUpTo s.left left s.left_version s.reel st.lefts lp n) l st.left_held in
+    let right_held = subst (λ (n : Option FileEntry). IsReadUpTo s.right right s.right_version s.reel st.rights rp n) r st.right_held in
     record {
       is = st.reel;
       lefts = st.lefts;

@@ -103,7 +103,7 @@ begins a b x y same few =
 
 -- no text begins what is unfinished
 text_apart : (text s z : List ℕ) → IsHoldingText text → s ≡ text ++ z → IsPartOfFile s → ⊥
-text_apart text s z (h, is, fits, (v, told, spelled)) same part = text_whole v h is fits told z (subst IsPartOfFile (same ∙ ap (λ q. q ++ z) spelled) part)
+text_apart text s z (h, is, fits, (v, stated, spelled)) same part = text_whole v h is fits stated z (subst IsPartOfFile (same ∙ ap (λ q. q ++ z) spelled) part)
 
 module _ (input : List ℕ) (f g : HoldFileFault) where
   shown_both : IsShown input f → IsShown input g → f ≡ g

@@ -73,24 +73,24 @@ chunks_back (d ∷ ds) y all =
     (ap (λ z. chunks (length ds) (drop 32 z)) apart ∙ ap (chunks (length ds)) (back_of d 32 (whole ds ++ y) all.0) ∙ chunks_back ds y all.1) i)
 
 -- the one that bytes give, if they give any
-abbrev told_length : List ℕ → ℕ
-told_length x = from_be_bytes w32 (take 4 (drop 2 (drop 1 x)))
+abbrev stated_length : List ℕ → ℕ
+stated_length x = from_be_bytes w32 (take 4 (drop 2 (drop 1 x)))
 
-abbrev told_slice : List ℕ → Entry
-told_slice x = (from_be_bytes w16 (take 2 (drop 1 x)), take (told_length x) (drop 4 (drop 2 (drop 1 x))))
+abbrev stated_slice : List ℕ → Entry
+stated_slice x = (from_be_bytes w16 (take 2 (drop 1 x)), take (stated_length x) (drop 4 (drop 2 (drop 1 x))))
 
 -- what stands after its slice
-abbrev told_rest : List ℕ → List ℕ
-told_rest x = drop (told_length x) (drop 4 (drop 2 (drop 1 x)))
+abbrev stated_rest : List ℕ → List ℕ
+stated_rest x = drop (stated_length x) (drop 4 (drop 2 (drop 1 x)))
 
-abbrev told_count : List ℕ → ℕ
-told_count x = from_be_bytes w32 (take 4 (told_rest x))
+abbrev stated_count : List ℕ → ℕ
+stated_count x = from_be_bytes w32 (take 4 (stated_rest x))
 
-abbrev told_entry : List ℕ → FileEntry
-told_entry x = (told_slice x, chunks (told_count x) (drop 4 (told_rest x)))
+abbrev stated_entry : List ℕ → FileEntry
+stated_entry x = (stated_slice x, chunks (stated_count x) (drop 4 (stated_rest x)))
 
-told_is : (f : FileEntry) → HasText Second f → (x y : List ℕ) → x ≡ entry_text Second f ++ y → told_entry x ≡ f
-told_is f fits x y is =
+stated_is : (f : FileEntry) → HasText Second f → (x y : List ℕ) → x ≡ entry_text Second f ++ y → stated_entry x ≡ f
+stated_is f fits x y is =
     let s = f.0 in
     let ds = f.1 in
     let after = origins_text ds ++ y in
@@ -99,15 +99,15 @@ told_is f fits x y is =
     let three = ap (drop 4) two ∙ back_of (be4 (length s.1)) 4 _ (length-be4 (length s.1)) in
     let few = fits.1 in
     let tile = ap (λ z. from_be_bytes w16 (take 2 z)) one ∙ ap (from_be_bytes w16) (front_of (be2 s.0) 2 _ (length-be2 s.0)) ∙ be2_back s.0 fits.0 in
-    let long : told_length x ≡ length s.1 = ap (λ z. from_be_bytes w32 (take 4 z)) two
+    let long : stated_length x ≡ length s.1 = ap (λ z. from_be_bytes w32 (take 4 z)) two
     ∙ ap (from_be_bytes w32) (front_of (be4 (length s.1)) 4 _ (length-be4 (length s.1))) ∙ be4_back (length s.1) (omega arith) in
-    let bytes = ap (take (told_length x)) three ∙ ap (λ n. take n (s.1 ++ after)) long ∙ take-append_seam s.1 after in
-    let rest : told_rest x ≡ be4 (length ds) ++ (whole ds ++ y) = ap (drop (told_length x)) three ∙ ap (λ n. drop n (s.1 ++ after)) long
+    let bytes = ap (take (stated_length x)) three ∙ ap (λ n. take n (s.1 ++ after)) long ∙ take-append_seam s.1 after in
+    let rest : stated_rest x ≡ be4 (length ds) ++ (whole ds ++ y) = ap (drop (stated_length x)) three ∙ ap (λ n. drop n (s.1 ++ after)) long
     ∙ drop-append_seam s.1 after ∙ origins_parts ds y in
     let some = fits.2.1 in
-    let count : told_count x ≡ length ds = ap (λ z. from_be_bytes w32 (take 4 z)) rest
+    let count : stated_count x ≡ length ds = ap (λ z. from_be_bytes w32 (take 4 z)) rest
     ∙ ap (from_be_bytes w32) (front_of (be4 (length ds)) 4 _ (length-be4 (length ds))) ∙ be4_back (length ds) (omega arith) in
-    let digests = ap (λ z. chunks (told_count x) (drop 4 z)) rest ∙ ap (chunks (told_count x)) (back_of (be4 (length ds)) 4 _ (length-be4 (length ds)))
+    let digests = ap (λ z. chunks (stated_count x) (drop 4 z)) rest ∙ ap (chunks (stated_count x)) (back_of (be4 (length ds)) 4 _ (length-be4 (length ds)))
     ∙ ap (λ n. chunks n (whole ds ++ y)) count ∙ chunks_back ds y fits.2.0 in
     λ i. ((tile i, bytes i), digests i)
 
@@ -144,12 +144,12 @@ decide_text e = elim (cases_lt e.0.0 (2 ^ 16)) [
 
 decide_entry : (x : List ℕ) → HasEntry x ⊎ (¬ HasEntry x)
 decide_entry x =
-    let c = told_entry x in
+    let c = stated_entry x in
     elim (decide_text c) [
-      | inr none ↦ inr (λ h. none (subst (HasText Second) (sym (told_is h.0 h.1 x h.2.0 h.2.1)) h.1))
+      | inr none ↦ inr (λ h. none (subst (HasText Second) (sym (stated_is h.0 h.1 x h.2.0 h.2.1)) h.1))
       | inl has ↦ elim (starts (entry_text Second c) x) [
         | inl s ↦ inl (c, has, s)
-        | inr none ↦ inr (λ h. none h.2.0 (h.2.1 ∙ ap (λ (e : FileEntry). entry_text Second e ++ h.2.0) (sym (told_is h.0 h.1 x h.2.0 h.2.1))))
+        | inr none ↦ inr (λ h. none h.2.0 (h.2.1 ∙ ap (λ (e : FileEntry). entry_text Second e ++ h.2.0) (sym (stated_is h.0 h.1 x h.2.0 h.2.1))))
       ]
     ]
 

@@ -18,12 +18,12 @@ use Rattle.ffv1_pool.proofs.ItemsRise.{items-rising}
 use Rattle.ffv1_pool.proofs.EntrySteps.{or_cases}
 use Rattle.ffv1_hold.specs.declared.version.Version.{Version}
 use Rattle.ffv1_hold.specs.declared.version.Version.TheVariants.{Second}
-use Rattle.ffv1_hold.specs.HoldingText.{FileEntry, entry_text, body_text, entries_text, begun_text, file_entries, IsTold}
+use Rattle.ffv1_hold.specs.HoldingText.{FileEntry, entry_text, body_text, entries_text, begun_text, file_entries, IsStated}
 use Rattle.ffv1_hold.specs.FileEntries.{IsFileEntryOf, file_entry_cmp, next_text}
 use Rattle.ffv1_hold.specs.FileFaults.{IsFileReel}
 use Rattle.ffv1_hold.specs.Leads.{AreAllDigests}
-use Rattle.ffv1_hold.specs.JoinedStreams.{IsFileOf, IsFileOfSome, ReadsAll}
-use Rattle.ffv1_hold.specs.Merging.{Facts, part, both, IsHeld, FollowsAll, ReadsToNext}
+use Rattle.ffv1_hold.specs.MergedStreams.{IsFileOf, IsFileOfSome, ReadsAll}
+use Rattle.ffv1_hold.specs.Merging.{Facts, part, both, IsReadUpTo, FollowsAll, ReadsToNext}
 use Rattle.ffv1_hold.proofs.DigestSets.{has, entry_tie, has-digests_in, digests_rise, same_digests}
 use Rattle.ffv1_hold.proofs.HeldEntries.{above_all, are_entries}
 use Rattle.ffv1_hold.proofs.NumberTexts.{no_tag}
@@ -36,21 +36,21 @@ use Rattle.ffv1_hold.proofs.MergeLeads.{front_entries, rest_entries, all_lie_who
 -- ---- the digests that entries give
 
 -- those of the entry of this slice, and none where there is no such entry
-abbrev pub told_in : List FileEntry → Entry → List (List ℕ)
-told_in [] e = []
-told_in (x ∷ xs) e = cond (eq_by_cmp entry_cmp e x.0) x.1 (told_in xs e)
+abbrev pub stated_in : List FileEntry → Entry → List (List ℕ)
+stated_in [] e = []
+stated_in (x ∷ xs) e = cond (eq_by_cmp entry_cmp e x.0) x.1 (stated_in xs e)
 
-told_own : (h : Contents) (e : Entry) (xs : List Entry) → told_in (map (own h) xs) e ≡ cond (list_any (eq_by_cmp entry_cmp e) xs) (digests_of h e) []
-told_own h e [] = refl
-told_own h e (x ∷ xs) = elim (eq_by_cmp entry_cmp e x) as (λ b. eq_by_cmp entry_cmp e x ≡ b
-    → cond b (digests_of h x) (told_in (map (own h) xs) e) ≡ cond (b || list_any (eq_by_cmp entry_cmp e) xs) (digests_of h e) []) [
+stated_own : (h : Contents) (e : Entry) (xs : List Entry) → stated_in (map (own h) xs) e ≡ cond (list_any (eq_by_cmp entry_cmp e) xs) (digests_of h e) []
+stated_own h e [] = refl
+stated_own h e (x ∷ xs) = elim (eq_by_cmp entry_cmp e x) as (λ b. eq_by_cmp entry_cmp e x ≡ b
+    → cond b (digests_of h x) (stated_in (map (own h) xs) e) ≡ cond (b || list_any (eq_by_cmp entry_cmp e) xs) (digests_of h e) []) [
       | true ↦ λ tie. ap (digests_of h) (sym (entry_tie e x tie))
-      | false ↦ λ none. told_own h e xs
+      | false ↦ λ none. stated_own h e xs
     ] refl
 
 -- a slice that is not held has no digests
-none_told : (h : Contents) → IsHolding h → (e : Entry) → set.contains h.slices e ≡ false → digests_of h e ≡ []
-none_told h is e none =
+none_stated : (h : Contents) → IsHolding h → (e : Entry) → set.contains h.slices e ≡ false → digests_of h e ≡ []
+none_stated h is e none =
     same_digests (digests_of h e) [] (digests_rise h.origins e) (λ i j d lt in_range. absurd (omega arith)) (λ d.
     has-digests_in h.origins e d
     ∙ false_from_ne_true (set.contains h.origins (e, d)) (λ there. true≢false (sym (is.origins_held (e, d) there) ∙ none)))
@@ -59,23 +59,23 @@ if_held : (b : Bool) (ds : List (List ℕ)) → (b ≡ false → ds ≡ []) → 
 if_held true ds none = refl
 if_held false ds none = sym (none refl)
 
-told_digests : (h : Contents) → IsHolding h → (e : Entry) → told_in (file_entries h) e ≡ digests_of h e
+stated_digests : (h : Contents) → IsHolding h → (e : Entry) → stated_in (file_entries h) e ≡ digests_of h e
 unfolding file_entries
-told_digests h is e =
-    told_own h e (set.items h.slices)
+stated_digests h is e =
+    stated_own h e (set.items h.slices)
     ∙ if_held (list_any (eq_by_cmp entry_cmp e) (set.items h.slices)) (digests_of h e)
-    (λ none. none_told h is e (set.contains-items h.slices e ∙ none))
+    (λ none. none_stated h is e (set.contains-items h.slices e ∙ none))
 
-told_front : (xs rest : List FileEntry) (e : Entry) → told_in rest e ≡ [] → told_in (xs ++ rest) e ≡ told_in xs e
-told_front [] rest e none = none
-told_front (x ∷ xs) rest e none = ap (cond (eq_by_cmp entry_cmp e x.0) x.1) (told_front xs rest e none)
+stated_front : (xs rest : List FileEntry) (e : Entry) → stated_in rest e ≡ [] → stated_in (xs ++ rest) e ≡ stated_in xs e
+stated_front [] rest e none = none
+stated_front (x ∷ xs) rest e none = ap (cond (eq_by_cmp entry_cmp e x.0) x.1) (stated_front xs rest e none)
 
 -- entries that all follow the slice give none
-told_above : (x : FileEntry) (rest : List FileEntry) (e : Entry) → IsRising file_entry_cmp (x ∷ rest) → entry_cmp e x.0 ≡ Less → told_in (x ∷ rest) e ≡ []
-told_above x [] e up less = ap (λ o. cond (is_eq o) x.1 []) less
-told_above x (y ∷ rest) e up less =
-    ap (λ o. cond (is_eq o) x.1 (told_in (y ∷ rest) e)) less
-    ∙ told_above y rest e (rising_rest file_entry_cmp x (y ∷ rest) up)
+stated_above : (x : FileEntry) (rest : List FileEntry) (e : Entry) → IsRising file_entry_cmp (x ∷ rest) → entry_cmp e x.0 ≡ Less → stated_in (x ∷ rest) e ≡ []
+stated_above x [] e up less = ap (λ o. cond (is_eq o) x.1 []) less
+stated_above x (y ∷ rest) e up less =
+    ap (λ o. cond (is_eq o) x.1 (stated_in (y ∷ rest) e)) less
+    ∙ stated_above y rest e (rising_rest file_entry_cmp x (y ∷ rest) up)
     (entries_total.trans e x.0 y.0 less (up 0 1 x (omega arith) (omega arith)))
 
 rising_back : (xs rest : List FileEntry) → IsRising file_entry_cmp (xs ++ rest) → IsRising file_entry_cmp rest
@@ -87,40 +87,40 @@ rising_back (x ∷ xs) rest up = rising_back xs rest (rising_rest file_entry_cmp
 -- An input was read up to these entries, and after them the next one, or the end.
 pub record IsReadTo (old new : Option (List ℕ)) (v : Version) (r : Reel) (f : Facts) (next : Option FileEntry) : Type 0 where
   pub sound : IsHolding (part r f)
-  pub told : IsTold v (part r f)
+  pub stated : IsStated v (part r f)
   pub entry : IfSome next (IsFileEntryOf v r.setup)
   pub taken : Consumes old new (begun_text v (part r f) ++ next_text v next)
 
-pub held_read : (old new : Option (List ℕ)) (v : Version) (r : Reel) (f : Facts) (place : ℕ) (next : Option FileEntry) → IsHeld old new v r f place next
+pub held_read : (old new : Option (List ℕ)) (v : Version) (r : Reel) (f : Facts) (place : ℕ) (next : Option FileEntry) → IsReadUpTo old new v r f place next
     → IsReadTo old new v r f next
-held_read old new v r f place next h = record { sound = h.sound; told = h.told; entry = h.entry; taken = h.text.taken }
+held_read old new v r f place next h = record { sound = h.sound; stated = h.stated; entry = h.entry; taken = h.text.taken }
 
 pub all_read_to : (old new : Option (List ℕ)) (r : Reel) (f : Facts) (a : ReadsAll old new (part r f)) → IsReadTo old new a.file.version r f None
-all_read_to old new r f a = record { sound = a.sound; told = a.file.fits.told; entry = tt; taken = a.file.taken }
+all_read_to old new r f a = record { sound = a.sound; stated = a.file.fits.stated; entry = tt; taken = a.file.taken }
 
 -- what follows the entries that were read, the next one and others, gives no digests of a slice before it
-rest_tells_none : (w : Version) (r : Reel) → IsFileReel r → (e : Entry) (rest : List FileEntry) (bytes : List ℕ) (next : Option FileEntry)
+rest_states_none : (w : Version) (r : Reel) → IsFileReel r → (e : Entry) (rest : List FileEntry) (bytes : List ℕ) (next : Option FileEntry)
     → IfSome next (IsFileEntryOf w r.setup) → IfSome next (λ n. entry_cmp e n.0 ≡ Less) → AreFitting w rest → IsRising file_entry_cmp rest
-    → entries_text w rest ++ 0 ∷ [] ≡ next_text w next ++ bytes → told_in rest e ≡ []
-rest_tells_none w r is e [] bytes None entry below fit up same = refl
-rest_tells_none w r is e (g ∷ gs) bytes None entry below fit up same =
+    → entries_text w rest ++ 0 ∷ [] ≡ next_text w next ++ bytes → stated_in rest e ≡ []
+rest_states_none w r is e [] bytes None entry below fit up same = refl
+rest_states_none w r is e (g ∷ gs) bytes None entry below fit up same =
     absurd (no_tag (body_text w g ++ (entries_text w gs ++ 0 ∷ [])) bytes 1 0 (sym (entries_after w g gs (0 ∷ [])) ∙ same) (λ e. omega arith))
-rest_tells_none w r is e rest bytes (Some x) entry below fit up same =
+rest_states_none w r is e rest bytes (Some x) entry below fit up same =
     let one = ap (λ t. t ++ bytes) (entries_text-cons w x [] ∙ ap (λ t. entry_text w x ++ t) (entries_text-none w) ∙ append-nil (entry_text w x)) in
     let front = front_entries w rest (x ∷ []) [] bytes fit (fitting_all w r is.reel (x ∷ []) (entry, tt)) (same ∙ sym one) in
-    ap (λ (es : List FileEntry). told_in es e) front.1
-    ∙ told_above x front.0 e (subst (IsRising file_entry_cmp) front.1 up) below
+    ap (λ (es : List FileEntry). stated_in es e) front.1
+    ∙ stated_above x front.0 e (subst (IsRising file_entry_cmp) front.1 up) below
 
 -- the entries that were read give all digests of a slice before the next one
 digests_read : (v w : Version) (h : Contents) (r : Reel) (is : IsFileReel r) (old new : Option (List ℕ)) (f : Facts) (next : Option FileEntry) → IsFileOf old v h
     → IsReadTo old new w r f next → (e : Entry) → IfSome next (λ n. entry_cmp e n.0 ≡ Less) → digests_of h e ≡ digests_of (part r f) e
 digests_read v w h r is old new f next file read e below =
     let some = file_entries (part r f) in
-    let left = rest_entries v w h r is old new file f (next_text w next) read.sound read.told read.taken in
-    let up = rising_back some left.rest (subst (IsRising file_entry_cmp) left.split (are_entries v h file.sound file.fits.told).rising) in
-    sym (told_digests h file.sound e) ∙ ap (λ (es : List FileEntry). told_in es e) left.split
-    ∙ told_front some left.rest e (rest_tells_none w r is e left.rest left.bytes next read.entry below left.fits up left.text)
-    ∙ told_digests (part r f) read.sound e
+    let left = rest_entries v w h r is old new file f (next_text w next) read.sound read.stated read.taken in
+    let up = rising_back some left.rest (subst (IsRising file_entry_cmp) left.split (are_entries v h file.sound file.fits.stated).rising) in
+    sym (stated_digests h file.sound e) ∙ ap (λ (es : List FileEntry). stated_in es e) left.split
+    ∙ stated_front some left.rest e (rest_states_none w r is e left.rest left.bytes next read.entry below left.fits up left.text)
+    ∙ stated_digests (part r f) read.sound e
 
 -- ---- both
 
@@ -181,12 +181,12 @@ module _ (r : Reel) (is : IsFileReel r) (old new beside now : Option (List ℕ))
       give h k e (digests_read u v h r is old new f next file read e (after_each r all next follows e there))
       (digests_read other_file.0 w k r is beside now g also other_file.1 other_read e (after_each r all also also_follows e there))
 
-  pub stays_beside : IsHolding (part r all) → IsTold Second (part r all) → (rest : List ℕ) → ReadsToNext v r old new beside (begun_text Second (part r all) ++ rest)
-  stays_beside sound told rest = record {
+  pub stays_beside : IsHolding (part r all) → IsStated Second (part r all) → (rest : List ℕ) → ReadsToNext v r old new beside (begun_text Second (part r all) ++ rest)
+  stays_beside sound stated rest = record {
     facts = f;
     sound = read.sound;
-    told = read.told;
-    whole = λ u h other file other_file. all_lie_whole r f all sound told inside rest (AreAllDigests h other) (are_all u h other file other_file);
+    stated = read.stated;
+    whole = λ u h other file other_file. all_lie_whole r f all sound stated inside rest (AreAllDigests h other) (are_all u h other file other_file);
     more = next_text v next;
     next = inr (next, refl, read.entry);
     taken = read.taken;

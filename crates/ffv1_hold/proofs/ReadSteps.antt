@@ -11,7 +11,7 @@ use Rattle.ffv1_pool.specs.Reels.{Reel, IsReel}
 use Rattle.ffv1_pool.specs.SliceOrder.{entry_cmp, origin_cmp}
 use Rattle.ffv1_pool.specs.Sets as set
 use Rattle.ffv1_pool.specs.Contents.{Contents, IsHolding, no_slices, with_entry}
-use Rattle.ffv1_hold.specs.HoldingText.{FileEntry, entries_text, file_entries, IsTold}
+use Rattle.ffv1_hold.specs.HoldingText.{FileEntry, entries_text, file_entries, IsStated}
 use Rattle.ffv1_devices.specs.Logs.{ReadLog}
 use Rattle.ffv1_hold.specs.Reading.{TakesText, StopsAt}
 use Rattle.ffv1_hold.specs.FileEntries.{last_of, Follows, AreOrigins, AreEntries, AreDigestsIn, IsFileEntryOf, next_text}
@@ -20,7 +20,7 @@ use Rattle.ffv1_hold.proofs.TextReads.{TakesText-nil, TakesText-trans, StopsAt-a
 use Rattle.ffv1_hold.proofs.Slots.{entries_text-none, entries_text-push}
 use Rattle.ffv1_hold.proofs.Entries.{part_of_entries, entries_show}
 use Rattle.ffv1_hold.proofs.OriginReads.{origins_none}
-use Rattle.ffv1_hold.proofs.HeldEntries.{entries-none, are_entries, entries-with_entry, last-with_entry, told-with_entry, holding-with_entry}
+use Rattle.ffv1_hold.proofs.HeldEntries.{entries-none, are_entries, entries-with_entry, last-with_entry, stated-with_entry, holding-with_entry}
 
 -- what a version can give for a slice are digests
 pub digests_in_version : (v : Version) (ds : List (List ℕ)) → AreDigestsIn v ds → AreOrigins ds
@@ -31,7 +31,7 @@ digests_in_version Second ds are = are.0
 pub record AreRead (v : Version) (reel : Reel) (old new : ReadLog) (i j : ℕ) (h : Contents) (last : Option FileEntry) : Type 0 where
   pub text : TakesText old new i j (entries_text v (file_entries h))
   pub sound : IsHolding h
-  pub told : IsTold v h
+  pub stated : IsStated v h
   pub reel' : h.reel ≡ reel
   pub last' : last ≡ last_of (file_entries h)
 
@@ -44,9 +44,9 @@ holding_none r is = record {
   digests_whole = λ o held. absurd (true≢false (sym held ∙ set.contains-empty origin_cmp o));
 }
 
-pub told_none : (v : Version) (r : Reel) → IsTold v (no_slices r)
-told_none First r = refl
-told_none Second r = λ q held. absurd (true≢false (sym held ∙ set.contains-empty entry_cmp q))
+pub stated_none : (v : Version) (r : Reel) → IsStated v (no_slices r)
+stated_none First r = refl
+stated_none Second r = λ q held. absurd (true≢false (sym held ∙ set.contains-empty entry_cmp q))
 
 -- no entries yet
 pub none_read : (v : Version) (a : ReadLog) (i : ℕ) (h : Contents) (last : Option FileEntry) → i ≤ file_limit → IsReel h.reel
@@ -56,12 +56,12 @@ none_read v a i h last within is none at =
     record {
       text = subst (TakesText a a i i) (sym (ap (entries_text v) entries ∙ entries_text-none v)) (TakesText-nil a i within);
       sound = subst IsHolding (sym none) (holding_none h.reel is);
-      told = subst (IsTold v) (sym none) (told_none v h.reel);
+      stated = subst (IsStated v) (sym none) (stated_none v h.reel);
       reel' = refl;
       last' = at ∙ sym (ap last_of entries);
     }
 
-module _ (v : Version) (reel : Reel) (a b : ReadLog) (i j : ℕ) (h grown : Contents) (e : FileEntry) (is : IsHolding h) (told : IsTold v h)
+module _ (v : Version) (reel : Reel) (a b : ReadLog) (i j : ℕ) (h grown : Contents) (e : FileEntry) (is : IsHolding h) (stated : IsStated v h)
     (same : h.reel ≡ reel) (entry : IsFileEntryOf v reel.setup e) (follows : Follows (last_of (file_entries h)) e.0) where
   own : IsFileEntryOf v h.reel.setup e
   own = subst (λ (r : Reel). IsFileEntryOf v r.setup e) (sym same) entry
@@ -78,14 +78,14 @@ module _ (v : Version) (reel : Reel) (a b : ReadLog) (i j : ℕ) (h grown : Cont
         text = subst (TakesText a b i j) (ap (λ (n : Option FileEntry). entries_text v (file_entries h) ++ next_text v n) at
             ∙ sym (ap (entries_text v) entries ∙ entries_text-push v (file_entries h) e)) text;
         sound = subst IsHolding (sym added) (holding-with_entry h e.0 e.1 is own.slice digests.each);
-        told = subst (IsTold v) (sym added) (told-with_entry h e.0 e.1 follows v is entry.origins told);
+        stated = subst (IsStated v) (sym added) (stated-with_entry h e.0 e.1 follows v is entry.origins stated);
         reel' = ap (λ (x : Contents). x.reel) added ∙ same;
         last' = at ∙ sym (ap (λ (x : Contents). last_of (file_entries x)) added ∙ last-with_entry h e.0 e.1 follows is digests.rising);
       }
 
 module _ (v : Version) (reel : Reel) (a b : ReadLog) (i j : ℕ) (h : Contents) (last : Option FileEntry) (read : AreRead v reel a b i j h last) where
   entries : AreEntries v reel.setup (file_entries h)
-  entries = subst (λ (r : Reel). AreEntries v r.setup (file_entries h)) read.reel' (are_entries v h read.sound read.told)
+  entries = subst (λ (r : Reel). AreEntries v r.setup (file_entries h)) read.reel' (are_entries v h read.sound read.stated)
 
   -- what comes after them is refused, under the same version and setup
   pub next_refused : (w : Version) (x : SetupValue) → w ≡ v → x ≡ reel.setup → (c : ReadLog) (f : HoldFileFault)
@@ -97,7 +97,7 @@ module _ (v : Version) (reel : Reel) (a b : ReadLog) (i j : ℕ) (h : Contents) 
       (EntriesShow v reel.setup) a b c i j (entries_text v es) read.text f refused
       (λ s part. part_of_entries v reel.setup es entries s (subst (λ (l : Option FileEntry). IsPartOfEntry v reel.setup l s) read.last'
       (subst (λ (y : SetupValue). IsPartOfEntry v y last s) same (subst (λ (u : Version). IsPartOfEntry u x last s) version part))))
-      (λ f s whole. (h, s, read.sound, read.told, read.reel', refl, whole))
+      (λ f s whole. (h, s, read.sound, read.stated, read.reel', refl, whole))
       (λ f s shown. entries_show v reel.setup es entries f s (subst (λ (l : Option FileEntry). EntryShows v reel.setup l f s) read.last'
       (subst (λ (y : SetupValue). EntryShows v y last f s) same (subst (λ (u : Version). EntryShows u x last f s) version shown))))
 

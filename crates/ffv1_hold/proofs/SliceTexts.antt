@@ -9,7 +9,7 @@ use Rattle.ffv1_hold.specs.declared.file_fault.HoldFileFault.TheVariants as faul
 use Rattle.ffv1_pool.specs.SliceOrder.{Entry}
 use Rattle.ffv1_hold.specs.HoldingText.{FileEntry, be2, be4, slice_text}
 use Rattle.ffv1_hold.specs.FileEntries.{Follows}
-use Rattle.ffv1_hold.specs.FileFaults.{IsPartOfSlice, IsWrong, SliceShows, IsRight}
+use Rattle.ffv1_hold.specs.FileFaults.{IsPartOfSlice, IsWrong, SliceShows, IsEntryInPlace}
 use Rattle.ffv1_hold.proofs.Bodies.{length-be2, length-be4}
 use Rattle.ffv1_hold.proofs.NumberTexts.{same_front, same_back, be2_same, number_same, after_number}
 
@@ -127,7 +127,7 @@ long_cut tile n y over small (inr (t, m, bytes, split, few, cut)) =
 
 module _ (setup : SetupValue) (last : Option FileEntry) where
   -- a slice that is right shows no fault
-  pub slice_none : (e : Entry) (x y : List ℕ) → IsRight setup last e → (f : HoldFileFault) (s : List ℕ) → slice_text e ++ x ≡ s ++ y
+  pub slice_none : (e : Entry) (x y : List ℕ) → IsEntryInPlace setup last e → (f : HoldFileFault) (s : List ℕ) → slice_text e ++ x ≡ s ++ y
       → SliceShows setup last f s → ⊥
   slice_none e x y right f s same shown = elim (slice_kinds setup last f s shown) [
     | inl w ↦ length_apart w.0 w.1 e y x w.4 w.5 right.0.fits (sym (same ∙ ap (λ q. q ++ y) w.3))

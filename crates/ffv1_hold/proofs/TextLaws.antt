@@ -8,7 +8,7 @@ use Rattle.ffv1_pool.specs.Reels.{Reel, IsReel}
 use Rattle.ffv1_pool.specs.Contents.{Contents, IsHolding}
 use Rattle.ffv1_hold.specs.declared.version.Version.{Version}
 use Rattle.ffv1_hold.specs.declared.version.Version.TheVariants.{First, Second}
-use Rattle.ffv1_hold.specs.HoldingText.{FileEntry, be4, magic, version_number, sized_record, head_text, body_text, entry_text, entries_text, file_entries, file_text, IsTold, IsTextOf}
+use Rattle.ffv1_hold.specs.HoldingText.{FileEntry, be4, magic, version_number, sized_record, head_text, body_text, entry_text, entries_text, file_entries, file_text, IsStated, IsTextOf}
 use Rattle.ffv1_hold.specs.FileEntries.{HasText, IsFileEntryOf}
 use Rattle.ffv1_hold.specs.FileFaults.{IsFileReel}
 use Rattle.ffv1_pool.proofs.Reels.{same_reel}
@@ -59,8 +59,8 @@ module _ (v : Version) where
   fitting_all r is (e ∷ es) each = (entry_has_text r is e each.0, fitting_all r is es each.1)
 
   -- the entries of a holding whose origins the version can give have texts
-  pub fitting_items : (h : Contents) → IsHolding h → IsTold v h → AreFitting v (file_entries h)
-  fitting_items h is told = fitting_all h.reel is.reel (file_entries h) (are_entries v h is told).each
+  pub fitting_items : (h : Contents) → IsHolding h → IsStated v h → AreFitting v (file_entries h)
+  fitting_items h is stated = fitting_all h.reel is.reel (file_entries h) (are_entries v h is stated).each
 
 -- ---- the head
 
@@ -123,15 +123,15 @@ text_parts v h = append_assoc (head_text v h.reel) (entries_text v (file_entries
 
 -- holdings of one text are equal
 pub one_file : (v w : Version) (g h : Contents) → IsHolding g → IsHolding h → length g.reel.config ≤ record_limit → length h.reel.config ≤ record_limit
-    → IsTold v g → IsTold w h → file_text v g ≡ file_text w h → g ≡ h
-one_file v w g h g_is h_is g_fits h_fits g_told h_told e =
+    → IsStated v g → IsStated w h → file_text v g ≡ file_text w h → g ≡ h
+one_file v w g h g_is h_is g_fits h_fits g_stated h_stated e =
     let heads = same_head v w g.reel h.reel _ _ (record { reel = g_is.reel; fits = g_fits }) (record { reel = h_is.reel; fits = h_fits })
     (sym (text_parts v g) ∙ e ∙ text_parts w h) in
-    let told = subst (λ (u : Version). IsTold u h) (sym heads.0) h_told in
+    let stated = subst (λ (u : Version). IsStated u h) (sym heads.0) h_stated in
     let tail = heads.2 ∙ ap (λ (u : Version). entries_text u (file_entries h) ++ 0 ∷ []) (sym heads.0) in
     same_contents g h g_is h_is heads.1
-    (same_entries v (file_entries g) (file_entries h) [] [] (fitting_items v g g_is g_told) (fitting_items v h h_is told) tail)
+    (same_entries v (file_entries g) (file_entries h) [] [] (fitting_items v g g_is g_stated) (fitting_items v h h_is stated) tail)
 
 pub one_text : (g h : Contents) (text : List ℕ) → IsHolding g → IsHolding h → length g.reel.config ≤ record_limit → length h.reel.config ≤ record_limit
     → IsTextOf text g → IsTextOf text h → g ≡ h
-one_text g h text g_is h_is g_fits h_fits (v, g_told, e) (w, h_told, f) = one_file v w g h g_is h_is g_fits h_fits g_told h_told (sym e ∙ f)
+one_text g h text g_is h_is g_fits h_fits (v, g_stated, e) (w, h_stated, f) = one_file v w g h g_is h_is g_fits h_fits g_stated h_stated (sym e ∙ f)

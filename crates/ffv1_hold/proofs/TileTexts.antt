@@ -11,7 +11,7 @@ use Rattle.ffv1_pool.specs.SliceOrder.{Entry, entry_cmp, bytes_total}
 use Rattle.ffv1_pool.specs.TileSets.{tile_slices, tile_entries, entries_below}
 use Rattle.ffv1_pool.specs.Contents.{Contents, IsHolding, AreDigests, digests_of}
 use Rattle.ffv1_hold.specs.declared.version.Version.TheVariants.{Second}
-use Rattle.ffv1_hold.specs.HoldingText.{FileEntry, slice_text, origins_text, entry_text, head_text, entries_text, begun_text, file_entries, holding_text, IsTold, FitsInFile}
+use Rattle.ffv1_hold.specs.HoldingText.{FileEntry, slice_text, origins_text, entry_text, head_text, entries_text, begun_text, file_entries, holding_text, IsStated, FitsInFile}
 use Rattle.ffv1_hold.specs.Merging.{digests_union}
 use Rattle.ffv1_hold.specs.Saving.{tile_file_entries, file_entries_below, entries_length}
 use Rattle.ffv1_pool.proofs.RisingSets.{size-items, contains_item}
@@ -19,7 +19,7 @@ use Rattle.ffv1_pool.proofs.Tiles.{contains-tile_slices}
 use Rattle.ffv1_hold.proofs.DigestUnions.{union-alone}
 use Rattle.ffv1_hold.proofs.Entries.{entry_text-of}
 use Rattle.ffv1_pool.proofs.Lists.{flat_map-range_more}
-use Rattle.ffv1_hold.proofs.HeldEntries.{told, origins-digests_of}
+use Rattle.ffv1_hold.proofs.HeldEntries.{stated, origins-digests_of}
 use Rattle.ffv1_hold.proofs.Slots.{entries_text-split, entries_text-cons, entries_text-none, length-entry_text}
 use Rattle.ffv1_hold.proofs.DigestSets.{entry_tie}
 use Rattle.ffv1_hold.proofs.TileOrder.{entries_below-all}
@@ -27,7 +27,7 @@ use Rattle.ffv1_hold.proofs.TileOrder.{entries_below-all}
 module _ (h : Contents) where
   -- an entry with its digests
   abbrev pub own : Entry → FileEntry
-  own = told (digests_of h)
+  own = stated (digests_of h)
 
   -- the entry of a slice at a place
   pub entry_at : (tile : ℕ) (bs : List (List ℕ)) (i : ℕ) (b : List ℕ) → i < length bs → b ≡ get_or bs i b
@@ -133,16 +133,16 @@ own_within h q (x ∷ xs) there =
     (λ rest. omega (arith, own_within h q xs rest))
 
 -- a text within the limit gives its origins
-pub told_begun : (h : Contents) → IsHolding h → length (begun_text Second h) ≤ file_limit → IsTold Second h
+pub stated_begun : (h : Contents) → IsHolding h → length (begun_text Second h) ≤ file_limit → IsStated Second h
 unfolding file_entries
-told_begun h is fits q there =
+stated_begun h is fits q there =
     let items = set.items h.slices in
     let within = own_within h q items (sym (set.contains-items h.slices q) ∙ there) in
     omega (arith, within, fits, length-append (head_text Second h.reel) (entries_text Second (map (own h) items)), length-entries_text h is items)
 
 pub fits_within : (h : Contents) → IsHolding h → (length h.reel.config ≤ record_limit) × (length (holding_text h) ≤ file_limit) → FitsInFile Second h
 fits_within h is fits = record {
-  told = told_begun h is (omega (arith, fits.1, length-append (begun_text Second h) (0 ∷ [])));
+  stated = stated_begun h is (omega (arith, fits.1, length-append (begun_text Second h) (0 ∷ [])));
   record' = fits.0;
   text = fits.1;
 }

@@ -16,7 +16,7 @@ use Rattle.ffv1_hold.specs.declared.version.Version.TheVariants.{First, Second}
 use Rattle.ffv1_pool.specs.SliceOrder.{Entry}
 use Rattle.ffv1_pool.specs.Reels.{Reel, IsReel, WantsMemory}
 use Rattle.ffv1_pool.specs.Contents.{Contents, IsHolding, IsEntryOf}
-use Rattle.ffv1_hold.specs.HoldingText.{TakesFile, FileEntry, origins_limit, magic, be2, be4, sized_record, head_text, slice_text, entries_text, file_entries, IsTold, IsTextOf}
+use Rattle.ffv1_hold.specs.HoldingText.{TakesFile, FileEntry, origins_limit, magic, be2, be4, sized_record, head_text, slice_text, entries_text, file_entries, IsStated, IsTextOf}
 use Rattle.ffv1_hold.specs.Reading.{Refuses, StopsAt}
 use Rattle.ffv1_hold.specs.FileEntries.{last_of, Follows, FollowsDigest, IsDigest, AreOrigins, AreEntries}
 
@@ -67,17 +67,17 @@ ShowsAfter Second f s = OriginsShow f s
 -- ---- an entry after its tag
 
 -- a slice of its tile, in its place
-abbrev pub IsRight : SetupValue → Option FileEntry → Entry → Type 0
-IsRight setup last e = IsEntryOf setup e × Follows last e × (e.0 < 2 ^ 16)
+abbrev pub IsEntryInPlace : SetupValue → Option FileEntry → Entry → Type 0
+IsEntryInPlace setup last e = IsEntryOf setup e × Follows last e × (e.0 < 2 ^ 16)
 
 -- a beginning of its slice, or the slice, which is right, and a beginning of what stands after it
 abbrev pub IsPartOfBody : Version → SetupValue → Option FileEntry → List ℕ → Type 0
 IsPartOfBody v setup last s = IsPartOfSlice s
-    ⊎ ((e : Entry) × (part : List ℕ) × (s ≡ slice_text e ++ part) × IsRight setup last e × IsPartAfter v part)
+    ⊎ ((e : Entry) × (part : List ℕ) × (s ≡ slice_text e ++ part) × IsEntryInPlace setup last e × IsPartAfter v part)
 
 abbrev pub BodyShows : Version → SetupValue → Option FileEntry → HoldFileFault → List ℕ → Type 0
 BodyShows v setup last f s = SliceShows setup last f s
-    ⊎ ((e : Entry) × (seen : List ℕ) × (s ≡ slice_text e ++ seen) × IsRight setup last e × ShowsAfter v f seen)
+    ⊎ ((e : Entry) × (seen : List ℕ) × (s ≡ slice_text e ++ seen) × IsEntryInPlace setup last e × ShowsAfter v f seen)
 
 -- ---- entries in rising order
 
@@ -105,7 +105,7 @@ EndIsWhole _ s = ⊥
 
 -- all entries of a holding of the reel, and the end tag after them
 abbrev pub EntriesAreWhole : Version → Reel → HoldFileFault → List ℕ → Type 0
-EntriesAreWhole v reel f s = (h : Contents) × (tag : List ℕ) × IsHolding h × IsTold v h × (h.reel ≡ reel) × (s ≡ entries_text v (file_entries h) ++ tag)
+EntriesAreWhole v reel f s = (h : Contents) × (tag : List ℕ) × IsHolding h × IsStated v h × (h.reel ≡ reel) × (s ≡ entries_text v (file_entries h) ++ tag)
     × EndIsWhole f tag
 
 -- ---- the head

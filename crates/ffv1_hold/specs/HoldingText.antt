@@ -87,17 +87,17 @@ abbrev pub holding_text : Contents → List ℕ
 holding_text h = file_text Second h
 
 -- what the version can give: in version 1 no origins, in version 2 at most 2^26 of each slice
-abbrev pub IsTold : Version → Contents → Type 0
-IsTold First h = h.origins ≡ set.empty
-IsTold Second h = (e : Entry) → set.contains h.slices e ≡ true → length (digests_of h e) ≤ origins_limit
+abbrev pub IsStated : Version → Contents → Type 0
+IsStated First h = h.origins ≡ set.empty
+IsStated Second h = (e : Entry) → set.contains h.slices e ≡ true → length (digests_of h e) ≤ origins_limit
 
 -- a text of the holding: that of version 2, or, where it has no origins, that of version 1
 abbrev pub IsTextOf : List ℕ → Contents → Type 0
-IsTextOf text h = (v : Version) × IsTold v h × (text ≡ file_text v h)
+IsTextOf text h = (v : Version) × IsStated v h × (text ≡ file_text v h)
 
 -- A holding has a file of a version where that can give its origins, and its text and its record are within their limits.
 pub record FitsInFile (v : Version) (h : Contents) : Type 0 where
-  pub told : IsTold v h
+  pub stated : IsStated v h
   pub record' : length h.reel.config ≤ record_limit
   pub text : length (file_text v h) ≤ file_limit
 

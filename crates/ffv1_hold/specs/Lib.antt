@@ -5,8 +5,8 @@ pub mod FileEntries
 pub mod FileFaults
 pub mod ReadOrigins
 pub mod Leads
-pub mod JoinLogs
-pub mod JoinedStreams
+pub mod MergeLogs
+pub mod MergedStreams
 pub mod Merging
 pub mod Laws
 pub mod Headline

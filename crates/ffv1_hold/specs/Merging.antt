@@ -14,12 +14,12 @@ use Rattle.ffv1_hold.specs.declared.file_fault.HoldFileFault.{HoldFileFault}
 use Rattle.ffv1_hold.specs.declared.file_fault.HoldFileFault.TheVariants as faults
 use Rattle.ffv1_hold.specs.declared.version.Version.{Version}
 use Rattle.ffv1_hold.specs.declared.version.Version.TheVariants.{Second}
-use Rattle.ffv1_hold.specs.HoldingText.{FileEntry, origins_limit, head_text, entry_text, begun_text, file_entries, IsTold}
+use Rattle.ffv1_hold.specs.HoldingText.{FileEntry, origins_limit, head_text, entry_text, begun_text, file_entries, IsStated}
 use Rattle.ffv1_hold.specs.Reading.{Takes, Refuses}
 use Rattle.ffv1_hold.specs.FileEntries.{last_of, Follows, AreOrigins, IsFileEntryOf, next_text}
 use Rattle.ffv1_hold.specs.FileFaults.{IsFileReel, IsPartOfHead, HeadIsWhole, HeadShows}
 use Rattle.ffv1_hold.specs.Leads.{LiesWhole, AreAllDigests}
-use Rattle.ffv1_hold.specs.JoinedStreams.{Inputs, IsFileOf, IsFileOfSome, ReadsOtherHeads, JoinRefuses, WritesNoEnd, WritesFrontSoFar, WritesAtMost, ReadsBoth, BeginsWith}
+use Rattle.ffv1_hold.specs.MergedStreams.{Inputs, IsFileOf, IsFileOfSome, ReadsOtherHeads, JoinRefuses, WritesNoEnd, WritesFrontSoFar, WritesAtMost, ReadsBoth, StreamBegins}
 
 -- what both inputs had left and the sink held at first, the reel of both heads, and their versions
 pub record Start : Type 0 where
@@ -59,7 +59,7 @@ both lefts rights = (set.union lefts.0 rights.0, set.union lefts.1 rights.1)
 -- An input was read up to these entries, the last of which is known.
 pub record IsPassed (old new : Option (List ℕ)) (v : Version) (r : Reel) (facts : Facts) (place : ℕ) (last : Option FileEntry) : Type 0 where
   pub sound : IsHolding (part r facts)
-  pub told : IsTold v (part r facts)
+  pub stated : IsStated v (part r facts)
   pub text : Takes old new 0 place (begun_text v (part r facts))
   pub last' : last ≡ last_of (file_entries (part r facts))
 
@@ -68,9 +68,9 @@ abbrev pub FollowsAll : Reel → Facts → Option FileEntry → Type 0
 FollowsAll r facts next = IfSome next (λ e. Follows (last_of (file_entries (part r facts))) e.0)
 
 -- An input was read up to these entries, and after them the next one, or to the end.
-pub record IsHeld (old new : Option (List ℕ)) (v : Version) (r : Reel) (facts : Facts) (place : ℕ) (next : Option FileEntry) : Type 0 where
+pub record IsReadUpTo (old new : Option (List ℕ)) (v : Version) (r : Reel) (facts : Facts) (place : ℕ) (next : Option FileEntry) : Type 0 where
   pub sound : IsHolding (part r facts)
-  pub told : IsTold v (part r facts)
+  pub stated : IsStated v (part r facts)
   pub text : Takes old new 0 place (begun_text v (part r facts) ++ next_text v next)
   pub entry : IfSome next (IsFileEntryOf v r.setup)
   pub after : FollowsAll r facts next
@@ -81,7 +81,7 @@ pub record IsHeld (old new : Option (List ℕ)) (v : Version) (r : Reel) (facts 
 pub record ReadsToNext (v : Version) (r : Reel) (old new beside : Option (List ℕ)) (done : List ℕ) : Type 0 where
   pub facts : Facts
   pub sound : IsHolding (part r facts)
-  pub told : IsTold v (part r facts)
+  pub stated : IsStated v (part r facts)
   pub whole : (u : Version) (h : Contents) (other : Option Contents) → IsFileOf old u h → IsFileOfSome beside other
       → AllByRecursion (LiesWhole (AreAllDigests h other) r done) (file_entries (part r facts))
   pub more : List ℕ
@@ -108,8 +108,8 @@ pub record Stands (s : Start) (left right sink : Option (List ℕ)) (left_place 
   pub reel : IsFileReel s.reel
   pub lefts : Facts
   pub rights : Facts
-  pub left_held : IsHeld s.left left s.left_version s.reel lefts left_place left_next
-  pub right_held : IsHeld s.right right s.right_version s.reel rights right_place right_next
+  pub left_held : IsReadUpTo s.left left s.left_version s.reel lefts left_place left_next
+  pub right_held : IsReadUpTo s.right right s.right_version s.reel rights right_place right_next
   pub written : Appends s.sink sink (begun_text Second (part s.reel (both lefts rights)))
   pub left_after : FollowsAll s.reel (both lefts rights) left_next
   pub right_after : FollowsAll s.reel (both lefts rights) right_next
@@ -134,7 +134,7 @@ HeadsRefuse i f = (Refuses IsPartOfHead HeadIsWhole HeadShows i.left_old i.left_
     ⊎ ((f ≡ faults.OtherReel) × ReadsOtherHeads i)
 
 -- after a failed write these bytes were written: a front of the text of the union of what was read
-pub record WriteStops (i : Inputs) (r : Reel) (old new : Option (List ℕ)) : Type 0 where
+pub record StopsAtWrite (i : Inputs) (r : Reel) (old new : Option (List ℕ)) : Type 0 where
   pub front : WritesFrontSoFar i old new
   pub done : List ℕ
   pub written : Appends old new done
@@ -149,17 +149,17 @@ pub record Stops (i : Inputs) (old new : Option (List ℕ)) (f : HoldFileFault) 
   pub is : IsFileReel reel
   pub left_version : Version
   pub right_version : Version
-  pub left_head : BeginsWith i.left_old (head_text left_version reel)
-  pub right_head : BeginsWith i.right_old (head_text right_version reel)
+  pub left_head : StreamBegins i.left_old (head_text left_version reel)
+  pub right_head : StreamBegins i.right_old (head_text right_version reel)
   pub fault : JoinRefuses i f
   pub inside : f ≢ faults.OtherReel
   pub no_end : f ≢ faults.Write → WritesNoEnd i old new
-  pub write : f ≡ faults.Write → WriteStops i reel old new
+  pub write : f ≡ faults.Write → StopsAtWrite i reel old new
   pub most : WritesAtMost old new file_limit
 
 -- what a refusal says of all
-abbrev pub JoinStops : Inputs → Option (List ℕ) → Option (List ℕ) → HoldFileFault → Type 0
-JoinStops i old new f = (HeadsRefuse i f × (new ≡ old)) ⊎ Stops i old new f
+abbrev pub MergeIsRefused : Inputs → Option (List ℕ) → Option (List ℕ) → HoldFileFault → Type 0
+MergeIsRefused i old new f = (HeadsRefuse i f × (new ≡ old)) ⊎ Stops i old new f
 
 -- ---- turns
 

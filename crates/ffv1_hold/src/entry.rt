@@ -7,11 +7,11 @@ ghost use Rattle.ffv1_hold.specs.HoldingText.{FileEntry, slice_text};
 ghost use Rattle.ffv1_hold.specs.FileEntries.{Follows, IsFileEntryOf, next_text};
 ghost use Rattle.ffv1_hold.specs.FileFaults.{IsPartOfSlice, SliceIsTooLong, IsWrong, IsPartOfEntry, EntryShows};
 
+use crate::blocks::read_over;
 use crate::fields::read_field;
 use crate::file_fault::HoldFileFault;
 use crate::number::{read_u16, read_u32};
 use crate::origins::read_after_slice;
-use crate::pieces::read_over;
 use crate::version::Version;
 use ffv1_bits::SLICE_LIMIT;
 use ffv1_devices::Source;

@@ -3,6 +3,7 @@
 //! passed on.
 #![tactic(auto)]
 
+mod blocks;
 mod entry;
 mod fields;
 mod file_fault;
@@ -12,7 +13,6 @@ mod laws;
 mod merging;
 mod number;
 mod origins;
-mod pieces;
 mod plan;
 mod reading;
 mod saving;

@@ -10,9 +10,9 @@ ghost use Rattle.ffv1_hold.specs.declared.version.Version.{Version};
 ghost use Rattle.ffv1_hold.specs.FileEntries.{IsFileEntryOf};
 ghost use Rattle.ffv1_hold.specs.Reading.{Takes};
 ghost use Rattle.ffv1_hold.specs.FileFaults.{IsFileReel};
-ghost use Rattle.ffv1_hold.specs.JoinedStreams.{IsFileOf, IsFileOfSome, WritesUnion, AnswersUnion, BeginsWithHead, AnswersOther, JoinRefuses, WritesNoEnd, WritesFrontSoFar, WritesAtMost, StaysInLead};
-ghost use Rattle.ffv1_hold.specs.Merging.{Start, AreVersions, inputs_from, IsOpened, Stands, Stops, JoinStops, HeadsRefuse, Ends, IsTurn, IsWritten, with_digests};
-ghost use Rattle.ffv1_hold.specs.JoinLogs.{JoinWent, WritesEntry};
+ghost use Rattle.ffv1_hold.specs.MergedStreams.{IsFileOf, IsFileOfSome, WritesUnion, AnswersUnion, BeginsWithHead, AnswersOther, JoinRefuses, WritesNoEnd, WritesFrontSoFar, WritesAtMost, StaysInLead};
+ghost use Rattle.ffv1_hold.specs.Merging.{Start, AreVersions, inputs_from, IsOpened, Stands, Stops, MergeIsRefused, HeadsRefuse, Ends, IsTurn, IsWritten, with_digests};
+ghost use Rattle.ffv1_hold.specs.MergeLogs.{JoinWent, WritesEntry};
 
 use crate::entry::HeldSlice;
 use crate::file_fault::HoldFileFault;
@@ -122,7 +122,7 @@ fn merge_files<R: Source, Q: Source, W: Sink>(
       right_new = (Q.log right.new).remaining;
     }) (W.log sink.old).contents (W.log sink.new).contents) }
     ensures most { OnOk result (WritesAtMost (W.log sink.old).contents (W.log sink.new).contents file_limit) }
-    ensures err { IfErr result (JoinStops (record {
+    ensures err { IfErr result (MergeIsRefused (record {
       left_old = (R.log left.old).remaining;
       left_new = (R.log left.new).remaining;
       right_old = (Q.log right.old).remaining;

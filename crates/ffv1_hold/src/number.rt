@@ -5,9 +5,9 @@ ghost use Rattle.ffv1_bits.specs.Limits.{file_limit};
 ghost use Rattle.ffv1_hold.specs.Reading.{ReadsText, IsShorter, Never};
 ghost use Rattle.ffv1_hold.specs.HoldingText.{be2, be4};
 
+use crate::blocks::read_over;
 use crate::fields::read_field;
 use crate::file_fault::HoldFileFault;
-use crate::pieces::read_over;
 use ffv1_devices::Source;
 use std::alloc::Global;
 

@@ -5,7 +5,7 @@ ghost use Rattle.ffv1_bits.specs.Limits.{file_limit};
 ghost use Rattle.ffv1_hold.specs.Reading.{ReadsText};
 ghost use Rattle.ffv1_pool.specs.Contents.{Contents, IsEntryOf, IsHolding, AreDigests, no_slices, with_entry};
 ghost use Rattle.ffv1_hold.specs.declared.version.Version.{Version};
-ghost use Rattle.ffv1_hold.specs.HoldingText.{entries_text, file_entries, file_text, IsTold, FitsInFile};
+ghost use Rattle.ffv1_hold.specs.HoldingText.{entries_text, file_entries, file_text, IsStated, FitsInFile};
 ghost use Rattle.ffv1_hold.specs.FileFaults.{ReadsFile, IsPartOfEntries, EntriesAreWhole, EntriesShow, Answers};
 
 use crate::entry::HeldSlice;
@@ -66,7 +66,7 @@ fn read_entries<R: Source>(
         (R.log source.old) (R.log source.new) reader.old.place reader.new.place result }
     ensures end { OnOk result (IsAtEnd (R.log source.new).remaining) }
     ensures sound { OnOk result (IsHolding holding.new) }
-    ensures told { OnOk result (IsTold reader.old.version holding.new) }
+    ensures stated { OnOk result (IsStated reader.old.version holding.new) }
     ensures reel { OnOk result (holding.new.reel ≡ holding.old.reel) }
 {
     reader.advance(alloc, source, holding.setup())?;

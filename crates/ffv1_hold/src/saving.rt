@@ -5,7 +5,7 @@ ghost use Rattle.ffv1_pool.specs.Sets as set;
 ghost use Rattle.ffv1_devices.specs.Results.{WritesAll};
 ghost use Rattle.ffv1_pool.specs.TileSets.{tile_slices};
 ghost use Rattle.ffv1_pool.specs.Reels.{reel_tiles};
-ghost use Rattle.ffv1_hold.specs.HoldingText.{origins_limit, be2, be4, magic, head_text, slice_text, FileEntry, origins_text, entry_text, entries_text, file_entries, holding_text, IsTold, FitsInFile};
+ghost use Rattle.ffv1_hold.specs.HoldingText.{origins_limit, be2, be4, magic, head_text, slice_text, FileEntry, origins_text, entry_text, entries_text, file_entries, holding_text, IsStated, FitsInFile};
 ghost use Rattle.ffv1_pool.specs.Contents.{IsHolding, AreDigests};
 ghost use Rattle.ffv1_hold.specs.Saving.{AreWithinLimit, AreWritable, SavesFile, tile_file_entries, entries_length};
 ghost use Rattle.ffv1_hold.specs.Merging.{digests_union};
@@ -61,7 +61,7 @@ pub(crate) fn write_head<S: Sink>(sink: &mut S, reel: &Reel) -> Result<(), Write
 
 /// Writes the entries of all tiles.
 fn write_entries<S: Sink>(sink: &mut S, holding: &Holding) -> Result<(), WriteFailed>
-    requires told { IsTold Version.Second holding.now }
+    requires stated { IsStated Version.Second holding.now }
     requires entries { AreWritable holding.now }
     ensures { WritesAll result (S.log sink.old) (S.log sink.new) (entries_text Version.Second (file_entries holding.now)) }
 {
@@ -75,7 +75,7 @@ fn write_entries<S: Sink>(sink: &mut S, holding: &Holding) -> Result<(), WriteFa
 fn write_tile<S: Sink>(sink: &mut S, holding: &Holding, tile: usize) -> Result<(), WriteFailed>
     requires tile { tile < reel_tiles holding.now.reel }
     requires number { tile < 2 ^ 16 }
-    requires told { IsTold Version.Second holding.now }
+    requires stated { IsStated Version.Second holding.now }
     requires fits { AreWithinLimit (tile_slices holding.now.slices tile) }
     ensures { WritesAll result (S.log sink.old) (S.log sink.new) (entries_text Version.Second (tile_file_entries holding.now tile)) }
 {
@@ -95,7 +95,7 @@ fn write_held<S: Sink>(
     requires tile { tile < reel_tiles holding.now.reel }
     requires number { tile < 2 ^ 16 }
     requires held { place < set.size (tile_slices holding.now.slices tile) }
-    requires told { IsTold Version.Second holding.now }
+    requires stated { IsStated Version.Second holding.now }
     requires fits { AreWithinLimit (tile_slices holding.now.slices tile) }
     ensures { (d : FileEntry) → WritesAll result (S.log sink.old) (S.log sink.new)
         (entry_text Version.Second (slice_index_or (tile_file_entries holding.now tile) place d)) }

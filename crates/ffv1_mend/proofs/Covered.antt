@@ -19,7 +19,7 @@ use Rattle.ffv1_splice.specs.Splice.{SplicedValue}
 use Rattle.ffv1_splice.proofs.WovenLaws.{given_back_is_original}
 use Rattle.ffv1_mend.specs.Improved.{IsWithin, IsRight, Patch, patched, given_patches, improved, AreFitting}
 use Rattle.ffv1_mend.specs.Mended.{MendedValue, ElementStands, IsElementMend, IsMendOf, is_good}
-use Rattle.ffv1_mend.specs.Laws.{IsOriginalOf, KeepsOriginal, HasOriginal, OriginalIsMended}
+use Rattle.ffv1_mend.specs.Laws.{IsOriginalOf, MendKeepsOriginal, HasOriginal, OriginalIsMended}
 use Rattle.ffv1_mend.specs.declared.kind.Kind.{Kind}
 use Rattle.ffv1_mend.specs.declared.kind.Kind.TheVariants.{Frame, Crc32, Plain}
 use Rattle.ffv1_mend.specs.declared.part.Part.{Part}
@@ -167,10 +167,10 @@ covered_among original versions from parts mended is within some covered right =
 
 module _ (original : List ℕ) (versions : List (List ℕ)) (from : List ℕ) (parts : List Part) (mended : MendedValue)
     (of : IsOriginalOf original versions parts mended) where
-  kept_weave : (weave : Weave) → IsWeaveOf Element (improved versions parts mended.splices) weave → weave_laws.KeepsOriginal original weave
+  kept_weave : (weave : Weave) → IsWeaveOf Element (improved versions parts mended.splices) weave → weave_laws.MendKeepsOriginal original weave
   kept_weave weave h = original_is_woven Element original (improved versions parts mended.splices) weave of.passes of.among h
 
-  kept : (state : State) → ElementStands versions from parts mended.splices mended.bytes state → KeepsOriginal original versions parts mended state
+  kept : (state : State) → ElementStands versions from parts mended.splices mended.bytes state → MendKeepsOriginal original versions parts mended state
   kept Whole h = of.alone mended.bytes h.there.there h.there.passes
   kept Disputed h =
       h.0.differ (of.alone h.0.one h.0.one_there.there h.0.one_there.passes ∙ sym (of.alone h.0.other h.0.other_there.there h.0.other_there.passes))
@@ -184,7 +184,7 @@ module _ (original : List ℕ) (versions : List (List ℕ)) (from : List ℕ) (p
   kept Open h = absurd h
 
 good_kept : (original : List ℕ) (versions : List (List ℕ)) (parts : List Part) (mended : MendedValue) (state : State)
-    → KeepsOriginal original versions parts mended state → is_good state ≡ true → mended.bytes ≡ original
+    → MendKeepsOriginal original versions parts mended state → is_good state ≡ true → mended.bytes ≡ original
 good_kept original versions parts mended Whole h good = h
 good_kept original versions parts mended (Woven count) h good = h
 good_kept original versions parts mended Alone h good = h

@@ -3,7 +3,7 @@ use Rattle.std.proofs.Common.{◌≡◌, ℕ, ◌<◌, List, Bor, length, refl, 
 use Rattle.std.specs.Prelude.{◌⊎◌, ◌≢◌, AllPairs}
 use Rattle.ffv1_slice.specs.Members.{IsOnly}
 use Rattle.ffv1_splice.specs.Splice.{SplicedValue}
-use Rattle.ffv1_splice.specs.Told.{Tells}
+use Rattle.ffv1_splice.specs.Tally.{Tallies}
 use Rattle.ffv1_weave.proofs.References.{values_of, length-values_of}
 use Rattle.ffv1_mend.specs.Improved.{AreSplicesOf}
 use Rattle.ffv1_mend.specs.Mended.{IsPassing, ElementStands, IsElementMend}
@@ -15,11 +15,11 @@ use Rattle.ffv1_mend.specs.declared.state.State.{State}
 use Rattle.ffv1_mend.proofs.Members.{not_only_one}
 
 -- where the code found none that passes, or two, none is the only one
-pub not_one_passes : (versions : List (List ℕ)) (found : Passing) → Tells (IsPassing versions) (passing_counted found)
+pub not_one_passes : (versions : List (List ℕ)) (found : Passing) → Tallies (IsPassing versions) (passing_counted found)
     → ((version : Bor (List ℕ)) → found ≡ passing.One version → ⊥) → (version : List ℕ) → IsOnly (IsPassing versions) version → ⊥
-not_one_passes versions passing.None told apart version only = told version only.there
-not_one_passes versions (passing.One one) told apart version only = apart one refl
-not_one_passes versions passing.Two told apart version only = told.differ (only.others told.one told.one_there ∙ sym (only.others told.other told.other_there))
+not_one_passes versions passing.None claim apart version only = claim version only.there
+not_one_passes versions (passing.One one) claim apart version only = apart one refl
+not_one_passes versions passing.Two claim apart version only = claim.differ (only.others claim.one claim.one_there ∙ sym (only.others claim.other claim.other_there))
 
 module _ (versions : List (Bor (List ℕ))) (from : List ℕ) (parts : List Part) where
   pub not_whole_in_all : (state : State) (bytes : List ℕ) (splices : List SplicedValue) → AllPairs (λ one other. one ≢ other) (values_of versions)

@@ -10,9 +10,9 @@ use Rattle.ffv1_splice.specs.Standings.{versions_at}
 use Rattle.ffv1_splice.specs.Splice.{SplicedValue, IsSettledOrWoven, IsGivenBack}
 use Rattle.ffv1_splice.proofs.Versions.{same_versions}
 use Rattle.ffv1_splice.proofs.OneSplice.{same_copies_splice}
-use Rattle.ffv1_splice.proofs.ToldSteps.{alone}
+use Rattle.ffv1_splice.proofs.TallySteps.{alone}
 use Rattle.ffv1_mend.specs.Improved.{AreSplicesOf, improved, fallback}
-use Rattle.ffv1_mend.specs.Mended.{MendedValue, IsPassing, ElementStands, IsWholeInAll, IsElementMend, IsSettled, FrameStands, IsFrameMend, PlainStands, IsMendOf, is_good}
+use Rattle.ffv1_mend.specs.Mended.{MendedValue, IsPassing, ElementStands, IsWholeInAll, IsElementMend, IsFrameSettled, FrameStands, IsFrameMend, PlainStands, IsMendOf, is_good}
 use Rattle.ffv1_mend.specs.Laws.{IsUnanimous, IsSameMend, SameVersionsMend}
 use Rattle.ffv1_mend.specs.declared.kind.Kind.{Kind}
 use Rattle.ffv1_mend.specs.declared.kind.Kind.TheVariants.{Frame, Crc32, Plain}
@@ -175,7 +175,7 @@ same_elements versions others same from other_from parts one other h k = elim h.
 
 -- ---- frames
 
-pub settled_given : (spliced : SplicedValue) → IsSettled spliced → IsGivenBack spliced
+pub settled_given : (spliced : SplicedValue) → IsFrameSettled spliced → IsGivenBack spliced
 settled_given spliced h = (h.0, λ k d lt. subst IsSettledOrWoven (sym (h.1 k d lt)) tt)
 
 one_frame_state : (spliced : SplicedValue) (s t : State) → FrameStands spliced s → FrameStands spliced t → s ≡ t

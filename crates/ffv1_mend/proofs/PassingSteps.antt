@@ -3,8 +3,8 @@ use Rattle.std.proofs.Common.{◌≡◌, ℕ, List, [], ◌∷◌, ◌++◌, ref
 use Rattle.std.specs.Prelude.{◌⊎◌}
 use Rattle.std.proofs.lemmas.List.Elements.{Contains-append_left, Contains-append_right, Contains-append_cases}
 use Rattle.ebml_crc.specs.Element.{PassesCrc32}
-use Rattle.ffv1_splice.specs.Told.{Told, Tells, TellsMore}
-use Rattle.ffv1_splice.proofs.ToldSteps.{alone, tells_same, tells_more}
+use Rattle.ffv1_splice.specs.Tally.{Tally, Tallies, TalliesMore}
+use Rattle.ffv1_splice.proofs.TallySteps.{alone, tallies_same, tallies_more}
 use Rattle.ffv1_mend.specs.Mended.{IsPassing}
 
 module _ (versions : List (List ℕ)) (version : List ℕ) where
@@ -18,14 +18,14 @@ module _ (versions : List (List ℕ)) (version : List ℕ) where
         | inr there ↦ let same : one ≡ version = alone version one there in inr (same, subst PassesCrc32 same h.passes)
       ]
 
-  pub one_failed : (found : Told (List ℕ)) → (PassesCrc32 version → ⊥) → Tells (IsPassing versions) found → Tells (IsPassing (versions ++ version ∷ [])) found
+  pub one_failed : (found : Tally (List ℕ)) → (PassesCrc32 version → ⊥) → Tallies (IsPassing versions) found → Tallies (IsPassing (versions ++ version ∷ [])) found
   one_failed found fails h =
-      tells_same (IsPassing versions) (IsPassing (versions ++ version ∷ [])) found passing_on
+      tallies_same (IsPassing versions) (IsPassing (versions ++ version ∷ [])) found passing_on
       (λ one q. elim (passing_back one q) [ inl p ↦ p | inr new ↦ absurd (fails new.1) ]) h
 
-  pub one_passed : (found after : Told (List ℕ)) → PassesCrc32 version → TellsMore found version after → Tells (IsPassing versions) found
-      → Tells (IsPassing (versions ++ version ∷ [])) after
+  pub one_passed : (found after : Tally (List ℕ)) → PassesCrc32 version → TalliesMore found version after → Tallies (IsPassing versions) found
+      → Tallies (IsPassing (versions ++ version ∷ [])) after
   one_passed found after passes more h =
-      tells_more (IsPassing versions) (IsPassing (versions ++ version ∷ [])) found after version passing_on
+      tallies_more (IsPassing versions) (IsPassing (versions ++ version ∷ [])) found after version passing_on
       (record { there = Contains-append_right versions (version ∷ []) version (0, omega arith, refl); passes = passes })
       (λ one q. elim (passing_back one q) [ inl p ↦ inl p | inr new ↦ inr new.0 ]) more h

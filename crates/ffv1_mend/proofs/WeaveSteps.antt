@@ -3,7 +3,7 @@ use Rattle.std.proofs.Common.{◌≡◌, ℕ, ◌<◌, List, [], Bor, Vec, Globa
 use Rattle.std.specs.Prelude.{◌⊎◌, All, Contains}
 use Rattle.std.proofs.lemmas.List.Elements.{Contains-get_or}
 use Rattle.ffv1_slice.specs.Members.{HasSameMembers}
-use Rattle.ffv1_weave.specs.Weave.{Weave, IsWeaveOf, weave_told}
+use Rattle.ffv1_weave.specs.Weave.{Weave, IsWeaveOf, weave_tally}
 use Rattle.ffv1_weave.specs.Weave.Weave.{disputed, missing, too_many}
 use Rattle.ffv1_weave.specs.declared.check.Check.TheVariants.{Element}
 use Rattle.ffv1_weave.specs.declared.weaving.Outcome.{Outcome}
@@ -42,7 +42,7 @@ module _ (versions lent : List (Bor (List ℕ))) (parts : List Part) (splices : 
       (members_back (improved (values_of versions) parts splices) (values_of lent) same) weave h
 
 -- what was woven where nothing is
-pub not_woven : (versions : List (List ℕ)) (made : Outcome) → IsWeaveOf Element versions (weave_told made)
+pub not_woven : (versions : List (List ℕ)) (made : Outcome) → IsWeaveOf Element versions (weave_tally made)
     → ((bytes : Vec ℕ Global) (count : ℕ) → made ≡ outcome.Woven bytes count → ⊥)
     → IsWeaveOf Element versions disputed ⊎ ((count : ℕ) × IsWeaveOf Element versions (missing count)) ⊎ IsWeaveOf Element versions too_many
 not_woven versions (outcome.Woven bytes count) h apart = absurd (apart bytes count refl)

@@ -8,7 +8,7 @@ use Rattle.ffv1_weave.specs.Laws.{IsCovered}
 use Rattle.ffv1_weave.specs.Combinations.{IsCombination, IsValid}
 use Rattle.ffv1_weave.specs.Weave.{AreMany}
 use Rattle.ffv1_weave.specs.declared.check.Check.TheVariants.{Element}
-use Rattle.ffv1_splice.specs.Originals.{AreCopiesOf, AgreeFromBelow, AreWeavable, AreNearCopies, IsAmong}
+use Rattle.ffv1_splice.specs.Originals.{AreCopiesOf, AreConsistentFromBelow, AreWeavable, AreNearCopies, IsAmong}
 use Rattle.ffv1_splice.specs.Whole.{IsWholeFrame}
 use Rattle.ffv1_mend.specs.Improved.{IsWithin, IsRight, given_patches, improved}
 use Rattle.ffv1_mend.specs.Mended.{MendedValue, IsElementMend, IsFrameMend, IsMendOf, is_good}
@@ -67,11 +67,11 @@ pub record IsOriginalOf (original : List ℕ) (versions : List (List ℕ)) (part
 
 -- Nothing but the original is whole or woven; it is never disputed, and missing only where there are too many combinations, or where
 -- another one passes too.
-abbrev pub KeepsOriginal : List ℕ → List (List ℕ) → List Part → MendedValue → State → Type 0
-KeepsOriginal original versions parts mended Missing =
+abbrev pub MendKeepsOriginal : List ℕ → List (List ℕ) → List Part → MendedValue → State → Type 0
+MendKeepsOriginal original versions parts mended Missing =
     AreMany (improved versions parts mended.splices) ⊎ IsOfTwo (IsValid Element (improved versions parts mended.splices))
-KeepsOriginal original versions parts mended Disputed = ⊥
-KeepsOriginal original versions parts mended _ = mended.bytes ≡ original
+MendKeepsOriginal original versions parts mended Disputed = ⊥
+MendKeepsOriginal original versions parts mended _ = mended.bytes ≡ original
 
 -- What is asked of each kind: of an element the above; that the versions of a frame are weavable copies; that a version has the bytes.
 abbrev pub HasOriginal : Kind → List ℕ → List (List ℕ) → List Part → MendedValue → Type 0
@@ -87,7 +87,7 @@ pub record OriginalIsMended : Type 0 where
       → HasOriginal kind original versions parts mended → IsMendOf kind versions from parts mended → is_good mended.state ≡ true
       → mended.bytes ≡ original
   pub kept : (original : List ℕ) (versions : List (List ℕ)) (from : List ℕ) (parts : List Part) (mended : MendedValue)
-      → IsOriginalOf original versions parts mended → IsElementMend versions from parts mended → KeepsOriginal original versions parts mended mended.state
+      → IsOriginalOf original versions parts mended → IsElementMend versions from parts mended → MendKeepsOriginal original versions parts mended mended.state
   pub among : (original : List ℕ) (versions : List (List ℕ)) (parts : List Part) (mended : MendedValue)
       → IsCovered original (improved versions parts mended.splices) → IsCombination (improved versions parts mended.splices) original
   pub covered : (original : List ℕ) (versions : List (List ℕ)) (from : List ℕ) (parts : List Part) (mended : MendedValue)
@@ -117,5 +117,5 @@ pub record NearVersionsMend : Type 0 where
   pub undisputed : (original : List ℕ) (versions : List (List ℕ)) (from : List ℕ) (parts : List Part) (mended : MendedValue)
       → AreNearVersions original versions → IsElementMend versions from parts mended → mended.state ≡ Disputed → ⊥
   pub frame : (original : List ℕ) (versions : List (List ℕ)) (mended : MendedValue) → AreNearCopies original versions
-      → AgreeFromBelow original versions → ((start end : ℕ) → IsLinkOf original start end → IsAmong original versions start end) → IsFrameMend versions mended
+      → AreConsistentFromBelow original versions → ((start end : ℕ) → IsLinkOf original start end → IsAmong original versions start end) → IsFrameMend versions mended
       → is_good mended.state ≡ true → mended.bytes ≡ original

@@ -68,8 +68,8 @@ pub record IsElementMend (versions : List (List ℕ)) (from : List ℕ) (parts :
 -- ---- frames
 
 -- all of a frame is settled
-abbrev pub IsSettled : SplicedValue → Type 0
-IsSettled spliced = (spliced.front ≡ 0) × All (λ place. place.standing ≡ standing.Settled) spliced.places
+abbrev pub IsFrameSettled : SplicedValue → Type 0
+IsFrameSettled spliced = (spliced.front ≡ 0) × All (λ place. place.standing ≡ standing.Settled) spliced.places
 
 -- how many combinations a place stands for
 abbrev pub count_at : Standing → ℕ
@@ -84,9 +84,9 @@ product (n ∷ numbers) = n * product numbers
 -- Whole: all is settled. Woven: it is given back, but not all is settled; the number is the product of its places', or 2^64 - 1 where that
 -- is greater. Missing: it is not given back.
 abbrev pub FrameStands : SplicedValue → State → Type 0
-FrameStands spliced Whole = IsSettled spliced
+FrameStands spliced Whole = IsFrameSettled spliced
 FrameStands spliced (Woven count) =
-    IsGivenBack spliced × (IsSettled spliced → ⊥) × (count ≡ min (product (map (λ place. count_at place.standing) spliced.places)) (2 ^ 64 - 1))
+    IsGivenBack spliced × (IsFrameSettled spliced → ⊥) × (count ≡ min (product (map (λ place. count_at place.standing) spliced.places)) (2 ^ 64 - 1))
 FrameStands spliced Missing = IsGivenBack spliced → ⊥
 FrameStands spliced _ = ⊥
 

@@ -1,7 +1,7 @@
 //! Elements with a CRC-32, mended.
 ghost use Rattle.std.specs.Prelude.{◌≡◌, ◌<◌, ◌≢◌, length, map, All, AllPairs, IfOk};
-ghost use Rattle.ffv1_splice.specs.Told.{Tells};
-ghost use Rattle.ffv1_weave.specs.Weave.{IsWeaveOf, weave_told};
+ghost use Rattle.ffv1_splice.specs.Tally.{Tallies};
+ghost use Rattle.ffv1_weave.specs.Weave.{IsWeaveOf, weave_tally};
 ghost use Rattle.ffv1_weave.specs.declared.check.Check.TheVariants.{Element};
 ghost use Rattle.ffv1_mend.specs.Content.{content_bytes};
 ghost use Rattle.ffv1_mend.specs.Improved.{IsWithin, AreFitting, improved, fallback};
@@ -45,7 +45,7 @@ fn weave_improved(
     requires some { 0 < length versions.now }
     requires lengths { All (λ version. length version.now ≡ size) versions.now }
     requires fit { AreFitting size parts.now splices.now }
-    ensures { IfOk result (λ outcome. IsWeaveOf Element (improved (map (λ version. version.now) versions.now) parts.now splices.now) (weave_told outcome)) }
+    ensures { IfOk result (λ outcome. IsWeaveOf Element (improved (map (λ version. version.now) versions.now) parts.now splices.now) (weave_tally outcome)) }
 {
     let all = improved_versions(alloc, versions, parts, splices)?;
     let lent = lent(alloc, all.as_slice())?;
@@ -64,7 +64,7 @@ fn standing<'a>(
     requires some { 0 < length versions.now }
     requires lengths { All (λ version. length version.now ≡ length from.now) versions.now }
     requires fit { AreFitting (length from.now) parts.now splices.now }
-    requires passing { Tells (IsPassing (map (λ version. version.now) versions.now)) (passing_counted passing) }
+    requires passing { Tallies (IsPassing (map (λ version. version.now) versions.now)) (passing_counted passing) }
     ensures { IfOk result (λ (state, content). ElementStands (map (λ version. version.now) versions.now) from.now parts.now splices.now (content_bytes content) state) }
 {
     match passing {

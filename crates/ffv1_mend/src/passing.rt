@@ -1,6 +1,6 @@
 //! The versions that pass their CRC-32.
 ghost use Rattle.std.specs.Prelude.{◌≡◌, List, map};
-ghost use Rattle.ffv1_splice.specs.Told.{Tells, TellsMore};
+ghost use Rattle.ffv1_splice.specs.Tally.{Tallies, TalliesMore};
 ghost use Rattle.ffv1_mend.specs.Mended.{IsPassing};
 ghost use Rattle.ffv1_mend.specs.Passing.{passing_counted};
 
@@ -20,7 +20,7 @@ pub(crate) enum Passing<'a> {
 impl<'a> Passing<'a> {
     /// The same with one more version that passes.
     fn with(self, version: &'a [u8]) -> Passing<'a>
-        ensures { TellsMore (passing_counted self.entry) version.now (passing_counted result) }
+        ensures { TalliesMore (passing_counted self.entry) version.now (passing_counted result) }
     {
         match self {
             Passing::None => Passing::One(version),
@@ -32,7 +32,7 @@ impl<'a> Passing<'a> {
 
 /// The versions that pass their CRC-32.
 pub(crate) fn passing_of<'a>(versions: &[&'a [u8]]) -> Passing<'a>
-    ensures { Tells (IsPassing (map (λ version. version.now) versions.now)) (passing_counted result) }
+    ensures { Tallies (IsPassing (map (λ version. version.now) versions.now)) (passing_counted result) }
 {
     let mut passing = Passing::None;
     for version in versions {

@@ -32,8 +32,8 @@ module _ (setup : SetupValue) (profile : IsInProfile setup) (tile : ℕ) (lt : t
   fault_one : (slice : List ℕ) (outcome : TileOutcome) (picture : Option Planes) (cause : _) → IsShown setup tile (settled slice) (Fault cause) None
       → IsShown setup tile (settled slice) outcome picture → Fault cause ≡ outcome
   fault_one slice (Decoded bits) (Some others) cause one other = absurd (one.no_picture others bits other)
-  fault_one slice (Fault told) None cause one other = ap Fault (one_answer.one_fault setup tile
-      (content_of slice) cause told profile lt one.is_cause other.is_cause)
+  fault_one slice (Fault stated) None cause one other = ap Fault (one_answer.one_fault setup tile
+      (content_of slice) cause stated profile lt one.is_cause other.is_cause)
   fault_one slice outcome picture cause one other = absurd other
 
   missing_one : (outcome : TileOutcome) (picture : Option Planes) → IsShown setup tile missing outcome picture → Missing ≡ outcome

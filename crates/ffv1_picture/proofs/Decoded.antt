@@ -4,13 +4,13 @@ use Rattle.std.proofs.lemmas.Bool.{cases_order}
 use Rattle.std.proofs.lemmas.List.{length-append, length-map, map-append, get_or_append_left, get_or_default, get_or_push}
 use Rattle.ffv1_range.specs.Setup.{SetupValue}
 use Rattle.ffv1_range.specs.Tiles.{grid_of}
-use Rattle.ffv1_slice.specs.Chain.{Piece}
+use Rattle.ffv1_slice.specs.Chain.{LinkValue}
 use Rattle.ffv1_slice.specs.Slices.{content_of}
 use Rattle.ffv1_picture.specs.TilePictures.{SpellsPlanes}
 use Rattle.ffv1_pool.specs.Contents.{Contents}
 use Rattle.ffv1_pool.specs.Standing.{tile_state}
 use Rattle.ffv1_picture.specs.WholePicture.{Planes}
-use Rattle.ffv1_picture.specs.Frames.{planes_of, no_piece, content_at, HasPicture, IsFrameOf, IsDrawnOf}
+use Rattle.ffv1_picture.specs.Frames.{planes_of, no_link, content_at, HasPicture, IsFrameOf, IsDrawnOf}
 use Rattle.ffv1_picture.specs.Drawing.{DrawsOnto, DrawsAny, DrawsSlice, HasSizes}
 use Rattle.ffv1_picture.specs.PartialPictures.{IsShown, ShowsTile, ShowsTiles}
 use Rattle.ffv1_picture.specs.declared.frame.Frame.{Frame}
@@ -18,7 +18,7 @@ use Rattle.ffv1_picture.specs.declared.partial.TileOutcome.{TileOutcome}
 use Rattle.ffv1_picture.specs.declared.partial.TileOutcome.TheVariants.{Missing}
 use Rattle.ffv1_picture.proofs.WholePlanes.{sizes_of, drawn_frame, kept_frame}
 
-module _ (setup : SetupValue) (links : List Piece) where
+module _ (setup : SetupValue) (links : List LinkValue) where
   pub drawn_sizes : (n : ℕ) (frame : Frame) → IsDrawnOf setup links n frame → HasSizes (grid_of setup) (planes_of frame)
   drawn_sizes n frame drawn = sizes_of setup (map Some drawn.pictures) frame drawn.is_frame
 
@@ -64,18 +64,18 @@ module _ (h : Contents) where
   shown_more n outcomes outcome old new before more = record {
     pictures = before.pictures ++ more.picture ∷ [];
     count = omega (arith, length-append before.pictures (more.picture ∷ []), before.count);
-    told = omega (arith, length-append outcomes (outcome ∷ []), before.told);
+    stated = omega (arith, length-append outcomes (outcome ∷ []), before.stated);
     each = λ tile lt. elim (cases_order tile n) [
       | inl is ↦
           let P : TileOutcome → Type 0 = λ o. IsShown h.reel.setup tile (tile_state h tile) o (get_or (before.pictures ++ more.picture ∷ []) tile None) in
           let Q : Option Planes → Type 0 = λ p. IsShown h.reel.setup tile (tile_state h tile) outcome p in
           let R : ℕ → Type 0 = λ t. IsShown h.reel.setup t (tile_state h t) outcome more.picture in
-          subst P (sym (get_or_push outcomes outcome Missing tile (before.told ∙ sym is)))
+          subst P (sym (get_or_push outcomes outcome Missing tile (before.stated ∙ sym is)))
           (subst Q (sym (get_or_push before.pictures more.picture None tile (before.count ∙ sym is))) (subst R (sym is) more.shown))
       | inr (inl less) ↦
           let P : TileOutcome → Type 0 = λ o. IsShown h.reel.setup tile (tile_state h tile) o (get_or (before.pictures ++ more.picture ∷ []) tile None) in
           let Q : Option Planes → Type 0 = λ p. IsShown h.reel.setup tile (tile_state h tile) (get_or outcomes tile Missing) p in
-          subst P (sym (get_or_append_left outcomes (outcome ∷ []) Missing tile (omega (arith, before.told))))
+          subst P (sym (get_or_append_left outcomes (outcome ∷ []) Missing tile (omega (arith, before.stated))))
           (subst Q (sym (get_or_append_left before.pictures (more.picture ∷ []) None tile (omega (arith, before.count)))) (before.each tile less))
       | inr (inr above) ↦ absurd (omega arith)
     ];
@@ -85,10 +85,10 @@ module _ (h : Contents) where
 -- ---- what a call returned
 
 -- the content of a link that was read by its place
-pub same_content : (links : List Piece) (tile : ℕ) (link : Piece) (bytes : List ℕ) → tile < length links → link ≡ get_or links tile link → bytes ≡ link.bytes
+pub same_content : (links : List LinkValue) (tile : ℕ) (link : LinkValue) (bytes : List ℕ) → tile < length links → link ≡ get_or links tile link → bytes ≡ link.bytes
     → content_of bytes ≡ content_at links tile
 same_content links tile link bytes lt is same =
-    ap content_of (same ∙ ap (λ (l : Piece). l.bytes) (sym (get_or_default links tile no_piece link lt ∙ sym is)))
+    ap content_of (same ∙ ap (λ (l : LinkValue). l.bytes) (sym (get_or_default links tile no_link link lt ∙ sym is)))
 
 -- a result that is no error
 pub ok_value : {X E : Type 0} (r : Result X E) (P : X → Type 0) → IfOk r P → ((e : E) → r ≡ Err e → ⊥) → (x : X) × P x
@@ -96,7 +96,7 @@ ok_value (Ok x) P is other = (x, is)
 ok_value (Err e) P is other = absurd (other e refl)
 
 -- the tiles that are drawn have pictures
-pub drawn_pictures : (setup : SetupValue) (links : List Piece) (n : ℕ) (frame : Frame) → IsDrawnOf setup links n frame → (tile : ℕ) → tile < n
+pub drawn_pictures : (setup : SetupValue) (links : List LinkValue) (n : ℕ) (frame : Frame) → IsDrawnOf setup links n frame → (tile : ℕ) → tile < n
     → HasPicture setup links tile
 drawn_pictures setup links n frame drawn tile lt =
     let picture = drawn.each tile lt in

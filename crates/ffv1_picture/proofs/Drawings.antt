@@ -20,16 +20,16 @@ first_rows r rows = record { x = r.x; y = r.y; w = r.w; h = rows }
 
 -- ---- items of a list in a row that are overwritten
 
-module _ (a w : ℕ) (old piece : List ℕ) (fits : a + w ≤ length old) (long : length piece ≡ w) where
-  abbrev with_piece : List ℕ
-  with_piece = take a old ++ (piece ++ drop w (drop a old))
+module _ (a w : ℕ) (old link : List ℕ) (fits : a + w ≤ length old) (long : length link ≡ w) where
+  abbrev with_link : List ℕ
+  with_link = take a old ++ (link ++ drop w (drop a old))
 
-  length-with_piece : length with_piece ≡ length old
-  length-with_piece =
+  length-with_link : length with_link ≡ length old
+  length-with_link =
       omega (
         arith,
-        length-append (take a old) (piece ++ drop w (drop a old)),
-        length-append piece (drop w (drop a old)),
+        length-append (take a old) (link ++ drop w (drop a old)),
+        length-append link (drop w (drop a old)),
         length-take-le a old
             (omega arith),
         length-drop w (drop a old),
@@ -37,20 +37,20 @@ module _ (a w : ℕ) (old piece : List ℕ) (fits : a + w ≤ length old) (long 
         long,
       )
 
-  before_piece : (k : ℕ) → k < a → get_or with_piece k 0 ≡ get_or old k 0
-  before_piece k lt =
-      get_or_append_left (take a old) (piece ++ drop w (drop a old)) 0 k (omega (arith, length-take-le a old (omega arith)))
+  before_link : (k : ℕ) → k < a → get_or with_link k 0 ≡ get_or old k 0
+  before_link k lt =
+      get_or_append_left (take a old) (link ++ drop w (drop a old)) 0 k (omega (arith, length-take-le a old (omega arith)))
       ∙ get_or-take a old k 0 lt
 
-  from_start : (k : ℕ) → a ≤ k → get_or with_piece k 0 ≡ get_or (piece ++ drop w (drop a old)) (k - a) 0
-  from_start k le = get_or-append_right (take a old) (piece ++ drop w (drop a old)) a k 0 (length-take-le a old (omega arith)) le
+  from_start : (k : ℕ) → a ≤ k → get_or with_link k 0 ≡ get_or (link ++ drop w (drop a old)) (k - a) 0
+  from_start k le = get_or-append_right (take a old) (link ++ drop w (drop a old)) a k 0 (length-take-le a old (omega arith)) le
 
-  in_piece : (k : ℕ) → a ≤ k → k < a + w → get_or with_piece k 0 ≡ get_or piece (k - a) 0
-  in_piece k le lt = from_start k le ∙ get_or_append_left piece (drop w (drop a old)) 0 (k - a) (omega (arith, long))
+  in_link : (k : ℕ) → a ≤ k → k < a + w → get_or with_link k 0 ≡ get_or link (k - a) 0
+  in_link k le lt = from_start k le ∙ get_or_append_left link (drop w (drop a old)) 0 (k - a) (omega (arith, long))
 
-  after_piece : (k : ℕ) → a + w ≤ k → get_or with_piece k 0 ≡ get_or old k 0
-  after_piece k le =
-      from_start k (omega arith) ∙ get_or-append_right piece (drop w (drop a old)) w (k - a) 0 long (omega arith)
+  after_link : (k : ℕ) → a + w ≤ k → get_or with_link k 0 ≡ get_or old k 0
+  after_link k le =
+      from_start k (omega arith) ∙ get_or-append_right link (drop w (drop a old)) w (k - a) 0 long (omega arith)
       ∙ get_or-drop w (drop a old) (k - a - w) 0 ∙ get_or-drop a old (w + (k - a - w)) 0
       ∙ ap (λ i. get_or old i 0) {x = a + (w + (k - a - w))} {y = k} (omega arith)
 
@@ -76,9 +76,9 @@ other_row r n x y other =
 
 -- ---- one row more
 
-module _ (width : ℕ) (r : TileRect) (n : ℕ) (samples old mid piece : List ℕ) (in_width : r.x + r.w ≤ width)
+module _ (width : ℕ) (r : TileRect) (n : ℕ) (samples old mid link : List ℕ) (in_width : r.x + r.w ≤ width)
     (in_height : (r.y + n) * width + width ≤ length old) (drawn : Draws width (first_rows r n) samples old mid)
-    (long : length piece ≡ r.w) (is : (i : ℕ) → i < r.w → get_or piece i 0 ≡ get_or samples (n * r.w + i) 0) where
+    (long : length link ≡ r.w) (is : (i : ℕ) → i < r.w → get_or link i 0 ≡ get_or samples (n * r.w + i) 0) where
   abbrev pub from : ℕ
   from = (r.y + n) * width + r.x
 
@@ -86,7 +86,7 @@ module _ (width : ℕ) (r : TileRect) (n : ℕ) (samples old mid piece : List �
   fits = omega (arith, drawn.same_length, in_height, in_width)
 
   abbrev next : List ℕ
-  next = with_piece from r.w mid piece fits long
+  next = with_link from r.w mid link fits long
 
   abbrev Shows : ℕ → ℕ → Type 0
   Shows x y = get_or next (y * width + x) 0 ≡ cond (covers (first_rows r (n + 1)) x y) (sample_in (first_rows r (n + 1)) samples x y)
@@ -101,33 +101,33 @@ module _ (width : ℕ) (r : TileRect) (n : ℕ) (samples old mid piece : List �
   in_row : (x y : ℕ) → x < width → y * width + x < length old → y ≡ r.y + n → Shows x y
   in_row x y inside within same = elim (cases_lt x r.x) [
     | inl left ↦
-        as_before x y inside within (before_piece from r.w mid piece fits long (y * width + x) (rw same (omega arith)))
+        as_before x y inside within (before_link from r.w mid link fits long (y * width + x) (rw same (omega arith)))
         (left_of (first_rows r n) x y left ∙ sym (left_of (first_rows r (n + 1)) x y left))
     | inr right ↦ elim (cases_lt x (r.x + r.w)) [
       | inl here ↦
-          in_piece from r.w mid piece fits long (y * width + x) (rw same (omega arith)) (rw same (omega arith))
-          ∙ ap (λ i. get_or piece i 0) {x = y * width + x - from} {y = x - r.x} (rw same (omega arith))
+          in_link from r.w mid link fits long (y * width + x) (rw same (omega arith)) (rw same (omega arith))
+          ∙ ap (λ i. get_or link i 0) {x = y * width + x - from} {y = x - r.x} (rw same (omega arith))
           ∙ is (x - r.x) (omega arith)
           ∙ ap (λ i. get_or samples (i * r.w + (x - r.x)) 0) {x = n} {y = y - r.y} (omega arith)
           ∙ sym (ap (λ b. cond b (sample_in (first_rows r (n + 1)) samples x y) (get_or old (y * width + x) 0))
           (covers_here (first_rows r (n + 1)) x y right here (omega arith) (omega arith)))
       | inr later ↦
-          as_before x y inside within (after_piece from r.w mid piece fits long (y * width + x) (rw same (omega arith)))
+          as_before x y inside within (after_link from r.w mid link fits long (y * width + x) (rw same (omega arith)))
           (right_of (first_rows r n) x y later ∙ sym (right_of (first_rows r (n + 1)) x y later))
     ]
   ]
 
-  pub row_drawn : Draws width (first_rows r (n + 1)) samples old (take from mid ++ (piece ++ drop r.w (drop from mid)))
+  pub row_drawn : Draws width (first_rows r (n + 1)) samples old (take from mid ++ (link ++ drop r.w (drop from mid)))
   row_drawn = record {
-    same_length = length-with_piece from r.w mid piece fits long ∙ drawn.same_length;
+    same_length = length-with_link from r.w mid link fits long ∙ drawn.same_length;
     each = λ x y inside within. elim (cases_order y (r.y + n)) [
       | inl same ↦ in_row x y inside within same
       | inr (inl above) ↦
-          as_before x y inside within (before_piece from r.w mid piece fits long (y * width + x)
+          as_before x y inside within (before_link from r.w mid link fits long (y * width + x)
           (omega (arith, let up : y + 1 ≤ r.y + n = omega arith in mul-le-mul_right width up)))
           (other_row r n x y (inl above))
       | inr (inr below) ↦
-          as_before x y inside within (after_piece from r.w mid piece fits long (y * width + x)
+          as_before x y inside within (after_link from r.w mid link fits long (y * width + x)
           (omega (arith, let up : r.y + n + 1 ≤ y = omega arith in mul-le-mul_right width up)))
           (other_row r n x y (inr below))
     ];

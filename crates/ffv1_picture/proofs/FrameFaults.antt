@@ -1,7 +1,7 @@
 -- Faults of parts of a frame as those of the whole.
 use Rattle.std.proofs.Common.{◌≡◌, ◌⊎◌, ◌<◌, ℕ, List, length, Result, Ok, Err, IfErr, inl, inr}
 use Rattle.ffv1_range.specs.Setup.{SetupValue}
-use Rattle.ffv1_slice.specs.Chain.{Piece}
+use Rattle.ffv1_slice.specs.Chain.{LinkValue}
 use Rattle.ffv1_plane.specs.declared.tile.TileFault.{TileFault}
 use Rattle.ffv1_plane.specs.declared.tile.TileFault.TheVariants as tiles
 use Rattle.ffv1_picture.specs.Frames.{links_from_front, content_at, HasPicture, HasWholeChain, IsOrdered}
@@ -10,7 +10,7 @@ use Rattle.ffv1_picture.specs.FrameFaults.{IsFirstDisorder, IsFirstUnreadable, I
 use Rattle.ffv1_picture.specs.declared.fault.FrameFault.{FrameFault}
 use Rattle.ffv1_picture.specs.declared.fault.FrameFault.TheVariants.{Chain, Slice, Order, Tile, Memory}
 
-pub first_unreadable : (setup : SetupValue) (links : List Piece) (tile : ℕ) (cause : TileFault) → tile < length links
+pub first_unreadable : (setup : SetupValue) (links : List LinkValue) (tile : ℕ) (cause : TileFault) → tile < length links
     → ((t : ℕ) → t < tile → HasPicture setup links t)
     → (cause ≡ tiles.Memory) ⊎ IsUnreadable setup tile (content_at links tile) cause → IsFirstUnreadable setup links (fault_of_tile tile cause)
 first_unreadable setup links tile (tiles.Head fault) lt before (inl is) = absurd (cc)

@@ -57,7 +57,7 @@ pub then_pushed : {E : Type 0} (r : Result (Unit {0}) E) (old mid new first seco
     → second ≡ second'
     → OnOk r (new ≡ old ++ (first ++ second'))
 then_pushed (Ok done) old mid new first second second' before added same =
-    added ∙ ap (λ text. text ++ second) before ∙ append_assoc old first second ∙ ap (λ piece. old ++ (first ++ piece)) same
+    added ∙ ap (λ text. text ++ second) before ∙ append_assoc old first second ∙ ap (λ link. old ++ (first ++ link)) same
 then_pushed (Err fault) old mid new first second second' before added same = added
 
 -- ---- lines that are added one after the other

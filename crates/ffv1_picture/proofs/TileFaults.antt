@@ -8,7 +8,7 @@ use Rattle.ffv1_picture.specs.TilePictures.{IsUnreadable}
 use Rattle.ffv1_plane.specs.StuckLaws.{IsRefusedFor}
 
 -- what is said of a tile's fault
-pub record IsToldOf (setup : SetupValue) (tile : ℕ) (content : List ℕ) (cause : TileFault) : Type 0 where
+pub record IsStatedOf (setup : SetupValue) (tile : ℕ) (content : List ℕ) (cause : TileFault) : Type 0 where
   pub found : (picture : PictureValue) → IsPictureOf setup tile content picture → cause ≡ Memory
   pub refused : (cause ≡ Memory) ⊎ IsRefusedFor setup tile content cause
 
@@ -16,12 +16,12 @@ no_memory : (setup : SetupValue) (tile : ℕ) (content : List ℕ) (cause : Tile
 no_memory setup tile content cause is memory = subst (IsRefusedFor setup tile content) memory is
 
 -- Memory, or why there is no picture
-pub unreadable : (setup : SetupValue) (tile : ℕ) (content : List ℕ) (cause : TileFault) → IsToldOf setup tile content cause → (cause ≡ Memory)
+pub unreadable : (setup : SetupValue) (tile : ℕ) (content : List ℕ) (cause : TileFault) → IsStatedOf setup tile content cause → (cause ≡ Memory)
     ⊎ IsUnreadable setup tile content cause
-unreadable setup tile content cause told = ⊎_elim
+unreadable setup tile content cause stated = ⊎_elim
     (λ memory. inl memory)
     (λ is. inr (record {
-      no_picture = λ planes spare spells. no_memory setup tile content cause is (told.found (record { planes = planes; spare_bits = spare }) spells);
+      no_picture = λ planes spare spells. no_memory setup tile content cause is (stated.found (record { planes = planes; spare_bits = spare }) spells);
       is_cause = is;
     }))
-    told.refused
+    stated.refused

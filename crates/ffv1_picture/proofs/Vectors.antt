@@ -5,7 +5,7 @@ use Rattle.std.specs.Fmt.{digits}
 use Rattle.ffv1_range.specs.Tiles.{GridValue}
 use Rattle.ffv1_pool.specs.Standing.{standing_of}
 use Rattle.ffv1_picture.specs.WholePicture.{Planes, greatest_sample, whole_plane, whole_picture}
-use Rattle.ffv1_picture.specs.ReportText.{state_words, count_words, hex_byte}
+use Rattle.ffv1_picture.specs.ReportText.{tile_words, count_words, hex_byte}
 
 -- ---- chroma of half the width and height, in two tiles beside each other
 
@@ -50,11 +50,11 @@ black = 0xFD ∷ 0xF6 ∷ 0x80 ∷ 0 ∷ 0 ∷ 3 ∷ 0 ∷ 0x1C ∷ 0x3E ∷ 0xA
 dark : List ℕ
 dark = 0xFD ∷ 0xF6 ∷ 0x40 ∷ 0 ∷ 0 ∷ 3 ∷ 0 ∷ 0x17 ∷ 0x60 ∷ 0xA5 ∷ 0x79 ∷ []
 
-disputed_words : state_words (dark ∷ black ∷ []) (standing_of (dark ∷ black ∷ [])) ≡ codes " disputed 2 status 0 held 2"
+disputed_words : tile_words (dark ∷ black ∷ []) (standing_of (dark ∷ black ∷ [])) ≡ codes " disputed 2 status 0 held 2"
 unfolding black dark digits
 disputed_words = refl
 
-missing_words : state_words [] (standing_of []) ≡ codes " missing"
+missing_words : tile_words [] (standing_of []) ≡ codes " missing"
 missing_words = refl
 
 one_disputed : count_words 0 1 0 ≡ codes "settled 0 disputed 1 missing 0\n"

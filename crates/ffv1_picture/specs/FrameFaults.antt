@@ -1,7 +1,7 @@
 -- Why a payload is no frame: its first fault.
 use Rattle.std.specs.Prelude.{◌≡◌, ◌≢◌, ◌==◌, ℕ, ◌<◌, List, Ok, Err, length}
 use Rattle.ffv1_range.specs.Setup.{SetupValue}
-use Rattle.ffv1_slice.specs.Chain.{Piece}
+use Rattle.ffv1_slice.specs.Chain.{LinkValue}
 use Rattle.ffv1_slice.specs.Slices.{slice_read}
 use Rattle.ffv1_picture.specs.TilePictures.{IsUnreadable}
 use Rattle.ffv1_plane.specs.declared.tile.TileFault.{TileFault}
@@ -11,11 +11,11 @@ use Rattle.ffv1_picture.specs.declared.fault.FrameFault.{FrameFault}
 use Rattle.ffv1_picture.specs.declared.fault.FrameFault.TheVariants.{Chain, Slice, Order, Tile, Memory}
 
 -- the links before a place are in order
-abbrev pub AreInOrderBefore : SetupValue → List Piece → ℕ → Type 0
+abbrev pub AreInOrderBefore : SetupValue → List LinkValue → ℕ → Type 0
 AreInOrderBefore setup links place = (p : ℕ) → p < place → IsInOrder setup links p
 
 -- The first link that is no slice, or one of another tile.
-abbrev pub IsFirstDisorder : SetupValue → List Piece → FrameFault → Type 0
+abbrev pub IsFirstDisorder : SetupValue → List LinkValue → FrameFault → Type 0
 IsFirstDisorder setup links (Slice place cause) =
     (place < length links) × AreInOrderBefore setup links place
     × (slice_read setup (link_at links place).bytes ((link_at links place).start == 0) ≡ Err cause)
@@ -30,7 +30,7 @@ fault_of_tile tile tiles.Memory = Memory
 fault_of_tile tile cause = Tile tile cause
 
 -- The first tile whose slice spells no picture, or Memory.
-abbrev pub IsFirstUnreadable : SetupValue → List Piece → FrameFault → Type 0
+abbrev pub IsFirstUnreadable : SetupValue → List LinkValue → FrameFault → Type 0
 IsFirstUnreadable setup links (Tile tile cause) =
     (tile < length links) × ((t : ℕ) → t < tile → HasPicture setup links t) × IsUnreadable setup tile (content_at links tile) cause
 IsFirstUnreadable setup links Memory = Unit {0}

@@ -2,7 +2,7 @@
 use Rattle.std.specs.Prelude.{◌≡◌, ◌==◌, ℕ, ◌<◌, List, [], map, reverse, length, Option, Some, Ok, slice_index_or}
 use Rattle.ffv1_range.specs.Setup.{SetupValue}
 use Rattle.ffv1_range.specs.Tiles.{grid_of, tile_count}
-use Rattle.ffv1_slice.specs.Chain.{IsEnd, Piece}
+use Rattle.ffv1_slice.specs.Chain.{IsEnd, LinkValue}
 use Rattle.ffv1_slice.specs.Walk.{links_of}
 use Rattle.ffv1_slice.specs.Slices.{content_of, slice_read}
 use Rattle.ffv1_picture.specs.TilePictures.{SpellsPlanes}
@@ -31,18 +31,18 @@ pub record HasWholeChain (setup : SetupValue) (payload : List ℕ) : Type 0 wher
   pub count : length (links_of payload) ≡ tile_count (grid_of setup)
 
 -- the links of a payload, from its front
-abbrev pub links_from_front : List ℕ → List Piece
+abbrev pub links_from_front : List ℕ → List LinkValue
 links_from_front payload = reverse (links_of payload)
 
 -- no link
-abbrev pub no_piece : Piece
-no_piece = record { start = 0; bytes = [] }
+abbrev pub no_link : LinkValue
+no_link = record { start = 0; bytes = [] }
 
-abbrev pub link_at : List Piece → ℕ → Piece
-link_at links place = slice_index_or links place no_piece
+abbrev pub link_at : List LinkValue → ℕ → LinkValue
+link_at links place = slice_index_or links place no_link
 
 -- The link at the place is a slice, of the tile of that number. It is read as the payload's first where it begins at its start.
-abbrev pub IsInOrder : SetupValue → List Piece → ℕ → Type 0
+abbrev pub IsInOrder : SetupValue → List LinkValue → ℕ → Type 0
 IsInOrder setup links place = slice_read setup (link_at links place).bytes ((link_at links place).start == 0) ≡ Ok place
 
 -- A payload of one slice a tile, in tile order.
@@ -51,11 +51,11 @@ pub record IsOrdered (setup : SetupValue) (payload : List ℕ) : Type 0 where
   pub each : (place : ℕ) → place < tile_count (grid_of setup) → IsInOrder setup (links_from_front payload) place
 
 -- the content of the slice of a tile
-abbrev pub content_at : List Piece → ℕ → List ℕ
+abbrev pub content_at : List LinkValue → ℕ → List ℕ
 content_at links tile = content_of (link_at links tile).bytes
 
 -- The slice of the tile spells a picture.
-abbrev pub HasPicture : SetupValue → List Piece → ℕ → Type 0
+abbrev pub HasPicture : SetupValue → List LinkValue → ℕ → Type 0
 HasPicture setup links tile = (planes : Planes) × (spare : ℕ) × SpellsPlanes setup tile (content_at links tile) planes spare
 
 -- The payload spells these pictures: its slices are in tile order, and each spells that of its tile.
@@ -66,7 +66,7 @@ pub record SpellsPictures (setup : SetupValue) (payload : List ℕ) (pictures : 
       × SpellsPlanes setup tile (content_at (links_from_front payload) tile) (slice_index_or pictures tile []) spare
 
 -- The slices of the tiles below a number spell these pictures, and the frame is that of them.
-pub record IsDrawnOf (setup : SetupValue) (links : List Piece) (tiles : ℕ) (frame : Frame) : Type 0 where
+pub record IsDrawnOf (setup : SetupValue) (links : List LinkValue) (tiles : ℕ) (frame : Frame) : Type 0 where
   pub pictures : List Planes
   pub count : length pictures ≡ tiles
   pub each : (tile : ℕ) → tile < tiles → (spare : ℕ) × SpellsPlanes setup tile (content_at links tile) (slice_index_or pictures tile []) spare

@@ -6,7 +6,7 @@ use Rattle.ffv1_slice.specs.Slices.{IsOriginal}
 use Rattle.ffv1_pool.specs.Contents.{Contents, holding_of, digests_of}
 use Rattle.ffv1_pool.specs.Standing.{tile_state, restored_payload, AreSettled, IsLeastStatus}
 use Rattle.ffv1_pool.specs.Refusals.{IsRefusal}
-use Rattle.ffv1_pool.specs.Originals.{AreCopiesOf}
+use Rattle.ffv1_pool.specs.Originals.{AreCopiesOfSlices}
 use Rattle.ffv1_hold.specs.HoldingText.{holding_text}
 use Rattle.ffv1_hold.specs.Headline.{IsReelOf}
 use Rattle.ffv1_hold.specs.Plans.{copies_of, IsCarriedOut, IsPlanFault}
@@ -49,7 +49,7 @@ IsRestored h (Err refusal) = IsRefusal h refusal × (refusal ≢ refusals.Memory
 -- Every slice that is found in the plan's copies is the original's for its tile, and each tile's is found in some copy.
 pub record IsPlanFor (setup : SetupValue) (plan : Plan) (original : List ℕ) (slices : List (List ℕ)) : Type 0 where
   pub is_original : IsOriginal setup original slices
-  pub are_copies : AreCopiesOf setup slices (copies_of plan)
+  pub are_copies : AreCopiesOfSlices setup slices (copies_of plan)
 
 -- Each sample of the frame is the one that the greatest decoded tile covering it spells, by these slices of the tiles.
 pub record ShowsSlices (setup : SetupValue) (slices : List (List ℕ)) (frame : Frame) : Type 0 where

@@ -45,7 +45,7 @@ pub record ShowsTile (h : Contents) (tile : ℕ) (outcome : TileOutcome) (old ne
 pub record ShowsTiles (h : Contents) (tiles : ℕ) (outcomes : List TileOutcome) (frame : Frame) : Type 0 where
   pub pictures : List (Option Planes)
   pub count : length pictures ≡ tiles
-  pub told : length outcomes ≡ tiles
+  pub stated : length outcomes ≡ tiles
   pub each : (tile : ℕ) → tile < tiles → IsShown h.reel.setup tile (tile_state h tile) (slice_index_or outcomes tile Missing)
       (slice_index_or pictures tile None)
   pub is_frame : IsFrameOf h.reel.setup pictures frame

@@ -46,13 +46,13 @@ abbrev pub disputed_words : ℕ → ℕ → ℕ → List ℕ
 disputed_words slices status held = codes " disputed " ++ decimal slices ++ codes " status " ++ decimal status ++ codes " held " ++ decimal held
 
 -- how a tile stands, after its number
-abbrev pub state_words : List (List ℕ) → Standing → List ℕ
-state_words held missing = codes " missing"
-state_words held (settled slice) = settled_words slice (length held)
-state_words held (disputed slices) = disputed_words slices (least_status held) (length held)
+abbrev pub tile_words : List (List ℕ) → Standing → List ℕ
+tile_words held missing = codes " missing"
+tile_words held (settled slice) = settled_words slice (length held)
+tile_words held (disputed slices) = disputed_words slices (least_status held) (length held)
 
 abbrev pub tile_line : Contents → ℕ → List ℕ
-tile_line h tile = codes "tile " ++ decimal tile ++ state_words (slices_held h tile) (tile_state h tile) ++ codes "\n"
+tile_line h tile = codes "tile " ++ decimal tile ++ tile_words (slices_held h tile) (tile_state h tile) ++ codes "\n"
 
 -- a copy that a settled slice of a tile was found in, by its digest
 abbrev pub origin_line : ℕ → List ℕ → List ℕ

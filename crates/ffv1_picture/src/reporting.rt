@@ -5,7 +5,7 @@ ghost use Rattle.sha2.specs.Sha256.{sha256};
 ghost use Rattle.ffv1_pool.specs.Reels.{reel_tiles};
 ghost use Rattle.ffv1_pool.specs.Contents.{IsHolding};
 ghost use Rattle.ffv1_pool.specs.Standing.{status_of, tile_state, restored_payload};
-ghost use Rattle.ffv1_picture.specs.ReportText.{hex_byte, reel_line, slices_held, least_status, settled_numbers, settled_words, disputed_words, state_words, tile_line, origin_line, origin_lines, tile_lines, is_missing, is_settled, is_disputed, tiles_that, count_words, length_words, whole_words, frame_line, report_text};
+ghost use Rattle.ffv1_picture.specs.ReportText.{hex_byte, reel_line, slices_held, least_status, settled_numbers, settled_words, disputed_words, tile_words, tile_line, origin_line, origin_lines, tile_lines, is_missing, is_settled, is_disputed, tiles_that, count_words, length_words, whole_words, frame_line, report_text};
 
 use ffv1_hold::{Holding, TileState};
 use ffv1_slice::status_of;
@@ -100,7 +100,7 @@ fn push_origin(text: &mut String, tile: usize, digest: &[u8; 32]) -> Result<(), 
 /// Adds how a tile stands.
 fn push_state(text: &mut String, holding: &Holding, tile: usize) -> Result<(), AllocError>
     requires { tile < reel_tiles holding.now.reel }
-    ensures { OnOk result (string_bytes text.new ≡ string_bytes text.old ++ state_words (slices_held holding.now tile) (tile_state holding.now tile)) }
+    ensures { OnOk result (string_bytes text.new ≡ string_bytes text.old ++ tile_words (slices_held holding.now tile) (tile_state holding.now tile)) }
 {
     // Each slice that is held has its footer.
     let _setup = holding.setup();

@@ -174,10 +174,10 @@ module _ (earlier : ℕ → List ℤ) (w : ℕ) (c e d f : ℕ → ℤ) (some : 
       })
       (cases_Bool (starts_run (residuals w c d) n))
 
-  after_run : (n index then next last : ℕ) (piece words rest more : List Bool) → Alike w c e d f n → index ≡ then → piece ++ rest ≡ words ++ more
-      → (a : SampleSpells earlier (residuals w c d) n index piece next) → (b : SampleSpells earlier (residuals w e f) n then words last)
+  after_run : (n index then next last : ℕ) (portion words rest more : List Bool) → Alike w c e d f n → index ≡ then → portion ++ rest ≡ words ++ more
+      → (a : SampleSpells earlier (residuals w c d) n index portion next) → (b : SampleSpells earlier (residuals w e f) n then words last)
       → AfterRun n next last (a.code ++ rest) (b.code ++ more)
-  after_run n index then next last piece words rest more alike same joined a b =
+  after_run n index then next last portion words rest more alike same joined a b =
       let inner : a.run ++ (a.code ++ rest) ≡ b.run ++ (b.code ++ more) = sym (append_assoc a.run a.code rest)
       ∙ ap (λ l. l ++ rest) (sym a.joined) ∙ joined ∙ ap (λ l. l ++ more) b.joined ∙ append_assoc b.run b.code more in
       runs_alike n index then next last a.run b.run (a.code ++ rest) (b.code ++ more) alike same inner a.run_starts a.no_run_starts b.run_starts b.no_run_starts
@@ -194,11 +194,11 @@ module _ (earlier : ℕ → List ℤ) (w : ℕ) (c e d f : ℕ → ℤ) (some : 
       (cases_Bool (is_in_run (residuals w c d) n))
 
   -- one sample more
-  pub one_sample : (n index then next last : ℕ) (piece words rest more : List Bool) → Alike w c e d f n → index ≡ then → piece ++ rest ≡ words ++ more
-      → SampleSpells earlier (residuals w c d) n index piece next → SampleSpells earlier (residuals w e f) n then words last → (d n ≡ f n) × (next ≡ last)
+  pub one_sample : (n index then next last : ℕ) (portion words rest more : List Bool) → Alike w c e d f n → index ≡ then → portion ++ rest ≡ words ++ more
+      → SampleSpells earlier (residuals w c d) n index portion next → SampleSpells earlier (residuals w e f) n then words last → (d n ≡ f n) × (next ≡ last)
       × (rest ≡ more)
-  one_sample n index then next last piece words rest more alike same joined a b =
-      let after = after_run n index then next last piece words rest more alike same joined a b in
+  one_sample n index then next last portion words rest more alike same joined a b =
+      let after = after_run n index then next last portion words rest more alike same joined a b in
       let skipped : is_skipped (residuals w c d) n ≡ is_skipped (residuals w e f) n = skipped_alike n next last _ _ alike after in
       let runs : is_in_run (residuals w c d) n ≡ is_in_run (residuals w e f) n = in_run_alike w c e d f n (contexts_to n alike.differences) alike.differences in
       let here : c n ≡ e n = determined n alike.differences in

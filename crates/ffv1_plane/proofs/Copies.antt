@@ -9,7 +9,7 @@ use Rattle.std.specs.Prelude.{min}
 use Rattle.std.specs.Vec.{with_items}
 use borrow.Rule.Slice.PartMut.{put_mid}
 use Rattle.ffv1_plane.specs.Samples.{SamplesAbout, prediction_of, neighbours_at}
-use Rattle.ffv1_plane.specs.Rows.{IsLeftAsAbove, AreLines, samples_so_far, RowsRead}
+use Rattle.ffv1_plane.specs.Rows.{IsLeftAsAbove, AreNearLines, samples_so_far, RowsRead}
 use Rattle.ffv1_plane.specs.Progress.{AreSkipped}
 use Rattle.ffv1_plane.proofs.Halting.{prediction_byte}
 use Rattle.ffv1_plane.proofs.Reading.{none_skipped, skip_more}
@@ -21,7 +21,7 @@ top_predicted near same = omega (arith, same)
 
 -- The row has n copies more, `new` in place of `line`: they are skipped, and the one above is predicted after them too.
 pub record AreCopied (w x : ℕ) (rows line above far new : List ℕ) (n : ℕ) : Type 0 where
-  pub lines : AreLines w (x + n) rows new above far
+  pub lines : AreNearLines w (x + n) rows new above far
   pub skipped : (entry : ℕ → ℕ → ℤ) → AreSkipped w entry (samples_so_far x rows line) (samples_so_far (x + n) rows new) n
   pub same : get_or new (x + n + 1) 0 ≡ get_or above (x + n + 1) 0
 
@@ -31,7 +31,7 @@ cells_alike k n a b same = simp (length-take, length-drop) (ap (λ m. min k (m -
 
 -- ---- one copy after the other
 
-module _ (w x : ℕ) (rows line above far cells : List ℕ) (h : AreLines w x rows line above far) (inside : x + length cells ≤ w)
+module _ (w x : ℕ) (rows line above far cells : List ℕ) (h : AreNearLines w x rows line above far) (inside : x + length cells ≤ w)
     (are_above : (i : ℕ) → i < length cells → get_or cells i 0 ≡ get_or above (x + 2 + i) 0)
     (same : get_or line (x + 1) 0 ≡ get_or above (x + 1) 0) where
   -- the row with its first n copies
@@ -43,7 +43,7 @@ module _ (w x : ℕ) (rows line above far cells : List ℕ) (h : AreLines w x ro
       let here : x ≡ x + 0 = omega arith in
       let old = samples_so_far x rows line in
       subst (λ (l : List ℕ). AreCopied w x rows line above far l 0) (paste-zero line (x + 2) cells) (record {
-        lines = subst (λ (k : ℕ). AreLines w k rows line above far) here h;
+        lines = subst (λ (k : ℕ). AreNearLines w k rows line above far) here h;
         skipped = λ entry. subst (λ (k : ℕ). AreSkipped w entry old (samples_so_far k rows line) 0) here (none_skipped w entry old);
         same = ap (λ k. get_or line (k + 1) 0) (sym here) ∙ same ∙ ap (λ k. get_or above (k + 1) 0) here;
       })
@@ -71,7 +71,7 @@ module _ (w x : ℕ) (rows line above far cells : List ℕ) (h : AreLines w x ro
       let next : x + (n + 1) + 1 ≡ x + n + 2 = omega arith in
       let count : n + 1 ≡ suc n = omega arith in
       let one : AreCopied w x rows line above far new (n + 1) = record {
-        lines = subst (λ (k : ℕ). AreLines w k rows new above far) more
+        lines = subst (λ (k : ℕ). AreNearLines w k rows new above far) more
             (pushed w (x + n) rows (copied n) above far v lines room (omega (arith, predicted, byte)));
         skipped = λ entry. skip_more w entry old mid _ n v near some (so_far.skipped entry) refl predicted
             (ap (λ k. samples_so_far k rows new) (sym more) ∙ push_is w (x + n) rows (copied n) above far v lines room);
@@ -87,7 +87,7 @@ module _ (w x : ℕ) (rows line above far cells : List ℕ) (h : AreLines w x ro
 -- ---- all copies at once
 
 -- where the sample to the left is the one above it to the left
-run_copied : (w x n : ℕ) (rows line above far : List ℕ) → AreLines w x rows line above far → 1 ≤ n → x + n ≤ w
+run_copied : (w x n : ℕ) (rows line above far : List ℕ) → AreNearLines w x rows line above far → 1 ≤ n → x + n ≤ w
     → IsLeftAsAbove (record { width = w; x = x; samples = samples_so_far x rows line })
     → AreCopied w x rows line above far (paste line (x + 2) (take n (drop (x + 2) above)) n) n
 run_copied w x n rows line above far h some inside level =
@@ -104,7 +104,7 @@ run_copied w x n rows line above far h some inside level =
 abbrev pub with_cells : Vec ℕ Global → ℕ → ℕ → List ℕ → List ℕ → Vec ℕ Global
 with_cells line x n lent written = with_items line (put_mid (x + 2) (x + 2 + n - (x + 2)) lent written)
 
-pub row_copied : (w x n : ℕ) (rows far : List ℕ) (line : Vec ℕ Global) (above source lent written : List ℕ) → AreLines w x rows line.items above far
+pub row_copied : (w x n : ℕ) (rows far : List ℕ) (line : Vec ℕ Global) (above source lent written : List ℕ) → AreNearLines w x rows line.items above far
     → 1 ≤ n → x + n ≤ w → (seen : RowsRead) → record { width = w; x = x; samples = samples_so_far x rows line.items } ≡ seen → IsLeftAsAbove seen
     → lent ≡ line.items → source ≡ above → written ≡ take (x + 2 + n - (x + 2)) (drop (x + 2) source)
     → AreCopied w x rows line.items above far (with_cells line x n lent written).items n

@@ -10,7 +10,7 @@ use Rattle.ffv1_rice.specs.Runs.{SpellsRun, whole}
 use Rattle.ffv1_rice.specs.declared.code.CodeFault.{CodeFault}
 use Rattle.ffv1_plane.specs.Spelling.{Residuals, residuals_of, left_in_line, run_length, SamplesSpell, PlaneSpells}
 use Rattle.ffv1_plane.specs.Picture.{ArePlanesOf, tile_plane, samples_of, plane_groups, GroupsSpell, PictureSpells}
-use Rattle.ffv1_plane.specs.Stuck.{SpellsFront, no_word, one_word, IsRunWordDue, IsCodeDue, IsWordRefused, values_before, PlanesBelow, scan_place, AreBitsStuck}
+use Rattle.ffv1_plane.specs.Stuck.{SpellsFront, no_word, one_word, IsRunWordDue, IsCodeDue, IsWordRefused, values_before_plane, PlanesBelow, scan_place, AreBitsStuck}
 use Rattle.ffv1_plane.proofs.Totals.{run_of, length_low, past_run, spells_on, plane_bits, differ}
 
 -- ---- planes below a number, and whole pictures
@@ -33,13 +33,13 @@ module _ (setup : SetupValue) (head : SliceHead) (planes : List (List ℕ)) wher
       ))
       (λ other.
       let before = below_on count n front (omega arith) h in
-      let plane = plane_bits (values_before setup head planes count) (tile_plane setup head planes count) in
+      let plane = plane_bits (values_before_plane setup head planes count) (tile_plane setup head planes count) in
       (before.0 ++ plane.0, (front ++ before.0, plane.0, sym (append_assoc front before.0 plane.0), before.1, plane.1)))
       (cases_eq n (suc count))
 
   -- one plane more
   pub below_more : (n : ℕ) (front back : List Bool) → PlanesBelow setup head planes n front
-      → PlaneSpells (values_before setup head planes n) (tile_plane setup head planes n) back → PlanesBelow setup head planes (suc n) (front ++ back)
+      → PlaneSpells (values_before_plane setup head planes n) (tile_plane setup head planes n) back → PlanesBelow setup head planes (suc n) (front ++ back)
   unfolding PlanesBelow
   below_more n front back h k = (front, back, refl, h, k)
 
@@ -49,7 +49,7 @@ module _ (setup : SetupValue) (head : SliceHead) (planes : List (List ℕ)) wher
     pub back : List Bool
     pub tail : List Bool
     pub below : PlanesBelow setup head planes n front
-    pub plane : PlaneSpells (values_before setup head planes n) (tile_plane setup head planes n) back
+    pub plane : PlaneSpells (values_before_plane setup head planes n) (tile_plane setup head planes n) back
     pub joined : words ≡ front ++ (back ++ tail)
 
   pub below_front : (count n : ℕ) (words : List Bool) → n < count → PlanesBelow setup head planes count words → BelowAnd n words
@@ -59,7 +59,7 @@ module _ (setup : SetupValue) (head : SliceHead) (planes : List (List ℕ)) wher
       (λ same.
       let n_is : count ≡ n = omega arith in
       let P : ℕ → Type 0 = λ k. PlanesBelow setup head planes k front in
-      let Q : ℕ → Type 0 = λ k. PlaneSpells (values_before setup head planes k) (tile_plane setup head planes k) back in
+      let Q : ℕ → Type 0 = λ k. PlaneSpells (values_before_plane setup head planes k) (tile_plane setup head planes k) back in
       record {
         front = front;
         back = back;
@@ -193,11 +193,11 @@ module _ (earlier : ℕ → List ℤ) (r : Residuals) (s count : ℕ) (part : Li
       let Q : ℕ → Type 0 = λ k. SpellsRun n k due.begun (due.words ++ later.0) later.1 in
       let spelled : SpellsRun n left due.begun (due.words ++ later.0) later.1 = subst Q left_is (subst P n_is whole_run) in
       let all = past_run earlier r due.start due.begun later.1 (due.words ++ later.0) (λ h. spelled) (λ h. absurd (differ due.starts h)) in
-      let piece : List Bool = (due.words ++ later.0) ++ all.0 in
-      let read : SamplesSpell earlier r (suc due.start) (due.before ++ piece) later.1 = (due.before, piece, due.begun, refl, due.spells, all.1) in
-      let on = spells_on earlier r count (suc due.start) (due.before ++ piece) later.1 (omega (arith, due.place)) read in
+      let portion : List Bool = (due.words ++ later.0) ++ all.0 in
+      let read : SamplesSpell earlier r (suc due.start) (due.before ++ portion) later.1 = (due.before, portion, due.begun, refl, due.spells, all.1) in
+      let on = spells_on earlier r count (suc due.start) (due.before ++ portion) later.1 (omega (arith, due.place)) read in
       record {
-        bits = (due.before ++ piece) ++ on.0;
+        bits = (due.before ++ portion) ++ on.0;
         tail = later.0 ++ (all.0 ++ on.0);
         last = on.1;
         joined =
@@ -234,7 +234,7 @@ stuck_on setup head planes bits fault plane y x front sizes stuck =
     let size = (sizes.sizes plane stuck.place.plane_there).count in
     let inside : scan_place setup head.tile plane y x < length (samples_of planes plane) =
     (let p = place_below rect.w rect.h y x stuck.place.row_there stuck.place.column_there in omega (arith, p, size)) in
-    let on = refused_on (values_before setup head planes plane) (residuals_of (tile_plane setup head planes plane)) (scan_place setup head.tile plane y x)
+    let on = refused_on (values_before_plane setup head planes plane) (residuals_of (tile_plane setup head planes plane)) (scan_place setup head.tile plane y x)
     (length (samples_of planes plane)) stuck.part inside stuck.others fault stuck.refused in
     let more = below_more setup head planes plane stuck.whole on.bits stuck.below (on.last, on.spells) in
     let all = below_on setup head planes (plane_count (grid_of setup)) (suc plane) (stuck.whole ++ on.bits) (let there = stuck.place.plane_there in

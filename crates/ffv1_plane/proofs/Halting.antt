@@ -99,9 +99,9 @@ module _ (width : ℕ) (entry : ℕ → ℕ → ℤ) (some : 1 ≤ width) (old :
       let number : context_number r s ≡ next_context width entry old = ap nat_abs (context_there ∙ ap (context_of entry) near_is) in
       let state : get_or states (next_context width entry old) start_state ≡ state_before earlier r (context_number r s) s =
       so_far.states_are more (next_context width entry old) halts.below ∙ ap (λ k. state_before earlier r k s) (sym number) in
-      let told : IsCodeFault (state_before earlier r (context_number r s) s) (is_in_run r s) left fault =
+      let given : IsCodeFault (state_before earlier r (context_number r s) s) (is_in_run r s) left fault =
       subst (λ (l : Bool). IsCodeFault (state_before earlier r (context_number r s) s) l left fault) (sym outside)
-      (subst (λ (z : ContextState). IsCodeFault z false left fault) state halts.told) in
+      (subst (λ (z : ContextState). IsCodeFault z false left fault) state halts.given) in
       let here : IsHalted earlier r bits fault s =
       record {
         part = p.front;
@@ -119,7 +119,7 @@ module _ (width : ℕ) (entry : ℕ → ℕ → ℤ) (some : 1 ≤ width) (old :
             no_run_starts = λ no. (refl, refl);
             joined = sym (append-nil p.front);
           },
-          told,
+          given,
         );
       } in
       subst (λ (k : ℕ). IsHalted earlier r bits fault k) (sym halts.place) here
@@ -219,9 +219,9 @@ module _ (width : ℕ) (entry : ℕ → ℕ → ℤ) (some : 1 ≤ width) (old :
         subst P lists (so_far.states_are (skips.samples ++ more) (next_context width entry mid) halts.below)
         ∙ sym (skipped_states earlier q s (next_context width entry mid) n skipped)
         ∙ ap (λ k. state_before earlier q k (s + n)) (sym number) in
-        let told : IsCodeFault (state_before earlier q (context_number q (s + n)) (s + n)) (is_in_run q (s + n)) tail fault =
+        let given : IsCodeFault (state_before earlier q (context_number q (s + n)) (s + n)) (is_in_run q (s + n)) tail fault =
         subst (λ (l : Bool). IsCodeFault (state_before earlier q (context_number q (s + n)) (s + n)) l tail fault) (sym in_it)
-        (subst (λ (z : ContextState). IsCodeFault z true tail fault) state halts.told) in
+        (subst (λ (z : ContextState). IsCodeFault z true tail fault) state halts.given) in
         let starts = starts_here earlier q some s n zero_there before.fresh fits (skips.zero_differences more) in
         let due : IsCodeDue earlier q (s + n) (before.front ++ run) = ⊎_elim
         (λ none.
@@ -263,7 +263,7 @@ module _ (width : ℕ) (entry : ℕ → ℕ → ℤ) (some : 1 ≤ width) (old :
           part = before.front ++ run;
           others = tail;
           begins = before.begins ∙ ap (λ l. before.front ++ l) begins ∙ sym (append_assoc before.front run tail);
-          refused = inr (due, told);
+          refused = inr (due, given);
         } in
         let place : s + n ≡ sample = sym longer ∙ sym halts.place in
         subst (λ (k : ℕ). IsHalted earlier q bits fault k) place here

@@ -14,7 +14,7 @@ use Rattle.ffv1_rice.specs.declared.code.CodeFault.{CodeFault}
 use Rattle.ffv1_plane.specs.Samples.{plane_of, context_at, difference_at}
 use Rattle.ffv1_plane.specs.Spelling.{residuals_of, PlaneSpells, values_after}
 use Rattle.ffv1_plane.specs.Picture.{PictureValue, ArePlanesOf, samples_of, plane_set, shaped_plane, tile_plane, no_values, IsPictureOf}
-use Rattle.ffv1_plane.specs.Stuck.{IsWordRefused, values_before, PlanesBelow, scan_place, AreBitsStuck, IsStuckAt}
+use Rattle.ffv1_plane.specs.Stuck.{IsWordRefused, values_before_plane, PlanesBelow, scan_place, AreBitsStuck, IsStuckAt}
 use Rattle.ffv1_plane.specs.StuckLaws.{StuckSpellsNothing, IsOnePlace, StuckIsOne, IsRefusedFor, OneAnswer}
 use Rattle.ffv1_plane.specs.declared.tile.TileFault.{TileFault}
 use Rattle.ffv1_plane.specs.declared.tile.TileFault.TheVariants.{Head, OtherTile, Code, Memory}
@@ -28,7 +28,7 @@ two_above n is = grind arith
 
 module _ (setup : SetupValue) (head : SliceHead) (profile : IsInProfile setup) (inside : head.tile < tile_count (grid_of setup)) where
   values_same : (planes others : List (List ℕ)) (n : ℕ) → ((i : ℕ) → i < n → samples_of planes i ≡ samples_of others i)
-      → values_before setup head planes n ≡ values_before setup head others n
+      → values_before_plane setup head planes n ≡ values_before_plane setup head others n
   values_same planes others n same = either (n == 2) refl
     where
       either : (b : Bool) → (n == 2) ≡ b → cond b (values_after no_values (tile_plane setup head planes 1)) no_values ≡ cond b
@@ -50,7 +50,7 @@ module _ (setup : SetupValue) (head : SliceHead) (profile : IsInProfile setup) (
       let before = below_one n planes others f g (bk ++ rest) (ck ++ tail) (omega arith) a b below below_too joined in
       let values = values_same planes others n before.0 in
       let P : (ℕ → List ℤ) → Type 0 = λ v. PlaneSpells v (tile_plane setup head others n) ck in
-      let one = same_plane (plane_rect (grid_of setup) head.tile n) (set_entry setup (plane_set head n)) (values_before setup head planes n)
+      let one = same_plane (plane_rect (grid_of setup) head.tile n) (set_entry setup (plane_set head n)) (values_before_plane setup head planes n)
       (samples_of planes n) (samples_of others n) bk ck rest tail (some_columns setup head profile inside n)
       (a.sizes n (omega arith)) (b.sizes n (omega arith)) plane (subst P (sym values) plane_too) before.1 in (
         λ i less. ⊎_elim (λ lower. before.0 i lower) (λ most. let i_is : n ≡ i = omega arith in
@@ -116,7 +116,7 @@ module _ (setup : SetupValue) (head : SliceHead) (profile : IsInProfile setup) (
       let P : (ℕ → List ℤ) → Type 0 = λ v. PlaneSpells v (tile_plane setup head others plane) p.back in
       let size = (b.sizes plane there).count in
       let less = place_below rect.w rect.h y x stuck.place.row_there stuck.place.column_there in
-      plane_excludes plane planes others (values_before setup head planes plane) (scan_place setup head.tile plane y x) stuck.part stuck.others p.back
+      plane_excludes plane planes others (values_before_plane setup head planes plane) (scan_place setup head.tile plane y x) stuck.part stuck.others p.back
       (p.tail ++ spare) fault there a b (omega (arith, size, less)) stuck.refused
       (subst P (sym (values_same planes others plane one.0)) p.plane) one.1
 
@@ -135,7 +135,7 @@ module _ (setup : SetupValue) (head : SliceHead) (profile : IsInProfile setup) (
       (omega arith) a b stuck.below stuck_too.below joined in
       let P : (ℕ → List ℤ) → Type 0 = λ e. IsWordRefused e (residuals_of (tile_plane setup head others plane))
       (scan_place setup head.tile plane v u) stuck_too.part stuck_too.others other in
-      let word = plane_one plane planes others (values_before setup head planes plane) (scan_place setup head.tile plane y x)
+      let word = plane_one plane planes others (values_before_plane setup head planes plane) (scan_place setup head.tile plane y x)
       (scan_place setup head.tile plane v u) stuck.part stuck.others stuck_too.part stuck_too.others fault other there a b
       stuck.refused (subst P (sym (values_same planes others plane one.0)) stuck_too.refused) one.1 in (
         word.fault_same,
@@ -203,7 +203,7 @@ stuck_is_one setup tile content fault other plane level y v x u profile inside s
 -- a content with a header has no fault of the header, and no other header
 no_head_fault : (setup : SetupValue) (tile : ℕ) (content : List ℕ) (fault : HeadFault) (head : SliceHead) (place : ℕ)
     → head_read (header_limits setup) content (tile == 0) ≡ Err fault → IsHeadOf (header_limits setup) content (tile == 0) head place → ⊥
-no_head_fault setup tile content fault head place told is = let read = head_run (header_limits setup) content (tile == 0) head place is in cc
+no_head_fault setup tile content fault head place given is = let read = head_run (header_limits setup) content (tile == 0) head place is in cc
 
 no_other_tile : (setup : SetupValue) (tile : ℕ) (content : List ℕ) (head other : SliceHead) (place at : ℕ)
     → IsHeadOf (header_limits setup) content (tile == 0) head place → head.tile ≢ tile → IsHeadOf (header_limits setup) content (tile == 0) other at

@@ -33,7 +33,7 @@ pub sample_read : (width : ℕ) (entry : ℕ → ℕ → ℤ) (level : Bool) (ol
     → after ≡ set states (nat_abs context) (after_value (get_or states (nat_abs context) start_state) (decoded_value level difference))
     → IsSampleRead width entry level old states bits.left new after rest.left
 unfolding residuals_of
-sample_read width entry level old new states after bits rest near context difference x some near_is context_is difference_is pushed told below coded stepped =
+sample_read width entry level old new states after bits rest near context difference x some near_is context_is difference_is pushed given below coded stepped =
     let around = λ (more : List ℕ). neighbours_same width (length old) some ((old ++ x ∷ []) ++ more) old (same_before old more x) ∙ sym near_is in
     record {
       sample = x;
@@ -48,7 +48,7 @@ sample_read width entry level old new states after bits rest near context differ
           ∙ ap (λ z. difference_of (context_of entry z) (prediction_of z) (get_or ((old ++ x ∷ []) ++ more) (length old) 0)) (around more)
           ∙ ap (λ y. difference_of (context_of entry near) (prediction_of near) y) (this_one old more x)
           ∙ ap (λ z. difference_of z (prediction_of near) x) (sym context_is) ∙ difference_is;
-      told = told;
+      given = given;
       below = below;
       code = coded.code;
       spells = coded.spells;
@@ -194,7 +194,7 @@ module _ (earlier : ℕ → List ℤ) (width : ℕ) (entry : ℕ → ℕ → ℤ
     level_new more =
         let r = residuals_of (plane_of width entry (new ++ more)) in
         let here : r.difference (length old + n) ≡ read.difference = ap r.difference (sym longer_mid) ∙ read.is_difference more in
-        ap is_zero here ∙ nonzero_is read.difference (read.told.1 refl)
+        ap is_zero here ∙ nonzero_is read.difference (read.given.1 refl)
 
     progress_new : (more : List ℕ) → Progress earlier (residuals_of (plane_of width entry (new ++ more))) (length old) bits index left
     progress_new more = let P : List ℕ → Type 0 = λ l. Progress earlier (residuals_of (plane_of width entry l)) (length old) bits index left in
@@ -332,18 +332,18 @@ skip_on width entry old mid new n m first second =
 
 -- the same, as the code has it: the number i of the context, the state z that stood there, numbers that were passed
 pub sample_read_at : (width : ℕ) (entry : ℕ → ℕ → ℤ) (level : Bool) (old new : List ℕ) (states : List ContextState) (bits rest : Reading)
-    (near : SamplesAbout) (context passed difference told : ℤ) (x i p : ℕ) (z stepped : ContextState) → 1 ≤ width
-    → near ≡ neighbours_at width old (length old) → context ≡ context_of entry near → p ≡ prediction_of near → passed ≡ context → told ≡ difference
-    → difference_of passed p x ≡ told → new ≡ old ++ x ∷ [] → IsCodedDifference level difference → i ≡ nat_abs context → i < length states
+    (near : SamplesAbout) (context passed difference given : ℤ) (x i p : ℕ) (z stepped : ContextState) → 1 ≤ width
+    → near ≡ neighbours_at width old (length old) → context ≡ context_of entry near → p ≡ prediction_of near → passed ≡ context → given ≡ difference
+    → difference_of passed p x ≡ given → new ≡ old ++ x ∷ [] → IsCodedDifference level difference → i ≡ nat_abs context → i < length states
     → z ≡ get_or states i z → IsCoded z level difference bits rest
     → stepped ≡ after_value z (decoded_value level difference) → IsSampleRead width entry level old states bits.left new (set states i stepped) rest.left
-sample_read_at width entry level old new states bits rest near context passed difference told x i p z stepped some near_is context_is p_is passed_is told_is
+sample_read_at width entry level old new states bits rest near context passed difference given x i p z stepped some near_is context_is p_is passed_is given_is
     difference_is pushed range i_is below z_is coded stepped_is =
     let z_there : z ≡ get_or states (nat_abs context) start_state = get_or_read states i z below z_is start_state
     ∙ ap (λ k. get_or states k start_state) i_is in
     let P : ContextState → Type 0 = λ s. IsCoded s level difference bits rest in
     sample_read width entry level old new states (set states i stepped) bits rest near context difference x some near_is context_is
-    (ap (λ c. difference_of c (prediction_of near) x) (sym passed_is) ∙ ap (λ q. difference_of passed q x) (sym p_is) ∙ difference_is ∙ told_is)
+    (ap (λ c. difference_of c (prediction_of near) x) (sym passed_is) ∙ ap (λ q. difference_of passed q x) (sym p_is) ∙ difference_is ∙ given_is)
     pushed range (omega (arith, below, i_is)) (subst P z_there coded)
     (ap (λ k. set states k stepped) i_is ∙ ap (set states (nat_abs context)) (stepped_is ∙ ap (λ s. after_value s (decoded_value level difference)) z_there))
 
@@ -372,20 +372,20 @@ pub scalar_read_at : (earlier : ℕ → List ℤ) (width : ℕ) (entry : ℕ →
     → (bits : List Bool) → IsReadTo earlier width entry bits old index states left → IsReadTo earlier width entry bits new index after rest
 scalar_read_at earlier width entry old new index states after left rest near context some near_is context_is not_zero read bits so_far =
     let lists : new ++ [] ≡ old ++ (read.sample ∷ []) = append-nil new ∙ read.pushed in
-    let told : nat_abs context ≡ read.context =
+    let given : nat_abs context ≡ read.context =
     ap nat_abs (context_is ∙ sym (context_here width entry old (read.sample ∷ []) near some near_is))
     ∙ ap (λ l. context_number (residuals_of (plane_of width entry l)) (length old)) (sym lists) ∙ read.is_context [] in
     let large : 0 < nat_abs context = some_abs context not_zero in
-    scalar_read earlier width entry bits left rest old new index states after so_far read (omega (arith, told, large))
+    scalar_read earlier width entry bits left rest old new index states after so_far read (omega (arith, given, large))
 
 -- where the code can't be read under the state that stood there
 pub code_halted_at : (width : ℕ) (entry : ℕ → ℕ → ℤ) (level : Bool) (samples : List ℕ) (states : List ContextState) (bits : List Bool) (near : SamplesAbout)
     (context : ℤ) (i sample : ℕ) (z : ContextState) (fault : CodeFault)
     → near ≡ neighbours_at width samples (length samples) → context ≡ context_of entry near → i ≡ nat_abs context → i < length states → z ≡ get_or states i z
     → IsCodeFault z level bits fault → sample ≡ length samples → IsCodeHalted width entry level samples states bits fault sample
-code_halted_at width entry level samples states bits near context i sample z fault near_is context_is i_is below z_is told place =
+code_halted_at width entry level samples states bits near context i sample z fault near_is context_is i_is below z_is given place =
     let number : i ≡ next_context width entry samples = i_is ∙ ap nat_abs (context_is ∙ ap (context_of entry) near_is) in
     let z_there : z ≡ get_or states (next_context width entry samples) start_state = get_or_read states i z below z_is start_state
     ∙ ap (λ k. get_or states k start_state) number in
     let P : ContextState → Type 0 = λ s. IsCodeFault s level bits fault in
-    record { place = place; below = omega (arith, number, below); told = subst P z_there told }
+    record { place = place; below = omega (arith, number, below); given = subst P z_there given }

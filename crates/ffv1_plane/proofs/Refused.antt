@@ -3,12 +3,12 @@ use Rattle.std.proofs.Common.{◌≡◌, ℕ, suc, ◌+◌, ◌-◌, ◌<◌, Bo
 use Rattle.std.proofs.lemmas.Bool.{cases_lt, not-true}
 use Rattle.ffv1_rice.specs.States.{IsDifference}
 use Rattle.ffv1_rice.specs.Codes.{SpellsValue, IsCodeFault}
-use Rattle.ffv1_rice.specs.Runs.{SpellsRun, whole_length, IsCutWord}
+use Rattle.ffv1_rice.specs.Runs.{SpellsRun, whole_length, IsShortWord}
 use Rattle.ffv1_rice.specs.declared.code.CodeFault.{CodeFault}
 use Rattle.ffv1_rice.proofs.Faults.{no_code_at_fault, one_fault}
 use Rattle.ffv1_rice.proofs.OneRun.{no_run_when_cut}
 use Rattle.ffv1_plane.specs.Spelling.{Residuals, is_in_run, is_skipped, is_coded, follows_skipped, starts_run, left_in_line, run_length, value_at, context_number, state_before, SamplesSpell}
-use Rattle.ffv1_plane.specs.Stuck.{SpellsFront, no_word, one_word, IsCodeDue, IsRunWordCut, IsCodeRefused, IsWordRefused}
+use Rattle.ffv1_plane.specs.Stuck.{SpellsFront, no_word, one_word, IsCodeDue, IsRunWordShort, IsCodeRefused, IsWordRefused}
 use Rattle.ffv1_plane.proofs.Alike.{residuals, Alike, in_run_alike, follows_alike, contexts_to, states_alike, runs_alike, skipped_alike, one_reading, nonzero_of, not_both}
 use Rattle.ffv1_plane.proofs.Prefixes.{prefix_spells}
 use Rattle.ffv1_plane.proofs.Runs.{after_whole}
@@ -17,23 +17,23 @@ use Rattle.ffv1_plane.proofs.Runs.{after_whole}
 
 -- first words with a cut word after them begin no run
 front_no_run : {skipped i next : ℕ} {words : List Bool} (n left last : ℕ) (others run tail : List Bool) → SpellsFront skipped i words next → skipped < left
-    → IsCutWord next others → SpellsRun n left i run last → words ++ others ≡ run ++ tail → ⊥
+    → IsShortWord next others → SpellsRun n left i run last → words ++ others ≡ run ++ tail → ⊥
 front_no_run {i = i} {next = next} n left last others run tail (no_word a b c) inside cut spells same =
-    let P : ℕ → Type 0 = λ k. IsCutWord k others in
+    let P : ℕ → Type 0 = λ k. IsShortWord k others in
     no_run_when_cut.no_run n left i last others run tail (omega (arith, inside)) (subst P c cut) spells (ap (λ l. l ++ others) (sym b) ∙ same)
 front_no_run {i = i} n left last others run tail (one_word m more a b c) inside cut spells same =
     let joined : run ++ tail ≡ true ∷ (more ++ others) = sym same ∙ ap (λ l. l ++ others) b in
     let later = after_whole left i n last (whole_length i) run tail (more ++ others) spells refl (omega (arith, a, inside)) joined in
     front_no_run later.0 (left - whole_length i) last others later.1 tail c (omega (arith, a, inside)) cut later.2 later.3
 
-no_cut_one : (i : ℕ) (bits others : List Bool) → bits ≡ true ∷ others → IsCutWord i bits → ⊥
+no_cut_one : (i : ℕ) (bits others : List Bool) → bits ≡ true ∷ others → IsShortWord i bits → ⊥
 no_cut_one i [] others is cut = cc
 no_cut_one i (true ∷ bits) others is cut = cut
 no_cut_one i (false ∷ bits) others is cut = cc
 
 -- bits with a cut word after first words begin with them alone
 front_one : {skipped also i next last : ℕ} {words more : List Bool} (others tail : List Bool) → SpellsFront skipped i words next
-    → SpellsFront also i more last → IsCutWord next others → IsCutWord last tail → words ++ others ≡ more ++ tail → skipped ≡ also
+    → SpellsFront also i more last → IsShortWord next others → IsShortWord last tail → words ++ others ≡ more ++ tail → skipped ≡ also
 front_one others tail (no_word a b c) (no_word p q r) cut cut_too same = a ∙ sym p
 front_one others tail (no_word a b c) (one_word m rest p q r) cut cut_too same =
     absurd (no_cut_one _ others (rest ++ tail) (ap (λ l. l ++ others) (sym b) ∙ same ∙ ap (λ l. l ++ tail) q) cut)
@@ -73,24 +73,24 @@ unfolding SamplesSpell
 past_code earlier r s count last bits front tail inside spells same =
     let p = prefix_spells earlier r (suc s) count front last (omega arith) spells in
     let h = p.4 in
-    let piece = h.5 in
+    let portion = h.5 in
     record {
       past = record {
         before = h.0;
         index = h.2;
         spells = h.4;
-        run = piece.run;
+        run = portion.run;
         next = p.2;
-        run_starts = piece.run_starts;
-        no_run_starts = piece.no_run_starts;
-        later = piece.code ++ (p.1 ++ tail);
+        run_starts = portion.run_starts;
+        no_run_starts = portion.no_run_starts;
+        later = portion.code ++ (p.1 ++ tail);
         joined =
             same ∙ ap (λ l. l ++ tail) p.3 ∙ append_assoc p.0 p.1 tail ∙ ap (λ l. l ++ (p.1 ++ tail)) h.3 ∙ append_assoc h.0 h.1 (p.1 ++ tail)
-            ∙ ap (λ l. h.0 ++ (l ++ (p.1 ++ tail))) piece.joined ∙ ap (λ l. h.0 ++ l) (append_assoc piece.run piece.code (p.1 ++ tail));
+            ∙ ap (λ l. h.0 ++ (l ++ (p.1 ++ tail))) portion.joined ∙ ap (λ l. h.0 ++ l) (append_assoc portion.run portion.code (p.1 ++ tail));
       };
-      code = piece.code;
+      code = portion.code;
       tail = p.1 ++ tail;
-      coded = piece.coded;
+      coded = portion.coded;
       joined = refl;
     }
 
@@ -168,7 +168,7 @@ module _ (earlier : ℕ → List ℤ) (w : ℕ) (c e d f : ℕ → ℤ) (some : 
       b.1
 
   -- a cut word of a run excludes a spelling that is past that run
-  pub run_excludes : (s : ℕ) (part others bits : List Bool) → (cut : IsRunWordCut earlier (residuals w c d) s part others) → bits ≡ part ++ others
+  pub run_excludes : (s : ℕ) (part others bits : List Bool) → (cut : IsRunWordShort earlier (residuals w c d) s part others) → bits ≡ part ++ others
       → IsPastRun earlier (residuals w e f) cut.1.start bits → ⊥
   run_excludes s part others bits cut begins past =
       let due = cut.1 in
@@ -188,8 +188,8 @@ module _ (earlier : ℕ → List ℤ) (w : ℕ) (c e d f : ℕ → ℤ) (some : 
       due.in_line cut.2 (subst P (sym read.1) spelled) read.2
 
   -- two cut words of a run that starts at one sample are one
-  pub run_one : (s t : ℕ) (part others more tail : List Bool) → (a : IsRunWordCut earlier (residuals w c d) s part others)
-      → (b : IsRunWordCut earlier (residuals w e f) t more tail) → a.1.start ≡ b.1.start → part ++ others ≡ more ++ tail → s ≡ t
+  pub run_one : (s t : ℕ) (part others more tail : List Bool) → (a : IsRunWordShort earlier (residuals w c d) s part others)
+      → (b : IsRunWordShort earlier (residuals w e f) t more tail) → a.1.start ≡ b.1.start → part ++ others ≡ more ++ tail → s ≡ t
   run_one s t part others more tail a b start same =
       let p = a.1 in
       let q = b.1 in
@@ -230,7 +230,7 @@ module _ (earlier : ℕ → List ℤ) (w : ℕ) (c e d f : ℕ → ℤ) (some : 
   back n alike = sym (determined n (λ j h. sym (alike j h)))
 
   -- a cut word of a run and a refused code are not in one content
-  pub run_or_code : (s t : ℕ) (part others more tail : List Bool) (other : CodeFault) → IsRunWordCut earlier (residuals w c d) s part others
+  pub run_or_code : (s t : ℕ) (part others more tail : List Bool) (other : CodeFault) → IsRunWordShort earlier (residuals w c d) s part others
       → IsCodeRefused earlier (residuals w e f) t more tail other → part ++ others ≡ more ++ tail → ⊥
   run_or_code s t part others more tail other cut code same =
       let due = cut.1 in
@@ -256,8 +256,8 @@ module _ (earlier : ℕ → List ℤ) (w : ℕ) (c e d f : ℕ → ℤ) (some : 
   turned : (n : ℕ) → ((j : ℕ) → j < n → f j ≡ d j) → e n ≡ c n
   turned n alike = sym (determined n (λ j h. sym (alike j h)))
 
-  run_run : (s t : ℕ) (part others more tail : List Bool) → (a : IsRunWordCut earlier (residuals w c d) s part others)
-      → (b : IsRunWordCut earlier (residuals w e f) t more tail) → part ++ others ≡ more ++ tail → s ≡ t
+  run_run : (s t : ℕ) (part others more tail : List Bool) → (a : IsRunWordShort earlier (residuals w c d) s part others)
+      → (b : IsRunWordShort earlier (residuals w e f) t more tail) → part ++ others ≡ more ++ tail → s ≡ t
   run_run s t part others more tail a b same =
       let p = a.1 in
       let q = b.1 in

@@ -6,7 +6,7 @@ use Rattle.std.proofs.lemmas.Nat.{div-add-mod', div-mul-add, mod-mul-add}
 use Rattle.std.proofs.lemmas.List.{get_or_append_left, get_or-take, get_or-drop, length-take-le, length-drop, length-set, append-nil, drop-set-add, take_more_set, length-replicate}
 use Rattle.ffv1_bits.specs.Limits.{greatest_side}
 use Rattle.ffv1_plane.specs.Samples.{sample_inside, sample_at, neighbours_at}
-use Rattle.ffv1_plane.specs.Rows.{AreCellsOf, AreLines, samples_so_far}
+use Rattle.ffv1_plane.specs.Rows.{AreCellsOf, AreNearLines, samples_so_far}
 use Rattle.ffv1_plane.proofs.Causal.{at_same}
 use Rattle.ffv1_plane.proofs.Halting.{bytes_push}
 use Rattle.ffv1_plane.proofs.Wholes.{get_or-zeros}
@@ -16,13 +16,13 @@ use Rattle.ffv1_plane.proofs.Wholes.{get_or-zeros}
 part_long : (w x : ℕ) (line : List ℕ) → length line ≡ w + 3 → x ≤ w → length (take x (drop 2 line)) ≡ x
 part_long w x line long within = length-take-le x (drop 2 line) (omega (arith, length-drop 2 line))
 
-pub count_is : (w x : ℕ) (rows line above far : List ℕ) → AreLines w x rows line above far → length (samples_so_far x rows line) ≡ length rows + x
+pub count_is : (w x : ℕ) (rows line above far : List ℕ) → AreNearLines w x rows line above far → length (samples_so_far x rows line) ≡ length rows + x
 count_is w x rows line above far h = omega (arith, length-append rows (take x (drop 2 line)), part_long w x line h.line_long h.within)
 
 rows_are : (w n : ℕ) → n % w ≡ 0 → n ≡ n / w * w
 rows_are w n whole = omega (arith, div-add-mod' n w)
 
-module _ (w x : ℕ) (rows line above far : List ℕ) (h : AreLines w x rows line above far) where
+module _ (w x : ℕ) (rows line above far : List ℕ) (h : AreNearLines w x rows line above far) where
   pub column_is : x < w → length (samples_so_far x rows line) % w ≡ x
   column_is less =
       let e : length (samples_so_far x rows line) ≡ length rows / w * w + x = count_is w x rows line above far h
@@ -96,7 +96,7 @@ module _ (w x : ℕ) (rows line above far : List ℕ) (h : AreLines w x rows lin
 
 -- ---- one sample further
 
-pub push_is : (w x : ℕ) (rows line above far : List ℕ) (v : ℕ) → AreLines w x rows line above far → x < w
+pub push_is : (w x : ℕ) (rows line above far : List ℕ) (v : ℕ) → AreNearLines w x rows line above far → x < w
     → samples_so_far (x + 1) rows (set line (x + 2) v) ≡ samples_so_far x rows line ++ v ∷ []
 push_is w x rows line above far v h less =
     let long = h.line_long in
@@ -106,8 +106,8 @@ push_is w x rows line above far v h less =
     ap (λ l. rows ++ take (x + 1) l) cells ∙ ap (λ l. rows ++ l) (take_more_set (drop 2 line) x v inside)
     ∙ sym (append_assoc rows (take x (drop 2 line)) (v ∷ []))
 
-pub pushed : (w x : ℕ) (rows line above far : List ℕ) (v : ℕ) → AreLines w x rows line above far → x < w → v < 256
-    → AreLines w (x + 1) rows (set line (x + 2) v) above far
+pub pushed : (w x : ℕ) (rows line above far : List ℕ) (v : ℕ) → AreNearLines w x rows line above far → x < w → v < 256
+    → AreNearLines w (x + 1) rows (set line (x + 2) v) above far
 pushed w x rows line above far v h less small = record {
   some = h.some;
   wide = h.wide;
@@ -124,7 +124,7 @@ pushed w x rows line above far v h less small = record {
 }
 
 -- it is the one to the left of the next
-pub push_left : (w x : ℕ) (rows line above far : List ℕ) (v : ℕ) → AreLines w x rows line above far → x < w → v < 256 → x + 1 < w
+pub push_left : (w x : ℕ) (rows line above far : List ℕ) (v : ℕ) → AreNearLines w x rows line above far → x < w → v < 256 → x + 1 < w
     → v ≡ (neighbours_at w (samples_so_far (x + 1) rows (set line (x + 2) v)) (length (samples_so_far (x + 1) rows (set line (x + 2) v)))).left
 push_left w x rows line above far v h less small further =
     let about = near_is w (x + 1) rows (set line (x + 2) v) above far (pushed w x rows line above far v h less small) further in
@@ -158,7 +158,7 @@ far_border : (w row other : ℕ) (xs ys : List ℕ) → sample_at w xs 0 row ≡
 unfolding sample_at
 far_border w row other xs ys = refl
 
-module _ (w : ℕ) (rows line above far : List ℕ) (h : AreLines w w rows line above far) (more moved : List ℕ) (more_is : more ≡ samples_so_far w rows line)
+module _ (w : ℕ) (rows line above far : List ℕ) (h : AreNearLines w w rows line above far) (more moved : List ℕ) (more_is : more ≡ samples_so_far w rows line)
     (moved_is : moved ≡ set line (w + 2) (get_or line (w + 1) 0)) where
   long_more : length more ≡ (length rows / w + 1) * w + 0
   long_more = omega (arith, ap length more_is, count_is w w rows line above far h, rows_are w (length rows) h.whole)
@@ -183,7 +183,7 @@ module _ (w : ℕ) (rows line above far : List ℕ) (h : AreLines w w rows line 
       ∙ border ∙ ap (λ i. sample_at w more i (length rows / w + 2)) (sym is))
       (cases_lt column (w + 2))
 
-  pub rolled : AreLines w 0 more (set far 1 (get_or moved 2 0)) moved above
+  pub rolled : AreNearLines w 0 more (set far 1 (get_or moved 2 0)) moved above
   rolled = record {
     some = h.some;
     wide = h.wide;
@@ -238,7 +238,7 @@ none_above : (w : ℕ) → 1 ≤ w → 0 / w ≡ 0
 none_above w some = ap (λ n. n / w) (let e : 0 ≡ 0 * w + 0 = omega arith in e) ∙ div-mul-add 0 w 0 some
 
 pub first_lines : (w : ℕ) (line above far : List ℕ) → 1 ≤ w → w ≤ greatest_side → line ≡ replicate (w + 3) 0 → above ≡ replicate (w + 3) 0
-    → far ≡ replicate (w + 3) 0 → AreLines w 0 [] line above far
+    → far ≡ replicate (w + 3) 0 → AreNearLines w 0 [] line above far
 first_lines w line above far some wide line_zero above_zero far_zero = record {
   some = some;
   wide = wide;

@@ -2,7 +2,7 @@
 use Rattle.std.proofs.Common.{◌≡◌, ℕ, ◌+◌, ◌-◌, ◌<◌, ◌≤◌, Bool, true, List, [], ◌∷◌, ◌++◌, refl, sym, ap, ◌∙◌, subst, arith, append_assoc, ⊎_elim}
 use Rattle.ffv1_bits.specs.Reader.{Reading}
 use Rattle.ffv1_rice.specs.declared.run.RunWord.TheVariants.{Full, Rest, ToEnd}
-use Rattle.ffv1_rice.specs.Runs.{SpellsRun, line_end, whole, rest, over_end, long_rest, whole_length, IsRead, IsCutWord}
+use Rattle.ffv1_rice.specs.Runs.{SpellsRun, line_end, whole, rest, over_end, long_rest, whole_length, IsRead, IsShortWord}
 use Rattle.ffv1_rice.proofs.OneRun.{whole_length_pos}
 use Rattle.ffv1_plane.specs.Stuck.{SpellsFront, no_word, one_word}
 use Rattle.ffv1_plane.specs.Progress.{IsRunRead, IsRunBegun}
@@ -32,7 +32,7 @@ after_whole left i m last n run tail bits (whole k room others a b c d) is fits 
     (k, others, subst (λ (r : ℕ). SpellsRun k r (i + 1) others last) left_is d, cc)
 after_whole left i m last n run tail bits (rest a b c d) is fits same = absurd (let joined = ap (λ l. l ++ tail) (sym c) ∙ same in cc)
 after_whole left i m last n run tail bits (over_end a b c d e) is fits same = absurd (omega arith)
-after_whole left i m last n run tail bits (long_rest told a b c d e f) is fits same = absurd (omega arith)
+after_whole left i m last n run tail bits (long_rest given a b c d e f) is fits same = absurd (omega arith)
 
 -- one whole length more
 front_more : {done i next : ℕ} {words : List Bool} → SpellsFront done i words next → SpellsFront (done + whole_length next) i (words ++ (true ∷ [])) (next + 1)
@@ -95,7 +95,7 @@ line_run left index done i bits words all a =
     rw sum at none
 
 -- where a word is cut, the run is
-pub cut_run : (left index done i : ℕ) (bits words : List Bool) → done < left → IsRunBegun left index bits done i words → IsCutWord i words
+pub cut_run : (left index done i : ℕ) (bits words : List Bool) → done < left → IsRunBegun left index bits done i words → IsShortWord i words
     → IsRunCut left index bits done
 cut_run left index done i bits words before a cut = record {
   words = a.words;

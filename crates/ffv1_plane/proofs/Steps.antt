@@ -228,11 +228,11 @@ module _ (earlier : ℕ → List ℤ) (r : Residuals) (some : 0 < r.width) (s n 
           fresh = subst (λ (i : ℕ). follows_skipped r i ≡ false) k fresh_there;
         }
 
-    level_piece : (code : List Bool) → n < left_in_line r s → is_zero (r.difference (s + n)) ≡ false
+    level_portion : (code : List Bool) → n < left_in_line r s → is_zero (r.difference (s + n)) ≡ false
         → SpellsValue (state_before earlier r (context_number r (s + n)) (s + n)) (decoded_value true (r.difference (s + n))) code
         → (front : List Bool) → SamplesSpell earlier r s front index → SamplesSpell earlier r (suc (s + n)) (front ++ (run ++ code)) next
     unfolding SamplesSpell
-    level_piece code inside level coded front before =
+    level_portion code inside level coded front before =
         let in_it : is_in_run r (s + n) ≡ true = in_run_to n (omega arith) inside in
         let skip : is_skipped r (s + n) ≡ false = rw (in_it, level) refl in
         let value : decoded_value true (r.difference (s + n)) ≡ value_at r (s + n) = rw in_it refl in
@@ -283,6 +283,6 @@ module _ (earlier : ℕ → List ℤ) (r : Residuals) (some : 0 < r.width) (s n 
         record {
           front = p.front ++ (run ++ code);
           begins = p.begins ∙ ap (λ l. p.front ++ l) (is ∙ sym (append_assoc run code rest)) ∙ sym (append_assoc p.front (run ++ code) rest);
-          spells = level_piece code inside level coded p.front p.spells;
+          spells = level_portion code inside level coded p.front p.spells;
           fresh = not_skipped_after r (s + n) (rw (in_it, level) refl);
         }

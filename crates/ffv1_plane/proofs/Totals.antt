@@ -118,7 +118,7 @@ past_run earlier r s index next run starts none =
     let c = code_part earlier r s in
     (c.0, record { run = run; code = c.0; joined = refl; run_starts = starts; no_run_starts = none; coded = c.1.coded; not_coded = c.1.not_coded })
 
-sample_of : (earlier : ℕ → List ℤ) (r : Residuals) (s index : ℕ) → (piece : List Bool) × (next : ℕ) × SampleSpells earlier r s index piece next
+sample_of : (earlier : ℕ → List ℤ) (r : Residuals) (s index : ℕ) → (portion : List Bool) × (next : ℕ) × SampleSpells earlier r s index portion next
 sample_of earlier r s index = ⊎_elim
     (λ yes.
     let run = run_of (run_length r s) (left_in_line r s) index (length_low r (left_in_line r s) s) in
@@ -146,8 +146,8 @@ spells_on earlier r (suc count) n front index low h = ⊎_elim
     ))
     (λ other.
     let before = spells_on earlier r count n front index (omega arith) h in
-    let piece = sample_of earlier r count before.1 in
-    (before.0 ++ piece.0, piece.1, (front ++ before.0, piece.0, before.1, sym (append_assoc front before.0 piece.0), before.2, piece.2)))
+    let portion = sample_of earlier r count before.1 in
+    (before.0 ++ portion.0, portion.1, (front ++ before.0, portion.0, before.1, sym (append_assoc front before.0 portion.0), before.2, portion.2)))
     (cases_eq n (suc count))
 
 -- ---- planes

@@ -5,7 +5,7 @@ use Rattle.ffv1_range.specs.Tiles.{grid_of, plane_rect}
 use Rattle.ffv1_range.specs.declared.head.SliceHead.{SliceHead}
 use Rattle.ffv1_rice.specs.States.{ContextState, start_state}
 use Rattle.ffv1_rice.specs.Codes.{IsCodeFault}
-use Rattle.ffv1_rice.specs.Runs.{IsCutWord}
+use Rattle.ffv1_rice.specs.Runs.{IsShortWord}
 use Rattle.ffv1_rice.specs.declared.code.CodeFault.{CodeFault}
 use Rattle.ffv1_plane.specs.Samples.{plane_of, neighbours_at, context_of, IsPlaneOfSize}
 use Rattle.ffv1_plane.specs.Spelling.{Residuals, residuals_of, PlaneSpells, values_after}
@@ -27,7 +27,7 @@ pub record IsRunCut (left index : ℕ) (bits : List Bool) (skipped : ℕ) : Type
   pub begins : bits ≡ words ++ others
   pub front : SpellsFront skipped index words next
   pub inside : skipped < left
-  pub cut : IsCutWord next others
+  pub cut : IsShortWord next others
 
 -- the context of the next sample
 abbrev pub next_context : ℕ → (ℕ → ℕ → ℤ) → List ℕ → ℕ
@@ -38,7 +38,7 @@ pub record IsCodeHalted (width : ℕ) (entry : ℕ → ℕ → ℤ) (level : Boo
     (sample : ℕ) : Type 0 where
   pub place : sample ≡ length samples
   pub below : next_context width entry samples < length states
-  pub told : IsCodeFault (get_or states (next_context width entry samples) start_state) level bits fault
+  pub given : IsCodeFault (get_or states (next_context width entry samples) start_state) level bits fault
 
 abbrev pub IsSampleHalted : ℕ → (ℕ → ℕ → ℤ) → Bool → List ℕ → List ContextState → List Bool → PlaneFault → Type 0
 IsSampleHalted width entry level samples states bits (plane_faults.Code fault sample) = IsCodeHalted width entry level samples states bits fault sample

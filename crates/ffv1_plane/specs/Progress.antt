@@ -55,7 +55,7 @@ pub record IsSampleRead (width : ℕ) (entry : ℕ → ℕ → ℤ) (level : Boo
   pub pushed : new ≡ old ++ sample ∷ []
   pub is_context : (more : List ℕ) → context_number (residuals_of (plane_of width entry (new ++ more))) (length old) ≡ context
   pub is_difference : (more : List ℕ) → (residuals_of (plane_of width entry (new ++ more))).difference (length old) ≡ difference
-  pub told : IsCodedDifference level difference
+  pub given : IsCodedDifference level difference
   pub below : context < length states
   pub code : List Bool
   pub spells : SpellsValue (get_or states context start_state) (decoded_value level difference) code

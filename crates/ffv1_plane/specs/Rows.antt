@@ -31,7 +31,7 @@ abbrev pub samples_so_far : ℕ → List ℕ → List ℕ → List ℕ
 samples_so_far x rows line = rows ++ take x (drop 2 line)
 
 -- Three lines are the row that is read, up to x, the row above it and the one above that, after the rows that are ended.
-pub record AreLines (width x : ℕ) (rows line above far_above : List ℕ) : Type 0 where
+pub record AreNearLines (width x : ℕ) (rows line above far_above : List ℕ) : Type 0 where
   pub some : 1 ≤ width
   pub wide : width ≤ greatest_side
   pub within : x ≤ width

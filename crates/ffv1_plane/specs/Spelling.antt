@@ -101,8 +101,8 @@ pub record SampleSpells (earlier : ℕ → List ℤ) (r : Residuals) (s : ℕ) (
 unfoldable pub SamplesSpell : (ℕ → List ℤ) → Residuals → ℕ → List Bool → ℕ → Type 0
 SamplesSpell earlier r zero bits next = (bits ≡ []) × (next ≡ 0)
 SamplesSpell earlier r (suc count) bits next =
-    (front : List Bool) × (piece : List Bool) × (index : ℕ)
-    × (bits ≡ front ++ piece) × SamplesSpell earlier r count front index × SampleSpells earlier r count index piece next
+    (front : List Bool) × (portion : List Bool) × (index : ℕ)
+    × (bits ≡ front ++ portion) × SamplesSpell earlier r count front index × SampleSpells earlier r count index portion next
 
 -- the bits of a whole plane
 abbrev pub PlaneSpells : (ℕ → List ℤ) → Plane → List Bool → Type 0

@@ -7,7 +7,7 @@ use Rattle.ffv1_range.specs.Setup.{SetupValue}
 use Rattle.ffv1_range.specs.Tiles.{grid_of, plane_count, plane_rect}
 use Rattle.ffv1_range.specs.declared.head.SliceHead.{SliceHead}
 use Rattle.ffv1_rice.specs.Codes.{IsCodeFault}
-use Rattle.ffv1_rice.specs.Runs.{whole_length, SpellsRun, IsCutWord}
+use Rattle.ffv1_rice.specs.Runs.{whole_length, SpellsRun, IsShortWord}
 use Rattle.ffv1_rice.specs.declared.code.CodeFault.{CodeFault}
 use Rattle.ffv1_rice.specs.declared.code.CodeFault.TheVariants.{Truncated}
 use Rattle.ffv1_plane.specs.Spelling.{Residuals, residuals_of, is_in_run, is_coded, starts_run, left_in_line, run_length, context_number, state_before, SamplesSpell, PlaneSpells, values_after}
@@ -58,8 +58,8 @@ pub record IsCodeDue (earlier : ℕ → List ℤ) (r : Residuals) (s : ℕ) (bit
 -- ---- words that can't be read
 
 -- After these bits a word of a run is due at sample s, and the others end within it.
-abbrev pub IsRunWordCut : (ℕ → List ℤ) → Residuals → ℕ → List Bool → List Bool → Type 0
-IsRunWordCut earlier r s bits others = (index : ℕ) × IsRunWordDue earlier r s bits index × IsCutWord index others
+abbrev pub IsRunWordShort : (ℕ → List ℤ) → Residuals → ℕ → List Bool → List Bool → Type 0
+IsRunWordShort earlier r s bits others = (index : ℕ) × IsRunWordDue earlier r s bits index × IsShortWord index others
 
 -- After these bits a code is due at sample s, and the others end within it or begin with what no sample has.
 abbrev pub IsCodeRefused : (ℕ → List ℤ) → Residuals → ℕ → List Bool → List Bool → CodeFault → Type 0
@@ -68,20 +68,20 @@ IsCodeRefused earlier r s bits others fault =
 
 -- After these bits no word of sample s can be read, for this fault.
 abbrev pub IsWordRefused : (ℕ → List ℤ) → Residuals → ℕ → List Bool → List Bool → CodeFault → Type 0
-IsWordRefused earlier r s bits others fault = ((fault ≡ Truncated) × IsRunWordCut earlier r s bits others) ⊎ IsCodeRefused earlier r s bits others fault
+IsWordRefused earlier r s bits others fault = ((fault ≡ Truncated) × IsRunWordShort earlier r s bits others) ⊎ IsCodeRefused earlier r s bits others fault
 
 -- ---- whole pictures
 
 -- the values after which a plane is coded: Cr goes on with the states of Cb
-abbrev pub values_before : SetupValue → SliceHead → List (List ℕ) → ℕ → (ℕ → List ℤ)
-values_before setup head planes plane = if plane == 2 then values_after no_values (tile_plane setup head planes 1) else no_values
+abbrev pub values_before_plane : SetupValue → SliceHead → List (List ℕ) → ℕ → (ℕ → List ℤ)
+values_before_plane setup head planes plane = if plane == 2 then values_after no_values (tile_plane setup head planes 1) else no_values
 
 -- the bits of the planes below a number
 unfoldable pub PlanesBelow : SetupValue → SliceHead → List (List ℕ) → ℕ → List Bool → Type 0
 PlanesBelow setup head planes zero bits = bits ≡ []
 PlanesBelow setup head planes (suc plane) bits =
     (front : List Bool) × (back : List Bool) × (bits ≡ front ++ back)
-    × PlanesBelow setup head planes plane front × PlaneSpells (values_before setup head planes plane) (tile_plane setup head planes plane) back
+    × PlanesBelow setup head planes plane front × PlaneSpells (values_before_plane setup head planes plane) (tile_plane setup head planes plane) back
 
 -- The place of a fault: a sample of a plane of a tile, by its row and its column.
 pub record IsPlaceIn (setup : SetupValue) (tile plane y x : ℕ) : Type 0 where
@@ -104,7 +104,7 @@ pub record AreBitsStuck (setup : SetupValue) (head : SliceHead) (planes : List (
   pub joined : front ≡ whole ++ part
   pub others : List Bool
   pub begins : bits ≡ front ++ others
-  pub refused : IsWordRefused (values_before setup head planes plane) (residuals_of (tile_plane setup head planes plane))
+  pub refused : IsWordRefused (values_before_plane setup head planes plane) (residuals_of (tile_plane setup head planes plane))
       (scan_place setup head.tile plane y x) part others fault
 
 -- The content of a slice is stuck at a sample of a tile: it has a header of the tile, and for some picture of the tile and

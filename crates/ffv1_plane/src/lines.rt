@@ -27,13 +27,13 @@ pub(crate) struct Lines {
 }
 
 impl Model for Lines {
-    ghost use Rattle.ffv1_plane.specs.Rows.{RowsRead, samples_so_far, AreLines};
+    ghost use Rattle.ffv1_plane.specs.Rows.{RowsRead, samples_so_far, AreNearLines};
 
     ghost Value = { RowsRead };
 
     ghost view = { λ l. record { width = l.width; x = l.x; samples = samples_so_far l.x l.rows.items l.line.items } };
 
-    ghost invariant = { λ l. AreLines l.width l.x l.rows.items l.line.items l.above.items l.far_above.items };
+    ghost invariant = { λ l. AreNearLines l.width l.x l.rows.items l.line.items l.above.items l.far_above.items };
 }
 
 impl Lines {

@@ -123,7 +123,7 @@ pub fn decode_tile(
 
     // .. and wherever it is stuck, that is returned, or Memory.
     ensures stuck { (fault : CodeFault) (plane y x : ℕ) → IsStuckAt setup.now index content.now fault plane y x
-        → MatchResult result (λ read. ⊥) (λ told. (told ≡ TileFault.Memory) ⊎ (told ≡ TileFault.Code fault plane y x)) }
+        → MatchResult result (λ read. ⊥) (λ given. (given ≡ TileFault.Memory) ⊎ (given ≡ TileFault.Code fault plane y x)) }
 {
     setup.keeps_profile();
     let (head, place) = read_head(setup, content, index == 0)?;

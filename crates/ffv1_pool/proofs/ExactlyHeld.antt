@@ -17,7 +17,7 @@ use Rattle.ffv1_pool.specs.Sets as set
 use Rattle.ffv1_pool.specs.SliceOrder.{Entry, Origin, entry_cmp, entries_total, entries_antisymmetric, origins_total, origins_antisymmetric}
 use Rattle.ffv1_pool.specs.Reels.{Reel}
 use Rattle.ffv1_pool.specs.Contents.{Contents, slices_of_copies, origins_of_copy, origins_of_copies, holding_of}
-use Rattle.ffv1_pool.specs.Originals.{AreCopiesOf, AreNear, HoldsExactly}
+use Rattle.ffv1_pool.specs.Originals.{AreCopiesOfSlices, AreNear, HoldsExactly}
 use Rattle.ffv1_pool.specs.Laws.{HeldIsFound, OriginIsACopy}
 use Rattle.ffv1_pool.proofs.EntrySteps.{or_cases}
 
@@ -92,7 +92,7 @@ numbered_at (s ∷ slices) first (suc i) d lt =
     or_right _ _ (ap (λ n. list_any (eq_by_cmp entry_cmp (n, get_or slices i d)) (enumerate_from (first + 1) slices)) {x = first + suc i} {y = first + 1 + i}
     (omega arith) ∙ numbered_at slices (first + 1) i d (omega arith))
 
-pub exactly_held : (reel : Reel) (slices copies : List (List ℕ)) → AreCopiesOf reel.setup slices copies → HoldsExactly (holding_of reel copies) slices
+pub exactly_held : (reel : Reel) (slices copies : List (List ℕ)) → AreCopiesOfSlices reel.setup slices copies → HoldsExactly (holding_of reel copies) slices
 exactly_held reel slices copies are =
     set.same_set entries_total entries_antisymmetric _ _ (λ q.
     set.contains-from_list entries_total (flat_map (found_slices reel.setup) copies) q
@@ -130,7 +130,7 @@ held_is_found setup copies tile slice = (from, to)
 
 -- what is found in near copies is the original's, and where each tile is intact in one of them, all of it is found
 pub near_are_copies : (setup : SetupValue) (original : List ℕ) (slices copies : List (List ℕ)) → AreNear setup original slices copies
-    → AreCopiesOf setup slices copies
+    → AreCopiesOfSlices setup slices copies
 near_are_copies setup original slices copies are = record {
   only = λ copy tile bytes among found.
       let is = (near_found setup original slices copy (are.near copy among) tile bytes).0 found in (is.0, is.1);

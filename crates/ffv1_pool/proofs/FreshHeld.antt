@@ -8,7 +8,7 @@ use Rattle.ffv1_pool.specs.SliceOrder.{Entry, Origin, entry_cmp, origin_cmp, ent
 use Rattle.ffv1_pool.specs.Sets as set
 use Rattle.ffv1_pool.specs.Contents.{AreHeld}
 use Rattle.ffv1_pool.specs.Fresh.{AreAllFresh}
-use Rattle.ffv1_pool.specs.Rows.{FreshRow, fresh_row, fresh_rows_in, AreFreshRows}
+use Rattle.ffv1_pool.specs.Rows.{FreshRow, fresh_origin, fresh_rows_in, AreFreshRows}
 use Rattle.ffv1_pool.specs.declared.pool_entry.PoolEntry.{PoolEntry}
 use Rattle.ffv1_pool.specs.declared.fresh.Fresh.{Fresh}
 use Rattle.ffv1_pool.proofs.EntrySteps.{or_cases, all-from_list, contains_listed}
@@ -40,12 +40,12 @@ module _ (old coming fresh : List Entry) (all : AreAllFresh entry_cmp old coming
       → AreHeld (set.union (set.from_list old) (set.from_list fresh)) (set.from_list (fresh_rows_in from owners digests))
   fresh_held held rows from owners digests new all_rows owned =
       let list = fresh_rows_in from owners digests in
-      let long = length-map (zip owners digests) (fresh_row from) in
+      let long = length-map (zip owners digests) (fresh_origin from) in
       all-from_list origins_total origins_antisymmetric
       (λ o. set.contains (set.union (set.from_list {R = entry_cmp} old) (set.from_list fresh)) o.0 ≡ true) list
       (λ i d lt.
-      let at = get_or-map (fresh_row from) (zip owners digests) i some_row d (omega arith) in
-      let row = fresh_row from (get_or (zip owners digests) i some_row) in
+      let at = get_or-map (fresh_origin from) (zip owners digests) i some_row d (omega arith) in
+      let row = fresh_origin from (get_or (zip owners digests) i some_row) in
       let gap : set.contains (set.from_list {R = origin_cmp} held) (get_or list i d) ≡ false =
       rw at (contains_gap origins_total held row _ (new.gaps i some_row (omega arith))) in
       come_held (get_or list i d).0 (owned (get_or list i d)

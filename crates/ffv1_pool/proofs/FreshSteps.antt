@@ -4,10 +4,10 @@ use Rattle.std.specs.List.{zip}
 use Rattle.std.proofs.lemmas.List.{length-map, get_or-map, map-append, take_all}
 use Rattle.ffv1_pool.specs.SliceOrder.{Entry, Origin, entry_cmp, origin_cmp, entries_total, entries_antisymmetric, origins_total, origins_antisymmetric}
 use Rattle.ffv1_pool.specs.Sets as set
-use Rattle.ffv1_pool.specs.Rising.{IsGapFor, IsPlaceOf}
+use Rattle.ffv1_pool.specs.Rising.{IsInsertionPlace, IsPlaceOf}
 use Rattle.ffv1_pool.specs.PoolEntries.{entry_in, IsEntryIn, IsPool}
 use Rattle.ffv1_pool.specs.Fresh.{fresh_in, AreFresh, AreAllFresh}
-use Rattle.ffv1_pool.specs.Rows.{rows_in, IsRows, fresh_row, fresh_rows_in, AreFreshRows}
+use Rattle.ffv1_pool.specs.Rows.{rows_in, IsRows, fresh_origin, fresh_rows_in, AreFreshRows}
 use Rattle.ffv1_pool.specs.declared.pool_entry.PoolEntry.{PoolEntry}
 use Rattle.ffv1_pool.specs.declared.fresh.Fresh.{Fresh}
 use Rattle.ffv1_pool.proofs.Sifting.{each-push, AreSifted, none_sifted, sifted_held, sifted_new}
@@ -40,7 +40,7 @@ module _ (held : List Entry) (bytes : List ℕ) (es : List PoolEntry) where
           is.sifted at (subst (λ v. IsPlaceOf held v at) (sym entry_at) found);
     }
 
-    pub entry_new : IsPool bytes es → (at : ℕ) → IsGapFor entry_cmp held (entry_in bytes (get_or es place d)) at
+    pub entry_new : IsPool bytes es → (at : ℕ) → IsInsertionPlace entry_cmp held (entry_in bytes (get_or es place d)) at
         → IsSifted held bytes es (place + 1) (fresh ++ record { place = at; item = get_or es place d } ∷ [])
     entry_new pool at gap =
         let new : Fresh PoolEntry = record { place = at; item = get_or es place d } in
@@ -62,13 +62,13 @@ module _ (held : List Entry) (bytes : List ℕ) (es : List PoolEntry) where
 pub record AreRowsSifted (held : List Origin) (bytes : List ℕ) (os : List PoolEntry) (ds : List (List ℕ)) (place : ℕ) (owners : List (Fresh PoolEntry))
     (digests : List (Fresh (List ℕ))) : Type 0 where
   pub places : map (λ f. f.place) digests ≡ map (λ f. f.place) owners
-  pub sifted : AreSifted origin_cmp (λ f. f.0.place) (fresh_row bytes) held (rows_in bytes os ds) place (zip owners digests)
+  pub sifted : AreSifted origin_cmp (λ f. f.0.place) (fresh_origin bytes) held (rows_in bytes os ds) place (zip owners digests)
 
 module _ (held : List Origin) (bytes : List ℕ) (os : List PoolEntry) (ds : List (List ℕ)) (rows : IsRows bytes os ds) where
   pub no_row_fresh : AreRowsSifted held bytes os ds 0 [] []
   no_row_fresh = record {
     places = refl;
-    sifted = none_sifted origins_total origins_antisymmetric (λ f. f.0.place) (fresh_row bytes) held (rows_in bytes os ds);
+    sifted = none_sifted origins_total origins_antisymmetric (λ f. f.0.place) (fresh_origin bytes) held (rows_in bytes os ds);
   }
 
   module _ (place : ℕ) (d : PoolEntry) (x : List ℕ) (owners : List (Fresh PoolEntry)) (digests : List (Fresh (List ℕ))) (lt : place < length os)
@@ -86,11 +86,11 @@ module _ (held : List Origin) (bytes : List ℕ) (os : List PoolEntry) (ds : Lis
         → AreRowsSifted held bytes os ds (place + 1) owners digests
     row_held at found = record {
       places = is.places;
-      sifted = sifted_held origins_total origins_antisymmetric (λ f. f.0.place) (fresh_row bytes) held (rows_in bytes os ds) place row (zip owners digests)
+      sifted = sifted_held origins_total origins_antisymmetric (λ f. f.0.place) (fresh_origin bytes) held (rows_in bytes os ds) place row (zip owners digests)
           row_there is.sifted at (subst (λ v. IsPlaceOf held v at) (sym (row_at row)) found);
     }
 
-    pub row_new : (at : ℕ) → IsGapFor origin_cmp held (entry_in bytes (get_or os place d), get_or ds place x) at
+    pub row_new : (at : ℕ) → IsInsertionPlace origin_cmp held (entry_in bytes (get_or os place d), get_or ds place x) at
         → AreRowsSifted held bytes os ds (place + 1) (owners ++ record { place = at; item = get_or os place d } ∷ [])
         (digests ++ record { place = at; item = get_or ds place x } ∷ [])
     row_new at gap =
@@ -101,8 +101,8 @@ module _ (held : List Origin) (bytes : List ℕ) (os : List PoolEntry) (ds : Lis
         let both = zip-append owners (owner ∷ []) digests (digest ∷ []) long in
         record {
           places = map-append (λ f. f.place) digests (digest ∷ []) ∙ ap (λ ps. ps ++ at ∷ []) is.places ∙ sym (map-append (λ f. f.place) owners (owner ∷ []));
-          sifted = subst (AreSifted origin_cmp (λ f. f.0.place) (fresh_row bytes) held (rows_in bytes os ds) (place + 1)) (sym both)
-              (sifted_new origins_total origins_antisymmetric (λ f. f.0.place) (fresh_row bytes) held (rows_in bytes os ds) place row (zip owners digests)
+          sifted = subst (AreSifted origin_cmp (λ f. f.0.place) (fresh_origin bytes) held (rows_in bytes os ds) (place + 1)) (sym both)
+              (sifted_new origins_total origins_antisymmetric (λ f. f.0.place) (fresh_origin bytes) held (rows_in bytes os ds) place row (zip owners digests)
               row_there is.sifted rows.rising (owner, digest) (sym (row_at row)) gap);
         }
 

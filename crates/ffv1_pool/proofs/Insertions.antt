@@ -11,7 +11,7 @@ use Rattle.std.proofs.lemmas.Bool.{cases_lt, cases_order}
 use Rattle.std.proofs.lemmas.List.{length-map, get_or-map}
 use Rattle.std.proofs.lemmas.List.Edits.{length-insert, get_or-insert_below, get_or-insert_at, get_or-insert_above}
 use Rattle.ffv1_pool.specs.Sets as set
-use Rattle.ffv1_pool.specs.Rising.{IsRising, IsGapFor}
+use Rattle.ffv1_pool.specs.Rising.{IsRising, IsInsertionPlace}
 use Rattle.ffv1_pool.specs.Fresh.{with_inserted}
 use Rattle.ffv1_pool.proofs.RisingSets.{rising_rest, rising_insert, from_list-insert, map-insert, union-insert}
 
@@ -75,7 +75,7 @@ module _ {F K : Type 0} {R : K → K → Ordering} (o : IsTotalOrder R) (place :
       flip (key f) (key (get_or fs j e)) (ap (R (key f)) (sym (get_or-map key fs j e (key e) lt)) ∙ up 0 (suc j) (key e) (omega arith) (omega arith))
 
   -- what is lower does not go after what is higher
-  gaps_in_order : (ks : List K) (x y : K) (p q : ℕ) → R y x ≡ Greater → IsGapFor R ks x p → IsGapFor R ks y q → p ≤ q
+  gaps_in_order : (ks : List K) (x y : K) (p q : ℕ) → R y x ≡ Greater → IsInsertionPlace R ks x p → IsInsertionPlace R ks y q → p ≤ q
   gaps_in_order ks x y p q above gap also = elim (cases_lt q p) [
     | inl under ↦
         let low = gap.below q x under in
@@ -86,7 +86,7 @@ module _ {F K : Type 0} {R : K → K → Ordering} (o : IsTotalOrder R) (place :
   ]
 
   module _ (ks : List K) where
-    pub places_rise : (fs : List F) → ((i : ℕ) (d : F) → i < length fs → IsGapFor R ks (key (get_or fs i d)) (place (get_or fs i d))) → IsRising R (map key fs)
+    pub places_rise : (fs : List F) → ((i : ℕ) (d : F) → i < length fs → IsInsertionPlace R ks (key (get_or fs i d)) (place (get_or fs i d))) → IsRising R (map key fs)
         → IsNonDecreasingBy place fs
     places_rise fs gaps up i j d le lt = elim (cases_order i j) [
       | inl same ↦ rw same (omega arith)
@@ -101,7 +101,7 @@ module _ {F K : Type 0} {R : K → K → Ordering} (o : IsTotalOrder R) (place :
     ]
 
     pub rising-with_inserted : (fs : List F) → IsRising R ks
-        → ((i : ℕ) (d : F) → i < length fs → IsGapFor R ks (key (get_or fs i d)) (place (get_or fs i d))) → IsRising R (map key fs)
+        → ((i : ℕ) (d : F) → i < length fs → IsInsertionPlace R ks (key (get_or fs i d)) (place (get_or fs i d))) → IsRising R (map key fs)
         → IsRising R (with_inserted place key fs ks)
     rising-with_inserted [] up gaps rise = up
     rising-with_inserted (f ∷ fs) up gaps rise =

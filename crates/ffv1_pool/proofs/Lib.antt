@@ -16,7 +16,7 @@ pub mod RowParts
 pub mod Sifting
 pub mod FreshSteps
 pub mod Settling
-pub mod Merges
+pub mod Interleaves
 pub mod Moves
 pub mod PoolGrowth
 pub mod ZipLists

@@ -1,7 +1,7 @@
 -- A link that is a slice is listed where it stands in its payload.
 use Rattle.std.proofs.Common.{◌≡◌, ℕ, zero, suc, ◌-◌, List, [], ◌∷◌, length, take, drop, refl, sym, ap, ◌∙◌, subst, arith}
 use Rattle.std.proofs.lemmas.List.{length-take, length-drop}
-use Rattle.ffv1_slice.specs.Chain.{Piece, piece_of, IsFramed}
+use Rattle.ffv1_slice.specs.Chain.{LinkValue, link_of, IsFramed}
 use Rattle.ffv1_pool.specs.PoolEntries.{slice_in, IsEntryIn}
 use Rattle.ffv1_pool.specs.declared.pool_entry.PoolEntry.{PoolEntry}
 
@@ -11,13 +11,13 @@ take-again zero xs = refl
 take-again (suc n) [] = refl
 take-again (suc n) (x ∷ xs) = ap (λ r. x ∷ r) (take-again n xs)
 
-module _ (payload : List ℕ) (link : Piece) (end : ℕ) (is : link ≡ piece_of payload link.start end) (tile start size : ℕ) (begins : start ≡ link.start)
+module _ (payload : List ℕ) (link : LinkValue) (end : ℕ) (is : link ≡ link_of payload link.start end) (tile start size : ℕ) (begins : start ≡ link.start)
     (long : size ≡ length link.bytes) where
   abbrev entry : PoolEntry
   entry = record { tile = tile; start = start; length = size }
 
   bytes_are : link.bytes ≡ take (end - link.start) (drop link.start payload)
-  bytes_are = ap (λ (p : Piece). p.bytes) is
+  bytes_are = ap (λ (p : LinkValue). p.bytes) is
 
   pub slice_listed : slice_in payload entry ≡ link.bytes
   slice_listed =

@@ -9,7 +9,7 @@ use Rattle.std.proofs.lemmas.List.{length-map, get_or-map}
 use Rattle.std.proofs.lemmas.Bool.{or_left, or_right}
 use Rattle.ffv1_pool.specs.SliceOrder.{Entry, Origin, with_each, entry_cmp, origin_cmp, bytes_cmp, entries_total, origins_total, origins_antisymmetric}
 use Rattle.ffv1_pool.specs.Sets as set
-use Rattle.ffv1_pool.specs.Contents.{AreHeld, AreWhole}
+use Rattle.ffv1_pool.specs.Contents.{AreHeld, AreOfDigestLength}
 use Rattle.ffv1_pool.proofs.EntrySteps.{all-union, all-from_list, contains_listed}
 
 -- what both hold is held by the union
@@ -24,7 +24,7 @@ module _ (s t : set.SetOf entry_cmp) where
   held_union u v left right = all-union origins_total origins_antisymmetric (λ o. set.contains (set.union s t) o.0 ≡ true) u v
       (λ o is. held_left o.0 (left o is)) (λ o is. held_right o.0 (right o is))
 
-pub whole_union : (u v : set.SetOf origin_cmp) → AreWhole u → AreWhole v → AreWhole (set.union u v)
+pub whole_union : (u v : set.SetOf origin_cmp) → AreOfDigestLength u → AreOfDigestLength v → AreOfDigestLength (set.union u v)
 whole_union u v left right = all-union origins_total origins_antisymmetric (λ o. length o.1 ≡ 32) u v left right
 
 -- one slice with digests
@@ -39,8 +39,8 @@ module _ (s : set.SetOf entry_cmp) (u : set.SetOf origin_cmp) (e : Entry) (diges
   held_each all = all-union origins_total origins_antisymmetric (λ o. set.contains (set.insert s e) o.0 ≡ true) u (set.from_list (with_each e digests))
       (λ o is. set.contains-insert entries_total s e o.0 ∙ or_right _ _ (all o is)) held_one
 
-  pub whole_each : AreWhole u → ((i : ℕ) (d : List ℕ) → i < length digests → length (get_or digests i d) ≡ 32)
-      → AreWhole (set.union u (set.from_list (with_each e digests)))
+  pub whole_each : AreOfDigestLength u → ((i : ℕ) (d : List ℕ) → i < length digests → length (get_or digests i d) ≡ 32)
+      → AreOfDigestLength (set.union u (set.from_list (with_each e digests)))
   whole_each all long = whole_union u (set.from_list (with_each e digests)) all
       (all-from_list origins_total origins_antisymmetric (λ o. length o.1 ≡ 32) (with_each e digests)
       (λ i d lt. let size = length-map digests (λ x. let o : Origin = (e, x) in o) in
@@ -68,7 +68,7 @@ module _ (digest : List ℕ) where
       (λ i d lt. let size = length-map xs marked in
       rw (get_or-map marked xs i d.0 d (omega arith)) (contains_listed entries_total xs i d.0 (omega arith)))
 
-  pub whole_marked : (xs : List Entry) → length digest ≡ 32 → AreWhole (set.from_list (map (λ e. (e, digest)) xs))
+  pub whole_marked : (xs : List Entry) → length digest ≡ 32 → AreOfDigestLength (set.from_list (map (λ e. (e, digest)) xs))
   whole_marked xs long = all-from_list origins_total origins_antisymmetric (λ o. length o.1 ≡ 32) (map marked xs)
       (λ i d lt. let size = length-map xs marked in rw (get_or-map marked xs i d.0 d (omega arith)) long)
 

@@ -5,7 +5,7 @@ use Rattle.std.proofs.Math.Seq.{take-append_seam}
 use Rattle.std.proofs.lemmas.List.{same_lists, length-map, get_or-map}
 use Rattle.ffv1_pool.specs.SliceOrder.{entry_cmp, entries_total, entries_antisymmetric}
 use Rattle.ffv1_pool.specs.Sets as set
-use Rattle.ffv1_pool.specs.Rising.{IsRising, IsGapFor}
+use Rattle.ffv1_pool.specs.Rising.{IsRising, IsInsertionPlace}
 use Rattle.ffv1_pool.specs.PoolEntries.{entry_in, IsEntryIn, IsPool}
 use Rattle.ffv1_pool.specs.Fresh.{fresh_in, AreFresh, AreMoved, with_inserted, with_fresh}
 use Rattle.ffv1_pool.specs.declared.pool_entry.PoolEntry.{PoolEntry}
@@ -43,7 +43,7 @@ module _ (bytes : List ℕ) (es : List PoolEntry) (pool : IsPool bytes es) where
         (λ i d lt. get_or-map (fresh_in next) new i some_fresh d (omega arith)
         ∙ (moved.each i some_fresh (omega (arith, moved.long))).same ∙ sym (get_or-map (fresh_in from) old i some_fresh d (omega (arith, moved.long))))
 
-    gaps : (i : ℕ) (d : Fresh PoolEntry) → i < length new → IsGapFor entry_cmp (map (entry_in bytes) es) (fresh_in next (get_or new i d)) (get_or new i d).place
+    gaps : (i : ℕ) (d : Fresh PoolEntry) → i < length new → IsInsertionPlace entry_cmp (map (entry_in bytes) es) (fresh_in next (get_or new i d)) (get_or new i d).place
     gaps i d lt =
         let is = moved.each i d (omega (arith, moved.long)) in
         rw (is.same, is.place) (fresh.gaps i d (omega (arith, moved.long)))

@@ -13,7 +13,7 @@ use Rattle.std.specs.declared.cmp.Ordering.TheVariants.{Less}
 use Rattle.std.proofs.lemmas.List.Edits.{length-insert, get_or-insert_below, get_or-insert_at, get_or-insert_above}
 use Rattle.std.proofs.lemmas.Bool.{cases_lt, cases_order, or_left, or_right}
 use Rattle.std.proofs.lemmas.List.{length-map, get_or_default, nil_from_length}
-use Rattle.ffv1_pool.specs.Rising.{IsRising, IsGapFor, IsPlaceOf}
+use Rattle.ffv1_pool.specs.Rising.{IsRising, IsInsertionPlace, IsPlaceOf}
 
 -- the rest of a list that rises
 pub rising_rest : {K : Type 0} (R : K → K → Ordering) (x : K) (xs : List K) → IsRising R (x ∷ xs) → IsRising R xs
@@ -67,18 +67,18 @@ module _ {K : Type 0} {R : K → K → Ordering} (o : IsTotalOrder R) where
   none_of q [] each = refl
   none_of q (x ∷ xs) each = ap (λ b. b || list_any (eq_by_cmp R q) xs) (each 0 (omega arith)) ∙ none_of q xs (λ j lt. each (suc j) (omega arith))
 
-  gap_apart : (xs : List K) (q : K) (place : ℕ) → IsGapFor R xs q place → (j : ℕ) → j < length xs → eq_by_cmp R q (get_or xs j q) ≡ false
+  gap_apart : (xs : List K) (q : K) (place : ℕ) → IsInsertionPlace R xs q place → (j : ℕ) → j < length xs → eq_by_cmp R q (get_or xs j q) ≡ false
   gap_apart xs q place gap j lt = elim (cases_lt j place) [
     | inl before ↦ ap is_eq (o.antisymm q (get_or xs j q) ∙ ap ordering_reverse (gap.below j q before))
     | inr after ↦ ap is_eq (o.antisymm q (get_or xs j q) ∙ ap ordering_reverse (gap.above j q after lt))
   ]
 
   -- what has a gap is not contained
-  pub contains_gap : (xs : List K) (q : K) (place : ℕ) → IsGapFor R xs q place → contains (from_list {R = R} xs) q ≡ false
+  pub contains_gap : (xs : List K) (q : K) (place : ℕ) → IsInsertionPlace R xs q place → contains (from_list {R = R} xs) q ≡ false
   contains_gap xs q place gap = contains-from_list o xs q ∙ none_of q xs (gap_apart xs q place gap)
 
   -- the list with the item put into its gap rises
-  pub rising_insert : (xs : List K) (q : K) (place : ℕ) → IsRising R xs → IsGapFor R xs q place → IsRising R (insert xs place q)
+  pub rising_insert : (xs : List K) (q : K) (place : ℕ) → IsRising R xs → IsInsertionPlace R xs q place → IsRising R (insert xs place q)
   rising_insert xs q place up gap i j d lt in_range =
       let new = insert xs place q in
       let long = length-insert xs place q gap.in_range in

@@ -6,11 +6,11 @@ use Rattle.std.proofs.lemmas.List.{same_lists, length-map, get_or-map}
 use Rattle.std.proofs.lemmas.Slice.Zip.{length-zip, get_or-zip}
 use Rattle.ffv1_pool.specs.SliceOrder.{Origin, entry_cmp, origin_cmp, origins_total, origins_antisymmetric}
 use Rattle.ffv1_pool.specs.Sets as set
-use Rattle.ffv1_pool.specs.Rising.{IsRising, IsGapFor}
+use Rattle.ffv1_pool.specs.Rising.{IsRising, IsInsertionPlace}
 use Rattle.ffv1_pool.specs.Contents.{AreHeld}
 use Rattle.ffv1_pool.specs.PoolEntries.{entry_in, IsEntryIn, AreEntriesIn}
 use Rattle.ffv1_pool.specs.Fresh.{with_inserted, with_fresh}
-use Rattle.ffv1_pool.specs.Rows.{rows_in, IsRows, FreshRow, fresh_row, fresh_rows_in, AreFreshRows, AreSettled}
+use Rattle.ffv1_pool.specs.Rows.{rows_in, IsRows, FreshRow, fresh_origin, fresh_rows_in, AreFreshRows, AreOwnersMoved}
 use Rattle.ffv1_pool.specs.declared.pool_entry.PoolEntry.{PoolEntry}
 use Rattle.ffv1_pool.specs.declared.fresh.Fresh.{Fresh}
 use Rattle.ffv1_pool.proofs.EntrySteps.{contains_listed}
@@ -25,7 +25,7 @@ some_digest : Fresh (List ℕ)
 some_digest = record { place = 0; item = [] }
 
 -- owners that were settled through a borrow are those that it lent
-pub settled_of : (from bytes : List ℕ) (lent old new : List (Fresh PoolEntry)) → lent ≡ old → AreSettled from bytes lent new → AreSettled from bytes old new
+pub settled_of : (from bytes : List ℕ) (lent old new : List (Fresh PoolEntry)) → lent ≡ old → AreOwnersMoved from bytes lent new → AreOwnersMoved from bytes old new
 settled_of from bytes lent old new same is = rw (← same) is
 
 -- bytes after those of the pool change no row
@@ -44,7 +44,7 @@ module _ (bytes : List ℕ) (os : List PoolEntry) (ds : List (List ℕ)) (rows :
   rows_kept = record { long = rows.long; each = owners_after; rising = subst (IsRising origin_cmp) (sym rows_after) rows.rising }
 
 module _ (next : List ℕ) (os : List PoolEntry) (ds : List (List ℕ)) (rows : IsRows next os ds) (from : List ℕ) (old new : List (Fresh PoolEntry))
-    (digests : List (Fresh (List ℕ))) (fresh : AreFreshRows (rows_in next os ds) from old digests) (settled : AreSettled from next old new) where
+    (digests : List (Fresh (List ℕ))) (fresh : AreFreshRows (rows_in next os ds) from old digests) (settled : AreOwnersMoved from next old new) where
   abbrev held : List Origin
   held = rows_in next os ds
 
@@ -65,10 +65,10 @@ module _ (next : List ℕ) (os : List PoolEntry) (ds : List (List ℕ)) (rows : 
   old_at : (i : ℕ) (d : FreshRow) → i < length old → get_or (zip old digests) i d ≡ (get_or old i d.0, get_or digests i d.1)
   old_at i d lt = get_or-zip old digests i d lt (omega (arith, digests_long))
 
-  row_same : (i : ℕ) (d : FreshRow) → i < length old → fresh_row next (get_or (zip new digests) i d) ≡ fresh_row from (get_or (zip old digests) i d)
+  row_same : (i : ℕ) (d : FreshRow) → i < length old → fresh_origin next (get_or (zip new digests) i d) ≡ fresh_origin from (get_or (zip old digests) i d)
   row_same i d lt =
       let is = (settled.each i d.0 lt).same in
-      ap (fresh_row next) (both_at i d lt) ∙ (λ k. (is k, (get_or digests i d.1).item)) ∙ sym (ap (fresh_row from) (old_at i d lt))
+      ap (fresh_origin next) (both_at i d lt) ∙ (λ k. (is k, (get_or digests i d.1).item)) ∙ sym (ap (fresh_origin from) (old_at i d lt))
 
   old_long : length (zip old digests) ≡ length old
   old_long = omega (arith, length-zip old digests, digests_long)
@@ -79,14 +79,14 @@ module _ (next : List ℕ) (os : List PoolEntry) (ds : List (List ℕ)) (rows : 
   fresh_same : fresh_rows_in next new digests ≡ fresh_rows_in from old digests
   fresh_same =
       let some : FreshRow = (some_fresh, some_digest) in
-      let is = length-map (zip new digests) (fresh_row next) in
-      let was = length-map (zip old digests) (fresh_row from) in
+      let is = length-map (zip new digests) (fresh_origin next) in
+      let was = length-map (zip old digests) (fresh_origin from) in
       same_lists (fresh_rows_in next new digests) (fresh_rows_in from old digests) (omega (arith, old_long, new_long))
-      (λ i d lt. get_or-map (fresh_row next) (zip new digests) i some d (omega arith) ∙ row_same i some (omega (arith, new_long))
-      ∙ sym (get_or-map (fresh_row from) (zip old digests) i some d (omega (arith, old_long, new_long))))
+      (λ i d lt. get_or-map (fresh_origin next) (zip new digests) i some d (omega arith) ∙ row_same i some (omega (arith, new_long))
+      ∙ sym (get_or-map (fresh_origin from) (zip old digests) i some d (omega (arith, old_long, new_long))))
 
   gaps : (i : ℕ) (d : FreshRow) → i < length (zip new digests)
-      → IsGapFor origin_cmp held (fresh_row next (get_or (zip new digests) i d)) (get_or (zip new digests) i d).0.place
+      → IsInsertionPlace origin_cmp held (fresh_origin next (get_or (zip new digests) i d)) (get_or (zip new digests) i d).0.place
   gaps i d lt =
       let in_old : i < length old = omega (arith, new_long) in
       let place : (get_or (zip new digests) i d).0.place ≡ (get_or (zip old digests) i d).0.place =
@@ -107,7 +107,7 @@ module _ (next : List ℕ) (os : List PoolEntry) (ds : List (List ℕ)) (rows : 
       omega (arith, held_long)
 
   rise : IsNonDecreasingBy (λ (f : FreshRow). f.0.place) (zip new digests)
-  rise = places_rise origins_total (λ (f : FreshRow). f.0.place) (fresh_row next) held (zip new digests) gaps rising
+  rise = places_rise origins_total (λ (f : FreshRow). f.0.place) (fresh_origin next) held (zip new digests) gaps rising
 
   pub owners_in_order : IsNonDecreasingBy (λ (f : Fresh PoolEntry). f.place) new
   owners_in_order i j d le lt =
@@ -133,7 +133,7 @@ module _ (next : List ℕ) (os : List PoolEntry) (ds : List (List ℕ)) (rows : 
       let is = owners_in_order i j some_fresh le (omega (arith, settled.long, digests_long)) in
       omega (arith, digest_place i d (omega arith), digest_place j d lt)
 
-  listed : rows_in next (with_fresh new os) (with_fresh digests ds) ≡ with_inserted (λ (f : FreshRow). f.0.place) (fresh_row next) (zip new digests) held
+  listed : rows_in next (with_fresh new os) (with_fresh digests ds) ≡ with_inserted (λ (f : FreshRow). f.0.place) (fresh_origin next) (zip new digests) held
   listed =
       let view = λ (row : PoolEntry × List ℕ). let o : Origin = (entry_in next row.0, row.1) in o in
       let item = λ (f : FreshRow). let row : PoolEntry × List ℕ = (f.0.item, f.1.item) in row in
@@ -146,14 +146,14 @@ module _ (next : List ℕ) (os : List PoolEntry) (ds : List (List ℕ)) (rows : 
     each = each-with_inserted (λ (f : Fresh PoolEntry). f.place) (λ f. f.item) (IsEntryIn next) new os owners_within rows.each
         (λ j d lt. (settled.each j d (omega (arith, settled.long))).lies);
     rising = subst (IsRising origin_cmp) (sym listed)
-        (rising-with_inserted origins_total (λ (f : FreshRow). f.0.place) (fresh_row next) held (zip new digests) rows.rising gaps rising);
+        (rising-with_inserted origins_total (λ (f : FreshRow). f.0.place) (fresh_origin next) held (zip new digests) rows.rising gaps rising);
   }
 
   pub view_rows : set.from_list {R = origin_cmp} (rows_in next (with_fresh new os) (with_fresh digests ds)) ≡ set.union (set.from_list (rows_in next os ds))
       (set.from_list (fresh_rows_in from old digests))
   view_rows =
       ap set.from_list listed
-      ∙ from_list-with_inserted origins_total (λ (f : FreshRow). f.0.place) (fresh_row next) held origins_antisymmetric (zip new digests)
+      ∙ from_list-with_inserted origins_total (λ (f : FreshRow). f.0.place) (fresh_origin next) held origins_antisymmetric (zip new digests)
       ∙ ap (λ xs. set.union (set.from_list {R = origin_cmp} held) (set.from_list xs)) fresh_same
 
 -- the slices of new owners are held where all of the new rows' are
@@ -167,6 +167,6 @@ owner_held s from owners digests same held i d lt =
     let in_zip : i < length (zip owners digests) = omega (arith, length-zip owners digests) in
     let o : Origin = (entry_in from (get_or owners i d).item, (get_or digests i some_digest).item) in
     let at : get_or (fresh_rows_in from owners digests) i o ≡ o =
-    get_or-map (fresh_row from) (zip owners digests) i (d, some_digest) o in_zip ∙ ap (fresh_row from) both in
-    let there = contains_listed origins_total (fresh_rows_in from owners digests) i o (omega (arith, length-map (zip owners digests) (fresh_row from))) in
+    get_or-map (fresh_origin from) (zip owners digests) i (d, some_digest) o in_zip ∙ ap (fresh_origin from) both in
+    let there = contains_listed origins_total (fresh_rows_in from owners digests) i o (omega (arith, length-map (zip owners digests) (fresh_origin from))) in
     held o (ap (set.contains (set.from_list {R = origin_cmp} (fresh_rows_in from owners digests))) (sym at) ∙ there)

@@ -8,7 +8,7 @@ use Rattle.std.specs.declared.cmp.Ordering.TheVariants.{Less, Equal, Greater}
 use Rattle.std.proofs.lemmas.Bool.{cases_order, cases_lt}
 use Rattle.std.proofs.lemmas.List.{get_or-take, get_or-drop, get_or_default, length-take-le, length-drop}
 use Rattle.ffv1_pool.specs.SliceOrder.{Entry, Origin, entry_cmp, bytes_cmp, origin_cmp, bytes_total, bytes_antisymmetric, entries_total, entries_antisymmetric}
-use Rattle.ffv1_pool.specs.Rising.{IsRising, IsPlaceOf, IsGapFor}
+use Rattle.ffv1_pool.specs.Rising.{IsRising, IsPlaceOf, IsInsertionPlace}
 use Rattle.ffv1_pool.specs.PoolEntries.{entry_in}
 use Rattle.ffv1_pool.specs.Rows.{rows_in, IsRows, IsRowPart}
 use Rattle.ffv1_pool.specs.declared.pool_entry.PoolEntry.{PoolEntry}
@@ -184,7 +184,7 @@ module _ (bytes : List ℕ) (os : List PoolEntry) (ds : List (List ℕ)) (rows :
     tie x y = ap (λ r. ordering_then r (bytes_cmp x y)) (tied_itself entries_total q)
 
     -- and a gap of the part is one of the rows
-    gap_in_part : (x : List ℕ) (i : ℕ) → IsGapFor bytes_cmp (take (b - a) (drop a ds)) x i → IsGapFor origin_cmp (rows_in bytes os ds) (q, x) (a + i)
+    gap_in_part : (x : List ℕ) (i : ℕ) → IsInsertionPlace bytes_cmp (take (b - a) (drop a ds)) x i → IsInsertionPlace origin_cmp (rows_in bytes os ds) (q, x) (a + i)
     gap_in_part x i gap =
         let long = part_long in
         let size = length-rows bytes os ds rows.long in
@@ -209,7 +209,7 @@ module _ (bytes : List ℕ) (os : List PoolEntry) (ds : List (List ℕ)) (rows :
     pub row_searched : (x : List ℕ) (r : Result ℕ ℕ) → IsSearchInRange r (length (take (b - a) (drop a ds)))
         → IsBinarySearchResult (λ y. bytes_cmp y x) (take (b - a) (drop a ds)) r → record {
           found : IfOk r (λ i. IsPlaceOf (rows_in bytes os ds) (q, x) (a + i));
-          absent : IfErr r (λ i. IsGapFor origin_cmp (rows_in bytes os ds) (q, x) (a + i));
+          absent : IfErr r (λ i. IsInsertionPlace origin_cmp (rows_in bytes os ds) (q, x) (a + i));
         }
     row_searched x (Ok i) in_range found =
         let both = searched_items bytes_total bytes_antisymmetric part x part_rising (Ok i) in_range found in

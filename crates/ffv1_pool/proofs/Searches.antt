@@ -8,7 +8,7 @@ use Rattle.std.specs.declared.cmp.Ordering.{Ordering}
 use Rattle.std.specs.declared.cmp.Ordering.TheVariants.{Less, Equal, Greater}
 use Rattle.std.proofs.lemmas.List.{length-map, get_or-map}
 use Rattle.std.proofs.lemmas.Bool.{cases_order}
-use Rattle.ffv1_pool.specs.Rising.{IsRising, IsGapFor, IsPlaceOf}
+use Rattle.ffv1_pool.specs.Rising.{IsRising, IsInsertionPlace, IsPlaceOf}
 
 index_le : (a : Ordering) → ordering_index a ≤ 2
 index_le Less = omega arith
@@ -58,7 +58,7 @@ module _ {K X : Type 0} {R : K → K → Ordering} (o : IsTotalOrder R) (f : X �
 
   gap_found : (xs : List X) (q : K) (i : ℕ) → i ≤ length xs
       → ((j : ℕ) (d : X) → 0 ≤ j → j < i → R (f (get_or xs j d)) q ≡ Less) → ((j : ℕ) (d : X) → i ≤ j → j < length xs → R (f (get_or xs j d)) q ≡ Greater)
-      → IsGapFor R (map f xs) q i
+      → IsInsertionPlace R (map f xs) q i
   gap_found xs q i le before after =
       let long = length-map xs f in
       record {
@@ -70,7 +70,7 @@ module _ {K X : Type 0} {R : K → K → Ordering} (o : IsTotalOrder R) (f : X �
   -- a binary search by key ends at the key, or at the gap for it
   pub searched : IsAntisymmetric R → (xs : List X) (q : K) → IsRising R (map f xs)
       → (r : Result ℕ ℕ) → IsSearchInRange r (length xs) → IsBinarySearchResult (λ y. R (f y) q) xs r
-      → record { found : IfOk r (IsPlaceOf (map f xs) q); absent : IfErr r (IsGapFor R (map f xs) q) }
+      → record { found : IfOk r (IsPlaceOf (map f xs) q); absent : IfErr r (IsInsertionPlace R (map f xs) q) }
   searched same xs q up (Ok i) in_range equal = record { found = place_found same xs q i in_range equal; absent = tt }
   searched same xs q up (Err i) in_range parted =
       let two = parted (searchable xs q up) in
@@ -83,11 +83,11 @@ map-itself (x ∷ xs) = ap (λ r. x ∷ r) (map-itself xs)
 -- a binary search among the items themselves
 pub searched_items : {K : Type 0} {R : K → K → Ordering} → IsTotalOrder R → IsAntisymmetric R → (xs : List K) (q : K) → IsRising R xs
     → (r : Result ℕ ℕ) → IsSearchInRange r (length xs) → IsBinarySearchResult (λ y. R y q) xs r
-    → record { found : IfOk r (IsPlaceOf xs q); absent : IfErr r (IsGapFor R xs q) }
+    → record { found : IfOk r (IsPlaceOf xs q); absent : IfErr r (IsInsertionPlace R xs q) }
 searched_items {R = R} o same xs q up r in_range is =
     let rises = subst (IsRising R) (sym (map-itself xs)) up in
     let both = searched o (λ x. x) same xs q rises r in_range is in
     record {
       found = subst (λ ys. IfOk r (IsPlaceOf ys q)) (map-itself xs) both.found;
-      absent = subst (λ ys. IfErr r (IsGapFor R ys q)) (map-itself xs) both.absent;
+      absent = subst (λ ys. IfErr r (IsInsertionPlace R ys q)) (map-itself xs) both.absent;
     }

@@ -9,7 +9,7 @@ use Rattle.std.proofs.lemmas.List.{length-map, get_or-map, map-append, take_more
 use Rattle.std.proofs.Math.ListN.{get_or-append}
 use Rattle.std.proofs.Math.Seq.{get_or-append_right}
 use Rattle.ffv1_pool.specs.Sets as set
-use Rattle.ffv1_pool.specs.Rising.{IsRising, IsGapFor, IsPlaceOf}
+use Rattle.ffv1_pool.specs.Rising.{IsRising, IsInsertionPlace, IsPlaceOf}
 use Rattle.ffv1_pool.proofs.RisingSets.{contains_placed, insert_present}
 use Rattle.ffv1_pool.proofs.ItemsRise.{rising-append, rising_one}
 
@@ -28,7 +28,7 @@ each-push P xs x each here i d lt =
 
 -- of the first so many that come, just those are listed that are not held
 pub record AreSifted {K F : Type 0} (R : K → K → Ordering) (place : F → ℕ) (key : F → K) (held coming : List K) (passed : ℕ) (fresh : List F) : Type 0 where
-  pub gaps : (i : ℕ) (d : F) → i < length fresh → IsGapFor R held (key (get_or fresh i d)) (place (get_or fresh i d))
+  pub gaps : (i : ℕ) (d : F) → i < length fresh → IsInsertionPlace R held (key (get_or fresh i d)) (place (get_or fresh i d))
   pub rising : IsRising R (map key fresh)
   pub below : (j k : ℕ) (d : F) (e : K) → j < length fresh → passed ≤ k → k < length coming → R (key (get_or fresh j d)) (get_or coming k e) ≡ Less
   pub all : set.union (set.from_list {R = R} held) (set.from_list (map key fresh)) ≡ set.union (set.from_list held) (set.from_list (take passed coming))
@@ -64,7 +64,7 @@ module _ {K F : Type 0} {R : K → K → Ordering} (o : IsTotalOrder R) (same : 
       all = is.all ∙ sym (all_held (take n coming) (get_or coming n d) (contains_placed o held (get_or coming n d) at found)) ∙ sym more;
     }
 
-    pub sifted_new : IsRising R coming → (f : F) → key f ≡ get_or coming n d → IsGapFor R held (key f) (place f)
+    pub sifted_new : IsRising R coming → (f : F) → key f ≡ get_or coming n d → IsInsertionPlace R held (key f) (place f)
         → AreSifted R place key held coming (n + 1) (fresh ++ f ∷ [])
     sifted_new rises f own gap =
         let long = length-map fresh key in
@@ -74,7 +74,7 @@ module _ {K F : Type 0} {R : K → K → Ordering} (o : IsTotalOrder R) (same : 
         (λ i j e in_i in_j. rw (get_or-map key fresh i f e (omega arith), one_at j e (omega arith), own)
         (is.below i n f d (omega arith) (omega arith) lt)) in
         record {
-          gaps = each-push (λ x. IsGapFor R held (key x) (place x)) fresh f is.gaps gap;
+          gaps = each-push (λ x. IsInsertionPlace R held (key x) (place x)) fresh f is.gaps gap;
           rising = subst (IsRising R) (sym mapped) up;
           below = λ j k x e in_j ge in_k.
               each-push (λ y. R (key y) (get_or coming k e) ≡ Less) fresh f

@@ -91,15 +91,15 @@ abbrev pub AreHeld : set.SetOf entry_cmp → set.SetOf origin_cmp → Type 0
 AreHeld slices origins = (o : Origin) → set.contains origins o ≡ true → set.contains slices o.0 ≡ true
 
 -- each digest has 32 bytes
-abbrev pub AreWhole : set.SetOf origin_cmp → Type 0
-AreWhole origins = (o : Origin) → set.contains origins o ≡ true → length o.1 ≡ 32
+abbrev pub AreOfDigestLength : set.SetOf origin_cmp → Type 0
+AreOfDigestLength origins = (o : Origin) → set.contains origins o ≡ true → length o.1 ≡ 32
 
 -- What each holding keeps true: its reel is one, it holds slices of its tiles, and its origins are digests of what gave these.
 pub record IsHolding (h : Contents) : Type 0 where
   pub reel : IsReel h.reel
   pub slices : AreEntriesOf h.reel.setup h.slices
   pub origins_held : AreHeld h.slices h.origins
-  pub digests_whole : AreWhole h.origins
+  pub digests_whole : AreOfDigestLength h.origins
 
 abbrev pub coded_contents : Coded Contents
 coded_contents = code_by (Reel × (set.SetOf entry_cmp × set.SetOf origin_cmp)) (coded× coded_reel (coded× (set.code coded_entry) (set.code coded_origin)))

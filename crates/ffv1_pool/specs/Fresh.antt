@@ -4,7 +4,7 @@ use Rattle.std.specs.List.{insert}
 use Rattle.std.specs.declared.cmp.Ordering.{Ordering}
 use Rattle.ffv1_pool.specs.SliceOrder.{Entry, entry_cmp}
 use Rattle.ffv1_pool.specs.Sets as set
-use Rattle.ffv1_pool.specs.Rising.{IsRising, IsGapFor}
+use Rattle.ffv1_pool.specs.Rising.{IsRising, IsInsertionPlace}
 use Rattle.ffv1_pool.specs.PoolEntries.{entry_in, IsEntryIn}
 use Rattle.ffv1_pool.specs.declared.pool_entry.PoolEntry.{PoolEntry}
 use Rattle.ffv1_pool.specs.declared.fresh.Fresh.{Fresh}
@@ -17,7 +17,7 @@ fresh_in bytes f = entry_in bytes f.item
 pub record AreFresh (held : List Entry) (bytes : List ℕ) (fresh : List (Fresh PoolEntry)) : Type 0 where
   pub each : (i : ℕ) (d : Fresh PoolEntry) → i < length fresh → IsEntryIn bytes (slice_index_or fresh i d).item
   pub gaps : (i : ℕ) (d : Fresh PoolEntry) → i < length fresh
-      → IsGapFor entry_cmp held (fresh_in bytes (slice_index_or fresh i d)) (slice_index_or fresh i d).place
+      → IsInsertionPlace entry_cmp held (fresh_in bytes (slice_index_or fresh i d)) (slice_index_or fresh i d).place
   pub rising : IsRising entry_cmp (map (fresh_in bytes) fresh)
 
 -- Held together with the new ones, they are all that is held or comes.

@@ -1,6 +1,6 @@
 -- How a holding keeps its contents.
 use Rattle.std.specs.Prelude.{◌≡◌}
-use Rattle.ffv1_pool.specs.Contents.{Contents, AreEntriesOf, AreHeld, AreWhole}
+use Rattle.ffv1_pool.specs.Contents.{Contents, AreEntriesOf, AreHeld, AreOfDigestLength}
 use Rattle.ffv1_pool.specs.Reels.{IsReel, reel_tiles}
 use Rattle.ffv1_pool.specs.declared.holding.Holding.TheInside.{Inside}
 
@@ -13,4 +13,4 @@ pub record IsKept (a : Inside) : Type 0 where
   pub tiles : a.held.tiles ≡ reel_tiles a.reel
   pub slices : AreEntriesOf a.reel.setup a.held.slices
   pub origins_held : AreHeld a.held.slices a.held.origins
-  pub digests_whole : AreWhole a.held.origins
+  pub digests_whole : AreOfDigestLength a.held.origins

@@ -6,13 +6,13 @@ use Rattle.ffv1_slice.specs.Slices.{IsFoundIn, IsOriginal}
 use Rattle.ffv1_pool.specs.Sets as set
 use Rattle.ffv1_pool.specs.Reels.{Reel}
 use Rattle.ffv1_pool.specs.Contents.{holding_of, slices_of_copies, origins_of_copies}
-use Rattle.ffv1_pool.specs.Originals.{AreCopiesOf, AreNear, HoldsExactly}
+use Rattle.ffv1_pool.specs.Originals.{AreCopiesOfSlices, AreNear, HoldsExactly}
 
 -- Where every slice that is found in the copies is the original's for its tile, and each of the original's is found in some copy, the
 -- holding of the copies holds exactly the original's slices.
 abbrev pub CopiesHoldTheOriginal : Type 0
 CopiesHoldTheOriginal =
-    (reel : Reel) (payload : List ℕ) (slices copies : List (List ℕ)) → IsOriginal reel.setup payload slices → AreCopiesOf reel.setup slices copies
+    (reel : Reel) (payload : List ℕ) (slices copies : List (List ℕ)) → IsOriginal reel.setup payload slices → AreCopiesOfSlices reel.setup slices copies
     → HoldsExactly (holding_of reel copies) slices
 
 -- Copies that are near an original, with each of its slices intact in one of them, hold exactly the original's slices.

@@ -12,7 +12,7 @@ abbrev pub HoldsExactly : Contents → List (List ℕ) → Type 0
 HoldsExactly h slices = h.slices ≡ set.from_list (enumerate_from 0 slices)
 
 -- Each slice that is found in a copy is the original's for its tile, and each of the original's is found in some copy.
-pub record AreCopiesOf (setup : SetupValue) (slices copies : List (List ℕ)) : Type 0 where
+pub record AreCopiesOfSlices (setup : SetupValue) (slices copies : List (List ℕ)) : Type 0 where
   pub only : (copy : List ℕ) (tile : ℕ) (bytes : List ℕ) → Contains copies copy → IsFoundIn setup copy tile bytes → (tile < length slices)
       × (bytes ≡ slice_index_or slices tile bytes)
   pub all : (tile : ℕ) (d : List ℕ) → tile < length slices → (copy : List ℕ) × Contains copies copy × IsFoundIn setup copy tile (slice_index_or slices tile d)

@@ -3,7 +3,7 @@ use Rattle.std.specs.Prelude.{◌≡◌, ℕ, ◌<◌, ◌≤◌, List, length, 
 use Rattle.std.specs.List.{zip}
 use Rattle.std.specs.declared.cmp.Ordering.TheVariants.{Less, Greater}
 use Rattle.ffv1_pool.specs.SliceOrder.{Entry, Origin, entry_cmp, origin_cmp}
-use Rattle.ffv1_pool.specs.Rising.{IsRising, IsGapFor}
+use Rattle.ffv1_pool.specs.Rising.{IsRising, IsInsertionPlace}
 use Rattle.ffv1_pool.specs.PoolEntries.{entry_in, AreEntriesIn, IsPool}
 use Rattle.ffv1_pool.specs.Fresh.{IsMoved}
 use Rattle.ffv1_pool.specs.declared.pool_entry.PoolEntry.{PoolEntry}
@@ -44,20 +44,20 @@ pub record IsRowPart (bytes : List ℕ) (owners : List PoolEntry) (e : Entry) (a
 abbrev pub FreshRow : Type 0
 FreshRow = Fresh PoolEntry × Fresh (List ℕ)
 
-abbrev pub fresh_row : List ℕ → FreshRow → Origin
-fresh_row bytes f = (entry_in bytes f.0.item, f.1.item)
+abbrev pub fresh_origin : List ℕ → FreshRow → Origin
+fresh_origin bytes f = (entry_in bytes f.0.item, f.1.item)
 
 abbrev pub fresh_rows_in : List ℕ → List (Fresh PoolEntry) → List (Fresh (List ℕ)) → List Origin
-fresh_rows_in bytes owners digests = map (fresh_row bytes) (zip owners digests)
+fresh_rows_in bytes owners digests = map (fresh_origin bytes) (zip owners digests)
 
 -- New rows have owners in the bytes, rise, and each goes before its place among those that are held.
 pub record AreFreshRows (held : List Origin) (bytes : List ℕ) (owners : List (Fresh PoolEntry)) (digests : List (Fresh (List ℕ))) : Type 0 where
   pub places : map (λ f. f.place) digests ≡ map (λ f. f.place) owners
   pub gaps : (i : ℕ) (d : FreshRow) → i < length (zip owners digests)
-      → IsGapFor origin_cmp held (fresh_row bytes (slice_index_or (zip owners digests) i d)) (slice_index_or (zip owners digests) i d).0.place
+      → IsInsertionPlace origin_cmp held (fresh_origin bytes (slice_index_or (zip owners digests) i d)) (slice_index_or (zip owners digests) i d).0.place
   pub rising : IsRising origin_cmp (fresh_rows_in bytes owners digests)
 
 -- Each owner is the entry of the same slice in other bytes now.
-pub record AreSettled (from bytes : List ℕ) (old new : List (Fresh PoolEntry)) : Type 0 where
+pub record AreOwnersMoved (from bytes : List ℕ) (old new : List (Fresh PoolEntry)) : Type 0 where
   pub long : length new ≡ length old
   pub each : (i : ℕ) (d : Fresh PoolEntry) → i < length old → IsMoved from bytes (slice_index_or old i d) (slice_index_or new i d)

@@ -18,8 +18,8 @@ abbrev pub with_more : TileSlices → set.SetOf entry_cmp → set.SetOf origin_c
 with_more h slices origins = record { tiles = h.tiles; slices = set.union h.slices slices; origins = set.union h.origins origins }
 
 -- with one slice more, which came from copies of these digests
-abbrev pub with_entry : TileSlices → Entry → List (List ℕ) → TileSlices
-with_entry h e digests =
+abbrev pub with_tile_entry : TileSlices → Entry → List (List ℕ) → TileSlices
+with_tile_entry h e digests =
     record { tiles = h.tiles; slices = set.insert h.slices e; origins = set.union h.origins (set.from_list (with_each e digests)) }
 
 -- the slices of one tile, as a set

@@ -3,7 +3,7 @@ ghost use Rattle.std.specs.Prelude.{◌≡◌, ℕ, ◌+◌, ◌<◌, ◌≤◌,
 ghost use Rattle.std.specs.List.Sorted.{IsNonDecreasingBy};
 ghost use Rattle.ffv1_pool.specs.Sets as set;
 ghost use Rattle.ffv1_pool.specs.SliceOrder.{entry_cmp};
-ghost use Rattle.ffv1_pool.specs.Rising.{IsRising, IsPlaceOf, IsGapFor};
+ghost use Rattle.ffv1_pool.specs.Rising.{IsRising, IsPlaceOf, IsInsertionPlace};
 ghost use Rattle.ffv1_pool.specs.PoolEntries.{entry_in, IsPool, IsEntryIn};
 ghost use Rattle.ffv1_pool.specs.Fresh.{fresh_in, AreFresh, AreAllFresh, AreMoved, with_fresh};
 
@@ -105,12 +105,12 @@ pub(crate) fn spread<T: Copy + Default>(items: &mut Vec<T>, fresh: &[Fresh<T>])
 {
     let held = items.len();
     items.resize(held + fresh.len(), T::default()).unwrap();
-    merge(items, held, fresh);
+    interleave(items, held, fresh);
 }
 
 /// Puts new items among the first `held` of items, after which there is room for just them. Each place is passed once,
 /// from the end.
-fn merge<T: Copy>(items: &mut [T], held: usize, fresh: &[Fresh<T>])
+fn interleave<T: Copy>(items: &mut [T], held: usize, fresh: &[Fresh<T>])
     requires room { length items.old ≡ held + length fresh.now }
     requires places { (i : ℕ) (d : Fresh T) → i < length fresh.now → (slice_index_or fresh.now i d).place ≤ held }
     requires rising { IsNonDecreasingBy (λ new. new.place) fresh.now }
@@ -137,7 +137,7 @@ pub(crate) fn place_of(
 ) -> Result<usize, usize>
     requires { IsRising entry_cmp (map (entry_in bytes.now) entries.now) }
     ensures found { IfOk result (IsPlaceOf (map (entry_in bytes.now) entries.now) (tile, slice.now)) }
-    ensures absent { IfErr result (IsGapFor entry_cmp (map (entry_in bytes.now) entries.now) (tile, slice.now)) }
+    ensures absent { IfErr result (IsInsertionPlace entry_cmp (map (entry_in bytes.now) entries.now) (tile, slice.now)) }
 {
     entries.binary_search_by(|held| held.compare(bytes, tile, slice))
 }
@@ -152,7 +152,7 @@ pub(crate) fn place_near(
 ) -> Result<usize, usize>
     requires { IsRising entry_cmp (map (entry_in bytes.now) entries.now) }
     ensures found { IfOk result (IsPlaceOf (map (entry_in bytes.now) entries.now) (tile, slice.now)) }
-    ensures absent { IfErr result (IsGapFor entry_cmp (map (entry_in bytes.now) entries.now) (tile, slice.now)) }
+    ensures absent { IfErr result (IsInsertionPlace entry_cmp (map (entry_in bytes.now) entries.now) (tile, slice.now)) }
 {
     if near < entries.len() && entries[near].compare(bytes, tile, slice).is_eq() {
         return Ok(near);

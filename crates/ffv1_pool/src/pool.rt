@@ -4,7 +4,7 @@ ghost use Rattle.std.specs.List.Sorted.{IsNonDecreasingBy};
 ghost use Rattle.sha2.specs.Sha256.{sha256};
 ghost use Rattle.ffv1_slice.specs.Chain.{IsFramed};
 ghost use Rattle.ffv1_pool.specs.Sets as set;
-ghost use Rattle.ffv1_pool.specs.TileSets.{with_more, with_entry, tile_slices, digests_in};
+ghost use Rattle.ffv1_pool.specs.TileSets.{with_more, with_tile_entry, tile_slices, digests_in};
 ghost use Rattle.ffv1_pool.specs.Contents.{AreHeld, AreDigests};
 ghost use Rattle.ffv1_pool.specs.PoolEntries.{entry_in, IsPool, IsTilePart};
 ghost use Rattle.ffv1_pool.specs.Rows.{rows_of, AreRows};
@@ -141,7 +141,7 @@ impl Pool {
     ) -> Result<(), HoldFault>
         requires framed { IsFramed slice.now }
         requires digests { AreDigests digests.now }
-        ensures ok { OnOk result (self.new ≡ with_entry self.old (tile, slice.now) digests.now) }
+        ensures ok { OnOk result (self.new ≡ with_tile_entry self.old (tile, slice.now) digests.now) }
         ensures memory { OnErr result (result ≡ Err HoldFault.Memory) }
         ensures err { OnErr result (self.new ≡ self.old) }
     {

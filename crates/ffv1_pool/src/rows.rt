@@ -3,12 +3,12 @@ ghost use Rattle.std.specs.Bool.{OnTrue};
 ghost use Rattle.std.specs.Prelude.{◌≡◌, ℕ, ◌+◌, ◌<◌, ◌≤◌, true, length, map, slice_index_or, vec_len, vec_capacity, IfOk, IfErr, OnErr};
 ghost use Rattle.ffv1_pool.specs.Sets as set;
 ghost use Rattle.ffv1_pool.specs.SliceOrder.{entry_cmp, origin_cmp};
-ghost use Rattle.ffv1_pool.specs.Rising.{IsPlaceOf, IsGapFor};
+ghost use Rattle.ffv1_pool.specs.Rising.{IsPlaceOf, IsInsertionPlace};
 ghost use Rattle.ffv1_pool.specs.PoolEntries.{entry_in, IsPool};
 ghost use Rattle.ffv1_pool.specs.TileSets.{digests_in};
 ghost use Rattle.ffv1_pool.specs.Contents.{AreHeld, AreDigests};
 ghost use Rattle.ffv1_pool.specs.Fresh.{AreAllFresh};
-ghost use Rattle.ffv1_pool.specs.Rows.{rows_in, rows_of, IsRows, AreRows, IsRowPart, fresh_rows_in, AreFreshRows, AreSettled};
+ghost use Rattle.ffv1_pool.specs.Rows.{rows_in, rows_of, IsRows, AreRows, IsRowPart, fresh_rows_in, AreFreshRows, AreOwnersMoved};
 
 use crate::fault::HoldFault;
 use crate::fresh::{Fresh, place_near, spread};
@@ -95,7 +95,7 @@ fn place_of_row(
 ) -> Result<usize, usize>
     requires { AreRows rows }
     ensures found { IfOk result (IsPlaceOf (rows_of rows.entry) ((tile, slice.now), digest.now)) }
-    ensures absent { IfErr result (IsGapFor origin_cmp (rows_of rows.entry) ((tile, slice.now), digest.now)) }
+    ensures absent { IfErr result (IsInsertionPlace origin_cmp (rows_of rows.entry) ((tile, slice.now), digest.now)) }
 {
     let (start, end) = row_part(rows, near, tile, slice);
     let digests = rows.digests;
@@ -182,7 +182,7 @@ fn settle(from: &[u8], bytes: &[u8], entries: &[PoolEntry], owners: &mut [Fresh<
     requires pool { IsPool bytes.now entries.now }
     requires held { (i : ℕ) (d : Fresh PoolEntry) → i < length owners.old
         → set.contains (set.from_list {R = entry_cmp} (map (entry_in bytes.now) entries.now)) (entry_in from.now (slice_index_or owners.old i d).item) ≡ true }
-    ensures { AreSettled from.now bytes.now owners.old owners.new }
+    ensures { AreOwnersMoved from.now bytes.now owners.old owners.new }
 {
     for index in 0..owners.len() {
         let Fresh { place, item } = owners[index];

@@ -2,7 +2,7 @@
 ghost use Rattle.std.specs.Prelude.{◌≡◌, ℕ, ◌+◌, ◌<◌, length, slice_index_or, IfOk, IfErr, OnOk, OnErr, IsErrOf, IsTrue, ◌↔◌, not};
 ghost use Rattle.ffv1_pool.specs.Sets as set;
 ghost use Rattle.ffv1_pool.specs.SliceOrder.{bytes_cmp};
-ghost use Rattle.ffv1_pool.specs.Rising.{IsPlaceOf, IsGapFor};
+ghost use Rattle.ffv1_pool.specs.Rising.{IsPlaceOf, IsInsertionPlace};
 
 use crate::fault::HoldFault;
 use crate::joins::Join;
@@ -96,7 +96,7 @@ impl SliceSet {
     /// Where the slice is, or where it would go.
     fn place_of(&self, slice: &[u8]) -> Result<usize, usize>
         ensures found { IfOk result (IsPlaceOf (set.items self.now) slice.now) }
-        ensures absent { IfErr result (IsGapFor bytes_cmp (set.items self.now) slice.now) }
+        ensures absent { IfErr result (IsInsertionPlace bytes_cmp (set.items self.now) slice.now) }
     {
         self.slices
             .binary_search_by(|held| held.as_slice().cmp(&slice))

@@ -36,7 +36,7 @@ pub fn out_word<'a>(words: &Words<'a>) -> &'a str
 
 /// Prints the help. If that fails, standard output is at fault.
 fn print_help<W: Write>(output: &mut W) -> Result<(), CliFault>
-    ensures told { MatchResult result (λ _. Appends (W.contents output.old) (W.contents output.new) help_text)
+    ensures reported { MatchResult result (λ _. Appends (W.contents output.old) (W.contents output.new) help_text)
         (StopsPrinting help_text (W.contents output.old) (W.contents output.new)) }
     ensures names { IfErr result (NamesPath (λ path. path ≡ CommandPath.StandardOutput)) }
 {
@@ -48,7 +48,7 @@ fn print_help<W: Write>(output: &mut W) -> Result<(), CliFault>
 
 /// Prints the version. If that fails, standard output is at fault.
 fn print_version<W: Write>(output: &mut W) -> Result<(), CliFault>
-    ensures told { MatchResult result (λ _. Appends (W.contents output.old) (W.contents output.new) version_text)
+    ensures reported { MatchResult result (λ _. Appends (W.contents output.old) (W.contents output.new) version_text)
         (StopsPrinting version_text (W.contents output.old) (W.contents output.new)) }
     ensures names { IfErr result (NamesPath (λ path. path ≡ CommandPath.StandardOutput)) }
 {

@@ -144,7 +144,7 @@ fn line_of(alloc: Global, fault: &CliFault, words: &Words<'_>) -> Result<String,
 }
 
 /// Runs the command of these words, of which the first is the program's name, and gives what it returns, or the line of its fault.
-fn told<'a>(
+fn reported<'a>(
     alloc: Global,
     given: &'a [String],
     order: &'a Order,
@@ -185,16 +185,16 @@ fn opened(
 ) -> Result<(u32, String), Fail> {
     let given = given_of(alloc, words)?;
     let order = Order::new();
-    let told = told(alloc, given.as_slice(), &order, first, others)?;
-    Ok((order.number(), told))
+    let reported = reported(alloc, given.as_slice(), &order, first, others)?;
+    Ok((order.number(), reported))
 }
 
 /// Each command opens the files of its words in their order, each once, and makes its own after that, unless a fault comes first.
 #[test]
 fn files_are_opened_in_their_order(rt: HostRuntime) -> Result<(), Fail> {
     for (words, first, others, files, text) in ROWS {
-        let (number, told) = opened(rt.alloc(), words, first, others)?;
-        assert_eq!(rt; told.as_str(), text, "{words:?}");
+        let (number, reported) = opened(rt.alloc(), words, first, others)?;
+        assert_eq!(rt; reported.as_str(), text, "{words:?}");
         assert_eq!(rt; number, files, "{words:?}");
     }
     Ok(())
@@ -223,8 +223,8 @@ fn held(alloc: Global) -> Result<Vec<u8>, Fail> {
 fn holding_files_are_opened_in_their_order(rt: HostRuntime) -> Result<(), Fail> {
     let file = held(rt.alloc())?;
     for (words, files) in HELD {
-        let (number, told) = opened(rt.alloc(), words, &file, &file)?;
-        assert_eq!(rt; told.as_str(), "true", "{words:?}");
+        let (number, reported) = opened(rt.alloc(), words, &file, &file)?;
+        assert_eq!(rt; reported.as_str(), "true", "{words:?}");
         assert_eq!(rt; number, files, "{words:?}");
     }
     Ok(())

@@ -6,20 +6,20 @@ use Rattle.std.specs.List.{All, flat_map}
 use Rattle.std.proofs.lemmas.List.{length-set}
 use Rattle.std.proofs.lemmas.List.Elements.{All-cons, All-nil, All-head, All-tail}
 use Rattle.ffv1_range.specs.Coding.{Coder, PlaceOf, Place, IsRangeRun}
-use Rattle.ffv1_range.specs.Rows.{Rows, with_row, Piece, IsRowsRun}
+use Rattle.ffv1_range.specs.Rows.{Rows, with_row, RowBits, IsRowsRun}
 use Rattle.ffv1_range.specs.Forms.{Form, on, lifted, lifted_result}
 use Rattle.ffv1_range.specs.Reading.{signed_symbol_form}
 use Rattle.ffv1_range.specs.Symbols.{signed_symbol_bits}
 use Rattle.ffv1_range.specs.Fields.{flag}
 use Rattle.ffv1_range.specs.Tables.{IsTableSet, set_of}
 use Rattle.ffv1_range.specs.TableForms.{TwoRows, record_row, with_record_row, delta_form, context_deltas, contexts_deltas, set_deltas, sets_deltas}
-use Rattle.ffv1_range.specs.Setup.{bit, fields_bits, context_pieces, deltas_pieces, IsSymbol, AreDeltas, SetFields, IsSetFields}
+use Rattle.ffv1_range.specs.Setup.{bit, fields_bits, context_row_bits, deltas_row_bits, IsSymbol, AreDeltas, SetFields, IsSetFields}
 use Rattle.ffv1_range.specs.declared.fault.SetupFault.{SetupFault}
 use Rattle.ffv1_range.specs.declared.fault.SetupFault.TheVariants.{Range}
 use Rattle.ffv1_range.proofs.Forms.{place_of, bind_ok}
 use Rattle.ffv1_range.proofs.Spelling.{signed_symbol_is_spelled, bind_is_ok, same_ok}
 use Rattle.ffv1_range.proofs.FieldRuns.{lifted_ok, flag-found, flag-run}
-use Rattle.ffv1_range.proofs.RowRuns.{rows_append, rows_split, with_row-same, with_row-other, one_piece}
+use Rattle.ffv1_range.proofs.RowRuns.{rows_append, rows_split, with_row-same, with_row-other, one_row_bits}
 use Rattle.ffv1_range.proofs.DeltaSteps.{context_rest, contexts_rest, coded_rest, sets_rest}
 
 -- ---- the record's row and the rows of its deltas, among all rows
@@ -30,16 +30,16 @@ pub record AreRowsOf (rows : Rows) (two : TwoRows) : Type 0 where
   pub deltas : (k : ℕ) → k < 32 → rows (1 + k) ≡ slice_index_or two.1 k []
 
 -- From p to q these bits of rows are coded, whatever the other rows are.
-abbrev pub AreCoded : Bool → List Piece → PlaceOf TwoRows → PlaceOf TwoRows → Type 0
-AreCoded closed pieces p q =
-    (rows : Rows) → AreRowsOf rows p.states → (after : Rows) × IsRowsRun closed (place_of p.coder rows) pieces (place_of q.coder after)
+abbrev pub AreCoded : Bool → List RowBits → PlaceOf TwoRows → PlaceOf TwoRows → Type 0
+AreCoded closed rows_bits p q =
+    (rows : Rows) → AreRowsOf rows p.states → (after : Rows) × IsRowsRun closed (place_of p.coder rows) rows_bits (place_of q.coder after)
     × AreRowsOf after q.states
 
 nothing_coded : (closed : Bool) (p : PlaceOf TwoRows) → AreCoded closed [] p p
 unfolding IsRowsRun
 nothing_coded closed p rows h = (rows, refl, h)
 
-both_coded : (closed : Bool) (xs ys : List Piece) (p m q : PlaceOf TwoRows) → AreCoded closed xs p m → AreCoded closed ys m q → AreCoded closed (xs ++ ys) p q
+both_coded : (closed : Bool) (xs ys : List RowBits) (p m q : PlaceOf TwoRows) → AreCoded closed xs p m → AreCoded closed ys m q → AreCoded closed (xs ++ ys) p q
 both_coded closed xs ys p m q h k rows r =
     let a = h rows r in
     let b = k a.0 a.2 in
@@ -92,7 +92,7 @@ delta-found closed k c deltas y h g =
       small = spelled.0;
       coded = λ main rows r. (
         with_row rows (1 + k) x.0.1.states,
-        one_piece closed c rows (1 + k) row (signed_symbol_bits x.0.0) x.0.1 (r.deltas k h) spelled.1,
+        one_row_bits closed c rows (1 + k) row (signed_symbol_bits x.0.0) x.0.1 (r.deltas k h) spelled.1,
         with_delta_row rows main x.0.1.states deltas k h r,
       );
     })
@@ -114,11 +114,11 @@ pub record ContextAt (closed : Bool) (n k : ℕ) (c : Coder) (deltas : List (Lis
   pub values : List ℤ
   pub size : length values ≡ n
   pub small : All (λ delta. IsSymbol (unsigned_abs delta)) values
-  pub coded : (main : List ℕ) → AreCoded closed (context_pieces k values) (place_of c (main, deltas)) (place_of q.coder (main, q.states))
+  pub coded : (main : List ℕ) → AreCoded closed (context_row_bits k values) (place_of c (main, deltas)) (place_of q.coder (main, q.states))
 
 context-found : (closed : Bool) (n k : ℕ) (c : Coder) (deltas : List (List ℕ)) (y : Unit {0} × PlaceOf (List (List ℕ))) → k + n ≡ 32
     → context_deltas n k closed (place_of c deltas) ≡ Ok y → ContextAt closed n k c deltas y.1
-unfolding context_deltas context_rest context_pieces
+unfolding context_deltas context_rest context_row_bits
 context-found closed zero k c deltas y e h =
     let pair = same_ok (tt, place_of c deltas) y h in
     record {
@@ -137,7 +137,7 @@ context-found closed (suc n) k c deltas y e h =
       size = ap suc r.size;
       small = All-cons IsDelta x.0.0 r.values d.small r.small;
       coded = λ main.
-          both_coded closed ((1 + k, signed_symbol_bits x.0.0) ∷ []) (context_pieces (k + 1) r.values) (place_of c (main, deltas))
+          both_coded closed ((1 + k, signed_symbol_bits x.0.0) ∷ []) (context_row_bits (k + 1) r.values) (place_of c (main, deltas))
           (place_of x.0.1.coder (main, x.0.1.states))
           (place_of y.1.coder (main, y.1.states)) (d.coded main) (r.coded main);
     }
@@ -162,9 +162,9 @@ nothing_read closed form c main deltas rows z ends r same =
 
 context-run : (closed : Bool) (n k : ℕ) (values : List ℤ) (c : Coder) (main : List ℕ) (deltas : List (List ℕ)) (rows : Rows) (z : PlaceOf Rows)
     → length values ≡ n → k + n ≡ 32
-    → All (λ delta. IsSymbol (unsigned_abs delta)) values → AreRowsOf rows (main, deltas) → IsRowsRun closed (place_of c rows) (context_pieces k values) z
+    → All (λ delta. IsSymbol (unsigned_abs delta)) values → AreRowsOf rows (main, deltas) → IsRowsRun closed (place_of c rows) (context_row_bits k values) z
     → DeltasRead closed (context_deltas n k) c main deltas z
-unfolding context_deltas context_rest context_pieces IsRowsRun
+unfolding context_deltas context_rest context_row_bits IsRowsRun
 context-run closed n k [] c main deltas rows z size e small r run =
     nothing_read closed (context_deltas n k) c main deltas rows z (ap (λ m. context_deltas m k closed (place_of c deltas)) (sym size)) r run
 context-run closed zero k (delta ∷ values) c main deltas rows z size e small r run = absurd (omega (arith, size))
@@ -192,7 +192,7 @@ pub record ContextsAt (closed : Bool) (n : ℕ) (c : Coder) (deltas : List (List
   pub values : List (List ℤ)
   pub size : length values ≡ n
   pub each : All IsContext values
-  pub coded : (main : List ℕ) → AreCoded closed (flat_map (context_pieces 0) values) (place_of c (main, deltas)) (place_of q.coder (main, q.states))
+  pub coded : (main : List ℕ) → AreCoded closed (flat_map (context_row_bits 0) values) (place_of c (main, deltas)) (place_of q.coder (main, q.states))
 
 contexts-found : (closed : Bool) (n : ℕ) (c : Coder) (deltas : List (List ℕ)) (y : Unit {0} × PlaceOf (List (List ℕ)))
     → contexts_deltas n closed (place_of c deltas) ≡ Ok y → ContextsAt closed n c deltas y.1
@@ -215,21 +215,21 @@ contexts-found closed (suc n) c deltas y h =
       size = ap suc r.size;
       each = All-cons IsContext d.values r.values (d.size, d.small) r.each;
       coded = λ main.
-          both_coded closed (context_pieces 0 d.values) (flat_map (context_pieces 0) r.values) (place_of c (main, deltas))
+          both_coded closed (context_row_bits 0 d.values) (flat_map (context_row_bits 0) r.values) (place_of c (main, deltas))
           (place_of x.0.1.coder (main, x.0.1.states))
           (place_of y.1.coder (main, y.1.states)) (d.coded main) (r.coded main);
     }
 
 contexts-run : (closed : Bool) (n : ℕ) (values : List (List ℤ)) (c : Coder) (main : List ℕ) (deltas : List (List ℕ)) (rows : Rows) (z : PlaceOf Rows)
     → length values ≡ n
-    → All IsContext values → AreRowsOf rows (main, deltas) → IsRowsRun closed (place_of c rows) (flat_map (context_pieces 0) values) z
+    → All IsContext values → AreRowsOf rows (main, deltas) → IsRowsRun closed (place_of c rows) (flat_map (context_row_bits 0) values) z
     → DeltasRead closed (contexts_deltas n) c main deltas z
 unfolding contexts_deltas contexts_rest IsRowsRun
 contexts-run closed n [] c main deltas rows z size each r run =
     nothing_read closed (contexts_deltas n) c main deltas rows z (ap (λ m. contexts_deltas m closed (place_of c deltas)) (sym size)) r run
 contexts-run closed zero (values ∷ others) c main deltas rows z size each r run = absurd (omega (arith, size))
 contexts-run closed (suc n) (values ∷ others) c main deltas rows z size each r run =
-    let s = rows_split closed (context_pieces 0 values) (flat_map (context_pieces 0) others) (place_of c rows) z run in
+    let s = rows_split closed (context_row_bits 0 values) (flat_map (context_row_bits 0) others) (place_of c rows) z run in
     let head : IsContext values = All-head IsContext values others each in
     let first = context-run closed 32 0 values c main deltas rows s.0 head.0 refl head.1 r s.1 in
     let rest = contexts-run closed n others s.0.coder main first.after s.0.states z (omega (arith, size))
@@ -246,7 +246,7 @@ flag_coded : (closed : Bool) (c : Coder) (main : List ℕ) (deltas : List (List 
     → IsRangeRun closed (place_of c main) (fields_bits (bit b ∷ [])) q
     → AreCoded closed ((0, fields_bits (bit b ∷ [])) ∷ []) (place_of c (main, deltas)) (place_of q.coder (q.states, deltas))
 flag_coded closed c main deltas b q run rows r =
-    (with_row rows 0 q.states, one_piece closed c rows 0 main (fields_bits (bit b ∷ [])) q r.main run, with_main_row rows main q.states deltas r)
+    (with_row rows 0 q.states, one_row_bits closed c rows 0 main (fields_bits (bit b ∷ [])) q r.main run, with_main_row rows main q.states deltas r)
 
 -- reading states_coded at the record's row
 abbrev coded_flag_at : Bool → PlaceOf TwoRows → Result (Bool × PlaceOf TwoRows) SetupFault
@@ -254,7 +254,7 @@ coded_flag_at closed p = on record_row with_record_row flag closed p
 
 -- where states_coded leads
 SetDeltasAt : Bool → ℕ → PlaceOf TwoRows → PlaceOf TwoRows → Type 0
-SetDeltasAt closed contexts p q = (deltas : Option (List (List ℤ))) × AreDeltas contexts deltas × AreCoded closed (deltas_pieces deltas) p q
+SetDeltasAt closed contexts p q = (deltas : Option (List (List ℤ))) × AreDeltas contexts deltas × AreCoded closed (deltas_row_bits deltas) p q
 
 set_rest_found : (closed : Bool) (contexts : ℕ) (c : Coder) (main : List ℕ) (deltas : List (List ℕ)) (b : Bool) (q : Place) (y : Unit {0} × PlaceOf TwoRows)
     → IsRangeRun closed (place_of c main) (fields_bits (bit b ∷ [])) q → coded_rest contexts b closed (place_of q.coder (q.states, deltas)) ≡ Ok y
@@ -264,7 +264,7 @@ set_rest_found closed contexts c main deltas false q y run h =
     let pair = same_ok (tt, place_of q.coder (q.states, deltas)) y h in (
       None,
       tt,
-      subst (λ z. AreCoded closed (deltas_pieces None) (place_of c (main, deltas)) z) (ap (λ z. z.1) pair)
+      subst (λ z. AreCoded closed (deltas_row_bits None) (place_of c (main, deltas)) z) (ap (λ z. z.1) pair)
           (flag_coded closed c main deltas false q run),
     )
 set_rest_found closed contexts c main deltas true q y run h =
@@ -273,8 +273,8 @@ set_rest_found closed contexts c main deltas true q y run h =
     let pair = same_ok (tt, place_of x.0.1.coder (q.states, x.0.1.states)) y x.2 in (
       Some r.values,
       (r.size, r.each),
-      subst (λ z. AreCoded closed (deltas_pieces (Some r.values)) (place_of c (main, deltas)) z) (ap (λ z. z.1) pair)
-          (both_coded closed ((0, fields_bits (bit true ∷ [])) ∷ []) (flat_map (context_pieces 0) r.values) (place_of c (main, deltas))
+      subst (λ z. AreCoded closed (deltas_row_bits (Some r.values)) (place_of c (main, deltas)) z) (ap (λ z. z.1) pair)
+          (both_coded closed ((0, fields_bits (bit true ∷ [])) ∷ []) (flat_map (context_row_bits 0) r.values) (place_of c (main, deltas))
           (place_of q.coder (q.states, deltas))
           (place_of x.0.1.coder (q.states, x.0.1.states)) (flag_coded closed c main deltas true q run) (r.coded q.states)),
     )
@@ -298,7 +298,7 @@ pub record TwoRead (closed : Bool) (form : Form TwoRows (Unit {0}) SetupFault) (
 
 set_rest_run : (closed : Bool) (contexts : ℕ) (deltas : Option (List (List ℤ))) (p : PlaceOf TwoRows) (rows : Rows) (z : PlaceOf Rows)
     → AreDeltas contexts deltas
-    → AreRowsOf rows p.states → IsRowsRun closed (place_of p.coder rows) (deltas_pieces deltas) z → TwoRead closed (set_deltas contexts) p z
+    → AreRowsOf rows p.states → IsRowsRun closed (place_of p.coder rows) (deltas_row_bits deltas) z → TwoRead closed (set_deltas contexts) p z
 unfolding coded_rest IsRowsRun
 set_rest_run closed contexts None p rows z are r run =
     let here = subst (λ w. IsRangeRun closed (place_of p.coder w) (fields_bits (bit false ∷ [])) run.0) r.main run.1 in
@@ -334,7 +334,7 @@ pub record SetsDeltasAt (closed : Bool) (tables : List (List (List ℕ))) (p q :
   pub sets : List SetFields
   pub same : map (λ set. set.tables) sets ≡ tables
   pub each : All IsSetFields sets
-  pub coded : AreCoded closed (flat_map (λ set. deltas_pieces set.deltas) sets) p q
+  pub coded : AreCoded closed (flat_map (λ set. deltas_row_bits set.deltas) sets) p q
 
 pub sets-deltas-found : (closed : Bool) (tables : List (List (List ℕ))) (p : PlaceOf TwoRows) (y : Unit {0} × PlaceOf TwoRows) → All IsTableSet tables
     → sets_deltas (map (λ set. set.contexts) (map set_of tables)) closed p ≡ Ok y → SetsDeltasAt closed tables p y.1
@@ -351,19 +351,19 @@ sets-deltas-found closed (set ∷ tables) p y each h =
       sets = first ∷ r.sets;
       same = ap (λ z. set ∷ z) r.same;
       each = All-cons IsSetFields first r.sets (record { tables = All-head IsTableSet set tables each; deltas = d.1 }) r.each;
-      coded = both_coded closed (deltas_pieces d.0) (flat_map (λ set. deltas_pieces set.deltas) r.sets) p x.0.1 y.1 d.2 r.coded;
+      coded = both_coded closed (deltas_row_bits d.0) (flat_map (λ set. deltas_row_bits set.deltas) r.sets) p x.0.1 y.1 d.2 r.coded;
     }
 
 pub sets-deltas-run : (closed : Bool) (sets : List SetFields) (p : PlaceOf TwoRows) (rows : Rows) (z : PlaceOf Rows) → All IsSetFields sets
     → AreRowsOf rows p.states
-    → IsRowsRun closed (place_of p.coder rows) (flat_map (λ set. deltas_pieces set.deltas) sets) z
+    → IsRowsRun closed (place_of p.coder rows) (flat_map (λ set. deltas_row_bits set.deltas) sets) z
     → TwoRead closed (sets_deltas (map (λ set. set.contexts) (map (λ set. set_of set.tables) sets))) p z
 unfolding sets_deltas sets_rest IsRowsRun
 sets-deltas-run closed [] p rows z each r run =
     let same : place_of p.coder rows ≡ z = run in
     record { after = p.states; read = ap (λ w. Ok (tt, place_of w.coder p.states)) same; matches = subst (λ w. AreRowsOf w.states p.states) same r }
 sets-deltas-run closed (set ∷ sets) p rows z each r run =
-    let s = rows_split closed (deltas_pieces set.deltas) (flat_map (λ set. deltas_pieces set.deltas) sets) (place_of p.coder rows) z run in
+    let s = rows_split closed (deltas_row_bits set.deltas) (flat_map (λ set. deltas_row_bits set.deltas) sets) (place_of p.coder rows) z run in
     let head : IsSetFields set = All-head IsSetFields set sets each in
     let first = set_rest_run closed (set_of set.tables).contexts set.deltas p rows s.0 head.deltas r s.1 in
     let rest = sets-deltas-run closed sets (place_of s.0.coder first.after) s.0.states z (All-tail IsSetFields set sets each) first.matches s.2 in

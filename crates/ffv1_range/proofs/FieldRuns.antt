@@ -3,7 +3,7 @@ use Rattle.std.proofs.Common.{◌≡◌, ℕ, ◌+◌, ◌*◌, Bool, true, fals
 use Rattle.std.proofs.Math.Path.{fun_ext}
 use Rattle.std.specs.Prelude.{nat_le, ◌==◌, ◌||◌, ◌&&◌, not, if◌then◌else◌}
 use Rattle.ffv1_bits.specs.Limits.{most_tiles}
-use Rattle.ffv1_range.specs.Results.{◌>>=◌ as ◌>>>◌}
+use Rattle.ffv1_range.specs.Results.{◌>>>◌}
 use Rattle.ffv1_range.specs.Coding.{PlaceOf, Place, IsRangeRun}
 use Rattle.ffv1_range.specs.Forms.{Form, ◌>>=◌, giving, accepted, lifted_result, slot_form}
 use Rattle.ffv1_range.specs.Reading.{symbol_form}
@@ -19,9 +19,9 @@ use Rattle.ffv1_range.proofs.Forms.{bind_ok}
 
 -- ---- one field
 
-pub lifted_ok : {A E : Type 0} (tell : RangeFault → E) (r : Result A RangeFault) (x : A) → lifted_result tell r ≡ Ok x → r ≡ Ok x
-lifted_ok tell (Ok y) x h = ap (λ z. Ok z) (same_ok y x h)
-lifted_ok tell (Err e) x h = absurd cc
+pub lifted_ok : {A E : Type 0} (lift : RangeFault → E) (r : Result A RangeFault) (x : A) → lifted_result lift r ≡ Ok x → r ≡ Ok x
+lifted_ok lift (Ok y) x h = ap (λ z. Ok z) (same_ok y x h)
+lifted_ok lift (Err e) x h = absurd cc
 
 pub number-found : (closed : Bool) (p : Place) (x : ℕ × Place) → number closed p ≡ Ok x → IsSymbol x.0 × IsRangeRun closed p (symbol_bits x.0) x.1
 number-found closed p x h = (symbol_is_spelled closed p x.1 x.0).0 (lifted_ok Range (symbol_form closed p) x h)

@@ -1,7 +1,7 @@
 -- A refusal of a record is the first fault that it has, or Memory.
 use Rattle.std.proofs.Common.{◌≡◌, ℕ, Bool, true, false, List, Result, Ok, Err, sym, ap, ◌∙◌, refl, inl, inr}
 use Rattle.std.specs.Prelude.{◌⊎◌, ◌&&◌, if◌then◌else◌}
-use Rattle.ffv1_range.specs.Results.{◌>>=◌ as ◌>>>◌}
+use Rattle.ffv1_range.specs.Results.{◌>>>◌}
 use Rattle.ffv1_range.specs.Coding.{Coder, PlaceOf, start_of}
 use Rattle.ffv1_range.specs.Forms.{from_place}
 use Rattle.ffv1_range.specs.TableForms.{fresh_row}

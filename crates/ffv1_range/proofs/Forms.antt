@@ -1,10 +1,10 @@
 -- Reading one form after the other.
 use Rattle.std.proofs.Common.{◌≡◌, Bool, true, false, Result, Ok, Err, refl, sym, ap, ◌∙◌, subst}
 use Rattle.std.specs.Prelude.{IsOk}
-use Rattle.ffv1_range.specs.Results.{◌>>=◌ as ◌>>>◌}
+use Rattle.ffv1_range.specs.Results.{◌>>>◌}
 use Rattle.ffv1_range.specs.Coding.{Coder, PlaceOf}
 use Rattle.ffv1_range.specs.Decoder.{Reader, reader_at}
-use Rattle.ffv1_range.specs.Forms.{Form, ◌>>=◌, giving, accepted, on, lifted, lifted_result, same_fault, from_place, form_at, Reads}
+use Rattle.ffv1_range.specs.Forms.{Form, ◌>>=◌, giving, accepted, on, lifted, lifted_result, same_fault, from_place, form_at, ReadsForm}
 use Rattle.ffv1_range.specs.declared.coding.RangeFault.{RangeFault}
 
 pub bind_ok : {A B E : Type 0} (r : Result A E) (f : A → Result B E) (x : A) → r ≡ Ok x → (r >>> f) ≡ f x
@@ -35,7 +35,7 @@ pub continue_start : {X A E : Type 0} (lift : RangeFault → E) (form : Form X A
 continue_start lift form r x = record { same = refl; reader = refl }
 
 pub continue_step : {X A B E : Type 0} (lift : RangeFault → E) (p : Form X A E) (q : A → Form X B E) (r s : Reader) (x y : X) (a : A)
-    → Reads lift p r x (Ok a) s y → Continues lift (p >>= q) r x (q a) s y
+    → ReadsForm lift p r x (Ok a) s y → Continues lift (p >>= q) r x (q a) s y
 continue_step lift p q r s x y a h =
     record {
       same = form_at-bind lift p q r x ∙ bind_ok (form_at lift p r x) (λ z. q z.0 r.closed z.1) (a, place_of h.0 y) h.1
@@ -44,7 +44,7 @@ continue_step lift p q r s x y a h =
     }
 
 pub stop : {X A B E : Type 0} (lift : RangeFault → E) (p : Form X A E) (q : A → Form X B E) (r s : Reader) (x y : X) (e : E)
-    → Reads lift p r x (Err e) s y → Reads lift (p >>= q) r x (Err e) s y
+    → ReadsForm lift p r x (Err e) s y → ReadsForm lift (p >>= q) r x (Err e) s y
 stop lift p q r s x y e h = form_at-bind lift p q r x ∙ bind_err (form_at lift p r x) (λ z. q z.0 r.closed z.1) e h
 
 -- a decoder that comes from another, at one more place
@@ -70,7 +70,7 @@ pub is_at_place : (r : Reader) → IsOk r.at → IsAtPlace r
 is_at_place r h = ok_place r.at h
 
 pub continue_end : {X A E : Type 0} (lift : RangeFault → E) (form rest : Form X A E) (r s t : Reader) (x y z : X) (result : Result A E)
-    → Continues lift form r x rest s y → Reads lift rest s y result t z → Reads lift form r x result t z
+    → Continues lift form r x rest s y → ReadsForm lift rest s y result t z → ReadsForm lift form r x result t z
 continue_end lift form rest r s t x y z (Ok a) k h = (h.0, k.same ∙ h.1, h.2 ∙ reader_at-again r s (Ok h.0) k.reader)
 continue_end lift form rest r s t x y z (Err e) k h = k.same ∙ h
 
@@ -81,34 +81,34 @@ continue_both lift form rest last r s t x y z k l =
 
 -- where nothing is left to read, the value is given
 pub continue_give : {X A E : Type 0} (lift : RangeFault → E) (r : Reader) (c : Coder) (x : X) (a : A) (form : Form X A E) → r.at ≡ Ok c
-    → form r.closed (place_of c x) ≡ Ok (a, place_of c x) → Reads lift form r x (Ok a) r x
+    → form r.closed (place_of c x) ≡ Ok (a, place_of c x) → ReadsForm lift form r x (Ok a) r x
 continue_give lift r c x a form h g =
     (c, ap (λ z. from_place lift z (λ d. form r.closed (place_of d x))) h ∙ g, ap (reader_at r) h)
 
 -- one more form is read
 pub continue_next : {X A B E : Type 0} (lift : RangeFault → E) (form : Form X B E) (p : Form X A E) (q : A → Form X B E) (r s t : Reader) (x y z : X) (a : A)
-    → Continues lift form r x (p >>= q) s y → Reads lift p s y (Ok a) t z → Continues lift form r x (q a) t z
+    → Continues lift form r x (p >>= q) s y → ReadsForm lift p s y (Ok a) t z → Continues lift form r x (q a) t z
 continue_next lift form p q r s t x y z a k h =
     continue_both lift form (p >>= q) (q a) r s t x y z k (continue_step lift p q s t y z a h)
 
 -- a fault ends what is read
 pub continue_stop : {X A B E : Type 0} (lift : RangeFault → E) (form : Form X B E) (p : Form X A E) (q : A → Form X B E) (r s t : Reader) (x y z : X) (e : E)
-    → Continues lift form r x (p >>= q) s y → Reads lift p s y (Err e) t z → Reads lift form r x (Err e) t z
+    → Continues lift form r x (p >>= q) s y → ReadsForm lift p s y (Err e) t z → ReadsForm lift form r x (Err e) t z
 continue_stop lift form p q r s t x y z e k h =
     continue_end lift form (p >>= q) r s t x y z (Err e) k (stop lift p q s t y z e h)
 
 -- the same, where what is left is known by an equation
 
 pub next_of : {X A B E : Type 0} (lift : RangeFault → E) (form rest : Form X B E) (p : Form X A E) (q : A → Form X B E) (r s t : Reader) (x y z : X) (a : A)
-    → rest ≡ (p >>= q) → Continues lift form r x rest s y → Reads lift p s y (Ok a) t z → Continues lift form r x (q a) t z
+    → rest ≡ (p >>= q) → Continues lift form r x rest s y → ReadsForm lift p s y (Ok a) t z → Continues lift form r x (q a) t z
 next_of lift form rest p q r s t x y z a e k h = continue_next lift form p q r s t x y z a (subst (λ w. Continues lift form r x w s y) e k) h
 
 pub stop_of : {X A B E : Type 0} (lift : RangeFault → E) (form rest : Form X B E) (p : Form X A E) (q : A → Form X B E) (r s t : Reader) (x y z : X) (f : E)
-    → rest ≡ (p >>= q) → Continues lift form r x rest s y → Reads lift p s y (Err f) t z → form_at lift form r x ≡ Err f
+    → rest ≡ (p >>= q) → Continues lift form r x rest s y → ReadsForm lift p s y (Err f) t z → form_at lift form r x ≡ Err f
 stop_of lift form rest p q r s t x y z f e k h = continue_stop lift form p q r s t x y z f (subst (λ w. Continues lift form r x w s y) e k) h
 
 pub end_of : {X A E : Type 0} (lift : RangeFault → E) (form rest : Form X A E) (r s : Reader) (x y : X) (a : A)
-    → rest ≡ giving a → IsAtPlace s → Continues lift form r x rest s y → Reads lift form r x (Ok a) s y
+    → rest ≡ giving a → IsAtPlace s → Continues lift form r x rest s y → ReadsForm lift form r x (Ok a) s y
 end_of lift form rest r s x y a e at k =
     continue_end lift form (giving a) r s s x y y (Ok a) (subst (λ w. Continues lift form r x w s y) e k) (continue_give lift s at.0 y a (giving a) at.1 refl)
 
@@ -120,11 +120,11 @@ form_at-lifted lift form closed (Ok c) x = refl
 form_at-lifted lift form closed (Err e) x = refl
 
 pub read_lifted : {X A E : Type 0} (lift : RangeFault → E) (form : Form X A RangeFault) (r s : Reader) (x y : X) (a : A)
-    → Reads same_fault form r x (Ok a) s y → Reads lift (lifted lift form) r x (Ok a) s y
+    → ReadsForm same_fault form r x (Ok a) s y → ReadsForm lift (lifted lift form) r x (Ok a) s y
 read_lifted lift form r s x y a h = (h.0, form_at-lifted lift form r.closed r.at x ∙ ap (lifted_result lift) h.1, h.2)
 
 pub fault_lifted : {X A E : Type 0} (lift : RangeFault → E) (form : Form X A RangeFault) (r s : Reader) (x y : X) (e : RangeFault)
-    → Reads same_fault form r x (Err e) s y → Reads lift (lifted lift form) r x (Err (lift e)) s y
+    → ReadsForm same_fault form r x (Err e) s y → ReadsForm lift (lifted lift form) r x (Err (lift e)) s y
 fault_lifted lift form r s x y e h = form_at-lifted lift form r.closed r.at x ∙ ap (lifted_result lift) h
 
 put_back : {X Y A E : Type 0} → (X → Y → X) → X → Result (A × PlaceOf Y) E → Result (A × PlaceOf X) E
@@ -145,7 +145,7 @@ form_at-on lift get put form closed (Err e) x = refl
 
 pub read_on : {X Y A E : Type 0} (lift : RangeFault → E) (get : X → Y) (put : X → Y → X) (form : Form Y A E) (r s : Reader) (x : X) (y : Y)
     (result : Result A E)
-    → Reads lift form r (get x) result s y → Reads lift (on get put form) r x result s (put x y)
+    → ReadsForm lift form r (get x) result s y → ReadsForm lift (on get put form) r x result s (put x y)
 unfolding put_back
 read_on lift get put form r s x y (Ok a) h = (h.0, form_at-on lift get put form r.closed r.at x ∙ ap (put_back put x) h.1, h.2)
 read_on lift get put form r s x y (Err e) h = form_at-on lift get put form r.closed r.at x ∙ ap (put_back put x) h

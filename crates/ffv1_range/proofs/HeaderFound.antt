@@ -6,8 +6,8 @@ use Rattle.std.specs.List.{All, flat_map}
 use Rattle.std.proofs.lemmas.List.{append-nil}
 use Rattle.std.proofs.lemmas.List.Elements.{All-cons, All-nil, All-head, All-tail}
 use Rattle.std.proofs.lemmas.Bool.{and_parts, and_from, ltb-true, lt-ltb, eqb-true, eq-eqb}
-use Rattle.ffv1_range.specs.Results.{◌>>=◌ as ◌>>>◌}
-use Rattle.ffv1_range.specs.Coding.{Coder, Place, PlaceOf, bit_at, slot_at, start_of, refilled, with_byte, state_after, IsRangeRun}
+use Rattle.ffv1_range.specs.Results.{◌>>>◌}
+use Rattle.ffv1_range.specs.Coding.{Coder, Place, PlaceOf, bit_at, slot_at, start_of, refilled, with_byte, bit_state_after, IsRangeRun}
 use Rattle.ffv1_range.specs.Symbols.{symbol_bits}
 use Rattle.ffv1_range.specs.Forms.{lifted_result}
 use Rattle.ffv1_range.specs.Reading.{symbol_form}
@@ -99,11 +99,11 @@ refilled_shrinks closed range low rest d h =
 abbrev with_bit : Bool → Coder → Result (Bool × Coder) RangeFault
 with_bit bit d = Ok (bit, d)
 
-cut_shrinks : (closed : Bool) (range low : ℕ) (rest : List ℕ) (told bit : Bool) (d : Coder)
-    → (refilled closed range low rest >>> with_bit told) ≡ Ok (bit, d) → length d.rest ≤ length rest
-cut_shrinks closed range low rest told bit d h =
-    let x = bind_is_ok (refilled closed range low rest) (with_bit told) (bit, d) h in
-    let same = same_ok (told, x.0) (bit, d) x.2 in
+cut_shrinks : (closed : Bool) (range low : ℕ) (rest : List ℕ) (given bit : Bool) (d : Coder)
+    → (refilled closed range low rest >>> with_bit given) ≡ Ok (bit, d) → length d.rest ≤ length rest
+cut_shrinks closed range low rest given bit d h =
+    let x = bind_is_ok (refilled closed range low rest) (with_bit given) (bit, d) h in
+    let same = same_ok (given, x.0) (bit, d) x.2 in
     omega (arith, refilled_shrinks closed range low rest x.0 x.1, ap (λ z. length z.1.rest) same)
 
 bit_shrinks : (closed : Bool) (c d : Coder) (state : ℕ) (bit : Bool) → bit_at closed c state ≡ Ok (bit, d) → length d.rest ≤ length c.rest
@@ -121,8 +121,8 @@ slot_shrinks : (closed : Bool) (p q : Place) (slot : ℕ) (bit : Bool) → slot_
 unfolding slot_at
 slot_shrinks closed p q slot bit h =
     let x = bind_is_ok (bit_at closed p.coder (slice_index p.states slot))
-    (λ x. Ok (x.0, place_of x.1 (slice_set p.states slot (state_after (slice_index p.states slot) x.0)))) (bit, q) h in
-    let same = same_ok (x.0.0, place_of x.0.1 (slice_set p.states slot (state_after (slice_index p.states slot) x.0.0))) (bit, q) x.2 in
+    (λ x. Ok (x.0, place_of x.1 (slice_set p.states slot (bit_state_after (slice_index p.states slot) x.0)))) (bit, q) h in
+    let same = same_ok (x.0.0, place_of x.0.1 (slice_set p.states slot (bit_state_after (slice_index p.states slot) x.0.0))) (bit, q) x.2 in
     omega (arith, bit_shrinks closed p.coder x.0.1 (slice_index p.states slot) x.0.0 x.1, ap (λ z. length z.1.coder.rest) same)
 
 run_shrinks : (closed : Bool) (p q : Place) (bits : List (ℕ × Bool)) → IsRangeRun closed p bits q → length q.coder.rest ≤ length p.coder.rest

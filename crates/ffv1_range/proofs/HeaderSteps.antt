@@ -2,7 +2,7 @@
 use Rattle.std.proofs.Common.{◌≡◌, ℕ, suc, ◌+◌, ◌-◌, ◌*◌, ◌^◌, ◌<◌, ◌≤◌, List, [], ◌∷◌, ◌++◌, Ok, Err, ap, ◌∙◌, subst, arith, refl}
 use Rattle.std.proofs.Math.Nat.{mul-le-mul}
 use Rattle.ffv1_range.specs.Decoder.{Reader}
-use Rattle.ffv1_range.specs.Forms.{Form, ◌>>=◌, giving, Reads, same_fault, form_at}
+use Rattle.ffv1_range.specs.Forms.{Form, ◌>>=◌, giving, ReadsForm, same_fault, form_at}
 use Rattle.ffv1_range.specs.Reading.{symbol_form}
 use Rattle.ffv1_range.specs.TableForms.{fresh_row}
 use Rattle.ffv1_range.specs.HeaderForms.{symbols_onto, fields_form}
@@ -22,7 +22,7 @@ symbols_onto-none done = refl
 
 -- one symbol more was read
 pub symbol_turn : (form : Form (List ℕ) (List ℕ) RangeFault) (k n symbol : ℕ) (done : List ℕ) (q r s : Reader) (start row states : List ℕ) → k ≡ suc n
-    → Continues same_fault form q start (symbols_onto k done) r row → Reads same_fault symbol_form r row (Ok symbol) s states
+    → Continues same_fault form q start (symbols_onto k done) r row → ReadsForm same_fault symbol_form r row (Ok symbol) s states
     → Continues same_fault form q start (symbols_onto n (done ++ symbol ∷ [])) s states
 unfolding more_symbols
 symbol_turn form k n symbol done q r s start row states l so h =
@@ -31,7 +31,7 @@ symbol_turn form k n symbol done q r s start row states l so h =
 
 -- one symbol more can't be read
 pub symbol_fails : (k n : ℕ) (done : List ℕ) (f : RangeFault) (q r s : Reader) (row states : List ℕ) → k ≡ suc n
-    → Continues same_fault (symbols_onto 9 []) q fresh_row (symbols_onto k done) r row → Reads same_fault symbol_form r row (Err f) s states
+    → Continues same_fault (symbols_onto 9 []) q fresh_row (symbols_onto k done) r row → ReadsForm same_fault symbol_form r row (Err f) s states
     → form_at same_fault fields_form q tt ≡ Err f
 symbol_fails k n done f q r s row states l so h =
     read_on same_fault (λ at_hand. fresh_row) (λ at_hand used. at_hand) (symbols_onto 9 []) q s tt fresh_row (Err f)
@@ -40,7 +40,7 @@ symbol_fails k n done f q r s row states l so h =
 
 -- all nine were read
 pub fields_end : (k : ℕ) (done : List ℕ) (q r : Reader) (row : List ℕ) → k ≡ 0 → IsAtPlace r
-    → Continues same_fault (symbols_onto 9 []) q fresh_row (symbols_onto k done) r row → Reads same_fault fields_form q tt (Ok done) r tt
+    → Continues same_fault (symbols_onto 9 []) q fresh_row (symbols_onto k done) r row → ReadsForm same_fault fields_form q tt (Ok done) r tt
 fields_end k done q r row l place so =
     read_on same_fault (λ at_hand. fresh_row) (λ at_hand used. at_hand) (symbols_onto 9 []) q r tt row (Ok done)
     (end_of same_fault (symbols_onto 9 []) (symbols_onto k done) q r fresh_row row done (ap (λ z. symbols_onto z done) l ∙ symbols_onto-none done) place so)

@@ -2,7 +2,7 @@
 use Rattle.std.proofs.Common.{◌≡◌, ℕ, ◌<◌, ◌≤◌, Bool, true, false, List, Ok, Err, refl, ◌⊎◌, arith, rules}
 use Rattle.std.specs.Prelude.{if◌then◌else◌, nat_le, ◌==◌, ◌||◌, not}
 use Rattle.ffv1_range.specs.Decoder.{Reader}
-use Rattle.ffv1_range.specs.Forms.{Form, slot_form, same_fault, form_at, Reads}
+use Rattle.ffv1_range.specs.Forms.{Form, slot_form, same_fault, form_at, ReadsForm}
 use Rattle.ffv1_range.specs.Reading.{symbol_form}
 use Rattle.ffv1_range.specs.Fields.{number, flag, versions, planes, tile_counts, last_fields}
 use Rattle.ffv1_range.specs.declared.coding.RangeFault.{RangeFault}
@@ -13,12 +13,12 @@ use Rattle.ffv1_range.proofs.FieldRuns.{Plan, done, number_then, flag_then, test
 
 -- A field was read, and this is its value.
 pub record FieldRead {A : Type 0} (field : Form (List ℕ) A SetupFault) (a : A) (s : Reader) (y : List ℕ) (t : Reader) (z : List ℕ) : Type 0 where
-  pub read : Reads Range field s y (Ok a) t z
+  pub read : ReadsForm Range field s y (Ok a) t z
 
-pub number_read : (n : ℕ) (s t : Reader) (y z : List ℕ) → Reads same_fault symbol_form s y (Ok n) t z → FieldRead number n s y t z
+pub number_read : (n : ℕ) (s t : Reader) (y z : List ℕ) → ReadsForm same_fault symbol_form s y (Ok n) t z → FieldRead number n s y t z
 number_read n s t y z h = record { read = read_lifted Range symbol_form s t y z n h }
 
-pub flag_read : (b : Bool) (s t : Reader) (y z : List ℕ) → Reads same_fault (slot_form 0) s y (Ok b) t z → FieldRead flag b s y t z
+pub flag_read : (b : Bool) (s t : Reader) (y z : List ℕ) → ReadsForm same_fault (slot_form 0) s y (Ok b) t z → FieldRead flag b s y t z
 flag_read b s t y z h = record { read = read_lifted Range (slot_form 0) s t y z b h }
 
 -- Of a form this plan is left to read.
@@ -74,7 +74,7 @@ not_passed {form = form} {test = test} {fault = fault} {next = next} {r = r} {s 
     refused Range form test fault (λ fits. form_of next) r t x z e (h.read.0, at_ok s t h.read.0 h.read.2) k.continues
 
 pub all_read : {A B : Type 0} {form : Form (List ℕ) A SetupFault} {field : Form (List ℕ) B SetupFault} {a : A} {b : B} {r s t : Reader} {x y z : List ℕ}
-    → IsLeft form r x (done a) t z → FieldRead field b s y t z → Reads Range form r x (Ok a) t z
+    → IsLeft form r x (done a) t z → FieldRead field b s y t z → ReadsForm Range form r x (Ok a) t z
 unfolding form_of
 all_read {form = form} {a = a} {r = r} {s = s} {t = t} {x = x} {y = y} {z = z} k h =
     end_of Range form (form_of (done a)) r t x z a refl (h.read.0, at_ok s t h.read.0 h.read.2) k.continues
@@ -127,13 +127,13 @@ chroma_left coder space depth r s t u x y z w h i j k l m =
 
 -- what is read of a frame that has chroma, and of a gray one
 pub chroma_answer : (chroma : Bool) (shift_h shift_v : ℕ) (r s : Reader) (x y : List ℕ) → chroma ≡ true
-    → Reads Range planes r x (Ok (record { has_chroma = chroma; shift_h = if chroma then shift_h else 0; shift_v = if chroma then shift_v else 0 })) s y
-    → Reads Range planes r x (Ok (record { has_chroma = chroma; shift_h = shift_h; shift_v = shift_v })) s y
+    → ReadsForm Range planes r x (Ok (record { has_chroma = chroma; shift_h = if chroma then shift_h else 0; shift_v = if chroma then shift_v else 0 })) s y
+    → ReadsForm Range planes r x (Ok (record { has_chroma = chroma; shift_h = shift_h; shift_v = shift_v })) s y
 chroma_answer true shift_h shift_v r s x y e h = h
 chroma_answer false shift_h shift_v r s x y e h = absurd cc
 
 pub gray_answer : (chroma : Bool) (shift_h shift_v : ℕ) (r s : Reader) (x y : List ℕ) → chroma ≡ false
-    → Reads Range planes r x (Ok (record { has_chroma = chroma; shift_h = if chroma then shift_h else 0; shift_v = if chroma then shift_v else 0 })) s y
-    → Reads Range planes r x (Ok (record { has_chroma = chroma; shift_h = 0; shift_v = 0 })) s y
+    → ReadsForm Range planes r x (Ok (record { has_chroma = chroma; shift_h = if chroma then shift_h else 0; shift_v = if chroma then shift_v else 0 })) s y
+    → ReadsForm Range planes r x (Ok (record { has_chroma = chroma; shift_h = 0; shift_v = 0 })) s y
 gray_answer false shift_h shift_v r s x y e h = h
 gray_answer true shift_h shift_v r s x y e h = absurd cc

@@ -3,11 +3,11 @@ use Rattle.std.proofs.Common.{◌≡◌, ◌≢◌, ℕ, suc, ◌+◌, Bool, Lis
 use Rattle.std.specs.Prelude.{if◌then◌else◌}
 use Rattle.std.proofs.lemmas.Bool.{eq-eqb, ne_eqb}
 use Rattle.ffv1_range.specs.Coding.{Coder, PlaceOf, Place, IsRangeRun}
-use Rattle.ffv1_range.specs.Rows.{Rows, with_row, Piece, IsRowsRun}
-use Rattle.ffv1_range.specs.Setup.{table_pieces, fields_bits, run_fields}
+use Rattle.ffv1_range.specs.Rows.{Rows, with_row, RowBits, IsRowsRun}
+use Rattle.ffv1_range.specs.Setup.{table_row_bits, fields_bits, run_fields}
 use Rattle.ffv1_range.proofs.Forms.{place_of}
 
-pub rows_append : (closed : Bool) (xs ys : List Piece) (p m q : PlaceOf Rows) → IsRowsRun closed p xs m → IsRowsRun closed m ys q
+pub rows_append : (closed : Bool) (xs ys : List RowBits) (p m q : PlaceOf Rows) → IsRowsRun closed p xs m → IsRowsRun closed m ys q
     → IsRowsRun closed p (xs ++ ys) q
 unfolding IsRowsRun
 rows_append closed [] ys p m q h k = subst (λ z. IsRowsRun closed z ys q) (sym h) k
@@ -18,7 +18,7 @@ rows_append closed (x ∷ xs) ys p m q h k = (
       (record { coder = h.0.coder; states = with_row p.states x.0 h.0.states }) m q h.2 k,
 )
 
-pub rows_split : (closed : Bool) (xs ys : List Piece) (p q : PlaceOf Rows) → IsRowsRun closed p (xs ++ ys) q → (m : PlaceOf Rows) × IsRowsRun closed p xs m
+pub rows_split : (closed : Bool) (xs ys : List RowBits) (p q : PlaceOf Rows) → IsRowsRun closed p (xs ++ ys) q → (m : PlaceOf Rows) × IsRowsRun closed p xs m
     × IsRowsRun closed m ys q
 unfolding IsRowsRun
 rows_split closed [] ys p q h = (p, refl, h)
@@ -32,15 +32,15 @@ pub with_row-other : (rows : Rows) (number k : ℕ) (row : List ℕ) → k ≢ n
 with_row-other rows number k row h = ap (λ b. if b then row else rows k) (ne_eqb k number h)
 
 -- the bits at one row of states
-pub one_piece : (closed : Bool) (c : Coder) (rows : Rows) (number : ℕ) (row : List ℕ) (bits : List (ℕ × Bool)) (q : Place) → rows number ≡ row
+pub one_row_bits : (closed : Bool) (c : Coder) (rows : Rows) (number : ℕ) (row : List ℕ) (bits : List (ℕ × Bool)) (q : Place) → rows number ≡ row
     → IsRangeRun closed (place_of c row) bits q → IsRowsRun closed (place_of c rows) ((number, bits) ∷ []) (place_of q.coder (with_row rows number q.states))
 unfolding IsRowsRun
-one_piece closed c rows number row bits q e h = (q, subst (λ z. IsRangeRun closed (place_of c z) bits q) (sym e) h, refl)
+one_row_bits closed c rows number row bits q e h = (q, subst (λ z. IsRangeRun closed (place_of c z) bits q) (sym e) h, refl)
 
 -- the bits of more tables, at the row of each
-pub table_pieces-append : (n : ℕ) (xs ys : List (List ℕ)) → table_pieces n (xs ++ ys) ≡ table_pieces n xs ++ table_pieces (n + length xs) ys
-unfolding table_pieces
-table_pieces-append n [] ys = let e : n ≡ n + 0 = omega arith in ap (λ z. table_pieces z ys) e
-table_pieces-append n (x ∷ xs) ys =
+pub table_row_bits-append : (n : ℕ) (xs ys : List (List ℕ)) → table_row_bits n (xs ++ ys) ≡ table_row_bits n xs ++ table_row_bits (n + length xs) ys
+unfolding table_row_bits
+table_row_bits-append n [] ys = let e : n ≡ n + 0 = omega arith in ap (λ z. table_row_bits z ys) e
+table_row_bits-append n (x ∷ xs) ys =
     let next : n + 1 + length xs ≡ n + suc (length xs) = omega arith in
-    ap (λ z. (33 + n, fields_bits (run_fields x)) ∷ z) (table_pieces-append (n + 1) xs ys ∙ ap (λ z. table_pieces (n + 1) xs ++ table_pieces z ys) next)
+    ap (λ z. (33 + n, fields_bits (run_fields x)) ∷ z) (table_row_bits-append (n + 1) xs ys ∙ ap (λ z. table_row_bits (n + 1) xs ++ table_row_bits z ys) next)

@@ -7,18 +7,18 @@ use Rattle.std.proofs.lemmas.List.Elements.{All-map}
 use Rattle.std.proofs.lemmas.List.{length-replicate, get_or-replicate}
 use Rattle.ffv1_bits.specs.Limits.{greatest_side, most_tiles}
 use Rattle.ffv1_range.specs.Coding.{Coder, PlaceOf, Place, IsRangeRun}
-use Rattle.ffv1_range.specs.Rows.{Rows, with_row, Piece, IsRowsRun}
+use Rattle.ffv1_range.specs.Rows.{Rows, with_row, RowBits, IsRowsRun}
 use Rattle.ffv1_range.specs.Forms.{apart}
 use Rattle.ffv1_range.specs.Fields.{last_fields}
 use Rattle.ffv1_range.specs.Tables.{SetValue, IsTableSet, set_of}
 use Rattle.ffv1_range.specs.TableForms.{fresh_row, fresh_rows, TwoRows, sets_from, sets_deltas, deltas_form}
-use Rattle.ffv1_range.specs.Setup.{SetupValue, FieldValue, fields_bits, IsSymbol, SetFields, IsSetFields, RecordFields, front_fields, back_fields, fresh_states, table_pieces, deltas_pieces, record_pieces, IsAccepted, setup_value}
+use Rattle.ffv1_range.specs.Setup.{SetupValue, FieldValue, fields_bits, IsSymbol, SetFields, IsSetFields, RecordFields, front_fields, back_fields, fresh_states, table_row_bits, deltas_row_bits, record_row_bits, IsAccepted, setup_value}
 use Rattle.ffv1_range.specs.SetupForms.{FrontValue, front_form, setup_form}
 use Rattle.ffv1_range.specs.declared.fault.SetupFault.{SetupFault}
 use Rattle.ffv1_range.proofs.Forms.{place_of, bind_ok}
 use Rattle.ffv1_range.proofs.Spelling.{bind_is_ok, same_ok}
 use Rattle.ffv1_range.proofs.FieldRuns.{Plan, form_of, followed, Taken, fields_of, value_of, Each, Each-at, Each-from, PlanAt, plan-found, plan-run, front_plan, front_form-plan, last_plan, last_fields-plan}
-use Rattle.ffv1_range.proofs.RowRuns.{rows_append, rows_split, with_row-same, with_row-other, one_piece}
+use Rattle.ffv1_range.proofs.RowRuns.{rows_append, rows_split, with_row-same, with_row-other, one_row_bits}
 use Rattle.ffv1_range.proofs.TableRuns.{SetsAt, sets-found, sets-run}
 use Rattle.ffv1_range.proofs.DeltaRuns.{AreRowsOf, SetsDeltasAt, sets-deltas-found, sets-deltas-run}
 use Rattle.ffv1_range.proofs.SetupSteps.{setup_from, front_rest, memory_rest, sets_rest, deltas_rest, last_rest}
@@ -77,7 +77,7 @@ pub record SetupAt (width height : ℕ) (c : Coder) (value : SetupValue) : Type 
   pub fields : RecordFields
   pub accepted : IsAccepted width height fields
   pub end : PlaceOf Rows
-  pub coded : IsRowsRun true (place_of c fresh_states) (record_pieces fields) end
+  pub coded : IsRowsRun true (place_of c fresh_states) (record_row_bits fields) end
   pub is : value ≡ setup_value width height fields
 
 -- the sets, read at rows of their own
@@ -90,28 +90,28 @@ record PartsCoded (c : Coder) (first : List FieldValue) (sets : List SetFields) 
   first_coded : IsRangeRun true (place_of c fresh_row) (fields_bits first) front
   tables : Coder
   middle : Rows
-  tables_coded : IsRowsRun true (place_of front.coder (first_rows front.states)) (table_pieces 0 (flat_map (λ set. set.tables) sets)) (place_of tables middle)
+  tables_coded : IsRowsRun true (place_of front.coder (first_rows front.states)) (table_row_bits 0 (flat_map (λ set. set.tables) sets)) (place_of tables middle)
   deltas : Coder
   later : Rows
-  deltas_coded : IsRowsRun true (place_of tables middle) (flat_map (λ set. deltas_pieces set.deltas) sets) (place_of deltas later)
+  deltas_coded : IsRowsRun true (place_of tables middle) (flat_map (λ set. deltas_row_bits set.deltas) sets) (place_of deltas later)
   end : Place
   last_coded : IsRangeRun true (place_of deltas (later 0)) (fields_bits last) end
 
 -- the bits of a record by their rows of states, one part after the other
-pieces_coded : (r : RecordFields) (c : Coder) (first last : List FieldValue) (parts : PartsCoded c first r.sets last)
+rows_bits_coded : (r : RecordFields) (c : Coder) (first last : List FieldValue) (parts : PartsCoded c first r.sets last)
     → last ≡ back_fields r → first ≡ front_fields r
-    → IsRowsRun true (place_of c fresh_states) (record_pieces r) (place_of parts.end.coder (with_row parts.later 0 parts.end.states))
+    → IsRowsRun true (place_of c fresh_states) (record_row_bits r) (place_of parts.end.coder (with_row parts.later 0 parts.end.states))
 unfolding first_rows
-pieces_coded r c first last parts same_last same =
+rows_bits_coded r c first last parts same_last same =
     let h = subst (λ z. IsRangeRun true (place_of c fresh_row) (fields_bits z) parts.front) same parts.first_coded in
     let m = subst (λ z. IsRangeRun true (place_of parts.deltas (parts.later 0)) (fields_bits z) parts.end) same_last parts.last_coded in
     let front : PlaceOf Rows = place_of parts.front.coder (first_rows parts.front.states) in
     rows_append true ((0, fields_bits (front_fields r)) ∷ []) _ (place_of c fresh_states) front _
-    (one_piece true c fresh_states 0 fresh_row (fields_bits (front_fields r)) parts.front refl h)
-    (rows_append true (table_pieces 0 (flat_map (λ set. set.tables) r.sets)) _ front (place_of parts.tables parts.middle) _ parts.tables_coded
-    (rows_append true (flat_map (λ set. deltas_pieces set.deltas) r.sets) ((0, fields_bits (back_fields r)) ∷ []) (place_of parts.tables parts.middle)
+    (one_row_bits true c fresh_states 0 fresh_row (fields_bits (front_fields r)) parts.front refl h)
+    (rows_append true (table_row_bits 0 (flat_map (λ set. set.tables) r.sets)) _ front (place_of parts.tables parts.middle) _ parts.tables_coded
+    (rows_append true (flat_map (λ set. deltas_row_bits set.deltas) r.sets) ((0, fields_bits (back_fields r)) ∷ []) (place_of parts.tables parts.middle)
     (place_of parts.deltas parts.later) _ parts.deltas_coded
-    (one_piece true parts.deltas parts.later 0 (parts.later 0) (fields_bits (back_fields r)) parts.end refl m)))
+    (one_row_bits true parts.deltas parts.later 0 (parts.later 0) (fields_bits (back_fields r)) parts.end refl m)))
 
 -- Fields that are coded before the tables and after the deltas, with sets between them, are those of a setup.
 abbrev AreOfSetup : (width height : ℕ) → Coder → List SetFields → Taken last_plan → Taken (front_plan width height) → Type 0
@@ -169,7 +169,7 @@ are_of_setup width height c sets z =
         symbols = (small_micro, small_h, small_v, z.2.1.1);
       };
       end = place_of parts.end.coder (with_row parts.later 0 parts.end.states);
-      coded = pieces_coded r c _ _ parts refl cc;
+      coded = rows_bits_coded r c _ _ parts refl cc;
       is = ap (λ e. setup_value width height (record r { ec = e })) (sym one);
     }
 
@@ -268,7 +268,7 @@ parts_found width height c y front p f t =
           tables = t.after.coder;
           middle = k.after;
           tables_coded =
-              subst (λ z. IsRowsRun true (place_of p.coder (first_rows p.states)) (table_pieces 0 z) (place_of t.after.coder k.after)) tables k.coded;
+              subst (λ z. IsRowsRun true (place_of p.coder (first_rows p.states)) (table_row_bits 0 z) (place_of t.after.coder k.after)) tables k.coded;
           deltas = d.after.coder;
           later = m.0;
           deltas_coded = m.1;
@@ -358,13 +358,13 @@ parts_read width height c r p q two d last h k l m one =
 
 pub setup_form-run : (width height : ℕ) (c : Coder) (r : RecordFields) (z : PlaceOf Rows) → IsAccepted width height r → width ≤ greatest_side
     → height ≤ greatest_side
-    → IsRowsRun true (place_of c fresh_states) (record_pieces r) z
+    → IsRowsRun true (place_of c fresh_states) (record_row_bits r) z
     → (last : Place) × (setup_form true width height true (place_of c fresh_row) ≡ Ok (setup_value width height r, last))
 unfolding IsRowsRun first_rows
 setup_form-run width height c r z ok wide high run =
-    let tables : List Piece = table_pieces 0 (flat_map (λ set. set.tables) r.sets) in
-    let deltas : List Piece = flat_map (λ set. deltas_pieces set.deltas) r.sets in
-    let back : List Piece = (0, fields_bits (back_fields r)) ∷ [] in
+    let tables : List RowBits = table_row_bits 0 (flat_map (λ set. set.tables) r.sets) in
+    let deltas : List RowBits = flat_map (λ set. deltas_row_bits set.deltas) r.sets in
+    let back : List RowBits = (0, fields_bits (back_fields r)) ∷ [] in
     let front = front-run width height (place_of c fresh_row) r run.0 ok wide high run.1 in
     let s = rows_split true tables (deltas ++ back) (place_of run.0.coder (first_rows run.0.states)) z run.2 in
     let d = rows_split true deltas back s.0 z s.2 in
@@ -372,15 +372,15 @@ setup_form-run width height c r z ok wide high run =
   where
     rest_run : (width height : ℕ) (c : Coder) (r : RecordFields) (z : PlaceOf Rows) (p : Place) (s d : PlaceOf Rows) → IsAccepted width height r
         → front_form width height true (place_of c fresh_row) ≡ Ok (front_value r, p)
-        → IsRowsRun true (place_of p.coder (first_rows p.states)) (table_pieces 0 (flat_map (λ set. set.tables) r.sets)) s
-        → IsRowsRun true s (flat_map (λ set. deltas_pieces set.deltas) r.sets) d
+        → IsRowsRun true (place_of p.coder (first_rows p.states)) (table_row_bits 0 (flat_map (λ set. set.tables) r.sets)) s
+        → IsRowsRun true s (flat_map (λ set. deltas_row_bits set.deltas) r.sets) d
         → IsRowsRun true d ((0, fields_bits (back_fields r)) ∷ []) z
         → (last : Place) × (setup_form true width height true (place_of c fresh_row) ≡ Ok (setup_value width height r, last))
     rest_run width height c r z p s d ok front run more end =
         let t = sets-run true (length r.sets) [] (map (λ set. set.tables) r.sets) 0 p.coder (first_rows p.states) s (tables_count r.sets)
         (All-map IsTableSet (λ set. set.tables) r.sets (λ k e h. (ok.sets k e h).tables))
         (λ j h. first_rows-fresh p.states (33 + j) (omega arith))
-        (subst (λ w. IsRowsRun true (place_of p.coder (first_rows p.states)) (table_pieces 0 w) s) (sym (flat_tables r.sets)) run) in
+        (subst (λ w. IsRowsRun true (place_of p.coder (first_rows p.states)) (table_row_bits 0 w) s) (sym (flat_tables r.sets)) run) in
         let e = sets-deltas-run true r.sets (place_of s.coder (p.states, fresh_rows)) s.states d ok.sets
         (before_deltas (first_rows p.states) s.states p.states (with_row-same fresh_states 0 p.states) (first_rows-fresh p.states) t.kept) more in
         let l = last-run width height (place_of d.coder e.after.0) r end.0 ok

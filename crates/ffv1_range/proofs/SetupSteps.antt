@@ -1,10 +1,10 @@
 -- A configuration record read part by part.
 use Rattle.std.proofs.Common.{◌≡◌, ℕ, Bool, true, false, List, [], ◌∷◌, Result, Ok, Err, refl, sym, ap, ◌∙◌, subst, length}
 use Rattle.std.specs.Prelude.{map, ◌&&◌, if◌then◌else◌}
-use Rattle.ffv1_range.specs.Results.{◌>>=◌ as ◌>>>◌}
+use Rattle.ffv1_range.specs.Results.{◌>>>◌}
 use Rattle.ffv1_range.specs.Coding.{Coder, Place, start_of}
 use Rattle.ffv1_range.specs.Decoder.{Reader, Starts}
-use Rattle.ffv1_range.specs.Forms.{Form, ◌>>=◌, giving, accepted, apart, from_place, form_at, Reads}
+use Rattle.ffv1_range.specs.Forms.{Form, ◌>>=◌, giving, accepted, apart, from_place, form_at, ReadsForm}
 use Rattle.ffv1_range.specs.Fields.{last_fields}
 use Rattle.ffv1_range.specs.Tables.{SetValue}
 use Rattle.ffv1_range.specs.TableForms.{fresh_row, sets_from, deltas_form}
@@ -123,26 +123,26 @@ front_fails granted width height e r row h =
     continue_stop Range (setup_form granted width height) (front_form width height) (front_rest granted width height) r r r row row row e
     (setup_form-open granted width height r row) h
 
-front_read : (granted : Bool) (width height : ℕ) (f : FrontValue) (r s : Reader) (row a : List ℕ) → Reads Range (front_form width height) r row (Ok f) s a
+front_read : (granted : Bool) (width height : ℕ) (f : FrontValue) (r s : Reader) (row a : List ℕ) → ReadsForm Range (front_form width height) r row (Ok f) s a
     → Continues Range (setup_form granted width height) r row (front_rest granted width height f) s a
 front_read granted width height f r s row a h =
     continue_next Range (setup_form granted width height) (front_form width height) (front_rest granted width height) r r s row row a f
     (setup_form-open granted width height r row) h
 
-pub memory_refused : (width height : ℕ) (f : FrontValue) (r s : Reader) (row a : List ℕ) → Reads Range (front_form width height) r row (Ok f) s a
+pub memory_refused : (width height : ℕ) (f : FrontValue) (r s : Reader) (row a : List ℕ) → ReadsForm Range (front_form width height) r row (Ok f) s a
     → form_at Range (setup_form false width height) r row ≡ Err Memory
 unfolding front_rest
 memory_refused width height f r s row a h =
     refused Range (setup_form false width height) false Memory (memory_rest width height f) r s row a refl (h.0, at_ok r s h.0 h.2)
     (front_read false width height f r s row a h)
 
-memory_granted : (width height : ℕ) (f : FrontValue) (r s : Reader) (row a : List ℕ) → Reads Range (front_form width height) r row (Ok f) s a
+memory_granted : (width height : ℕ) (f : FrontValue) (r s : Reader) (row a : List ℕ) → ReadsForm Range (front_form width height) r row (Ok f) s a
     → Continues Range (setup_form true width height) r row (apart tt (sets_from f.sets []) >>= sets_rest width height f) s a
 unfolding front_rest memory_rest
 memory_granted width height f r s row a h =
     continue_accepted Range (setup_form true width height) true Memory (memory_rest width height f) r s row a refl (front_read true width height f r s row a h)
 
-pub sets_fail : (width height : ℕ) (f : FrontValue) (e : SetupFault) (r s : Reader) (row a : List ℕ) → Reads Range (front_form width height) r row (Ok f) s a
+pub sets_fail : (width height : ℕ) (f : FrontValue) (e : SetupFault) (r s : Reader) (row a : List ℕ) → ReadsForm Range (front_form width height) r row (Ok f) s a
     → form_at Range (sets_from f.sets []) s tt ≡ Err e → form_at Range (setup_form true width height) r row ≡ Err e
 sets_fail width height f e r s row a h k =
     continue_stop Range (setup_form true width height) (apart tt (sets_from f.sets [])) (sets_rest width height f) r s s row a a e
@@ -150,8 +150,8 @@ sets_fail width height f e r s row a h k =
     (read_on Range (λ at_hand. tt) (λ at_hand used. at_hand) (sets_from f.sets []) s s a tt (Err e) k)
 
 sets_read : (width height : ℕ) (f : FrontValue) (sets : List SetValue) (r s t : Reader) (row a : List ℕ)
-    → Reads Range (front_form width height) r row (Ok f) s a
-    → Reads Range (sets_from f.sets []) s tt (Ok sets) t tt
+    → ReadsForm Range (front_form width height) r row (Ok f) s a
+    → ReadsForm Range (sets_from f.sets []) s tt (Ok sets) t tt
     → Continues Range (setup_form true width height) r row (deltas_form (map (λ set. set.contexts) sets) >>= deltas_rest width height f sets) t a
 unfolding sets_rest
 sets_read width height f sets r s t row a h k =
@@ -161,7 +161,7 @@ sets_read width height f sets r s t row a h k =
 
 pub deltas_fail : (width height : ℕ) (f : FrontValue) (sets : List SetValue) (contexts : List ℕ) (e : SetupFault) (r s t : Reader) (row a : List ℕ)
     → contexts ≡ map (λ set. set.contexts) sets
-    → Reads Range (front_form width height) r row (Ok f) s a → Reads Range (sets_from f.sets []) s tt (Ok sets) t tt
+    → ReadsForm Range (front_form width height) r row (Ok f) s a → ReadsForm Range (sets_from f.sets []) s tt (Ok sets) t tt
     → form_at Range (deltas_form contexts) t a ≡ Err e → form_at Range (setup_form true width height) r row ≡ Err e
 deltas_fail width height f sets contexts e r s t row a same h k l =
     continue_stop Range (setup_form true width height) (deltas_form (map (λ set. set.contexts) sets)) (deltas_rest width height f sets) r t t row a a e
@@ -170,19 +170,19 @@ deltas_fail width height f sets contexts e r s t row a same h k l =
 
 deltas_read : (width height : ℕ) (f : FrontValue) (sets : List SetValue) (contexts : List ℕ) (r s t u : Reader) (row a b : List ℕ)
     → contexts ≡ map (λ set. set.contexts) sets
-    → Reads Range (front_form width height) r row (Ok f) s a → Reads Range (sets_from f.sets []) s tt (Ok sets) t tt
-    → Reads Range (deltas_form contexts) t a (Ok tt) u b
+    → ReadsForm Range (front_form width height) r row (Ok f) s a → ReadsForm Range (sets_from f.sets []) s tt (Ok sets) t tt
+    → ReadsForm Range (deltas_form contexts) t a (Ok tt) u b
     → Continues Range (setup_form true width height) r row (last_fields >>= last_rest width height f sets) u b
 unfolding deltas_rest
 deltas_read width height f sets contexts r s t u row a b same h k l =
     continue_next Range (setup_form true width height) (deltas_form (map (λ set. set.contexts) sets)) (deltas_rest width height f sets) r t u row a b tt
     (sets_read width height f sets r s t row a h k)
-    (subst (λ z. Reads Range (deltas_form z) t a (Ok tt) u b) same l)
+    (subst (λ z. ReadsForm Range (deltas_form z) t a (Ok tt) u b) same l)
 
 pub last_fails : (width height : ℕ) (f : FrontValue) (sets : List SetValue) (contexts : List ℕ) (e : SetupFault) (r s t u : Reader) (row a b : List ℕ)
     → contexts ≡ map (λ set. set.contexts) sets
-    → Reads Range (front_form width height) r row (Ok f) s a → Reads Range (sets_from f.sets []) s tt (Ok sets) t tt
-    → Reads Range (deltas_form contexts) t a (Ok tt) u b → form_at Range last_fields u b ≡ Err e
+    → ReadsForm Range (front_form width height) r row (Ok f) s a → ReadsForm Range (sets_from f.sets []) s tt (Ok sets) t tt
+    → ReadsForm Range (deltas_form contexts) t a (Ok tt) u b → form_at Range last_fields u b ≡ Err e
     → form_at Range (setup_form true width height) r row ≡ Err e
 last_fails width height f sets contexts e r s t u row a b same h k l m =
     continue_stop Range (setup_form true width height) last_fields (last_rest width height f sets) r u u row b b e
@@ -190,9 +190,9 @@ last_fails width height f sets contexts e r s t u row a b same h k l m =
 
 pub all_read : (width height : ℕ) (f : FrontValue) (sets : List SetValue) (contexts : List ℕ) (intra : ℕ) (r s t u v : Reader) (row a b d : List ℕ)
     → contexts ≡ map (λ set. set.contexts) sets
-    → Reads Range (front_form width height) r row (Ok f) s a → Reads Range (sets_from f.sets []) s tt (Ok sets) t tt
-    → Reads Range (deltas_form contexts) t a (Ok tt) u b → Reads Range last_fields u b (Ok intra) v d
-    → Reads Range (setup_form true width height) r row
+    → ReadsForm Range (front_form width height) r row (Ok f) s a → ReadsForm Range (sets_from f.sets []) s tt (Ok sets) t tt
+    → ReadsForm Range (deltas_form contexts) t a (Ok tt) u b → ReadsForm Range last_fields u b (Ok intra) v d
+    → ReadsForm Range (setup_form true width height) r row
     (Ok (setup_from f sets 1 intra width height)) v d
 unfolding last_rest
 all_read width height f sets contexts intra r s t u v row a b d same h k l m =

@@ -4,7 +4,7 @@ use Rattle.std.proofs.Math.Nat.{pow-suc, pow-le-pow_right}
 use Rattle.std.proofs.lemmas.Nat.{pow_pos, shr-shr, leading_top, le-div, div_below, div-add-mod', mod_below}
 use Rattle.std.proofs.lemmas.Bool.{cond_both, eqb-true, eqb-false, eq-eqb, ne_eqb, cases_order}
 use Rattle.ffv1_bits.specs.Bits.{has_bit, bit_value}
-use Rattle.ffv1_range.specs.Results.{◌>>=◌ as ◌>>>◌}
+use Rattle.ffv1_range.specs.Results.{◌>>>◌}
 use Rattle.ffv1_range.specs.Coding.{Place, slot_at, IsRangeRun}
 use Rattle.ffv1_range.specs.Symbols.{symbol_bits, signed_symbol_bits, counting_ones, low_slots, exponent_of}
 use Rattle.ffv1_range.specs.Forms.{Form, ◌>>=◌, giving}

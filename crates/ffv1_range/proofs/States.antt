@@ -2,7 +2,7 @@
 use Rattle.std.proofs.Common.{◌≡◌, ℕ, ◌<◌, Bool, true, leb, refl, arith, inl, inr}
 use Rattle.std.specs.Prelude.{◌&&◌, ◌||◌, not}
 use Rattle.std.proofs.lemmas.Bool.{agree_below_at, leb-true, and_parts, or_cases, le-leb, and_from, both_ways, not-true}
-use Rattle.ffv1_range.specs.Coding.{IsState, one_state, zero_state}
+use Rattle.ffv1_range.specs.Coding.{IsBitState, one_state, zero_state}
 
 in_range : ℕ → Bool
 in_range s = leb 8 s && leb s 248
@@ -14,15 +14,15 @@ stays_always : (s : ℕ) → s < 256 → stays s ≡ true
 unfolding in_range stays
 stays_always s h = agree_below_at stays (λ _. true) 256 s refl h
 
-from_test : (s : ℕ) → in_range s ≡ true → IsState s
+from_test : (s : ℕ) → in_range s ≡ true → IsBitState s
 unfolding in_range
 from_test s e = (leb-true 8 s (and_parts (leb 8 s) (leb s 248) e).0, leb-true s 248 (and_parts (leb 8 s) (leb s 248) e).1)
 
-to_test : (s : ℕ) → IsState s → in_range s ≡ true
+to_test : (s : ℕ) → IsBitState s → in_range s ≡ true
 unfolding in_range
 to_test s h = and_from (leb 8 s) (leb s 248) (le-leb 8 s h.0) (le-leb s 248 h.1)
 
-both_stay : (s : ℕ) → IsState s → IsState (one_state s) × IsState (zero_state s)
+both_stay : (s : ℕ) → IsBitState s → IsBitState (one_state s) × IsBitState (zero_state s)
 unfolding stays
 both_stay s h =
     elim (or_cases (not (in_range s)) (in_range (one_state s) && in_range (zero_state s)) (stays_always s (omega arith))) [
@@ -32,8 +32,8 @@ both_stay s h =
           (from_test (one_state s) both.0, from_test (zero_state s) both.1)
     ]
 
-pub one_stays : (s : ℕ) → IsState s → IsState (one_state s)
+pub one_stays : (s : ℕ) → IsBitState s → IsBitState (one_state s)
 one_stays s h = (both_stay s h).0
 
-pub zero_stays : (s : ℕ) → IsState s → IsState (zero_state s)
+pub zero_stays : (s : ℕ) → IsBitState s → IsBitState (zero_state s)
 zero_stays s h = (both_stay s h).1

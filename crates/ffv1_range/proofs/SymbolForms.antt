@@ -8,7 +8,7 @@ use Rattle.ffv1_bits.specs.Bits.{bit_value}
 use Rattle.ffv1_bits.proofs.Places.{bool_byte-bit_value}
 use Rattle.ffv1_range.specs.Coding.{Coder}
 use Rattle.ffv1_range.specs.Decoder.{Reader}
-use Rattle.ffv1_range.specs.Forms.{Form, ◌>>=◌, giving, from_place, form_at, Reads, same_fault, slot_form}
+use Rattle.ffv1_range.specs.Forms.{Form, ◌>>=◌, giving, from_place, form_at, ReadsForm, same_fault, slot_form}
 use Rattle.ffv1_range.specs.Reading.{exponent_form, low_form, symbol_form, signed_symbol_form}
 use Rattle.ffv1_range.specs.declared.coding.RangeFault.{RangeFault}
 use Rattle.ffv1_range.specs.declared.coding.RangeFault.TheVariants.{SymbolTooLong}
@@ -22,22 +22,22 @@ exponent_rest n e more = if more then exponent_form n (e + 1) else giving e
 -- one turn of the loop that counts ones
 
 pub exponent_turn : (k n e slot : ℕ) (bit : Bool) (q r s : Reader) (start row states : List ℕ) → k ≡ suc n → slot ≡ 1 + min e 9 → bit ≡ true
-    → Continues same_fault (exponent_form 32 0) q start (exponent_form k e) r row → Reads same_fault (slot_form slot) r row (Ok bit) s states
+    → Continues same_fault (exponent_form 32 0) q start (exponent_form k e) r row → ReadsForm same_fault (slot_form slot) r row (Ok bit) s states
     → Continues same_fault (exponent_form 32 0) q start (exponent_form n (e + 1)) s states
 unfolding exponent_form exponent_rest
 exponent_turn k n e slot bit q r s start row states l m b so h =
     continue_both same_fault (exponent_form 32 0) (exponent_form k e) (exponent_form n (e + 1)) q r s start row states so
     (subst (λ z. Continues same_fault (exponent_form z e) r row (exponent_form n (e + 1)) s states) (sym l)
     (continue_step same_fault (slot_form (1 + min e 9)) (exponent_rest n e) r s row states true
-    (subst (λ z. Reads same_fault (slot_form z) r row (Ok true) s states) m (subst (λ z. Reads same_fault (slot_form slot) r row (Ok z) s states) b h))))
+    (subst (λ z. ReadsForm same_fault (slot_form z) r row (Ok true) s states) m (subst (λ z. ReadsForm same_fault (slot_form slot) r row (Ok z) s states) b h))))
 
 pub exponent_found : (k n e slot : ℕ) (bit : Bool) (q r s : Reader) (start row states : List ℕ) → k ≡ suc n → slot ≡ 1 + min e 9 → bit ≡ false
-    → Continues same_fault (exponent_form 32 0) q start (exponent_form k e) r row → Reads same_fault (slot_form slot) r row (Ok bit) s states
-    → Reads same_fault (exponent_form 32 0) q start (Ok e) s states
+    → Continues same_fault (exponent_form 32 0) q start (exponent_form k e) r row → ReadsForm same_fault (slot_form slot) r row (Ok bit) s states
+    → ReadsForm same_fault (exponent_form 32 0) q start (Ok e) s states
 unfolding exponent_form exponent_rest
 exponent_found k n e slot bit q r s start row states l m b so h =
-    let read : Reads same_fault (slot_form (1 + min e 9)) r row (Ok false) s states =
-    subst (λ z. Reads same_fault (slot_form z) r row (Ok false) s states) m (subst (λ z. Reads same_fault (slot_form slot) r row (Ok z) s states) b h) in
+    let read : ReadsForm same_fault (slot_form (1 + min e 9)) r row (Ok false) s states =
+    subst (λ z. ReadsForm same_fault (slot_form z) r row (Ok false) s states) m (subst (λ z. ReadsForm same_fault (slot_form slot) r row (Ok z) s states) b h) in
     let step : Continues same_fault (exponent_form k e) r row (exponent_rest n e false) s states =
     subst (λ z. Continues same_fault (exponent_form z e) r row (exponent_rest n e false) s states) (sym l)
     (continue_step same_fault (slot_form (1 + min e 9)) (exponent_rest n e) r s row states false read) in
@@ -46,14 +46,14 @@ exponent_found k n e slot bit q r s start row states l m b so h =
     (continue_give same_fault s read.0 states e (exponent_rest n e false) (ap (λ z. z.at) read.2) refl)
 
 pub exponent_fails : (k n e slot : ℕ) (f : RangeFault) (q r s : Reader) (start row states : List ℕ) → k ≡ suc n → slot ≡ 1 + min e 9
-    → Continues same_fault (exponent_form 32 0) q start (exponent_form k e) r row → Reads same_fault (slot_form slot) r row (Err f) s states
-    → Reads same_fault (exponent_form 32 0) q start (Err f) s states
+    → Continues same_fault (exponent_form 32 0) q start (exponent_form k e) r row → ReadsForm same_fault (slot_form slot) r row (Err f) s states
+    → ReadsForm same_fault (exponent_form 32 0) q start (Err f) s states
 unfolding exponent_form exponent_rest
 exponent_fails k n e slot f q r s start row states l m so h =
     continue_end same_fault (exponent_form 32 0) (exponent_form k e) q r s start row states (Err f) so
-    (subst (λ z. Reads same_fault (exponent_form z e) r row (Err f) s states) (sym l)
+    (subst (λ z. ReadsForm same_fault (exponent_form z e) r row (Err f) s states) (sym l)
     (stop same_fault (slot_form (1 + min e 9)) (exponent_rest n e) r s row states f
-    (subst (λ z. Reads same_fault (slot_form z) r row (Err f) s states) m h)))
+    (subst (λ z. ReadsForm same_fault (slot_form z) r row (Err f) s states) m h)))
 
 -- after the last one that is allowed
 pub exponent_over : (k e : ℕ) (r : Reader) (c : Coder) (row : List ℕ) → k ≡ 0 → r.at ≡ Ok c → form_at same_fault (exponent_form k e) r row ≡ Err SymbolTooLong
@@ -68,7 +68,7 @@ low_rest : ℕ → ℕ → Bool → Form (List ℕ) ℕ RangeFault
 low_rest n a bit = low_form n (2 * a + bit_value bit)
 
 pub low_turn : (e k n a slot v : ℕ) (bit : Bool) (q r s : Reader) (start row states : List ℕ) → k ≡ suc n → slot ≡ 22 + min n 9 → v ≡ bool_byte bit
-    → Continues same_fault (low_form e 1) q start (low_form k a) r row → Reads same_fault (slot_form slot) r row (Ok bit) s states
+    → Continues same_fault (low_form e 1) q start (low_form k a) r row → ReadsForm same_fault (slot_form slot) r row (Ok bit) s states
     → Continues same_fault (low_form e 1) q start (low_form n (2 * a + v)) s states
 unfolding low_form low_rest
 low_turn e k n a slot v bit q r s start row states l m b so h =
@@ -76,25 +76,25 @@ low_turn e k n a slot v bit q r s start row states l m b so h =
     (subst (λ z. Continues same_fault (low_form z a) r row (low_form n (2 * a + v)) s states) (sym l)
     (subst (λ z. Continues same_fault (low_form (suc n) a) r row (low_form n (2 * a + z)) s states) (sym (b ∙ bool_byte-bit_value bit))
     (continue_step same_fault (slot_form (22 + min n 9)) (low_rest n a) r s row states bit
-    (subst (λ z. Reads same_fault (slot_form z) r row (Ok bit) s states) m h))))
+    (subst (λ z. ReadsForm same_fault (slot_form z) r row (Ok bit) s states) m h))))
 
 pub low_fails : (e k n a slot : ℕ) (f : RangeFault) (q r s : Reader) (start row states : List ℕ) → k ≡ suc n → slot ≡ 22 + min n 9
-    → Continues same_fault (low_form e 1) q start (low_form k a) r row → Reads same_fault (slot_form slot) r row (Err f) s states
-    → Reads same_fault (low_form e 1) q start (Err f) s states
+    → Continues same_fault (low_form e 1) q start (low_form k a) r row → ReadsForm same_fault (slot_form slot) r row (Err f) s states
+    → ReadsForm same_fault (low_form e 1) q start (Err f) s states
 unfolding low_form low_rest
 low_fails e k n a slot f q r s start row states l m so h =
     continue_end same_fault (low_form e 1) (low_form k a) q r s start row states (Err f) so
-    (subst (λ z. Reads same_fault (low_form z a) r row (Err f) s states) (sym l)
+    (subst (λ z. ReadsForm same_fault (low_form z a) r row (Err f) s states) (sym l)
     (stop same_fault (slot_form (22 + min n 9)) (low_rest n a) r s row states f
-    (subst (λ z. Reads same_fault (slot_form z) r row (Err f) s states) m h)))
+    (subst (λ z. ReadsForm same_fault (slot_form z) r row (Err f) s states) m h)))
 
 pub low_end : (e k a : ℕ) (q r : Reader) (start row : List ℕ) (c : Coder) → k ≡ 0 → r.at ≡ Ok c
     → Continues same_fault (low_form e 1) q start (low_form k a) r row
-    → Reads same_fault (low_form e 1) q start (Ok a) r row
+    → ReadsForm same_fault (low_form e 1) q start (Ok a) r row
 unfolding low_form
 low_end e k a q r start row c l h so =
     continue_end same_fault (low_form e 1) (low_form k a) q r r start row row (Ok a) so
-    (subst (λ z. Reads same_fault (low_form z a) r row (Ok a) r row) (sym l) (continue_give same_fault r c row a (low_form 0 a) h refl))
+    (subst (λ z. ReadsForm same_fault (low_form z a) r row (Ok a) r row) (sym l) (continue_give same_fault r c row a (low_form 0 a) h refl))
 
 -- ---- the magnitude fits 32 bits
 
@@ -123,37 +123,37 @@ large_form = exponent_form 32 0 >>= λ e. low_form e 1
 symbol_rest : Bool → Form (List ℕ) ℕ RangeFault
 symbol_rest is_zero = if is_zero then giving 0 else large_form
 
-pub symbol_fails : (f : RangeFault) (r s : Reader) (row states : List ℕ) → Reads same_fault (slot_form 0) r row (Err f) s states
-    → Reads same_fault symbol_form r row (Err f) s states
+pub symbol_fails : (f : RangeFault) (r s : Reader) (row states : List ℕ) → ReadsForm same_fault (slot_form 0) r row (Err f) s states
+    → ReadsForm same_fault symbol_form r row (Err f) s states
 unfolding symbol_form symbol_rest large_form
 symbol_fails f r s row states h = stop same_fault (slot_form 0) symbol_rest r s row states f h
 
-pub symbol_zero : (bit : Bool) (r s : Reader) (row states : List ℕ) → bit ≡ true → Reads same_fault (slot_form 0) r row (Ok bit) s states
-    → Reads same_fault symbol_form r row (Ok 0) s states
+pub symbol_zero : (bit : Bool) (r s : Reader) (row states : List ℕ) → bit ≡ true → ReadsForm same_fault (slot_form 0) r row (Ok bit) s states
+    → ReadsForm same_fault symbol_form r row (Ok 0) s states
 unfolding symbol_form symbol_rest large_form
 symbol_zero bit r s row states b h =
     continue_end same_fault symbol_form (symbol_rest true) r s s row states states (Ok 0)
-    (continue_step same_fault (slot_form 0) symbol_rest r s row states true (subst (λ z. Reads same_fault (slot_form 0) r row (Ok z) s states) b h))
+    (continue_step same_fault (slot_form 0) symbol_rest r s row states true (subst (λ z. ReadsForm same_fault (slot_form 0) r row (Ok z) s states) b h))
     (continue_give same_fault s h.0 states 0 (symbol_rest true) (ap (λ z. z.at) h.2) refl)
 
-symbol_large : (bit : Bool) (r s : Reader) (row states : List ℕ) → bit ≡ false → Reads same_fault (slot_form 0) r row (Ok bit) s states
+symbol_large : (bit : Bool) (r s : Reader) (row states : List ℕ) → bit ≡ false → ReadsForm same_fault (slot_form 0) r row (Ok bit) s states
     → Continues same_fault symbol_form r row large_form s states
 unfolding symbol_form symbol_rest large_form
 symbol_large bit r s row states b h =
-    continue_step same_fault (slot_form 0) symbol_rest r s row states false (subst (λ z. Reads same_fault (slot_form 0) r row (Ok z) s states) b h)
+    continue_step same_fault (slot_form 0) symbol_rest r s row states false (subst (λ z. ReadsForm same_fault (slot_form 0) r row (Ok z) s states) b h)
 
 pub symbol_too_long : (bit : Bool) (f : RangeFault) (r s t : Reader) (row states after : List ℕ) → bit ≡ false
-    → Reads same_fault (slot_form 0) r row (Ok bit) s states
-    → Reads same_fault (exponent_form 32 0) s states (Err f) t after → Reads same_fault symbol_form r row (Err f) t after
+    → ReadsForm same_fault (slot_form 0) r row (Ok bit) s states
+    → ReadsForm same_fault (exponent_form 32 0) s states (Err f) t after → ReadsForm same_fault symbol_form r row (Err f) t after
 unfolding large_form
 symbol_too_long bit f r s t row states after b h k =
     continue_end same_fault symbol_form large_form r s t row states after (Err f) (symbol_large bit r s row states b h)
     (stop same_fault (exponent_form 32 0) (λ e. low_form e 1) s t states after f k)
 
 pub symbol_read : (bit : Bool) (e : ℕ) (r s t u : Reader) (row states mid after : List ℕ) (result : Result ℕ RangeFault) → bit ≡ false
-    → Reads same_fault (slot_form 0) r row (Ok bit) s states → Reads same_fault (exponent_form 32 0) s states (Ok e) t mid
-    → Reads same_fault (low_form e 1) t mid result u after
-    → Reads same_fault symbol_form r row result u after
+    → ReadsForm same_fault (slot_form 0) r row (Ok bit) s states → ReadsForm same_fault (exponent_form 32 0) s states (Ok e) t mid
+    → ReadsForm same_fault (low_form e 1) t mid result u after
+    → ReadsForm same_fault symbol_form r row result u after
 unfolding large_form
 symbol_read bit e r s t u row states mid after result b h k l =
     continue_end same_fault symbol_form (low_form e 1) r t u row mid after result
@@ -173,43 +173,43 @@ signed_exponent_rest e = low_form e 1 >>= magnitude_rest e
 unfoldable pub signed_rest : Bool → Form (List ℕ) ℤ RangeFault
 signed_rest is_zero = if is_zero then giving (pos 0) else (exponent_form 32 0 >>= signed_exponent_rest)
 
-pub signed_fails : (f : RangeFault) (r s : Reader) (row states : List ℕ) → Reads same_fault (slot_form 0) r row (Err f) s states
-    → Reads same_fault signed_symbol_form r row (Err f) s states
+pub signed_fails : (f : RangeFault) (r s : Reader) (row states : List ℕ) → ReadsForm same_fault (slot_form 0) r row (Err f) s states
+    → ReadsForm same_fault signed_symbol_form r row (Err f) s states
 unfolding signed_symbol_form signed_rest signed_exponent_rest magnitude_rest sign_rest
 signed_fails f r s row states h = stop same_fault (slot_form 0) signed_rest r s row states f h
 
-pub signed_zero : (bit : Bool) (r s : Reader) (row states : List ℕ) → bit ≡ true → Reads same_fault (slot_form 0) r row (Ok bit) s states
-    → Reads same_fault signed_symbol_form r row (Ok (pos 0)) s states
+pub signed_zero : (bit : Bool) (r s : Reader) (row states : List ℕ) → bit ≡ true → ReadsForm same_fault (slot_form 0) r row (Ok bit) s states
+    → ReadsForm same_fault signed_symbol_form r row (Ok (pos 0)) s states
 unfolding signed_symbol_form signed_rest signed_exponent_rest magnitude_rest sign_rest
 signed_zero bit r s row states b h =
     continue_end same_fault signed_symbol_form (signed_rest true) r s s row states states (Ok (pos 0))
-    (continue_step same_fault (slot_form 0) signed_rest r s row states true (subst (λ z. Reads same_fault (slot_form 0) r row (Ok z) s states) b h))
+    (continue_step same_fault (slot_form 0) signed_rest r s row states true (subst (λ z. ReadsForm same_fault (slot_form 0) r row (Ok z) s states) b h))
     (continue_give same_fault s h.0 states (pos 0) (signed_rest true) (ap (λ z. z.at) h.2) refl)
 
 -- a signed symbol that is not 0, as far as its exponent, its magnitude and its sign
 
-signed_large : (bit : Bool) (r s : Reader) (row states : List ℕ) → bit ≡ false → Reads same_fault (slot_form 0) r row (Ok bit) s states
+signed_large : (bit : Bool) (r s : Reader) (row states : List ℕ) → bit ≡ false → ReadsForm same_fault (slot_form 0) r row (Ok bit) s states
     → Continues same_fault signed_symbol_form r row (exponent_form 32 0 >>= signed_exponent_rest) s states
 unfolding signed_symbol_form signed_rest signed_exponent_rest magnitude_rest sign_rest
 signed_large bit r s row states b h =
-    continue_step same_fault (slot_form 0) signed_rest r s row states false (subst (λ z. Reads same_fault (slot_form 0) r row (Ok z) s states) b h)
+    continue_step same_fault (slot_form 0) signed_rest r s row states false (subst (λ z. ReadsForm same_fault (slot_form 0) r row (Ok z) s states) b h)
 
 pub signed_exponent_fails : (bit : Bool) (f : RangeFault) (r s t : Reader) (row states after : List ℕ) → bit ≡ false
-    → Reads same_fault (slot_form 0) r row (Ok bit) s states → Reads same_fault (exponent_form 32 0) s states (Err f) t after
-    → Reads same_fault signed_symbol_form r row (Err f) t after
+    → ReadsForm same_fault (slot_form 0) r row (Ok bit) s states → ReadsForm same_fault (exponent_form 32 0) s states (Err f) t after
+    → ReadsForm same_fault signed_symbol_form r row (Err f) t after
 signed_exponent_fails bit f r s t row states after b h k =
     continue_stop same_fault signed_symbol_form (exponent_form 32 0) signed_exponent_rest r s t row states after f (signed_large bit r s row states b h) k
 
 signed_exponent : (bit : Bool) (e : ℕ) (r s t : Reader) (row states mid : List ℕ) → bit ≡ false
-    → Reads same_fault (slot_form 0) r row (Ok bit) s states → Reads same_fault (exponent_form 32 0) s states (Ok e) t mid
+    → ReadsForm same_fault (slot_form 0) r row (Ok bit) s states → ReadsForm same_fault (exponent_form 32 0) s states (Ok e) t mid
     → Continues same_fault signed_symbol_form r row (low_form e 1 >>= magnitude_rest e) t mid
 unfolding signed_exponent_rest
 signed_exponent bit e r s t row states mid b h k =
     continue_next same_fault signed_symbol_form (exponent_form 32 0) signed_exponent_rest r s t row states mid e (signed_large bit r s row states b h) k
 
 pub signed_magnitude_fails : (bit : Bool) (e : ℕ) (f : RangeFault) (r s t u : Reader) (row states mid after : List ℕ) → bit ≡ false
-    → Reads same_fault (slot_form 0) r row (Ok bit) s states → Reads same_fault (exponent_form 32 0) s states (Ok e) t mid
-    → Reads same_fault (low_form e 1) t mid (Err f) u after → Reads same_fault signed_symbol_form r row (Err f) u after
+    → ReadsForm same_fault (slot_form 0) r row (Ok bit) s states → ReadsForm same_fault (exponent_form 32 0) s states (Ok e) t mid
+    → ReadsForm same_fault (low_form e 1) t mid (Err f) u after → ReadsForm same_fault signed_symbol_form r row (Err f) u after
 signed_magnitude_fails bit e f r s t u row states mid after b h k l =
     continue_stop same_fault signed_symbol_form (low_form e 1) (magnitude_rest e) r t u row mid after f (signed_exponent bit e r s t row states mid b h k) l
 
@@ -218,22 +218,22 @@ pub AreBeforeSign : ℕ → ℕ → Reader → List ℕ → Reader → List ℕ 
 AreBeforeSign slot a r row u late = Continues same_fault signed_symbol_form r row (slot_form slot >>= sign_rest a) u late
 
 pub signed_magnitude : (bit : Bool) (e a slot : ℕ) (r s t u : Reader) (row states mid late : List ℕ) → bit ≡ false → slot ≡ 11 + min e 10
-    → Reads same_fault (slot_form 0) r row (Ok bit) s states → Reads same_fault (exponent_form 32 0) s states (Ok e) t mid
-    → Reads same_fault (low_form e 1) t mid (Ok a) u late → AreBeforeSign slot a r row u late
+    → ReadsForm same_fault (slot_form 0) r row (Ok bit) s states → ReadsForm same_fault (exponent_form 32 0) s states (Ok e) t mid
+    → ReadsForm same_fault (low_form e 1) t mid (Ok a) u late → AreBeforeSign slot a r row u late
 unfolding magnitude_rest AreBeforeSign
 signed_magnitude bit e a slot r s t u row states mid late b m h k l =
     subst (λ z. Continues same_fault signed_symbol_form r row (slot_form z >>= sign_rest a) u late) (sym m)
     (continue_next same_fault signed_symbol_form (low_form e 1) (magnitude_rest e) r t u row mid late a (signed_exponent bit e r s t row states mid b h k) l)
 
 pub sign_fails : (a slot : ℕ) (f : RangeFault) (r u s : Reader) (row late states : List ℕ) → AreBeforeSign slot a r row u late
-    → Reads same_fault (slot_form slot) u late (Err f) s states → Reads same_fault signed_symbol_form r row (Err f) s states
+    → ReadsForm same_fault (slot_form slot) u late (Err f) s states → ReadsForm same_fault signed_symbol_form r row (Err f) s states
 unfolding AreBeforeSign
 sign_fails a slot f r u s row late states k h =
     continue_stop same_fault signed_symbol_form (slot_form slot) (sign_rest a) r u s row late states f k h
 
 pub sign_read : (a slot : ℕ) (is_negative : Bool) (r u s : Reader) (row late states : List ℕ) (z : ℤ) → z ≡ (if is_negative then neg_ℤ (pos a) else pos a)
-    → AreBeforeSign slot a r row u late → Reads same_fault (slot_form slot) u late (Ok is_negative) s states
-    → Reads same_fault signed_symbol_form r row (Ok z) s states
+    → AreBeforeSign slot a r row u late → ReadsForm same_fault (slot_form slot) u late (Ok is_negative) s states
+    → ReadsForm same_fault signed_symbol_form r row (Ok z) s states
 unfolding sign_rest AreBeforeSign
 sign_read a slot is_negative r u s row late states z e k h =
     continue_end same_fault signed_symbol_form (sign_rest a is_negative) r s s row states states (Ok z)

@@ -12,13 +12,13 @@ use Rattle.ffv1_range.specs.Fields.{number}
 use Rattle.ffv1_range.specs.Symbols.{symbol_bits}
 use Rattle.ffv1_range.specs.Tables.{SetValue, IsTable, IsTableSet, AreScalesSmall, half_of, halves_of, scale_after, scale_after_all, set_of}
 use Rattle.ffv1_range.specs.TableForms.{fresh_row, runs_from, table_form, tables_from, sets_from}
-use Rattle.ffv1_range.specs.Setup.{symbol, fields_bits, run_fields, table_pieces, IsSymbol}
+use Rattle.ffv1_range.specs.Setup.{symbol, fields_bits, run_fields, table_row_bits, IsSymbol}
 use Rattle.ffv1_range.specs.declared.fault.SetupFault.{SetupFault}
 use Rattle.ffv1_range.specs.declared.fault.SetupFault.TheVariants.{TableRun, Contexts}
 use Rattle.ffv1_range.proofs.Forms.{place_of, bind_ok}
 use Rattle.ffv1_range.proofs.Spelling.{bind_is_ok, same_ok, run_append, run_split}
 use Rattle.ffv1_range.proofs.FieldRuns.{number-found, number-run, accepted-found, accepted-run}
-use Rattle.ffv1_range.proofs.RowRuns.{rows_append, rows_split, with_row-other, one_piece, table_pieces-append}
+use Rattle.ffv1_range.proofs.RowRuns.{rows_append, rows_split, with_row-other, one_row_bits, table_row_bits-append}
 use Rattle.ffv1_range.proofs.TableSteps.{run_rest, fit_rest, runs_from-open, runs_from-filled, set_rest, set_fit_rest, sets_rest}
 
 small_symbol : (n : ℕ) → n ≤ 128 → IsSymbol n
@@ -152,7 +152,7 @@ KeepsFront old new = (k : ℕ) → k < 33 → new k ≡ old k
 -- From c to d these tables are coded, the first at the row of number m.
 pub record TablesRun (closed : Bool) (m : ℕ) (tables : List (List ℕ)) (c d : Coder) (rows : Rows) : Type 0 where
   pub after : Rows
-  pub coded : IsRowsRun closed (place_of c rows) (table_pieces m tables) (place_of d after)
+  pub coded : IsRowsRun closed (place_of c rows) (table_row_bits m tables) (place_of d after)
   pub fresh : AreFreshFrom (m + length tables) after
   pub kept : KeepsFront rows after
 
@@ -161,12 +161,12 @@ abbrev pub AreTablesCoded : Bool → List (List ℕ) → Coder → Coder → Typ
 AreTablesCoded closed tables c d = (m : ℕ) (rows : Rows) → AreFreshFrom m rows → TablesRun closed m tables c d rows
 
 no_tables : (closed : Bool) (c : Coder) → AreTablesCoded closed [] c c
-unfolding IsRowsRun table_pieces
+unfolding IsRowsRun table_row_bits
 no_tables closed c m rows fresh = record { after = rows; coded = refl; fresh = λ j h. fresh j (omega arith); kept = λ k h. refl }
 
 more_tables : (closed : Bool) (runs : List ℕ) (tables : List (List ℕ)) (c d e : Coder) → IsTableRun closed c runs d → AreTablesCoded closed tables d e
     → AreTablesCoded closed (runs ∷ tables) c e
-unfolding table_pieces
+unfolding table_row_bits
 more_tables closed runs tables c d e h later m rows fresh =
     let next : Rows = with_row rows (33 + m) h.0 in
     let r : TablesRun closed (m + 1) tables d e next =
@@ -174,9 +174,9 @@ more_tables closed runs tables c d e h later m rows fresh =
     record {
       after = r.after;
       coded =
-          rows_append closed ((33 + m, fields_bits (run_fields runs)) ∷ []) (table_pieces (m + 1) tables) (place_of c rows) (place_of d next)
+          rows_append closed ((33 + m, fields_bits (run_fields runs)) ∷ []) (table_row_bits (m + 1) tables) (place_of c rows) (place_of d next)
           (place_of e r.after)
-          (one_piece closed c rows (33 + m) fresh_row (fields_bits (run_fields runs)) (place_of d h.0) (fresh m (omega arith)) h.1) r.coded;
+          (one_row_bits closed c rows (33 + m) fresh_row (fields_bits (run_fields runs)) (place_of d h.0) (fresh m (omega arith)) h.1) r.coded;
       fresh = λ j l. r.fresh j (omega arith);
       kept = λ k l. let apart : k ≢ 33 + m = omega arith in r.kept k l ∙ with_row-other rows (33 + m) k h.0 apart;
     }
@@ -231,12 +231,12 @@ pub record TablesRead {A : Type 0} (closed : Bool) (form : Form (Unit {0}) A Set
 
 tables-run : (closed : Bool) (n scale : ℕ) (halves tables : List (List ℕ)) (m : ℕ) (c : Coder) (rows : Rows) (q : PlaceOf Rows) → length tables ≡ n
     → All IsTable tables
-    → AreScalesSmall scale tables → AreFreshFrom m rows → IsRowsRun closed (place_of c rows) (table_pieces m tables) q
+    → AreScalesSmall scale tables → AreFreshFrom m rows → IsRowsRun closed (place_of c rows) (table_row_bits m tables) q
     → TablesRead closed (tables_from n scale halves) (record {
       halves = halves ++ halves_of scale tables;
       contexts = (scale_after_all scale tables + 1) / 2;
     }) (m + length tables) c rows q
-unfolding tables_from IsRowsRun table_pieces set_rest set_fit_rest
+unfolding tables_from IsRowsRun table_row_bits set_rest set_fit_rest
 tables-run closed n scale halves [] m c rows q size each small fresh run =
     let same : place_of c rows ≡ q = run in
     let nothing : place_of c tt ≡ place_of q.coder tt = ap (λ z. place_of z.coder tt) same in
@@ -288,8 +288,8 @@ both_tables closed xs ys c d e h k m rows fresh =
     record {
       after = b.after;
       coded =
-          subst (λ z. IsRowsRun closed (place_of c rows) z (place_of e b.after)) (sym (table_pieces-append m xs ys))
-          (rows_append closed (table_pieces m xs) (table_pieces (m + length xs) ys) (place_of c rows) (place_of d a.after)
+          subst (λ z. IsRowsRun closed (place_of c rows) z (place_of e b.after)) (sym (table_row_bits-append m xs ys))
+          (rows_append closed (table_row_bits m xs) (table_row_bits (m + length xs) ys) (place_of c rows) (place_of d a.after)
           (place_of e b.after) a.coded b.coded);
       fresh = λ j l. b.fresh j (omega arith);
       kept = λ i l. b.kept i l ∙ a.kept i l;
@@ -326,14 +326,14 @@ sets-found closed (suc n) got c y h =
     }
 
 set-run : (closed : Bool) (tables : List (List ℕ)) (m : ℕ) (c : Coder) (rows : Rows) (q : PlaceOf Rows) → IsTableSet tables → AreFreshFrom m rows
-    → IsRowsRun closed (place_of c rows) (table_pieces m tables) q → TablesRead closed (tables_from 5 1 []) (set_of tables) (m + length tables) c rows q
+    → IsRowsRun closed (place_of c rows) (table_row_bits m tables) q → TablesRead closed (tables_from 5 1 []) (set_of tables) (m + length tables) c rows q
 set-run closed tables m c rows q h fresh run = tables-run closed 5 1 [] tables m c rows q h.five h.tables h.small fresh run
 
 pub sets-run : (closed : Bool) (n : ℕ) (got : List SetValue) (sets : List (List (List ℕ))) (m : ℕ) (c : Coder) (rows : Rows) (q : PlaceOf Rows)
     → length sets ≡ n → All IsTableSet sets
-    → AreFreshFrom m rows → IsRowsRun closed (place_of c rows) (table_pieces m (flat_map (λ set. set) sets)) q
+    → AreFreshFrom m rows → IsRowsRun closed (place_of c rows) (table_row_bits m (flat_map (λ set. set) sets)) q
     → TablesRead closed (sets_from n got) (got ++ map set_of sets) (m + length (flat_map (λ set. set) sets)) c rows q
-unfolding sets_from IsRowsRun table_pieces sets_rest
+unfolding sets_from IsRowsRun table_row_bits sets_rest
 sets-run closed n got [] m c rows q size each fresh run =
     let same : place_of c rows ≡ q = run in
     record {
@@ -347,8 +347,8 @@ sets-run closed n got [] m c rows q size each fresh run =
 sets-run closed zero got (tables ∷ sets) m c rows q size each fresh run = absurd (omega (arith, size))
 sets-run closed (suc n) got (tables ∷ sets) m c rows q size each fresh run =
     let all : List (List ℕ) = flat_map (λ set. set) sets in
-    let s = rows_split closed (table_pieces m tables) (table_pieces (m + length tables) all) (place_of c rows) q
-    (subst (λ z. IsRowsRun closed (place_of c rows) z q) (table_pieces-append m tables all) run) in
+    let s = rows_split closed (table_row_bits m tables) (table_row_bits (m + length tables) all) (place_of c rows) q
+    (subst (λ z. IsRowsRun closed (place_of c rows) z q) (table_row_bits-append m tables all) run) in
     let first = set-run closed tables m c rows s.0 (All-head IsTableSet tables sets each) fresh s.1 in
     let r = sets-run closed n (got ++ set_of tables ∷ []) sets (m + length tables) s.0.coder s.0.states q (omega (arith, size))
     (All-tail IsTableSet tables sets each) first.fresh s.2 in

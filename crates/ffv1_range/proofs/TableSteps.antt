@@ -4,7 +4,7 @@ use Rattle.std.specs.Prelude.{nat_le, slice_index, if◌then◌else◌}
 use Rattle.std.proofs.lemmas.List.{get_or-replicate, take_more_set}
 use Rattle.std.proofs.lemmas.Bool.{le-leb, lt-leb}
 use Rattle.ffv1_range.specs.Decoder.{Reader, AreStates}
-use Rattle.ffv1_range.specs.Forms.{Form, ◌>>=◌, giving, accepted, form_at, Reads, same_fault}
+use Rattle.ffv1_range.specs.Forms.{Form, ◌>>=◌, giving, accepted, form_at, ReadsForm, same_fault}
 use Rattle.ffv1_range.specs.Reading.{symbol_form}
 use Rattle.ffv1_range.specs.Fields.{number}
 use Rattle.ffv1_range.specs.TableForms.{fresh_row, runs_from, table_form, tables_from, sets_from}
@@ -38,7 +38,7 @@ runs_from-filled (suc n) filled got h = ap (λ b. if b then giving got else (num
 
 run_read : (form : Form (List ℕ) (List ℕ) SetupFault) (k n filled less : ℕ) (got : List ℕ) (q r s : Reader) (start row states : List ℕ) → k ≡ suc n
     → filled < 128
-    → Continues Range form q start (runs_from k filled got) r row → Reads same_fault symbol_form r row (Ok less) s states
+    → Continues Range form q start (runs_from k filled got) r row → ReadsForm same_fault symbol_form r row (Ok less) s states
     → Continues Range form q start (run_rest n filled got less) s states
 run_read form k n filled less got q r s start row states l room so h =
     continue_next Range form number (run_rest n filled got) q r s start row states less
@@ -47,7 +47,7 @@ run_read form k n filled less got q r s start row states l room so h =
 
 pub run_turn : (form : Form (List ℕ) (List ℕ) SetupFault) (k n filled less : ℕ) (got : List ℕ) (q r s : Reader) (start row states : List ℕ) → k ≡ suc n
     → filled < 128
-    → filled + (less + 1) ≤ 128 → Continues Range form q start (runs_from k filled got) r row → Reads same_fault symbol_form r row (Ok less) s states
+    → filled + (less + 1) ≤ 128 → Continues Range form q start (runs_from k filled got) r row → ReadsForm same_fault symbol_form r row (Ok less) s states
     → Continues Range form q start (runs_from n (filled + (less + 1)) (got ++ (less + 1) ∷ [])) s states
 unfolding run_rest fit_rest
 run_turn form k n filled less got q r s start row states l room fits so h =
@@ -57,7 +57,7 @@ run_turn form k n filled less got q r s start row states l room fits so h =
 
 pub run_fails : (form : Form (List ℕ) (List ℕ) SetupFault) (k n filled : ℕ) (got : List ℕ) (f : RangeFault) (q r s : Reader) (start row states : List ℕ)
     → k ≡ suc n → filled < 128
-    → Continues Range form q start (runs_from k filled got) r row → Reads same_fault symbol_form r row (Err f) s states
+    → Continues Range form q start (runs_from k filled got) r row → ReadsForm same_fault symbol_form r row (Err f) s states
     → form_at Range form q start ≡ Err (Range f)
 run_fails form k n filled got f q r s start row states l room so h =
     continue_stop Range form number (run_rest n filled got) q r s start row states (Range f)
@@ -66,7 +66,7 @@ run_fails form k n filled got f q r s start row states l room so h =
 
 pub run_too_long : (form : Form (List ℕ) (List ℕ) SetupFault) (k n filled less : ℕ) (got : List ℕ) (q r s : Reader) (start row states : List ℕ) → k ≡ suc n
     → filled < 128
-    → 128 < filled + (less + 1) → Continues Range form q start (runs_from k filled got) r row → Reads same_fault symbol_form r row (Ok less) s states
+    → 128 < filled + (less + 1) → Continues Range form q start (runs_from k filled got) r row → ReadsForm same_fault symbol_form r row (Ok less) s states
     → form_at Range form q start ≡ Err TableRun
 unfolding run_rest
 run_too_long form k n filled less got q r s start row states l room over so h =
@@ -75,7 +75,7 @@ run_too_long form k n filled less got q r s start row states l room over so h =
     (run_read form k n filled less got q r s start row states l room so h)
 
 pub runs_end : (form : Form (List ℕ) (List ℕ) SetupFault) (k filled : ℕ) (got : List ℕ) (q r : Reader) (start row : List ℕ) → 128 ≤ filled → IsAtPlace r
-    → Continues Range form q start (runs_from k filled got) r row → Reads Range form q start (Ok got) r row
+    → Continues Range form q start (runs_from k filled got) r row → ReadsForm Range form q start (Ok got) r row
 runs_end form k filled got q r start row h at so =
     continue_end Range form (giving got) q r r start row row (Ok got)
     (subst (λ z. Continues Range form q start z r row) (runs_from-filled k filled got h) so)
@@ -86,8 +86,8 @@ runs_end form k filled got q r start row h at so =
 pub table_fails : (e : SetupFault) (r s : Reader) → form_at Range (runs_from 128 0 []) r fresh_row ≡ Err e → form_at Range table_form r tt ≡ Err e
 table_fails e r s h = read_on Range (λ at_hand. fresh_row) (λ at_hand used. at_hand) (runs_from 128 0 []) r s tt fresh_row (Err e) h
 
-pub table_read : (r s : Reader) (row : List ℕ) (runs : List ℕ) → Reads Range (runs_from 128 0 []) r fresh_row (Ok runs) s row
-    → Reads Range table_form r tt (Ok runs) s tt
+pub table_read : (r s : Reader) (row : List ℕ) (runs : List ℕ) → ReadsForm Range (runs_from 128 0 []) r fresh_row (Ok runs) s row
+    → ReadsForm Range table_form r tt (Ok runs) s tt
 table_read r s row runs h = read_on Range (λ at_hand. fresh_row) (λ at_hand used. at_hand) (runs_from 128 0 []) r s tt row (Ok runs) h
 
 -- ---- the tables of a set
@@ -103,12 +103,12 @@ unfolding tables_from set_rest set_fit_rest
 tables_from-suc k n scale halves l = ap (λ z. tables_from z scale halves) l
 
 pub set_fails : (form : Form (Unit {0}) SetValue SetupFault) (k n scale : ℕ) (halves : List (List ℕ)) (e : SetupFault) (q r s : Reader) → k ≡ suc n
-    → Continues Range form q tt (tables_from k scale halves) r tt → Reads Range table_form r tt (Err e) s tt → form_at Range form q tt ≡ Err e
+    → Continues Range form q tt (tables_from k scale halves) r tt → ReadsForm Range table_form r tt (Err e) s tt → form_at Range form q tt ≡ Err e
 set_fails form k n scale halves e q r s l so h =
     stop_of Range form (tables_from k scale halves) table_form (set_rest n scale halves) q r s tt tt tt e (tables_from-suc k n scale halves l) so h
 
 pub set_turn : (form : Form (Unit {0}) SetValue SetupFault) (k n scale : ℕ) (halves : List (List ℕ)) (runs : List ℕ) (q r s : Reader) → k ≡ suc n
-    → scale_after scale runs ≤ 65535 → Continues Range form q tt (tables_from k scale halves) r tt → Reads Range table_form r tt (Ok runs) s tt
+    → scale_after scale runs ≤ 65535 → Continues Range form q tt (tables_from k scale halves) r tt → ReadsForm Range table_form r tt (Ok runs) s tt
     → Continues Range form q tt (tables_from n (scale_after scale runs) (halves ++ half_of scale runs ∷ [])) s tt
 unfolding set_rest set_fit_rest
 set_turn form k n scale halves runs q r s l small so h =
@@ -117,7 +117,7 @@ set_turn form k n scale halves runs q r s l small so h =
     (next_of Range form (tables_from k scale halves) table_form (set_rest n scale halves) q r s tt tt tt runs (tables_from-suc k n scale halves l) so h)
 
 pub set_too_fine : (form : Form (Unit {0}) SetValue SetupFault) (k n scale : ℕ) (halves : List (List ℕ)) (runs : List ℕ) (q r s : Reader) → k ≡ suc n
-    → 65535 < scale_after scale runs → Continues Range form q tt (tables_from k scale halves) r tt → Reads Range table_form r tt (Ok runs) s tt
+    → 65535 < scale_after scale runs → Continues Range form q tt (tables_from k scale halves) r tt → ReadsForm Range table_form r tt (Ok runs) s tt
     → form_at Range form q tt ≡ Err Contexts
 unfolding set_rest
 set_too_fine form k n scale halves runs q r s l over so h =
@@ -127,7 +127,7 @@ set_too_fine form k n scale halves runs q r s l over so h =
     (next_of Range form (tables_from k scale halves) table_form (set_rest n scale halves) q r s tt tt tt runs (tables_from-suc k n scale halves l) so h)
 
 pub set_end : (form : Form (Unit {0}) SetValue SetupFault) (k scale : ℕ) (halves : List (List ℕ)) (q r : Reader) → k ≡ 0 → IsAtPlace r
-    → Continues Range form q tt (tables_from k scale halves) r tt → Reads Range form q tt (Ok (record { halves = halves; contexts = (scale + 1) / 2 })) r tt
+    → Continues Range form q tt (tables_from k scale halves) r tt → ReadsForm Range form q tt (Ok (record { halves = halves; contexts = (scale + 1) / 2 })) r tt
 unfolding tables_from
 set_end form k scale halves q r l at so =
     end_of Range form (tables_from k scale halves) q r tt tt (record { halves = halves; contexts = (scale + 1) / 2 })
@@ -143,19 +143,19 @@ unfolding sets_from sets_rest
 sets_from-suc k n got l = ap (λ z. sets_from z got) l
 
 pub sets_fails : (form : Form (Unit {0}) (List SetValue) SetupFault) (k n : ℕ) (got : List SetValue) (e : SetupFault) (q r s : Reader) → k ≡ suc n
-    → Continues Range form q tt (sets_from k got) r tt → Reads Range (tables_from 5 1 []) r tt (Err e) s tt → form_at Range form q tt ≡ Err e
+    → Continues Range form q tt (sets_from k got) r tt → ReadsForm Range (tables_from 5 1 []) r tt (Err e) s tt → form_at Range form q tt ≡ Err e
 sets_fails form k n got e q r s l so h =
     stop_of Range form (sets_from k got) (tables_from 5 1 []) (sets_rest n got) q r s tt tt tt e (sets_from-suc k n got l) so h
 
 pub sets_turn : (form : Form (Unit {0}) (List SetValue) SetupFault) (k n : ℕ) (got : List SetValue) (set : SetValue) (q r s : Reader) → k ≡ suc n
-    → Continues Range form q tt (sets_from k got) r tt → Reads Range (tables_from 5 1 []) r tt (Ok set) s tt
+    → Continues Range form q tt (sets_from k got) r tt → ReadsForm Range (tables_from 5 1 []) r tt (Ok set) s tt
     → Continues Range form q tt (sets_from n (got ++ set ∷ [])) s tt
 unfolding sets_rest
 sets_turn form k n got set q r s l so h =
     next_of Range form (sets_from k got) (tables_from 5 1 []) (sets_rest n got) q r s tt tt tt set (sets_from-suc k n got l) so h
 
 pub sets_end : (form : Form (Unit {0}) (List SetValue) SetupFault) (k : ℕ) (got : List SetValue) (q r : Reader) → k ≡ 0 → IsAtPlace r
-    → Continues Range form q tt (sets_from k got) r tt → Reads Range form q tt (Ok got) r tt
+    → Continues Range form q tt (sets_from k got) r tt → ReadsForm Range form q tt (Ok got) r tt
 unfolding sets_from
 sets_end form k got q r l at so = end_of Range form (sets_from k got) q r tt tt got (ap (λ z. sets_from z got) l) at so
 
@@ -163,7 +163,7 @@ sets_end form k got q r l at so = end_of Range form (sets_from k got) q r tt tt 
 pub set_more : (all : List (List ℕ)) (half items runs : List ℕ) (t scale : ℕ) (q r s : Reader) → items ≡ runs → half ≡ half_of scale runs → t < 5
     → length all ≡ 5
     → scale * (2 * length items - 1) ≤ 65535 → Continues Range (tables_from 5 1 []) q tt (tables_from (5 - t) scale (take t all)) r tt
-    → Reads Range table_form r tt (Ok runs) s tt
+    → ReadsForm Range table_form r tt (Ok runs) s tt
     → Continues Range (tables_from 5 1 []) q tt (tables_from (5 - (t + 1)) (scale * (2 * length items - 1)) (take (t + 1) (set all t half))) s tt
 set_more all half items runs t scale q r s same e h five small so read =
     let left : 4 - t ≡ 5 - (t + 1) = omega arith in

@@ -1,6 +1,6 @@
 -- Range coding (RFC 9043, section 3.8.1.1 and the default state transition table of 3.8.1.5).
 use Rattle.std.specs.Prelude.{◌≡◌, ℕ, ◌+◌, ◌-◌, ◌*◌, ◌/◌, ◌≤◌, Bool, true, false, List, [], ◌∷◌, Result, Ok, Err, nat_lt, slice_index, slice_set, if◌then◌else◌}
-use Rattle.ffv1_range.specs.Results.{◌>>=◌}
+use Rattle.ffv1_range.specs.Results.{◌>>>◌}
 use Rattle.ffv1_range.specs.declared.coding.RangeFault.{RangeFault}
 use Rattle.ffv1_range.specs.declared.coding.RangeFault.TheVariants.{Start, Short}
 
@@ -37,12 +37,12 @@ one_state state = slice_index one_states state
 abbrev pub zero_state : ℕ → ℕ
 zero_state state = 256 - slice_index one_states (256 - state)
 
-abbrev pub state_after : ℕ → Bool → ℕ
-state_after state bit = if bit then one_state state else zero_state state
+abbrev pub bit_state_after : ℕ → Bool → ℕ
+bit_state_after state bit = if bit then one_state state else zero_state state
 
 -- the states that are met from 128 on
-abbrev pub IsState : ℕ → Type 0
-IsState state = (8 ≤ state) × (state ≤ 248)
+abbrev pub IsBitState : ℕ → Type 0
+IsBitState state = (8 ≤ state) × (state ≤ 248)
 
 -- Where the input is closed, zero bytes follow it; where it is not, no byte does.
 abbrev pub with_byte : Bool → ℕ → ℕ → List ℕ → Result Coder RangeFault
@@ -59,8 +59,8 @@ unfoldable pub bit_at : Bool → Coder → ℕ → Result (Bool × Coder) RangeF
 bit_at closed c state =
     let part = c.range * state / 256 in
     if nat_lt c.low (c.range - part)
-    then (refilled closed (c.range - part) c.low c.rest >>= λ d. Ok (false, d))
-    else (refilled closed part (c.low - (c.range - part)) c.rest >>= λ d. Ok (true, d))
+    then (refilled closed (c.range - part) c.low c.rest >>> λ d. Ok (false, d))
+    else (refilled closed part (c.low - (c.range - part)) c.rest >>> λ d. Ok (true, d))
 
 -- the start: the first two bytes, which do not reach the whole range
 abbrev pub started : ℕ → List ℕ → Result Coder RangeFault
@@ -86,7 +86,7 @@ Place = PlaceOf (List ℕ)
 unfoldable pub slot_at : Bool → Place → ℕ → Result (Bool × Place) RangeFault
 slot_at closed p slot =
     bit_at closed p.coder (slice_index p.states slot)
-    >>= λ x. Ok (x.0, record { coder = x.1; states = slice_set p.states slot (state_after (slice_index p.states slot) x.0) })
+    >>> λ x. Ok (x.0, record { coder = x.1; states = slice_set p.states slot (bit_state_after (slice_index p.states slot) x.0) })
 
 -- From p these bits are coded at these slots, up to q.
 unfoldable pub IsRangeRun : Bool → Place → List (ℕ × Bool) → Place → Type 0

@@ -1,7 +1,7 @@
 -- What a range decoder stands for: whether zero bytes follow its content, how long that is, and where it is, or the fault that it met.
 use Rattle.std.specs.Prelude.{◌≡◌, ℕ, ◌+◌, ◌≤◌, ◌<◌, Bool, List, length, Result, Ok, Err, Option, Some, None, slice_index}
-use Rattle.ffv1_range.specs.Results.{◌>>=◌}
-use Rattle.ffv1_range.specs.Coding.{Coder, bit_at, state_after, IsState, start_of}
+use Rattle.ffv1_range.specs.Results.{◌>>>◌}
+use Rattle.ffv1_range.specs.Coding.{Coder, bit_at, bit_state_after, IsBitState, start_of}
 use Rattle.ffv1_range.specs.declared.coding.RangeFault.{RangeFault}
 
 pub record Reader : Type 0 where
@@ -20,12 +20,12 @@ reader_at r at = record { closed = r.closed; total = r.total; at = at }
 
 -- what reading one bit gives
 abbrev pub reads_bit : Reader → ℕ → Result (Bool × Coder) RangeFault
-reads_bit r state = r.at >>= λ c. bit_at r.closed c state
+reads_bit r state = r.at >>> λ c. bit_at r.closed c state
 
 -- A call read one bit at a state: decoder and state are as they are after it.
 abbrev pub ReadsBit : Reader → ℕ → Result Bool RangeFault → Reader → ℕ → Type 0
 ReadsBit r state (Ok bit) s after =
-    (c : Coder) × (reads_bit r state ≡ Ok (bit, c)) × (s ≡ reader_at r (Ok c)) × (after ≡ state_after state bit)
+    (c : Coder) × (reads_bit r state ≡ Ok (bit, c)) × (s ≡ reader_at r (Ok c)) × (after ≡ bit_state_after state bit)
 ReadsBit r state (Err e) s after = reads_bit r state ≡ Err e
 
 -- After a fault the decoder keeps that fault, and so returns it from then on.
@@ -34,7 +34,7 @@ KeepsFault r (Ok a) s = Unit {0}
 KeepsFault r (Err e) s = s ≡ reader_at r (Err e)
 
 abbrev pub AreStates : List ℕ → Type 0
-AreStates states = (i : ℕ) → i < length states → IsState (slice_index states i)
+AreStates states = (i : ℕ) → i < length states → IsBitState (slice_index states i)
 
 -- A call made a decoder of this content.
 abbrev pub Starts : Bool → List ℕ → Result Reader RangeFault → Type 0

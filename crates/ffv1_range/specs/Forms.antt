@@ -1,7 +1,7 @@
 -- What a form is: what reading gives from a place on, with the first fault. Refusals are stated in these words, and so is what a call that
 -- reads has returned.
 use Rattle.std.specs.Prelude.{◌≡◌, Bool, true, false, List, ℕ, Result, Ok, Err}
-use Rattle.ffv1_range.specs.Results.{◌>>=◌ as ◌>>>◌}
+use Rattle.ffv1_range.specs.Results.{◌>>>◌}
 use Rattle.ffv1_range.specs.Coding.{Coder, PlaceOf, slot_at}
 use Rattle.ffv1_range.specs.Decoder.{Reader, reader_at}
 use Rattle.ffv1_range.specs.declared.coding.RangeFault.{RangeFault}
@@ -64,18 +64,18 @@ abbrev pub form_at : {X A E : Type 0} → (RangeFault → E) → Form X A E → 
 form_at lift form r states = from_place lift r.at (λ c. form r.closed (record { coder = c; states = states }))
 
 -- A call read the form: it returned what the form gives; where that is a value, decoder and states are as they are after it.
-abbrev pub Reads : {X A E : Type 0} → (RangeFault → E) → Form X A E → Reader → X → Result A E → Reader → X → Type 0
-Reads lift form r states (Ok a) s after =
+abbrev pub ReadsForm : {X A E : Type 0} → (RangeFault → E) → Form X A E → Reader → X → Result A E → Reader → X → Type 0
+ReadsForm lift form r states (Ok a) s after =
     (c : Coder) × (form_at lift form r states ≡ Ok (a, record { coder = c; states = after })) × (s ≡ reader_at r (Ok c))
-Reads lift form r states (Err e) s after = form_at lift form r states ≡ Err e
+ReadsForm lift form r states (Err e) s after = form_at lift form r states ≡ Err e
 
--- `Reads` through a view of what was returned
-abbrev pub ReadsAs : {X Y A E : Type 0} → (RangeFault → E) → (Y → A) → Form X A E → Reader → X → Result Y E → Reader → X → Type 0
-ReadsAs lift view form r states (Ok a) s after =
+-- `ReadsForm` through a view of what was returned
+abbrev pub ReadsFormAs : {X Y A E : Type 0} → (RangeFault → E) → (Y → A) → Form X A E → Reader → X → Result Y E → Reader → X → Type 0
+ReadsFormAs lift view form r states (Ok a) s after =
     (c : Coder) × (form_at lift form r states ≡ Ok (view a, record { coder = c; states = after })) × (s ≡ reader_at r (Ok c))
-ReadsAs lift view form r states (Err e) s after = form_at lift form r states ≡ Err e
+ReadsFormAs lift view form r states (Err e) s after = form_at lift form r states ≡ Err e
 
--- `Reads` where what was read is put somewhere else than in what is returned, and seen there through a view
+-- `ReadsForm` where what was read is put somewhere else than in what is returned, and seen there through a view
 abbrev pub ReadsTo : {X Y A E : Type 0} → (RangeFault → E) → (Y → A) → Form X A E → Reader → X → Result (Unit {0}) E → Reader → X → Y → Type 0
 ReadsTo lift view form r states (Ok done) s after put =
     (c : Coder) × (form_at lift form r states ≡ Ok (view put, record { coder = c; states = after })) × (s ≡ reader_at r (Ok c))

@@ -3,7 +3,7 @@
 use Rattle.std.specs.Prelude.{◌≡◌, ◌↔◌, ℕ, ◌+◌, ◌-◌, ◌*◌, ◌^◌, ◌<◌, Bool, true, false, IsTrue, List, length, replicate, Result, Ok, Err, slice_index, nat_lt, ◌==◌, ◌&&◌, if◌then◌else◌}
 use Rattle.std.specs.Bool.{MatchBool}
 use Rattle.std.specs.List.{All, flat_map}
-use Rattle.ffv1_range.specs.Results.{◌>>=◌}
+use Rattle.ffv1_range.specs.Results.{◌>>>◌}
 use Rattle.ffv1_range.specs.Coding.{Coder, Place, bit_at, start_of, IsRangeRun}
 use Rattle.ffv1_range.specs.Symbols.{symbol_bits}
 use Rattle.ffv1_range.specs.Forms.{lifted_result}
@@ -72,10 +72,10 @@ pub record IsHeadOf (limits : HeadLimits) (content : List ℕ) (first : Bool) (h
 -- fields and the place of the codes
 abbrev pub header_read : List ℕ → Bool → Result (List ℕ × ℕ) HeadFault
 header_read content first =
-    lifted_result Range (start_of false content) >>= λ start.
-    key_coder first start >>= λ coder.
-    lifted_result Range (fields_form false (record { coder = coder; states = tt })) >>= λ read.
-    lifted_result Range (bit_at false read.1.coder 129) >>= λ last.
+    lifted_result Range (start_of false content) >>> λ start.
+    key_coder first start >>> λ coder.
+    lifted_result Range (fields_form false (record { coder = coder; states = tt })) >>> λ read.
+    lifted_result Range (bit_at false read.1.coder 129) >>> λ last.
     Ok (read.0, length content - (length last.1.rest + 1))
 
 -- whether a content is where its tile has to be: that of tile 0 first, others not
@@ -97,6 +97,6 @@ head_judged limits first fields =
 -- the head and the place of the codes, or the first fault
 abbrev pub head_read : HeadLimits → List ℕ → Bool → Result (SliceHead × ℕ) HeadFault
 head_read limits content first =
-    header_read content first >>= λ read.
-    head_judged limits first read.0 >>= λ head.
+    header_read content first >>> λ read.
+    head_judged limits first read.0 >>> λ head.
     Ok (head, read.1)

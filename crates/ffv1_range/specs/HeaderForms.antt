@@ -1,6 +1,6 @@
 -- Forms of a slice header (RFC 9043, section 4.6): its fields from left to right, with the first fault that is met.
 use Rattle.std.specs.Prelude.{◌≡◌, ℕ, zero, suc, Bool, true, false, List, [], ◌∷◌, ◌++◌, Result, Ok, Err, if◌then◌else◌}
-use Rattle.ffv1_range.specs.Results.{◌>>=◌ as ◌>>>◌}
+use Rattle.ffv1_range.specs.Results.{◌>>>◌}
 use Rattle.ffv1_range.specs.Coding.{Coder, bit_at}
 use Rattle.ffv1_range.specs.Decoder.{Reader, reader_at}
 use Rattle.ffv1_range.specs.Forms.{Form, ◌>>=◌, giving, apart, lifted_result, from_place}

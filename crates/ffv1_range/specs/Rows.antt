@@ -11,12 +11,12 @@ abbrev pub with_row : Rows → ℕ → List ℕ → Rows
 with_row rows number row k = if k == number then row else rows k
 
 -- bits at the slots of the row of a number
-abbrev pub Piece : Type 0
-Piece = ℕ × List (ℕ × Bool)
+abbrev pub RowBits : Type 0
+RowBits = ℕ × List (ℕ × Bool)
 
 -- From p these bits are coded, those at one row of states after those at another, up to q.
-unfoldable pub IsRowsRun : Bool → PlaceOf Rows → List Piece → PlaceOf Rows → Type 0
+unfoldable pub IsRowsRun : Bool → PlaceOf Rows → List RowBits → PlaceOf Rows → Type 0
 IsRowsRun closed p [] q = p ≡ q
-IsRowsRun closed p (piece ∷ pieces) q =
-    (m : Place) × IsRangeRun closed (record { coder = p.coder; states = p.states piece.0 }) piece.1 m
-    × IsRowsRun closed (record { coder = m.coder; states = with_row p.states piece.0 m.states }) pieces q
+IsRowsRun closed p (row_bits ∷ rows_bits) q =
+    (m : Place) × IsRangeRun closed (record { coder = p.coder; states = p.states row_bits.0 }) row_bits.1 m
+    × IsRowsRun closed (record { coder = m.coder; states = with_row p.states row_bits.0 m.states }) rows_bits q

@@ -5,7 +5,7 @@ use Rattle.std.specs.List.{All, flat_map}
 use Rattle.ffv1_bits.specs.Limits.{greatest_side, most_tiles}
 use Rattle.ffv1_bits.specs.Parity.{RecordPassesParity}
 use Rattle.ffv1_range.specs.Coding.{Coder, PlaceOf, start_of}
-use Rattle.ffv1_range.specs.Rows.{Rows, Piece, IsRowsRun}
+use Rattle.ffv1_range.specs.Rows.{Rows, RowBits, IsRowsRun}
 use Rattle.ffv1_range.specs.Symbols.{symbol_bits, signed_symbol_bits}
 use Rattle.ffv1_range.specs.Tables.{SetValue, IsTableSet, HaveContexts, set_of, table_entry}
 use Rattle.ffv1_range.specs.TableForms.{fresh_row}
@@ -123,25 +123,25 @@ fresh_states row = fresh_row
 abbrev pub run_fields : List ℕ → List FieldValue
 run_fields runs = map (λ len. symbol (len - 1)) runs
 
-unfoldable pub table_pieces : ℕ → List (List ℕ) → List Piece
-table_pieces n [] = []
-table_pieces n (runs ∷ tables) = (33 + n, fields_bits (run_fields runs)) ∷ table_pieces (n + 1) tables
+unfoldable pub table_row_bits : ℕ → List (List ℕ) → List RowBits
+table_row_bits n [] = []
+table_row_bits n (runs ∷ tables) = (33 + n, fields_bits (run_fields runs)) ∷ table_row_bits (n + 1) tables
 
 -- the deltas of a context, the first of number k
-unfoldable pub context_pieces : ℕ → List ℤ → List Piece
-context_pieces k [] = []
-context_pieces k (delta ∷ deltas) = (1 + k, signed_symbol_bits delta) ∷ context_pieces (k + 1) deltas
+unfoldable pub context_row_bits : ℕ → List ℤ → List RowBits
+context_row_bits k [] = []
+context_row_bits k (delta ∷ deltas) = (1 + k, signed_symbol_bits delta) ∷ context_row_bits (k + 1) deltas
 
-abbrev pub deltas_pieces : Option (List (List ℤ)) → List Piece
-deltas_pieces None = (0, fields_bits (bit false ∷ [])) ∷ []
-deltas_pieces (Some contexts) = (0, fields_bits (bit true ∷ [])) ∷ flat_map (context_pieces 0) contexts
+abbrev pub deltas_row_bits : Option (List (List ℤ)) → List RowBits
+deltas_row_bits None = (0, fields_bits (bit false ∷ [])) ∷ []
+deltas_row_bits (Some contexts) = (0, fields_bits (bit true ∷ [])) ∷ flat_map (context_row_bits 0) contexts
 
 -- the whole record, the bits at one row of states after those at another
-abbrev pub record_pieces : RecordFields → List Piece
-record_pieces r =
+abbrev pub record_row_bits : RecordFields → List RowBits
+record_row_bits r =
     (0, fields_bits (front_fields r))
-    ∷ (table_pieces 0 (flat_map (λ set. set.tables) r.sets)
-    ++ (flat_map (λ set. deltas_pieces set.deltas) r.sets
+    ∷ (table_row_bits 0 (flat_map (λ set. set.tables) r.sets)
+    ++ (flat_map (λ set. deltas_row_bits set.deltas) r.sets
     ++ (0, fields_bits (back_fields r)) ∷ []))
 
 -- ---- what is accepted
@@ -211,7 +211,7 @@ pub record IsSetupOf (config : List ℕ) (width height : ℕ) (value : SetupValu
   pub start : Coder
   pub started : start_of true (record_content config) ≡ Ok start
   pub end : PlaceOf Rows
-  pub coded : IsRowsRun true (record { coder = start; states = fresh_states }) (record_pieces fields) end
+  pub coded : IsRowsRun true (record { coder = start; states = fresh_states }) (record_row_bits fields) end
   pub is : value ≡ setup_value width height fields
 
 -- What each setup of the profile keeps.

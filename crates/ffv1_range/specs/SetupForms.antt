@@ -4,7 +4,7 @@ use Rattle.std.specs.Prelude.{ℕ, Bool, true, List, [], map, length, Result, Ok
 use Rattle.ffv1_bits.specs.Limits.{greatest_side}
 use Rattle.ffv1_bits.specs.Bits.{bits_of}
 use Rattle.ffv1_bits.specs.Parity.{remainder_of}
-use Rattle.ffv1_range.specs.Results.{◌>>=◌ as ◌>>>◌}
+use Rattle.ffv1_range.specs.Results.{◌>>>◌}
 use Rattle.ffv1_range.specs.Coding.{start_of}
 use Rattle.ffv1_range.specs.Forms.{Form, ◌>>=◌, giving, accepted, apart, from_place}
 use Rattle.ffv1_range.specs.Fields.{PlanesValue, TileCounts, versions, planes, tile_counts, last_fields}

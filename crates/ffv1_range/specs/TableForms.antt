@@ -49,8 +49,8 @@ set_count = do
 -- ---- deltas
 
 -- rows of states, each in 8..=248
-abbrev pub AreRows : List (List ℕ) → Type 0
-AreRows rows = (k : ℕ) → k < length rows → AreStates (slice_index_or rows k [])
+abbrev pub AreStateRows : List (List ℕ) → Type 0
+AreStateRows rows = (k : ℕ) → k < length rows → AreStates (slice_index_or rows k [])
 
 -- a delta, at one row of several
 abbrev pub delta_form : ℕ → Form (List (List ℕ)) ℤ SetupFault

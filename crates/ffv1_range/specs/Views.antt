@@ -15,14 +15,14 @@ use Rattle.ffv1_range.specs.declared.tables.TableSet.{TableSet}
 abbrev pub coder_of : Interval → Coder
 coder_of x = record { range = x.range; low = x.low; rest = x.rest.now }
 
-abbrev pub planes_of : Planes → PlanesValue
-planes_of x = record { has_chroma = x.has_chroma; shift_h = x.shift_h; shift_v = x.shift_v }
+abbrev pub planes_value : Planes → PlanesValue
+planes_value x = record { has_chroma = x.has_chroma; shift_h = x.shift_h; shift_v = x.shift_v }
 
 abbrev pub counts_of : Counts → TileCounts
 counts_of x = record { across = x.across; down = x.down }
 
-abbrev pub front_of : Front → FrontValue
-front_of x = record { micro = x.micro; planes = planes_of x.planes; tiles = counts_of x.counts; sets = x.sets }
+abbrev pub front_value : Front → FrontValue
+front_value x = record { micro = x.micro; planes = planes_value x.planes; tiles = counts_of x.counts; sets = x.sets }
 
 abbrev pub limits_of : Limits → HeadLimits
 limits_of x = record { across = x.across; down = x.down; sets = x.sets }

@@ -3,8 +3,8 @@
 //! An `Interval` keeps its range in 256..=65280 and its offset below the range. A state that is handed in within
 //! 8..=248 comes back within 8..=248. A decoder that met a fault keeps it.
 ghost use Rattle.std.specs.Prelude.{◌≡◌, ℕ, ◌+◌, ◌≤◌, ◌<◌, length, IfOk, OnErr, false, true};
-ghost use Rattle.ffv1_range.specs.Coding.{start_of, started, IsState, state_after, one_state, bit_at, refilled, slot_at};
-ghost use Rattle.ffv1_range.specs.Forms.{Reads, same_fault, slot_form, Gives};
+ghost use Rattle.ffv1_range.specs.Coding.{start_of, started, IsBitState, bit_state_after, one_state, bit_at, refilled, slot_at};
+ghost use Rattle.ffv1_range.specs.Forms.{ReadsForm, same_fault, slot_form, Gives};
 ghost use Rattle.ffv1_range.specs.Decoder.{reader_at, ReadsBit, KeepsFault, AreStates, IsCoder, Starts, EndsAt};
 ghost use Rattle.ffv1_range.specs.Views.{coder_of};
 
@@ -77,9 +77,9 @@ fn state_after_one(state: u8) -> u8
 /// The state after a bit that was coded at a state in 8..=248, by the default state transition table; it is in 8..=248
 /// again (RFC 9043, section 3.8.1.5).
 pub fn next_state(state: u8, bit: bool) -> u8
-    requires { IsState state }
-    ensures value { result ≡ state_after state bit }
-    ensures in_range { IsState result }
+    requires { IsBitState state }
+    ensures value { result ≡ bit_state_after state bit }
+    ensures in_range { IsBitState result }
 {
     if bit {
         return state_after_one(state);
@@ -174,10 +174,10 @@ impl<'a> RangeDecoder<'a> {
     /// Refused with `Short` where a byte past the content is wanted in sentinel mode. A fault is returned by each later call too, and
     /// leaves the state as it was.
     pub fn bit(&mut self, state: &mut u8) -> Result<bool, RangeFault>
-        requires { IsState state.old }
+        requires { IsBitState state.old }
         ensures read { ReadsBit self.old state.old result self.new state.new }
         ensures kept { KeepsFault self.old result self.new }
-        ensures in_range { IsState state.new }
+        ensures in_range { IsBitState state.new }
         ensures unchanged { OnErr result (state.new ≡ state.old) }
     {
         if let Some(fault) = self.fault {
@@ -200,7 +200,7 @@ impl<'a> RangeDecoder<'a> {
     pub(crate) fn slot(&mut self, states: &mut [u8; 32], slot: usize) -> Result<bool, RangeFault>
         requires slot { slot < 32 }
         requires states { AreStates states.old }
-        ensures read { Reads same_fault (slot_form slot) self.old states.old result self.new states.new }
+        ensures read { ReadsForm same_fault (slot_form slot) self.old states.old result self.new states.new }
         ensures kept { KeepsFault self.old result self.new }
         ensures in_range { AreStates states.new }
     {
@@ -223,7 +223,7 @@ fn bit_of(
     state: u8,
 ) -> Result<(bool, Interval<'_>), RangeFault>
     requires coder { IsCoder interval.range interval.low }
-    requires state { IsState state }
+    requires state { IsBitState state }
     ensures value { Gives (λ x. (x.0, coder_of x.1)) result (bit_at closed (coder_of interval.entry) state) }
     ensures coder { IfOk result (λ x. IsCoder x.1.range x.1.low) }
     ensures rest { IfOk result (λ x. length x.1.rest.now ≤ length interval.entry.rest.now) }

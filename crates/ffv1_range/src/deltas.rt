@@ -3,9 +3,9 @@
 //!
 //! Delta number k is read at row k of 32 rows, which start once a record and are kept over its sets.
 ghost use Rattle.std.specs.Prelude.{◌≡◌, ◌≤◌, ◌<◌, ℕ, [], IsOk, length, slice_index_or};
-ghost use Rattle.ffv1_range.specs.Forms.{Reads};
+ghost use Rattle.ffv1_range.specs.Forms.{ReadsForm};
 ghost use Rattle.ffv1_range.specs.Decoder.{AreStates};
-ghost use Rattle.ffv1_range.specs.TableForms.{delta_form, context_deltas, contexts_deltas, set_deltas, sets_deltas, deltas_form, AreRows};
+ghost use Rattle.ffv1_range.specs.TableForms.{delta_form, context_deltas, contexts_deltas, set_deltas, sets_deltas, deltas_form, AreStateRows};
 ghost use Rattle.ffv1_range.specs.Views.{contexts_of};
 ghost use Rattle.ffv1_range.specs.declared.fault.SetupFault.TheVariants.{Range};
 
@@ -21,7 +21,7 @@ pub(crate) fn read_deltas(
 ) -> Result<(), SetupFault>
     requires states { AreStates states.old }
     requires alive { IsOk decoder.old.at }
-    ensures read { Reads Range (deltas_form (contexts_of sets.now)) decoder.old states.old result decoder.new states.new }
+    ensures read { ReadsForm Range (deltas_form (contexts_of sets.now)) decoder.old states.old result decoder.new states.new }
     ensures in_range { AreStates states.new }
 {
     let mut rows = [[128; 32]; 32];
@@ -39,10 +39,10 @@ fn read_set_deltas(
     contexts: u32,
 ) -> Result<(), SetupFault>
     requires states { AreStates states.old }
-    requires rows { AreRows rows.old }
-    ensures read { Reads Range (set_deltas contexts) decoder.old (states.old, rows.old) result decoder.new (states.new, rows.new) }
+    requires rows { AreStateRows rows.old }
+    ensures read { ReadsForm Range (set_deltas contexts) decoder.old (states.old, rows.old) result decoder.new (states.new, rows.new) }
     ensures states_in_range { AreStates states.new }
-    ensures rows_in_range { AreRows rows.new }
+    ensures rows_in_range { AreStateRows rows.new }
 {
     if decoder.slot(states, 0)? {
         return read_contexts_deltas(decoder, rows, contexts);
@@ -56,10 +56,10 @@ fn read_contexts_deltas(
     rows: &mut [[u8; 32]; 32],
     contexts: u32,
 ) -> Result<(), SetupFault>
-    requires rows { AreRows rows.old }
+    requires rows { AreStateRows rows.old }
     requires alive { IsOk decoder.old.at }
-    ensures read { Reads Range (contexts_deltas contexts) decoder.old rows.old result decoder.new rows.new }
-    ensures in_range { AreRows rows.new }
+    ensures read { ReadsForm Range (contexts_deltas contexts) decoder.old rows.old result decoder.new rows.new }
+    ensures in_range { AreStateRows rows.new }
 {
     for _ in 0..contexts {
         read_context_deltas(decoder, rows)?;
@@ -72,9 +72,9 @@ fn read_context_deltas(
     decoder: &mut RangeDecoder<'_>,
     rows: &mut [[u8; 32]; 32],
 ) -> Result<(), SetupFault>
-    requires { AreRows rows.old }
-    ensures read { Reads Range (context_deltas 32 0) decoder.old rows.old result decoder.new rows.new }
-    ensures in_range { AreRows rows.new }
+    requires { AreStateRows rows.old }
+    ensures read { ReadsForm Range (context_deltas 32 0) decoder.old rows.old result decoder.new rows.new }
+    ensures in_range { AreStateRows rows.new }
 {
     for k in 0..32usize {
         read_delta(decoder, rows, k)?;
@@ -89,9 +89,9 @@ fn read_delta(
     k: usize,
 ) -> Result<i64, SetupFault>
     requires number { k < 32 }
-    requires rows { AreRows rows.old }
-    ensures read { Reads Range (delta_form k) decoder.old rows.old result decoder.new rows.new }
-    ensures in_range { AreRows rows.new }
+    requires rows { AreStateRows rows.old }
+    ensures read { ReadsForm Range (delta_form k) decoder.old rows.old result decoder.new rows.new }
+    ensures in_range { AreStateRows rows.new }
 {
     let delta = decoder.signed(&mut rows[k])?;
     Ok(delta)

@@ -5,9 +5,9 @@
 ghost use Rattle.std.specs.Prelude.{◌≡◌, ◌≤◌, IfOk};
 ghost use Rattle.ffv1_bits.specs.Limits.{greatest_side};
 ghost use Rattle.ffv1_range.specs.SetupForms.{front_form};
-ghost use Rattle.ffv1_range.specs.Views.{front_of, planes_of, counts_of};
+ghost use Rattle.ffv1_range.specs.Views.{front_value, planes_value, counts_of};
 ghost use Rattle.ffv1_range.specs.TableForms.{set_count};
-ghost use Rattle.ffv1_range.specs.Forms.{Reads, ReadsAs};
+ghost use Rattle.ffv1_range.specs.Forms.{ReadsForm, ReadsFormAs};
 ghost use Rattle.ffv1_range.specs.Decoder.{AreStates};
 ghost use Rattle.ffv1_range.specs.Fields.{versions, planes, tile_counts, last_fields};
 ghost use Rattle.ffv1_range.specs.declared.fault.SetupFault.TheVariants.{Range};
@@ -53,7 +53,7 @@ pub(crate) fn read_versions(
     states: &mut [u8; 32],
 ) -> Result<u32, SetupFault>
     requires { AreStates states.old }
-    ensures read { Reads Range versions decoder.old states.old result decoder.new states.new }
+    ensures read { ReadsForm Range versions decoder.old states.old result decoder.new states.new }
     ensures in_range { AreStates states.new }
 {
     if decoder.unsigned(states)? != 3 {
@@ -72,7 +72,7 @@ pub(crate) fn read_planes(
     states: &mut [u8; 32],
 ) -> Result<Planes, SetupFault>
     requires { AreStates states.old }
-    ensures read { ReadsAs Range planes_of planes decoder.old states.old result decoder.new states.new }
+    ensures read { ReadsFormAs Range planes_value planes decoder.old states.old result decoder.new states.new }
     ensures in_range { AreStates states.new }
 {
     if decoder.unsigned(states)? != 0 {
@@ -122,7 +122,7 @@ pub(crate) fn read_counts(
     requires states { AreStates states.old }
     requires wide { width ≤ greatest_side }
     requires high { height ≤ greatest_side }
-    ensures read { ReadsAs Range counts_of (tile_counts width height) decoder.old states.old result decoder.new states.new }
+    ensures read { ReadsFormAs Range counts_of (tile_counts width height) decoder.old states.old result decoder.new states.new }
     ensures in_range { AreStates states.new }
 {
     let across_less = decoder.unsigned(states)?;
@@ -146,7 +146,7 @@ pub(crate) fn read_set_count(
     states: &mut [u8; 32],
 ) -> Result<u32, SetupFault>
     requires { AreStates states.old }
-    ensures read { Reads Range set_count decoder.old states.old result decoder.new states.new }
+    ensures read { ReadsForm Range set_count decoder.old states.old result decoder.new states.new }
     ensures in_range { AreStates states.new }
     ensures some { IfOk result (λ count. 1 ≤ count) }
     ensures few { IfOk result (λ count. count ≤ 8) }
@@ -164,7 +164,7 @@ pub(crate) fn read_last_fields(
     states: &mut [u8; 32],
 ) -> Result<u32, SetupFault>
     requires { AreStates states.old }
-    ensures read { Reads Range last_fields decoder.old states.old result decoder.new states.new }
+    ensures read { ReadsForm Range last_fields decoder.old states.old result decoder.new states.new }
     ensures in_range { AreStates states.new }
 {
     if decoder.unsigned(states)? != EC {
@@ -184,7 +184,7 @@ pub(crate) fn read_front(
     requires states { AreStates states.old }
     requires wide { width ≤ greatest_side }
     requires high { height ≤ greatest_side }
-    ensures read { ReadsAs Range front_of (front_form width height) decoder.old states.old result decoder.new states.new }
+    ensures read { ReadsFormAs Range front_value (front_form width height) decoder.old states.old result decoder.new states.new }
     ensures in_range { AreStates states.new }
     ensures some { IfOk result (λ front. 1 ≤ front.sets) }
     ensures few { IfOk result (λ front. front.sets ≤ 8) }

@@ -3,7 +3,7 @@
 //! The content of a slice begins with it, range-coded in a content that nothing follows; the keyframe bit of the frame
 //! (section 4.4) stands before the header of the payload's first slice.
 ghost use Rattle.std.specs.Prelude.{◌≡◌, ◌≤◌, ℕ, Ok, false, IfOk};
-ghost use Rattle.ffv1_range.specs.Forms.{Reads, same_fault};
+ghost use Rattle.ffv1_range.specs.Forms.{ReadsForm, same_fault};
 ghost use Rattle.ffv1_range.specs.declared.head.SliceHead.{SliceHead};
 ghost use Rattle.ffv1_range.specs.Header.{header_limits, head_read, head_judged, IsHeadOf};
 ghost use Rattle.ffv1_range.specs.HeaderForms.{fields_form, ReadsKey, IsAtPlace};
@@ -137,7 +137,7 @@ fn read_key(decoder: &mut RangeDecoder<'_>, first: bool) -> Result<(), HeadFault
 ///
 /// A fault is that of the first symbol that can't be read.
 pub fn read_head_fields(decoder: &mut RangeDecoder<'_>) -> Result<[u32; HEAD_FIELDS], RangeFault>
-    ensures { Reads same_fault fields_form decoder.old tt result decoder.new tt }
+    ensures { ReadsForm same_fault fields_form decoder.old tt result decoder.new tt }
 {
     let mut states = [128; 32];
     let mut fields = [0; HEAD_FIELDS];

@@ -35,13 +35,13 @@ pub struct Setup {
 impl Model for Setup {
     ghost use Rattle.ffv1_range.specs.Setup.{SetupValue, IsInProfile};
     ghost use Rattle.ffv1_range.specs.SetupForms.{setup_of};
-    ghost use Rattle.ffv1_range.specs.Views.{planes_of, counts_of, set_values};
+    ghost use Rattle.ffv1_range.specs.Views.{planes_value, counts_of, set_values};
 
     ghost Value = { SetupValue };
 
-    ghost view = { λ x. setup_of x.micro (planes_of x.planes) (counts_of x.counts) (set_values x.sets.items) 1 x.intra x.width x.height };
+    ghost view = { λ x. setup_of x.micro (planes_value x.planes) (counts_of x.counts) (set_values x.sets.items) 1 x.intra x.width x.height };
 
-    ghost invariant = { λ x. IsInProfile (setup_of x.micro (planes_of x.planes) (counts_of x.counts) (set_values x.sets.items) 1 x.intra x.width x.height) };
+    ghost invariant = { λ x. IsInProfile (setup_of x.micro (planes_value x.planes) (counts_of x.counts) (set_values x.sets.items) 1 x.intra x.width x.height) };
 }
 
 impl Setup {

@@ -3,7 +3,7 @@
 //! A row that is handed in with all states in 8..=248 comes back so.
 ghost use Rattle.std.specs.Prelude.{◌≡◌, ◌<◌, IsOk, IfOk, pos, neg_ℤ, if◌then◌else◌};
 ghost use Rattle.ffv1_range.specs.Reading.{symbol_form, signed_symbol_form, exponent_form, low_form, SymbolIsSpelled, SignedSymbolIsSpelled};
-ghost use Rattle.ffv1_range.specs.Forms.{Reads, same_fault};
+ghost use Rattle.ffv1_range.specs.Forms.{ReadsForm, same_fault};
 ghost use Rattle.ffv1_range.specs.Decoder.{KeepsFault, AreStates};
 
 use crate::coding::{RangeDecoder, RangeFault};
@@ -16,7 +16,7 @@ impl RangeDecoder<'_> {
     /// the exponent would pass 31. A fault is returned by each later call too, and leaves all states in 8..=248.
     pub fn unsigned(&mut self, states: &mut [u8; 32]) -> Result<u32, RangeFault>
         requires { AreStates states.old }
-        ensures read { Reads same_fault symbol_form self.old states.old result self.new states.new }
+        ensures read { ReadsForm same_fault symbol_form self.old states.old result self.new states.new }
         ensures kept { KeepsFault self.old result self.new }
         ensures in_range { AreStates states.new }
     {
@@ -31,7 +31,7 @@ impl RangeDecoder<'_> {
     /// `unsigned` is.
     pub fn signed(&mut self, states: &mut [u8; 32]) -> Result<i64, RangeFault>
         requires { AreStates states.old }
-        ensures read { Reads same_fault signed_symbol_form self.old states.old result self.new states.new }
+        ensures read { ReadsForm same_fault signed_symbol_form self.old states.old result self.new states.new }
         ensures kept { KeepsFault self.old result self.new }
         ensures in_range { AreStates states.new }
     {
@@ -48,7 +48,7 @@ impl RangeDecoder<'_> {
     /// Reads the exponent of a symbol.
     fn exponent(&mut self, states: &mut [u8; 32]) -> Result<u32, RangeFault>
         requires { AreStates states.old }
-        ensures read { Reads same_fault (exponent_form 32 0) self.old states.old result self.new states.new }
+        ensures read { ReadsForm same_fault (exponent_form 32 0) self.old states.old result self.new states.new }
         ensures kept { KeepsFault self.old result self.new }
         ensures in_range { AreStates states.new }
         ensures small { IfOk result (λ exponent. exponent < 32) }
@@ -68,7 +68,7 @@ impl RangeDecoder<'_> {
         requires states { AreStates states.old }
         requires small { exponent < 32 }
         requires alive { IsOk self.old.at }
-        ensures read { Reads same_fault (low_form exponent 1) self.old states.old result self.new states.new }
+        ensures read { ReadsForm same_fault (low_form exponent 1) self.old states.old result self.new states.new }
         ensures kept { KeepsFault self.old result self.new }
         ensures in_range { AreStates states.new }
     {

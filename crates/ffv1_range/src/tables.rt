@@ -4,7 +4,7 @@
 //! The lengths of `Runs` come to 128. The halves of a `TableSet` hold its entries 0 to 127 at their scale.
 ghost use Rattle.std.specs.Prelude.{◌≡◌, ◌≤◌, ◌<◌, ℕ, [], length, slice_index, slice_index_or, sum, vec_capacity};
 ghost use Rattle.ffv1_range.specs.Decoder.{AreStates};
-ghost use Rattle.ffv1_range.specs.Forms.{Reads, ReadsAs, ReadsTo};
+ghost use Rattle.ffv1_range.specs.Forms.{ReadsForm, ReadsFormAs, ReadsTo};
 ghost use Rattle.ffv1_range.specs.Views.{set_value, set_values};
 ghost use Rattle.ffv1_range.specs.Tables.{half_of, scale_after, table_entry};
 ghost use Rattle.ffv1_range.specs.TableForms.{table_form, tables_from, sets_from};
@@ -33,7 +33,7 @@ impl Model for Runs {
 
 /// Reads the runs of one table, at a row of states of its own.
 pub(crate) fn read_runs(decoder: &mut RangeDecoder<'_>) -> Result<Runs, SetupFault>
-    ensures { Reads Range table_form decoder.old tt result decoder.new tt }
+    ensures { ReadsForm Range table_form decoder.old tt result decoder.new tt }
 {
     let mut states = [128; 32];
     let mut lengths = [0; 128];
@@ -118,7 +118,7 @@ impl TableSet {
 
 /// Reads the five tables of one set.
 pub(crate) fn read_set(decoder: &mut RangeDecoder<'_>) -> Result<TableSet, SetupFault>
-    ensures { ReadsAs Range set_value (tables_from 5 1 []) decoder.old tt result decoder.new tt }
+    ensures { ReadsFormAs Range set_value (tables_from 5 1 []) decoder.old tt result decoder.new tt }
 {
     let mut halves = [[0; 128]; 5];
     let mut scale = 1;

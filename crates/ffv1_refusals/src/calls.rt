@@ -31,14 +31,14 @@ fn samples_of(frame: &Frame) -> Outcome {
 }
 
 /// What a setup says, entry by entry.
-fn setup_told(setup: &Setup) -> Outcome {
-    let mut told = setup.grid().tiles() as u32 ^ setup.micro();
+fn setup_reported(setup: &Setup) -> Outcome {
+    let mut reported = setup.grid().tiles() as u32 ^ setup.micro();
     for set in 0..setup.sets() {
-        told = told
+        reported = reported
             .wrapping_mul(31)
             .wrapping_add(setup.contexts(set) as u32);
     }
-    Outcome::Answer(told)
+    Outcome::Answer(reported)
 }
 
 /// `Setup::read`.
@@ -48,7 +48,7 @@ pub struct ReadSetup;
 impl Attempt for ReadSetup {
     fn attempt(&mut self, alloc: Global) -> Outcome {
         match Setup::read(alloc, &RECORDED_RECORD, SIZE.0, SIZE.1) {
-            Ok(setup) => setup_told(&setup),
+            Ok(setup) => setup_reported(&setup),
             Err(SetupFault::Memory) => Outcome::Memory,
             Err(_) => Outcome::Wrong,
         }

@@ -25,7 +25,7 @@ use std::process::ExitCode;
 use stock::Stock;
 
 /// Makes a call, and again if an allocation failed, and prints what it came to.
-fn tell<C: Attempt>(rt: &HostRuntime, name: &str, mut call: C) -> io::Result<()> {
+fn report<C: Attempt>(rt: &HostRuntime, name: &str, mut call: C) -> io::Result<()> {
     let mut outcome = call.attempt(rt.alloc());
     if outcome == Outcome::Memory {
         println!(rt; "{name} memory")?;
@@ -42,48 +42,48 @@ fn tell<C: Attempt>(rt: &HostRuntime, name: &str, mut call: C) -> io::Result<()>
 }
 
 /// The calls that read a record or take slices.
-fn tell_holdings(rt: &HostRuntime, stock: &Stock) -> io::Result<()> {
-    tell(rt, "Setup::read", ReadSetup)?;
-    tell(rt, "Holding::new", MakeHolding)?;
-    tell(rt, "take", Take::new(rt.alloc())?)?;
-    tell(rt, "take_all", TakeAll::new(rt.alloc())?)?;
-    tell(rt, "join_with", JoinWith::new(rt.alloc(), stock)?)
+fn report_holdings(rt: &HostRuntime, stock: &Stock) -> io::Result<()> {
+    report(rt, "Setup::read", ReadSetup)?;
+    report(rt, "Holding::new", MakeHolding)?;
+    report(rt, "take", Take::new(rt.alloc())?)?;
+    report(rt, "take_all", TakeAll::new(rt.alloc())?)?;
+    report(rt, "join_with", JoinWith::new(rt.alloc(), stock)?)
 }
 
 /// The calls that restore a payload, or read and write a holding file.
-fn tell_files(rt: &HostRuntime, stock: &Stock) -> io::Result<()> {
+fn report_files(rt: &HostRuntime, stock: &Stock) -> io::Result<()> {
     let (held, file) = (&stock.both.holding, stock.both.file.bytes());
-    tell(rt, "restore", Restore { held })?;
-    tell(rt, "write_hold", WriteHold { held })?;
-    tell(rt, "read_hold", ReadHold { file })?;
-    tell(rt, "join_streams", JoinStreams::new(stock))
+    report(rt, "restore", Restore { held })?;
+    report(rt, "write_hold", WriteHold { held })?;
+    report(rt, "read_hold", ReadHold { file })?;
+    report(rt, "join_streams", JoinStreams::new(stock))
 }
 
 /// The calls that decode, and those that show a holding.
-fn tell_pictures(rt: &HostRuntime, stock: &Stock) -> io::Result<()> {
+fn report_pictures(rt: &HostRuntime, stock: &Stock) -> io::Result<()> {
     let held = &stock.both.holding;
     let setup = held.setup();
-    tell(rt, "decode_tile", DecodeTile { setup })?;
-    tell(rt, "Decoder::new", MakeDecoder)?;
-    tell(rt, "decode_frame", DecodeFrame::new(rt.alloc())?)?;
+    report(rt, "decode_tile", DecodeTile { setup })?;
+    report(rt, "Decoder::new", MakeDecoder)?;
+    report(rt, "decode_frame", DecodeFrame::new(rt.alloc())?)?;
     let first = &stock.alone.first.holding;
-    tell(rt, "picture", Picture { held: first })?;
-    tell(rt, "report", Report { held })
+    report(rt, "picture", Picture { held: first })?;
+    report(rt, "report", Report { held })
 }
 
 /// The calls that splice copies without a setup.
-fn tell_splices(rt: &HostRuntime) -> io::Result<()> {
-    tell(rt, "weave", Weave)?;
-    tell(rt, "repair", Repair)?;
-    tell(rt, "vote", Vote)?;
-    tell(rt, "splice", Splice)
+fn report_splices(rt: &HostRuntime) -> io::Result<()> {
+    report(rt, "weave", Weave)?;
+    report(rt, "repair", Repair)?;
+    report(rt, "vote", Vote)?;
+    report(rt, "splice", Splice)
 }
 
 /// The calls that mend a file of its stretches.
-fn tell_stretches(rt: &HostRuntime) -> io::Result<()> {
-    tell(rt, "mend", Mend)?;
-    tell(rt, "read_list", ReadList)?;
-    tell(rt, "mend_stretches", MendStretches::new())
+fn report_stretches(rt: &HostRuntime) -> io::Result<()> {
+    report(rt, "mend", Mend)?;
+    report(rt, "read_list", ReadList)?;
+    report(rt, "mend_stretches", MendStretches::new())
 }
 
 /// The functions of the commands, by their names.
@@ -103,31 +103,31 @@ static COMMANDS: [(&str, Command); 12] = [
 ];
 
 /// The functions of the commands.
-fn tell_commands(rt: &HostRuntime, stock: &Stock) -> io::Result<()> {
+fn report_commands(rt: &HostRuntime, stock: &Stock) -> io::Result<()> {
     for &(name, command) in &COMMANDS {
-        tell(rt, name, Run::new(command, stock))?;
+        report(rt, name, Run::new(command, stock))?;
     }
     Ok(())
 }
 
 /// All calls, on what is there.
-fn tell_calls(rt: &HostRuntime, stock: &Stock) -> io::Result<()> {
-    tell_holdings(rt, stock)?;
-    tell_files(rt, stock)?;
-    tell_pictures(rt, stock)?;
-    tell_splices(rt)?;
-    tell_stretches(rt)?;
-    tell_commands(rt, stock)
+fn report_calls(rt: &HostRuntime, stock: &Stock) -> io::Result<()> {
+    report_holdings(rt, stock)?;
+    report_files(rt, stock)?;
+    report_pictures(rt, stock)?;
+    report_splices(rt)?;
+    report_stretches(rt)?;
+    report_commands(rt, stock)
 }
 
 /// All of it.
-fn tell_all(rt: &HostRuntime) -> io::Result<()> {
+fn report_all(rt: &HostRuntime) -> io::Result<()> {
     let stock = Stock::new(rt.alloc())?;
-    tell_calls(rt, &stock)
+    report_calls(rt, &stock)
 }
 
 fn main(rt: HostRuntime) -> ExitCode {
-    match tell_all(&rt) {
+    match report_all(&rt) {
         Ok(()) => ExitCode::SUCCESS,
         Err(_) => ExitCode::from(2),
     }

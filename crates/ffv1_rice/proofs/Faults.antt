@@ -62,10 +62,10 @@ no_code_large k u bits rest small is fault =
 
 -- where bits have the fault of a number, no byte's code is there
 no_number_at_fault : (k u : ℕ) (bits rest : List Bool) (fault : CodeFault) → u ≤ 255 → bits ≡ code_bits u k ++ rest → IsNumberFault k bits fault → ⊥
-no_number_at_fault k u bits rest faults.Truncated small is told = no_code_cut k u bits rest (byte_parts k u small) is told
-no_number_at_fault k u bits rest faults.EscapeNotNeeded small is told = no_code_needless k u bits rest (byte_parts k u small) is told
-no_number_at_fault k u bits rest faults.CodeTooLarge small is told = no_code_large k u bits rest small is told
-no_number_at_fault k u bits rest faults.LevelTooLarge small is told = told
+no_number_at_fault k u bits rest faults.Truncated small is given = no_code_cut k u bits rest (byte_parts k u small) is given
+no_number_at_fault k u bits rest faults.EscapeNotNeeded small is given = no_code_needless k u bits rest (byte_parts k u small) is given
+no_number_at_fault k u bits rest faults.CodeTooLarge small is given = no_code_large k u bits rest small is given
+no_number_at_fault k u bits rest faults.LevelTooLarge small is given = given
 
 -- a number has one fault
 one_number_fault : (k : ℕ) (bits : List Bool) (fault other : CodeFault) → IsNumberFault k bits fault → IsNumberFault k bits other → fault ≡ other
@@ -84,53 +84,53 @@ one_number_fault k bits faults.EscapeNotNeeded faults.LevelTooLarge a b = absurd
 one_number_fault k bits faults.CodeTooLarge faults.LevelTooLarge a b = absurd b
 
 -- a fault is either that of the number ..
-number_told : (s : ContextState) (level : Bool) (bits : List Bool) (fault : CodeFault) → IsCodeFault s level bits fault
+number_given : (s : ContextState) (level : Bool) (bits : List Bool) (fault : CodeFault) → IsCodeFault s level bits fault
     → ((k : ℕ) × IsParameter s k × IsNumberFault k bits fault) ⊎ ((fault ≡ faults.LevelTooLarge) × IsLargeLevel s level bits)
-number_told s level bits faults.Truncated told = inl told
-number_told s level bits faults.EscapeNotNeeded told = inl told
-number_told s level bits faults.CodeTooLarge told = inl told
-number_told s level bits faults.LevelTooLarge told = inr (refl, told)
+number_given s level bits faults.Truncated given = inl given
+number_given s level bits faults.EscapeNotNeeded given = inl given
+number_given s level bits faults.CodeTooLarge given = inl given
+number_given s level bits faults.LevelTooLarge given = inr (refl, given)
 
 -- .. which excludes the code of each value
 no_value_at_fault : (s : ContextState) (v : ℤ) (k : ℕ) (bits code rest : List Bool) (fault : CodeFault) → IsParameter s k → IsNumberFault k bits fault
     → SpellsValue s v code → bits ≡ code ++ rest → ⊥
-no_value_at_fault s v k bits code rest fault parameter told spells is =
+no_value_at_fault s v k bits code rest fault parameter given spells is =
     no_number_at_fault k (code_number s v) bits rest fault (small_code s v)
-    (is ∙ ap (λ l. l ++ rest) (spells.same ∙ ap (code_bits (code_number s v)) (one_parameter s spells.parameter k spells.is_parameter parameter))) told
+    (is ∙ ap (λ l. l ++ rest) (spells.same ∙ ap (code_bits (code_number s v)) (one_parameter s spells.parameter k spells.is_parameter parameter))) given
 
 pub no_code_at_fault : FaultsExcludeCodes
-no_code_at_fault s level fault difference bits code rest told coded spells is =
+no_code_at_fault s level fault difference bits code rest given coded spells is =
     ⊎_elim
     (λ number. no_value_at_fault s (decoded_value level difference) number.0 bits code rest fault number.1 number.2 spells is)
     (λ large.
     let one = one_value s (decoded_value level difference) (pos 127) code large.1.code rest large.1.rest (decoded_range level difference coded)
     (record { low = omega (arith, ints); high = omega (arith, ints) }) spells large.1.spells (sym is ∙ large.1.begins) in
     decoded_low level difference coded large.1.is_level one.0)
-    (number_told s level bits fault told)
+    (number_given s level bits fault given)
 
 pub one_fault : FaultsAreOne
-one_fault s level bits fault other told also =
+one_fault s level bits fault other given also =
     ⊎_elim
     (λ number. ⊎_elim
     (λ second. one_number_fault number.0 bits fault other number.2
     (subst (λ k. IsNumberFault k bits other) (one_parameter s second.0 number.0 second.1 number.1) second.2))
     (λ large. absurd (no_value_at_fault s (pos 127) number.0 bits large.1.code large.1.rest fault number.1 number.2 large.1.spells large.1.begins))
-    (number_told s level bits other also))
+    (number_given s level bits other also))
     (λ large. ⊎_elim
     (λ number. absurd (no_value_at_fault s (pos 127) number.0 bits large.1.code large.1.rest other number.1 number.2 large.1.spells large.1.begins))
     (λ second. large.0 ∙ sym second.0)
-    (number_told s level bits other also))
-    (number_told s level bits fault told)
+    (number_given s level bits other also))
+    (number_given s level bits fault given)
 
 -- ---- faults of readings
 
 -- a fault of a number is one of a code under its state
 pub code_fault : (s : ContextState) (level : Bool) (k : ℕ) (bits : List Bool) (fault : CodeFault) → IsParameter s k → IsNumberFault k bits fault
     → IsCodeFault s level bits fault
-code_fault s level k bits faults.Truncated parameter told = (k, parameter, told)
-code_fault s level k bits faults.EscapeNotNeeded parameter told = (k, parameter, told)
-code_fault s level k bits faults.CodeTooLarge parameter told = (k, parameter, told)
-code_fault s level k bits faults.LevelTooLarge parameter told = absurd told
+code_fault s level k bits faults.Truncated parameter given = (k, parameter, given)
+code_fault s level k bits faults.EscapeNotNeeded parameter given = (k, parameter, given)
+code_fault s level k bits faults.CodeTooLarge parameter given = (k, parameter, given)
+code_fault s level k bits faults.LevelTooLarge parameter given = absurd given
 
 pub large_level : (s : ContextState) (level : Bool) (value : ℤ) (old new : Reading) → IsValueRead s value old new → level ≡ true → value ≡ pos 127
     → IsLargeLevel s level old.left
@@ -144,10 +144,10 @@ large_level s level value old new read levels top = record {
 
 pub no_level_above : (s : ContextState) (level : Bool) (value difference : ℤ) (old new after : Reading) → IsValueRead s value old new
     → level ≡ true → value ≡ pos 127 → IsCodedDifference level difference → IsCoded s level difference old after → ⊥
-no_level_above s level value difference old new after read levels top told spelled =
-    decoded_low level difference told levels (decoded_alike s level value difference old new after read told spelled ∙ top)
+no_level_above s level value difference old new after read levels top given spelled =
+    decoded_low level difference given levels (decoded_alike s level value difference old new after read given spelled ∙ top)
 
 pub no_difference_at_fault : (s : ContextState) (level : Bool) (fault : CodeFault) (k : ℕ) (difference : ℤ) (old after : Reading) → IsParameter s k
     → IsNumberFault k old.left fault → IsCoded s level difference old after → ⊥
-no_difference_at_fault s level fault k difference old after parameter told spelled =
-    no_value_at_fault s (decoded_value level difference) k old.left spelled.code after.left fault parameter told spelled.spells spelled.reads.begins
+no_difference_at_fault s level fault k difference old after parameter given spelled =
+    no_value_at_fault s (decoded_value level difference) k old.left spelled.code after.left fault parameter given spelled.spells spelled.reads.begins

@@ -2,7 +2,7 @@
 use Rattle.std.proofs.Common.{List, ◌≡◌, ℕ, ◌≤◌, Bool, true, false, ◌++◌, ◌≢◌, refl, sym, ap, subst, ◌∙◌, arith, cond, ⊎_elim, ℤ, pos, negsuc, ◌-ℤ◌, ◌≤ℤ◌, neg_ℤ}
 use Rattle.std.proofs.lemmas.Bool.{cases_lt}
 use Rattle.std.proofs.lemmas.Int.{ints}
-use Rattle.ffv1_bits.specs.Reader.{Reading, Reads}
+use Rattle.ffv1_bits.specs.Reader.{Reading, ReadsBits}
 use Rattle.ffv1_rice.proofs.OneNumber.{one_number_code}
 use Rattle.ffv1_rice.proofs.Folds.{fold_far, fold_range}
 use Rattle.ffv1_rice.specs.States.{ContextState, fold, IsDifference, IsParameter, sign_number, flipped, coded_value, code_number}
@@ -83,11 +83,11 @@ pub record IsValueRead (s : ContextState) (value : ℤ) (old new : Reading) : Ty
   pub code : List Bool
   pub range : IsDifference value
   pub spells : SpellsValue s value code
-  pub reads : Reads old code new
+  pub reads : ReadsBits old code new
 
 -- The code of a number is that of the value that the number stands for.
 pub value_read : (s : ContextState) (number k : ℕ) (coded value : ℤ) (old new : Reading) → IsParameter s k → sign_number (flipped s coded) ≡ number
-    → coded_value s value ≡ coded → IsDifference value → Reads old (code_bits number k) new → IsValueRead s value old new
+    → coded_value s value ≡ coded → IsDifference value → ReadsBits old (code_bits number k) new → IsValueRead s value old new
 value_read s number k coded value old new parameter is back range reads = record {
   code = code_bits number k;
   range = range;
@@ -107,13 +107,13 @@ coded_read s level value difference old new read same = record {
 -- It is the decoded value of each difference that has its code there.
 pub decoded_alike : (s : ContextState) (level : Bool) (value difference : ℤ) (old new after : Reading) → IsValueRead s value old new
     → IsCodedDifference level difference → IsCoded s level difference old after → decoded_value level difference ≡ value
-decoded_alike s level value difference old new after read told spelled =
-    let one = one_value s (decoded_value level difference) value spelled.code read.code after.left new.left (decoded_range level difference told) read.range
+decoded_alike s level value difference old new after read given spelled =
+    let one = one_value s (decoded_value level difference) value spelled.code read.code after.left new.left (decoded_range level difference given) read.range
     spelled.spells read.spells (sym spelled.reads.begins ∙ read.reads.begins) in
     one.0
 
 pub same_difference : (s : ContextState) (level : Bool) (value answer difference : ℤ) (old new after : Reading) → IsValueRead s value old new
     → IsCodedDifference level answer → decoded_value level answer ≡ value → IsCodedDifference level difference → IsCoded s level difference old after
     → answer ≡ difference
-same_difference s level value answer difference old new after read answered decoded told spelled =
-    one_decoded level answer difference answered told (decoded ∙ sym (decoded_alike s level value difference old new after read told spelled))
+same_difference s level value answer difference old new after read answered decoded given spelled =
+    one_decoded level answer difference answered given (decoded ∙ sym (decoded_alike s level value difference old new after read given spelled))

@@ -7,8 +7,8 @@ use Rattle.std.proofs.Math.Nat.{mul-add-mod_self_right, mod-eq_of_lt, mul-le-mul
 use Rattle.std.proofs.Math.Pow.{pow_mono}
 use Rattle.std.proofs.lemmas.List.{replicate-append-replicate}
 use Rattle.ffv1_bits.specs.Bits.{number_bits}
-use Rattle.ffv1_bits.specs.Reader.{Reading, Reads}
-use Rattle.ffv1_bits.proofs.Places.{Reads-append}
+use Rattle.ffv1_bits.specs.Reader.{Reading, ReadsBits}
+use Rattle.ffv1_bits.proofs.Places.{ReadsBits-append}
 use Rattle.ffv1_bits.proofs.Numbers.{goes_on}
 use Rattle.ffv1_rice.specs.declared.code.CodeFault.{CodeFault}
 use Rattle.ffv1_rice.specs.Codes.{prefix_bits, suffix_length, shape_bits, code_bits, IsCutCode, IsLargeCode, IsNeedlessEscape}
@@ -111,25 +111,25 @@ large_escape k low number old rest below is long large spelled =
 
 -- ---- codes from their parts
 
-short_read : (k ones u : ℕ) (old mid new : Reading) → ones < 12 → u / 2 ^ k ≡ ones → Reads old (prefix_bits ones) mid
-    → Reads mid (number_bits k (u % 2 ^ k)) new → Reads old (code_bits u k) new
+short_read : (k ones u : ℕ) (old mid new : Reading) → ones < 12 → u / 2 ^ k ≡ ones → ReadsBits old (prefix_bits ones) mid
+    → ReadsBits mid (number_bits k (u % 2 ^ k)) new → ReadsBits old (code_bits u k) new
 unfolding code_bits shape_bits suffix_length
 short_read k ones u old mid new few is first second =
     let less : u / 2 ^ k < 12 = omega arith in
-    rw (lt-ltb _ 12 less, is) (Reads-append old mid new (prefix_bits ones) (number_bits k (u % 2 ^ k)) first second)
+    rw (lt-ltb _ 12 less, is) (ReadsBits-append old mid new (prefix_bits ones) (number_bits k (u % 2 ^ k)) first second)
 
-escape_read : (k u : ℕ) (old mid new : Reading) → 12 ≤ u / 2 ^ k → Reads old (prefix_bits 12) mid → Reads mid (number_bits 8 (u - 11)) new
-    → Reads old (code_bits u k) new
+escape_read : (k u : ℕ) (old mid new : Reading) → 12 ≤ u / 2 ^ k → ReadsBits old (prefix_bits 12) mid → ReadsBits mid (number_bits 8 (u - 11)) new
+    → ReadsBits old (code_bits u k) new
 unfolding code_bits shape_bits suffix_length
 escape_read k u old mid new long first second =
-    rw (le-ltb _ 12 long) (Reads-append old mid new (prefix_bits 12) (number_bits 8 (u - 11)) first second)
+    rw (le-ltb _ 12 long) (ReadsBits-append old mid new (prefix_bits 12) (number_bits 8 (u - 11)) first second)
 
-pub short_ok : (k ones : ℕ) (old mid new : Reading) (read : Result ℕ CodeFault) → ones < 12 → Reads old (prefix_bits ones) mid
-    → IfOk read (λ u. u / 2 ^ k ≡ ones) → IfOk read (λ u. Reads mid (number_bits k (u % 2 ^ k)) new) → IfOk read (λ u. Reads old (code_bits u k) new)
+pub short_ok : (k ones : ℕ) (old mid new : Reading) (read : Result ℕ CodeFault) → ones < 12 → ReadsBits old (prefix_bits ones) mid
+    → IfOk read (λ u. u / 2 ^ k ≡ ones) → IfOk read (λ u. ReadsBits mid (number_bits k (u % 2 ^ k)) new) → IfOk read (λ u. ReadsBits old (code_bits u k) new)
 short_ok k ones old mid new (Ok u) few first is second = short_read k ones u old mid new few is first second
 short_ok k ones old mid new (Err fault) few first is second = tt
 
-pub escape_ok : (k ones : ℕ) (old mid new : Reading) (read : Result ℕ CodeFault) → ones ≡ 12 → Reads old (prefix_bits ones) mid
-    → IfOk read (λ u. 12 ≤ u / 2 ^ k) → IfOk read (λ u. Reads mid (number_bits 8 (u - 11)) new) → IfOk read (λ u. Reads old (code_bits u k) new)
+pub escape_ok : (k ones : ℕ) (old mid new : Reading) (read : Result ℕ CodeFault) → ones ≡ 12 → ReadsBits old (prefix_bits ones) mid
+    → IfOk read (λ u. 12 ≤ u / 2 ^ k) → IfOk read (λ u. ReadsBits mid (number_bits 8 (u - 11)) new) → IfOk read (λ u. ReadsBits old (code_bits u k) new)
 escape_ok k ones old mid new (Ok u) is first long second = escape_read k u old mid new long (rw is at first) second
 escape_ok k ones old mid new (Err fault) is first long second = tt

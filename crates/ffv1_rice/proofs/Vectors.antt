@@ -6,7 +6,7 @@ use Rattle.std.proofs.Math.Pow.{pow_mono}
 use Rattle.ffv1_bits.specs.Bits.{number_bits}
 use Rattle.ffv1_rice.specs.States.{ContextState, start_state, IsParameter, code_number, after_value}
 use Rattle.ffv1_rice.specs.Codes.{prefix_bits, suffix_length, shape_bits, code_bits, SpellsValue, IsCutCode, IsNeedlessEscape, IsLargeCode, IsLargeLevel}
-use Rattle.ffv1_rice.specs.Runs.{run_exponent, SpellsRun, line_end, whole, over_end, long_rest, IsRunWord, IsCutWord}
+use Rattle.ffv1_rice.specs.Runs.{run_exponent, SpellsRun, line_end, whole, over_end, long_rest, IsRunWord, IsShortWord}
 use Rattle.ffv1_rice.specs.declared.run.RunWord.TheVariants.{Full, Rest, ToEnd}
 
 zeros_12 : List Bool
@@ -158,6 +158,6 @@ full_of_2 : IsRunWord 2 4 (Full 2) (true ∷ []) 5
 unfolding run_exponent
 full_of_2 = (refl, lit≤ tt, refl, refl)
 
-cut_at_8 : IsCutWord 8 (false ∷ true ∷ [])
+cut_at_8 : IsShortWord 8 (false ∷ true ∷ [])
 unfolding run_exponent
 cut_at_8 = lit< tt

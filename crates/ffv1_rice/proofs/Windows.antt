@@ -8,9 +8,9 @@ use Rattle.std.proofs.Math.Nat.{pow-suc}
 use Rattle.std.proofs.Math.Pow.{pow_mono}
 use Rattle.std.proofs.lemmas.List.{take_at}
 use Rattle.ffv1_bits.specs.Bits.{number_bits}
-use Rattle.ffv1_bits.specs.Reader.{Reading, Reads}
+use Rattle.ffv1_bits.specs.Reader.{Reading, ReadsBits}
 use Rattle.ffv1_bits.proofs.Numbers.{length-number_bits, number_bits-split, number_bits-low}
-use Rattle.ffv1_rice.specs.Codes.{prefix_bits, code_bits, BeginsWith}
+use Rattle.ffv1_rice.specs.Codes.{prefix_bits, code_bits, BitsBegin}
 use Rattle.ffv1_rice.proofs.Shapes.{short_code, escape_code, short_suffix}
 
 -- ---- leading zeros
@@ -73,7 +73,7 @@ window_one window width low high =
 
 pub short_begins : (window z k suffix number : ℕ) → z < 12 → k ≤ 7 → 2 ^ (31 - z) ≤ window → window < 2 ^ (32 - z)
     → suffix ≡ window / 2 ^ (31 - (z + k)) - 2 ^ k → number ≡ z * 2 ^ k + suffix
-    → BeginsWith (number_bits 32 window) (code_bits number k) (z + 1 + k)
+    → BitsBegin (number_bits 32 window) (code_bits number k) (z + 1 + k)
 short_begins window z k suffix number few small low high is value =
     let r : ℕ = 31 - (z + k) in
     let bounds = suffix_at window z k few small low high in
@@ -109,7 +109,7 @@ pub front_parts : (window : ℕ) → number_bits 56 window ≡ number_bits 32 (w
 front_parts window = number_bits-split 32 24 window
 
 -- what a window begins with, the bits of which it is the front begin with
-pub begins_later : (bits window rest code : List Bool) (count : ℕ) → bits ≡ window ++ rest → BeginsWith window code count → BeginsWith bits code count
+pub begins_later : (bits window rest code : List Bool) (count : ℕ) → bits ≡ window ++ rest → BitsBegin window code count → BitsBegin bits code count
 begins_later bits window rest code count parts begins = record {
   rest = begins.rest ++ rest;
   same = parts ∙ ap (λ l. l ++ rest) begins.same ∙ append_assoc code begins.rest rest;
@@ -117,7 +117,7 @@ begins_later bits window rest code count parts begins = record {
 }
 
 -- bits that are read stand at the front, and are as many as the place moves
-pub read_begins : (old new : Reading) (code : List Bool) (count : ℕ) → count ≡ new.place - old.place → Reads old code new → BeginsWith old.left code count
+pub read_begins : (old new : Reading) (code : List Bool) (count : ℕ) → count ≡ new.place - old.place → ReadsBits old code new → BitsBegin old.left code count
 read_begins old new code count is reads = record {
   rest = new.left;
   same = reads.begins;
@@ -125,25 +125,25 @@ read_begins old new code count is reads = record {
 }
 
 -- what bits begin with is no longer than they are
-pub begun_fits : (bits code : List Bool) (count : ℕ) → BeginsWith bits code count → count ≤ length bits
+pub begun_fits : (bits code : List Bool) (count : ℕ) → BitsBegin bits code count → count ≤ length bits
 begun_fits bits code count begins = omega (arith, ap length begins.same, length-append code begins.rest, begins.long)
 
 -- a code that is passed over is read
-pub begun_read : (old new : Reading) (code : List Bool) (count : ℕ) → BeginsWith old.left code count → Reads old (take count old.left) new → Reads old code new
+pub begun_read : (old new : Reading) (code : List Bool) (count : ℕ) → BitsBegin old.left code count → ReadsBits old (take count old.left) new → ReadsBits old code new
 begun_read old new code count begins passed =
     let front : take count old.left ≡ code = ap (take count) begins.same ∙ take_at code begins.rest count begins.long in
-    subst (λ l. Reads old l new) front passed
+    subst (λ l. ReadsBits old l new) front passed
 
 -- the reading once it is passed over
-pub reading_after : (old : Reading) (code : List Bool) (count : ℕ) → BeginsWith old.left code count → Reading
+pub reading_after : (old : Reading) (code : List Bool) (count : ℕ) → BitsBegin old.left code count → Reading
 reading_after old code count begins = record { place = old.place + length code; left = begins.rest }
 
-pub begun_after : (old : Reading) (code : List Bool) (count : ℕ) (begins : BeginsWith old.left code count) → Reads old code (reading_after old code count begins)
+pub begun_after : (old : Reading) (code : List Bool) (count : ℕ) (begins : BitsBegin old.left code count) → ReadsBits old code (reading_after old code count begins)
 unfolding reading_after
 begun_after old code count begins = record { begins = begins.same; moves = refl }
 
 pub escape_begins : (window k number : ℕ) → window < 2 ^ 44 → number ≡ window / 2 ^ 36 + 11 → 12 ≤ number / 2 ^ k
-    → BeginsWith (number_bits 56 window) (code_bits number k) 20
+    → BitsBegin (number_bits 56 window) (code_bits number k) 20
 unfolding prefix_bits
 escape_begins window k number small is long =
     let none : window / 2 ^ 44 ≡ 0 = omega arith in

@@ -5,10 +5,10 @@ use Rattle.std.proofs.Math.Nat.{mod-eq_of_lt}
 use Rattle.std.proofs.Math.Pow.{pow_mono}
 use Rattle.ffv1_bits.specs.Limits.{greatest_run_index}
 use Rattle.ffv1_bits.specs.Bits.{number_bits}
-use Rattle.ffv1_bits.specs.Reader.{Reading, Reads}
-use Rattle.ffv1_bits.proofs.Places.{Reads-append}
+use Rattle.ffv1_bits.specs.Reader.{Reading, ReadsBits}
+use Rattle.ffv1_bits.proofs.Places.{ReadsBits-append}
 use Rattle.ffv1_rice.specs.declared.run.RunWord.TheVariants.{Full, Rest, ToEnd}
-use Rattle.ffv1_rice.specs.Runs.{IsRunWord, SpellsRun, whole, rest, over_end, long_rest, WordsSpellRuns, IsRead, IsCutWord, run_exponent, whole_length, log2_run}
+use Rattle.ffv1_rice.specs.Runs.{IsRunWord, SpellsRun, whole, rest, over_end, long_rest, WordsSpellRuns, IsRead, IsShortWord, run_exponent, whole_length, log2_run}
 
 -- ---- the table
 
@@ -37,32 +37,32 @@ shifted e h = let p : 2 ^ e ≤ 2 ^ 16 = pow_mono h in let q : 1 * 2 ^ e ≡ 2 ^
 -- ---- what the four ends of a reading give
 
 pub full_word : (left i e length : ℕ) (old new : Reading) → e ≡ run_exponent i → e ≤ 16 → length ≡ (1 * 2 ^ e) % 4294967296 → length ≤ left
-    → Reads old (true ∷ []) new → IsRead left i (Full length) old (i + 1) new
+    → ReadsBits old (true ∷ []) new → IsRead left i (Full length) old (i + 1) new
 full_word left i e length old new is low same fits reads = record {
   spelled = true ∷ [];
   is_word = (same ∙ shifted e low ∙ ap (λ k. 2 ^ k) is, fits, refl, refl);
   reads = reads;
 }
 
-pub end_word : (left i e : ℕ) (old new : Reading) → e ≡ run_exponent i → e ≤ 16 → left < (1 * 2 ^ e) % 4294967296 → Reads old (true ∷ []) new
+pub end_word : (left i e : ℕ) (old new : Reading) → e ≡ run_exponent i → e ≤ 16 → left < (1 * 2 ^ e) % 4294967296 → ReadsBits old (true ∷ []) new
     → IsRead left i ToEnd old i new
 end_word left i e old new is low past reads =
     let length : (1 * 2 ^ e) % 4294967296 ≡ whole_length i = shifted e low ∙ ap (λ k. 2 ^ k) is in
     record { spelled = true ∷ []; is_word = inl (rw length at past, refl, refl); reads = reads }
 
-zero_and_number : (i e n : ℕ) (old mid new : Reading) → e ≡ run_exponent i → Reads old (false ∷ []) mid → Reads mid (number_bits e n) new
-    → Reads old (false ∷ number_bits (run_exponent i) n) new
+zero_and_number : (i e n : ℕ) (old mid new : Reading) → e ≡ run_exponent i → ReadsBits old (false ∷ []) mid → ReadsBits mid (number_bits e n) new
+    → ReadsBits old (false ∷ number_bits (run_exponent i) n) new
 zero_and_number i e n old mid new is first number =
-    rw (← is) (Reads-append old mid new (false ∷ []) (number_bits e n) first number)
+    rw (← is) (ReadsBits-append old mid new (false ∷ []) (number_bits e n) first number)
 
-pub rest_word : (left i e n : ℕ) (old mid new : Reading) → e ≡ run_exponent i → n < 2 ^ e → n < left → Reads old (false ∷ []) mid
-    → Reads mid (number_bits e n) new → IsRead left i (Rest n) old (i - 1) new
+pub rest_word : (left i e n : ℕ) (old mid new : Reading) → e ≡ run_exponent i → n < 2 ^ e → n < left → ReadsBits old (false ∷ []) mid
+    → ReadsBits mid (number_bits e n) new → IsRead left i (Rest n) old (i - 1) new
 rest_word left i e n old mid new is fits less first number =
     let fits' : n < whole_length i = rw is at fits in
     record { spelled = false ∷ number_bits (run_exponent i) n; is_word = (fits', less, refl, refl); reads = zero_and_number i e n old mid new is first number }
 
-pub long_word : (left i e n : ℕ) (old mid new : Reading) → e ≡ run_exponent i → n < 2 ^ e → left ≤ n → Reads old (false ∷ []) mid
-    → Reads mid (number_bits e n) new → IsRead left i ToEnd old (i - 1) new
+pub long_word : (left i e n : ℕ) (old mid new : Reading) → e ≡ run_exponent i → n < 2 ^ e → left ≤ n → ReadsBits old (false ∷ []) mid
+    → ReadsBits mid (number_bits e n) new → IsRead left i ToEnd old (i - 1) new
 long_word left i e n old mid new is fits more first number =
     let fits' : n < whole_length i = rw is at fits in
     record {
@@ -73,9 +73,9 @@ long_word left i e n old mid new is fits more first number =
 
 -- ---- what a zero with too few bits after it is
 
-pub cut_number : (i e : ℕ) (old mid : Reading) → e ≡ run_exponent i → Reads old (false ∷ []) mid → length mid.left < e → IsCutWord i old.left
+pub cut_number : (i e : ℕ) (old mid : Reading) → e ≡ run_exponent i → ReadsBits old (false ∷ []) mid → length mid.left < e → IsShortWord i old.left
 cut_number i e old mid is first short =
-    let P : List Bool → Type 0 = IsCutWord i in
+    let P : List Bool → Type 0 = IsShortWord i in
     subst P (sym first.begins) (rw is at short)
 
 -- ---- the words of a run
@@ -90,7 +90,7 @@ end_of_run : (left i next : ℕ) (bits : List Bool) → 0 < left → IsRunWord l
 end_of_run left i next bits some is =
     ⊎_elim
     (λ one. over_end one.0 some refl one.1 one.2)
-    (λ told. long_rest told.0 told.1 told.2 some refl told.3 told.4)
+    (λ given. long_rest given.0 given.1 given.2 some refl given.3 given.4)
     is
 
 pub spelled_by_words : WordsSpellRuns

@@ -1,7 +1,7 @@
 -- Golomb-Rice codes of sample differences, from a value to its bits (RFC 9043, section 3.8.2.1).
 use Rattle.std.specs.Prelude.{◌≡◌, ◌≢◌, ℕ, ◌+◌, ◌-◌, ◌/◌, ◌%◌, ◌^◌, ◌<◌, ◌≤◌, nat_lt, Bool, true, false, ◌&&◌, List, [], ◌∷◌, ◌++◌, length, replicate, ℤ, pos, ◌-ℤ◌, int_lt, if◌then◌else◌, ◌⊎◌}
 use Rattle.ffv1_bits.specs.Bits.{number_bits}
-use Rattle.ffv1_bits.specs.Reader.{Reading, Reads}
+use Rattle.ffv1_bits.specs.Reader.{Reading, ReadsBits}
 use Rattle.ffv1_rice.specs.States.{ContextState, IsDifference, IsParameter, code_number}
 use Rattle.ffv1_rice.specs.declared.code.CodeFault.{CodeFault}
 use Rattle.ffv1_rice.specs.declared.code.CodeFault.TheVariants as faults
@@ -28,7 +28,7 @@ code_bits u k =
     else shape_bits k 12 (u - 11)
 
 -- The bits begin with these, of which there are so many.
-pub record BeginsWith (bits front : List Bool) (count : ℕ) : Type 0 where
+pub record BitsBegin (bits front : List Bool) (count : ℕ) : Type 0 where
   pub rest : List Bool
   pub same : bits ≡ front ++ rest
   pub long : length front ≡ count
@@ -54,7 +54,7 @@ IsCodedDifference level difference = IsDifference difference × (level ≡ true 
 pub record IsCoded (state : ContextState) (level : Bool) (difference : ℤ) (old new : Reading) : Type 0 where
   pub code : List Bool
   pub spells : SpellsValue state (decoded_value level difference) code
-  pub reads : Reads old code new
+  pub reads : ReadsBits old code new
 
 -- ---- bits at which no code can be read
 

@@ -1,7 +1,7 @@
 -- Runs of samples with difference 0, from their length to their bits (RFC 9043, section 3.8.2.2.1).
 use Rattle.std.specs.Prelude.{◌≡◌, ℕ, ◌+◌, ◌-◌, ◌^◌, ◌<◌, ◌≤◌, Bool, true, false, List, [], ◌∷◌, ◌++◌, length, get_or, ◌⊎◌}
 use Rattle.ffv1_bits.specs.Bits.{number_bits}
-use Rattle.ffv1_bits.specs.Reader.{Reading, Reads}
+use Rattle.ffv1_bits.specs.Reader.{Reading, ReadsBits}
 use Rattle.ffv1_rice.specs.declared.run.RunWord.{RunWord}
 use Rattle.ffv1_rice.specs.declared.run.RunWord.TheVariants.{Full, Rest, ToEnd}
 
@@ -34,8 +34,8 @@ pub data SpellsRun : ℕ → ℕ → ℕ → List Bool → ℕ → Type 0 where
   -- up to the line's end: a one that stands for more than is left, and the index stays ..
   over_end : {n left i next : ℕ} {bits : List Bool} → n < whole_length i → 0 < n → n ≡ left → bits ≡ true ∷ [] → next ≡ i → SpellsRun n left i bits next
   -- .. or a zero and any number from there up, and the index falls
-  long_rest : {n left i next : ℕ} {bits : List Bool} (told : ℕ) → left ≤ told → told < whole_length i → 0 < n → n ≡ left
-      → bits ≡ false ∷ number_bits (run_exponent i) told → next ≡ i - 1 → SpellsRun n left i bits next
+  long_rest : {n left i next : ℕ} {bits : List Bool} (given : ℕ) → left ≤ given → given < whole_length i → 0 < n → n ≡ left
+      → bits ≡ false ∷ number_bits (run_exponent i) given → next ≡ i - 1 → SpellsRun n left i bits next
 
 -- ---- the words of a run
 
@@ -46,19 +46,19 @@ IsRunWord left i (Full n) bits next = (n ≡ whole_length i) × (n ≤ left) × 
 IsRunWord left i (Rest n) bits next = (n < whole_length i) × (n < left) × (bits ≡ false ∷ number_bits (run_exponent i) n) × (next ≡ i - 1)
 IsRunWord left i ToEnd bits next =
     ((left < whole_length i) × (bits ≡ true ∷ []) × (next ≡ i))
-    ⊎ ((told : ℕ) × (left ≤ told) × (told < whole_length i) × (bits ≡ false ∷ number_bits (run_exponent i) told) × (next ≡ i - 1))
+    ⊎ ((given : ℕ) × (left ≤ given) × (given < whole_length i) × (bits ≡ false ∷ number_bits (run_exponent i) given) × (next ≡ i - 1))
 
 -- From one reading to another the word was read.
 pub record IsRead (left index : ℕ) (word : RunWord) (old : Reading) (next : ℕ) (new : Reading) : Type 0 where
   pub spelled : List Bool
   pub is_word : IsRunWord left index word spelled next
-  pub reads : Reads old spelled new
+  pub reads : ReadsBits old spelled new
 
 -- The bits end within a word: there are none, or a zero and too few bits after it.
-abbrev pub IsCutWord : ℕ → List Bool → Type 0
-IsCutWord i [] = Unit {0}
-IsCutWord i (true ∷ bits) = ⊥
-IsCutWord i (false ∷ bits) = length bits < run_exponent i
+abbrev pub IsShortWord : ℕ → List Bool → Type 0
+IsShortWord i [] = Unit {0}
+IsShortWord i (true ∷ bits) = ⊥
+IsShortWord i (false ∷ bits) = length bits < run_exponent i
 
 -- ---- laws
 
@@ -84,6 +84,6 @@ pub record WordsSpellRuns : Type 0 where
 
 -- Where the bits end within a word, no word is there and no run.
 pub record CutsExcludeRuns : Type 0 where
-  pub no_word : (left i next : ℕ) (word : RunWord) (bits spelled rest : List Bool) → IsCutWord i bits → IsRunWord left i word spelled next
+  pub no_word : (left i next : ℕ) (word : RunWord) (bits spelled rest : List Bool) → IsShortWord i bits → IsRunWord left i word spelled next
       → bits ≡ spelled ++ rest → ⊥
-  pub no_run : (n left i next : ℕ) (bits run rest : List Bool) → 0 < left → IsCutWord i bits → SpellsRun n left i run next → bits ≡ run ++ rest → ⊥
+  pub no_run : (n left i next : ℕ) (bits run rest : List Bool) → 0 < left → IsShortWord i bits → SpellsRun n left i run next → bits ≡ run ++ rest → ⊥

@@ -4,9 +4,9 @@
 //! read bit by bit. Its number comes together with its length, and the bits are passed over once all is known.
 ghost use Rattle.std.specs.Prelude.{◌≡◌, ℕ, ◌+◌, ◌/◌, ◌%◌, ◌-◌, ◌^◌, ◌≤◌, ◌<◌, ◌++◌, ℤ, false, true, pos, replicate, IfOk, IfErr, IfSome, IfNone, OnErr};
 ghost use Rattle.ffv1_bits.specs.Bits.{number_bits};
-ghost use Rattle.ffv1_bits.specs.Reader.{Reading, Reads};
+ghost use Rattle.ffv1_bits.specs.Reader.{Reading, ReadsBits};
 ghost use Rattle.ffv1_rice.specs.States.{IsDifference, after_value};
-ghost use Rattle.ffv1_rice.specs.Codes.{prefix_bits, code_bits, decoded_value, IsCoded, IsCodedDifference, IsNumberFault, IsCodeFault, BeginsWith, CodesAreOne, FaultsExcludeCodes, FaultsAreOne};
+ghost use Rattle.ffv1_rice.specs.Codes.{prefix_bits, code_bits, decoded_value, IsCoded, IsCodedDifference, IsNumberFault, IsCodeFault, BitsBegin, CodesAreOne, FaultsExcludeCodes, FaultsAreOne};
 ghost use Rattle.ffv1_rice.specs.declared.code.CodeFault.TheVariants as CodeFault;
 
 use crate::state::VlcState;
@@ -41,7 +41,7 @@ const LARGEST_NUMBER: u32 = 255;
 #[tactic(auto, unfolding(crate::specs::Codes::prefix_bits))]
 fn read_prefix(bits: &mut Bits) -> Option<u32>
     ensures few { IfSome result (λ zeros. zeros ≤ 12) }
-    ensures some { IfSome result (λ zeros. Reads bits.old (prefix_bits zeros) bits.new) }
+    ensures some { IfSome result (λ zeros. ReadsBits bits.old (prefix_bits zeros) bits.new) }
     ensures none { IfNone result ((zeros : ℕ) × (zeros < 12) × (bits.old.left ≡ replicate zeros false)) }
 {
     for zeros in 0..ESCAPE_ZEROS {
@@ -64,7 +64,7 @@ struct NumberAhead {
 fn number_ahead(bits: &Bits, k: u32) -> Result<NumberAhead, CodeFault>
     requires { k ≤ 7 }
     ensures byte { IfOk result (λ ahead. ahead.number ≤ 255) }
-    ensures ok { IfOk result (λ ahead. BeginsWith bits.now.left (code_bits ahead.number k) ahead.length) }
+    ensures ok { IfOk result (λ ahead. BitsBegin bits.now.left (code_bits ahead.number k) ahead.length) }
     ensures err { IfErr result (λ fault. IsNumberFault k bits.now.left fault) }
 {
     match short_ahead(bits, k) {
@@ -79,7 +79,7 @@ fn number_ahead(bits: &Bits, k: u32) -> Result<NumberAhead, CodeFault>
 fn held_ahead(bits: &Bits, k: u32) -> Result<NumberAhead, CodeFault>
     requires { k ≤ 7 }
     ensures byte { IfOk result (λ ahead. ahead.number ≤ 255) }
-    ensures ok { IfOk result (λ ahead. BeginsWith bits.now.left (code_bits ahead.number k) ahead.length) }
+    ensures ok { IfOk result (λ ahead. BitsBegin bits.now.left (code_bits ahead.number k) ahead.length) }
     ensures err { IfErr result (λ fault. IsNumberFault k bits.now.left fault) }
 {
     let NumberAhead { number, length } = long_ahead(bits, k)?;
@@ -91,7 +91,7 @@ fn held_ahead(bits: &Bits, k: u32) -> Result<NumberAhead, CodeFault>
 fn short_ahead(bits: &Bits, k: u32) -> Option<NumberAhead>
     requires { k ≤ 7 }
     ensures byte { IfSome result (λ ahead. ahead.number ≤ 255) }
-    ensures some { IfSome result (λ ahead. BeginsWith bits.now.left (code_bits ahead.number k) ahead.length) }
+    ensures some { IfSome result (λ ahead. BitsBegin bits.now.left (code_bits ahead.number k) ahead.length) }
 {
     let window = bits.peek()?;
     // Such a code has at most 19 bits.
@@ -111,7 +111,7 @@ fn short_ahead(bits: &Bits, k: u32) -> Option<NumberAhead>
 fn long_ahead(bits: &Bits, k: u32) -> Result<NumberAhead, CodeFault>
     requires { k ≤ 7 }
     ensures byte { IfOk result (λ ahead. ahead.number ≤ 255) }
-    ensures ok { IfOk result (λ ahead. BeginsWith bits.now.left (code_bits ahead.number k) ahead.length) }
+    ensures ok { IfOk result (λ ahead. BitsBegin bits.now.left (code_bits ahead.number k) ahead.length) }
     ensures err { IfErr result (λ fault. IsNumberFault k bits.now.left fault) }
 {
     if let Some(number) = escape_ahead(bits, k) {
@@ -128,7 +128,7 @@ fn long_ahead(bits: &Bits, k: u32) -> Result<NumberAhead, CodeFault>
 fn escape_ahead(bits: &Bits, k: u32) -> Option<u32>
     requires { k ≤ 7 }
     ensures byte { IfSome result (λ u. u ≤ 255) }
-    ensures some { IfSome result (λ u. BeginsWith bits.now.left (code_bits u k) 20) }
+    ensures some { IfSome result (λ u. BitsBegin bits.now.left (code_bits u k) 20) }
 {
     let window = bits.peek()?;
     if window >= 1 << 44 {
@@ -146,7 +146,7 @@ fn short_in(front: u32, k: u32, zeros: u32) -> Option<u32>
     requires low { 2 ^ (31 - zeros) ≤ front }
     requires high { front < 2 ^ (32 - zeros) }
     ensures byte { IfSome result (λ u. u ≤ 255) }
-    ensures some { IfSome result (λ u. BeginsWith (number_bits 32 front) (code_bits u k) (zeros + 1 + k)) }
+    ensures some { IfSome result (λ u. BitsBegin (number_bits 32 front) (code_bits u k) (zeros + 1 + k)) }
 {
     // The one that ends the prefix stands before the suffix, so that one zero less is counted.
     let low = front >> (31 - (zeros + k));
@@ -162,7 +162,7 @@ fn escaped_in(window: u64, k: u32) -> Option<u32>
     requires parameter { k ≤ 7 }
     requires window { window < 2 ^ 44 }
     ensures byte { IfSome result (λ u. u ≤ 255) }
-    ensures some { IfSome result (λ u. BeginsWith (number_bits 56 window) (code_bits u k) 20) }
+    ensures some { IfSome result (λ u. BitsBegin (number_bits 56 window) (code_bits u k) 20) }
 {
     let number = (window >> 36) as u32 + ESCAPE_OFFSET;
     if number >> k < ESCAPE_ZEROS || number > LARGEST_NUMBER {
@@ -177,7 +177,7 @@ fn escaped_in(window: u64, k: u32) -> Option<u32>
 fn read_bit_by_bit(bits: &mut Bits, k: u32) -> Result<u32, CodeFault>
     requires { k ≤ 7 }
     ensures byte { IfOk result (λ u. u ≤ 255) }
-    ensures ok { IfOk result (λ u. Reads bits.old (code_bits u k) bits.new) }
+    ensures ok { IfOk result (λ u. ReadsBits bits.old (code_bits u k) bits.new) }
     ensures err { IfErr result (λ fault. IsNumberFault k bits.old.left fault) }
 {
     match read_prefix(bits) {
@@ -193,7 +193,7 @@ fn read_short(bits: &mut Bits, k: u32, zeros: u32) -> Result<u32, CodeFault>
     requires zeros { zeros < 12 }
     ensures byte { IfOk result (λ u. u ≤ 255) }
     ensures prefix { IfOk result (λ u. u / 2 ^ k ≡ zeros) }
-    ensures suffix { IfOk result (λ u. Reads bits.old (number_bits k (u % 2 ^ k)) bits.new) }
+    ensures suffix { IfOk result (λ u. ReadsBits bits.old (number_bits k (u % 2 ^ k)) bits.new) }
     ensures err { IfErr result (λ fault. IsNumberFault k (prefix_bits zeros ++ bits.old.left) fault) }
 {
     let Some(low) = bits.take(k) else {
@@ -211,7 +211,7 @@ fn read_escaped(bits: &mut Bits, k: u32) -> Result<u32, CodeFault>
     requires { k ≤ 7 }
     ensures byte { IfOk result (λ u. u ≤ 255) }
     ensures prefix { IfOk result (λ u. 12 ≤ u / 2 ^ k) }
-    ensures suffix { IfOk result (λ u. Reads bits.old (number_bits 8 (u - 11)) bits.new) }
+    ensures suffix { IfOk result (λ u. ReadsBits bits.old (number_bits 8 (u - 11)) bits.new) }
     ensures err { IfErr result (λ fault. IsNumberFault k (prefix_bits 12 ++ bits.old.left) fault) }
 {
     let Some(low) = bits.take(ESCAPE_BITS) else {

@@ -4,7 +4,7 @@
 ghost use Rattle.std.specs.Prelude.{◌≡◌, ℕ, ◌≤◌, IfOk, OnErr};
 ghost use Rattle.ffv1_bits.specs.Limits.{greatest_side, greatest_run_index};
 ghost use Rattle.ffv1_bits.specs.Reader.{Reading};
-ghost use Rattle.ffv1_rice.specs.Runs.{run_exponent, IsRead, IsCutWord, RunsAreOne, WordsAreOne, WordsSpellRuns, CutsExcludeRuns};
+ghost use Rattle.ffv1_rice.specs.Runs.{run_exponent, IsRead, IsShortWord, RunsAreOne, WordsAreOne, WordsSpellRuns, CutsExcludeRuns};
 ghost use Rattle.ffv1_rice.specs.declared.code.CodeFault.TheVariants as CodeFault;
 
 use crate::code::CodeFault;
@@ -96,7 +96,7 @@ impl RunIndex {
         ensures found { (word : RunWord) (next : ℕ) (after : Reading) → IsRead left self.old word bits.old next after → result ≡ Ok word }
 
         ensures truncated { OnErr result (result ≡ Err CodeFault.Truncated) }
-        ensures err { OnErr result (IsCutWord self.old bits.old.left) }
+        ensures err { OnErr result (IsShortWord self.old bits.old.left) }
         ensures unchanged { OnErr result ((self.new ≡ self.old) × (bits.new ≡ bits.old)) }
     {
         let exponent = exponent(self.index);

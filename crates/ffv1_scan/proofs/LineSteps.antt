@@ -6,7 +6,7 @@ use Rattle.ffv1_lists.proofs.PartSteps.{one_parting, no_parting}
 use Rattle.ffv1_lists.proofs.NumberSteps.{one_value}
 use Rattle.ffv1_lists.proofs.WordSteps.{HasNoSpace-digits}
 use Rattle.ffv1_scan.specs.declared.ranges.ByteRange.{ByteRange}
-use Rattle.ffv1_scan.specs.Ranges.{IsRangeLine, AreRangeLines, Rises, end_of}
+use Rattle.ffv1_scan.specs.Ranges.{IsRangeLine, AreRangeLines, Rises, ranges_end}
 
 -- ---- the range that a line is
 
@@ -41,17 +41,17 @@ length-range_lines [] (r ∷ ranges) h = absurd h
 length-range_lines (l ∷ lines) [] h = absurd h
 length-range_lines (l ∷ lines) (r ∷ ranges) h = omega (arith, length-range_lines lines ranges h.1)
 
-pub Rises-push : (from : ℕ) (ranges : List ByteRange) (range : ByteRange) → Rises from ranges → end_of from ranges ≤ range.place → Rises from (ranges ++ range ∷ [])
+pub Rises-push : (from : ℕ) (ranges : List ByteRange) (range : ByteRange) → Rises from ranges → ranges_end from ranges ≤ range.place → Rises from (ranges ++ range ∷ [])
 Rises-push from [] range h le = (le, tt)
 Rises-push from (r ∷ ranges) range h le = (h.0, Rises-push (r.place + r.size) ranges range h.1 le)
 
-pub end_of-push : (from : ℕ) (ranges : List ByteRange) (range : ByteRange) → end_of from (ranges ++ range ∷ []) ≡ range.place + range.size
-end_of-push from [] range = refl
-end_of-push from (r ∷ ranges) range = end_of-push (r.place + r.size) ranges range
+pub ranges_end-push : (from : ℕ) (ranges : List ByteRange) (range : ByteRange) → ranges_end from (ranges ++ range ∷ []) ≡ range.place + range.size
+ranges_end-push from [] range = refl
+ranges_end-push from (r ∷ ranges) range = ranges_end-push (r.place + r.size) ranges range
 
 -- the first of ranges that stand after others begins where these end or after that
 pub rises_after : (from : ℕ) (front : List ByteRange) (range : ByteRange) (rest : List ByteRange) → Rises from (front ++ range ∷ rest)
-    → end_of from front ≤ range.place
+    → ranges_end from front ≤ range.place
 rises_after from [] range rest h = h.0
 rises_after from (r ∷ front) range rest h = rises_after (r.place + r.size) front range rest h.1
 
@@ -60,15 +60,15 @@ rises_front from [] rest h = tt
 rises_front from (r ∷ front) rest h = (h.0, rises_front (r.place + r.size) front rest h.1)
 
 -- the end of some ranges is at the place where they begin or after it
-pub end_of-least : (from : ℕ) (ranges : List ByteRange) → Rises from ranges → from ≤ end_of from ranges
-end_of-least from [] h = omega arith
-end_of-least from (r ∷ ranges) h = omega (arith, h.0, end_of-least (r.place + r.size) ranges h.1)
+pub ranges_end-least : (from : ℕ) (ranges : List ByteRange) → Rises from ranges → from ≤ ranges_end from ranges
+ranges_end-least from [] h = omega arith
+ranges_end-least from (r ∷ ranges) h = omega (arith, h.0, ranges_end-least (r.place + r.size) ranges h.1)
 
-pub end_of-append : (from : ℕ) (front rest : List ByteRange) → end_of from (front ++ rest) ≡ end_of (end_of from front) rest
-end_of-append from [] rest = refl
-end_of-append from (r ∷ front) rest = end_of-append (r.place + r.size) front rest
+pub ranges_end-append : (from : ℕ) (front rest : List ByteRange) → ranges_end from (front ++ rest) ≡ ranges_end (ranges_end from front) rest
+ranges_end-append from [] rest = refl
+ranges_end-append from (r ∷ front) rest = ranges_end-append (r.place + r.size) front rest
 
 -- the ranges of a front end before all do
-pub end_of-front : (from : ℕ) (front rest : List ByteRange) → Rises from (front ++ rest) → end_of from front ≤ end_of from (front ++ rest)
-end_of-front from [] rest h = end_of-least from rest h
-end_of-front from (r ∷ front) rest h = end_of-front (r.place + r.size) front rest h.1
+pub ranges_end-front : (from : ℕ) (front rest : List ByteRange) → Rises from (front ++ rest) → ranges_end from front ≤ ranges_end from (front ++ rest)
+ranges_end-front from [] rest h = ranges_end-least from rest h
+ranges_end-front from (r ∷ front) rest h = ranges_end-front (r.place + r.size) front rest h.1

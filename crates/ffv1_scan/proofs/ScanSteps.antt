@@ -16,11 +16,11 @@ use Rattle.ffv1_scan.specs.declared.ranges.ByteRange.{ByteRange}
 use Rattle.ffv1_scan.specs.declared.verdict.Verdict.{Verdict}
 use Rattle.ffv1_scan.specs.declared.scanning.ScanFault.{ScanFault}
 use Rattle.ffv1_scan.specs.declared.scanning.ScanFault.TheVariants as faults
-use Rattle.ffv1_scan.specs.Ranges.{Rises, end_of}
+use Rattle.ffv1_scan.specs.Ranges.{Rises, ranges_end}
 use Rattle.ffv1_scan.specs.Verdicts.{IsVerdictOf, bytes_in, AreVerdictsOf, is_sound, verdict_line, verdict_lines}
 use Rattle.ffv1_scan.specs.Scans.{ScansFront, ScansRanges}
 use Rattle.ffv1_scan.specs.Steps.{JudgesNext, LineStops, scan_fault}
-use Rattle.ffv1_scan.proofs.LineSteps.{end_of-push, end_of-least, end_of-front, rises_after, rises_front}
+use Rattle.ffv1_scan.proofs.LineSteps.{ranges_end-push, ranges_end-least, ranges_end-front, rises_after, rises_front}
 
 -- ---- verdicts
 
@@ -37,13 +37,13 @@ bytes_in-last file here range place size =
     ∙ ap (take range.size) (drop-append_seam file here)
     ∙ ap (λ (n : ℕ). take n here) (sym size) ∙ take-length here
 
-AreVerdictsOf-more : (from : ℕ) (file more : List ℕ) (ranges : List ByteRange) (verdicts : List Verdict) → Rises from ranges → end_of from ranges ≤ length file
+AreVerdictsOf-more : (from : ℕ) (file more : List ℕ) (ranges : List ByteRange) (verdicts : List Verdict) → Rises from ranges → ranges_end from ranges ≤ length file
     → AreVerdictsOf file ranges verdicts → AreVerdictsOf (file ++ more) ranges verdicts
 AreVerdictsOf-more from file more [] [] rise within are = tt
 AreVerdictsOf-more from file more [] (v ∷ vs) rise within are = absurd are
 AreVerdictsOf-more from file more (r ∷ rs) [] rise within are = absurd are
 AreVerdictsOf-more from file more (r ∷ rs) (v ∷ vs) rise within are =
-    let least = end_of-least (r.place + r.size) rs rise.1 in (
+    let least = ranges_end-least (r.place + r.size) rs rise.1 in (
       subst (λ (bytes : List ℕ). IsVerdictOf bytes v) (sym (bytes_in-more file more r (omega (arith, least, within)))) are.0,
       AreVerdictsOf-more (r.place + r.size) file more rs vs rise.1 within are.1,
     )
@@ -88,7 +88,7 @@ next_stops gap size a b c before room nexts.Memory read long stops =
 pub record IsScanned (front : List ByteRange) (sound : Bool) (old new : ReadLog) (out_old out_new : WriteLog) : Type 0 where
   pub bytes : List ℕ
   pub read : Reads old new bytes
-  pub long : length bytes ≡ end_of 0 front
+  pub long : length bytes ≡ ranges_end 0 front
   pub verdicts : List Verdict
   pub judged : AreVerdictsOf bytes front verdicts
   pub wrote : Writes out_old out_new (verdict_lines 1 verdicts)
@@ -105,21 +105,21 @@ module _ (ranges front : List ByteRange) (range : ByteRange) (rest : List ByteRa
   rises-front : Rises 0 front
   rises-front = rises_front 0 front (range ∷ rest) rises
 
-  begins : end_of 0 front ≤ range.place
+  begins : ranges_end 0 front ≤ range.place
   begins = rises_after 0 front range rest rises
 
   joined : ranges ≡ (front ++ range ∷ []) ++ rest
   joined = split ∙ sym (append_assoc front (range ∷ []) rest)
 
-  ends : range.place + range.size ≤ end_of 0 ranges
+  ends : range.place + range.size ≤ ranges_end 0 ranges
   ends =
-      let le = end_of-front 0 (front ++ range ∷ []) rest (subst (Rises 0) joined rise) in
-      omega (arith, le, end_of-push 0 front range, ap (end_of 0) joined)
+      let le = ranges_end-front 0 (front ++ range ∷ []) rest (subst (Rises 0) joined rise) in
+      omega (arith, le, ranges_end-push 0 front range, ap (ranges_end 0) joined)
 
   kept : (more : List ℕ) → AreVerdictsOf (so_far.bytes ++ more) front so_far.verdicts
   kept more = AreVerdictsOf-more 0 so_far.bytes more front so_far.verdicts rises-front (omega (arith, so_far.long)) so_far.judged
 
-  module _ (last : ByteRange) (stands : last.place + last.size ≡ end_of 0 front) where
+  module _ (last : ByteRange) (stands : last.place + last.size ≡ ranges_end 0 front) where
     -- the scan so far, with some bytes of the range
     abbrev unjudged : (Read : List ℕ → Type 0) (more : List ℕ) → Read (so_far.bytes ++ more) → length (so_far.bytes ++ more) < range.place + range.size
         → ScansFront ranges front Read (Writes x y)
@@ -193,7 +193,7 @@ module _ (ranges front : List ByteRange) (range : ByteRange) (rest : List ByteRa
       scanned_more z wrote next is own_sound same = subst (λ (rs : List ByteRange). IsScanned rs (sound && own_sound) a c x z) (sym is) (record {
         bytes = all;
         read = read-all;
-        long = long-all ∙ sym (end_of-push 0 front range);
+        long = long-all ∙ sym (ranges_end-push 0 front range);
         verdicts = so_far.verdicts ++ verdict ∷ [];
         judged = judged-all;
         wrote = subst (Writes x z) (sym lines-all) (Writes-trans x y z _ _ so_far.wrote wrote);
@@ -210,13 +210,13 @@ module _ (ranges front : List ByteRange) (range : ByteRange) (rest : List ByteRa
           split = joined;
           bytes = all;
           read = read-all;
-          least = omega (arith, long-all, end_of-push 0 front range);
+          least = omega (arith, long-all, ranges_end-push 0 front range);
           most = omega (arith, long-all, ends);
           verdicts = so_far.verdicts ++ verdict ∷ [];
           judged = judged-all;
           wrote = subst (StopsWriting x z) (sym lines-all) (StopsWriting-after x y z _ _ so_far.wrote stops);
         },
-        long-all ∙ sym (end_of-push 0 front range),
+        long-all ∙ sym (ranges_end-push 0 front range),
       )
       line_stops z faults.Memory stops = (
         front,

@@ -30,9 +30,9 @@ Rises from [] = Unit {0}
 Rises from (range ∷ ranges) = (from ≤ range.place) × Rises (range.place + range.size) ranges
 
 -- where the last of the ranges ends; this place where there is none
-abbrev pub end_of : ℕ → List ByteRange → ℕ
-end_of from [] = from
-end_of from (range ∷ ranges) = end_of (range.place + range.size) ranges
+abbrev pub ranges_end : ℕ → List ByteRange → ℕ
+ranges_end from [] = from
+ranges_end from (range ∷ ranges) = ranges_end (range.place + range.size) ranges
 
 -- The text gives these ranges, in order and without overlap.
 pub record AreRanges (text : List ℕ) (ranges : List ByteRange) : Type 0 where
@@ -50,7 +50,7 @@ pub record IsFirstWrong (text : List ℕ) (number : ℕ) : Type 0 where
   pub ranges : List ByteRange
   pub each : AreRangeLines earlier ranges
   pub rise : Rises 0 ranges
-  pub wrong : (range : ByteRange) → IsRangeLine line range → end_of 0 ranges ≤ range.place → ⊥
+  pub wrong : (range : ByteRange) → IsRangeLine line range → ranges_end 0 ranges ≤ range.place → ⊥
   pub counted : number ≡ length earlier + 1
 
 -- why no ranges were read of a text

@@ -7,7 +7,7 @@ use Rattle.ffv1_scan.specs.declared.ranges.ByteRange.{ByteRange}
 use Rattle.ffv1_scan.specs.declared.verdict.Verdict.{Verdict}
 use Rattle.ffv1_scan.specs.declared.scanning.ScanFault.{ScanFault}
 use Rattle.ffv1_scan.specs.declared.scanning.ScanFault.TheVariants as faults
-use Rattle.ffv1_scan.specs.Ranges.{end_of}
+use Rattle.ffv1_scan.specs.Ranges.{ranges_end}
 use Rattle.ffv1_scan.specs.Verdicts.{AreVerdictsOf, is_sound, verdict_lines}
 
 -- The file was read from its start on, no further than to the end of the last range; the ranges of a front were judged in order, and a line
@@ -17,8 +17,8 @@ pub record ScansFront (ranges front : List ByteRange) (Read Wrote : List ℕ →
   pub split : ranges ≡ front ++ rest
   pub bytes : List ℕ
   pub read : Read bytes
-  pub least : end_of 0 front ≤ length bytes
-  pub most : length bytes ≤ end_of 0 ranges
+  pub least : ranges_end 0 front ≤ length bytes
+  pub most : length bytes ≤ ranges_end 0 ranges
   pub verdicts : List Verdict
   pub judged : AreVerdictsOf bytes front verdicts
   pub wrote : Wrote (verdict_lines 1 verdicts)
@@ -40,4 +40,4 @@ ScansRanges ranges (Err faults.Read) old new out_old out_new =
 ScansRanges ranges (Err faults.Memory) old new out_old out_new = (front : List ByteRange)
     × ScansFront ranges front (Reads old new) (Writes out_old out_new)
 ScansRanges ranges (Err faults.Write) old new out_old out_new = (front : List ByteRange)
-    × (scan : ScansFront ranges front (Reads old new) (StopsWriting out_old out_new)) × (length scan.bytes ≡ end_of 0 front)
+    × (scan : ScansFront ranges front (Reads old new) (StopsWriting out_old out_new)) × (length scan.bytes ≡ ranges_end 0 front)

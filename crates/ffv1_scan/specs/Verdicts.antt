@@ -3,7 +3,7 @@ use Rattle.std.specs.Prelude.{ℕ, ◌≡◌, ◌+◌, ◌==◌, ◌++◌, Bool,
 use Rattle.std.specs.Fmt.{decimal}
 use Rattle.ffv1_slice.specs.Bits.{bits_of}
 use Rattle.ffv1_slice.specs.Parity.{remainder_of}
-use Rattle.ffv1_slice.specs.Chain.{Piece, AreLinksOf}
+use Rattle.ffv1_slice.specs.Chain.{LinkValue, AreLinksOf}
 use Rattle.ffv1_slice.specs.Ending.{EndsAs}
 use Rattle.ffv1_slice.specs.declared.chain.ChainEnd.{ChainEnd}
 use Rattle.ffv1_slice.specs.declared.chain.ChainEnd.TheVariants.{Whole, Broken}
@@ -11,15 +11,15 @@ use Rattle.ffv1_scan.specs.declared.ranges.ByteRange.{ByteRange}
 use Rattle.ffv1_scan.specs.declared.verdict.Verdict.{Verdict}
 
 -- whether a link has content before its footer, and passes its parity
-abbrev pub is_intact : Piece → Bool
-is_intact link = nat_lt 8 (length link.bytes) && remainder_of (bits_of link.bytes) == 0
+abbrev pub is_passing : LinkValue → Bool
+is_passing link = nat_lt 8 (length link.bytes) && remainder_of (bits_of link.bytes) == 0
 
 -- How many links the bytes have, how many of these have content and pass their parity, and how their chain ends.
 pub record IsVerdictOf (bytes : List ℕ) (verdict : Verdict) : Type 0 where
-  pub links : List Piece
+  pub links : List LinkValue
   pub are_links : AreLinksOf bytes links
   pub count : verdict.links ≡ length links
-  pub intact : verdict.passing ≡ count_by is_intact links
+  pub passing : verdict.passing ≡ count_by is_passing links
   pub ends : EndsAs bytes verdict.end
 
 -- the bytes of a range of a file

@@ -13,7 +13,7 @@ use ffv1_devices::{
 use std::alloc::{AllocError, Global};
 
 /// So many bytes are passed over in one read.
-const PIECE: usize = 65536;
+const BLOCK: usize = 65536;
 
 /// Why ranges were not scanned to their end.
 #[derive(Clone, Copy, Debug, PartialEq, Eq)]
@@ -109,7 +109,7 @@ fn empty_room(alloc: Global) -> Result<Vec<u8>, ScanFault>
     ensures err { IfErr result (λ fault. fault ≡ ScanFault.Memory) }
 {
     let mut room = Vec::new(alloc);
-    match room.resize(PIECE, 0) {
+    match room.resize(BLOCK, 0) {
         Ok(()) => Ok(room),
         Err(_) => Err(ScanFault::Memory),
     }

@@ -1,6 +1,6 @@
 //! How the bytes of a range stand as a frame payload (RFC 9043, section 4.9).
 ghost use Rattle.std.specs.Prelude.{◌≡◌, [], ◌∷◌, ◌++◌, IfSome, IfNone, OnOk, string_bytes};
-ghost use Rattle.ffv1_scan.specs.Verdicts.{is_intact, IsVerdictOf, is_sound, verdict_line};
+ghost use Rattle.ffv1_scan.specs.Verdicts.{is_passing, IsVerdictOf, is_sound, verdict_line};
 
 use ffv1_slice::{Chain, ChainEnd, FOOTER_LENGTH, Link};
 use std::alloc::AllocError;
@@ -35,7 +35,7 @@ pub fn judge(bytes: &[u8]) -> Verdict
     let mut passing = 0;
     while let Some(link) = next_link(&mut chain) {
         links += 1;
-        if is_intact(&link) {
+        if is_passing(&link) {
             passing += 1;
         }
     }
@@ -55,8 +55,8 @@ fn next_link<'a>(chain: &mut Chain<'a>) -> Option<Link<'a>>
 }
 
 /// Whether a link has content, and passes its parity.
-fn is_intact(link: &Link<'_>) -> bool
-    ensures { result ≡ is_intact link.now }
+fn is_passing(link: &Link<'_>) -> bool
+    ensures { result ≡ is_passing link.now }
 {
     link.bytes().len() > FOOTER_LENGTH && link.passes()
 }

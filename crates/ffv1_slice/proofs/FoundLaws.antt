@@ -4,7 +4,7 @@ use Rattle.std.specs.Prelude.{◌==◌, Contains, slice_range}
 use Rattle.std.specs.List.{AllByRecursion, filter_map, cons_option, flat_map}
 use Rattle.std.proofs.lemmas.List.{take_all, get_or_default}
 use Rattle.ffv1_range.specs.Setup.{SetupValue}
-use Rattle.ffv1_slice.specs.Chain.{size_before, IsCut, IsLinkOf, Piece, piece_of}
+use Rattle.ffv1_slice.specs.Chain.{size_before, IsCut, IsLinkOf, LinkValue, link_of}
 use Rattle.ffv1_slice.specs.Walk.{links_of}
 use Rattle.ffv1_slice.specs.Slices.{IsSliceOf, IsFoundIn, IsOriginal, slice_read, with_tile, slice_at, found_slices, FoundSlicesAreFound, OriginalIsFound}
 use Rattle.ffv1_slice.specs.declared.slice.LinkFault.{LinkFault}
@@ -60,15 +60,15 @@ with_tile_is : (bytes : List ℕ) (r : Result ℕ LinkFault) (tile : ℕ) (slice
 with_tile_is bytes (Ok t) tile slice h = let same : ◌≡◌ {A = ℕ × List ℕ} (t, bytes) (tile, slice) = cc in (ap (λ z. Ok z.0) same, sym (ap (λ z. z.1) same))
 with_tile_is bytes (Err e) tile slice h = absurd cc
 
-IsLinkPiece : List ℕ → Piece → Type 0
-IsLinkPiece payload piece = (q : ℕ) × IsLinkOf payload piece.start q × (piece ≡ piece_of payload piece.start q)
+IsLinkOfPayload : List ℕ → LinkValue → Type 0
+IsLinkOfPayload payload link = (q : ℕ) × IsLinkOf payload link.start q × (link ≡ link_of payload link.start q)
 
 pub found_from : (setup : SetupValue) (payload : List ℕ) (tile : ℕ) (slice : List ℕ) → Contains (found_slices setup payload) (tile, slice)
     → IsFoundIn setup payload tile slice
-unfolding found_slices IsLinkPiece
+unfolding found_slices IsLinkOfPayload
 found_from setup payload tile slice h =
     let kept = kept_from (slice_at setup) (links_of payload) h.0 (tile, slice) h.1 h.2 in
-    let link : IsLinkPiece payload kept.from = all_of (λ piece. (q : ℕ) × IsLinkOf payload piece.start q × (piece ≡ piece_of payload piece.start q))
+    let link : IsLinkOfPayload payload kept.from = all_of (λ link. (q : ℕ) × IsLinkOf payload link.start q × (link ≡ link_of payload link.start q))
     (links_of payload) kept.there.0 kept.from (are_links payload).only kept.there.1 kept.there.2 in
     let parts = with_tile_is kept.from.bytes (slice_read setup kept.from.bytes (kept.from.start == 0)) tile slice kept.gives in
     record {
@@ -86,7 +86,7 @@ unfolding found_slices
 found_to setup payload tile slice h =
     let whole : IsSliceOf setup (slice_range payload h.start h.end) (h.start == 0) tile =
     subst (λ z. IsSliceOf setup z (h.start == 0) tile) h.bytes h.is_slice in
-    Contains-filter_map (slice_at setup) (links_of payload) (piece_of payload h.start h.end) (tile, slice) ((are_links payload).all h.start h.end h.link)
+    Contains-filter_map (slice_at setup) (links_of payload) (link_of payload h.start h.end) (tile, slice) ((are_links payload).all h.start h.end h.link)
     (ap (with_tile (slice_range payload h.start h.end)) (slice_run setup (slice_range payload h.start h.end) (h.start == 0) tile whole)
     ∙ ap (λ z. Some (tile, z)) (sym h.bytes))
 

@@ -5,7 +5,7 @@ use Rattle.std.specs.List.{All, AllByRecursion, AllPairs, Contains}
 use Rattle.std.proofs.lemmas.List.Elements.{All-cons, All-nil, All-weaker}
 use Rattle.std.proofs.lemmas.List.Kept.{AllPairs-cons}
 use Rattle.std.proofs.lemmas.Bool.{cond-true, cond_both, le-leb, leb-true, cases_lt}
-use Rattle.ffv1_slice.specs.Chain.{size_before, IsCut, IsEnd, IsLinkOf, Piece, piece_of, AreLinksOf}
+use Rattle.ffv1_slice.specs.Chain.{size_before, IsCut, IsEnd, IsLinkOf, LinkValue, link_of, AreLinksOf}
 use Rattle.ffv1_slice.specs.Chain.IsEnd.{last, before}
 use Rattle.ffv1_slice.specs.Walk.{walked, Walk, walk_at}
 
@@ -33,19 +33,19 @@ to_end c top e h (more {q = q} r cut) = before (to_end c top q h r) cut
 
 -- ---- the walk, step by step
 
-pub walked-more : (c : List ℕ) (n t q : ℕ) → IsCut c t q → walked (suc n) c q ≡ piece_of c t q ∷ walked n c t
+pub walked-more : (c : List ℕ) (n t q : ℕ) → IsCut c t q → walked (suc n) c q ≡ link_of c t q ∷ walked n c t
 unfolding walked
 walked-more c n t q cut =
     let start : q - (size_before c q + 8) ≡ t = omega arith in
-    cond-true (leb (size_before c q + 8) q) (piece_of c (q - (size_before c q + 8)) q ∷ walked n c (q - (size_before c q + 8))) []
+    cond-true (leb (size_before c q + 8) q) (link_of c (q - (size_before c q + 8)) q ∷ walked n c (q - (size_before c q + 8))) []
     (le-leb (size_before c q + 8) q (omega arith))
-    ∙ ap (λ x. piece_of c x q ∷ walked n c x) start
+    ∙ ap (λ x. link_of c x q ∷ walked n c x) start
 
 pub walked-none : (c : List ℕ) (n q : ℕ) → ((p : ℕ) → IsCut c p q → ⊥) → walked n c q ≡ []
 unfolding walked
 walked-none c zero q h = refl
 walked-none c (suc n) q h =
-    cond_both (leb (size_before c q + 8) q) (piece_of c (q - (size_before c q + 8)) q ∷ walked n c (q - (size_before c q + 8))) [] (λ x. x ≡ [])
+    cond_both (leb (size_before c q + 8) q) (link_of c (q - (size_before c q + 8)) q ∷ walked n c (q - (size_before c q + 8))) [] (λ x. x ≡ [])
     (λ t. let fits : size_before c q + 8 ≤ q = leb-true (size_before c q + 8) q t in absurd (h (q - (size_before c q + 8)) (omega arith)))
     (λ f. refl)
 
@@ -63,7 +63,7 @@ walked-fuel c (suc n) zero q h k = walked-none c (suc n) q (λ p cut. omega arit
 walked-fuel c (suc n) (suc m) q h k =
     elim (cut_or_none c q) [
       | inl w ↦ walked-more c n w.0 q w.1
-          ∙ ap (λ x. piece_of c w.0 q ∷ x) (walked-fuel c n m w.0 (let cut : IsCut c w.0 q = w.1 in omega arith) (let cut : IsCut c w.0 q = w.1 in omega arith))
+          ∙ ap (λ x. link_of c w.0 q ∷ x) (walked-fuel c n m w.0 (let cut : IsCut c w.0 q = w.1 in omega arith) (let cut : IsCut c w.0 q = w.1 in omega arith))
           ∙ sym (walked-more c m w.0 q w.1)
       | inr none ↦ walked-none c (suc n) q none ∙ sym (walked-none c (suc m) q none)
     ]
@@ -76,48 +76,48 @@ Contains-head x xs = (0, omega arith, refl)
 pub Contains-cons : {X : Type 0} (y x : X) (xs : List X) → Contains xs x → Contains (y ∷ xs) x
 Contains-cons y x xs h = (suc h.0, (let l : h.0 < length xs = h.1 in omega arith), h.2)
 
-found : (c : List ℕ) (n top p q : ℕ) → top ≤ n → EndsFrom c top q → IsCut c p q → Contains (walked n c top) (piece_of c p q)
+found : (c : List ℕ) (n top p q : ℕ) → top ≤ n → EndsFrom c top q → IsCut c p q → Contains (walked n c top) (link_of c p q)
 found c zero top p q h r cut =
     elim (front c top q r) [ inl same ↦ absurd (omega arith) | inr w ↦ absurd (let step : IsCut c w.0 top = w.1 in omega arith) ]
 found c (suc n) top p q h r cut =
     elim (front c top q r) [
-      | inl same ↦ subst (λ x. Contains (walked (suc n) c x) (piece_of c p q)) same
-          (subst (λ xs. Contains xs (piece_of c p q)) (sym (walked-more c n p q cut)) (Contains-head (piece_of c p q) (walked n c p)))
-      | inr w ↦ subst (λ xs. Contains xs (piece_of c p q)) (sym (walked-more c n w.0 top w.1))
-          (Contains-cons (piece_of c w.0 top) (piece_of c p q) (walked n c w.0) (found c n w.0 p q (let step : IsCut c w.0 top = w.1 in omega arith) w.2 cut))
+      | inl same ↦ subst (λ x. Contains (walked (suc n) c x) (link_of c p q)) same
+          (subst (λ xs. Contains xs (link_of c p q)) (sym (walked-more c n p q cut)) (Contains-head (link_of c p q) (walked n c p)))
+      | inr w ↦ subst (λ xs. Contains xs (link_of c p q)) (sym (walked-more c n w.0 top w.1))
+          (Contains-cons (link_of c w.0 top) (link_of c p q) (walked n c w.0) (found c n w.0 p q (let step : IsCut c w.0 top = w.1 in omega arith) w.2 cut))
     ]
 
 -- ---- nothing else is there
 
-IsLinkPiece : List ℕ → Piece → Type 0
-IsLinkPiece c piece = (q : ℕ) × IsLinkOf c piece.start q × (piece ≡ piece_of c piece.start q)
+IsLinkOfPayload : List ℕ → LinkValue → Type 0
+IsLinkOfPayload c link = (q : ℕ) × IsLinkOf c link.start q × (link ≡ link_of c link.start q)
 
-only_links : (c : List ℕ) (n top : ℕ) → IsEnd c top → AllByRecursion (λ piece. (q : ℕ) × IsLinkOf c piece.start q × (piece ≡ piece_of c piece.start q))
+only_links : (c : List ℕ) (n top : ℕ) → IsEnd c top → AllByRecursion (λ link. (q : ℕ) × IsLinkOf c link.start q × (link ≡ link_of c link.start q))
     (walked n c top)
 unfolding walked
 only_links c zero top h = tt
 only_links c (suc n) top h =
     elim (cut_or_none c top) [
-      | inl w ↦ subst (AllByRecursion (λ piece. (q : ℕ) × IsLinkOf c piece.start q × (piece ≡ piece_of c piece.start q))) (sym (walked-more c n w.0 top w.1))
+      | inl w ↦ subst (AllByRecursion (λ link. (q : ℕ) × IsLinkOf c link.start q × (link ≡ link_of c link.start q))) (sym (walked-more c n w.0 top w.1))
           ((top, record { is_end = h; cut = w.1 }, refl), only_links c n w.0 (before h w.1))
-      | inr none ↦ subst (AllByRecursion (λ piece. (q : ℕ) × IsLinkOf c piece.start q × (piece ≡ piece_of c piece.start q)))
+      | inr none ↦ subst (AllByRecursion (λ link. (q : ℕ) × IsLinkOf c link.start q × (link ≡ link_of c link.start q)))
           (sym (walked-none c (suc n) top none)) tt
     ]
 
 -- ---- the starts fall
 
-all_below : (c : List ℕ) (n top : ℕ) → All (λ piece. piece.start < top) (walked n c top)
+all_below : (c : List ℕ) (n top : ℕ) → All (λ link. link.start < top) (walked n c top)
 unfolding walked
-all_below c zero top = All-nil (λ piece. piece.start < top)
+all_below c zero top = All-nil (λ link. link.start < top)
 all_below c (suc n) top =
     elim (cut_or_none c top) [
       | inl w ↦
           let cut : IsCut c w.0 top = w.1 in
           let below : w.0 < top = omega arith in
-          subst (All (λ piece. piece.start < top)) (sym (walked-more c n w.0 top w.1))
-          (All-cons (λ piece. piece.start < top) (piece_of c w.0 top) (walked n c w.0) below
-          (All-weaker (λ piece. piece.start < w.0) (λ piece. piece.start < top) (λ x h. omega arith) (walked n c w.0) (all_below c n w.0)))
-      | inr none ↦ subst (All (λ piece. piece.start < top)) (sym (walked-none c (suc n) top none)) (All-nil (λ piece. piece.start < top))
+          subst (All (λ link. link.start < top)) (sym (walked-more c n w.0 top w.1))
+          (All-cons (λ link. link.start < top) (link_of c w.0 top) (walked n c w.0) below
+          (All-weaker (λ link. link.start < w.0) (λ link. link.start < top) (λ x h. omega arith) (walked n c w.0) (all_below c n w.0)))
+      | inr none ↦ subst (All (λ link. link.start < top)) (sym (walked-none c (suc n) top none)) (All-nil (λ link. link.start < top))
     ]
 
 falling : (c : List ℕ) (n top : ℕ) → AllPairs (λ a b. b.start < a.start) (walked n c top)
@@ -126,7 +126,7 @@ falling c zero top = λ i j d h k. absurd (omega arith)
 falling c (suc n) top =
     elim (cut_or_none c top) [
       | inl w ↦ subst (AllPairs (λ a b. b.start < a.start)) (sym (walked-more c n w.0 top w.1))
-          (AllPairs-cons (λ a b. b.start < a.start) (piece_of c w.0 top) (walked n c w.0) (all_below c n w.0) (falling c n w.0))
+          (AllPairs-cons (λ a b. b.start < a.start) (link_of c w.0 top) (walked n c w.0) (all_below c n w.0) (falling c n w.0))
       | inr none ↦ subst (AllPairs (λ a b. b.start < a.start)) (sym (walked-none c (suc n) top none)) (λ i j d h k. absurd (omega arith))
     ]
 
@@ -174,10 +174,10 @@ least_end c q h none e k = least c (length c) q (from_end c q h) none e (from_en
 pub turn_none : (w : Walk) (c : List ℕ) (q : ℕ) → walk_at c q ≡ w → ((p : ℕ) → IsCut c p q → ⊥) → w.left ≡ []
 turn_none w c q view none = sym (ap (λ x. x.left) view) ∙ walked-none c q q none
 
-pub turn_some : (w : Walk) (c : List ℕ) (t q : ℕ) → walk_at c q ≡ w → IsCut c t q → w.left ≡ piece_of c t q ∷ walked t c t
+pub turn_some : (w : Walk) (c : List ℕ) (t q : ℕ) → walk_at c q ≡ w → IsCut c t q → w.left ≡ link_of c t q ∷ walked t c t
 turn_some w c t q view cut =
     sym (ap (λ x. x.left) view) ∙ walked-fuel c q (suc q) q (omega arith) (omega arith) ∙ walked-more c q t q cut
-    ∙ ap (λ x. piece_of c t q ∷ x) (walked-fuel c q t t (omega arith) (omega arith))
+    ∙ ap (λ x. link_of c t q ∷ x) (walked-fuel c q t t (omega arith) (omega arith))
 
 pub ends : (w : Walk) (c : List ℕ) (at q : ℕ) → walk_at c at ≡ w → IsEnd c q → ((p : ℕ) → IsCut c p q → ⊥) → 0 < q
     → (IsEnd w.payload 0 → ⊥) × IsEnd w.payload q × ((p : ℕ) → IsEnd w.payload p → q ≤ p)

@@ -9,7 +9,7 @@ use Rattle.ffv1_bits.proofs.Bytes.{AreBytes-range}
 use Rattle.ffv1_range.specs.Setup.{SetupValue}
 use Rattle.ffv1_slice.specs.Chain.{size_before}
 use Rattle.ffv1_slice.specs.Slices.{IsSliceOf, IsFoundIn}
-use Rattle.ffv1_slice.specs.Near.{starts_at, piece_at, size_field, IsNear, IsIntactIn, NearFound}
+use Rattle.ffv1_slice.specs.Near.{starts_at, version_at, size_field, IsNear, IsIntactIn, NearFound}
 use Rattle.ffv1_slice.proofs.Places.{size_in, starts_next, IsCutAt}
 use Rattle.ffv1_slice.proofs.FoundLaws.{bytes_of_tile, original_cut, found_at, own_tile, found_there}
 
@@ -30,9 +30,9 @@ size_field-size slice long =
     big_number_front (a ∷ b ∷ c ∷ xs) = refl
 
 -- bytes with the same size field give the same size
-pub same_size_field : (slice piece : List ℕ) → 8 ≤ length slice → 8 ≤ length piece → size_field piece ≡ size_field slice
-    → size_before piece (length piece) ≡ size_before slice (length slice)
-same_size_field slice piece long other same = size_field-size piece other ∙ ap (big_number 3) same ∙ sym (size_field-size slice long)
+pub same_size_field : (slice link : List ℕ) → 8 ≤ length slice → 8 ≤ length link → size_field link ≡ size_field slice
+    → size_before link (length link) ≡ size_before slice (length slice)
+same_size_field slice link long other same = size_field-size link other ∙ ap (big_number 3) same ∙ sym (size_field-size slice long)
 
 -- ---- bytes where they stand
 
@@ -50,7 +50,7 @@ around_range xs p q low =
 -- the footer that ends at q is that of the bytes that end there
 pub size_of_range : (xs : List ℕ) (p q : ℕ) → p + 8 ≤ q → q ≤ length xs → size_before xs q ≡ size_before (slice_range xs p q) (length (slice_range xs p q))
 size_of_range xs p q low high =
-    let piece = slice_range xs p q in
+    let link = slice_range xs p q in
     let size : length (slice_range xs p q) ≡ q - p = length-range xs p q (omega arith) high in
     let front : length (take p xs) ≡ p = length-take-le p xs (omega arith) in
     let end : length (take p xs) + length (slice_range xs p q) ≡ q = omega arith in
@@ -84,17 +84,17 @@ module _ (setup : SetupValue) (original : List ℕ) (slices : List (List ℕ)) (
       let same : length copy ≡ length original = near.same_length in
       omega arith
 
-  piece_length : (k : ℕ) → k < length slices → length (piece_at slices copy k) ≡ length (get_or slices k [])
-  piece_length k lt = length-range copy (starts_at slices k) (starts_at slices (k + 1)) (omega (arith, next k lt)) (inside k lt) ∙ omega (arith, next k lt)
+  link_length : (k : ℕ) → k < length slices → length (version_at slices copy k) ≡ length (get_or slices k [])
+  link_length k lt = length-range copy (starts_at slices k) (starts_at slices (k + 1)) (omega (arith, next k lt)) (inside k lt) ∙ omega (arith, next k lt)
 
   -- its size field is the slice's
-  piece_size : (k : ℕ) → k < length slices → size_before (piece_at slices copy k) (length (piece_at slices copy k)) ≡ length (get_or slices k []) - 8
-  piece_size k lt =
+  link_size : (k : ℕ) → k < length slices → size_before (version_at slices copy k) (length (version_at slices copy k)) ≡ length (get_or slices k []) - 8
+  link_size k lt =
       elim (near.each k [] lt) [
         | inl same ↦ ap (λ z. size_before z (length z)) same ∙ (own k lt).framed.size
         | inr hurt ↦
             let long : 8 ≤ length (get_or slices k []) = cut.long k lt in
-            same_size_field (get_or slices k []) (piece_at slices copy k) long (omega (arith, piece_length k lt)) hurt.size ∙ (own k lt).framed.size
+            same_size_field (get_or slices k []) (version_at slices copy k) long (omega (arith, link_length k lt)) hurt.size ∙ (own k lt).framed.size
       ]
 
   -- so the copy is cut as the original is
@@ -105,19 +105,19 @@ module _ (setup : SetupValue) (original : List ℕ) (slices : List (List ℕ)) (
     cut = λ k lt.
         let long : 8 ≤ length (get_or slices k []) = cut.long k lt in
         let ends = next k lt in
-        let size = size_of_range copy (starts_at slices k) (starts_at slices (k + 1)) (omega arith) (inside k lt) ∙ piece_size k lt in
+        let size = size_of_range copy (starts_at slices k) (starts_at slices (k + 1)) (omega arith) (inside k lt) ∙ link_size k lt in
         omega arith;
   }
 
   -- what stands at a slice's places and passes its parity, as the original's slice does, is intact
-  intact : (k : ℕ) → k < length slices → PassesParity (piece_at slices copy k) → piece_at slices copy k ≡ get_or slices k []
+  intact : (k : ℕ) → k < length slices → PassesParity (version_at slices copy k) → version_at slices copy k ≡ get_or slices k []
   intact k lt passes =
       elim (near.each k [] lt) [
         | inl same ↦ same
         | inr hurt ↦
             let slice_bytes : AreBytes (get_or slices k []) = subst AreBytes (bytes_of_tile setup original slices near.is_original k lt)
             (AreBytes-range original (starts_at slices k) (starts_at slices (k + 1)) near.original_bytes) in
-            sym (burst (get_or slices k []) (piece_at slices copy k) hurt.at slice_bytes
+            sym (burst (get_or slices k []) (version_at slices copy k) hurt.at slice_bytes
             (AreBytes-range copy (starts_at slices k) (starts_at slices (k + 1)) near.copy_bytes) hurt.differ (own k lt).passes passes)
       ]
 
@@ -127,7 +127,7 @@ module _ (setup : SetupValue) (original : List ℕ) (slices : List (List ℕ)) (
       let at = found_at setup original copy slices near.is_original copy_cut tile slice h in
       let whole = intact at.0 at.1 (subst PassesParity at.2 at.3.passes) in
       let mine = own_tile setup original copy slices near.is_original copy_cut at.0 tile slice at.1 (at.2 ∙ whole) at.3 in
-      (subst (λ z. z < length slices) (sym mine.0) at.1, mine.1, ap (piece_at slices copy) mine.0 ∙ sym at.2)
+      (subst (λ z. z < length slices) (sym mine.0) at.1, mine.1, ap (version_at slices copy) mine.0 ∙ sym at.2)
 
   near_to : (tile : ℕ) (slice : List ℕ) → (tile < length slices) × (slice ≡ get_or slices tile slice) × IsIntactIn slices copy tile slice
       → IsFoundIn setup copy tile slice

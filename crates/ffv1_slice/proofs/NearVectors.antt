@@ -11,7 +11,7 @@ use Rattle.ffv1_range.specs.Coding.{bit_at, slot_at, start_of}
 use Rattle.ffv1_range.specs.HeaderForms.{symbols_onto}
 use Rattle.ffv1_range.specs.Reading.{symbol_form, exponent_form, low_form}
 use Rattle.ffv1_slice.specs.Slices.{IsSliceOf, IsFoundIn, IsOriginal, slice_read}
-use Rattle.ffv1_slice.specs.Near.{starts_at, piece_at, IsHurtWithin32, IsNear, IsIntactIn}
+use Rattle.ffv1_slice.specs.Near.{starts_at, version_at, IsHurtWithin32, IsNear, IsIntactIn}
 use Rattle.ffv1_slice.proofs.SliceLaws.{slice_found}
 use Rattle.ffv1_slice.proofs.NearLaws.{near_found}
 
@@ -109,13 +109,13 @@ is_original = record { count = refl; joined = refl; short = omega arith; each = 
 
 -- a copy of the frame's length, from each of its two slices
 near_by : (copy : List ℕ) → AreBytes copy → length copy ≡ length frame
-    → (piece_at slices copy 0 ≡ first_slice) ⊎ IsHurtWithin32 first_slice (piece_at slices copy 0)
-    → (piece_at slices copy 1 ≡ second_slice) ⊎ IsHurtWithin32 second_slice (piece_at slices copy 1) → IsNear setup frame slices copy
+    → (version_at slices copy 0 ≡ first_slice) ⊎ IsHurtWithin32 first_slice (version_at slices copy 0)
+    → (version_at slices copy 1 ≡ second_slice) ⊎ IsHurtWithin32 second_slice (version_at slices copy 1) → IsNear setup frame slices copy
 near_by copy bytes size first second =
     record { is_original = is_original; original_bytes = bytes_from frame refl; copy_bytes = bytes; same_length = size; each = each }
   where
-    each : (tile : ℕ) (d : List ℕ) → tile < 2 → (piece_at slices copy tile ≡ get_or slices tile d)
-        ⊎ IsHurtWithin32 (get_or slices tile d) (piece_at slices copy tile)
+    each : (tile : ℕ) (d : List ℕ) → tile < 2 → (version_at slices copy tile ≡ get_or slices tile d)
+        ⊎ IsHurtWithin32 (get_or slices tile d) (version_at slices copy tile)
     each zero d lt = first
     each (suc zero) d lt = second
     each (suc (suc tile)) d lt = absurd (omega arith)

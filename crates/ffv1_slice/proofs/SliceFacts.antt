@@ -5,7 +5,7 @@ use Rattle.std.specs.List.{filter_map}
 use Rattle.std.proofs.lemmas.Bool.{eq-eqb, ne_eqb}
 use Rattle.ffv1_range.specs.Setup.{SetupValue}
 use Rattle.ffv1_range.proofs.TileLaws.{number_below}
-use Rattle.ffv1_slice.specs.Chain.{Piece}
+use Rattle.ffv1_slice.specs.Chain.{LinkValue}
 use Rattle.ffv1_slice.specs.Walk.{links_of}
 use Rattle.ffv1_slice.specs.Slices.{IsSliceOf, slice_read, with_tile, slice_at, found_slices}
 use Rattle.ffv1_slice.proofs.SliceLaws.{slice_found, slice_run}
@@ -26,15 +26,15 @@ slice_first setup bytes false tile is =
     sym (ne_eqb tile 0 (λ zero. let e : false ≡ true = is.is_head.first_tile.1 (is.of_tile ∙ zero) in cc))
 
 -- what is a slice is found
-pub slice_at-found : (setup : SetupValue) (piece : Piece) (tile : ℕ) → IsSliceOf setup piece.bytes (piece.start == 0) tile
-    → slice_at setup piece ≡ Some (tile, piece.bytes)
-slice_at-found setup piece tile is = ap (with_tile piece.bytes) (slice_run setup piece.bytes (piece.start == 0) tile is)
+pub slice_at-found : (setup : SetupValue) (link : LinkValue) (tile : ℕ) → IsSliceOf setup link.bytes (link.start == 0) tile
+    → slice_at setup link ≡ Some (tile, link.bytes)
+slice_at-found setup link tile is = ap (with_tile link.bytes) (slice_run setup link.bytes (link.start == 0) tile is)
 
 -- what is none is not found
-pub slice_at-none : (setup : SetupValue) (piece : Piece) → ((tile : ℕ) → IsSliceOf setup piece.bytes (piece.start == 0) tile → ⊥) → slice_at setup piece ≡ None
-slice_at-none setup piece none =
-    elim (slice_read setup piece.bytes (piece.start == 0)) as (λ r. slice_read setup piece.bytes (piece.start == 0) ≡ r → with_tile piece.bytes r ≡ None)
-    [ Ok tile ↦ λ e. absurd (none tile (slice_found setup piece.bytes (piece.start == 0) tile e)) | Err fault ↦ λ e. refl ] refl
+pub slice_at-none : (setup : SetupValue) (link : LinkValue) → ((tile : ℕ) → IsSliceOf setup link.bytes (link.start == 0) tile → ⊥) → slice_at setup link ≡ None
+slice_at-none setup link none =
+    elim (slice_read setup link.bytes (link.start == 0)) as (λ r. slice_read setup link.bytes (link.start == 0) ≡ r → with_tile link.bytes r ≡ None)
+    [ Ok tile ↦ λ e. absurd (none tile (slice_found setup link.bytes (link.start == 0) tile e)) | Err fault ↦ λ e. refl ] refl
 
 -- the found slices are those of the links, in their order
 pub found_slices-links : (setup : SetupValue) (payload : List ℕ) → found_slices setup payload ≡ filter_map (slice_at setup) (links_of payload)

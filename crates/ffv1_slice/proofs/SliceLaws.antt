@@ -10,13 +10,13 @@ use Rattle.ffv1_range.specs.declared.head.SliceHead.{SliceHead}
 use Rattle.ffv1_range.specs.declared.head.HeadFault.{HeadFault}
 use Rattle.ffv1_range.proofs.HeaderFound.{head_found, head_run}
 use Rattle.ffv1_slice.specs.Chain.{size_before, IsFramed}
-use Rattle.ffv1_slice.specs.Slices.{IsSliceOf, content_of, tile_of_head, is_whole, slice_read}
+use Rattle.ffv1_slice.specs.Slices.{IsSliceOf, content_of, tile_of_head, is_passing_slice, slice_read}
 use Rattle.ffv1_slice.specs.declared.slice.LinkFault.{LinkFault}
 use Rattle.ffv1_slice.specs.declared.slice.LinkFault.TheVariants.{Parity}
 
 -- ---- framed, with a right parity
 
-whole_parts : (slice : List ℕ) → is_whole slice ≡ true → IsFramed slice × PassesParity slice
+whole_parts : (slice : List ℕ) → is_passing_slice slice ≡ true → IsFramed slice × PassesParity slice
 whole_parts slice h =
     let long = and_parts (nat_le 8 (length slice)) ((size_before slice (length slice) == length slice - 8) && (remainder_of (bits_of slice) == 0)) h in
     let sized = and_parts (size_before slice (length slice) == length slice - 8) (remainder_of (bits_of slice) == 0) long.1 in
@@ -25,7 +25,7 @@ whole_parts slice h =
       (room, eqb-true (remainder_of (bits_of slice)) 0 sized.1),
     )
 
-whole_from : (slice : List ℕ) → IsFramed slice → PassesParity slice → is_whole slice ≡ true
+whole_from : (slice : List ℕ) → IsFramed slice → PassesParity slice → is_passing_slice slice ≡ true
 whole_from slice framed passes =
     and_from (nat_le 8 (length slice)) ((size_before slice (length slice) == length slice - 8) && (remainder_of (bits_of slice) == 0))
     (le-leb 8 (length slice) framed.footer)
@@ -53,7 +53,7 @@ tile_head (Err fault) tile h = absurd cc
 pub slice_found : (setup : SetupValue) (slice : List ℕ) (first : Bool) (tile : ℕ) → slice_read setup slice first ≡ Ok tile → IsSliceOf setup slice first tile
 unfolding slice_read
 slice_found setup slice first tile h =
-    let whole = if_whole (is_whole slice) (tile_of_head (head_read (header_limits setup) (content_of slice) first)) tile h in
+    let whole = if_whole (is_passing_slice slice) (tile_of_head (head_read (header_limits setup) (content_of slice) first)) tile h in
     let parts = whole_parts slice whole.0 in
     let head = tile_head (head_read (header_limits setup) (content_of slice) first) tile whole.1 in
     record {
@@ -70,13 +70,13 @@ pub slice_read-whole : (setup : SetupValue) (slice : List ℕ) (first : Bool) �
     → slice_read setup slice first ≡ tile_of_head (head_read (header_limits setup) (content_of slice) first)
 unfolding slice_read
 slice_read-whole setup slice first framed passes =
-    if_true (is_whole slice) (tile_of_head (head_read (header_limits setup) (content_of slice) first)) (Err Parity) (whole_from slice framed passes)
+    if_true (is_passing_slice slice) (tile_of_head (head_read (header_limits setup) (content_of slice) first)) (Err Parity) (whole_from slice framed passes)
 
 -- what fails its parity is refused for that
 pub slice_read-fails : (setup : SetupValue) (slice : List ℕ) (first : Bool) → (PassesParity slice → ⊥) → slice_read setup slice first ≡ Err Parity
 unfolding slice_read
 slice_read-fails setup slice first fails =
-    elim (is_whole slice) as (λ b. is_whole slice ≡ b → (if b then tile_of_head (head_read (header_limits setup) (content_of slice) first) else Err Parity)
+    elim (is_passing_slice slice) as (λ b. is_passing_slice slice ≡ b → (if b then tile_of_head (head_read (header_limits setup) (content_of slice) first) else Err Parity)
     ≡ Err Parity)
     [ true ↦ λ e. absurd (fails (whole_parts slice e).1) | false ↦ λ e. refl ] refl
 

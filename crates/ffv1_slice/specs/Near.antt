@@ -10,18 +10,18 @@ unfoldable pub starts_at : List (List ℕ) → ℕ → ℕ
 starts_at slices tile = length (flat_map (λ slice. slice) (take tile slices))
 
 -- what stands in a copy at the places of a tile's slice
-abbrev pub piece_at : List (List ℕ) → List ℕ → ℕ → List ℕ
-piece_at slices copy tile = slice_range copy (starts_at slices tile) (starts_at slices (tile + 1))
+abbrev pub version_at : List (List ℕ) → List ℕ → ℕ → List ℕ
+version_at slices copy tile = slice_range copy (starts_at slices tile) (starts_at slices (tile + 1))
 
 -- the three bytes of the footer that give a slice's size (RFC 9043, section 4.9.1)
 abbrev pub size_field : List ℕ → List ℕ
 size_field slice = slice_range slice (length slice - 8) (length slice - 5)
 
 -- Bytes differ from a slice only within 32 consecutive bits, and not in the size field.
-pub record IsHurtWithin32 (slice piece : List ℕ) : Type 0 where
+pub record IsHurtWithin32 (slice link : List ℕ) : Type 0 where
   pub at : ℕ
-  pub differ : DifferWithin32 slice piece at
-  pub size : size_field piece ≡ size_field slice
+  pub differ : DifferWithin32 slice link at
+  pub size : size_field link ≡ size_field slice
 
 -- A copy of an original: it has the original's length, and at each slice's places it is equal to the slice, or hurt within 32 bits.
 pub record IsNear (setup : SetupValue) (original : List ℕ) (slices : List (List ℕ)) (copy : List ℕ) : Type 0 where
@@ -30,11 +30,11 @@ pub record IsNear (setup : SetupValue) (original : List ℕ) (slices : List (Lis
   pub copy_bytes : AreBytes copy
   pub same_length : length copy ≡ length original
   pub each : (tile : ℕ) (d : List ℕ) → tile < length slices
-      → (piece_at slices copy tile ≡ slice_index_or slices tile d) ⊎ IsHurtWithin32 (slice_index_or slices tile d) (piece_at slices copy tile)
+      → (version_at slices copy tile ≡ slice_index_or slices tile d) ⊎ IsHurtWithin32 (slice_index_or slices tile d) (version_at slices copy tile)
 
 -- A tile's slice is intact in a copy: it stands there at its places.
 abbrev pub IsIntactIn : List (List ℕ) → List ℕ → ℕ → List ℕ → Type 0
-IsIntactIn slices copy tile slice = piece_at slices copy tile ≡ slice
+IsIntactIn slices copy tile slice = version_at slices copy tile ≡ slice
 
 -- ---- laws
 

@@ -8,7 +8,7 @@ use Rattle.ffv1_range.specs.Setup.{SetupValue}
 use Rattle.ffv1_range.specs.Header.{IsHeadOf, header_limits, head_read}
 use Rattle.ffv1_range.specs.declared.head.SliceHead.{SliceHead}
 use Rattle.ffv1_range.specs.declared.head.HeadFault.{HeadFault}
-use Rattle.ffv1_slice.specs.Chain.{size_before, IsFramed, IsLinkOf, Piece}
+use Rattle.ffv1_slice.specs.Chain.{size_before, IsFramed, IsLinkOf, LinkValue}
 use Rattle.ffv1_slice.specs.Walk.{links_of}
 use Rattle.ffv1_slice.specs.declared.slice.LinkFault.{LinkFault}
 use Rattle.ffv1_slice.specs.declared.slice.LinkFault.TheVariants.{Parity, Head}
@@ -50,13 +50,13 @@ tile_of_head (Ok read) = Ok read.0.tile
 tile_of_head (Err fault) = Err (Head fault)
 
 -- whether bytes have their footer, and nothing is left of them
-abbrev pub is_whole : List ℕ → Bool
-is_whole slice = nat_le 8 (length slice) && ((size_before slice (length slice) == length slice - 8) && (remainder_of (bits_of slice) == 0))
+abbrev pub is_passing_slice : List ℕ → Bool
+is_passing_slice slice = nat_le 8 (length slice) && ((size_before slice (length slice) == length slice - 8) && (remainder_of (bits_of slice) == 0))
 
 -- the tile of which bytes are a slice, or the first fault
 unfoldable pub slice_read : SetupValue → List ℕ → Bool → Result ℕ LinkFault
 slice_read setup slice first =
-    if is_whole slice then tile_of_head (head_read (header_limits setup) (content_of slice) first) else Err Parity
+    if is_passing_slice slice then tile_of_head (head_read (header_limits setup) (content_of slice) first) else Err Parity
 
 -- a tile and its slice, where there is one
 abbrev pub with_tile : List ℕ → Result ℕ LinkFault → Option (ℕ × List ℕ)
@@ -64,7 +64,7 @@ with_tile slice (Ok tile) = Some (tile, slice)
 with_tile slice (Err fault) = None
 
 -- the tile of a link, with its bytes
-abbrev pub slice_at : SetupValue → Piece → Option (ℕ × List ℕ)
+abbrev pub slice_at : SetupValue → LinkValue → Option (ℕ × List ℕ)
 slice_at setup link = with_tile link.bytes (slice_read setup link.bytes (link.start == 0))
 
 -- the slices of a payload with their tiles, from its end

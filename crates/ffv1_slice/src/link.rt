@@ -3,7 +3,7 @@
 ghost use Rattle.std.specs.Prelude.{◌≡◌, ◌+◌, ◌≤◌, ◌↔◌, ℕ, IsTrue, length};
 ghost use Rattle.ffv1_bits.specs.Limits.{slice_limit};
 ghost use Rattle.ffv1_bits.specs.Parity.{PassesParity};
-ghost use Rattle.ffv1_slice.specs.Chain.{IsCut, IsFramed, status_before, piece_of};
+ghost use Rattle.ffv1_slice.specs.Chain.{IsCut, IsFramed, status_before, link_of};
 
 use crate::footer::status_of;
 use ffv1_bits::passes;
@@ -19,12 +19,12 @@ pub struct Link<'a> {
 
 impl<'a> Model for Link<'a> {
     ghost use Rattle.std.specs.Prelude.{ℕ, List, ◌≡◌, ◌+◌, ◌^◌, ◌<◌, ◌≤◌, ◌↔◌, IsTrue, length};
-    ghost use Rattle.ffv1_slice.specs.Chain.{Piece, piece_code, IsFramed, status_before};
+    ghost use Rattle.ffv1_slice.specs.Chain.{LinkValue, link_code, IsFramed, status_before};
     ghost use Rattle.ffv1_bits.specs.Limits.{slice_limit};
 
-    ghost Value = { Piece };
+    ghost Value = { LinkValue };
 
-    ghost coded = { piece_code };
+    ghost coded = { link_code };
 
     ghost view = { λ a. record { start = a.start; bytes = a.bytes.now } };
 
@@ -38,7 +38,7 @@ impl<'a> Link<'a> {
         requires within { end ≤ length payload.now }
         requires cut { IsCut payload.now start end }
         requires short { end ≤ start + slice_limit }
-        ensures { result ≡ piece_of payload.now start end }
+        ensures { result ≡ link_of payload.now start end }
     {
         let bytes = &payload[start..end];
         Link {

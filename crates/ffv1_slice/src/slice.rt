@@ -3,7 +3,7 @@
 ghost use Rattle.std.specs.Prelude.{◌≡◌, ◌==◌, ℕ, ◌≤◌, IfOk, Ok, Err, true, length};
 ghost use Rattle.ffv1_bits.specs.Parity.{PassesParity};
 ghost use Rattle.ffv1_range.specs.Header.{header_limits, head_read};
-ghost use Rattle.ffv1_slice.specs.Slices.{IsSliceOf, content_of, tile_of_head, is_whole, slice_read, SliceReadIsSlice};
+ghost use Rattle.ffv1_slice.specs.Slices.{IsSliceOf, content_of, tile_of_head, is_passing_slice, slice_read, SliceReadIsSlice};
 
 use crate::footer::{content_of, is_framed};
 use crate::link::Link;
@@ -52,7 +52,7 @@ pub fn read_slice(setup: &Setup, slice: &[u8], first: bool) -> Result<usize, Lin
 fn tile_read(setup: &Setup, slice: &[u8], first: bool) -> Result<usize, LinkFault>
     ensures { result ≡ slice_read setup.now slice.now first }
 {
-    if !is_whole(slice) {
+    if !is_passing_slice(slice) {
         return Err(LinkFault::Parity);
     }
     match read_head(setup, content_of(slice), first) {
@@ -62,8 +62,8 @@ fn tile_read(setup: &Setup, slice: &[u8], first: bool) -> Result<usize, LinkFaul
 }
 
 /// Whether the bytes end with a footer that has their size, and pass their parity.
-fn is_whole(slice: &[u8]) -> bool
-    ensures value { result ≡ is_whole slice.now }
+fn is_passing_slice(slice: &[u8]) -> bool
+    ensures value { result ≡ is_passing_slice slice.now }
     ensures long { result ≡ true → 8 ≤ length slice.now }
 {
     is_framed(slice) && passes(slice)

@@ -2,10 +2,10 @@
 use Rattle.std.proofs.Common.{◌≡◌, ℕ, ◌<◌, ◌≤◌, List, [], ◌∷◌, ◌++◌, refl, sym, ◌∙◌, subst, arith, inl, inr}
 use Rattle.std.specs.Prelude.{slice_range}
 use Rattle.ffv1_bits.specs.Parity.{PassesParity}
-use Rattle.ffv1_slice.specs.Chain.{IsCut, Piece, piece_of}
+use Rattle.ffv1_slice.specs.Chain.{IsCut, LinkValue, link_of}
 use Rattle.ffv1_splice.specs.Pieces.{HasContent, IsPiece}
 use Rattle.ffv1_splice.specs.Splice.{IsBound}
-use Rattle.ffv1_splice.proofs.ToldSteps.{last, piece_on, piece_back, one_cut}
+use Rattle.ffv1_splice.proofs.TallySteps.{last, piece_on, piece_back, one_cut}
 
 -- ---- what it is
 
@@ -24,7 +24,7 @@ one_bound copies end a b (inr h) (inr k) =
 
 module _ (copies : List (List ℕ)) (copy : List ℕ) (end bound : ℕ) where
   -- a copy that has no piece there
-  bound_same : ((piece : Piece) → IsPiece (copies ++ copy ∷ []) end piece → IsPiece copies end piece) → IsBound copies end bound
+  bound_same : ((piece : LinkValue) → IsPiece (copies ++ copy ∷ []) end piece → IsPiece copies end piece) → IsBound copies end bound
       → IsBound (copies ++ copy ∷ []) end bound
   bound_same back (inl h) = inl (λ piece k. h.0 piece (back piece k), h.1)
   bound_same back (inr h) = inr (h.0, piece_on copies copy end h.0 h.1, h.2, λ other k. h.3 other (back other k))
@@ -43,7 +43,7 @@ module _ (copies : List (List ℕ)) (copy : List ℕ) (end bound : ℕ) where
       ])
 
   module _ (start : ℕ) (cut : IsCut copy start end) (content : HasContent start end) where
-    same_start : (piece : Piece) → IsPiece (copies ++ copy ∷ []) end piece → (IsPiece copies end piece → start ≤ piece.start) → start ≤ piece.start
+    same_start : (piece : LinkValue) → IsPiece (copies ++ copy ∷ []) end piece → (IsPiece copies end piece → start ≤ piece.start) → start ≤ piece.start
     same_start piece k old =
         elim (piece_back copies copy end piece k) [
           | inl h ↦ old h
@@ -67,12 +67,12 @@ module _ (copies : List (List ℕ)) (copy : List ℕ) (end bound : ℕ) where
     pub bound_lower : PassesParity (slice_range copy start end) → start < bound → IsBound copies end bound → IsBound (copies ++ copy ∷ []) end start
     bound_lower passes early h =
         inr (
-          piece_of copy start end,
+          link_of copy start end,
           record { copy = copy; there = last copies copy end; cut = cut; content = content; bytes = refl; passes = passes },
           refl,
           λ other k. same_start other k (λ old. least other old h),
         )
       where
-        least : (other : Piece) → IsPiece copies end other → IsBound copies end bound → start ≤ other.start
+        least : (other : LinkValue) → IsPiece copies end other → IsBound copies end bound → start ≤ other.start
         least other old (inl none) = absurd (none.0 other old)
         least other old (inr some) = let at = some.3 other old in omega arith

@@ -9,8 +9,8 @@ use Rattle.ffv1_slice.specs.Chain.{IsCut}
 use Rattle.ffv1_slice.specs.Members.{IsOnly, IsOfTwo, IsOfNone}
 use Rattle.ffv1_splice.specs.Pieces.{HasContent}
 use Rattle.ffv1_splice.specs.Splice.{IsClaimedEnd, IsNextClaimed}
-use Rattle.ffv1_splice.specs.Told.{Told, Tells, TellsBoth}
-use Rattle.ffv1_splice.proofs.ToldSteps.{alone, tells_both}
+use Rattle.ffv1_splice.specs.Tally.{Tally, Tallies, TalliesBoth}
+use Rattle.ffv1_splice.proofs.TallySteps.{alone, tallies_both}
 use Rattle.ffv1_splice.proofs.ShortestSteps.{cut_is_short}
 
 -- ---- one copy
@@ -27,10 +27,10 @@ none_further copy from place none uncut end after within cut =
 module _ (copy : List ℕ) (reach : ℕ) where
   pub claimed_of_cut : (end : ℕ) → IsCut copy 0 end → 8 < end → end ≤ reach → IsClaimedEnd (copy ∷ []) reach end
   claimed_of_cut end cut content within =
-      record { told = record { copy = copy; there = (0, omega arith, refl); cut = cut; content = omega arith }; within = within }
+      record { claim = record { copy = copy; there = (0, omega arith, refl); cut = cut; content = omega arith }; within = within }
 
   pub cut_of_claimed : (end : ℕ) → IsClaimedEnd (copy ∷ []) reach end → IsCut copy 0 end
-  cut_of_claimed end h = subst (λ c. IsCut c 0 end) (alone copy h.told.copy h.told.there) h.told.cut
+  cut_of_claimed end h = subst (λ c. IsCut c 0 end) (alone copy h.claim.copy h.claim.there) h.claim.cut
 
   -- where no end up to a place is claimed, and the search went as far as one can be, none is
   pub none_claimed : (from place : ℕ) → AreBytes copy → ((end : ℕ) → from < end → end ≤ place → IsCut copy 0 end → ⊥)
@@ -51,7 +51,7 @@ module _ (copy : List ℕ) (reach : ℕ) where
       }
 
   claimed_after_footer : (end : ℕ) → IsClaimedEnd (copy ∷ []) reach end → 8 < end
-  claimed_after_footer end h = let content : HasContent 0 end = h.told.content in omega arith
+  claimed_after_footer end h = let content : HasContent 0 end = h.claim.content in omega arith
 
   pub no_claimed : ((end : ℕ) → 8 < end → IsClaimedEnd (copy ∷ []) reach end → ⊥) → IsOfNone (IsClaimedEnd (copy ∷ []) reach)
   no_claimed none end h = none end (claimed_after_footer end h) h
@@ -74,28 +74,28 @@ module _ (copies : List (List ℕ)) (copy : List ℕ) (reach : ℕ) where
   claimed_left : (end : ℕ) → IsClaimedEnd copies reach end → IsClaimedEnd (copies ++ copy ∷ []) reach end
   claimed_left end h =
       record {
-        told = record { copy = h.told.copy; there = Contains-append_left copies (copy ∷ []) h.told.copy h.told.there; cut = h.told.cut; content = h.told.content };
+        claim = record { copy = h.claim.copy; there = Contains-append_left copies (copy ∷ []) h.claim.copy h.claim.there; cut = h.claim.cut; content = h.claim.content };
         within = h.within;
       }
 
   claimed_right : (end : ℕ) → IsClaimedEnd (copy ∷ []) reach end → IsClaimedEnd (copies ++ copy ∷ []) reach end
   claimed_right end h =
       record {
-        told = record { copy = h.told.copy; there = Contains-append_right copies (copy ∷ []) h.told.copy h.told.there; cut = h.told.cut; content = h.told.content };
+        claim = record { copy = h.claim.copy; there = Contains-append_right copies (copy ∷ []) h.claim.copy h.claim.there; cut = h.claim.cut; content = h.claim.content };
         within = h.within;
       }
 
   claimed_cases : (end : ℕ) → IsClaimedEnd (copies ++ copy ∷ []) reach end → IsClaimedEnd copies reach end ⊎ IsClaimedEnd (copy ∷ []) reach end
   claimed_cases end h =
-      elim (Contains-append_cases copies (copy ∷ []) h.told.copy h.told.there) [
-        | inl there ↦ inl (record { told = record { copy = h.told.copy; there = there; cut = h.told.cut; content = h.told.content }; within = h.within })
-        | inr there ↦ inr (record { told = record { copy = h.told.copy; there = there; cut = h.told.cut; content = h.told.content }; within = h.within })
+      elim (Contains-append_cases copies (copy ∷ []) h.claim.copy h.claim.there) [
+        | inl there ↦ inl (record { claim = record { copy = h.claim.copy; there = there; cut = h.claim.cut; content = h.claim.content }; within = h.within })
+        | inr there ↦ inr (record { claim = record { copy = h.claim.copy; there = there; cut = h.claim.cut; content = h.claim.content }; within = h.within })
       ]
 
-  pub ends_joined : (told others after : Told ℕ) → TellsBoth told others after → Tells (IsClaimedEnd copies reach) told
-      → Tells (IsClaimedEnd (copy ∷ []) reach) others → Tells (IsClaimedEnd (copies ++ copy ∷ []) reach) after
-  ends_joined told others after both =
-      tells_both (IsClaimedEnd copies reach) (IsClaimedEnd (copy ∷ []) reach) (IsClaimedEnd (copies ++ copy ∷ []) reach) told others after
+  pub ends_joined : (claim others after : Tally ℕ) → TalliesBoth claim others after → Tallies (IsClaimedEnd copies reach) claim
+      → Tallies (IsClaimedEnd (copy ∷ []) reach) others → Tallies (IsClaimedEnd (copies ++ copy ∷ []) reach) after
+  ends_joined claim others after both =
+      tallies_both (IsClaimedEnd copies reach) (IsClaimedEnd (copy ∷ []) reach) (IsClaimedEnd (copies ++ copy ∷ []) reach) claim others after
       claimed_left claimed_right claimed_cases both
 
 -- two ends that some of the copies claim
@@ -112,12 +112,12 @@ two_of_first copies count reach two =
     on : (end : ℕ) → IsClaimedEnd (take count copies) reach end → IsClaimedEnd copies reach end
     on end h =
         record {
-          told = record {
-            copy = h.told.copy;
-            there = subst (λ z. Contains z h.told.copy) (take-append-drop count copies)
-                (Contains-append_left (take count copies) (drop count copies) h.told.copy h.told.there);
-            cut = h.told.cut;
-            content = h.told.content;
+          claim = record {
+            copy = h.claim.copy;
+            there = subst (λ z. Contains z h.claim.copy) (take-append-drop count copies)
+                (Contains-append_left (take count copies) (drop count copies) h.claim.copy h.claim.there);
+            cut = h.claim.cut;
+            content = h.claim.content;
           };
           within = h.within;
         }

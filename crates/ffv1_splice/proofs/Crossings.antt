@@ -7,11 +7,11 @@ use Rattle.std.proofs.lemmas.List.{append_assoc, append-nil, length-append, leng
 use Rattle.std.proofs.lemmas.List.Elements.{All-nil, All-cons, All-append, All-weaker}
 use Rattle.ffv1_slice.specs.Members.{IsOnly, IsOfNone}
 use Rattle.ffv1_splice.specs.Pieces.{HasContent, IsPiece, IsClaimedStart, PieceFrom, IsPieceFrom, IsShortest}
-use Rattle.ffv1_splice.specs.Told.{Tells, pieces_told, starts_told}
-use Rattle.ffv1_splice.specs.declared.told.Pieces.{Pieces}
-use Rattle.ffv1_splice.specs.declared.told.Pieces.TheVariants as pieces
-use Rattle.ffv1_splice.specs.declared.told.Starts.{Starts}
-use Rattle.ffv1_splice.specs.declared.told.Starts.TheVariants as starts
+use Rattle.ffv1_splice.specs.Tally.{Tallies, pieces_tally, starts_tally}
+use Rattle.ffv1_splice.specs.declared.tally.Pieces.{Pieces}
+use Rattle.ffv1_splice.specs.declared.tally.Pieces.TheVariants as pieces
+use Rattle.ffv1_splice.specs.declared.tally.Starts.{Starts}
+use Rattle.ffv1_splice.specs.declared.tally.Starts.TheVariants as starts
 use Rattle.ffv1_splice.specs.Placing.{IsPlaced}
 use Rattle.ffv1_splice.specs.Standings.{versions_at, StandsAs}
 use Rattle.ffv1_splice.specs.Splice.{RiseFrom, IsSettledUp, IsWalkUp, IsClaimedEnd, IsLostUpTo, IsCrossed, Leg, AreLegs, IsWalkAcross, leg_places}
@@ -20,7 +20,7 @@ use Rattle.ffv1_splice.specs.declared.place.Standing.TheVariants.{Settled}
 use Rattle.ffv1_splice.specs.declared.place.Place.{Place}
 use Rattle.ffv1_splice.specs.declared.crossing.TheConstants.{MOST_CROSSED}
 use Rattle.ffv1_splice.proofs.Narrowed.{piece_in}
-use Rattle.ffv1_splice.proofs.PlaceSteps.{untold}
+use Rattle.ffv1_splice.proofs.PlaceSteps.{no_claim}
 use Rattle.ffv1_splice.proofs.PlaceLists.{start_below}
 use Rattle.ffv1_splice.proofs.SettlingSteps.{range_before, take_earlier, here_written, up_upright, up_kept}
 use Rattle.ffv1_splice.proofs.SpliceSteps.{length-written}
@@ -40,23 +40,23 @@ leg_places-append legs leg =
 -- ---- a lost slice
 
 module _ (copies : List (List ℕ)) (reach : ℕ) where
-  pub lost_where_claimed : (told : Starts) → Tells (IsClaimedEnd copies reach) (starts_told told) → ((end : ℕ) → told ≡ starts.One end → ⊥)
+  pub lost_where_claimed : (claim : Starts) → Tallies (IsClaimedEnd copies reach) (starts_tally claim) → ((end : ℕ) → claim ≡ starts.One end → ⊥)
       → (end : ℕ) → IsLostUpTo copies reach end → ⊥
-  lost_where_claimed told are none end lost = untold (IsClaimedEnd copies reach) told are none end lost.end'
+  lost_where_claimed claim are none end lost = no_claim (IsClaimedEnd copies reach) claim are none end lost.end'
 
   module _ (claimed : ℕ) (only : IsOnly (IsClaimedEnd copies reach) claimed) where
     lost_there : (end : ℕ) → IsLostUpTo copies reach end → IsLostUpTo copies reach claimed
     lost_there end lost = subst (IsLostUpTo copies reach) (only.others end lost.end'.there) lost
 
-    pub lost_where_no_piece : (told : Pieces) → Tells (IsPiece copies claimed) (pieces_told told) → (told ≡ pieces.None → ⊥)
+    pub lost_where_no_piece : (claim : Pieces) → Tallies (IsPiece copies claimed) (pieces_tally claim) → (claim ≡ pieces.None → ⊥)
         → (end : ℕ) → IsLostUpTo copies reach end → ⊥
     lost_where_no_piece pieces.None are some end lost = some refl
     lost_where_no_piece (pieces.One start bytes) are some end lost = (lost_there end lost).none _ are.there
     lost_where_no_piece pieces.Two are some end lost = (lost_there end lost).none _ are.one_there
 
-    pub lost_where_told : (told : Starts) → Tells (IsClaimedStart copies claimed) (starts_told told) → ((start : ℕ) → told ≡ starts.One start → ⊥)
+    pub lost_where_claim : (claim : Starts) → Tallies (IsClaimedStart copies claimed) (starts_tally claim) → ((start : ℕ) → claim ≡ starts.One start → ⊥)
         → (end : ℕ) → IsLostUpTo copies reach end → ⊥
-    lost_where_told told are none end lost = untold (IsClaimedStart copies claimed) told are none 0 (lost_there end lost).start
+    lost_where_claim claim are none end lost = no_claim (IsClaimedStart copies claimed) claim are none 0 (lost_there end lost).start
 
     pub lost_where_borne_out : IsOfNone (IsPieceFrom copies reach claimed) → (end : ℕ) → IsLostUpTo copies reach end → ⊥
     lost_where_borne_out none end lost = let next = (lost_there end lost).next in none next.0 next.1
@@ -65,24 +65,24 @@ module _ (copies : List (List ℕ)) (reach : ℕ) where
     none_begins : IsOfNone (IsPiece copies claimed) → IsOfNone (IsPieceFrom copies reach 0)
     none_begins none piece from =
         let there = from.there in
-        let told : IsClaimedStart copies piece.end 0 = record { copy = there.copy; there = there.there; cut = there.cut; content = there.content } in
-        let ends : piece.end ≡ claimed = only.others piece.end (record { told = told; within = from.within }) in
+        let claim : IsClaimedStart copies piece.end 0 = record { copy = there.copy; there = there.there; cut = there.cut; content = there.content } in
+        let ends : piece.end ≡ claimed = only.others piece.end (record { claim = claim; within = from.within }) in
         none (record { start = 0; bytes = piece.bytes }) (subst (λ end. IsPiece copies end (record { start = 0; bytes = piece.bytes })) ends there)
 
     pub is_lost : (start : ℕ) (piece : PieceFrom) → IsOnly (IsClaimedStart copies claimed) start → IsOfNone (IsPiece copies claimed)
         → IsShortest copies reach claimed piece → IsLostUpTo copies reach claimed
-    is_lost start piece told none next =
-        let first : start ≡ 0 = sym (told.others 0 only.there.told) in
+    is_lost start piece claim none next =
+        let first : start ≡ 0 = sym (claim.others 0 only.there.claim) in
         record {
           lost = none_begins none;
           end' = only;
-          start = subst (IsOnly (IsClaimedStart copies claimed)) first told;
+          start = subst (IsOnly (IsClaimedStart copies claimed)) first claim;
           none = none;
           next = (piece, next.there);
         }
 
 pub lost_content : (copies : List (List ℕ)) (reach end : ℕ) → IsLostUpTo copies reach end → 8 < end
-lost_content copies reach end h = let content : HasContent 0 end = h.end'.there.told.content in omega arith
+lost_content copies reach end h = let content : HasContent 0 end = h.end'.there.claim.content in omega arith
 
 module _ (copies : List (List ℕ)) (bound : ℕ) where
   pub crossed_rising : (payload : List ℕ) (place : Place) → IsCrossed copies bound payload place → place.start < place.end

@@ -4,7 +4,7 @@ use Rattle.std.specs.Prelude.{All, slice_range}
 use Rattle.std.proofs.lemmas.List.{take_all}
 use Rattle.std.proofs.lemmas.List.Elements.{All-nil, All-cons}
 use Rattle.std.proofs.lemmas.Bool.{cases_lt}
-use Rattle.ffv1_slice.specs.Chain.{size_before, IsCut, IsEnd, IsLinkOf, Piece, piece_of}
+use Rattle.ffv1_slice.specs.Chain.{size_before, IsCut, IsEnd, IsLinkOf, LinkValue, link_of}
 use Rattle.ffv1_slice.specs.Chain.IsEnd.{last, before}
 use Rattle.ffv1_slice.specs.Walk.{walked}
 use Rattle.ffv1_slice.proofs.Links.{walked-more, walked-none, walked-fuel, least_end}
@@ -12,7 +12,7 @@ use Rattle.ffv1_slice.specs.Members.{IsOfTwo}
 use Rattle.ffv1_splice.specs.Pieces.{IsPiece}
 use Rattle.ffv1_splice.specs.Standings.{StandsAs, IsStop}
 use Rattle.ffv1_splice.specs.Splice.{SplicedValue, LieFrom}
-use Rattle.ffv1_splice.specs.Originals.{AgreeWith}
+use Rattle.ffv1_splice.specs.Originals.{AreConsistentWith}
 use Rattle.ffv1_splice.specs.declared.place.Standing.{Standing}
 use Rattle.ffv1_splice.specs.declared.place.Standing.TheVariants.{Settled, Woven, Voted, Repaired, Disputed, Missing, Undivided}
 use Rattle.ffv1_splice.specs.declared.place.Place.{Place}
@@ -43,7 +43,7 @@ same_cut original s t end h k = omega arith
 
 -- what is so of the places before an end of the original
 pub record AreLinkPlaces (original : List ℕ) (end : ℕ) (places : List Place) (front : ℕ) : Type 0 where
-  pub links : map (λ place. piece_of original place.start place.end) places ≡ walked end original end
+  pub links : map (λ place. link_of original place.start place.end) places ≡ walked end original end
   pub whole : front ≡ 0
   pub each : All (λ place. IsLinkOf original place.start place.end) places
 
@@ -67,9 +67,9 @@ module _ (original : List ℕ) (copies : List (List ℕ)) (cuts : (start end : �
       let cut : IsCut original start end = cuts start end bytes standing is_end stands in
       let below = link_places start more front rest goes_on (before is_end cut) h in
       record {
-        links = ap (λ z. piece_of original start end ∷ z) below.links
+        links = ap (λ z. link_of original start end ∷ z) below.links
             ∙ sym (walked-fuel original end (suc end) end (omega arith) (omega arith) ∙ walked-more original end start end cut
-            ∙ ap (λ z. piece_of original start end ∷ z) (walked-fuel original end start start (omega arith) (omega arith)));
+            ∙ ap (λ z. link_of original start end ∷ z) (walked-fuel original end start start (omega arith) (omega arith)));
         whole = below.whole;
         each = All-cons (λ place. IsLinkOf original place.start place.end) (record { start = start; end = end; standing = standing }) more
             (record { is_end = is_end; cut = cut }) below.each;
@@ -94,14 +94,14 @@ same_payload original spliced end places lie long same =
 
 -- ---- copies that agree
 
-module _ (original : List ℕ) (copies : List (List ℕ)) (agree : AgreeWith original copies) where
+module _ (original : List ℕ) (copies : List (List ℕ)) (agree : AreConsistentWith original copies) where
   -- two pieces do not differ
-  pub agree_one : (end : ℕ) (one other : Piece) → IsEnd original end → IsPiece copies end one → IsPiece copies end other → one ≡ other
+  pub agree_one : (end : ℕ) (one other : LinkValue) → IsEnd original end → IsPiece copies end one → IsPiece copies end other → one ≡ other
   agree_one end one other is_end h k =
       let mine = agree end one is_end h in
       let yours = agree end other is_end k in
       let start = same_cut original one.start other.start end mine.0.cut yours.0.cut in
-      mine.1 ∙ ap (λ s. piece_of original s end) start ∙ sym yours.1
+      mine.1 ∙ ap (λ s. link_of original s end) start ∙ sym yours.1
 
   pub undisputed : (end : ℕ) → IsEnd original end → IsOfTwo (IsPiece copies end) → ⊥
   undisputed end is_end two = two.differ (agree_one end two.one two.other is_end two.one_there two.other_there)
@@ -109,7 +109,7 @@ module _ (original : List ℕ) (copies : List (List ℕ)) (agree : AgreeWith ori
   pub settled_link : (start end : ℕ) (bytes : List ℕ) (standing : Standing) → IsEnd original end → standing ≡ Settled
       → StandsAs copies start end bytes standing → IsLinkOf original start end × (bytes ≡ slice_range original start end)
   settled_link start end bytes Settled is_end is h =
-      let told = agree end (record { start = start; bytes = bytes }) is_end h.there in (told.0, ap (λ (p : Piece). p.bytes) told.1)
+      let claim = agree end (record { start = start; bytes = bytes }) is_end h.there in (claim.0, ap (λ (p : LinkValue). p.bytes) claim.1)
   settled_link start end bytes (Woven count) is_end is h = absurd (cc)
   settled_link start end bytes (Voted count) is_end is h = absurd (cc)
   settled_link start end bytes (Repaired count) is_end is h = absurd (cc)
@@ -118,15 +118,15 @@ module _ (original : List ℕ) (copies : List (List ℕ)) (agree : AgreeWith ori
   settled_link start end bytes Undivided is_end is h = absurd (cc)
 
   -- where a link is a piece, it settles its place
-  pub settled_where : (start end : ℕ) (bytes : List ℕ) (standing : Standing) (link : ℕ) → IsEnd original end → IsPiece copies end (piece_of original link end)
+  pub settled_where : (start end : ℕ) (bytes : List ℕ) (standing : Standing) (link : ℕ) → IsEnd original end → IsPiece copies end (link_of original link end)
       → StandsAs copies start end bytes standing → standing ≡ Settled
   settled_where start end bytes Settled link is_end piece h = refl
-  settled_where start end bytes (Woven count) link is_end piece h = absurd (woven_unsettled copies end start bytes count h (piece_of original link end) piece)
+  settled_where start end bytes (Woven count) link is_end piece h = absurd (woven_unsettled copies end start bytes count h (link_of original link end) piece)
   settled_where start end bytes (Voted count) link is_end piece h =
-      absurd ((unwoven_weave copies start end h.unwoven).1.none (piece_of original link end) piece)
-  settled_where start end bytes (Repaired count) link is_end piece h = absurd (h.missed.none (piece_of original link end) piece)
+      absurd ((unwoven_weave copies start end h.unwoven).1.none (link_of original link end) piece)
+  settled_where start end bytes (Repaired count) link is_end piece h = absurd (h.missed.none (link_of original link end) piece)
   settled_where start end bytes Disputed link is_end piece h =
-      elim h.0 [ inl two ↦ absurd (undisputed end is_end two) | inr w ↦ absurd (w.none (piece_of original link end) piece) ]
+      elim h.0 [ inl two ↦ absurd (undisputed end is_end two) | inr w ↦ absurd (w.none (link_of original link end) piece) ]
   settled_where start end bytes Missing link is_end piece h =
-      absurd (missing_unsettled copies end start h.0 (piece_of original link end) piece)
+      absurd (missing_unsettled copies end start h.0 (link_of original link end) piece)
   settled_where start end bytes Undivided link is_end piece h = absurd h

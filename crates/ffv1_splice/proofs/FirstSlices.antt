@@ -11,7 +11,7 @@ use Rattle.ffv1_slice.specs.Members.{HasSameMembers, IsOfNone}
 use Rattle.ffv1_slice.proofs.NearLaws.{length-range, size_of_range}
 use Rattle.ffv1_weave.specs.Combinations.{IsCombination}
 use Rattle.ffv1_weave.specs.Regions.{HaveLength, DifferAt}
-use Rattle.ffv1_weave.specs.Weave.{weave_told}
+use Rattle.ffv1_weave.specs.Weave.{weave_tally}
 use Rattle.ffv1_weave.specs.Weave.Weave.{woven}
 use Rattle.ffv1_weave.specs.declared.weaving.Outcome.{Outcome}
 use Rattle.ffv1_weave.specs.declared.weaving.Outcome.TheVariants as outcomes
@@ -19,7 +19,7 @@ use Rattle.ffv1_weave.proofs.Choices.{same_range, range_at}
 use Rattle.ffv1_splice.specs.Pieces.{HasContent, IsPiece, IsClaimedStart}
 use Rattle.ffv1_splice.specs.Standings.{versions_at, sized, IsWeaveFromFront, IsWeaveOfSeveral, StandsAs, IsStop}
 use Rattle.ffv1_splice.specs.declared.place.Standing.TheVariants.{Woven}
-use Rattle.ffv1_splice.proofs.PlaceSteps.{AllReach, told_below, none_not_only}
+use Rattle.ffv1_splice.proofs.PlaceSteps.{AllReach, claim_below, none_not_only}
 use Rattle.ffv1_splice.proofs.Versions.{mapped_there, mapped_of, same_mapped, same_versions, version_there, version_of, version_length, weave_size}
 use Rattle.ffv1_splice.proofs.WiderRegions.{some_differ, in_region}
 
@@ -74,27 +74,27 @@ module _ (copies : List (List ℕ)) (end : ℕ) (reach : AllReach copies end) wh
 
   pub several_size : (start : ℕ) (bytes : List ℕ) (count : ℕ) → IsWeaveOfSeveral copies start end bytes count → start + length bytes ≡ end
   several_size start bytes count h =
-      let content : HasContent start end = h.told.content in
-      let copy : List ℕ = h.told.copy in
+      let content : HasContent start end = h.claim.content in
+      let copy : List ℕ = h.claim.copy in
       let version : List ℕ = sized (slice_range copy start end) in
-      let in_versions = mapped_there sized (versions_at copies start end) (slice_range copy start end) (version_there copies start end copy h.told.there) in
+      let in_versions = mapped_there sized (versions_at copies start end) (slice_range copy start end) (version_there copies start end copy h.claim.there) in
       let long = sized_length start (omega arith) version in_versions in
       omega (arith, h.weave'.0.there.combination.same_length version in_versions)
 
 -- no place ends where no piece does and no start is claimed, and nothing is woven from the front
-pub stops_untold : (copies : List (List ℕ)) (end : ℕ) → IsOfNone (IsPiece copies end) → IsOfNone (IsClaimedStart copies end)
+pub stops_no_claim : (copies : List (List ℕ)) (end : ℕ) → IsOfNone (IsPiece copies end) → IsOfNone (IsClaimedStart copies end)
     → ((bytes : List ℕ) (count : ℕ) → IsWeaveFromFront copies end (woven bytes count) → ⊥) → IsStop copies end
-stops_untold copies end none untold unclaimed =
+stops_no_claim copies end none no_claim unclaimed =
     record {
       unsettled = none_not_only (IsPiece copies end) none;
-      untold = none_not_only (IsClaimedStart copies end) untold;
+      no_claim = none_not_only (IsClaimedStart copies end) no_claim;
       unclaimed = unclaimed;
-      unwoven = λ start bytes count several. untold start several.told;
+      unwoven = λ start bytes count several. no_claim start several.claim;
     }
 
 -- an outcome other than `Woven` has no woven bytes
 pub not_woven : (outcome : Outcome) → ((bytes : Vec ℕ Global) (count : ℕ) → outcome ≡ outcomes.Woven bytes count → ⊥) → (bytes : List ℕ) (count : ℕ)
-    → weave_told outcome ≡ woven bytes count → ⊥
+    → weave_tally outcome ≡ woven bytes count → ⊥
 not_woven (outcomes.Woven items n) apart bytes count is = apart items n refl
 not_woven outcomes.Disputed apart bytes count is = absurd (cc)
 not_woven (outcomes.Missing n) apart bytes count is = absurd (cc)
@@ -104,9 +104,9 @@ not_woven outcomes.TooMany apart bytes count is = absurd (cc)
 
 module _ (copies : List (List ℕ)) (start end : ℕ) (bytes : List ℕ) (count : ℕ) where
   pub woven_below : StandsAs copies start end bytes (Woven count) → start + 8 ≤ end
-  woven_below (inl h) = told_below copies start end h.told.there
+  woven_below (inl h) = claim_below copies start end h.claim.there
   woven_below (inr (inl h)) = let content : HasContent 0 end = h.1.content in let first : start ≡ 0 = h.0 in omega arith
-  woven_below (inr (inr h)) = told_below copies start end h.told
+  woven_below (inr (inr h)) = claim_below copies start end h.claim
 
   pub woven_size : (copy : List ℕ) → Contains copies copy → AllReach copies end → StandsAs copies start end bytes (Woven count)
       → start + length bytes ≡ end
@@ -164,16 +164,16 @@ cut_by_footer : (copy version slice : List ℕ) (end : ℕ) → 8 ≤ end → en
     → slice_range slice (end - 8) end ≡ slice_range version (end - 8) end → size_before slice end ≡ end - 8 → IsCut copy 0 end
 cut_by_footer copy version slice end footer within is same size =
     let long : length (slice_range copy 0 end) ≡ end = length-range copy 0 end (omega arith) within ∙ omega arith in
-    let told : size_before slice end ≡ size_before version end = ap (big_number 3) same in
+    let claim : size_before slice end ≡ size_before version end = ap (big_number 3) same in
     let on : size_before version end ≡ size_before (slice_range copy 0 end) end = ap (λ v. size_before v end) is in
     let ends = ap (size_before (slice_range copy 0 end)) long in
     let cut = size_of_range copy 0 end footer within in
     omega arith
 
 -- So where a slice is a combination of what the copies have, some copy has its size field, and claims its start.
-pub combination_told : (copies : List (List ℕ)) (end : ℕ) (copy slice : List ℕ) → AllReach copies end → Contains copies copy → HasContent 0 end
+pub combination_claim : (copies : List (List ℕ)) (end : ℕ) (copy slice : List ℕ) → AllReach copies end → Contains copies copy → HasContent 0 end
     → IsFramed slice → IsCombination (versions_at copies 0 end) slice → IsClaimedStart copies end 0
-combination_told copies end copy slice reach there content framed is =
+combination_claim copies end copy slice reach there content framed is =
     let first = version_there copies 0 end copy there in
     let long : HaveLength (versions_at copies 0 end) end =
     λ version in_versions. version_length copies 0 end (omega arith) reach version in_versions ∙ omega arith in

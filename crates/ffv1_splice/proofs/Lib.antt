@@ -1,4 +1,4 @@
-pub mod ToldSteps
+pub mod TallySteps
 pub mod LeastSteps
 pub mod ShortestSteps
 pub mod ClaimedEnds

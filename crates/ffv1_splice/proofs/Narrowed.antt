@@ -6,7 +6,7 @@ use Rattle.std.proofs.Math.Path.{fun_ext}
 use Rattle.std.proofs.lemmas.Bool.{cases_lt}
 use Rattle.std.proofs.lemmas.List.{drop-drop, drop-take, take-take}
 use mathlib.Core.List.{map-map}
-use Rattle.ffv1_slice.specs.Chain.{size_before, IsCut, Piece}
+use Rattle.ffv1_slice.specs.Chain.{size_before, IsCut, LinkValue}
 use Rattle.ffv1_splice.specs.Pieces.{HasContent, IsPiece, IsClaimedStart}
 use Rattle.ffv1_splice.specs.Standings.{versions_at}
 use Rattle.ffv1_splice.proofs.Versions.{version_there, version_of}
@@ -54,7 +54,7 @@ module _ (from to : ℕ) where
         map-map (λ copy. slice_range copy start end) (λ copy. slice_range copy from to) copies
         ∙ ap (λ f. map f copies) (fun_ext (λ copy. range_of_range copy start end within))
 
-    pub piece_out : (end : ℕ) (piece : Piece) → from + end ≤ to → IsPiece (versions_at copies from to) end piece
+    pub piece_out : (end : ℕ) (piece : LinkValue) → from + end ≤ to → IsPiece (versions_at copies from to) end piece
         → IsPiece copies (from + end) (record { start = from + piece.start; bytes = piece.bytes })
     piece_out end piece within h =
         let of = version_of copies from to h.copy h.there in
@@ -68,7 +68,7 @@ module _ (from to : ℕ) where
           passes = h.passes;
         }
 
-    pub piece_in : (end : ℕ) (piece : Piece) → from + end ≤ to → IsPiece copies (from + end) (record { start = from + piece.start; bytes = piece.bytes })
+    pub piece_in : (end : ℕ) (piece : LinkValue) → from + end ≤ to → IsPiece copies (from + end) (record { start = from + piece.start; bytes = piece.bytes })
         → IsPiece (versions_at copies from to) end piece
     piece_in end piece within h =
         let content : HasContent (from + piece.start) (from + end) = h.content in
@@ -81,8 +81,8 @@ module _ (from to : ℕ) where
           passes = h.passes;
         }
 
-    pub told_in : (end start : ℕ) → from + end ≤ to → IsClaimedStart copies (from + end) (from + start) → IsClaimedStart (versions_at copies from to) end start
-    told_in end start within h =
+    pub claim_in : (end start : ℕ) → from + end ≤ to → IsClaimedStart copies (from + end) (from + start) → IsClaimedStart (versions_at copies from to) end start
+    claim_in end start within h =
         let content : HasContent (from + start) (from + end) = h.content in
         record {
           copy = slice_range h.copy from to;
@@ -91,8 +91,8 @@ module _ (from to : ℕ) where
           content = omega arith;
         }
 
-    pub told_out : (end start : ℕ) → from + end ≤ to → IsClaimedStart (versions_at copies from to) end start → IsClaimedStart copies (from + end) (from + start)
-    told_out end start within h =
+    pub claim_out : (end start : ℕ) → from + end ≤ to → IsClaimedStart (versions_at copies from to) end start → IsClaimedStart copies (from + end) (from + start)
+    claim_out end start within h =
         let of = version_of copies from to h.copy h.there in
         let content : HasContent start end = h.content in
         record {

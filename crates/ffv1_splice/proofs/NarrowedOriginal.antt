@@ -4,7 +4,7 @@ use Rattle.std.specs.Prelude.{◌⊎◌, ◌↔◌, All, Contains, slice_range}
 use Rattle.std.proofs.lemmas.List.Elements.{All-head, All-tail}
 use Rattle.ffv1_bits.specs.Parity.{PassesParity}
 use Rattle.ffv1_bits.proofs.Bytes.{AreBytes-range}
-use Rattle.ffv1_slice.specs.Chain.{IsCut, IsEnd, IsLinkOf, Piece, piece_of}
+use Rattle.ffv1_slice.specs.Chain.{IsCut, IsEnd, IsLinkOf, LinkValue, link_of}
 use Rattle.ffv1_slice.specs.Chain.IsEnd.{last, before}
 use Rattle.ffv1_slice.specs.Near.{IsHurtWithin32}
 use Rattle.ffv1_slice.specs.Walk.{walked, walk_at}
@@ -14,16 +14,16 @@ use Rattle.ffv1_weave.specs.Combinations.{IsCombination}
 use Rattle.ffv1_splice.specs.Pieces.{HasContent, IsClaimedStart}
 use Rattle.ffv1_splice.specs.Standings.{versions_at}
 use Rattle.ffv1_splice.specs.Splice.{LieFrom}
-use Rattle.ffv1_splice.specs.Originals.{AreCopiesOf, AgreeWith, IsAmong, AreWeavable, IsSound, IsNearCopy, AreNearCopies, IsIntactInSome}
+use Rattle.ffv1_splice.specs.Originals.{AreCopiesOf, AreConsistentWith, IsAmong, AreWeavable, IsSound, IsNearCopy, AreNearCopies, IsIntactInSome}
 use Rattle.ffv1_splice.specs.declared.place.Place.{Place}
 use Rattle.ffv1_splice.proofs.DividedLinks.{end_within, same_cut}
 use Rattle.ffv1_splice.proofs.Versions.{version_there, version_of}
-use Rattle.ffv1_splice.proofs.Narrowed.{range_of_range, cut_out, cut_in, versions_of_versions, piece_out, told_in}
+use Rattle.ffv1_splice.proofs.Narrowed.{range_of_range, cut_out, cut_in, versions_of_versions, piece_out, claim_in}
 
 -- What makes copies weavable, except that no piece contradicts the original from below: as much as a division rests on.
 pub record AreWeavableDown (original : List ℕ) (copies : List (List ℕ)) : Type 0 where
-  pub agree : AgreeWith original copies
-  pub told : (start end : ℕ) → IsLinkOf original start end → IsClaimedStart copies end start
+  pub agree : AreConsistentWith original copies
+  pub claim : (start end : ℕ) → IsLinkOf original start end → IsClaimedStart copies end start
   pub passes : (start end : ℕ) → IsLinkOf original start end → PassesParity (slice_range original start end)
   pub among : (start end : ℕ) → IsLinkOf original start end → IsAmong original copies start end
 
@@ -191,21 +191,21 @@ module _ (from to : ℕ) (original : List ℕ) (order : from ≤ to) (is_to : Is
               ap length of.2 ∙ length_narrowed of.0 (one_length of.0 of.1);
         }
 
-    pub agree_narrowed : AgreeWith original copies → AgreeWith (slice_range original from to) (versions_at copies from to)
+    pub agree_narrowed : AreConsistentWith original copies → AreConsistentWith (slice_range original from to) (versions_at copies from to)
     agree_narrowed agree end piece is_end h =
         let within = narrowed_within end is_end in
-        let told = agree (from + end) (record { start = from + piece.start; bytes = piece.bytes }) (end_out end is_end)
+        let claim = agree (from + end) (record { start = from + piece.start; bytes = piece.bytes }) (end_out end is_end)
         (piece_out from to copies end piece within h) in
         let bytes : piece.bytes ≡ slice_range (slice_range original from to) piece.start end =
-        ap (λ (p : Piece). p.bytes) told.1 ∙ sym (range_of_range from to original piece.start end within) in
-        (link_in piece.start end within told.0, ap (λ z. record { start = piece.start; bytes = z }) bytes)
+        ap (λ (p : LinkValue). p.bytes) claim.1 ∙ sym (range_of_range from to original piece.start end within) in
+        (link_in piece.start end within claim.0, ap (λ z. record { start = piece.start; bytes = z }) bytes)
 
     pub weavable_narrowed : AreWeavable original copies → AreWeavableDown (slice_range original from to) (versions_at copies from to)
     weavable_narrowed weavable =
         record {
           agree = agree_narrowed weavable.agree;
-          told = λ start end link. told_in from to copies end start (narrowed_within end link.is_end)
-              (weavable.told (from + start) (from + end) (link_out start end link));
+          claim = λ start end link. claim_in from to copies end start (narrowed_within end link.is_end)
+              (weavable.claim (from + start) (from + end) (link_out start end link));
           passes = passes_narrowed weavable.passes;
           among = λ start end link. among_narrowed from to original copies start end (narrowed_within end link.is_end)
               (weavable.among (from + start) (from + end) (link_out start end link));
@@ -225,13 +225,13 @@ module _ (from to : ℕ) (original : List ℕ) (order : from ≤ to) (is_to : Is
 -- places that lie end to end down to the first byte, each a link, are all links from their end on
 pub links_of_places : (original : List ℕ) (end : ℕ) (places : List Place) → LieFrom end places 0
     → All (λ place. IsLinkOf original place.start place.end) places
-    → map (λ place. piece_of original place.start place.end) places ≡ walked end original end
+    → map (λ place. link_of original place.start place.end) places ≡ walked end original end
 links_of_places original end [] lie links =
     let first : end ≡ 0 = lie in
     sym (walked-none original end end (λ start cut. omega arith))
 links_of_places original end (place ∷ places) lie links =
     let link = All-head (λ place. IsLinkOf original place.start place.end) place places links in
     let rest = links_of_places original place.start places lie.1 (All-tail (λ place. IsLinkOf original place.start place.end) place places links) in
-    ap (λ pieces. piece_of original place.start place.end ∷ pieces) rest
+    ap (λ pieces. link_of original place.start place.end ∷ pieces) rest
     ∙ sym (turn_some (walk_at original place.end) original place.start place.end refl link.cut)
     ∙ ap (λ end. walked end original end) lie.0

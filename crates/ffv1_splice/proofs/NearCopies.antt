@@ -2,11 +2,11 @@
 use Rattle.std.proofs.Common.{◌≡◌, ℕ, List, length, get_or, sym, ◌∙◌}
 use Rattle.std.specs.Prelude.{◌↔◌, All, slice_range}
 use Rattle.std.proofs.lemmas.List.Elements.{All-append, All-weaker}
-use Rattle.ffv1_slice.specs.Chain.{IsLinkOf, piece_of}
+use Rattle.ffv1_slice.specs.Chain.{IsLinkOf, link_of}
 use Rattle.ffv1_splice.specs.Pieces.{IsPiece, IsClaimedStart}
 use Rattle.ffv1_splice.specs.Standings.{versions_at}
 use Rattle.ffv1_splice.specs.Splice.{SplicedValue, IsSettledDown, IsSettledUp, IsCrossed, leg_places, IsSpliceOf}
-use Rattle.ffv1_splice.specs.Originals.{AgreeWith, AgreeFromBelow, AreNearCopies, IsIntactInSome}
+use Rattle.ffv1_splice.specs.Originals.{AreConsistentWith, AreConsistentFromBelow, AreNearCopies, IsIntactInSome}
 use Rattle.ffv1_splice.specs.Laws.{IsItsLink, IsLinkIfSettled, IsNearSplice, NearCopiesSplice}
 use Rattle.ffv1_splice.specs.declared.place.Standing.TheVariants.{Settled}
 use Rattle.ffv1_splice.specs.declared.place.Place.{Place}
@@ -19,11 +19,11 @@ use Rattle.ffv1_splice.proofs.StandingPlaces.{hole_within, hole_bytes}
 use Rattle.ffv1_splice.proofs.OriginalLaws.{AreWalkLinks, AreLegLinks, above_links, below_links, across_links, joined_links, is_original}
 use Rattle.ffv1_splice.proofs.Crossings.{crossed_unsettled, crossed_no_piece}
 use Rattle.ffv1_splice.proofs.WovenLaws.{given_back_is_original}
-use Rattle.ffv1_splice.proofs.NearDivisions.{near_agree, told_link, intact_piece, piece_intact, are_copies, are_weavable, divided_links, near_divided}
+use Rattle.ffv1_splice.proofs.NearDivisions.{near_agree, claim_link, intact_piece, piece_intact, are_copies, are_weavable, divided_links, near_divided}
 
-module _ (original : List ℕ) (copies : List (List ℕ)) (near : AreNearCopies original copies) (from_below : AgreeFromBelow original copies)
+module _ (original : List ℕ) (copies : List (List ℕ)) (near : AreNearCopies original copies) (from_below : AreConsistentFromBelow original copies)
     (spliced : SplicedValue) (is : IsSpliceOf copies spliced) where
-  agree : AgreeWith original copies
+  agree : AreConsistentWith original copies
   agree = near_agree original copies near
 
   down : AreWalkLinks original spliced is.above is.end
@@ -33,11 +33,11 @@ module _ (original : List ℕ) (copies : List (List ℕ)) (near : AreNearCopies 
   up = below_links original copies spliced is (are_copies original copies near) agree from_below
 
   -- each copy claims the start of each link
-  told : (start end : ℕ) → IsLinkOf original start end → IsClaimedStart copies end start
-  told = let copy = copy_at_hand copies spliced is in told_link original copies near copy.0 copy.1
+  claim : (start end : ℕ) → IsLinkOf original start end → IsClaimedStart copies end start
+  claim = let copy = copy_at_hand copies spliced is in claim_link original copies near copy.0 copy.1
 
   across : AreLegLinks original spliced is.legs is.start
-  across = across_links original copies spliced is (are_copies original copies near) agree from_below told
+  across = across_links original copies spliced is (are_copies original copies near) agree from_below claim
 
   -- ---- the hole
 
@@ -61,7 +61,7 @@ module _ (original : List ℕ) (copies : List (List ℕ)) (near : AreNearCopies 
 
   -- a settled place is intact in some copy
   settled_where : (place : Place) → IsItsLink original spliced place → place.standing ≡ Settled
-      → IsPiece copies place.end (piece_of spliced.payload place.start place.end) → IsSettledWhere place
+      → IsPiece copies place.end (link_of spliced.payload place.start place.end) → IsSettledWhere place
   settled_where place its settled piece =
       (λ _. piece_intact original copies near place.start place.end (slice_range spliced.payload place.start place.end) its.link piece, λ intact. settled)
 

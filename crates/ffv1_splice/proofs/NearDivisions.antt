@@ -4,13 +4,13 @@ use Rattle.std.specs.Prelude.{Contains, slice_range}
 use Rattle.ffv1_bits.specs.Parity.{PassesParity}
 use Rattle.ffv1_bits.proofs.Burst.{burst}
 use Rattle.ffv1_bits.proofs.Bytes.{AreBytes-range}
-use Rattle.ffv1_slice.specs.Chain.{size_before, IsCut, IsEnd, IsLinkOf, piece_of}
+use Rattle.ffv1_slice.specs.Chain.{size_before, IsCut, IsEnd, IsLinkOf, link_of}
 use Rattle.ffv1_slice.specs.Chain.IsEnd.{last}
 use Rattle.ffv1_slice.proofs.NearLaws.{same_size_field, length-range, size_of_range}
 use Rattle.ffv1_splice.specs.Pieces.{HasContent, IsPiece, IsClaimedStart}
 use Rattle.ffv1_splice.specs.Standings.{StandsAs, IsStop}
 use Rattle.ffv1_splice.specs.Splice.{SplicedValue, IsDivisionOf}
-use Rattle.ffv1_splice.specs.Originals.{AreCopiesOf, AgreeWith, AgreeFromBelow, IsAmong, AreWeavable, IsSound, IsIntact, IsNearCopy, AreNearCopies, IsIntactInSome}
+use Rattle.ffv1_splice.specs.Originals.{AreCopiesOf, AreConsistentWith, AreConsistentFromBelow, IsAmong, AreWeavable, IsSound, IsIntact, IsNearCopy, AreNearCopies, IsIntactInSome}
 use Rattle.ffv1_splice.specs.Laws.{IsNearSplice}
 use Rattle.ffv1_splice.specs.declared.place.Standing.{Standing}
 use Rattle.ffv1_splice.specs.declared.place.Standing.TheVariants.{Settled, Woven, Voted, Repaired, Disputed, Missing, Undivided}
@@ -58,12 +58,12 @@ module _ (original copy : List ℕ) (sound : IsSound original) (near : IsNearCop
 
 module _ (original : List ℕ) (copies : List (List ℕ)) (near : AreNearCopies original copies) where
   -- a start that is claimed is that of the original's link
-  claimed_start : (end start told : ℕ) → IsLinkOf original start end → IsClaimedStart copies end told → told ≡ start
-  claimed_start end start told link h =
+  claimed_start : (end start claim : ℕ) → IsLinkOf original start end → IsClaimedStart copies end claim → claim ≡ start
+  claimed_start end start claim link h =
       let cut : IsCut h.copy start end = near_cut original h.copy near.sound (near.near h.copy h.there) start end link in
-      same_cut h.copy told start end h.cut cut
+      same_cut h.copy claim start end h.cut cut
 
-  pub near_agree : AgreeWith original copies
+  pub near_agree : AreConsistentWith original copies
   near_agree end piece is_end h =
       let cut : IsCut h.copy piece.start end = h.cut in
       let at = link_at original near.sound.whole end is_end (omega arith) in
@@ -76,7 +76,7 @@ module _ (original : List ℕ) (copies : List (List ℕ)) (near : AreNearCopies 
       (mine, ap (λ z. record { start = piece.start; bytes = z }) (h.bytes ∙ intact))
 
   -- a link that is intact in some copy is a piece
-  pub intact_piece : (start end : ℕ) → IsLinkOf original start end → IsIntactInSome original copies start end → IsPiece copies end (piece_of original start end)
+  pub intact_piece : (start end : ℕ) → IsLinkOf original start end → IsIntactInSome original copies start end → IsPiece copies end (link_of original start end)
   intact_piece start end link intact = record {
     copy = intact.0;
     there = intact.1;
@@ -90,8 +90,8 @@ module _ (original : List ℕ) (copies : List (List ℕ)) (near : AreNearCopies 
   are_copies = record { whole = near.sound.whole; one_length = λ copy there. (near.near copy there).same_length }
 
   -- each copy claims the start of each link
-  pub told_link : (copy : List ℕ) → Contains copies copy → (start end : ℕ) → IsLinkOf original start end → IsClaimedStart copies end start
-  told_link copy there start end link =
+  pub claim_link : (copy : List ℕ) → Contains copies copy → (start end : ℕ) → IsLinkOf original start end → IsClaimedStart copies end start
+  claim_link copy there start end link =
       record {
         copy = copy;
         there = there;
@@ -99,10 +99,10 @@ module _ (original : List ℕ) (copies : List (List ℕ)) (near : AreNearCopies 
         content = near.sound.content start end link;
       }
 
-  pub are_weavable : (copy : List ℕ) → Contains copies copy → AgreeFromBelow original copies
+  pub are_weavable : (copy : List ℕ) → Contains copies copy → AreConsistentFromBelow original copies
       → ((start end : ℕ) → IsLinkOf original start end → IsAmong original copies start end) → AreWeavable original copies
   are_weavable copy there below among =
-      record { agree = near_agree; below = below; told = told_link copy there; passes = near.sound.passes; among = among }
+      record { agree = near_agree; below = below; claim = claim_link copy there; passes = near.sound.passes; among = among }
 
   -- the copy of a piece has the link intact
   pub piece_intact : (start end : ℕ) (bytes : List ℕ) → IsLinkOf original start end → IsPiece copies end (record { start = start; bytes = bytes })
@@ -117,42 +117,42 @@ module _ (original : List ℕ) (copies : List (List ℕ)) (near : AreNearCopies 
   -- ---- a division
 
   module _ (spliced : SplicedValue) (is : IsDivisionOf copies spliced) where
-    told_cut : (start end : ℕ) → IsEnd original end → IsClaimedStart copies end start → IsCut original start end
-    told_cut start end is_end told =
-        let cut : IsCut told.copy start end = told.cut in
+    claim_cut : (start end : ℕ) → IsEnd original end → IsClaimedStart copies end start → IsCut original start end
+    claim_cut start end is_end claim =
+        let cut : IsCut claim.copy start end = claim.cut in
         let at = link_at original near.sound.whole end is_end (omega arith) in
-        subst (λ s. IsCut original s end) (sym (claimed_start end at.0 start (record { is_end = is_end; cut = at.1 }) told)) at.1
+        subst (λ s. IsCut original s end) (sym (claimed_start end at.0 start (record { is_end = is_end; cut = at.1 }) claim)) at.1
 
     -- at each end some copy claims a start
-    told_at : (end : ℕ) → IsEnd original end → 0 < end → (start : ℕ) × IsClaimedStart copies end start
-    told_at end is_end after =
+    tally_at : (end : ℕ) → IsEnd original end → 0 < end → (start : ℕ) × IsClaimedStart copies end start
+    tally_at end is_end after =
         let at = link_at original near.sound.whole end is_end after in
-        (at.0, told_link is.before.copy is.before.there at.0 end (record { is_end = is_end; cut = at.1 }))
+        (at.0, claim_link is.before.copy is.before.there at.0 end (record { is_end = is_end; cut = at.1 }))
 
     cuts : (start end : ℕ) (bytes : List ℕ) (standing : Standing) → IsEnd original end → StandsAs copies start end bytes standing → IsCut original start end
     cuts start end bytes Settled is_end h =
-        told_cut start end is_end (record { copy = h.there.copy; there = h.there.there; cut = h.there.cut; content = h.there.content })
+        claim_cut start end is_end (record { copy = h.there.copy; there = h.there.there; cut = h.there.cut; content = h.there.content })
     cuts start end bytes (Woven count) is_end h = elim h [
-      | inl w ↦ told_cut start end is_end w.told.there
+      | inl w ↦ claim_cut start end is_end w.claim.there
       | inr rest ↦ elim rest [
         | inl w ↦ let content : HasContent 0 end = w.1.content in
-            let told = told_at end is_end (omega arith) in absurd (w.1.untold told.0 told.1)
-        | inr w ↦ told_cut start end is_end w.told
+            let claim = tally_at end is_end (omega arith) in absurd (w.1.no_claim claim.0 claim.1)
+        | inr w ↦ claim_cut start end is_end w.claim
       ]
     ]
-    cuts start end bytes (Voted count) is_end h = told_cut start end is_end (unwoven_weave copies start end h.unwoven).1.told.there
-    cuts start end bytes (Repaired count) is_end h = told_cut start end is_end h.missed.told.there
-    cuts start end bytes Disputed is_end h = told_cut start end is_end h.1.told.there
-    cuts start end bytes Missing is_end h = told_cut start end is_end h.1.told.there
+    cuts start end bytes (Voted count) is_end h = claim_cut start end is_end (unwoven_weave copies start end h.unwoven).1.claim.there
+    cuts start end bytes (Repaired count) is_end h = claim_cut start end is_end h.missed.claim.there
+    cuts start end bytes Disputed is_end h = claim_cut start end is_end h.1.claim.there
+    cuts start end bytes Missing is_end h = claim_cut start end is_end h.1.claim.there
     cuts start end bytes Undivided is_end h = absurd h
 
     goes_on : (end : ℕ) → IsEnd original end → 0 < end → IsStop copies end → ⊥
     goes_on end is_end after stop =
         let at = link_at original near.sound.whole end is_end after in
         let link : IsLinkOf original at.0 end = record { is_end = is_end; cut = at.1 } in
-        stop.untold at.0 (record {
-          there = told_link is.before.copy is.before.there at.0 end link;
-          others = λ other told. claimed_start end at.0 other link told;
+        stop.no_claim at.0 (record {
+          there = claim_link is.before.copy is.before.there at.0 end link;
+          others = λ other claim. claimed_start end at.0 other link claim;
         })
 
     pub divided_links : AreLinkPlaces original (length original) spliced.places spliced.front

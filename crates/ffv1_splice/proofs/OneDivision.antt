@@ -4,7 +4,7 @@ use Rattle.std.specs.Prelude.{◌⊎◌}
 use Rattle.std.specs.Ordering.{nat_cmp}
 use Rattle.std.specs.Cmp.Lexicographic.{slice_cmp}
 use Rattle.std.specs.declared.cmp.Ordering.TheVariants.{Less}
-use Rattle.ffv1_slice.specs.Chain.{Piece}
+use Rattle.ffv1_slice.specs.Chain.{LinkValue}
 use Rattle.ffv1_slice.specs.Members.{IsOnly, IsOfTwo, IsOfNone}
 use Rattle.ffv1_splice.specs.Pieces.{IsPiece, IsClaimedStart, IsLeast}
 use Rattle.ffv1_splice.specs.Standings.{versions_at, sized, IsWeaveAt, IsWeaveFromFront, IsUnwovenAt, IsVoteAt, IsUnvotedAt, IsRepairAt, IsMissingAt, StandsAs, IsGap, IsStop}
@@ -47,14 +47,14 @@ module _ (copies : List (List ℕ)) (end : ℕ) where
   one_gap : (standing : Standing) (s t : ℕ) (a b : List ℕ) → IsGap copies s end a → IsGap copies t end b
       → ◌≡◌ {A = StandingValue} (record { start = s; bytes = a; standing = standing }) (record { start = t; bytes = b; standing = standing })
   one_gap standing s t a b h k =
-      let starts : s ≡ t = k.told.others s h.told.there in
+      let starts : s ≡ t = k.claim.others s h.claim.there in
       let bytes : a ≡ b = least_same t a b (subst (λ n. IsLeast copies n end a) starts h.least) k.least in
       ap (λ n. record { start = n; bytes = a; standing = standing }) starts ∙ ap (λ z. record { start = t; bytes = z; standing = standing }) bytes
 
   -- what is woven there
   one_weave_at : (s t : ℕ) (v w : Weave) → IsWeaveAt copies s end v → IsWeaveAt copies t end w → v ≡ w
   one_weave_at s t v w h k =
-      let starts : s ≡ t = k.told.others s h.told.there in
+      let starts : s ≡ t = k.claim.others s h.claim.there in
       same_versions_weave Slice (versions_at copies t end) (versions_at copies t end) v w (λ version. ((λ there. there), λ there. there))
       (subst (λ n. IsWeaveOf Slice (versions_at copies n end) v) starts h.weave') k.weave'
 
@@ -75,13 +75,13 @@ module _ (copies : List (List ℕ)) (end : ℕ) where
   one_woven : (s t : ℕ) (a b : List ℕ) (m n : ℕ) → StandsAs copies s end a (Woven m) → StandsAs copies t end b (Woven n)
       → ◌≡◌ {A = StandingValue} (record { start = s; bytes = a; standing = Woven m }) (record { start = t; bytes = b; standing = Woven n })
   one_woven s t a b m n (inl h) (inl k) =
-      same_woven s t a b m n (k.told.others s h.told.there) (one_weave_at s t (woven a m) (woven b n) h k)
-  one_woven s t a b m n (inl h) (inr (inl k)) = absurd (k.1.untold s h.told.there)
-  one_woven s t a b m n (inl h) (inr (inr k)) = absurd (two_not_only (IsClaimedStart copies end) k.several s h.told)
-  one_woven s t a b m n (inr (inl h)) (inl k) = absurd (h.1.untold t k.told.there)
-  one_woven s t a b m n (inr (inl h)) (inr (inr k)) = absurd (h.1.untold t k.told)
-  one_woven s t a b m n (inr (inr h)) (inl k) = absurd (two_not_only (IsClaimedStart copies end) h.several t k.told)
-  one_woven s t a b m n (inr (inr h)) (inr (inl k)) = absurd (k.1.untold s h.told)
+      same_woven s t a b m n (k.claim.others s h.claim.there) (one_weave_at s t (woven a m) (woven b n) h k)
+  one_woven s t a b m n (inl h) (inr (inl k)) = absurd (k.1.no_claim s h.claim.there)
+  one_woven s t a b m n (inl h) (inr (inr k)) = absurd (two_not_only (IsClaimedStart copies end) k.several s h.claim)
+  one_woven s t a b m n (inr (inl h)) (inl k) = absurd (h.1.no_claim t k.claim.there)
+  one_woven s t a b m n (inr (inl h)) (inr (inr k)) = absurd (h.1.no_claim t k.claim)
+  one_woven s t a b m n (inr (inr h)) (inl k) = absurd (two_not_only (IsClaimedStart copies end) h.several t k.claim)
+  one_woven s t a b m n (inr (inr h)) (inr (inl k)) = absurd (k.1.no_claim s h.claim)
   one_woven s t a b m n (inr (inr h)) (inr (inr k)) =
       same_woven s t a b m n (one_start copies end s t a b m n h k) (one_several copies end s t a b m n h k)
   one_woven s t a b m n (inr (inl h)) (inr (inl k)) =
@@ -104,8 +104,8 @@ module _ (copies : List (List ℕ)) (end : ℕ) where
   -- where something is woven, there is no other weave
   not_woven_and : (s t : ℕ) (a : List ℕ) (m : ℕ) (w : Weave) → (woven a m ≡ w → ⊥) → StandsAs copies s end a (Woven m) → IsWeaveAt copies t end w → ⊥
   not_woven_and s t a m w apart (inl h) k = apart (one_weave_at s t (woven a m) w h k)
-  not_woven_and s t a m w apart (inr (inl h)) k = h.1.untold t k.told.there
-  not_woven_and s t a m w apart (inr (inr h)) k = two_not_only (IsClaimedStart copies end) h.several t k.told
+  not_woven_and s t a m w apart (inr (inl h)) k = h.1.no_claim t k.claim.there
+  not_woven_and s t a m w apart (inr (inr h)) k = two_not_only (IsClaimedStart copies end) h.several t k.claim
 
   not_woven_and_repaired : (s t : ℕ) (a b : List ℕ) (m n : ℕ) → StandsAs copies s end a (Woven m) → IsRepairAt copies t end b n → ⊥
   not_woven_and_repaired s t a b m n h k = not_woven_and s t a m (missing k.combinations) (λ e. absurd (cc)) h k.missed
@@ -124,33 +124,33 @@ module _ (copies : List (List ℕ)) (end : ℕ) where
   not_woven_and_missing s t a m h k = not_woven_and_unwoven s t a m h (missing_unwoven copies t end k)
 
   -- what is voted there, as of the one start that is claimed
-  voted_told : (s : ℕ) (a : List ℕ) (m : ℕ) → IsVoteAt copies s end a m → IsOnly (IsClaimedStart copies end) s
-  voted_told s a m h = (unwoven_weave copies s end h.unwoven).1.told
+  voted_claim : (s : ℕ) (a : List ℕ) (m : ℕ) → IsVoteAt copies s end a m → IsOnly (IsClaimedStart copies end) s
+  voted_claim s a m h = (unwoven_weave copies s end h.unwoven).1.claim
 
   vote_from : (s t : ℕ) (a : List ℕ) (m : ℕ) → IsVoteAt copies s end a m → IsOnly (IsClaimedStart copies end) t → IsVoteOf (versions_at copies t end) a m
-  vote_from s t a m h told = subst (λ n. IsVoteOf (versions_at copies n end) a m) (told.others s (voted_told s a m h).there) h.vote
+  vote_from s t a m h claim = subst (λ n. IsVoteOf (versions_at copies n end) a m) (claim.others s (voted_claim s a m h).there) h.vote
 
   one_voted : (s t : ℕ) (a b : List ℕ) (m n : ℕ) → IsVoteAt copies s end a m → IsVoteAt copies t end b n
       → ◌≡◌ {A = StandingValue} (record { start = s; bytes = a; standing = Voted m }) (record { start = t; bytes = b; standing = Voted n })
   one_voted s t a b m n h k =
-      let same = same_versions_vote.one (versions_at copies t end) a b m n (vote_from s t a m h (voted_told t b n k)) k.vote in
-      same_made Voted s t a b m n ((voted_told t b n k).others s (voted_told s a m h).there) same.0 same.1
+      let same = same_versions_vote.one (versions_at copies t end) a b m n (vote_from s t a m h (voted_claim t b n k)) k.vote in
+      same_made Voted s t a b m n ((voted_claim t b n k).others s (voted_claim s a m h).there) same.0 same.1
 
   not_voted_and_repaired : (s t : ℕ) (a b : List ℕ) (m n : ℕ) → IsVoteAt copies s end a m → IsRepairAt copies t end b n → ⊥
-  not_voted_and_repaired s t a b m n h k = k.unvoted a m (vote_from s t a m h k.missed.told)
+  not_voted_and_repaired s t a b m n h k = k.unvoted a m (vote_from s t a m h k.missed.claim)
 
   not_voted_and_missing : (s t : ℕ) (a : List ℕ) (m : ℕ) → IsVoteAt copies s end a m → IsMissingAt copies t end → ⊥
-  not_voted_and_missing s t a m h k = k.1 a m (vote_from s t a m h (unwoven_weave copies t end (missing_unwoven copies t end k)).1.told)
+  not_voted_and_missing s t a m h k = k.1 a m (vote_from s t a m h (unwoven_weave copies t end (missing_unwoven copies t end k)).1.claim)
 
   -- what is repaired there, as of the one start that is claimed
   repair_from : (s t : ℕ) (a : List ℕ) (m : ℕ) → IsRepairAt copies s end a m → IsOnly (IsClaimedStart copies end) t → IsRepairOf (versions_at copies t end) a m
-  repair_from s t a m h told = subst (λ n. IsRepairOf (versions_at copies n end) a m) (told.others s h.missed.told.there) h.repair
+  repair_from s t a m h claim = subst (λ n. IsRepairOf (versions_at copies n end) a m) (claim.others s h.missed.claim.there) h.repair
 
   one_repaired : (s t : ℕ) (a b : List ℕ) (m n : ℕ) → IsRepairAt copies s end a m → IsRepairAt copies t end b n
       → ◌≡◌ {A = StandingValue} (record { start = s; bytes = a; standing = Repaired m }) (record { start = t; bytes = b; standing = Repaired n })
   one_repaired s t a b m n h k =
-      let same = same_versions_repair.one (versions_at copies t end) a b m n (repair_from s t a m h k.missed.told) k.repair in
-      same_made Repaired s t a b m n (k.missed.told.others s h.missed.told.there) same.0 same.1
+      let same = same_versions_repair.one (versions_at copies t end) a b m n (repair_from s t a m h k.missed.claim) k.repair in
+      same_made Repaired s t a b m n (k.missed.claim.others s h.missed.claim.there) same.0 same.1
 
   not_repaired_and_disputed : (s t : ℕ) (a : List ℕ) (m : ℕ) → IsRepairAt copies s end a m
       → IsOfTwo (IsPiece copies end) ⊎ IsWeaveAt copies t end disputed → ⊥
@@ -158,7 +158,7 @@ module _ (copies : List (List ℕ)) (end : ℕ) where
   not_repaired_and_disputed s t a m h (inr w) = let e = one_weave_at s t (missing h.combinations) disputed h.missed w in absurd (cc)
 
   not_repaired_and_missing : (s t : ℕ) (a : List ℕ) (m : ℕ) → IsRepairAt copies s end a m → IsMissingAt copies t end → ⊥
-  not_repaired_and_missing s t a m h (inl w, unvoted) = w.1 a m (repair_from s t a m h w.0.1.told)
+  not_repaired_and_missing s t a m h (inl w, unvoted) = w.1 a m (repair_from s t a m h w.0.1.claim)
   not_repaired_and_missing s t a m h (inr w, unvoted) = let e = one_weave_at s t (missing h.combinations) too_many h.missed w in absurd (cc)
 
   not_disputed_and_unwoven : (s t : ℕ) → IsOfTwo (IsPiece copies end) ⊎ IsWeaveAt copies s end disputed → IsUnwovenAt copies t end → ⊥
@@ -169,14 +169,14 @@ module _ (copies : List (List ℕ)) (end : ℕ) where
   not_disputed_and_missing : (s t : ℕ) → IsOfTwo (IsPiece copies end) ⊎ IsWeaveAt copies s end disputed → IsMissingAt copies t end → ⊥
   not_disputed_and_missing s t h k = not_disputed_and_unwoven s t h (missing_unwoven copies t end k)
 
-  not_settled_and_disputed : (piece : Piece) (t : ℕ) → IsOnly (IsPiece copies end) piece → IsOfTwo (IsPiece copies end) ⊎ IsWeaveAt copies t end disputed → ⊥
+  not_settled_and_disputed : (piece : LinkValue) (t : ℕ) → IsOnly (IsPiece copies end) piece → IsOfTwo (IsPiece copies end) ⊎ IsWeaveAt copies t end disputed → ⊥
   not_settled_and_disputed piece t h (inl two) = two_not_only (IsPiece copies end) two piece h
   not_settled_and_disputed piece t h (inr w) = w.none piece h.there
 
   pub one_standing : (s t : ℕ) (a b : List ℕ) (x y : Standing) → StandsAs copies s end a x → StandsAs copies t end b y
       → ◌≡◌ {A = StandingValue} (record { start = s; bytes = a; standing = x }) (record { start = t; bytes = b; standing = y })
   one_standing s t a b Settled Settled h k =
-      ap (λ (p : Piece). record { start = p.start; bytes = p.bytes; standing = Settled }) (k.others (record { start = s; bytes = a }) h.there)
+      ap (λ (p : LinkValue). record { start = p.start; bytes = p.bytes; standing = Settled }) (k.others (record { start = s; bytes = a }) h.there)
   one_standing s t a b Settled (Woven n) h k = absurd (woven_unsettled t b n k (record { start = s; bytes = a }) h.there)
   one_standing s t a b Settled (Voted n) h k = absurd (unwoven_unsettled t k.unwoven (record { start = s; bytes = a }) h.there)
   one_standing s t a b Settled (Repaired n) h k = absurd (k.missed.none (record { start = s; bytes = a }) h.there)
@@ -222,13 +222,13 @@ module _ (copies : List (List ℕ)) (end : ℕ) where
 
   pub stop_not_stands : (start : ℕ) (bytes : List ℕ) (standing : Standing) → IsStop copies end → StandsAs copies start end bytes standing → ⊥
   stop_not_stands start bytes Settled stop h = stop.unsettled (record { start = start; bytes = bytes }) h
-  stop_not_stands start bytes (Woven count) stop (inl h) = stop.untold start h.told
+  stop_not_stands start bytes (Woven count) stop (inl h) = stop.no_claim start h.claim
   stop_not_stands start bytes (Woven count) stop (inr (inl h)) = stop.unclaimed bytes count h.1
   stop_not_stands start bytes (Woven count) stop (inr (inr h)) = stop.unwoven start bytes count h
-  stop_not_stands start bytes (Voted count) stop h = stop.untold start (voted_told start bytes count h)
-  stop_not_stands start bytes (Repaired count) stop h = stop.untold start h.missed.told
-  stop_not_stands start bytes Disputed stop h = stop.untold start h.1.told
-  stop_not_stands start bytes Missing stop h = stop.untold start h.1.told
+  stop_not_stands start bytes (Voted count) stop h = stop.no_claim start (voted_claim start bytes count h)
+  stop_not_stands start bytes (Repaired count) stop h = stop.no_claim start h.missed.claim
+  stop_not_stands start bytes Disputed stop h = stop.no_claim start h.1.claim
+  stop_not_stands start bytes Missing stop h = stop.no_claim start h.1.claim
   stop_not_stands start bytes Undivided stop h = absurd h
 
 -- ---- one division
@@ -263,11 +263,11 @@ one_division copies end ps qs f g a b (goes {start = s} {front = u} {standing = 
 -- ---- the same copies have the same pieces and claimed starts
 
 module _ (copies others : List (List ℕ)) (same : HasSameMembers copies others) where
-  pub piece_there : (end : ℕ) (piece : Piece) → IsPiece copies end piece → IsPiece others end piece
+  pub piece_there : (end : ℕ) (piece : LinkValue) → IsPiece copies end piece → IsPiece others end piece
   piece_there end piece h =
       record { copy = h.copy; there = (same h.copy).0 h.there; cut = h.cut; content = h.content; bytes = h.bytes; passes = h.passes }
 
-  pub piece_here : (end : ℕ) (piece : Piece) → IsPiece others end piece → IsPiece copies end piece
+  pub piece_here : (end : ℕ) (piece : LinkValue) → IsPiece others end piece → IsPiece copies end piece
   piece_here end piece h =
       record { copy = h.copy; there = (same h.copy).1 h.there; cut = h.cut; content = h.content; bytes = h.bytes; passes = h.passes }
 
@@ -290,7 +290,7 @@ module _ (copies others : List (List ℕ)) (same : HasSameMembers copies others)
   gap_there : (start end : ℕ) (bytes : List ℕ) → IsGap copies start end bytes → IsGap others start end bytes
   gap_there start end bytes h =
       record {
-        told = only_same (IsClaimedStart copies end) (IsClaimedStart others end) (start_there end) (start_here end) start h.told;
+        claim = only_same (IsClaimedStart copies end) (IsClaimedStart others end) (start_there end) (start_here end) start h.claim;
         least = least_there start end bytes h.least;
       }
 
@@ -298,7 +298,7 @@ module _ (copies others : List (List ℕ)) (same : HasSameMembers copies others)
   weave_at_there start end weave h =
       record {
         none = λ piece p. h.none piece (piece_here end piece p);
-        told = only_same (IsClaimedStart copies end) (IsClaimedStart others end) (start_there end) (start_here end) start h.told;
+        claim = only_same (IsClaimedStart copies end) (IsClaimedStart others end) (start_there end) (start_here end) start h.claim;
         weave' = weave_as Slice (versions_at copies start end) (versions_at others start end) (same_versions copies others same start end) weave h.weave';
       }
 
@@ -306,7 +306,7 @@ module _ (copies others : List (List ℕ)) (same : HasSameMembers copies others)
   front_there end weave h =
       record {
         none = λ piece p. h.none piece (piece_here end piece p);
-        untold = λ start told. h.untold start (start_here end start told);
+        no_claim = λ start claim. h.no_claim start (start_here end start claim);
         content = h.content;
         short = h.short;
         weave' = weave_as Slice (map sized (versions_at copies 0 end)) (map sized (versions_at others 0 end)) (same_sized copies others same 0 end) weave
@@ -317,7 +317,7 @@ module _ (copies others : List (List ℕ)) (same : HasSameMembers copies others)
   front_here end weave h =
       record {
         none = λ piece p. h.none piece (piece_there end piece p);
-        untold = λ start told. h.untold start (start_there end start told);
+        no_claim = λ start claim. h.no_claim start (start_there end start claim);
         content = h.content;
         short = h.short;
         weave' = weave_as Slice (map sized (versions_at others 0 end)) (map sized (versions_at copies 0 end))
@@ -388,7 +388,7 @@ module _ (copies others : List (List ℕ)) (same : HasSameMembers copies others)
   stop_there end h =
       record {
         unsettled = λ piece only. h.unsettled piece (only_same (IsPiece others end) (IsPiece copies end) (piece_here end) (piece_there end) piece only);
-        untold = λ start only. h.untold start (only_same (IsClaimedStart others end) (IsClaimedStart copies end) (start_here end) (start_there end) start only);
+        no_claim = λ start only. h.no_claim start (only_same (IsClaimedStart others end) (IsClaimedStart copies end) (start_here end) (start_there end) start only);
         unclaimed = λ bytes count front. h.unclaimed bytes count (front_here end (woven bytes count) front);
         unwoven = λ start bytes count several.
             h.unwoven start bytes count (several_as others copies (same_back copies others same) end start bytes count several);

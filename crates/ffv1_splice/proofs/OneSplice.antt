@@ -2,7 +2,7 @@
 use Rattle.std.proofs.Common.{◌≡◌, ℕ, ◌-◌, ◌≤◌, List, [], ◌∷◌, ◌++◌, length, refl, sym, ap, ◌∙◌, subst, arith, inl, inr}
 use Rattle.std.specs.Prelude.{◌⊎◌, All, reverse, slice_range}
 use Rattle.std.proofs.lemmas.List.Elements.{All-nil, All-cons, All-head, All-tail, All-append, All-weaker}
-use Rattle.ffv1_slice.specs.Chain.{Piece, piece_of}
+use Rattle.ffv1_slice.specs.Chain.{LinkValue, link_of}
 use Rattle.ffv1_slice.specs.Members.{IsOnly, HasSameMembers}
 use Rattle.ffv1_splice.specs.Pieces.{IsPiece, IsClaimedStart, PieceFrom, IsPieceFrom, IsShortest}
 use Rattle.ffv1_splice.specs.Standings.{versions_at, StandsAs}
@@ -36,10 +36,10 @@ module _ (copies others : List (List ℕ)) (same : HasSameMembers copies others)
   shortest_here bound start piece h =
       record { there = from_here bound start piece h.there; least = λ other k. h.least other (from_there bound start other k) }
 
-  only_there : (end : ℕ) (piece : Piece) → IsOnly (IsPiece copies end) piece → IsOnly (IsPiece others end) piece
+  only_there : (end : ℕ) (piece : LinkValue) → IsOnly (IsPiece copies end) piece → IsOnly (IsPiece others end) piece
   only_there end = only_same copies others same (IsPiece copies end) (IsPiece others end) (piece_there copies others same end) (piece_here copies others same end)
 
-  only_here : (end : ℕ) (piece : Piece) → IsOnly (IsPiece others end) piece → IsOnly (IsPiece copies end) piece
+  only_here : (end : ℕ) (piece : LinkValue) → IsOnly (IsPiece others end) piece → IsOnly (IsPiece copies end) piece
   only_here end = only_same copies others same (IsPiece others end) (IsPiece copies end) (piece_here copies others same end) (piece_there copies others same end)
 
   bound_there : (end bound : ℕ) → IsBound copies end bound → IsBound others end bound
@@ -54,7 +54,7 @@ module _ (copies others : List (List ℕ)) (same : HasSameMembers copies others)
         settled = All-weaker (IsSettledDown copies payload) (IsSettledDown others payload)
             (λ place settled. record {
               standing = settled.standing;
-              only = only_there place.end (piece_of payload place.start place.end) settled.only;
+              only = only_there place.end (link_of payload place.start place.end) settled.only;
             }) places h.settled;
         stop = λ piece only. h.stop piece (only_here end piece only);
       }
@@ -68,7 +68,7 @@ module _ (copies others : List (List ℕ)) (same : HasSameMembers copies others)
             (λ place settled. record {
               standing = settled.standing;
               first = shortest_there bound place.start (record { end = place.end; bytes = slice_range payload place.start place.end }) settled.first;
-              only = only_there place.end (piece_of payload place.start place.end) settled.only;
+              only = only_there place.end (link_of payload place.start place.end) settled.only;
             }) places h.settled;
         stop = λ piece first only. h.stop piece (shortest_here bound start piece first)
             (only_here piece.end (record { start = start; bytes = piece.bytes }) only);
@@ -79,8 +79,8 @@ module _ (copies others : List (List ℕ)) (same : HasSameMembers copies others)
       record {
         lost = λ piece k. h.lost piece (from_here reach 0 piece k);
         end' = only_same copies others same (IsClaimedEnd copies reach) (IsClaimedEnd others reach)
-            (λ at k. record { told = start_there copies others same at 0 k.told; within = k.within })
-            (λ at k. record { told = start_here copies others same at 0 k.told; within = k.within }) end h.end';
+            (λ at k. record { claim = start_there copies others same at 0 k.claim; within = k.within })
+            (λ at k. record { claim = start_here copies others same at 0 k.claim; within = k.within }) end h.end';
         start = only_same copies others same (IsClaimedStart copies end) (IsClaimedStart others end) (start_there copies others same end)
             (start_here copies others same end) 0 h.start;
         none = λ piece k. h.none piece (piece_here copies others same end piece k);
@@ -172,27 +172,27 @@ module _ (a b : List ℕ) (p q : Place) (starts : p.start ≡ q.start) (ends : p
 
 module _ (copies : List (List ℕ)) (a b : List ℕ) where
   -- of places that end alike, each with the only piece that ends there
-  same_piece : (p q : Place) → p.end ≡ q.end → IsOnly (IsPiece copies p.end) (piece_of a p.start p.end)
-      → IsOnly (IsPiece copies q.end) (piece_of b q.start q.end) → piece_of a p.start p.end ≡ piece_of b q.start q.end
-  same_piece p q ends h k = k.others (piece_of a p.start p.end) (subst (λ n. IsPiece copies n (piece_of a p.start p.end)) ends h.there)
+  same_piece : (p q : Place) → p.end ≡ q.end → IsOnly (IsPiece copies p.end) (link_of a p.start p.end)
+      → IsOnly (IsPiece copies q.end) (link_of b q.start q.end) → link_of a p.start p.end ≡ link_of b q.start q.end
+  same_piece p q ends h k = k.others (link_of a p.start p.end) (subst (λ n. IsPiece copies n (link_of a p.start p.end)) ends h.there)
 
   one_down : (from : ℕ) (ps qs : List Place) (s t : ℕ) → LieFrom from ps s → LieFrom from qs t → All (IsSettledDown copies a) ps
-      → All (IsSettledDown copies b) qs → ((piece : Piece) → IsOnly (IsPiece copies s) piece → ⊥) → ((piece : Piece) → IsOnly (IsPiece copies t) piece → ⊥)
+      → All (IsSettledDown copies b) qs → ((piece : LinkValue) → IsOnly (IsPiece copies s) piece → ⊥) → ((piece : LinkValue) → IsOnly (IsPiece copies t) piece → ⊥)
       → IsOneWalk a b ps qs s t
   one_down from [] [] s t lie lay h k stop halt = record { places = refl; stop = sym lie ∙ lay; bytes = All-nil (IsSameAt a b) }
   one_down from [] (q ∷ qs) s t lie lay h k stop halt =
-      absurd (stop (piece_of b q.start q.end) (subst (λ n. IsOnly (IsPiece copies n) (piece_of b q.start q.end)) (lay.0 ∙ lie)
+      absurd (stop (link_of b q.start q.end) (subst (λ n. IsOnly (IsPiece copies n) (link_of b q.start q.end)) (lay.0 ∙ lie)
       (All-head (IsSettledDown copies b) q qs k).only))
   one_down from (p ∷ ps) [] s t lie lay h k stop halt =
-      absurd (halt (piece_of a p.start p.end) (subst (λ n. IsOnly (IsPiece copies n) (piece_of a p.start p.end)) (lie.0 ∙ lay)
+      absurd (halt (link_of a p.start p.end) (subst (λ n. IsOnly (IsPiece copies n) (link_of a p.start p.end)) (lie.0 ∙ lay)
       (All-head (IsSettledDown copies a) p ps h).only))
   one_down from (p ∷ ps) (q ∷ qs) s t lie lay h k stop halt =
       let mine = All-head (IsSettledDown copies a) p ps h in
       let yours = All-head (IsSettledDown copies b) q qs k in
       let ends : p.end ≡ q.end = lie.0 ∙ sym lay.0 in
       let piece = same_piece p q ends mine.only yours.only in
-      let starts : p.start ≡ q.start = ap (λ (x : Piece). x.start) piece in
-      one_more a b p q starts ends ps qs s t (mine.standing ∙ sym yours.standing) (ap (λ (x : Piece). x.bytes) piece)
+      let starts : p.start ≡ q.start = ap (λ (x : LinkValue). x.start) piece in
+      one_more a b p q starts ends ps qs s t (mine.standing ∙ sym yours.standing) (ap (λ (x : LinkValue). x.bytes) piece)
       (one_down p.start ps qs s t lie.1 (subst (λ n. LieFrom n qs t) (sym starts) lay.1) (All-tail (IsSettledDown copies a) p ps h)
       (All-tail (IsSettledDown copies b) q qs k) stop halt)
 
@@ -234,7 +234,7 @@ module _ (copies : List (List ℕ)) (bound : ℕ) where
         same_end p.start q.start (record { end = p.end; bytes = slice_range a p.start p.end }) (record { end = q.end; bytes = slice_range b q.start q.end })
         starts mine.first yours.first in
         one_more a b p q starts ends ps qs s t (mine.standing ∙ sym yours.standing)
-        (ap (λ (x : Piece). x.bytes) (same_piece copies a b p q ends mine.only yours.only))
+        (ap (λ (x : LinkValue). x.bytes) (same_piece copies a b p q ends mine.only yours.only))
         (one_up p.end ps qs s t rise.1 (subst (λ n. RiseFrom n qs t) (sym ends) risen.1) (All-tail (IsSettledUp copies bound a) p ps h)
         (All-tail (IsSettledUp copies bound b) q qs k) stop halt)
 

@@ -3,20 +3,20 @@ use Rattle.std.proofs.Common.{◌≡◌, ℕ, ◌+◌, ◌-◌, ◌<◌, ◌≤�
 use Rattle.std.specs.Prelude.{All, slice_range}
 use Rattle.std.proofs.lemmas.List.Elements.{All-nil, All-cons, All-head, All-tail, All-append, All-weaker}
 use Rattle.std.proofs.lemmas.Bool.{cases_lt}
-use Rattle.ffv1_slice.specs.Chain.{IsCut, IsEnd, IsLinkOf, Piece, piece_of}
+use Rattle.ffv1_slice.specs.Chain.{IsCut, IsEnd, IsLinkOf, LinkValue, link_of}
 use Rattle.ffv1_slice.specs.Chain.IsEnd.{last, before}
 use Rattle.ffv1_splice.specs.Pieces.{HasContent, IsClaimedStart, PieceFrom}
 use Rattle.ffv1_splice.specs.Standings.{versions_at}
 use Rattle.ffv1_splice.specs.Splice.{SplicedValue, LieFrom, RiseFrom, IsSettledDown, IsSettledUp, IsCrossed, Leg, AreLegs, leg_places, IsSpliceOf, moved_by}
-use Rattle.ffv1_splice.specs.Originals.{AreCopiesOf, AgreeWith, AgreeFromBelow, HaveEachLink}
-use Rattle.ffv1_splice.specs.Laws.{IsOriginal, OriginalIsSpliced, SettledIsOriginal, IsItsLink, SettledWalksAreOriginal, IsLinkIfSettled, WalkAcrossIsOriginal}
+use Rattle.ffv1_splice.specs.Originals.{AreCopiesOf, AreConsistentWith, AreConsistentFromBelow, HaveEachLink}
+use Rattle.ffv1_splice.specs.Laws.{IsSplicedOriginal, OriginalIsSpliced, SettledIsOriginal, IsItsLink, SettledWalksAreOriginal, IsLinkIfSettled, WalkAcrossIsOriginal}
 use Rattle.ffv1_splice.specs.declared.place.Standing.TheVariants.{Settled}
 use Rattle.ffv1_splice.specs.declared.place.Place.{Place}
 use Rattle.ffv1_splice.proofs.BoundSteps.{bound_within}
 use Rattle.ffv1_splice.proofs.Walks.{front_below}
 use Rattle.ffv1_splice.proofs.DividedLinks.{end_within, link_at, AreLinkPlaces, agree_one}
 use Rattle.ffv1_splice.proofs.NarrowedOriginal.{next_end, link_out, links_of_places}
-use Rattle.ffv1_splice.proofs.Narrowed.{told_in}
+use Rattle.ffv1_splice.proofs.Narrowed.{claim_in}
 use Rattle.ffv1_splice.proofs.Crossings.{crossed_rising, crossed_within, crossed_unsettled}
 use Rattle.ffv1_splice.proofs.PlaceLists.{no_undivided, whole_front}
 use Rattle.ffv1_splice.proofs.SplicePlaces.{all_places, copy_at_hand, places_lie, lower, lower_upright, lower_within, start_within, hole_length, hole_rising, hole_upright}
@@ -27,8 +27,8 @@ use Rattle.ffv1_splice.proofs.SameBytes.{IsSameAt, same_by_parts}
 
 pub settled_is_original : SettledIsOriginal
 settled_is_original original copies spliced place agree is there settled is_end =
-    let told = agree place.end (piece_of spliced.payload place.start place.end) is_end (settled_piece copies spliced is place there settled) in
-    (told.0, ap (λ (piece : Piece). piece.bytes) told.1)
+    let claim = agree place.end (link_of spliced.payload place.start place.end) is_end (settled_piece copies spliced is place there settled) in
+    (claim.0, ap (λ (piece : LinkValue). piece.bytes) claim.1)
 
 -- a link begins at each end before the last
 link_from : (original : List ℕ) (start : ℕ) → IsEnd original start → start < length original → (end : ℕ) × IsLinkOf original start end
@@ -41,21 +41,21 @@ pub record AreWalkLinks (original : List ℕ) (spliced : SplicedValue) (places :
   pub is_end : IsEnd original stop
 
 module _ (original : List ℕ) (copies : List (List ℕ)) (spliced : SplicedValue) where
-  links_down : AgreeWith original copies → (end : ℕ) (places : List Place) (front : ℕ) → IsEnd original end → LieFrom end places front
+  links_down : AreConsistentWith original copies → (end : ℕ) (places : List Place) (front : ℕ) → IsEnd original end → LieFrom end places front
       → All (IsSettledDown copies spliced.payload) places → AreWalkLinks original spliced places front
   links_down agree end [] front is_end lie settled = record { links = All-nil (IsItsLink original spliced); is_end = subst (IsEnd original) lie is_end }
   links_down agree end (place ∷ places) front is_end lie settled =
       let here = All-head (IsSettledDown copies spliced.payload) place places settled in
-      let told = agree place.end (piece_of spliced.payload place.start place.end) (subst (IsEnd original) (sym lie.0) is_end) here.only.there in
-      let rest = links_down agree place.start places front (before told.0.is_end told.0.cut) lie.1
+      let claim = agree place.end (link_of spliced.payload place.start place.end) (subst (IsEnd original) (sym lie.0) is_end) here.only.there in
+      let rest = links_down agree place.start places front (before claim.0.is_end claim.0.cut) lie.1
       (All-tail (IsSettledDown copies spliced.payload) place places settled) in
       record {
         links = All-cons (IsItsLink original spliced) place places
-            (record { link = told.0; bytes = ap (λ (piece : Piece). piece.bytes) told.1 }) rest.links;
+            (record { link = claim.0; bytes = ap (λ (piece : LinkValue). piece.bytes) claim.1 }) rest.links;
         is_end = rest.is_end;
       }
 
-  module _ (agree : AgreeFromBelow original copies) (bound : ℕ) (within : bound ≤ length original) where
+  module _ (agree : AreConsistentFromBelow original copies) (bound : ℕ) (within : bound ≤ length original) where
     link_up : (place : Place) → IsEnd original place.start → IsSettledUp copies bound spliced.payload place → IsItsLink original spliced place
     link_up place is_end settled =
         let piece : PieceFrom = record { end = place.end; bytes = slice_range spliced.payload place.start place.end } in
@@ -86,7 +86,7 @@ pub record AreLegLinks (original : List ℕ) (spliced : SplicedValue) (legs : Li
 -- ---- both walks
 
 module _ (original : List ℕ) (copies : List (List ℕ)) (spliced : SplicedValue) (is : IsSpliceOf copies spliced) (of : AreCopiesOf original copies)
-    (agree : AgreeWith original copies) where
+    (agree : AreConsistentWith original copies) where
   pub as_long : length spliced.payload ≡ length original
   as_long = let copy = copy_at_hand copies spliced is in sym (is.one_length copy.0 copy.1) ∙ of.one_length copy.0 copy.1
 
@@ -100,7 +100,7 @@ module _ (original : List ℕ) (copies : List (List ℕ)) (spliced : SplicedValu
       let inside = end_within original is.end above_links.is_end in
       omega arith
 
-  pub below_links : AgreeFromBelow original copies → AreWalkLinks original spliced is.below is.floor
+  pub below_links : AreConsistentFromBelow original copies → AreWalkLinks original spliced is.below is.floor
   below_links below =
       links_up original copies spliced below is.bound bound_inside 0 is.below is.floor of.whole is.up.rise is.up.settled
 
@@ -115,8 +115,8 @@ module _ (original : List ℕ) (copies : List (List ℕ)) (spliced : SplicedValu
 
   -- ---- over lost slices
 
-  module _ (from_below : AgreeFromBelow original copies)
-      (told : (start end : ℕ) → IsLinkOf original start end → IsClaimedStart copies end start) where
+  module _ (from_below : AreConsistentFromBelow original copies)
+      (claim : (start end : ℕ) → IsLinkOf original start end → IsClaimedStart copies end start) where
     -- the end that alone is claimed is the link's
     crossed_link : (place : Place) → IsEnd original place.start → IsCrossed copies is.bound spliced.payload place
         → IsLinkOf original place.start place.end
@@ -129,11 +129,11 @@ module _ (original : List ℕ) (copies : List (List ℕ)) (spliced : SplicedValu
         let there : next.0 ≡ place.start + (next.0 - place.start) = omega arith in
         let here : place.start ≡ place.start + 0 = omega arith in
         let footer : IsClaimedStart (versions_at copies place.start is.bound) (next.0 - place.start) 0 =
-        told_in place.start is.bound copies (next.0 - place.start) 0 (omega arith)
+        claim_in place.start is.bound copies (next.0 - place.start) 0 (omega arith)
         (subst (IsClaimedStart copies (place.start + (next.0 - place.start))) here
-        (subst (λ n. IsClaimedStart copies n place.start) there (told place.start next.0 next.1))) in
+        (subst (λ n. IsClaimedStart copies n place.start) there (claim place.start next.0 next.1))) in
         let size : next.0 - place.start ≡ crossed.size =
-        crossed.lost.end'.others (next.0 - place.start) (record { told = footer; within = omega arith }) in
+        crossed.lost.end'.others (next.0 - place.start) (record { claim = footer; within = omega arith }) in
         let ends : next.0 ≡ place.end = omega (arith, crossed.ends) in
         subst (IsLinkOf original place.start) ends next.1
 
@@ -158,7 +158,7 @@ module _ (original : List ℕ) (copies : List (List ℕ)) (spliced : SplicedValu
     across_links = links_across is.floor is.legs is.start (below_links from_below).is_end is.across.are
 
 pub walk_across_is_original : WalkAcrossIsOriginal
-walk_across_is_original original copies spliced of agree below told is = (across_links original copies spliced is of agree below told).links
+walk_across_is_original original copies spliced of agree below claim is = (across_links original copies spliced is of agree below claim).links
 
 pub settled_walks_are_original : SettledWalksAreOriginal
 settled_walks_are_original original copies spliced of agree below is =
@@ -182,7 +182,7 @@ has_links original copies spliced is long whole links =
 -- They are where the walks agree with the original, the places of the legs are its links, and the hole's places are links of what it has
 -- there.
 pub joined_links : (original : List ℕ) (copies : List (List ℕ)) (spliced : SplicedValue) (is : IsSpliceOf copies spliced) → AreCopiesOf original copies
-    → AgreeWith original copies → AgreeFromBelow original copies → All (IsLinkIfSettled original spliced) (leg_places is.legs)
+    → AreConsistentWith original copies → AreConsistentFromBelow original copies → All (IsLinkIfSettled original spliced) (leg_places is.legs)
     → All (λ place. IsLinkOf (slice_range original is.start is.end) place.start place.end) is.hole.places → is.hole.front ≡ 0
     → AreLinkPlaces original (length original) spliced.places spliced.front
 joined_links original copies spliced is of agree from_below across hole none =
@@ -199,7 +199,7 @@ joined_links original copies spliced is of agree from_below across hole none =
 
 -- ---- copies that have each link
 
-module _ (original : List ℕ) (copies : List (List ℕ)) (of : AreCopiesOf original copies) (agree : AgreeWith original copies)
+module _ (original : List ℕ) (copies : List (List ℕ)) (of : AreCopiesOf original copies) (agree : AreConsistentWith original copies)
     (have : HaveEachLink original copies) (spliced : SplicedValue) (is : IsSpliceOf copies spliced) where
   walk : AreWalkLinks original spliced is.above is.end
   walk = above_links original copies spliced is of agree
@@ -211,9 +211,9 @@ module _ (original : List ℕ) (copies : List (List ℕ)) (of : AreCopiesOf orig
         | inl after ↦
             let link = link_at original of.whole is.end walk.is_end after in
             let piece = have link.0 is.end (record { is_end = walk.is_end; cut = link.1 }) in
-            absurd (is.down.stop (piece_of original link.0 is.end) (record {
+            absurd (is.down.stop (link_of original link.0 is.end) (record {
               there = piece;
-              others = λ other told. agree_one original copies agree is.end other (piece_of original link.0 is.end) walk.is_end told piece;
+              others = λ other claim. agree_one original copies agree is.end other (link_of original link.0 is.end) walk.is_end claim piece;
             }))
         | inr none ↦ omega arith
       ]
@@ -251,7 +251,7 @@ module _ (original : List ℕ) (copies : List (List ℕ)) (of : AreCopiesOf orig
       let none : is.end - is.start ≡ 0 = omega arith in
       is.bytes ∙ ap (λ n. take n (drop is.start spliced.payload)) none ∙ sym (ap (λ n. take n (drop is.start original)) none)
 
-  pub is_original : IsOriginal original spliced
+  pub is_original : IsSplicedOriginal original spliced
   is_original =
       let links = has_links original copies spliced is (as_long original copies spliced is of agree)
       (is.front ∙ whole_front is.start is.hole.front no_hole_front)

@@ -1,7 +1,7 @@
 -- The place that ends at an end of the splice: how long it is, and how it stands.
 use Rattle.std.proofs.Common.{◌≡◌, ℕ, ◌+◌, ◌≤◌, List, length, refl, sym, ap, ◌∙◌, inl, inr, arith}
 use Rattle.std.specs.Prelude.{Contains}
-use Rattle.ffv1_slice.specs.Chain.{IsCut, Piece}
+use Rattle.ffv1_slice.specs.Chain.{IsCut, LinkValue}
 use Rattle.ffv1_slice.proofs.NearLaws.{length-range}
 use Rattle.ffv1_slice.specs.Members.{IsOnly, IsOfTwo, IsOfNone}
 use Rattle.ffv1_splice.specs.Pieces.{IsPiece, IsClaimedStart, IsLeast}
@@ -12,9 +12,9 @@ use Rattle.ffv1_splice.specs.Standings.{versions_at, IsWeaveAt, IsUnwovenAt, IsM
 use Rattle.ffv1_splice.specs.Placing.{IsPlaced}
 use Rattle.ffv1_weave.specs.Parts.{written}
 use Rattle.ffv1_splice.specs.declared.place.Standing.{Standing}
-use Rattle.ffv1_splice.specs.Told.{Tells, starts_told}
-use Rattle.ffv1_splice.specs.declared.told.Starts.{Starts}
-use Rattle.ffv1_splice.specs.declared.told.Starts.TheVariants as starts
+use Rattle.ffv1_splice.specs.Tally.{Tallies, starts_tally}
+use Rattle.ffv1_splice.specs.declared.tally.Starts.{Starts}
+use Rattle.ffv1_splice.specs.declared.tally.Starts.TheVariants as starts
 
 -- ---- how many differ
 
@@ -25,10 +25,10 @@ pub two_not_only : {X : Type 0} (P : X → Type 0) → IsOfTwo P → (x : X) →
 two_not_only P two x h = two.differ (h.others two.one two.one_there ∙ sym (h.others two.other two.other_there))
 
 -- where not one start alone is claimed, none is
-pub untold : (P : ℕ → Type 0) (told : Starts) → Tells P (starts_told told) → ((x : ℕ) → told ≡ starts.One x → ⊥) → (start : ℕ) → IsOnly P start → ⊥
-untold P starts.None h apart = none_not_only P h
-untold P (starts.One x) h apart = λ start only. apart x refl
-untold P starts.Two h apart = two_not_only P h
+pub no_claim : (P : ℕ → Type 0) (claim : Starts) → Tallies P (starts_tally claim) → ((x : ℕ) → claim ≡ starts.One x → ⊥) → (start : ℕ) → IsOnly P start → ⊥
+no_claim P starts.None h apart = none_not_only P h
+no_claim P (starts.One x) h apart = λ start only. apart x refl
+no_claim P starts.Two h apart = two_not_only P h
 
 pub two_not_none : {X : Type 0} (P : X → Type 0) → IsOfTwo P → IsOfNone P → ⊥
 two_not_none P two none = none two.one two.one_there
@@ -42,10 +42,10 @@ AllReach copies end = (copy : List ℕ) → Contains copies copy → end ≤ len
 pub cut_below : (copy : List ℕ) (start end : ℕ) → IsCut copy start end → start + 8 ≤ end
 cut_below copy start end cut = omega arith
 
-pub told_below : (copies : List (List ℕ)) (start end : ℕ) → IsClaimedStart copies end start → start + 8 ≤ end
-told_below copies start end h = cut_below h.copy start end h.cut
+pub claim_below : (copies : List (List ℕ)) (start end : ℕ) → IsClaimedStart copies end start → start + 8 ≤ end
+claim_below copies start end h = cut_below h.copy start end h.cut
 
-pub piece_size : (copies : List (List ℕ)) (end : ℕ) (piece : Piece) → AllReach copies end → IsPiece copies end piece → piece.start + length piece.bytes ≡ end
+pub piece_size : (copies : List (List ℕ)) (end : ℕ) (piece : LinkValue) → AllReach copies end → IsPiece copies end piece → piece.start + length piece.bytes ≡ end
 piece_size copies end piece reach h =
     let below = cut_below h.copy piece.start end h.cut in
     let size = length-range h.copy piece.start end (omega arith) (reach h.copy h.there) in
@@ -61,13 +61,13 @@ least_size copies start end bytes reach below h =
 
 pub gap_size : (copies : List (List ℕ)) (start end : ℕ) (bytes : List ℕ) → AllReach copies end → IsGap copies start end bytes → start + length bytes ≡ end
 gap_size copies start end bytes reach h =
-    least_size copies start end bytes reach (omega (arith, told_below copies start end h.told.there)) h.least
+    least_size copies start end bytes reach (omega (arith, claim_below copies start end h.claim.there)) h.least
 
 -- ---- how it stands
 
 pub stands_weave : (copies : List (List ℕ)) (start end : ℕ) (weave : Weave) → IsOfNone (IsPiece copies end) → IsOnly (IsClaimedStart copies end) start
     → IsWeaveOf Slice (versions_at copies start end) weave → IsWeaveAt copies start end weave
-stands_weave copies start end weave none told is = record { none = none; told = told; weave' = is }
+stands_weave copies start end weave none claim is = record { none = none; claim = claim; weave' = is }
 
 -- where nothing is woven, there is a weave, which is empty
 pub unwoven_weave : (copies : List (List ℕ)) (start end : ℕ) → IsUnwovenAt copies start end → (weave : Weave) × IsWeaveAt copies start end weave

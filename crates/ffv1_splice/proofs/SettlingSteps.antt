@@ -5,7 +5,7 @@ use Rattle.std.proofs.Math.Seq.{drop-append_seam}
 use Rattle.std.proofs.lemmas.List.{drop-drop, take-take, take-append-le, take_all, length-take-le}
 use Rattle.std.proofs.lemmas.Slice.{between_is}
 use Rattle.std.proofs.lemmas.List.Elements.{All-nil, All-cons, All-tail, All-append}
-use Rattle.ffv1_slice.specs.Chain.{Piece}
+use Rattle.ffv1_slice.specs.Chain.{LinkValue}
 use Rattle.ffv1_slice.specs.Members.{IsOnly}
 use Rattle.ffv1_splice.specs.Pieces.{IsPiece, PieceFrom, IsShortest}
 use Rattle.ffv1_weave.specs.Parts.{written}
@@ -166,7 +166,7 @@ module _ (copies : List (List ℕ)) (bound : ℕ) where
 
   -- where another piece ends at the end of one of the shortest, none is settled
   pub shared_end : (start : ℕ) (one : PieceFrom) → IsShortest copies bound start one
-      → ((piece : Piece) → IsOnly (IsPiece copies one.end) piece → ⊥) → (piece : PieceFrom) → IsShortest copies bound start piece
+      → ((piece : LinkValue) → IsOnly (IsPiece copies one.end) piece → ⊥) → (piece : PieceFrom) → IsShortest copies bound start piece
       → IsOnly (IsPiece copies piece.end) (record { start = start; bytes = piece.bytes }) → ⊥
   shared_end start one is shared piece also only =
       let before = is.least piece also.there in
@@ -175,7 +175,7 @@ module _ (copies : List (List ℕ)) (bound : ℕ) where
       shared (record { start = start; bytes = piece.bytes }) (subst (λ n. IsOnly (IsPiece copies n) (record { start = start; bytes = piece.bytes })) ends only)
 
   -- one of the shortest at whose end some piece ends alone is that piece
-  pub alone_at_end : (start : ℕ) (one : PieceFrom) (piece : Piece) → IsShortest copies bound start one → IsOnly (IsPiece copies one.end) piece
+  pub alone_at_end : (start : ℕ) (one : PieceFrom) (piece : LinkValue) → IsShortest copies bound start one → IsOnly (IsPiece copies one.end) piece
       → IsOnly (IsPiece copies one.end) (record { start = start; bytes = one.bytes })
   alone_at_end start one piece is only =
       subst (IsOnly (IsPiece copies one.end)) (sym (only.others (record { start = start; bytes = one.bytes }) is.there.there)) only

@@ -18,10 +18,10 @@ use Rattle.ffv1_splice.specs.Pieces.{HasContent, IsPiece, IsClaimedStart}
 use Rattle.ffv1_splice.specs.Standings.{versions_at, sized, IsWeaveOfSeveral}
 use Rattle.ffv1_splice.specs.declared.several.Tried.{Tried}
 use Rattle.ffv1_splice.specs.declared.several.Tried.TheVariants as tries
-use Rattle.ffv1_splice.specs.Several.{IsNextClaimedStart, TriedValue, capped, tried_more, tried_told, AreMissing, AreTriedBefore}
+use Rattle.ffv1_splice.specs.Several.{IsNextClaimedStart, TriedValue, capped, tried_more, tried_tally, AreMissing, AreTriedBefore}
 use Rattle.ffv1_splice.specs.Several.TriedValue.{none_woven, one_woven, undecided}
 use Rattle.ffv1_splice.proofs.FirstSlices.{same_sized}
-use Rattle.ffv1_splice.proofs.ToldSteps.{last, start_on, start_back, one_cut}
+use Rattle.ffv1_splice.proofs.TallySteps.{last, start_on, start_back, one_cut}
 
 -- ---- numbers of combinations by place
 
@@ -112,44 +112,44 @@ module _ (copies : List (List ℕ)) (end : ℕ) where
       same_versions_weave Slice versions versions one other (λ version. ((λ there. there), λ there. there)) h k
 
   -- where something else than a slice or nothing comes of a claimed start, no start of several is the one
-  pub not_told_alone : (from : ℕ) (weave : Weave) → IsClaimedStart copies end from → IsWeaveFrom from weave
+  pub not_claim_alone : (from : ℕ) (weave : Weave) → IsClaimedStart copies end from → IsWeaveFrom from weave
       → ((bytes : List ℕ) (count : ℕ) → weave ≡ woven bytes count → ⊥) → ((count : ℕ) → weave ≡ missing count → ⊥)
       → (start : ℕ) (bytes : List ℕ) (count : ℕ) → IsWeaveOfSeveral copies start end bytes count → ⊥
-  not_told_alone from weave told is unwoven unmissing start bytes count h = elim (cases_eq from start) [
+  not_claim_alone from weave claim is unwoven unmissing start bytes count h = elim (cases_eq from start) [
     | inl same ↦
         unwoven bytes (get_or h.tried start 0)
         (one_weave_from from weave (woven bytes (get_or h.tried start 0)) is
         (subst (λ s. IsWeaveFrom s (woven bytes (get_or h.tried start 0))) (sym same) h.weave'))
-    | inr apart ↦ unmissing (get_or h.tried from 0) (one_weave_from from weave (missing (get_or h.tried from 0)) is (h.others from told apart))
+    | inr apart ↦ unmissing (get_or h.tried from 0) (one_weave_from from weave (missing (get_or h.tried from 0)) is (h.others from claim apart))
   ]
 
   -- where two claimed starts give a slice, neither is
-  pub not_two_told : (one other : ℕ) (a b : List ℕ) (m n : ℕ) → one < other → IsClaimedStart copies end one → IsClaimedStart copies end other
+  pub not_two_claim : (one other : ℕ) (a b : List ℕ) (m n : ℕ) → one < other → IsClaimedStart copies end one → IsClaimedStart copies end other
       → IsWeaveFrom one (woven a m) → IsWeaveFrom other (woven b n)
       → (start : ℕ) (bytes : List ℕ) (count : ℕ) → IsWeaveOfSeveral copies start end bytes count → ⊥
-  not_two_told one other a b m n below told too h k start bytes count w = elim (cases_eq one start) [
+  not_two_claim one other a b m n below claim too h k start bytes count w = elim (cases_eq one start) [
     | inl same ↦
         let apart : other ≡ start → ⊥ = λ also. omega arith in
         let e = one_weave_from other (woven b n) (missing (get_or w.tried other 0)) k (w.others other too apart) in absurd (cc)
-    | inr apart ↦ let e = one_weave_from one (woven a m) (missing (get_or w.tried one 0)) h (w.others one told apart) in absurd (cc)
+    | inr apart ↦ let e = one_weave_from one (woven a m) (missing (get_or w.tried one 0)) h (w.others one claim apart) in absurd (cc)
   ]
 
   -- where nothing comes of any, none is
   pub not_all_missing : (tried : List ℕ) → AreMissing copies end end (λ start. ⊥) tried
       → (start : ℕ) (bytes : List ℕ) (count : ℕ) → IsWeaveOfSeveral copies start end bytes count → ⊥
   not_all_missing tried are start bytes count w =
-      let content : HasContent start end = w.told.content in
+      let content : HasContent start end = w.claim.content in
       let e = one_weave_from start (missing (get_or tried start 0)) (woven bytes (get_or w.tried start 0))
-      (are.missing' start (omega arith) w.told (λ none. none)) w.weave' in
+      (are.missing' start (omega arith) w.claim (λ none. none)) w.weave' in
       absurd (cc)
 
   -- ---- one more start
 
   module _ (from start : ℕ) (next : IsNextClaimedStart copies end from start) where
-    told_below : (other : ℕ) → other < start + 1 → IsClaimedStart copies end other → (other ≡ start → ⊥) → other < from
-    told_below other lt told apart = elim (cases_lt other from) [
+    claim_below : (other : ℕ) → other < start + 1 → IsClaimedStart copies end other → (other ≡ start → ⊥) → other < from
+    claim_below other lt claim apart = elim (cases_lt other from) [
       | inl below ↦ below
-      | inr above ↦ let least = next.least other told above in absurd (apart (omega arith))
+      | inr above ↦ let least = next.least other claim above in absurd (apart (omega arith))
     ]
 
     missing_more : (IsApart : ℕ → Type 0) (tried : List ℕ) (count : ℕ) → AreMissing copies end from IsApart tried
@@ -160,20 +160,20 @@ module _ (copies : List (List ℕ)) (end : ℕ) where
         let places = are.places in
         record {
           places = length-grown tried start count (omega arith);
-          missing' = λ other lt told not_apart. elim (cases_eq other start) [
+          missing' = λ other lt claim not_apart. elim (cases_eq other start) [
             | inl same ↦
                 let number : count ≡ get_or (grown tried start count) other 0 =
                 sym (ap (λ i. get_or (grown tried start count) i 0) same ∙ grown_at tried start count (omega arith)) in
                 subst (λ n. IsWeaveFrom other (missing n)) number (new other same not_apart)
             | inr apart ↦
-                let below = told_below other lt told apart in
+                let below = claim_below other lt claim apart in
                 subst (λ n. IsWeaveFrom other (missing n)) (sym (grown_before tried start count other (omega arith) (omega arith)))
-                (are.missing' other below told not_apart)
+                (are.missing' other below claim not_apart)
           ];
-          untold = λ other untold. elim (cases_lt other from) [
-            | inl below ↦ grown_before tried start count other (omega arith) (omega arith) ∙ are.untold other untold
+          no_claim = λ other no_claim. elim (cases_lt other from) [
+            | inl below ↦ grown_before tried start count other (omega arith) (omega arith) ∙ are.no_claim other no_claim
             | inr above ↦ grown_else tried start count other (omega arith) (omega arith)
-                (λ same. untold (subst (IsClaimedStart copies end) (sym same) next.there))
+                (λ same. no_claim (subst (IsClaimedStart copies end) (sym same) next.there))
           ];
         }
 
@@ -182,7 +182,7 @@ module _ (copies : List (List ℕ)) (end : ℕ) where
         → AreMissing copies end (start + 1) (λ other. other ≡ start) (grown tried start count)
     missing_else tried count are =
         missing_more (λ other. other ≡ start) tried count
-        (record { places = are.places; missing' = λ other lt told apart. are.missing' other lt told (λ none. none); untold = are.untold })
+        (record { places = are.places; missing' = λ other lt claim apart. are.missing' other lt claim (λ none. none); no_claim = are.no_claim })
         (λ other same apart. absurd (apart same))
 
     pub tried_next : (value : TriedValue) (weave : Weave) → IsWeaveFrom start weave → AreTriedBefore copies end from value
@@ -194,7 +194,7 @@ module _ (copies : List (List ℕ)) (end : ℕ) where
           record {
             others = missing_else h.0 more h.1;
             before = omega arith;
-            told = next.there;
+            claim = next.there;
             weave' = subst (λ m. IsWeaveFrom start (woven bytes m)) (sym (grown_at h.0 start more (omega arith))) is;
           },
           counted_more h.0 start n more h.2,
@@ -204,12 +204,12 @@ module _ (copies : List (List ℕ)) (end : ℕ) where
       missing_more (λ start. ⊥) h.0 more h.1 (λ other same apart. subst (λ s. IsWeaveFrom s (missing more)) (sym same) is),
       counted_more h.0 start n more h.2,
     )
-    tried_next (none_woven n) disputed is h = not_told_alone start disputed next.there is (λ bytes count e. absurd (cc)) (λ count e. absurd (cc))
-    tried_next (none_woven n) too_many is h = not_told_alone start too_many next.there is (λ bytes count e. absurd (cc)) (λ count e. absurd (cc))
+    tried_next (none_woven n) disputed is h = not_claim_alone start disputed next.there is (λ bytes count e. absurd (cc)) (λ count e. absurd (cc))
+    tried_next (none_woven n) too_many is h = not_claim_alone start too_many next.there is (λ bytes count e. absurd (cc)) (λ count e. absurd (cc))
     tried_next (one_woven first bytes n) (woven other more) is h =
         let before = h.1.before in
         let beyond = next.beyond in
-        not_two_told first start bytes other (get_or h.0 first 0) more (omega arith) h.1.told next.there h.1.weave' is
+        not_two_claim first start bytes other (get_or h.0 first 0) more (omega arith) h.1.claim next.there h.1.weave' is
     tried_next (one_woven first bytes n) (missing more) is h =
         let before = h.1.before in
         let beyond = next.beyond in
@@ -219,15 +219,15 @@ module _ (copies : List (List ℕ)) (end : ℕ) where
             others = missing_more (λ other. other ≡ first) h.0 more h.1.others
                 (λ other same apart. subst (λ s. IsWeaveFrom s (missing more)) (sym same) is);
             before = omega arith;
-            told = h.1.told;
+            claim = h.1.claim;
             weave' = subst (λ m. IsWeaveFrom first (woven bytes m)) (sym (grown_before h.0 start more first (omega arith) (omega arith))) h.1.weave';
           },
           counted_more h.0 start n more h.2,
         )
     tried_next (one_woven first bytes n) disputed is h =
-        not_told_alone start disputed next.there is (λ bytes count e. absurd (cc)) (λ count e. absurd (cc))
+        not_claim_alone start disputed next.there is (λ bytes count e. absurd (cc)) (λ count e. absurd (cc))
     tried_next (one_woven first bytes n) too_many is h =
-        not_told_alone start too_many next.there is (λ bytes count e. absurd (cc)) (λ count e. absurd (cc))
+        not_claim_alone start too_many next.there is (λ bytes count e. absurd (cc)) (λ count e. absurd (cc))
     tried_next undecided (woven bytes more) is h = h
     tried_next undecided (missing more) is h = h
     tried_next undecided disputed is h = h
@@ -242,11 +242,11 @@ module _ (copies : List (List ℕ)) (end : ℕ) where
         let places = are.places in
         record {
           places = length-padded tried end (omega arith);
-          missing' = λ start lt told apart.
-              let below = none start told in
-              subst (λ n. IsWeaveFrom start (missing n)) (sym (padded_before tried end start (omega arith))) (are.missing' start below told apart);
-          untold = λ start untold. elim (cases_lt start from) [
-            | inl below ↦ padded_before tried end start (omega arith) ∙ are.untold start untold
+          missing' = λ start lt claim apart.
+              let below = none start claim in
+              subst (λ n. IsWeaveFrom start (missing n)) (sym (padded_before tried end start (omega arith))) (are.missing' start below claim apart);
+          no_claim = λ start no_claim. elim (cases_lt start from) [
+            | inl below ↦ padded_before tried end start (omega arith) ∙ are.no_claim start no_claim
             | inr above ↦ padded_after tried end start (omega arith)
           ];
         }
@@ -260,7 +260,7 @@ module _ (copies : List (List ℕ)) (end : ℕ) where
           record {
             others = missing_end (λ other. other ≡ start) h.0 h.1.others;
             before = omega arith;
-            told = h.1.told;
+            claim = h.1.claim;
             weave' = subst (λ m. IsWeaveFrom start (woven bytes m)) (sym (padded_before h.0 end start (omega arith))) h.1.weave';
           },
           h.2 ∙ ap capped (sym (sum-padded h.0 end)),
@@ -269,7 +269,7 @@ module _ (copies : List (List ℕ)) (end : ℕ) where
 
   -- what was tried before the first start
   pub tried_none : AreTriedBefore copies end 0 (none_woven 0)
-  tried_none = ([], record { places = refl; missing' = λ start lt told apart. absurd (omega arith); untold = λ start untold. refl }, refl)
+  tried_none = ([], record { places = refl; missing' = λ start lt claim apart. absurd (omega arith); no_claim = λ start no_claim. refl }, refl)
 
 -- ---- as the code has it
 
@@ -282,18 +282,18 @@ module _ (copies : List (List ℕ)) (end : ℕ) where
         are_bytes = are_bytes;
         none = none;
         several = several;
-        told = h.1.told;
+        claim = h.1.claim;
         tried = h.0;
         places = h.1.others.places;
         weave' = h.1.weave';
-        others = λ other told apart. let content : HasContent other end = told.content in h.1.others.missing' other (omega arith) told apart;
-        untold = h.1.others.untold;
+        others = λ other claim apart. let content : HasContent other end = claim.content in h.1.others.missing' other (omega arith) claim apart;
+        no_claim = h.1.others.no_claim;
         counted = h.2;
       }
 
   -- and where nothing is
   pub none_of_several : (tried : Tried) → ((start : ℕ) (bytes : Vec ℕ Global) (count : ℕ) → tried ≡ tries.Woven start bytes count → ⊥)
-      → AreTriedBefore copies end end (tried_told tried) → (start : ℕ) (bytes : List ℕ) (count : ℕ) → IsWeaveOfSeveral copies start end bytes count → ⊥
+      → AreTriedBefore copies end end (tried_tally tried) → (start : ℕ) (bytes : List ℕ) (count : ℕ) → IsWeaveOfSeveral copies start end bytes count → ⊥
   none_of_several (tries.Missing count) apart h = not_all_missing copies end h.0 h.1
   none_of_several (tries.Woven start bytes count) apart h = absurd (apart start bytes count refl)
   none_of_several tries.Undecided apart h = h
@@ -306,7 +306,7 @@ module _ (copies : List (List ℕ)) (end s t : ℕ) (a b : List ℕ) (m n : ℕ)
   one_start = elim (cases_eq s t) [
     | inl same ↦ same
     | inr apart ↦
-        let e = one_weave_from copies end s (woven a (get_or h.tried s 0)) (missing (get_or k.tried s 0)) h.weave' (k.others s h.told apart) in
+        let e = one_weave_from copies end s (woven a (get_or h.tried s 0)) (missing (get_or k.tried s 0)) h.weave' (k.others s h.claim apart) in
         absurd (cc)
   ]
 
@@ -316,12 +316,12 @@ module _ (copies : List (List ℕ)) (end s t : ℕ) (a b : List ℕ) (m n : ℕ)
       (subst (λ p. IsWeaveFrom copies end p (woven b (get_or k.tried p 0))) (sym one_start) k.weave')
 
   same_number : (p : ℕ) → IsClaimedStart copies end p → get_or h.tried p 0 ≡ get_or k.tried p 0
-  same_number p told = elim (cases_eq p s) [
+  same_number p claim = elim (cases_eq p s) [
     | inl same ↦ let e : get_or h.tried s 0 ≡ get_or k.tried s 0 = let e = same_weave in cc in
         subst (λ q. get_or h.tried q 0 ≡ get_or k.tried q 0) (sym same) e
     | inr apart ↦
-        let e = one_weave_from copies end p (missing (get_or h.tried p 0)) (missing (get_or k.tried p 0)) (h.others p told apart)
-        (k.others p told (λ same. apart (same ∙ sym one_start))) in
+        let e = one_weave_from copies end p (missing (get_or h.tried p 0)) (missing (get_or k.tried p 0)) (h.others p claim apart)
+        (k.others p claim (λ same. apart (same ∙ sym one_start))) in
         cc
   ]
 
@@ -329,8 +329,8 @@ module _ (copies : List (List ℕ)) (end s t : ℕ) (a b : List ℕ) (m n : ℕ)
   same_tried = ext_get_or 0 h.tried k.tried (h.places ∙ sym k.places) (λ p lt. elim (cases_eq (get_or h.tried p 0) (get_or k.tried p 0)) [
     | inl same ↦ same
     | inr apart ↦
-        let untold : IsClaimedStart copies end p → ⊥ = λ told. apart (same_number p told) in
-        h.untold p untold ∙ sym (k.untold p untold)
+        let no_claim : IsClaimedStart copies end p → ⊥ = λ claim. apart (same_number p claim) in
+        h.no_claim p no_claim ∙ sym (k.no_claim p no_claim)
   ])
 
   pub one_several : woven a m ≡ woven b n
@@ -342,11 +342,11 @@ module _ (copies : List (List ℕ)) (end s t : ℕ) (a b : List ℕ) (m n : ℕ)
 -- ---- the same copies
 
 module _ (copies others : List (List ℕ)) (same : HasSameMembers copies others) (end : ℕ) where
-  told_as : (start : ℕ) → IsClaimedStart copies end start → IsClaimedStart others end start
-  told_as start h = record { copy = h.copy; there = (same h.copy).0 h.there; cut = h.cut; content = h.content }
+  claim_as : (start : ℕ) → IsClaimedStart copies end start → IsClaimedStart others end start
+  claim_as start h = record { copy = h.copy; there = (same h.copy).0 h.there; cut = h.cut; content = h.content }
 
-  told_back : (start : ℕ) → IsClaimedStart others end start → IsClaimedStart copies end start
-  told_back start h = record { copy = h.copy; there = (same h.copy).1 h.there; cut = h.cut; content = h.content }
+  claim_back : (start : ℕ) → IsClaimedStart others end start → IsClaimedStart copies end start
+  claim_back start h = record { copy = h.copy; there = (same h.copy).1 h.there; cut = h.cut; content = h.content }
 
   weave_from_as : (start : ℕ) (weave : Weave) → IsWeaveFrom copies end start weave → IsWeaveFrom others end start weave
   weave_from_as start weave h =
@@ -367,16 +367,16 @@ module _ (copies others : List (List ℕ)) (same : HasSameMembers copies others)
         several = record {
           one = h.several.one;
           other = h.several.other;
-          one_there = told_as h.several.one h.several.one_there;
-          other_there = told_as h.several.other h.several.other_there;
+          one_there = claim_as h.several.one h.several.one_there;
+          other_there = claim_as h.several.other h.several.other_there;
           differ = h.several.differ;
         };
-        told = told_as start h.told;
+        claim = claim_as start h.claim;
         tried = h.tried;
         places = h.places;
         weave' = weave_from_as start (woven bytes (get_or h.tried start 0)) h.weave';
-        others = λ other told apart. weave_from_as other (missing (get_or h.tried other 0)) (h.others other (told_back other told) apart);
-        untold = λ other untold. h.untold other (λ told. untold (told_as other told));
+        others = λ other claim apart. weave_from_as other (missing (get_or h.tried other 0)) (h.others other (claim_back other claim) apart);
+        no_claim = λ other no_claim. h.no_claim other (λ claim. no_claim (claim_as other claim));
         counted = h.counted;
       }
 
@@ -390,12 +390,12 @@ module _ (copies : List (List ℕ)) (copy : List ℕ) (end from : ℕ) where
   -- a copy that claims no start from the place on
   pub next_kept : (next : Option ℕ) → ((start : ℕ) → IsCut copy start end → HasContent start end → start < from) → IsNext copies end from next
       → IsNext (copies ++ copy ∷ []) end from next
-  next_kept None below h = λ start told. elim (start_back copies copy end start told) [ inl there ↦ h start there | inr new ↦ below start new.0 new.1 ]
+  next_kept None below h = λ start claim. elim (start_back copies copy end start claim) [ inl there ↦ h start there | inr new ↦ below start new.0 new.1 ]
   next_kept (Some first) below h =
       record {
         there = start_on copies copy end first h.there;
         beyond = h.beyond;
-        least = λ other told low. elim (start_back copies copy end other told) [
+        least = λ other claim low. elim (start_back copies copy end other claim) [
           | inl there ↦ h.least other there low
           | inr new ↦ let early = below other new.0 new.1 in absurd (omega arith)
         ];
@@ -411,7 +411,7 @@ module _ (copies : List (List ℕ)) (copy : List ℕ) (end from : ℕ) where
       record {
         there = subst (IsClaimedStart (copies ++ copy ∷ []) end) (sym is) new;
         beyond = omega arith;
-        least = λ other told above. elim (start_back copies copy end other told) [
+        least = λ other claim above. elim (start_back copies copy end other claim) [
           | inl there ↦ let early = h other there in absurd (omega arith)
           | inr own ↦ let same = one_cut copies copy end start other cut own.0 in omega arith
         ];
@@ -427,7 +427,7 @@ module _ (copies : List (List ℕ)) (copy : List ℕ) (end from : ℕ) where
           | inr above ↦ let same : start ≡ after = omega arith in subst (IsClaimedStart (copies ++ copy ∷ []) end) same new
         ];
         beyond = omega arith;
-        least = λ other told high. elim (start_back copies copy end other told) [
+        least = λ other claim high. elim (start_back copies copy end other claim) [
           | inl there ↦ let least = h.least other there high in omega arith
           | inr own ↦ let same = one_cut copies copy end start other cut own.0 in omega arith
         ];

@@ -57,23 +57,23 @@ later_fails passes = absurd (omega arith)
 
 -- ---- what is claimed
 
-told_which : (copy : List ℕ) (start : ℕ) → Contains torn_copies copy → IsCut copy start 11
+claim_which : (copy : List ℕ) (start : ℕ) → Contains torn_copies copy → IsCut copy start 11
     → ((copy ≡ hurt_first) × (start ≡ 0)) ⊎ ((copy ≡ hurt_size) × (start ≡ 1))
-told_which copy start (zero, lt, is) cut =
-    let told : IsCut hurt_first start 11 = subst (λ c. IsCut c start 11) (sym is) cut in inl (sym is, omega arith)
-told_which copy start (suc zero, lt, is) cut =
-    let told : IsCut hurt_size start 11 = subst (λ c. IsCut c start 11) (sym is) cut in inr (sym is, omega arith)
-told_which copy start (suc (suc k), lt, is) cut = absurd (omega arith)
+claim_which copy start (zero, lt, is) cut =
+    let claim : IsCut hurt_first start 11 = subst (λ c. IsCut c start 11) (sym is) cut in inl (sym is, omega arith)
+claim_which copy start (suc zero, lt, is) cut =
+    let claim : IsCut hurt_size start 11 = subst (λ c. IsCut c start 11) (sym is) cut in inr (sym is, omega arith)
+claim_which copy start (suc (suc k), lt, is) cut = absurd (omega arith)
 
-first_told : IsClaimedStart torn_copies 11 0
-first_told = record { copy = hurt_first; there = (0, omega arith, refl); cut = refl; content = omega arith }
+first_claim : IsClaimedStart torn_copies 11 0
+first_claim = record { copy = hurt_first; there = (0, omega arith, refl); cut = refl; content = omega arith }
 
-other_told : IsClaimedStart torn_copies 11 1
-other_told = record { copy = hurt_size; there = (1, omega arith, refl); cut = refl; content = omega arith }
+other_claim : IsClaimedStart torn_copies 11 1
+other_claim = record { copy = hurt_size; there = (1, omega arith, refl); cut = refl; content = omega arith }
 
 -- neither is a piece
 no_piece : IsOfNone (IsPiece torn_copies 11)
-no_piece piece h = elim (told_which h.copy piece.start h.there h.cut) [
+no_piece piece h = elim (claim_which h.copy piece.start h.there h.cut) [
   | inl at ↦ hurt_first_fails (subst PassesParity
       (h.bytes ∙ ap (λ s. slice_range h.copy s 11) at.1 ∙ ap (λ c. slice_range c 0 11) at.0) h.passes)
   | inr at ↦ later_fails (subst PassesParity
@@ -208,13 +208,13 @@ abbrev tried : List ℕ
 tried = 2 ∷ 1 ∷ replicate 9 0
 
 none_tried : (start : ℕ) → (IsClaimedStart torn_copies 11 start → ⊥) → get_or tried start 0 ≡ 0
-none_tried zero untold = absurd (untold first_told)
-none_tried (suc zero) untold = absurd (untold other_told)
-none_tried (suc (suc start)) untold = zeros_anywhere 9 start
+none_tried zero no_claim = absurd (no_claim first_claim)
+none_tried (suc zero) no_claim = absurd (no_claim other_claim)
+none_tried (suc (suc start)) no_claim = zeros_anywhere 9 start
 
 from_another : (start : ℕ) → IsClaimedStart torn_copies 11 start → (start ≡ 0 → ⊥)
     → IsWeaveOf Slice (map sized (versions_at torn_copies start 11)) (missing (get_or tried start 0))
-from_another start told other = elim (told_which told.copy start told.there told.cut) [
+from_another start claim other = elim (claim_which claim.copy start claim.there claim.cut) [
   | inl at ↦ absurd (other at.1)
   | inr at ↦ subst (λ s. IsWeaveOf Slice (map sized (versions_at torn_copies s 11)) (missing (get_or tried s 0))) (sym at.1) missing_of_later
 ]
@@ -224,12 +224,12 @@ pub torn_stands : StandsAs torn_copies 0 11 vectors.first_slice (Woven 3)
 torn_stands = inr (inr (record {
   are_bytes = are_bytes;
   none = no_piece;
-  several = record { one = 0; other = 1; one_there = first_told; other_there = other_told; differ = λ same. absurd (omega arith) };
-  told = first_told;
+  several = record { one = 0; other = 1; one_there = first_claim; other_there = other_claim; differ = λ same. absurd (omega arith) };
+  claim = first_claim;
   tried = tried;
   places = refl;
   weave' = woven_of_two;
   others = from_another;
-  untold = none_tried;
+  no_claim = none_tried;
   counted = refl;
 }))

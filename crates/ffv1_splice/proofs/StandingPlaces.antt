@@ -2,7 +2,7 @@
 use Rattle.std.proofs.Common.{◌≡◌, ℕ, ◌+◌, ◌≤◌, List, length, get_or, refl, sym, ap, ◌∙◌, subst, arith}
 use Rattle.std.specs.Prelude.{All, Contains, slice_range}
 use Rattle.std.proofs.lemmas.List.Elements.{All-contains, All-contains_itself}
-use Rattle.ffv1_slice.specs.Chain.{piece_of}
+use Rattle.ffv1_slice.specs.Chain.{link_of}
 use Rattle.ffv1_splice.specs.Pieces.{IsPiece, IsClaimedStart}
 use Rattle.ffv1_splice.specs.Standings.{versions_at, StandsAs}
 use Rattle.ffv1_splice.specs.Splice.{SplicedValue, IsSettledDown, IsSettledUp, IsCrossed, IsSpliceOf, moved_by, IsSettledOrWoven, IsGivenBack}
@@ -10,7 +10,7 @@ use Rattle.ffv1_splice.specs.declared.place.Standing.TheVariants.{Settled, Undiv
 use Rattle.ffv1_splice.specs.declared.place.Place.{Place}
 use Rattle.ffv1_splice.proofs.PlaceSteps.{AllReach}
 use Rattle.ffv1_splice.proofs.Walks.{ends_below}
-use Rattle.ffv1_splice.proofs.Narrowed.{range_of_range, versions_of_versions, piece_out, told_out}
+use Rattle.ffv1_splice.proofs.Narrowed.{range_of_range, versions_of_versions, piece_out, claim_out}
 use Rattle.ffv1_splice.proofs.PlaceLists.{all_stand_undivided, no_front}
 use Rattle.ffv1_splice.proofs.BoundSteps.{bound_within}
 use Rattle.ffv1_splice.proofs.Crossings.{crossed_within}
@@ -42,10 +42,10 @@ module _ (copies : List (List ℕ)) (payload : List ℕ) (place : Place) (h : St
       versions_of_versions h.from h.to copies h.start h.end h.within ∙ ap (λ n. versions_at copies n (h.from + h.end)) (sym h.starts)
       ∙ ap (λ n. versions_at copies place.start n) (sym h.ends)
 
-  pub between_told : IsClaimedStart (versions_at copies h.from h.to) h.end h.start → IsClaimedStart copies place.end place.start
-  between_told told =
+  pub between_claim : IsClaimedStart (versions_at copies h.from h.to) h.end h.start → IsClaimedStart copies place.end place.start
+  between_claim claim =
       subst (λ s. IsClaimedStart copies place.end s) (sym h.starts)
-      (subst (λ e. IsClaimedStart copies e (h.from + h.start)) (sym h.ends) (told_out h.from h.to copies h.end h.start h.within told))
+      (subst (λ e. IsClaimedStart copies e (h.from + h.start)) (sym h.ends) (claim_out h.from h.to copies h.end h.start h.within claim))
 
 -- How a place of the splice stands: settled from above or from below, as follows from copies that are cut, or as what can't be divided.
 pub data IsPlaceOf (copies : List (List ℕ)) (spliced : SplicedValue) (is : IsSpliceOf copies spliced) : Place → Type 0 where
@@ -128,7 +128,7 @@ module _ (copies : List (List ℕ)) (spliced : SplicedValue) (is : IsSpliceOf co
 
   -- each is a piece, with the bytes that the splice has there
   settled_at : (place : Place) → IsPlaceOf copies spliced is place → place.standing ≡ Settled
-      → IsPiece copies place.end (piece_of spliced.payload place.start place.end)
+      → IsPiece copies place.end (link_of spliced.payload place.start place.end)
   settled_at place (above settled_down) settled = settled_down.only.there
   settled_at place (between h) settled =
       let bytes : List ℕ = slice_range spliced.payload place.start place.end in
@@ -141,7 +141,7 @@ module _ (copies : List (List ℕ)) (spliced : SplicedValue) (is : IsSpliceOf co
   settled_at place (below settled_up) settled = settled_up.only.there
 
   pub settled_piece : (place : Place) → Contains spliced.places place → place.standing ≡ Settled
-      → IsPiece copies place.end (piece_of spliced.payload place.start place.end)
+      → IsPiece copies place.end (link_of spliced.payload place.start place.end)
   settled_piece place there = settled_at place (place_of place there)
 
   -- ---- the hole of a splice that is given back

@@ -14,7 +14,7 @@ use Rattle.ffv1_bits.specs.Parity.{AreBytes, PassesParity, polynomial_of, reduce
 use Rattle.ffv1_slice.specs.Setup.{SetupValue}
 use Rattle.ffv1_slice.specs.Chain.{size_before, IsCut, IsEnd, IsLinkOf}
 use Rattle.ffv1_slice.specs.Slices.{IsSliceOf, IsOriginal}
-use Rattle.ffv1_slice.specs.Near.{starts_at, piece_at, IsHurtWithin32, IsNear}
+use Rattle.ffv1_slice.specs.Near.{starts_at, version_at, IsHurtWithin32, IsNear}
 use Rattle.ffv1_slice.proofs.Places.{starts_none, IsCutAt, end_of_tile, tile_of_cut}
 use Rattle.ffv1_slice.proofs.FoundLaws.{original_cut, bytes_of_tile}
 use Rattle.ffv1_slice.proofs.NearLaws.{length-range, size_of_range}
@@ -79,12 +79,12 @@ near_of_setup setup original slices copy near = record { are_bytes = near.copy_b
         → IsIntact original copy start end ⊎ IsHurtWithin32 (slice_range original start end) (slice_range copy start end)
     each start end link =
         let at = slice_of_link setup original slices near.is_original start end link in
-        let piece : piece_at slices copy at.0 ≡ slice_range copy start end =
+        let piece : version_at slices copy at.0 ≡ slice_range copy start end =
         ap (λ s. slice_range copy s (starts_at slices (at.0 + 1))) (sym at.2) ∙ ap (λ e. slice_range copy start e) (sym at.3) in
         elim (near.each at.0 [] at.1) [
           | inl intact ↦ inl (sym piece ∙ intact ∙ sym at.4)
           | inr hurt ↦ inr (subst (λ p. IsHurtWithin32 (slice_range original start end) p) piece
-              (subst (λ s. IsHurtWithin32 s (piece_at slices copy at.0)) (sym at.4) hurt))
+              (subst (λ s. IsHurtWithin32 s (version_at slices copy at.0)) (sym at.4) hurt))
         ]
 
 -- ---- two copies of a frame
@@ -109,7 +109,7 @@ intact_each start end link = let at = slice_of_link vectors.setup vectors.frame 
     intact at.0 at.1 at.2 at.3 at.4
   where
     piece : (copy : List ℕ) (k : ℕ) → start ≡ starts_at vectors.slices k → end ≡ starts_at vectors.slices (k + 1)
-        → slice_range copy start end ≡ piece_at vectors.slices copy k
+        → slice_range copy start end ≡ version_at vectors.slices copy k
     piece copy k s e = ap (λ n. slice_range copy n end) s ∙ ap (λ n. slice_range copy (starts_at vectors.slices k) n) e
 
     intact : (k : ℕ) → k < 2 → start ≡ starts_at vectors.slices k → end ≡ starts_at vectors.slices (k + 1)
@@ -149,7 +149,7 @@ zeros_size end footer within =
 
 zeros_cut : (copy : List ℕ) (start end : ℕ) → Contains (zeros ∷ []) copy → end ≤ 16 → IsCut copy start end → HasContent start end → ⊥
 zeros_cut copy start end there within cut content =
-    let told : IsCut zeros start end = subst (λ c. IsCut c start end) (only_copy zeros copy there) cut in
+    let claim : IsCut zeros start end = subst (λ c. IsCut c start end) (only_copy zeros copy there) cut in
     let size = zeros_size end (omega arith) within in
     absurd (omega arith)
 
@@ -162,7 +162,7 @@ sized_zeros_fail passes = absurd (omega arith)
 pub zeros_stop : IsStop (zeros ∷ []) 16
 zeros_stop = record {
   unsettled = λ piece only. zeros_cut only.there.copy piece.start 16 only.there.there (omega arith) only.there.cut only.there.content;
-  untold = λ start only. zeros_cut only.there.copy start 16 only.there.there (omega arith) only.there.cut only.there.content;
+  no_claim = λ start only. zeros_cut only.there.copy start 16 only.there.there (omega arith) only.there.cut only.there.content;
   unclaimed = λ bytes count front.
       let valid = front.weave'.0.there in
       let here : Contains (sized zeros ∷ []) (sized zeros) = (0, omega arith, refl) in
@@ -171,7 +171,7 @@ zeros_stop = record {
       (only_copy (sized zeros) one in_one ∙ sym (only_copy (sized zeros) other in_other))) (sized zeros) here) in
       sized_zeros_fail (subst PassesParity same valid.passes.1);
   unwoven = λ start bytes count several.
-      zeros_cut several.told.copy start 16 several.told.there (omega arith) several.told.cut several.told.content;
+      zeros_cut several.claim.copy start 16 several.claim.there (omega arith) several.claim.cut several.claim.content;
 }
 
 zeros_least : IsLeast (zeros ∷ []) 0 16 zeros
@@ -221,7 +221,7 @@ zeros_are_spliced = record {
     are = refl;
     few = omega arith;
     stop = inr (λ end lost. let claimed = lost.end'.there in
-        zeros_cut claimed.told.copy 0 end claimed.told.there claimed.within claimed.told.cut claimed.told.content);
+        zeros_cut claimed.claim.copy 0 end claimed.claim.there claimed.within claimed.claim.cut claimed.claim.content);
   };
   divided = zeros_divided;
   bytes = refl;
@@ -248,8 +248,8 @@ lost_cut : (copy : List ℕ) (start : ℕ) → Contains lost_copies copy → IsC
 lost_cut copy start there cut content = at there.0 there.1 there.2
   where
     at : (k : ℕ) → k < 2 → get_or lost_copies k copy ≡ copy → ⊥
-    at zero lt same = let told : IsCut lost start 11 = subst (λ c. IsCut c start 11) (sym same) cut in absurd (omega arith)
-    at (suc zero) lt same = let told : IsCut other_lost start 11 = subst (λ c. IsCut c start 11) (sym same) cut in absurd (omega arith)
+    at zero lt same = let claim : IsCut lost start 11 = subst (λ c. IsCut c start 11) (sym same) cut in absurd (omega arith)
+    at (suc zero) lt same = let claim : IsCut other_lost start 11 = subst (λ c. IsCut c start 11) (sym same) cut in absurd (omega arith)
     at (suc (suc k)) lt same = absurd (omega arith)
 
 -- ---- a slice that both copies have
@@ -312,7 +312,7 @@ lost_stands = inr (inl (
   refl,
   record {
     none = λ piece h. lost_cut h.copy piece.start h.there h.cut h.content;
-    untold = λ start h. lost_cut h.copy start h.there h.cut h.content;
+    no_claim = λ start h. lost_cut h.copy start h.there h.cut h.content;
     content = omega arith;
     short = omega arith;
     weave' = (

@@ -11,7 +11,7 @@ use Rattle.ffv1_weave.specs.Repairs.{inverted, IsRepair}
 use Rattle.ffv1_weave.proofs.Choices.{length-written}
 use Rattle.ffv1_splice.specs.Standings.{versions_at, IsWeaveAt, IsVoteAt, IsRepairAt}
 use Rattle.ffv1_weave.proofs.References.{value_at, length-values_of, value_there}
-use Rattle.ffv1_splice.proofs.PlaceSteps.{AllReach, told_below, unwoven_weave}
+use Rattle.ffv1_splice.proofs.PlaceSteps.{AllReach, claim_below, unwoven_weave}
 
 -- ---- what is made of each member
 
@@ -51,29 +51,29 @@ module _ (copies : List (List ℕ)) (start end : ℕ) where
   -- what is woven is as long as the place
   pub weave_size : (bytes : List ℕ) (count : ℕ) → AllReach copies end → IsWeaveAt copies start end (woven bytes count) → start + length bytes ≡ end
   weave_size bytes count reach h =
-      let copy : List ℕ = h.told.there.copy in
-      let below = told_below copies start end h.told.there in
-      let size = length-range copy start end (omega arith) (reach copy h.told.there.there) in
-      let same = h.weave'.0.there.combination.same_length (slice_range copy start end) (version_there copy h.told.there.there) in
+      let copy : List ℕ = h.claim.there.copy in
+      let below = claim_below copies start end h.claim.there in
+      let size = length-range copy start end (omega arith) (reach copy h.claim.there.there) in
+      let same = h.weave'.0.there.combination.same_length (slice_range copy start end) (version_there copy h.claim.there.there) in
       omega arith
 
   -- and so is what is voted, ..
   pub vote_size : (bytes : List ℕ) (count : ℕ) → AllReach copies end → IsVoteAt copies start end bytes count → start + length bytes ≡ end
   vote_size bytes count reach h =
-      let told = (unwoven_weave copies start end h.unwoven).1.told.there in
-      let below = told_below copies start end told in
-      let size = length-range told.copy start end (omega arith) (reach told.copy told.there) in
-      let same = h.vote.only.there.combination.same_length (slice_range told.copy start end) (version_there told.copy told.there) in
+      let claim = (unwoven_weave copies start end h.unwoven).1.claim.there in
+      let below = claim_below copies start end claim in
+      let size = length-range claim.copy start end (omega arith) (reach claim.copy claim.there) in
+      let same = h.vote.only.there.combination.same_length (slice_range claim.copy start end) (version_there claim.copy claim.there) in
       omega arith
 
   -- .. and what is repaired
   pub repair_size : (bytes : List ℕ) (count : ℕ) → AllReach copies end → IsRepairAt copies start end bytes count → start + length bytes ≡ end
   repair_size bytes count reach h =
-      let told = h.missed.told.there in
-      let below = told_below copies start end told in
-      let size = length-range told.copy start end (omega arith) (reach told.copy told.there) in
+      let claim = h.missed.claim.there in
+      let below = claim_below copies start end claim in
+      let size = length-range claim.copy start end (omega arith) (reach claim.copy claim.there) in
       let repair : IsRepair (versions_at copies start end) bytes = h.repair.only.there in
-      let same = repair.combination.same_length (slice_range told.copy start end) (version_there told.copy told.there) in
+      let same = repair.combination.same_length (slice_range claim.copy start end) (version_there claim.copy claim.there) in
       let long = ap length repair.is ∙ length-inverted repair.base repair.bit repair.inside in
       omega arith
 

@@ -13,7 +13,7 @@ use Rattle.ffv1_splice.specs.declared.place.Standing.TheVariants.{Settled, Woven
 use Rattle.ffv1_splice.specs.declared.place.Place.{Place}
 use Rattle.ffv1_splice.proofs.FirstSlices.{woven_below, woven_size}
 use Rattle.ffv1_splice.proofs.Versions.{vote_size, repair_size}
-use Rattle.ffv1_splice.proofs.PlaceSteps.{AllReach, cut_below, told_below, piece_size, gap_size, least_size, unwoven_weave}
+use Rattle.ffv1_splice.proofs.PlaceSteps.{AllReach, cut_below, claim_below, piece_size, gap_size, least_size, unwoven_weave}
 
 -- What stands before an end. Where no place ends, it is one front that can't be divided; else the place that ends there, and what stands
 -- before its start.
@@ -52,10 +52,10 @@ slice-take bytes count start end e c =
 pub stands_below : (copies : List (List ℕ)) (start end : ℕ) (bytes : List ℕ) (standing : Standing) → StandsAs copies start end bytes standing → start + 8 ≤ end
 stands_below copies start end bytes Settled h = cut_below h.there.copy start end h.there.cut
 stands_below copies start end bytes (Woven count) h = woven_below copies start end bytes count h
-stands_below copies start end bytes (Voted count) h = told_below copies start end (unwoven_weave copies start end h.unwoven).1.told.there
-stands_below copies start end bytes (Repaired count) h = told_below copies start end h.missed.told.there
-stands_below copies start end bytes Disputed h = told_below copies start end h.1.told.there
-stands_below copies start end bytes Missing h = told_below copies start end h.1.told.there
+stands_below copies start end bytes (Voted count) h = claim_below copies start end (unwoven_weave copies start end h.unwoven).1.claim.there
+stands_below copies start end bytes (Repaired count) h = claim_below copies start end h.missed.claim.there
+stands_below copies start end bytes Disputed h = claim_below copies start end h.1.claim.there
+stands_below copies start end bytes Missing h = claim_below copies start end h.1.claim.there
 stands_below copies start end bytes Undivided h = absurd h
 
 module _ (copies : List (List ℕ)) (copy : List ℕ) (there : Contains copies copy) where
@@ -94,7 +94,7 @@ ends_below end (place ∷ places) front up lie =
 -- ---- from the one to the other
 
 -- what is stated of the bytes before an end
-pub record IsToldBefore (copies : List (List ℕ)) (end : ℕ) (places : List Place) (front : ℕ) (payload : List ℕ) : Type 0 where
+pub record IsTallyBefore (copies : List (List ℕ)) (end : ℕ) (places : List Place) (front : ℕ) (payload : List ℕ) : Type 0 where
   pub size : length payload ≡ end
   pub lie : LieFrom end places front
   pub stand : All (λ place. StandsAs copies place.start place.end (slice_range payload place.start place.end) place.standing) places
@@ -121,9 +121,9 @@ module _ (copies : List (List ℕ)) where
       → StandsAs copies place.start place.end (slice_range a place.start place.end) place.standing
   stands_alike a b place same stands = subst (λ z. StandsAs copies place.start place.end z place.standing) (sym same) stands
 
-  pub told_before : (end : ℕ) (places : List Place) (front : ℕ) (payload : List ℕ) → AllReach copies end → IsSpliceBefore copies end places front payload
-      → IsToldBefore copies end places front payload
-  told_before end places front payload reach (stops {bytes = bytes} stop least) =
+  pub claim_before : (end : ℕ) (places : List Place) (front : ℕ) (payload : List ℕ) → AllReach copies end → IsSpliceBefore copies end places front payload
+      → IsTallyBefore copies end places front payload
+  claim_before end places front payload reach (stops {bytes = bytes} stop least) =
       let size = least_size copies 0 end bytes reach (omega arith) least in
       record {
         size = omega arith;
@@ -132,11 +132,11 @@ module _ (copies : List (List ℕ)) where
         stop = stop;
         before = subst (IsLeast copies 0 end) (sym (take_all end bytes (omega arith))) least;
       }
-  told_before end places front payload reach (goes {start = start} {standing = standing} {places = more} {before = before} bytes stands h) =
+  claim_before end places front payload reach (goes {start = start} {standing = standing} {places = more} {before = before} bytes stands h) =
       let below = stands_below copies start end bytes standing stands in
       let copy = copy_before start more front before h in
       let long = stands_size copies copy.0 copy.1 start end bytes standing reach stands in
-      let rest = told_before start more front before (reach_less copies end start (omega arith) reach) h in
+      let rest = claim_before start more front before (reach_less copies end start (omega arith) reach) h in
       let size = rest.size in
       let up = all_upright before more rest.stand in
       let within = ends_below start more front up rest.lie in
@@ -153,34 +153,34 @@ module _ (copies : List (List ℕ)) where
         before = subst (IsLeast copies 0 front) (sym (take-append-le front before bytes (omega arith))) rest.before;
       }
 
-  pub splice_before : (end : ℕ) (places : List Place) (front : ℕ) (payload : List ℕ) → AllReach copies end → IsToldBefore copies end places front payload
+  pub splice_before : (end : ℕ) (places : List Place) (front : ℕ) (payload : List ℕ) → AllReach copies end → IsTallyBefore copies end places front payload
       → IsSpliceBefore copies end places front payload
-  splice_before end [] front payload reach told =
-      let size = told.size in
-      let here : end ≡ front = told.lie in
+  splice_before end [] front payload reach claim =
+      let size = claim.size in
+      let here : end ≡ front = claim.lie in
       let all : take front payload ≡ payload = take_all front payload (omega arith) in
-      subst (λ e. IsSpliceBefore copies e [] front payload) (sym here) (stops told.stop (subst (IsLeast copies 0 front) all told.before))
-  splice_before end (place ∷ places) front payload reach told =
-      let size = told.size in
-      let ends : place.end ≡ end = told.lie.0 in
+      subst (λ e. IsSpliceBefore copies e [] front payload) (sym here) (stops claim.stop (subst (IsLeast copies 0 front) all claim.before))
+  splice_before end (place ∷ places) front payload reach claim =
+      let size = claim.size in
+      let ends : place.end ≡ end = claim.lie.0 in
       let stands : StandsAs copies place.start place.end (slice_range payload place.start place.end) place.standing =
-      All-head (λ place. StandsAs copies place.start place.end (slice_range payload place.start place.end) place.standing) place places told.stand in
+      All-head (λ place. StandsAs copies place.start place.end (slice_range payload place.start place.end) place.standing) place places claim.stand in
       let below = stands_below copies place.start place.end (slice_range payload place.start place.end) place.standing stands in
-      let rest = All-tail (λ place. StandsAs copies place.start place.end (slice_range payload place.start place.end) place.standing) place places told.stand in
+      let rest = All-tail (λ place. StandsAs copies place.start place.end (slice_range payload place.start place.end) place.standing) place places claim.stand in
       let up = all_upright payload places rest in
-      let within = ends_below place.start places front up told.lie.1 in
-      let far = front_below place.start places front up told.lie.1 in
+      let within = ends_below place.start places front up claim.lie.1 in
+      let far = front_below place.start places front up claim.lie.1 in
       let tail : take (place.end - place.start) (drop place.start payload) ≡ drop place.start payload =
       take_all (place.end - place.start) (drop place.start payload) (omega (arith, length-drop place.start payload)) in
       let whole : take place.start payload ++ slice_range payload place.start place.end ≡ payload =
       ap (λ z. take place.start payload ++ z) tail ∙ take-append-drop place.start payload in
       let before = splice_before place.start places front (take place.start payload) (reach_less copies end place.start (omega arith) reach) (record {
         size = length-take-le place.start payload (omega arith);
-        lie = told.lie.1;
+        lie = claim.lie.1;
         stand = λ k d lt. let inside = within k d lt in stands_alike (take place.start payload) payload (get_or places k d)
             (slice-take payload place.start (get_or places k d).start (get_or places k d).end (omega arith) (omega arith)) (rest k d lt);
-        stop = told.stop;
-        before = subst (IsLeast copies 0 front) (sym (take-take front place.start payload far)) told.before;
+        stop = claim.stop;
+        before = subst (IsLeast copies 0 front) (sym (take-take front place.start payload far)) claim.before;
       }) in
       subst (λ e. IsSpliceBefore copies e (place ∷ places) front payload) ends
       (subst (IsSpliceBefore copies place.end (place ∷ places) front) whole
@@ -190,13 +190,13 @@ module _ (copies : List (List ℕ)) where
   pub division_of : (whole : ℕ) (places : List Place) (front : ℕ) (payload : List ℕ) → ((copy : List ℕ) → Contains copies copy → length copy ≡ whole)
       → IsSpliceBefore copies whole places front payload → IsDivisionOf copies (record { places = places; front = front; payload = payload })
   division_of whole places front payload one h =
-      let told = told_before whole places front payload (λ copy there. omega (arith, one copy there)) h in
+      let claim = claim_before whole places front payload (λ copy there. omega (arith, one copy there)) h in
       record {
-        one_length = λ copy there. one copy there ∙ sym told.size;
-        lie = subst (λ n. LieFrom n places front) (sym told.size) told.lie;
-        stand = told.stand;
-        stop = told.stop;
-        before = told.before;
+        one_length = λ copy there. one copy there ∙ sym claim.size;
+        lie = subst (λ n. LieFrom n places front) (sym claim.size) claim.lie;
+        stand = claim.stand;
+        stop = claim.stop;
+        before = claim.before;
       }
 
   pub division_walk : (spliced : SplicedValue) → IsDivisionOf copies spliced

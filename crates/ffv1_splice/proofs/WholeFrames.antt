@@ -3,7 +3,7 @@ use Rattle.std.proofs.Common.{◌≡◌, ℕ, ◌+◌, ◌≤◌, List, [], ◌�
 use Rattle.std.specs.Prelude.{All, slice_range}
 use Rattle.std.proofs.lemmas.List.Elements.{All-head, All-tail, All-contains_itself}
 use Rattle.ffv1_bits.specs.Parity.{PassesParity}
-use Rattle.ffv1_slice.specs.Chain.{IsCut, IsEnd, IsFramed, Piece, piece_of}
+use Rattle.ffv1_slice.specs.Chain.{IsCut, IsEnd, IsFramed, LinkValue, link_of}
 use Rattle.ffv1_slice.specs.Chain.IsEnd.{last, before}
 use Rattle.ffv1_slice.proofs.NearLaws.{length-range, size_of_range}
 use Rattle.ffv1_splice.specs.Pieces.{HasContent, IsPiece}
@@ -94,17 +94,17 @@ pub record IsWholeSlice (start end : ℕ) (bytes : List ℕ) : Type 0 where
   pub passes : PassesParity bytes
 
 -- a piece is one, where it is within its copy
-slice_of_piece : (copies : List (List ℕ)) (end : ℕ) (piece : Piece) → AllReach copies end → IsPiece copies end piece
+slice_of_piece : (copies : List (List ℕ)) (end : ℕ) (piece : LinkValue) → AllReach copies end → IsPiece copies end piece
     → IsWholeSlice piece.start end piece.bytes
 slice_of_piece copies end piece reach h =
     let content : HasContent piece.start end = h.content in
     let cut : IsCut h.copy piece.start end = h.cut in
     let long = reach h.copy h.there in
     let size = length-range h.copy piece.start end (omega arith) long in
-    let told = size_of_range h.copy piece.start end (omega arith) long in
+    let claim = size_of_range h.copy piece.start end (omega arith) long in
     record {
       content = content;
-      framed = subst IsFramed (sym h.bytes) (record { footer = omega arith; size = sym told ∙ omega arith });
+      framed = subst IsFramed (sym h.bytes) (record { footer = omega arith; size = sym claim ∙ omega arith });
       passes = h.passes;
     }
 
@@ -121,11 +121,11 @@ module _ (copies : List (List ℕ)) (spliced : SplicedValue) (is : IsSpliceOf co
       (piece_out from to copies end (record { start = start; bytes = bytes }) within stands.there)
   cut_slice from to start end bytes (Woven count) within reach (inl stands) right =
       let valid = stands.weave'.0.there in
-      let content : HasContent start end = stands.told.there.content in
+      let content : HasContent start end = stands.claim.there.content in
       record { content = omega arith; framed = valid.passes.0; passes = valid.passes.1 }
   cut_slice from to start end bytes (Woven count) within reach (inr (inr stands)) right =
       let valid = stands.weave'.0.there in
-      let content : HasContent start end = stands.told.content in
+      let content : HasContent start end = stands.claim.content in
       record { content = omega arith; framed = valid.passes.0; passes = valid.passes.1 }
   cut_slice from to start end bytes (Woven count) within reach (inr (inl stands)) right =
       let valid = stands.1.weave'.0.there in
@@ -141,10 +141,10 @@ module _ (copies : List (List ℕ)) (spliced : SplicedValue) (is : IsSpliceOf co
   abbrev IsSliceThere : Place → Type 0
   IsSliceThere place = IsWholeSlice place.start place.end (slice_range spliced.payload place.start place.end)
 
-  slice_there : (place : Place) → place.end ≤ length spliced.payload → IsPiece copies place.end (piece_of spliced.payload place.start place.end)
+  slice_there : (place : Place) → place.end ≤ length spliced.payload → IsPiece copies place.end (link_of spliced.payload place.start place.end)
       → IsSliceThere place
   slice_there place within piece =
-      slice_of_piece copies place.end (piece_of spliced.payload place.start place.end) (reach_to place.end within) piece
+      slice_of_piece copies place.end (link_of spliced.payload place.start place.end) (reach_to place.end within) piece
 
   place_slice : (place : Place) → place.end ≤ length spliced.payload → IsSettledOrWoven place.standing → IsPlaceOf copies spliced is place
       → IsSliceThere place
@@ -163,11 +163,11 @@ module _ (copies : List (List ℕ)) (spliced : SplicedValue) (is : IsSpliceOf co
       place_slice place (places_within copies spliced is k d lt).1 (given.1 k d lt)
       (place_of copies spliced is place (All-contains_itself spliced.places k d lt))
 
-  link_of : (place : Place) → place.end ≤ length spliced.payload → IsSliceThere place → IsLinkPlace spliced.payload place
-  link_of place within slice =
+  link_of_place : (place : Place) → place.end ≤ length spliced.payload → IsSliceThere place → IsLinkPlace spliced.payload place
+  link_of_place place within slice =
       let content : HasContent place.start place.end = slice.content in
       let size = length-range spliced.payload place.start place.end (omega arith) within in
-      let told = size_of_range spliced.payload place.start place.end (omega arith) within in
+      let claim = size_of_range spliced.payload place.start place.end (omega arith) within in
       let own = slice.framed.size in
       record { content = content; cut = omega arith; passes = slice.passes }
 
@@ -176,7 +176,7 @@ module _ (copies : List (List ℕ)) (spliced : SplicedValue) (is : IsSpliceOf co
       whole_frame spliced.payload (record {
         places = spliced.places;
         lie = subst (LieFrom (length spliced.payload) spliced.places) given.0 (places_lie copies spliced is);
-        links = λ k d lt. link_of (get_or spliced.places k d) (places_within copies spliced is k d lt).1 (all_slices k d lt);
+        links = λ k d lt. link_of_place (get_or spliced.places k d) (places_within copies spliced is k d lt).1 (all_slices k d lt);
       })
 
 pub given_back_is_whole : GivenBackIsWhole

@@ -22,14 +22,14 @@ use Rattle.ffv1_splice.specs.declared.place.Standing.{Standing}
 use Rattle.ffv1_splice.specs.declared.place.Standing.TheVariants.{Settled, Woven, Voted, Repaired, Disputed, Missing, Undivided}
 use Rattle.ffv1_splice.specs.declared.place.Place.{Place}
 use Rattle.ffv1_splice.proofs.DividedLinks.{end_within, link_at, AreLinkPlaces, link_places, settled_link, same_payload}
-use Rattle.ffv1_splice.proofs.FirstSlices.{combination_told}
+use Rattle.ffv1_splice.proofs.FirstSlices.{combination_claim}
 use Rattle.ffv1_splice.proofs.Versions.{version_there}
-use Rattle.ffv1_splice.proofs.PlaceSteps.{AllReach, told_below, unwoven_weave, missing_unwoven}
+use Rattle.ffv1_splice.proofs.PlaceSteps.{AllReach, claim_below, unwoven_weave, missing_unwoven}
 use Rattle.ffv1_splice.proofs.SizedCombinations.{sized_combination}
 use Rattle.ffv1_splice.proofs.NarrowedOriginal.{AreWeavableDown, copies_narrowed, weavable_narrowed}
 use Rattle.ffv1_splice.proofs.Walks.{IsSpliceBefore, division_walk, stands_below}
 use Rattle.ffv1_splice.proofs.SplicePlaces.{copy_at_hand, places_lie, start_within}
-use Rattle.ffv1_splice.proofs.StandingPlaces.{between_reach, between_versions, between_told, IsPlaceOf, place_of, hole_given_back}
+use Rattle.ffv1_splice.proofs.StandingPlaces.{between_reach, between_versions, between_claim, IsPlaceOf, place_of, hole_given_back}
 use Rattle.ffv1_splice.proofs.StandingPlaces.IsPlaceOf.{above, between, undivided, below}
 use Rattle.ffv1_splice.proofs.SameBytes.{IsSameAt}
 use Rattle.ffv1_splice.proofs.OriginalLaws.{settled_is_original, as_long, above_links, across_links, joined_links}
@@ -58,11 +58,11 @@ module _ (copies : List (List ℕ)) (start end : ℕ) (slice : List ℕ) (framed
   woven_slice copy bytes Settled count reach there is h = absurd (cc)
   woven_slice copy bytes (Woven n) count reach there is (inl h) = slice_of_weave slice framed passes (versions_at copies start end) bytes n among h.weave'
   woven_slice copy bytes (Woven n) count reach there is (inr (inr h)) =
-      let below = told_below copies start end h.told in
+      let below = claim_below copies start end h.claim in
       slice_of_weave slice framed passes (map sized (versions_at copies start end)) bytes (get_or h.tried start 0)
       (sized_combination copies start end copy slice reach there below h.are_bytes framed among) h.weave'
   woven_slice copy bytes (Woven n) count reach there is (inr (inl h)) =
-      absurd (h.1.untold 0 (combination_told copies end copy slice reach there h.1.content framed
+      absurd (h.1.no_claim 0 (combination_claim copies end copy slice reach there h.1.content framed
       (subst (λ s. IsCombination (versions_at copies s end) slice) h.0 among)))
   woven_slice copy bytes (Voted n) count reach there is h = absurd (cc)
   woven_slice copy bytes (Repaired n) count reach there is h = absurd (cc)
@@ -112,17 +112,17 @@ module _ (copies : List (List ℕ)) (start end : ℕ) (slice : List ℕ) (framed
 sized_slice : (copies : List (List ℕ)) (start end : ℕ) (slice : List ℕ) → IsFramed slice → PassesParity slice → (IsClaimedStart copies end start → ⊥)
     → IsCombination (map sized (versions_at copies start end)) slice → (bytes : List ℕ) (standing : Standing) (count : ℕ) → standing ≡ Woven count
     → StandsAs copies start end bytes standing → bytes ≡ slice
-sized_slice copies start end slice framed passes untold among bytes Settled count is h = absurd (cc)
-sized_slice copies start end slice framed passes untold among bytes (Woven n) count is (inl h) = absurd (untold h.told.there)
-sized_slice copies start end slice framed passes untold among bytes (Woven n) count is (inr (inr h)) = absurd (untold h.told)
-sized_slice copies start end slice framed passes untold among bytes (Woven n) count is (inr (inl h)) =
+sized_slice copies start end slice framed passes no_claim among bytes Settled count is h = absurd (cc)
+sized_slice copies start end slice framed passes no_claim among bytes (Woven n) count is (inl h) = absurd (no_claim h.claim.there)
+sized_slice copies start end slice framed passes no_claim among bytes (Woven n) count is (inr (inr h)) = absurd (no_claim h.claim)
+sized_slice copies start end slice framed passes no_claim among bytes (Woven n) count is (inr (inl h)) =
     slice_of_weave slice framed passes (map sized (versions_at copies 0 end)) bytes n
     (subst (λ s. IsCombination (map sized (versions_at copies s end)) slice) h.0 among) h.1.weave'
-sized_slice copies start end slice framed passes untold among bytes (Voted n) count is h = absurd (cc)
-sized_slice copies start end slice framed passes untold among bytes (Repaired n) count is h = absurd (cc)
-sized_slice copies start end slice framed passes untold among bytes Disputed count is h = absurd (cc)
-sized_slice copies start end slice framed passes untold among bytes Missing count is h = absurd (cc)
-sized_slice copies start end slice framed passes untold among bytes Undivided count is h = absurd (cc)
+sized_slice copies start end slice framed passes no_claim among bytes (Voted n) count is h = absurd (cc)
+sized_slice copies start end slice framed passes no_claim among bytes (Repaired n) count is h = absurd (cc)
+sized_slice copies start end slice framed passes no_claim among bytes Disputed count is h = absurd (cc)
+sized_slice copies start end slice framed passes no_claim among bytes Missing count is h = absurd (cc)
+sized_slice copies start end slice framed passes no_claim among bytes Undivided count is h = absurd (cc)
 
 -- ---- what is woven in a splice
 
@@ -170,15 +170,15 @@ module _ (original : List ℕ) (copies : List (List ℕ)) (spliced : SplicedValu
       → (IsClaimedStart copies place.end place.start → ⊥) → PassesParity (slice_range original place.start place.end)
       → IsCombination (map sized (versions_at copies place.start place.end)) (slice_range original place.start place.end) → place.standing ≡ Woven count
       → slice_range spliced.payload place.start place.end ≡ slice_range original place.start place.end
-  sized_link place count (above settled) link untold passes among as_woven = (keeps_settled place settled.standing).woven count as_woven
-  sized_link place count (between h) link untold passes among as_woven =
+  sized_link place count (above settled) link no_claim passes among as_woven = (keeps_settled place settled.standing).woven count as_woven
+  sized_link place count (between h) link no_claim passes among as_woven =
       let slice : List ℕ = slice_range original place.start place.end in
       sized_slice (versions_at copies h.from h.to) h.start h.end slice (framed_link original place.start place.end link) passes
-      (λ told. untold (between_told copies spliced.payload place h told))
+      (λ claim. no_claim (between_claim copies spliced.payload place h claim))
       (subst (λ vs. IsCombination (map sized vs) slice) (sym (between_versions copies spliced.payload place h)) among)
       (slice_range spliced.payload place.start place.end) place.standing count as_woven h.stands
-  sized_link place count (undivided stands) link untold passes among as_woven = (keeps_undivided place stands).woven count as_woven
-  sized_link place count (below settled) link untold passes among as_woven = (keeps_settled place settled.standing).woven count as_woven
+  sized_link place count (undivided stands) link no_claim passes among as_woven = (keeps_undivided place stands).woven count as_woven
+  sized_link place count (below settled) link no_claim passes among as_woven = (keeps_settled place settled.standing).woven count as_woven
 
 pub sized_is_original : SizedIsOriginal
 sized_is_original original copies spliced place count is there = sized_link original copies spliced is place count (place_of copies spliced is place there)
@@ -191,24 +191,24 @@ woven_is_original original copies spliced place is there = keeps_link original c
 module _ (original : List ℕ) (copies : List (List ℕ)) (spliced : SplicedValue) (of : AreCopiesOf original copies)
     (weavable : AreWeavableDown original copies) (is : IsDivisionOf copies spliced) (given : IsGivenBack spliced) where
   -- a start that is claimed alone is the link's
-  told_cut : (start end : ℕ) → IsEnd original end → 0 < end → IsOnly (IsClaimedStart copies end) start → IsCut original start end
-  told_cut start end is_end after only =
+  claim_cut : (start end : ℕ) → IsEnd original end → 0 < end → IsOnly (IsClaimedStart copies end) start → IsCut original start end
+  claim_cut start end is_end after only =
       let at = link_at original of.whole end is_end after in
-      subst (λ s. IsCut original s end) (only.others at.0 (weavable.told at.0 end (record { is_end = is_end; cut = at.1 }))) at.1
+      subst (λ s. IsCut original s end) (only.others at.0 (weavable.claim at.0 end (record { is_end = is_end; cut = at.1 }))) at.1
 
   -- a link's slice is a combination of what the copies have there with its size
   among_sized : (start end : ℕ) → IsLinkOf original start end → ((copy : List ℕ) → Contains copies copy → AreBytes copy)
       → IsCombination (map sized (versions_at copies start end)) (slice_range original start end)
   among_sized start end link are_bytes =
-      let told = weavable.told start end link in
+      let claim = weavable.claim start end link in
       let within = end_within original end link.is_end in
-      sized_combination copies start end told.copy (slice_range original start end) (λ copy there. omega (arith, of.one_length copy there)) told.there
-      (told_below copies start end told) are_bytes (framed_link original start end link) (weavable.among start end link)
+      sized_combination copies start end claim.copy (slice_range original start end) (λ copy there. omega (arith, of.one_length copy there)) claim.there
+      (claim_below copies start end claim) are_bytes (framed_link original start end link) (weavable.among start end link)
 
   -- of several starts the one that gives a slice is the link's, since something comes of that
   several_cut : (start end : ℕ) (bytes : List ℕ) (count : ℕ) → IsEnd original end → IsWeaveOfSeveral copies start end bytes count → IsCut original start end
   several_cut start end bytes count is_end h =
-      let below = told_below copies start end h.told in
+      let below = claim_below copies start end h.claim in
       let at = link_at original of.whole end is_end (omega arith) in
       let link : IsLinkOf original at.0 end = record { is_end = is_end; cut = at.1 } in
       elim (cases_eq at.0 start) [
@@ -216,27 +216,27 @@ module _ (original : List ℕ) (copies : List (List ℕ)) (spliced : SplicedValu
         | inr apart ↦
             absurd (original_is_woven Slice (slice_range original at.0 end) (map sized (versions_at copies at.0 end)) (weave_missing (get_or h.tried at.0 0))
             (framed_link original at.0 end link, weavable.passes at.0 end link) (among_sized at.0 end link h.are_bytes)
-            (h.others at.0 (weavable.told at.0 end link) apart))
+            (h.others at.0 (weavable.claim at.0 end link) apart))
       ]
 
   cuts : (start end : ℕ) (bytes : List ℕ) (standing : Standing) → IsEnd original end → StandsAs copies start end bytes standing → IsCut original start end
   cuts start end bytes Settled is_end h = (weavable.agree end (record { start = start; bytes = bytes }) is_end h.there).0.cut
   cuts start end bytes (Woven count) is_end (inl h) =
-      let below = told_below copies start end h.told.there in told_cut start end is_end (omega arith) h.told
+      let below = claim_below copies start end h.claim.there in claim_cut start end is_end (omega arith) h.claim
   cuts start end bytes (Woven count) is_end (inr (inl h)) =
       let content : HasContent 0 end = h.1.content in
       let at = link_at original of.whole end is_end (omega arith) in
-      absurd (h.1.untold at.0 (weavable.told at.0 end (record { is_end = is_end; cut = at.1 })))
+      absurd (h.1.no_claim at.0 (weavable.claim at.0 end (record { is_end = is_end; cut = at.1 })))
   cuts start end bytes (Woven count) is_end (inr (inr h)) = several_cut start end bytes count is_end h
   cuts start end bytes (Voted count) is_end h =
-      let told = (unwoven_weave copies start end h.unwoven).1.told in
-      let below = told_below copies start end told.there in told_cut start end is_end (omega arith) told
+      let claim = (unwoven_weave copies start end h.unwoven).1.claim in
+      let below = claim_below copies start end claim.there in claim_cut start end is_end (omega arith) claim
   cuts start end bytes (Repaired count) is_end h =
-      let below = told_below copies start end h.missed.told.there in told_cut start end is_end (omega arith) h.missed.told
+      let below = claim_below copies start end h.missed.claim.there in claim_cut start end is_end (omega arith) h.missed.claim
   cuts start end bytes Disputed is_end h =
-      let below = stands_below copies start end bytes Disputed h in told_cut start end is_end (omega arith) h.1.told
+      let below = stands_below copies start end bytes Disputed h in claim_cut start end is_end (omega arith) h.1.claim
   cuts start end bytes Missing is_end h =
-      let below = stands_below copies start end bytes Missing h in told_cut start end is_end (omega arith) h.1.told
+      let below = stands_below copies start end bytes Missing h in claim_cut start end is_end (omega arith) h.1.claim
   cuts start end bytes Undivided is_end h = absurd h
 
   long : length spliced.payload ≡ length original
@@ -255,7 +255,7 @@ module _ (original : List ℕ) (copies : List (List ℕ)) (spliced : SplicedValu
   has_link start end bytes (Woven count) link right (inl h) =
       slice_of_weave (slice_range original start end) (framed_link original start end link) (weavable.passes start end link)
       (versions_at copies start end) bytes count (weavable.among start end link) h.weave'
-  has_link start end bytes (Woven count) link right (inr (inl h)) = absurd (h.1.untold start (weavable.told start end link))
+  has_link start end bytes (Woven count) link right (inr (inl h)) = absurd (h.1.no_claim start (weavable.claim start end link))
   has_link start end bytes (Woven count) link right (inr (inr h)) =
       slice_of_weave (slice_range original start end) (framed_link original start end link) (weavable.passes start end link)
       (map sized (versions_at copies start end)) bytes (get_or h.tried start 0) (among_sized start end link h.are_bytes) h.weave'
@@ -296,7 +296,7 @@ module _ (original : List ℕ) (copies : List (List ℕ)) (spliced : SplicedValu
   given_links : AreLinkPlaces original (length original) spliced.places spliced.front
   given_links =
       let down = above_links original copies spliced is of weavable.agree in
-      let across = across_links original copies spliced is of weavable.agree weavable.below weavable.told in
+      let across = across_links original copies spliced is of weavable.agree weavable.below weavable.claim in
       let order = start_within copies spliced is in
       let hole = given_back_divided (slice_range original is.start is.end) (versions_at copies is.start is.end) is.hole
       (copies_narrowed is.start is.end original order down.is_end copies across.is_end of.one_length)

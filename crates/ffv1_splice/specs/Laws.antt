@@ -1,6 +1,6 @@
 -- Laws of the splice.
 use Rattle.std.specs.Prelude.{ℕ, ◌≡◌, ◌↔◌, List, All, Contains, map, slice_range}
-use Rattle.ffv1_slice.specs.Chain.{IsEnd, IsLinkOf, piece_of}
+use Rattle.ffv1_slice.specs.Chain.{IsEnd, IsLinkOf, link_of}
 use Rattle.ffv1_slice.specs.Walk.{links_of}
 use Rattle.ffv1_slice.specs.Members.{HasSameMembers}
 use Rattle.ffv1_bits.specs.Parity.{PassesParity}
@@ -11,7 +11,7 @@ use Rattle.ffv1_weave.specs.Votes.{IsVote}
 use Rattle.ffv1_splice.specs.Pieces.{IsClaimedStart}
 use Rattle.ffv1_splice.specs.Standings.{versions_at, sized}
 use Rattle.ffv1_splice.specs.Splice.{SplicedValue, IsSpliceOf, IsGivenBack, leg_places}
-use Rattle.ffv1_splice.specs.Originals.{AreCopiesOf, AgreeWith, AgreeFromBelow, HaveEachLink, IsAmong, AreWeavable, AreNearCopies, IsIntactInSome}
+use Rattle.ffv1_splice.specs.Originals.{AreCopiesOf, AreConsistentWith, AreConsistentFromBelow, HaveEachLink, IsAmong, AreWeavable, AreNearCopies, IsIntactInSome}
 use Rattle.ffv1_splice.specs.declared.place.Standing.TheVariants.{Settled, Woven, Voted, Repaired, Missing}
 use Rattle.ffv1_splice.specs.declared.place.Place.{Place}
 
@@ -24,11 +24,11 @@ SameCopiesSplice =
 
 -- The places are the original's links, from its end to its first byte.
 pub record HasLinksOf (original : List ℕ) (spliced : SplicedValue) : Type 0 where
-  pub links : map (λ place. piece_of original place.start place.end) spliced.places ≡ links_of original
+  pub links : map (λ place. link_of original place.start place.end) spliced.places ≡ links_of original
   pub whole : spliced.front ≡ 0
 
 -- all settled, and the original byte for byte
-pub record IsOriginal (original : List ℕ) (spliced : SplicedValue) : Type 0 where
+pub record IsSplicedOriginal (original : List ℕ) (spliced : SplicedValue) : Type 0 where
   pub places : HasLinksOf original spliced
   pub settled : All (λ place. place.standing ≡ Settled) spliced.places
   pub payload : spliced.payload ≡ original
@@ -36,13 +36,13 @@ pub record IsOriginal (original : List ℕ) (spliced : SplicedValue) : Type 0 wh
 -- Where no piece contradicts the original, and each of its links is a piece, the splice is the original.
 abbrev pub OriginalIsSpliced : Type 0
 OriginalIsSpliced =
-    (original : List ℕ) (copies : List (List ℕ)) (spliced : SplicedValue) → AreCopiesOf original copies → AgreeWith original copies
-    → HaveEachLink original copies → IsSpliceOf copies spliced → IsOriginal original spliced
+    (original : List ℕ) (copies : List (List ℕ)) (spliced : SplicedValue) → AreCopiesOf original copies → AreConsistentWith original copies
+    → HaveEachLink original copies → IsSpliceOf copies spliced → IsSplicedOriginal original spliced
 
 -- Where no piece contradicts the original, each settled place that ends at an end of the original is its link there, byte for byte.
 abbrev pub SettledIsOriginal : Type 0
 SettledIsOriginal =
-    (original : List ℕ) (copies : List (List ℕ)) (spliced : SplicedValue) (place : Place) → AgreeWith original copies → IsSpliceOf copies spliced
+    (original : List ℕ) (copies : List (List ℕ)) (spliced : SplicedValue) (place : Place) → AreConsistentWith original copies → IsSpliceOf copies spliced
     → Contains spliced.places place → place.standing ≡ Settled → IsEnd original place.end
     → IsLinkOf original place.start place.end × (slice_range spliced.payload place.start place.end ≡ slice_range original place.start place.end)
 
@@ -54,8 +54,8 @@ pub record IsItsLink (original : List ℕ) (spliced : SplicedValue) (place : Pla
 -- And where no piece contradicts the original from below, each settled place above the hole and below it is a link of the original.
 abbrev pub SettledWalksAreOriginal : Type 0
 SettledWalksAreOriginal =
-    (original : List ℕ) (copies : List (List ℕ)) (spliced : SplicedValue) → AreCopiesOf original copies → AgreeWith original copies
-    → AgreeFromBelow original copies → (is : IsSpliceOf copies spliced)
+    (original : List ℕ) (copies : List (List ℕ)) (spliced : SplicedValue) → AreCopiesOf original copies → AreConsistentWith original copies
+    → AreConsistentFromBelow original copies → (is : IsSpliceOf copies spliced)
     → All (IsItsLink original spliced) is.above × All (IsItsLink original spliced) is.below
 
 -- a place is a link of the original, and byte for byte where it is settled
@@ -67,8 +67,8 @@ pub record IsLinkIfSettled (original : List ℕ) (spliced : SplicedValue) (place
 -- and each that is settled after one is so byte for byte.
 abbrev pub WalkAcrossIsOriginal : Type 0
 WalkAcrossIsOriginal =
-    (original : List ℕ) (copies : List (List ℕ)) (spliced : SplicedValue) → AreCopiesOf original copies → AgreeWith original copies
-    → AgreeFromBelow original copies → ((start end : ℕ) → IsLinkOf original start end → IsClaimedStart copies end start)
+    (original : List ℕ) (copies : List (List ℕ)) (spliced : SplicedValue) → AreCopiesOf original copies → AreConsistentWith original copies
+    → AreConsistentFromBelow original copies → ((start end : ℕ) → IsLinkOf original start end → IsClaimedStart copies end start)
     → (is : IsSpliceOf copies spliced) → All (IsLinkIfSettled original spliced) (leg_places is.legs)
 
 -- ---- what is woven
@@ -136,11 +136,11 @@ pub record IsNearSplice (original : List ℕ) (copies : List (List ℕ)) (splice
 -- Where none contradicts the original from below either, the places are the original's links; and where each is among the
 -- combinations, a frame that is given back is the original.
 pub record NearCopiesSplice : Type 0 where
-  pub agree : (original : List ℕ) (copies : List (List ℕ)) → AreNearCopies original copies → AgreeWith original copies
+  pub agree : (original : List ℕ) (copies : List (List ℕ)) → AreNearCopies original copies → AreConsistentWith original copies
   pub near : (original : List ℕ) (copies : List (List ℕ)) (spliced : SplicedValue) → AreNearCopies original copies
-      → AgreeFromBelow original copies → IsSpliceOf copies spliced → IsNearSplice original copies spliced
+      → AreConsistentFromBelow original copies → IsSpliceOf copies spliced → IsNearSplice original copies spliced
   pub original : (original : List ℕ) (copies : List (List ℕ)) (spliced : SplicedValue) → AreNearCopies original copies
-      → ((start end : ℕ) → IsLinkOf original start end → IsIntactInSome original copies start end) → IsSpliceOf copies spliced → IsOriginal original spliced
+      → ((start end : ℕ) → IsLinkOf original start end → IsIntactInSome original copies start end) → IsSpliceOf copies spliced → IsSplicedOriginal original spliced
   pub woven : (original : List ℕ) (copies : List (List ℕ)) (spliced : SplicedValue) → AreNearCopies original copies
-      → AgreeFromBelow original copies → ((start end : ℕ) → IsLinkOf original start end → IsAmong original copies start end) → IsSpliceOf copies spliced → IsGivenBack spliced
+      → AreConsistentFromBelow original copies → ((start end : ℕ) → IsLinkOf original start end → IsAmong original copies start end) → IsSpliceOf copies spliced → IsGivenBack spliced
       → spliced.payload ≡ original

@@ -3,7 +3,7 @@ pub mod Standings
 pub mod Placing
 pub mod Several
 pub mod Splice
-pub mod Told
+pub mod Tally
 pub mod Faults
 pub mod Originals
 pub mod Laws

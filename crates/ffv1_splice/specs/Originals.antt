@@ -1,7 +1,7 @@
 -- Copies of an original: what they have and claim of its links.
 use Rattle.std.specs.Prelude.{ℕ, ◌≡◌, ◌≤◌, ◌⊎◌, List, Contains, length, slice_range}
 use Rattle.ffv1_bits.specs.Parity.{AreBytes, PassesParity}
-use Rattle.ffv1_slice.specs.Chain.{IsEnd, IsLinkOf, Piece, piece_of}
+use Rattle.ffv1_slice.specs.Chain.{IsEnd, IsLinkOf, LinkValue, link_of}
 use Rattle.ffv1_slice.specs.Near.{IsHurtWithin32}
 use Rattle.ffv1_weave.specs.Combinations.{IsCombination}
 use Rattle.ffv1_splice.specs.Pieces.{HasContent, IsPiece, IsClaimedStart, PieceFrom}
@@ -13,20 +13,20 @@ pub record AreCopiesOf (original : List ℕ) (copies : List (List ℕ)) : Type 0
   pub one_length : (copy : List ℕ) → Contains copies copy → length copy ≡ length original
 
 -- No piece contradicts the original: each that ends at an end of the original is the original's link there.
-abbrev pub AgreeWith : List ℕ → List (List ℕ) → Type 0
-AgreeWith original copies =
-    (end : ℕ) (piece : Piece) → IsEnd original end → IsPiece copies end piece → IsLinkOf original piece.start end × (piece ≡ piece_of original piece.start end)
+abbrev pub AreConsistentWith : List ℕ → List (List ℕ) → Type 0
+AreConsistentWith original copies =
+    (end : ℕ) (piece : LinkValue) → IsEnd original end → IsPiece copies end piece → IsLinkOf original piece.start end × (piece ≡ link_of original piece.start end)
 
 -- So from below: each piece that begins where a link of the original begins, and ends within it, is that link.
-abbrev pub AgreeFromBelow : List ℕ → List (List ℕ) → Type 0
-AgreeFromBelow original copies =
+abbrev pub AreConsistentFromBelow : List ℕ → List (List ℕ) → Type 0
+AreConsistentFromBelow original copies =
     (start end : ℕ) (piece : PieceFrom) → IsLinkOf original start end → piece.end ≤ length original
     → IsPiece copies piece.end (record { start = start; bytes = piece.bytes })
     → piece ≡ record { end = end; bytes = slice_range original start end }
 
 -- each link of the original is a piece of some copy; so each has content
 abbrev pub HaveEachLink : List ℕ → List (List ℕ) → Type 0
-HaveEachLink original copies = (start end : ℕ) → IsLinkOf original start end → IsPiece copies end (piece_of original start end)
+HaveEachLink original copies = (start end : ℕ) → IsLinkOf original start end → IsPiece copies end (link_of original start end)
 
 -- The original's slice between two places is a combination of what the copies have there: so it is where each region in which they
 -- differ is intact in some copy, and where all agree they are right.
@@ -36,9 +36,9 @@ IsAmong original copies start end = IsCombination (versions_at copies start end)
 -- No piece contradicts the original, from an end or from a start of its links. The start of each link is claimed by a footer of some
 -- copy, and its slice, which passes its parity, is among the combinations of what the copies have there.
 pub record AreWeavable (original : List ℕ) (copies : List (List ℕ)) : Type 0 where
-  pub agree : AgreeWith original copies
-  pub below : AgreeFromBelow original copies
-  pub told : (start end : ℕ) → IsLinkOf original start end → IsClaimedStart copies end start
+  pub agree : AreConsistentWith original copies
+  pub below : AreConsistentFromBelow original copies
+  pub claim : (start end : ℕ) → IsLinkOf original start end → IsClaimedStart copies end start
   pub passes : (start end : ℕ) → IsLinkOf original start end → PassesParity (slice_range original start end)
   pub among : (start end : ℕ) → IsLinkOf original start end → IsAmong original copies start end
 

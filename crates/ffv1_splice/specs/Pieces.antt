@@ -5,7 +5,7 @@ use Rattle.std.specs.Ordering.{nat_cmp}
 use Rattle.std.specs.Cmp.Lexicographic.{slice_cmp}
 use Rattle.std.specs.declared.cmp.Ordering.TheVariants.{Less}
 use Rattle.ffv1_bits.specs.Parity.{PassesParity}
-use Rattle.ffv1_slice.specs.Chain.{IsCut, Piece}
+use Rattle.ffv1_slice.specs.Chain.{IsCut, LinkValue}
 
 -- The slice between two places has content before its footer. One without is neither a piece nor a claimed start: a sector of zeros reads
 -- as a row of links of size 0, each of which passes its parity, and no slice of a frame is without content.
@@ -14,7 +14,7 @@ HasContent start end = start + 8 < end
 
 -- A piece: what lies in some copy between the end and the start that the copy's footer there gives, where it has content and passes
 -- its parity.
-pub record IsPiece (copies : List (List ℕ)) (end : ℕ) (piece : Piece) : Type 0 where
+pub record IsPiece (copies : List (List ℕ)) (end : ℕ) (piece : LinkValue) : Type 0 where
   pub copy : List ℕ
   pub there : Contains copies copy
   pub cut : IsCut copy piece.start end

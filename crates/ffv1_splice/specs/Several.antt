@@ -32,10 +32,10 @@ tried_more (one_woven first bytes count) start (missing more) = one_woven first 
 tried_more _ start _ = undecided
 
 -- what the code counts
-abbrev pub tried_told : Tried → TriedValue
-tried_told (tries.Missing count) = none_woven count
-tried_told (tries.Woven start bytes count) = one_woven start bytes.items count
-tried_told tries.Undecided = undecided
+abbrev pub tried_tally : Tried → TriedValue
+tried_tally (tries.Missing count) = none_woven count
+tried_tally (tries.Woven start bytes count) = one_woven start bytes.items count
+tried_tally tries.Undecided = undecided
 
 -- How many combinations were tried from each place before one, 0 where no start is claimed there; and nothing comes of any start but one
 -- that is set apart.
@@ -43,13 +43,13 @@ pub record AreMissing (copies : List (List ℕ)) (end from : ℕ) (IsApart : ℕ
   pub places : length tried ≡ from
   pub missing' : (start : ℕ) → start < from → IsClaimedStart copies end start → (IsApart start → ⊥)
       → IsWeaveOf Slice (map sized (versions_at copies start end)) (missing (slice_index tried start))
-  pub untold : (start : ℕ) → (IsClaimedStart copies end start → ⊥) → slice_index tried start ≡ 0
+  pub no_claim : (start : ℕ) → (IsClaimedStart copies end start → ⊥) → slice_index tried start ≡ 0
 
 -- something comes of one start alone
 pub record IsOneWoven (copies : List (List ℕ)) (end from start : ℕ) (bytes : List ℕ) (tried : List ℕ) : Type 0 where
   pub others : AreMissing copies end from (λ other. other ≡ start) tried
   pub before : start < from
-  pub told : IsClaimedStart copies end start
+  pub claim : IsClaimedStart copies end start
   pub weave' : IsWeaveOf Slice (map sized (versions_at copies start end)) (woven bytes (slice_index tried start))
 
 -- what comes of the starts before a place

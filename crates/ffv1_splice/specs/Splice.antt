@@ -2,7 +2,7 @@
 -- all copies too, and the hole that is left.
 use Rattle.std.specs.Prelude.{ℕ, zero, suc, ◌+◌, ◌-◌, ◌≡◌, ◌<◌, ◌≤◌, ◌⊎◌, List, [], ◌∷◌, ◌++◌, All, Contains, length, map, reverse, take, slice_range}
 use Rattle.std.specs.List.{flat_map}
-use Rattle.ffv1_slice.specs.Chain.{Piece, piece_of}
+use Rattle.ffv1_slice.specs.Chain.{LinkValue, link_of}
 use Rattle.ffv1_slice.specs.Members.{IsOnly, IsOfNone}
 use Rattle.ffv1_splice.specs.Pieces.{IsPiece, IsClaimedStart, PieceFrom, IsPieceFrom, IsShortest, IsLeast}
 use Rattle.ffv1_splice.specs.Standings.{versions_at, StandsAs, IsStop}
@@ -32,13 +32,13 @@ RiseFrom start (place ∷ places) top = (place.start ≡ start) × RiseFrom plac
 -- Exactly one piece ends where the place ends, and it stands there.
 pub record IsSettledDown (copies : List (List ℕ)) (payload : List ℕ) (place : Place) : Type 0 where
   pub standing : place.standing ≡ Settled
-  pub only : IsOnly (IsPiece copies place.end) (piece_of payload place.start place.end)
+  pub only : IsOnly (IsPiece copies place.end) (link_of payload place.start place.end)
 
 -- Places settled from the payload's end down to the first end at which not exactly one piece ends.
 pub record IsWalkDown (copies : List (List ℕ)) (payload : List ℕ) (places : List Place) (end : ℕ) : Type 0 where
   pub lie : LieFrom (length payload) places end
   pub settled : All (IsSettledDown copies payload) places
-  pub stop : (piece : Piece) → IsOnly (IsPiece copies end) piece → ⊥
+  pub stop : (piece : LinkValue) → IsOnly (IsPiece copies end) piece → ⊥
 
 -- ---- up from the start
 
@@ -47,14 +47,14 @@ pub record IsWalkDown (copies : List (List ℕ)) (payload : List ℕ) (places : 
 abbrev pub IsBound : List (List ℕ) → (end bound : ℕ) → Type 0
 IsBound copies end bound =
     (IsOfNone (IsPiece copies end) × (bound ≡ end))
-    ⊎ ((piece : Piece) × IsPiece copies end piece × (piece.start ≡ bound) × ((other : Piece) → IsPiece copies end other → bound ≤ other.start))
+    ⊎ ((piece : LinkValue) × IsPiece copies end piece × (piece.start ≡ bound) × ((other : LinkValue) → IsPiece copies end other → bound ≤ other.start))
 
 -- Of the pieces that begin where the place begins, and end at the bound or before it, the one that stands there ends first; and no other
 -- piece ends where it ends.
 pub record IsSettledUp (copies : List (List ℕ)) (bound : ℕ) (payload : List ℕ) (place : Place) : Type 0 where
   pub standing : place.standing ≡ Settled
   pub first : IsShortest copies bound place.start (record { end = place.end; bytes = slice_range payload place.start place.end })
-  pub only : IsOnly (IsPiece copies place.end) (piece_of payload place.start place.end)
+  pub only : IsOnly (IsPiece copies place.end) (link_of payload place.start place.end)
 
 -- Places settled from a place of the payload up to the first start from which none can be.
 pub record IsWalkUp (copies : List (List ℕ)) (bound : ℕ) (payload : List ℕ) (from : ℕ) (places : List Place) (start : ℕ) : Type 0 where
@@ -67,7 +67,7 @@ pub record IsWalkUp (copies : List (List ℕ)) (bound : ℕ) (payload : List ℕ
 
 -- A footer that ends there in some copy claims that its slice begins where the copies do, and the place lies within reach.
 pub record IsClaimedEnd (copies : List (List ℕ)) (reach end : ℕ) : Type 0 where
-  pub told : IsClaimedStart copies end 0
+  pub claim : IsClaimedStart copies end 0
   pub within : end ≤ reach
 
 -- the first that one copy claims after a place

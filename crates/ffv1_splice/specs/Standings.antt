@@ -2,7 +2,7 @@
 use Rattle.std.specs.Prelude.{ℕ, ◌-◌, ◌<◌, ◌^◌, ◌≡◌, ◌⊎◌, List, ◌++◌, Contains, length, map, take, drop, min, slice_index, slice_range, sum}
 use Rattle.byteorder.specs.Endian.{big_bytes}
 use Rattle.ffv1_bits.specs.Parity.{AreBytes}
-use Rattle.ffv1_slice.specs.Chain.{Piece}
+use Rattle.ffv1_slice.specs.Chain.{LinkValue}
 use Rattle.ffv1_slice.specs.Members.{IsOnly, IsOfTwo, IsOfNone}
 use Rattle.ffv1_weave.specs.Weave.{Weave, IsWeaveOf}
 use Rattle.ffv1_weave.specs.Weave.Weave.{woven, disputed, missing, too_many}
@@ -21,7 +21,7 @@ versions_at copies start end = map (λ copy. slice_range copy start end) copies
 -- from it on.
 pub record IsWeaveAt (copies : List (List ℕ)) (start end : ℕ) (weave : Weave) : Type 0 where
   pub none : IsOfNone (IsPiece copies end)
-  pub told : IsOnly (IsClaimedStart copies end) start
+  pub claim : IsOnly (IsClaimedStart copies end) start
   pub weave' : IsWeaveOf Slice (versions_at copies start end) weave
 
 -- The bytes with the size field of a slice that is as long as they are: three bytes, the highest first, eight before the end (RFC 9043,
@@ -33,7 +33,7 @@ sized bytes = take (length bytes - 8) bytes ++ (big_bytes 3 (length bytes - 8) +
 -- room for it: this is the weave of what they have up to there, each with that size.
 pub record IsWeaveFromFront (copies : List (List ℕ)) (end : ℕ) (weave : Weave) : Type 0 where
   pub none : IsOfNone (IsPiece copies end)
-  pub untold : IsOfNone (IsClaimedStart copies end)
+  pub no_claim : IsOfNone (IsClaimedStart copies end)
   pub content : HasContent 0 end
   pub short : end - 8 < 2 ^ 24
   pub weave' : IsWeaveOf Slice (map sized (versions_at copies 0 end)) weave
@@ -46,13 +46,13 @@ pub record IsWeaveOfSeveral (copies : List (List ℕ)) (start end : ℕ) (bytes 
   pub are_bytes : (copy : List ℕ) → Contains copies copy → AreBytes copy
   pub none : IsOfNone (IsPiece copies end)
   pub several : IsOfTwo (IsClaimedStart copies end)
-  pub told : IsClaimedStart copies end start
+  pub claim : IsClaimedStart copies end start
   pub tried : List ℕ
   pub places : length tried ≡ end
   pub weave' : IsWeaveOf Slice (map sized (versions_at copies start end)) (woven bytes (slice_index tried start))
   pub others : (other : ℕ) → IsClaimedStart copies end other → (other ≡ start → ⊥)
       → IsWeaveOf Slice (map sized (versions_at copies other end)) (missing (slice_index tried other))
-  pub untold : (other : ℕ) → (IsClaimedStart copies end other → ⊥) → slice_index tried other ≡ 0
+  pub no_claim : (other : ℕ) → (IsClaimedStart copies end other → ⊥) → slice_index tried other ≡ 0
   pub counted : count ≡ min (sum tried) (2 ^ 64 - 1)
 
 -- No combination of what the copies have from the one start that is claimed is a slice, or there are more than are tried.
@@ -88,7 +88,7 @@ IsMissingAt copies start end =
 -- A gap: the copies whose footer there claims a start, of which there is one, all claim the same, and the lexicographically smallest of the
 -- copies' bytes stand there.
 pub record IsGap (copies : List (List ℕ)) (start end : ℕ) (bytes : List ℕ) : Type 0 where
-  pub told : IsOnly (IsClaimedStart copies end) start
+  pub claim : IsOnly (IsClaimedStart copies end) start
   pub least : IsLeast copies start end bytes
 
 -- Settled: the only piece that ends there. Where no piece does, the copies' versions are woven, from the start that is claimed, or from the
@@ -110,7 +110,7 @@ StandsAs copies start end bytes Undivided = ⊥
 
 -- No place ends there: no piece is the only one, no start is claimed alone, and nothing is woven from the front or from several starts.
 pub record IsStop (copies : List (List ℕ)) (end : ℕ) : Type 0 where
-  pub unsettled : (piece : Piece) → IsOnly (IsPiece copies end) piece → ⊥
-  pub untold : (start : ℕ) → IsOnly (IsClaimedStart copies end) start → ⊥
+  pub unsettled : (piece : LinkValue) → IsOnly (IsPiece copies end) piece → ⊥
+  pub no_claim : (start : ℕ) → IsOnly (IsClaimedStart copies end) start → ⊥
   pub unclaimed : (bytes : List ℕ) (count : ℕ) → IsWeaveFromFront copies end (woven bytes count) → ⊥
   pub unwoven : (start : ℕ) (bytes : List ℕ) (count : ℕ) → IsWeaveOfSeveral copies start end bytes count → ⊥

@@ -3,7 +3,7 @@
 ghost use Rattle.std.specs.Prelude.{◌≡◌, ◌+◌, ◌-◌, ◌++◌, ◌<◌, ◌≤◌, ℕ, List, [], ◌∷◌, length, map, take, All, IfOk, MatchOption};
 ghost use Rattle.ffv1_slice.specs.Chain.{IsCut};
 ghost use Rattle.ffv1_splice.specs.Standings.{versions_at};
-ghost use Rattle.ffv1_splice.specs.Told.{Tells, starts_told};
+ghost use Rattle.ffv1_splice.specs.Tally.{Tallies, starts_tally};
 ghost use Rattle.ffv1_splice.specs.Splice.{IsWalkUp, IsWalkAcross, IsCrossed, IsClaimedEnd, IsNextClaimed, IsLostUpTo, Leg, leg_places};
 ghost use Rattle.ffv1_splice.specs.declared.place.Place.{Place};
 
@@ -11,7 +11,7 @@ use crate::place::Place;
 use crate::placing::{versions_at, weave_at};
 use crate::settling::settle_up;
 use crate::shortest::{claims, first_from};
-use crate::told::{Pieces, Starts, told_at};
+use crate::tally::{Pieces, Starts, tally_at};
 use ffv1_bits::SLICE_LIMIT;
 use ffv1_slice::FOOTER_LENGTH;
 use std::alloc::{AllocError, Global};
@@ -88,7 +88,7 @@ fn lost_up_to(copies: &[&[u8]], reach: usize) -> Option<usize>
     let Starts::One(end) = claimed_ends(copies, reach) else {
         return None;
     };
-    let (pieces, starts) = told_at(copies, end);
+    let (pieces, starts) = tally_at(copies, end);
     let Pieces::None = pieces else {
         return None;
     };
@@ -104,7 +104,7 @@ fn lost_up_to(copies: &[&[u8]], reach: usize) -> Option<usize>
 /// The ends up to a reach at which copies claim that the slice ends with which they begin. Each copy has the reach.
 fn claimed_ends(copies: &[&[u8]], reach: usize) -> Starts
     requires { All (λ copy. reach ≤ length copy.now) copies.now }
-    ensures { Tells (IsClaimedEnd (map (λ copy. copy.now) copies.now) reach) (starts_told result) }
+    ensures { Tallies (IsClaimedEnd (map (λ copy. copy.now) copies.now) reach) (starts_tally result) }
 {
     let mut ends = Starts::None;
     for copy in copies {
@@ -119,7 +119,7 @@ fn claimed_ends(copies: &[&[u8]], reach: usize) -> Starts
 /// The ends up to a reach that one copy claims.
 fn claimed_by(copy: &[u8], reach: usize) -> Starts
     requires { reach ≤ length copy.now }
-    ensures { Tells (IsClaimedEnd (copy.now ∷ []) reach) (starts_told result) }
+    ensures { Tallies (IsClaimedEnd (copy.now ∷ []) reach) (starts_tally result) }
 {
     let Some(first) = next_claimed(copy, FOOTER_LENGTH, reach) else {
         return Starts::None;

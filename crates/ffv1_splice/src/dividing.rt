@@ -4,7 +4,7 @@ ghost use Rattle.ffv1_splice.specs.Splice.{IsDivisionOf};
 
 use crate::place::Place;
 use crate::placing::{place_before, write_at};
-use crate::told::least_at;
+use crate::tally::least_at;
 use std::alloc::{AllocError, Global};
 
 /// Divides copies, of which there is one at least, place by place from their end, and writes each place over the payload's bytes. The

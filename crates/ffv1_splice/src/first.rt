@@ -25,7 +25,7 @@ pub(crate) fn first_before(
     requires within { All (λ copy. end ≤ length copy.now) copies.now }
     requires room { end ≤ length payload.old }
     requires none { IsOfNone (IsPiece (map (λ copy. copy.now) copies.now) end) }
-    requires untold { IsOfNone (IsClaimedStart (map (λ copy. copy.now) copies.now) end) }
+    requires no_claim { IsOfNone (IsClaimedStart (map (λ copy. copy.now) copies.now) end) }
     ensures { IfOk result (IsPlacedOrStop (map (λ copy. copy.now) copies.now) end payload.old payload.new) }
 {
     if end <= FOOTER_LENGTH || end > SLICE_LIMIT as usize {

@@ -15,8 +15,8 @@ mod several;
 mod shortest;
 mod sized;
 mod splicing;
+mod tally;
 mod text;
-mod told;
 
 pub use laws::{
     given_back_is_original, given_back_is_whole, near_copies_splice, original_is_spliced,

@@ -7,12 +7,12 @@ ghost use Rattle.ffv1_weave.specs.Weave.Weave.{missing, too_many};
 ghost use Rattle.ffv1_splice.specs.Standings.{versions_at, IsWeaveAt, IsUnvotedAt};
 ghost use Rattle.ffv1_splice.specs.Placing.{IsPlaced, IsPlacedOrStop};
 ghost use Rattle.ffv1_weave.specs.Parts.{written};
-ghost use Rattle.ffv1_splice.specs.Told.{Tells, starts_told};
+ghost use Rattle.ffv1_splice.specs.Tally.{Tallies, starts_tally};
 
 use crate::first::first_before;
 use crate::place::{Place, Standing};
 use crate::several::several_before;
-use crate::told::{Pieces, Starts, least_at, told_at};
+use crate::tally::{Pieces, Starts, least_at, tally_at};
 use ffv1_weave::{Check, Outcome, repair, vote, weave};
 use std::alloc::{AllocError, Global};
 
@@ -28,7 +28,7 @@ pub(crate) fn place_before(
     requires room { end ≤ length payload.old }
     ensures { IfOk result (IsPlacedOrStop (map (λ copy. copy.now) copies.now) end payload.old payload.new) }
 {
-    let (pieces, starts) = told_at(copies, end);
+    let (pieces, starts) = tally_at(copies, end);
     match pieces {
         Pieces::One(start, bytes) => {
             write_at(payload, start, bytes);
@@ -55,7 +55,7 @@ fn disputed_before(
     requires within { All (λ copy. end ≤ length copy.now) copies.now }
     requires room { end ≤ length payload.old }
     requires two { IsOfTwo (IsPiece (map (λ copy. copy.now) copies.now) end) }
-    requires told { Tells (IsClaimedStart (map (λ copy. copy.now) copies.now) end) (starts_told starts) }
+    requires claim { Tallies (IsClaimedStart (map (λ copy. copy.now) copies.now) end) (starts_tally starts) }
     ensures { IsPlacedOrStop (map (λ copy. copy.now) copies.now) end payload.old payload.new result }
 {
     let Starts::One(start) = starts else {
@@ -83,7 +83,7 @@ fn woven_before(
     requires within { All (λ copy. end ≤ length copy.now) copies.now }
     requires room { end ≤ length payload.old }
     requires none { IsOfNone (IsPiece (map (λ copy. copy.now) copies.now) end) }
-    requires told { Tells (IsClaimedStart (map (λ copy. copy.now) copies.now) end) (starts_told starts) }
+    requires claim { Tallies (IsClaimedStart (map (λ copy. copy.now) copies.now) end) (starts_tally starts) }
     ensures { IfOk result (IsPlacedOrStop (map (λ copy. copy.now) copies.now) end payload.old payload.new) }
 {
     let start = match starts {
@@ -112,7 +112,7 @@ pub(crate) fn weave_at(
     requires within { All (λ copy. end ≤ length copy.now) copies.now }
     requires room { end ≤ length payload.old }
     requires none { IsOfNone (IsPiece (map (λ copy. copy.now) copies.now) end) }
-    requires told { IsOnly (IsClaimedStart (map (λ copy. copy.now) copies.now) end) start }
+    requires claim { IsOnly (IsClaimedStart (map (λ copy. copy.now) copies.now) end) start }
     ensures { IfOk result (λ standing. IsPlaced (map (λ copy. copy.now) copies.now) end payload.old payload.new
         (record { start = start; end = end; standing = standing })) }
 {

@@ -1,6 +1,6 @@
 //! The settled walks of a splice: down from its end, and up from its start.
 ghost use Rattle.std.specs.Prelude.{◌≡◌, ◌+◌, ◌++◌, ◌<◌, ◌≤◌, List, length, map, take, All, IfOk, MatchOption};
-ghost use Rattle.ffv1_slice.specs.Chain.{Piece};
+ghost use Rattle.ffv1_slice.specs.Chain.{LinkValue};
 ghost use Rattle.ffv1_slice.specs.Members.{IsOnly};
 ghost use Rattle.ffv1_splice.specs.Pieces.{IsPiece, PieceFrom, IsShortest};
 ghost use Rattle.ffv1_splice.specs.Splice.{IsWalkDown, IsBound, IsWalkUp};
@@ -9,17 +9,17 @@ ghost use Rattle.ffv1_splice.specs.declared.place.Place.{Place};
 use crate::place::{Place, Standing};
 use crate::placing::write_at;
 use crate::shortest::first_from;
-use crate::told::{Pieces, claimed_start, told_at};
+use crate::tally::{Pieces, claimed_start, tally_at};
 use ffv1_bits::passes;
 use std::alloc::{AllocError, Global};
 
 /// The slice that alone ends at a place: where it begins, and its bytes. Each copy has the place.
 fn only_piece<'a>(copies: &[&'a [u8]], end: usize) -> Option<(usize, &'a [u8])>
     requires { All (λ copy. end ≤ length copy.now) copies.now }
-    ensures { MatchOption result ((piece : Piece) → IsOnly (IsPiece (map (λ copy. copy.now) copies.now) end) piece → ⊥)
+    ensures { MatchOption result ((piece : LinkValue) → IsOnly (IsPiece (map (λ copy. copy.now) copies.now) end) piece → ⊥)
         (λ piece. IsOnly (IsPiece (map (λ copy. copy.now) copies.now) end) (record { start = piece.0; bytes = piece.1.now })) }
 {
-    match told_at(copies, end).0 {
+    match tally_at(copies, end).0 {
         Pieces::One(start, bytes) => Some((start, bytes)),
         Pieces::None | Pieces::Two => None,
     }

@@ -3,16 +3,16 @@ ghost use Rattle.std.specs.Prelude.{◌≡◌, ◌≤◌, ◌<◌, ℕ, List, Co
 ghost use Rattle.ffv1_bits.specs.Parity.{AreBytes};
 ghost use Rattle.ffv1_slice.specs.Chain.{IsCut};
 ghost use Rattle.ffv1_slice.specs.Members.{IsOfNone, IsOfTwo};
-ghost use Rattle.ffv1_weave.specs.Weave.{weave_told};
+ghost use Rattle.ffv1_weave.specs.Weave.{weave_tally};
 ghost use Rattle.ffv1_weave.specs.Weave.Weave.{woven, missing};
 ghost use Rattle.ffv1_splice.specs.Pieces.{HasContent, IsPiece, IsClaimedStart};
 ghost use Rattle.ffv1_splice.specs.Placing.{IsPlacedOrStop};
-ghost use Rattle.ffv1_splice.specs.Several.{IsNextClaimedStart, AreTriedBefore, tried_told, tried_more};
+ghost use Rattle.ffv1_splice.specs.Several.{IsNextClaimedStart, AreTriedBefore, tried_tally, tried_more};
 
 use crate::place::{Place, Standing};
 use crate::placing::write_at;
 use crate::sized::weave_sized;
-use crate::told::claimed_start;
+use crate::tally::claimed_start;
 use ffv1_weave::Outcome;
 use std::alloc::{AllocError, Global};
 
@@ -30,7 +30,7 @@ pub(crate) enum Tried {
 impl Tried {
     /// The same with what comes of one more start.
     fn with(self, start: usize, outcome: Outcome) -> Tried
-        ensures { tried_told result ≡ tried_more (tried_told self) start (weave_told outcome) }
+        ensures { tried_tally result ≡ tried_more (tried_tally self) start (weave_tally outcome) }
     {
         match outcome {
             Outcome::Woven(bytes, more) => self.with_woven(start, bytes, more),
@@ -41,7 +41,7 @@ impl Tried {
 
     /// The same with one more start, from which bytes are woven.
     fn with_woven(self, start: usize, bytes: Vec<u8>, more: usize) -> Tried
-        ensures { tried_told result ≡ tried_more (tried_told self) start (woven bytes.items more) }
+        ensures { tried_tally result ≡ tried_more (tried_tally self) start (woven bytes.items more) }
     {
         match self {
             Tried::Missing(count) => Tried::Woven(start, bytes, count.saturating_add(more)),
@@ -51,7 +51,7 @@ impl Tried {
 
     /// The same with one more start, from which nothing comes.
     fn with_missing(self, more: usize) -> Tried
-        ensures { (start : ℕ) → tried_told result ≡ tried_more (tried_told self) start (missing more) }
+        ensures { (start : ℕ) → tried_tally result ≡ tried_more (tried_tally self) start (missing more) }
     {
         match self {
             Tried::Missing(count) => Tried::Missing(count.saturating_add(more)),
@@ -95,7 +95,7 @@ pub(crate) fn several_before(
 fn try_starts(alloc: Global, copies: &[&[u8]], end: usize) -> Result<Tried, AllocError>
     requires some { 0 < length copies.now }
     requires within { All (λ copy. end ≤ length copy.now) copies.now }
-    ensures tried { IfOk result (λ tried. AreTriedBefore (map (λ copy. copy.now) copies.now) end end (tried_told tried)) }
+    ensures tried { IfOk result (λ tried. AreTriedBefore (map (λ copy. copy.now) copies.now) end end (tried_tally tried)) }
     ensures bytes { IfOk result (λ _. (copy : List ℕ) → Contains (map (λ copy. copy.now) copies.now) copy → AreBytes copy) }
 {
     let mut tried = Tried::Missing(0);
@@ -127,7 +127,7 @@ fn next_claimed_start(copies: &[&[u8]], end: usize, from: usize) -> Option<usize
 /// The start that a copy claims at an end, if it is not before a place.
 fn claimed_from(copy: &[u8], end: usize, from: usize) -> Option<usize>
     requires { end ≤ length copy.now }
-    ensures told { MatchOption result ((start : ℕ) → IsCut copy.now start end → HasContent start end → start < from)
+    ensures claim { MatchOption result ((start : ℕ) → IsCut copy.now start end → HasContent start end → start < from)
         (λ start. IsCut copy.now start end × HasContent start end × from ≤ start) }
     ensures bytes { AreBytes copy.now }
 {

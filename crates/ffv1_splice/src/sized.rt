@@ -1,7 +1,7 @@
 //! What copies have of a slice whose size field may be hurt in each, woven with the size that the slice has.
 ghost use Rattle.std.specs.Prelude.{◌≡◌, ◌+◌, ◌-◌, ◌≤◌, ◌<◌, ◌^◌, length, map, All, IfOk};
 ghost use Rattle.ffv1_splice.specs.Standings.{versions_at, sized};
-ghost use Rattle.ffv1_weave.specs.Weave.{IsWeaveOf, weave_told};
+ghost use Rattle.ffv1_weave.specs.Weave.{IsWeaveOf, weave_tally};
 ghost use Rattle.ffv1_weave.specs.declared.check.Check.TheVariants.{Slice};
 
 use byteorder::{BigEndian, ByteOrder};
@@ -21,7 +21,7 @@ pub(crate) fn weave_sized(
     requires within { All (λ copy. end ≤ length copy.now) copies.now }
     requires footer { start + 8 ≤ end }
     requires short { end - start - 8 < 2 ^ 24 }
-    ensures { IfOk result (λ outcome. IsWeaveOf Slice (map sized (versions_at (map (λ copy. copy.now) copies.now) start end)) (weave_told outcome)) }
+    ensures { IfOk result (λ outcome. IsWeaveOf Slice (map sized (versions_at (map (λ copy. copy.now) copies.now) start end)) (weave_tally outcome)) }
 {
     let versions = sized_versions(alloc, copies, start, end)?;
     let lent = lent(alloc, versions.as_slice())?;

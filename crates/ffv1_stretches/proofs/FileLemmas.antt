@@ -11,7 +11,7 @@ use Rattle.ffv1_devices.proofs.Steps.{Reads-trans}
 use Rattle.ffv1_mend.specs.Mended.{MendedValue}
 use Rattle.ffv1_stretches.specs.Stretches.{StretchValue, HasPlace, IsAfter, end_after, ends_after, AreInOrder}
 use Rattle.ffv1_stretches.specs.Cells.{cell_of, cells_of, IsOutcome}
-use Rattle.ffv1_stretches.specs.CellSteps.{HasVersion, IsAsLong, IsHeld, held_cell, held_cells}
+use Rattle.ffv1_stretches.specs.CellSteps.{HasVersion, IsAsLong, HasRoom, held_cell, held_cells}
 use Rattle.ffv1_stretches.specs.Copies.{CopyState}
 use Rattle.ffv1_stretches.specs.Lines.{stretch_text, mend_text}
 use Rattle.ffv1_stretches.specs.PassSteps.{StepsCopy, StopsCopy, CopyStep}
@@ -84,7 +84,7 @@ step_cell size (Some place) old new more step file long =
     ∙ ap (take size) (drop-append_seam (file ++ step.before) step.here) ∙ ap (λ n. take n step.here) (sym step.long) ∙ take-length step.here in
     ap Some (step.held ∙ sym there)
 
-step_fits : (size : ℕ) (place : Option ℕ) (old new : CopyState) (more : List ℕ) → StepsCopy size place old new more → IsHeld size place new.room
+step_fits : (size : ℕ) (place : Option ℕ) (old new : CopyState) (more : List ℕ) → StepsCopy size place old new more → HasRoom size place new.room
 step_fits size None old new more step = tt
 step_fits size (Some place) old new more step = step.fits
 
@@ -121,7 +121,7 @@ module _ (size : ℕ) where
   read_on (s ∷ steps) (o ∷ olds) (f ∷ files) read =
       (step_on size s.place s.old s.new s.more s.step o f read.0.0 read.0.1, read_on steps olds files read.1)
 
-  pub held_all : (steps : List (CopyStep size)) → AllZip (IsHeld size) (places_of steps) (map (λ (s : CopyState). s.room) (news_of steps))
+  pub held_all : (steps : List (CopyStep size)) → AllZip (HasRoom size) (places_of steps) (map (λ (s : CopyState). s.room) (news_of steps))
   held_all [] = tt
   held_all (s ∷ steps) = (step_fits size s.place s.old s.new s.more s.step, held_all steps)
 
@@ -253,7 +253,7 @@ at_seam (y ∷ xs) x ys d = at_seam xs x ys d
 
 -- ---- the cells of a stretch that was read
 
-pub long_cells : (size : ℕ) (places : List (Option ℕ)) (rooms : List (List ℕ)) → AllZip (IsHeld size) places rooms → All (IsAsLong size) (held_cells size places rooms)
+pub long_cells : (size : ℕ) (places : List (Option ℕ)) (rooms : List (List ℕ)) → AllZip (HasRoom size) places rooms → All (IsAsLong size) (held_cells size places rooms)
 long_cells size [] [] held = All-nil (IsAsLong size)
 long_cells size [] (r ∷ rooms) held = absurd held
 long_cells size (p ∷ places) [] held = absurd held

@@ -8,7 +8,7 @@ use Rattle.std.proofs.lemmas.List.Sums.{fold-append}
 use Rattle.ffv1_lists.specs.Words.{AreWords}
 use Rattle.ffv1_lists.proofs.WordSteps.{words_are_one}
 use Rattle.ffv1_mend.specs.declared.part.Part.{Part}
-use Rattle.ffv1_stretches.specs.Stretches.{StretchValue, Follows, ends_after, ends_of}
+use Rattle.ffv1_stretches.specs.Stretches.{StretchValue, FollowsStretch, ends_after, ends_of}
 use Rattle.ffv1_stretches.specs.Listed.{AreStretchWords, ArePartWords, IsNextPart, with_part, AreListed}
 use Rattle.ffv1_stretches.specs.ListSteps.{BeginsPart, AddsPart, AddsNoPart, IsNextStretch, AddsStretch, AddsNoStretch, IsListedTo, AddsLine}
 use Rattle.ffv1_stretches.specs.Ends.{end_of}
@@ -47,7 +47,7 @@ ends_of-with_part copies stretches last part = ends_of-push copies stretches (wi
 -- The last of some lines is a stretch or a part.
 pub data LastLine (copies : ℕ) (lines : List (List ℕ)) (line : List ℕ) (all : List StretchValue) : Type 0 where
   by_stretch : (stretches : List StretchValue) (words : List (List ℕ)) (next : StretchValue) → AreListed copies lines stretches → AreWords line words
-      → AreStretchWords copies words next → Follows (ends_of copies stretches) next → all ≡ stretches ++ next ∷ [] → LastLine copies lines line all
+      → AreStretchWords copies words next → FollowsStretch (ends_of copies stretches) next → all ≡ stretches ++ next ∷ [] → LastLine copies lines line all
   by_part : (stretches : List StretchValue) (last : StretchValue) (words : List (List ℕ)) (next : Part) → AreListed copies lines (stretches ++ last ∷ [])
       → AreWords line words → ArePartWords words next → IsNextPart last next → all ≡ stretches ++ with_part last next ∷ []
       → LastLine copies lines line all
@@ -110,7 +110,7 @@ module _ (copies : ℕ) (lines : List (List ℕ)) (line : List ℕ) (words : Lis
       → AreListed copies (lines ++ line ∷ []) (old ++ next ∷ [])
   stretch_more where_ends long next is =
       AreListed.stretch lines old line words next listed are (subst (λ n. AreStretchWords n words next) long is.words')
-      (subst (λ es. Follows es next) where_ends is.follows)
+      (subst (λ es. FollowsStretch es next) where_ends is.follows)
 
   -- it is none, and no part
   pub stretch_no_more : ends ≡ ends_of copies old → length ends ≡ copies → (BeginsPart words → ⊥) → AddsNoStretch words ends
@@ -121,7 +121,7 @@ module _ (copies : ℕ) (lines : List (List ℕ)) (line : List ℕ) (words : Lis
         let same : ws ≡ words = words_are_one line ws words are' are in
         none n (record {
           words' = subst (λ c. AreStretchWords c words n) (sym long) (subst (λ w. AreStretchWords copies w n) same is);
-          follows = subst (λ es. Follows es n) (ap (ends_of copies) stretches ∙ sym where_ends) after;
+          follows = subst (λ es. FollowsStretch es n) (ap (ends_of copies) stretches ∙ sym where_ends) after;
         })
     | LastLine.by_part sts last ws n listed' are' is after e ↦
         no_part (subst BeginsPart (words_are_one line ws words are' are) (part_begins ws n is))

@@ -14,9 +14,9 @@ use Rattle.ffv1_devices.proofs.Steps.{Reads-nil, Writes-nil, Writes-trans, Stops
 use Rattle.ffv1_mend.specs.Mended.{MendedValue, is_good}
 use Rattle.ffv1_stretches.specs.declared.pass.MendFault.{MendFault}
 use Rattle.ffv1_stretches.specs.declared.pass.MendFault.TheVariants as faults
-use Rattle.ffv1_stretches.specs.Stretches.{StretchValue, IsStretchOf, Follows, ends_after, ends_of, AreInOrder}
+use Rattle.ffv1_stretches.specs.Stretches.{StretchValue, IsStretchOf, FollowsStretch, ends_after, ends_of, AreInOrder}
 use Rattle.ffv1_stretches.specs.Cells.{cells_of, IsOutcome}
-use Rattle.ffv1_stretches.specs.CellSteps.{HasVersion, IsAsLong, IsHeld, held_cells}
+use Rattle.ffv1_stretches.specs.CellSteps.{HasVersion, IsAsLong, HasRoom, held_cells}
 use Rattle.ffv1_stretches.specs.Copies.{CopyState, state_of}
 use Rattle.ffv1_stretches.specs.declared.copy.CopyReader.{CopyReader}
 use Rattle.ffv1_stretches.specs.Lines.{stretch_text, mend_text}
@@ -137,8 +137,8 @@ module _ (copies : ℕ) (stretches front : List StretchValue) (s : StretchValue)
   pub is_stretch : IsStretchOf copies s
   is_stretch = (in_order_last copies (replicate copies 0) front s rest in_order).0
 
-  pub follows : Follows (ends_at states) s
-  follows = subst (λ es. Follows es s) (sym so_far.ends) (in_order_last copies (replicate copies 0) front s rest in_order).1
+  pub follows : FollowsStretch (ends_at states) s
+  follows = subst (λ es. FollowsStretch es s) (sym so_far.ends) (in_order_last copies (replicate copies 0) front s rest in_order).1
 
   many : length so_far.files ≡ copies
   many = as_many_files olds states so_far.files so_far.read ∙ count
@@ -217,8 +217,8 @@ module _ (copies : ℕ) (stretches front : List StretchValue) (s : StretchValue)
       → AllZip (λ end file. length file ≤ end) (ends_after (ends_of copies front) s) (joined so_far.files (stopped_mores s.size stops.steps stops.more stops.rest))
   stopped_ends {Went} news stops =
       let read = subst (λ ss. AreReadAs olds ss so_far.files) stops.olds' so_far.read in
-      let after = subst (λ ps. Follows (ends_at (olds_of stops.steps ++ stops.old ∷ stops.rest)) (record s { places = ps })) stops.places'
-      (subst (λ ss. Follows (ends_at ss) s) stops.olds' follows) in
+      let after = subst (λ ps. FollowsStretch (ends_at (olds_of stops.steps ++ stops.old ∷ stops.rest)) (record s { places = ps })) stops.places'
+      (subst (λ ss. FollowsStretch (ends_at ss) s) stops.olds' follows) in
       subst (λ es. AllZip (λ end file. length file ≤ end) (moved_ends s.size es s.places) (joined so_far.files (stopped_mores s.size stops.steps stops.more stops.rest)))
       (ap ends_at (sym stops.olds') ∙ so_far.ends)
       (subst (λ ps. AllZip (λ end file. length file ≤ end) (moved_ends s.size (ends_at (olds_of stops.steps ++ stops.old ∷ stops.rest)) ps)
@@ -305,10 +305,10 @@ module _ (copies : ℕ) (stretches front : List StretchValue) (s : StretchValue)
     next_most = subst (λ es. AllZip (λ end file. length file ≤ end) es next_files) next_ends
         (most_as (ends_at news) next_files (ends_are_lengths olds news next_files next_read))
 
-    pub held : AllZip (IsHeld s.size) s.places (rooms_at news)
+    pub held : AllZip (HasRoom s.size) s.places (rooms_at news)
     held =
-        subst (λ ps. AllZip (IsHeld s.size) ps (rooms_at news)) (sym are.places')
-        (subst (λ ns. AllZip (IsHeld s.size) (places_of steps) (rooms_at ns)) (sym are.news') (held_all s.size steps))
+        subst (λ ps. AllZip (HasRoom s.size) ps (rooms_at news)) (sym are.places')
+        (subst (λ ns. AllZip (HasRoom s.size) (places_of steps) (rooms_at ns)) (sym are.news') (held_all s.size steps))
 
     pub cells_are : held_cells s.size s.places (rooms_at news) ≡ cells_of next_files s
     cells_are =
@@ -496,7 +496,7 @@ module _ {S : Type 0} (log : S → ReadLog) (stretches : List StretchValue) (i :
   pub stretch_here : IsStretchOf (length initial) s
   stretch_here = is_stretch (length initial) stretches (take i stretches) s (drop (suc i) stretches) here order olds states a b x y good so_far count
 
-  pub follows_here : Follows (map (λ state. state.end) (map (state_of log) nows)) s
+  pub follows_here : FollowsStretch (map (λ state. state.end) (map (state_of log) nows)) s
   follows_here = follows (length initial) stretches (take i stretches) s (drop (suc i) stretches) here order olds states a b x y good so_far count
 
   pub pass_stops : (T : Type 0) (news : List (CopyReader S)) (fault : MendFault)
@@ -509,9 +509,9 @@ module _ {S : Type 0} (log : S → ReadLog) (stretches : List StretchValue) (i :
 
   -- the stretch was read of the copies
   module _ (news : List (CopyReader S)) (steps : List (CopyStep s.size)) (are : AreSteps s.size s.places (map (state_of log) nows) (map (state_of log) news) steps) where
-    pub rooms_held : AllZip (IsHeld s.size) s.places (map (λ copy. copy.room.items) news)
+    pub rooms_held : AllZip (HasRoom s.size) s.places (map (λ copy. copy.room.items) news)
     rooms_held =
-        subst (AllZip (IsHeld s.size) s.places) (rooms_of_states log news)
+        subst (AllZip (HasRoom s.size) s.places) (rooms_of_states log news)
         (held (length initial) stretches (take i stretches) s (drop (suc i) stretches) here order olds states a b x y good so_far count
         (map (state_of log) news) steps are)
 

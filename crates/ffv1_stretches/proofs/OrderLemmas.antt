@@ -5,17 +5,17 @@ use Rattle.std.specs.List.{fold}
 use Rattle.std.proofs.lemmas.List.Elements.{All-push, All-nil}
 use Rattle.ffv1_mend.specs.declared.part.Part.{Part}
 use Rattle.ffv1_mend.specs.Improved.{IsWithin}
-use Rattle.ffv1_stretches.specs.Stretches.{StretchValue, IsStretchOf, Follows, ends_after, AreInOrder}
+use Rattle.ffv1_stretches.specs.Stretches.{StretchValue, IsStretchOf, FollowsStretch, ends_after, AreInOrder}
 use Rattle.ffv1_stretches.specs.Listed.{AreStretchWords, ArePartWords, IsNextPart, with_part, AreListed}
 
 pub AreInOrder-push : (copies : ℕ) (ends : List ℕ) (all : List StretchValue) (next : StretchValue) → AreInOrder copies ends all → IsStretchOf copies next
-    → Follows (fold ends_after ends all) next → AreInOrder copies ends (all ++ next ∷ [])
+    → FollowsStretch (fold ends_after ends all) next → AreInOrder copies ends (all ++ next ∷ [])
 AreInOrder-push copies ends [] next order is after = (is, after, tt)
 AreInOrder-push copies ends (s ∷ all) next order is after = (order.0, order.1, AreInOrder-push copies (ends_after ends s) all next order.2 is after)
 
 -- the last of some in order
 pub in_order_last : (copies : ℕ) (ends : List ℕ) (all : List StretchValue) (last : StretchValue) (rest : List StretchValue)
-    → AreInOrder copies ends (all ++ last ∷ rest) → IsStretchOf copies last × Follows (fold ends_after ends all) last
+    → AreInOrder copies ends (all ++ last ∷ rest) → IsStretchOf copies last × FollowsStretch (fold ends_after ends all) last
 in_order_last copies ends [] last rest order = (order.0, order.1)
 in_order_last copies ends (s ∷ all) last rest order = in_order_last copies (ends_after ends s) all last rest order.2
 

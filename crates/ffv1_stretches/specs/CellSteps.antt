@@ -12,8 +12,8 @@ cell_now None = None
 cell_now (Some bytes) = Some bytes.now
 
 -- the room of a copy that has the stretch has so many bytes
-abbrev pub IsHeld : ℕ → Option ℕ → List ℕ → Type 0
-IsHeld size place room = MatchOption place (Unit {0}) (λ start. size ≤ length room)
+abbrev pub HasRoom : ℕ → Option ℕ → List ℕ → Type 0
+HasRoom size place room = MatchOption place (Unit {0}) (λ start. size ≤ length room)
 
 -- what lies at the front of a copy's room, if it has the stretch
 abbrev pub held_cell : ℕ → Option ℕ → List ℕ → Option (List ℕ)

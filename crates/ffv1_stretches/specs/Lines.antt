@@ -44,14 +44,14 @@ marks_of cells bytes = map (mark_of bytes) cells
 
 -- ---- the slices of a frame
 
-abbrev pub is_settled : Standing → Bool
-is_settled standing.Settled = true
-is_settled _ = false
+abbrev pub is_place_settled : Standing → Bool
+is_place_settled standing.Settled = true
+is_place_settled _ = false
 
 -- Nothing is said of a frame all of whose slices are settled, and of which each copy has what OUT has.
 abbrev pub is_quiet : List (Option (List ℕ)) → List ℕ → SplicedValue → Bool
 is_quiet cells bytes spliced =
-    (spliced.front == 0) && (list_all (λ place. is_settled place.standing) spliced.places && list_all (is_same bytes) cells)
+    (spliced.front == 0) && (list_all (λ place. is_place_settled place.standing) spliced.places && list_all (is_same bytes) cells)
 
 -- the line of a slice of a frame
 abbrev pub place_line : List (Option (List ℕ)) → List ℕ → Place → List ℕ

@@ -3,13 +3,13 @@ use Rattle.std.specs.Prelude.{ℕ, ◌≡◌, ◌<◌, ◌≤◌, Bool, List, []
 use Rattle.ffv1_bits.specs.Limits.{payload_limit}
 use Rattle.ffv1_lists.specs.Numbers.{IsNumber}
 use Rattle.ffv1_mend.specs.declared.part.Part.{Part}
-use Rattle.ffv1_stretches.specs.Stretches.{StretchValue, Follows, ends_after, ends_of}
+use Rattle.ffv1_stretches.specs.Stretches.{StretchValue, FollowsStretch, ends_after, ends_of}
 use Rattle.ffv1_stretches.specs.Ends.{end_of}
 use Rattle.ffv1_stretches.specs.declared.ends.End.{End}
 use Rattle.ffv1_stretches.specs.Listed.{part_word, AreStretchWords, ArePartWords, IsNextPart, with_part, AreListed}
 
 -- a word is the size of a stretch
-pub record IsSize (word : List ℕ) (size : ℕ) : Type 0 where
+pub record IsStretchSize (word : List ℕ) (size : ℕ) : Type 0 where
   pub number : IsNumber word size
   pub some : 0 < size
   pub few : size ≤ payload_limit
@@ -39,7 +39,7 @@ AddsNoPart words old = (before : List StretchValue) (last : StretchValue) (part 
 -- words are a stretch that follows these ends
 pub record IsNextStretch (ends : List ℕ) (words : List (List ℕ)) (next : StretchValue) : Type 0 where
   pub words' : AreStretchWords (length ends) words next
-  pub follows : Follows ends next
+  pub follows : FollowsStretch ends next
 
 -- The stretch that the words are came after the others.
 pub record AddsStretch (words : List (List ℕ)) (old new : List StretchValue) (ends ends' : List ℕ) : Type 0 where

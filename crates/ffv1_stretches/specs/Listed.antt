@@ -11,7 +11,7 @@ use Rattle.ffv1_mend.specs.declared.kind.Kind.TheVariants.{Frame, Crc32, Plain}
 use Rattle.ffv1_mend.specs.declared.part.Part.{Part}
 use Rattle.ffv1_stretches.specs.declared.listing.ListFault.{ListFault}
 use Rattle.ffv1_stretches.specs.declared.listing.ListFault.TheVariants as faults
-use Rattle.ffv1_stretches.specs.Stretches.{StretchValue, HasPlace, Follows, ends_of}
+use Rattle.ffv1_stretches.specs.Stretches.{StretchValue, HasPlace, FollowsStretch, ends_of}
 
 -- the word of a kind
 abbrev pub kind_word : Kind → List ℕ
@@ -75,7 +75,7 @@ with_part stretch part = record stretch { parts = stretch.parts ++ part ∷ [] }
 pub data AreListed (copies : ℕ) : List (List ℕ) → List StretchValue → Type 0 where
   none : AreListed copies [] []
   stretch : (lines : List (List ℕ)) (stretches : List StretchValue) (line : List ℕ) (words : List (List ℕ)) (next : StretchValue)
-      → AreListed copies lines stretches → AreWords line words → AreStretchWords copies words next → Follows (ends_of copies stretches) next
+      → AreListed copies lines stretches → AreWords line words → AreStretchWords copies words next → FollowsStretch (ends_of copies stretches) next
       → AreListed copies (lines ++ line ∷ []) (stretches ++ next ∷ [])
   part : (lines : List (List ℕ)) (stretches : List StretchValue) (last : StretchValue) (line : List ℕ) (words : List (List ℕ)) (next : Part)
       → AreListed copies lines (stretches ++ last ∷ []) → AreWords line words → ArePartWords words next → IsNextPart last next

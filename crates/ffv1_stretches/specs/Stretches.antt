@@ -44,11 +44,11 @@ abbrev pub IsAfter : ℕ → Option ℕ → Type 0
 IsAfter end place = MatchOption place (Unit {0}) (λ start. end ≤ start)
 
 -- so is each copy's
-abbrev pub Follows : List ℕ → StretchValue → Type 0
-Follows ends stretch = AllZip IsAfter ends stretch.places
+abbrev pub FollowsStretch : List ℕ → StretchValue → Type 0
+FollowsStretch ends stretch = AllZip IsAfter ends stretch.places
 
 -- Each stretch is one of so many copies, and follows those before it, the first of which follow these ends.
 abbrev pub AreInOrder : ℕ → List ℕ → List StretchValue → Type 0
 AreInOrder copies ends [] = Unit {0}
 AreInOrder copies ends (stretch ∷ stretches) =
-    IsStretchOf copies stretch × Follows ends stretch × AreInOrder copies (ends_after ends stretch) stretches
+    IsStretchOf copies stretch × FollowsStretch ends stretch × AreInOrder copies (ends_after ends stretch) stretches

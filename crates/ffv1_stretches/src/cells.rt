@@ -2,7 +2,7 @@
 ghost use Rattle.std.specs.Prelude.{◌≡◌, length, map, slice_index_or, IfOk};
 ghost use Rattle.std.specs.List.{AllZip};
 ghost use Rattle.ffv1_stretches.specs.Cells.{versions_in};
-ghost use Rattle.ffv1_stretches.specs.CellSteps.{cell_now, HasVersion, IsHeld, held_cell, held_cells};
+ghost use Rattle.ffv1_stretches.specs.CellSteps.{cell_now, HasVersion, HasRoom, held_cell, held_cells};
 
 use crate::copy::CopyReader;
 use crate::stretch::Stretch;
@@ -11,7 +11,7 @@ use std::alloc::{AllocError, Global};
 
 /// What a copy has of the stretch of so many bytes that was read last, if it has it at a place.
 fn cell_of<S: Source>(copy: &CopyReader<S>, place: Option<u64>, size: usize) -> Option<&[u8]>
-    requires { IsHeld size place copy.now.room.items }
+    requires { HasRoom size place copy.now.room.items }
     ensures { cell_now result ≡ held_cell size place copy.now.room.items }
 {
     match place {
@@ -27,7 +27,7 @@ pub(crate) fn cells_of<'a, S: Source>(
     stretch: &Stretch,
 ) -> Result<Vec<Option<&'a [u8]>>, AllocError>
     requires count { length stretch.now.places ≡ length copies.now }
-    requires held { AllZip (IsHeld stretch.now.size) stretch.now.places (map (λ copy. copy.room.items) copies.now) }
+    requires held { AllZip (HasRoom stretch.now.size) stretch.now.places (map (λ copy. copy.room.items) copies.now) }
     ensures { IfOk result (λ cells. map cell_now cells.items ≡ held_cells stretch.now.size stretch.now.places (map (λ copy. copy.room.items) copies.now)) }
 {
     let mut cells = Vec::new(alloc);

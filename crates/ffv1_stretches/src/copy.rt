@@ -7,7 +7,7 @@ use ffv1_devices::{CutShort, NextFault, Source, pass_over, read_next};
 use std::alloc::Global;
 
 /// What stands between two stretches of a copy is passed over in blocks of so many bytes.
-const PIECE: usize = 8192;
+const BLOCK: usize = 8192;
 
 /// A copy of a file, which is read from its start on, in the order of its stretches. The last one read is held.
 #[derive(Drop)]
@@ -62,6 +62,6 @@ fn skip<S: Source>(source: &mut S, count: u64) -> Result<(), CutShort>
     if count == 0 {
         return Ok(());
     }
-    let mut piece = [0u8; PIECE];
-    pass_over(source, count, &mut piece)
+    let mut block = [0u8; BLOCK];
+    pass_over(source, count, &mut block)
 }

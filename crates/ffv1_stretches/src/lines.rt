@@ -5,7 +5,7 @@ ghost use Rattle.std.specs.Str.{bytes_eq};
 ghost use Rattle.ffv1_stretches.specs.Cells.{IsOutcome};
 ghost use Rattle.ffv1_stretches.specs.CellSteps.{cell_now, IsUnspliced};
 ghost use Rattle.ffv1_stretches.specs.Listed.{kind_word};
-ghost use Rattle.ffv1_stretches.specs.Lines.{cell_between, cells_between, is_same, mark_of, marks_of, is_settled, is_quiet, place_line, splice_lines, frame_lines, part_lines, parts_lines, state_words, stretch_line, slice_lines, stretch_text};
+ghost use Rattle.ffv1_stretches.specs.Lines.{cell_between, cells_between, is_same, mark_of, marks_of, is_place_settled, is_quiet, place_line, splice_lines, frame_lines, part_lines, parts_lines, state_words, stretch_line, slice_lines, stretch_text};
 
 use crate::stretch::Stretch;
 use ffv1_mend::{Kind, Mended, Part, State};
@@ -148,18 +148,18 @@ fn push_splice(
 }
 
 /// Whether a place is settled.
-fn is_settled(place: &Place) -> bool
-    ensures { result ≡ is_settled place.now.standing }
+fn is_place_settled(place: &Place) -> bool
+    ensures { result ≡ is_place_settled place.now.standing }
 {
     place.standing == Standing::Settled
 }
 
 /// Whether all places are settled.
 fn are_settled(places: &[Place]) -> bool
-    ensures { result ≡ list_all (λ place. is_settled place.standing) places.now }
+    ensures { result ≡ list_all (λ place. is_place_settled place.standing) places.now }
 {
     for place in places {
-        if !is_settled(place) {
+        if !is_place_settled(place) {
             return false;
         }
     }

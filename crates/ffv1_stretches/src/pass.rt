@@ -2,7 +2,7 @@
 ghost use Rattle.std.specs.Prelude.{◌≡◌, All, length, map, replicate, IfErr};
 ghost use Rattle.ffv1_devices.specs.Results.{WritesAll};
 ghost use Rattle.ffv1_mend.specs.Improved.{IsWithin};
-ghost use Rattle.ffv1_stretches.specs.Stretches.{IsAfter, Follows, AreInOrder};
+ghost use Rattle.ffv1_stretches.specs.Stretches.{IsAfter, FollowsStretch, AreInOrder};
 ghost use Rattle.ffv1_stretches.specs.CellSteps.{cell_now, HasVersion, IsAsLong};
 ghost use Rattle.ffv1_stretches.specs.Copies.{state_of};
 ghost use Rattle.ffv1_stretches.specs.PassSteps.{ReadsPlaced, ReadsEach, MendsOne};
@@ -63,7 +63,7 @@ fn read_placed<S: Source>(
 /// Reads a stretch of each copy that has it, in the order of the copies.
 fn read_stretch<S: Source>(copies: &mut [CopyReader<S>], stretch: &Stretch) -> Result<(), MendFault>
     requires count { length stretch.now.places ≡ length copies.old }
-    requires follows { Follows (map (λ state. state.end) (map (state_of S.log) copies.old)) stretch.now }
+    requires follows { FollowsStretch (map (λ state. state.end) (map (state_of S.log) copies.old)) stretch.now }
     ensures { ReadsEach stretch.now.size stretch.now.places result (map (state_of S.log) copies.old) (map (state_of S.log) copies.new) }
 {
     let places = stretch.places.as_slice();

@@ -6,7 +6,7 @@ ghost use Rattle.ffv1_mend.specs.declared.part.Part.{Part};
 ghost use Rattle.ffv1_lists.specs.Numbers.{IsNumber};
 ghost use Rattle.ffv1_stretches.specs.Stretches.{StretchValue, HasPlace};
 ghost use Rattle.ffv1_stretches.specs.Listed.{kind_word, IsPlaceWord, AreStretchWords, end_of_parts};
-ghost use Rattle.ffv1_stretches.specs.ListSteps.{IsSize, BeginsPart, IsPartOf};
+ghost use Rattle.ffv1_stretches.specs.ListSteps.{IsStretchSize, BeginsPart, IsPartOf};
 
 use crate::stretch::Stretch;
 use ffv1_bits::PAYLOAD_LIMIT;
@@ -71,7 +71,7 @@ fn read_places(alloc: Global, words: &[&[u8]]) -> Result<Option<Vec<Option<u64>>
 
 /// The size that a word gives a stretch.
 fn read_size(word: &[u8]) -> Option<usize>
-    ensures { MatchOption result ((size : ℕ) → IsSize word.now size → ⊥) (λ size. IsSize word.now size) }
+    ensures { MatchOption result ((size : ℕ) → IsStretchSize word.now size → ⊥) (λ size. IsStretchSize word.now size) }
 {
     let size = read_number(word)?;
     if size == 0 || size > PAYLOAD_LIMIT as u64 {

@@ -34,7 +34,7 @@ fn frame_that_is_missing_has_lines_where_one_copy_has_it(rt: HostRuntime) -> Res
 }
 
 #[test]
-fn frame_that_is_repaired_is_told_as_missing(rt: HostRuntime) -> Result<(), Fail> {
+fn frame_that_is_repaired_is_reported_as_missing(rt: HostRuntime) -> Result<(), Fail> {
     let lines =
         "stretch 1 frame missing -0\n  11..22 settled -1\n  0..11 repaired 88 -0\n  end whole\n";
     let pass = pass_of_files(rt.alloc(), "frame 22 2 - 0\n", b"", &LEFT_DAMAGED)?;

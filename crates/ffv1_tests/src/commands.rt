@@ -11,7 +11,7 @@ const FRAME_TEXT: &str = "11..22 size 3 status 0 pass\n0..11 size 3 status 0 pas
 
 /// Whether `chain` prints the frame that is interrupted so often before each byte, or else reports that it was not read, and
 /// prints nothing.
-fn interruptions_are_told(alloc: Global, before_each: u32, is_read: bool) -> bool {
+fn interruptions_are_reported(alloc: Global, before_each: u32, is_read: bool) -> bool {
     let mut frame = Input::interrupted(&FRAME, before_each);
     let mut output: Vec<u8> = Vec::new(alloc);
     match run_chain(alloc, &mut frame, &mut output) {
@@ -24,11 +24,11 @@ fn interruptions_are_told(alloc: Global, before_each: u32, is_read: bool) -> boo
 
 #[test]
 fn interrupted_reads_are_tried_again(rt: HostRuntime) {
-    let told = (
-        interruptions_are_told(rt.alloc(), 64, true),
-        interruptions_are_told(rt.alloc(), 65, false),
+    let reported = (
+        interruptions_are_reported(rt.alloc(), 64, true),
+        interruptions_are_reported(rt.alloc(), 65, false),
     );
-    assert!(rt; told == (true, true));
+    assert!(rt; reported == (true, true));
 }
 
 /// The frame with a damaged tile 0.
@@ -95,7 +95,7 @@ fn union_is_restored(alloc: Global, one: &[u8], both: &[u8]) -> Result<bool, Fai
     Ok(
         union.as_slice() == both
             && lines.as_slice() == b"file 1 new 1\nfile 2 new 1\n".as_slice()
-            && is_told(alloc, &union, 0)?,
+            && is_reported(alloc, &union, 0)?,
     )
 }
 
@@ -142,7 +142,7 @@ fn is_numbered(alloc: Global, fault: &CliFault, number: u8) -> Result<bool, Fail
 
 /// Whether `restore`, which returned this and left these outputs, reports this fault and leaves the outputs alone; for 0,
 /// whether it restores the frame.
-fn answer_is_told(
+fn answer_is_reported(
     alloc: Global,
     answer: &Result<(), CliFault>,
     (payload, printed): (&[u8], &[u8]),
@@ -162,15 +162,15 @@ fn answer_is_told(
 }
 
 /// Whether `restore` reports this fault of a holding file and leaves the outputs alone; for 0, whether it restores the frame.
-fn is_told(alloc: Global, mut file: &[u8], number: u8) -> Result<bool, Fail> {
+fn is_reported(alloc: Global, mut file: &[u8], number: u8) -> Result<bool, Fail> {
     let mut payload: Vec<u8> = Vec::new(alloc);
     let mut printed: Vec<u8> = Vec::new(alloc);
     let answer = run_restore(alloc, &mut file, &mut payload, &mut printed);
-    answer_is_told(alloc, &answer, (&payload, &printed), number)
+    answer_is_reported(alloc, &answer, (&payload, &printed), number)
 }
 
 /// Whether this fault is reported where the byte at a place is changed by the mask.
-fn change_is_told(
+fn change_is_reported(
     alloc: Global,
     file: &[u8],
     place: usize,
@@ -181,13 +181,13 @@ fn change_is_told(
     if let Some(byte) = changed.get_mut(place) {
         *byte ^= mask;
     }
-    is_told(alloc, &changed, number)
+    is_reported(alloc, &changed, number)
 }
 
 /// Whether each of these faults is reported where the byte at its place is changed by the mask.
-fn are_told(alloc: Global, file: &[u8], mask: u8, numbers: &[u8]) -> Result<bool, Fail> {
+fn are_reported(alloc: Global, file: &[u8], mask: u8, numbers: &[u8]) -> Result<bool, Fail> {
     for (place, number) in numbers.iter().enumerate() {
-        if !change_is_told(alloc, file, place, mask, *number)? {
+        if !change_is_reported(alloc, file, place, mask, *number)? {
             return Ok(false);
         }
     }
@@ -195,16 +195,16 @@ fn are_told(alloc: Global, file: &[u8], mask: u8, numbers: &[u8]) -> Result<bool
 }
 
 /// Whether the file of both tiles is as long as these lists of faults, and each of them is reported where the bytes are changed so.
-fn changes_are_told(alloc: Global, mask: u8, numbers: &[u8]) -> Result<bool, Fail> {
+fn changes_are_reported(alloc: Global, mask: u8, numbers: &[u8]) -> Result<bool, Fail> {
     let (left, right) = (left_damaged(), right_damaged());
     let (both, _) = taken(alloc, &TWO_TILES, (2, 1), &mut [&left, &right])?;
-    Ok(both.len() == numbers.len() && are_told(alloc, &both, mask, numbers)?)
+    Ok(both.len() == numbers.len() && are_reported(alloc, &both, mask, numbers)?)
 }
 
 #[test]
-fn each_changed_byte_of_a_holding_file_is_told(rt: HostRuntime) -> Result<(), Fail> {
-    assert!(rt; changes_are_told(rt.alloc(), 1, &BIT_TURNED)?);
-    assert!(rt; changes_are_told(rt.alloc(), 0xFF, &BYTE_TURNED)?);
+fn each_changed_byte_of_a_holding_file_is_reported(rt: HostRuntime) -> Result<(), Fail> {
+    assert!(rt; changes_are_reported(rt.alloc(), 1, &BIT_TURNED)?);
+    assert!(rt; changes_are_reported(rt.alloc(), 0xFF, &BYTE_TURNED)?);
     Ok(())
 }
 

@@ -131,9 +131,9 @@ static PAIRS: [((usize, usize), (usize, usize)); 4] = [
 
 #[test]
 fn two_fields_of_at_most_4096_bytes_are_one_write(rt: HostRuntime) {
-    for &((first, second), told) in &PAIRS {
+    for &((first, second), reported) in &PAIRS {
         let found = writes_of_pair(rt.alloc(), first, second);
-        assert!(rt; found == Ok(Some(told)), "{first} and {second}");
+        assert!(rt; found == Ok(Some(reported)), "{first} and {second}");
     }
 }
 

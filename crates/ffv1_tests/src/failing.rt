@@ -231,12 +231,12 @@ fn holding_files(alloc: Global) -> Result<Files, Fail> {
 
 /// Whether a command reports that this path was not read.
 fn is_unread(answer: &Result<(), CliFault>, path: Option<CommandPath>) -> bool {
-    matches!(answer, Err(CliFault::Read(told)) if Some(*told) == path)
+    matches!(answer, Err(CliFault::Read(reported)) if Some(*reported) == path)
 }
 
 /// Whether a command reports that this path was not written.
 fn is_unwritten(answer: &Result<(), CliFault>, path: CommandPath) -> bool {
-    matches!(answer, Err(CliFault::Write(told)) if *told == path)
+    matches!(answer, Err(CliFault::Write(reported)) if *reported == path)
 }
 
 /// Whether OUT has what a command may leave there where an input fails: nothing, or of `merge` a front of its file.
@@ -246,7 +246,7 @@ fn is_left(command: Command, files: &Files, out: &[u8]) -> bool {
 }
 
 /// Whether a failure after so many bytes of the first or the second input is reported as that, and no more is written.
-fn input_is_told(
+fn input_is_reported(
     alloc: Global,
     command: Command,
     files: &Files,
@@ -271,11 +271,16 @@ fn input_is_told(
 }
 
 /// After how many bytes of the first or the second input a failure is not reported as that.
-fn untold_after(alloc: Global, command: Command, files: &Files, is_second: bool) -> Option<usize> {
+fn unreported_after(
+    alloc: Global,
+    command: Command,
+    files: &Files,
+    is_second: bool,
+) -> Option<usize> {
     let (first, second) = command.inputs(files);
     let input = if is_second { second } else { first };
     for room in 0..=input.len() {
-        if !input_is_told(alloc, command, files, is_second, room) {
+        if !input_is_reported(alloc, command, files, is_second, room) {
             return Some(room);
         }
     }
@@ -283,19 +288,19 @@ fn untold_after(alloc: Global, command: Command, files: &Files, is_second: bool)
 }
 
 /// The same of all inputs of a command.
-fn untold_input(alloc: Global, command: Command) -> Result<Option<usize>, Fail> {
+fn unreported_input(alloc: Global, command: Command) -> Result<Option<usize>, Fail> {
     let files = holding_files(alloc)?;
-    let first = untold_after(alloc, command, &files, false);
+    let first = unreported_after(alloc, command, &files, false);
     if first.is_some() || command.paths().1.is_none() {
         return Ok(first);
     }
-    Ok(untold_after(alloc, command, &files, true))
+    Ok(unreported_after(alloc, command, &files, true))
 }
 
 #[test]
-fn inputs_that_fail_are_told(rt: HostRuntime) -> Result<(), Fail> {
+fn inputs_that_fail_are_reported(rt: HostRuntime) -> Result<(), Fail> {
     for &command in &COMMANDS {
-        let room = untold_input(rt.alloc(), command)?;
+        let room = unreported_input(rt.alloc(), command)?;
         assert!(rt; room.is_none(), "{command:?} {room:?}");
     }
     Ok(())
@@ -407,28 +412,33 @@ fn interrupted(
 }
 
 /// Whether 64 interruptions of a device are passed over, and 65 reported; or a device that the command has not is left alone.
-fn interruptions_are_told(alloc: Global, command: Command, files: &Files, device: usize) -> bool {
+fn interruptions_are_reported(
+    alloc: Global,
+    command: Command,
+    files: &Files,
+    device: usize,
+) -> bool {
     let passed = interrupted(alloc, command, files, device, 64);
-    let told = interrupted(alloc, command, files, device, 65);
+    let reported = interrupted(alloc, command, files, device, 65);
     let (first, second) = command.paths();
     let makes = !matches!(command, Command::Chain | Command::Show | Command::Report);
     passed.is_ok()
         && match device {
-            0 => is_unread(&told, Some(first)),
-            1 if second.is_some() => is_unread(&told, second),
-            2 if makes => is_unwritten(&told, CommandPath::Out),
+            0 => is_unread(&reported, Some(first)),
+            1 if second.is_some() => is_unread(&reported, second),
+            2 if makes => is_unwritten(&reported, CommandPath::Out),
             3 if !matches!(command, Command::Merge) => {
-                is_unwritten(&told, CommandPath::StandardOutput)
+                is_unwritten(&reported, CommandPath::StandardOutput)
             }
             _ => true,
         }
 }
 
 /// The device of a command of which this does not hold.
-fn untold_device(alloc: Global, command: Command) -> Result<Option<usize>, Fail> {
+fn unreported_device(alloc: Global, command: Command) -> Result<Option<usize>, Fail> {
     let files = holding_files(alloc)?;
     for device in 0..4 {
-        if !interruptions_are_told(alloc, command, &files, device) {
+        if !interruptions_are_reported(alloc, command, &files, device) {
             return Ok(Some(device));
         }
     }
@@ -436,9 +446,9 @@ fn untold_device(alloc: Global, command: Command) -> Result<Option<usize>, Fail>
 }
 
 #[test]
-fn sixty_five_interruptions_in_a_row_are_told(rt: HostRuntime) -> Result<(), Fail> {
+fn sixty_five_interruptions_in_a_row_are_reported(rt: HostRuntime) -> Result<(), Fail> {
     for &command in &COMMANDS {
-        let device = untold_device(rt.alloc(), command)?;
+        let device = unreported_device(rt.alloc(), command)?;
         assert!(rt; device.is_none(), "{command:?} {device:?}");
     }
     Ok(())
@@ -450,11 +460,11 @@ fn endless_shows(alloc: Global, file: &[u8], fault: HoldFileFault) -> bool {
     input.after = After::Zeros;
     let (mut out, mut printed) = (Output::new(alloc), Output::new(alloc));
     let answer = run_restore(alloc, &mut input, &mut out, &mut printed);
-    matches!(answer, Err(CliFault::HoldFile(told)) if told == fault)
+    matches!(answer, Err(CliFault::HoldFile(reported)) if reported == fault)
 }
 
 /// Whether files that never end are reported so: one of zeros alone is no holding file, and a whole one has trailing bytes.
-fn endless_are_told(alloc: Global) -> Result<bool, Fail> {
+fn endless_are_reported(alloc: Global) -> Result<bool, Fail> {
     let files = holding_files(alloc)?;
     let is_none = endless_shows(alloc, &[], HoldFileFault::Magic);
     Ok(is_none && endless_shows(alloc, &files.whole, HoldFileFault::Trailing))
@@ -462,6 +472,6 @@ fn endless_are_told(alloc: Global) -> Result<bool, Fail> {
 
 #[test]
 fn files_that_never_end_show_their_first_fault(rt: HostRuntime) -> Result<(), Fail> {
-    assert!(rt; endless_are_told(rt.alloc())?);
+    assert!(rt; endless_are_reported(rt.alloc())?);
     Ok(())
 }

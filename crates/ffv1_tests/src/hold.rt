@@ -89,7 +89,7 @@ fn fault_after(alloc: Global, bytes: &[u8], fails: bool) -> Option<HoldFileFault
 }
 
 /// Whether a file that is cut is reported as cut, and a device that fails there as failed, at every place.
-fn each_front_is_told(alloc: Global, file: &[u8]) -> bool {
+fn each_front_is_reported(alloc: Global, file: &[u8]) -> bool {
     for length in 0..file.len() {
         let front = &file[..length];
         if fault_after(alloc, front, false) != Some(HoldFileFault::Truncated)
@@ -111,10 +111,10 @@ fn ends_in(alloc: Global, bytes: &[u8], fault: HoldFileFault) -> bool {
 }
 
 #[test]
-fn fronts_of_files_are_told(rt: HostRuntime) {
+fn fronts_of_files_are_reported(rt: HostRuntime) {
     let (first, second) = (
-        each_front_is_told(rt.alloc(), &FILE),
-        each_front_is_told(rt.alloc(), &SECOND),
+        each_front_is_reported(rt.alloc(), &FILE),
+        each_front_is_reported(rt.alloc(), &SECOND),
     );
     assert!(rt; first && second);
 }
@@ -144,7 +144,7 @@ fn fails_at_each_place(alloc: Global, file: &[u8]) -> Result<bool, Fail> {
 }
 
 #[test]
-fn a_failing_sink_is_told_as_that(rt: HostRuntime) -> Result<(), Fail> {
+fn a_failing_sink_is_reported_as_that(rt: HostRuntime) -> Result<(), Fail> {
     assert!(rt; fails_at_each_place(rt.alloc(), &SECOND)?);
     Ok(())
 }

@@ -104,7 +104,7 @@ static TAKEN: [(&[u8], usize, usize, usize); 6] = [
 ];
 
 #[test]
-fn a_copy_tells_what_was_taken(rt: HostRuntime) -> Result<(), Fail> {
+fn a_copy_reports_what_was_taken(rt: HostRuntime) -> Result<(), Fail> {
     let mut holding = Holding::new(rt.alloc(), &TWO_TILES, 2, 1)?;
     for &(copy, links, slices, new) in &TAKEN {
         let taken = Taken { links, slices, new };
@@ -210,7 +210,7 @@ static UNSETTLED: [(u32, [&[u8]; 2], RestoreFault); 4] = [
 ];
 
 #[test]
-fn the_first_unsettled_tile_is_told(rt: HostRuntime) -> Result<(), Fail> {
+fn the_first_unsettled_tile_is_reported(rt: HostRuntime) -> Result<(), Fail> {
     for &(tiles, copies, fault) in &UNSETTLED {
         assert!(rt; restored(rt.alloc(), tiles, copies)?.err() == Some(fault));
     }
@@ -227,7 +227,11 @@ fn best(state: TileState<'_>) -> usize {
 }
 
 /// Whether so many slices are held of a tile, with this least status, which so many of them have; and of all one or more.
-fn tells(held: &Holding, tile: usize, (slices, status, bests): (usize, Option<u8>, usize)) -> bool {
+fn reports(
+    held: &Holding,
+    tile: usize,
+    (slices, status, bests): (usize, Option<u8>, usize),
+) -> bool {
     tile < held.reel().tiles()
         && held.held(tile) == slices
         && held.status(tile) == status
@@ -236,16 +240,16 @@ fn tells(held: &Holding, tile: usize, (slices, status, bests): (usize, Option<u8
 }
 
 /// Tiles beside each other, two copies of them, and what `tells` has of one of the tiles.
-type Told = (u32, [&'static [u8]; 2], usize, (usize, Option<u8>, usize));
+type Reported = (u32, [&'static [u8]; 2], usize, (usize, Option<u8>, usize));
 
 /// Whether the tile of these copies' holding is as the row says.
-fn is_told(alloc: Global, (tiles, copies, tile, told): &Told) -> Result<bool, Fail> {
+fn is_reported(alloc: Global, (tiles, copies, tile, reported): &Reported) -> Result<bool, Fail> {
     let held = held_beside(alloc, *tiles, *copies)?;
-    Ok(tells(&held, *tile, *told))
+    Ok(reports(&held, *tile, *reported))
 }
 
 /// Tiles without a slice, with one and with two.
-static HELD: [Told; 6] = [
+static HELD: [Reported; 6] = [
     (2, [&LEFT_DAMAGED, &LEFT_DAMAGED], 0, (0, None, 0)),
     (2, [&LEFT_DAMAGED, &LEFT_DAMAGED], 1, (1, Some(0), 1)),
     (1, [&BLACK, &DARK], 0, (2, Some(0), 2)),
@@ -255,9 +259,9 @@ static HELD: [Told; 6] = [
 ];
 
 #[test]
-fn tiles_tell_what_is_held_of_them(rt: HostRuntime) -> Result<(), Fail> {
+fn tiles_report_what_is_held_of_them(rt: HostRuntime) -> Result<(), Fail> {
     for row in &HELD {
-        assert!(rt; is_told(rt.alloc(), row)?);
+        assert!(rt; is_reported(rt.alloc(), row)?);
     }
     Ok(())
 }

@@ -125,7 +125,7 @@ fn is_cut_off(alloc: Global, left: &[u8], right: &[u8], union: &[u8]) -> bool {
 }
 
 /// Whether a cut of the first file at any place is reported beside the second file, as either input.
-fn each_cut_is_told(alloc: Global, both: &[u8], one: &[u8]) -> bool {
+fn each_cut_is_reported(alloc: Global, both: &[u8], one: &[u8]) -> bool {
     for place in 0..both.len() {
         let front = &both[..place];
         if !is_cut_off(alloc, front, one, both) || !is_cut_off(alloc, one, front, both) {
@@ -138,7 +138,7 @@ fn each_cut_is_told(alloc: Global, both: &[u8], one: &[u8]) -> bool {
 #[test]
 fn a_cut_input_leaves_no_end(rt: HostRuntime) -> Result<(), Fail> {
     let pair = pair_with(rt.alloc(), &DARK)?;
-    assert!(rt; each_cut_is_told(rt.alloc(), &pair.both, &pair.one));
+    assert!(rt; each_cut_is_reported(rt.alloc(), &pair.both, &pair.one));
     Ok(())
 }
 
@@ -216,7 +216,7 @@ fn failed(
 }
 
 /// Whether the failure of a file among two is reported, and what was written is a front of their union's file, without its end.
-fn is_failure_told(
+fn is_failure_reported(
     alloc: Global,
     file: &[u8],
     other: &[u8],
@@ -228,11 +228,11 @@ fn is_failure_told(
 }
 
 /// Whether a failure of the first file at any place is reported beside the second file, as either input.
-fn each_failure_is_told(alloc: Global, both: &[u8], one: &[u8]) -> bool {
+fn each_failure_is_reported(alloc: Global, both: &[u8], one: &[u8]) -> bool {
     for place in 0..=both.len() {
         let front = &both[..place];
-        if !is_failure_told(alloc, front, one, both, false)
-            || !is_failure_told(alloc, front, one, both, true)
+        if !is_failure_reported(alloc, front, one, both, false)
+            || !is_failure_reported(alloc, front, one, both, true)
         {
             return false;
         }
@@ -241,9 +241,9 @@ fn each_failure_is_told(alloc: Global, both: &[u8], one: &[u8]) -> bool {
 }
 
 #[test]
-fn an_input_that_fails_is_told_and_leaves_no_end(rt: HostRuntime) -> Result<(), Fail> {
+fn an_input_that_fails_is_reported_and_leaves_no_end(rt: HostRuntime) -> Result<(), Fail> {
     let pair = pair_with(rt.alloc(), &DARK)?;
-    assert!(rt; each_failure_is_told(rt.alloc(), &pair.both, &pair.one));
+    assert!(rt; each_failure_is_reported(rt.alloc(), &pair.both, &pair.one));
     Ok(())
 }
 
@@ -268,7 +268,7 @@ fn interrupted_streams_are_tried_again(rt: HostRuntime) -> Result<(), Fail> {
 }
 
 #[test]
-fn heads_of_two_reels_are_told_before_anything_is_written(rt: HostRuntime) -> Result<(), Fail> {
+fn heads_of_two_reels_are_reported_before_anything_is_written(rt: HostRuntime) -> Result<(), Fail> {
     let alloc = rt.alloc();
     let black = file_of(alloc, &[&BLACK], 1)?;
     let other = file_of(alloc, &[], 2)?;

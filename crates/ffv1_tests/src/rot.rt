@@ -120,7 +120,7 @@ fn record_is_judged(alloc: Global, made: &Made, rotten: &[u8]) -> bool {
 
 /// Whether a fault is one that may be reported of a rotten holding file: that it is cut where it is shorter, else one of its
 /// bytes, if any has changed.
-fn is_told_of(fault: HoldFileFault, file: &[u8], rotten: &[u8]) -> bool {
+fn is_reported_of(fault: HoldFileFault, file: &[u8], rotten: &[u8]) -> bool {
     match fault {
         _ if rotten.len() < file.len() => fault == HoldFileFault::Truncated,
         HoldFileFault::Read | HoldFileFault::Memory | HoldFileFault::Write => false,
@@ -133,7 +133,7 @@ fn is_told_of(fault: HoldFileFault, file: &[u8], rotten: &[u8]) -> bool {
 fn file_is_judged(alloc: Global, file: &[u8], rotten: &[u8]) -> Result<bool, Fail> {
     match read_hold(alloc, &mut FromRead::new(rotten)) {
         Ok(holding) => is_file_of(alloc, &holding, rotten),
-        Err(fault) => Ok(is_told_of(fault, file, rotten)),
+        Err(fault) => Ok(is_reported_of(fault, file, rotten)),
     }
 }
 

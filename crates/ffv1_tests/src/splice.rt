@@ -229,7 +229,7 @@ fn places_go_on_over_a_slice_that_all_copies_lost(rt: HostRuntime) -> Result<(),
 }
 
 #[test]
-fn a_footer_in_the_hole_that_leads_below_it_tells_no_start(rt: HostRuntime) -> Result<(), Fail> {
+fn a_footer_in_the_hole_that_leads_below_it_reports_no_start(rt: HostRuntime) -> Result<(), Fail> {
     let settled = Standing::Settled;
     let standings = [settled, Standing::Woven(4), settled, settled];
     let pair: (Changes, Changes) = (SIZE_TOO_LARGE, &[(120, 1)]);
@@ -238,7 +238,7 @@ fn a_footer_in_the_hole_that_leads_below_it_tells_no_start(rt: HostRuntime) -> R
 }
 
 #[test]
-fn a_front_where_no_start_is_told_is_not_divided(rt: HostRuntime) -> Result<(), Fail> {
+fn a_front_where_no_start_is_reported_is_not_divided(rt: HostRuntime) -> Result<(), Fail> {
     let copy = changed(FIRST_LOST);
     let [last, third, second, ..] = places([Standing::Settled; 4]);
     assert!(rt;
@@ -254,13 +254,13 @@ fn a_front_where_no_start_is_told_is_not_divided(rt: HostRuntime) -> Result<(), 
 }
 
 #[test]
-fn copies_of_another_length_are_told(rt: HostRuntime) {
+fn copies_of_another_length_are_reported(rt: HostRuntime) {
     let fault = splice(rt.alloc(), &[&RECORDED, &RECORDED, &RECORDED[..335]]).err();
     assert!(rt; fault == Some(SpliceFault::OtherLength(2)));
 }
 
 /// Whether the command returns this for two copies, writes these bytes and prints these lines.
-fn tells(
+fn reports(
     alloc: Global,
     (one, other): (&[u8], &[u8]),
     answer: bool,
@@ -276,9 +276,9 @@ fn tells(
 
 /// What is changed in two copies, what the command returns for them, what is changed in the frame that it writes, and what it
 /// prints.
-type Told = (Changes, Changes, bool, Changes, &'static str);
+type Reported = (Changes, Changes, bool, Changes, &'static str);
 
-static TOLD: [Told; 7] = [
+static TOLD: [Reported; 7] = [
     (
         FIRST_COPY,
         SECOND_COPY,
@@ -331,10 +331,10 @@ static TOLD: [Told; 7] = [
 ];
 
 /// Whether the command returns, writes and prints for two changed copies what the row has.
-fn tells_of_changed(alloc: Global, told: &Told) -> bool {
-    let &(one, other, answer, payload, lines) = told;
+fn reports_of_changed(alloc: Global, reported: &Reported) -> bool {
+    let &(one, other, answer, payload, lines) = reported;
     let copies = (changed(one), changed(other));
-    tells(
+    reports(
         alloc,
         (&copies.0, &copies.1),
         answer,
@@ -344,15 +344,15 @@ fn tells_of_changed(alloc: Global, told: &Told) -> bool {
 }
 
 #[test]
-fn the_command_writes_and_tells_the_splice(rt: HostRuntime) {
-    for told in &TOLD {
-        assert!(rt; tells_of_changed(rt.alloc(), told));
+fn the_command_writes_and_reports_the_splice(rt: HostRuntime) {
+    for reported in &TOLD {
+        assert!(rt; reports_of_changed(rt.alloc(), reported));
     }
-    assert!(rt; tells(rt.alloc(), (&[], &[]), true, &[], "end whole\n"));
+    assert!(rt; reports(rt.alloc(), (&[], &[]), true, &[], "end whole\n"));
 }
 
 /// Whether the command reports that the second copy is not as long as the first, and writes nothing.
-fn other_length_is_told(alloc: Global) -> bool {
+fn other_length_is_reported(alloc: Global) -> bool {
     let (mut out, mut printed) = (Vec::new(alloc), Vec::new(alloc));
     let mut copies = [RECORDED.as_slice(), &RECORDED[1..]];
     let answered = run_splice(alloc, &mut copies, &mut out, &mut printed);
@@ -362,6 +362,6 @@ fn other_length_is_told(alloc: Global) -> bool {
 }
 
 #[test]
-fn the_command_tells_a_copy_of_another_length(rt: HostRuntime) {
-    assert!(rt; other_length_is_told(rt.alloc()));
+fn the_command_reports_a_copy_of_another_length(rt: HostRuntime) {
+    assert!(rt; other_length_is_reported(rt.alloc()));
 }

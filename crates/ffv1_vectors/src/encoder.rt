@@ -4,7 +4,7 @@
 //! its low end, the carry included, never passes 17 bits. Each bit adds one byte at most, so memory for all bits of a
 //! symbol is asked for before the first is written.
 ghost use Rattle.std.specs.Prelude.{◌≡◌, ◌+◌, ◌*◌, ◌≤◌, ◌<◌, OnOk, OnErr, IfErr, vec_len, vec_capacity};
-ghost use Rattle.ffv1_range.specs.Coding.{IsState, state_after};
+ghost use Rattle.ffv1_range.specs.Coding.{IsBitState, bit_state_after};
 ghost use Rattle.ffv1_range.specs.Decoder.{AreStates};
 ghost use Rattle.ffv1_vectors.specs.Encoder.{IsEncoder, encoder_start};
 ghost use Rattle.ffv1_vectors.specs.declared.fault.MakeFault.TheVariants.{Memory};
@@ -68,9 +68,9 @@ impl RangeEncoder {
     /// Writes one bit at a state in 8..=248, which becomes the one after that bit (section 3.8.1.5). `Memory`, the one fault, is returned
     /// if an allocation of memory failed, and leaves the encoder and the state as they were.
     pub fn bit(&mut self, state: &mut u8, bit: bool) -> Result<(), MakeFault>
-        requires { IsState state.old }
-        ensures in_range { IsState state.new }
-        ensures state { OnOk result (state.new ≡ state_after state.old bit) }
+        requires { IsBitState state.old }
+        ensures in_range { IsBitState state.new }
+        ensures state { OnOk result (state.new ≡ bit_state_after state.old bit) }
         ensures memory { IfErr result (λ fault. fault ≡ Memory) }
         ensures unchanged { OnErr result ((self.new ≡ self.old) × (state.new ≡ state.old)) }
     {
@@ -231,10 +231,10 @@ impl Writing {
 
     /// Writes one bit at a state.
     fn bit(&mut self, state: &mut u8, bit: bool)
-        requires state { IsState state.old }
+        requires state { IsBitState state.old }
         requires room { vec_len self.old.bytes < vec_capacity self.old.bytes }
-        ensures in_range { IsState state.new }
-        ensures state { state.new ≡ state_after state.old bit }
+        ensures in_range { IsBitState state.new }
+        ensures state { state.new ≡ bit_state_after state.old bit }
         ensures len { vec_len self.new.bytes ≤ vec_len self.old.bytes + 1 }
         ensures capacity { vec_capacity self.old.bytes ≤ vec_capacity self.new.bytes }
     {

@@ -4,7 +4,7 @@ ghost use Rattle.ffv1_bits.specs.Limits.{greatest_side};
 ghost use Rattle.ffv1_range.specs.Setup.{IsSetupOf};
 ghost use Rattle.ffv1_vectors.specs.Asked.{IsProfile, asked_setup};
 ghost use Rattle.ffv1_range.specs.Decoder.{AreStates};
-ghost use Rattle.ffv1_range.specs.TableForms.{AreRows};
+ghost use Rattle.ffv1_range.specs.TableForms.{AreStateRows};
 ghost use Rattle.ffv1_vectors.specs.declared.fault.MakeFault.TheVariants.{Memory};
 
 use crate::asked::is_asked;
@@ -182,8 +182,8 @@ fn spell_set_deltas(
     contexts: u32,
     delta: i32,
 ) -> Result<(), MakeFault>
-    requires { AreRows rows.old }
-    ensures in_range { AreRows rows.new }
+    requires { AreStateRows rows.old }
+    ensures in_range { AreStateRows rows.new }
     ensures memory { IfErr result (λ fault. fault ≡ Memory) }
 {
     for _ in 0..contexts {
@@ -198,8 +198,8 @@ fn spell_context_deltas(
     rows: &mut [[u8; 32]; 32],
     delta: i32,
 ) -> Result<(), MakeFault>
-    requires { AreRows rows.old }
-    ensures in_range { AreRows rows.new }
+    requires { AreStateRows rows.old }
+    ensures in_range { AreStateRows rows.new }
     ensures memory { IfErr result (λ fault. fault ≡ Memory) }
 {
     for k in 0..32usize {

@@ -9,7 +9,7 @@ use Rattle.std.proofs.lemmas.List.Edits.{get_or-between, length-between}
 use Rattle.std.proofs.lemmas.List.Elements.{All-head, All-tail}
 use Rattle.ffv1_weave.specs.Regions.{AgreeAt, HaveLength}
 use Rattle.ffv1_weave.specs.Seams.{IsSeam}
-use Rattle.ffv1_weave.specs.Grains.{IsPartBy, IsPieceBy}
+use Rattle.ffv1_weave.specs.Grains.{IsPartBy, IsChoiceBy}
 use Rattle.ffv1_weave.specs.Numbers.{AreNumbered, AreMoreThan}
 use Rattle.ffv1_weave.specs.Combinations.{IsCombinationBy}
 use Rattle.ffv1_weave.specs.Parts.{Part, ArePartsFrom, AreAllParts, IsPartFrom, IsFit, parts_end, count_of, chosen, written}
@@ -17,37 +17,37 @@ use Rattle.ffv1_weave.specs.declared.grains.Grain.{Grain}
 use Rattle.ffv1_weave.specs.declared.grains.Grain.TheVariants.{Pairs, Regions, Most}
 use Rattle.ffv1_weave.proofs.GrainSteps.{part_some, part_within, one_part}
 use Rattle.ffv1_weave.proofs.NextSegment.{IsNextSegment, next_segment}
-use Rattle.ffv1_weave.proofs.MostSteps.{piece_of_some, some_most}
+use Rattle.ffv1_weave.proofs.MostSteps.{choice_of_some, some_most}
 
 -- ---- a byte string written over bytes
 
-module _ (bytes : List ℕ) (start : ℕ) (piece : List ℕ) (fits : start + length piece ≤ length bytes) where
-  pub length-written : length (written bytes start piece) ≡ length bytes
+module _ (bytes : List ℕ) (start : ℕ) (choice : List ℕ) (fits : start + length choice ≤ length bytes) where
+  pub length-written : length (written bytes start choice) ≡ length bytes
   length-written =
       omega (
         arith,
-        length-append (take start bytes) (piece ++ drop (start + length piece) bytes),
-        length-append piece (drop (start + length piece) bytes),
+        length-append (take start bytes) (choice ++ drop (start + length choice) bytes),
+        length-append choice (drop (start + length choice) bytes),
         length-take-le start bytes (omega arith),
-        length-drop (start + length piece) bytes,
+        length-drop (start + length choice) bytes,
       )
 
-  pub written_before : (i : ℕ) → i < start → get_or (written bytes start piece) i 0 ≡ get_or bytes i 0
+  pub written_before : (i : ℕ) → i < start → get_or (written bytes start choice) i 0 ≡ get_or bytes i 0
   written_before i lt =
       let long = length-take-le start bytes (omega arith) in
-      get_or_append_left (take start bytes) (piece ++ drop (start + length piece) bytes) 0 i (omega arith) ∙ get_or-take start bytes i 0 lt
+      get_or_append_left (take start bytes) (choice ++ drop (start + length choice) bytes) 0 i (omega arith) ∙ get_or-take start bytes i 0 lt
 
-  pub written_inside : (i : ℕ) → start ≤ i → i < start + length piece → get_or (written bytes start piece) i 0 ≡ get_or piece (i - start) 0
+  pub written_inside : (i : ℕ) → start ≤ i → i < start + length choice → get_or (written bytes start choice) i 0 ≡ get_or choice (i - start) 0
   written_inside i low lt =
-      get_or-append_right (take start bytes) (piece ++ drop (start + length piece) bytes) start i 0 (length-take-le start bytes (omega arith)) low
-      ∙ get_or_append_left piece (drop (start + length piece) bytes) 0 (i - start) (omega arith)
+      get_or-append_right (take start bytes) (choice ++ drop (start + length choice) bytes) start i 0 (length-take-le start bytes (omega arith)) low
+      ∙ get_or_append_left choice (drop (start + length choice) bytes) 0 (i - start) (omega arith)
 
-  pub written_after : (i : ℕ) → start + length piece ≤ i → get_or (written bytes start piece) i 0 ≡ get_or bytes i 0
+  pub written_after : (i : ℕ) → start + length choice ≤ i → get_or (written bytes start choice) i 0 ≡ get_or bytes i 0
   written_after i low =
-      let there : start + length piece + (i - start - length piece) ≡ i = omega arith in
-      get_or-append_right (take start bytes) (piece ++ drop (start + length piece) bytes) start i 0 (length-take-le start bytes (omega arith)) (omega arith)
-      ∙ get_or-append_right piece (drop (start + length piece) bytes) (length piece) (i - start) 0 refl (omega arith)
-      ∙ get_or-drop (start + length piece) bytes (i - start - length piece) 0
+      let there : start + length choice + (i - start - length choice) ≡ i = omega arith in
+      get_or-append_right (take start bytes) (choice ++ drop (start + length choice) bytes) start i 0 (length-take-le start bytes (omega arith)) (omega arith)
+      ∙ get_or-append_right choice (drop (start + length choice) bytes) (length choice) (i - start) 0 refl (omega arith)
+      ∙ get_or-drop (start + length choice) bytes (i - start - length choice) 0
       ∙ ap (λ n. get_or bytes n 0) there
 
 -- bytes with the same at each place between two
@@ -66,14 +66,14 @@ range_at a start end i low lt =
 -- ---- a fitting part
 
 -- the choice of a number
-abbrev pub piece_of : Part → ℕ → List ℕ
-piece_of part k = get_or part.pieces k []
+abbrev pub choice_of : Part → ℕ → List ℕ
+choice_of part k = get_or part.choices k []
 
 module _ (size : ℕ) (part : Part) (fit : IsFit size part) where
-  pub piece_size : (k : ℕ) → k < length part.pieces → part.start + length (piece_of part k) ≡ part.end
-  piece_size k lt = let order = fit.order in omega (arith, fit.fill k lt)
+  pub choice_size : (k : ℕ) → k < length part.choices → part.start + length (choice_of part k) ≡ part.end
+  choice_size k lt = let order = fit.order in omega (arith, fit.fill k lt)
 
-  pub digit_below : (k : ℕ) → k % length part.pieces < length part.pieces
+  pub digit_below : (k : ℕ) → k % length part.choices < length part.choices
   digit_below k = let some = fit.some in omega arith
 
 -- ---- bytes that are alike
@@ -98,56 +98,56 @@ module _ (grain : Grain) (versions : List (List ℕ)) where
 
   -- both with the same choice
   alike_both : (from : ℕ) (part : Part) (k : ℕ) (a b : List ℕ) → IsPartFrom grain versions from part.start part.end → IsFit (length a) part
-      → k < length part.pieces → IsAlike versions from a b
-      → IsAlike versions part.end (written a part.start (piece_of part k)) (written b part.start (piece_of part k))
+      → k < length part.choices → IsAlike versions from a b
+      → IsAlike versions part.end (written a part.start (choice_of part k)) (written b part.start (choice_of part k))
   alike_both from part k a b next fit lt h =
-      let long = piece_size (length a) part fit k lt in
+      let long = choice_size (length a) part fit k lt in
       let within = fit.within in
       let size = h.size in
-      let fits_a : part.start + length (piece_of part k) ≤ length a = omega arith in
-      let fits_b : part.start + length (piece_of part k) ≤ length b = omega arith in
+      let fits_a : part.start + length (choice_of part k) ≤ length a = omega arith in
+      let fits_b : part.start + length (choice_of part k) ≤ length b = omega arith in
       record {
-        size = length-written a part.start (piece_of part k) fits_a ∙ size ∙ sym (length-written b part.start (piece_of part k) fits_b);
+        size = length-written a part.start (choice_of part k) fits_a ∙ size ∙ sym (length-written b part.start (choice_of part k) fits_b);
         front = λ i below. elim (cases_lt i part.start) [
-          | inl outside ↦ written_before a part.start (piece_of part k) fits_a i outside ∙ alike_until from part.start part.end a b next h i outside
-              ∙ sym (written_before b part.start (piece_of part k) fits_b i outside)
-          | inr inside ↦ written_inside a part.start (piece_of part k) fits_a i inside (omega arith)
-              ∙ sym (written_inside b part.start (piece_of part k) fits_b i inside (omega arith))
+          | inl outside ↦ written_before a part.start (choice_of part k) fits_a i outside ∙ alike_until from part.start part.end a b next h i outside
+              ∙ sym (written_before b part.start (choice_of part k) fits_b i outside)
+          | inr inside ↦ written_inside a part.start (choice_of part k) fits_a i inside (omega arith)
+              ∙ sym (written_inside b part.start (choice_of part k) fits_b i inside (omega arith))
         ];
         agree = λ i same. elim (cases_lt i part.start) [
-          | inl outside ↦ written_before a part.start (piece_of part k) fits_a i outside ∙ h.agree i same
-              ∙ sym (written_before b part.start (piece_of part k) fits_b i outside)
+          | inl outside ↦ written_before a part.start (choice_of part k) fits_a i outside ∙ h.agree i same
+              ∙ sym (written_before b part.start (choice_of part k) fits_b i outside)
           | inr inside ↦ elim (cases_lt i part.end) [
-            | inl below ↦ written_inside a part.start (piece_of part k) fits_a i inside (omega arith)
-                ∙ sym (written_inside b part.start (piece_of part k) fits_b i inside (omega arith))
-            | inr after ↦ written_after a part.start (piece_of part k) fits_a i (omega arith) ∙ h.agree i same
-                ∙ sym (written_after b part.start (piece_of part k) fits_b i (omega arith))
+            | inl below ↦ written_inside a part.start (choice_of part k) fits_a i inside (omega arith)
+                ∙ sym (written_inside b part.start (choice_of part k) fits_b i inside (omega arith))
+            | inr after ↦ written_after a part.start (choice_of part k) fits_a i (omega arith) ∙ h.agree i same
+                ∙ sym (written_after b part.start (choice_of part k) fits_b i (omega arith))
           ]
         ];
       }
 
   -- one with the choice that the other has
-  alike_piece : (from : ℕ) (part : Part) (k : ℕ) (a b : List ℕ) → IsPartFrom grain versions from part.start part.end → IsFit (length a) part
-      → k < length part.pieces → slice_range b part.start part.end ≡ piece_of part k → IsAlike versions from a b
-      → IsAlike versions part.end (written a part.start (piece_of part k)) b
-  alike_piece from part k a b next fit lt is h =
-      let long = piece_size (length a) part fit k lt in
+  alike_choice : (from : ℕ) (part : Part) (k : ℕ) (a b : List ℕ) → IsPartFrom grain versions from part.start part.end → IsFit (length a) part
+      → k < length part.choices → slice_range b part.start part.end ≡ choice_of part k → IsAlike versions from a b
+      → IsAlike versions part.end (written a part.start (choice_of part k)) b
+  alike_choice from part k a b next fit lt is h =
+      let long = choice_size (length a) part fit k lt in
       let within = fit.within in
-      let fits : part.start + length (piece_of part k) ≤ length a = omega arith in
-      let inside : (i : ℕ) → part.start ≤ i → i < part.end → get_or (written a part.start (piece_of part k)) i 0 ≡ get_or b i 0 =
-      λ i low below. written_inside a part.start (piece_of part k) fits i low (omega arith) ∙ ap (λ p. get_or p (i - part.start) 0) (sym is)
+      let fits : part.start + length (choice_of part k) ≤ length a = omega arith in
+      let inside : (i : ℕ) → part.start ≤ i → i < part.end → get_or (written a part.start (choice_of part k)) i 0 ≡ get_or b i 0 =
+      λ i low below. written_inside a part.start (choice_of part k) fits i low (omega arith) ∙ ap (λ p. get_or p (i - part.start) 0) (sym is)
       ∙ range_at b part.start part.end i low below in
       record {
-        size = length-written a part.start (piece_of part k) fits ∙ h.size;
+        size = length-written a part.start (choice_of part k) fits ∙ h.size;
         front = λ i below. elim (cases_lt i part.start) [
-          | inl outside ↦ written_before a part.start (piece_of part k) fits i outside ∙ alike_until from part.start part.end a b next h i outside
+          | inl outside ↦ written_before a part.start (choice_of part k) fits i outside ∙ alike_until from part.start part.end a b next h i outside
           | inr low ↦ inside i low below
         ];
         agree = λ i same. elim (cases_lt i part.start) [
-          | inl outside ↦ written_before a part.start (piece_of part k) fits i outside ∙ h.agree i same
+          | inl outside ↦ written_before a part.start (choice_of part k) fits i outside ∙ h.agree i same
           | inr low ↦ elim (cases_lt i part.end) [
             | inl below ↦ inside i low below
-            | inr after ↦ written_after a part.start (piece_of part k) fits i (omega arith) ∙ h.agree i same
+            | inr after ↦ written_after a part.start (choice_of part k) fits i (omega arith) ∙ h.agree i same
           ]
         ];
       }
@@ -163,17 +163,17 @@ module _ (size : ℕ) (part : Part) (parts : List Part) (fit : All (IsFit size) 
   pub fit_tail : All (IsFit size) parts
   fit_tail = All-tail (IsFit size) part parts fit
 
-  pub fits_in : (k : ℕ) → k < length part.pieces → part.start + length (piece_of part k) ≤ size
-  fits_in k lt = let within = fit_head.within in omega (arith, piece_size size part fit_head k lt)
+  pub fits_in : (k : ℕ) → k < length part.choices → part.start + length (choice_of part k) ≤ size
+  fits_in k lt = let within = fit_head.within in omega (arith, choice_size size part fit_head k lt)
 
 -- the length stays
 pub length-chosen : (parts : List Part) (code : ℕ) (bytes : List ℕ) → All (IsFit (length bytes)) parts → length (chosen parts code bytes) ≡ length bytes
 length-chosen [] code bytes fit = refl
 length-chosen (part ∷ parts) code bytes fit =
     let digit = digit_below (length bytes) part (fit_head (length bytes) part parts fit) code in
-    let long = length-written bytes part.start (piece_of part (code % length part.pieces))
-    (fits_in (length bytes) part parts fit (code % length part.pieces) digit) in
-    length-chosen parts (code / length part.pieces) (written bytes part.start (piece_of part (code % length part.pieces)))
+    let long = length-written bytes part.start (choice_of part (code % length part.choices))
+    (fits_in (length bytes) part parts fit (code % length part.choices) digit) in
+    length-chosen parts (code / length part.choices) (written bytes part.start (choice_of part (code % length part.choices)))
     (fit_as _ (length bytes) parts long (fit_tail (length bytes) part parts fit)) ∙ long
 
 module _ (grain : Grain) (versions : List (List ℕ)) where
@@ -183,13 +183,13 @@ module _ (grain : Grain) (versions : List (List ℕ)) where
   chosen_front from [] code bytes are fit i lt = refl
   chosen_front from (part ∷ parts) code bytes are fit i lt =
       let digit = digit_below (length bytes) part (fit_head (length bytes) part parts fit) code in
-      let fits = fits_in (length bytes) part parts fit (code % length part.pieces) digit in
-      let long = length-written bytes part.start (piece_of part (code % length part.pieces)) fits in
+      let fits = fits_in (length bytes) part parts fit (code % length part.choices) digit in
+      let long = length-written bytes part.start (choice_of part (code % length part.choices)) fits in
       let beyond = are.0.beyond in
       let some = part_some grain versions part.start part.end are.0.part in
-      chosen_front part.end parts (code / length part.pieces) (written bytes part.start (piece_of part (code % length part.pieces))) are.2
+      chosen_front part.end parts (code / length part.choices) (written bytes part.start (choice_of part (code % length part.choices))) are.2
       (fit_as _ (length bytes) parts long (fit_tail (length bytes) part parts fit)) i (omega arith)
-      ∙ written_before bytes part.start (piece_of part (code % length part.pieces)) fits i (omega arith)
+      ∙ written_before bytes part.start (choice_of part (code % length part.choices)) fits i (omega arith)
 
   -- of bytes that are alike the same is made
   pub chosen_alike : (from : ℕ) (parts : List Part) (code : ℕ) (a b : List ℕ) → ArePartsFrom grain versions from parts
@@ -198,12 +198,12 @@ module _ (grain : Grain) (versions : List (List ℕ)) where
   chosen_alike from [] code a b are rest fit h = alike_end grain versions from a b rest h
   chosen_alike from (part ∷ parts) code a b are rest fit h =
       let digit = digit_below (length a) part (fit_head (length a) part parts fit) code in
-      let long = length-written a part.start (piece_of part (code % length part.pieces))
-      (fits_in (length a) part parts fit (code % length part.pieces) digit) in
-      chosen_alike part.end parts (code / length part.pieces) (written a part.start (piece_of part (code % length part.pieces)))
-      (written b part.start (piece_of part (code % length part.pieces))) are.2 rest
+      let long = length-written a part.start (choice_of part (code % length part.choices))
+      (fits_in (length a) part parts fit (code % length part.choices) digit) in
+      chosen_alike part.end parts (code / length part.choices) (written a part.start (choice_of part (code % length part.choices)))
+      (written b part.start (choice_of part (code % length part.choices))) are.2 rest
       (fit_as _ (length a) parts long (fit_tail (length a) part parts fit))
-      (alike_both grain versions from part (code % length part.pieces) a b are.0 (fit_head (length a) part parts fit) digit h)
+      (alike_both grain versions from part (code % length part.choices) a b are.0 (fit_head (length a) part parts fit) digit h)
 
   -- each combination has a number
   pub chosen_all : (from : ℕ) (parts : List Part) (bytes combination : List ℕ) → ArePartsFrom grain versions from parts
@@ -213,19 +213,19 @@ module _ (grain : Grain) (versions : List (List ℕ)) where
   chosen_all from (part ∷ parts) bytes combination are rest fit is h =
       let here = are.1.each (slice_range combination part.start part.end) (is.parts part.start part.end are.0.part) in
       let d : ℕ = here.0 in
-      let n : ℕ = length part.pieces in
-      let lies : slice_range combination part.start part.end ≡ piece_of part d =
-      sym (get_or_default part.pieces d [] (slice_range combination part.start part.end) here.1 ∙ here.2) in
-      let long = length-written bytes part.start (piece_of part d) (fits_in (length bytes) part parts fit d here.1) in
-      let number = chosen_all part.end parts (written bytes part.start (piece_of part d)) combination are.2 rest
+      let n : ℕ = length part.choices in
+      let lies : slice_range combination part.start part.end ≡ choice_of part d =
+      sym (get_or_default part.choices d [] (slice_range combination part.start part.end) here.1 ∙ here.2) in
+      let long = length-written bytes part.start (choice_of part d) (fits_in (length bytes) part parts fit d here.1) in
+      let number = chosen_all part.end parts (written bytes part.start (choice_of part d)) combination are.2 rest
       (fit_as _ (length bytes) parts long (fit_tail (length bytes) part parts fit)) is
-      (alike_piece grain versions from part d bytes combination are.0 (fit_head (length bytes) part parts fit) here.1 lies h) in
+      (alike_choice grain versions from part d bytes combination are.0 (fit_head (length bytes) part parts fit) here.1 lies h) in
       let digit : (number.0 * n + d) % n ≡ d = mul-add-mod_self_right number.0 n d ∙ mod-eq_of_lt here.1 in
       let up : (number.0 * n + d) / n ≡ number.0 = div-mul-add number.0 n d here.1 in (
         number.0 * n + d,
         mul-add-lt number.0 n d (count_of parts) number.1 here.1,
-        ap (λ m. chosen parts m (written bytes part.start (piece_of part ((number.0 * n + d) % n)))) up
-            ∙ ap (λ m. chosen parts number.0 (written bytes part.start (piece_of part m))) digit
+        ap (λ m. chosen parts m (written bytes part.start (choice_of part ((number.0 * n + d) % n)))) up
+            ∙ ap (λ m. chosen parts number.0 (written bytes part.start (choice_of part m))) digit
             ∙ number.2,
       )
 
@@ -235,106 +235,106 @@ module _ (grain : Grain) (versions : List (List ℕ)) where
   chosen_once from [] bytes j k are fit low lt same = omega arith
   chosen_once from (part ∷ parts) bytes j k are fit low lt same =
       let head = fit_head (length bytes) part parts fit in
-      let n : ℕ = length part.pieces in
+      let n : ℕ = length part.choices in
       let some : 0 < n = head.some in
       let j_digit = digit_below (length bytes) part head j in
       let k_digit = digit_below (length bytes) part head k in
-      let j_piece : List ℕ = piece_of part (j % n) in
-      let k_piece : List ℕ = piece_of part (k % n) in
+      let j_choice : List ℕ = choice_of part (j % n) in
+      let k_choice : List ℕ = choice_of part (k % n) in
       let j_fits = fits_in (length bytes) part parts fit (j % n) j_digit in
       let k_fits = fits_in (length bytes) part parts fit (k % n) k_digit in
-      let j_long = length-written bytes part.start j_piece j_fits in
-      let k_long = length-written bytes part.start k_piece k_fits in
-      let j_size = piece_size (length bytes) part head (j % n) j_digit in
-      let k_size = piece_size (length bytes) part head (k % n) k_digit in
-      let j_rest = fit_as (length (written bytes part.start j_piece)) (length bytes) parts j_long (fit_tail (length bytes) part parts fit) in
-      let k_rest = fit_as (length (written bytes part.start k_piece)) (length bytes) parts k_long (fit_tail (length bytes) part parts fit) in
-      let at : (i : ℕ) → part.start ≤ i → i < part.end → get_or j_piece (i - part.start) 0 ≡ get_or k_piece (i - part.start) 0 =
-      λ i from_start below. sym (written_inside bytes part.start j_piece j_fits i from_start (omega arith))
-      ∙ sym (chosen_front part.end parts (j / n) (written bytes part.start j_piece) are.2 j_rest i below)
+      let j_long = length-written bytes part.start j_choice j_fits in
+      let k_long = length-written bytes part.start k_choice k_fits in
+      let j_size = choice_size (length bytes) part head (j % n) j_digit in
+      let k_size = choice_size (length bytes) part head (k % n) k_digit in
+      let j_rest = fit_as (length (written bytes part.start j_choice)) (length bytes) parts j_long (fit_tail (length bytes) part parts fit) in
+      let k_rest = fit_as (length (written bytes part.start k_choice)) (length bytes) parts k_long (fit_tail (length bytes) part parts fit) in
+      let at : (i : ℕ) → part.start ≤ i → i < part.end → get_or j_choice (i - part.start) 0 ≡ get_or k_choice (i - part.start) 0 =
+      λ i from_start below. sym (written_inside bytes part.start j_choice j_fits i from_start (omega arith))
+      ∙ sym (chosen_front part.end parts (j / n) (written bytes part.start j_choice) are.2 j_rest i below)
       ∙ ap (λ z. get_or z i 0) same
-      ∙ chosen_front part.end parts (k / n) (written bytes part.start k_piece) are.2 k_rest i below
-      ∙ written_inside bytes part.start k_piece k_fits i from_start (omega arith) in
-      let pieces : j_piece ≡ k_piece = ext_get_or 0 j_piece k_piece (omega arith) (λ i below.
+      ∙ chosen_front part.end parts (k / n) (written bytes part.start k_choice) are.2 k_rest i below
+      ∙ written_inside bytes part.start k_choice k_fits i from_start (omega arith) in
+      let choices : j_choice ≡ k_choice = ext_get_or 0 j_choice k_choice (omega arith) (λ i below.
       let there : part.start + i - part.start ≡ i = omega arith in
-      ap (λ m. get_or j_piece m 0) (sym there) ∙ at (part.start + i) (omega arith) (omega arith) ∙ ap (λ m. get_or k_piece m 0) there) in
-      let digits : j % n ≡ k % n = are.1.once (j % n) (k % n) j_digit k_digit pieces in
-      let ups : j / n ≡ k / n = chosen_once part.end parts (written bytes part.start j_piece) (j / n) (k / n) are.2 j_rest
+      ap (λ m. get_or j_choice m 0) (sym there) ∙ at (part.start + i) (omega arith) (omega arith) ∙ ap (λ m. get_or k_choice m 0) there) in
+      let digits : j % n ≡ k % n = are.1.once (j % n) (k % n) j_digit k_digit choices in
+      let ups : j / n ≡ k / n = chosen_once part.end parts (written bytes part.start j_choice) (j / n) (k / n) are.2 j_rest
       (let e = div-lt_iff_lt-mul {k = n} {x = j} {y = count_of parts} some in e.1 (subst (λ m. j < m) (mul_comm n (count_of parts)) low))
       (let e = div-lt_iff_lt-mul {k = n} {x = k} {y = count_of parts} some in e.1 (subst (λ m. k < m) (mul_comm n (count_of parts)) lt))
-      (same ∙ ap (λ p. chosen parts (k / n) (written bytes part.start p)) (sym pieces)) in
+      (same ∙ ap (λ p. chosen parts (k / n) (written bytes part.start p)) (sym choices)) in
       sym (div-add-mod' j n) ∙ ap (λ q. q * n + j % n) ups ∙ ap (λ r. k / n * n + r) digits ∙ div-add-mod' k n
 
 -- ---- a choice written over a part
 
 module _ (grain : Grain) (versions : List (List ℕ)) (size : ℕ) (all_long : HaveLength versions size) where
-  module _ (part : Part) (k : ℕ) (is_part : IsPartBy grain versions part.start part.end) (fit : IsFit size part) (lt : k < length part.pieces)
-      (taken : IsPieceBy grain versions part.start part.end (piece_of part k)) (bytes : List ℕ) (long : length bytes ≡ size) where
-    fits_bytes : part.start + length (piece_of part k) ≤ length bytes
-    fits_bytes = let within = fit.within in omega (arith, piece_size size part fit k lt)
+  module _ (part : Part) (k : ℕ) (is_part : IsPartBy grain versions part.start part.end) (fit : IsFit size part) (lt : k < length part.choices)
+      (taken : IsChoiceBy grain versions part.start part.end (choice_of part k)) (bytes : List ℕ) (long : length bytes ≡ size) where
+    fits_bytes : part.start + length (choice_of part k) ≤ length bytes
+    fits_bytes = let within = fit.within in omega (arith, choice_size size part fit k lt)
 
-    length-over : length (written bytes part.start (piece_of part k)) ≡ size
-    length-over = length-written bytes part.start (piece_of part k) fits_bytes ∙ long
+    length-over : length (written bytes part.start (choice_of part k)) ≡ size
+    length-over = length-written bytes part.start (choice_of part k) fits_bytes ∙ long
 
     -- the part has the choice
-    has_piece : slice_range (written bytes part.start (piece_of part k)) part.start part.end ≡ piece_of part k
-    has_piece =
-        let ends = piece_size size part fit k lt in
+    has_choice : slice_range (written bytes part.start (choice_of part k)) part.start part.end ≡ choice_of part k
+    has_choice =
+        let ends = choice_size size part fit k lt in
         let within = fit.within in
-        let here = length-between (written bytes part.start (piece_of part k)) part.start part.end (omega (arith, length-over)) in
-        ext_get_or 0 (slice_range (written bytes part.start (piece_of part k)) part.start part.end) (piece_of part k) (omega arith) (λ i below.
+        let here = length-between (written bytes part.start (choice_of part k)) part.start part.end (omega (arith, length-over)) in
+        ext_get_or 0 (slice_range (written bytes part.start (choice_of part k)) part.start part.end) (choice_of part k) (omega arith) (λ i below.
         let there : part.start + i - part.start ≡ i = omega arith in
-        get_or-between (written bytes part.start (piece_of part k)) part.start part.end i 0 (omega arith)
-        ∙ written_inside bytes part.start (piece_of part k) fits_bytes (part.start + i) (omega arith) (omega arith)
-        ∙ ap (λ m. get_or (piece_of part k) m 0) there)
+        get_or-between (written bytes part.start (choice_of part k)) part.start part.end i 0 (omega arith)
+        ∙ written_inside bytes part.start (choice_of part k) fits_bytes (part.start + i) (omega arith) (omega arith)
+        ∙ ap (λ m. get_or (choice_of part k) m 0) there)
 
     -- what is outside of it stays
     has_rest : (start end : ℕ) → end ≤ size → (end ≤ part.start) ⊎ (part.end ≤ start)
-        → slice_range (written bytes part.start (piece_of part k)) start end ≡ slice_range bytes start end
+        → slice_range (written bytes part.start (choice_of part k)) start end ≡ slice_range bytes start end
     has_rest start end within apart =
-        let ends = piece_size size part fit k lt in
-        same_range (written bytes part.start (piece_of part k)) bytes start end (omega (arith, length-over)) (omega arith) (λ i low below. elim apart [
-          | inl before ↦ written_before bytes part.start (piece_of part k) fits_bytes i (omega arith)
-          | inr beyond ↦ written_after bytes part.start (piece_of part k) fits_bytes i (omega arith)
+        let ends = choice_size size part fit k lt in
+        same_range (written bytes part.start (choice_of part k)) bytes start end (omega (arith, length-over)) (omega arith) (λ i low below. elim apart [
+          | inl before ↦ written_before bytes part.start (choice_of part k) fits_bytes i (omega arith)
+          | inr beyond ↦ written_after bytes part.start (choice_of part k) fits_bytes i (omega arith)
         ])
 
     -- The part, and each other one that had what can be taken there, has what can be taken there.
     part_over : (start end : ℕ) → IsPartBy grain versions start end
-        → ((end ≤ part.start) ⊎ (part.end ≤ start) → IsPieceBy grain versions start end (slice_range bytes start end))
-        → IsPieceBy grain versions start end (slice_range (written bytes part.start (piece_of part k)) start end)
+        → ((end ≤ part.start) ⊎ (part.end ≤ start) → IsChoiceBy grain versions start end (slice_range bytes start end))
+        → IsChoiceBy grain versions start end (slice_range (written bytes part.start (choice_of part k)) start end)
     part_over start end other rest =
         let within = part_within versions size all_long grain start end other in
-        let outside = λ (apart : (end ≤ part.start) ⊎ (part.end ≤ start)). subst (IsPieceBy grain versions start end) (sym (has_rest start end within apart)) (rest apart) in
+        let outside = λ (apart : (end ≤ part.start) ⊎ (part.end ≤ start)). subst (IsChoiceBy grain versions start end) (sym (has_rest start end within apart)) (rest apart) in
         elim (cases_lt part.start end) [
           | inr before ↦ outside (inl before)
           | inl late ↦ elim (cases_lt start part.end) [
             | inr beyond ↦ outside (inr beyond)
             | inl early ↦
                 let one = one_part versions size all_long grain part.start part.end start end is_part other late early in
-                subst (λ s. IsPieceBy grain versions s end (slice_range (written bytes part.start (piece_of part k)) s end)) one.0
-                (subst (λ e. IsPieceBy grain versions part.start e (slice_range (written bytes part.start (piece_of part k)) part.start e)) one.1
-                (subst (IsPieceBy grain versions part.start part.end) (sym has_piece) taken))
+                subst (λ s. IsChoiceBy grain versions s end (slice_range (written bytes part.start (choice_of part k)) s end)) one.0
+                (subst (λ e. IsChoiceBy grain versions part.start e (slice_range (written bytes part.start (choice_of part k)) part.start e)) one.1
+                (subst (IsChoiceBy grain versions part.start part.end) (sym has_choice) taken))
           ]
         ]
 
     -- where all versions agree it is as they are, if it was before
     agrees_over : (i : ℕ) → AgreeAt versions i → (version : List ℕ) → Contains versions version → get_or bytes i 0 ≡ get_or version i 0
-        → get_or (written bytes part.start (piece_of part k)) i 0 ≡ get_or version i 0
+        → get_or (written bytes part.start (choice_of part k)) i 0 ≡ get_or version i 0
     agrees_over i same version there before =
-        let ends = piece_size size part fit k lt in
-        let of = piece_of_some grain versions part.start part.end (piece_of part k) taken in
+        let ends = choice_size size part fit k lt in
+        let of = choice_of_some grain versions part.start part.end (choice_of part k) taken in
         elim (cases_lt i part.start) [
-          | inl outside ↦ written_before bytes part.start (piece_of part k) fits_bytes i outside ∙ before
+          | inl outside ↦ written_before bytes part.start (choice_of part k) fits_bytes i outside ∙ before
           | inr low ↦ elim (cases_lt i part.end) [
-            | inl below ↦ written_inside bytes part.start (piece_of part k) fits_bytes i low (omega arith)
+            | inl below ↦ written_inside bytes part.start (choice_of part k) fits_bytes i low (omega arith)
                 ∙ ap (λ p. get_or p (i - part.start) 0) of.2
                 ∙ range_at of.0 part.start part.end i low below ∙ same of.0 version of.1 there
-            | inr after ↦ written_after bytes part.start (piece_of part k) fits_bytes i (omega arith) ∙ before
+            | inr after ↦ written_after bytes part.start (choice_of part k) fits_bytes i (omega arith) ∙ before
           ]
         ]
 
     -- A combination stays one.
-    combination_over : IsCombinationBy grain versions bytes → IsCombinationBy grain versions (written bytes part.start (piece_of part k))
+    combination_over : IsCombinationBy grain versions bytes → IsCombinationBy grain versions (written bytes part.start (choice_of part k))
     combination_over h =
         record {
           same_length = λ version there. length-over ∙ sym (all_long version there);
@@ -348,7 +348,7 @@ module _ (grain : Grain) (versions : List (List ℕ)) (size : ℕ) (all_long : H
 record IsGoodBefore (grain : Grain) (versions : List (List ℕ)) (from : ℕ) (bytes : List ℕ) : Type 0 where
   same_length : (version : List ℕ) → Contains versions version → length bytes ≡ length version
   agrees : (i : ℕ) → AgreeAt versions i → (version : List ℕ) → Contains versions version → slice_index bytes i ≡ slice_index version i
-  parts : (start end : ℕ) → IsPartBy grain versions start end → end ≤ from → IsPieceBy grain versions start end (slice_range bytes start end)
+  parts : (start end : ℕ) → IsPartBy grain versions start end → end ≤ from → IsChoiceBy grain versions start end (slice_range bytes start end)
 
 module _ (versions : List (List ℕ)) (first : List ℕ) (all_long : HaveLength versions (length first)) (there : Contains versions first) where
   good_whole : (grain : Grain) (from : ℕ) (bytes : List ℕ) → length first ≤ from → IsGoodBefore grain versions from bytes
@@ -377,19 +377,19 @@ module _ (versions : List (List ℕ)) (first : List ℕ) (all_long : HaveLength 
         let order = part_some (Most distance) versions from next.end next.segment in
         let within = next.within in
         let most = some_most versions from next.end some_versions in
-        let piece : List ℕ = slice_range most.0 from next.end in
-        let part : Part = record { start = from; end = next.end; pieces = piece ∷ [] } in
+        let choice : List ℕ = slice_range most.0 from next.end in
+        let part : Part = record { start = from; end = next.end; choices = choice ∷ [] } in
         let fit : IsFit (length first) part =
         record {
           order = omega arith;
           within = within;
           some = omega arith;
-          fill = λ k lt. let first_piece : k ≡ 0 = omega arith in
-              ap (λ n. length (get_or (piece ∷ []) n [])) first_piece ∙ length-between most.0 from next.end (omega (arith, all_long most.0 most.1));
+          fill = λ k lt. let first_choice : k ≡ 0 = omega arith in
+              ap (λ n. length (get_or (choice ∷ []) n [])) first_choice ∙ length-between most.0 from next.end (omega (arith, all_long most.0 most.1));
         } in
-        let taken : IsPieceBy (Most distance) versions from next.end piece = ((most.0, most.1, refl), most.2) in
+        let taken : IsChoiceBy (Most distance) versions from next.end choice = ((most.0, most.1, refl), most.2) in
         let long = h.same_length first there in (
-          written bytes from piece,
+          written bytes from choice,
           record {
             same_length = λ version here. length-over (Most distance) versions (length first) all_long part 0 next.segment fit (omega arith) taken bytes long
                 ∙ sym (all_long version here);
@@ -418,7 +418,7 @@ module _ (versions : List (List ℕ)) (first : List ℕ) (all_long : HaveLength 
           ]
     ]
 
-  version_by : (grain : Grain) → ((start end : ℕ) → IsPieceBy grain versions start end (slice_range first start end)) → IsCombinationBy grain versions first
+  version_by : (grain : Grain) → ((start end : ℕ) → IsChoiceBy grain versions start end (slice_range first start end)) → IsCombinationBy grain versions first
   version_by grain has =
       record {
         same_length = λ version here. sym (all_long version here);
@@ -441,11 +441,11 @@ module _ (grain : Grain) (versions : List (List ℕ)) (size : ℕ) (all_long : H
   chosen_are from (part ∷ parts) code bytes long are fit h =
       let head = fit_head size part parts fit in
       let digit = digit_below size part head code in
-      let taken = are.1.only (code % length part.pieces) digit in
-      chosen_are part.end parts (code / length part.pieces) (written bytes part.start (piece_of part (code % length part.pieces)))
-      (length-over grain versions size all_long part (code % length part.pieces) are.0.part head digit taken bytes long) are.2
+      let taken = are.1.only (code % length part.choices) digit in
+      chosen_are part.end parts (code / length part.choices) (written bytes part.start (choice_of part (code % length part.choices)))
+      (length-over grain versions size all_long part (code % length part.choices) are.0.part head digit taken bytes long) are.2
       (fit_tail size part parts fit)
-      (combination_over grain versions size all_long part (code % length part.pieces) are.0.part head digit taken bytes long h)
+      (combination_over grain versions size all_long part (code % length part.choices) are.0.part head digit taken bytes long h)
 
 module _ (grain : Grain) (versions : List (List ℕ)) (first : List ℕ) (all_long : HaveLength versions (length first)) (there : Contains versions first) where
   -- More parts than are tried give more combinations, whatever follows them.

@@ -13,7 +13,7 @@ use Rattle.ffv1_weave.specs.Weave.Weave.{woven, disputed, missing, too_many}
 use Rattle.ffv1_weave.specs.Laws.{KeepsOriginal, OriginalIsWoven, TriedOriginalIsWoven, RegionsAreCoarsest}
 use Rattle.ffv1_weave.specs.declared.check.Check.{Check}
 use Rattle.ffv1_weave.specs.declared.grains.Grain.TheVariants.{Pairs, Regions}
-use Rattle.ffv1_weave.specs.declared.regions.TheConstants.{GAP}
+use Rattle.ffv1_weave.specs.declared.regions.TheConstants.{SEPARATION}
 use Rattle.ffv1_weave.proofs.Agreeing.{agree_past, some_differ, two_of}
 use Rattle.ffv1_weave.proofs.SeamSteps.{segment_within}
 use Rattle.ffv1_weave.proofs.GrainSteps.{region_within}
@@ -28,7 +28,7 @@ module _ (versions : List (List ℕ)) where
     some : start < end
     first : DifferAt versions start
     last : DifferAt versions (end - 1)
-    within : (i : ℕ) → start ≤ i → i + GAP ≤ end → (j : ℕ) × (i ≤ j) × (j < i + GAP) × DifferAt versions j
+    within : (i : ℕ) → start ≤ i → i + SEPARATION ≤ end → (j : ℕ) × (i ≤ j) × (j < i + SEPARATION) × DifferAt versions j
 
   close_at : (place : ℕ) → DifferAt versions place → IsClose place (place + 1)
   close_at place differ =
@@ -39,14 +39,14 @@ module _ (versions : List (List ℕ)) where
         within = λ i low high. absurd (omega arith);
       }
 
-  later : (start end j : ℕ) → IsClose start end → end ≤ j → j < end + GAP → DifferAt versions j → IsClose start (j + 1)
+  later : (start end j : ℕ) → IsClose start end → end ≤ j → j < end + SEPARATION → DifferAt versions j → IsClose start (j + 1)
   later start end j h low near differ =
       let some = h.some in
       record {
         some = omega arith;
         first = h.first;
         last = let same : j ≡ j + 1 - 1 = omega arith in subst (DifferAt versions) same differ;
-        within = λ i above below. elim (cases_lt end (i + GAP)) [
+        within = λ i above below. elim (cases_lt end (i + SEPARATION)) [
           | inr old ↦ h.within i above old
           | inl new ↦ elim (cases_lt i end) [
             | inl before ↦ (end - 1, omega arith, omega arith, h.last)
@@ -55,7 +55,7 @@ module _ (versions : List (List ℕ)) where
         ];
       }
 
-  sooner : (start end j : ℕ) → IsClose start end → j < start → start ≤ j + GAP → DifferAt versions j → IsClose j end
+  sooner : (start end j : ℕ) → IsClose start end → j < start → start ≤ j + SEPARATION → DifferAt versions j → IsClose j end
   sooner start end j h low near differ =
       let some = h.some in
       record {
@@ -64,7 +64,7 @@ module _ (versions : List (List ℕ)) where
         last = h.last;
         within = λ i above below. elim (cases_lt i start) [
           | inr old ↦ h.within i old below
-          | inl new ↦ elim (cases_lt start (i + GAP)) [
+          | inl new ↦ elim (cases_lt start (i + SEPARATION)) [
             | inl there ↦ (start, omega arith, there, h.first)
             | inr past ↦ (j, omega arith, omega arith, differ)
           ]
@@ -75,12 +75,12 @@ module _ (versions : List (List ℕ)) where
     last : ℕ
     beyond : end ≤ last
     close : IsClose start last
-    after : (i : ℕ) → last ≤ i → i < last + GAP → AgreeAt versions i
+    after : (i : ℕ) → last ≤ i → i < last + SEPARATION → AgreeAt versions i
 
   to_last : (size fuel start end : ℕ) → HaveLength versions size → size ≤ end + fuel → IsClose start end → HasLast start end
   to_last size zero start end long past h =
       record { last = end; beyond = omega arith; close = h; after = λ i low lt. agree_past versions size i long (omega arith) }
-  to_last size (suc fuel) start end long past h = elim (some_differ versions end GAP) [
+  to_last size (suc fuel) start end long past h = elim (some_differ versions end SEPARATION) [
     | inl quiet ↦ record { last = end; beyond = omega arith; close = h; after = quiet }
     | inr found ↦
         let low = found.1 in
@@ -89,7 +89,7 @@ module _ (versions : List (List ℕ)) where
         record { last = rest.last; beyond = omega arith; close = rest.close; after = rest.after }
   ]
 
-  to_first : (fuel start end : ℕ) → start ≤ fuel → IsClose start end → ((i : ℕ) → end ≤ i → i < end + GAP → AgreeAt versions i)
+  to_first : (fuel start end : ℕ) → start ≤ fuel → IsClose start end → ((i : ℕ) → end ≤ i → i < end + SEPARATION → AgreeAt versions i)
       → (begin : ℕ) × (begin ≤ start) × IsRegion versions begin end
   to_first zero start end past h after = (
     start,
@@ -103,7 +103,7 @@ module _ (versions : List (List ℕ)) where
       within = h.within;
     },
   )
-  to_first (suc fuel) start end past h after = elim (some_differ versions (start - GAP) (start - (start - GAP))) [
+  to_first (suc fuel) start end past h after = elim (some_differ versions (start - SEPARATION) (start - (start - SEPARATION))) [
     | inl quiet ↦ (
       start,
       omega arith,
@@ -139,7 +139,7 @@ module _ (versions : List (List ℕ)) where
 
   -- ---- its ends are seams
 
-  first_is_seam : (distance start end : ℕ) → distance ≤ GAP → IsRegion versions start end → IsSeam distance versions start
+  first_is_seam : (distance start end : ℕ) → distance ≤ SEPARATION → IsRegion versions start end → IsSeam distance versions start
   first_is_seam distance start end near h =
       let two = two_of versions start h.first in
       record {
@@ -153,7 +153,7 @@ module _ (versions : List (List ℕ)) where
         });
       }
 
-  last_is_seam : (distance start end : ℕ) → distance ≤ GAP → IsRegion versions start end → IsSeam distance versions end
+  last_is_seam : (distance start end : ℕ) → distance ≤ SEPARATION → IsRegion versions start end → IsSeam distance versions end
   last_is_seam distance start end near h =
       let two = two_of versions (end - 1) h.last in
       let some = h.some in
@@ -171,7 +171,7 @@ module _ (versions : List (List ℕ)) where
       }
 
   -- A segment in which versions differ lies in one region.
-  in_region : (distance size start end place : ℕ) → distance ≤ GAP → HaveLength versions size → IsSegment distance versions start end → start ≤ place
+  in_region : (distance size start end place : ℕ) → distance ≤ SEPARATION → HaveLength versions size → IsSegment distance versions start end → start ≤ place
       → place < end → DifferAt versions place → (s e : ℕ) × (s ≤ start) × (end ≤ e) × IsRegion versions s e
   in_region distance size start end place near long h low lt differ =
       let region = region_of size place long differ in
@@ -199,7 +199,7 @@ module _ (versions : List (List ℕ)) (bytes : List ℕ) (is : IsCombination ver
   long : HaveLength versions (length bytes)
   long version there = sym (is.same_length version there)
 
-  segment_from_one : (distance start end : ℕ) → distance ≤ GAP → IsSegment distance versions start end
+  segment_from_one : (distance start end : ℕ) → distance ≤ SEPARATION → IsSegment distance versions start end
       → (version : List ℕ) × Contains versions version × (slice_range bytes start end ≡ slice_range version start end)
   segment_from_one distance start end near h =
       let within = segment_within distance versions (length bytes) start end (long) h in
@@ -224,7 +224,7 @@ module _ (versions : List (List ℕ)) (bytes : List ℕ) (is : IsCombination ver
             )
       ]
 
-  segments_of : (distance : ℕ) → distance ≤ GAP → IsCombinationBy (Pairs distance) versions bytes
+  segments_of : (distance : ℕ) → distance ≤ SEPARATION → IsCombinationBy (Pairs distance) versions bytes
   segments_of distance near =
       record { same_length = is.same_length; agrees = is.agrees; parts = λ start end segment. segment_from_one distance start end near segment }
 

@@ -4,35 +4,35 @@ use Rattle.std.specs.Prelude.{All}
 use Rattle.std.proofs.lemmas.List.Elements.{Contains-get_or}
 use Rattle.ffv1_slice.specs.Members.{HasSameMembers}
 use Rattle.ffv1_weave.specs.Regions.{HaveLength}
-use Rattle.ffv1_weave.specs.Parts.{ArePieces}
+use Rattle.ffv1_weave.specs.Parts.{AreChoices}
 use Rattle.ffv1_weave.proofs.References.{values_of, nowhere, value_at, value_there, length-values_of, each_value}
-use Rattle.ffv1_weave.proofs.PieceSteps.{pieces_are_versions, pieces_some}
+use Rattle.ffv1_weave.proofs.ChoiceSteps.{choices_are_versions, choices_some}
 
 pub same_distinct : (versions distinct : List (Bor (List ℕ))) → 0 < length versions
     → All (λ version. length version.now ≡ length (get_or (values_of versions) 0 [])) versions
-    → ArePieces (values_of versions) 0 (length (get_or versions 0 nowhere).now) (values_of distinct)
+    → AreChoices (values_of versions) 0 (length (get_or versions 0 nowhere).now) (values_of distinct)
     → HasSameMembers (values_of versions) (values_of distinct)
-same_distinct versions distinct some long pieces =
+same_distinct versions distinct some long choices =
     let all = each_value versions (λ version. length version ≡ length (get_or (values_of versions) 0 [])) long in
-    pieces_are_versions (values_of versions) (values_of distinct) (length (get_or versions 0 nowhere).now)
-    (λ version there. all version there ∙ ap length (value_at versions 0 nowhere [] some)) pieces
+    choices_are_versions (values_of versions) (values_of distinct) (length (get_or versions 0 nowhere).now)
+    (λ version there. all version there ∙ ap length (value_at versions 0 nowhere [] some)) choices
 
 pub some_distinct : (versions distinct : List (Bor (List ℕ))) (start end : ℕ) → 0 < length versions
-    → ArePieces (values_of versions) start end (values_of distinct) → 0 < length distinct
-some_distinct versions distinct start end some pieces =
+    → AreChoices (values_of versions) start end (values_of distinct) → 0 < length distinct
+some_distinct versions distinct start end some choices =
     omega (
       arith,
-      pieces_some (values_of versions) (values_of distinct) start end (omega (arith, length-values_of versions)) pieces,
+      choices_some (values_of versions) (values_of distinct) start end (omega (arith, length-values_of versions)) choices,
       length-values_of distinct,
     )
 
 pub long_distinct : (versions distinct lent : List (Bor (List ℕ))) → lent ≡ distinct → 0 < length versions
     → All (λ version. length version.now ≡ length (get_or (values_of versions) 0 [])) versions
-    → ArePieces (values_of versions) 0 (length (get_or versions 0 nowhere).now) (values_of distinct)
+    → AreChoices (values_of versions) 0 (length (get_or versions 0 nowhere).now) (values_of distinct)
     → All (λ version. length version.now ≡ length (get_or (values_of lent) 0 [])) lent
-long_distinct versions distinct lent is some_versions lengths pieces =
-    let same = same_distinct versions distinct some_versions lengths pieces in
-    let some = some_distinct versions distinct 0 _ some_versions pieces in
+long_distinct versions distinct lent is some_versions lengths choices =
+    let same = same_distinct versions distinct some_versions lengths choices in
+    let some = some_distinct versions distinct 0 _ some_versions choices in
     let long : HaveLength (values_of distinct) (length (get_or (values_of versions) 0 [])) = λ version there.
     each_value versions (λ version. length version ≡ length (get_or (values_of versions) 0 [])) lengths version ((same version).1 there) in
     subst (λ items. All (λ version. length version.now ≡ length (get_or (values_of items) 0 [])) items) (sym is)

@@ -8,12 +8,12 @@ use Rattle.ffv1_weave.specs.Grains.{grains}
 use Rattle.ffv1_weave.specs.Numbers.{AreNumbered}
 use Rattle.ffv1_weave.specs.Combinations.{IsCombinationBy, HasFew, HasMany}
 use Rattle.ffv1_weave.specs.Weave.{AreMany}
-use Rattle.ffv1_weave.specs.Parts.{Part, ArePiecesBy, IsEdge, IsPartFrom, ArePartsFrom, AreFewParts, AreTriedParts, IsFit, parts_end, count_of}
+use Rattle.ffv1_weave.specs.Parts.{Part, AreChoicesBy, IsEdge, IsPartFrom, ArePartsFrom, AreFewParts, AreTriedParts, IsFit, parts_end, count_of}
 use Rattle.ffv1_weave.specs.declared.grains.Grain.{Grain}
 use Rattle.ffv1_weave.specs.declared.grains.Grain.TheVariants.{Regions}
 use Rattle.ffv1_weave.specs.declared.weaving.TheConstants.{MOST_COMBINATIONS}
 use Rattle.ffv1_weave.proofs.GrainSteps.{part_some}
-use Rattle.ffv1_weave.proofs.MostSteps.{pieces_fit}
+use Rattle.ffv1_weave.proofs.MostSteps.{choices_fit}
 use Rattle.ffv1_weave.proofs.PartSteps.{parts_end_push, parts_push, count_push, count_over, count_fits, count_positive}
 use Rattle.ffv1_weave.proofs.Choices.{fit_as, many_chosen, numbered}
 
@@ -54,24 +54,24 @@ all_so_far grain versions size from parts count h rest =
 module _ (grain : Grain) (versions : List (List ℕ)) (size : ℕ) (long : HaveLength versions size) (some : 0 < length versions) where
   module _ (from : ℕ) (parts : List Part) (count : ℕ) (h : ArePartsSoFar grain versions size from parts count)
       (part : Part) (next : IsPartFrom grain versions from part.start part.end) (within : part.end ≤ size)
-      (pieces : ArePiecesBy grain versions part.start part.end part.pieces) where
+      (choices : AreChoicesBy grain versions part.start part.end part.choices) where
     more_after : ArePartsFrom grain versions 0 (parts ++ part ∷ [])
     more_after =
-        parts_push grain versions 0 parts part h.after (subst (λ place. IsPartFrom grain versions place part.start part.end) (sym h.ends) next) pieces
+        parts_push grain versions 0 parts part h.after (subst (λ place. IsPartFrom grain versions place part.start part.end) (sym h.ends) next) choices
 
     part_fits : IsFit size part
     part_fits =
         let order = part_some grain versions part.start part.end next.part in
-        pieces_fit grain part.start part.end versions part.pieces size long some (omega arith) within pieces
+        choices_fit grain part.start part.end versions part.choices size long some (omega arith) within choices
 
     more_fit : All (IsFit size) (parts ++ part ∷ [])
     more_fit = All-push (IsFit size) parts part h.fit part_fits
 
-    more_counted : count * length part.pieces ≡ count_of (parts ++ part ∷ [])
-    more_counted = ap (λ n. n * length part.pieces) h.counted ∙ sym (count_push parts part)
+    more_counted : count * length part.choices ≡ count_of (parts ++ part ∷ [])
+    more_counted = ap (λ n. n * length part.choices) h.counted ∙ sym (count_push parts part)
 
-    pub one_more : length part.pieces ≤ MOST_COMBINATIONS / count
-        → ArePartsSoFar grain versions size part.end (parts ++ part ∷ []) (count * length part.pieces)
+    pub one_more : length part.choices ≤ MOST_COMBINATIONS / count
+        → ArePartsSoFar grain versions size part.end (parts ++ part ∷ []) (count * length part.choices)
     one_more few =
         record {
           within = within;
@@ -79,20 +79,20 @@ module _ (grain : Grain) (versions : List (List ℕ)) (size : ℕ) (long : HaveL
           after = more_after;
           ends = parts_end_push 0 parts part;
           fit = more_fit;
-          some = count_positive count (length part.pieces) h.some (let fit = part_fits in fit.some);
+          some = count_positive count (length part.choices) h.some (let fit = part_fits in fit.some);
           counted = more_counted;
-          few = count_fits count (length part.pieces) MOST_COMBINATIONS h.some few;
+          few = count_fits count (length part.choices) MOST_COMBINATIONS h.some few;
         }
 
     -- with the choices of this part there are too many, whatever follows
-    pub too_many_more : MOST_COMBINATIONS / count < length part.pieces → HasMany versions grain
+    pub too_many_more : MOST_COMBINATIONS / count < length part.choices → HasMany versions grain
     too_many_more over =
         let first : List ℕ = get_or versions 0 [] in
         let there = Contains-get_or versions 0 [] some in
         let size_is : length first ≡ size = long first there in
         many_chosen grain versions first (subst (HaveLength versions) (sym size_is) long) there (parts ++ part ∷ []) MOST_COMBINATIONS more_after
         (fit_as (length first) size (parts ++ part ∷ []) size_is more_fit)
-        (subst (λ n. MOST_COMBINATIONS < n) more_counted (count_over count (length part.pieces) MOST_COMBINATIONS h.some over))
+        (subst (λ n. MOST_COMBINATIONS < n) more_counted (count_over count (length part.choices) MOST_COMBINATIONS h.some over))
 
   -- ---- the finest grain by which there are few enough
 

@@ -3,7 +3,7 @@ pub mod Agreeing
 pub mod RegionSteps
 pub mod SeamSteps
 pub mod GrainSteps
-pub mod PieceSteps
+pub mod ChoiceSteps
 pub mod Numbering
 pub mod MostSteps
 pub mod NextSegment

@@ -16,7 +16,7 @@ use Rattle.ffv1_weave.specs.declared.check.Check.TheVariants.{Slice, Element}
 use Rattle.ffv1_weave.specs.declared.grains.Grain.{Grain}
 use Rattle.ffv1_weave.proofs.GrainSteps.{part_some}
 use Rattle.ffv1_weave.proofs.References.{values_of, value_at, length-values_of}
-use Rattle.ffv1_weave.proofs.Choices.{length-written, written_after, same_range, piece_of, piece_size, digit_below, fit_as, fit_head, fit_tail, fits_in}
+use Rattle.ffv1_weave.proofs.Choices.{length-written, written_after, same_range, choice_of, choice_size, digit_below, fit_as, fit_head, fit_tail, fits_in}
 
 -- ---- each check
 
@@ -32,51 +32,51 @@ same_changes Element a b c d h = element_changes a b c d h
 -- ---- what is left of bytes with a byte string written over them
 
 -- bytes with a byte string written over them that stands there already
-written_same : (bytes : List ℕ) (start : ℕ) (piece : List ℕ) → slice_range bytes start (start + length piece) ≡ piece → written bytes start piece ≡ bytes
-written_same bytes start piece same =
-    ap (λ p. take start bytes ++ (p ++ drop (start + length piece) bytes)) (sym same)
-    ∙ sym (split_between bytes start (start + length piece) (omega arith))
+written_same : (bytes : List ℕ) (start : ℕ) (choice : List ℕ) → slice_range bytes start (start + length choice) ≡ choice → written bytes start choice ≡ bytes
+written_same bytes start choice same =
+    ap (λ p. take start bytes ++ (p ++ drop (start + length choice) bytes)) (sym same)
+    ∙ sym (split_between bytes start (start + length choice) (omega arith))
 
 -- such a byte string changes nothing
-pub change_of_same : (check : Check) (bytes : List ℕ) (start : ℕ) (piece : List ℕ) → slice_range bytes start (start + length piece) ≡ piece
-    → change_of check bytes start piece ≡ 0
-change_of_same check bytes start piece same =
-    ap (λ after. bit_xor (remainder_in check after) (remainder_in check bytes)) (written_same bytes start piece same)
+pub change_of_same : (check : Check) (bytes : List ℕ) (start : ℕ) (choice : List ℕ) → slice_range bytes start (start + length choice) ≡ choice
+    → change_of check bytes start choice ≡ 0
+change_of_same check bytes start choice same =
+    ap (λ after. bit_xor (remainder_in check after) (remainder_in check bytes)) (written_same bytes start choice same)
     ∙ xor_self (remainder_in check bytes)
 
 -- What a byte string changes is the same in all bytes that are the same in its place.
-change_alike : (a b : List ℕ) (start end : ℕ) (piece : List ℕ) → length a ≡ length b → start + length piece ≡ end → end ≤ length b
-    → slice_range a start end ≡ slice_range b start end → AreSameChanges (written a start piece) a (written b start piece) b
-change_alike a b start end piece long ends within same =
-    let after : ℕ = start + length piece in
-    let split_a : take start a ++ (slice_range a start end ++ drop (start + length piece) a) ≡ a =
+change_alike : (a b : List ℕ) (start end : ℕ) (choice : List ℕ) → length a ≡ length b → start + length choice ≡ end → end ≤ length b
+    → slice_range a start end ≡ slice_range b start end → AreSameChanges (written a start choice) a (written b start choice) b
+change_alike a b start end choice long ends within same =
+    let after : ℕ = start + length choice in
+    let split_a : take start a ++ (slice_range a start end ++ drop (start + length choice) a) ≡ a =
     sym (split_between a start end (omega arith) ∙ ap (λ n. take start a ++ (slice_range a start end ++ drop n a)) (sym ends)) in
-    let split_b : take start b ++ (slice_range b start end ++ drop (start + length piece) b) ≡ b =
+    let split_b : take start b ++ (slice_range b start end ++ drop (start + length choice) b) ≡ b =
     sym (split_between b start end (omega arith) ∙ ap (λ n. take start b ++ (slice_range b start end ++ drop n b)) (sym ends)) in
     let front : length (take start a) ≡ length (take start b) = length-take-le start a (omega arith) ∙ sym (length-take-le start b (omega arith)) in
     let back : length (drop after a) ≡ length (drop after b) =
-    length-drop (start + length piece) a ∙ ap (λ n. n - (start + length piece)) long ∙ sym (length-drop (start + length piece) b) in
-    let middle : AreSameChanges piece (slice_range a start end) piece (slice_range b start end) =
-    subst (AreSameChanges piece (slice_range a start end) piece) same
-    (all_changed piece (slice_range a start end) (omega (arith, length-between a start end (omega arith)))) in
-    let whole = changes_append (take start a) (take start a) (take start b) (take start b) (piece ++ drop after a) (slice_range a start end ++ drop after a)
-    (piece ++ drop after b) (slice_range b start end ++ drop after b) (all_kept (take start a) (take start b) front)
-    (changes_append piece (slice_range a start end) piece (slice_range b start end) (drop after a) (drop after a) (drop after b) (drop after b) middle
+    length-drop (start + length choice) a ∙ ap (λ n. n - (start + length choice)) long ∙ sym (length-drop (start + length choice) b) in
+    let middle : AreSameChanges choice (slice_range a start end) choice (slice_range b start end) =
+    subst (AreSameChanges choice (slice_range a start end) choice) same
+    (all_changed choice (slice_range a start end) (omega (arith, length-between a start end (omega arith)))) in
+    let whole = changes_append (take start a) (take start a) (take start b) (take start b) (choice ++ drop after a) (slice_range a start end ++ drop after a)
+    (choice ++ drop after b) (slice_range b start end ++ drop after b) (all_kept (take start a) (take start b) front)
+    (changes_append choice (slice_range a start end) choice (slice_range b start end) (drop after a) (drop after a) (drop after b) (drop after b) middle
     (all_kept (drop after a) (drop after b) back)) in
-    subst (λ x. AreSameChanges (written a start piece) x (written b start piece) b) split_a
-    (subst (λ y. AreSameChanges (written a start piece) (take start a ++ (slice_range a start end ++ drop (start + length piece) a)) (written b start piece) y)
+    subst (λ x. AreSameChanges (written a start choice) x (written b start choice) b) split_a
+    (subst (λ y. AreSameChanges (written a start choice) (take start a ++ (slice_range a start end ++ drop (start + length choice) a)) (written b start choice) y)
     split_b whole)
 
 -- ---- what is left of a combination
 
-changed_by : (check : Check) (a b : List ℕ) (start end : ℕ) (piece : List ℕ) → length a ≡ length b → start + length piece ≡ end → end ≤ length b
+changed_by : (check : Check) (a b : List ℕ) (start end : ℕ) (choice : List ℕ) → length a ≡ length b → start + length choice ≡ end → end ≤ length b
     → slice_range a start end ≡ slice_range b start end
-    → bit_xor (remainder_in check a) (change_of check b start piece) ≡ remainder_in check (written a start piece)
-changed_by check a b start end piece long ends within same =
+    → bit_xor (remainder_in check a) (change_of check b start choice) ≡ remainder_in check (written a start choice)
+changed_by check a b start end choice long ends within same =
     ap (bit_xor (remainder_in check a))
-    (sym (same_changes check (written a start piece) a (written b start piece) b (change_alike a b start end piece long ends within same)))
-    ∙ xor_comm (remainder_in check a) (change_of check a start piece)
-    ∙ xor_twice (remainder_in check (written a start piece)) (remainder_in check a)
+    (sym (same_changes check (written a start choice) a (written b start choice) b (change_alike a b start end choice long ends within same)))
+    ∙ xor_comm (remainder_in check a) (change_of check a start choice)
+    ∙ xor_twice (remainder_in check (written a start choice)) (remainder_in check a)
 
 module _ (check : Check) (grain : Grain) (versions : List (List ℕ)) (first : List ℕ) where
   pub changed_is : (from : ℕ) (parts : List Part) (code : ℕ) (bytes : List ℕ) → ArePartsFrom grain versions from parts → All (IsFit (length bytes)) parts
@@ -85,44 +85,44 @@ module _ (check : Check) (grain : Grain) (versions : List (List ℕ)) (first : L
   changed_is from [] code bytes are fit long same = refl
   changed_is from (part ∷ parts) code bytes are fit long same =
       let head = fit_head (length bytes) part parts fit in
-      let n : ℕ = length part.pieces in
+      let n : ℕ = length part.choices in
       let digit = digit_below (length bytes) part head code in
-      let piece : List ℕ = piece_of part (code % n) in
+      let choice : List ℕ = choice_of part (code % n) in
       let fits = fits_in (length bytes) part parts fit (code % n) digit in
-      let ends = piece_size (length bytes) part head (code % n) digit in
+      let ends = choice_size (length bytes) part head (code % n) digit in
       let beyond = are.0.beyond in
       let some = part_some grain versions part.start part.end are.0.part in
       let within = head.within in
-      let many : length (changes_of check first part) ≡ n = length-map part.pieces (change_of check first part.start) in
-      let entry : get_or (changes_of check first part) (code % n) 0 ≡ change_of check first part.start piece =
-      get_or-map (change_of check first part.start) part.pieces (code % n) [] 0 digit in
+      let many : length (changes_of check first part) ≡ n = length-map part.choices (change_of check first part.start) in
+      let entry : get_or (changes_of check first part) (code % n) 0 ≡ change_of check first part.start choice =
+      get_or-map (change_of check first part.start) part.choices (code % n) [] 0 digit in
       let here : slice_range bytes part.start part.end ≡ slice_range first part.start part.end =
       same_range bytes first part.start part.end within (omega arith) (λ i low below. same i (omega arith)) in
       ap (λ m. changed (map (changes_of check first) parts) (code / m) (bit_xor (remainder_in check bytes) (get_or (changes_of check first part) (code % m) 0))) many
       ∙ ap (λ x. changed (map (changes_of check first) parts) (code / n) (bit_xor (remainder_in check bytes) x)) entry
-      ∙ ap (changed (map (changes_of check first) parts) (code / n)) (changed_by check bytes first part.start part.end piece long ends (omega arith) here)
-      ∙ changed_is part.end parts (code / n) (written bytes part.start piece) are.2
-      (fit_as (length (written bytes part.start piece)) (length bytes) parts (length-written bytes part.start piece fits)
+      ∙ ap (changed (map (changes_of check first) parts) (code / n)) (changed_by check bytes first part.start part.end choice long ends (omega arith) here)
+      ∙ changed_is part.end parts (code / n) (written bytes part.start choice) are.2
+      (fit_as (length (written bytes part.start choice)) (length bytes) parts (length-written bytes part.start choice fits)
       (fit_tail (length bytes) part parts fit))
-      (length-written bytes part.start piece fits ∙ long)
-      (λ i low. written_after bytes part.start piece fits i (omega arith) ∙ same i (omega arith))
+      (length-written bytes part.start choice fits ∙ long)
+      (λ i low. written_after bytes part.start choice fits i (omega arith) ∙ same i (omega arith))
 
 -- ---- the choices of a part, as the code has them
 
-pub piece_there : (pieces : List (Bor (List ℕ))) (part : Part) (i : ℕ) (d : Bor (List ℕ)) → values_of pieces ≡ part.pieces → i < length pieces
-    → (i < length part.pieces) × ((get_or pieces i d).now ≡ piece_of part i)
-piece_there pieces part i d is lt =
-    (omega (arith, length-values_of pieces, ap length is), sym (value_at pieces i d [] lt) ∙ ap (λ ps. get_or ps i []) is)
+pub choice_there : (choices : List (Bor (List ℕ))) (part : Part) (i : ℕ) (d : Bor (List ℕ)) → values_of choices ≡ part.choices → i < length choices
+    → (i < length part.choices) × ((get_or choices i d).now ≡ choice_of part i)
+choice_there choices part i d is lt =
+    (omega (arith, length-values_of choices, ap length is), sym (value_at choices i d [] lt) ∙ ap (λ ps. get_or ps i []) is)
 
-pub changes_more : (check : Check) (first : List ℕ) (part : Part) (i : ℕ) → i < length part.pieces
-    → take i (changes_of check first part) ++ change_of check first part.start (piece_of part i) ∷ [] ≡ take (i + 1) (changes_of check first part)
+pub changes_more : (check : Check) (first : List ℕ) (part : Part) (i : ℕ) → i < length part.choices
+    → take i (changes_of check first part) ++ change_of check first part.start (choice_of part i) ∷ [] ≡ take (i + 1) (changes_of check first part)
 changes_more check first part i lt =
-    ap (λ x. take i (changes_of check first part) ++ x ∷ []) (sym (get_or-map (change_of check first part.start) part.pieces i [] 0 lt))
-    ∙ sym (take_more (changes_of check first part) i 0 (omega (arith, length-map part.pieces (change_of check first part.start))))
+    ap (λ x. take i (changes_of check first part) ++ x ∷ []) (sym (get_or-map (change_of check first part.start) part.choices i [] 0 lt))
+    ∙ sym (take_more (changes_of check first part) i 0 (omega (arith, length-map part.choices (change_of check first part.start))))
 
 pub changes_some : (check : Check) (size : ℕ) (first : List ℕ) (parts : List Part) → All (IsFit size) parts
     → All (λ changes. 0 < length changes) (map (changes_of check first) parts)
 changes_some check size first parts fit =
     All-map (λ changes. 0 < length changes) (changes_of check first) parts
     (All-weaker (IsFit size) (λ part. 0 < length (changes_of check first part))
-    (λ part one. let some = one.some in omega (arith, length-map part.pieces (change_of check first part.start))) parts fit)
+    (λ part one. let some = one.some in omega (arith, length-map part.choices (change_of check first part.start))) parts fit)

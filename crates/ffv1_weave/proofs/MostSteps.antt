@@ -9,22 +9,22 @@ use Rattle.std.proofs.lemmas.List.Edits.{length-between}
 use Rattle.std.proofs.lemmas.List.Elements.{Contains-append_left, Contains-append_right, Contains-append_cases, Contains-get_or}
 use Rattle.std.proofs.lemmas.Slice.Eq.{bytes_eq-Decides}
 use Rattle.ffv1_weave.specs.Numbers.{AreNumbered}
-use Rattle.ffv1_weave.specs.Grains.{IsPieceOf, IsPieceBy, HasPiece, IsMost}
+use Rattle.ffv1_weave.specs.Grains.{IsChoiceOf, IsChoiceBy, HasChoice, IsMost}
 use Rattle.ffv1_weave.specs.Regions.{HaveLength}
-use Rattle.ffv1_weave.specs.Parts.{ArePieces, ArePiecesBy, AreDistinct, IsFit}
+use Rattle.ffv1_weave.specs.Parts.{AreChoices, AreChoicesBy, AreDistinct, IsFit}
 use Rattle.ffv1_weave.specs.declared.grains.Grain.{Grain}
 use Rattle.ffv1_weave.specs.declared.grains.Grain.TheVariants.{Pairs, Regions, Most}
-use Rattle.ffv1_weave.proofs.PieceSteps.{alone}
+use Rattle.ffv1_weave.proofs.ChoiceSteps.{alone}
 use Rattle.ffv1_weave.proofs.Numbering.{one_number}
 use Rattle.ffv1_weave.proofs.Agreeing.{at_index}
 use Rattle.ffv1_weave.proofs.NextSegment.{one_or_none}
 
 -- what is taken in a part some version has there
-pub piece_of_some : (grain : Grain) (versions : List (List ℕ)) (start end : ℕ) (piece : List ℕ) → IsPieceBy grain versions start end piece
-    → IsPieceOf versions start end piece
-piece_of_some (Pairs distance) versions start end piece h = h
-piece_of_some Regions versions start end piece h = h
-piece_of_some (Most distance) versions start end piece h = h.0
+pub choice_of_some : (grain : Grain) (versions : List (List ℕ)) (start end : ℕ) (choice : List ℕ) → IsChoiceBy grain versions start end choice
+    → IsChoiceOf versions start end choice
+choice_of_some (Pairs distance) versions start end choice h = h
+choice_of_some Regions versions start end choice h = h
+choice_of_some (Most distance) versions start end choice h = h.0
 
 -- ---- whether byte strings are the same
 
@@ -36,16 +36,16 @@ same_or_not one other = elim (bytes_eq one other) as (λ b. Decides b (one ≡ o
 
 -- ---- one version more
 
-module _ (start end : ℕ) (piece : List ℕ) (versions : List (List ℕ)) (version : List ℕ) where
-  has_left : (other : List ℕ) → HasPiece versions start end piece other → HasPiece (versions ++ version ∷ []) start end piece other
+module _ (start end : ℕ) (choice : List ℕ) (versions : List (List ℕ)) (version : List ℕ) where
+  has_left : (other : List ℕ) → HasChoice versions start end choice other → HasChoice (versions ++ version ∷ []) start end choice other
   has_left other h = record { there = Contains-append_left versions (version ∷ []) other h.there; has = h.has }
 
-  has_last : piece ≡ slice_range version start end → HasPiece (versions ++ version ∷ []) start end piece version
+  has_last : choice ≡ slice_range version start end → HasChoice (versions ++ version ∷ []) start end choice version
   has_last is = record { there = Contains-append_right versions (version ∷ []) version (0, omega arith, refl); has = is }
 
   -- none has the byte string who did not before
-  pub have_same : (count : ℕ) → (piece ≡ slice_range version start end → Contains versions version) → AreNumbered (HasPiece versions start end piece) count
-      → AreNumbered (HasPiece (versions ++ version ∷ []) start end piece) count
+  pub have_same : (count : ℕ) → (choice ≡ slice_range version start end → Contains versions version) → AreNumbered (HasChoice versions start end choice) count
+      → AreNumbered (HasChoice (versions ++ version ∷ []) start end choice) count
   have_same count known h =
       record {
         at = h.at;
@@ -66,13 +66,13 @@ module _ (start end : ℕ) (piece : List ℕ) (versions : List (List ℕ)) (vers
   at_more at count k (inr above) = version
 
   -- one has it who was not among them
-  pub have_more : (count : ℕ) → (Contains versions version → ⊥) → piece ≡ slice_range version start end → AreNumbered (HasPiece versions start end piece) count
-      → AreNumbered (HasPiece (versions ++ version ∷ []) start end piece) (count + 1)
+  pub have_more : (count : ℕ) → (Contains versions version → ⊥) → choice ≡ slice_range version start end → AreNumbered (HasChoice versions start end choice) count
+      → AreNumbered (HasChoice (versions ++ version ∷ []) start end choice) (count + 1)
   unfolding at_more
   have_more count new is h =
       record {
         at = λ k. at_more h.at count k (cases_lt k count);
-        are = λ k lt. elim (cases_lt k count) as (λ c. HasPiece (versions ++ version ∷ []) start end piece (at_more h.at count k c)) [
+        are = λ k lt. elim (cases_lt k count) as (λ c. HasChoice (versions ++ version ∷ []) start end choice (at_more h.at count k c)) [
           | inl below ↦ has_left (h.at k) (h.are k below)
           | inr above ↦ has_last is
         ];
@@ -102,8 +102,8 @@ module _ (start end : ℕ) (piece : List ℕ) (versions : List (List ℕ)) (vers
       once_more j k (inr j_above) (inl k_below) low lt same = absurd (apart k k_below (sym same))
       once_more j k (inr j_above) (inr k_above) low lt same = omega arith
 
-pub have_none : (start end : ℕ) (piece : List ℕ) → AreNumbered (HasPiece [] start end piece) 0
-have_none start end piece =
+pub have_none : (start end : ℕ) (choice : List ℕ) → AreNumbered (HasChoice [] start end choice) 0
+have_none start end choice =
     record {
       at = λ k. [];
       are = λ k lt. absurd (omega arith);
@@ -132,49 +132,49 @@ contains_or_not versions version = elim (one_or_none versions (λ other. other �
 
 module _ (versions : List (List ℕ)) (start end : ℕ) where
   -- the numbers of the versions so far that have a byte string
-  count_first : (piece : List ℕ) (n : ℕ) → n ≤ length versions → (count : ℕ) × AreNumbered (HasPiece (take n versions) start end piece) count
-  count_first piece zero within = (0, have_none start end piece)
-  count_first piece (suc n) within =
-      let rest = count_first piece n (omega arith) in
+  count_first : (choice : List ℕ) (n : ℕ) → n ≤ length versions → (count : ℕ) × AreNumbered (HasChoice (take n versions) start end choice) count
+  count_first choice zero within = (0, have_none start end choice)
+  count_first choice (suc n) within =
+      let rest = count_first choice n (omega arith) in
       let version : List ℕ = get_or versions n [] in
       let next : take n versions ++ version ∷ [] ≡ take (suc n) versions =
       sym (take_more versions n [] (omega arith)) ∙ (let more : n + 1 ≡ suc n = omega arith in ap (λ m. take m versions) more) in
-      elim (same_or_not piece (slice_range version start end)) [
+      elim (same_or_not choice (slice_range version start end)) [
         | inr apart ↦ (
           rest.0,
-          subst (λ vs. AreNumbered (HasPiece vs start end piece) rest.0) next
-              (have_same start end piece (take n versions) version rest.0 (λ is. absurd (apart is)) rest.1),
+          subst (λ vs. AreNumbered (HasChoice vs start end choice) rest.0) next
+              (have_same start end choice (take n versions) version rest.0 (λ is. absurd (apart is)) rest.1),
         )
         | inl is ↦ elim (contains_or_not (take n versions) version) [
           | inl known ↦ (
             rest.0,
-            subst (λ vs. AreNumbered (HasPiece vs start end piece) rest.0) next
-                (have_same start end piece (take n versions) version rest.0 (λ _. known) rest.1),
+            subst (λ vs. AreNumbered (HasChoice vs start end choice) rest.0) next
+                (have_same start end choice (take n versions) version rest.0 (λ _. known) rest.1),
           )
           | inr new ↦ (
             rest.0 + 1,
-            subst (λ vs. AreNumbered (HasPiece vs start end piece) (rest.0 + 1)) next
-                (have_more start end piece (take n versions) version rest.0 new is rest.1),
+            subst (λ vs. AreNumbered (HasChoice vs start end choice) (rest.0 + 1)) next
+                (have_more start end choice (take n versions) version rest.0 new is rest.1),
           )
         ]
       ]
 
   -- For each byte string there is a number of versions that have it.
-  pub count_all : (piece : List ℕ) → (count : ℕ) × AreNumbered (HasPiece versions start end piece) count
-  count_all piece =
-      let all = count_first piece (length versions) (omega arith) in
-      (all.0, subst (λ vs. AreNumbered (HasPiece vs start end piece) all.0) (take_all (length versions) versions (omega arith)) all.1)
+  pub count_all : (choice : List ℕ) → (count : ℕ) × AreNumbered (HasChoice versions start end choice) count
+  count_all choice =
+      let all = count_first choice (length versions) (omega arith) in
+      (all.0, subst (λ vs. AreNumbered (HasChoice vs start end choice) all.0) (take_all (length versions) versions (omega arith)) all.1)
 
   -- ---- what most have
 
   abbrev pub votes_for : List ℕ → ℕ
-  votes_for piece = (count_all piece).0
+  votes_for choice = (count_all choice).0
 
   -- It is enough to look at what the versions have.
-  pub most_of : (piece : List ℕ) (count : ℕ) → AreNumbered (HasPiece versions start end piece) count
-      → ((version : List ℕ) (more : ℕ) → Contains versions version → AreNumbered (HasPiece versions start end (slice_range version start end)) more → more ≤ count)
-      → IsMost versions start end piece
-  most_of piece count have least =
+  pub most_of : (choice : List ℕ) (count : ℕ) → AreNumbered (HasChoice versions start end choice) count
+      → ((version : List ℕ) (more : ℕ) → Contains versions version → AreNumbered (HasChoice versions start end (slice_range version start end)) more → more ≤ count)
+      → IsMost versions start end choice
+  most_of choice count have least =
       record {
         count = count;
         have = have;
@@ -182,7 +182,7 @@ module _ (versions : List (List ℕ)) (start end : ℕ) where
           | inr none ↦ omega arith
           | inl some ↦
               let has = numbers.are 0 some in
-              least (numbers.at 0) more has.there (subst (λ p. AreNumbered (HasPiece versions start end p) more) has.has numbers)
+              least (numbers.at 0) more has.there (subst (λ p. AreNumbered (HasChoice versions start end p) more) has.has numbers)
         ];
       }
 
@@ -228,7 +228,7 @@ module _ (versions : List (List ℕ)) (start end : ℕ) where
         first.there,
         most_of (slice_range first.version start end) have.0 have.1 (λ version more there numbers.
             let here = count_all (slice_range version start end) in
-            let same : more ≡ here.0 = one_number (HasPiece versions start end (slice_range version start end)) more here.0 numbers here.1 in
+            let same : more ≡ here.0 = one_number (HasChoice versions start end (slice_range version start end)) more here.0 numbers here.1 in
             let low : here.0 ≤ have.0 =
             subst (λ v. votes_for (slice_range v start end) ≤ have.0) (at_index versions version there) (first.greatest there.0 there.1) in
             omega arith),
@@ -237,7 +237,7 @@ module _ (versions : List (List ℕ)) (start end : ℕ) where
 -- ---- what can be taken in a part
 
 -- something can be taken
-pub some_taken : (grain : Grain) (versions : List (List ℕ)) (start end : ℕ) → 0 < length versions → (piece : List ℕ) × IsPieceBy grain versions start end piece
+pub some_taken : (grain : Grain) (versions : List (List ℕ)) (start end : ℕ) → 0 < length versions → (choice : List ℕ) × IsChoiceBy grain versions start end choice
 some_taken (Pairs distance) versions start end some =
     (slice_range (get_or versions 0 []) start end, (get_or versions 0 [], Contains-get_or versions 0 [] some, refl))
 some_taken Regions versions start end some =
@@ -247,42 +247,42 @@ some_taken (Most distance) versions start end some =
     (slice_range most.0 start end, ((most.0, most.1, refl), most.2))
 
 module _ (grain : Grain) (start end : ℕ) where
-  pub pieces_fit : (versions pieces : List (List ℕ)) (size : ℕ) → HaveLength versions size → 0 < length versions → start ≤ end → end ≤ size
-      → ArePiecesBy grain versions start end pieces → IsFit size (record { start = start; end = end; pieces = pieces })
-  pieces_fit versions pieces size long some order within h =
+  pub choices_fit : (versions choices : List (List ℕ)) (size : ℕ) → HaveLength versions size → 0 < length versions → start ≤ end → end ≤ size
+      → AreChoicesBy grain versions start end choices → IsFit size (record { start = start; end = end; choices = choices })
+  choices_fit versions choices size long some order within h =
       record {
         order = order;
         within = within;
         some = let taken = some_taken grain versions start end some in let there = h.each taken.0 taken.1 in omega (arith, there.1);
-        fill = λ k lt. let p = piece_of_some grain versions start end (get_or pieces k []) (h.only k lt) in
+        fill = λ k lt. let p = choice_of_some grain versions start end (get_or choices k []) (h.only k lt) in
             ap length p.2 ∙ length-between p.0 start end (omega (arith, long p.0 p.1));
       }
 
-module _ (versions : List (List ℕ)) (start end : ℕ) (pieces : List (List ℕ)) (are : ArePieces versions start end pieces) where
-  of_some : (piece : List ℕ) → IsPieceOf versions start end piece → Contains pieces piece
-  of_some piece h = subst (Contains pieces) (sym h.2) (are.each h.0 h.1)
+module _ (versions : List (List ℕ)) (start end : ℕ) (choices : List (List ℕ)) (are : AreChoices versions start end choices) where
+  of_some : (choice : List ℕ) → IsChoiceOf versions start end choice → Contains choices choice
+  of_some choice h = subst (Contains choices) (sym h.2) (are.each h.0 h.1)
 
   -- all that versions have, where that is what can be taken
-  pub pieces_of_pairs : (distance : ℕ) → ArePiecesBy (Pairs distance) versions start end pieces
-  pieces_of_pairs distance = record { each = of_some; only = are.only; once = are.once }
+  pub choices_of_pairs : (distance : ℕ) → AreChoicesBy (Pairs distance) versions start end choices
+  choices_of_pairs distance = record { each = of_some; only = are.only; once = are.once }
 
-  pub pieces_of_regions : ArePiecesBy Regions versions start end pieces
-  pieces_of_regions = record { each = of_some; only = are.only; once = are.once }
+  pub choices_of_regions : AreChoicesBy Regions versions start end choices
+  choices_of_regions = record { each = of_some; only = are.only; once = are.once }
 
 -- ---- what most have, of the byte strings so far
 
 -- so many versions have the byte string
 abbrev pub Have : List (List ℕ) → (start end : ℕ) → List ℕ → ℕ → Type 0
-Have versions start end piece count = AreNumbered (HasPiece versions start end piece) count
+Have versions start end choice count = AreNumbered (HasChoice versions start end choice) count
 
-module _ (versions : List (List ℕ)) (start end : ℕ) (pieces : List (List ℕ)) where
+module _ (versions : List (List ℕ)) (start end : ℕ) (choices : List (List ℕ)) where
   -- Of the first byte strings these are all that so many versions have, and more have none of them.
   pub record AreMostSoFar (i : ℕ) (most : List (List ℕ)) (greatest : ℕ) : Type 0 where
-    pub within : i ≤ length pieces
-    pub least : (k count : ℕ) → k < i → Have versions start end (get_or pieces k []) count → count ≤ greatest
-    pub reached : (greatest ≡ 0) ⊎ ((piece : List ℕ) × Have versions start end piece greatest)
-    pub each : (k : ℕ) → k < i → Have versions start end (get_or pieces k []) greatest → Contains most (get_or pieces k [])
-    pub only : (k : ℕ) → k < length most → (j : ℕ) × (j < i) × (get_or most k [] ≡ get_or pieces j []) × Have versions start end (get_or pieces j []) greatest
+    pub within : i ≤ length choices
+    pub least : (k count : ℕ) → k < i → Have versions start end (get_or choices k []) count → count ≤ greatest
+    pub reached : (greatest ≡ 0) ⊎ ((choice : List ℕ) × Have versions start end choice greatest)
+    pub each : (k : ℕ) → k < i → Have versions start end (get_or choices k []) greatest → Contains most (get_or choices k [])
+    pub only : (k : ℕ) → k < length most → (j : ℕ) × (j < i) × (get_or most k [] ≡ get_or choices j []) × Have versions start end (get_or choices j []) greatest
     pub once : (j k : ℕ) → j < length most → k < length most → get_or most j [] ≡ get_or most k [] → j ≡ k
 
   pub most_none : AreMostSoFar 0 [] 0
@@ -296,15 +296,15 @@ module _ (versions : List (List ℕ)) (start end : ℕ) (pieces : List (List ℕ
         once = λ j k low lt same. absurd (omega arith);
       }
 
-module _ (versions : List (List ℕ)) (start end : ℕ) (pieces : List (List ℕ)) (are : ArePieces versions start end pieces) where
-  module _ (i : ℕ) (most : List (List ℕ)) (greatest count : ℕ) (lt_i : i < length pieces) (have : Have versions start end (get_or pieces i []) count)
-      (h : AreMostSoFar versions start end pieces i most greatest) where
-    same_count : (k other : ℕ) → k ≡ i → Have versions start end (get_or pieces k []) other → other ≡ count
+module _ (versions : List (List ℕ)) (start end : ℕ) (choices : List (List ℕ)) (are : AreChoices versions start end choices) where
+  module _ (i : ℕ) (most : List (List ℕ)) (greatest count : ℕ) (lt_i : i < length choices) (have : Have versions start end (get_or choices i []) count)
+      (h : AreMostSoFar versions start end choices i most greatest) where
+    same_count : (k other : ℕ) → k ≡ i → Have versions start end (get_or choices k []) other → other ≡ count
     same_count k other is numbers =
-        one_number (HasPiece versions start end (get_or pieces i [])) other count (subst (λ n. Have versions start end (get_or pieces n []) other) is numbers) have
+        one_number (HasChoice versions start end (get_or choices i [])) other count (subst (λ n. Have versions start end (get_or choices n []) other) is numbers) have
 
     -- fewer have the next one
-    pub most_fewer : count < greatest → AreMostSoFar versions start end pieces (i + 1) most greatest
+    pub most_fewer : count < greatest → AreMostSoFar versions start end choices (i + 1) most greatest
     most_fewer less =
         record {
           within = omega arith;
@@ -322,7 +322,7 @@ module _ (versions : List (List ℕ)) (start end : ℕ) (pieces : List (List ℕ
         }
 
     -- more have it
-    pub most_more : greatest < count → AreMostSoFar versions start end pieces (i + 1) (get_or pieces i [] ∷ []) count
+    pub most_more : greatest < count → AreMostSoFar versions start end choices (i + 1) (get_or choices i [] ∷ []) count
     most_more more =
         record {
           within = omega arith;
@@ -330,18 +330,18 @@ module _ (versions : List (List ℕ)) (start end : ℕ) (pieces : List (List ℕ
             | inl below ↦ let low = h.least k other below numbers in omega arith
             | inr above ↦ let same = same_count k other (omega arith) numbers in omega arith
           ];
-          reached = inr (get_or pieces i [], have);
+          reached = inr (get_or choices i [], have);
           each = λ k lt numbers. elim (cases_lt k i) [
             | inl below ↦ let low = h.least k count below numbers in absurd (omega arith)
-            | inr above ↦ let here : k ≡ i = omega arith in (0, omega arith, ap (λ n. get_or pieces n []) (sym here))
+            | inr above ↦ let here : k ≡ i = omega arith in (0, omega arith, ap (λ n. get_or choices n []) (sym here))
           ];
           only = λ k lt. let first : k ≡ 0 = omega arith in
-              (i, omega arith, ap (λ n. get_or (get_or pieces i [] ∷ []) n []) first, have);
+              (i, omega arith, ap (λ n. get_or (get_or choices i [] ∷ []) n []) first, have);
           once = λ j k low lt same. omega arith;
         }
 
     -- as many have it
-    pub most_too : count ≡ greatest → AreMostSoFar versions start end pieces (i + 1) (most ++ get_or pieces i [] ∷ []) greatest
+    pub most_too : count ≡ greatest → AreMostSoFar versions start end choices (i + 1) (most ++ get_or choices i [] ∷ []) greatest
     most_too as_many =
         record {
           within = omega arith;
@@ -351,36 +351,36 @@ module _ (versions : List (List ℕ)) (start end : ℕ) (pieces : List (List ℕ
           ];
           reached = h.reached;
           each = λ k lt numbers. elim (cases_lt k i) [
-            | inl below ↦ Contains-append_left most (piece ∷ []) (get_or pieces k []) (h.each k below numbers)
+            | inl below ↦ Contains-append_left most (choice ∷ []) (get_or choices k []) (h.each k below numbers)
             | inr above ↦ let here : k ≡ i = omega arith in
-                Contains-append_right most (piece ∷ []) (get_or pieces k []) (0, omega arith, ap (λ n. get_or pieces n []) (sym here))
+                Contains-append_right most (choice ∷ []) (get_or choices k []) (0, omega arith, ap (λ n. get_or choices n []) (sym here))
           ];
           only = λ k lt. elim (cases_lt k (length most)) [
             | inl below ↦ let of = h.only k below in (of.0, (let low = of.1 in omega arith), at_left k below ∙ of.2, of.3)
-            | inr above ↦ (i, omega arith, at_last k (omega (arith, length_push most piece)), subst (Have versions start end piece) as_many have)
+            | inr above ↦ (i, omega arith, at_last k (omega (arith, length_push most choice)), subst (Have versions start end choice) as_many have)
           ];
           once = λ j k low lt same. elim (cases_lt j (length most)) [
             | inl j_below ↦ elim (cases_lt k (length most)) [
               | inl k_below ↦ h.once j k j_below k_below (sym (at_left j j_below) ∙ same ∙ at_left k k_below)
-              | inr k_above ↦ absurd (apart j j_below (sym (at_left j j_below) ∙ same ∙ at_last k (omega (arith, length_push most piece))))
+              | inr k_above ↦ absurd (apart j j_below (sym (at_left j j_below) ∙ same ∙ at_last k (omega (arith, length_push most choice))))
             ]
             | inr j_above ↦ elim (cases_lt k (length most)) [
-              | inl k_below ↦ absurd (apart k k_below (sym (at_left k k_below) ∙ sym same ∙ at_last j (omega (arith, length_push most piece))))
-              | inr k_above ↦ omega (arith, length_push most piece)
+              | inl k_below ↦ absurd (apart k k_below (sym (at_left k k_below) ∙ sym same ∙ at_last j (omega (arith, length_push most choice))))
+              | inr k_above ↦ omega (arith, length_push most choice)
             ]
           ];
         }
       where
-        piece : List ℕ
-        piece = get_or pieces i []
+        choice : List ℕ
+        choice = get_or choices i []
 
-        at_left : (k : ℕ) → k < length most → get_or (most ++ get_or pieces i [] ∷ []) k [] ≡ get_or most k []
-        at_left k lt = get_or_append_left most (get_or pieces i [] ∷ []) [] k lt
+        at_left : (k : ℕ) → k < length most → get_or (most ++ get_or choices i [] ∷ []) k [] ≡ get_or most k []
+        at_left k lt = get_or_append_left most (get_or choices i [] ∷ []) [] k lt
 
-        at_last : (k : ℕ) → k ≡ length most → get_or (most ++ get_or pieces i [] ∷ []) k [] ≡ get_or pieces i []
-        at_last k is = get_or_push most (get_or pieces i []) [] k (sym is)
+        at_last : (k : ℕ) → k ≡ length most → get_or (most ++ get_or choices i [] ∷ []) k [] ≡ get_or choices i []
+        at_last k is = get_or_push most (get_or choices i []) [] k (sym is)
 
-        apart : (k : ℕ) → k < length most → get_or most k [] ≡ get_or pieces i [] → ⊥
+        apart : (k : ℕ) → k < length most → get_or most k [] ≡ get_or choices i [] → ⊥
         apart k lt is =
             let of = h.only k lt in
             let low = of.1 in
@@ -388,13 +388,13 @@ module _ (versions : List (List ℕ)) (start end : ℕ) (pieces : List (List ℕ
             omega arith
 
   -- Of all byte strings these are what most have.
-  pub most_all : (i : ℕ) (most : List (List ℕ)) (greatest distance : ℕ) → length pieces ≤ i → AreMostSoFar versions start end pieces i most greatest
-      → ArePiecesBy (Most distance) versions start end most
+  pub most_all : (i : ℕ) (most : List (List ℕ)) (greatest distance : ℕ) → length choices ≤ i → AreMostSoFar versions start end choices i most greatest
+      → AreChoicesBy (Most distance) versions start end most
   most_all i most greatest distance whole h =
       record {
-        each = λ piece taken.
-            let here = of_some versions start end pieces are piece taken.0 in
-            let is : get_or pieces here.0 [] ≡ piece = get_or_default pieces here.0 [] piece here.1 ∙ here.2 in
+        each = λ choice taken.
+            let here = of_some versions start end choices are choice taken.0 in
+            let is : get_or choices here.0 [] ≡ choice = get_or_default choices here.0 [] choice here.1 ∙ here.2 in
             let low = h.least here.0 taken.1.count (omega (arith, here.1)) (subst (λ p. Have versions start end p taken.1.count) (sym is) taken.1.have) in
             let high : greatest ≤ taken.1.count = elim h.reached [
               | inl none ↦ omega arith
@@ -402,7 +402,7 @@ module _ (versions : List (List ℕ)) (start end : ℕ) (pieces : List (List ℕ
             ] in
             let same : taken.1.count ≡ greatest = omega arith in
             subst (Contains most) is
-            (h.each here.0 (omega (arith, here.1)) (subst (Have versions start end (get_or pieces here.0 [])) same (subst (λ p. Have versions start end p taken.1.count) (sym is) taken.1.have)));
+            (h.each here.0 (omega (arith, here.1)) (subst (Have versions start end (get_or choices here.0 [])) same (subst (λ p. Have versions start end p taken.1.count) (sym is) taken.1.have)));
         only = λ k lt.
             let of = h.only k lt in
             let low = of.1 in
@@ -411,7 +411,7 @@ module _ (versions : List (List ℕ)) (start end : ℕ) (pieces : List (List ℕ
               (some.0, some.1, of.2 ∙ some.2),
               most_of versions start end (get_or most k []) greatest have (λ version more there numbers.
                   let here = are.each version there in
-                  let is : get_or pieces here.0 [] ≡ slice_range version start end = get_or_default pieces here.0 [] (slice_range version start end) here.1 ∙ here.2 in
+                  let is : get_or choices here.0 [] ≡ slice_range version start end = get_or_default choices here.0 [] (slice_range version start end) here.1 ∙ here.2 in
                   h.least here.0 more (omega (arith, here.1)) (subst (λ p. Have versions start end p more) (sym is) numbers)),
             );
         once = h.once;

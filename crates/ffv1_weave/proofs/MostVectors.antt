@@ -2,7 +2,7 @@
 use Rattle.std.proofs.Common.{ℕ, zero, suc, ◌<◌, ◌≤◌, List, [], ◌∷◌, get_or, refl, sym, ap, subst, arith}
 use Rattle.std.specs.Prelude.{Contains, slice_range}
 use Rattle.ffv1_weave.specs.Numbers.{AreNumbered}
-use Rattle.ffv1_weave.specs.Grains.{HasPiece, IsMost}
+use Rattle.ffv1_weave.specs.Grains.{HasChoice, IsMost}
 use Rattle.ffv1_weave.proofs.Agreeing.{at_index}
 use Rattle.ffv1_weave.proofs.Numbering.{one_number}
 use Rattle.ffv1_weave.proofs.MostSteps.{have_none, have_same, have_more, most_of}
@@ -34,14 +34,14 @@ not_two (suc (suc k), lt, is) = omega arith
 -- ---- the second byte
 
 -- two have the 7
-have_seven : AreNumbered (HasPiece three 1 2 (7 ∷ [])) 2
+have_seven : AreNumbered (HasChoice three 1 2 (7 ∷ [])) 2
 have_seven =
     have_same 1 2 (7 ∷ []) (one ∷ other ∷ []) third 2 (λ is. let e = ap (λ z. get_or z 0 0) is in absurd (omega arith))
     (have_more 1 2 (7 ∷ []) (one ∷ []) other 1 not_one refl
     (have_more 1 2 (7 ∷ []) [] one 0 (none_there one) refl (have_none 1 2 (7 ∷ []))))
 
 -- one has the 8
-have_eight : AreNumbered (HasPiece three 1 2 (8 ∷ [])) 1
+have_eight : AreNumbered (HasChoice three 1 2 (8 ∷ [])) 1
 have_eight =
     have_more 1 2 (8 ∷ []) (one ∷ other ∷ []) third 0 not_two refl
     (have_same 1 2 (8 ∷ []) (one ∷ []) other 0 (λ is. let e = ap (λ z. get_or z 0 0) is in absurd (omega arith))
@@ -51,32 +51,32 @@ have_eight =
 pub seven_is_most : IsMost three 1 2 (7 ∷ [])
 seven_is_most = most_of three 1 2 (7 ∷ []) 2 have_seven least
   where
-    least : (version : List ℕ) (more : ℕ) → Contains three version → AreNumbered (HasPiece three 1 2 (slice_range version 1 2)) more → more ≤ 2
+    least : (version : List ℕ) (more : ℕ) → Contains three version → AreNumbered (HasChoice three 1 2 (slice_range version 1 2)) more → more ≤ 2
     least version more (zero, lt, is) numbers =
-        let same = one_number (HasPiece three 1 2 (7 ∷ [])) more 2
-        (subst (λ v. AreNumbered (HasPiece three 1 2 (slice_range v 1 2)) more) (sym is) numbers) have_seven in
+        let same = one_number (HasChoice three 1 2 (7 ∷ [])) more 2
+        (subst (λ v. AreNumbered (HasChoice three 1 2 (slice_range v 1 2)) more) (sym is) numbers) have_seven in
         omega arith
     least version more (suc zero, lt, is) numbers =
-        let same = one_number (HasPiece three 1 2 (7 ∷ [])) more 2
-        (subst (λ v. AreNumbered (HasPiece three 1 2 (slice_range v 1 2)) more) (sym is) numbers) have_seven in
+        let same = one_number (HasChoice three 1 2 (7 ∷ [])) more 2
+        (subst (λ v. AreNumbered (HasChoice three 1 2 (slice_range v 1 2)) more) (sym is) numbers) have_seven in
         omega arith
     least version more (suc (suc zero), lt, is) numbers =
-        let same = one_number (HasPiece three 1 2 (8 ∷ [])) more 1
-        (subst (λ v. AreNumbered (HasPiece three 1 2 (slice_range v 1 2)) more) (sym is) numbers) have_eight in
+        let same = one_number (HasChoice three 1 2 (8 ∷ [])) more 1
+        (subst (λ v. AreNumbered (HasChoice three 1 2 (slice_range v 1 2)) more) (sym is) numbers) have_eight in
         omega arith
     least version more (suc (suc (suc k)), lt, is) numbers = absurd (omega arith)
 
 -- Most do not have the 8.
 pub eight_is_not_most : IsMost three 1 2 (8 ∷ []) → ⊥
 eight_is_not_most h =
-    let same = one_number (HasPiece three 1 2 (8 ∷ [])) h.count 1 h.have have_eight in
+    let same = one_number (HasChoice three 1 2 (8 ∷ [])) h.count 1 h.have have_eight in
     let more = h.others (7 ∷ []) 2 have_seven in
     omega arith
 
 -- ---- the first byte
 
 -- one version has each of them
-have_one : (k : ℕ) → k < 3 → AreNumbered (HasPiece three 0 1 (slice_range (get_or three k []) 0 1)) 1
+have_one : (k : ℕ) → k < 3 → AreNumbered (HasChoice three 0 1 (slice_range (get_or three k []) 0 1)) 1
 have_one zero lt =
     have_same 0 1 (1 ∷ []) (one ∷ other ∷ []) third 1 (λ is. let e = ap (λ z. get_or z 0 0) is in absurd (omega arith))
     (have_same 0 1 (1 ∷ []) (one ∷ []) other 1 (λ is. let e = ap (λ z. get_or z 0 0) is in absurd (omega arith))
@@ -94,6 +94,6 @@ have_one (suc (suc (suc k))) lt = absurd (omega arith)
 -- No byte is had by more versions than another, so most have each of the three.
 pub each_is_most : (k : ℕ) → k < 3 → IsMost three 0 1 (slice_range (get_or three k []) 0 1)
 each_is_most k lt = most_of three 0 1 (slice_range (get_or three k []) 0 1) 1 (have_one k lt) (λ version more there numbers.
-    let same = one_number (HasPiece three 0 1 (slice_range (get_or three there.0 []) 0 1)) more 1
-    (subst (λ v. AreNumbered (HasPiece three 0 1 (slice_range v 0 1)) more) (sym (at_index three version there)) numbers) (have_one there.0 there.1) in
+    let same = one_number (HasChoice three 0 1 (slice_range (get_or three there.0 []) 0 1)) more 1
+    (subst (λ v. AreNumbered (HasChoice three 0 1 (slice_range v 0 1)) more) (sym (at_index three version there)) numbers) (have_one there.0 there.1) in
     omega arith)

@@ -2,7 +2,7 @@
 use Rattle.std.proofs.Common.{◌≡◌, ℕ, ◌*◌, ◌/◌, ◌<◌, ◌≤◌, List, [], ◌∷◌, ◌++◌, length, refl, sym, ap, ◌∙◌, arith, inl, inr}
 use Rattle.std.proofs.Math.Nat.{le-div_iff_mul-le, mul_comm, mul_assoc, mul-lt-mul_of_pos_left}
 use Rattle.std.proofs.lemmas.Bool.{cases_lt}
-use Rattle.ffv1_weave.specs.Parts.{Part, ArePiecesBy, ArePartsFrom, IsPartFrom, parts_end, count_of}
+use Rattle.ffv1_weave.specs.Parts.{Part, AreChoicesBy, ArePartsFrom, IsPartFrom, parts_end, count_of}
 use Rattle.ffv1_weave.specs.declared.grains.Grain.{Grain}
 
 -- ---- one part more
@@ -13,17 +13,17 @@ parts_end_push from (other ∷ parts) part = parts_end_push other.end parts part
 
 module _ (grain : Grain) (versions : List (List ℕ)) where
   pub parts_push : (from : ℕ) (parts : List Part) (part : Part) → ArePartsFrom grain versions from parts
-      → IsPartFrom grain versions (parts_end from parts) part.start part.end → ArePiecesBy grain versions part.start part.end part.pieces
+      → IsPartFrom grain versions (parts_end from parts) part.start part.end → AreChoicesBy grain versions part.start part.end part.choices
       → ArePartsFrom grain versions from (parts ++ part ∷ [])
-  parts_push from [] part are next pieces = (next, pieces, tt)
-  parts_push from (other ∷ parts) part are next pieces = (are.0, are.1, parts_push other.end parts part are.2 next pieces)
+  parts_push from [] part are next choices = (next, choices, tt)
+  parts_push from (other ∷ parts) part are next choices = (are.0, are.1, parts_push other.end parts part are.2 next choices)
 
 -- ---- how many combinations
 
-pub count_push : (parts : List Part) (part : Part) → count_of (parts ++ part ∷ []) ≡ count_of parts * length part.pieces
+pub count_push : (parts : List Part) (part : Part) → count_of (parts ++ part ∷ []) ≡ count_of parts * length part.choices
 count_push [] part = omega arith
 count_push (other ∷ parts) part =
-    ap (λ n. length other.pieces * n) (count_push parts part) ∙ sym (mul_assoc (length other.pieces) (count_of parts) (length part.pieces))
+    ap (λ n. length other.choices * n) (count_push parts part) ∙ sym (mul_assoc (length other.choices) (count_of parts) (length part.choices))
 
 pub count_over : (count many most : ℕ) → 0 < count → most / count < many → most < count * many
 count_over count many most some over =

@@ -2,7 +2,7 @@
 use Rattle.std.proofs.Common.{◌≡◌, ℕ, ◌+◌, ◌-◌, ◌<◌, ◌≤◌, List, sym, subst, arith, inl, inr}
 use Rattle.std.proofs.lemmas.Bool.{cases_lt}
 use Rattle.ffv1_weave.specs.Regions.{AgreeAt, DifferAt, IsRegion}
-use Rattle.ffv1_weave.specs.declared.regions.TheConstants.{GAP}
+use Rattle.ffv1_weave.specs.declared.regions.TheConstants.{SEPARATION}
 
 -- ---- the end of a region
 
@@ -13,7 +13,7 @@ pub record IsEndSoFar (versions : List (List ℕ)) (start end place size : ℕ) 
   pub within : place ≤ size
   pub last : DifferAt versions (end - 1)
   pub quiet : (i : ℕ) → end ≤ i → i < place → AgreeAt versions i
-  pub dense : (i : ℕ) → start ≤ i → i + GAP ≤ end → (j : ℕ) × (i ≤ j) × (j < i + GAP) × DifferAt versions j
+  pub dense : (i : ℕ) → start ≤ i → i + SEPARATION ≤ end → (j : ℕ) × (i ≤ j) × (j < i + SEPARATION) × DifferAt versions j
 
 module _ (versions : List (List ℕ)) where
   pub end_begins : (start size : ℕ) → start < size → DifferAt versions start → IsEndSoFar versions start (start + 1) (start + 1) size
@@ -43,7 +43,7 @@ module _ (versions : List (List ℕ)) where
         dense = h.dense;
       }
 
-  pub end_moves : (start end place size : ℕ) → place < size → place < end + GAP → DifferAt versions place → IsEndSoFar versions start end place size
+  pub end_moves : (start end place size : ℕ) → place < size → place < end + SEPARATION → DifferAt versions place → IsEndSoFar versions start end place size
       → IsEndSoFar versions start (place + 1) (place + 1) size
   end_moves start end place size within near differ h =
       let order = h.order in
@@ -54,7 +54,7 @@ module _ (versions : List (List ℕ)) where
         within = omega arith;
         last = let same : place ≡ place + 1 - 1 = omega arith in subst (DifferAt versions) same differ;
         quiet = λ i low high. absurd (omega arith);
-        dense = λ i low high. elim (cases_lt end (i + GAP)) [
+        dense = λ i low high. elim (cases_lt end (i + SEPARATION)) [
           | inl far ↦ elim (cases_lt i end) [
             | inl below ↦ (end - 1, omega arith, omega arith, h.last)
             | inr above ↦ (place, omega arith, omega arith, differ)
@@ -68,9 +68,9 @@ module _ (versions : List (List ℕ)) where
   region_begins : (s e t f : ℕ) → IsRegion versions s e → IsRegion versions t f → s ≤ t → t < e → s ≡ t
   region_begins s e t f h k low high =
       elim (cases_lt s t) [
-        | inl below ↦ elim (cases_lt t (s + GAP)) [
+        | inl below ↦ elim (cases_lt t (s + SEPARATION)) [
           | inl near ↦ absurd (h.first (k.before s below (omega arith)))
-          | inr far ↦ let spot = h.within (t - GAP) (omega arith) (omega arith) in
+          | inr far ↦ let spot = h.within (t - SEPARATION) (omega arith) (omega arith) in
               let up = spot.1 in let down = spot.2 in
               absurd (spot.3 (k.before spot.0 (omega arith) (omega arith)))
         ]
@@ -80,7 +80,7 @@ module _ (versions : List (List ℕ)) where
   end_not_below : (s e f : ℕ) → IsRegion versions s e → IsRegion versions s f → e < f → ⊥
   end_not_below s e f h k below =
       let some = h.some in
-      elim (cases_lt (f - 1) (e + GAP)) [
+      elim (cases_lt (f - 1) (e + SEPARATION)) [
         | inl near ↦ k.last (h.after (f - 1) (omega arith) near)
         | inr far ↦ let spot = k.within e (omega arith) (omega arith) in
             spot.3 (h.after spot.0 spot.1 spot.2)

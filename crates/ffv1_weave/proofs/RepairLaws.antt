@@ -52,17 +52,17 @@ original_is_repaired original versions bytes count original_there h = sym (h.onl
 
 -- ---- what is returned for versions is right for others with the same members
 
-abbrev IsToldBy : List (List ℕ) → Option (Vec ℕ Global × ℕ) → Type 0
-IsToldBy versions found =
+abbrev IsTalliedBy : List (List ℕ) → Option (Vec ℕ Global × ℕ) → Type 0
+IsTalliedBy versions found =
     MatchOption found ((bytes : List ℕ) (count : ℕ) → IsRepairOf versions bytes count → ⊥) (λ (bytes, count). IsRepairOf versions bytes.items count)
 
 abbrev pub IsAnswered : List (List ℕ) → Result (Option (Vec ℕ Global × ℕ)) AllocError → Type 0
-IsAnswered versions answer = IfOk answer (IsToldBy versions)
+IsAnswered versions answer = IfOk answer (IsTalliedBy versions)
 
 module _ (versions others : List (List ℕ)) (same : HasSameMembers versions others) where
-  told_as : (found : Option (Vec ℕ Global × ℕ)) → IsToldBy versions found → IsToldBy others found
-  told_as None h = λ bytes count repair. h bytes count (repair_of_as others versions (same_back versions others same) bytes count repair)
-  told_as (Some repaired) h = repair_of_as versions others same repaired.0.items repaired.1 h
+  tallied_as : (found : Option (Vec ℕ Global × ℕ)) → IsTalliedBy versions found → IsTalliedBy others found
+  tallied_as None h = λ bytes count repair. h bytes count (repair_of_as others versions (same_back versions others same) bytes count repair)
+  tallied_as (Some repaired) h = repair_of_as versions others same repaired.0.items repaired.1 h
 
   pub answered_as : (answer : Result (Option (Vec ℕ Global × ℕ)) AllocError) → IsAnswered versions answer → IsAnswered others answer
-  answered_as answer h = IfOk-weaker answer (IsToldBy versions) (IsToldBy others) told_as h
+  answered_as answer h = IfOk-weaker answer (IsTalliedBy versions) (IsTalliedBy others) tallied_as h

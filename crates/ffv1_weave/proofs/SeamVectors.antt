@@ -6,11 +6,11 @@ use Rattle.ffv1_weave.specs.Regions.{HaveLength, DifferAt, IsRegion}
 use Rattle.ffv1_weave.specs.Seams.{IsSeam, IsSegment}
 use Rattle.ffv1_weave.specs.Checks.{PassesBy}
 use Rattle.ffv1_weave.specs.Combinations.{IsCombinationBy, IsCombination, IsTriedBy, IsValid}
-use Rattle.ffv1_weave.specs.Parts.{Part, ArePiecesBy, IsPartFrom, AreAllParts, IsFit}
+use Rattle.ffv1_weave.specs.Parts.{Part, AreChoicesBy, IsPartFrom, AreAllParts, IsFit}
 use Rattle.ffv1_weave.specs.declared.check.Check.{Check}
 use Rattle.ffv1_weave.specs.declared.grains.Grain.TheVariants.{Pairs}
 use Rattle.ffv1_weave.proofs.Agreeing.{agree_past, differ_from}
-use Rattle.ffv1_weave.proofs.MostSteps.{pieces_of_pairs}
+use Rattle.ffv1_weave.proofs.MostSteps.{choices_of_pairs}
 use Rattle.ffv1_weave.proofs.Choices.{numbered}
 use Rattle.ffv1_weave.proofs.Tried.{valid_by}
 
@@ -107,46 +107,46 @@ segments = (
 abbrev two : List (List ℕ)
 two = (1 ∷ []) ∷ (2 ∷ []) ∷ []
 
-each_piece : (place : ℕ) → place < 3 → (version : List ℕ) → Contains three version → Contains two (slice_range version place (place + 1))
+each_choice : (place : ℕ) → place < 3 → (version : List ℕ) → Contains three version → Contains two (slice_range version place (place + 1))
 unfolding three
-each_piece zero lt version (zero, low, is) = subst (λ v. Contains two (slice_range v 0 1)) is (1, omega arith, refl)
-each_piece zero lt version (suc zero, low, is) = subst (λ v. Contains two (slice_range v 0 1)) is (0, omega arith, refl)
-each_piece zero lt version (suc (suc zero), low, is) = subst (λ v. Contains two (slice_range v 0 1)) is (0, omega arith, refl)
-each_piece (suc zero) lt version (zero, low, is) = subst (λ v. Contains two (slice_range v 1 2)) is (0, omega arith, refl)
-each_piece (suc zero) lt version (suc zero, low, is) = subst (λ v. Contains two (slice_range v 1 2)) is (1, omega arith, refl)
-each_piece (suc zero) lt version (suc (suc zero), low, is) = subst (λ v. Contains two (slice_range v 1 2)) is (0, omega arith, refl)
-each_piece (suc (suc zero)) lt version (zero, low, is) = subst (λ v. Contains two (slice_range v 2 3)) is (0, omega arith, refl)
-each_piece (suc (suc zero)) lt version (suc zero, low, is) = subst (λ v. Contains two (slice_range v 2 3)) is (0, omega arith, refl)
-each_piece (suc (suc zero)) lt version (suc (suc zero), low, is) = subst (λ v. Contains two (slice_range v 2 3)) is (1, omega arith, refl)
-each_piece (suc (suc (suc place))) lt version there = absurd (omega arith)
-each_piece place lt version (suc (suc (suc k)), low, is) = absurd (omega arith)
+each_choice zero lt version (zero, low, is) = subst (λ v. Contains two (slice_range v 0 1)) is (1, omega arith, refl)
+each_choice zero lt version (suc zero, low, is) = subst (λ v. Contains two (slice_range v 0 1)) is (0, omega arith, refl)
+each_choice zero lt version (suc (suc zero), low, is) = subst (λ v. Contains two (slice_range v 0 1)) is (0, omega arith, refl)
+each_choice (suc zero) lt version (zero, low, is) = subst (λ v. Contains two (slice_range v 1 2)) is (0, omega arith, refl)
+each_choice (suc zero) lt version (suc zero, low, is) = subst (λ v. Contains two (slice_range v 1 2)) is (1, omega arith, refl)
+each_choice (suc zero) lt version (suc (suc zero), low, is) = subst (λ v. Contains two (slice_range v 1 2)) is (0, omega arith, refl)
+each_choice (suc (suc zero)) lt version (zero, low, is) = subst (λ v. Contains two (slice_range v 2 3)) is (0, omega arith, refl)
+each_choice (suc (suc zero)) lt version (suc zero, low, is) = subst (λ v. Contains two (slice_range v 2 3)) is (0, omega arith, refl)
+each_choice (suc (suc zero)) lt version (suc (suc zero), low, is) = subst (λ v. Contains two (slice_range v 2 3)) is (1, omega arith, refl)
+each_choice (suc (suc (suc place))) lt version there = absurd (omega arith)
+each_choice place lt version (suc (suc (suc k)), low, is) = absurd (omega arith)
 
-only_piece : (place : ℕ) → place < 3 → (k : ℕ) → k < 2
+only_choice : (place : ℕ) → place < 3 → (k : ℕ) → k < 2
     → (version : List ℕ) × Contains three version × (get_or two k [] ≡ slice_range version place (place + 1))
 unfolding three
-only_piece zero lt zero low = (1 ∷ 2 ∷ 1 ∷ [], second_there, refl)
-only_piece zero lt (suc zero) low = (2 ∷ 1 ∷ 1 ∷ [], first_there, refl)
-only_piece (suc zero) lt zero low = (2 ∷ 1 ∷ 1 ∷ [], first_there, refl)
-only_piece (suc zero) lt (suc zero) low = (1 ∷ 2 ∷ 1 ∷ [], second_there, refl)
-only_piece (suc (suc zero)) lt zero low = (2 ∷ 1 ∷ 1 ∷ [], first_there, refl)
-only_piece (suc (suc zero)) lt (suc zero) low = (1 ∷ 1 ∷ 2 ∷ [], third_there, refl)
-only_piece (suc (suc (suc place))) lt k low = absurd (omega arith)
-only_piece place lt (suc (suc k)) low = absurd (omega arith)
+only_choice zero lt zero low = (1 ∷ 2 ∷ 1 ∷ [], second_there, refl)
+only_choice zero lt (suc zero) low = (2 ∷ 1 ∷ 1 ∷ [], first_there, refl)
+only_choice (suc zero) lt zero low = (2 ∷ 1 ∷ 1 ∷ [], first_there, refl)
+only_choice (suc zero) lt (suc zero) low = (1 ∷ 2 ∷ 1 ∷ [], second_there, refl)
+only_choice (suc (suc zero)) lt zero low = (2 ∷ 1 ∷ 1 ∷ [], first_there, refl)
+only_choice (suc (suc zero)) lt (suc zero) low = (1 ∷ 1 ∷ 2 ∷ [], third_there, refl)
+only_choice (suc (suc (suc place))) lt k low = absurd (omega arith)
+only_choice place lt (suc (suc k)) low = absurd (omega arith)
 
-one_piece : (j k : ℕ) → j < 2 → k < 2 → get_or two j [] ≡ get_or two k [] → j ≡ k
-one_piece zero zero low lt same = refl
-one_piece (suc zero) (suc zero) low lt same = refl
-one_piece zero (suc zero) low lt same = let e = ap (λ z. get_or z 0 0) same in absurd (omega arith)
-one_piece (suc zero) zero low lt same = let e = ap (λ z. get_or z 0 0) same in absurd (omega arith)
-one_piece (suc (suc j)) k low lt same = absurd (omega arith)
-one_piece j (suc (suc k)) low lt same = absurd (omega arith)
+one_choice : (j k : ℕ) → j < 2 → k < 2 → get_or two j [] ≡ get_or two k [] → j ≡ k
+one_choice zero zero low lt same = refl
+one_choice (suc zero) (suc zero) low lt same = refl
+one_choice zero (suc zero) low lt same = let e = ap (λ z. get_or z 0 0) same in absurd (omega arith)
+one_choice (suc zero) zero low lt same = let e = ap (λ z. get_or z 0 0) same in absurd (omega arith)
+one_choice (suc (suc j)) k low lt same = absurd (omega arith)
+one_choice j (suc (suc k)) low lt same = absurd (omega arith)
 
-pieces : (place : ℕ) → place < 3 → ArePiecesBy (Pairs 0) three place (place + 1) two
-pieces place lt =
-    pieces_of_pairs three place (place + 1) two (record { each = each_piece place lt; only = only_piece place lt; once = one_piece }) 0
+choices : (place : ℕ) → place < 3 → AreChoicesBy (Pairs 0) three place (place + 1) two
+choices place lt =
+    choices_of_pairs three place (place + 1) two (record { each = each_choice place lt; only = only_choice place lt; once = one_choice }) 0
 
 abbrev parts : List Part
-parts = record { start = 0; end = 1; pieces = two } ∷ record { start = 1; end = 2; pieces = two } ∷ record { start = 2; end = 3; pieces = two } ∷ []
+parts = record { start = 0; end = 1; choices = two } ∷ record { start = 1; end = 2; choices = two } ∷ record { start = 2; end = 3; choices = two } ∷ []
 
 next : (place : ℕ) → IsSegment 0 three place (place + 1) → IsPartFrom (Pairs 0) three place place (place + 1)
 next place segment = record { beyond = omega arith; until = λ i low lt. absurd (omega arith); part = segment }
@@ -156,13 +156,13 @@ all_parts =
     record {
       next = (
         next 0 segments.0,
-        pieces 0 (omega arith),
-        (next 1 segments.1, pieces 1 (omega arith), (next 2 segments.2, pieces 2 (omega arith), tt)),
+        choices 0 (omega arith),
+        (next 1 segments.1, choices 1 (omega arith), (next 2 segments.2, choices 2 (omega arith), tt)),
       );
       rest = λ i low. agree_past three 3 i long low;
     }
 
-fit_at : (place : ℕ) → place < 3 → IsFit 3 (record { start = place; end = place + 1; pieces = two })
+fit_at : (place : ℕ) → place < 3 → IsFit 3 (record { start = place; end = place + 1; choices = two })
 fit_at place lt =
     record {
       order = omega arith;

@@ -96,17 +96,17 @@ original_is_voted original versions bytes count original_there h = sym (h.only.o
 
 -- ---- what is returned for versions is right for others with the same members
 
-abbrev IsToldBy : List (List ℕ) → Option (Vec ℕ Global × ℕ) → Type 0
-IsToldBy versions found =
+abbrev IsTalliedBy : List (List ℕ) → Option (Vec ℕ Global × ℕ) → Type 0
+IsTalliedBy versions found =
     MatchOption found ((bytes : List ℕ) (count : ℕ) → IsVoteOf versions bytes count → ⊥) (λ (bytes, count). IsVoteOf versions bytes.items count)
 
 abbrev pub IsVoteAnswered : List (List ℕ) → Result (Option (Vec ℕ Global × ℕ)) AllocError → Type 0
-IsVoteAnswered versions answer = IfOk answer (IsToldBy versions)
+IsVoteAnswered versions answer = IfOk answer (IsTalliedBy versions)
 
 module _ (versions others : List (List ℕ)) (same : HasSameMembers versions others) where
-  told_as : (found : Option (Vec ℕ Global × ℕ)) → IsToldBy versions found → IsToldBy others found
-  told_as None h = λ bytes count vote. h bytes count (vote_of_as others versions (same_back versions others same) bytes count vote)
-  told_as (Some voted) h = vote_of_as versions others same voted.0.items voted.1 h
+  tallied_as : (found : Option (Vec ℕ Global × ℕ)) → IsTalliedBy versions found → IsTalliedBy others found
+  tallied_as None h = λ bytes count vote. h bytes count (vote_of_as others versions (same_back versions others same) bytes count vote)
+  tallied_as (Some voted) h = vote_of_as versions others same voted.0.items voted.1 h
 
   pub vote_answered_as : (answer : Result (Option (Vec ℕ Global × ℕ)) AllocError) → IsVoteAnswered versions answer → IsVoteAnswered others answer
-  vote_answered_as answer h = IfOk-weaker answer (IsToldBy versions) (IsToldBy others) told_as h
+  vote_answered_as answer h = IfOk-weaker answer (IsTalliedBy versions) (IsTalliedBy others) tallied_as h

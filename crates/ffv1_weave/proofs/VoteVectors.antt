@@ -7,16 +7,16 @@ use Rattle.ffv1_slice.specs.Members.{HasSameMembers}
 use Rattle.ffv1_weave.specs.Regions.{HaveLength, AgreeAt}
 use Rattle.ffv1_weave.specs.Numbers.{AreNumbered}
 use Rattle.ffv1_weave.specs.Seams.{IsSeam}
-use Rattle.ffv1_weave.specs.Grains.{HasPiece, IsMost, IsPieceBy, votes}
+use Rattle.ffv1_weave.specs.Grains.{HasChoice, IsMost, IsChoiceBy, votes}
 use Rattle.ffv1_weave.specs.Combinations.{IsCombinationBy, HasFew}
-use Rattle.ffv1_weave.specs.Parts.{Part, ArePiecesBy, IsPartFrom, AreFewParts, IsFit}
+use Rattle.ffv1_weave.specs.Parts.{Part, AreChoicesBy, IsPartFrom, AreFewParts, IsFit}
 use Rattle.ffv1_weave.specs.Votes.{AreThree, AreTriedBy, IsVoteOf}
 use Rattle.ffv1_weave.specs.declared.grains.Grain.{Grain}
 use Rattle.ffv1_weave.specs.declared.grains.Grain.TheVariants.{Regions, Most}
 use Rattle.ffv1_weave.proofs.Agreeing.{agree_from}
 use Rattle.ffv1_weave.proofs.Numbering.{one_number}
-use Rattle.ffv1_weave.proofs.PieceSteps.{alone}
-use Rattle.ffv1_weave.proofs.MostSteps.{have_none, have_same, have_more, most_of, pieces_fit}
+use Rattle.ffv1_weave.proofs.ChoiceSteps.{alone}
+use Rattle.ffv1_weave.proofs.MostSteps.{have_none, have_same, have_more, most_of, choices_fit}
 use Rattle.ffv1_weave.proofs.Finest.{has_few}
 use Rattle.ffv1_weave.proofs.WeaveSteps.{HaveFewParts, chosen_where}
 use Rattle.ffv1_weave.proofs.VoteLaws.{vote_of_as}
@@ -136,42 +136,42 @@ module _ (distance : ℕ) where
 
 -- ---- what most have: at each of the three places two versions have the byte of the original, and one has another
 
-two_first : AreNumbered (HasPiece three 0 1 (0x5A ∷ [])) 2
+two_first : AreNumbered (HasChoice three 0 1 (0x5A ∷ [])) 2
 two_first =
     have_more 0 1 (0x5A ∷ []) (one ∷ other ∷ []) third 1 not_two refl
     (have_more 0 1 (0x5A ∷ []) (one ∷ []) other 0 not_one refl
     (have_same 0 1 (0x5A ∷ []) [] one 0 (λ is. let e = ap (λ z. get_or z 0 0) is in absurd (omega arith))
     (have_none 0 1 (0x5A ∷ []))))
 
-one_first : AreNumbered (HasPiece three 0 1 (0x5B ∷ [])) 1
+one_first : AreNumbered (HasChoice three 0 1 (0x5B ∷ [])) 1
 one_first =
     have_same 0 1 (0x5B ∷ []) (one ∷ other ∷ []) third 1 (λ is. let e = ap (λ z. get_or z 0 0) is in absurd (omega arith))
     (have_same 0 1 (0x5B ∷ []) (one ∷ []) other 1 (λ is. let e = ap (λ z. get_or z 0 0) is in absurd (omega arith))
     (have_more 0 1 (0x5B ∷ []) [] one 0 (none_there one) refl
     (have_none 0 1 (0x5B ∷ []))))
 
-two_second : AreNumbered (HasPiece three 1 2 (0x00 ∷ [])) 2
+two_second : AreNumbered (HasChoice three 1 2 (0x00 ∷ [])) 2
 two_second =
     have_more 1 2 (0x00 ∷ []) (one ∷ other ∷ []) third 1 not_two refl
     (have_same 1 2 (0x00 ∷ []) (one ∷ []) other 1 (λ is. let e = ap (λ z. get_or z 0 0) is in absurd (omega arith))
     (have_more 1 2 (0x00 ∷ []) [] one 0 (none_there one) refl
     (have_none 1 2 (0x00 ∷ []))))
 
-one_second : AreNumbered (HasPiece three 1 2 (0x01 ∷ [])) 1
+one_second : AreNumbered (HasChoice three 1 2 (0x01 ∷ [])) 1
 one_second =
     have_same 1 2 (0x01 ∷ []) (one ∷ other ∷ []) third 1 (λ is. let e = ap (λ z. get_or z 0 0) is in absurd (omega arith))
     (have_more 1 2 (0x01 ∷ []) (one ∷ []) other 0 not_one refl
     (have_same 1 2 (0x01 ∷ []) [] one 0 (λ is. let e = ap (λ z. get_or z 0 0) is in absurd (omega arith))
     (have_none 1 2 (0x01 ∷ []))))
 
-two_third : AreNumbered (HasPiece three 2 3 (0x00 ∷ [])) 2
+two_third : AreNumbered (HasChoice three 2 3 (0x00 ∷ [])) 2
 two_third =
     have_same 2 3 (0x00 ∷ []) (one ∷ other ∷ []) third 2 (λ is. let e = ap (λ z. get_or z 0 0) is in absurd (omega arith))
     (have_more 2 3 (0x00 ∷ []) (one ∷ []) other 1 not_one refl
     (have_more 2 3 (0x00 ∷ []) [] one 0 (none_there one) refl
     (have_none 2 3 (0x00 ∷ []))))
 
-one_third : AreNumbered (HasPiece three 2 3 (0x01 ∷ [])) 1
+one_third : AreNumbered (HasChoice three 2 3 (0x01 ∷ [])) 1
 one_third =
     have_more 2 3 (0x01 ∷ []) (one ∷ other ∷ []) third 0 not_two refl
     (have_same 2 3 (0x01 ∷ []) (one ∷ []) other 0 (λ is. let e = ap (λ z. get_or z 0 0) is in absurd (omega arith))
@@ -204,30 +204,30 @@ either_third version (suc zero, lt, is) = inl (ap (λ v. slice_range v 2 3) is)
 either_third version (suc (suc zero), lt, is) = inr (ap (λ v. slice_range v 2 3) is)
 either_third version (suc (suc (suc k)), lt, is) = absurd (omega arith)
 
-module _ (place : ℕ) (right wrong : List ℕ) (two : AreNumbered (HasPiece three place (place + 1) right) 2)
-    (single : AreNumbered (HasPiece three place (place + 1) wrong) 1) (either : Either place right wrong) where
+module _ (place : ℕ) (right wrong : List ℕ) (two : AreNumbered (HasChoice three place (place + 1) right) 2)
+    (single : AreNumbered (HasChoice three place (place + 1) wrong) 1) (either : Either place right wrong) where
   abbrev Have : List ℕ → ℕ → Type 0
-  Have piece count = AreNumbered (HasPiece three place (place + 1) piece) count
+  Have choice count = AreNumbered (HasChoice three place (place + 1) choice) count
 
   right_is_most : IsMost three place (place + 1) right
   unfolding Either
   right_is_most = most_of three place (place + 1) right 2 two (λ version more there numbers. elim (either version there) [
-    | inl is ↦ let same = one_number (HasPiece three place (place + 1) right) more 2 (subst (λ p. Have p more) (sym is) numbers) two in omega arith
-    | inr is ↦ let same = one_number (HasPiece three place (place + 1) wrong) more 1 (subst (λ p. Have p more) (sym is) numbers) single in omega arith
+    | inl is ↦ let same = one_number (HasChoice three place (place + 1) right) more 2 (subst (λ p. Have p more) (sym is) numbers) two in omega arith
+    | inr is ↦ let same = one_number (HasChoice three place (place + 1) wrong) more 1 (subst (λ p. Have p more) (sym is) numbers) single in omega arith
   ])
 
   wrong_is_not : IsMost three place (place + 1) wrong → ⊥
   wrong_is_not h =
-      let same = one_number (HasPiece three place (place + 1) wrong) h.count 1 h.have single in
+      let same = one_number (HasChoice three place (place + 1) wrong) h.count 1 h.have single in
       let more = h.others right 2 two in
       omega arith
 
   -- so the byte of the original alone can be taken
-  taken : (distance : ℕ) → ArePiecesBy (Most distance) three place (place + 1) (right ∷ [])
+  taken : (distance : ℕ) → AreChoicesBy (Most distance) three place (place + 1) (right ∷ [])
   unfolding Either
   taken distance =
       record {
-        each = λ piece is. elim (either is.0.0 is.0.1) [
+        each = λ choice is. elim (either is.0.0 is.0.1) [
           | inl same ↦ subst (Contains (right ∷ [])) (same ∙ sym is.0.2) (0, omega arith, refl)
           | inr same ↦ absurd (wrong_is_not (subst (IsMost three place (place + 1)) (is.0.2 ∙ sym same) is.1))
         ];
@@ -238,7 +238,7 @@ module _ (place : ℕ) (right wrong : List ℕ) (two : AreNumbered (HasPiece thr
       version_with : (version : List ℕ) × Contains three version × (right ≡ slice_range version place (place + 1))
       version_with = let has = two.are 0 (omega arith) in (two.at 0, has.there, has.has)
 
-      only : (k : ℕ) → k < 1 → IsPieceBy (Most distance) three place (place + 1) (get_or (right ∷ []) k [])
+      only : (k : ℕ) → k < 1 → IsChoiceBy (Most distance) three place (place + 1) (get_or (right ∷ []) k [])
       only zero lt = (version_with, right_is_most)
       only (suc k) lt = absurd (omega arith)
 
@@ -246,23 +246,23 @@ module _ (place : ℕ) (right wrong : List ℕ) (two : AreNumbered (HasPiece thr
 
 abbrev parts : List Part
 parts =
-    record { start = 0; end = 1; pieces = (0x5A ∷ []) ∷ [] } ∷ record { start = 1; end = 2; pieces = (0x00 ∷ []) ∷ [] }
-    ∷ record { start = 2; end = 3; pieces = (0x00 ∷ []) ∷ [] } ∷ []
+    record { start = 0; end = 1; choices = (0x5A ∷ []) ∷ [] } ∷ record { start = 1; end = 2; choices = (0x00 ∷ []) ∷ [] }
+    ∷ record { start = 2; end = 3; choices = (0x00 ∷ []) ∷ [] } ∷ []
 
 module _ (distance : ℕ) where
-  first_taken : ArePiecesBy (Most distance) three 0 1 ((0x5A ∷ []) ∷ [])
+  first_taken : AreChoicesBy (Most distance) three 0 1 ((0x5A ∷ []) ∷ [])
   first_taken = taken 0 (0x5A ∷ []) (0x5B ∷ []) two_first one_first either_first distance
 
-  second_taken : ArePiecesBy (Most distance) three 1 2 ((0x00 ∷ []) ∷ [])
+  second_taken : AreChoicesBy (Most distance) three 1 2 ((0x00 ∷ []) ∷ [])
   second_taken = taken 1 (0x00 ∷ []) (0x01 ∷ []) two_second one_second either_second distance
 
-  third_taken : ArePiecesBy (Most distance) three 2 3 ((0x00 ∷ []) ∷ [])
+  third_taken : AreChoicesBy (Most distance) three 2 3 ((0x00 ∷ []) ∷ [])
   third_taken = taken 2 (0x00 ∷ []) (0x01 ∷ []) two_third one_third either_third distance
 
   fit : All (IsFit 9) parts
-  fit zero d lt = pieces_fit (Most distance) 0 1 three ((0x5A ∷ []) ∷ []) 9 long (omega arith) (omega arith) (omega arith) first_taken
-  fit (suc zero) d lt = pieces_fit (Most distance) 1 2 three ((0x00 ∷ []) ∷ []) 9 long (omega arith) (omega arith) (omega arith) second_taken
-  fit (suc (suc zero)) d lt = pieces_fit (Most distance) 2 3 three ((0x00 ∷ []) ∷ []) 9 long (omega arith) (omega arith) (omega arith) third_taken
+  fit zero d lt = choices_fit (Most distance) 0 1 three ((0x5A ∷ []) ∷ []) 9 long (omega arith) (omega arith) (omega arith) first_taken
+  fit (suc zero) d lt = choices_fit (Most distance) 1 2 three ((0x00 ∷ []) ∷ []) 9 long (omega arith) (omega arith) (omega arith) second_taken
+  fit (suc (suc zero)) d lt = choices_fit (Most distance) 2 3 three ((0x00 ∷ []) ∷ []) 9 long (omega arith) (omega arith) (omega arith) third_taken
   fit (suc (suc (suc k))) d lt = absurd (omega arith)
 
   few_parts : AreFewParts (Most distance) three 9 parts 1

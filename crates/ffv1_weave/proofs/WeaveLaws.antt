@@ -3,7 +3,7 @@ use Rattle.std.proofs.Common.{◌≡◌, ℕ, ◌-◌, List, get_or, refl, sym, 
 use Rattle.std.specs.Prelude.{slice_range}
 use Rattle.ffv1_weave.specs.Regions.{AgreeAt, DifferAt, IsRegion}
 use Rattle.ffv1_weave.specs.Seams.{IsSeam, IsSegment}
-use Rattle.ffv1_weave.specs.Grains.{IsPartBy, IsPieceOf, IsPieceBy, HasPiece, IsMost, grains}
+use Rattle.ffv1_weave.specs.Grains.{IsPartBy, IsChoiceOf, IsChoiceBy, HasChoice, IsMost, grains}
 use Rattle.ffv1_weave.specs.Numbers.{AreNumbered}
 use Rattle.ffv1_weave.specs.Combinations.{IsCombinationBy, IsValid, HasFew, HasMany, IsTriedBy}
 use Rattle.ffv1_weave.specs.Weave.{Weave, IsWeaveOf, AreFew, AreMany}
@@ -51,40 +51,40 @@ module _ (versions others : List (List ℕ)) (same : HasSameMembers versions oth
 -- ---- and so does what is taken in them
 
 module _ (versions others : List (List ℕ)) (same : HasSameMembers versions others) (start end : ℕ) where
-  has_as : (piece version : List ℕ) → HasPiece versions start end piece version → HasPiece others start end piece version
-  has_as piece version h = record { there = (same version).0 h.there; has = h.has }
+  has_as : (choice version : List ℕ) → HasChoice versions start end choice version → HasChoice others start end choice version
+  has_as choice version h = record { there = (same version).0 h.there; has = h.has }
 
-  has_back : (piece version : List ℕ) → HasPiece others start end piece version → HasPiece versions start end piece version
-  has_back piece version h = record { there = (same version).1 h.there; has = h.has }
+  has_back : (choice version : List ℕ) → HasChoice others start end choice version → HasChoice versions start end choice version
+  has_back choice version h = record { there = (same version).1 h.there; has = h.has }
 
 module _ (versions others : List (List ℕ)) (same : HasSameMembers versions others) where
-  have_as : (start end : ℕ) (piece : List ℕ) (count : ℕ) → AreNumbered (HasPiece versions start end piece) count
-      → AreNumbered (HasPiece others start end piece) count
-  have_as start end piece count h =
+  have_as : (start end : ℕ) (choice : List ℕ) (count : ℕ) → AreNumbered (HasChoice versions start end choice) count
+      → AreNumbered (HasChoice others start end choice) count
+  have_as start end choice count h =
       record {
         at = h.at;
-        are = λ k lt. has_as versions others same start end piece (h.at k) (h.are k lt);
-        all = λ version has. h.all version (has_back versions others same start end piece version has);
+        are = λ k lt. has_as versions others same start end choice (h.at k) (h.are k lt);
+        all = λ version has. h.all version (has_back versions others same start end choice version has);
         once = h.once;
       }
 
 module _ (versions others : List (List ℕ)) (same : HasSameMembers versions others) where
-  most_as : (start end : ℕ) (piece : List ℕ) → IsMost versions start end piece → IsMost others start end piece
-  most_as start end piece h =
+  most_as : (start end : ℕ) (choice : List ℕ) → IsMost versions start end choice → IsMost others start end choice
+  most_as start end choice h =
       record {
         count = h.count;
-        have = have_as versions others same start end piece h.count h.have;
+        have = have_as versions others same start end choice h.count h.have;
         others = λ other more numbers.
             h.others other more (have_as others versions (same_back versions others same) start end other more numbers);
       }
 
-  some_as : (start end : ℕ) (piece : List ℕ) → IsPieceOf versions start end piece → IsPieceOf others start end piece
-  some_as start end piece h = (h.0, (same h.0).0 h.1, h.2)
+  some_as : (start end : ℕ) (choice : List ℕ) → IsChoiceOf versions start end choice → IsChoiceOf others start end choice
+  some_as start end choice h = (h.0, (same h.0).0 h.1, h.2)
 
-  taken_as : (grain : Grain) (start end : ℕ) (piece : List ℕ) → IsPieceBy grain versions start end piece → IsPieceBy grain others start end piece
-  taken_as (Pairs distance) start end piece h = some_as start end piece h
-  taken_as Regions start end piece h = some_as start end piece h
-  taken_as (Most distance) start end piece h = (some_as start end piece h.0, most_as start end piece h.1)
+  taken_as : (grain : Grain) (start end : ℕ) (choice : List ℕ) → IsChoiceBy grain versions start end choice → IsChoiceBy grain others start end choice
+  taken_as (Pairs distance) start end choice h = some_as start end choice h
+  taken_as Regions start end choice h = some_as start end choice h
+  taken_as (Most distance) start end choice h = (some_as start end choice h.0, most_as start end choice h.1)
 
 -- ---- and so the combinations
 

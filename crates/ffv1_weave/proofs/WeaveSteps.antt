@@ -76,7 +76,7 @@ some_combinations : (size : ℕ) (parts : List Part) → All (IsFit size) parts 
 some_combinations size [] fit = omega arith
 some_combinations size (part ∷ parts) fit =
     let head = fit_head size part parts fit in
-    count_positive (length part.pieces) (count_of parts) head.some (some_combinations size parts (fit_tail size part parts fit))
+    count_positive (length part.choices) (count_of parts) head.some (some_combinations size parts (fit_tail size part parts fit))
 
 module _ {grain : Grain} {versions : List (List ℕ)} {parts : List Part} {count : ℕ} (have : HaveFewParts grain versions parts count) where
   pub first_there : Contains versions (get_or versions 0 [])
@@ -133,10 +133,10 @@ pub have_parts : (versions : List (Bor (List ℕ))) (found : Option Parts) (trie
     → 0 < length versions → All (λ version. length version.now ≡ length (get_or (values_of versions) 0 [])) versions
     → HaveParts (values_of versions) tried.parts.items tried.count
 have_parts versions found tried is given some long =
-    let told : AreTriedParts (values_of versions) (length (get_or versions 0 nowhere).now) tried.parts.items tried.count =
+    let tallied : AreTriedParts (values_of versions) (length (get_or versions 0 nowhere).now) tried.parts.items tried.count =
     subst (λ found. MatchOption found (AreMany (values_of versions))
     (λ tried. AreTriedParts (values_of versions) (length (get_or versions 0 nowhere).now) tried.parts.items tried.count)) is given in
-    let are = subst (λ z. AreTriedParts (values_of versions) (length z) tried.parts.items tried.count) (sym (value_at versions 0 nowhere [] some)) told in
+    let are = subst (λ z. AreTriedParts (values_of versions) (length z) tried.parts.items tried.count) (sym (value_at versions 0 nowhere [] some)) tallied in
     let have = have_few_parts versions some long are.few in
     record { some = have.some; long = have.long; are = are }
 
@@ -164,8 +164,8 @@ module _ {grain : Grain} {parts : List Part} {count : ℕ} (versions : List (Bor
     -- what the tables leave is the remainder of the combination
     pub left_is : (code base left : ℕ) → base ≡ remainder_in check bytes → left ≡ changed tables code base
         → left ≡ remainder_in check (chosen parts code first)
-    left_is code base left base_is told =
-        told ∙ ap (λ ts. changed ts code base) tables_are ∙ ap (changed (map (changes_of check bytes) parts) code) base_is
+    left_is code base left base_is tallied =
+        tallied ∙ ap (λ ts. changed ts code base) tables_are ∙ ap (changed (map (changes_of check bytes) parts) code) base_is
         ∙ changed_is check grain (values_of versions) bytes 0 parts code bytes have.few.all.next tables_fit refl (λ i low. refl)
         ∙ ap (remainder_in check) (chosen_over have code bytes alike)
 

@@ -14,11 +14,11 @@ remainder_in Element bytes = element_left bytes
 
 -- what a byte string changes of the remainder of bytes, where it is written over them
 abbrev pub change_of : Check → List ℕ → ℕ → List ℕ → ℕ
-change_of check bytes start piece = bit_xor (remainder_in check (written bytes start piece)) (remainder_in check bytes)
+change_of check bytes start choice = bit_xor (remainder_in check (written bytes start choice)) (remainder_in check bytes)
 
 -- what each choice of a part changes
 abbrev pub changes_of : Check → List ℕ → Part → List ℕ
-changes_of check bytes part = map (change_of check bytes part.start) part.pieces
+changes_of check bytes part = map (change_of check bytes part.start) part.choices
 
 -- The remainder with the changes of a combination, by its number, as `chosen` writes its choices.
 abbrev pub changed : List (List ℕ) → ℕ → ℕ → ℕ

@@ -2,7 +2,7 @@
 use Rattle.std.specs.Prelude.{ℕ, ◌<◌, ◌≤◌, ◌≡◌, List, Contains, length, slice_index, slice_index_or, slice_range}
 use Rattle.ffv1_weave.specs.Regions.{AgreeAt}
 use Rattle.ffv1_weave.specs.Numbers.{AreNumbered, AreMoreThan}
-use Rattle.ffv1_weave.specs.Grains.{IsPartBy, IsPieceBy, grains}
+use Rattle.ffv1_weave.specs.Grains.{IsPartBy, IsChoiceBy, grains}
 use Rattle.ffv1_weave.specs.Checks.{PassesBy}
 use Rattle.ffv1_weave.specs.declared.check.Check.{Check}
 use Rattle.ffv1_weave.specs.declared.grains.Grain.{Grain}
@@ -14,7 +14,7 @@ use Rattle.ffv1_weave.specs.declared.weaving.TheConstants.{MOST_COMBINATIONS}
 pub record IsCombinationBy (grain : Grain) (versions : List (List ℕ)) (bytes : List ℕ) : Type 0 where
   pub same_length : (version : List ℕ) → Contains versions version → length bytes ≡ length version
   pub agrees : (i : ℕ) → AgreeAt versions i → (version : List ℕ) → Contains versions version → slice_index bytes i ≡ slice_index version i
-  pub parts : (start end : ℕ) → IsPartBy grain versions start end → IsPieceBy grain versions start end (slice_range bytes start end)
+  pub parts : (start end : ℕ) → IsPartBy grain versions start end → IsChoiceBy grain versions start end (slice_range bytes start end)
 
 -- A combination of regions. It is one by each finer grain too (`RegionsAreCoarsest`).
 abbrev pub IsCombination : List (List ℕ) → List ℕ → Type 0

@@ -13,25 +13,25 @@ IsPartBy Regions versions start end = IsRegion versions start end
 IsPartBy (Most distance) versions start end = IsSegment distance versions start end
 
 -- what some version has between two places
-abbrev pub IsPieceOf : List (List ℕ) → (start end : ℕ) → List ℕ → Type 0
-IsPieceOf versions start end piece = (version : List ℕ) × Contains versions version × (piece ≡ slice_range version start end)
+abbrev pub IsChoiceOf : List (List ℕ) → (start end : ℕ) → List ℕ → Type 0
+IsChoiceOf versions start end choice = (version : List ℕ) × Contains versions version × (choice ≡ slice_range version start end)
 
 -- A version that has this between two places.
-pub record HasPiece (versions : List (List ℕ)) (start end : ℕ) (piece version : List ℕ) : Type 0 where
+pub record HasChoice (versions : List (List ℕ)) (start end : ℕ) (choice version : List ℕ) : Type 0 where
   pub there : Contains versions version
-  pub has : piece ≡ slice_range version start end
+  pub has : choice ≡ slice_range version start end
 
 -- No other byte string stands between two places in more versions. Versions that are equal count as one.
-pub record IsMost (versions : List (List ℕ)) (start end : ℕ) (piece : List ℕ) : Type 0 where
+pub record IsMost (versions : List (List ℕ)) (start end : ℕ) (choice : List ℕ) : Type 0 where
   pub count : ℕ
-  pub have : AreNumbered (HasPiece versions start end piece) count
-  pub others : (other : List ℕ) (more : ℕ) → AreNumbered (HasPiece versions start end other) more → more ≤ count
+  pub have : AreNumbered (HasChoice versions start end choice) count
+  pub others : (other : List ℕ) (more : ℕ) → AreNumbered (HasChoice versions start end other) more → more ≤ count
 
 -- What is taken in a part: what some version has there, or what most versions have.
-abbrev pub IsPieceBy : Grain → List (List ℕ) → (start end : ℕ) → List ℕ → Type 0
-IsPieceBy (Pairs distance) versions start end piece = IsPieceOf versions start end piece
-IsPieceBy Regions versions start end piece = IsPieceOf versions start end piece
-IsPieceBy (Most distance) versions start end piece = IsPieceOf versions start end piece × IsMost versions start end piece
+abbrev pub IsChoiceBy : Grain → List (List ℕ) → (start end : ℕ) → List ℕ → Type 0
+IsChoiceBy (Pairs distance) versions start end choice = IsChoiceOf versions start end choice
+IsChoiceBy Regions versions start end choice = IsChoiceOf versions start end choice
+IsChoiceBy (Most distance) versions start end choice = IsChoiceOf versions start end choice × IsMost versions start end choice
 
 -- the grains by which versions are woven, finest first
 abbrev pub grains : List Grain

@@ -1,7 +1,7 @@
 -- The parts of versions as they are gone over: from the front on, each with what differs in it, and the combinations by number.
 use Rattle.std.specs.Prelude.{ℕ, zero, suc, ◌+◌, ◌-◌, ◌*◌, ◌/◌, ◌%◌, ◌<◌, ◌≤◌, ◌≡◌, ◌⊎◌, All, List, [], ◌∷◌, ◌++◌, Contains, length, take, drop, slice_index_or, slice_range}
 use Rattle.ffv1_weave.specs.Regions.{AgreeAt}
-use Rattle.ffv1_weave.specs.Grains.{IsPartBy, IsPieceBy}
+use Rattle.ffv1_weave.specs.Grains.{IsPartBy, IsChoiceBy}
 use Rattle.ffv1_weave.specs.Combinations.{IsTriedBy}
 use Rattle.ffv1_weave.specs.declared.grains.Grain.{Grain}
 use Rattle.ffv1_weave.specs.declared.weaving.TheConstants.{MOST_COMBINATIONS}
@@ -10,20 +10,20 @@ use Rattle.ffv1_weave.specs.declared.weaving.TheConstants.{MOST_COMBINATIONS}
 pub record Part : Type 0 where
   pub start : ℕ
   pub end : ℕ
-  pub pieces : List (List ℕ)
+  pub choices : List (List ℕ)
 
 -- All byte strings that versions have between two places, and no others, each once.
-pub record ArePieces (versions : List (List ℕ)) (start end : ℕ) (pieces : List (List ℕ)) : Type 0 where
-  pub each : (version : List ℕ) → Contains versions version → Contains pieces (slice_range version start end)
-  pub only : (k : ℕ) → k < length pieces
-      → (version : List ℕ) × Contains versions version × (slice_index_or pieces k [] ≡ slice_range version start end)
-  pub once : (j k : ℕ) → j < length pieces → k < length pieces → slice_index_or pieces j [] ≡ slice_index_or pieces k [] → j ≡ k
+pub record AreChoices (versions : List (List ℕ)) (start end : ℕ) (choices : List (List ℕ)) : Type 0 where
+  pub each : (version : List ℕ) → Contains versions version → Contains choices (slice_range version start end)
+  pub only : (k : ℕ) → k < length choices
+      → (version : List ℕ) × Contains versions version × (slice_index_or choices k [] ≡ slice_range version start end)
+  pub once : (j k : ℕ) → j < length choices → k < length choices → slice_index_or choices j [] ≡ slice_index_or choices k [] → j ≡ k
 
 -- All byte strings that can be taken in a part by a grain, and no others, each once.
-pub record ArePiecesBy (grain : Grain) (versions : List (List ℕ)) (start end : ℕ) (pieces : List (List ℕ)) : Type 0 where
-  pub each : (piece : List ℕ) → IsPieceBy grain versions start end piece → Contains pieces piece
-  pub only : (k : ℕ) → k < length pieces → IsPieceBy grain versions start end (slice_index_or pieces k [])
-  pub once : (j k : ℕ) → j < length pieces → k < length pieces → slice_index_or pieces j [] ≡ slice_index_or pieces k [] → j ≡ k
+pub record AreChoicesBy (grain : Grain) (versions : List (List ℕ)) (start end : ℕ) (choices : List (List ℕ)) : Type 0 where
+  pub each : (choice : List ℕ) → IsChoiceBy grain versions start end choice → Contains choices choice
+  pub only : (k : ℕ) → k < length choices → IsChoiceBy grain versions start end (slice_index_or choices k [])
+  pub once : (j k : ℕ) → j < length choices → k < length choices → slice_index_or choices j [] ≡ slice_index_or choices k [] → j ≡ k
 
 -- Versions that all differ.
 abbrev pub AreDistinct : List (List ℕ) → Type 0
@@ -43,7 +43,7 @@ pub record IsPartFrom (grain : Grain) (versions : List (List ℕ)) (from start e
 abbrev pub ArePartsFrom : Grain → List (List ℕ) → ℕ → List Part → Type 0
 ArePartsFrom grain versions from [] = Unit {0}
 ArePartsFrom grain versions from (part ∷ parts) =
-    IsPartFrom grain versions from part.start part.end × ArePiecesBy grain versions part.start part.end part.pieces
+    IsPartFrom grain versions from part.start part.end × AreChoicesBy grain versions part.start part.end part.choices
     × ArePartsFrom grain versions part.end parts
 
 -- where the last of the parts ends
@@ -60,13 +60,13 @@ pub record AreAllParts (grain : Grain) (versions : List (List ℕ)) (parts : Lis
 pub record IsFit (size : ℕ) (part : Part) : Type 0 where
   pub order : part.start ≤ part.end
   pub within : part.end ≤ size
-  pub some : 0 < length part.pieces
-  pub fill : (k : ℕ) → k < length part.pieces → length (slice_index_or part.pieces k []) ≡ part.end - part.start
+  pub some : 0 < length part.choices
+  pub fill : (k : ℕ) → k < length part.choices → length (slice_index_or part.choices k []) ≡ part.end - part.start
 
 -- how many combinations there are: one choice in each part
 abbrev pub count_of : List Part → ℕ
 count_of [] = 1
-count_of (part ∷ parts) = length part.pieces * count_of parts
+count_of (part ∷ parts) = length part.choices * count_of parts
 
 -- All parts by a grain, which fit so many bytes, and have so many combinations, few enough to be tried.
 pub record AreFewParts (grain : Grain) (versions : List (List ℕ)) (size : ℕ) (parts : List Part) (count : ℕ) : Type 0 where
@@ -83,13 +83,13 @@ pub record AreTriedParts (versions : List (List ℕ)) (size : ℕ) (parts : List
 
 -- bytes with a byte string written over them from a place on
 abbrev pub written : List ℕ → ℕ → List ℕ → List ℕ
-written bytes start piece = take start bytes ++ (piece ++ drop (start + length piece) bytes)
+written bytes start choice = take start bytes ++ (choice ++ drop (start + length choice) bytes)
 
 -- The bytes with the choices of a combination written over them. Its number is one of mixed digits, the first part's the lowest.
 abbrev pub chosen : List Part → ℕ → List ℕ → List ℕ
 chosen [] code bytes = bytes
 chosen (part ∷ parts) code bytes =
-    chosen parts (code / length part.pieces) (written bytes part.start (slice_index_or part.pieces (code % length part.pieces) []))
+    chosen parts (code / length part.choices) (written bytes part.start (slice_index_or part.choices (code % length part.choices) []))
 
 -- the byte strings of the combinations whose number is below one
 abbrev pub chosen_below : List Part → List ℕ → ℕ → List (List ℕ)

@@ -1,7 +1,7 @@
 -- Versions of one slice: what several copies of a frame have at the slice's place, all of one length. They are split into regions
 -- where they differ.
 use Rattle.std.specs.Prelude.{ℕ, ◌+◌, ◌-◌, ◌<◌, ◌≤◌, ◌≡◌, List, Contains, length, slice_index}
-use Rattle.ffv1_weave.specs.declared.regions.TheConstants.{GAP}
+use Rattle.ffv1_weave.specs.declared.regions.TheConstants.{SEPARATION}
 
 -- all versions are as long
 abbrev pub HaveLength : List (List ℕ) → ℕ → Type 0
@@ -15,11 +15,11 @@ abbrev pub DifferAt : List (List ℕ) → ℕ → Type 0
 DifferAt versions i = AgreeAt versions i → ⊥
 
 -- A region, from its start up to its end: the versions differ at its first place and at its last. Before it and after it they agree at
--- `GAP` places in a row at least, which is 64, and within it nowhere at so many.
+-- `SEPARATION` places in a row at least, which is 64, and within it nowhere at so many.
 pub record IsRegion (versions : List (List ℕ)) (start end : ℕ) : Type 0 where
   pub some : start < end
   pub first : DifferAt versions start
   pub last : DifferAt versions (end - 1)
-  pub before : (i : ℕ) → i < start → start ≤ i + GAP → AgreeAt versions i
-  pub after : (i : ℕ) → end ≤ i → i < end + GAP → AgreeAt versions i
-  pub within : (i : ℕ) → start ≤ i → i + GAP ≤ end → (j : ℕ) × (i ≤ j) × (j < i + GAP) × DifferAt versions j
+  pub before : (i : ℕ) → i < start → start ≤ i + SEPARATION → AgreeAt versions i
+  pub after : (i : ℕ) → end ≤ i → i < end + SEPARATION → AgreeAt versions i
+  pub within : (i : ℕ) → start ≤ i → i + SEPARATION ≤ end → (j : ℕ) × (i ≤ j) × (j < i + SEPARATION) × DifferAt versions j

@@ -31,8 +31,8 @@ IsWeaveOf check versions (missing count) = IsOfNone (IsValid check versions) × 
 IsWeaveOf check versions too_many = AreMany versions
 
 -- what the code returns
-abbrev pub weave_told : Outcome → Weave
-weave_told (outcome.Woven bytes count) = woven bytes.items count
-weave_told outcome.Disputed = disputed
-weave_told (outcome.Missing count) = missing count
-weave_told outcome.TooMany = too_many
+abbrev pub weave_tally : Outcome → Weave
+weave_tally (outcome.Woven bytes count) = woven bytes.items count
+weave_tally outcome.Disputed = disputed
+weave_tally (outcome.Missing count) = missing count
+weave_tally outcome.TooMany = too_many

@@ -16,19 +16,19 @@ fn change_of(
     first: &[u8],
     base: u32,
     start: usize,
-    piece: &[u8],
+    choice: &[u8],
 ) -> u32
     requires same { length scratch.old ≡ length first.now }
-    requires fits { start + length piece.now ≤ length first.now }
+    requires fits { start + length choice.now ≤ length first.now }
     requires base { base ≡ remainder_in check first.now }
-    ensures { result ≡ change_of check first.now start piece.now }
+    ensures { result ≡ change_of check first.now start choice.now }
 {
-    let end = start + piece.len();
-    if &first[start..end] == piece {
+    let end = start + choice.len();
+    if &first[start..end] == choice {
         return 0;
     }
     scratch.copy_from_slice(first);
-    scratch[start..end].copy_from_slice(piece);
+    scratch[start..end].copy_from_slice(choice);
     check.remainder(scratch) ^ base
 }
 
@@ -47,8 +47,8 @@ fn changes_of(
     ensures { IfOk result (λ changes. changes.items ≡ changes_of check first.now part.now) }
 {
     let mut changes = Vec::new(alloc);
-    for piece in part.pieces.as_slice() {
-        let change = change_of(check, scratch, first, base, part.start, piece);
+    for choice in part.choices.as_slice() {
+        let change = change_of(check, scratch, first, base, part.start, choice);
         changes.push(change)?;
     }
     Ok(changes)

@@ -1,11 +1,11 @@
 //! What most versions have between two places.
 ghost use Rattle.std.specs.Prelude.{◌≤◌, ℕ, length, map, All, IfOk};
 ghost use Rattle.ffv1_weave.specs.Numbers.{AreNumbered};
-ghost use Rattle.ffv1_weave.specs.Grains.{HasPiece};
-ghost use Rattle.ffv1_weave.specs.Parts.{ArePiecesBy, AreDistinct};
+ghost use Rattle.ffv1_weave.specs.Grains.{HasChoice};
+ghost use Rattle.ffv1_weave.specs.Parts.{AreChoicesBy, AreDistinct};
 ghost use Rattle.ffv1_weave.specs.declared.grains.Grain.TheVariants.{Most};
 
-use crate::parts::pieces_between;
+use crate::parts::choices_between;
 use std::alloc::{AllocError, Global};
 
 /// The byte strings that most versions have between two places, each once: no other stands there in more of them. Each version has the
@@ -19,34 +19,34 @@ pub(crate) fn most_between<'a>(
     requires order { start ≤ end }
     requires within { All (λ version. end ≤ length version.now) versions.now }
     requires distinct { AreDistinct (map (λ version. version.now) versions.now) }
-    ensures { IfOk result (λ pieces. (distance : ℕ) → ArePiecesBy (Most distance) (map (λ version. version.now) versions.now) start end (map (λ piece. piece.now) pieces.items)) }
+    ensures { IfOk result (λ choices. (distance : ℕ) → AreChoicesBy (Most distance) (map (λ version. version.now) versions.now) start end (map (λ choice. choice.now) choices.items)) }
 {
-    let pieces = pieces_between(alloc, versions, start, end)?;
+    let choices = choices_between(alloc, versions, start, end)?;
     let mut most = Vec::new(alloc);
     let mut greatest = 0;
-    for piece in pieces.as_slice() {
-        let count = how_many(versions, start, end, piece);
+    for choice in choices.as_slice() {
+        let count = how_many(versions, start, end, choice);
         if count > greatest {
             most.clear();
             greatest = count;
         }
         if count == greatest {
-            most.push(*piece)?;
+            most.push(*choice)?;
         }
     }
     Ok(most)
 }
 
 /// How many versions have these bytes between two places. Each version has the places, and no two are equal.
-fn how_many(versions: &[&[u8]], start: usize, end: usize, piece: &[u8]) -> usize
+fn how_many(versions: &[&[u8]], start: usize, end: usize, choice: &[u8]) -> usize
     requires order { start ≤ end }
     requires within { All (λ version. end ≤ length version.now) versions.now }
     requires distinct { AreDistinct (map (λ version. version.now) versions.now) }
-    ensures { AreNumbered (HasPiece (map (λ version. version.now) versions.now) start end piece.now) result }
+    ensures { AreNumbered (HasChoice (map (λ version. version.now) versions.now) start end choice.now) result }
 {
     let mut count = 0;
     for version in versions {
-        if &version[start..end] == piece {
+        if &version[start..end] == choice {
             count += 1;
         }
     }

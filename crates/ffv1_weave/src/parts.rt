@@ -3,7 +3,7 @@ ghost use Rattle.std.specs.Prelude.{◌≡◌, ◌≤◌, ◌<◌, ℕ, length, 
 ghost use Rattle.ffv1_weave.specs.Regions.{AgreeAt};
 ghost use Rattle.ffv1_weave.specs.Combinations.{HasMany};
 ghost use Rattle.ffv1_weave.specs.Weave.{AreMany};
-ghost use Rattle.ffv1_weave.specs.Parts.{ArePieces, ArePiecesBy, AreDistinct, IsEdge, IsPartFrom, IsFit, AreFewParts, AreTriedParts, chosen};
+ghost use Rattle.ffv1_weave.specs.Parts.{AreChoices, AreChoicesBy, AreDistinct, IsEdge, IsPartFrom, IsFit, AreFewParts, AreTriedParts, chosen};
 
 use crate::grains::{GRAINS, Grain};
 use crate::most::most_between;
@@ -18,7 +18,7 @@ use std::marker::Model;
 pub(crate) struct Part<'a> {
     pub(crate) start: usize,
     pub(crate) end: usize,
-    pub(crate) pieces: Vec<&'a [u8]>,
+    pub(crate) choices: Vec<&'a [u8]>,
 }
 
 impl<'a> Model for Part<'a> {
@@ -27,7 +27,7 @@ impl<'a> Model for Part<'a> {
 
     ghost Value = { Part };
 
-    ghost view = { λ a. record { start = a.start; end = a.end; pieces = map (λ piece. piece.now) a.pieces.items } };
+    ghost view = { λ a. record { start = a.start; end = a.end; choices = map (λ choice. choice.now) a.choices.items } };
 }
 
 /// Parts, and how many combinations they have.
@@ -38,7 +38,7 @@ pub(crate) struct Parts<'a> {
 }
 
 /// The byte strings that versions have between two places, each once. Each version has the places.
-pub(crate) fn pieces_between<'a>(
+pub(crate) fn choices_between<'a>(
     alloc: Global,
     versions: &[&'a [u8]],
     start: usize,
@@ -46,20 +46,20 @@ pub(crate) fn pieces_between<'a>(
 ) -> Result<Vec<&'a [u8]>, AllocError>
     requires order { start ≤ end }
     requires within { All (λ version. end ≤ length version.now) versions.now }
-    ensures { IfOk result (λ pieces. ArePieces (map (λ version. version.now) versions.now) start end (map (λ piece. piece.now) pieces.items)) }
+    ensures { IfOk result (λ choices. AreChoices (map (λ version. version.now) versions.now) start end (map (λ choice. choice.now) choices.items)) }
 {
-    let mut pieces = Vec::new(alloc);
+    let mut choices = Vec::new(alloc);
     for version in versions {
-        let piece = &version[start..end];
-        if !pieces.contains(&piece) {
-            pieces.push(piece)?;
+        let choice = &version[start..end];
+        if !choices.contains(&choice) {
+            choices.push(choice)?;
         }
     }
-    Ok(pieces)
+    Ok(choices)
 }
 
 /// The byte strings that can be taken between two places by a grain, each once. Each version has the places, and no two are equal.
-fn pieces_by<'a>(
+fn choices_by<'a>(
     alloc: Global,
     grain: Grain,
     versions: &[&'a [u8]],
@@ -69,10 +69,10 @@ fn pieces_by<'a>(
     requires order { start ≤ end }
     requires within { All (λ version. end ≤ length version.now) versions.now }
     requires distinct { AreDistinct (map (λ version. version.now) versions.now) }
-    ensures { IfOk result (λ pieces. ArePiecesBy grain (map (λ version. version.now) versions.now) start end (map (λ piece. piece.now) pieces.items)) }
+    ensures { IfOk result (λ choices. AreChoicesBy grain (map (λ version. version.now) versions.now) start end (map (λ choice. choice.now) choices.items)) }
 {
     match grain {
-        Grain::Pairs(_) | Grain::Regions => pieces_between(alloc, versions, start, end),
+        Grain::Pairs(_) | Grain::Regions => choices_between(alloc, versions, start, end),
         Grain::Most(_) => most_between(alloc, versions, start, end),
     }
 }
@@ -113,13 +113,17 @@ pub(crate) fn parts_by<'a>(
     let mut count = 1;
     let mut from = 0;
     while let Some((start, end)) = part_from(grain, versions, from, size) {
-        let pieces = pieces_by(alloc, grain, versions, start, end)?;
-        let many = pieces.len();
+        let choices = choices_by(alloc, grain, versions, start, end)?;
+        let many = choices.len();
         if many > MOST_COMBINATIONS / count {
             return Ok(None);
         }
         count *= many;
-        parts.push(Part { start, end, pieces })?;
+        parts.push(Part {
+            start,
+            end,
+            choices,
+        })?;
         from = end;
     }
     Ok(Some(Parts { parts, count }))
@@ -153,9 +157,9 @@ pub(crate) fn choose(bytes: &mut [u8], parts: &[Part<'_>], code: usize)
 {
     let mut rest = code;
     for part in parts {
-        let many = part.pieces.len();
-        let piece = part.pieces[rest % many];
-        bytes[part.start..part.end].copy_from_slice(piece);
+        let many = part.choices.len();
+        let choice = part.choices[rest % many];
+        bytes[part.start..part.end].copy_from_slice(choice);
         rest /= many;
     }
 }

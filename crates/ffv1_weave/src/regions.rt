@@ -6,7 +6,7 @@ ghost use Rattle.ffv1_weave.specs.declared.grains.Grain.TheVariants.{Regions};
 
 /// How many places in a row at which all versions agree part two regions: places at which versions differ are of one region where
 /// they follow each other at a distance of at most so many bytes.
-const GAP: usize = 64;
+const SEPARATION: usize = 64;
 
 /// How many bytes of versions are compared at once, as long as they are the same in all of them.
 const STEP: usize = 256;
@@ -83,12 +83,12 @@ fn end_from(versions: &[&[u8]], start: usize, size: usize) -> usize
     ensures within { result ≤ size }
     ensures beyond { start < result }
     ensures last { DifferAt (map (λ version. version.now) versions.now) (result - 1) }
-    ensures after { (i : ℕ) → result ≤ i → i < result + GAP → AgreeAt (map (λ version. version.now) versions.now) i }
-    ensures dense { (i : ℕ) → start ≤ i → i + GAP ≤ result → (j : ℕ) × (i ≤ j) × (j < i + GAP) × DifferAt (map (λ version. version.now) versions.now) j }
+    ensures after { (i : ℕ) → result ≤ i → i < result + SEPARATION → AgreeAt (map (λ version. version.now) versions.now) i }
+    ensures dense { (i : ℕ) → start ≤ i → i + SEPARATION ≤ result → (j : ℕ) × (i ≤ j) × (j < i + SEPARATION) × DifferAt (map (λ version. version.now) versions.now) j }
 {
     let mut end = start + 1;
     let mut place = end;
-    while place < size && place - end < GAP {
+    while place < size && place - end < SEPARATION {
         if differ_at(versions, place) {
             end = place + 1;
         }
@@ -102,7 +102,7 @@ pub(crate) fn region_from(versions: &[&[u8]], from: usize, size: usize) -> Optio
     requires some { 0 < length versions.now }
     requires lengths { All (λ version. length version.now ≡ size) versions.now }
     requires within { from ≤ size }
-    requires gap { (i : ℕ) → 0 < from → from ≤ i → i < from + GAP → AgreeAt (map (λ version. version.now) versions.now) i }
+    requires gap { (i : ℕ) → 0 < from → from ≤ i → i < from + SEPARATION → AgreeAt (map (λ version. version.now) versions.now) i }
     ensures region { MatchOption result ((i : ℕ) → from ≤ i → AgreeAt (map (λ version. version.now) versions.now) i)
         (λ (start, end). IsPartFrom Regions (map (λ version. version.now) versions.now) from start end) }
     ensures within { IfSome result (λ (start, end). end ≤ size) }

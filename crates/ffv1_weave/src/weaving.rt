@@ -1,11 +1,11 @@
 //! The weave of versions of one slice or element: each combination is tried.
 ghost use Rattle.std.specs.Prelude.{◌≡◌, ◌<◌, [], length, map, All, IfOk, slice_index_or};
-ghost use Rattle.ffv1_weave.specs.Weave.{IsWeaveOf, weave_told};
+ghost use Rattle.ffv1_weave.specs.Weave.{IsWeaveOf, weave_tally};
 ghost use Rattle.ffv1_weave.specs.Parts.{AreDistinct};
 
 use crate::check::Check;
 use crate::found::Found;
-use crate::parts::{finest_parts, pieces_between};
+use crate::parts::{choices_between, finest_parts};
 use crate::trying::with_combinations;
 use std::alloc::{AllocError, Global};
 
@@ -32,7 +32,7 @@ fn weave_distinct(alloc: Global, check: Check, versions: &[&[u8]]) -> Result<Out
     requires some { 0 < length versions.now }
     requires lengths { All (λ version. length version.now ≡ length (slice_index_or (map (λ version. version.now) versions.now) 0 [])) versions.now }
     requires distinct { AreDistinct (map (λ version. version.now) versions.now) }
-    ensures { IfOk result (λ outcome. IsWeaveOf check (map (λ version. version.now) versions.now) (weave_told outcome)) }
+    ensures { IfOk result (λ outcome. IsWeaveOf check (map (λ version. version.now) versions.now) (weave_tally outcome)) }
 {
     let Some(tried) = finest_parts(alloc, versions, versions[0].len())? else {
         return Ok(Outcome::TooMany);
@@ -69,8 +69,8 @@ fn weave_distinct(alloc: Global, check: Check, versions: &[&[u8]]) -> Result<Out
 pub fn weave(alloc: Global, check: Check, versions: &[&[u8]]) -> Result<Outcome, AllocError>
     requires some { 0 < length versions.now }
     requires lengths { All (λ version. length version.now ≡ length (slice_index_or (map (λ version. version.now) versions.now) 0 [])) versions.now }
-    ensures { IfOk result (λ outcome. IsWeaveOf check (map (λ version. version.now) versions.now) (weave_told outcome)) }
+    ensures { IfOk result (λ outcome. IsWeaveOf check (map (λ version. version.now) versions.now) (weave_tally outcome)) }
 {
-    let distinct = pieces_between(alloc, versions, 0, versions[0].len())?;
+    let distinct = choices_between(alloc, versions, 0, versions[0].len())?;
     weave_distinct(alloc, check, distinct.as_slice())
 }

@@ -12,15 +12,15 @@ use Rattle.clap.proofs.OnLiterals.{clap_on_literals}
 use Rattle.clap.proofs.WalkLemmas.{first_value-rows, raw_values-rows}
 use Rattle.ffv1_commands.specs.Fault.{NamesNoPath}
 use Rattle.ffv1_commands.specs.declared.fault.CliFault.{CliFault}
-use Rattle.ffv1_words.specs.Arguments.{rows_in, IsWord, AreWords, ReadsWords}
+use Rattle.ffv1_words.specs.Arguments.{rows_matched, IsWord, AreValues, ReadsWords}
 use Rattle.ffv1_words.specs.Grammar.{program_app}
 use Rattle.ffv1_words.specs.declared.words.Words.{Words}
 
-pub first_value-word : (m : ArgMatches) (name word : Text) → first_value (found_of m) name ≡ Some word → IsWord (rows_in m) name word
+pub first_value-word : (m : ArgMatches) (name word : Text) → first_value (found_of m) name ≡ Some word → IsWord (rows_matched m) name word
 first_value-word m name word is = sym (first_value-rows (found_of m) name) ∙ is
 
 pub raw_values-words : (m : ArgMatches) (name : Text) (words : List Text) → option_map raw_values (matched_of (found_of m) name) ≡ Some words
-    → AreWords (rows_in m) name words
+    → AreValues (rows_matched m) name words
 raw_values-words m name words is = sym (raw_values-rows (found_of m) name) ∙ is
 
 -- what is found is as it has to be, or the fault that is returned in place of it names no path

@@ -11,49 +11,49 @@ use Rattle.ffv1_words.specs.declared.words.Words.{Words}
 use Rattle.ffv1_words.specs.declared.words.Words.TheVariants.{Chain, Scan, Show, Take, Join, Merge, Report, Restore, Picture, Splice, Mend, Decode, Help, Version}
 
 -- what clap found under each name
-abbrev pub rows_in : ArgMatches → List Row
-rows_in matches = rows_of (found_of matches)
+abbrev pub rows_matched : ArgMatches → List Row
+rows_matched matches = rows_of (found_of matches)
 
 -- The first value of this name.
 abbrev pub IsWord : List Row → List ℕ → List ℕ → Type 0
 IsWord rows name word = first_of name rows ≡ Some word
 
 -- All values of this name.
-abbrev pub AreWords : List Row → List ℕ → List (List ℕ) → Type 0
-AreWords rows name words = all_of name rows ≡ Some words
+abbrev pub AreValues : List Row → List ℕ → List (List ℕ) → Type 0
+AreValues rows name words = all_of name rows ≡ Some words
 
 -- The first value of this name, as a number in decimal digits.
-abbrev pub IsNumber : List Row → List ℕ → ℕ → Type 0
-IsNumber rows name number =
+abbrev pub IsNumberWord : List Row → List ℕ → ℕ → Type 0
+IsNumberWord rows name number =
     (word : List ℕ) × IsWord rows name word × (number ≡ digits_value 10 (without_leading_plus word))
 
 -- The recording has the values of RECORD, WIDTH and HEIGHT.
 pub record IsRecording (rows : List Row) (recording : Recording) : Type 0 where
   pub record' : IsWord rows (codes "RECORD") recording.record.now
-  pub width : IsNumber rows (codes "WIDTH") recording.width
-  pub height : IsNumber rows (codes "HEIGHT") recording.height
+  pub width : IsNumberWord rows (codes "WIDTH") recording.width
+  pub height : IsNumberWord rows (codes "HEIGHT") recording.height
 
 -- The words of a command have the values of its names, those of which there are several in their order.
-abbrev pub AreRead : List Row → Words → Type 0
-AreRead rows (Chain frame) = IsWord rows (codes "FRAME") frame.now
-AreRead rows (Scan ranges file) = IsWord rows (codes "RANGES") ranges.now × IsWord rows (codes "FILE") file.now
-AreRead rows (Show recording) = IsRecording rows recording
-AreRead rows (Take recording out copies) =
-    IsRecording rows recording × IsWord rows (codes "OUT") out.now × AreWords rows (codes "COPY") (map (λ copy. copy.now) copies.items)
-AreRead rows (Join out first others) =
-    IsWord rows (codes "OUT") out.now × AreWords rows (codes "HOLD") (first.now ∷ map (λ other. other.now) others.items)
-AreRead rows (Merge out left right) =
+abbrev pub AreArguments : List Row → Words → Type 0
+AreArguments rows (Chain frame) = IsWord rows (codes "FRAME") frame.now
+AreArguments rows (Scan ranges file) = IsWord rows (codes "RANGES") ranges.now × IsWord rows (codes "FILE") file.now
+AreArguments rows (Show recording) = IsRecording rows recording
+AreArguments rows (Take recording out copies) =
+    IsRecording rows recording × IsWord rows (codes "OUT") out.now × AreValues rows (codes "COPY") (map (λ copy. copy.now) copies.items)
+AreArguments rows (Join out first others) =
+    IsWord rows (codes "OUT") out.now × AreValues rows (codes "HOLD") (first.now ∷ map (λ other. other.now) others.items)
+AreArguments rows (Merge out left right) =
     IsWord rows (codes "OUT") out.now × IsWord rows (codes "A") left.now × IsWord rows (codes "B") right.now
-AreRead rows (Report file) = IsWord rows (codes "HOLD") file.now
-AreRead rows (Restore file out) = IsWord rows (codes "HOLD") file.now × IsWord rows (codes "OUT") out.now
-AreRead rows (Picture file out) = IsWord rows (codes "HOLD") file.now × IsWord rows (codes "OUT") out.now
-AreRead rows (Splice out copies) = IsWord rows (codes "OUT") out.now × AreWords rows (codes "COPY") (map (λ copy. copy.now) copies.items)
-AreRead rows (Mend list out copies) =
-    IsWord rows (codes "LIST") list.now × IsWord rows (codes "OUT") out.now × AreWords rows (codes "COPY") (map (λ copy. copy.now) copies.items)
-AreRead rows (Decode recording frame out) =
+AreArguments rows (Report file) = IsWord rows (codes "HOLD") file.now
+AreArguments rows (Restore file out) = IsWord rows (codes "HOLD") file.now × IsWord rows (codes "OUT") out.now
+AreArguments rows (Picture file out) = IsWord rows (codes "HOLD") file.now × IsWord rows (codes "OUT") out.now
+AreArguments rows (Splice out copies) = IsWord rows (codes "OUT") out.now × AreValues rows (codes "COPY") (map (λ copy. copy.now) copies.items)
+AreArguments rows (Mend list out copies) =
+    IsWord rows (codes "LIST") list.now × IsWord rows (codes "OUT") out.now × AreValues rows (codes "COPY") (map (λ copy. copy.now) copies.items)
+AreArguments rows (Decode recording frame out) =
     IsRecording rows recording × IsWord rows (codes "FRAME") frame.now × IsWord rows (codes "OUT") out.now
-AreRead rows Help = Unit {0}
-AreRead rows Version = Unit {0}
+AreArguments rows Help = Unit {0}
+AreArguments rows Version = Unit {0}
 
 -- the name of a command
 abbrev pub command_name : Words → List ℕ
@@ -74,10 +74,10 @@ command_name Version = codes "version"
 
 -- The command of this name was read with its words, or what is at fault names no path.
 abbrev pub ReadsWords : List Row → List ℕ → Result Words CliFault → Type 0
-ReadsWords rows name (Ok words) = (command_name words ≡ name) × AreRead rows words
+ReadsWords rows name (Ok words) = (command_name words ≡ name) × AreArguments rows words
 ReadsWords rows name (Err fault) = NamesNoPath fault
 
 -- These arguments, the first of which is the program's name, are read by clap as a command with these words.
 abbrev pub AreReadFrom : List (List ℕ) → Words → Type 0
 AreReadFrom arguments words =
-    (rows : List Row) × (subcommand_of program_app arguments ≡ Some (command_name words, rows)) × AreRead rows words
+    (rows : List Row) × (subcommand_of program_app arguments ≡ Some (command_name words, rows)) × AreArguments rows words

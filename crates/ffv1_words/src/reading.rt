@@ -4,7 +4,7 @@ ghost use Rattle.ffv1_commands.specs.Fault.{NamesNoPath};
 ghost use Rattle.clap.specs.Words.{app_of, rule_of};
 ghost use Rattle.clap.specs.declared.builder.command.Command.TheViews.{out-Command};
 ghost use Rattle.ffv1_words.specs.Grammar.{word_rule, command_app, with_commands, program_app};
-ghost use Rattle.ffv1_words.specs.Arguments.{rows_in, IsWord, AreWords, IsNumber, IsRecording, AreReadFrom, ReadsWords};
+ghost use Rattle.ffv1_words.specs.Arguments.{rows_matched, IsWord, AreValues, IsNumberWord, IsRecording, AreReadFrom, ReadsWords};
 
 use crate::words::{Recording, Words};
 use clap::error::ErrorKind;
@@ -89,14 +89,14 @@ fn program<'a>(alloc: Global) -> Result<Command<'a>, AllocError>
 
 /// The word of this name.
 fn word<'a>(matches: &ArgMatches<'a>, name: &str) -> Result<&'a str, CliFault>
-    ensures { MatchResult result (λ word. IsWord (rows_in matches.now) name.now word.now) NamesNoPath }
+    ensures { MatchResult result (λ word. IsWord (rows_matched matches.now) name.now word.now) NamesNoPath }
 {
     matches.get_str(name).ok_or(CliFault::Words)
 }
 
 /// The word of this name, as a number.
 fn number(matches: &ArgMatches, name: &str) -> Result<u32, CliFault>
-    ensures { MatchResult result (IsNumber (rows_in matches.now) name.now) NamesNoPath }
+    ensures { MatchResult result (IsNumberWord (rows_matched matches.now) name.now) NamesNoPath }
 {
     match word(matches, name)?.parse::<u32>() {
         Ok(number) => Ok(number),
@@ -106,7 +106,7 @@ fn number(matches: &ArgMatches, name: &str) -> Result<u32, CliFault>
 
 /// The words of this name.
 fn several<'m, 'a>(matches: &'m ArgMatches<'a>, name: &str) -> Result<&'m [&'a str], CliFault>
-    ensures { MatchResult result (λ words. AreWords (rows_in matches.now) name.now (map (λ word. word.now) words.now)) NamesNoPath }
+    ensures { MatchResult result (λ words. AreValues (rows_matched matches.now) name.now (map (λ word. word.now) words.now)) NamesNoPath }
 {
     matches.get_strs(name).ok_or(CliFault::Words)
 }
@@ -120,7 +120,7 @@ fn list<'a>(alloc: Global, words: &[&'a str]) -> Result<Vec<&'a str>, CliFault>
 
 /// The words of a recording: RECORD, WIDTH and HEIGHT.
 fn recording_words<'a>(matches: &ArgMatches<'a>) -> Result<Recording<'a>, CliFault>
-    ensures { MatchResult result (IsRecording (rows_in matches.now)) NamesNoPath }
+    ensures { MatchResult result (IsRecording (rows_matched matches.now)) NamesNoPath }
 {
     Ok(Recording {
         record: word(matches, "RECORD")?,
@@ -131,7 +131,7 @@ fn recording_words<'a>(matches: &ArgMatches<'a>) -> Result<Recording<'a>, CliFau
 
 /// The words of `take`.
 fn take_words<'a>(alloc: Global, matches: &ArgMatches<'a>) -> Result<Words<'a>, CliFault>
-    ensures { ReadsWords (rows_in matches.now) (codes "take") result }
+    ensures { ReadsWords (rows_matched matches.now) (codes "take") result }
 {
     Ok(Words::Take {
         recording: recording_words(matches)?,
@@ -142,7 +142,7 @@ fn take_words<'a>(alloc: Global, matches: &ArgMatches<'a>) -> Result<Words<'a>, 
 
 /// The words of `join`.
 fn join_words<'a>(alloc: Global, matches: &ArgMatches<'a>) -> Result<Words<'a>, CliFault>
-    ensures { ReadsWords (rows_in matches.now) (codes "join") result }
+    ensures { ReadsWords (rows_matched matches.now) (codes "join") result }
 {
     let [first, others @ ..] = several(matches, "HOLD")? else {
         return Err(CliFault::Words);
@@ -156,7 +156,7 @@ fn join_words<'a>(alloc: Global, matches: &ArgMatches<'a>) -> Result<Words<'a>, 
 
 /// The words of `merge`.
 fn merge_words<'a>(matches: &ArgMatches<'a>) -> Result<Words<'a>, CliFault>
-    ensures { ReadsWords (rows_in matches.now) (codes "merge") result }
+    ensures { ReadsWords (rows_matched matches.now) (codes "merge") result }
 {
     Ok(Words::Merge {
         out: word(matches, "OUT")?,
@@ -167,7 +167,7 @@ fn merge_words<'a>(matches: &ArgMatches<'a>) -> Result<Words<'a>, CliFault>
 
 /// The words of `splice`.
 fn splice_words<'a>(alloc: Global, matches: &ArgMatches<'a>) -> Result<Words<'a>, CliFault>
-    ensures { ReadsWords (rows_in matches.now) (codes "splice") result }
+    ensures { ReadsWords (rows_matched matches.now) (codes "splice") result }
 {
     Ok(Words::Splice {
         out: word(matches, "OUT")?,
@@ -177,7 +177,7 @@ fn splice_words<'a>(alloc: Global, matches: &ArgMatches<'a>) -> Result<Words<'a>
 
 /// The words of `mend`.
 fn mend_words<'a>(alloc: Global, matches: &ArgMatches<'a>) -> Result<Words<'a>, CliFault>
-    ensures { ReadsWords (rows_in matches.now) (codes "mend") result }
+    ensures { ReadsWords (rows_matched matches.now) (codes "mend") result }
 {
     Ok(Words::Mend {
         list: word(matches, "LIST")?,
@@ -188,7 +188,7 @@ fn mend_words<'a>(alloc: Global, matches: &ArgMatches<'a>) -> Result<Words<'a>, 
 
 /// The words of `decode`.
 fn decode_words<'a>(matches: &ArgMatches<'a>) -> Result<Words<'a>, CliFault>
-    ensures { ReadsWords (rows_in matches.now) (codes "decode") result }
+    ensures { ReadsWords (rows_matched matches.now) (codes "decode") result }
 {
     Ok(Words::Decode {
         recording: recording_words(matches)?,
@@ -203,7 +203,7 @@ fn hold_words_of<'a>(
     name: &str,
     matches: &ArgMatches<'a>,
 ) -> Result<Words<'a>, CliFault>
-    ensures { ReadsWords (rows_in matches.now) name.now result }
+    ensures { ReadsWords (rows_matched matches.now) name.now result }
 {
     match name {
         "join" => join_words(alloc, matches),
@@ -225,7 +225,7 @@ fn hold_words_of<'a>(
 
 /// The command of this name, with its words.
 fn words_of<'a>(alloc: Global, name: &str, matches: &ArgMatches<'a>) -> Result<Words<'a>, CliFault>
-    ensures { ReadsWords (rows_in matches.now) name.now result }
+    ensures { ReadsWords (rows_matched matches.now) name.now result }
 {
     match name {
         "chain" => Ok(Words::Chain {

@@ -9,7 +9,7 @@ ghost use Rattle.ffv1_words.specs.WordPaths.{IsPathOf};
 pub use ffv1_commands::{
     CliFault, any_order_makes_one_file, commands_restore_the_original, mend_claims_what_is_vouched,
     mend_gives_the_original, mend_makes_what_is_listed, same_copies_make_one_file,
-    same_copies_make_one_splice, splice_gives_the_original, splice_tells_whole_frames,
+    same_copies_make_one_splice, splice_gives_the_original, splice_reports_whole_frames,
     splice_weaves_the_original,
 };
 use ffv1_files::OutputFile;
@@ -22,30 +22,30 @@ use std::{env, io};
 
 /// Reports a fault in one line on standard error, and returns its exit status. The path is the text of the one that the
 /// fault names.
-fn tell(rt: &(impl Eprint + AllocGlobal), fault: &CliFault, path: &str) -> ExitCode {
-    let told = match fault.line(rt.alloc(), path) {
+fn report(rt: &(impl Eprint + AllocGlobal), fault: &CliFault, path: &str) -> ExitCode {
+    let reported = match fault.line(rt.alloc(), path) {
         Ok(line) => eprintln!(rt; "ffv1restore: {line}"),
         Err(_) => eprintln!(rt; "ffv1restore: memory"),
     };
     // Nothing more can be reported if standard error fails too.
-    let _ = told;
+    let _ = reported;
     ExitCode::from(fault.status())
 }
 
 /// Reports a fault that comes before there is a command, whose paths it could name.
-fn tell_early(rt: &(impl Eprint + AllocGlobal), fault: &CliFault) -> ExitCode
+fn report_early(rt: &(impl Eprint + AllocGlobal), fault: &CliFault) -> ExitCode
     requires { NamesNoPath fault.now }
 {
-    tell(rt, fault, "")
+    report(rt, fault, "")
 }
 
 /// Reports a fault of the command of these words.
-fn tell_of(rt: &(impl Eprint + AllocGlobal), fault: &CliFault, words: &Words<'_>) -> ExitCode
+fn report_of(rt: &(impl Eprint + AllocGlobal), fault: &CliFault, words: &Words<'_>) -> ExitCode
     requires { NamesPath (IsPathOf words.now) fault.now }
 {
     match fault.path() {
-        Some(path) => tell(rt, fault, words.path(path)),
-        None => tell(rt, fault, ""),
+        Some(path) => report(rt, fault, words.path(path)),
+        None => report(rt, fault, ""),
     }
 }
 
@@ -89,12 +89,12 @@ fn run_words<'a>(rt: &'a HostRuntime, words: &Words<'a>) -> Result<bool, CliFaul
 fn run_given<'a>(rt: &'a HostRuntime, given: &'a [String]) -> ExitCode {
     let words = match read_words(rt.alloc(), given) {
         Ok(words) => words,
-        Err(fault) => return tell_early(rt, &fault),
+        Err(fault) => return report_early(rt, &fault),
     };
     match run_words(rt, &words) {
         Ok(true) => ExitCode::SUCCESS,
         Ok(false) => ExitCode::from(3),
-        Err(fault) => tell_of(rt, &fault, &words),
+        Err(fault) => report_of(rt, &fault, &words),
     }
 }
 
@@ -102,6 +102,6 @@ fn main(rt: HostRuntime) -> ExitCode {
     let _held = hold_streams(&rt);
     match given_words(&rt) {
         Ok(given) => run_given(&rt, given.as_slice()),
-        Err(fault) => tell_early(&rt, &fault),
+        Err(fault) => report_early(&rt, &fault),
     }
 }

@@ -9,7 +9,7 @@ returns-in_err-payload g c =
     let p = err_from_is_err_and c.from_residual.result c.from_residual.ensures.1 in
     let f = c.in_err-payload.field-0.0 in
     rw (p.1, p.2) (record {
-      told = payload_unread f (g.R.Source.log c.args.frame.now) (g.R.Source.log c.read_file.new.source) (g.W.Sink.log c.args.output.now)
+      reported = payload_unread f (g.R.Source.log c.args.frame.now) (g.R.Source.log c.read_file.new.source) (g.W.Sink.log c.args.output.now)
           c.in_err-payload.ensures;
       untouched = payload_untouched f (g.R.Source.log c.args.frame.now) (g.R.Source.log c.read_file.new.source) c.args.output.now
           c.in_err-payload.ensures;
@@ -19,16 +19,16 @@ pub returns-in_err-text : goal.returns-in_err-text
 returns-in_err-text g c =
     let p = err_from_is_err_and c.from_residual-in_err-text.result c.from_residual-in_err-text.ensures.1 in
     let read = c.in_ok-payload.ensures in
-    rw (p.1, p.2) (record { told = ((c.in_ok-payload.payload.items, read.read, read.few), refl); untouched = refl {a = c.args.output.now} })
+    rw (p.1, p.2) (record { reported = ((c.in_ok-payload.payload.items, read.read, read.few), refl); untouched = refl {a = c.args.output.now} })
 
 pub returns-in-Ok : goal.returns-in-Ok
 returns-in-Ok g c =
-    let (all, told, wrote) = c.in-Ok.ensures in
-    let of_payload = subst (λ (payload : List ℕ). IsChainText payload all) c.as_slice.ensures.value told in
-    record { told = (c.in_ok-payload.payload.items, all, c.in_ok-payload.ensures, of_payload, wrote); untouched = tt }
+    let (all, reported, wrote) = c.in-Ok.ensures in
+    let of_payload = subst (λ (payload : List ℕ). IsChainText payload all) c.as_slice.ensures.value reported in
+    record { reported = (c.in_ok-payload.payload.items, all, c.in_ok-payload.ensures, of_payload, wrote); untouched = tt }
 
 pub returns : goal.returns
 returns g c =
-    let (all, told, wrote) = c.in-Err.ensures in
-    let of_payload = subst (λ (payload : List ℕ). IsChainText payload all) c.as_slice.ensures.value told in
-    record { told = (refl, (c.in_ok-payload.payload.items, all, c.in_ok-payload.ensures, of_payload, wrote)); untouched = tt }
+    let (all, reported, wrote) = c.in-Err.ensures in
+    let of_payload = subst (λ (payload : List ℕ). IsChainText payload all) c.as_slice.ensures.value reported in
+    record { reported = (refl, (c.in_ok-payload.payload.items, all, c.in_ok-payload.ensures, of_payload, wrote)); untouched = tt }

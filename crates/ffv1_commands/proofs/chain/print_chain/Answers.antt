@@ -10,33 +10,33 @@ use Rattle.ffv1_commands.proofs.chain.print_chain.Goals as goal
 pub loop-link-init : goal.loop-link-init
 loop-link-init g c = record {
   large = c.requires.large;
-  told = ([], refl, record { printed = []; split = sym c.requires.empty; written = Writes-nil _ });
+  reported = ([], refl, record { printed = []; split = sym c.requires.empty; written = Writes-nil _ });
 }
 
 pub loop-link-preserved : goal.loop-link-preserved
 loop-link-preserved g c =
-    let told = c.loop-link.invariant.told in
+    let reported = c.loop-link.invariant.reported in
     let link = c.in-Some.link in
     record {
       large = c.print_link.ensures.large;
-      told = (
-        told.0 ++ link_line link,
-        lines-more told.0 _ link c.loop-link.chain.left c.next_link.new.chain.left told.1 c.in-Some.ensures.some,
-        front-more _ _ _ _ _ (link_line link) told.2 _ c.in_ok-print_link.ensures.ok,
+      reported = (
+        reported.0 ++ link_line link,
+        lines-more reported.0 _ link c.loop-link.chain.left c.next_link.new.chain.left reported.1 c.in-Some.ensures.some,
+        front-more _ _ _ _ _ (link_line link) reported.2 _ c.in_ok-print_link.ensures.ok,
       );
     }
 
 pub returns-in_err-print_link : goal.returns-in_err-print_link
 returns-in_err-print_link g c =
     let p = err_from_is_err_and c.from_residual.result c.from_residual.ensures.1 in
-    let told = c.loop-link.invariant.told in
+    let reported = c.loop-link.invariant.reported in
     let ends = subst (λ (payload : List ℕ). EndsAs payload c.end-end.result) c.new-chain.ensures.payload c.end-end.ensures in
-    rw p.1 (link_fails _ _ _ _ told.0 c.new-chain.result.left c.loop-link.chain.left c.end-end.result told.1 told.2 c.args.payload.now
+    rw p.1 (link_fails _ _ _ _ reported.0 c.new-chain.result.left c.loop-link.chain.left c.end-end.result reported.1 reported.2 c.args.payload.now
     c.new-chain.ensures.links ends c.in_err-print_link.ensures.err)
 
 pub returns : goal.returns
 returns g c =
-    let told = c.loop-link.invariant.told in
+    let reported = c.loop-link.invariant.reported in
     let ends = subst (λ (payload : List ℕ). EndsAs payload c.end-end.result) c.new-chain.ensures.payload c.end-end.ensures in
-    end_printed _ _ _ _ told.0 c.new-chain.result.left c.loop-link.chain.left c.end-end.result told.1 told.2 c.args.payload.now
+    end_printed _ _ _ _ reported.0 c.new-chain.result.left c.loop-link.chain.left c.end-end.result reported.1 reported.2 c.args.payload.now
     c.new-chain.ensures.links ends c.print_end.result c.in_default.ensures.none c.print_end.ensures

@@ -8,7 +8,7 @@ use Rattle.ffv1_commands.proofs.chain.print_chain.Given as goal
 abbrev pub invariant-loop-link : goal.invariant-loop-link
 invariant-loop-link g l = record {
   large : room ≤ string_capacity l.text;
-  told : (lines : List ℕ) × (lines ++ flat_map link_line l.chain.left ≡ flat_map link_line l.initial.chain.left)
+  reported : (lines : List ℕ) × (lines ++ flat_map link_line l.chain.left ≡ flat_map link_line l.initial.chain.left)
       × PrintsFront (g.W.Sink.log l.initial.output) (g.W.Sink.log l.output) (string_bytes l.text) lines;
 }
 

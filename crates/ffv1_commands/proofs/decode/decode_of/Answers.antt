@@ -15,7 +15,7 @@ returns-in_err-decoder g c =
     let stops = c.in_err-decoder.ensures.err in
     let kept = record_both c.args.width c.args.height _ _ c.args.out.now c.args.output.now f stops in
     let first = record_in_turn c.args.width c.args.height _ _ (c.args.input.now ≡ c.args.input.now) refl f stops in
-    rw (p.1, p.2) (record { told = inl (stops, refl, (refl, refl)); untouched = kept; in_turn = first })
+    rw (p.1, p.2) (record { reported = inl (stops, refl, (refl, refl)); untouched = kept; in_turn = first })
 
 pub returns-in_err-frame : goal.returns-in_err-frame
 returns-in_err-frame g c =
@@ -26,7 +26,7 @@ returns-in_err-frame g c =
     let b = g.F.Source.log c.read_frame.new.input in
     let stops = c.in_err-frame.ensures.err in
     rw (p.1, p.2) (record {
-      told = inr (value, c.in_ok-decoder.ensures.ok, inl (stops, (refl, refl)));
+      reported = inr (value, c.in_ok-decoder.ensures.ok, inl (stops, (refl, refl)));
       untouched = untouched_both c.args.out.now c.args.output.now f (FrameStops-says IsUnwritten value a b f tt tt (λ fault. tt) stops);
       in_turn = FrameStops-says (λ fault. IfOfRecord fault (c.read_frame.new.input ≡ c.args.input.now)) value a b f (λ is. absurd (cc)) tt (λ fault. tt) stops;
     })
@@ -36,7 +36,7 @@ returns-in_err-line g c =
     let p = err_from_is_err_and c.from_residual-in_err-line.result c.from_residual-in_err-line.ensures.1 in
     let is = c.in_ok-frame.ensures.ok in
     rw (p.1, p.2) (record {
-      told = inr (c.in_ok-decoder.decoder, c.in_ok-decoder.ensures.ok, inl ((is.payload, is.read.read, is.read.few), (refl, refl)));
+      reported = inr (c.in_ok-decoder.decoder, c.in_ok-decoder.ensures.ok, inl ((is.payload, is.read.read, is.read.few), (refl, refl)));
       untouched = (refl {a = c.args.out.now}, refl {a = c.args.output.now});
       in_turn = tt;
     })
@@ -49,7 +49,7 @@ returns g c =
     let r = c.write_shown.result in
     let wrote = c.write_shown.ensures in
     record {
-      told = decoded c.args.width c.args.height _ _ _ _ _ _ _ _ c.in_ok-decoder.decoder c.in_ok-decoder.ensures.ok frame c.in_ok-frame.ensures.ok line size r wrote;
+      reported = decoded c.args.width c.args.height _ _ _ _ _ _ _ _ c.in_ok-decoder.decoder c.in_ok-decoder.ensures.ok frame c.in_ok-frame.ensures.ok line size r wrote;
       untouched = both_untouched (raw_bytes frame) line _ _ _ _ _ r wrote;
       in_turn = both_in_turn (raw_bytes frame) line _ _ _ _ _ r wrote;
     }

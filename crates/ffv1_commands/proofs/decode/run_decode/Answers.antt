@@ -6,7 +6,7 @@ use Rattle.ffv1_commands.proofs.decode.run_decode.Goals as goal
 
 pub returns : goal.returns
 returns g c =
-    let bytes = decode_of_bytes _ _ _ _ _ _ _ _ _ _ c.decode_of.result c.decode_of.ensures.told in
+    let bytes = decode_of_bytes _ _ _ _ _ _ _ _ _ _ c.decode_of.result c.decode_of.ensures.reported in
     let kept = both_through c.decode_of.result _ _ _ _ _ _ c.new-3.ensures.writer c.new-4.ensures.writer c.decode_of.ensures.untouched in
     record {
       ok = search (rules, bytes.ok);

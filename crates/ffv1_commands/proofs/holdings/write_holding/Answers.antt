@@ -4,9 +4,9 @@ use Rattle.ffv1_commands.proofs.holdings.write_holding.Goals as goal
 pub returns-in-Ok : goal.returns-in-Ok
 returns-in-Ok g c =
     let e = c.in-Ok.ensures in
-    record { told = (record { sound = e.sound; fits = e.saved.0 }, e.saved.1); untouched = tt }
+    record { reported = (record { sound = e.sound; fits = e.saved.0 }, e.saved.1); untouched = tt }
 
-pub returns-in-Err-TooLong-clause-told : goal.returns-in-Err-TooLong-clause-told
-returns-in-Err-TooLong-clause-told g c =
+pub returns-in-Err-TooLong-clause-reported : goal.returns-in-Err-TooLong-clause-reported
+returns-in-Err-TooLong-clause-reported g c =
     let saved = rw c.in-Err-TooLong.field-0-is at c.in-Err-TooLong.ensures.saved in
     ((refl, saved.0), saved.1)

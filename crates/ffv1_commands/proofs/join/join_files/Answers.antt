@@ -11,8 +11,8 @@ use Rattle.ffv1_commands.proofs.join.join_files.Goals as goal
 
 pub loop-index-init : goal.loop-index-init
 loop-index-init g c =
-    let told = c.in_ok-push_file.ensures ∙ ap (λ t. t ++ file_line 1 c.size.result) c.requires.none ∙ ap (file_line 1) c.size.ensures in
-    record { joined = all_first _ _ c.in_ok-whole.whole _ told c.in_ok-whole.ensures.read; others = refl }
+    let reported = c.in_ok-push_file.ensures ∙ ap (λ t. t ++ file_line 1 c.size.result) c.requires.none ∙ ap (file_line 1) c.size.ensures in
+    record { joined = all_first _ _ c.in_ok-whole.whole _ reported c.in_ok-whole.ensures.read; others = refl }
 
 pub loop-index-preserved : goal.loop-index-preserved
 loop-index-preserved g c =

@@ -9,7 +9,7 @@ returns-in_err-first g c =
 
 pub returns : goal.returns
 returns g c =
-    let bytes = join_of_bytes _ _ _ _ _ _ _ _ _ c.join_of.result c.join_of.ensures.told in
+    let bytes = join_of_bytes _ _ _ _ _ _ _ _ _ c.join_of.result c.join_of.ensures.reported in
     let kept = both_through c.join_of.result _ _ _ _ _ _ c.new.ensures.writer c.new-2.ensures.writer c.join_of.ensures.untouched in
     record {
       ok = search (rules, bytes.ok);

@@ -19,15 +19,15 @@ returns-in_err-readers-clause-err g c =
 
 pub returns-clause-ok : goal.returns-clause-ok
 returns-clause-ok g c =
-    let bytes = mend_of_files _ g.C.Read.remaining _ _ c.args.copies.items c.as_mut_slice.ensures.value c.in_ok-readers.ensures _ _ _ _ _ _ _ c.mend_of.result c.mend_of.ensures.told in
+    let bytes = mend_of_files _ g.C.Read.remaining _ _ c.args.copies.items c.as_mut_slice.ensures.value c.in_ok-readers.ensures _ _ _ _ _ _ _ c.mend_of.result c.mend_of.ensures.reported in
     search (rules, bytes.ok)
 
 pub returns-clause-err : goal.returns-clause-err
 returns-clause-err g c =
-    let bytes = mend_of_files _ g.C.Read.remaining _ _ c.args.copies.items c.as_mut_slice.ensures.value c.in_ok-readers.ensures _ _ _ _ _ _ _ c.mend_of.result c.mend_of.ensures.told in
+    let bytes = mend_of_files _ g.C.Read.remaining _ _ c.args.copies.items c.as_mut_slice.ensures.value c.in_ok-readers.ensures _ _ _ _ _ _ _ c.mend_of.result c.mend_of.ensures.reported in
     search (rules, bytes.err)
 
 pub returns-clause-names : goal.returns-clause-names
 returns-clause-names g c =
-    let bytes = mend_of_files _ g.C.Read.remaining _ _ c.args.copies.items c.as_mut_slice.ensures.value c.in_ok-readers.ensures _ _ _ _ _ _ _ c.mend_of.result c.mend_of.ensures.told in
+    let bytes = mend_of_files _ g.C.Read.remaining _ _ c.args.copies.items c.as_mut_slice.ensures.value c.in_ok-readers.ensures _ _ _ _ _ _ _ c.mend_of.result c.mend_of.ensures.reported in
     subst (λ (n : ℕ). IfErr c.mend_of.result (NamesPath (IsMendPath n))) (length-map c.args.copies.items g.C.Read.remaining ∙ sym c.args.copies.ok.0) bytes.names

@@ -1,14 +1,14 @@
 use Rattle.std.proofs.Common.{◌≡◌, rules, refl}
-use Rattle.ffv1_hold.specs.JoinedStreams.{WritesFrontSoFar}
+use Rattle.ffv1_hold.specs.MergedStreams.{WritesFrontSoFar}
 use Rattle.ffv1_hold.specs.declared.file_fault.HoldFileFault.TheVariants.{Write}
 use Rattle.ffv1_commands.proofs.MergedFiles.{leaves_front, answers_other_heads}
 use Rattle.ffv1_commands.proofs.merge.merge_of.Goals as goal
 
-pub returns-in-Ok-clause-told : goal.returns-in-Ok-clause-told
-returns-in-Ok-clause-told g c = (c.in-Ok.ensures.joined, c.in-Ok.ensures.went)
+pub returns-in-Ok-clause-reported : goal.returns-in-Ok-clause-reported
+returns-in-Ok-clause-reported g c = (c.in-Ok.ensures.joined, c.in-Ok.ensures.went)
 
-pub returns-in-Err-clause-told : goal.returns-in-Err-clause-told
-returns-in-Err-clause-told g c =
+pub returns-in-Err-clause-reported : goal.returns-in-Err-clause-reported
+returns-in-Err-clause-reported g c =
     let front : c.in-Err.fault ≡ Write → WritesFrontSoFar (record {
       left_old = (g.R.Source.log c.args.left.now).remaining;
       left_new = (g.R.Source.log c.join_streams.new.left).remaining;

@@ -1,6 +1,6 @@
 use Rattle.std.proofs.Common.{rules, List, ℕ, Option, sym, subst, ap}
 use Rattle.ffv1_devices.specs.Logs.{ReadLog}
-use Rattle.ffv1_hold.specs.JoinedStreams.{BeginsWithHead, IsFileOf}
+use Rattle.ffv1_hold.specs.MergedStreams.{BeginsWithHead, IsFileOf}
 use Rattle.ffv1_commands.proofs.MergedFiles.{merge_of_bytes}
 use Rattle.ffv1_commands.proofs.merge.run_merge.Goals as goal
 
@@ -19,18 +19,18 @@ returns-clause-only g c v w one two same left right =
 
 pub returns-clause-ok : goal.returns-clause-ok
 returns-clause-ok g c =
-    let bytes = merge_of_bytes _ _ c.merge_of.result c.merge_of.ensures.told in
+    let bytes = merge_of_bytes _ _ c.merge_of.result c.merge_of.ensures.reported in
     search (rules, bytes.ok)
 
 pub returns-clause-err : goal.returns-clause-err
 returns-clause-err g c =
-    let bytes = merge_of_bytes _ _ c.merge_of.result c.merge_of.ensures.told in
+    let bytes = merge_of_bytes _ _ c.merge_of.result c.merge_of.ensures.reported in
     search (rules, bytes.err)
 
 pub returns-clause-leaves : goal.returns-clause-leaves
 returns-clause-leaves g c =
-    let bytes = merge_of_bytes _ _ c.merge_of.result c.merge_of.ensures.told in
+    let bytes = merge_of_bytes _ _ c.merge_of.result c.merge_of.ensures.reported in
     search (rules, bytes.leaves)
 
 pub returns-clause-names : goal.returns-clause-names
-returns-clause-names g c = (merge_of_bytes _ _ c.merge_of.result c.merge_of.ensures.told).names
+returns-clause-names g c = (merge_of_bytes _ _ c.merge_of.result c.merge_of.ensures.reported).names

@@ -13,19 +13,19 @@ pub returns-in_err-holding : goal.returns-in_err-holding
 returns-in_err-holding g c =
     let p = err_from_is_err_and c.from_residual.result c.from_residual.ensures.1 in
     let stops = c.in_err-holding.ensures.read in
-    rw (p.1, p.2) (record { told = inl (stops, (refl, refl)); untouched = unread_both _ _ c.args.out.now c.args.output.now c.in_err-holding.field-0.0 stops })
+    rw (p.1, p.2) (record { reported = inl (stops, (refl, refl)); untouched = unread_both _ _ c.args.out.now c.args.output.now c.in_err-holding.field-0.0 stops })
 
 pub returns-in_err-partial : goal.returns-in_err-partial
 returns-in_err-partial g c =
     let p = err_from_is_err_and c.from_residual-in_err-partial.result c.from_residual-in_err-partial.ensures.1 in
     let kept = kept_both c.args.out.now c.args.output.now in
-    rw (p.1, p.2) (record { told = inr (c.in_ok-holding.holding, c.in_ok-holding.ensures.read, (refl, refl)); untouched = kept })
+    rw (p.1, p.2) (record { reported = inr (c.in_ok-holding.holding, c.in_ok-holding.ensures.read, (refl, refl)); untouched = kept })
 
 pub returns-in_err-lines : goal.returns-in_err-lines
 returns-in_err-lines g c =
     let p = err_from_is_err_and c.from_residual-in_err-lines.result c.from_residual-in_err-lines.ensures.1 in
     let kept = kept_both c.args.out.now c.args.output.now in
-    rw (p.1, p.2) (record { told = inr (c.in_ok-holding.holding, c.in_ok-holding.ensures.read, (refl, refl)); untouched = kept })
+    rw (p.1, p.2) (record { reported = inr (c.in_ok-holding.holding, c.in_ok-holding.ensures.read, (refl, refl)); untouched = kept })
 
 pub returns-in_err-write_shown : goal.returns-in_err-write_shown
 returns-in_err-write_shown g c =
@@ -35,7 +35,7 @@ returns-in_err-write_shown g c =
     let h = c.in_ok-holding.holding in
     let stops = picture_stopped _ _ _ _ h c.in_ok-partial.partial c.as_str.result.now c.in_ok-partial.ensures.partial text f c.in_err-write_shown.ensures in
     rw (p.1, p.2) (record {
-      told = inr (h, c.in_ok-holding.ensures.read, stops);
+      reported = inr (h, c.in_ok-holding.ensures.read, stops);
       untouched = both_untouched (raw_bytes c.in_ok-partial.partial.frame) c.as_str.result.now _ _ _ _ {T = Unit {0}} _ (Err f) c.in_err-write_shown.ensures;
     })
 
@@ -45,7 +45,7 @@ returns g c =
     let whole = subst (λ (all : List TileOutcome). IsTrue c.are_decoded.result ↔ All IsDecoded all) c.as_slice-2.ensures.value c.are_decoded.ensures in
     let wrote = c.in_ok-write_shown.ensures in
     record {
-      told = (
+      reported = (
         c.in_ok-holding.holding,
         c.in_ok-holding.ensures.read,
         shown _ _ _ _ c.in_ok-holding.holding c.in_ok-partial.partial

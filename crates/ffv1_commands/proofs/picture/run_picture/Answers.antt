@@ -9,6 +9,6 @@ returns-in_err-file g c =
 
 pub returns : goal.returns
 returns g c =
-    let bytes = picture_of_bytes _ _ _ _ _ _ c.picture_of.result c.picture_of.ensures.told in
+    let bytes = picture_of_bytes _ _ _ _ _ _ c.picture_of.result c.picture_of.ensures.reported in
     let kept = both_through c.picture_of.result _ _ _ _ _ _ c.new.ensures.writer c.new-2.ensures.writer c.picture_of.ensures.untouched in
     record { ok = search (rules, bytes.ok); err = search (rules, bytes.err); untouched = search (rules, kept); names = bytes.names }

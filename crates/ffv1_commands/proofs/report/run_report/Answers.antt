@@ -9,6 +9,6 @@ returns-in_err-file g c =
 
 pub returns : goal.returns
 returns g c =
-    let bytes = report_of_bytes _ _ _ _ c.report_of.result c.report_of.ensures.told in
+    let bytes = report_of_bytes _ _ _ _ c.report_of.result c.report_of.ensures.reported in
     let kept = one_through c.report_of.result _ _ _ c.new.ensures.writer c.report_of.ensures.untouched in
     record { ok = search (rules, bytes.ok); err = search (rules, bytes.err); untouched = search (rules, kept); names = bytes.names }

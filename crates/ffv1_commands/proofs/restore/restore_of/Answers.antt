@@ -12,7 +12,7 @@ pub returns-in_err-holding : goal.returns-in_err-holding
 returns-in_err-holding g c =
     let p = err_from_is_err_and c.from_residual.result c.from_residual.ensures.1 in
     let stops = c.in_err-holding.ensures.read in
-    rw (p.1, p.2) (record { told = inl (stops, (refl, refl)); untouched = unread_both _ _ c.args.out.now c.args.output.now c.in_err-holding.field-0.0 stops })
+    rw (p.1, p.2) (record { reported = inl (stops, (refl, refl)); untouched = unread_both _ _ c.args.out.now c.args.output.now c.in_err-holding.field-0.0 stops })
 
 pub returns-in_err-payload : goal.returns-in_err-payload
 returns-in_err-payload g c =
@@ -21,7 +21,7 @@ returns-in_err-payload g c =
     let refused = refused_at c.in_ok-holding.holding (g.O.Sink.log c.args.out.now) (g.W.Sink.log c.args.output.now) f c.in_err-payload.ensures.refused in
     let none = of_restore-says IsUnwritten f (λ tile. tt) (λ tile. tt) tt in
     rw (p.1, p.2) (record {
-      told = inr (c.in_ok-holding.holding, c.in_ok-holding.ensures.read, refused);
+      reported = inr (c.in_ok-holding.holding, c.in_ok-holding.ensures.read, refused);
       untouched = untouched_both c.args.out.now c.args.output.now (of_restore f) none;
     })
 
@@ -29,16 +29,16 @@ pub returns-in_err-line : goal.returns-in_err-line
 returns-in_err-line g c =
     let p = err_from_is_err_and c.from_residual-in_err-line.result c.from_residual-in_err-line.ensures.1 in
     let kept = kept_both c.args.out.now c.args.output.now in
-    rw (p.1, p.2) (record { told = inr (c.in_ok-holding.holding, c.in_ok-holding.ensures.read, (c.in_ok-payload.ensures.settled, (refl, refl))); untouched = kept })
+    rw (p.1, p.2) (record { reported = inr (c.in_ok-holding.holding, c.in_ok-holding.ensures.read, (c.in_ok-payload.ensures.settled, (refl, refl))); untouched = kept })
 
 pub returns : goal.returns
 returns g c =
     let payload = c.as_slice.result.now in
     let line = c.as_str.result.now in
     let wrote = c.as_slice.ensures.value ∙ c.in_ok-payload.ensures.ok in
-    let told = c.as_str.ensures.value ∙ c.in_ok-line.ensures ∙ ap restored_line (c.len.ensures ∙ sym c.as_slice.ensures.len) in
+    let reported = c.as_str.ensures.value ∙ c.in_ok-line.ensures ∙ ap restored_line (c.len.ensures ∙ sym c.as_slice.ensures.len) in
     record {
-      told = restored _ _ _ _ _ _ c.in_ok-holding.holding payload line c.in_ok-holding.ensures.read c.in_ok-payload.ensures.settled wrote told
+      reported = restored _ _ _ _ _ _ c.in_ok-holding.holding payload line c.in_ok-holding.ensures.read c.in_ok-payload.ensures.settled wrote reported
           c.write_both.result c.write_both.ensures;
       untouched = both_untouched payload line _ _ _ _ _ c.write_both.result c.write_both.ensures;
     }

@@ -13,7 +13,7 @@ returns-in_err-config g c =
     let p = err_from_is_err_and c.from_residual.result c.from_residual.ensures.1 in
     let stops = record_unread c.args.width c.args.height _ _ c.in_err-config.field-0.0 c.in_err-config.ensures in
     let kept = record_one c.args.width c.args.height _ _ c.args.output.now c.in_err-config.field-0.0 stops in
-    rw (p.1, p.2) (record { told = record_shows _ _ _ _ (g.W.Sink.log c.args.output.now) c.in_err-config.field-0.0 stops; untouched = kept })
+    rw (p.1, p.2) (record { reported = record_shows _ _ _ _ (g.W.Sink.log c.args.output.now) c.in_err-config.field-0.0 stops; untouched = kept })
 
 pub returns-in_err-setup : goal.returns-in_err-setup
 returns-in_err-setup g c =
@@ -22,13 +22,13 @@ returns-in_err-setup g c =
     let stops = record_refused c.args.width c.args.height _ _ c.in_ok-config.config.items _ c.as_slice.ensures.value c.in_ok-config.ensures
     c.in_err-setup.field-0.0 c.in_err-setup.ensures.first in
     let kept = record_one c.args.width c.args.height _ _ c.args.output.now f stops in
-    rw (p.1, p.2) (record { told = record_shows _ _ _ _ (g.W.Sink.log c.args.output.now) f stops; untouched = kept })
+    rw (p.1, p.2) (record { reported = record_shows _ _ _ _ (g.W.Sink.log c.args.output.now) f stops; untouched = kept })
 
 pub returns-in_err-text : goal.returns-in_err-text
 returns-in_err-text g c =
     let p = err_from_is_err_and c.from_residual-in_err-text.result c.from_residual-in_err-text.ensures.1 in
     let took = c.in_ok-config.ensures in
-    rw (p.1, p.2) (record { told = ((c.in_ok-config.config.items, took.read, took.few), refl); untouched = refl {a = c.args.output.now} })
+    rw (p.1, p.2) (record { reported = ((c.in_ok-config.config.items, took.read, took.few), refl); untouched = refl {a = c.args.output.now} })
 
 pub returns : goal.returns
 returns g c =
@@ -38,6 +38,6 @@ returns g c =
     let r = c.write_file.result in
     let wrote = subst (WritesNamed paths.StandardOutput r _ _) (c.as_bytes.ensures.value ∙ c.in_ok-text.ensures) c.write_file.ensures.wrote in
     record {
-      told = setup_printed c.args.width c.args.height _ _ _ _ setup set r wrote;
+      reported = setup_printed c.args.width c.args.height _ _ _ _ setup set r wrote;
       untouched = named-untouched paths.StandardOutput _ _ _ _ r wrote;
     }

@@ -22,7 +22,7 @@ returns-in_err-read g c =
     let f = c.in_err-read.field-0.0 in
     let stops = c.in_err-read.ensures.err in
     let none = file_says IsUnwritten (paths.Copy stops.index) _ stops.stopped.0 (λ unread. tt) (λ within. tt) f stops.stopped.1 in
-    rw (p.1, p.2) (record { told = inl (stops, (refl, refl)); untouched = untouched_both c.args.out.now c.args.output.now f none })
+    rw (p.1, p.2) (record { reported = inl (stops, (refl, refl)); untouched = untouched_both c.args.out.now c.args.output.now f none })
 
 pub spliced_of-requires : goal.spliced_of-requires
 spliced_of-requires g c =
@@ -47,7 +47,7 @@ returns-in_err-spliced g c =
     subst (λ (all : List (Vec ℕ Global)). IsLengthFault (map (λ copy. copy.items) all) f) c.as_slice.ensures.value c.in_err-spliced.ensures.err in
     let none = length_says copies IsUnwritten f (λ index is. tt) tt stops in
     rw (p.1, p.2) (record {
-      told = inr (copies, c.in_ok-read.ensures.ok, length_refused copies _ _ f stops);
+      reported = inr (copies, c.in_ok-read.ensures.ok, length_refused copies _ _ f stops);
       untouched = untouched_both c.args.out.now c.args.output.now f none;
     })
 
@@ -55,7 +55,7 @@ pub returns-in_err-text : goal.returns-in_err-text
 returns-in_err-text g c =
     let p = err_from_is_err_and c.from_residual-in_err-text.result c.from_residual-in_err-text.ensures.1 in
     rw (p.1, p.2) (record {
-      told = inr (map (λ (copy : Vec ℕ Global). copy.items) c.in_ok-read.read.items, c.in_ok-read.ensures.ok, (refl, refl));
+      reported = inr (map (λ (copy : Vec ℕ Global). copy.items) c.in_ok-read.read.items, c.in_ok-read.ensures.ok, (refl, refl));
       untouched = (refl {a = c.args.out.now}, refl {a = c.args.output.now});
     })
 
@@ -70,7 +70,7 @@ returns-in_err-write_both g c =
     let text = c.as_str.ensures.value ∙ c.in_ok-text.ensures in
     let stops = splice_stopped copies _ _ _ _ spliced is c.payload.result.now c.as_str.result.now c.payload.ensures text f wrote in
     rw (p.1, p.2) (record {
-      told = inr (copies, c.in_ok-read.ensures.ok, stops);
+      reported = inr (copies, c.in_ok-read.ensures.ok, stops);
       untouched = both_untouched c.payload.result.now c.as_str.result.now _ _ _ _ {T = Unit {0}} _ (Err f) wrote;
     })
 
@@ -82,7 +82,7 @@ returns g c =
     let is = splice_of_read _ c.in_ok-read.read.items spliced c.as_slice.ensures.value c.in_ok-spliced.ensures.ok in
     let text = c.as_str.ensures.value ∙ c.in_ok-text.ensures in
     record {
-      told = (
+      reported = (
         copies,
         c.in_ok-read.ensures.ok,
         splices copies _ _ _ _ spliced is c.payload.result.now c.as_str.result.now c.payload.ensures text c.is_given_back.result

@@ -1,11 +1,11 @@
 use Rattle.std.proofs.Common.{rules}
-use Rattle.ffv1_commands.proofs.TakeTold.{take_of_bytes}
+use Rattle.ffv1_commands.proofs.TakeReported.{take_of_bytes}
 use Rattle.ffv1_commands.proofs.Wrapped.{both_through}
 use Rattle.ffv1_commands.proofs.take.run_take.Goals as goal
 
 pub returns : goal.returns
 returns g c =
-    let bytes = take_of_bytes _ _ _ _ _ _ _ _ _ _ _ c.take_of.result c.take_of.ensures.told in
+    let bytes = take_of_bytes _ _ _ _ _ _ _ _ _ _ _ c.take_of.result c.take_of.ensures.reported in
     let kept = both_through c.take_of.result _ _ _ _ _ _ c.new-2.ensures.writer c.new-3.ensures.writer c.take_of.ensures.untouched in
     record {
       ok = search (rules, bytes.ok);

@@ -19,7 +19,7 @@ loop-index-preserved g c =
     let old = c.args.copies.now in
     let kept = c.loop-index.invariant.others in
     let there : c.loop-index.index < length c.args.copies.now = omega arith in
-    let (log, one) = c.in_default.ensures.told in
+    let (log, one) = c.in_default.ensures.reported in
     let more = takes_more (take c.loop-index.index (map g.C.Read.remaining old)) c.args.holding.now.reel c.loop-index.holding c.take_copy.new.holding
     (string_bytes c.loop-index.lines) (string_bytes c.take_copy.new.lines) _ c.loop-index.index log c.loop-index.invariant.taken
     (length-inputs g.C.Read.remaining old c.loop-index.index (omega arith)) one in
@@ -45,4 +45,4 @@ pub returns-in-Err-clause-err : goal.returns-in-Err-clause-err
 returns-in-Err-clause-err g c =
     let each = c.loop-index.invariant.taken in
     stops_here c.args.copies.now c.loop-index.copies c.loop-index.index c.loop-index.invariant.others g.C.Read.remaining (omega arith)
-    c.index-copies-index.result CopyStops c.take_copy.new.copy c.in-Err.fault each.copies each.read c.in-Err.ensures.told
+    c.index-copies-index.result CopyStops c.take_copy.new.copy c.in-Err.fault each.copies each.read c.in-Err.ensures.reported

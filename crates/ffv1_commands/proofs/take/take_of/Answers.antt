@@ -5,7 +5,7 @@ use Rattle.ffv1_commands.specs.Fault.{of_setup}
 use Rattle.ffv1_commands.specs.TakeText.{TakesEach}
 use Rattle.ffv1_commands.proofs.RecordFaults.{record_unread, record_refused, record_both}
 use Rattle.ffv1_commands.proofs.InputFaults.{untouched_both}
-use Rattle.ffv1_commands.proofs.TakeTold.{reel_read, copies-unwritten, made_told}
+use Rattle.ffv1_commands.proofs.TakeReported.{reel_read, copies-unwritten, made_reported}
 use Rattle.ffv1_commands.proofs.take.take_of.Goals as goal
 
 pub returns-in_err-config : goal.returns-in_err-config
@@ -13,7 +13,7 @@ returns-in_err-config g c =
     let p = err_from_is_err_and c.from_residual.result c.from_residual.ensures.1 in
     let stops = record_unread c.args.width c.args.height _ _ c.in_err-config.field-0.0 c.in_err-config.ensures in
     let kept = record_both c.args.width c.args.height _ _ c.args.out.now c.args.output.now c.in_err-config.field-0.0 stops in
-    rw (p.1, p.2) (record { told = inl (stops, refl, (refl, refl)); untouched = kept })
+    rw (p.1, p.2) (record { reported = inl (stops, refl, (refl, refl)); untouched = kept })
 
 pub returns-in_err-holding : goal.returns-in_err-holding
 returns-in_err-holding g c =
@@ -22,7 +22,7 @@ returns-in_err-holding g c =
     let stops = record_refused c.args.width c.args.height _ _ c.in_ok-config.config.items _ c.as_slice.ensures.value c.in_ok-config.ensures
     c.in_err-holding.field-0.0 c.in_err-holding.ensures.fault in
     let kept = record_both c.args.width c.args.height _ _ c.args.out.now c.args.output.now f stops in
-    rw (p.1, p.2) (record { told = inl (stops, refl, (refl, refl)); untouched = kept })
+    rw (p.1, p.2) (record { reported = inl (stops, refl, (refl, refl)); untouched = kept })
 
 pub returns-in_err-lines : goal.returns-in_err-lines
 returns-in_err-lines g c =
@@ -33,7 +33,7 @@ returns-in_err-lines g c =
     (c.in_ok-holding.ensures.config, c.in_ok-holding.ensures.setup) in
     let stops = c.in_err-lines.ensures.err in
     rw (p.1, p.2) (record {
-      told = inr (inl (reel, reel_read _ _ _ c.args.width c.args.height reel c.in_ok-config.ensures is, stops, (refl, refl)));
+      reported = inr (inl (reel, reel_read _ _ _ c.args.width c.args.height reel c.in_ok-config.ensures is, stops, (refl, refl)));
       untouched = untouched_both c.args.out.now c.args.output.now f (copies-unwritten _ _ _ f stops);
     })
 
@@ -45,8 +45,8 @@ returns g c =
     let each = subst (TakesEach _ reel c.take_copies.new.holding) (sym c.as_str.ensures.value) c.in_ok-lines.ensures.ok in
     let r = c.write_made.result in
     record {
-      told = made_told _ c.args.width c.args.height _ _ c.args.copies.now _ _ _ _ _ c.take_copies.new.holding c.as_str.result.now
+      reported = made_reported _ c.args.width c.args.height _ _ c.args.copies.now _ _ _ _ _ c.take_copies.new.holding c.as_str.result.now
           (record { reel = reel; of_record = reel_read _ _ _ c.args.width c.args.height reel c.in_ok-config.ensures is; each = each }) r
-          c.write_made.ensures.told;
+          c.write_made.ensures.reported;
       untouched = c.write_made.ensures.untouched;
     }

@@ -33,10 +33,10 @@ returns-then-count-left g c =
     let inv = c.loop-bytes.invariant in
     let e = c.in_ok-count.ensures in
     let kept = c.loop-bytes.bytes.items in
-    let piece = take c.in_ok-count.count c.read_some.new.buf in (
-      kept ++ piece,
+    let block = take c.in_ok-count.count c.read_some.new.buf in (
+      kept ++ block,
       Reads-trans _ _ _ _ _ inv.kept e.read.0,
-      omega (arith, length-append kept piece, length-take (c.min-room.result + 1) c.loop-bytes.buf, e.bound),
+      omega (arith, length-append kept block, length-take (c.min-room.result + 1) c.loop-bytes.buf, e.bound),
     )
 
 pub returns-in_err-extend_from_slice : goal.returns-in_err-extend_from_slice
@@ -45,17 +45,17 @@ returns-in_err-extend_from_slice g c =
     let inv = c.loop-bytes.invariant in
     let e = c.in_ok-count.ensures in
     let kept = c.loop-bytes.bytes.items in
-    let piece = take c.in_ok-count.count c.read_some.new.buf in
-    rw (p.1, p.2) (kept ++ piece, Reads-trans _ _ _ _ _ inv.kept e.read.0, omega (arith, length-append kept piece, e.bound))
+    let block = take c.in_ok-count.count c.read_some.new.buf in
+    rw (p.1, p.2) (kept ++ block, Reads-trans _ _ _ _ _ inv.kept e.read.0, omega (arith, length-append kept block, e.bound))
 
 pub loop-bytes-preserved : goal.loop-bytes-preserved
 loop-bytes-preserved g c =
     let inv = c.loop-bytes.invariant in
     let e = c.in_ok-count.ensures in
     let kept = c.loop-bytes.bytes.items in
-    let piece = take c.in_ok-count.count c.read_some.new.buf in
-    let grown : c.extend_from_slice.new.self.items ≡ kept ++ piece = c.in_ok-extend_from_slice.ensures.items
+    let block = take c.in_ok-count.count c.read_some.new.buf in
+    let grown : c.extend_from_slice.new.self.items ≡ kept ++ block = c.in_ok-extend_from_slice.ensures.items
     ∙ ap (λ l. kept ++ l) (take-append-le c.in_ok-count.count c.read_some.new.buf _ e.bound.0) in
     let size : vec_len c.extend_from_slice.new.self ≡ vec_len c.loop-bytes.bytes + c.in_ok-count.count =
-    omega (arith, ap length grown, length-append kept piece, e.bound) in
+    omega (arith, ap length grown, length-append kept block, e.bound) in
     record { few = omega (arith, size); kept = subst (Reads _ _) (sym grown) (Reads-trans _ _ _ _ _ inv.kept e.read.0) }

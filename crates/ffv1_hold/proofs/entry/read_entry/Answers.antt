@@ -2,7 +2,7 @@ use Rattle.std.proofs.Common.{[], ◌∷◌, get_or, arith, refl, rules, subst}
 use Rattle.std.proofs.lemmas.Result.{err_from_is_err_and}
 use Rattle.ffv1_hold.specs.HoldingText.{slice_text}
 use Rattle.ffv1_hold.specs.Reading.{TakesText, Never}
-use Rattle.ffv1_hold.specs.FileFaults.{IsPartOfSlice, IsRight, IsPartAfter, IsPartOfEntry, SliceIsTooLong, ShowsAfter, EntryShows}
+use Rattle.ffv1_hold.specs.FileFaults.{IsPartOfSlice, IsEntryInPlace, IsPartAfter, IsPartOfEntry, SliceIsTooLong, ShowsAfter, EntryShows}
 use Rattle.ffv1_hold.proofs.TextReads.{TakesText-trans, StopsAt-part, StopsAt-after, shown}
 use Rattle.ffv1_hold.proofs.Entries.{single, entry_text-of, part_of_tag, part_of_slice, part_after_slice, slice_shows, after_shows, wrong_stops}
 use Rattle.ffv1_hold.proofs.entry.read_entry.Goals as goal
@@ -45,7 +45,7 @@ returns-in_err-origins-in-1-clause-read g c =
     let whole = TakesText-trans _ _ _ _ _ _ _ _ tag slice.read in
     let e = c.in_ok-slice-in-1.slice in
     let judged = c.in_ok-judge-in-1.ensures in
-    let right : IsRight setup last e = (record { slice = judged.slice; fits = slice.fits }, slice.follows.0 judged.place, slice.tile) in
+    let right : IsEntryInPlace setup last e = (record { slice = judged.slice; fits = slice.fits }, slice.follows.0 judged.place, slice.tile) in
     rw (p.1, p.2) (StopsAt-after (IsPartAfter v) (IsPartOfEntry v setup last) Never Never (ShowsAfter v) (EntryShows v setup last) _ _ _ _ _
     (1 ∷ slice_text e) whole _ c.in_err-origins-in-1.ensures.read (part_after_slice v setup last e right) (λ f s h. h) (after_shows v setup last e right))
 

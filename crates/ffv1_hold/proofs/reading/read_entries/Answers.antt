@@ -16,7 +16,7 @@ returns-in_err-advance g c =
     let v = c.args.reader.now.version in
     let h = c.args.holding.now in
     let none = none_read v _ _ h c.args.reader.now.held c.requires.place c.setup.ensures.sound.reel c.requires.empty c.requires.first in
-    rw (p.1, p.2) (record { read = next_refused v h.reel _ _ _ _ h _ none v _ refl c.setup.ensures.value _ _ c.in_err-advance.ensures.read; end = tt; sound = tt; told = tt; reel = tt })
+    rw (p.1, p.2) (record { read = next_refused v h.reel _ _ _ _ h _ none v _ refl c.setup.ensures.value _ _ c.in_err-advance.ensures.read; end = tt; sound = tt; stated = tt; reel = tt })
 
 pub loop-reader-init : goal.loop-reader-init
 loop-reader-init g c =
@@ -28,7 +28,7 @@ loop-reader-init g c =
       text = TakesText-trans _ _ _ _ _ _ _ _ none.text next.read;
       version = next.version;
       sound = c.setup.ensures.sound;
-      told = none.told;
+      stated = none.stated;
       reel = refl;
       entry = subst (λ (x : SetupValue). IfSome c.advance.new.self.held (IsFileEntryOf v x)) c.setup.ensures.value next.entry;
       follows = next_follows v h.reel _ _ _ _ h _ none c.advance.new.self.held next.follows;
@@ -53,9 +53,9 @@ returns-in_err-insert g c =
     let e = c.in-Some.entry in
     let entry = subst (λ (o : Option FileEntry). IfSome o (IsFileEntryOf v reel.setup)) c.in-Some.is inv.entry in
     let follows = subst (λ (o : Option FileEntry). IfSome o (λ e. Follows (last_of (file_entries h)) e.0)) c.in-Some.is inv.follows in
-    let more = one_more v reel _ _ _ _ h (with_entry h e.0 e.1) e inv.sound inv.told inv.reel entry follows
+    let more = one_more v reel _ _ _ _ h (with_entry h e.0 e.1) e inv.sound inv.stated inv.reel entry follows
     c.loop-reader.reader.held c.in-Some.is refl inv.text in
-    rw (p.1, p.2, c.in_err-insert.ensures.err.0) (record { read = memory_refused v reel _ _ _ _ _ _ more; end = tt; sound = tt; told = tt; reel = tt })
+    rw (p.1, p.2, c.in_err-insert.ensures.err.0) (record { read = memory_refused v reel _ _ _ _ _ _ more; end = tt; sound = tt; stated = tt; reel = tt })
 
 pub loop-reader-preserved : goal.loop-reader-preserved
 loop-reader-preserved g c =
@@ -66,7 +66,7 @@ loop-reader-preserved g c =
     let e = c.in-Some.entry in
     let entry = subst (λ (o : Option FileEntry). IfSome o (IsFileEntryOf v reel.setup)) c.in-Some.is inv.entry in
     let follows = subst (λ (o : Option FileEntry). IfSome o (λ e. Follows (last_of (file_entries h)) e.0)) c.in-Some.is inv.follows in
-    let more = one_more v reel _ _ _ _ h c.insert.new.holding e inv.sound inv.told inv.reel entry follows
+    let more = one_more v reel _ _ _ _ h c.insert.new.holding e inv.sound inv.stated inv.reel entry follows
     c.loop-reader.reader.held c.in-Some.is c.in_ok-insert.ensures.ok inv.text in
     let next = c.in_ok-advance-2.ensures in
     let setup = c.setup-in-Some.ensures.value ∙ ap (λ (r : Reel). r.setup) more.reel' in
@@ -74,7 +74,7 @@ loop-reader-preserved g c =
       text = next_taken v c.loop-reader.reader.version _ _ _ _ _ _ _ _ inv.version more.text next.read;
       version = next.version ∙ inv.version;
       sound = more.sound;
-      told = more.told;
+      stated = more.stated;
       reel = more.reel';
       entry = subst (λ (x : SetupValue). IfSome c.advance-in-Some.new.self.held (IsFileEntryOf v x)) setup
           (subst (λ (u : Version). IfSome c.advance-in-Some.new.self.held (IsFileEntryOf u c.setup-in-Some.result.now)) inv.version next.entry);
@@ -92,10 +92,10 @@ returns-in_err-advance-2 g c =
     let e = c.in-Some.entry in
     let entry = subst (λ (o : Option FileEntry). IfSome o (IsFileEntryOf v reel.setup)) c.in-Some.is inv.entry in
     let follows = subst (λ (o : Option FileEntry). IfSome o (λ e. Follows (last_of (file_entries h)) e.0)) c.in-Some.is inv.follows in
-    let more = one_more v reel _ _ _ _ h c.insert.new.holding e inv.sound inv.told inv.reel entry follows
+    let more = one_more v reel _ _ _ _ h c.insert.new.holding e inv.sound inv.stated inv.reel entry follows
     c.loop-reader.reader.held c.in-Some.is c.in_ok-insert.ensures.ok inv.text in
     let setup = c.setup-in-Some.ensures.value ∙ ap (λ (r : Reel). r.setup) more.reel' in
-    rw (p.1, p.2) (record { read = next_refused v reel _ _ _ _ _ _ more _ _ inv.version setup _ _ c.in_err-advance-2.ensures.read; end = tt; sound = tt; told = tt; reel = tt })
+    rw (p.1, p.2) (record { read = next_refused v reel _ _ _ _ _ _ more _ _ inv.version setup _ _ c.in_err-advance-2.ensures.read; end = tt; sound = tt; stated = tt; reel = tt })
 
 pub returns : goal.returns
 returns g c =
@@ -104,7 +104,7 @@ returns g c =
       read = rw c.in_default.is at inv.text;
       end = rw c.in_default.is at inv.at_end;
       sound = inv.sound;
-      told = inv.told;
+      stated = inv.stated;
       reel = inv.reel;
     }
 

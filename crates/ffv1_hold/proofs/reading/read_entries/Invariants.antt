@@ -3,7 +3,7 @@ use Rattle.std.specs.Io.KnownBytes.{IsAtEnd}
 use Rattle.ffv1_bits.specs.Limits.{file_limit}
 use Rattle.ffv1_hold.specs.Reading.{TakesText}
 use Rattle.ffv1_pool.specs.Contents.{IsHolding}
-use Rattle.ffv1_hold.specs.HoldingText.{entries_text, file_entries, IsTold}
+use Rattle.ffv1_hold.specs.HoldingText.{entries_text, file_entries, IsStated}
 use Rattle.ffv1_hold.specs.FileEntries.{last_of, Follows, IsFileEntryOf, next_text}
 use Rattle.ffv1_hold.proofs.reading.read_entries.Given as goal
 
@@ -14,7 +14,7 @@ invariant-loop-reader g l = record {
       (entries_text l.fn.reader.version (file_entries l.holding) ++ next_text l.fn.reader.version l.reader.held);
   version : l.reader.version ≡ l.fn.reader.version;
   sound : IsHolding l.holding;
-  told : IsTold l.fn.reader.version l.holding;
+  stated : IsStated l.fn.reader.version l.holding;
   reel : l.holding.reel ≡ l.fn.holding.reel;
   entry : IfSome l.reader.held (IsFileEntryOf l.fn.reader.version l.fn.holding.reel.setup);
   follows : IfSome l.reader.held (λ e. Follows (last_of (file_entries l.holding)) e.0);

@@ -53,7 +53,7 @@ returns g c =
       file = record {
         version = v;
         fits = record {
-          told = more.told;
+          stated = more.stated;
           record' = subst (λ (x : Reel). length x.config ≤ record_limit) (sym reel) first.reel.fits;
           text = omega (arith, whole.text.moved, whole.text.within);
         };

@@ -16,7 +16,7 @@ write_origins-requires-clause-few g c =
     let b = c.slice.result.now in
     let s = tile_slices h.slices c.args.tile in
     let lt : c.args.place < length (set.items s) = omega (arith, c.requires.held, size-items s) in
-    let few = c.requires.told (c.args.tile, b) (held_there h c.args.tile c.args.place b lt c.slice.ensures) in
+    let few = c.requires.stated (c.args.tile, b) (held_there h c.args.tile c.args.place b lt c.slice.ensures) in
     let same = c.origins_at-origins.ensures.digests b ∙ ap (λ x. digests_of h (c.args.tile, x)) (sym c.slice.ensures) in
     omega (arith, few, ap length same)
 

@@ -1,7 +1,7 @@
 use Rattle.std.proofs.Common.{◌≡◌, map, ap, ◌∙◌, subst, sym}
 use Rattle.std.proofs.lemmas.Result.{IfOk-weaker}
 use Rattle.ffv1_slice.specs.Members.{HasSameMembers}
-use Rattle.ffv1_weave.specs.Weave.{IsWeaveOf, weave_told}
+use Rattle.ffv1_weave.specs.Weave.{IsWeaveOf, weave_tally}
 use Rattle.ffv1_weave.specs.declared.check.Check.TheVariants.{Element}
 use Rattle.ffv1_weave.proofs.References.{values_of}
 use Rattle.ffv1_mend.specs.Content.{content_bytes}
@@ -28,6 +28,6 @@ returns c =
     let are : map content_bytes c.in_ok-all.all.items ≡ values_of c.as_slice-2.result.now =
     sym (ap values_of c.as_slice-2.ensures.value ∙ c.in_ok-lent.ensures ∙ ap (map content_bytes) c.as_slice.ensures.value) in
     let same = subst (HasSameMembers (improved (values_of c.args.versions.now) c.args.parts.now c.args.splices.now)) are c.in_ok-all.ensures in
-    IfOk-weaker c.weave.result (λ outcome. IsWeaveOf Element (values_of c.as_slice-2.result.now) (weave_told outcome))
-    (λ outcome. IsWeaveOf Element (improved (values_of c.args.versions.now) c.args.parts.now c.args.splices.now) (weave_told outcome))
-    (λ outcome h. weave_lent c.args.versions.now c.as_slice-2.result.now c.args.parts.now c.args.splices.now same (weave_told outcome) h) c.weave.ensures
+    IfOk-weaker c.weave.result (λ outcome. IsWeaveOf Element (values_of c.as_slice-2.result.now) (weave_tally outcome))
+    (λ outcome. IsWeaveOf Element (improved (values_of c.args.versions.now) c.args.parts.now c.args.splices.now) (weave_tally outcome))
+    (λ outcome h. weave_lent c.args.versions.now c.as_slice-2.result.now c.args.parts.now c.args.splices.now same (weave_tally outcome) h) c.weave.ensures

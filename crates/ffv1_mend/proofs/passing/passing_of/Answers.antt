@@ -1,6 +1,6 @@
 use Rattle.std.proofs.Common.{ℕ, List, [], ◌∷◌, ◌++◌, get_or, take, arith, sym, subst}
 use Rattle.ebml_crc.specs.Element.{PassesCrc32}
-use Rattle.ffv1_splice.specs.Told.{Tells}
+use Rattle.ffv1_splice.specs.Tally.{Tallies}
 use Rattle.ffv1_weave.proofs.References.{values_of, next_value, all_values, nowhere}
 use Rattle.ffv1_mend.specs.Mended.{IsPassing}
 use Rattle.ffv1_mend.specs.Passing.{passing_counted}
@@ -16,18 +16,18 @@ loop-version-preserved c =
     elim c.if-passes_crc32.branch [
       | then-passes_crc32 w ↦
           let passes : PassesCrc32 version = c.passes_crc32.ensures.0 w.if-passes_crc32.true in
-          subst (λ z. Tells (IsPassing z) (passing_counted c.if-passes_crc32.passing)) more
-          (subst (λ p. Tells (IsPassing (before ++ version ∷ [])) (passing_counted p)) (sym w.passing-is)
+          subst (λ z. Tallies (IsPassing z) (passing_counted c.if-passes_crc32.passing)) more
+          (subst (λ p. Tallies (IsPassing (before ++ version ∷ [])) (passing_counted p)) (sym w.passing-is)
           (one_passed before version (passing_counted c.loop-version.passing) (passing_counted w.with-passing.result) passes w.with-passing.ensures
           c.loop-version.invariant))
       | else-passes_crc32 w ↦
           let fails : PassesCrc32 version → ⊥ = λ p. let t = c.passes_crc32.ensures.1 p in let f = w.if-passes_crc32.false in absurd (cc) in
-          subst (λ z. Tells (IsPassing z) (passing_counted c.if-passes_crc32.passing)) more
-          (subst (λ p. Tells (IsPassing (before ++ version ∷ [])) (passing_counted p)) (sym w.passing-is)
+          subst (λ z. Tallies (IsPassing z) (passing_counted c.if-passes_crc32.passing)) more
+          (subst (λ p. Tallies (IsPassing (before ++ version ∷ [])) (passing_counted p)) (sym w.passing-is)
           (one_failed before version (passing_counted c.loop-version.passing) fails c.loop-version.invariant))
     ]
 
 pub returns : goal.returns
 returns c =
-    subst (λ z. Tells (IsPassing z) (passing_counted c.loop-version.passing)) (all_values c.args.versions.now c.loop-version.version-index (omega arith))
+    subst (λ z. Tallies (IsPassing z) (passing_counted c.loop-version.passing)) (all_values c.args.versions.now c.loop-version.version-index (omega arith))
     c.loop-version.invariant

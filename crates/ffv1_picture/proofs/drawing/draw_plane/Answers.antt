@@ -58,16 +58,16 @@ loop-row-preserved c =
     let width = c.args.width in
     let samples = c.args.samples.now in
     let mid = c.loop-row.plane in
-    let piece = c.copy_from_slice.new.self in
+    let link = c.copy_from_slice.new.self in
     let to = (r.y + n) * width + r.x in
     let from = n * r.w in
     let read : from + r.w ≤ length samples = omega (arith, row_ends 0 r.h n r.w (omega arith), c.requires.samples) in
     let of_samples = c.copy_from_slice.ensures.after in
-    let long : length piece ≡ r.w = ap length of_samples ∙ length-take-le (from + r.w - from) (drop from samples) (omega (arith, length-drop from samples))
+    let long : length link ≡ r.w = ap length of_samples ∙ length-take-le (from + r.w - from) (drop from samples) (omega (arith, length-drop from samples))
     ∙ (let e : from + r.w - from ≡ r.w = omega arith in e) in
-    let P : ℕ → Type 0 = λ k. Draws width (first_rows r (n + 1)) samples c.args.plane.now (put_mid to k mid piece) in
+    let P : ℕ → Type 0 = λ k. Draws width (first_rows r (n + 1)) samples c.args.plane.now (put_mid to k mid link) in
     subst P {x = r.w} {y = to + r.w - to} (omega arith)
-    (row_drawn width r n samples c.args.plane.now mid piece c.requires.inside.in_width
+    (row_drawn width r n samples c.args.plane.now mid link c.requires.inside.in_width
     (omega (arith, row_ends r.y r.h n width (omega arith), c.requires.inside.in_height))
     c.loop-row.invariant long
     (λ i lt. ap (λ xs. get_or xs i 0) of_samples ∙ get_or-take (from + r.w - from) (drop from samples) i 0 (omega arith) ∙ get_or-drop from samples i 0))

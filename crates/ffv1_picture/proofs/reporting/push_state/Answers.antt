@@ -3,7 +3,7 @@ use Rattle.ffv1_slice.proofs.SliceFacts.{slice_footer}
 use Rattle.ffv1_pool.specs.TileSets.{tile_slices}
 use Rattle.ffv1_pool.specs.Standing.{settled, disputed}
 use Rattle.ffv1_pool.proofs.RisingSets.{size-items}
-use Rattle.ffv1_picture.specs.ReportText.{slices_held, settled_words, disputed_words, state_words, least_status}
+use Rattle.ffv1_picture.specs.ReportText.{slices_held, settled_words, disputed_words, tile_words, least_status}
 use Rattle.ffv1_picture.proofs.SettledSlices.{settled_entry}
 use Rattle.ffv1_picture.proofs.reporting.push_state.Goals as goal
 
@@ -20,7 +20,7 @@ returns-in-Settled c =
     let held = slices_held h c.args.tile in
     let P : List ℕ → Type 0 = λ words. OnOk c.push_settled.result (string_bytes c.push_settled.new.text ≡ string_bytes c.args.text.now ++ words) in
     subst P (ap (settled_words slice) (c.held-held.ensures ∙ size-items (tile_slices h.slices c.args.tile))
-    ∙ ap (state_words held) {x = settled slice} c.in-Settled.ensures) c.push_settled.ensures
+    ∙ ap (tile_words held) {x = settled slice} c.in-Settled.ensures) c.push_settled.ensures
 
 pub returns-in-Disputed : goal.returns-in-Disputed
 returns-in-Disputed c =
@@ -31,5 +31,5 @@ returns-in-Disputed c =
     subst P
     (ap (λ status. disputed_words n status c.held-held.result) c.least_status.ensures
     ∙ ap (disputed_words n (least_status held)) (c.held-held.ensures ∙ size-items (tile_slices h.slices c.args.tile))
-    ∙ ap (state_words held) {x = disputed n} c.in-Disputed.ensures)
+    ∙ ap (tile_words held) {x = disputed n} c.in-Disputed.ensures)
     c.push_disputed.ensures

@@ -61,11 +61,11 @@ returns-in-Err-Code c =
     c.plane_rect-rect.ensures ∙ ap (λ g. plane_rect g c.args.head.now.tile c.args.plane) c.grid.ensures in
     let R : TileRect → SetTables → PlaneFault → Type 0 = λ r t fault.
     IsDecodingHalted r.w r.h (set_entry t.setup t.set) c.args.states.items c.args.bits.now.left fault in
-    let told : R c.plane_rect-rect.result c.args.tables.now (plane_faults.Code c.in-Err-Code.fault c.in-Err-Code.sample) =
+    let given : R c.plane_rect-rect.result c.args.tables.now (plane_faults.Code c.in-Err-Code.fault c.in-Err-Code.sample) =
     subst (R c.plane_rect-rect.result c.args.tables.now) c.in-Err-Code.field-0-is c.in-Err-Code.ensures.err in
     let there = subst (λ (t : SetTables). R (plane_rect (grid_of c.args.setup.now) c.args.head.now.tile c.args.plane) t
     (plane_faults.Code c.in-Err-Code.fault c.in-Err-Code.sample)) c.requires.tables
-    (subst (λ (r : TileRect). R r c.args.tables.now (plane_faults.Code c.in-Err-Code.fault c.in-Err-Code.sample)) rect told) in
+    (subst (λ (r : TileRect). R r c.args.tables.now (plane_faults.Code c.in-Err-Code.fault c.in-Err-Code.sample)) rect given) in
     let all = tile_plane_stops c.args.setup.now c.args.head.now c.args.plane c.args.states.items c.args.bits.now.left c.in-Err-Code.fault
     c.in-Err-Code.sample within.some_columns there in
     let S : TileRect → Type 0 = λ r. IsPlaneOfHalted c.args.setup.now c.args.head.now c.args.plane c.args.states.items c.args.bits.now.left

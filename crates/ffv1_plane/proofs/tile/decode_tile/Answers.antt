@@ -12,9 +12,9 @@ use Rattle.ffv1_plane.proofs.tile.decode_tile.Goals as goal
 err_not_ok : {A E : Type 0} {P : Type 0} (fault : E) (a : A) → Err fault ≡ Ok a → P
 err_not_ok fault a h = absurd cc
 
-told_head : {A B : Type 0} (fault first : HeadFault) → ◌≡◌ {A = Result A HeadFault} (Err fault) (Err first)
+given_head : {A B : Type 0} (fault first : HeadFault) → ◌≡◌ {A = Result A HeadFault} (Err fault) (Err first)
     → ◌≡◌ {A = Result B TileFault} (Err (Head fault)) (Err (Head first))
-told_head fault first h = cc
+given_head fault first h = cc
 
 pub returns-in_err-head : goal.returns-in_err-head
 returns-in_err-head c =
@@ -23,7 +23,7 @@ returns-in_err-head c =
     (record {
       ok = tt;
       found = λ picture is. err_not_ok _ _ (c.in_err-head.ensures.only is.head is.place is.is_head);
-      head = λ fault first. told_head _ _ (c.in_err-head.ensures.fault ∙ first);
+      head = λ fault first. given_head _ _ (c.in_err-head.ensures.fault ∙ first);
       other = λ head place is other. err_not_ok _ _ (c.in_err-head.ensures.only head place is);
       refused = inr (sym c.in_err-head.ensures.fault);
       stuck = λ fault plane y x is. err_not_ok _ _ (c.in_err-head.ensures.only is.head is.place is.is_head);
@@ -47,20 +47,20 @@ pub returns-in_err-planes : goal.returns-in_err-planes
 returns-in_err-planes c =
     let p = err_from_is_err_and c.from_residual-in_err-planes.result c.from_residual-in_err-planes.ensures.1 in
     let tile : c.in_ok-head.head.tile ≡ c.args.index = omega arith in
-    let told = planes_refused c.args.setup.now c.args.index c.args.content.now c.in_ok-head.head c.in_ok-head.place c.new-bits.result.left
+    let given = planes_refused c.args.setup.now c.args.index c.args.content.now c.in_ok-head.head c.in_ok-head.place c.new-bits.result.left
     c.in_ok-head.ensures.found tile c.new-bits.ensures.left _ c.in_err-planes.ensures.err in
     rw (p.1, p.2)
     (record {
       ok = tt;
       found = λ picture is. ⊎_elim (λ memory. memory) (λ refused. absurd (one_answer.no_picture c.args.setup.now c.args.index c.args.content.now _ picture
-          c.keeps_profile.ensures c.requires.tile refused is)) told;
+          c.keeps_profile.ensures c.requires.tile refused is)) given;
       head = λ fault first. err_not_ok _ _ (sym (c.in_ok-head.ensures.fault ∙ first));
       other = λ head place is other.
           let same = same_ok (head, place) (c.in_ok-head.head, c.in_ok-head.place) (sym (c.in_ok-head.ensures.only head place is)) in
           absurd (other (ap (λ z. z.0.tile) same ∙ tile));
-      refused = told;
+      refused = given;
       stuck = λ fault plane y x is. ⊎_elim (λ memory. inl memory) (λ refused. inr (one_answer.one_fault c.args.setup.now c.args.index c.args.content.now _
-          (Code fault plane y x) c.keeps_profile.ensures c.requires.tile refused is)) told;
+          (Code fault plane y x) c.keeps_profile.ensures c.requires.tile refused is)) given;
     })
 
 pub returns-clause-ok : goal.returns-clause-ok

@@ -1,6 +1,6 @@
 use Rattle.std.proofs.Common.{List, ℕ, ◌+◌, ap, sym, ◌∙◌, subst, map, get_or, refl}
 use Rattle.ffv1_pool.specs.SliceOrder.{Entry, entry_cmp}
-use Rattle.ffv1_pool.specs.Rising.{IsGapFor, IsPlaceOf}
+use Rattle.ffv1_pool.specs.Rising.{IsInsertionPlace, IsPlaceOf}
 use Rattle.ffv1_pool.specs.PoolEntries.{entry_in}
 use Rattle.ffv1_pool.specs.declared.pool_entry.PoolEntry.{PoolEntry}
 use Rattle.ffv1_pool.proofs.FreshSteps.{IsSifted, none_fresh, entry_held, entry_new, entries_sifted}
@@ -26,7 +26,7 @@ loop-entry-preserved c =
       | in-Err+in_ok-push w ↦
           subst (IsSifted held bytes es (i + 1)) (sym (ap (λ v. v.items) w.fresh-is ∙ w.in_ok-push.ensures.items))
           (entry_new held bytes es i nothing c.loop-entry.fresh.items c.loop-entry-test.true c.loop-entry.invariant c.requires.coming w.in-Err.place
-          (subst (λ b. IsGapFor entry_cmp held (entry b) w.in-Err.place) c.slice.ensures w.in-Err.ensures.absent))
+          (subst (λ b. IsInsertionPlace entry_cmp held (entry b) w.in-Err.place) c.slice.ensures w.in-Err.ensures.absent))
       | in_default w ↦
           subst (IsSifted held bytes es (i + 1)) (sym (ap (λ v. v.items) w.fresh-is))
           (entry_held held bytes es i nothing c.loop-entry.fresh.items c.loop-entry-test.true c.loop-entry.invariant w.in_default.field-0

@@ -1,6 +1,6 @@
 use Rattle.std.proofs.Common.{ℕ, List, [], get_or, ap, ◌∙◌, subst, refl}
 use Rattle.ffv1_pool.specs.SliceOrder.{Origin, origin_cmp}
-use Rattle.ffv1_pool.specs.Rising.{IsGapFor, IsPlaceOf}
+use Rattle.ffv1_pool.specs.Rising.{IsInsertionPlace, IsPlaceOf}
 use Rattle.ffv1_pool.specs.Rows.{rows_of}
 use Rattle.ffv1_pool.specs.declared.pool_entry.PoolEntry.{PoolEntry}
 use Rattle.ffv1_pool.proofs.FreshSteps.{no_row_fresh, row_held, row_new, rows_sifted}
@@ -29,7 +29,7 @@ loop-index-preserved c =
     elim c.match-found.branch [
       | in-Err+in_ok-push+in_ok-push-2 w ↦
           let more = row_new held r.bytes.now r.owners.now r.digests.now c.requires.coming i nothing [] owners digests c.loop-index-test.true
-          c.loop-index.invariant w.in-Err.place (subst (λ b. IsGapFor origin_cmp held (row b) w.in-Err.place) c.slice.ensures w.in-Err.ensures.absent) in
+          c.loop-index.invariant w.in-Err.place (subst (λ b. IsInsertionPlace origin_cmp held (row b) w.in-Err.place) c.slice.ensures w.in-Err.ensures.absent) in
           rw (ap (λ v. v.items) w.owners-is ∙ w.in_ok-push.ensures.items, ap (λ v. v.items) w.digests-is ∙ w.in_ok-push-2.ensures.items) more
       | in_default w ↦
           let same = row_held held r.bytes.now r.owners.now r.digests.now c.requires.coming i nothing [] owners digests c.loop-index-test.true

@@ -3,7 +3,7 @@ use Rattle.ffv1_pool.specs.Sets as set
 use Rattle.ffv1_pool.specs.SliceOrder.{entry_cmp, origin_cmp}
 use Rattle.ffv1_pool.specs.PoolEntries.{entry_in}
 use Rattle.ffv1_pool.specs.Fresh.{with_fresh}
-use Rattle.ffv1_pool.specs.Rows.{rows_in, AreSettled}
+use Rattle.ffv1_pool.specs.Rows.{rows_in, AreOwnersMoved}
 use Rattle.ffv1_pool.proofs.PoolGrowth.{take-written}
 use Rattle.ffv1_pool.proofs.RowGrowth.{owner_held, owners_within, owners_in_order, digests_within, digests_in_order, rows_grown, view_rows, settled_of}
 use Rattle.ffv1_pool.proofs.rows.put_rows.Goals as goal
@@ -14,7 +14,7 @@ settle-requires-clause-held c =
     rw c.deref_mut.ensures.value
     (owner_held held c.args.from.now c.args.fresh.now.owners.items c.args.fresh.now.digests.items c.requires.fresh.places c.requires.held)
 
-settled : (c : goal.After-deref) → AreSettled c.args.from.now c.args.bytes.now c.args.fresh.now.owners.items c.settle.new.owners
+settled : (c : goal.After-deref) → AreOwnersMoved c.args.from.now c.args.bytes.now c.args.fresh.now.owners.items c.settle.new.owners
 settled c = settled_of _ _ _ _ _ c.deref_mut.ensures.value c.settle.ensures
 
 -- the new owners as `spread` sees them
@@ -35,7 +35,7 @@ spread-requires-clause-rising c = rw (written c)
     c.args.fresh.now.owners.items
     c.settle.new.owners c.args.fresh.now.digests.items c.requires.fresh (settled c))
 
-settled_then : (c : goal.After-deref-2) → AreSettled c.args.from.now c.args.bytes.now c.args.fresh.now.owners.items c.settle.new.owners
+settled_then : (c : goal.After-deref-2) → AreOwnersMoved c.args.from.now c.args.bytes.now c.args.fresh.now.owners.items c.settle.new.owners
 settled_then c = settled_of _ _ _ _ _ c.deref_mut.ensures.value c.settle.ensures
 
 pub spread-requires-2-clause-places : goal.spread-requires-2-clause-places
@@ -50,7 +50,7 @@ spread-requires-2-clause-rising c = rw c.deref-2.ensures.value
     c.args.fresh.now.owners.items
     c.settle.new.owners c.args.fresh.now.digests.items c.requires.fresh (settled_then c))
 
-settled_last : (c : goal.After-spread-2) → AreSettled c.args.from.now c.args.bytes.now c.args.fresh.now.owners.items c.settle.new.owners
+settled_last : (c : goal.After-spread-2) → AreOwnersMoved c.args.from.now c.args.bytes.now c.args.fresh.now.owners.items c.settle.new.owners
 settled_last c = settled_of _ _ _ _ _ c.deref_mut.ensures.value c.settle.ensures
 
 -- the new owners as `spread` sees them

@@ -3,7 +3,7 @@ use mathlib.Core.Bool.{true≢false}
 use Rattle.std.proofs.lemmas.List.{length-set}
 use Rattle.ffv1_pool.specs.Sets as set
 use Rattle.ffv1_pool.specs.SliceOrder.{Entry, entry_cmp, entries_total}
-use Rattle.ffv1_pool.specs.Rising.{IsGapFor, IsPlaceOf}
+use Rattle.ffv1_pool.specs.Rising.{IsInsertionPlace, IsPlaceOf}
 use Rattle.ffv1_pool.specs.PoolEntries.{entry_in}
 use Rattle.ffv1_pool.specs.declared.fresh.Fresh.{Fresh}
 use Rattle.ffv1_pool.specs.declared.pool_entry.PoolEntry.{PoolEntry}
@@ -43,7 +43,7 @@ loop-index-preserved c =
           })
       | in_default w ↦
           let key = entry_in from f.item in
-          let gap = subst (λ b. IsGapFor entry_cmp (map (entry_in bytes) es) (entry b) w.in_default.field-0) c.slice.ensures w.in_default.ensures.absent in
+          let gap = subst (λ b. IsInsertionPlace entry_cmp (map (entry_in bytes) es) (entry b) w.in_default.field-0) c.slice.ensures w.in_default.ensures.absent in
           let held = ap (λ (g : Fresh PoolEntry). set.contains (set.from_list {R = entry_cmp} (map (entry_in bytes) es)) (entry_in from g.item))
           (inv.left i nothing (omega arith)) ∙ c.requires.held i nothing (omega (arith, inv.long)) in
           absurd (true≢false (sym held ∙ contains_gap entries_total (map (entry_in bytes) es) key w.in_default.field-0 gap))

@@ -2,7 +2,7 @@ use Rattle.std.proofs.Common.{◌≡◌, ℕ, ◌<◌, ◌*◌, ◌≤◌, ◌++
 use Rattle.std.specs.List.{filter_map, AllByRecursion}
 use Rattle.std.proofs.lemmas.List.{map-append, length-map, get_or-map}
 use Rattle.ffv1_bits.specs.Limits.{slice_limit}
-use Rattle.ffv1_slice.specs.Chain.{Piece, IsLinkOf, piece_of, IsFramed}
+use Rattle.ffv1_slice.specs.Chain.{LinkValue, IsLinkOf, link_of, IsFramed}
 use Rattle.ffv1_slice.specs.Slices.{slice_at, found_slices}
 use Rattle.ffv1_slice.specs.Walk.{links_of}
 use Rattle.ffv1_slice.proofs.SliceFacts.{found_slices-links}
@@ -17,8 +17,8 @@ use Rattle.ffv1_pool.proofs.Listing.{slice_listed, entry_listed}
 use Rattle.ffv1_pool.proofs.EntrySteps.{all-from_list}
 use Rattle.ffv1_pool.proofs.take.list_found.Goals as goal
 
-abbrev AreCut : List ℕ → List Piece → Type 0
-AreCut payload = AllByRecursion (λ piece. (q : ℕ) × IsLinkOf payload piece.start q × (piece ≡ piece_of payload piece.start q))
+abbrev AreCut : List ℕ → List LinkValue → Type 0
+AreCut payload = AllByRecursion (λ link. (q : ℕ) × IsLinkOf payload link.start q × (link ≡ link_of payload link.start q))
 
 pub loop-link-init : goal.loop-link-init
 loop-link-init c =
@@ -27,7 +27,7 @@ loop-link-init c =
       passed = [];
       whole = c.new-chain.ensures.value;
       links = refl;
-      pieces = c.new-chain.ensures.links.only;
+      all_links = c.new-chain.ensures.links.only;
       listed = ap (map (entry_in c.args.payload.now)) none;
       lie = λ i d lt. absurd (omega (arith, ap length none));
       sound = λ i d lt. absurd (omega (arith, ap length none));
@@ -50,8 +50,8 @@ loop-link-preserved-in-Continue-1 c =
     let payload = c.args.payload.now in
     let tile = c.in-Ok.tile in
     let is = c.in-Ok.ensures.found in
-    let pieces : AreCut payload (link ∷ rest) = subst (AreCut payload) c.in-Some.ensures.some inv.pieces in
-    let cut = pieces.0 in
+    let all_links : AreCut payload (link ∷ rest) = subst (AreCut payload) c.in-Some.ensures.some inv.all_links in
+    let cut = all_links.0 in
     let new : PoolEntry = record { tile = tile; start = c.start.result; length = length c.bytes.result.now } in
     let grown : c.push.new.self.items ≡ c.loop-link.found.items ++ new ∷ [] = c.in_ok-push.ensures.items in
     let long = ap length c.bytes.ensures.value in
@@ -65,7 +65,7 @@ loop-link-preserved-in-Continue-1 c =
       passed = passed ++ link ∷ [];
       whole = passed_more setup passed link rest (links_of payload) (ap (λ xs. passed ++ xs) (sym c.in-Some.ensures.some) ∙ inv.whole);
       links = length-more c.loop-link.links passed (passed ++ link ∷ []) link inv.links refl;
-      pieces = pieces.1;
+      all_links = all_links.1;
       listed = ap (map (entry_in payload)) grown ∙ map-append (entry_in payload) c.loop-link.found.items (new ∷ [])
           ∙ (λ i. inv.listed i ++ view i ∷ []) ∙ sym (found_more setup passed link tile is);
       lie = rw grown (each-push (IsEntryIn payload) c.loop-link.found.items new inv.lie lies);
@@ -83,7 +83,7 @@ loop-link-preserved c =
       whole = passed_more setup inv.passed link c.next_link.new.chain.left (links_of c.args.payload.now)
           (ap (λ xs. inv.passed ++ xs) (sym c.in-Some.ensures.some) ∙ inv.whole);
       links = length-more c.loop-link.links inv.passed (inv.passed ++ link ∷ []) link inv.links refl;
-      pieces = (subst (AreCut c.args.payload.now) c.in-Some.ensures.some inv.pieces).1;
+      all_links = (subst (AreCut c.args.payload.now) c.in-Some.ensures.some inv.all_links).1;
       listed = inv.listed ∙ sym same;
       lie = inv.lie;
       sound = inv.sound;

@@ -1,15 +1,15 @@
 use Rattle.std.proofs.Common.{◌-◌, ◌∙◌, arith, subst, sym, ap}
-use Rattle.ffv1_range.specs.Coding.{IsState, one_state}
+use Rattle.ffv1_range.specs.Coding.{IsBitState, one_state}
 use Rattle.ffv1_range.proofs.States.{one_stays, zero_stays}
 use Rattle.ffv1_range.proofs.coding.next_state.Goals as goal
 use Rattle.ffv1_range.proofs.coding.next_state.Goals.{After-from-2}
 
 pub returns-then-bit-clause-in_range : goal.returns-then-bit-clause-in_range
-returns-then-bit-clause-in_range c = subst IsState (sym c.state_after_one.ensures) (one_stays c.args.state c.requires)
+returns-then-bit-clause-in_range c = subst IsBitState (sym c.state_after_one.ensures) (one_stays c.args.state c.requires)
 
-mirrored : (c : After-from-2) → IsState (256 - c.from-2.result)
+mirrored : (c : After-from-2) → IsBitState (256 - c.from-2.result)
 mirrored c =
-    subst IsState
+    subst IsBitState
     (sym (ap (λ x. 256 - x) (c.from-2.ensures ∙ c.state_after_one-2.ensures ∙ ap (λ x. one_state (256 - x)) c.from.ensures)))
     (zero_stays c.args.state c.requires)
 

@@ -1,6 +1,6 @@
 use Rattle.std.proofs.Common.{drop}
 use Rattle.ffv1_range.specs.Decoder.{AreStates}
-use Rattle.ffv1_range.specs.TableForms.{AreRows, fresh_rows, sets_deltas}
+use Rattle.ffv1_range.specs.TableForms.{AreStateRows, fresh_rows, sets_deltas}
 use Rattle.ffv1_range.specs.Views.{contexts_of}
 use Rattle.ffv1_range.specs.declared.fault.SetupFault.TheVariants.{Range}
 use Rattle.ffv1_range.proofs.Forms.{Continues, IsAtPlace}
@@ -12,6 +12,6 @@ invariant-loop-set l =
       going : Continues Range (sets_deltas (contexts_of l.sets)) l.fn.decoder (l.fn.states, fresh_rows)
           (sets_deltas (contexts_of (drop l.set-index l.sets))) l.decoder (l.states, l.rows);
       states : AreStates l.states;
-      rows : AreRows l.rows;
+      rows : AreStateRows l.rows;
       alive : IsAtPlace l.decoder;
     }

@@ -1,5 +1,5 @@
 use Rattle.std.proofs.lemmas.Result.{err_from_is_err_and}
-use Rattle.ffv1_range.specs.Views.{planes_of, counts_of}
+use Rattle.ffv1_range.specs.Views.{planes_value, counts_of}
 use Rattle.ffv1_range.proofs.FrontSteps.{versions_fail, planes_fail, counts_fail, set_count_fails, front_read}
 use Rattle.ffv1_range.proofs.fields.read_front.Goals as goal
 
@@ -31,7 +31,7 @@ returns-in_err-counts c =
     rw (p.1, p.2)
     (record {
       read =
-          counts_fail c.args.width c.args.height _ (planes_of c.in_ok-planes.planes) _ _ _ _ _ _ _ c.in_ok-micro.ensures.read c.in_ok-planes.ensures.read
+          counts_fail c.args.width c.args.height _ (planes_value c.in_ok-planes.planes) _ _ _ _ _ _ _ c.in_ok-micro.ensures.read c.in_ok-planes.ensures.read
           c.in_err-counts.ensures.read;
       in_range = c.in_err-counts.ensures.in_range;
       some = tt;
@@ -44,7 +44,7 @@ returns-in_err-sets c =
     rw (p.1, p.2)
     (record {
       read =
-          set_count_fails c.args.width c.args.height _ (planes_of c.in_ok-planes.planes) (counts_of c.in_ok-counts.counts) _ _ _ _ _ _ _ _ _
+          set_count_fails c.args.width c.args.height _ (planes_value c.in_ok-planes.planes) (counts_of c.in_ok-counts.counts) _ _ _ _ _ _ _ _ _
           c.in_ok-micro.ensures.read c.in_ok-planes.ensures.read c.in_ok-counts.ensures.read c.in_err-sets.ensures.read;
       in_range = c.in_err-sets.ensures.in_range;
       some = tt;
@@ -54,7 +54,7 @@ returns-in_err-sets c =
 pub returns : goal.returns
 returns c = record {
   read =
-      front_read c.args.width c.args.height _ (planes_of c.in_ok-planes.planes) (counts_of c.in_ok-counts.counts) _ _ _ _ _ _ _ _ _ _ _
+      front_read c.args.width c.args.height _ (planes_value c.in_ok-planes.planes) (counts_of c.in_ok-counts.counts) _ _ _ _ _ _ _ _ _ _ _
       c.in_ok-micro.ensures.read c.in_ok-planes.ensures.read c.in_ok-counts.ensures.read c.in_ok-sets.ensures.read;
   in_range = c.in_ok-sets.ensures.in_range;
   some = c.in_ok-sets.ensures.some;

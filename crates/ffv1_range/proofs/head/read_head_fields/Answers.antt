@@ -1,7 +1,7 @@
 use Rattle.std.proofs.Common.{◌≡◌, ◌+◌, ◌-◌, [], ◌∷◌, ◌++◌, set, take, Ok, arith, rules, sym, subst}
 use Rattle.std.proofs.lemmas.List.{take_more_set, take_all}
 use Rattle.std.proofs.lemmas.Result.{err_from_is_err_and}
-use Rattle.ffv1_range.specs.Forms.{same_fault, Reads}
+use Rattle.ffv1_range.specs.Forms.{same_fault, ReadsForm}
 use Rattle.ffv1_range.specs.TableForms.{fresh_row}
 use Rattle.ffv1_range.specs.HeaderForms.{symbols_onto, fields_form}
 use Rattle.ffv1_range.proofs.Forms.{Continues, continue_start, at_ok}
@@ -49,6 +49,6 @@ returns-in_err-symbol c =
 pub returns : goal.returns
 returns c =
     let all = take_all c.loop-index.index c.loop-index.fields (omega (arith, c.loop-index.invariant.nine)) in
-    subst (λ z. Reads same_fault fields_form c.args.decoder.now tt (Ok z) c.loop-index.decoder tt) all
+    subst (λ z. ReadsForm same_fault fields_form c.args.decoder.now tt (Ok z) c.loop-index.decoder tt) all
     (fields_end (9 - c.loop-index.index) (take c.loop-index.index c.loop-index.fields) c.args.decoder.now c.loop-index.decoder c.loop-index.states (omega arith)
     (c.loop-index.invariant.alive (omega arith)) c.loop-index.invariant.going)

@@ -2,7 +2,7 @@ use Rattle.std.proofs.Common.{◌+◌, ◌-◌, ◌/◌, ◌<◌, [], Ok, ◌∙
 use Rattle.std.proofs.lemmas.List.{length-set, take_all}
 use Rattle.std.proofs.lemmas.Result.{err_from_is_err_and}
 use Rattle.ffv1_range.specs.Tables.{scale_after}
-use Rattle.ffv1_range.specs.Forms.{Reads}
+use Rattle.ffv1_range.specs.Forms.{ReadsForm}
 use Rattle.ffv1_range.specs.TableForms.{tables_from}
 use Rattle.ffv1_range.specs.declared.fault.SetupFault.TheVariants.{Range}
 use Rattle.ffv1_range.proofs.Forms.{at_ok}
@@ -36,7 +36,7 @@ loop-table-preserved c =
 
 pub returns : goal.returns
 returns c =
-    subst (λ z. Reads Range (tables_from 5 1 []) c.args.decoder.now tt
+    subst (λ z. ReadsForm Range (tables_from 5 1 []) c.args.decoder.now tt
     (Ok (record { halves = z; contexts = (c.loop-table.scale + 1) / 2 })) c.loop-table.decoder tt)
     (take_all c.loop-table.table c.loop-table.halves (omega (arith, c.loop-table.invariant.five)))
     (set_end (tables_from 5 1 []) (5 - c.loop-table.table) c.loop-table.scale

@@ -2,8 +2,8 @@ use Rattle.std.proofs.Common.{◌<◌, ◌++◌, ◌∷◌, [], length, arith, s
 use Rattle.std.proofs.lemmas.Bool.Decides.{nat_tests}
 use Rattle.ffv1_lists.specs.Lines.{AreLines}
 use Rattle.ffv1_lists.proofs.LineSteps.{empty_lines, lines_of, lines_on}
-use Rattle.ffv1_scan.specs.Ranges.{AreRangeLines, Rises, end_of}
-use Rattle.ffv1_scan.proofs.LineSteps.{AreRangeLines-push, length-range_lines, Rises-push, end_of-push}
+use Rattle.ffv1_scan.specs.Ranges.{AreRangeLines, Rises, ranges_end}
+use Rattle.ffv1_scan.proofs.LineSteps.{AreRangeLines-push, length-range_lines, Rises-push, ranges_end-push}
 use Rattle.ffv1_scan.proofs.ranges.read_ranges.Goals as goal
 
 pub loop-rest-init : goal.loop-rest-init
@@ -12,7 +12,7 @@ loop-rest-init c = record {
   on = λ more are. are;
   each = subst (AreRangeLines []) (sym c.new-ranges.ensures.items) tt;
   rise = subst (Rises 0) (sym c.new-ranges.ensures.items) tt;
-  end = ap (end_of 0) (sym c.new-ranges.ensures.items);
+  end = ap (ranges_end 0) (sym c.new-ranges.ensures.items);
 }
 
 pub loop-rest-preserved : goal.loop-rest-preserved
@@ -26,7 +26,7 @@ loop-rest-preserved c =
       on = lines_on c.args.text.now line c.loop-rest.rest.now c.first_line.result.1.now inv.lines c.first_line.ensures.feed some c.first_line.ensures.split inv.on;
       each = subst (AreRangeLines _) (sym items) (AreRangeLines-push inv.lines c.loop-rest.ranges.items line c.in-Some.range inv.each c.in-Some.ensures.0);
       rise = subst (Rises 0) (sym items) (Rises-push 0 c.loop-rest.ranges.items c.in-Some.range inv.rise (omega (arith, c.in-Some.ensures.1, inv.end)));
-      end = sym (end_of-push 0 c.loop-rest.ranges.items c.in-Some.range) ∙ ap (end_of 0) (sym items);
+      end = sym (ranges_end-push 0 c.loop-rest.ranges.items c.in-Some.range) ∙ ap (ranges_end 0) (sym items);
     }
 
 pub returns-in_default-clause-fault : goal.returns-in_default-clause-fault

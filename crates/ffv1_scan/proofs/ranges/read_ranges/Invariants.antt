@@ -1,6 +1,6 @@
 use Rattle.std.proofs.Common.{◌≡◌, ◌+◌, ◌++◌, List, ℕ, length}
 use Rattle.ffv1_lists.specs.Lines.{AreLines}
-use Rattle.ffv1_scan.specs.Ranges.{AreRangeLines, Rises, end_of}
+use Rattle.ffv1_scan.specs.Ranges.{AreRangeLines, Rises, ranges_end}
 use Rattle.ffv1_scan.proofs.ranges.read_ranges.Given as goal
 
 -- The lines so far are ranges; with those of the rest they are the lines of the text.
@@ -10,7 +10,7 @@ invariant-loop-rest l = record {
   on : (more : List (List ℕ)) → AreLines l.rest more → AreLines l.initial.rest (lines ++ more);
   each : AreRangeLines lines l.ranges.items;
   rise : Rises 0 l.ranges.items;
-  end : l.last.place + l.last.size ≡ end_of 0 l.ranges.items;
+  end : l.last.place + l.last.size ≡ ranges_end 0 l.ranges.items;
 }
 
 abbrev pub decreases-loop-rest : goal.decreases-loop-rest

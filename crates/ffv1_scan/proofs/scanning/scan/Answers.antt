@@ -2,8 +2,8 @@ use Rattle.std.proofs.Common.{◌+◌, get_or, take, drop, suc, arith, refl, sym
 use Rattle.std.proofs.lemmas.Result.{err_from_is_err_and}
 use Rattle.std.proofs.lemmas.List.{take_more}
 use Rattle.ffv1_scan.specs.declared.ranges.ByteRange.{ByteRange}
-use Rattle.ffv1_scan.specs.Ranges.{Rises, end_of}
-use Rattle.ffv1_scan.proofs.LineSteps.{rises_after, end_of-push}
+use Rattle.ffv1_scan.specs.Ranges.{Rises, ranges_end}
+use Rattle.ffv1_scan.proofs.LineSteps.{rises_after, ranges_end-push}
 use Rattle.ffv1_scan.proofs.ScanSteps.{scanned_none, never_opened, judging_stops, scanned_more, line_stops, nothing_scanned, all_scanned, number_at, parted_at}
 use Rattle.ffv1_scan.proofs.scanning.scan.Goals as goal
 
@@ -60,7 +60,7 @@ loop-index-preserved g c =
     let more = take_more ranges i no_range c.loop-index-test.true in
     record {
       room = c.in_ok-verdict.ensures.room;
-      last = sym (ap (end_of 0) more ∙ end_of-push 0 (take i ranges) range);
+      last = sym (ap (ranges_end 0) more ∙ ranges_end-push 0 (take i ranges) range);
       scan = scanned_more ranges (take i ranges) range (drop (suc i) ranges)
           (parted_at ranges i no_range c.loop-index-test.true) c.requires _ _ _ _ _ inv.scan c.loop-index.last inv.last
           _ c.in_ok-verdict.verdict c.in_ok-verdict.ensures.judged (i + 1) (number_at ranges i c.loop-index-test.true)

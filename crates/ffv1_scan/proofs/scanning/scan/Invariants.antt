@@ -1,5 +1,5 @@
 use Rattle.std.proofs.Common.{◌≡◌, ◌+◌, ◌<◌, take, vec_len}
-use Rattle.ffv1_scan.specs.Ranges.{end_of}
+use Rattle.ffv1_scan.specs.Ranges.{ranges_end}
 use Rattle.ffv1_scan.proofs.ScanSteps.{IsScanned}
 use Rattle.ffv1_scan.proofs.scanning.scan.Given as goal
 
@@ -7,6 +7,6 @@ use Rattle.ffv1_scan.proofs.scanning.scan.Given as goal
 abbrev pub invariant-loop-index : goal.invariant-loop-index
 invariant-loop-index g l = record {
   room : 0 < vec_len l.room;
-  last : l.last.place + l.last.size ≡ end_of 0 (take l.index l.ranges);
+  last : l.last.place + l.last.size ≡ ranges_end 0 (take l.index l.ranges);
   scan : IsScanned (take l.index l.ranges) l.sound (g.S.Source.log l.fn.file) (g.S.Source.log l.file) (g.W.Sink.log l.initial.output) (g.W.Sink.log l.output);
 }

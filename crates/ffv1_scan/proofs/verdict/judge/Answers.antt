@@ -1,14 +1,14 @@
 use Rattle.std.proofs.Common.{◌≡◌, ◌+◌, Bool, cond, List, ◌∷◌, length, count_by, arith, ap, subst}
 use Rattle.std.proofs.lemmas.List.Sums.{count_by-le-length, sum_by-cons}
-use Rattle.ffv1_slice.specs.Chain.{Piece}
+use Rattle.ffv1_slice.specs.Chain.{LinkValue}
 use Rattle.ffv1_slice.specs.Ending.{EndsAs}
-use Rattle.ffv1_scan.specs.Verdicts.{is_intact}
+use Rattle.ffv1_scan.specs.Verdicts.{is_passing}
 use Rattle.ffv1_scan.proofs.verdict.judge.Goals as goal
 
 -- the passing ones of links are those after the first one, and this one, if it passes
-first_counted : {intact : Bool} {all links : List Piece} {link : Piece} → intact ≡ is_intact link → all ≡ link ∷ links
-    → count_by is_intact all ≡ cond intact 1 0 + count_by is_intact links
-first_counted {links = links} {link = link} is split = rw (split, is) (sum_by-cons (λ l. cond (is_intact l) 1 0) link links)
+first_counted : {passing : Bool} {all links : List LinkValue} {link : LinkValue} → passing ≡ is_passing link → all ≡ link ∷ links
+    → count_by is_passing all ≡ cond passing 1 0 + count_by is_passing links
+first_counted {links = links} {link = link} is split = rw (split, is) (sum_by-cons (λ l. cond (is_passing l) 1 0) link links)
 
 pub overflow_add-links : goal.overflow_add-links
 overflow_add-links c =
@@ -17,20 +17,20 @@ overflow_add-links c =
 
 pub overflow_add-passing : goal.overflow_add-passing
 overflow_add-passing c =
-    let more = first_counted c.if-is_intact.ensures c.in-Some.ensures.some in
-    omega (arith, more, c.loop-link.invariant.passing, count_by-le-length is_intact c.new-chain.result.left, c.new-chain.ensures.few)
+    let more = first_counted c.if-is_passing.ensures c.in-Some.ensures.some in
+    omega (arith, more, c.loop-link.invariant.passing, count_by-le-length is_passing c.new-chain.result.left, c.new-chain.ensures.few)
 
 pub loop-link-preserved : goal.loop-link-preserved
 loop-link-preserved c =
-    let more = first_counted c.if-is_intact.ensures c.in-Some.ensures.some in
+    let more = first_counted c.if-is_passing.ensures c.in-Some.ensures.some in
     record {
       links = omega (arith, ap length c.in-Some.ensures.some, c.loop-link.invariant.links);
       passing = omega (arith, more, c.loop-link.invariant.passing);
     }
 
-pub loop-link-preserved-then-is_intact : goal.loop-link-preserved-then-is_intact
-loop-link-preserved-then-is_intact c =
-    let more = first_counted c.if-is_intact.ensures c.in-Some.ensures.some in
+pub loop-link-preserved-then-is_passing : goal.loop-link-preserved-then-is_passing
+loop-link-preserved-then-is_passing c =
+    let more = first_counted c.if-is_passing.ensures c.in-Some.ensures.some in
     record {
       links = omega (arith, ap length c.in-Some.ensures.some, c.loop-link.invariant.links);
       passing = omega (arith, more, c.loop-link.invariant.passing);
@@ -39,8 +39,8 @@ loop-link-preserved-then-is_intact c =
 pub loop-link-smaller : goal.loop-link-smaller
 loop-link-smaller c = omega (arith, ap length c.in-Some.ensures.some)
 
-pub loop-link-smaller-then-is_intact : goal.loop-link-smaller-then-is_intact
-loop-link-smaller-then-is_intact c = omega (arith, ap length c.in-Some.ensures.some)
+pub loop-link-smaller-then-is_passing : goal.loop-link-smaller-then-is_passing
+loop-link-smaller-then-is_passing c = omega (arith, ap length c.in-Some.ensures.some)
 
 pub returns : goal.returns
 returns c =
@@ -50,6 +50,6 @@ returns c =
       links = c.new-chain.result.left;
       are_links = c.new-chain.ensures.links;
       count = omega (arith, inv.links, ap length none);
-      intact = omega (arith, inv.passing, ap (count_by is_intact) none);
+      passing = omega (arith, inv.passing, ap (count_by is_passing) none);
       ends = subst (λ (payload : _). EndsAs payload c.end-end.result) c.new-chain.ensures.payload c.end-end.ensures;
     }

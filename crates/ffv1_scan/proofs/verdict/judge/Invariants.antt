@@ -1,12 +1,12 @@
 use Rattle.std.proofs.Common.{◌≡◌, ◌+◌, length, count_by}
-use Rattle.ffv1_scan.specs.Verdicts.{is_intact}
+use Rattle.ffv1_scan.specs.Verdicts.{is_passing}
 use Rattle.ffv1_scan.proofs.verdict.judge.Given as goal
 
 -- The links so far and those that are left are all links.
 abbrev pub invariant-loop-link : goal.invariant-loop-link
 invariant-loop-link l = record {
   links : l.links + length l.chain.left ≡ length l.initial.chain.left;
-  passing : l.passing + count_by is_intact l.chain.left ≡ count_by is_intact l.initial.chain.left;
+  passing : l.passing + count_by is_passing l.chain.left ≡ count_by is_passing l.initial.chain.left;
 }
 
 abbrev pub decreases-loop-link : goal.decreases-loop-link

@@ -1,6 +1,6 @@
 use Rattle.std.proofs.Common.{◌+◌, ℕ, List, get_or, take, arith, subst}
 use Rattle.ffv1_splice.specs.Splice.{IsClaimedEnd}
-use Rattle.ffv1_splice.specs.Told.{Tells, starts_told}
+use Rattle.ffv1_splice.specs.Tally.{Tallies, starts_tally}
 use Rattle.ffv1_weave.proofs.References.{values_of, next_value, all_values, nowhere}
 use Rattle.ffv1_splice.proofs.ClaimedEnds.{ends_joined, two_of_first}
 use Rattle.ffv1_splice.proofs.crossing.claimed_ends.Goals as goal
@@ -12,10 +12,10 @@ returns-in-Two c =
     let copy : List ℕ = (get_or c.args.copies.now c.loop-copy.copy-index nowhere).now in
     let before : List (List ℕ) = take c.loop-copy.copy-index copies in
     two_of_first copies count c.args.reach
-    (subst (λ ends. Tells (IsClaimedEnd (take count copies) c.args.reach) (starts_told ends)) c.in-Two.is
-    (subst (λ z. Tells (IsClaimedEnd z c.args.reach) (starts_told c.joined-ends.result))
+    (subst (λ ends. Tallies (IsClaimedEnd (take count copies) c.args.reach) (starts_tally ends)) c.in-Two.is
+    (subst (λ z. Tallies (IsClaimedEnd z c.args.reach) (starts_tally c.joined-ends.result))
     (next_value c.args.copies.now c.loop-copy.copy-index nowhere (omega arith))
-    (ends_joined before copy c.args.reach (starts_told c.loop-copy.ends) (starts_told c.claimed_by.result) (starts_told c.joined-ends.result)
+    (ends_joined before copy c.args.reach (starts_tally c.loop-copy.ends) (starts_tally c.claimed_by.result) (starts_tally c.joined-ends.result)
     c.joined-ends.ensures c.loop-copy.invariant c.claimed_by.ensures)))
 
 pub loop-copy-preserved : goal.loop-copy-preserved
@@ -23,12 +23,12 @@ loop-copy-preserved c =
     let copies : List (List ℕ) = values_of c.args.copies.now in
     let copy : List ℕ = (get_or c.args.copies.now c.loop-copy.copy-index nowhere).now in
     let before : List (List ℕ) = take c.loop-copy.copy-index copies in
-    subst (λ z. Tells (IsClaimedEnd z c.args.reach) (starts_told c.joined-ends.result))
+    subst (λ z. Tallies (IsClaimedEnd z c.args.reach) (starts_tally c.joined-ends.result))
     (next_value c.args.copies.now c.loop-copy.copy-index nowhere (omega arith))
-    (ends_joined before copy c.args.reach (starts_told c.loop-copy.ends) (starts_told c.claimed_by.result) (starts_told c.joined-ends.result)
+    (ends_joined before copy c.args.reach (starts_tally c.loop-copy.ends) (starts_tally c.claimed_by.result) (starts_tally c.joined-ends.result)
     c.joined-ends.ensures c.loop-copy.invariant c.claimed_by.ensures)
 
 pub returns : goal.returns
 returns c =
-    subst (λ z. Tells (IsClaimedEnd z c.args.reach) (starts_told c.loop-copy.ends))
+    subst (λ z. Tallies (IsClaimedEnd z c.args.reach) (starts_tally c.loop-copy.ends))
     (all_values c.args.copies.now c.loop-copy.copy-index (omega arith)) c.loop-copy.invariant

@@ -1,8 +1,8 @@
 use Rattle.std.specs.Prelude.{take, map}
 use Rattle.ffv1_splice.specs.Splice.{IsClaimedEnd}
-use Rattle.ffv1_splice.specs.Told.{Tells, starts_told}
+use Rattle.ffv1_splice.specs.Tally.{Tallies, starts_tally}
 use Rattle.ffv1_splice.proofs.crossing.claimed_ends.Given as goal
 
 -- The ends that the copies so far claim.
 abbrev pub invariant-loop-copy : goal.invariant-loop-copy
-invariant-loop-copy l = Tells (IsClaimedEnd (take l.copy-index (map (λ copy. copy.now) l.copies)) l.reach) (starts_told l.ends)
+invariant-loop-copy l = Tallies (IsClaimedEnd (take l.copy-index (map (λ copy. copy.now) l.copies)) l.reach) (starts_tally l.ends)

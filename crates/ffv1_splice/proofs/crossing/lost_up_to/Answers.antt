@@ -2,9 +2,9 @@ use Rattle.std.proofs.Common.{◌+◌, ℕ, List, length, subst}
 use Rattle.ffv1_slice.specs.Members.{IsOnly}
 use Rattle.ffv1_splice.specs.Pieces.{IsPiece, IsClaimedStart, PieceFrom}
 use Rattle.ffv1_splice.specs.Splice.{IsClaimedEnd}
-use Rattle.ffv1_splice.specs.Told.{Tells, pieces_told, starts_told}
+use Rattle.ffv1_splice.specs.Tally.{Tallies, pieces_tally, starts_tally}
 use Rattle.ffv1_weave.proofs.References.{values_of}
-use Rattle.ffv1_splice.proofs.Crossings.{lost_where_claimed, lost_where_no_piece, lost_where_told, lost_where_borne_out, is_lost}
+use Rattle.ffv1_splice.proofs.Crossings.{lost_where_claimed, lost_where_no_piece, lost_where_claim, lost_where_borne_out, is_lost}
 use Rattle.ffv1_splice.proofs.crossing.lost_up_to.Goals as goal
 
 pub returns-in_default : goal.returns-in_default
@@ -15,30 +15,30 @@ pub returns-in_default-pieces : goal.returns-in_default-pieces
 returns-in_default-pieces c =
     let copies : List (List ℕ) = values_of c.args.copies.now in
     let only : IsOnly (IsClaimedEnd copies c.args.reach) c.in-One.end =
-    subst (λ told. Tells (IsClaimedEnd copies c.args.reach) (starts_told told)) c.in-One.is c.claimed_ends.ensures in
-    lost_where_no_piece copies c.args.reach c.in-One.end only _ c.told_at-starts.ensures.pieces c.in_default-pieces.not-None
+    subst (λ claim. Tallies (IsClaimedEnd copies c.args.reach) (starts_tally claim)) c.in-One.is c.claimed_ends.ensures in
+    lost_where_no_piece copies c.args.reach c.in-One.end only _ c.tally_at-starts.ensures.pieces c.in_default-pieces.not-None
 
 pub returns-in_default-starts : goal.returns-in_default-starts
 returns-in_default-starts c =
     let copies : List (List ℕ) = values_of c.args.copies.now in
     let only : IsOnly (IsClaimedEnd copies c.args.reach) c.in-One.end =
-    subst (λ told. Tells (IsClaimedEnd copies c.args.reach) (starts_told told)) c.in-One.is c.claimed_ends.ensures in
-    lost_where_told copies c.args.reach c.in-One.end only _ c.told_at-starts.ensures.starts c.in_default-starts.not-One
+    subst (λ claim. Tallies (IsClaimedEnd copies c.args.reach) (starts_tally claim)) c.in-One.is c.claimed_ends.ensures in
+    lost_where_claim copies c.args.reach c.in-One.end only _ c.tally_at-starts.ensures.starts c.in_default-starts.not-One
 
 pub returns-in-Some : goal.returns-in-Some
 returns-in-Some c =
     let copies : List (List ℕ) = values_of c.args.copies.now in
     let only : IsOnly (IsClaimedEnd copies c.args.reach) c.in-One.end =
-    subst (λ told. Tells (IsClaimedEnd copies c.args.reach) (starts_told told)) c.in-One.is c.claimed_ends.ensures in
+    subst (λ claim. Tallies (IsClaimedEnd copies c.args.reach) (starts_tally claim)) c.in-One.is c.claimed_ends.ensures in
     let next : PieceFrom = record { end = c.in-One.end + length c.in-Some.field-0.now; bytes = c.in-Some.field-0.now } in
     is_lost copies c.args.reach c.in-One.end only c.in-One-starts.field-0 next
-    (subst (λ told. Tells (IsClaimedStart copies c.in-One.end) (starts_told told)) c.in-One-starts.is c.told_at-starts.ensures.starts)
-    (subst (λ told. Tells (IsPiece copies c.in-One.end) (pieces_told told)) c.in-None.is c.told_at-starts.ensures.pieces)
+    (subst (λ claim. Tallies (IsClaimedStart copies c.in-One.end) (starts_tally claim)) c.in-One-starts.is c.tally_at-starts.ensures.starts)
+    (subst (λ claim. Tallies (IsPiece copies c.in-One.end) (pieces_tally claim)) c.in-None.is c.tally_at-starts.ensures.pieces)
     c.in-Some.ensures
 
 pub returns-in-None-first_from : goal.returns-in-None-first_from
 returns-in-None-first_from c =
     let copies : List (List ℕ) = values_of c.args.copies.now in
     let only : IsOnly (IsClaimedEnd copies c.args.reach) c.in-One.end =
-    subst (λ told. Tells (IsClaimedEnd copies c.args.reach) (starts_told told)) c.in-One.is c.claimed_ends.ensures in
+    subst (λ claim. Tallies (IsClaimedEnd copies c.args.reach) (starts_tally claim)) c.in-One.is c.claimed_ends.ensures in
     lost_where_borne_out copies c.args.reach c.in-One.end only c.in-None-first_from.ensures

@@ -2,7 +2,7 @@ use Rattle.std.proofs.Common.{◌≡◌, ◌-◌, ◌≤◌, ◌<◌, ◌^◌, �
 use Rattle.std.specs.Prelude.{Contains}
 use Rattle.std.proofs.lemmas.List.Elements.{Contains-get_or}
 use Rattle.ffv1_slice.specs.Members.{IsOfNone}
-use Rattle.ffv1_weave.specs.Weave.{IsWeaveOf, weave_told}
+use Rattle.ffv1_weave.specs.Weave.{IsWeaveOf, weave_tally}
 use Rattle.ffv1_weave.specs.Weave.Weave.{woven}
 use Rattle.ffv1_weave.specs.declared.check.Check.TheVariants.{Slice}
 use Rattle.ffv1_weave.specs.declared.weaving.Outcome.{Outcome}
@@ -12,7 +12,7 @@ use Rattle.ffv1_weave.proofs.References.{values_of, length-values_of, each_value
 use Rattle.ffv1_splice.specs.Pieces.{HasContent, IsPiece, IsClaimedStart}
 use Rattle.ffv1_weave.specs.Parts.{written}
 use Rattle.ffv1_splice.specs.Standings.{versions_at, sized, IsWeaveFromFront}
-use Rattle.ffv1_splice.proofs.FirstSlices.{front_size, stops_untold, not_woven}
+use Rattle.ffv1_splice.proofs.FirstSlices.{front_size, stops_no_claim, not_woven}
 use Rattle.ffv1_splice.proofs.first.first_before.Goals as goal
 use Rattle.ffv1_splice.proofs.first.first_before.Goals.{then-end-le-FOOTER_LENGTH-via-then-end-le-FOOTER_LENGTH, then-end-le-FOOTER_LENGTH-via-else-end-le-FOOTER_LENGTH+then-end}
 
@@ -22,19 +22,19 @@ first_there copies some = Contains-get_or (values_of copies) 0 [] (omega (arith,
 -- if the weave of the versions with their size is woven, it is a weave from the front
 front_of : (copies : List (List ℕ)) (end : ℕ) → IsOfNone (IsPiece copies end) → IsOfNone (IsClaimedStart copies end) → HasContent 0 end
     → end - 8 < 2 ^ 24 → (outcome : Outcome) (bytes : Vec ℕ Global) (count : ℕ)
-    → outcome ≡ outcomes.Woven bytes count → IsWeaveOf Slice (map sized (versions_at copies 0 end)) (weave_told outcome) → IsWeaveFromFront copies end (woven bytes.items count)
-front_of copies end none untold content short outcome bytes count is weave =
+    → outcome ≡ outcomes.Woven bytes count → IsWeaveOf Slice (map sized (versions_at copies 0 end)) (weave_tally outcome) → IsWeaveFromFront copies end (woven bytes.items count)
+front_of copies end none no_claim content short outcome bytes count is weave =
     record {
       none = none;
-      untold = untold;
+      no_claim = no_claim;
       content = content;
       short = short;
-      weave' = subst (λ o. IsWeaveOf Slice (map sized (versions_at copies 0 end)) (weave_told o)) is weave;
+      weave' = subst (λ o. IsWeaveOf Slice (map sized (versions_at copies 0 end)) (weave_tally o)) is weave;
     }
 
 pub returns-then-end-le-FOOTER_LENGTH : goal.returns-then-end-le-FOOTER_LENGTH
 returns-then-end-le-FOOTER_LENGTH c = (
-  stops_untold (values_of c.args.copies.now) c.args.end c.requires.none c.requires.untold (λ bytes count front.
+  stops_no_claim (values_of c.args.copies.now) c.args.end c.requires.none c.requires.no_claim (λ bytes count front.
       let content : HasContent 0 c.args.end = front.content in
       let short : c.args.end - 8 < 2 ^ 24 = front.short in
       elim c.then-end-le-FOOTER_LENGTH.branch [
@@ -47,11 +47,11 @@ returns-then-end-le-FOOTER_LENGTH c = (
 pub returns-in_default : goal.returns-in_default
 returns-in_default c =
     let versions : List (List ℕ) = map sized (versions_at (values_of c.args.copies.now) 0 c.args.end) in
-    let told : IsWeaveOf Slice versions (weave_told c.in_ok-bytes.field-0) = c.in_ok-bytes.ensures in (
-      stops_untold (values_of c.args.copies.now) c.args.end c.requires.none c.requires.untold (λ bytes count front.
+    let claim : IsWeaveOf Slice versions (weave_tally c.in_ok-bytes.field-0) = c.in_ok-bytes.ensures in (
+      stops_no_claim (values_of c.args.copies.now) c.args.end c.requires.none c.requires.no_claim (λ bytes count front.
           not_woven c.in_ok-bytes.field-0 c.in_default.not-Woven bytes count
-          (same_versions_weave Slice versions versions (weave_told c.in_ok-bytes.field-0) (woven bytes count)
-          (λ version. ((λ there. there), λ there. there)) told front.weave')),
+          (same_versions_weave Slice versions versions (weave_tally c.in_ok-bytes.field-0) (woven bytes count)
+          (λ version. ((λ there. there), λ there. there)) claim front.weave')),
       refl,
     )
 
@@ -60,7 +60,7 @@ write_at-requires c =
     let copies : List (List ℕ) = values_of c.args.copies.now in
     let size = front_size copies c.args.end (each_value c.args.copies.now (λ copy. c.args.end ≤ length copy) c.requires.within) (get_or copies 0 [])
     c.in-Woven.bytes.items c.in-Woven.count (first_there c.args.copies.now c.requires.some)
-    (front_of copies c.args.end c.requires.none c.requires.untold (omega arith) (omega arith) c.in_ok-bytes.field-0
+    (front_of copies c.args.end c.requires.none c.requires.no_claim (omega arith) (omega arith) c.in_ok-bytes.field-0
     c.in-Woven.bytes c.in-Woven.count c.in-Woven.is c.in_ok-bytes.ensures) in
     let same = ap length c.as_slice.ensures.value in
     omega arith
@@ -68,7 +68,7 @@ write_at-requires c =
 pub returns : goal.returns
 returns c =
     let copies : List (List ℕ) = values_of c.args.copies.now in
-    let front = front_of copies c.args.end c.requires.none c.requires.untold (omega arith) (omega arith)
+    let front = front_of copies c.args.end c.requires.none c.requires.no_claim (omega arith) (omega arith)
     c.in_ok-bytes.field-0 c.in-Woven.bytes c.in-Woven.count c.in-Woven.is c.in_ok-bytes.ensures in
     record {
       bytes = c.in-Woven.bytes.items;

@@ -1,16 +1,16 @@
 use Rattle.std.proofs.Common.{◌≤◌, length, refl, subst, inl, arith}
 use Rattle.ffv1_slice.specs.Members.{IsOnly}
 use Rattle.ffv1_splice.specs.Pieces.{IsPiece, IsClaimedStart}
-use Rattle.ffv1_splice.specs.Told.{Tells, starts_told}
+use Rattle.ffv1_splice.specs.Tally.{Tallies, starts_tally}
 use Rattle.ffv1_weave.proofs.References.{values_of, each_value}
-use Rattle.ffv1_splice.proofs.PlaceSteps.{two_not_only, two_not_none, untold, least_size, told_below}
+use Rattle.ffv1_splice.proofs.PlaceSteps.{two_not_only, two_not_none, no_claim, least_size, claim_below}
 use Rattle.ffv1_splice.proofs.placing.disputed_before.Goals as goal
 
 pub returns-in_default : goal.returns-in_default
 returns-in_default c = (
   record {
     unsettled = two_not_only (IsPiece (values_of c.args.copies.now) c.args.end) c.requires.two;
-    untold = untold (IsClaimedStart (values_of c.args.copies.now) c.args.end) c.args.starts c.requires.told c.in_default.not-One;
+    no_claim = no_claim (IsClaimedStart (values_of c.args.copies.now) c.args.end) c.args.starts c.requires.claim c.in_default.not-One;
     unclaimed = λ bytes count front. two_not_none (IsPiece (values_of c.args.copies.now) c.args.end) c.requires.two front.none;
     unwoven = λ start bytes count several. two_not_none (IsPiece (values_of c.args.copies.now) c.args.end) c.requires.two several.none;
   },
@@ -19,29 +19,29 @@ returns-in_default c = (
 
 pub least_at-requires-clause-order : goal.least_at-requires-clause-order
 least_at-requires-clause-order c =
-    let told : IsOnly (IsClaimedStart (values_of c.args.copies.now) c.args.end) c.in-One.start =
-    subst (λ s. Tells (IsClaimedStart (values_of c.args.copies.now) c.args.end) (starts_told s)) c.in-One.is c.requires.told in
-    let below = told_below (values_of c.args.copies.now) c.in-One.start c.args.end told.there in
+    let claim : IsOnly (IsClaimedStart (values_of c.args.copies.now) c.args.end) c.in-One.start =
+    subst (λ s. Tallies (IsClaimedStart (values_of c.args.copies.now) c.args.end) (starts_tally s)) c.in-One.is c.requires.claim in
+    let below = claim_below (values_of c.args.copies.now) c.in-One.start c.args.end claim.there in
     omega arith
 
 pub write_at-requires : goal.write_at-requires
 write_at-requires c =
-    let told : IsOnly (IsClaimedStart (values_of c.args.copies.now) c.args.end) c.in-One.start =
-    subst (λ s. Tells (IsClaimedStart (values_of c.args.copies.now) c.args.end) (starts_told s)) c.in-One.is c.requires.told in
-    let below = told_below (values_of c.args.copies.now) c.in-One.start c.args.end told.there in
+    let claim : IsOnly (IsClaimedStart (values_of c.args.copies.now) c.args.end) c.in-One.start =
+    subst (λ s. Tallies (IsClaimedStart (values_of c.args.copies.now) c.args.end) (starts_tally s)) c.in-One.is c.requires.claim in
+    let below = claim_below (values_of c.args.copies.now) c.in-One.start c.args.end claim.there in
     let size = least_size (values_of c.args.copies.now) c.in-One.start c.args.end c.least_at.result.now
     (each_value c.args.copies.now (λ copy. c.args.end ≤ length copy) c.requires.within) (omega arith) c.least_at.ensures in
     omega arith
 
 pub returns : goal.returns
 returns c =
-    let told : IsOnly (IsClaimedStart (values_of c.args.copies.now) c.args.end) c.in-One.start =
-    subst (λ s. Tells (IsClaimedStart (values_of c.args.copies.now) c.args.end) (starts_told s)) c.in-One.is c.requires.told in
-    let below = told_below (values_of c.args.copies.now) c.in-One.start c.args.end told.there in
+    let claim : IsOnly (IsClaimedStart (values_of c.args.copies.now) c.args.end) c.in-One.start =
+    subst (λ s. Tallies (IsClaimedStart (values_of c.args.copies.now) c.args.end) (starts_tally s)) c.in-One.is c.requires.claim in
+    let below = claim_below (values_of c.args.copies.now) c.in-One.start c.args.end claim.there in
     record {
       bytes = c.least_at.result.now;
       ends = refl;
-      stands = (inl c.requires.two, record { told = told; least = c.least_at.ensures });
+      stands = (inl c.requires.two, record { claim = claim; least = c.least_at.ensures });
       size = least_size (values_of c.args.copies.now) c.in-One.start c.args.end c.least_at.result.now
           (each_value c.args.copies.now (λ copy. c.args.end ≤ length copy) c.requires.within) (omega arith) c.least_at.ensures;
       written' = c.write_at.ensures;

@@ -1,7 +1,7 @@
 use Rattle.std.proofs.Common.{◌≤◌, length, subst, refl, arith}
 use Rattle.ffv1_slice.specs.Members.{IsOnly}
 use Rattle.ffv1_splice.specs.Pieces.{IsPiece}
-use Rattle.ffv1_splice.specs.Told.{Tells, pieces_told}
+use Rattle.ffv1_splice.specs.Tally.{Tallies, pieces_tally}
 use Rattle.ffv1_weave.proofs.References.{values_of, each_value}
 use Rattle.ffv1_splice.proofs.PlaceSteps.{piece_size}
 use Rattle.ffv1_splice.proofs.placing.place_before.Goals as goal
@@ -9,7 +9,7 @@ use Rattle.ffv1_splice.proofs.placing.place_before.Goals as goal
 pub write_at-requires : goal.write_at-requires
 write_at-requires c =
     let only : IsOnly (IsPiece (values_of c.args.copies.now) c.args.end) (record { start = c.in-One.start; bytes = c.in-One.bytes.now }) =
-    subst (λ p. Tells (IsPiece (values_of c.args.copies.now) c.args.end) (pieces_told p)) c.in-One.is c.told_at-starts.ensures.pieces in
+    subst (λ p. Tallies (IsPiece (values_of c.args.copies.now) c.args.end) (pieces_tally p)) c.in-One.is c.tally_at-starts.ensures.pieces in
     let size = piece_size (values_of c.args.copies.now) c.args.end (record { start = c.in-One.start; bytes = c.in-One.bytes.now })
     (each_value c.args.copies.now (λ copy. c.args.end ≤ length copy) c.requires.within) only.there in
     omega arith
@@ -17,7 +17,7 @@ write_at-requires c =
 pub returns-in-One : goal.returns-in-One
 returns-in-One c =
     let only : IsOnly (IsPiece (values_of c.args.copies.now) c.args.end) (record { start = c.in-One.start; bytes = c.in-One.bytes.now }) =
-    subst (λ p. Tells (IsPiece (values_of c.args.copies.now) c.args.end) (pieces_told p)) c.in-One.is c.told_at-starts.ensures.pieces in
+    subst (λ p. Tallies (IsPiece (values_of c.args.copies.now) c.args.end) (pieces_tally p)) c.in-One.is c.tally_at-starts.ensures.pieces in
     record {
       bytes = c.in-One.bytes.now;
       ends = refl;

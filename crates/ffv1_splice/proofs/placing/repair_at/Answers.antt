@@ -3,14 +3,14 @@ use Rattle.ffv1_weave.specs.Parts.{written}
 use Rattle.ffv1_splice.specs.Standings.{versions_at, IsGap}
 use Rattle.ffv1_splice.specs.declared.place.Standing.TheVariants.{Repaired, Missing}
 use Rattle.ffv1_weave.proofs.References.{values_of, each_value}
-use Rattle.ffv1_splice.proofs.PlaceSteps.{AllReach, told_below, gap_size, placed_as}
+use Rattle.ffv1_splice.proofs.PlaceSteps.{AllReach, claim_below, gap_size, placed_as}
 use Rattle.ffv1_splice.proofs.RepairSteps.{is_repaired, is_missing}
 use Rattle.ffv1_splice.proofs.Versions.{version_length, one_length, repair_size}
 use Rattle.ffv1_splice.proofs.placing.repair_at.Goals as goal
 
 pub repair-requires-clause-lengths : goal.repair-requires-clause-lengths
 repair-requires-clause-lengths c =
-    let below = told_below (values_of c.args.copies.now) c.args.start c.args.end c.requires.missed.1.told.there in
+    let below = claim_below (values_of c.args.copies.now) c.args.start c.args.end c.requires.missed.1.claim.there in
     one_length (versions_at (values_of c.args.copies.now) c.args.start c.args.end) (c.args.end - c.args.start)
     (version_length (values_of c.args.copies.now) c.args.start c.args.end (omega arith)
     (each_value c.args.copies.now (λ copy. c.args.end ≤ length copy) c.requires.within)) c.args.versions.now c.requires.versions
@@ -20,7 +20,7 @@ returns-in_default c =
     let reach : AllReach (values_of c.args.copies.now) c.args.end =
     each_value c.args.copies.now (λ copy. c.args.end ≤ length copy) c.requires.within in
     let gap : IsGap (values_of c.args.copies.now) c.args.start c.args.end c.least_at.result.now =
-    record { told = c.requires.missed.1.told; least = c.least_at.ensures } in
+    record { claim = c.requires.missed.1.claim; least = c.least_at.ensures } in
     let missing = is_missing (values_of c.args.copies.now) c.args.start c.args.end (values_of c.args.versions.now) c.requires.versions
     c.in_ok-repaired.field-0 c.requires.missed c.requires.unvoted c.in_ok-repaired.ensures c.in_default.not-Some in
     placed_as (values_of c.args.copies.now) c.args.start c.args.end c.args.payload.now c.write_at.new.payload c.least_at.result.now Missing (missing, gap)

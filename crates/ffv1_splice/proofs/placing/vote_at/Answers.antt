@@ -3,7 +3,7 @@ use Rattle.ffv1_weave.specs.Parts.{written}
 use Rattle.ffv1_splice.specs.Standings.{versions_at, IsGap}
 use Rattle.ffv1_splice.specs.declared.place.Standing.TheVariants.{Voted, Missing}
 use Rattle.ffv1_weave.proofs.References.{values_of, each_value}
-use Rattle.ffv1_splice.proofs.PlaceSteps.{AllReach, told_below, gap_size, unwoven_weave, placed_as}
+use Rattle.ffv1_splice.proofs.PlaceSteps.{AllReach, claim_below, gap_size, unwoven_weave, placed_as}
 use Rattle.ffv1_splice.proofs.RepairSteps.{unwoven_by, is_voted, is_unvoted}
 use Rattle.ffv1_splice.proofs.Versions.{version_length, one_length, vote_size}
 use Rattle.ffv1_splice.proofs.placing.vote_at.Goals as goal
@@ -11,8 +11,8 @@ use Rattle.ffv1_splice.proofs.placing.vote_at.Goals as goal
 pub vote-requires-clause-lengths : goal.vote-requires-clause-lengths
 vote-requires-clause-lengths c =
     let unwoven = unwoven_by (values_of c.args.copies.now) c.args.start c.args.end c.args.all_tried c.requires.missed c.requires.many in
-    let told = (unwoven_weave (values_of c.args.copies.now) c.args.start c.args.end unwoven).1.told in
-    let below = told_below (values_of c.args.copies.now) c.args.start c.args.end told.there in
+    let claim = (unwoven_weave (values_of c.args.copies.now) c.args.start c.args.end unwoven).1.claim in
+    let below = claim_below (values_of c.args.copies.now) c.args.start c.args.end claim.there in
     one_length (versions_at (values_of c.args.copies.now) c.args.start c.args.end) (c.args.end - c.args.start)
     (version_length (values_of c.args.copies.now) c.args.start c.args.end (omega arith)
     (each_value c.args.copies.now (λ copy. c.args.end ≤ length copy) c.requires.within)) c.args.versions.now c.requires.versions
@@ -53,7 +53,7 @@ returns c =
     c.in_ok-voted.field-0 c.in_ok-voted.ensures c.in_default.not-Some in
     let weave = c.requires.many c.if-all_tried.false in
     let gap : IsGap (values_of c.args.copies.now) c.args.start c.args.end c.least_at.result.now =
-    record { told = weave.told; least = c.least_at.ensures } in
+    record { claim = weave.claim; least = c.least_at.ensures } in
     placed_as (values_of c.args.copies.now) c.args.start c.args.end c.args.payload.now c.write_at-2.new.payload c.least_at.result.now Missing
     ((inr weave, unvoted), gap)
     (gap_size (values_of c.args.copies.now) c.args.start c.args.end c.least_at.result.now reach gap) c.write_at-2.ensures

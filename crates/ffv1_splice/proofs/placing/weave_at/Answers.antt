@@ -1,19 +1,19 @@
 use Rattle.std.proofs.Common.{◌≡◌, ◌-◌, ◌≤◌, length, refl, ap, subst, ◌∙◌, inl, inr, arith}
-use Rattle.ffv1_weave.specs.Weave.{IsWeaveOf, weave_told}
+use Rattle.ffv1_weave.specs.Weave.{IsWeaveOf, weave_tally}
 use Rattle.ffv1_weave.specs.Weave.Weave.{woven, disputed, missing}
 use Rattle.ffv1_weave.specs.declared.check.Check.TheVariants.{Slice}
 use Rattle.ffv1_weave.specs.Parts.{written}
 use Rattle.ffv1_splice.specs.Standings.{versions_at, IsWeaveAt, IsGap}
 use Rattle.ffv1_splice.specs.declared.place.Standing.TheVariants.{Disputed}
 use Rattle.ffv1_weave.proofs.References.{values_of, each_value}
-use Rattle.ffv1_splice.proofs.PlaceSteps.{told_below, gap_size, stands_weave, placed_as}
+use Rattle.ffv1_splice.proofs.PlaceSteps.{claim_below, gap_size, stands_weave, placed_as}
 use Rattle.ffv1_splice.proofs.Versions.{version_length, one_length, weave_size}
 use Rattle.ffv1_splice.proofs.placing.weave_at.Goals as goal
 use Rattle.ffv1_splice.proofs.placing.weave_at.Goals.{in-Missing, in-TooMany}
 
 pub weave-requires-clause-lengths : goal.weave-requires-clause-lengths
 weave-requires-clause-lengths c =
-    let below = told_below (values_of c.args.copies.now) c.args.start c.args.end c.requires.told.there in
+    let below = claim_below (values_of c.args.copies.now) c.args.start c.args.end c.requires.claim.there in
     one_length (versions_at (values_of c.args.copies.now) c.args.start c.args.end) (c.args.end - c.args.start)
     (version_length (values_of c.args.copies.now) c.args.start c.args.end (omega arith)
     (each_value c.args.copies.now (λ copy. c.args.end ≤ length copy) c.requires.within)) c.as_slice-versions.result.now
@@ -24,12 +24,12 @@ write_at-requires c =
     let is : values_of c.as_slice-versions.result.now ≡ versions_at (values_of c.args.copies.now) c.args.start c.args.end =
     ap values_of c.as_slice-versions.ensures.value ∙ c.in_ok-versions.ensures in
     let weave : IsWeaveOf Slice (values_of c.as_slice-versions.result.now) (woven c.in-Woven.bytes.items c.in-Woven.count) =
-    subst (λ o. IsWeaveOf Slice (values_of c.as_slice-versions.result.now) (weave_told o)) c.in-Woven.is c.in_ok-bytes.ensures in
+    subst (λ o. IsWeaveOf Slice (values_of c.as_slice-versions.result.now) (weave_tally o)) c.in-Woven.is c.in_ok-bytes.ensures in
     let size = weave_size (values_of c.args.copies.now) c.args.start c.args.end c.in-Woven.bytes.items c.in-Woven.count
     (each_value c.args.copies.now (λ copy. c.args.end ≤ length copy) c.requires.within)
     (record {
       none = c.requires.none;
-      told = c.requires.told;
+      claim = c.requires.claim;
       weave' = subst (λ vs. IsWeaveOf Slice vs (woven c.in-Woven.bytes.items c.in-Woven.count)) is weave;
     }) in
     let same = ap length c.as_slice.ensures.value in
@@ -40,10 +40,10 @@ returns-in-Woven c =
     let is : values_of c.as_slice-versions.result.now ≡ versions_at (values_of c.args.copies.now) c.args.start c.args.end =
     ap values_of c.as_slice-versions.ensures.value ∙ c.in_ok-versions.ensures in
     let weave : IsWeaveOf Slice (values_of c.as_slice-versions.result.now) (woven c.in-Woven.bytes.items c.in-Woven.count) =
-    subst (λ o. IsWeaveOf Slice (values_of c.as_slice-versions.result.now) (weave_told o)) c.in-Woven.is c.in_ok-bytes.ensures in
+    subst (λ o. IsWeaveOf Slice (values_of c.as_slice-versions.result.now) (weave_tally o)) c.in-Woven.is c.in_ok-bytes.ensures in
     let at : IsWeaveAt (values_of c.args.copies.now) c.args.start c.args.end (woven c.in-Woven.bytes.items c.in-Woven.count) = record {
       none = c.requires.none;
-      told = c.requires.told;
+      claim = c.requires.claim;
       weave' = subst (λ vs. IsWeaveOf Slice vs (woven c.in-Woven.bytes.items c.in-Woven.count)) is weave;
     } in
     record {
@@ -60,11 +60,11 @@ returns-in-Disputed c =
     let is : values_of c.as_slice-versions.result.now ≡ versions_at (values_of c.args.copies.now) c.args.start c.args.end =
     ap values_of c.as_slice-versions.ensures.value ∙ c.in_ok-versions.ensures in
     let weave : IsWeaveOf Slice (values_of c.as_slice-versions.result.now) disputed =
-    subst (λ o. IsWeaveOf Slice (values_of c.as_slice-versions.result.now) (weave_told o)) c.in-Disputed.is c.in_ok-bytes.ensures in
-    let at = stands_weave (values_of c.args.copies.now) c.args.start c.args.end disputed c.requires.none c.requires.told
+    subst (λ o. IsWeaveOf Slice (values_of c.as_slice-versions.result.now) (weave_tally o)) c.in-Disputed.is c.in_ok-bytes.ensures in
+    let at = stands_weave (values_of c.args.copies.now) c.args.start c.args.end disputed c.requires.none c.requires.claim
     (subst (λ vs. IsWeaveOf Slice vs disputed) is weave) in
     let gap : IsGap (values_of c.args.copies.now) c.args.start c.args.end c.least_at.result.now =
-    record { told = c.requires.told; least = c.least_at.ensures } in
+    record { claim = c.requires.claim; least = c.least_at.ensures } in
     placed_as (values_of c.args.copies.now) c.args.start c.args.end c.args.payload.now c.write_at-in-Disputed.new.payload c.least_at.result.now Disputed
     (inr at, gap)
     (gap_size (values_of c.args.copies.now) c.args.start c.args.end c.least_at.result.now
@@ -77,9 +77,9 @@ vote_at-requires-clause-missed c all =
     elim c.match-branch-3.branch [
       | in-Missing w ↦
           let weave : IsWeaveOf Slice (values_of c.as_slice-versions.result.now) (missing w.in-Missing.field-0) =
-          subst (λ o. IsWeaveOf Slice (values_of c.as_slice-versions.result.now) (weave_told o)) w.in-Missing.is c.in_ok-bytes.ensures in (
+          subst (λ o. IsWeaveOf Slice (values_of c.as_slice-versions.result.now) (weave_tally o)) w.in-Missing.is c.in_ok-bytes.ensures in (
             w.in-Missing.field-0,
-            stands_weave (values_of c.args.copies.now) c.args.start c.args.end (missing w.in-Missing.field-0) c.requires.none c.requires.told
+            stands_weave (values_of c.args.copies.now) c.args.start c.args.end (missing w.in-Missing.field-0) c.requires.none c.requires.claim
                 (subst (λ vs. IsWeaveOf Slice vs (missing w.in-Missing.field-0)) is weave),
           )
       | in-TooMany w ↦ let untried = w.all_tried-is in absurd (cc)

@@ -1,6 +1,6 @@
 use Rattle.std.proofs.Common.{subst, inl, inr}
 use Rattle.ffv1_splice.specs.Pieces.{IsPiece}
-use Rattle.ffv1_splice.specs.Told.{Tells, pieces_told}
+use Rattle.ffv1_splice.specs.Tally.{Tallies, pieces_tally}
 use Rattle.ffv1_weave.proofs.References.{values_of}
 use Rattle.ffv1_splice.proofs.PlaceSteps.{none_not_only, two_not_only}
 use Rattle.ffv1_splice.proofs.settling.only_piece.Goals as goal
@@ -9,7 +9,7 @@ pub returns-in-None : goal.returns-in-None
 returns-in-None c =
     elim c.in-None.is [
       | inl none ↦ none_not_only (IsPiece (values_of c.args.copies.now) c.args.end)
-          (subst (λ p. Tells (IsPiece (values_of c.args.copies.now) c.args.end) (pieces_told p)) none c.told_at.ensures.pieces)
+          (subst (λ p. Tallies (IsPiece (values_of c.args.copies.now) c.args.end) (pieces_tally p)) none c.tally_at.ensures.pieces)
       | inr two ↦ two_not_only (IsPiece (values_of c.args.copies.now) c.args.end)
-          (subst (λ p. Tells (IsPiece (values_of c.args.copies.now) c.args.end) (pieces_told p)) two c.told_at.ensures.pieces)
+          (subst (λ p. Tallies (IsPiece (values_of c.args.copies.now) c.args.end) (pieces_tally p)) two c.tally_at.ensures.pieces)
     ]

@@ -3,7 +3,7 @@ use Rattle.std.specs.Prelude.{Contains}
 use Rattle.std.proofs.lemmas.List.Elements.{Contains-append_cases}
 use Rattle.ffv1_bits.specs.Parity.{AreBytes}
 use Rattle.ffv1_weave.proofs.References.{values_of, next_value, all_values, nowhere}
-use Rattle.ffv1_splice.proofs.ToldSteps.{alone}
+use Rattle.ffv1_splice.proofs.TallySteps.{alone}
 use Rattle.ffv1_splice.proofs.SeveralSteps.{IsNext, next_kept, next_more}
 use Rattle.ffv1_splice.proofs.several.next_claimed_start.Goals as goal
 use Rattle.ffv1_splice.proofs.several.next_claimed_start.Goals.{in-Some, in_default}
@@ -28,11 +28,11 @@ loop-copy-preserved c =
       next = elim c.match-claimed_from.branch [
         | in-Some w ↦
             next (Some w.lesser.result) w.next-is
-            (next_more before copy c.args.end c.args.from c.loop-copy.next w.in-Some.start w.lesser.result w.in-Some.ensures.told.0
-            w.in-Some.ensures.told.1 w.in-Some.ensures.told.2 w.lesser.ensures c.loop-copy.invariant.next)
+            (next_more before copy c.args.end c.args.from c.loop-copy.next w.in-Some.start w.lesser.result w.in-Some.ensures.claim.0
+            w.in-Some.ensures.claim.1 w.in-Some.ensures.claim.2 w.lesser.ensures c.loop-copy.invariant.next)
         | in_default w ↦
             next c.loop-copy.next w.next-is
-            (next_kept before copy c.args.end c.args.from c.loop-copy.next w.in_default.ensures.told c.loop-copy.invariant.next)
+            (next_kept before copy c.args.end c.args.from c.loop-copy.next w.in_default.ensures.claim c.loop-copy.invariant.next)
       ];
       bytes = subst (λ copies. (one : List ℕ) → Contains copies one → AreBytes one) more
           (bytes_more before copy c.loop-copy.invariant.bytes c.claimed_from.ensures.bytes);

@@ -1,8 +1,8 @@
 use Rattle.std.proofs.Common.{◌+◌, sym, subst, arith}
-use Rattle.ffv1_weave.specs.Weave.{weave_told}
+use Rattle.ffv1_weave.specs.Weave.{weave_tally}
 use Rattle.ffv1_weave.proofs.References.{values_of}
 use Rattle.ffv1_splice.specs.Pieces.{HasContent}
-use Rattle.ffv1_splice.specs.Several.{IsNextClaimedStart, AreTriedBefore, tried_told}
+use Rattle.ffv1_splice.specs.Several.{IsNextClaimedStart, AreTriedBefore, tried_tally}
 use Rattle.ffv1_splice.proofs.ShortestSteps.{cut_is_short}
 use Rattle.ffv1_splice.proofs.SeveralSteps.{tried_none, tried_next, tried_end}
 use Rattle.ffv1_splice.proofs.several.try_starts.Goals as goal
@@ -25,14 +25,14 @@ loop-start-preserved c =
     record {
       within = omega arith;
       tried = subst (AreTriedBefore (values_of c.args.copies.now) c.args.end (c.in-Some.start + 1)) (sym c.with-tried.ensures)
-          (tried_next (values_of c.args.copies.now) c.args.end c.loop-start.from c.in-Some.start c.in-Some.ensures.next (tried_told c.loop-start.tried)
-          (weave_told c.in_ok-outcome.outcome) c.in_ok-outcome.ensures c.loop-start.invariant.tried);
+          (tried_next (values_of c.args.copies.now) c.args.end c.loop-start.from c.in-Some.start c.in-Some.ensures.next (tried_tally c.loop-start.tried)
+          (weave_tally c.in_ok-outcome.outcome) c.in_ok-outcome.ensures c.loop-start.invariant.tried);
     }
 
 pub returns-clause-tried : goal.returns-clause-tried
 returns-clause-tried c =
     tried_end (values_of c.args.copies.now) c.args.end c.loop-start.from c.loop-start.invariant.within c.in_default.ensures.next
-    (tried_told c.loop-start.tried) c.loop-start.invariant.tried
+    (tried_tally c.loop-start.tried) c.loop-start.invariant.tried
 
 pub returns-clause-bytes : goal.returns-clause-bytes
 returns-clause-bytes c = c.next_claimed_start.ensures.bytes

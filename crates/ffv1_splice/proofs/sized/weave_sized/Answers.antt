@@ -1,6 +1,6 @@
 use Rattle.std.proofs.Common.{◌≡◌, ◌-◌, ◌≤◌, ℕ, List, map, length, ap, subst, ◌∙◌}
 use Rattle.std.proofs.lemmas.Result.{IfOk-weaker}
-use Rattle.ffv1_weave.specs.Weave.{IsWeaveOf, weave_told}
+use Rattle.ffv1_weave.specs.Weave.{IsWeaveOf, weave_tally}
 use Rattle.ffv1_weave.specs.declared.check.Check.TheVariants.{Slice}
 use Rattle.ffv1_weave.proofs.References.{values_of, each_value}
 use Rattle.ffv1_splice.specs.Standings.{versions_at, sized}
@@ -20,6 +20,6 @@ pub returns : goal.returns
 returns c =
     let is : values_of c.as_slice-2.result.now ≡ map sized (versions_at (values_of c.args.copies.now) c.args.start c.args.end) =
     ap values_of c.as_slice-2.ensures.value ∙ c.in_ok-lent.ensures ∙ ap (map (λ version. version.items)) c.as_slice.ensures.value ∙ c.in_ok-versions.ensures in
-    IfOk-weaker c.weave.result (λ outcome. IsWeaveOf Slice (values_of c.as_slice-2.result.now) (weave_told outcome))
-    (λ outcome. IsWeaveOf Slice (map sized (versions_at (values_of c.args.copies.now) c.args.start c.args.end)) (weave_told outcome))
-    (λ outcome h. subst (λ vs. IsWeaveOf Slice vs (weave_told outcome)) is h) c.weave.ensures
+    IfOk-weaker c.weave.result (λ outcome. IsWeaveOf Slice (values_of c.as_slice-2.result.now) (weave_tally outcome))
+    (λ outcome. IsWeaveOf Slice (map sized (versions_at (values_of c.args.copies.now) c.args.start c.args.end)) (weave_tally outcome))
+    (λ outcome h. subst (λ vs. IsWeaveOf Slice vs (weave_tally outcome)) is h) c.weave.ensures

@@ -1,5 +1,5 @@
-use Rattle.ffv1_range.specs.TableForms.{AreRows}
+use Rattle.ffv1_range.specs.TableForms.{AreStateRows}
 use Rattle.ffv1_vectors.proofs.record.spell_context_deltas.Given as goal
 
 abbrev pub invariant-loop-k : goal.invariant-loop-k
-invariant-loop-k l = AreRows l.rows
+invariant-loop-k l = AreStateRows l.rows

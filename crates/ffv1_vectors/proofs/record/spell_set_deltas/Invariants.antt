@@ -1,5 +1,5 @@
-use Rattle.ffv1_range.specs.TableForms.{AreRows}
+use Rattle.ffv1_range.specs.TableForms.{AreStateRows}
 use Rattle.ffv1_vectors.proofs.record.spell_set_deltas.Given as goal
 
 abbrev pub invariant-loop : goal.invariant-loop
-invariant-loop l = AreRows l.rows
+invariant-loop l = AreStateRows l.rows

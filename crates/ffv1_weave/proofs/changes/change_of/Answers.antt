@@ -9,6 +9,6 @@ pub returns-then-eq : goal.returns-then-eq
 returns-then-eq c =
     let first : List ℕ = c.args.first.now in
     let start : ℕ = c.args.start in
-    let piece : List ℕ = c.args.piece.now in
-    let same = slice_eq-Decides Decides-eqb (slice_range first start (start + length piece)) piece c.eq.result c.eq.ensures in
-    sym (change_of_same c.args.check first start piece (same.0 c.if-eq.true))
+    let choice : List ℕ = c.args.choice.now in
+    let same = slice_eq-Decides Decides-eqb (slice_range first start (start + length choice)) choice c.eq.result c.eq.ensures in
+    sym (change_of_same c.args.check first start choice (same.0 c.if-eq.true))

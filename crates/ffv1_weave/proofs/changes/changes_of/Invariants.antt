@@ -3,8 +3,8 @@ use Rattle.ffv1_weave.specs.Changes.{changes_of}
 use Rattle.ffv1_weave.proofs.changes.changes_of.Given as goal
 
 -- the changes of the choices so far
-abbrev pub invariant-loop-piece : goal.invariant-loop-piece
-invariant-loop-piece l = record {
+abbrev pub invariant-loop-choice : goal.invariant-loop-choice
+invariant-loop-choice l = record {
   same_length : length l.scratch ≡ length l.first;
-  so_far : l.changes.items ≡ take l.piece-index (changes_of l.check l.first l.part);
+  so_far : l.changes.items ≡ take l.choice-index (changes_of l.check l.first l.part);
 }

@@ -13,8 +13,8 @@ returns-then-not-passes c = λ tried h.
 pub returns-else-eq : goal.returns-else-eq
 returns-else-eq c = λ tried h.
     found_another c.args.check c.args.bytes.now tried (c.passes.ensures.0 c.if-not-passes.false) c.in-One.other.items
-    (λ same. let told = slice_eq-Decides Decides-eqb c.as_slice.result.now c.args.bytes.now c.eq.result c.eq.ensures in
-    let yes = told.1 (c.as_slice.ensures.value ∙ same) in let no = c.if-eq.false in absurd (cc))
+    (λ same. let tallied = slice_eq-Decides Decides-eqb c.as_slice.result.now c.args.bytes.now c.eq.result c.eq.ensures in
+    let yes = tallied.1 (c.as_slice.ensures.value ∙ same) in let no = c.if-eq.false in absurd (cc))
     (subst (IsFoundAmong c.args.check tried) c.in-One.is h)
 
 pub returns-in-Several : goal.returns-in-Several

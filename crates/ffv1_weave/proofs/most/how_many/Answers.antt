@@ -4,40 +4,40 @@ use Rattle.std.proofs.lemmas.Bool.{false≢true}
 use Rattle.std.proofs.lemmas.Bool.Decides.{Decides-eqb}
 use Rattle.std.proofs.lemmas.Slice.Eq.{slice_eq-Decides}
 use Rattle.ffv1_weave.specs.Numbers.{AreNumbered}
-use Rattle.ffv1_weave.specs.Grains.{HasPiece}
+use Rattle.ffv1_weave.specs.Grains.{HasChoice}
 use Rattle.ffv1_weave.proofs.References.{values_of, value_at, length-values_of, next_value, all_values, nowhere}
 use Rattle.ffv1_weave.proofs.MostSteps.{have_none, have_same, have_more, not_before}
 use Rattle.ffv1_weave.proofs.most.how_many.Goals as goal
 use Rattle.ffv1_weave.proofs.most.how_many.Goals.{then-eq, else-eq}
 
 pub loop-version-init : goal.loop-version-init
-loop-version-init c = record { counted = have_none c.args.start c.args.end c.args.piece.now; bound = omega arith }
+loop-version-init c = record { counted = have_none c.args.start c.args.end c.args.choice.now; bound = omega arith }
 
 pub loop-version-preserved : goal.loop-version-preserved
 loop-version-preserved c =
     let i : ℕ = c.loop-version.version-index in
     let start : ℕ = c.args.start in
     let end : ℕ = c.args.end in
-    let piece : List ℕ = c.args.piece.now in
+    let choice : List ℕ = c.args.choice.now in
     let version : List ℕ = (get_or c.args.versions.now i nowhere).now in
     let before : List (List ℕ) = take i (values_of c.args.versions.now) in
     let next : before ++ version ∷ [] ≡ take (i + 1) (values_of c.args.versions.now) = next_value c.args.versions.now i nowhere (omega arith) in
-    let same = slice_eq-Decides Decides-eqb (slice_range version start end) piece c.eq.result c.eq.ensures in
+    let same = slice_eq-Decides Decides-eqb (slice_range version start end) choice c.eq.result c.eq.ensures in
     let new : Contains before version → ⊥ = λ there.
     not_before (values_of c.args.versions.now) i c.requires.distinct (omega (arith, length-values_of c.args.versions.now))
     (subst (Contains before) (sym (value_at c.args.versions.now i nowhere [] (omega arith))) there) in
     let bound = c.loop-version.invariant.bound in
     elim c.if-eq.branch [
       | then-eq w ↦ record {
-        counted = subst (AreNumbered (HasPiece (take (i + 1) (values_of c.args.versions.now)) start end piece)) (sym w.count-is)
-            (subst (λ vs. AreNumbered (HasPiece vs start end piece) (c.loop-version.count + 1)) next
-            (have_more start end piece before version c.loop-version.count new (sym (same.0 w.if-eq.true)) c.loop-version.invariant.counted));
+        counted = subst (AreNumbered (HasChoice (take (i + 1) (values_of c.args.versions.now)) start end choice)) (sym w.count-is)
+            (subst (λ vs. AreNumbered (HasChoice vs start end choice) (c.loop-version.count + 1)) next
+            (have_more start end choice before version c.loop-version.count new (sym (same.0 w.if-eq.true)) c.loop-version.invariant.counted));
         bound = omega (arith, w.count-is);
       }
       | else-eq w ↦ record {
-        counted = subst (AreNumbered (HasPiece (take (i + 1) (values_of c.args.versions.now)) start end piece)) (sym w.count-is)
-            (subst (λ vs. AreNumbered (HasPiece vs start end piece) c.loop-version.count) next
-            (have_same start end piece before version c.loop-version.count
+        counted = subst (AreNumbered (HasChoice (take (i + 1) (values_of c.args.versions.now)) start end choice)) (sym w.count-is)
+            (subst (λ vs. AreNumbered (HasChoice vs start end choice) c.loop-version.count) next
+            (have_same start end choice before version c.loop-version.count
             (λ is. absurd (false≢true (sym w.if-eq.false ∙ same.1 (sym is)))) c.loop-version.invariant.counted));
         bound = omega (arith, w.count-is);
       }
@@ -45,5 +45,5 @@ loop-version-preserved c =
 
 pub returns : goal.returns
 returns c =
-    subst (λ versions. AreNumbered (HasPiece versions c.args.start c.args.end c.args.piece.now) c.loop-version.count)
+    subst (λ versions. AreNumbered (HasChoice versions c.args.start c.args.end c.args.choice.now) c.loop-version.count)
     (all_values c.args.versions.now c.loop-version.version-index c.loop-version-test.false) c.loop-version.invariant.counted

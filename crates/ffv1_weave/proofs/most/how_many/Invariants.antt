@@ -1,11 +1,11 @@
 use Rattle.std.proofs.Common.{◌≤◌, map, take}
 use Rattle.ffv1_weave.specs.Numbers.{AreNumbered}
-use Rattle.ffv1_weave.specs.Grains.{HasPiece}
+use Rattle.ffv1_weave.specs.Grains.{HasChoice}
 use Rattle.ffv1_weave.proofs.most.how_many.Given as goal
 
 -- so many of the versions so far have the byte string
 abbrev pub invariant-loop-version : goal.invariant-loop-version
 invariant-loop-version l = record {
-  counted : AreNumbered (HasPiece (take l.version-index (map (λ version. version.now) l.versions)) l.start l.end l.piece) l.count;
+  counted : AreNumbered (HasChoice (take l.version-index (map (λ version. version.now) l.versions)) l.start l.end l.choice) l.count;
   bound : l.count ≤ l.version-index;
 }

@@ -13,22 +13,22 @@ loop-start-init c = subst (λ parts. ArePartsSoFar c.args.grain (values_of c.arg
 pub returns-then-many-count : goal.returns-then-many-count
 returns-then-many-count c =
     let versions : List (List ℕ) = values_of c.args.versions.now in
-    let pieces : List (Bor (List ℕ)) = c.in_ok-pieces.pieces.items in
-    let part : Part = record { start = c.in-Some.start; end = c.in-Some.end; pieces = values_of pieces } in
-    let many : c.len-many.result ≡ length part.pieces = omega (arith, c.len-many.ensures, c.in_ok-pieces.pieces.ok.0, length-values_of pieces) in
+    let choices : List (Bor (List ℕ)) = c.in_ok-choices.choices.items in
+    let part : Part = record { start = c.in-Some.start; end = c.in-Some.end; choices = values_of choices } in
+    let many : c.len-many.result ≡ length part.choices = omega (arith, c.len-many.ensures, c.in_ok-choices.choices.ok.0, length-values_of choices) in
     too_many_more c.args.grain versions c.args.size (each_value c.args.versions.now (λ version. length version ≡ c.args.size) c.requires.lengths)
     (omega (arith, c.requires.some, length-values_of c.args.versions.now)) c.loop-start.from c.loop-start.parts.items c.loop-start.count c.loop-start.invariant
-    part c.in-Some.ensures.part c.in-Some.ensures.within c.in_ok-pieces.ensures (subst (λ n. MOST_COMBINATIONS / c.loop-start.count < n) many c.if-many-count.true)
+    part c.in-Some.ensures.part c.in-Some.ensures.within c.in_ok-choices.ensures (subst (λ n. MOST_COMBINATIONS / c.loop-start.count < n) many c.if-many-count.true)
 
 pub loop-start-preserved : goal.loop-start-preserved
 loop-start-preserved c =
     let versions : List (List ℕ) = values_of c.args.versions.now in
-    let pieces : List (Bor (List ℕ)) = c.in_ok-pieces.pieces.items in
-    let part : Part = record { start = c.in-Some.start; end = c.in-Some.end; pieces = values_of pieces } in
-    let many : c.len-many.result ≡ length part.pieces = omega (arith, c.len-many.ensures, c.in_ok-pieces.pieces.ok.0, length-values_of pieces) in
+    let choices : List (Bor (List ℕ)) = c.in_ok-choices.choices.items in
+    let part : Part = record { start = c.in-Some.start; end = c.in-Some.end; choices = values_of choices } in
+    let many : c.len-many.result ≡ length part.choices = omega (arith, c.len-many.ensures, c.in_ok-choices.choices.ok.0, length-values_of choices) in
     let more = one_more c.args.grain versions c.args.size (each_value c.args.versions.now (λ version. length version ≡ c.args.size) c.requires.lengths)
     (omega (arith, c.requires.some, length-values_of c.args.versions.now)) c.loop-start.from c.loop-start.parts.items c.loop-start.count c.loop-start.invariant
-    part c.in-Some.ensures.part c.in-Some.ensures.within c.in_ok-pieces.ensures (subst (λ n. n ≤ MOST_COMBINATIONS / c.loop-start.count) many c.if-many-count.false) in
+    part c.in-Some.ensures.part c.in-Some.ensures.within c.in_ok-choices.ensures (subst (λ n. n ≤ MOST_COMBINATIONS / c.loop-start.count) many c.if-many-count.false) in
     subst (λ parts. ArePartsSoFar c.args.grain versions c.args.size c.in-Some.end parts (c.loop-start.count * c.len-many.result)) (sym c.in_ok-push.ensures.items)
     (subst (λ n. ArePartsSoFar c.args.grain versions c.args.size c.in-Some.end (c.loop-start.parts.items ++ part ∷ []) (c.loop-start.count * n)) (sym many) more)
 

@@ -63,8 +63,8 @@ returns c =
     let count : ℕ = c.in-Some.tried.count in
     let have = have_parts c.args.versions.now c.in_ok-tried.field-0 c.in-Some.tried c.in-Some.is c.in_ok-tried.ensures c.requires.some c.requires.lengths in
     let done : c.loop-code.code ≡ count = omega arith in
-    let told = subst (λ n. IsFoundAmong Slice (all_inversions c.in-Some.tried.parts.items first n) c.loop-code.found) done c.loop-code.invariant.found in
+    let tallied = subst (λ n. IsFoundAmong Slice (all_inversions c.in-Some.tried.parts.items first n) c.loop-code.found) done c.loop-code.invariant.found in
     elim c.in-Nothing.is [
-      | inl nothing ↦ repair_missing have (subst (IsFoundAmong Slice (all_inversions c.in-Some.tried.parts.items first count)) nothing told)
-      | inr several ↦ repair_disputed have (subst (IsFoundAmong Slice (all_inversions c.in-Some.tried.parts.items first count)) several told)
+      | inl nothing ↦ repair_missing have (subst (IsFoundAmong Slice (all_inversions c.in-Some.tried.parts.items first count)) nothing tallied)
+      | inr several ↦ repair_disputed have (subst (IsFoundAmong Slice (all_inversions c.in-Some.tried.parts.items first count)) several tallied)
     ]

@@ -20,7 +20,7 @@ loop-grain-preserved c =
     let place : ℕ = c.loop-grain.grain-index in
     let there : place < length votes = c.loop-grain-test.true in
     let grain : Grain = get_or votes place Regions in
-    let told : ArePartsBy grain versions (length (get_or versions 0 [])) c.in_ok-tried.field-0 =
+    let tallied : ArePartsBy grain versions (length (get_or versions 0 [])) c.in_ok-tried.field-0 =
     subst (λ first. ArePartsBy grain versions (length first) c.in_ok-tried.field-0)
     (sym (value_at c.args.versions.now 0 nowhere [] (omega (arith, c.requires.three))))
     (subst (λ asked. ArePartsBy asked versions (length (get_or c.args.versions.now 0 nowhere).now) c.in_ok-tried.field-0)
@@ -28,7 +28,7 @@ loop-grain-preserved c =
     elim c.match-branch-2.branch [
       | in-Some+in_ok-found w ↦
           let have = have_few_parts c.args.versions.now (omega (arith, c.requires.three)) c.requires.lengths
-          (subst (ArePartsBy grain versions (length (get_or versions 0 []))) w.in-Some.is told) in
+          (subst (ArePartsBy grain versions (length (get_or versions 0 []))) w.in-Some.is tallied) in
           subst (AreTriedBefore versions (place + 1) c.match-branch-2.found) (sym w.count-is)
           (subst (λ what. AreTriedBefore versions (place + 1) what (c.loop-grain.count + w.in-Some.tried.count)) (sym w.found-is)
           (few_more versions place c.loop-grain.found c.loop-grain.count c.loop-grain.invariant w.in-Some.tried.parts.items w.in-Some.tried.count have
@@ -37,7 +37,7 @@ loop-grain-preserved c =
           subst (AreTriedBefore versions (place + 1) c.match-branch-2.found) (sym w.count-is)
           (subst (λ what. AreTriedBefore versions (place + 1) what c.loop-grain.count) (sym w.found-is)
           (many_more versions place c.loop-grain.found c.loop-grain.count c.loop-grain.invariant
-          (subst (ArePartsBy grain versions (length (get_or versions 0 []))) w.in_default.is told)))
+          (subst (ArePartsBy grain versions (length (get_or versions 0 []))) w.in_default.is tallied)))
     ]
 
 pub returns-in-One : goal.returns-in-One

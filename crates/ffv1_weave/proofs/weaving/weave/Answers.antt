@@ -1,6 +1,6 @@
 use Rattle.std.proofs.Common.{ℕ, List, Bor, length, arith, ap, subst}
 use Rattle.std.proofs.lemmas.Result.{IfOk-weaker}
-use Rattle.ffv1_weave.specs.Weave.{IsWeaveOf, weave_told}
+use Rattle.ffv1_weave.specs.Weave.{IsWeaveOf, weave_tally}
 use Rattle.ffv1_weave.proofs.References.{values_of}
 use Rattle.ffv1_weave.proofs.Distinct.{same_distinct, some_distinct, long_distinct}
 use Rattle.ffv1_weave.proofs.WeaveLaws.{same_back, weave_as}
@@ -26,8 +26,8 @@ returns c =
     let distinct : List (Bor (List ℕ)) = c.in_ok-distinct.distinct.items in
     let back = same_back (values_of versions) (values_of distinct)
     (same_distinct versions distinct c.requires.some c.requires.lengths c.in_ok-distinct.ensures) in
-    IfOk-weaker c.weave_distinct.result (λ outcome. IsWeaveOf c.args.check (values_of c.as_slice.result.now) (weave_told outcome))
-    (λ outcome. IsWeaveOf c.args.check (values_of versions) (weave_told outcome))
-    (λ outcome h. weave_as c.args.check (values_of distinct) (values_of versions) back (weave_told outcome)
-    (subst (λ items. IsWeaveOf c.args.check (values_of items) (weave_told outcome)) c.as_slice.ensures.value h))
+    IfOk-weaker c.weave_distinct.result (λ outcome. IsWeaveOf c.args.check (values_of c.as_slice.result.now) (weave_tally outcome))
+    (λ outcome. IsWeaveOf c.args.check (values_of versions) (weave_tally outcome))
+    (λ outcome h. weave_as c.args.check (values_of distinct) (values_of versions) back (weave_tally outcome)
+    (subst (λ items. IsWeaveOf c.args.check (values_of items) (weave_tally outcome)) c.as_slice.ensures.value h))
     c.weave_distinct.ensures

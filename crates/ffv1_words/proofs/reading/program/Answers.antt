@@ -8,7 +8,7 @@ use Rattle.ffv1_words.proofs.reading.program.Goals as goal
 -- a program that has to be given a command, with all commands after its own
 with_all : {E : Type 0} (program : Command) (r : Result Command E) → app_of program ≡ empty_program
     → IfOk r (λ whole. app_of whole ≡ with_commands (app_of program) all_commands) → IfOk r (λ whole. app_of whole ≡ program_app)
-with_all program r is told = IfOk-weaker r _ _ (λ whole made. made ∙ ap (λ app. with_commands app all_commands) is) told
+with_all program r is reported = IfOk-weaker r _ _ (λ whole made. made ∙ ap (λ app. with_commands app all_commands) is) reported
 
 pub returns : goal.returns
 returns c =

@@ -2,7 +2,7 @@ use Rattle.std.proofs.Common.{◌≡◌, ◌∙◌, ap, sym, Result, Ok, Err, If
 use Rattle.clap.specs.Words.{Row, Text, subcommand_of}
 use Rattle.ffv1_commands.specs.Fault.{NamesNoPath}
 use Rattle.ffv1_commands.specs.declared.fault.CliFault.{CliFault}
-use Rattle.ffv1_words.specs.Arguments.{rows_in, AreReadFrom, ReadsWords}
+use Rattle.ffv1_words.specs.Arguments.{rows_matched, AreReadFrom, ReadsWords}
 use Rattle.ffv1_words.specs.Grammar.{program_app}
 use Rattle.ffv1_words.specs.declared.words.Words.{Words}
 use Rattle.ffv1_words.proofs.Grammar.{met_of}
@@ -16,7 +16,7 @@ read_of (Err fault) arguments name rows met read = (tt, read)
 
 pub returns-in-Some : goal.returns-in-Some
 returns-in-Some c =
-    let read = read_of c.words_of.result (map (λ word. string_bytes word) c.args.words.now) c.in-Some.name.now (rows_in c.in-Some.found.now)
+    let read = read_of c.words_of.result (map (λ word. string_bytes word) c.args.words.now) c.in-Some.name.now (rows_matched c.in-Some.found.now)
     (met_of _ _ c.in-Ok-try_get_matches_from.matches _ _ c.in-Ok.ensures c.in-Ok-try_get_matches_from.ensures.matches c.in-Some.ensures.name c.in-Some.ensures.rows)
     c.words_of.ensures in
     record { ok = read.0; err = read.1 }

@@ -1,5 +1,5 @@
 use Rattle.std.proofs.Common.{Bor, List, ℕ, map, option_map, ap, sym, ◌∙◌}
-use Rattle.ffv1_words.specs.Arguments.{rows_in, AreWords}
+use Rattle.ffv1_words.specs.Arguments.{rows_matched, AreValues}
 use Rattle.ffv1_words.proofs.Grammar.{raw_values-words, found_or}
 use Rattle.ffv1_words.proofs.reading.several.Goals as goal
 
@@ -9,5 +9,5 @@ texts words = map (λ (word : Bor (List ℕ)). word.now) words.now
 
 pub returns : goal.returns
 returns c =
-    found_or (λ words. AreWords (rows_in c.args.matches.now) c.args.name.now (texts words)) c.get_strs.result _ c.ok_or.result c.ok_or.ensures.value
+    found_or (λ words. AreValues (rows_matched c.args.matches.now) c.args.name.now (texts words)) c.get_strs.result _ c.ok_or.result c.ok_or.ensures.value
     (λ words is. raw_values-words c.args.matches.now c.args.name.now (texts words) (sym c.get_strs.ensures ∙ ap (option_map texts) is)) tt

@@ -2,7 +2,7 @@ use Rattle.std.proofs.Common.{◌≡◌, ◌≤◌, IfSome}
 use Rattle.ffv1_bits.specs.Limits.{file_limit}
 use Rattle.ffv1_hold.specs.FileEntries.{IsFileEntryOf}
 use Rattle.ffv1_hold.specs.Merging.{Start, AreVersions, Stands}
-use Rattle.ffv1_hold.specs.JoinLogs.{AllGoOn}
+use Rattle.ffv1_hold.specs.MergeLogs.{AllGoOn}
 use Rattle.ffv1_hold.proofs.merging.Merge.merge_entries.Given as goal
 
 -- Both inputs are read as far as what was written.

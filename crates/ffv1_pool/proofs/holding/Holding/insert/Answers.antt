@@ -1,8 +1,8 @@
 use Rattle.std.proofs.Common.{◌≡◌, ℕ, ◌<◌, List, [], length, get_or, Result, Ok, Err, OnOk, OnErr, sym, ap, subst, ◌∙◌}
 use Rattle.std.proofs.lemmas.List.{get_or_default}
 use Rattle.ffv1_pool.specs.SliceOrder.{Entry, entries_total, entries_antisymmetric}
-use Rattle.ffv1_pool.specs.TileSets.{TileSlices, with_entry}
-use Rattle.ffv1_pool.specs.Contents.{Contents, IsEntryOf, AreEntriesOf, AreHeld, AreWhole}
+use Rattle.ffv1_pool.specs.TileSets.{TileSlices, with_tile_entry}
+use Rattle.ffv1_pool.specs.Contents.{Contents, IsEntryOf, AreEntriesOf, AreHeld, AreOfDigestLength}
 use Rattle.ffv1_pool.specs.HoldingParts.{IsKept}
 use Rattle.ffv1_pool.specs.declared.holding.Holding.TheInside.{Inside}
 use Rattle.ffv1_pool.proofs.EntrySteps.{all-insert}
@@ -12,14 +12,14 @@ use Rattle.ffv1_pool.proofs.holding.Holding.insert.Goals as goal
 -- what a holding keeps is kept with one slice more, and where none was added
 kept : {T E : Type 0} (r : Result T E) (a : Inside) (e : Entry) (digests : List (List ℕ)) (new : TileSlices) → IsKept a → IsEntryOf a.reel.setup e
     → ((i : ℕ) (d : List ℕ) → i < length digests → length (get_or digests i d) ≡ 32)
-    → OnOk r (new ≡ with_entry a.held e digests) → OnErr r (new ≡ a.held) → IsKept (record { reel = a.reel; held = new })
+    → OnOk r (new ≡ with_tile_entry a.held e digests) → OnErr r (new ≡ a.held) → IsKept (record { reel = a.reel; held = new })
 kept (Ok x) a e digests new is entry long ok err = record {
   reel = is.reel;
   tiles = ap (λ (h : TileSlices). h.tiles) ok ∙ is.tiles;
   slices = subst (λ (h : TileSlices). AreEntriesOf a.reel.setup h.slices) (sym ok)
       (all-insert entries_total entries_antisymmetric (IsEntryOf a.reel.setup) a.held.slices e is.slices entry);
   origins_held = subst (λ (h : TileSlices). AreHeld h.slices h.origins) (sym ok) (held_each a.held.slices a.held.origins e digests is.origins_held);
-  digests_whole = subst (λ (h : TileSlices). AreWhole h.origins) (sym ok) (whole_each a.held.slices a.held.origins e digests is.digests_whole long);
+  digests_whole = subst (λ (h : TileSlices). AreOfDigestLength h.origins) (sym ok) (whole_each a.held.slices a.held.origins e digests is.digests_whole long);
 }
 kept (Err x) a e digests new is entry long ok err = subst (λ (h : TileSlices). IsKept (record { reel = a.reel; held = h })) (sym err) is
 

@@ -8,7 +8,7 @@ use Rattle.ffv1_pool.specs.SliceOrder.{entry_cmp, origin_cmp, entries_total, ent
 use Rattle.ffv1_pool.specs.TileSets.{TileSlices, with_more}
 use Rattle.ffv1_pool.specs.PoolEntries.{entry_in, IsPool}
 use Rattle.ffv1_pool.specs.declared.pool_entry.PoolEntry.{PoolEntry}
-use Rattle.ffv1_pool.specs.Contents.{Contents, IsEntryOf, AreEntriesOf, AreHeld, AreWhole, origins_of_copy, with_facts, with_found}
+use Rattle.ffv1_pool.specs.Contents.{Contents, IsEntryOf, AreEntriesOf, AreHeld, AreOfDigestLength, origins_of_copy, with_facts, with_found}
 use Rattle.ffv1_pool.specs.HoldingParts.{IsKept}
 use Rattle.ffv1_pool.specs.declared.holding.Holding.TheInside.{Inside}
 use Rattle.ffv1_pool.proofs.Errors.{error_is}
@@ -107,7 +107,7 @@ invariant_of-self-2 c =
           (all-union entries_total entries_antisymmetric (IsEntryOf c.self.inside.reel.setup) old.slices slices c.self.invariant.slices
           (subst (λ (s : SetupValue). AreEntriesOf s slices) c.setup.ensures.value c.in_ok-links.ensures.sound));
       origins_held = subst (λ (h : TileSlices). AreHeld h.slices h.origins) (sym new) held;
-      digests_whole = subst AreWhole (sym (origins-grown old c.insert_copy.new.self slices origins new)) whole;
+      digests_whole = subst AreOfDigestLength (sym (origins-grown old c.insert_copy.new.self slices origins new)) whole;
     }
 
 pub returns-clause-new : goal.returns-clause-new

@@ -4,7 +4,7 @@ use Rattle.ffv1_pool.specs.Sets as set
 use Rattle.ffv1_pool.specs.SliceOrder.{entries_total, entries_antisymmetric}
 use Rattle.ffv1_pool.specs.Reels.{Reel}
 use Rattle.ffv1_pool.specs.TileSets.{TileSlices}
-use Rattle.ffv1_pool.specs.Contents.{Contents, joined, IsEntryOf, AreEntriesOf, AreHeld, AreWhole}
+use Rattle.ffv1_pool.specs.Contents.{Contents, joined, IsEntryOf, AreEntriesOf, AreHeld, AreOfDigestLength}
 use Rattle.ffv1_pool.specs.HoldingParts.{contents, IsKept}
 use Rattle.ffv1_pool.specs.declared.holding.Holding.TheInside.{Inside}
 use Rattle.ffv1_pool.proofs.Errors.{error_is, memory_is_no_other, memory_is_not_long}
@@ -69,7 +69,7 @@ invariant_of-self-2 c =
           (all-union entries_total entries_antisymmetric (IsEntryOf c.self.inside.reel.setup) old.slices more.slices c.self.invariant.slices
           (subst (λ (r : Reel). AreEntriesOf r.setup more.slices) (sym same) c.other.invariant.slices));
       origins_held = subst (λ (h : TileSlices). AreHeld h.slices h.origins) (sym c.in_ok-join.ensures.ok) held;
-      digests_whole = subst AreWhole (sym origins) (whole_union old.origins more.origins c.self.invariant.digests_whole c.other.invariant.digests_whole);
+      digests_whole = subst AreOfDigestLength (sym origins) (whole_union old.origins more.origins c.self.invariant.digests_whole c.other.invariant.digests_whole);
     }
 
 pub returns-clause-growth : goal.returns-clause-growth

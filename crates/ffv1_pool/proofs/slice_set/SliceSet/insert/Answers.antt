@@ -1,7 +1,7 @@
 use Rattle.std.proofs.Common.{◌≡◌, sym, ap, ◌∙◌, subst, arith, map, not}
 use Rattle.ffv1_pool.specs.Sets as set
 use Rattle.std.specs.List.{insert}
-use Rattle.ffv1_pool.specs.Rising.{IsRising, IsGapFor}
+use Rattle.ffv1_pool.specs.Rising.{IsRising, IsInsertionPlace}
 use Rattle.ffv1_pool.specs.SliceOrder.{bytes_cmp, bytes_total, bytes_antisymmetric}
 use Rattle.ffv1_pool.proofs.RisingSets.{size_kept, items_kept, size-items, contains_placed, contains_gap, rising_insert, from_list-insert, insert_present, map-insert}
 use Rattle.ffv1_pool.proofs.slice_set.SliceSet.insert.Goals as goal
@@ -15,7 +15,7 @@ insert-requires c =
 kept : (c : goal.In_ok-insert-in-Err) → set.items c.args.self.now ≡ map (λ v. v.items) c.self.inside.slices.items
 kept c = items_kept bytes_total (λ v. v.items) c.self.inside.slices.items c.args.self.now c.self.invariant c.self.view_is
 
-gap : (c : goal.In_ok-insert-in-Err) → IsGapFor bytes_cmp (map (λ v. v.items) c.self.inside.slices.items) c.args.slice.now c.in-Err.place
+gap : (c : goal.In_ok-insert-in-Err) → IsInsertionPlace bytes_cmp (map (λ v. v.items) c.self.inside.slices.items) c.args.slice.now c.in-Err.place
 gap c = rw (kept c) at c.in-Err.ensures.absent
 
 -- the new list has the slice in its gap

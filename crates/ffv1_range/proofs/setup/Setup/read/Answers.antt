@@ -1,6 +1,6 @@
 use Rattle.std.proofs.Common.{true, false, sym, ap, ◌∙◌}
 use Rattle.std.proofs.lemmas.Result.{err_from_is_err_and}
-use Rattle.ffv1_range.specs.Views.{set_values, contexts_of, front_of}
+use Rattle.ffv1_range.specs.Views.{set_values, contexts_of, front_value}
 use Rattle.ffv1_range.specs.declared.fault.SetupFault.TheVariants.{Range, Size}
 use Rattle.ffv1_range.proofs.TableSteps.{fresh_row-states}
 use Rattle.ffv1_range.proofs.SetupSteps.{not_checked, width_refused, height_refused, start_refused, front_fails, memory_refused, sets_fail, deltas_fail, last_fails, all_read, contexts_of-values}
@@ -49,21 +49,21 @@ returns-in_err-sets c =
     let p = err_from_is_err_and c.from_residual-in_err-sets.result c.from_residual-in_err-sets.ensures.1 in
     rw (p.1, p.2)
     (refused_in _ _ _ _ _ c.in_ok-content.ensures c.if-not-is_size.ensures c.if-not-is_size-2.ensures c.in_ok-decoder.ensures false _
-    (memory_refused _ _ (front_of c.in_ok-front.front) _ _ _ _ c.in_ok-front.ensures.read))
+    (memory_refused _ _ (front_value c.in_ok-front.front) _ _ _ _ c.in_ok-front.ensures.read))
 
 pub returns-in_err-read_sets : goal.returns-in_err-read_sets
 returns-in_err-read_sets c =
     let p = err_from_is_err_and c.from_residual-in_err-read_sets.result c.from_residual-in_err-read_sets.ensures.1 in
     rw (p.1, p.2)
     (refused_in _ _ _ _ _ c.in_ok-content.ensures c.if-not-is_size.ensures c.if-not-is_size-2.ensures c.in_ok-decoder.ensures true _
-    (sets_fail _ _ (front_of c.in_ok-front.front) _ _ _ _ _ c.in_ok-front.ensures.read c.in_err-read_sets.ensures.read))
+    (sets_fail _ _ (front_value c.in_ok-front.front) _ _ _ _ _ c.in_ok-front.ensures.read c.in_err-read_sets.ensures.read))
 
 pub returns-in_err-read_deltas : goal.returns-in_err-read_deltas
 returns-in_err-read_deltas c =
     let p = err_from_is_err_and c.from_residual-in_err-read_deltas.result c.from_residual-in_err-read_deltas.ensures.1 in
     rw (p.1, p.2)
     (refused_in _ _ _ _ _ c.in_ok-content.ensures c.if-not-is_size.ensures c.if-not-is_size-2.ensures c.in_ok-decoder.ensures true _
-    (deltas_fail _ _ (front_of c.in_ok-front.front) (set_values c.read_sets.new.sets.items) _ _ _ _ _ _ _
+    (deltas_fail _ _ (front_value c.in_ok-front.front) (set_values c.read_sets.new.sets.items) _ _ _ _ _ _ _
     (ap contexts_of c.deref.ensures.value ∙ contexts_of-values c.read_sets.new.sets.items)
     c.in_ok-front.ensures.read c.in_ok-read_sets.ensures.read c.in_err-read_deltas.ensures.read))
 
@@ -72,13 +72,13 @@ returns-in_err-intra c =
     let p = err_from_is_err_and c.from_residual-in_err-intra.result c.from_residual-in_err-intra.ensures.1 in
     rw (p.1, p.2)
     (refused_in _ _ _ _ _ c.in_ok-content.ensures c.if-not-is_size.ensures c.if-not-is_size-2.ensures c.in_ok-decoder.ensures true _
-    (last_fails _ _ (front_of c.in_ok-front.front) (set_values c.read_sets.new.sets.items) _ _ _ _ _ _ _ _ _
+    (last_fails _ _ (front_value c.in_ok-front.front) (set_values c.read_sets.new.sets.items) _ _ _ _ _ _ _ _ _
     (ap contexts_of c.deref.ensures.value ∙ contexts_of-values c.read_sets.new.sets.items)
     c.in_ok-front.ensures.read c.in_ok-read_sets.ensures.read c.in_ok-read_deltas.ensures.read c.in_err-intra.ensures.read))
 
 pub invariant_of-result : goal.invariant_of-result
 invariant_of-result c =
-    let read = all_read _ _ (front_of c.in_ok-front.front) (set_values c.read_sets.new.sets.items) _ _ _ _ _ _ _ _ _ _ _
+    let read = all_read _ _ (front_value c.in_ok-front.front) (set_values c.read_sets.new.sets.items) _ _ _ _ _ _ _ _ _ _ _
     (ap contexts_of c.deref.ensures.value ∙ contexts_of-values c.read_sets.new.sets.items)
     c.in_ok-front.ensures.read c.in_ok-read_sets.ensures.read c.in_ok-read_deltas.ensures.read c.in_ok-intra.ensures.read in
     read_in_profile c.args.config.now c.args.width c.args.height _
@@ -86,7 +86,7 @@ invariant_of-result c =
 
 pub returns : goal.returns
 returns c =
-    let read = all_read _ _ (front_of c.in_ok-front.front) (set_values c.read_sets.new.sets.items) _ _ _ _ _ _ _ _ _ _ _
+    let read = all_read _ _ (front_value c.in_ok-front.front) (set_values c.read_sets.new.sets.items) _ _ _ _ _ _ _ _ _ _ _
     (ap contexts_of c.deref.ensures.value ∙ contexts_of-values c.read_sets.new.sets.items)
     c.in_ok-front.ensures.read c.in_ok-read_sets.ensures.read c.in_ok-read_deltas.ensures.read c.in_ok-intra.ensures.read in
     answered c.args.config.now c.args.width c.args.height _

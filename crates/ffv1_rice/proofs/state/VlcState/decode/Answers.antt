@@ -5,7 +5,7 @@ use Rattle.std.proofs.lemmas.Result.{err_from_is_err_and}
 use Rattle.ffv1_rice.specs.Codes.{IsCodedDifference, IsCodeFault}
 use Rattle.ffv1_rice.proofs.Sums.{IsDifference-of_z, to_z-of_z-difference}
 use Rattle.ffv1_rice.proofs.OneCode.{IsValueRead, value_read, coded_read, same_difference}
-use Rattle.ffv1_bits.specs.Reader.{Reading, Reads}
+use Rattle.ffv1_bits.specs.Reader.{Reading, ReadsBits}
 use Rattle.ffv1_rice.specs.Codes.{code_bits, IsCoded}
 use Rattle.ffv1_rice.specs.States.{ContextState, sign_number, flipped, coded_value, IsDifference, IsParameter}
 use Rattle.ffv1_rice.proofs.Windows.{begun_fits, begun_read, begun_after, reading_after}
@@ -17,7 +17,7 @@ IsCodedDifference-of_z level d coded = subst (IsCodedDifference level) (sym (to_
 
 -- the value that a number gives, as the code has computed it
 value_taken : (s : ContextState) (number k : ℕ) (coded value : ℤ) (old new : Reading) → IsParameter s k → sign_number (flipped s coded) ≡ number
-    → IsDifference coded → coded_value s value ≡ to_z w32 (of_z w32 coded) → IsDifference value → Reads old (code_bits number k) new
+    → IsDifference coded → coded_value s value ≡ to_z w32 (of_z w32 coded) → IsDifference value → ReadsBits old (code_bits number k) new
     → IsValueRead s value old new
 value_taken s number k coded value old new parameter is small back range reads =
     value_read s number k coded value old new parameter is (back ∙ to_z-of_z-difference coded small) range reads
@@ -48,7 +48,7 @@ returns-in_err-ahead c =
       range = tt;
       ok = tt;
       state = tt;
-      found = λ difference after told spelled.
+      found = λ difference after given spelled.
           absurd (no_difference_at_fault c.args.self.now c.args.level c.in_err-ahead.field-0.0 c.k.result difference c.args.bits.now after
           c.k.ensures.parameter c.in_err-ahead.ensures.err spelled);
       err = code_fault c.args.self.now c.args.level c.k.result c.args.bits.now.left c.in_err-ahead.field-0.0 c.k.ensures.parameter c.in_err-ahead.ensures.err;
@@ -62,17 +62,17 @@ returns-in_err-difference c =
     let later : Reading = reading_after c.args.bits.now _ _ begins in
     let read = value_taken _ _ _ _ _ c.args.bits.now later c.k.ensures.parameter c.coded-coded.ensures.number c.coded-coded.ensures.range
     c.value.ensures.coded c.value.ensures.range (begun_after c.args.bits.now _ _ begins) in
-    let told = c.in_err-difference.ensures.err in
-    let top = sym (to_z-of_z-difference c.value.result c.value.ensures.range) ∙ told.2 in
+    let given = c.in_err-difference.ensures.err in
+    let top = sym (to_z-of_z-difference c.value.result c.value.ensures.range) ∙ given.2 in
     rw (p.1, p.2)
     (record {
       range = tt;
       ok = tt;
       state = tt;
       found = λ difference after is spelled.
-          absurd (no_level_above c.args.self.now c.args.level c.value.result difference c.args.bits.now later after read told.0 top is spelled);
-      err = subst (IsCodeFault c.args.self.now c.args.level c.args.bits.now.left) (sym told.1)
-          (large_level c.args.self.now c.args.level c.value.result c.args.bits.now later read told.0 top);
+          absurd (no_level_above c.args.self.now c.args.level c.value.result difference c.args.bits.now later after read given.0 top is spelled);
+      err = subst (IsCodeFault c.args.self.now c.args.level c.args.bits.now.left) (sym given.1)
+          (large_level c.args.self.now c.args.level c.value.result c.args.bits.now later read given.0 top);
       unchanged = (refl, refl);
     })
 
@@ -90,11 +90,11 @@ returns c =
           (coded_read c.args.self.now c.args.level c.value.result c.in_ok-difference.difference c.args.bits.now c.skip.new.self read
           (c.in_ok-difference.ensures.ok ∙ value));
       state = search rules;
-      found = λ difference after told spelled.
+      found = λ difference after given spelled.
           let same : c.in_ok-difference.difference ≡ difference =
           same_difference c.args.self.now c.args.level c.value.result c.in_ok-difference.difference difference c.args.bits.now c.skip.new.self after read
-          c.in_ok-difference.ensures.range (c.in_ok-difference.ensures.ok ∙ value) told spelled in
-          ap Ok (omega (arith, ints, same, told.0.low, told.0.high));
+          c.in_ok-difference.ensures.range (c.in_ok-difference.ensures.ok ∙ value) given spelled in
+          ap Ok (omega (arith, ints, same, given.0.low, given.0.high));
       err = tt;
       unchanged = tt;
     }

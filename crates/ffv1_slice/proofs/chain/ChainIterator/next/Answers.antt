@@ -1,6 +1,6 @@
 use Rattle.std.proofs.Common.{◌≤◌, length, ◌∷◌, arith, sym, ap, ◌∙◌, subst}
 use Rattle.std.specs.Iterator.{YieldsFirst}
-use Rattle.ffv1_slice.specs.Chain.{IsCut, Piece}
+use Rattle.ffv1_slice.specs.Chain.{IsCut, LinkValue}
 use Rattle.ffv1_slice.specs.Chain.IsEnd.{before}
 use Rattle.ffv1_slice.specs.Walk.{Walk, walked}
 use Rattle.ffv1_slice.proofs.Links.{turn_none, turn_some, turn_fewer}
@@ -9,7 +9,7 @@ use Rattle.ffv1_slice.proofs.chain.ChainIterator.next.Goals as goal
 pub returns-in_err-start-clause-steps : goal.returns-in_err-start-clause-steps
 returns-in_err-start-clause-steps c =
     let none = turn_none c.args.self.now c.self.inside.payload.now c.self.inside.place c.self.view_is c.in_err-start.ensures.cut in
-    subst (λ r. YieldsFirst {S = Walk} {A = Piece} (λ walk. walk.left) c.args.self.now r c.args.self.now) (sym c.from_residual.ensures) (none, none)
+    subst (λ r. YieldsFirst {S = Walk} {A = LinkValue} (λ walk. walk.left) c.args.self.now r c.args.self.now) (sym c.from_residual.ensures) (none, none)
 
 pub invariant_of-self : goal.invariant_of-self
 invariant_of-self c =

@@ -1,0 +1,195 @@
+-- What joining two holding files as streams reads and writes (own).
+use Rattle.std.specs.Prelude.{ℕ, ◌≡◌, ◌<◌, ◌≤◌, ◌⊎◌, List, [], ◌++◌, length, Option, Some, None, Result, Ok, Err}
+use Rattle.std.specs.Io.KnownBytes.{Consumes, Appends, IsAtEnd}
+use Rattle.ffv1_bits.specs.Limits.{record_limit, file_limit}
+use Rattle.ffv1_devices.specs.Writing.{WritesFront}
+use Rattle.ffv1_pool.specs.Reels.{Reel}
+use Rattle.ffv1_pool.specs.Contents.{Contents, IsHolding, IsSameReel, joined}
+use Rattle.ffv1_hold.specs.declared.file_fault.HoldFileFault.{HoldFileFault}
+use Rattle.ffv1_hold.specs.declared.file_fault.HoldFileFault.TheVariants as faults
+use Rattle.ffv1_hold.specs.declared.version.Version.{Version}
+use Rattle.ffv1_hold.specs.declared.version.Version.TheVariants.{Second}
+use Rattle.ffv1_hold.specs.HoldingText.{head_text, begun_text, file_text, holding_text, IsStated, FitsInFile, TakesFile}
+use Rattle.ffv1_hold.specs.Reading.{Refuses}
+use Rattle.ffv1_hold.specs.FileFaults.{IsFileReel, IsPartOfFile, IsHoldingText, FileIsWhole, FileShows, IsOutside}
+use Rattle.ffv1_hold.specs.Leads.{IsLeadOf}
+
+-- what both inputs have left, before and after
+pub record Inputs : Type 0 where
+  pub left_old : Option (List ℕ)
+  pub left_new : Option (List ℕ)
+  pub right_old : Option (List ℕ)
+  pub right_new : Option (List ℕ)
+
+-- ---- inputs that are texts
+
+-- the input is the file of the holding, of this version
+pub record IsFileOf (input : Option (List ℕ)) (v : Version) (h : Contents) : Type 0 where
+  pub sound : IsHolding h
+  pub fits : FitsInFile v h
+  pub text : input ≡ Some (file_text v h)
+
+-- the input is the file of the holding, if one is given
+abbrev pub IsFileOfSome : Option (List ℕ) → Option Contents → Type 0
+IsFileOfSome input None = Unit {0}
+IsFileOfSome input (Some h) = (v : Version) × IsFileOf input v h
+
+-- the input was read to its end, and was a file of the holding
+pub record ReadsAll (old new : Option (List ℕ)) (h : Contents) : Type 0 where
+  pub sound : IsHolding h
+  pub file : TakesFile old new h
+  pub at_end : IsAtEnd new
+
+-- both inputs were read to their ends, and were files of these holdings of one reel
+pub record ReadsBoth (i : Inputs) (left right : Contents) : Type 0 where
+  pub left_read : ReadsAll i.left_old i.left_new left
+  pub right_read : ReadsAll i.right_old i.right_new right
+  pub same : IsSameReel left right
+
+-- they were, and the text of the union was written
+pub record WritesUnion (i : Inputs) (old new : Option (List ℕ)) : Type 0 where
+  pub left : Contents
+  pub right : Contents
+  pub read : ReadsBoth i left right
+  pub fits : FitsInFile Second (joined left right)
+  pub written : Appends old new (holding_text (joined left right))
+
+-- what is returned for two texts of one reel whose union is this
+abbrev pub AnswersUnion : Contents → Result (Unit {0}) HoldFileFault → Type 0
+AnswersUnion union (Ok _) = Unit {0}
+AnswersUnion union (Err f) = IsOutside f ⊎ ((f ≡ faults.Write) ⊎ ((f ≡ faults.TooLong) × (file_limit < length (holding_text union))))
+
+-- ---- heads
+
+-- both heads were read, and nothing after them, and they are of two reels
+pub record ReadsOtherHeads (i : Inputs) : Type 0 where
+  pub left : Reel
+  pub right : Reel
+  pub left_is : IsFileReel left
+  pub right_is : IsFileReel right
+  pub left_version : Version
+  pub right_version : Version
+  pub left_taken : Consumes i.left_old i.left_new (head_text left_version left)
+  pub right_taken : Consumes i.right_old i.right_new (head_text right_version right)
+  pub other : ¬ (left ≡ right)
+
+-- the input begins with a head of the reel
+pub record BeginsWithHead (input : Option (List ℕ)) (r : Reel) : Type 0 where
+  pub is : IsFileReel r
+  pub version : Version
+  pub rest : List ℕ
+  pub split : input ≡ Some (head_text version r ++ rest)
+
+-- what is returned for inputs that begin with heads of two reels
+abbrev pub AnswersOther : Result (Unit {0}) HoldFileFault → Type 0
+AnswersOther (Ok _) = ⊥
+AnswersOther (Err f) = IsOutside f ⊎ (f ≡ faults.OtherReel)
+
+-- ---- entries so far
+
+-- The head and the entries of this holding were read, and perhaps more after them.
+pub record ReadsPart (old new : Option (List ℕ)) (h : Contents) : Type 0 where
+  pub sound : IsHolding h
+  pub record' : length h.reel.config ≤ record_limit
+  pub version : Version
+  pub stated : IsStated version h
+  pub more : List ℕ
+  pub taken : Consumes old new (begun_text version h ++ more)
+
+-- so far these of one reel were read of both inputs
+pub record ReadsSoFar (i : Inputs) (left right : Contents) : Type 0 where
+  pub left_read : ReadsPart i.left_old i.left_new left
+  pub right_read : ReadsPart i.right_old i.right_new right
+  pub same : IsSameReel left right
+
+-- The head and the entries so far, each once, pass the limit.
+pub record EntriesPass (i : Inputs) : Type 0 where
+  pub left : Contents
+  pub right : Contents
+  pub read : ReadsSoFar i left right
+  pub over : file_limit < length (begun_text Second (joined left right))
+
+-- The inputs were read as texts of one reel, and the text of their union passes the limit.
+pub record UnionPasses (i : Inputs) : Type 0 where
+  pub left : Contents
+  pub right : Contents
+  pub read : ReadsBoth i left right
+  pub over : file_limit < length (holding_text (joined left right))
+
+-- ---- refusals
+
+-- the fault of an input, as `read_hold` returns it
+abbrev pub InputRefuses : Option (List ℕ) → Option (List ℕ) → HoldFileFault → Type 0
+InputRefuses old new f = Refuses IsPartOfFile FileIsWhole FileShows old new 0 f
+
+-- What was taken of an input shows no fault: it is unfinished, or a text of a holding.
+pub record ShowsNoFault (old new : Option (List ℕ)) : Type 0 where
+  pub seen : List ℕ
+  pub taken : Consumes old new seen
+  pub sound : IsPartOfFile seen ⊎ IsHoldingText seen
+
+-- one input is refused, and what was taken of the other shows no fault
+abbrev pub OneRefuses : Inputs → HoldFileFault → Type 0
+OneRefuses i f = (InputRefuses i.left_old i.left_new f × ShowsNoFault i.right_old i.right_new)
+    ⊎ (InputRefuses i.right_old i.right_new f × ShowsNoFault i.left_old i.left_new)
+
+-- neither shows a fault, and the fault is of both together, or of the sink
+abbrev pub BothRefuse : Inputs → HoldFileFault → Type 0
+BothRefuse i faults.Write = ShowsNoFault i.left_old i.left_new × ShowsNoFault i.right_old i.right_new
+BothRefuse i faults.OtherReel = ReadsOtherHeads i
+BothRefuse i faults.TooLong = (EntriesPass i × (ShowsNoFault i.left_old i.left_new × ShowsNoFault i.right_old i.right_new)) ⊎ UnionPasses i
+BothRefuse i _ = ⊥
+
+-- what a fault says of the bytes that were taken of the inputs
+abbrev pub JoinRefuses : Inputs → HoldFileFault → Type 0
+JoinRefuses i f = OneRefuses i f ⊎ BothRefuse i f
+
+-- ---- what was written
+
+-- the input, if its bytes are given, begins with these
+abbrev pub StreamBegins : Option (List ℕ) → List ℕ → Type 0
+StreamBegins None bytes = Unit {0}
+StreamBegins (Some input) bytes = (rest : List ℕ) × (input ≡ bytes ++ rest)
+
+-- The input begins with the head and the entries of this holding.
+pub record BeginsWithPart (input : Option (List ℕ)) (h : Contents) : Type 0 where
+  pub sound : IsHolding h
+  pub record' : length h.reel.config ≤ record_limit
+  pub version : Version
+  pub stated : IsStated version h
+  pub begins : StreamBegins input (begun_text version h)
+
+-- The head and whole entries were written, each once, of those that both inputs begin with: no end tag, and no part of an entry.
+pub record WritesEntries (i : Inputs) (old new : Option (List ℕ)) : Type 0 where
+  pub left : Contents
+  pub right : Contents
+  pub left_begins : BeginsWithPart i.left_old left
+  pub right_begins : BeginsWithPart i.right_old right
+  pub same : IsSameReel left right
+  pub written : Appends old new (begun_text Second (joined left right))
+
+-- no end tag: nothing was written, or the head and whole entries
+abbrev pub WritesNoEnd : Inputs → Option (List ℕ) → Option (List ℕ) → Type 0
+WritesNoEnd i old new = Appends old new [] ⊎ WritesEntries i old new
+
+-- A front of the text of the union of what was read so far was written.
+pub record WritesFrontSoFar (i : Inputs) (old new : Option (List ℕ)) : Type 0 where
+  pub left : Contents
+  pub right : Contents
+  pub read : ReadsSoFar i left right
+  pub front : WritesFront old new (holding_text (joined left right))
+
+-- no more bytes than these were written
+pub record WritesAtMost (old new : Option (List ℕ)) (most : ℕ) : Type 0 where
+  pub done : List ℕ
+  pub written : Appends old new done
+  pub few : length done ≤ most
+
+-- The bytes `done` were written, and no more was taken of the holding's text than up to its lead over them, with the other holding's
+-- digests.
+pub record StaysInLead (v : Version) (h : Contents) (other : Option Contents) (input_old input_new old new : Option (List ℕ)) : Type 0 where
+  pub done : List ℕ
+  pub written : Appends old new done
+  pub seen : List ℕ
+  pub taken : Consumes input_old input_new seen
+  pub within : (lead : ℕ) → IsLeadOf v h other done lead → length seen ≤ lead

@@ -1,0 +1,162 @@
+-- The pieces that end at a place, and the starts that are claimed there, with one more copy.
+use Rattle.std.proofs.Common.{◌≡◌, ℕ, List, [], ◌∷◌, ◌++◌, get_or, refl, sym, ap, ◌∙◌, subst, arith, inl, inr}
+use Rattle.std.specs.Prelude.{◌⊎◌, Contains, slice_range}
+use Rattle.std.proofs.lemmas.List.Elements.{Contains-append_left, Contains-append_right, Contains-append_cases}
+use Rattle.ffv1_bits.specs.Parity.{PassesParity}
+use Rattle.ffv1_slice.specs.Chain.{IsCut, LinkValue, link_of}
+use Rattle.ffv1_splice.specs.Pieces.{HasContent, IsPiece, IsClaimedStart}
+use Rattle.ffv1_splice.specs.Tally.{Tally, Tallies, TalliesMore, TalliesBoth}
+use Rattle.ffv1_splice.specs.Tally.Tally.{none, one, two}
+
+-- ---- any fact
+
+-- facts that are so of the same values are counted alike
+pub tallies_same : {X : Type 0} (P Q : X → Type 0) (claim : Tally X) → ((x : X) → P x → Q x) → ((x : X) → Q x → P x) → Tallies P claim → Tallies Q claim
+tallies_same P Q none on back h = λ x q. h x (back x q)
+tallies_same P Q (one value) on back h = record { there = on value h.there; others = λ x q. h.others x (back x q) }
+tallies_same P Q two on back h =
+    record { one = h.one; other = h.other; one_there = on h.one h.one_there; other_there = on h.other h.other_there; differ = h.differ }
+
+-- one more value
+pub tallies_more : {X : Type 0} (P Q : X → Type 0) (claim after : Tally X) (value : X) → ((x : X) → P x → Q x) → Q value → ((x : X) → Q x → P x ⊎ (x ≡ value))
+    → TalliesMore claim value after → Tallies P claim → Tallies Q after
+tallies_more P Q none after value on new cases more h =
+    subst (Tallies Q) (sym more) (record { there = new; others = λ x q. elim (cases x q) [ inl p ↦ absurd (h x p) | inr same ↦ same ] })
+tallies_more P Q (one first) after value on new cases more h =
+    elim more [
+      | inl same ↦ subst (Tallies Q) (sym same.1) (record {
+        there = on first h.there;
+        others = λ x q. elim (cases x q) [ inl p ↦ h.others x p | inr is ↦ is ∙ sym same.0 ];
+      })
+      | inr apart ↦ subst (Tallies Q) (sym apart.1) (record { one = first; other = value; one_there = on first h.there; other_there = new; differ = apart.0 })
+    ]
+tallies_more P Q two after value on new cases more h =
+    subst (Tallies Q) (sym more)
+    (record { one = h.one; other = h.other; one_there = on h.one h.one_there; other_there = on h.other h.other_there; differ = h.differ })
+
+-- and all values of another count
+pub tallies_both : {X : Type 0} (P Q R : X → Type 0) (claim others after : Tally X) → ((x : X) → P x → R x) → ((x : X) → Q x → R x) → ((x : X) → R x → P x ⊎ Q x)
+    → TalliesBoth claim others after → Tallies P claim → Tallies Q others → Tallies R after
+tallies_both P Q R claim none after mine theirs cases both h k =
+    subst (Tallies R) (sym both)
+    (tallies_same P R claim mine (λ x r. elim (cases x r) [ inl p ↦ p | inr q ↦ absurd (k x q) ]) h)
+tallies_both P Q R claim (one value) after mine theirs cases both h k =
+    tallies_more P R claim after value mine (theirs value k.there) (λ x r. elim (cases x r) [ inl p ↦ inl p | inr q ↦ inr (k.others x q) ]) both h
+tallies_both P Q R claim two after mine theirs cases both h k =
+    subst (Tallies R) (sym both)
+    (record { one = k.one; other = k.other; one_there = theirs k.one k.one_there; other_there = theirs k.other k.other_there; differ = k.differ })
+
+-- ---- one more copy
+
+pub alone : (copy other : List ℕ) → Contains (copy ∷ []) other → other ≡ copy
+alone copy other h = let first : h.0 ≡ 0 = omega (arith, h.1) in sym h.2 ∙ ap (λ k. get_or (copy ∷ []) k other) first
+
+module _ (copies : List (List ℕ)) (copy : List ℕ) (end : ℕ) where
+  more_copies : List (List ℕ)
+  more_copies = copies ++ copy ∷ []
+
+  pub last : Contains (copies ++ copy ∷ []) copy
+  last = Contains-append_right copies (copy ∷ []) copy (0, omega arith, refl)
+
+  pub piece_on : (piece : LinkValue) → IsPiece copies end piece → IsPiece (copies ++ copy ∷ []) end piece
+  piece_on piece h =
+      record {
+        copy = h.copy;
+        there = Contains-append_left copies (copy ∷ []) h.copy h.there;
+        cut = h.cut;
+        content = h.content;
+        bytes = h.bytes;
+        passes = h.passes;
+      }
+
+  pub start_on : (start : ℕ) → IsClaimedStart copies end start → IsClaimedStart (copies ++ copy ∷ []) end start
+  start_on start h = record { copy = h.copy; there = Contains-append_left copies (copy ∷ []) h.copy h.there; cut = h.cut; content = h.content }
+
+  pub piece_back : (piece : LinkValue) → IsPiece (copies ++ copy ∷ []) end piece
+      → IsPiece copies end piece
+      ⊎ (IsCut copy piece.start end × HasContent piece.start end × (piece ≡ link_of copy piece.start end) × PassesParity (slice_range copy piece.start end))
+  piece_back piece h =
+      elim (Contains-append_cases copies (copy ∷ []) h.copy h.there) [
+        | inl there ↦ inl (record { copy = h.copy; there = there; cut = h.cut; content = h.content; bytes = h.bytes; passes = h.passes })
+        | inr there ↦
+            let same : h.copy ≡ copy = alone copy h.copy there in
+            let lies : piece.bytes ≡ slice_range copy piece.start end = h.bytes ∙ ap (λ c. slice_range c piece.start end) same in
+            inr (
+              subst (λ c. IsCut c piece.start end) same h.cut,
+              h.content,
+              ap (λ b. record { start = piece.start; bytes = b }) lies,
+              subst PassesParity lies h.passes,
+            )
+      ]
+
+  pub start_back : (start : ℕ) → IsClaimedStart (copies ++ copy ∷ []) end start → IsClaimedStart copies end start ⊎ (IsCut copy start end × HasContent start end)
+  start_back start h =
+      elim (Contains-append_cases copies (copy ∷ []) h.copy h.there) [
+        | inl there ↦ inl (record { copy = h.copy; there = there; cut = h.cut; content = h.content })
+        | inr there ↦ inr (subst (λ c. IsCut c start end) (alone copy h.copy there) h.cut, h.content)
+      ]
+
+  -- a copy's footer claims one start
+  pub one_cut : (start other : ℕ) → IsCut copy start end → IsCut copy other end → other ≡ start
+  one_cut start other h k = omega arith
+
+  -- a copy with no cut there, or one without content, adds no piece and no claimed start
+  pub pieces-uncut : (claim : Tally LinkValue) → ((start : ℕ) → IsCut copy start end → HasContent start end → ⊥) → Tallies (IsPiece copies end) claim
+      → Tallies (IsPiece (copies ++ copy ∷ []) end) claim
+  pieces-uncut claim uncut h =
+      tallies_same (IsPiece copies end) (IsPiece (copies ++ copy ∷ []) end) claim piece_on
+      (λ piece q. elim (piece_back piece q) [ inl p ↦ p | inr cut ↦ absurd (uncut piece.start cut.0 cut.1) ]) h
+
+  pub starts-uncut : (claim : Tally ℕ) → ((start : ℕ) → IsCut copy start end → HasContent start end → ⊥) → Tallies (IsClaimedStart copies end) claim
+      → Tallies (IsClaimedStart (copies ++ copy ∷ []) end) claim
+  starts-uncut claim uncut h =
+      tallies_same (IsClaimedStart copies end) (IsClaimedStart (copies ++ copy ∷ []) end) claim start_on
+      (λ start q. elim (start_back start q) [ inl p ↦ p | inr cut ↦ absurd (uncut start cut.0 cut.1) ]) h
+
+  -- nor does one that fails its parity add a piece
+  pub pieces-failed : (claim : Tally LinkValue) (start : ℕ) → IsCut copy start end → (PassesParity (slice_range copy start end) → ⊥) → Tallies (IsPiece copies end) claim
+      → Tallies (IsPiece (copies ++ copy ∷ []) end) claim
+  pieces-failed claim start cut fails h =
+      tallies_same (IsPiece copies end) (IsPiece (copies ++ copy ∷ []) end) claim piece_on
+      (λ piece q. elim (piece_back piece q) [
+        | inl p ↦ p
+        | inr new ↦ absurd (fails (subst (λ s. PassesParity (slice_range copy s end)) (one_cut start piece.start cut new.0) new.3))
+      ]) h
+
+  pub pieces-passed : (claim after : Tally LinkValue) (start : ℕ) → IsCut copy start end → HasContent start end → PassesParity (slice_range copy start end)
+      → TalliesMore claim (link_of copy start end) after → Tallies (IsPiece copies end) claim → Tallies (IsPiece (copies ++ copy ∷ []) end) after
+  pieces-passed claim after start cut content passes more h =
+      tallies_more (IsPiece copies end) (IsPiece (copies ++ copy ∷ []) end) claim after (link_of copy start end) piece_on
+      (record { copy = copy; there = last; cut = cut; content = content; bytes = refl; passes = passes })
+      (λ piece q. elim (piece_back piece q) [
+        | inl p ↦ inl p
+        | inr new ↦ inr (new.2 ∙ ap (λ s. link_of copy s end) (one_cut start piece.start cut new.0))
+      ]) more h
+
+  -- a slice with which the pieces stay as they are is a piece that was found already, or two others differ
+  pub pieces-kept : (claim : Tally LinkValue) (start : ℕ) → IsCut copy start end → TalliesMore claim (link_of copy start end) claim
+      → Tallies (IsPiece copies end) claim → Tallies (IsPiece (copies ++ copy ∷ []) end) claim
+  pieces-kept none start cut more h = absurd (cc)
+  pieces-kept (one first) start cut more h =
+      elim more [
+        | inl same ↦
+            pieces-passed (one first) (one first) start cut (subst (λ p. HasContent p.start end) same.0 h.there.content)
+            (subst (λ p. PassesParity p.bytes) same.0 h.there.passes) (inl same) h
+        | inr apart ↦ absurd (cc (apart.1))
+      ]
+  pieces-kept two start cut more h =
+      record {
+        one = h.one;
+        other = h.other;
+        one_there = piece_on h.one h.one_there;
+        other_there = piece_on h.other h.other_there;
+        differ = h.differ;
+      }
+
+  pub starts-cut : (claim after : Tally ℕ) (start : ℕ) → IsCut copy start end → HasContent start end → TalliesMore claim start after
+      → Tallies (IsClaimedStart copies end) claim
+      → Tallies (IsClaimedStart (copies ++ copy ∷ []) end) after
+  starts-cut claim after start cut content more h =
+      tallies_more (IsClaimedStart copies end) (IsClaimedStart (copies ++ copy ∷ []) end) claim after start start_on
+      (record { copy = copy; there = last; cut = cut; content = content })
+      (λ other q. elim (start_back other q) [ inl p ↦ inl p | inr new ↦ inr (one_cut start other cut new.0) ]) more h

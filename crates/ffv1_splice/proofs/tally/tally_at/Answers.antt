@@ -1,0 +1,75 @@
+use Rattle.std.proofs.Common.{◌≡◌, ℕ, List, [], ◌∷◌, ◌++◌, get_or, take, arith, sym, subst}
+use Rattle.std.specs.Prelude.{slice_range}
+use Rattle.ffv1_bits.specs.Parity.{PassesParity}
+use Rattle.ffv1_slice.specs.Chain.{IsCut}
+use Rattle.ffv1_splice.specs.Pieces.{HasContent, IsPiece, IsClaimedStart}
+use Rattle.ffv1_splice.specs.Tally.{Tallies, pieces_tally, starts_tally}
+use Rattle.ffv1_splice.specs.declared.tally.Pieces.{Pieces}
+use Rattle.ffv1_splice.specs.declared.tally.Starts.{Starts}
+use Rattle.ffv1_weave.proofs.References.{values_of, next_value, all_values, nowhere}
+use Rattle.ffv1_splice.proofs.TallySteps.{pieces-uncut, starts-uncut, pieces-failed, pieces-kept, pieces-passed, starts-cut}
+use Rattle.ffv1_splice.proofs.tally.tally_at.Goals as goal
+use Rattle.ffv1_splice.proofs.tally.tally_at.Goals.{in-Some+then-not-stays_with+then-passes, in-Some+else-not-stays_with, else-not-stays_with-via-then-not-stays_with+else-passes, else-not-stays_with-via-else-not-stays_with, in_default}
+
+pub loop-copy-preserved : goal.loop-copy-preserved
+loop-copy-preserved c =
+    let copy : List ℕ = (get_or c.args.copies.now c.loop-copy.copy-index nowhere).now in
+    let before : List (List ℕ) = take c.loop-copy.copy-index (values_of c.args.copies.now) in
+    let more = next_value c.args.copies.now c.loop-copy.copy-index nowhere (omega arith) in
+    let next_pieces = λ (pieces : Pieces) (is : c.match-claimed_start.pieces ≡ pieces) (claim : Tallies (IsPiece (before ++ copy ∷ []) c.args.end) (pieces_tally pieces)).
+    subst (λ z. Tallies (IsPiece z c.args.end) (pieces_tally c.match-claimed_start.pieces)) more
+    (subst (λ p. Tallies (IsPiece (before ++ copy ∷ []) c.args.end) (pieces_tally p)) (sym is) claim) in
+    let next_starts = λ (starts : Starts) (is : c.match-claimed_start.starts ≡ starts)
+    (claim : Tallies (IsClaimedStart (before ++ copy ∷ []) c.args.end) (starts_tally starts)).
+    subst (λ z. Tallies (IsClaimedStart z c.args.end) (starts_tally c.match-claimed_start.starts)) more
+    (subst (λ p. Tallies (IsClaimedStart (before ++ copy ∷ []) c.args.end) (starts_tally p)) (sym is) claim) in
+    elim c.match-claimed_start.branch [
+      | in-Some+then-not-stays_with+then-passes w ↦
+          let cut : IsCut copy w.in-Some.start c.args.end = w.in-Some.ensures.0 in
+          let content : HasContent w.in-Some.start c.args.end = w.in-Some.ensures.1 in
+          let passes : PassesParity (slice_range copy w.in-Some.start c.args.end) = w.passes.ensures.0 w.if-passes.true in
+          record {
+            pieces = next_pieces w.with-pieces.result w.pieces-is
+                (pieces-passed before copy c.args.end (pieces_tally c.loop-copy.pieces) (pieces_tally w.with-pieces.result) w.in-Some.start cut content
+                passes w.with-pieces.ensures c.loop-copy.invariant.pieces);
+            starts = next_starts w.with-starts.result w.starts-is
+                (starts-cut before copy c.args.end (starts_tally c.loop-copy.starts) (starts_tally w.with-starts.result) w.in-Some.start cut content
+                w.with-starts.ensures c.loop-copy.invariant.starts);
+          }
+      | in-Some+else-not-stays_with w ↦
+          let cut : IsCut copy w.in-Some.start c.args.end = w.in-Some.ensures.0 in
+          let content : HasContent w.in-Some.start c.args.end = w.in-Some.ensures.1 in
+          record {
+            pieces = next_pieces c.loop-copy.pieces w.pieces-is
+                (elim w.else-not-stays_with.branch [
+                  | else-not-stays_with-via-then-not-stays_with+else-passes v ↦
+                      let fails : PassesParity (slice_range copy w.in-Some.start c.args.end) → ⊥ = λ p. let t = v.passes.ensures.1 p in let f =
+                      v.if-passes.false in absurd (cc) in
+                      pieces-failed before copy c.args.end (pieces_tally c.loop-copy.pieces) w.in-Some.start cut fails c.loop-copy.invariant.pieces
+                  | else-not-stays_with-via-else-not-stays_with v ↦
+                      pieces-kept before copy c.args.end (pieces_tally c.loop-copy.pieces) w.in-Some.start cut
+                      (w.stays_with.ensures.0 v.if-not-stays_with.false) c.loop-copy.invariant.pieces
+                ]);
+            starts = next_starts w.with-starts.result w.starts-is
+                (starts-cut before copy c.args.end (starts_tally c.loop-copy.starts) (starts_tally w.with-starts.result) w.in-Some.start cut content
+                w.with-starts.ensures c.loop-copy.invariant.starts);
+          }
+      | in_default w ↦
+          let none : (start : ℕ) → IsCut copy start c.args.end → HasContent start c.args.end → ⊥ = w.in_default.ensures in
+          record {
+            pieces = next_pieces c.loop-copy.pieces w.pieces-is
+                (pieces-uncut before copy c.args.end (pieces_tally c.loop-copy.pieces) none c.loop-copy.invariant.pieces);
+            starts = next_starts c.loop-copy.starts w.starts-is
+                (starts-uncut before copy c.args.end (starts_tally c.loop-copy.starts) none c.loop-copy.invariant.starts);
+          }
+    ]
+
+pub returns-clause-pieces : goal.returns-clause-pieces
+returns-clause-pieces c =
+    subst (λ z. Tallies (IsPiece z c.args.end) (pieces_tally c.loop-copy.pieces)) (all_values c.args.copies.now c.loop-copy.copy-index (omega arith))
+    c.loop-copy.invariant.pieces
+
+pub returns-clause-starts : goal.returns-clause-starts
+returns-clause-starts c =
+    subst (λ z. Tallies (IsClaimedStart z c.args.end) (starts_tally c.loop-copy.starts)) (all_values c.args.copies.now c.loop-copy.copy-index (omega arith))
+    c.loop-copy.invariant.starts

@@ -1,0 +1,123 @@
+-- The byte strings that versions have between two places, with one more version.
+use Rattle.std.proofs.Common.{◌≡◌, ℕ, ◌-◌, ◌<◌, List, [], ◌∷◌, ◌++◌, length, get_or, take, map, Bor, Bool, true, false, eqb, refl, sym, ap, ◌∙◌, subst, arith, inl, inr}
+use Rattle.std.specs.Prelude.{Contains, slice_range}
+use Rattle.std.proofs.lemmas.Bool.{cases_lt, false≢true}
+use Rattle.std.proofs.lemmas.List.{get_or_append_left, get_or_push, get_or_default, get_or-map, length-map, length_push, take_all}
+use Rattle.std.proofs.lemmas.List.Elements.{Contains-append_left, Contains-append_right, Contains-append_cases, Contains-get_or}
+use Rattle.std.specs.List.{IsAnyAnswer}
+use Rattle.std.proofs.lemmas.Slice.Eq.{slice_eq-Decides}
+use Rattle.std.proofs.lemmas.Bool.Decides.{Decides-eqb}
+use lib.Pointwise.{pointwise}
+use Rattle.ffv1_slice.specs.Members.{HasSameMembers}
+use Rattle.ffv1_weave.specs.Regions.{HaveLength}
+use Rattle.ffv1_weave.proofs.References.{nowhere}
+use Rattle.ffv1_weave.specs.Parts.{AreChoices}
+
+pub alone : (version other : List ℕ) → Contains (version ∷ []) other → other ≡ version
+alone version other h = let first : h.0 ≡ 0 = omega (arith, h.1) in sym h.2 ∙ ap (λ k. get_or (version ∷ []) k other) first
+
+module _ (start end : ℕ) where
+  pub choices_none : AreChoices [] start end []
+  choices_none =
+      record {
+        each = λ version there. absurd (omega (arith, there.1));
+        only = λ k lt. absurd (omega arith);
+        once = λ j k low lt same. absurd (omega arith);
+      }
+
+  pub choices_same : (versions choices : List (List ℕ)) (version : List ℕ) → AreChoices versions start end choices → Contains choices (slice_range version start end)
+      → AreChoices (versions ++ version ∷ []) start end choices
+  choices_same versions choices version h here =
+      record {
+        each = λ other there. elim (Contains-append_cases versions (version ∷ []) other there) [
+          | inl known ↦ h.each other known
+          | inr new ↦ subst (λ z. Contains choices (slice_range z start end)) (sym (alone version other new)) here
+        ];
+        only = λ k lt. let p = h.only k lt in (p.0, Contains-append_left versions (version ∷ []) p.0 p.1, p.2);
+        once = h.once;
+      }
+
+  pub choices_more : (versions choices : List (List ℕ)) (version : List ℕ) → AreChoices versions start end choices
+      → (Contains choices (slice_range version start end) → ⊥) → AreChoices (versions ++ version ∷ []) start end (choices ++ slice_range version start end ∷ [])
+  choices_more versions choices version h new =
+      record {
+        each = λ other there. elim (Contains-append_cases versions (version ∷ []) other there) [
+          | inl known ↦ Contains-append_left choices (choice ∷ []) (slice_range other start end) (h.each other known)
+          | inr is ↦ subst (λ z. Contains (choices ++ choice ∷ []) (slice_range z start end)) (sym (alone version other is))
+              (Contains-append_right choices (choice ∷ []) choice (0, omega arith, refl))
+        ];
+        only = λ k lt. elim (cases_lt k (length choices)) [
+          | inl below ↦ let p = h.only k below in
+              (p.0, Contains-append_left versions (version ∷ []) p.0 p.1, at_left k below ∙ p.2)
+          | inr above ↦ (
+            version,
+            Contains-append_right versions (version ∷ []) version (0, omega arith, refl),
+            at_last k (omega (arith, length_push choices choice)),
+          )
+        ];
+        once = λ j k low lt same. elim (cases_lt j (length choices)) [
+          | inl j_below ↦ elim (cases_lt k (length choices)) [
+            | inl k_below ↦ h.once j k j_below k_below (sym (at_left j j_below) ∙ same ∙ at_left k k_below)
+            | inr k_above ↦ absurd (apart j j_below (sym (at_left j j_below) ∙ same ∙ at_last k (omega (arith, length_push choices choice))))
+          ]
+          | inr j_above ↦ elim (cases_lt k (length choices)) [
+            | inl k_below ↦ absurd (apart k k_below (sym (at_left k k_below) ∙ sym same ∙ at_last j (omega (arith, length_push choices choice))))
+            | inr k_above ↦ omega (arith, length_push choices choice)
+          ]
+        ];
+      }
+    where
+      choice : List ℕ
+      choice = slice_range version start end
+
+      at_left : (k : ℕ) → k < length choices → get_or (choices ++ slice_range version start end ∷ []) k [] ≡ get_or choices k []
+      at_left k lt = get_or_append_left choices (slice_range version start end ∷ []) [] k lt
+
+      at_last : (k : ℕ) → k ≡ length choices → get_or (choices ++ slice_range version start end ∷ []) k [] ≡ slice_range version start end
+      at_last k is = get_or_push choices (slice_range version start end) [] k (sym is)
+
+      apart : (k : ℕ) → k < length choices → get_or choices k [] ≡ slice_range version start end → ⊥
+      apart k lt is = new (k, lt, get_or_default choices k (slice_range version start end) [] lt ∙ is)
+
+-- ---- the byte strings of the whole length are the versions, each once
+
+whole_range : (size : ℕ) (version : List ℕ) → length version ≡ size → slice_range version 0 size ≡ version
+whole_range size version long = let same : size - 0 ≡ size = omega arith in ap (λ n. take n version) same ∙ take_all size version (omega arith)
+
+pub choices_are_versions : (versions choices : List (List ℕ)) (size : ℕ) → HaveLength versions size → AreChoices versions 0 size choices
+    → HasSameMembers versions choices
+choices_are_versions versions choices size long h version = (
+  λ there. subst (Contains choices) (whole_range size version (long version there)) (h.each version there),
+  λ there.
+      let of = h.only there.0 there.1 in
+      let is : of.0 ≡ version =
+      sym (whole_range size of.0 (long of.0 of.1)) ∙ sym of.2 ∙ get_or_default choices there.0 [] version there.1 ∙ there.2 in
+      subst (Contains versions) is of.1,
+)
+
+pub choices_some : (versions choices : List (List ℕ)) (start end : ℕ) → 0 < length versions → AreChoices versions start end choices → 0 < length choices
+choices_some versions choices start end some h =
+    let first = h.each (get_or versions 0 []) (Contains-get_or versions 0 [] some) in omega (arith, first.1)
+
+-- ---- whether a byte string is among others, as the code asks
+
+-- some reference is to the same bytes
+abbrev pub IsAsked : List (Bor (List ℕ)) → List ℕ → Bool → Type 0
+IsAsked choices choice answer = IsAnyAnswer (λ other b. pointwise eqb other.now choice ≡ b) choices answer
+
+pub choices_have : (choices : List (Bor (List ℕ))) (choice : List ℕ) → IsAsked choices choice true → Contains (map (λ p. p.now) choices) choice
+choices_have choices choice h =
+    let same = slice_eq-Decides Decides-eqb (get_or choices h.0 nowhere).now choice (pointwise eqb (get_or choices h.0 nowhere).now choice) refl in (
+      h.0,
+      omega (arith, h.1, length-map choices (λ (p : Bor (List ℕ)). p.now)),
+      get_or-map (λ (p : Bor (List ℕ)). p.now) choices h.0 nowhere choice h.1 ∙ same.0 (h.2 nowhere),
+    )
+
+pub choices_lack : (choices : List (Bor (List ℕ))) (choice : List ℕ) → IsAsked choices choice false → Contains (map (λ p. p.now) choices) choice → ⊥
+choices_lack choices choice h there =
+    let few = length-map choices (λ (p : Bor (List ℕ)). p.now) in
+    let lt : there.0 < length choices = omega (arith, there.1) in
+    let same = slice_eq-Decides Decides-eqb (get_or choices there.0 nowhere).now choice (pointwise eqb (get_or choices there.0 nowhere).now choice) refl in
+    let is = same.1 (sym (get_or-map (λ (p : Bor (List ℕ)). p.now) choices there.0 nowhere choice lt) ∙ there.2) in
+    let apart = h there.0 nowhere (omega arith) lt in
+    absurd (false≢true (sym apart ∙ is))

@@ -1,8 +1,0 @@
-use Rattle.std.proofs.Common.{map, take}
-use Rattle.ffv1_weave.specs.Parts.{ArePieces}
-use Rattle.ffv1_weave.proofs.parts.pieces_between.Given as goal
-
--- what the versions so far have there
-abbrev pub invariant-loop-version : goal.invariant-loop-version
-invariant-loop-version l =
-    ArePieces (take l.version-index (map (λ version. version.now) l.versions)) l.start l.end (map (λ piece. piece.now) l.pieces.items)
