@@ -14,6 +14,8 @@ import re
 import typing
 
 TOP = pathlib.Path(__file__).resolve().parent.parent
+# The folder in a crate's specs for definitions that no contract of a public call reaches.
+INNER = "Inner"
 HEAD = "| Notion | Name | File | RFC 9043 (own: not from it) |\n|---|---|---|---|\n"
 
 # The sections of files whose comments name none, and the files that name some and have own notions too.
@@ -91,9 +93,15 @@ def crates() -> typing.List[str]:
     return [crate for crate in listed if (TOP / "crates" / crate / "specs/Lib.antt").is_file()]
 
 
-def files_of(crate: str) -> typing.List[str]:
-    """The files of a crate's specs, in the order in which it lists them."""
-    return [f"{crate}/specs/{module}.antt" for module in re.findall(r"^pub mod (\w+)$", source(f"{crate}/specs/Lib.antt"), re.M)]
+def files_of(crate: str, module: str = "Lib", folder: str = "specs") -> typing.List[str]:
+    """The files of a crate's specs, in the order in which it lists them: those that readers are to believe, so not those in `Inner`."""
+    listed = re.findall(r"^pub mod (\w+)$", source(f"{crate}/specs/{module}.antt"), re.M)
+    return [f"{crate}/{folder}/{name}.antt" for name in listed if name != INNER]
+
+
+def inner_files_of(crate: str) -> typing.List[str]:
+    """The files of a crate's specs that only its loops, its private calls and proofs are for."""
+    return files_of(crate, INNER, f"specs/{INNER}") if (TOP / "crates" / crate / f"specs/{INNER}.antt").is_file() else []
 
 
 def files() -> typing.List[str]:
@@ -104,8 +112,9 @@ def home(crate: str, module: str) -> str:
     """The file of a module, which the crate has or passes on under this name; empty if it is none of these crates'."""
     if not (TOP / "crates" / crate / "specs").is_dir():
         return ""
-    if module != "Lib" and (TOP / "crates" / crate / f"specs/{module}.antt").is_file():
-        return f"{crate}/specs/{module}.antt"
+    path = f"{crate}/specs/{module.replace('.', '/')}.antt"
+    if module != "Lib" and (TOP / "crates" / path).is_file():
+        return path
     passed = re.findall(r"^pub use Rattle\.(\w+)\.specs\.(\w+)(?: as (\w+))?$", source(f"{crate}/specs/Lib.antt"), re.M)
     return next((home(lower, name) for lower, name, other in passed if (other or name) == module), "")
 
@@ -113,11 +122,11 @@ def home(crate: str, module: str) -> str:
 def citations(text: str, cites: str) -> typing.Iterator[typing.Tuple[str, str]]:
     """The definitions that words cite, each with its file, by the `use` lines of the text of their own file."""
     words = set(re.findall(r"[\w'-]+|[^\s\w(){}]+", cites))
-    lines = r"^ *(?:pub )?(?:ghost )?use Rattle\.(\w+)\.specs\.(\w+)(?:\.(\w+))?(?:\.\{([^}]*)\})?(?: as (\w+))?;?$"
+    lines = r"^ *(?:pub )?(?:ghost )?use Rattle\.(\w+)\.specs\.((?:Inner\.)?\w+)(?:\.(\w+))?(?:\.\{([^}]*)\})?(?: as (\w+))?;?$"
     for crate, module, within, names, other in re.findall(lines, text, re.M):
         path = home(crate, module)
         if path and not names:
-            yield from ((path, name) for name in re.findall(rf"\b{other or module}\.([\w'-]+)", cites))
+            yield from ((path, name) for name in re.findall(rf"\b{other or module.rpartition('.')[2]}\.([\w'-]+)", cites))
         for name, _, renamed in (item.strip().partition(" as ") for item in names.split(",") if path):
             if (renamed or name).replace("◌", "") in words:
                 # what stands within a module of the file is a constructor or a field of the type with that name
@@ -197,7 +206,7 @@ def table_in(page: str) -> str:
 def faults() -> typing.Iterator[str]:
     """What keeps the table from being made as it should be."""
     listed = files()
-    there = {str(path.relative_to(TOP / "crates")) for path in TOP.glob("crates/*/specs/*.antt") if path.stem != "Lib"}
+    there = {str(path.relative_to(TOP / "crates")) for path in TOP.glob("crates/*/specs/*.antt") if path.stem not in ("Lib", INNER)}
     yield from (f"{path} is not among the modules of its crate's specs/Lib.antt" for path in sorted(there - set(listed)))
     yield from (f"{path} does not begin with a sentence that says its notion" for path in listed if not comments(source(path))[0])
     yield from (f"tests/map_text.py has a section of a file that is not there: {path}" for path in sorted({*SECTIONS, *OWN} - there))

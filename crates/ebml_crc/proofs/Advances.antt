@@ -15,7 +15,7 @@ use Rattle.ffv1_bits.specs.Parity.{polynomial_of, reduced_at, divided, remainder
 use Rattle.ffv1_bits.proofs.EightBytes.{moved_entry}
 use Rattle.ffv1_bits.proofs.Remainders.{table_turn}
 use Rattle.ebml_crc.specs.Crc.{sent_bits, complemented, crc_remainder, crc32_of}
-use Rattle.ebml_crc.specs.Register.{register_of, Advances, left_before}
+use Rattle.ebml_crc.specs.Inner.Register.{register_of, Advances, left_before}
 use Rattle.ebml_crc.specs.declared.crc.TheConstants.{START}
 use Rattle.ebml_crc.proofs.Turned.{reversed-xor, reversed_again, reversed_bits, reversed_small, bytes_reversed, moved_down, turned_entry, polynomial_of-sent}
 use Rattle.ebml_crc.proofs.Registers.{left_after, start, left_more, sent_append, length-sent, left_of_32, left_of_zeros, ones, remainder_left, crc_remainder_small, remainder_sum, left_of_register, zero_byte}

@@ -16,7 +16,7 @@ use Rattle.ffv1_bits.proofs.Bytes.{AreBytes-drop}
 use Rattle.ffv1_bits.proofs.SameChanges.{AreSameChanges, all_kept, changes_append, changes_take, changes_drop, changes_flat, fold_changes}
 use Rattle.ebml_crc.specs.Crc.{sent_bits, crc_remainder, crc32_of}
 use Rattle.ebml_crc.specs.Element.{PassesCrc32, divided_bytes, element_left, Crc32BurstIsSeen}
-use Rattle.ebml_crc.specs.Register.{register_of, Advances}
+use Rattle.ebml_crc.specs.Inner.Register.{register_of, Advances}
 use Rattle.ebml_crc.specs.declared.crc.TheConstants.{START}
 use Rattle.ebml_crc.proofs.Turned.{sent_low_first, reversed_twice, reversed_again}
 use Rattle.ebml_crc.proofs.Registers.{left_after, start, left_is_fold, left_more, sent_append, length-sent, left_of_32, left_of_zeros, ones, remainder_left, crc_remainder_small}

@@ -5,7 +5,7 @@ ghost use Rattle.std.specs.Prelude.{◌≡◌, ◌+◌, ◌*◌, ◌≤◌, [], 
 ghost use Rattle.std.specs.Int.{w64, to_le_bytes};
 ghost use Rattle.std.specs.List.{concat};
 ghost use Rattle.ebml_crc.specs.Crc.{crc32_of};
-ghost use Rattle.ebml_crc.specs.Register.{Advances, left_before};
+ghost use Rattle.ebml_crc.specs.Inner.Register.{Advances, left_before};
 
 use crate::table::entry;
 

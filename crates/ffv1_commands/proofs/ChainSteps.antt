@@ -10,7 +10,7 @@ use Rattle.ffv1_slice.specs.declared.chain.ChainEnd.{ChainEnd}
 use Rattle.ffv1_devices.specs.Logs.{ReadLog, WriteLog, StopsWriting}
 use Rattle.ffv1_devices.specs.Results.{WritesAll}
 use Rattle.ffv1_devices.proofs.Steps.{StopsWriting-of}
-use Rattle.ffv1_commands.specs.Lines.{PrintsFront}
+use Rattle.ffv1_commands.specs.Inner.Lines.{PrintsFront}
 use Rattle.ffv1_commands.specs.ChainText.{link_line, end_line, IsChainText, PrintsChain, ChainStops, ChainBreaks, ReportsChain}
 use Rattle.ffv1_commands.specs.Devices.{UnlessWriting, WritesFront, FileStops}
 use Rattle.ffv1_commands.specs.Fault.{NamesPath}

@@ -8,7 +8,7 @@ use Rattle.ffv1_range.proofs.SetupFacts.{one_setup}
 use Rattle.ffv1_slice.specs.Slices.{IsOriginal}
 use Rattle.ffv1_pool.specs.Reels.{Reel}
 use Rattle.ffv1_pool.specs.Contents.{Contents, holding_of, joined, HasSameCopies}
-use Rattle.ffv1_pool.specs.ContentsLaws.{joined-holding_of, holding_of-same}
+use Rattle.ffv1_pool.proofs.ContentsLaws.{joined-holding_of, holding_of-same}
 use Rattle.ffv1_hold.specs.FileFaults.{IsFaultOf}
 use Rattle.ffv1_hold.specs.Headline.{IsReelOf}
 use Rattle.ffv1_hold.specs.HoldingText.{holding_text}

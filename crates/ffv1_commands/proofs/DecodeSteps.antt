@@ -6,7 +6,8 @@ use Rattle.ffv1_picture.specs.FrameFaults.{IsFirstFault}
 use Rattle.ffv1_picture.specs.declared.frame.Frame.{Frame}
 use Rattle.ffv1_picture.specs.declared.fault.FrameFault.{FrameFault}
 use Rattle.ffv1_picture.specs.declared.fault.FrameFault.TheVariants as frames
-use Rattle.ffv1_commands.specs.Devices.{TakesWhole, IsWholeInput, BothStop, WritesBoth}
+use Rattle.ffv1_commands.specs.Devices.{TakesWhole, IsWholeInput, BothStop}
+use Rattle.ffv1_commands.specs.Inner.Devices.{WritesBoth}
 use Rattle.ffv1_commands.specs.RecordInputs.{IsSetupInput, TakesSetup, RecordStops}
 use Rattle.ffv1_commands.specs.Fault.{of_frame}
 use Rattle.ffv1_commands.specs.Paths.{IsDecodePath}

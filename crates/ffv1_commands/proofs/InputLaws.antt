@@ -4,7 +4,8 @@ use Rattle.std.proofs.lemmas.List.{length-map, length-take-le, take_all}
 use Rattle.std.proofs.KnownBytes.{Consumes-whole}
 use Rattle.std.specs.Io.KnownBytes.{Consumes}
 use Rattle.ffv1_devices.specs.Logs.{ReadLog}
-use Rattle.ffv1_commands.specs.Devices.{ReadsWhole, InputBegins, HasBytes, IsWholeInput, AreWholeInputs}
+use Rattle.ffv1_commands.specs.Inner.Devices.{ReadsWhole}
+use Rattle.ffv1_commands.specs.Devices.{InputBegins, HasBytes, IsWholeInput, AreWholeInputs}
 use Rattle.ffv1_commands.specs.InTurn.{log_of, ReadsAlone, IsTaken, AreTaken}
 
 -- what was read to the end is what the input has

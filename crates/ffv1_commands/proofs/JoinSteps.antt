@@ -4,7 +4,8 @@ use Rattle.ffv1_pool.specs.Sets as set
 use Rattle.ffv1_pool.specs.Contents.{Contents, IsSameReel, joined}
 use Rattle.ffv1_pool.specs.Joins.{joined_all, AreJoinable}
 use Rattle.ffv1_commands.specs.Holdings.{IsHoldingFile}
-use Rattle.ffv1_commands.specs.JoinText.{file_line, line_of_join, lines_from, join_text, AreHoldingFiles, JoinsEach, JoinsOne}
+use Rattle.ffv1_commands.specs.JoinText.{file_line, line_of_join, lines_from, join_text, AreHoldingFiles, JoinsEach}
+use Rattle.ffv1_commands.specs.Inner.JoinText.{JoinsOne}
 
 pub joined_all-push : (whole : Contents) (others : List Contents) (other : Contents)
     → joined_all joined whole (others ++ other ∷ []) ≡ joined (joined_all joined whole others) other

@@ -12,8 +12,10 @@ use Rattle.ffv1_hold.specs.declared.file_fault.HoldFileFault.TheVariants as file
 use Rattle.ffv1_commands.specs.Fault.{NamesPath, of_hold}
 use Rattle.ffv1_commands.specs.Paths.{IsJoinPath}
 use Rattle.ffv1_commands.specs.InTurn.{AreKeptFrom, log_of, ReadsAlone}
-use Rattle.ffv1_commands.specs.Holdings.{IsHoldingFile, MadeStops, WritesMade}
-use Rattle.ffv1_commands.specs.JoinText.{file_line, JoinsEach, JoinsOne, JoinsFiles, IsFaultOfFiles, IsFaultOfInput, StopsAtPlace, LaterFilesKept, JoinStops, IsReadAsFile, AreReadAsFiles, FileBreaks, JoinBreaks, JoinsAll, StopsAtFile, ReportsJoin}
+use Rattle.ffv1_commands.specs.Holdings.{IsHoldingFile}
+use Rattle.ffv1_commands.specs.Inner.Holdings.{MadeStops, WritesMade}
+use Rattle.ffv1_commands.specs.JoinText.{file_line, JoinsEach, JoinsFiles, IsFaultOfFiles, IsFaultOfInput, StopsAtPlace, LaterFilesKept, JoinStops, IsReadAsFile, AreReadAsFiles, FileBreaks, JoinBreaks, JoinsAll, StopsAtFile, ReportsJoin}
+use Rattle.ffv1_commands.specs.Inner.JoinText.{JoinsOne}
 use Rattle.ffv1_commands.specs.declared.fault.CliFault.{CliFault}
 use Rattle.ffv1_commands.specs.declared.fault.CliFault.TheVariants as faults
 use Rattle.ffv1_commands.specs.declared.path.CommandPath.{CommandPath}

@@ -6,8 +6,9 @@ use Rattle.ffv1_devices.specs.Logs.{WriteLog, Writes, StopsWriting}
 use Rattle.ffv1_pool.specs.Contents.{Contents}
 use Rattle.ffv1_hold.specs.HoldingText.{holding_text}
 use Rattle.ffv1_hold.specs.declared.file_fault.HoldFileFault.{HoldFileFault}
-use Rattle.ffv1_commands.specs.Devices.{WritesNamed}
-use Rattle.ffv1_commands.specs.Holdings.{HasFile, IsFileFault, MadeStops, SavingBreaks, MadeBreaks, WritesMade}
+use Rattle.ffv1_commands.specs.Inner.Devices.{WritesNamed}
+use Rattle.ffv1_commands.specs.Holdings.{HasFile, IsFileFault, SavingBreaks, MadeBreaks}
+use Rattle.ffv1_commands.specs.Inner.Holdings.{MadeStops, WritesMade}
 use Rattle.ffv1_commands.specs.declared.fault.CliFault.{CliFault}
 use Rattle.ffv1_commands.specs.declared.fault.CliFault.TheVariants as faults
 use Rattle.ffv1_commands.specs.declared.path.CommandPath.TheVariants as paths

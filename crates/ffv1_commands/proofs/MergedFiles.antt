@@ -9,7 +9,7 @@ use Rattle.ffv1_hold.proofs.HeldEntries.{holding-joined}
 use Rattle.ffv1_hold.specs.HoldingText.{head_text, begun_text, file_text, holding_text}
 use Rattle.ffv1_hold.specs.declared.version.Version.TheVariants.{Second}
 use Rattle.ffv1_hold.specs.FileFaults.{IsOutside, IsFaultOf}
-use Rattle.ffv1_hold.specs.MergedStreams.{Inputs, InputRefuses, OneRefuses, JoinRefuses, EntriesPass, UnionPasses, ReadsAll, ReadsSoFar, ReadsOtherHeads, WritesUnion, WritesNoEnd, WritesFrontSoFar, AnswersOther, StreamBegins, BeginsWithPart}
+use Rattle.ffv1_hold.specs.MergedStreams.{Inputs, InputRefuses, OneRefuses, MergeRefuses, EntriesPass, UnionPasses, ReadsAll, ReadsSoFar, ReadsOtherHeads, WritesUnion, WritesNoEnd, WritesFrontSoFar, AnswersOther, StreamBegins, BeginsWithPart}
 use Rattle.ffv1_hold.specs.MergeLogs.{Devices}
 use Rattle.ffv1_hold.specs.declared.file_fault.HoldFileFault.{HoldFileFault}
 use Rattle.ffv1_hold.specs.declared.file_fault.HoldFileFault.TheVariants as files
@@ -93,7 +93,7 @@ module _ (i : Inputs) (w v : Option (List ℕ)) where
     differ = o.other;
   }
 
-  pub merge_fault : (f : HoldFileFault) → JoinRefuses i f → IsMergeFault i.left_old i.right_old (of_merge f)
+  pub merge_fault : (f : HoldFileFault) → MergeRefuses i f → IsMergeFault i.left_old i.right_old (of_merge f)
   merge_fault files.Read r = refl
   merge_fault files.Write r = refl
   merge_fault files.Memory r = tt

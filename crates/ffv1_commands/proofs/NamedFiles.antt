@@ -1,7 +1,8 @@
 -- What an output that was not written says, by its path of the command.
 use Rattle.std.proofs.Common.{ℕ, List, Result, Ok, Err, IfErr, sym, subst}
 use Rattle.ffv1_devices.specs.Logs.{WriteLog}
-use Rattle.ffv1_commands.specs.Devices.{UnlessWriting, WritesNamed}
+use Rattle.ffv1_commands.specs.Devices.{UnlessWriting}
+use Rattle.ffv1_commands.specs.Inner.Devices.{WritesNamed}
 use Rattle.ffv1_commands.specs.declared.fault.CliFault.{CliFault}
 use Rattle.ffv1_commands.specs.declared.path.CommandPath.{CommandPath}
 

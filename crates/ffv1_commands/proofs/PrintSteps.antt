@@ -3,7 +3,7 @@ use Rattle.std.proofs.Common.{◌≡◌, ℕ, List, ◌++◌, Result, sym, ap, s
 use Rattle.ffv1_devices.specs.Logs.{WriteLog, StopsWriting}
 use Rattle.ffv1_devices.specs.Results.{WritesAll}
 use Rattle.ffv1_devices.proofs.Steps.{Writes-trans, StopsWriting-after, WritesAll-after}
-use Rattle.ffv1_commands.specs.Lines.{PrintsFront}
+use Rattle.ffv1_commands.specs.Inner.Lines.{PrintsFront}
 
 module _ (a b c : WriteLog) (waits text more : List ℕ) (front : PrintsFront a b waits text) where
   split-more : text ++ more ≡ front.printed ++ (waits ++ more)

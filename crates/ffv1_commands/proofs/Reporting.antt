@@ -6,7 +6,8 @@ use Rattle.ffv1_hold.specs.Reading.{Refuses}
 use Rattle.ffv1_hold.specs.FileFaults.{IsPartOfFile, FileIsWhole, FileShows, IsOutside, IsFaultOf}
 use Rattle.ffv1_hold.specs.declared.file_fault.HoldFileFault.{HoldFileFault}
 use Rattle.ffv1_hold.specs.declared.file_fault.HoldFileFault.TheVariants as files
-use Rattle.ffv1_commands.specs.Devices.{ReadsWhole, TakesWhole}
+use Rattle.ffv1_commands.specs.Inner.Devices.{ReadsWhole}
+use Rattle.ffv1_commands.specs.Devices.{TakesWhole}
 use Rattle.ffv1_commands.specs.Fault.{of_hold_file}
 use Rattle.ffv1_commands.specs.Holdings.{IsHoldingFault}
 use Rattle.ffv1_commands.specs.declared.path.CommandPath.{CommandPath}

@@ -7,7 +7,8 @@ use Rattle.ffv1_pool.specs.Standing.{AreSettled, restored_payload}
 use Rattle.ffv1_pool.specs.Refusals.{IsRefusal}
 use Rattle.ffv1_pool.specs.declared.restore.RestoreFault.{RestoreFault}
 use Rattle.ffv1_pool.specs.declared.restore.RestoreFault.TheVariants as refusals
-use Rattle.ffv1_commands.specs.Devices.{BothStop, WritesBoth}
+use Rattle.ffv1_commands.specs.Devices.{BothStop}
+use Rattle.ffv1_commands.specs.Inner.Devices.{WritesBoth}
 use Rattle.ffv1_commands.specs.Fault.{of_restore}
 use Rattle.ffv1_commands.specs.Paths.{IsHoldPath}
 use Rattle.ffv1_commands.specs.RestoreText.{restored_line, RestoresFile, RestoreStops, RestoreRefuses, ReportsRestore}

@@ -6,7 +6,8 @@ use Rattle.ffv1_bits.specs.Limits.{payload_limit}
 use Rattle.ffv1_range.specs.Setup.{SetupValue, IsSetupOf}
 use Rattle.ffv1_range.specs.SetupFaults.{FirstSetupFault}
 use Rattle.ffv1_devices.specs.Logs.{ReadLog, WriteLog}
-use Rattle.ffv1_commands.specs.Devices.{WritesFront, TakesWhole, WritesNamed}
+use Rattle.ffv1_commands.specs.Devices.{WritesFront, TakesWhole}
+use Rattle.ffv1_commands.specs.Inner.Devices.{WritesNamed}
 use Rattle.ffv1_commands.specs.Fault.{NamesPath}
 use Rattle.ffv1_commands.specs.Paths.{IsShowPath}
 use Rattle.ffv1_commands.specs.RecordInputs.{TakesSetup, RecordStops}

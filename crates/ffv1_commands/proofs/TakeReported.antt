@@ -17,7 +17,8 @@ use Rattle.ffv1_commands.specs.InTurn.{StopsAtCopy}
 use Rattle.ffv1_commands.specs.RecordInputs.{IsReelInput, TakesReel}
 use Rattle.ffv1_commands.specs.Fault.{NamesPath, of_hold}
 use Rattle.ffv1_commands.specs.Paths.{IsTakePath}
-use Rattle.ffv1_commands.specs.Holdings.{HasFile, IsFileFault, MadeStops, WritesMade}
+use Rattle.ffv1_commands.specs.Holdings.{HasFile, IsFileFault}
+use Rattle.ffv1_commands.specs.Inner.Holdings.{MadeStops, WritesMade}
 use Rattle.ffv1_commands.specs.TakeText.{TakesEach, TakesCopies, IsFaultOfInputs, FaultKeepsLater, LaterKept, TakeStops, TakesAll, ReportsTake}
 use Rattle.ffv1_commands.specs.declared.fault.CliFault.{CliFault}
 use Rattle.ffv1_commands.specs.declared.fault.CliFault.TheVariants as faults

@@ -5,11 +5,12 @@ use Rattle.ffv1_slice.specs.Slices.{found_slices}
 use Rattle.ffv1_pool.specs.Sets as set
 use Rattle.ffv1_pool.specs.Reels.{Reel}
 use Rattle.ffv1_pool.specs.Contents.{Contents, with_found, holding_of, no_slices}
-use Rattle.ffv1_pool.specs.ContentsLaws.{with_found-holding_of}
+use Rattle.ffv1_pool.proofs.ContentsLaws.{with_found-holding_of}
 use Rattle.ffv1_devices.specs.Logs.{ReadLog}
 use Rattle.ffv1_commands.specs.Devices.{TakesWhole}
 use Rattle.ffv1_commands.specs.InTurn.{log_of}
-use Rattle.ffv1_commands.specs.TakeText.{copy_line, held_of, line_after, lines_after, TakesEach, TakesOne}
+use Rattle.ffv1_commands.specs.TakeText.{copy_line, held_of, line_after, lines_after, TakesEach}
+use Rattle.ffv1_commands.specs.Inner.TakeText.{TakesOne}
 use Rattle.ffv1_commands.proofs.InputLaws.{AreTaken-push, taken_whole, length-AreWholeInputs}
 
 lines_after-push : (reel : Reel) (before copies : List (List ℕ)) (copy : List ℕ)

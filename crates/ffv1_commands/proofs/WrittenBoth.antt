@@ -3,7 +3,8 @@ use Rattle.std.proofs.Common.{ℕ, List, Result, Ok, Err, IfErr, inl, inr, refl,
 use Rattle.std.specs.Io.KnownBytes.{Keeps}
 use Rattle.std.proofs.KnownBytes.{Keeps-refl}
 use Rattle.ffv1_devices.specs.Logs.{WriteLog, Writes}
-use Rattle.ffv1_commands.specs.Devices.{UnlessWriting, IfOfRecord, WriteStops, WritesNamed, BothStop, WritesBoth}
+use Rattle.ffv1_commands.specs.Devices.{UnlessWriting, IfOfRecord, WriteStops, BothStop}
+use Rattle.ffv1_commands.specs.Inner.Devices.{WritesNamed, WritesBoth}
 use Rattle.ffv1_commands.specs.declared.fault.CliFault.{CliFault}
 use Rattle.ffv1_commands.specs.declared.fault.CliFault.TheVariants as faults
 use Rattle.ffv1_commands.specs.declared.path.CommandPath.{CommandPath}

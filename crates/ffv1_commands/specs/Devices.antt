@@ -1,6 +1,6 @@
 -- What a command takes from a file and leaves in one.
-use Rattle.std.specs.Prelude.{ℕ, ◌≡◌, ◌+◌, ◌<◌, ◌≤◌, List, [], ◌∷◌, ◌++◌, length, Option, IfSome, ◌⊎◌, Result, Ok, Err}
-use Rattle.std.specs.Io.KnownBytes.{Appends, Consumes, IsAtEnd, Keeps}
+use Rattle.std.specs.Prelude.{ℕ, ◌≡◌, ◌+◌, ◌<◌, ◌≤◌, List, [], ◌∷◌, ◌++◌, length, Option, IfSome, ◌⊎◌}
+use Rattle.std.specs.Io.KnownBytes.{Appends, IsAtEnd, Keeps}
 use Rattle.ffv1_bits.specs.Limits.{payload_limit}
 use Rattle.ffv1_devices.specs.Logs.{ReadLog, WriteLog, Reads, BreaksOff, Writes, StopsWriting}
 pub use Rattle.ffv1_devices.specs.Writing.{WritesFront}
@@ -9,12 +9,6 @@ use Rattle.ffv1_commands.specs.declared.fault.CliFault.{CliFault}
 use Rattle.ffv1_commands.specs.declared.fault.CliFault.TheVariants as faults
 use Rattle.ffv1_commands.specs.declared.path.CommandPath.{CommandPath}
 use Rattle.ffv1_commands.specs.declared.path.CommandPath.TheVariants as paths
-
--- A reader's bytes were taken to their end, and are not too many.
-pub record ReadsWhole (before after : Option (List ℕ)) (bytes : List ℕ) : Type 0 where
-  pub taken : Consumes before after bytes
-  pub end : IsAtEnd after
-  pub few : length bytes ≤ payload_limit
 
 -- These bytes were read to the end of their source, and are not too many.
 pub record TakesWhole (old new : ReadLog) (bytes : List ℕ) : Type 0 where
@@ -37,11 +31,6 @@ FileStops path (faults.Read named) old new = (named ≡ path) × IsUnread old ne
 FileStops path faults.Memory old new = StopsWithin old new
 FileStops path _ old new = ⊥
 
--- the file that is this path of the command was read whole, or it was not
-abbrev pub ReadsNamed : {T : Type 0} → (T → List ℕ) → CommandPath → Result T CliFault → ReadLog → ReadLog → Type 0
-ReadsNamed items path (Ok x) old new = TakesWhole old new (items x)
-ReadsNamed items path (Err fault) old new = FileStops path fault old new
-
 -- how the copy that is this path of the command was not read: that it is too long is a fault of its own
 abbrev pub CopyStops : CommandPath → CliFault → ReadLog → ReadLog → Type 0
 CopyStops path (faults.Read named) old new = (named ≡ path) × ((bytes : List ℕ) × BreaksOff old new bytes × (length bytes ≤ payload_limit))
@@ -49,11 +38,6 @@ CopyStops path (faults.Hold fault) old new =
     (fault ≡ holds.PayloadTooLong) × ((bytes : List ℕ) × Reads old new bytes × (length bytes ≡ payload_limit + 1))
 CopyStops path faults.Memory old new = StopsWithin old new
 CopyStops path _ old new = ⊥
-
--- the copy that is this path of the command was read whole, or it was not
-abbrev pub ReadsWholeCopy : {T : Type 0} → (T → List ℕ) → CommandPath → Result T CliFault → ReadLog → ReadLog → Type 0
-ReadsWholeCopy items path (Ok x) old new = TakesWhole old new (items x)
-ReadsWholeCopy items path (Err fault) old new = CopyStops path fault old new
 
 -- An input has these bytes, if its bytes are known.
 abbrev pub HasBytes : Option (List ℕ) → List ℕ → Type 0
@@ -78,12 +62,6 @@ AreWholeInputs (input ∷ inputs) (bytes ∷ rest) = IsWholeInput input bytes ×
 -- An input is longer than a payload may be, if its bytes are known.
 abbrev pub IsPayloadTooLong : Option (List ℕ) → Type 0
 IsPayloadTooLong input = IfSome input (λ bytes. payload_limit < length bytes)
-
--- the faults of reading this path of the command
-abbrev pub IsInputFault : CommandPath → CliFault → Type 0
-IsInputFault path (faults.Read named) = named ≡ path
-IsInputFault path faults.Memory = Unit {0}
-IsInputFault path _ = ⊥
 
 -- the faults of reading the copy that is this path of the command
 abbrev pub IsCopyFault : CommandPath → Option (List ℕ) → CliFault → Type 0
@@ -113,22 +91,12 @@ WriteStops file text file_before file_after text_before text_after _ = ⊥
 
 -- ---- what is written, over the logs of the devices
 
--- the bytes were written to what is this path of the command, or a front of them
-abbrev pub WritesNamed : {T : Type 0} → CommandPath → Result T CliFault → WriteLog → WriteLog → List ℕ → Type 0
-WritesNamed path (Ok x) old new bytes = Writes old new bytes
-WritesNamed path (Err fault) old new bytes = (fault ≡ faults.Write path) × StopsWriting old new bytes
-
 -- how the file OUT and then a text were not written whole: a front of the file was, or the file and a front of the text
 abbrev pub BothStop : CliFault → (file text : List ℕ) → (out_old out_new output_old output_new : WriteLog) → Type 0
 BothStop (faults.Write path) file text out_old out_new output_old output_new =
     ((path ≡ paths.Out) × StopsWriting out_old out_new file × (output_new ≡ output_old))
     ⊎ ((path ≡ paths.StandardOutput) × Writes out_old out_new file × StopsWriting output_old output_new text)
 BothStop _ file text out_old out_new output_old output_new = ⊥
-
--- the file OUT was written and then the text, or they were not written whole
-abbrev pub WritesBoth : {T : Type 0} → Result T CliFault → (file text : List ℕ) → (out_old out_new output_old output_new : WriteLog) → Type 0
-WritesBoth (Ok x) file text out_old out_new output_old output_new = Writes out_old out_new file × Writes output_old output_new text
-WritesBoth (Err fault) file text out_old out_new output_old output_new = BothStop fault file text out_old out_new output_old output_new
 
 -- both outputs are as they were
 abbrev pub BothKept : (out_old out_new output_old output_new : WriteLog) → Type 0

@@ -50,14 +50,6 @@ pub record JoinsEach (inputs : List (Option (List ℕ))) (whole : Contents) (tex
   pub held : whole ≡ joined_all joined first others
   pub lines : text ≡ join_text first others
 
--- The holding of a file, which was read so, was joined into another, and a line with this number was added.
-pub record JoinsOne (IsRead : Contents → Type 0) (number : ℕ) (old new : Contents) (before after : List ℕ) : Type 0 where
-  pub other : Contents
-  pub file : IsRead other
-  pub same : IsSameReel old other
-  pub held : new ≡ joined old other
-  pub line : after ≡ before ++ line_of_join number old other
-
 -- The file of the union was written, and then the lines were printed.
 pub record JoinsFiles (inputs : List (Option (List ℕ))) (out_before out_after printed_before printed_after : Option (List ℕ)) : Type 0 where
   pub whole : Contents
@@ -135,14 +127,6 @@ abbrev pub JoinBreaks : CommandPath → Contents → CliFault → (old new : Rea
 JoinBreaks path whole fault old new =
     FileBreaks path fault old new
     ⊎ ((fault ≡ faults.Hold holds.OtherReel) × ((other : Contents) × ReadsHolding old new other × (¬ IsSameReel whole other)))
-
--- A file was read and joined into a holding, and its line was added, after so many others; or it was not joined.
-abbrev pub JoinsFile : {T : Type 0} → Result T CliFault → (before : ℕ) → (whole_old whole_new : Contents) → (lines_old lines_new : List ℕ)
-    → (file_old file_new : ReadLog) → Type 0
-JoinsFile (Ok x) before whole_old whole_new lines_old lines_new file_old file_new =
-    JoinsOne (ReadsHolding file_old file_new) (before + 1) whole_old whole_new lines_old lines_new
-JoinsFile (Err fault) before whole_old whole_new lines_old lines_new file_old file_new =
-    JoinBreaks (paths.Hold before) whole_old fault file_old file_new
 
 -- The first file was read, and each other one by a source of its own; their holdings were joined, and this text has a line for each.
 pub record JoinsAll (inputs : List (Option (List ℕ))) (old new : ReadLog) (whole : Contents) (text : List ℕ) : Type 0 where

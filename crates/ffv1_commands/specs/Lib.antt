@@ -2,7 +2,6 @@ pub mod Paths
 pub mod Fault
 pub mod Devices
 pub mod InTurn
-pub mod Lines
 pub mod Lists
 pub mod ChainText
 pub mod ShowText
@@ -22,6 +21,7 @@ pub mod MendText
 pub mod Commands
 pub mod SpliceLaws
 pub mod MendLaws
+pub mod Inner
 -- what the clauses cite of the crates below
 pub use Rattle.ffv1_slice.specs.Chain
 pub use Rattle.ffv1_slice.specs.Ending

@@ -7,7 +7,7 @@ use Rattle.ffv1_pool.specs.Reels.{Reel}
 use Rattle.ffv1_pool.specs.Contents.{Contents, IsSameReel, joined}
 use Rattle.ffv1_hold.specs.HoldingText.{head_text, begun_text, holding_text}
 use Rattle.ffv1_hold.specs.FileFaults.{IsFileReel, IsFaultOf}
-use Rattle.ffv1_hold.specs.MergedStreams.{Inputs, StreamBegins, BeginsWithPart, JoinRefuses, WritesUnion, WritesNoEnd, WritesFrontSoFar}
+use Rattle.ffv1_hold.specs.MergedStreams.{Inputs, StreamBegins, BeginsWithPart, MergeRefuses, WritesUnion, WritesNoEnd, WritesFrontSoFar}
 use Rattle.ffv1_hold.specs.MergeLogs.{Devices, AllGoOn, OneStops}
 use Rattle.ffv1_hold.specs.declared.version.Version.{Version}
 use Rattle.ffv1_hold.specs.declared.version.Version.TheVariants.{Second}
@@ -118,7 +118,7 @@ LeavesFront _ old new = WritesNoEnd (inputs_of old new) old.sink.contents new.si
 
 -- Joining both files as streams stopped: what was taken of them shows the fault, and only the device that is the fault was given up.
 pub record MergeStops (f : HoldFileFault) (old new : Devices) : Type 0 where
-  pub shown : JoinRefuses (inputs_of old new) f
+  pub shown : MergeRefuses (inputs_of old new) f
   pub leaves : LeavesFront f old new
   pub went : OneStops f old new (0, 0)
 

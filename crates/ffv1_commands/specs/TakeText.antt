@@ -7,10 +7,10 @@ use Rattle.ffv1_slice.specs.Walk.{links_of}
 use Rattle.ffv1_slice.specs.Slices.{found_slices}
 use Rattle.ffv1_pool.specs.Sets as set
 use Rattle.ffv1_pool.specs.Reels.{Reel}
-use Rattle.ffv1_pool.specs.Contents.{Contents, with_found, holding_of}
+use Rattle.ffv1_pool.specs.Contents.{Contents, holding_of}
 use Rattle.ffv1_hold.specs.HoldingText.{holding_text}
 use Rattle.ffv1_devices.specs.Logs.{ReadLog, WriteLog}
-use Rattle.ffv1_commands.specs.Devices.{IsWholeInput, AreWholeInputs, WriteStops, IsCopyFault, TakesWhole, CopyStops, BothKept}
+use Rattle.ffv1_commands.specs.Devices.{IsWholeInput, AreWholeInputs, WriteStops, IsCopyFault, CopyStops, BothKept}
 use Rattle.ffv1_commands.specs.InTurn.{AreKeptFrom, AreTaken, StopsAtCopy}
 use Rattle.ffv1_commands.specs.Holdings.{HasFile, IsFileFault, IsMade, MadeBreaks}
 use Rattle.ffv1_commands.specs.RecordInputs.{IsReelInput, TakesReel, RecordStops}
@@ -47,13 +47,6 @@ pub record TakesEach (inputs : List (Option (List ℕ))) (reel : Reel) (h : Cont
   pub read : AreTaken inputs copies
   pub held : h ≡ holding_of reel copies
   pub lines : text ≡ take_text reel copies
-
--- A copy, which was read so, was taken, and a line with this number was added.
-pub record TakesOne (IsRead : List ℕ → Type 0) (number : ℕ) (old new : Contents) (before after : List ℕ) : Type 0 where
-  pub copy : List ℕ
-  pub read : IsRead copy
-  pub held : new ≡ with_found old copy
-  pub line : after ≡ before ++ copy_line number (length (links_of copy)) (length (found_slices old.reel.setup copy)) (set.size new.slices - set.size old.slices)
 
 -- The file of the holding of all copies was written, and then the lines were printed.
 pub record TakesCopies (record' : Option (List ℕ)) (width height : ℕ) (inputs : List (Option (List ℕ)))
@@ -106,13 +99,6 @@ TakeStops record' width height inputs out_before out_after printed_before printe
 TakeStops record' width height inputs out_before out_after printed_before printed_after _ = ⊥
 
 -- ---- over the logs of the devices
-
--- A copy was read whole and taken, and its line was added, after so many others, or it was not read.
-abbrev pub TakesCopy : {T : Type 0} → Result T CliFault → (before : ℕ) → (held_old held_new : Contents) → (lines_old lines_new : List ℕ)
-    → (copy_old copy_new : ReadLog) → Type 0
-TakesCopy (Ok x) before held_old held_new lines_old lines_new copy_old copy_new =
-    TakesOne (TakesWhole copy_old copy_new) (before + 1) held_old held_new lines_old lines_new
-TakesCopy (Err fault) before held_old held_new lines_old lines_new copy_old copy_new = CopyStops (paths.Copy before) fault copy_old copy_new
 
 -- The record was read, and the copies were taken, and this text has a line for each.
 pub record TakesAll (width height : ℕ) (inputs : List (Option (List ℕ))) (old new : ReadLog) (held : Contents) (text : List ℕ) : Type 0 where

@@ -6,7 +6,7 @@ ghost use Rattle.ffv1_commands.specs.Paths.{IsChainPath};
 ghost use Rattle.ffv1_devices.specs.Logs.{StopsWriting};
 ghost use Rattle.ffv1_devices.specs.Results.{WritesAll};
 ghost use Rattle.ffv1_commands.specs.Devices.{UnlessWriting};
-ghost use Rattle.ffv1_commands.specs.Lines.{room, longest_line, PrintsFront};
+ghost use Rattle.ffv1_commands.specs.Inner.Lines.{room, longest_line, PrintsFront};
 ghost use Rattle.ffv1_commands.specs.ChainText.{link_place, link_state, link_line, parity_word, end_line, IsChainText, PrintsChain, ChainStops, ReportsChain};
 ghost use Rattle.ffv1_slice.specs.Chain.{IsFramed};
 

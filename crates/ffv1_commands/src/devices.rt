@@ -1,6 +1,6 @@
 //! Whole files, read from a source and written to a sink, and which path of the command a fault names.
 ghost use Rattle.std.specs.Prelude.{◌≡◌, IfOk, IfErr};
-ghost use Rattle.ffv1_commands.specs.Devices.{ReadsWholeCopy, ReadsNamed, WritesNamed, WritesBoth};
+ghost use Rattle.ffv1_commands.specs.Inner.Devices.{ReadsWholeCopy, ReadsNamed, WritesNamed, WritesBoth};
 ghost use Rattle.ffv1_commands.specs.InTurn.{log_of};
 
 use crate::fault::CliFault;

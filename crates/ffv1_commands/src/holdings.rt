@@ -1,7 +1,7 @@
 //! Holding files, read from a source and written to OUT.
 ghost use Rattle.std.specs.Prelude.{◌≡◌, IfErr};
 ghost use Rattle.ffv1_commands.specs.Devices.{UnlessWriting};
-ghost use Rattle.ffv1_commands.specs.Holdings.{ReadsHeld, SavesNamed, WritesMade};
+ghost use Rattle.ffv1_commands.specs.Inner.Holdings.{ReadsHeld, SavesNamed, WritesMade};
 
 use crate::devices::write_file;
 use crate::fault::{CliFault, of_hold_file};

@@ -4,7 +4,8 @@ ghost use Rattle.ffv1_commands.specs.Fault.{NamesPath};
 ghost use Rattle.ffv1_commands.specs.Paths.{IsJoinPath};
 ghost use Rattle.ffv1_commands.specs.Devices.{UnlessWriting};
 ghost use Rattle.ffv1_commands.specs.InTurn.{ReadsAlone};
-ghost use Rattle.ffv1_commands.specs.JoinText.{file_line, JoinsFile, JoinsAll, JoinsFiles, StopsAtFile, LaterFilesKept, JoinStops, ReportsJoin};
+ghost use Rattle.ffv1_commands.specs.JoinText.{file_line, JoinsAll, JoinsFiles, StopsAtFile, LaterFilesKept, JoinStops, ReportsJoin};
+ghost use Rattle.ffv1_commands.specs.Inner.JoinText.{JoinsFile};
 
 use crate::devices::buffered;
 use crate::fault::CliFault;

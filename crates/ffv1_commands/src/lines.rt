@@ -3,7 +3,7 @@
 ghost use Rattle.std.specs.Prelude.{◌≡◌, ◌+◌, ◌≤◌, ◌++◌, length, OnOk, OnErr, string_bytes, string_len, string_capacity};
 ghost use Rattle.std.specs.Fmt.{decimal};
 ghost use Rattle.ffv1_devices.specs.Logs.{StopsWriting};
-ghost use Rattle.ffv1_commands.specs.Lines.{room, longest_line, PrintsFront};
+ghost use Rattle.ffv1_commands.specs.Inner.Lines.{room, longest_line, PrintsFront};
 
 use ffv1_hold::{Sink, WriteFailed, write_field};
 use itoa::Buffer;

@@ -1,5 +1,5 @@
 //! The samples of a frame, written to OUT.
-ghost use Rattle.ffv1_commands.specs.Devices.{WritesNamed, WritesBoth};
+ghost use Rattle.ffv1_commands.specs.Inner.Devices.{WritesNamed, WritesBoth};
 ghost use Rattle.ffv1_commands.specs.SamplesText.{raw_bytes};
 
 use crate::devices::write_file;

@@ -4,7 +4,8 @@ ghost use Rattle.std.specs.Prelude.{◌≡◌, ◌<◌, ◌++◌, length, map, I
 ghost use Rattle.ffv1_splice.specs.Splice.{IsSpliceOf};
 ghost use Rattle.ffv1_commands.specs.Fault.{NamesPath};
 ghost use Rattle.ffv1_commands.specs.Paths.{IsSplicePath};
-ghost use Rattle.ffv1_commands.specs.Devices.{UnlessWriting, FileStops, ReadsNamed};
+ghost use Rattle.ffv1_commands.specs.Devices.{UnlessWriting, FileStops};
+ghost use Rattle.ffv1_commands.specs.Inner.Devices.{ReadsNamed};
 ghost use Rattle.ffv1_commands.specs.InTurn.{ReadsAlone, AreTaken, StopsAtCopy};
 ghost use Rattle.ffv1_commands.specs.SpliceText.{standing_line, splice_text, IsLengthFault, SplicesCopies, SpliceStops, LaterCopiesKept, ReportsSplice};
 

@@ -6,7 +6,8 @@ ghost use Rattle.ffv1_commands.specs.Fault.{NamesPath};
 ghost use Rattle.ffv1_commands.specs.Paths.{IsTakePath};
 ghost use Rattle.ffv1_commands.specs.Devices.{IfOfRecord, CopyStops, UnlessWriting};
 ghost use Rattle.ffv1_commands.specs.InTurn.{ReadsAlone, StopsAtCopy};
-ghost use Rattle.ffv1_commands.specs.TakeText.{copy_line, TakesEach, TakesCopy, TakesCopies, LaterKept, TakeStops, ReportsTake};
+ghost use Rattle.ffv1_commands.specs.TakeText.{copy_line, TakesEach, TakesCopies, LaterKept, TakeStops, ReportsTake};
+ghost use Rattle.ffv1_commands.specs.Inner.TakeText.{TakesCopy};
 
 use crate::devices::{read_copy, read_file};
 use crate::fault::CliFault;

@@ -3,3 +3,4 @@ pub mod Logs
 pub mod Results
 pub mod Streams
 pub mod Writing
+pub mod Inner

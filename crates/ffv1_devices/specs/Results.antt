@@ -33,8 +33,3 @@ ReadsInput items limit (Err faults.Memory) old new = (bytes : List ℕ) × Reads
 abbrev pub WritesAll : {T E : Type 0} → Result T E → WriteLog → WriteLog → List ℕ → Type 0
 WritesAll (Ok x) old new bytes = Writes old new bytes
 WritesAll (Err e) old new bytes = StopsWriting old new bytes
-
--- some of the first bytes were written, or none before the sink was given up
-abbrev pub WritesSome : {E : Type 0} → Result ℕ E → List ℕ → WriteLog → WriteLog → Type 0
-WritesSome (Ok n) bytes old new = Writes old new (take n bytes)
-WritesSome (Err e) bytes old new = StopsWriting old new []

@@ -1,11 +1,6 @@
 -- What a write that failed left in its sink.
 use Rattle.std.specs.Prelude.{ℕ, ◌≡◌, ◌++◌, List, Option}
 use Rattle.std.specs.Io.KnownBytes.{Appends}
-use Rattle.ffv1_devices.specs.declared.writes.TheConstants.{SHORT}
-
--- two fields of at most so many bytes together are one write
-abbrev pub short : ℕ
-short = SHORT
 
 -- a front of the bytes was written
 pub record WritesFront (old new : Option (List ℕ)) (bytes : List ℕ) : Type 0 where

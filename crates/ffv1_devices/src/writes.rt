@@ -3,8 +3,9 @@
 ghost use Rattle.std.specs.Prelude.{◌≡◌, ◌+◌, ◌<◌, ◌≤◌, ◌++◌, length, take, IfOk};
 ghost use Rattle.std.specs.Io.{WritesAtMost};
 ghost use Rattle.ffv1_devices.specs.Logs.{most_tries};
-ghost use Rattle.ffv1_devices.specs.Writing.{short};
-ghost use Rattle.ffv1_devices.specs.Results.{WritesSome, WritesAll};
+ghost use Rattle.ffv1_devices.specs.Inner.Writing.{short};
+ghost use Rattle.ffv1_devices.specs.Inner.Results.{WritesSome};
+ghost use Rattle.ffv1_devices.specs.Results.{WritesAll};
 
 use crate::reads::TRIES;
 use crate::streams::Sink;

@@ -12,7 +12,7 @@ use Rattle.ffv1_pool.specs.Contents.{AreDigests}
 use Rattle.ffv1_pool.proofs.RisingSets.{rising_rest}
 use Rattle.ffv1_pool.proofs.ItemsRise.{items-rising}
 use Rattle.ffv1_pool.proofs.EntrySteps.{or_cases}
-use Rattle.ffv1_hold.specs.Merging.{digests_union}
+use Rattle.ffv1_hold.specs.Inner.Merging.{digests_union}
 use Rattle.ffv1_hold.proofs.DigestSets.{has, digest_tie, rising_cons, same_digests}
 
 pub has-union : (xs ys : List (List ℕ)) (d : List ℕ) → has (digests_union xs ys) d ≡ (has xs d || has ys d)

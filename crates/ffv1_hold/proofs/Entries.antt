@@ -10,7 +10,8 @@ use Rattle.ffv1_pool.specs.SliceOrder.{Entry}
 use Rattle.ffv1_hold.specs.FileEntries.{last_of, AreEntries}
 use Rattle.ffv1_hold.specs.HoldingText.{FileEntry, slice_text, text_after_slice, body_text, entry_text, entries_text}
 use Rattle.ffv1_devices.specs.Logs.{ReadLog}
-use Rattle.ffv1_hold.specs.Reading.{TakesText, StopsAt}
+use Rattle.ffv1_hold.specs.Inner.Reading.{TakesText}
+use Rattle.ffv1_hold.specs.Reading.{StopsAt}
 use Rattle.ffv1_hold.specs.FileFaults.{IsPartOfSlice, SliceIsTooLong, IsWrong, IsEntryInPlace, IsPartAfter, ShowsAfter, IsPartOfEntry, EntryShows, IsPartOfEntries, EntriesShow}
 use Rattle.ffv1_hold.proofs.TextReads.{shown}
 

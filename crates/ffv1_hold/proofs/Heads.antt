@@ -14,10 +14,12 @@ use Rattle.ffv1_hold.specs.declared.version.Version.TheVariants.{First, Second}
 use Rattle.ffv1_hold.specs.HoldingText.{name, version_number, magic, be4, sized_record, head_text, entries_text, file_entries, IsStated}
 use Rattle.ffv1_pool.specs.Contents.{Contents, IsHolding}
 use Rattle.ffv1_devices.specs.Logs.{ReadLog}
-use Rattle.ffv1_hold.specs.Reading.{Refuses, TakesText, ReadsText}
+use Rattle.ffv1_hold.specs.Reading.{Refuses}
+use Rattle.ffv1_hold.specs.Inner.Reading.{TakesText, ReadsText}
 use Rattle.ffv1_hold.specs.FileEntries.{AreEntries}
-use Rattle.ffv1_hold.specs.ReadOrigins.{VersionShows}
-use Rattle.ffv1_hold.specs.FileFaults.{IsFileReel, IsPartOfMagic, IsHoldingText, IsPartOfReel, ReelIsWhole, FileIsWhole, ReelShows, EntriesAreWhole, IsPartOfEntries, EntriesShow, IsPartOfHead, HeadIsWhole, HeadShows, IsPartOfFile, MagicShows, FileShows}
+use Rattle.ffv1_hold.specs.Inner.ReadOrigins.{VersionShows}
+use Rattle.ffv1_hold.specs.FileFaults.{IsFileReel, IsPartOfMagic, IsHoldingText, IsPartOfReel, ReelIsWhole, FileIsWhole, ReelShows, IsPartOfEntries, EntriesShow, IsPartOfFile, MagicShows, FileShows}
+use Rattle.ffv1_hold.specs.Inner.FileFaults.{EntriesAreWhole, IsPartOfHead, HeadIsWhole, HeadShows}
 use Rattle.ffv1_hold.proofs.Bodies.{length-be4}
 use Rattle.ffv1_hold.proofs.Entries.{single}
 use Rattle.ffv1_hold.proofs.ReadRefusals.{Takes-nil, Refuses-after}

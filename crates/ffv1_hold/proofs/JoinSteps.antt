@@ -7,9 +7,11 @@ use Rattle.ffv1_devices.proofs.Steps.{GoesOn-refl, GoesOn-trans}
 use Rattle.ffv1_hold.specs.declared.file_fault.HoldFileFault.{HoldFileFault}
 use Rattle.ffv1_hold.specs.declared.file_fault.HoldFileFault.TheVariants as faults
 use Rattle.ffv1_hold.specs.HoldingText.{FileEntry}
-use Rattle.ffv1_hold.specs.Reading.{Refuses, TakesText, StopsAt, WentBefore, is_read}
-use Rattle.ffv1_hold.specs.Merging.{EntryStops}
-use Rattle.ffv1_hold.specs.MergeLogs.{Devices, is_write, TakesAtMost, AllGoOn, OneStops, JoinWent, StopsEntry}
+use Rattle.ffv1_hold.specs.Reading.{Refuses, StopsAt, WentBefore, is_read}
+use Rattle.ffv1_hold.specs.Inner.Reading.{TakesText}
+use Rattle.ffv1_hold.specs.Inner.Merging.{EntryStops}
+use Rattle.ffv1_hold.specs.MergeLogs.{Devices, is_write, TakesAtMost, AllGoOn, OneStops, MergeWent}
+use Rattle.ffv1_hold.specs.Inner.MergeLogs.{StopsEntry}
 use Rattle.ffv1_hold.proofs.TextReads.{went-before}
 
 -- what refuses an input is no failure of the sink
@@ -81,9 +83,9 @@ OneStops-after f a b c i j p q = record {
     both (inl (x, y)) = inl (went-before (is_read f) _ _ _ p.left' x, GoesOn-trans _ _ _ p.right' y)
     both (inr (x, y)) = inr (GoesOn-trans _ _ _ p.left' x, went-before (is_read f) _ _ _ p.right' y)
 
-pub JoinWent-after : {T : Type 0} (r : Result T HoldFileFault) (a b c : Devices) (i j k : ℕ × ℕ) → AllGoOn a b i j → JoinWent r b c j k → JoinWent r a c i k
-JoinWent-after (Ok x) a b c i j k p q = AllGoOn-trans a b c i j k p q
-JoinWent-after (Err f) a b c i j k p q = OneStops-after f a b c i j p q
+pub MergeWent-after : {T : Type 0} (r : Result T HoldFileFault) (a b c : Devices) (i j k : ℕ × ℕ) → AllGoOn a b i j → MergeWent r b c j k → MergeWent r a c i k
+MergeWent-after (Ok x) a b c i j k p q = AllGoOn-trans a b c i j k p q
+MergeWent-after (Err f) a b c i j k p q = OneStops-after f a b c i j p q
 
 -- to a later place
 pub AllGoOn-to : (a b : Devices) (i j k : ℕ × ℕ) → AllGoOn a b i j → j.0 ≤ k.0 → j.1 ≤ k.1 → AllGoOn a b i k

@@ -8,7 +8,7 @@ use Rattle.ffv1_pool.proofs.EntrySteps.{or_cases}
 use Rattle.ffv1_hold.specs.declared.version.Version.TheVariants.{Second}
 use Rattle.ffv1_hold.specs.HoldingText.{FileEntry, slice_text, origins_text, entry_text}
 use Rattle.ffv1_hold.specs.FileEntries.{IsDigest, AreOrigins}
-use Rattle.ffv1_hold.specs.Merging.{digests_union, with_digests}
+use Rattle.ffv1_hold.specs.Inner.Merging.{digests_union, with_digests}
 use Rattle.ffv1_hold.proofs.DigestSets.{has, digest_tie, has_all}
 use Rattle.ffv1_hold.proofs.DigestUnions.{has-union}
 use Rattle.ffv1_hold.proofs.Entries.{entry_text-of}

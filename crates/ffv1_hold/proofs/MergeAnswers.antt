@@ -12,9 +12,10 @@ use Rattle.ffv1_hold.specs.declared.file_fault.HoldFileFault.{HoldFileFault}
 use Rattle.ffv1_hold.specs.declared.file_fault.HoldFileFault.TheVariants as faults
 use Rattle.ffv1_hold.specs.HoldingText.{be4, magic, sized_record, head_text, entries_text, begun_text, file_entries, file_text, holding_text, IsStated}
 use Rattle.ffv1_hold.specs.Reading.{Refuses, StopsIn}
-use Rattle.ffv1_hold.specs.FileFaults.{IsFileReel, IsPartOfReel, IsPartOfHead, HeadIsWhole, HeadShows, IsOutside}
-use Rattle.ffv1_hold.specs.MergedStreams.{Inputs, IsFileOf, IsFileOfSome, StreamBegins, BeginsWithHead, InputRefuses, ShowsNoFault, BothRefuse, JoinRefuses, EntriesPass, UnionPasses, ReadsPart, ReadsAll, ReadsOtherHeads, WritesUnion, AnswersUnion, AnswersOther, WritesAtMost, WritesNoEnd, StaysInLead}
-use Rattle.ffv1_hold.specs.Merging.{Facts, both, HeadsRefuse, StopsAtWrite, Stops, MergeIsRefused, part}
+use Rattle.ffv1_hold.specs.FileFaults.{IsFileReel, IsPartOfReel, IsOutside}
+use Rattle.ffv1_hold.specs.Inner.FileFaults.{IsPartOfHead, HeadIsWhole, HeadShows}
+use Rattle.ffv1_hold.specs.MergedStreams.{Inputs, IsFileOf, IsFileOfSome, StreamBegins, BeginsWithHead, InputRefuses, ShowsNoFault, BothRefuse, MergeRefuses, EntriesPass, UnionPasses, ReadsPart, ReadsAll, ReadsOtherHeads, WritesUnion, AnswersUnion, AnswersOther, WritesAtMost, WritesNoEnd, StaysInLead}
+use Rattle.ffv1_hold.specs.Inner.Merging.{Facts, both, HeadsRefuse, StopsAtWrite, Stops, MergeIsRefused, part}
 use Rattle.ffv1_hold.proofs.Bodies.{length-be4}
 use Rattle.ffv1_hold.proofs.TextLaws.{same_head, head_parts, after_magic, text_parts, one_file, fitting_items}
 use Rattle.ffv1_hold.proofs.HeldEntries.{holding-joined}
@@ -237,7 +238,7 @@ nothing_shown old new same = record {
 }
 
 module _ (i : Inputs) (w v : Option (List ℕ)) where
-  pub join_refuses : (f : HoldFileFault) → MergeIsRefused i w v f → JoinRefuses i f
+  pub join_refuses : (f : HoldFileFault) → MergeIsRefused i w v f → MergeRefuses i f
   join_refuses f (inl (inl (r, untaken), untouched)) = inl (inl (head_file _ _ f r, nothing_shown _ _ untaken))
   join_refuses f (inl (inr (inl ((u, q, is, taken), r)), untouched)) = inl (inr (
     head_file _ _ f r,

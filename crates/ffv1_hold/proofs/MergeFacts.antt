@@ -17,8 +17,8 @@ use Rattle.ffv1_hold.specs.declared.version.Version.{Version}
 use Rattle.ffv1_hold.specs.declared.version.Version.TheVariants.{Second}
 use Rattle.ffv1_hold.specs.HoldingText.{FileEntry, head_text, entry_text, entries_text, begun_text, file_entries}
 use Rattle.ffv1_hold.specs.FileEntries.{last_of, Follows}
-use Rattle.ffv1_hold.specs.Merging.{Facts, part, with_file_entry, both, digests_union, with_digests}
-use Rattle.ffv1_hold.specs.Saving.{entries_length}
+use Rattle.ffv1_hold.specs.Inner.Merging.{Facts, part, with_file_entry, both, digests_union, with_digests}
+use Rattle.ffv1_hold.specs.Inner.Saving.{entries_length}
 use Rattle.ffv1_hold.proofs.DigestSets.{has, entry_tie, digest_tie, has-digests_in, has-with_each, digests_rise}
 use Rattle.ffv1_hold.proofs.DigestUnions.{has-union, union-alone}
 use Rattle.ffv1_hold.proofs.HeldEntries.{entries-with_entry, last-with_entry}

@@ -10,11 +10,12 @@ use Rattle.ffv1_pool.specs.Contents.{Contents, IsHolding, digests_of}
 use Rattle.ffv1_hold.specs.declared.version.Version.{Version}
 use Rattle.ffv1_hold.specs.declared.version.Version.TheVariants.{Second}
 use Rattle.ffv1_hold.specs.HoldingText.{FileEntry, head_text, entry_text, body_text, entries_text, begun_text, file_entries, file_text, IsStated}
-use Rattle.ffv1_hold.specs.FileEntries.{IsFileEntryOf, next_text}
+use Rattle.ffv1_hold.specs.FileEntries.{IsFileEntryOf}
+use Rattle.ffv1_hold.specs.Inner.FileEntries.{next_text}
 use Rattle.ffv1_hold.specs.FileFaults.{IsFileReel}
 use Rattle.ffv1_hold.specs.Leads.{LiesWhole, AreAllDigests, IsLeadOf}
 use Rattle.ffv1_hold.specs.MergedStreams.{IsFileOf, IsFileOfSome, StaysInLead}
-use Rattle.ffv1_hold.specs.Merging.{Facts, part, ReadsToNext}
+use Rattle.ffv1_hold.specs.Inner.Merging.{Facts, part, ReadsToNext}
 use Rattle.ffv1_pool.proofs.RisingSets.{contains_item}
 use Rattle.ffv1_hold.proofs.NumberTexts.{no_tag, rest_same}
 use Rattle.ffv1_hold.proofs.BodyTexts.{same_body}

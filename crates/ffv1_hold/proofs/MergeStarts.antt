@@ -16,12 +16,15 @@ use Rattle.ffv1_hold.specs.declared.file_fault.HoldFileFault.TheVariants as faul
 use Rattle.ffv1_hold.specs.declared.version.Version.{Version}
 use Rattle.ffv1_hold.specs.declared.version.Version.TheVariants.{Second}
 use Rattle.ffv1_hold.specs.HoldingText.{FileEntry, head_text, entries_text, begun_text, file_text, holding_text, IsStated}
-use Rattle.ffv1_hold.specs.Reading.{Takes, Refuses}
-use Rattle.ffv1_hold.specs.FileEntries.{last_of, Follows, IsFileEntryOf, next_text}
-use Rattle.ffv1_hold.specs.FileFaults.{IsFileReel, IsPartOfEntry, EndIsWhole, EntryShows}
+use Rattle.ffv1_hold.specs.Inner.Reading.{Takes}
+use Rattle.ffv1_hold.specs.Reading.{Refuses}
+use Rattle.ffv1_hold.specs.FileEntries.{last_of, Follows, IsFileEntryOf}
+use Rattle.ffv1_hold.specs.Inner.FileEntries.{next_text}
+use Rattle.ffv1_hold.specs.FileFaults.{IsFileReel, IsPartOfEntry, EntryShows}
+use Rattle.ffv1_hold.specs.Inner.FileFaults.{EndIsWhole}
 use Rattle.ffv1_hold.specs.Leads.{LiesWhole, AreAllDigests}
 use Rattle.ffv1_hold.specs.MergedStreams.{StreamBegins, InputRefuses, OneRefuses, ShowsNoFault, ReadsAll, ReadsPart, ReadsSoFar, UnionPasses, WritesUnion, WritesAtMost}
-use Rattle.ffv1_hold.specs.Merging.{Start, inputs_from, Facts, part, no_facts, both, FollowsAll, IsPassed, IsReadUpTo, ReadsToNext, IsOpened, Stands, Stops, Ends}
+use Rattle.ffv1_hold.specs.Inner.Merging.{Start, inputs_from, Facts, part, no_facts, both, FollowsAll, IsPassed, IsReadUpTo, ReadsToNext, IsOpened, Stands, Stops, Ends}
 use Rattle.ffv1_hold.proofs.Slots.{entries_text-none, length-head_text}
 use Rattle.ffv1_hold.proofs.HeldEntries.{entries-none, holding-joined}
 use Rattle.ffv1_hold.proofs.ReadSteps.{holding_none, stated_none}

@@ -15,11 +15,14 @@ use Rattle.ffv1_hold.specs.declared.file_fault.HoldFileFault.TheVariants as faul
 use Rattle.ffv1_hold.specs.declared.version.Version.{Version}
 use Rattle.ffv1_hold.specs.declared.version.Version.TheVariants.{First, Second}
 use Rattle.ffv1_hold.specs.HoldingText.{FileEntry, origins_limit, head_text, entry_text, entries_text, begun_text, file_entries, IsStated}
-use Rattle.ffv1_hold.specs.Reading.{Takes, Refuses}
-use Rattle.ffv1_hold.specs.FileEntries.{last_of, Follows, AreOrigins, AreDigestsIn, IsFileEntryOf, next_text}
-use Rattle.ffv1_hold.specs.FileFaults.{IsFileReel, IsPartOfFile, FileIsWhole, FileShows, IsPartOfEntry, EndIsWhole, EntryShows}
-use Rattle.ffv1_hold.specs.MergedStreams.{ReadsPart, ReadsAll, ReadsSoFar, EntriesPass, InputRefuses, ShowsNoFault, OneRefuses, JoinRefuses, StreamBegins, BeginsWithPart, WritesFrontSoFar, Inputs}
-use Rattle.ffv1_hold.specs.Merging.{Start, AreVersions, inputs_from, Facts, part, with_file_entry, both, IsPassed, IsReadUpTo, ReadsToNext, FollowsAll, Stands, Stops, Ends, with_digests, IsWritten, IsTurn, EntryStops}
+use Rattle.ffv1_hold.specs.Inner.Reading.{Takes}
+use Rattle.ffv1_hold.specs.Reading.{Refuses}
+use Rattle.ffv1_hold.specs.FileEntries.{last_of, Follows, AreOrigins, AreDigestsIn, IsFileEntryOf}
+use Rattle.ffv1_hold.specs.Inner.FileEntries.{next_text}
+use Rattle.ffv1_hold.specs.FileFaults.{IsFileReel, IsPartOfFile, FileIsWhole, FileShows, IsPartOfEntry, EntryShows}
+use Rattle.ffv1_hold.specs.Inner.FileFaults.{EndIsWhole}
+use Rattle.ffv1_hold.specs.MergedStreams.{ReadsPart, ReadsAll, ReadsSoFar, EntriesPass, InputRefuses, ShowsNoFault, OneRefuses, MergeRefuses, StreamBegins, BeginsWithPart, WritesFrontSoFar, Inputs}
+use Rattle.ffv1_hold.specs.Inner.Merging.{Start, AreVersions, inputs_from, Facts, part, with_file_entry, both, IsPassed, IsReadUpTo, ReadsToNext, FollowsAll, Stands, Stops, Ends, with_digests, IsWritten, IsTurn, EntryStops}
 use Rattle.ffv1_hold.proofs.ReadRefusals.{Takes-trans, Refuses-after}
 use Rattle.ffv1_hold.proofs.Entries.{part_of_entries, entries_show}
 use Rattle.ffv1_hold.proofs.Heads.{file_from_entries_part, file_from_whole_entries, file_from_entries_fault}
@@ -156,7 +159,7 @@ module _ (i : Inputs) (r : Reel) (is : IsFileReel r) (v w : Version) (left_head 
   -- the sink is not the fault: the head and whole entries were written
   pub stops_between : (x y : Facts) → BeginsWithPart i.left_old (part r x) → BeginsWithPart i.right_old (part r y)
       → Appends old new (begun_text Second (part r (both x y))) → length (begun_text Second (part r (both x y))) ≤ file_limit
-      → (f : HoldFileFault) → JoinRefuses i f → (f ≡ faults.Write → ⊥) × (f ≡ faults.OtherReel → ⊥) → Stops i old new f
+      → (f : HoldFileFault) → MergeRefuses i f → (f ≡ faults.Write → ⊥) × (f ≡ faults.OtherReel → ⊥) → Stops i old new f
   stops_between x y left right written few f fault outside = record {
     reel = r;
     is = is;

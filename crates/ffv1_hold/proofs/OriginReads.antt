@@ -12,9 +12,10 @@ use Rattle.ffv1_hold.specs.declared.file_fault.HoldFileFault.TheVariants as faul
 use Rattle.ffv1_hold.specs.HoldingText.{origins_limit, be4, origins_text}
 use Rattle.ffv1_hold.specs.FileEntries.{last_of, FollowsDigest, IsDigest, AreOrigins}
 use Rattle.ffv1_hold.specs.FileFaults.{IsPartOfOrigins, OriginsShow}
-use Rattle.ffv1_hold.specs.ReadOrigins.{DigestShows, TakesDigest}
+use Rattle.ffv1_hold.specs.Inner.ReadOrigins.{DigestShows, TakesDigest}
 use Rattle.ffv1_devices.specs.Logs.{ReadLog}
-use Rattle.ffv1_hold.specs.Reading.{TakesText, StopsAt, IsShorter, Never}
+use Rattle.ffv1_hold.specs.Inner.Reading.{TakesText, IsShorter, Never}
+use Rattle.ffv1_hold.specs.Reading.{StopsAt}
 use Rattle.ffv1_hold.proofs.TextReads.{TakesText-trans, StopsAt-after}
 use Rattle.ffv1_hold.proofs.DigestTexts.{whole, whole-push, all_push}
 

@@ -10,7 +10,7 @@ use Rattle.ffv1_pool.specs.TakeFaults.{AreShort}
 use Rattle.ffv1_pool.specs.HoldingParts.{contents, IsKept}
 use Rattle.ffv1_pool.specs.declared.holding.Holding.TheInside.{Inside}
 use Rattle.ffv1_pool.specs.Contents.{Contents, IsHolding, IsSameReel, with_found, with_copies, joined, holding_of}
-use Rattle.ffv1_pool.specs.ContentsLaws.{with_found-holding_of, with_copies-holding_of, joined-holding_of}
+use Rattle.ffv1_pool.proofs.ContentsLaws.{with_found-holding_of, with_copies-holding_of, joined-holding_of}
 
 pub AreShort-both : (xs ys : List (List ℕ)) → AreShort xs → AreShort ys → AreShort (xs ++ ys)
 AreShort-both [] ys few more = more

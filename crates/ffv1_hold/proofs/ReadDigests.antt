@@ -19,11 +19,12 @@ use Rattle.ffv1_pool.proofs.EntrySteps.{or_cases}
 use Rattle.ffv1_hold.specs.declared.version.Version.{Version}
 use Rattle.ffv1_hold.specs.declared.version.Version.TheVariants.{Second}
 use Rattle.ffv1_hold.specs.HoldingText.{FileEntry, entry_text, body_text, entries_text, begun_text, file_entries, IsStated}
-use Rattle.ffv1_hold.specs.FileEntries.{IsFileEntryOf, file_entry_cmp, next_text}
+use Rattle.ffv1_hold.specs.FileEntries.{IsFileEntryOf, file_entry_cmp}
+use Rattle.ffv1_hold.specs.Inner.FileEntries.{next_text}
 use Rattle.ffv1_hold.specs.FileFaults.{IsFileReel}
 use Rattle.ffv1_hold.specs.Leads.{AreAllDigests}
 use Rattle.ffv1_hold.specs.MergedStreams.{IsFileOf, IsFileOfSome, ReadsAll}
-use Rattle.ffv1_hold.specs.Merging.{Facts, part, both, IsReadUpTo, FollowsAll, ReadsToNext}
+use Rattle.ffv1_hold.specs.Inner.Merging.{Facts, part, both, IsReadUpTo, FollowsAll, ReadsToNext}
 use Rattle.ffv1_hold.proofs.DigestSets.{has, entry_tie, has-digests_in, digests_rise, same_digests}
 use Rattle.ffv1_hold.proofs.HeldEntries.{above_all, are_entries}
 use Rattle.ffv1_hold.proofs.NumberTexts.{no_tag}

@@ -6,7 +6,8 @@ use Rattle.std.proofs.KnownBytes.{Consumes-nil, Consumes-trans}
 use Rattle.ffv1_bits.specs.Limits.{file_limit}
 use Rattle.ffv1_hold.specs.declared.file_fault.HoldFileFault.{HoldFileFault}
 use Rattle.ffv1_hold.specs.declared.file_fault.HoldFileFault.TheVariants as faults
-use Rattle.ffv1_hold.specs.Reading.{Takes, EndsIn, StopsIn, PassesIn, GoesOnIn, Refuses}
+use Rattle.ffv1_hold.specs.Inner.Reading.{Takes}
+use Rattle.ffv1_hold.specs.Reading.{EndsIn, StopsIn, PassesIn, GoesOnIn, Refuses}
 
 pub Takes-nil : (a : Option (List ℕ)) (n : ℕ) → n ≤ file_limit → Takes a a n n []
 Takes-nil a n h = record { taken = Consumes-nil a; moved = omega arith; within = h }

@@ -13,9 +13,12 @@ use Rattle.ffv1_pool.specs.Sets as set
 use Rattle.ffv1_pool.specs.Contents.{Contents, IsHolding, no_slices, with_entry}
 use Rattle.ffv1_hold.specs.HoldingText.{FileEntry, entries_text, file_entries, IsStated}
 use Rattle.ffv1_devices.specs.Logs.{ReadLog}
-use Rattle.ffv1_hold.specs.Reading.{TakesText, StopsAt}
-use Rattle.ffv1_hold.specs.FileEntries.{last_of, Follows, AreOrigins, AreEntries, AreDigestsIn, IsFileEntryOf, next_text}
-use Rattle.ffv1_hold.specs.FileFaults.{IsPartOfEntry, EndIsWhole, EntryShows, IsPartOfEntries, EntriesAreWhole, EntriesShow}
+use Rattle.ffv1_hold.specs.Inner.Reading.{TakesText}
+use Rattle.ffv1_hold.specs.Reading.{StopsAt}
+use Rattle.ffv1_hold.specs.FileEntries.{last_of, Follows, AreOrigins, AreEntries, AreDigestsIn, IsFileEntryOf}
+use Rattle.ffv1_hold.specs.Inner.FileEntries.{next_text}
+use Rattle.ffv1_hold.specs.FileFaults.{IsPartOfEntry, EntryShows, IsPartOfEntries, EntriesShow}
+use Rattle.ffv1_hold.specs.Inner.FileFaults.{EndIsWhole, EntriesAreWhole}
 use Rattle.ffv1_hold.proofs.TextReads.{TakesText-nil, TakesText-trans, StopsAt-after, memory_stops}
 use Rattle.ffv1_hold.proofs.Slots.{entries_text-none, entries_text-push}
 use Rattle.ffv1_hold.proofs.Entries.{part_of_entries, entries_show}

@@ -6,7 +6,7 @@ use Rattle.ffv1_pool.specs.Sets as set
 use Rattle.ffv1_pool.specs.SliceOrder.{bytes_total}
 use Rattle.ffv1_pool.specs.TileSets.{tile_slices}
 use Rattle.ffv1_pool.specs.Contents.{Contents, IsHolding}
-use Rattle.ffv1_hold.specs.Saving.{AreWithinLimit, AreWritable}
+use Rattle.ffv1_hold.specs.Inner.Saving.{AreWithinLimit, AreWritable}
 use Rattle.ffv1_pool.proofs.RisingSets.{size-items, contains_item}
 use Rattle.ffv1_pool.proofs.Tiles.{contains-tile_slices}
 

@@ -9,7 +9,8 @@ use Rattle.ffv1_devices.specs.Logs.{Tries, ReadLog, GoesOn, Reads, BreaksOff, Ha
 use Rattle.ffv1_devices.proofs.Steps.{GoesOn-refl, GoesOn-trans, GivesUp-after}
 use Rattle.ffv1_hold.specs.declared.file_fault.HoldFileFault.{HoldFileFault}
 use Rattle.ffv1_hold.specs.declared.file_fault.HoldFileFault.TheVariants as faults
-use Rattle.ffv1_hold.specs.Reading.{TakesText, StopsAt, ReadsText, WentBefore, is_read, Never}
+use Rattle.ffv1_hold.specs.Inner.Reading.{TakesText, ReadsText, Never}
+use Rattle.ffv1_hold.specs.Reading.{StopsAt, WentBefore, is_read}
 use Rattle.ffv1_hold.proofs.ReadRefusals.{Takes-nil, Takes-trans, Refuses-after}
 
 -- ---- texts

@@ -13,7 +13,8 @@ use Rattle.std.proofs.Math.Seq.{get_or-append_right}
 use Rattle.ffv1_pool.specs.Sets as set
 use Rattle.ffv1_pool.specs.SliceOrder.{Entry, bytes_cmp, entry_cmp, entries_total, entries_antisymmetric}
 use Rattle.ffv1_pool.specs.Rising.{IsRising}
-use Rattle.ffv1_pool.specs.TileSets.{tile_slices, tile_entries, entries_below}
+use Rattle.ffv1_pool.specs.TileSets.{tile_slices}
+use Rattle.ffv1_pool.specs.Inner.TileSets.{tile_entries, entries_below}
 use Rattle.ffv1_pool.proofs.RisingSets.{items-from_list}
 use Rattle.ffv1_pool.proofs.ItemsRise.{items-rising, rising-append}
 use Rattle.ffv1_pool.proofs.Tiles.{any-same, any-other, contains-tile_slices}

@@ -8,12 +8,13 @@ use Rattle.ffv1_pool.proofs.EntrySteps.{or_cases}
 use Rattle.std.proofs.lemmas.List.{get_or_default, get_or-map, length-map, map-append, take_more}
 use Rattle.ffv1_pool.specs.Sets as set
 use Rattle.ffv1_pool.specs.SliceOrder.{Entry, entry_cmp, bytes_total}
-use Rattle.ffv1_pool.specs.TileSets.{tile_slices, tile_entries, entries_below}
+use Rattle.ffv1_pool.specs.TileSets.{tile_slices}
+use Rattle.ffv1_pool.specs.Inner.TileSets.{tile_entries, entries_below}
 use Rattle.ffv1_pool.specs.Contents.{Contents, IsHolding, AreDigests, digests_of}
 use Rattle.ffv1_hold.specs.declared.version.Version.TheVariants.{Second}
 use Rattle.ffv1_hold.specs.HoldingText.{FileEntry, slice_text, origins_text, entry_text, head_text, entries_text, begun_text, file_entries, holding_text, IsStated, FitsInFile}
-use Rattle.ffv1_hold.specs.Merging.{digests_union}
-use Rattle.ffv1_hold.specs.Saving.{tile_file_entries, file_entries_below, entries_length}
+use Rattle.ffv1_hold.specs.Inner.Merging.{digests_union}
+use Rattle.ffv1_hold.specs.Inner.Saving.{tile_file_entries, file_entries_below, entries_length}
 use Rattle.ffv1_pool.proofs.RisingSets.{size-items, contains_item}
 use Rattle.ffv1_pool.proofs.Tiles.{contains-tile_slices}
 use Rattle.ffv1_hold.proofs.DigestUnions.{union-alone}

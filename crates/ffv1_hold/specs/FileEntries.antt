@@ -10,7 +10,7 @@ use Rattle.ffv1_pool.specs.Rising.{IsRising}
 use Rattle.ffv1_pool.specs.Contents.{IsEntryOf, AreDigests}
 use Rattle.ffv1_hold.specs.declared.version.Version.{Version}
 use Rattle.ffv1_hold.specs.declared.version.Version.TheVariants.{First, Second}
-use Rattle.ffv1_hold.specs.HoldingText.{FileEntry, origins_limit, entry_text}
+use Rattle.ffv1_hold.specs.HoldingText.{FileEntry, origins_limit}
 
 -- the last item, if there is one
 abbrev pub last_of : {A : Type 0} → List A → Option A
@@ -54,11 +54,6 @@ file_entry_cmp a b = entry_cmp a.0 b.0
 pub record AreEntries (v : Version) (setup : SetupValue) (es : List FileEntry) : Type 0 where
   pub each : AllByRecursion (IsFileEntryOf v setup) es
   pub rising : IsRising file_entry_cmp es
-
--- the text of what is read after an entry: the next one, or the end tag
-abbrev pub next_text : Version → Option FileEntry → List ℕ
-next_text v None = 0 ∷ []
-next_text v (Some e) = entry_text v e
 
 -- what has a text after a slice, in whatever order
 abbrev pub HasTextAfter : Version → List (List ℕ) → Type 0

@@ -16,11 +16,9 @@ use Rattle.ffv1_hold.specs.declared.version.Version.TheVariants.{First, Second}
 use Rattle.ffv1_pool.specs.SliceOrder.{Entry}
 use Rattle.ffv1_pool.specs.Reels.{Reel, IsReel, WantsMemory}
 use Rattle.ffv1_pool.specs.Contents.{Contents, IsHolding, IsEntryOf}
-use Rattle.ffv1_hold.specs.HoldingText.{TakesFile, FileEntry, origins_limit, magic, be2, be4, sized_record, head_text, slice_text, entries_text, file_entries, IsStated, IsTextOf}
+use Rattle.ffv1_hold.specs.HoldingText.{TakesFile, FileEntry, origins_limit, magic, be2, be4, sized_record, head_text, slice_text, entries_text, IsTextOf}
 use Rattle.ffv1_hold.specs.Reading.{Refuses, StopsAt}
 use Rattle.ffv1_hold.specs.FileEntries.{last_of, Follows, FollowsDigest, IsDigest, AreOrigins, AreEntries}
-
--- ---- a slice after its tag
 
 -- a beginning of one: some of its tile and its length, or both and some of its bytes
 abbrev pub IsPartOfSlice : List ℕ → Type 0
@@ -97,19 +95,6 @@ abbrev pub EntriesShow : Version → SetupValue → HoldFileFault → List ℕ �
 EntriesShow v setup f s = (es : List FileEntry) × (seen : List ℕ) × AreEntries v setup es × (s ≡ entries_text v es ++ seen)
     × EntryShows v setup (last_of es) f seen
 
--- the end tag, after which the end is looked for
-abbrev pub EndIsWhole : HoldFileFault → List ℕ → Type 0
-EndIsWhole faults.Read s = s ≡ 0 ∷ []
-EndIsWhole faults.Trailing s = s ≡ 0 ∷ []
-EndIsWhole _ s = ⊥
-
--- all entries of a holding of the reel, and the end tag after them
-abbrev pub EntriesAreWhole : Version → Reel → HoldFileFault → List ℕ → Type 0
-EntriesAreWhole v reel f s = (h : Contents) × (tag : List ℕ) × IsHolding h × IsStated v h × (h.reel ≡ reel) × (s ≡ entries_text v (file_entries h) ++ tag)
-    × EndIsWhole f tag
-
--- ---- the head
-
 -- the record is one of a setup at the reel's size, and within its limit
 pub record IsFileReel (r : Reel) : Type 0 where
   pub reel : IsReel r
@@ -141,19 +126,6 @@ MagicShows faults.Magic s = (seen : List ℕ) × (wrong : ℕ) × (s ≡ seen ++
 MagicShows _ s = ⊥
 
 -- ---- the magic, the size and the record
-
--- a beginning of them that shows no fault yet
-abbrev pub IsPartOfHead : List ℕ → Type 0
-IsPartOfHead s = IsPartOfMagic s ⊎ ((v : Version) × (part : List ℕ) × (s ≡ magic v ++ part) × IsPartOfReel part)
-
-abbrev pub HeadShows : HoldFileFault → List ℕ → Type 0
-HeadShows f s = MagicShows f s ⊎ ((v : Version) × (seen : List ℕ) × (s ≡ magic v ++ seen) × ReelShows f seen)
-
--- they are whole, after which memory for the setup is wanted
-abbrev pub HeadIsWhole : HoldFileFault → List ℕ → Type 0
-HeadIsWhole f s = (v : Version) × (reel : List ℕ) × (s ≡ magic v ++ reel) × ReelIsWhole f reel
-
--- ---- the whole file
 
 -- a beginning of a file that shows no fault yet: of its magic, of its size and record, or of its entries and the end
 abbrev pub IsPartOfFile : List ℕ → Type 0

@@ -3,14 +3,13 @@ pub mod Reading
 pub mod Saving
 pub mod FileEntries
 pub mod FileFaults
-pub mod ReadOrigins
 pub mod Leads
 pub mod MergeLogs
 pub mod MergedStreams
-pub mod Merging
 pub mod Laws
 pub mod Headline
 pub mod Plans
+pub mod Inner
 -- what the clauses cite of the crates below
 pub use Rattle.ffv1_devices.specs.Logs
 pub use Rattle.ffv1_devices.specs.Results

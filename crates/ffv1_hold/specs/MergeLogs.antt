@@ -1,13 +1,10 @@
 -- How joining two holding files as streams moves the logs of its devices (own).
-use Rattle.std.specs.Prelude.{ℕ, ◌≡◌, ◌+◌, ◌≤◌, ◌⊎◌, Bool, true, false, Result, Ok, Err, length}
+use Rattle.std.specs.Prelude.{ℕ, ◌≡◌, ◌+◌, ◌≤◌, ◌⊎◌, Bool, true, false, Result, Ok, Err}
 use Rattle.ffv1_bits.specs.Limits.{file_limit}
-use Rattle.ffv1_devices.specs.Logs.{ReadLog, WriteLog, GoesOn, Writes}
+use Rattle.ffv1_devices.specs.Logs.{ReadLog, WriteLog, GoesOn}
 use Rattle.ffv1_hold.specs.declared.file_fault.HoldFileFault.{HoldFileFault}
 use Rattle.ffv1_hold.specs.declared.file_fault.HoldFileFault.TheVariants as faults
-use Rattle.ffv1_hold.specs.declared.version.Version.TheVariants.{Second}
-use Rattle.ffv1_hold.specs.HoldingText.{FileEntry, entry_text}
 use Rattle.ffv1_hold.specs.Reading.{WentBefore, is_read}
-use Rattle.ffv1_hold.specs.Merging.{EntryStops}
 
 -- both inputs and the sink
 pub record Devices : Type 0 where
@@ -41,19 +38,8 @@ pub record OneStops (f : HoldFileFault) (old new : Devices) (from : ℕ × ℕ) 
   pub few : TakesAtMost old new from (file_limit + 1, file_limit + 1)
 
 -- how the devices went up to a result, and up to a fault
-abbrev pub JoinWent : {T : Type 0} → Result T HoldFileFault → Devices → Devices → (from to : ℕ × ℕ) → Type 0
-JoinWent (Ok x) old new from to = AllGoOn old new from to
-JoinWent (Err f) old new from to = OneStops f old new from
+abbrev pub MergeWent : {T : Type 0} → Result T HoldFileFault → Devices → Devices → (from to : ℕ × ℕ) → Type 0
+MergeWent (Ok x) old new from to = AllGoOn old new from to
+MergeWent (Err f) old new from to = OneStops f old new from
 
 -- ---- an entry
-
--- An entry was not written whole: there was no room for it, or the sink was given up.
-pub record StopsEntry (old new : WriteLog) (room : ℕ) (e : FileEntry) (f : HoldFileFault) : Type 0 where
-  pub stops : EntryStops old.contents new.contents room e f
-  pub same : new.reference ≡ old.reference
-  pub tries' : WentBefore (is_write f) old.tries new.tries
-
--- the entry was written, and the room for it is gone; or not whole
-abbrev pub WritesEntry : {T : Type 0} → Result T HoldFileFault → WriteLog → WriteLog → (room left : ℕ) → FileEntry → Type 0
-WritesEntry (Ok x) old new room left e = Writes old new (entry_text Second e) × (left + length (entry_text Second e) ≡ room)
-WritesEntry (Err f) old new room left e = StopsEntry old new room e f

@@ -141,8 +141,8 @@ BothRefuse i faults.TooLong = (EntriesPass i × (ShowsNoFault i.left_old i.left_
 BothRefuse i _ = ⊥
 
 -- what a fault says of the bytes that were taken of the inputs
-abbrev pub JoinRefuses : Inputs → HoldFileFault → Type 0
-JoinRefuses i f = OneRefuses i f ⊎ BothRefuse i f
+abbrev pub MergeRefuses : Inputs → HoldFileFault → Type 0
+MergeRefuses i f = OneRefuses i f ⊎ BothRefuse i f
 
 -- ---- what was written
 

@@ -1,16 +1,10 @@
 -- How the reading of a holding file stops at a fault.
-use Rattle.std.specs.Prelude.{ℕ, ◌≡◌, ◌+◌, ◌<◌, ◌≤◌, ◌⊎◌, List, [], ◌∷◌, ◌++◌, length, Option, Bool, true, false, Result, Ok, Err}
+use Rattle.std.specs.Prelude.{ℕ, ◌≡◌, ◌+◌, ◌≤◌, ◌⊎◌, List, [], ◌∷◌, ◌++◌, length, Option, Bool, true, false}
 use Rattle.std.specs.Io.KnownBytes.{Consumes, IsAtEnd}
 use Rattle.ffv1_bits.specs.Limits.{file_limit}
 use Rattle.ffv1_devices.specs.Logs.{Tries, ReadLog, GoesOn, GivesUp}
 use Rattle.ffv1_hold.specs.declared.file_fault.HoldFileFault.{HoldFileFault}
 use Rattle.ffv1_hold.specs.declared.file_fault.HoldFileFault.TheVariants as faults
-
--- the bytes were taken, from the place on, and end within the limit
-pub record Takes (old new : Option (List ℕ)) (from to : ℕ) (bytes : List ℕ) : Type 0 where
-  pub taken : Consumes old new bytes
-  pub moved : to ≡ from + length bytes
-  pub within : to ≤ file_limit
 
 -- The bytes `seen` were taken from the place on, within the limit, and then the input ended.
 pub record EndsIn (P : List ℕ → Type 0) (old new : Option (List ℕ)) (from : ℕ) : Type 0 where
@@ -59,14 +53,6 @@ Refuses P W Q old new from faults.Tag = StopsIn (Q faults.Tag) old new from
 Refuses P W Q old new from faults.Order = StopsIn (Q faults.Order) old new from
 Refuses P W Q old new from faults.NotASlice = StopsIn (Q faults.NotASlice) old new from
 
--- no bytes are so, whatever the fault
-abbrev pub Never : HoldFileFault → List ℕ → Type 0
-Never f bytes = ⊥
-
--- fewer bytes than n
-abbrev pub IsShorter : ℕ → List ℕ → Type 0
-IsShorter n bytes = length bytes < n
-
 -- the source is the fault, and not memory or the bytes
 abbrev pub is_read : HoldFileFault → Bool
 is_read faults.Read = true
@@ -77,20 +63,8 @@ abbrev pub WentBefore : Bool → Tries → Tries → Type 0
 WentBefore true = GivesUp
 WentBefore false = GoesOn
 
--- The bytes were read off the source, from one place to another, and no others.
-pub record TakesText (old new : ReadLog) (from to : ℕ) (bytes : List ℕ) : Type 0 where
-  pub text : Takes old.remaining new.remaining from to bytes
-  pub tries' : GoesOn old.tries new.tries
-  pub few : new.taken + from ≤ old.taken + to
-
 -- Reading from the place on stopped at the fault, after at most one byte past the limit; at `Read` the source was given up.
 pub record StopsAt (P : List ℕ → Type 0) (W Q : HoldFileFault → List ℕ → Type 0) (old new : ReadLog) (from : ℕ) (f : HoldFileFault) : Type 0 where
   pub fault : Refuses P W Q old.remaining new.remaining from f
   pub tries' : WentBefore (is_read f) old.tries new.tries
   pub few : new.taken + from ≤ old.taken + file_limit + 1
-
--- the text of what is returned was read off the source, or reading it stopped at the first fault
-abbrev pub ReadsText : {T : Type 0} → (T → List ℕ) → (List ℕ → Type 0) → (W Q : HoldFileFault → List ℕ → Type 0) → ReadLog → ReadLog → (from to : ℕ)
-    → Result T HoldFileFault → Type 0
-ReadsText text P W Q old new from to (Ok x) = TakesText old new from to (text x)
-ReadsText text P W Q old new from to (Err f) = StopsAt P W Q old new from f

@@ -2,7 +2,7 @@
 ghost use Rattle.std.specs.Prelude.{◌≡◌, ◌+◌, ◌<◌, ◌≤◌, ◌++◌, length, take, drop, OnOk, IfOk};
 ghost use Rattle.ffv1_bits.specs.Limits.{file_limit};
 ghost use Rattle.ffv1_pool.specs.SliceOrder.{bytes_cmp};
-ghost use Rattle.ffv1_hold.specs.Reading.{ReadsText, IsShorter, Never};
+ghost use Rattle.ffv1_hold.specs.Inner.Reading.{ReadsText, IsShorter, Never};
 
 use crate::fields::read_field;
 use crate::file_fault::HoldFileFault;

@@ -2,9 +2,10 @@
 ghost use Rattle.std.specs.Prelude.{◌≡◌, ◌^◌, ◌<◌, ◌≤◌, ◌↔◌, ◌==◌, length, IsTrue, Option, IfSome, OnOk, IfOk, IfErr};
 ghost use Rattle.ffv1_bits.specs.Limits.{slice_limit, file_limit};
 ghost use Rattle.ffv1_slice.specs.Slices.{IsSliceOf};
-ghost use Rattle.ffv1_hold.specs.Reading.{ReadsText, Never};
+ghost use Rattle.ffv1_hold.specs.Inner.Reading.{ReadsText, Never};
 ghost use Rattle.ffv1_hold.specs.HoldingText.{FileEntry, slice_text};
-ghost use Rattle.ffv1_hold.specs.FileEntries.{Follows, IsFileEntryOf, next_text};
+ghost use Rattle.ffv1_hold.specs.FileEntries.{Follows, IsFileEntryOf};
+ghost use Rattle.ffv1_hold.specs.Inner.FileEntries.{next_text};
 ghost use Rattle.ffv1_hold.specs.FileFaults.{IsPartOfSlice, SliceIsTooLong, IsWrong, IsPartOfEntry, EntryShows};
 
 use crate::blocks::read_over;

@@ -3,7 +3,8 @@
 ghost use Rattle.std.specs.Prelude.{◌≡◌, ◌+◌, ◌≤◌, length};
 ghost use Rattle.ffv1_bits.specs.Limits.{file_limit};
 ghost use Rattle.ffv1_bits.specs.Parity.{AreBytes};
-ghost use Rattle.ffv1_hold.specs.Reading.{ReadsText, StopsAt, IsShorter, Never};
+ghost use Rattle.ffv1_hold.specs.Inner.Reading.{ReadsText, IsShorter, Never};
+ghost use Rattle.ffv1_hold.specs.Reading.{StopsAt};
 
 use crate::file_fault::HoldFileFault;
 use ffv1_bits::FILE_LIMIT;

@@ -2,9 +2,9 @@
 //! 9043, section 4.3).
 ghost use Rattle.std.specs.Prelude.{◌≡◌, ◌≤◌, ◌⊎◌, [], ◌∷◌, length, IfOk, IfErr};
 ghost use Rattle.ffv1_bits.specs.Limits.{file_limit, record_limit};
-ghost use Rattle.ffv1_hold.specs.Reading.{ReadsText, IsShorter, Never};
+ghost use Rattle.ffv1_hold.specs.Inner.Reading.{ReadsText, IsShorter, Never};
 ghost use Rattle.ffv1_hold.specs.HoldingText.{name, version_number, magic, sized_record};
-ghost use Rattle.ffv1_hold.specs.ReadOrigins.{VersionShows};
+ghost use Rattle.ffv1_hold.specs.Inner.ReadOrigins.{VersionShows};
 ghost use Rattle.ffv1_hold.specs.FileFaults.{IsPartOfMagic, MagicShows, IsFileReel, IsPartOfReel, ReelIsWhole, ReelShows};
 
 use crate::fields::read_field;

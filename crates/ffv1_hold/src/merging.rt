@@ -8,11 +8,12 @@ ghost use Rattle.ffv1_pool.specs.Contents.{Contents, IsSameReel, joined};
 ghost use Rattle.ffv1_hold.specs.HoldingText.{head_text, entry_text};
 ghost use Rattle.ffv1_hold.specs.declared.version.Version.{Version};
 ghost use Rattle.ffv1_hold.specs.FileEntries.{IsFileEntryOf};
-ghost use Rattle.ffv1_hold.specs.Reading.{Takes};
+ghost use Rattle.ffv1_hold.specs.Inner.Reading.{Takes};
 ghost use Rattle.ffv1_hold.specs.FileFaults.{IsFileReel};
-ghost use Rattle.ffv1_hold.specs.MergedStreams.{IsFileOf, IsFileOfSome, WritesUnion, AnswersUnion, BeginsWithHead, AnswersOther, JoinRefuses, WritesNoEnd, WritesFrontSoFar, WritesAtMost, StaysInLead};
-ghost use Rattle.ffv1_hold.specs.Merging.{Start, AreVersions, inputs_from, IsOpened, Stands, Stops, MergeIsRefused, HeadsRefuse, Ends, IsTurn, IsWritten, with_digests};
-ghost use Rattle.ffv1_hold.specs.MergeLogs.{JoinWent, WritesEntry};
+ghost use Rattle.ffv1_hold.specs.MergedStreams.{IsFileOf, IsFileOfSome, WritesUnion, AnswersUnion, BeginsWithHead, AnswersOther, MergeRefuses, WritesNoEnd, WritesFrontSoFar, WritesAtMost, StaysInLead};
+ghost use Rattle.ffv1_hold.specs.Inner.Merging.{Start, AreVersions, inputs_from, IsOpened, Stands, Stops, MergeIsRefused, HeadsRefuse, Ends, IsTurn, IsWritten, with_digests};
+ghost use Rattle.ffv1_hold.specs.MergeLogs.{MergeWent};
+ghost use Rattle.ffv1_hold.specs.Inner.MergeLogs.{WritesEntry};
 
 use crate::entry::HeldSlice;
 use crate::file_fault::HoldFileFault;
@@ -64,7 +65,7 @@ pub fn join_streams<R: Source, Q: Source, W: Sink>(
     ensures untouched { IsErrOf result HoldFileFault.OtherReel → sink.new ≡ sink.old }
 
     // The bytes that were read show the fault, and it is the first: what was taken of the other input shows none.
-    ensures fault { IfErr result (JoinRefuses (record {
+    ensures fault { IfErr result (MergeRefuses (record {
       left_old = (R.log left.old).remaining;
       left_new = (R.log left.new).remaining;
       right_old = (Q.log right.old).remaining;
@@ -95,7 +96,7 @@ pub fn join_streams<R: Source, Q: Source, W: Sink>(
     }) (W.log sink.old).contents (W.log sink.new).contents) }
     ensures most { WritesAtMost (W.log sink.old).contents (W.log sink.new).contents file_limit }
     // At `Read` one input was given up, at `Write` the sink, and no other device; no more was taken than the limits.
-    ensures went { JoinWent result (record { left = R.log left.old; right = Q.log right.old; sink = W.log sink.old })
+    ensures went { MergeWent result (record { left = R.log left.old; right = Q.log right.old; sink = W.log sink.old })
         (record { left = R.log left.new; right = Q.log right.new; sink = W.log sink.new }) (0, 0) (file_limit, file_limit) }
 {
     let mut merge = Merge::new();
@@ -129,7 +130,7 @@ fn merge_files<R: Source, Q: Source, W: Sink>(
       right_new = (Q.log right.new).remaining;
     }) (W.log sink.old).contents (W.log sink.new).contents) }
     ensures untouched { IsErrOf result HoldFileFault.OtherReel → sink.new ≡ sink.old }
-    ensures went { JoinWent result (record { left = R.log left.old; right = Q.log right.old; sink = W.log sink.old })
+    ensures went { MergeWent result (record { left = R.log left.old; right = Q.log right.old; sink = W.log sink.old })
         (record { left = R.log left.new; right = Q.log right.new; sink = W.log sink.new }) (0, 0) (file_limit, file_limit) }
 {
     let reel = merge.read_heads(alloc, left, right)?;
@@ -181,7 +182,7 @@ impl Merge {
           right_old = (Q.log right.old).remaining;
           right_new = (Q.log right.new).remaining;
         })) }
-        ensures went { (s : WriteLog) → JoinWent result (record { left = R.log left.old; right = Q.log right.old; sink = s })
+        ensures went { (s : WriteLog) → MergeWent result (record { left = R.log left.old; right = Q.log right.old; sink = s })
             (record { left = R.log left.new; right = Q.log right.new; sink = s }) (0, 0) (self.new.lefts.place, self.new.rights.place) }
     {
         let reel = self.lefts.read_head(alloc, left)?;
@@ -219,7 +220,7 @@ impl Merge {
             → IsOpened s reel.now (R.log left.old).remaining (Q.log right.old).remaining (W.log sink.old).contents
             self.old.lefts.place self.old.rights.place
             → IfErr result (Stops (inputs_from s (R.log left.new).remaining (Q.log right.new).remaining) s.sink (W.log sink.new).contents) }
-        ensures went { JoinWent result (record { left = R.log left.old; right = Q.log right.old; sink = W.log sink.old })
+        ensures went { MergeWent result (record { left = R.log left.old; right = Q.log right.old; sink = W.log sink.old })
             (record { left = R.log left.new; right = Q.log right.new; sink = W.log sink.new }) (self.old.lefts.place, self.old.rights.place) (file_limit, file_limit) }
     {
         self.begin(alloc, reel, left, right, sink)?;
@@ -260,7 +261,7 @@ impl Merge {
             → IsOpened s reel.now (R.log left.old).remaining (Q.log right.old).remaining (W.log sink.old).contents
             self.old.lefts.place self.old.rights.place
             → IfErr result (Stops (inputs_from s (R.log left.new).remaining (Q.log right.new).remaining) s.sink (W.log sink.new).contents) }
-        ensures went { JoinWent result (record { left = R.log left.old; right = Q.log right.old; sink = W.log sink.old })
+        ensures went { MergeWent result (record { left = R.log left.old; right = Q.log right.old; sink = W.log sink.old })
             (record { left = R.log left.new; right = Q.log right.new; sink = W.log sink.new }) (self.old.lefts.place, self.old.rights.place) (self.new.lefts.place, self.new.rights.place) }
     {
         write_head(sink, reel)?;
@@ -293,7 +294,7 @@ impl Merge {
             → Stands s (R.log left.old).remaining (Q.log right.old).remaining (W.log sink.old).contents
             self.old.lefts.place self.old.rights.place self.old.room self.old.lefts.held self.old.rights.held
             → IfErr result (Stops (inputs_from s (R.log left.new).remaining (Q.log right.new).remaining) s.sink (W.log sink.new).contents) }
-        ensures went { JoinWent result (record { left = R.log left.old; right = Q.log right.old; sink = W.log sink.old })
+        ensures went { MergeWent result (record { left = R.log left.old; right = Q.log right.old; sink = W.log sink.old })
             (record { left = R.log left.new; right = Q.log right.new; sink = W.log sink.new }) (self.old.lefts.place, self.old.rights.place) (file_limit, file_limit) }
     {
         while let Some((entry, others, order)) = next_entry(&self.lefts.held, &self.rights.held) {

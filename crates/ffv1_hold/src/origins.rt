@@ -1,10 +1,11 @@
 //! The digests after a slice of a holding file (own): their count, and then each, in rising order.
 ghost use Rattle.std.specs.Prelude.{◌≤◌, ◌↔◌, IsTrue, OnOk, IfOk, IfErr, length};
 ghost use Rattle.ffv1_bits.specs.Limits.{file_limit};
-ghost use Rattle.ffv1_hold.specs.Reading.{ReadsText, StopsAt, IsShorter, Never};
+ghost use Rattle.ffv1_hold.specs.Inner.Reading.{ReadsText, IsShorter, Never};
+ghost use Rattle.ffv1_hold.specs.Reading.{StopsAt};
 ghost use Rattle.ffv1_hold.specs.HoldingText.{origins_limit, origins_text, text_after_slice};
 ghost use Rattle.ffv1_hold.specs.FileEntries.{last_of, FollowsDigest, AreOrigins, AreDigestsIn};
-ghost use Rattle.ffv1_hold.specs.ReadOrigins.{DigestShows, TakesDigest};
+ghost use Rattle.ffv1_hold.specs.Inner.ReadOrigins.{DigestShows, TakesDigest};
 ghost use Rattle.ffv1_hold.specs.FileFaults.{IsPartOfOrigins, OriginsShow, IsPartAfter, ShowsAfter};
 
 use crate::fields::read_field;

@@ -2,11 +2,12 @@
 ghost use Rattle.std.specs.Prelude.{◌≡◌, ◌≤◌, [], ◌∷◌, ◌++◌, None, Some, OnOk, IfErr};
 ghost use Rattle.std.specs.Io.KnownBytes.{IsAtEnd};
 ghost use Rattle.ffv1_bits.specs.Limits.{file_limit};
-ghost use Rattle.ffv1_hold.specs.Reading.{ReadsText};
+ghost use Rattle.ffv1_hold.specs.Inner.Reading.{ReadsText};
 ghost use Rattle.ffv1_pool.specs.Contents.{Contents, IsEntryOf, IsHolding, AreDigests, no_slices, with_entry};
 ghost use Rattle.ffv1_hold.specs.declared.version.Version.{Version};
 ghost use Rattle.ffv1_hold.specs.HoldingText.{entries_text, file_entries, file_text, IsStated, FitsInFile};
-ghost use Rattle.ffv1_hold.specs.FileFaults.{ReadsFile, IsPartOfEntries, EntriesAreWhole, EntriesShow, Answers};
+ghost use Rattle.ffv1_hold.specs.FileFaults.{ReadsFile, IsPartOfEntries, EntriesShow, Answers};
+ghost use Rattle.ffv1_hold.specs.Inner.FileFaults.{EntriesAreWhole};
 
 use crate::entry::HeldSlice;
 use crate::file_fault::HoldFileFault;

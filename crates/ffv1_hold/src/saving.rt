@@ -7,8 +7,9 @@ ghost use Rattle.ffv1_pool.specs.TileSets.{tile_slices};
 ghost use Rattle.ffv1_pool.specs.Reels.{reel_tiles};
 ghost use Rattle.ffv1_hold.specs.HoldingText.{origins_limit, be2, be4, magic, head_text, slice_text, FileEntry, origins_text, entry_text, entries_text, file_entries, holding_text, IsStated, FitsInFile};
 ghost use Rattle.ffv1_pool.specs.Contents.{IsHolding, AreDigests};
-ghost use Rattle.ffv1_hold.specs.Saving.{AreWithinLimit, AreWritable, SavesFile, tile_file_entries, entries_length};
-ghost use Rattle.ffv1_hold.specs.Merging.{digests_union};
+ghost use Rattle.ffv1_hold.specs.Inner.Saving.{AreWithinLimit, AreWritable, tile_file_entries, entries_length};
+ghost use Rattle.ffv1_hold.specs.Saving.{SavesFile};
+ghost use Rattle.ffv1_hold.specs.Inner.Merging.{digests_union};
 
 use crate::file_fault::HoldFileFault;
 use crate::origins::ORIGINS_LIMIT;

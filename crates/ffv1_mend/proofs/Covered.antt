@@ -17,7 +17,8 @@ use Rattle.ffv1_weave.proofs.Coarsest.{original_is_woven}
 use Rattle.ffv1_weave.proofs.Choices.{length-written, written_before, written_inside, written_after, same_range, range_at}
 use Rattle.ffv1_splice.specs.Splice.{SplicedValue}
 use Rattle.ffv1_splice.proofs.WovenLaws.{given_back_is_original}
-use Rattle.ffv1_mend.specs.Improved.{IsWithin, IsRight, Patch, patched, given_patches, improved, AreFitting}
+use Rattle.ffv1_mend.specs.Improved.{IsWithin, IsRight, Patch, patched, given_patches, improved}
+use Rattle.ffv1_mend.specs.Inner.Improved.{AreFitting}
 use Rattle.ffv1_mend.specs.Mended.{MendedValue, ElementStands, IsElementMend, IsMendOf, is_good}
 use Rattle.ffv1_mend.specs.Laws.{IsOriginalOf, MendKeepsOriginal, HasOriginal, OriginalIsMended}
 use Rattle.ffv1_mend.specs.declared.kind.Kind.{Kind}

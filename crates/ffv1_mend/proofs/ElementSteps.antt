@@ -3,11 +3,11 @@ use Rattle.std.proofs.Common.{◌≡◌, ℕ, ◌<◌, List, Bor, length, refl, 
 use Rattle.std.specs.Prelude.{◌⊎◌, ◌≢◌, AllPairs}
 use Rattle.ffv1_slice.specs.Members.{IsOnly}
 use Rattle.ffv1_splice.specs.Splice.{SplicedValue}
-use Rattle.ffv1_splice.specs.Tally.{Tallies}
+use Rattle.ffv1_splice.specs.Inner.Tally.{Tallies}
 use Rattle.ffv1_weave.proofs.References.{values_of, length-values_of}
 use Rattle.ffv1_mend.specs.Improved.{AreSplicesOf}
 use Rattle.ffv1_mend.specs.Mended.{IsPassing, ElementStands, IsElementMend}
-use Rattle.ffv1_mend.specs.Passing.{passing_counted}
+use Rattle.ffv1_mend.specs.Inner.Passing.{passing_counted}
 use Rattle.ffv1_mend.specs.declared.part.Part.{Part}
 use Rattle.ffv1_mend.specs.declared.passing.Passing.{Passing}
 use Rattle.ffv1_mend.specs.declared.passing.Passing.TheVariants as passing

@@ -13,7 +13,8 @@ use Rattle.ffv1_splice.specs.Splice.{SplicedValue, IsSpliceOf}
 use Rattle.ffv1_splice.specs.declared.place.Place.{Place}
 use Rattle.ffv1_splice.proofs.Versions.{version_there}
 use Rattle.ffv1_splice.proofs.SplicePlaces.{places_within}
-use Rattle.ffv1_mend.specs.Improved.{Patch, patched, is_given, patches_of, given_patches, IsWithin, IsFitting, AreFitting, AreSplicesOf}
+use Rattle.ffv1_mend.specs.Improved.{Patch, patched, is_given, patches_of, given_patches, IsWithin, AreSplicesOf}
+use Rattle.ffv1_mend.specs.Inner.Improved.{IsFitting, AreFitting}
 use Rattle.ffv1_mend.specs.declared.part.Part.{Part}
 
 -- ---- patches

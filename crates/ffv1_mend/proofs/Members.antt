@@ -5,7 +5,7 @@ use Rattle.std.proofs.lemmas.List.{get_or-map, length-map, get_or_default}
 use Rattle.std.proofs.lemmas.List.Elements.{Contains-append_left, Contains-push, Contains-push_cases, Contains-get_or}
 use Rattle.std.proofs.lemmas.List.Quantifiers.{all_pairs_push}
 use Rattle.ffv1_slice.specs.Members.{HasSameMembers, IsOnly}
-use Rattle.ffv1_mend.specs.Distinct.{AreDistinctOf}
+use Rattle.ffv1_mend.specs.Inner.Distinct.{AreDistinctOf}
 
 -- ---- the same members
 

@@ -16,7 +16,8 @@ use Rattle.std.proofs.lemmas.List.Sums.{fold-append}
 use Rattle.ffv1_weave.specs.Parts.{written}
 use Rattle.ffv1_splice.specs.Splice.{SplicedValue}
 use Rattle.ffv1_splice.specs.declared.place.Place.{Place}
-use Rattle.ffv1_mend.specs.Improved.{Patch, patched, is_given, patches_of, given_patches, whole_patches, IsFitting, AreFitting}
+use Rattle.ffv1_mend.specs.Improved.{Patch, patched, is_given, patches_of, given_patches, whole_patches}
+use Rattle.ffv1_mend.specs.Inner.Improved.{IsFitting, AreFitting}
 use Rattle.ffv1_mend.specs.declared.part.Part.{Part}
 
 -- ---- two lists, place by place

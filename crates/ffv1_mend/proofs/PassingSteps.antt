@@ -3,7 +3,7 @@ use Rattle.std.proofs.Common.{◌≡◌, ℕ, List, [], ◌∷◌, ◌++◌, ref
 use Rattle.std.specs.Prelude.{◌⊎◌}
 use Rattle.std.proofs.lemmas.List.Elements.{Contains-append_left, Contains-append_right, Contains-append_cases}
 use Rattle.ebml_crc.specs.Element.{PassesCrc32}
-use Rattle.ffv1_splice.specs.Tally.{Tally, Tallies, TalliesMore}
+use Rattle.ffv1_splice.specs.Inner.Tally.{Tally, Tallies, TalliesMore}
 use Rattle.ffv1_splice.proofs.TallySteps.{alone, tallies_same, tallies_more}
 use Rattle.ffv1_mend.specs.Mended.{IsPassing}
 

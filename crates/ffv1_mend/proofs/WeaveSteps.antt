@@ -11,7 +11,8 @@ use Rattle.ffv1_weave.specs.declared.weaving.Outcome.TheVariants as outcome
 use Rattle.ffv1_weave.proofs.WeaveLaws.{weave_as}
 use Rattle.ffv1_weave.proofs.References.{values_of, value_there, each_value, nowhere, length-values_of}
 use Rattle.ffv1_splice.specs.Splice.{SplicedValue}
-use Rattle.ffv1_mend.specs.Improved.{patched, given_patches, improved, AreFitting}
+use Rattle.ffv1_mend.specs.Improved.{patched, given_patches, improved}
+use Rattle.ffv1_mend.specs.Inner.Improved.{AreFitting}
 use Rattle.ffv1_mend.specs.declared.part.Part.{Part}
 use Rattle.ffv1_mend.proofs.Fitting.{length-improved}
 use Rattle.ffv1_mend.proofs.Members.{members_back, mapped_of, mapped_there}

@@ -1,5 +1,5 @@
 -- The frames that lie in an element, each spliced over the element's versions, and the versions with what the splices give.
-use Rattle.std.specs.Prelude.{ℕ, ◌+◌, ◌≤◌, ◌≡◌, Bool, true, false, List, All, length, map, slice_range}
+use Rattle.std.specs.Prelude.{ℕ, ◌+◌, ◌≤◌, ◌≡◌, Bool, true, false, List, length, map, slice_range}
 use Rattle.std.specs.List.{AllZip, filter, flat_map, fold, zip}
 use Rattle.ffv1_weave.specs.Parts.{written}
 use Rattle.ffv1_splice.specs.Standings.{versions_at}
@@ -43,15 +43,6 @@ abbrev pub patches_of : Part → SplicedValue → List Patch
 patches_of part spliced =
     map (λ place. record { start = part.start + place.start; bytes = slice_range spliced.payload place.start place.end })
     (filter (λ place. is_given place.standing) spliced.places)
-
--- A part's splice fits so many bytes: the part lies within them, the splice is as long as the part, and its places lie within it.
-pub record IsFitting (size : ℕ) (part : Part) (spliced : SplicedValue) : Type 0 where
-  pub inside : IsWithin size part
-  pub long : part.start + length spliced.payload ≡ part.end
-  pub places : All (λ place. (place.start ≤ place.end) × (place.end ≤ length spliced.payload)) spliced.places
-
-abbrev pub AreFitting : ℕ → List Part → List SplicedValue → Type 0
-AreFitting size parts splices = AllZip (IsFitting size) parts splices
 
 -- what the splices of all parts give
 abbrev pub given_patches : List Part → List SplicedValue → List Patch

@@ -1,9 +1,8 @@
 pub mod Content
-pub mod Distinct
 pub mod Improved
 pub mod Mended
 pub mod Laws
-pub mod Passing
+pub mod Inner
 -- what the clauses cite of the crates below
 pub use Rattle.ffv1_bits.specs.Bits
 pub use Rattle.ffv1_bits.specs.Parity

@@ -1,6 +1,6 @@
 //! Versions, each once.
 ghost use Rattle.std.specs.Prelude.{◌≡◌, ◌↔◌, IsTrue, map, Any, IfOk};
-ghost use Rattle.ffv1_mend.specs.Distinct.{AreDistinctOf};
+ghost use Rattle.ffv1_mend.specs.Inner.Distinct.{AreDistinctOf};
 
 use std::alloc::{AllocError, Global};
 

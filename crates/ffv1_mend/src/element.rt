@@ -1,12 +1,13 @@
 //! Elements with a CRC-32, mended.
 ghost use Rattle.std.specs.Prelude.{◌≡◌, ◌<◌, ◌≢◌, length, map, All, AllPairs, IfOk};
-ghost use Rattle.ffv1_splice.specs.Tally.{Tallies};
+ghost use Rattle.ffv1_splice.specs.Inner.Tally.{Tallies};
 ghost use Rattle.ffv1_weave.specs.Weave.{IsWeaveOf, weave_tally};
 ghost use Rattle.ffv1_weave.specs.declared.check.Check.TheVariants.{Element};
 ghost use Rattle.ffv1_mend.specs.Content.{content_bytes};
-ghost use Rattle.ffv1_mend.specs.Improved.{IsWithin, AreFitting, improved, fallback};
+ghost use Rattle.ffv1_mend.specs.Improved.{IsWithin, improved, fallback};
+ghost use Rattle.ffv1_mend.specs.Inner.Improved.{AreFitting};
 ghost use Rattle.ffv1_mend.specs.Mended.{IsElementMend, ElementStands, IsPassing};
-ghost use Rattle.ffv1_mend.specs.Passing.{passing_counted};
+ghost use Rattle.ffv1_mend.specs.Inner.Passing.{passing_counted};
 
 use crate::content::Content;
 use crate::improved::{improved_versions, lent, write_splices};

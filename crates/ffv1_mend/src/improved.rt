@@ -3,7 +3,8 @@ ghost use Rattle.std.specs.Prelude.{◌≡◌, ◌+◌, ◌≤◌, ◌↔◌, Is
 ghost use Rattle.ffv1_slice.specs.Members.{HasSameMembers};
 ghost use Rattle.ffv1_weave.specs.Parts.{written};
 ghost use Rattle.ffv1_mend.specs.Content.{content_bytes};
-ghost use Rattle.ffv1_mend.specs.Improved.{is_given, patched, patches_of, given_patches, whole_patches, improved, IsFitting, AreFitting};
+ghost use Rattle.ffv1_mend.specs.Improved.{is_given, patched, patches_of, given_patches, whole_patches, improved};
+ghost use Rattle.ffv1_mend.specs.Inner.Improved.{IsFitting, AreFitting};
 
 use crate::content::Content;
 use crate::distinct::is_same;

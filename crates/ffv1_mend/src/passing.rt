@@ -1,8 +1,8 @@
 //! The versions that pass their CRC-32.
 ghost use Rattle.std.specs.Prelude.{◌≡◌, List, map};
-ghost use Rattle.ffv1_splice.specs.Tally.{Tallies, TalliesMore};
+ghost use Rattle.ffv1_splice.specs.Inner.Tally.{Tallies, TalliesMore};
 ghost use Rattle.ffv1_mend.specs.Mended.{IsPassing};
-ghost use Rattle.ffv1_mend.specs.Passing.{passing_counted};
+ghost use Rattle.ffv1_mend.specs.Inner.Passing.{passing_counted};
 
 use ebml_crc::passes_crc32;
 

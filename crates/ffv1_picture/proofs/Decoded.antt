@@ -11,8 +11,9 @@ use Rattle.ffv1_pool.specs.Contents.{Contents}
 use Rattle.ffv1_pool.specs.Standing.{tile_state}
 use Rattle.ffv1_picture.specs.WholePicture.{Planes}
 use Rattle.ffv1_picture.specs.Frames.{planes_of, no_link, content_at, HasPicture, IsFrameOf, IsDrawnOf}
-use Rattle.ffv1_picture.specs.Drawing.{DrawsOnto, DrawsAny, DrawsSlice, HasSizes}
-use Rattle.ffv1_picture.specs.PartialPictures.{IsShown, ShowsTile, ShowsTiles}
+use Rattle.ffv1_picture.specs.Inner.Drawing.{DrawsOnto, DrawsAny, DrawsSlice, HasSizes}
+use Rattle.ffv1_picture.specs.PartialPictures.{IsShown, ShowsTiles}
+use Rattle.ffv1_picture.specs.Inner.PartialPictures.{ShowsTile}
 use Rattle.ffv1_picture.specs.declared.frame.Frame.{Frame}
 use Rattle.ffv1_picture.specs.declared.partial.TileOutcome.{TileOutcome}
 use Rattle.ffv1_picture.specs.declared.partial.TileOutcome.TheVariants.{Missing}

@@ -12,7 +12,7 @@ use Rattle.ffv1_range.specs.declared.grid.TileRect.{TileRect}
 use Rattle.ffv1_range.specs.Tiles.{GridValue, IsGrid, tile_count, tile_rect, plane_rect, frame_rect}
 use Rattle.ffv1_range.proofs.TileLaws.{each_tile}
 use Rattle.ffv1_picture.specs.WholePicture.{Planes, covers, sample_in}
-use Rattle.ffv1_picture.specs.Drawing.{Draws, FitsIn, area, plane_at}
+use Rattle.ffv1_picture.specs.Inner.Drawing.{Draws, FitsIn, area, plane_at}
 
 -- the first rows of a rectangle
 abbrev pub first_rows : TileRect → ℕ → TileRect

@@ -6,7 +6,8 @@ use Rattle.ffv1_plane.specs.declared.tile.TileFault.{TileFault}
 use Rattle.ffv1_plane.specs.declared.tile.TileFault.TheVariants as tiles
 use Rattle.ffv1_picture.specs.Frames.{links_from_front, content_at, HasPicture, HasWholeChain, IsOrdered}
 use Rattle.ffv1_picture.specs.TilePictures.{IsUnreadable}
-use Rattle.ffv1_picture.specs.FrameFaults.{IsFirstDisorder, IsFirstUnreadable, IsFirstFault, fault_of_tile}
+use Rattle.ffv1_picture.specs.FrameFaults.{IsFirstDisorder, IsFirstUnreadable, IsFirstFault}
+use Rattle.ffv1_picture.specs.Inner.FrameFaults.{fault_of_tile}
 use Rattle.ffv1_picture.specs.declared.fault.FrameFault.{FrameFault}
 use Rattle.ffv1_picture.specs.declared.fault.FrameFault.TheVariants.{Chain, Slice, Order, Tile, Memory}
 

@@ -2,7 +2,7 @@
 use Rattle.std.proofs.Common.{◌≡◌, ℕ, List, [], get_or, None, Result, Ok, Err, IsOkAnd, Vec, Global, refl, sym, ap, subst, ◌∙◌, arith}
 use Rattle.ffv1_slice.specs.Slices.{IsOriginal}
 use Rattle.ffv1_pool.specs.Contents.{Contents, holding_of, HasSameCopies}
-use Rattle.ffv1_pool.specs.ContentsLaws.{holding_of-same}
+use Rattle.ffv1_pool.proofs.ContentsLaws.{holding_of-same}
 use Rattle.ffv1_pool.specs.Standing.{Standing, settled, IsSettled, IsLeastUnsettled}
 use Rattle.ffv1_pool.specs.Originals.{AreNear, HoldsExactly}
 use Rattle.ffv1_hold.specs.Plans.{copies_of}

@@ -9,7 +9,7 @@ use Rattle.ffv1_range.specs.Tiles.{GridValue, grid_of, plane_count, plane_rect, 
 use Rattle.ffv1_range.specs.declared.grid.TileRect.{TileRect}
 use Rattle.ffv1_picture.specs.WholePicture.{Planes, covers, sample_in, sample_of_tile, or_else, greatest_sample, whole_sample, whole_plane}
 use Rattle.ffv1_picture.specs.Frames.{planes_of, IsFrameOf}
-use Rattle.ffv1_picture.specs.Drawing.{area, plane_at, Draws, DrawsOnto, HasSizes}
+use Rattle.ffv1_picture.specs.Inner.Drawing.{area, plane_at, Draws, DrawsOnto, HasSizes}
 use Rattle.ffv1_picture.specs.declared.frame.Frame.{Frame}
 
 -- ---- rows, one after the other

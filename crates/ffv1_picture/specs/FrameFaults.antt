@@ -4,8 +4,6 @@ use Rattle.ffv1_range.specs.Setup.{SetupValue}
 use Rattle.ffv1_slice.specs.Chain.{LinkValue}
 use Rattle.ffv1_slice.specs.Slices.{slice_read}
 use Rattle.ffv1_picture.specs.TilePictures.{IsUnreadable}
-use Rattle.ffv1_plane.specs.declared.tile.TileFault.{TileFault}
-use Rattle.ffv1_plane.specs.declared.tile.TileFault.TheVariants as tiles
 use Rattle.ffv1_picture.specs.Frames.{links_from_front, link_at, content_at, HasWholeChain, IsInOrder, IsOrdered, HasPicture}
 use Rattle.ffv1_picture.specs.declared.fault.FrameFault.{FrameFault}
 use Rattle.ffv1_picture.specs.declared.fault.FrameFault.TheVariants.{Chain, Slice, Order, Tile, Memory}
@@ -23,11 +21,6 @@ IsFirstDisorder setup links (Order place) =
     (place < length links) × AreInOrderBefore setup links place
     × ((tile : ℕ) × (slice_read setup (link_at links place).bytes ((link_at links place).start == 0) ≡ Ok tile) × (tile ≢ place))
 IsFirstDisorder setup links fault = ⊥
-
--- the fault of a frame whose tile was not decoded
-abbrev pub fault_of_tile : ℕ → TileFault → FrameFault
-fault_of_tile tile tiles.Memory = Memory
-fault_of_tile tile cause = Tile tile cause
 
 -- The first tile whose slice spells no picture, or Memory.
 abbrev pub IsFirstUnreadable : SetupValue → List LinkValue → FrameFault → Type 0

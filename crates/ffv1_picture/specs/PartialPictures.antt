@@ -1,7 +1,6 @@
 -- The partial picture of a holding: what can be shown of its settled tiles.
 use Rattle.std.specs.Prelude.{◌≡◌, ℕ, ◌<◌, List, length, Option, Some, None, slice_index_or}
 use Rattle.ffv1_range.specs.Setup.{SetupValue}
-use Rattle.ffv1_range.specs.Tiles.{grid_of}
 use Rattle.ffv1_slice.specs.Slices.{content_of}
 use Rattle.ffv1_picture.specs.TilePictures.{SpellsPlanes, IsPictureOfSlice, IsUnreadable}
 use Rattle.ffv1_pool.specs.Reels.{reel_tiles}
@@ -9,7 +8,6 @@ use Rattle.ffv1_pool.specs.Contents.{Contents}
 use Rattle.ffv1_pool.specs.Standing.{Standing, missing, settled, disputed, tile_state}
 use Rattle.ffv1_picture.specs.WholePicture.{Planes}
 use Rattle.ffv1_picture.specs.Frames.{IsFrameOf}
-use Rattle.ffv1_picture.specs.Drawing.{DrawsAny}
 use Rattle.ffv1_picture.specs.declared.frame.Frame.{Frame}
 use Rattle.ffv1_picture.specs.declared.partial.Partial.{Partial}
 use Rattle.ffv1_picture.specs.declared.partial.TileOutcome.{TileOutcome}
@@ -34,12 +32,6 @@ IsPictureOfTile setup tile (disputed n) picture = picture ≡ None
 pub record ArePicturesOf (h : Contents) (pictures : List (Option Planes)) : Type 0 where
   pub count : length pictures ≡ reel_tiles h.reel
   pub each : (tile : ℕ) → tile < reel_tiles h.reel → IsPictureOfTile h.reel.setup tile (tile_state h tile) (slice_index_or pictures tile None)
-
--- A tile comes out so, and if it has a picture, that was drawn.
-pub record ShowsTile (h : Contents) (tile : ℕ) (outcome : TileOutcome) (old new : Frame) : Type 0 where
-  pub picture : Option Planes
-  pub shown : IsShown h.reel.setup tile (tile_state h tile) outcome picture
-  pub drawn : DrawsAny (grid_of h.reel.setup) tile picture old new
 
 -- The outcomes are those of the tiles below a number, and the frame has their pictures.
 pub record ShowsTiles (h : Contents) (tiles : ℕ) (outcomes : List TileOutcome) (frame : Frame) : Type 0 where

@@ -5,7 +5,8 @@ ghost use Rattle.ffv1_range.specs.SetupFaults.{FirstSetupFault};
 ghost use Rattle.ffv1_range.specs.SetupForms.{setup_read};
 ghost use Rattle.ffv1_range.specs.Tiles.{grid_of, tile_count};
 ghost use Rattle.ffv1_picture.specs.Frames.{links_from_front, HasWholeChain, IsDrawnOf};
-ghost use Rattle.ffv1_picture.specs.FrameFaults.{AreInOrderBefore, IsFirstDisorder, IsFirstUnreadable, fault_of_tile};
+ghost use Rattle.ffv1_picture.specs.FrameFaults.{AreInOrderBefore, IsFirstDisorder, IsFirstUnreadable};
+ghost use Rattle.ffv1_picture.specs.Inner.FrameFaults.{fault_of_tile};
 
 use crate::drawing::draw_slice;
 use crate::fault::FrameFault;

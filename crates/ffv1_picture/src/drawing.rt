@@ -4,7 +4,7 @@ ghost use Rattle.std.specs.Prelude.{◌≡◌, ◌*◌, ◌+◌, ◌≤◌, ◌<
 ghost use Rattle.ffv1_bits.specs.Limits.{slice_limit};
 ghost use Rattle.ffv1_range.specs.Tiles.{grid_of, tile_count};
 ghost use Rattle.ffv1_slice.specs.Slices.{content_of};
-ghost use Rattle.ffv1_picture.specs.Drawing.{HasSizes, HasTileSizes, Draws, DrawsPicture, DrawsSlice, FitsIn};
+ghost use Rattle.ffv1_picture.specs.Inner.Drawing.{HasSizes, HasTileSizes, Draws, DrawsPicture, DrawsSlice, FitsIn};
 ghost use Rattle.ffv1_picture.specs.Frames.{planes_of};
 ghost use Rattle.ffv1_picture.specs.TilePictures.{IsUnreadable};
 ghost use Rattle.ffv1_plane.specs.declared.tile.TileFault.TheVariants.{Memory};

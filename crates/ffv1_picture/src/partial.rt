@@ -2,10 +2,11 @@
 ghost use Rattle.std.specs.Prelude.{◌≡◌, IfOk, ◌<◌, List, Option};
 ghost use Rattle.ffv1_range.specs.Tiles.{grid_of};
 ghost use Rattle.ffv1_pool.specs.Reels.{reel_tiles};
-ghost use Rattle.ffv1_picture.specs.Drawing.{HasSizes};
+ghost use Rattle.ffv1_picture.specs.Inner.Drawing.{HasSizes};
 ghost use Rattle.ffv1_picture.specs.Frames.{planes_of, IsFrameOf};
 ghost use Rattle.ffv1_picture.specs.WholePicture.{Planes};
-ghost use Rattle.ffv1_picture.specs.PartialPictures.{ShowsTile, ArePicturesOf, IsPartialPicture};
+ghost use Rattle.ffv1_picture.specs.Inner.PartialPictures.{ShowsTile};
+ghost use Rattle.ffv1_picture.specs.PartialPictures.{ArePicturesOf, IsPartialPicture};
 ghost use Rattle.ffv1_picture.specs.TileAlone.{TileAlone};
 
 use crate::drawing::draw_slice;

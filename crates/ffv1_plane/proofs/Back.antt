@@ -5,7 +5,7 @@ use Rattle.std.proofs.lemmas.Int.{ints, int_rem_euclid_is}
 use Rattle.ffv1_rice.specs.States.{IsDifference}
 use Rattle.ffv1_rice.proofs.Folds.{fold_far}
 use Rattle.ffv1_plane.specs.Samples.{difference_of}
-use Rattle.ffv1_plane.specs.Sums.{IsSumModulo}
+use Rattle.ffv1_plane.specs.Inner.Sums.{IsSumModulo}
 
 natural : (z : ℤ) → pos 0 ≤ℤ z → (m : ℕ) × (z ≡ pos m)
 natural (pos m) h = (m, refl)

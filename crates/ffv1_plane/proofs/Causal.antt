@@ -4,7 +4,7 @@ use Rattle.std.proofs.lemmas.Bool.{cases_lt, lt-ltb, le-ltb}
 use Rattle.std.proofs.lemmas.Nat.{div-add-mod'}
 use Rattle.std.proofs.Math.Nat.{mul-le-mul_right}
 use Rattle.ffv1_plane.specs.Samples.{sample_inside, sample_at, neighbours_at}
-use Rattle.ffv1_plane.specs.Progress.{IsBefore}
+use Rattle.ffv1_plane.specs.Inner.Progress.{IsBefore}
 
 module _ (w s : ℕ) (some : 0 < w) (xs ys : List ℕ) (same : (j : ℕ) → j < s → get_or xs j 0 ≡ get_or ys j 0) where
   inside_same : (column row : ℕ) → (2 ≤ row → (row - 2) * w + (column - 2) < s) → sample_inside w xs column row ≡ sample_inside w ys column row

@@ -9,8 +9,8 @@ use Rattle.std.specs.Prelude.{min}
 use Rattle.std.specs.Vec.{with_items}
 use borrow.Rule.Slice.PartMut.{put_mid}
 use Rattle.ffv1_plane.specs.Samples.{SamplesAbout, prediction_of, neighbours_at}
-use Rattle.ffv1_plane.specs.Rows.{IsLeftAsAbove, AreNearLines, samples_so_far, RowsRead}
-use Rattle.ffv1_plane.specs.Progress.{AreSkipped}
+use Rattle.ffv1_plane.specs.Inner.Rows.{IsLeftAsAbove, AreNearLines, samples_so_far, RowsRead}
+use Rattle.ffv1_plane.specs.Inner.Progress.{AreSkipped}
 use Rattle.ffv1_plane.proofs.Halting.{prediction_byte}
 use Rattle.ffv1_plane.proofs.Reading.{none_skipped, skip_more}
 use Rattle.ffv1_plane.proofs.Rows.{near_is, push_is, pushed}

@@ -9,10 +9,10 @@ use Rattle.ffv1_rice.specs.declared.code.CodeFault.{CodeFault}
 use Rattle.ffv1_rice.specs.declared.code.CodeFault.TheVariants.{Truncated}
 use Rattle.ffv1_plane.specs.Samples.{SamplesAbout, plane_of, sample_inside, sample_at, neighbours_at, prediction_of, context_of, difference_of}
 use Rattle.ffv1_plane.specs.Spelling.{residuals_of, context_number, is_zero, is_in_run, is_skipped, is_coded, follows_skipped, starts_run, left_in_line, skipped_among, run_length, state_before, SamplesSpell}
-use Rattle.ffv1_plane.specs.Progress.{Progress, IsReadTo, IsRunRead, AreSkipped}
+use Rattle.ffv1_plane.specs.Inner.Progress.{Progress, IsReadTo, IsRunRead, AreSkipped}
 use Rattle.ffv1_plane.specs.Stuck.{IsCodeDue}
 use Rattle.ffv1_plane.specs.declared.plane.PlaneFault.{PlaneFault}
-use Rattle.ffv1_plane.specs.Halts.{IsSampleHalted, IsRunCut, next_context, IsCodeHalted, IsHalted, IsNextHalted}
+use Rattle.ffv1_plane.specs.Inner.Halts.{IsSampleHalted, IsRunCut, next_context, IsCodeHalted, IsHalted, IsNextHalted}
 use Rattle.ffv1_plane.specs.declared.plane.PlaneFault.TheVariants as plane_faults
 use Rattle.ffv1_plane.proofs.Causal.{neighbours_same}
 use Rattle.ffv1_plane.proofs.OnePlane.{one_sample_of}

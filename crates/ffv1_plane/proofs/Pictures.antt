@@ -16,9 +16,10 @@ use Rattle.ffv1_range.proofs.Spelling.{same_ok}
 use Rattle.ffv1_rice.specs.States.{ContextState}
 use Rattle.ffv1_plane.specs.Samples.{plane_of}
 use Rattle.ffv1_plane.specs.Spelling.{PlaneSpells, values_after}
-use Rattle.ffv1_plane.specs.Progress.{AreStatesAfter, IsPlaneRead}
+use Rattle.ffv1_plane.specs.Progress.{AreStatesAfter}
+use Rattle.ffv1_plane.specs.Inner.Progress.{IsPlaneRead}
 use Rattle.ffv1_plane.specs.Picture.{PictureValue, ArePlanesOf, IsPlaneIn, samples_of, plane_set, shaped_plane, tile_plane, plane_groups, no_values, GroupsSpell, IsPictureOf, OneReading}
-use Rattle.ffv1_plane.specs.Groups.{IsLumaRead, IsChromaRead, ArePlanesRead}
+use Rattle.ffv1_plane.specs.Inner.Groups.{IsLumaRead, IsChromaRead, ArePlanesRead}
 use Rattle.ffv1_plane.proofs.OnePlane.{one_plane}
 
 -- ---- sizes

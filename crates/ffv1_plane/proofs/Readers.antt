@@ -5,9 +5,9 @@ use Rattle.std.proofs.lemmas.List.{length_push}
 use Rattle.ffv1_range.specs.Setup.{set_entry}
 use Rattle.ffv1_rice.specs.States.{ContextState}
 use Rattle.ffv1_plane.specs.SetTables.{SetTables}
-use Rattle.ffv1_plane.specs.Progress.{IsReadTo, IsSampleRead}
-use Rattle.ffv1_plane.specs.Readers.{IsSamePlane}
-use Rattle.ffv1_plane.specs.Halts.{IsNextHalted}
+use Rattle.ffv1_plane.specs.Inner.Progress.{IsReadTo, IsSampleRead}
+use Rattle.ffv1_plane.specs.Inner.Readers.{IsSamePlane}
+use Rattle.ffv1_plane.specs.Inner.Halts.{IsNextHalted}
 use Rattle.ffv1_plane.specs.declared.plane.PlaneReader.{PlaneReader}
 use Rattle.ffv1_plane.specs.declared.plane.PlaneFault.{PlaneFault}
 use Rattle.ffv1_plane.specs.declared.plane.PlaneFault.TheVariants as plane_faults

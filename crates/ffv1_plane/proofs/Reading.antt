@@ -8,8 +8,9 @@ use Rattle.ffv1_rice.specs.Codes.{IsCodeFault, decoded_value, IsCoded, IsCodedDi
 use Rattle.ffv1_bits.specs.Reader.{Reading}
 use Rattle.ffv1_plane.specs.Samples.{SamplesAbout, plane_of, neighbours_at, prediction_of, context_of, difference_of}
 use Rattle.ffv1_plane.specs.Spelling.{Residuals, residuals_of, context_number, is_zero, is_in_run, is_skipped, is_coded, value_at, state_after, state_before, values_after, samples_before, follows_skipped, SamplesSpell, PlaneSpells}
-use Rattle.ffv1_plane.specs.Progress.{AreStatesAfter, IsSampleRead, IsReadTo, IsRunRead, AreSkipped, Progress}
-use Rattle.ffv1_plane.specs.Halts.{IsCodeHalted, next_context}
+use Rattle.ffv1_plane.specs.Progress.{AreStatesAfter}
+use Rattle.ffv1_plane.specs.Inner.Progress.{IsSampleRead, IsReadTo, IsRunRead, AreSkipped, Progress}
+use Rattle.ffv1_plane.specs.Inner.Halts.{IsCodeHalted, next_context}
 use Rattle.ffv1_rice.specs.declared.code.CodeFault.{CodeFault}
 use Rattle.ffv1_plane.proofs.Alike.{zero_of}
 use Rattle.ffv1_plane.proofs.Steps.{state_more, scalar_step, in_run_is, skipped_to, in_run_to, run_end, run_level}

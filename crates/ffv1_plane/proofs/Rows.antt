@@ -6,7 +6,7 @@ use Rattle.std.proofs.lemmas.Nat.{div-add-mod', div-mul-add, mod-mul-add}
 use Rattle.std.proofs.lemmas.List.{get_or_append_left, get_or-take, get_or-drop, length-take-le, length-drop, length-set, append-nil, drop-set-add, take_more_set, length-replicate}
 use Rattle.ffv1_bits.specs.Limits.{greatest_side}
 use Rattle.ffv1_plane.specs.Samples.{sample_inside, sample_at, neighbours_at}
-use Rattle.ffv1_plane.specs.Rows.{AreCellsOf, AreNearLines, samples_so_far}
+use Rattle.ffv1_plane.specs.Inner.Rows.{AreCellsOf, AreNearLines, samples_so_far}
 use Rattle.ffv1_plane.proofs.Causal.{at_same}
 use Rattle.ffv1_plane.proofs.Halting.{bytes_push}
 use Rattle.ffv1_plane.proofs.Wholes.{get_or-zeros}

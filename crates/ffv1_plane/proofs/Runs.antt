@@ -5,8 +5,8 @@ use Rattle.ffv1_rice.specs.declared.run.RunWord.TheVariants.{Full, Rest, ToEnd}
 use Rattle.ffv1_rice.specs.Runs.{SpellsRun, line_end, whole, rest, over_end, long_rest, whole_length, IsRead, IsShortWord}
 use Rattle.ffv1_rice.proofs.OneRun.{whole_length_pos}
 use Rattle.ffv1_plane.specs.Stuck.{SpellsFront, no_word, one_word}
-use Rattle.ffv1_plane.specs.Progress.{IsRunRead, IsRunBegun}
-use Rattle.ffv1_plane.specs.Halts.{IsRunCut}
+use Rattle.ffv1_plane.specs.Inner.Progress.{IsRunRead, IsRunBegun}
+use Rattle.ffv1_plane.specs.Inner.Halts.{IsRunCut}
 
 pub begin_run : (left index : ℕ) (bits : List Bool) → IsRunBegun left index bits 0 index bits
 begin_run left index bits =

@@ -12,7 +12,7 @@ use Rattle.std.proofs.lemmas.List.{map-append}
 use Rattle.std.proofs.lemmas.List.Elements.{filter-append}
 use Rattle.std.proofs.lemmas.List.Sums.{fold-append}
 use Rattle.ffv1_rice.specs.States.{start_state, after_value}
-use Rattle.ffv1_plane.specs.Progress.{Progress}
+use Rattle.ffv1_plane.specs.Inner.Progress.{Progress}
 
 pub in_run_is : (r : Residuals) (s : ℕ) → is_in_run r s ≡ (is_zero (r.context s) || follows_skipped r s)
 unfolding is_in_run follows_skipped

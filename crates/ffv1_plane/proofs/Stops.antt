@@ -12,10 +12,11 @@ use Rattle.ffv1_rice.specs.States.{ContextState}
 use Rattle.ffv1_rice.specs.declared.code.CodeFault.{CodeFault}
 use Rattle.ffv1_plane.specs.Spelling.{values_after}
 use Rattle.ffv1_plane.specs.Picture.{ArePlanesOf, IsPlaneIn, plane_set, shaped_plane, no_values}
-use Rattle.ffv1_plane.specs.Progress.{AreStatesAfter, IsPlaneRead}
-use Rattle.ffv1_plane.specs.Groups.{IsLumaRead}
+use Rattle.ffv1_plane.specs.Progress.{AreStatesAfter}
+use Rattle.ffv1_plane.specs.Inner.Progress.{IsPlaneRead}
+use Rattle.ffv1_plane.specs.Inner.Groups.{IsLumaRead}
 use Rattle.ffv1_plane.specs.Stuck.{PlanesBelow, AreBitsStuck}
-use Rattle.ffv1_plane.specs.Halts.{IsPlaneHalted, IsDecodingHalted, IsTilePlaneHalted, IsPlaneOfHalted, IsLumaHalted, IsCrHalted, IsChromaHalted, ArePlanesStuck, ArePlanesHalted}
+use Rattle.ffv1_plane.specs.Inner.Halts.{IsPlaneHalted, IsDecodingHalted, IsTilePlaneHalted, IsPlaneOfHalted, IsLumaHalted, IsCrHalted, IsChromaHalted, ArePlanesStuck, ArePlanesHalted}
 use Rattle.ffv1_plane.specs.StuckLaws.{IsRefusedFor}
 use Rattle.ffv1_plane.specs.declared.plane.PlaneFault.TheVariants as plane_faults
 use Rattle.ffv1_plane.specs.declared.tile.TileFault.{TileFault}

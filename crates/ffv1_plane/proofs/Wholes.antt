@@ -7,8 +7,9 @@ use Rattle.std.proofs.lemmas.Bool.{cases_lt}
 use Rattle.std.proofs.lemmas.List.{get_or_append_left, length-replicate}
 use Rattle.ffv1_rice.specs.States.{ContextState}
 use Rattle.ffv1_plane.specs.Samples.{IsPlaneOfSize}
-use Rattle.ffv1_plane.specs.Progress.{AreStatesAfter, IsReadTo}
-use Rattle.ffv1_plane.specs.Halts.{IsNextHalted, IsDecodingHalted}
+use Rattle.ffv1_plane.specs.Progress.{AreStatesAfter}
+use Rattle.ffv1_plane.specs.Inner.Progress.{IsReadTo}
+use Rattle.ffv1_plane.specs.Inner.Halts.{IsNextHalted, IsDecodingHalted}
 use Rattle.ffv1_plane.specs.declared.plane.PlaneFault.{PlaneFault}
 use Rattle.ffv1_plane.specs.declared.plane.PlaneFault.TheVariants as plane_faults
 

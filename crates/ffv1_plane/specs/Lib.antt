@@ -1,13 +1,9 @@
 pub mod Samples
-pub mod Sums
-pub mod Rows
 pub mod SetTables
 pub mod Spelling
 pub mod Progress
 pub mod Picture
-pub mod Groups
 pub mod Views
 pub mod Stuck
 pub mod StuckLaws
-pub mod Halts
-pub mod Readers
+pub mod Inner

@@ -5,8 +5,8 @@
 ghost use Rattle.std.specs.Prelude.{◌≡◌, ℕ, ◌<◌, ◌≤◌, ◌+◌, ◌^◌, ◌%◌, [], ◌∷◌, ◌++◌, length, slice_index, IfOk, OnOk, ℤ};
 ghost use Rattle.ffv1_bits.specs.Limits.{greatest_side};
 ghost use Rattle.ffv1_plane.specs.Samples.{neighbours_at};
-ghost use Rattle.ffv1_plane.specs.Progress.{AreSkipped};
-ghost use Rattle.ffv1_plane.specs.Rows.{left_of, IsLeftAsAbove, IsLeftOfNext};
+ghost use Rattle.ffv1_plane.specs.Inner.Progress.{AreSkipped};
+ghost use Rattle.ffv1_plane.specs.Inner.Rows.{left_of, IsLeftAsAbove, IsLeftOfNext};
 
 use crate::neighbours::Neighbours;
 use std::alloc::{AllocError, Global};
@@ -27,7 +27,7 @@ pub(crate) struct Lines {
 }
 
 impl Model for Lines {
-    ghost use Rattle.ffv1_plane.specs.Rows.{RowsRead, samples_so_far, AreNearLines};
+    ghost use Rattle.ffv1_plane.specs.Inner.Rows.{RowsRead, samples_so_far, AreNearLines};
 
     ghost Value = { RowsRead };
 

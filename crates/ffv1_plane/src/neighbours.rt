@@ -2,7 +2,7 @@
 ghost use Rattle.std.specs.Prelude.{◌≡◌, ◌≤◌, pos, neg_ℤ, ◌≤ℤ◌};
 ghost use Rattle.ffv1_rice.specs.States.{IsDifference};
 ghost use Rattle.ffv1_plane.specs.Samples.{prediction_of, difference_of};
-ghost use Rattle.ffv1_plane.specs.Sums.{IsSumModulo};
+ghost use Rattle.ffv1_plane.specs.Inner.Sums.{IsSumModulo};
 
 use std::marker::Model;
 

@@ -5,10 +5,10 @@ ghost use Rattle.std.specs.Prelude.{◌≡◌, ℕ, ◌<◌, ◌≤◌, ◌+◌,
 ghost use Rattle.ffv1_bits.specs.Limits.{greatest_side};
 ghost use Rattle.ffv1_range.specs.Setup.{set_contexts, set_entry};
 ghost use Rattle.ffv1_plane.specs.Samples.{IsPlaneOfSize, neighbours_at, context_of};
-ghost use Rattle.ffv1_plane.specs.Progress.{IsSampleRead, IsPlaneRead};
-ghost use Rattle.ffv1_plane.specs.Halts.{IsSampleHalted, IsDecodingHalted};
-ghost use Rattle.ffv1_plane.specs.Rows.{left_of, IsLeftOfNext};
-ghost use Rattle.ffv1_plane.specs.Readers.{entry_of, HasStates, IsSamePlane, HasRead, IsHaltedAt};
+ghost use Rattle.ffv1_plane.specs.Inner.Progress.{IsSampleRead, IsPlaneRead};
+ghost use Rattle.ffv1_plane.specs.Inner.Halts.{IsSampleHalted, IsDecodingHalted};
+ghost use Rattle.ffv1_plane.specs.Inner.Rows.{left_of, IsLeftOfNext};
+ghost use Rattle.ffv1_plane.specs.Inner.Readers.{entry_of, HasStates, IsSamePlane, HasRead, IsHaltedAt};
 
 use crate::lines::Lines;
 use crate::neighbours::{Neighbours, sample_of};

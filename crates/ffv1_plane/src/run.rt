@@ -2,8 +2,8 @@
 ghost use Rattle.std.specs.Prelude.{◌≡◌, ◌≤◌, IfOk, IfErr};
 ghost use Rattle.ffv1_bits.specs.Limits.{greatest_side};
 ghost use Rattle.ffv1_rice.specs.declared.code.CodeFault.TheVariants as CodeFault;
-ghost use Rattle.ffv1_plane.specs.Progress.{IsRunRead};
-ghost use Rattle.ffv1_plane.specs.Halts.{IsRunCut};
+ghost use Rattle.ffv1_plane.specs.Inner.Progress.{IsRunRead};
+ghost use Rattle.ffv1_plane.specs.Inner.Halts.{IsRunCut};
 
 use ffv1_bits::Bits;
 use ffv1_rice::{CodeFault, RunIndex, RunWord};

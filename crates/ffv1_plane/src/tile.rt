@@ -6,12 +6,13 @@ ghost use Rattle.std.specs.Prelude.{◌≡◌, ◌≢◌, ◌<◌, ◌≤◌, �
 ghost use Rattle.ffv1_bits.specs.Limits.{payload_limit};
 ghost use Rattle.ffv1_range.specs.Setup.{IsInProfile, set_contexts, set_entry};
 ghost use Rattle.ffv1_range.specs.Tiles.{grid_of, tile_count, plane_count, plane_rect};
-ghost use Rattle.ffv1_plane.specs.Progress.{AreStatesAfter, IsPlaneRead};
-ghost use Rattle.ffv1_plane.specs.Halts.{IsPlaneOfHalted, IsLumaHalted, IsChromaHalted, ArePlanesHalted};
+ghost use Rattle.ffv1_plane.specs.Progress.{AreStatesAfter};
+ghost use Rattle.ffv1_plane.specs.Inner.Progress.{IsPlaneRead};
+ghost use Rattle.ffv1_plane.specs.Inner.Halts.{IsPlaneOfHalted, IsLumaHalted, IsChromaHalted, ArePlanesHalted};
 ghost use Rattle.ffv1_plane.specs.Stuck.{IsStuckAt};
 ghost use Rattle.ffv1_rice.specs.declared.code.CodeFault.{CodeFault};
 ghost use Rattle.ffv1_plane.specs.Picture.{PictureValue, IsPictureOf, IsPlaneIn, plane_set, no_values, OneReading};
-ghost use Rattle.ffv1_plane.specs.Groups.{IsLumaRead, IsChromaRead, ArePlanesRead};
+ghost use Rattle.ffv1_plane.specs.Inner.Groups.{IsLumaRead, IsChromaRead, ArePlanesRead};
 ghost use Rattle.ffv1_plane.specs.Views.{picture_value};
 ghost use Rattle.ffv1_plane.specs.StuckLaws.{EachPictureIsSpelled, FrontsGoOn, StuckSpellsNothing, StuckIsOne, IsRefusedFor, OneAnswer};
 ghost use Rattle.ffv1_range.specs.Header.{IsHeadOf, header_limits, head_read};

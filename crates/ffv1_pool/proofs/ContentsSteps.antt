@@ -6,7 +6,7 @@ use Rattle.ffv1_pool.specs.TakeFaults.{AreShort}
 use Rattle.ffv1_pool.specs.SliceOrder.{entries_total, entries_antisymmetric, origins_total, origins_antisymmetric}
 use Rattle.ffv1_pool.specs.Sets as set
 use Rattle.ffv1_pool.specs.Contents.{Contents, with_facts, with_found, with_copies, origins_of_copy}
-use Rattle.ffv1_pool.specs.ContentsLaws.{with_found-with_copies, union-flat_map}
+use Rattle.ffv1_pool.proofs.ContentsLaws.{with_found-with_copies, union-flat_map}
 use Rattle.ffv1_slice.specs.Slices.{found_slices}
 use Rattle.std.specs.List.{flat_map}
 

@@ -8,8 +8,8 @@ use Rattle.std.proofs.lemmas.List.Elements.{filter-append}
 use Rattle.ffv1_pool.specs.SliceOrder.{Entry, Origin, entry_cmp, entries_total, origins_total}
 use Rattle.ffv1_pool.specs.Sets as set
 use Rattle.ffv1_pool.specs.TileSets.{digests_in}
-use Rattle.ffv1_pool.specs.PoolEntries.{entry_in}
-use Rattle.ffv1_pool.specs.Rows.{rows_in, IsRows, IsRowPart}
+use Rattle.ffv1_pool.specs.Inner.PoolEntries.{entry_in}
+use Rattle.ffv1_pool.specs.Inner.Rows.{rows_in, IsRows, IsRowPart}
 use Rattle.ffv1_pool.specs.declared.pool_entry.PoolEntry.{PoolEntry}
 use Rattle.ffv1_pool.proofs.RisingSets.{items-from_list}
 use Rattle.ffv1_pool.proofs.RowLists.{length-rows, get_or-rows}

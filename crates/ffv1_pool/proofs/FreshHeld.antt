@@ -7,8 +7,8 @@ use Rattle.std.proofs.lemmas.Bool.{or_right}
 use Rattle.ffv1_pool.specs.SliceOrder.{Entry, Origin, entry_cmp, origin_cmp, entries_total, origins_total, origins_antisymmetric}
 use Rattle.ffv1_pool.specs.Sets as set
 use Rattle.ffv1_pool.specs.Contents.{AreHeld}
-use Rattle.ffv1_pool.specs.Fresh.{AreAllFresh}
-use Rattle.ffv1_pool.specs.Rows.{FreshRow, fresh_origin, fresh_rows_in, AreFreshRows}
+use Rattle.ffv1_pool.specs.Inner.Fresh.{AreAllFresh}
+use Rattle.ffv1_pool.specs.Inner.Rows.{FreshRow, fresh_origin, fresh_rows_in, AreFreshRows}
 use Rattle.ffv1_pool.specs.declared.pool_entry.PoolEntry.{PoolEntry}
 use Rattle.ffv1_pool.specs.declared.fresh.Fresh.{Fresh}
 use Rattle.ffv1_pool.proofs.EntrySteps.{or_cases, all-from_list, contains_listed}

@@ -4,10 +4,10 @@ use Rattle.std.specs.List.{zip}
 use Rattle.std.proofs.lemmas.List.{length-map, get_or-map, map-append, take_all}
 use Rattle.ffv1_pool.specs.SliceOrder.{Entry, Origin, entry_cmp, origin_cmp, entries_total, entries_antisymmetric, origins_total, origins_antisymmetric}
 use Rattle.ffv1_pool.specs.Sets as set
-use Rattle.ffv1_pool.specs.Rising.{IsInsertionPlace, IsPlaceOf}
-use Rattle.ffv1_pool.specs.PoolEntries.{entry_in, IsEntryIn, IsPool}
-use Rattle.ffv1_pool.specs.Fresh.{fresh_in, AreFresh, AreAllFresh}
-use Rattle.ffv1_pool.specs.Rows.{rows_in, IsRows, fresh_origin, fresh_rows_in, AreFreshRows}
+use Rattle.ffv1_pool.specs.Inner.Rising.{IsInsertionPlace, IsPlaceOf}
+use Rattle.ffv1_pool.specs.Inner.PoolEntries.{entry_in, IsEntryIn, IsPool}
+use Rattle.ffv1_pool.specs.Inner.Fresh.{fresh_in, AreFresh, AreAllFresh}
+use Rattle.ffv1_pool.specs.Inner.Rows.{rows_in, IsRows, fresh_origin, fresh_rows_in, AreFreshRows}
 use Rattle.ffv1_pool.specs.declared.pool_entry.PoolEntry.{PoolEntry}
 use Rattle.ffv1_pool.specs.declared.fresh.Fresh.{Fresh}
 use Rattle.ffv1_pool.proofs.Sifting.{each-push, AreSifted, none_sifted, sifted_held, sifted_new}

@@ -11,8 +11,9 @@ use Rattle.std.proofs.lemmas.Bool.{cases_lt, cases_order}
 use Rattle.std.proofs.lemmas.List.{length-map, get_or-map}
 use Rattle.std.proofs.lemmas.List.Edits.{length-insert, get_or-insert_below, get_or-insert_at, get_or-insert_above}
 use Rattle.ffv1_pool.specs.Sets as set
-use Rattle.ffv1_pool.specs.Rising.{IsRising, IsInsertionPlace}
-use Rattle.ffv1_pool.specs.Fresh.{with_inserted}
+use Rattle.ffv1_pool.specs.Rising.{IsRising}
+use Rattle.ffv1_pool.specs.Inner.Rising.{IsInsertionPlace}
+use Rattle.ffv1_pool.specs.Inner.Fresh.{with_inserted}
 use Rattle.ffv1_pool.proofs.RisingSets.{rising_rest, rising_insert, from_list-insert, map-insert, union-insert}
 
 module _ {F X : Type 0} (place : F → ℕ) (item : F → X) where

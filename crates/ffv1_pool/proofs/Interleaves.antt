@@ -5,7 +5,7 @@ use Rattle.std.specs.List.Sorted.{IsNonDecreasingBy}
 use Rattle.std.proofs.lemmas.Bool.{cases_lt, cases_order}
 use Rattle.std.proofs.lemmas.List.{same_lists, drop_more, get_or-take, get_or-drop, length-take-le, length-drop, get_or_default, length-set, get_or-set_same, get_or-set_other}
 use Rattle.std.proofs.lemmas.List.Edits.{get_or-insert_at, get_or-insert_above}
-use Rattle.ffv1_pool.specs.Fresh.{with_fresh}
+use Rattle.ffv1_pool.specs.Inner.Fresh.{with_fresh}
 use Rattle.ffv1_pool.specs.declared.fresh.Fresh.{Fresh}
 use Rattle.ffv1_pool.proofs.Insertions.{length-with_inserted, get_or-with_inserted_below}
 

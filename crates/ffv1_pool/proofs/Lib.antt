@@ -1,3 +1,4 @@
+pub mod ContentsLaws
 pub mod Lists
 pub mod RisingSets
 pub mod ItemsRise

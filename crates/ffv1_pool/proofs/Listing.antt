@@ -2,7 +2,7 @@
 use Rattle.std.proofs.Common.{◌≡◌, ℕ, zero, suc, ◌-◌, List, [], ◌∷◌, length, take, drop, refl, sym, ap, ◌∙◌, subst, arith}
 use Rattle.std.proofs.lemmas.List.{length-take, length-drop}
 use Rattle.ffv1_slice.specs.Chain.{LinkValue, link_of, IsFramed}
-use Rattle.ffv1_pool.specs.PoolEntries.{slice_in, IsEntryIn}
+use Rattle.ffv1_pool.specs.Inner.PoolEntries.{slice_in, IsEntryIn}
 use Rattle.ffv1_pool.specs.declared.pool_entry.PoolEntry.{PoolEntry}
 
 -- what was taken from a list is as much of its front as it is long

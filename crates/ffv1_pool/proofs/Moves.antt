@@ -2,8 +2,8 @@
 use Rattle.std.proofs.Common.{◌≡◌, ℕ, ◌+◌, ◌<◌, ◌≤◌, List, ◌++◌, length, drop, get_or, set, sym, refl, ap, subst, ◌∙◌, inl, inr, arith}
 use Rattle.std.proofs.lemmas.Bool.{cases_order}
 use Rattle.std.proofs.lemmas.List.{length-take-le, length-drop, get_or_default, get_or-set_same, get_or-set_other}
-use Rattle.ffv1_pool.specs.PoolEntries.{slice_in, entry_in, IsEntryIn}
-use Rattle.ffv1_pool.specs.Fresh.{IsMoved}
+use Rattle.ffv1_pool.specs.Inner.PoolEntries.{slice_in, entry_in, IsEntryIn}
+use Rattle.ffv1_pool.specs.Inner.Fresh.{IsMoved}
 use Rattle.ffv1_pool.specs.declared.pool_entry.PoolEntry.{PoolEntry}
 use Rattle.ffv1_pool.specs.declared.fresh.Fresh.{Fresh}
 use Rattle.ffv1_pool.proofs.Pools.{part_kept, entry_kept, entry_after, slice_after, is_after}

@@ -7,8 +7,8 @@ use Rattle.ffv1_slice.specs.Chain.{IsFramed}
 use Rattle.ffv1_pool.specs.SliceOrder.{Entry, Origin, with_each, entry_cmp, bytes_cmp, origin_cmp, entries_total, entries_antisymmetric}
 use Rattle.ffv1_pool.specs.Sets as set
 use Rattle.ffv1_pool.specs.Rising.{IsRising}
-use Rattle.ffv1_pool.specs.PoolEntries.{entry_in, IsEntryIn, IsPool}
-use Rattle.ffv1_pool.specs.Rows.{rows_in, IsRows}
+use Rattle.ffv1_pool.specs.Inner.PoolEntries.{entry_in, IsEntryIn, IsPool}
+use Rattle.ffv1_pool.specs.Inner.Rows.{rows_in, IsRows}
 use Rattle.ffv1_pool.specs.declared.pool_entry.PoolEntry.{PoolEntry}
 use Rattle.ffv1_pool.proofs.ItemsRise.{rising_one}
 use Rattle.ffv1_pool.proofs.Pools.{entry_after, slice_after, is_after}

@@ -5,9 +5,10 @@ use Rattle.std.proofs.Math.Seq.{take-append_seam}
 use Rattle.std.proofs.lemmas.List.{same_lists, length-map, get_or-map}
 use Rattle.ffv1_pool.specs.SliceOrder.{entry_cmp, entries_total, entries_antisymmetric}
 use Rattle.ffv1_pool.specs.Sets as set
-use Rattle.ffv1_pool.specs.Rising.{IsRising, IsInsertionPlace}
-use Rattle.ffv1_pool.specs.PoolEntries.{entry_in, IsEntryIn, IsPool}
-use Rattle.ffv1_pool.specs.Fresh.{fresh_in, AreFresh, AreMoved, with_inserted, with_fresh}
+use Rattle.ffv1_pool.specs.Rising.{IsRising}
+use Rattle.ffv1_pool.specs.Inner.Rising.{IsInsertionPlace}
+use Rattle.ffv1_pool.specs.Inner.PoolEntries.{entry_in, IsEntryIn, IsPool}
+use Rattle.ffv1_pool.specs.Inner.Fresh.{fresh_in, AreFresh, AreMoved, with_inserted, with_fresh}
 use Rattle.ffv1_pool.specs.declared.pool_entry.PoolEntry.{PoolEntry}
 use Rattle.ffv1_pool.specs.declared.fresh.Fresh.{Fresh}
 use Rattle.ffv1_pool.proofs.Pools.{pool_kept, entries_kept}

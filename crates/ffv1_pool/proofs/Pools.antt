@@ -5,7 +5,7 @@ use Rattle.std.proofs.lemmas.List.{take-append-le, drop-append-le, length-append
 use Rattle.ffv1_slice.specs.Chain.{IsFramed}
 use Rattle.ffv1_pool.specs.SliceOrder.{entry_cmp}
 use Rattle.ffv1_pool.specs.Rising.{IsRising}
-use Rattle.ffv1_pool.specs.PoolEntries.{slice_in, entry_in, IsEntryIn, AreEntriesIn, IsPool}
+use Rattle.ffv1_pool.specs.Inner.PoolEntries.{slice_in, entry_in, IsEntryIn, AreEntriesIn, IsPool}
 use Rattle.ffv1_pool.specs.declared.pool_entry.PoolEntry.{PoolEntry}
 
 module _ (bytes more : List ℕ) where

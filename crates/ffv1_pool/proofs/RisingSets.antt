@@ -13,7 +13,8 @@ use Rattle.std.specs.declared.cmp.Ordering.TheVariants.{Less}
 use Rattle.std.proofs.lemmas.List.Edits.{length-insert, get_or-insert_below, get_or-insert_at, get_or-insert_above}
 use Rattle.std.proofs.lemmas.Bool.{cases_lt, cases_order, or_left, or_right}
 use Rattle.std.proofs.lemmas.List.{length-map, get_or_default, nil_from_length}
-use Rattle.ffv1_pool.specs.Rising.{IsRising, IsInsertionPlace, IsPlaceOf}
+use Rattle.ffv1_pool.specs.Rising.{IsRising}
+use Rattle.ffv1_pool.specs.Inner.Rising.{IsInsertionPlace, IsPlaceOf}
 
 -- the rest of a list that rises
 pub rising_rest : {K : Type 0} (R : K → K → Ordering) (x : K) (xs : List K) → IsRising R (x ∷ xs) → IsRising R xs

@@ -6,11 +6,12 @@ use Rattle.std.proofs.lemmas.List.{same_lists, length-map, get_or-map}
 use Rattle.std.proofs.lemmas.Slice.Zip.{length-zip, get_or-zip}
 use Rattle.ffv1_pool.specs.SliceOrder.{Origin, entry_cmp, origin_cmp, origins_total, origins_antisymmetric}
 use Rattle.ffv1_pool.specs.Sets as set
-use Rattle.ffv1_pool.specs.Rising.{IsRising, IsInsertionPlace}
+use Rattle.ffv1_pool.specs.Rising.{IsRising}
+use Rattle.ffv1_pool.specs.Inner.Rising.{IsInsertionPlace}
 use Rattle.ffv1_pool.specs.Contents.{AreHeld}
-use Rattle.ffv1_pool.specs.PoolEntries.{entry_in, IsEntryIn, AreEntriesIn}
-use Rattle.ffv1_pool.specs.Fresh.{with_inserted, with_fresh}
-use Rattle.ffv1_pool.specs.Rows.{rows_in, IsRows, FreshRow, fresh_origin, fresh_rows_in, AreFreshRows, AreOwnersMoved}
+use Rattle.ffv1_pool.specs.Inner.PoolEntries.{entry_in, IsEntryIn, AreEntriesIn}
+use Rattle.ffv1_pool.specs.Inner.Fresh.{with_inserted, with_fresh}
+use Rattle.ffv1_pool.specs.Inner.Rows.{rows_in, IsRows, FreshRow, fresh_origin, fresh_rows_in, AreFreshRows, AreOwnersMoved}
 use Rattle.ffv1_pool.specs.declared.pool_entry.PoolEntry.{PoolEntry}
 use Rattle.ffv1_pool.specs.declared.fresh.Fresh.{Fresh}
 use Rattle.ffv1_pool.proofs.EntrySteps.{contains_listed}

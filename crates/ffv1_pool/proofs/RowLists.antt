@@ -7,8 +7,8 @@ use Rattle.std.specs.declared.cmp.Ordering.TheVariants.{Less, Equal, Greater}
 use Rattle.std.proofs.lemmas.List.{length-map, get_or-map}
 use Rattle.std.proofs.lemmas.Slice.Zip.{length-zip, get_or-zip}
 use Rattle.ffv1_pool.specs.SliceOrder.{Origin, entry_cmp, bytes_cmp, entries_antisymmetric}
-use Rattle.ffv1_pool.specs.PoolEntries.{entry_in}
-use Rattle.ffv1_pool.specs.Rows.{rows_in, IsRows}
+use Rattle.ffv1_pool.specs.Inner.PoolEntries.{entry_in}
+use Rattle.ffv1_pool.specs.Inner.Rows.{rows_in, IsRows}
 use Rattle.ffv1_pool.specs.declared.pool_entry.PoolEntry.{PoolEntry}
 
 pub zip-append : {X Y : Type 0} (xs more : List X) (ys others : List Y) → length ys ≡ length xs → zip (xs ++ more) (ys ++ others) ≡ zip xs ys ++ zip more others

@@ -8,9 +8,10 @@ use Rattle.std.specs.declared.cmp.Ordering.TheVariants.{Less, Equal, Greater}
 use Rattle.std.proofs.lemmas.Bool.{cases_order, cases_lt}
 use Rattle.std.proofs.lemmas.List.{get_or-take, get_or-drop, get_or_default, length-take-le, length-drop}
 use Rattle.ffv1_pool.specs.SliceOrder.{Entry, Origin, entry_cmp, bytes_cmp, origin_cmp, bytes_total, bytes_antisymmetric, entries_total, entries_antisymmetric}
-use Rattle.ffv1_pool.specs.Rising.{IsRising, IsPlaceOf, IsInsertionPlace}
-use Rattle.ffv1_pool.specs.PoolEntries.{entry_in}
-use Rattle.ffv1_pool.specs.Rows.{rows_in, IsRows, IsRowPart}
+use Rattle.ffv1_pool.specs.Rising.{IsRising}
+use Rattle.ffv1_pool.specs.Inner.Rising.{IsPlaceOf, IsInsertionPlace}
+use Rattle.ffv1_pool.specs.Inner.PoolEntries.{entry_in}
+use Rattle.ffv1_pool.specs.Inner.Rows.{rows_in, IsRows, IsRowPart}
 use Rattle.ffv1_pool.specs.declared.pool_entry.PoolEntry.{PoolEntry}
 use Rattle.ffv1_pool.proofs.Searches.{searched_items}
 use Rattle.ffv1_pool.proofs.RowLists.{length-rows, get_or-rows, owners_rise, digests_rise}

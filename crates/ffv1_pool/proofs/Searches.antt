@@ -8,7 +8,8 @@ use Rattle.std.specs.declared.cmp.Ordering.{Ordering}
 use Rattle.std.specs.declared.cmp.Ordering.TheVariants.{Less, Equal, Greater}
 use Rattle.std.proofs.lemmas.List.{length-map, get_or-map}
 use Rattle.std.proofs.lemmas.Bool.{cases_order}
-use Rattle.ffv1_pool.specs.Rising.{IsRising, IsInsertionPlace, IsPlaceOf}
+use Rattle.ffv1_pool.specs.Rising.{IsRising}
+use Rattle.ffv1_pool.specs.Inner.Rising.{IsInsertionPlace, IsPlaceOf}
 
 index_le : (a : Ordering) → ordering_index a ≤ 2
 index_le Less = omega arith

@@ -2,9 +2,9 @@
 use Rattle.std.proofs.Common.{◌≡◌, ℕ, ◌+◌, ◌<◌, ◌≤◌, List, length, map, get_or, set, sym, refl, subst, ◌∙◌, inl, inr, arith}
 use Rattle.std.proofs.lemmas.Bool.{cases_order}
 use Rattle.std.proofs.lemmas.List.{length-map, get_or-map, get_or_default, get_or-set_same, get_or-set_other}
-use Rattle.ffv1_pool.specs.Rising.{IsPlaceOf}
-use Rattle.ffv1_pool.specs.PoolEntries.{entry_in, AreEntriesIn}
-use Rattle.ffv1_pool.specs.Fresh.{IsMoved}
+use Rattle.ffv1_pool.specs.Inner.Rising.{IsPlaceOf}
+use Rattle.ffv1_pool.specs.Inner.PoolEntries.{entry_in, AreEntriesIn}
+use Rattle.ffv1_pool.specs.Inner.Fresh.{IsMoved}
 use Rattle.ffv1_pool.specs.declared.fresh.Fresh.{Fresh}
 use Rattle.ffv1_pool.specs.declared.pool_entry.PoolEntry.{PoolEntry}
 

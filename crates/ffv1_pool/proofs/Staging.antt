@@ -12,7 +12,7 @@ use Rattle.std.proofs.lemmas.List.Kept.{IsStrictlySortedBy-dedup, Contains-from_
 use Rattle.ffv1_pool.specs.SliceOrder.{Entry, entry_cmp, entries_total, entries_antisymmetric}
 use Rattle.ffv1_pool.specs.Sets as set
 use Rattle.ffv1_pool.specs.Rising.{IsRising}
-use Rattle.ffv1_pool.specs.PoolEntries.{entry_in, AreEntriesIn, IsPool}
+use Rattle.ffv1_pool.specs.Inner.PoolEntries.{entry_in, AreEntriesIn, IsPool}
 use Rattle.ffv1_pool.specs.declared.pool_entry.PoolEntry.{PoolEntry}
 
 -- how two entries in the same bytes are ordered

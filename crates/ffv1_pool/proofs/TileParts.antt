@@ -14,7 +14,7 @@ use Rattle.ffv1_pool.specs.SliceOrder.{bytes_cmp, entry_cmp, bytes_total, bytes_
 use Rattle.ffv1_pool.specs.Sets as set
 use Rattle.ffv1_pool.specs.Rising.{IsRising}
 use Rattle.ffv1_pool.specs.TileSets.{tile_slices}
-use Rattle.ffv1_pool.specs.PoolEntries.{slice_in, entry_in, IsPool, IsShelf, IsTilePart}
+use Rattle.ffv1_pool.specs.Inner.PoolEntries.{slice_in, entry_in, IsPool, IsShelf, IsTilePart}
 use Rattle.ffv1_pool.specs.declared.pool_entry.PoolEntry.{PoolEntry}
 use Rattle.ffv1_pool.proofs.RisingSets.{size_kept, items_kept}
 use Rattle.ffv1_pool.proofs.Tiles.{same_tile, other_tile, contains-tile_slices}

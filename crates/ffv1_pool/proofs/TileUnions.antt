@@ -2,7 +2,7 @@
 use Rattle.std.proofs.Common.{◌≡◌, ◌≤◌, ap}
 use Rattle.ffv1_pool.specs.Sets as set
 use Rattle.ffv1_pool.specs.SliceOrder.{entry_cmp, origin_cmp, entries_total, entries_antisymmetric}
-use Rattle.ffv1_pool.specs.TileSets.{TileSlices, with_more}
+use Rattle.ffv1_pool.specs.Inner.TileSets.{TileSlices, with_more}
 use Rattle.ffv1_pool.proofs.RisingSets.{size_union}
 
 module _ (old new : TileSlices) (s : set.SetOf entry_cmp) (t : set.SetOf origin_cmp) (added : new ≡ with_more old s t) where

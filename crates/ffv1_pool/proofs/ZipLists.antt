@@ -2,7 +2,7 @@
 use Rattle.std.proofs.Common.{◌≡◌, ℕ, zero, suc, ◌+◌, List, [], ◌∷◌, length, map, drop, get_or, refl, ap, ◌∙◌, arith}
 use Rattle.std.specs.List.{zip, insert}
 use Rattle.std.proofs.lemmas.List.{length-map}
-use Rattle.ffv1_pool.specs.Fresh.{with_inserted, with_fresh}
+use Rattle.ffv1_pool.specs.Inner.Fresh.{with_inserted, with_fresh}
 use Rattle.ffv1_pool.specs.declared.fresh.Fresh.{Fresh}
 
 pub zip-map : {X Y Z : Type 0} (f : X → Z) (xs : List X) (ys : List Y) → map (λ (r : X × Y). let p : Z × Y = (f r.0, r.1) in p) (zip xs ys) ≡ zip (map f xs) ys

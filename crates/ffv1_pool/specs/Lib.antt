@@ -4,9 +4,6 @@ pub mod Rising
 pub mod Joins
 pub mod Reels
 pub mod TileSets
-pub mod PoolEntries
-pub mod Fresh
-pub mod Rows
 pub mod Contents
 pub mod ContentsLaws
 pub mod HoldingParts
@@ -16,6 +13,7 @@ pub mod TileStates
 pub mod Refusals
 pub mod Originals
 pub mod Laws
+pub mod Inner
 pub use Rattle.ffv1_range.specs.Setup
 pub use Rattle.ffv1_range.specs.SetupFaults
 pub use Rattle.ffv1_slice.specs.Walk

@@ -3,9 +3,10 @@ ghost use Rattle.std.specs.Prelude.{◌≡◌, ℕ, ◌+◌, ◌<◌, ◌≤◌,
 ghost use Rattle.std.specs.List.Sorted.{IsNonDecreasingBy};
 ghost use Rattle.ffv1_pool.specs.Sets as set;
 ghost use Rattle.ffv1_pool.specs.SliceOrder.{entry_cmp};
-ghost use Rattle.ffv1_pool.specs.Rising.{IsRising, IsPlaceOf, IsInsertionPlace};
-ghost use Rattle.ffv1_pool.specs.PoolEntries.{entry_in, IsPool, IsEntryIn};
-ghost use Rattle.ffv1_pool.specs.Fresh.{fresh_in, AreFresh, AreAllFresh, AreMoved, with_fresh};
+ghost use Rattle.ffv1_pool.specs.Rising.{IsRising};
+ghost use Rattle.ffv1_pool.specs.Inner.Rising.{IsPlaceOf, IsInsertionPlace};
+ghost use Rattle.ffv1_pool.specs.Inner.PoolEntries.{entry_in, IsPool, IsEntryIn};
+ghost use Rattle.ffv1_pool.specs.Inner.Fresh.{fresh_in, AreFresh, AreAllFresh, AreMoved, with_fresh};
 
 use crate::fault::HoldFault;
 use crate::pool_entry::PoolEntry;

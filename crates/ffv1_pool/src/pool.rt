@@ -4,10 +4,11 @@ ghost use Rattle.std.specs.List.Sorted.{IsNonDecreasingBy};
 ghost use Rattle.sha2.specs.Sha256.{sha256};
 ghost use Rattle.ffv1_slice.specs.Chain.{IsFramed};
 ghost use Rattle.ffv1_pool.specs.Sets as set;
-ghost use Rattle.ffv1_pool.specs.TileSets.{with_more, with_tile_entry, tile_slices, digests_in};
+ghost use Rattle.ffv1_pool.specs.Inner.TileSets.{with_more, with_tile_entry};
+ghost use Rattle.ffv1_pool.specs.TileSets.{tile_slices, digests_in};
 ghost use Rattle.ffv1_pool.specs.Contents.{AreHeld, AreDigests};
-ghost use Rattle.ffv1_pool.specs.PoolEntries.{entry_in, IsPool, IsTilePart};
-ghost use Rattle.ffv1_pool.specs.Rows.{rows_of, AreRows};
+ghost use Rattle.ffv1_pool.specs.Inner.PoolEntries.{entry_in, IsPool, IsTilePart};
+ghost use Rattle.ffv1_pool.specs.Inner.Rows.{rows_of, AreRows};
 
 use crate::fault::HoldFault;
 use crate::fresh::{Fresh, fresh_among, place_of, put_slices, room_of};
@@ -33,7 +34,7 @@ pub(crate) struct Pool {
 }
 
 impl Model for Pool {
-    ghost use Rattle.ffv1_pool.specs.TileSets.{TileSlices, coded_tile_slices};
+    ghost use Rattle.ffv1_pool.specs.Inner.TileSets.{TileSlices, coded_tile_slices};
 
     ghost Value = { TileSlices };
 
@@ -41,8 +42,8 @@ impl Model for Pool {
 
     ghost use Rattle.std.specs.Prelude.{map};
     ghost use Rattle.ffv1_pool.specs.Sets as set;
-    ghost use Rattle.ffv1_pool.specs.PoolEntries.{entry_in};
-    ghost use Rattle.ffv1_pool.specs.Rows.{rows_in, IsStock};
+    ghost use Rattle.ffv1_pool.specs.Inner.PoolEntries.{entry_in};
+    ghost use Rattle.ffv1_pool.specs.Inner.Rows.{rows_in, IsStock};
 
     ghost view = { λ a. record {
       tiles = a.tiles;

@@ -1,7 +1,7 @@
 //! Where a held slice lies (own).
 ghost use Rattle.std.specs.Prelude.{◌≡◌};
 ghost use Rattle.ffv1_pool.specs.SliceOrder.{entry_cmp};
-ghost use Rattle.ffv1_pool.specs.PoolEntries.{slice_in, entry_in};
+ghost use Rattle.ffv1_pool.specs.Inner.PoolEntries.{slice_in, entry_in};
 
 use std::cmp::Ordering;
 

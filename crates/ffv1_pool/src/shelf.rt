@@ -2,7 +2,7 @@
 ghost use Rattle.std.specs.Prelude.{◌≡◌, ℕ, ◌<◌, List, length, map, slice_index_or};
 ghost use Rattle.ffv1_slice.specs.Chain.{IsFramed};
 ghost use Rattle.ffv1_pool.specs.Sets as set;
-ghost use Rattle.ffv1_pool.specs.PoolEntries.{slice_in, IsShelf};
+ghost use Rattle.ffv1_pool.specs.Inner.PoolEntries.{slice_in, IsShelf};
 ghost use Rattle.ffv1_pool.specs.Standing.{status_of};
 
 use crate::pool_entry::PoolEntry;
@@ -20,7 +20,7 @@ impl<'a> Model for Shelf<'a> {
     ghost use Rattle.std.specs.Prelude.{map};
     ghost use Rattle.ffv1_pool.specs.Sets as set;
     ghost use Rattle.ffv1_pool.specs.SliceOrder.{bytes_cmp, coded_bytes};
-    ghost use Rattle.ffv1_pool.specs.PoolEntries.{slice_in, IsShelf};
+    ghost use Rattle.ffv1_pool.specs.Inner.PoolEntries.{slice_in, IsShelf};
 
     ghost Value = { set.SetOf bytes_cmp };
 

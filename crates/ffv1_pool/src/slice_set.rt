@@ -2,7 +2,7 @@
 ghost use Rattle.std.specs.Prelude.{◌≡◌, ℕ, ◌+◌, ◌<◌, length, slice_index_or, IfOk, IfErr, OnOk, OnErr, IsErrOf, IsTrue, ◌↔◌, not};
 ghost use Rattle.ffv1_pool.specs.Sets as set;
 ghost use Rattle.ffv1_pool.specs.SliceOrder.{bytes_cmp};
-ghost use Rattle.ffv1_pool.specs.Rising.{IsPlaceOf, IsInsertionPlace};
+ghost use Rattle.ffv1_pool.specs.Inner.Rising.{IsPlaceOf, IsInsertionPlace};
 
 use crate::fault::HoldFault;
 use crate::joins::Join;

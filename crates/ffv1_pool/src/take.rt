@@ -7,7 +7,7 @@ ghost use Rattle.ffv1_slice.specs.Slices.{found_slices};
 ghost use Rattle.ffv1_pool.specs.Sets as set;
 ghost use Rattle.ffv1_pool.specs.Contents.{with_found, with_copies, with_entry, IsEntryOf, AreEntriesOf, AreDigests};
 ghost use Rattle.ffv1_pool.specs.SliceOrder.{entry_cmp};
-ghost use Rattle.ffv1_pool.specs.PoolEntries.{entry_in, AreEntriesIn, IsPool};
+ghost use Rattle.ffv1_pool.specs.Inner.PoolEntries.{entry_in, AreEntriesIn, IsPool};
 ghost use Rattle.ffv1_pool.specs.TakeFaults.{IsTakeFault, AreShort};
 
 use crate::fault::HoldFault;

@@ -5,7 +5,8 @@ use Rattle.ffv1_range.proofs.TableSteps.{fresh_row-states}
 use Rattle.std.specs.Prelude.{ℤ, slice_index_or, if◌then◌else◌}
 use Rattle.ffv1_range.specs.Decoder.{Reader, AreStates}
 use Rattle.ffv1_range.specs.Forms.{Form, ◌>>=◌, giving, on, form_at, ReadsForm}
-use Rattle.ffv1_range.specs.TableForms.{TwoRows, AreStateRows, fresh_row, delta_rows, with_delta_rows, beside_fresh_rows, record_row_after, fresh_rows, delta_form, context_deltas, contexts_deltas, set_deltas, sets_deltas, deltas_form}
+use Rattle.ffv1_range.specs.TableForms.{TwoRows, fresh_row, delta_rows, with_delta_rows, beside_fresh_rows, record_row_after, fresh_rows, delta_form, context_deltas, contexts_deltas, set_deltas, sets_deltas, deltas_form}
+use Rattle.ffv1_range.specs.Inner.TableForms.{AreStateRows}
 use Rattle.ffv1_range.specs.declared.fault.SetupFault.{SetupFault}
 use Rattle.ffv1_range.specs.declared.fault.SetupFault.TheVariants.{Range}
 use Rattle.ffv1_range.proofs.Forms.{Continues, IsAtPlace, read_on, next_of, stop_of, end_of}

@@ -9,7 +9,8 @@ use Rattle.ffv1_range.specs.Fields.{last_fields}
 use Rattle.ffv1_range.specs.Tables.{SetValue}
 use Rattle.ffv1_range.specs.TableForms.{fresh_row, sets_from, deltas_form}
 use Rattle.ffv1_range.specs.Setup.{SetupValue}
-use Rattle.ffv1_range.specs.Views.{set_values, contexts_of}
+use Rattle.ffv1_range.specs.Views.{set_values}
+use Rattle.ffv1_range.specs.Inner.Views.{contexts_of}
 use Rattle.ffv1_range.specs.declared.tables.TableSet.{TableSet}
 use Rattle.ffv1_range.specs.SetupForms.{FrontValue, front_form, setup_of, setup_form, checked_content, is_size, setup_read}
 use Rattle.ffv1_range.specs.declared.coding.RangeFault.{RangeFault}

@@ -1,7 +1,7 @@
 -- Outside vectors, computed.
 use Rattle.std.proofs.Common.{◌≡◌, ℕ, zero, suc, Bool, true, false, List, [], ◌∷◌, map, refl, Result, Ok, Err}
 use Rattle.std.specs.Prelude.{pos, negsuc}
-use Rattle.ffv1_range.specs.Results.{◌>>>◌}
+use Rattle.ffv1_range.specs.Results.{◌>>>◌ as ◌>>=◌}
 use Rattle.ffv1_range.specs.Coding.{Coder, bit_at, slot_at, start_of}
 use Rattle.ffv1_range.specs.Symbols.{symbol_bits, signed_symbol_bits}
 use Rattle.ffv1_range.specs.Forms.{Form}
@@ -45,7 +45,7 @@ starts : start_of false (0xFF ∷ 0 ∷ []) ≡ Err Start
 unfolding start_of
 starts = refl
 
-nothing : (start_of true [] >>> λ c. symbol_form true (place_of c fresh_row) >>> λ x. Ok x.0) ≡ Ok 1
+nothing : (start_of true [] >>= λ c. symbol_form true (place_of c fresh_row) >>= λ x. Ok x.0) ≡ Ok 1
 unfolding start_of bit_at slot_at symbol_form exponent_form low_form
 nothing = refl
 

@@ -1,9 +1,8 @@
 -- Forms of a slice header (RFC 9043, section 4.6): its fields from left to right, with the first fault that is met.
-use Rattle.std.specs.Prelude.{◌≡◌, ℕ, zero, suc, Bool, true, false, List, [], ◌∷◌, ◌++◌, Result, Ok, Err, if◌then◌else◌}
+use Rattle.std.specs.Prelude.{ℕ, zero, suc, Bool, true, false, List, [], ◌∷◌, ◌++◌, Result, Ok, Err, if◌then◌else◌}
 use Rattle.ffv1_range.specs.Results.{◌>>>◌}
 use Rattle.ffv1_range.specs.Coding.{Coder, bit_at}
-use Rattle.ffv1_range.specs.Decoder.{Reader, reader_at}
-use Rattle.ffv1_range.specs.Forms.{Form, ◌>>=◌, giving, apart, lifted_result, from_place}
+use Rattle.ffv1_range.specs.Forms.{Form, ◌>>=◌, giving, apart, lifted_result}
 use Rattle.ffv1_range.specs.Reading.{symbol_form}
 use Rattle.ffv1_range.specs.TableForms.{fresh_row}
 use Rattle.ffv1_range.specs.declared.coding.RangeFault.{RangeFault}
@@ -23,12 +22,3 @@ fields_form = apart fresh_row (symbols_onto 9 [])
 abbrev pub key_coder : Bool → Coder → Result Coder HeadFault
 key_coder false c = Ok c
 key_coder true c = lifted_result Range (bit_at false c 128) >>> λ bit. if bit.0 then Ok bit.1 else Err NotKey
-
--- A call read the keyframe bit where there has to be one: the decoder is after it.
-abbrev pub ReadsKey : Bool → Reader → Result (Unit {0}) HeadFault → Reader → Type 0
-ReadsKey first r (Ok _) s = (c : Coder) × (from_place Range r.at (key_coder first) ≡ Ok c) × (s ≡ reader_at r (Ok c))
-ReadsKey first r (Err e) s = from_place Range r.at (key_coder first) ≡ Err e
-
--- The decoder is at a place, and not at a fault.
-abbrev pub IsAtPlace : Reader → Type 0
-IsAtPlace r = (c : Coder) × (r.at ≡ Ok c)

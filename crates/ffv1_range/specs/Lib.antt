@@ -15,3 +15,4 @@ pub mod SetupFaults
 pub mod Tiles
 pub mod HeaderForms
 pub mod Header
+pub mod Inner

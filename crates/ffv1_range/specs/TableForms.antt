@@ -1,7 +1,6 @@
 -- Forms of the sets of quantization tables and of the deltas of states in a configuration record (RFC 9043, sections 4.2 and 4.3).
-use Rattle.std.specs.Prelude.{ℕ, zero, suc, ◌+◌, ◌/◌, ◌<◌, List, [], ◌∷◌, ◌++◌, length, replicate, nat_le, ℤ, slice_index_or, slice_set, if◌then◌else◌}
+use Rattle.std.specs.Prelude.{ℕ, zero, suc, ◌+◌, ◌/◌, List, [], ◌∷◌, ◌++◌, replicate, nat_le, ℤ, slice_index_or, slice_set, if◌then◌else◌}
 use Rattle.ffv1_range.specs.Forms.{Form, ◌>>=◌, giving, accepted, lifted, on, apart}
-use Rattle.ffv1_range.specs.Decoder.{AreStates}
 use Rattle.ffv1_range.specs.Reading.{signed_symbol_form}
 use Rattle.ffv1_range.specs.Fields.{number, flag}
 use Rattle.ffv1_range.specs.Tables.{SetValue, half_of, scale_after}
@@ -47,10 +46,6 @@ set_count = do
   giving count
 
 -- ---- deltas
-
--- rows of states, each in 8..=248
-abbrev pub AreStateRows : List (List ℕ) → Type 0
-AreStateRows rows = (k : ℕ) → k < length rows → AreStates (slice_index_or rows k [])
 
 -- a delta, at one row of several
 abbrev pub delta_form : ℕ → Form (List (List ℕ)) ℤ SetupFault

@@ -4,7 +4,8 @@
 //! 8..=248 comes back within 8..=248. A decoder that met a fault keeps it.
 ghost use Rattle.std.specs.Prelude.{◌≡◌, ℕ, ◌+◌, ◌≤◌, ◌<◌, length, IfOk, OnErr, false, true};
 ghost use Rattle.ffv1_range.specs.Coding.{start_of, started, IsBitState, bit_state_after, one_state, bit_at, refilled, slot_at};
-ghost use Rattle.ffv1_range.specs.Forms.{ReadsForm, same_fault, slot_form, Gives};
+ghost use Rattle.ffv1_range.specs.Forms.{ReadsForm, same_fault, slot_form};
+ghost use Rattle.ffv1_range.specs.Inner.Forms.{Gives};
 ghost use Rattle.ffv1_range.specs.Decoder.{reader_at, ReadsBit, KeepsFault, AreStates, IsCoder, Starts, EndsAt};
 ghost use Rattle.ffv1_range.specs.Views.{coder_of};
 

@@ -5,8 +5,9 @@
 ghost use Rattle.std.specs.Prelude.{◌≡◌, ◌≤◌, ◌<◌, ℕ, [], IsOk, length, slice_index_or};
 ghost use Rattle.ffv1_range.specs.Forms.{ReadsForm};
 ghost use Rattle.ffv1_range.specs.Decoder.{AreStates};
-ghost use Rattle.ffv1_range.specs.TableForms.{delta_form, context_deltas, contexts_deltas, set_deltas, sets_deltas, deltas_form, AreStateRows};
-ghost use Rattle.ffv1_range.specs.Views.{contexts_of};
+ghost use Rattle.ffv1_range.specs.TableForms.{delta_form, context_deltas, contexts_deltas, set_deltas, sets_deltas, deltas_form};
+ghost use Rattle.ffv1_range.specs.Inner.TableForms.{AreStateRows};
+ghost use Rattle.ffv1_range.specs.Inner.Views.{contexts_of};
 ghost use Rattle.ffv1_range.specs.declared.fault.SetupFault.TheVariants.{Range};
 
 use crate::coding::RangeDecoder;

@@ -5,9 +5,11 @@
 ghost use Rattle.std.specs.Prelude.{◌≡◌, ◌≤◌, IfOk};
 ghost use Rattle.ffv1_bits.specs.Limits.{greatest_side};
 ghost use Rattle.ffv1_range.specs.SetupForms.{front_form};
-ghost use Rattle.ffv1_range.specs.Views.{front_value, planes_value, counts_of};
+ghost use Rattle.ffv1_range.specs.Inner.Views.{front_value};
+ghost use Rattle.ffv1_range.specs.Views.{planes_value, counts_of};
 ghost use Rattle.ffv1_range.specs.TableForms.{set_count};
-ghost use Rattle.ffv1_range.specs.Forms.{ReadsForm, ReadsFormAs};
+ghost use Rattle.ffv1_range.specs.Forms.{ReadsForm};
+ghost use Rattle.ffv1_range.specs.Inner.Forms.{ReadsFormAs};
 ghost use Rattle.ffv1_range.specs.Decoder.{AreStates};
 ghost use Rattle.ffv1_range.specs.Fields.{versions, planes, tile_counts, last_fields};
 ghost use Rattle.ffv1_range.specs.declared.fault.SetupFault.TheVariants.{Range};

@@ -6,8 +6,9 @@ ghost use Rattle.std.specs.Prelude.{◌≡◌, ◌≤◌, ℕ, Ok, false, IfOk};
 ghost use Rattle.ffv1_range.specs.Forms.{ReadsForm, same_fault};
 ghost use Rattle.ffv1_range.specs.declared.head.SliceHead.{SliceHead};
 ghost use Rattle.ffv1_range.specs.Header.{header_limits, head_read, head_judged, IsHeadOf};
-ghost use Rattle.ffv1_range.specs.HeaderForms.{fields_form, ReadsKey, IsAtPlace};
-ghost use Rattle.ffv1_range.specs.Views.{limits_of};
+ghost use Rattle.ffv1_range.specs.HeaderForms.{fields_form};
+ghost use Rattle.ffv1_range.specs.Inner.HeaderForms.{ReadsKey, IsAtPlace};
+ghost use Rattle.ffv1_range.specs.Inner.Views.{limits_of};
 
 use crate::coding::{RangeDecoder, RangeFault};
 use crate::setup::Setup;

@@ -7,7 +7,7 @@ ghost use Rattle.ffv1_range.specs.Setup.{SetupValue, set_contexts, set_entry, Is
 ghost use Rattle.ffv1_range.specs.SetupFaults.{FirstSetupFault};
 ghost use Rattle.ffv1_range.specs.SetupForms.{checked_content, is_size, setup_read};
 ghost use Rattle.ffv1_range.specs.Tiles.{grid_of};
-ghost use Rattle.ffv1_range.specs.Forms.{Gives};
+ghost use Rattle.ffv1_range.specs.Inner.Forms.{Gives};
 ghost use Rattle.ffv1_range.specs.declared.fault.SetupFault.TheVariants.{Memory};
 
 use crate::coding::RangeDecoder;

@@ -7,7 +7,8 @@ use Rattle.ffv1_bits.proofs.Numbers.{length-number_bits}
 use Rattle.ffv1_rice.proofs.OneNumber.{Parts, parts_of, byte_parts, one_prefix, one_shape, one_number_code_of}
 use Rattle.ffv1_rice.proofs.OneCode.{one_parameter, one_value, small_code, decoded_range, decoded_low, IsValueRead, decoded_alike}
 use Rattle.ffv1_rice.specs.States.{ContextState, IsParameter, code_number}
-use Rattle.ffv1_rice.specs.Codes.{prefix_bits, suffix_length, shape_bits, code_bits, SpellsValue, decoded_value, IsCoded, IsCodedDifference, IsCutCode, IsNeedlessEscape, IsLargeCode, IsLargeLevel, IsNumberFault, IsCodeFault, FaultsExcludeCodes, FaultsAreOne}
+use Rattle.ffv1_rice.specs.Codes.{prefix_bits, suffix_length, shape_bits, code_bits, SpellsValue, decoded_value, IsCoded, IsCodedDifference, IsCutCode, IsNeedlessEscape, IsLargeCode, IsLargeLevel, IsCodeFault, FaultsExcludeCodes, FaultsAreOne}
+use Rattle.ffv1_rice.specs.Inner.Codes.{IsNumberFault}
 use Rattle.ffv1_rice.specs.declared.code.CodeFault.{CodeFault}
 use Rattle.ffv1_rice.specs.declared.code.CodeFault.TheVariants as faults
 

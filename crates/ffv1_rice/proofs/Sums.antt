@@ -4,7 +4,8 @@ use Rattle.std.proofs.Common.{◌≡◌, ℕ, ◌+◌, ◌/◌, ◌≤◌, ◌==
 use Rattle.std.specs.Int.{int_max, int_min, int_div_euclid}
 use Rattle.std.proofs.lemmas.Int.{ints, clamps, to_z-of_z, to_z_pos}
 use Rattle.std.proofs.lemmas.Bool.{eqb-true, eqb-false, ne_eqb}
-use Rattle.ffv1_rice.specs.States.{ContextState, IsDifference, IsState, IsUncounted, IsUncorrected, half, fold, with_value, counted, corrected, coded_value, flipped}
+use Rattle.ffv1_rice.specs.States.{ContextState, IsDifference, IsState, half, fold, with_value, counted, corrected, coded_value, flipped}
+use Rattle.ffv1_rice.specs.Inner.States.{IsUncounted, IsUncorrected}
 use Rattle.ffv1_rice.proofs.Folds.{fold_back}
 
 -- ---- small numbers

@@ -10,7 +10,8 @@ use Rattle.std.proofs.lemmas.List.{take_at}
 use Rattle.ffv1_bits.specs.Bits.{number_bits}
 use Rattle.ffv1_bits.specs.Reader.{Reading, ReadsBits}
 use Rattle.ffv1_bits.proofs.Numbers.{length-number_bits, number_bits-split, number_bits-low}
-use Rattle.ffv1_rice.specs.Codes.{prefix_bits, code_bits, BitsBegin}
+use Rattle.ffv1_rice.specs.Codes.{prefix_bits, code_bits}
+use Rattle.ffv1_rice.specs.Inner.Codes.{BitsBegin}
 use Rattle.ffv1_rice.proofs.Shapes.{short_code, escape_code, short_suffix}
 
 -- ---- leading zeros

@@ -1,12 +1,10 @@
 -- Golomb-Rice codes of sample differences, from a value to its bits (RFC 9043, section 3.8.2.1).
-use Rattle.std.specs.Prelude.{◌≡◌, ◌≢◌, ℕ, ◌+◌, ◌-◌, ◌/◌, ◌%◌, ◌^◌, ◌<◌, ◌≤◌, nat_lt, Bool, true, false, ◌&&◌, List, [], ◌∷◌, ◌++◌, length, replicate, ℤ, pos, ◌-ℤ◌, int_lt, if◌then◌else◌, ◌⊎◌}
+use Rattle.std.specs.Prelude.{◌≡◌, ◌≢◌, ℕ, ◌+◌, ◌-◌, ◌/◌, ◌%◌, ◌^◌, ◌<◌, ◌≤◌, nat_lt, Bool, true, false, ◌&&◌, List, [], ◌∷◌, ◌++◌, replicate, ℤ, pos, ◌-ℤ◌, int_lt, if◌then◌else◌, ◌⊎◌}
 use Rattle.ffv1_bits.specs.Bits.{number_bits}
 use Rattle.ffv1_bits.specs.Reader.{Reading, ReadsBits}
 use Rattle.ffv1_rice.specs.States.{ContextState, IsDifference, IsParameter, code_number}
 use Rattle.ffv1_rice.specs.declared.code.CodeFault.{CodeFault}
 use Rattle.ffv1_rice.specs.declared.code.CodeFault.TheVariants as faults
-
--- ---- the codes of numbers
 
 -- the prefix: fewer than 12 zeros and a one, or 12 zeros, the escape (section 3.8.2.1.1)
 unfoldable pub prefix_bits : ℕ → List Bool
@@ -26,14 +24,6 @@ code_bits u k =
     if nat_lt (u / 2 ^ k) 12
     then shape_bits k (u / 2 ^ k) (u % 2 ^ k)
     else shape_bits k 12 (u - 11)
-
--- The bits begin with these, of which there are so many.
-pub record BitsBegin (bits front : List Bool) (count : ℕ) : Type 0 where
-  pub rest : List Bool
-  pub same : bits ≡ front ++ rest
-  pub long : length front ≡ count
-
--- ---- the codes of values and differences
 
 -- The bits are the code of the value under the state.
 pub record SpellsValue (state : ContextState) (value : ℤ) (bits : List Bool) : Type 0 where
@@ -90,13 +80,6 @@ pub record IsLargeLevel (state : ContextState) (level : Bool) (bits : List Bool)
   pub rest : List Bool
   pub spells : SpellsValue state (pos 127) code
   pub begins : bits ≡ code ++ rest
-
--- the faults of a code's number at the parameter k
-abbrev pub IsNumberFault : ℕ → List Bool → CodeFault → Type 0
-IsNumberFault k bits faults.Truncated = IsCutCode k bits
-IsNumberFault k bits faults.EscapeNotNeeded = IsNeedlessEscape k bits
-IsNumberFault k bits faults.CodeTooLarge = IsLargeCode k bits
-IsNumberFault k bits faults.LevelTooLarge = ⊥
 
 -- the faults of a code under a state
 abbrev pub IsCodeFault : ContextState → Bool → List Bool → CodeFault → Type 0

@@ -1,3 +1,4 @@
 pub mod Codes
 pub mod Runs
 pub mod States
+pub mod Inner

@@ -2,8 +2,6 @@
 use Rattle.std.specs.Prelude.{ℕ, ◌+◌, ◌*◌, ◌/◌, ◌^◌, ◌<◌, ◌≤◌, ◌==◌, ℤ, pos, negsuc, ◌+ℤ◌, ◌-ℤ◌, ◌*ℤ◌, neg_ℤ, nat_abs, ◌≤ℤ◌, ◌<ℤ◌, int_lt, int_le, if◌then◌else◌}
 use Rattle.std.specs.Int.{int_max, int_min, int_rem_euclid}
 
--- ---- numbers of eight bits with a sign
-
 pub record IsDifference (difference : ℤ) : Type 0 where
   pub low : neg_ℤ (pos 128) ≤ℤ difference
   pub high : difference ≤ℤ pos 127
@@ -75,28 +73,6 @@ pub record IsState (s : ContextState) : Type 0 where
   pub errors : s.error_sum ≤ 128 * s.count
   pub bias_low : neg_ℤ (pos 128) ≤ℤ s.bias
   pub bias_high : s.bias ≤ℤ pos 127
-
--- once a value has entered the sums ..
-pub record IsUncounted (s : ContextState) : Type 0 where
-  pub some_counted : 1 ≤ s.count
-  pub few_counted : s.count ≤ 128
-  pub drift_low : neg_ℤ (pos (s.count + 128)) <ℤ s.drift
-  pub drift_high : s.drift ≤ℤ pos 127
-  pub errors : s.error_sum ≤ 128 * s.count + 128
-  pub bias_low : neg_ℤ (pos 128) ≤ℤ s.bias
-  pub bias_high : s.bias ≤ℤ pos 127
-
--- .. and once it is counted
-pub record IsUncorrected (s : ContextState) : Type 0 where
-  pub some_counted : 2 ≤ s.count
-  pub few_counted : s.count ≤ 128
-  pub drift_low : neg_ℤ (pos (s.count + 127)) ≤ℤ s.drift
-  pub drift_high : s.drift ≤ℤ pos 127
-  pub errors : s.error_sum ≤ 128 * s.count
-  pub bias_low : neg_ℤ (pos 128) ≤ℤ s.bias
-  pub bias_high : s.bias ≤ℤ pos 127
-
--- ---- what is coded of a value (from -128 to 127) under a state
 
 -- the value less the bias
 abbrev pub coded_value : ContextState → ℤ → ℤ

@@ -6,7 +6,8 @@ ghost use Rattle.std.specs.Prelude.{◌≡◌, ℕ, ◌+◌, ◌/◌, ◌%◌, �
 ghost use Rattle.ffv1_bits.specs.Bits.{number_bits};
 ghost use Rattle.ffv1_bits.specs.Reader.{Reading, ReadsBits};
 ghost use Rattle.ffv1_rice.specs.States.{IsDifference, after_value};
-ghost use Rattle.ffv1_rice.specs.Codes.{prefix_bits, code_bits, decoded_value, IsCoded, IsCodedDifference, IsNumberFault, IsCodeFault, BitsBegin, CodesAreOne, FaultsExcludeCodes, FaultsAreOne};
+ghost use Rattle.ffv1_rice.specs.Codes.{prefix_bits, code_bits, decoded_value, IsCoded, IsCodedDifference, IsCodeFault, CodesAreOne, FaultsExcludeCodes, FaultsAreOne};
+ghost use Rattle.ffv1_rice.specs.Inner.Codes.{IsNumberFault, BitsBegin};
 ghost use Rattle.ffv1_rice.specs.declared.code.CodeFault.TheVariants as CodeFault;
 
 use crate::state::VlcState;

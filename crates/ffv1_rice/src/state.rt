@@ -3,7 +3,8 @@
 //! A state counts 1 to 128 values, its drift lies between -count and 0, and its error sum is at
 //! most 128 for each value counted, so that its parameter is at most 7.
 ghost use Rattle.std.specs.Prelude.{◌≡◌, ℕ, ◌-◌, ◌^◌, pos, ◌≤ℤ◌, ◌≤◌};
-ghost use Rattle.ffv1_rice.specs.States.{IsDifference, half, fold, start_state, IsParameter, with_value, counted, corrected, updated, IsState, IsUncounted, IsUncorrected, coded_value, flipped, sign_number};
+ghost use Rattle.ffv1_rice.specs.States.{IsDifference, half, fold, start_state, IsParameter, with_value, counted, corrected, updated, IsState, coded_value, flipped, sign_number};
+ghost use Rattle.ffv1_rice.specs.Inner.States.{IsUncounted, IsUncorrected};
 
 use std::marker::Model;
 

@@ -19,7 +19,8 @@ use Rattle.ffv1_scan.specs.declared.scanning.ScanFault.TheVariants as faults
 use Rattle.ffv1_scan.specs.Ranges.{Rises, ranges_end}
 use Rattle.ffv1_scan.specs.Verdicts.{IsVerdictOf, bytes_in, AreVerdictsOf, is_sound, verdict_line, verdict_lines}
 use Rattle.ffv1_scan.specs.Scans.{ScansFront, ScansRanges}
-use Rattle.ffv1_scan.specs.Steps.{JudgesNext, LineStops, scan_fault}
+use Rattle.ffv1_scan.specs.Inner.Steps.{JudgesNext, LineStops}
+use Rattle.ffv1_scan.specs.Steps.{scan_fault}
 use Rattle.ffv1_scan.proofs.LineSteps.{ranges_end-push, ranges_end-least, ranges_end-front, rises_after, rises_front}
 
 -- ---- verdicts

@@ -3,7 +3,7 @@ ghost use Rattle.std.specs.Prelude.{◌≡◌, ◌+◌, ◌-◌, ◌<◌, ◌≤
 ghost use Rattle.ffv1_scan.specs.Ranges.{Rises};
 ghost use Rattle.ffv1_scan.specs.Verdicts.{verdict_line};
 ghost use Rattle.ffv1_scan.specs.Scans.{ScansRanges};
-ghost use Rattle.ffv1_scan.specs.Steps.{Opens, JudgesNext, WritesLine};
+ghost use Rattle.ffv1_scan.specs.Inner.Steps.{Opens, JudgesNext, WritesLine};
 
 use crate::ranges::ByteRange;
 use crate::verdict::{Verdict, judge, push_line};

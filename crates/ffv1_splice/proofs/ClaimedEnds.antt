@@ -8,8 +8,9 @@ use Rattle.ffv1_bits.specs.Parity.{AreBytes}
 use Rattle.ffv1_slice.specs.Chain.{IsCut}
 use Rattle.ffv1_slice.specs.Members.{IsOnly, IsOfTwo, IsOfNone}
 use Rattle.ffv1_splice.specs.Pieces.{HasContent}
-use Rattle.ffv1_splice.specs.Splice.{IsClaimedEnd, IsNextClaimed}
-use Rattle.ffv1_splice.specs.Tally.{Tally, Tallies, TalliesBoth}
+use Rattle.ffv1_splice.specs.Splice.{IsClaimedEnd}
+use Rattle.ffv1_splice.specs.Inner.Splice.{IsNextClaimed}
+use Rattle.ffv1_splice.specs.Inner.Tally.{Tally, Tallies, TalliesBoth}
 use Rattle.ffv1_splice.proofs.TallySteps.{alone, tallies_both}
 use Rattle.ffv1_splice.proofs.ShortestSteps.{cut_is_short}
 

@@ -7,12 +7,12 @@ use Rattle.std.proofs.lemmas.List.{append_assoc, append-nil, length-append, leng
 use Rattle.std.proofs.lemmas.List.Elements.{All-nil, All-cons, All-append, All-weaker}
 use Rattle.ffv1_slice.specs.Members.{IsOnly, IsOfNone}
 use Rattle.ffv1_splice.specs.Pieces.{HasContent, IsPiece, IsClaimedStart, PieceFrom, IsPieceFrom, IsShortest}
-use Rattle.ffv1_splice.specs.Tally.{Tallies, pieces_tally, starts_tally}
+use Rattle.ffv1_splice.specs.Inner.Tally.{Tallies, pieces_tally, starts_tally}
 use Rattle.ffv1_splice.specs.declared.tally.Pieces.{Pieces}
 use Rattle.ffv1_splice.specs.declared.tally.Pieces.TheVariants as pieces
 use Rattle.ffv1_splice.specs.declared.tally.Starts.{Starts}
 use Rattle.ffv1_splice.specs.declared.tally.Starts.TheVariants as starts
-use Rattle.ffv1_splice.specs.Placing.{IsPlaced}
+use Rattle.ffv1_splice.specs.Inner.Placing.{IsPlaced}
 use Rattle.ffv1_splice.specs.Standings.{versions_at, StandsAs}
 use Rattle.ffv1_splice.specs.Splice.{RiseFrom, IsSettledUp, IsWalkUp, IsClaimedEnd, IsLostUpTo, IsCrossed, Leg, AreLegs, IsWalkAcross, leg_places}
 use Rattle.ffv1_splice.specs.declared.place.Standing.{Standing}

@@ -9,10 +9,10 @@ use Rattle.ffv1_weave.specs.Weave.{Weave, IsWeaveOf}
 use Rattle.ffv1_weave.specs.Weave.Weave.{missing, too_many}
 use Rattle.ffv1_weave.specs.declared.check.Check.TheVariants.{Slice}
 use Rattle.ffv1_splice.specs.Standings.{versions_at, IsWeaveAt, IsUnwovenAt, IsMissingAt, StandsAs, IsGap}
-use Rattle.ffv1_splice.specs.Placing.{IsPlaced}
+use Rattle.ffv1_splice.specs.Inner.Placing.{IsPlaced}
 use Rattle.ffv1_weave.specs.Parts.{written}
 use Rattle.ffv1_splice.specs.declared.place.Standing.{Standing}
-use Rattle.ffv1_splice.specs.Tally.{Tallies, starts_tally}
+use Rattle.ffv1_splice.specs.Inner.Tally.{Tallies, starts_tally}
 use Rattle.ffv1_splice.specs.declared.tally.Starts.{Starts}
 use Rattle.ffv1_splice.specs.declared.tally.Starts.TheVariants as starts
 

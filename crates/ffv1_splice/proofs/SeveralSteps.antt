@@ -18,8 +18,8 @@ use Rattle.ffv1_splice.specs.Pieces.{HasContent, IsPiece, IsClaimedStart}
 use Rattle.ffv1_splice.specs.Standings.{versions_at, sized, IsWeaveOfSeveral}
 use Rattle.ffv1_splice.specs.declared.several.Tried.{Tried}
 use Rattle.ffv1_splice.specs.declared.several.Tried.TheVariants as tries
-use Rattle.ffv1_splice.specs.Several.{IsNextClaimedStart, TriedValue, capped, tried_more, tried_tally, AreMissing, AreTriedBefore}
-use Rattle.ffv1_splice.specs.Several.TriedValue.{none_woven, one_woven, undecided}
+use Rattle.ffv1_splice.specs.Inner.Several.{IsNextClaimedStart, TriedValue, capped, tried_more, tried_tally, AreMissing, AreTriedBefore}
+use Rattle.ffv1_splice.specs.Inner.Several.TriedValue.{none_woven, one_woven, undecided}
 use Rattle.ffv1_splice.proofs.FirstSlices.{same_sized}
 use Rattle.ffv1_splice.proofs.TallySteps.{last, start_on, start_back, one_cut}
 

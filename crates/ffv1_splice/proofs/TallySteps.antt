@@ -5,8 +5,8 @@ use Rattle.std.proofs.lemmas.List.Elements.{Contains-append_left, Contains-appen
 use Rattle.ffv1_bits.specs.Parity.{PassesParity}
 use Rattle.ffv1_slice.specs.Chain.{IsCut, LinkValue, link_of}
 use Rattle.ffv1_splice.specs.Pieces.{HasContent, IsPiece, IsClaimedStart}
-use Rattle.ffv1_splice.specs.Tally.{Tally, Tallies, TalliesMore, TalliesBoth}
-use Rattle.ffv1_splice.specs.Tally.Tally.{none, one, two}
+use Rattle.ffv1_splice.specs.Inner.Tally.{Tally, Tallies, TalliesMore, TalliesBoth}
+use Rattle.ffv1_splice.specs.Inner.Tally.Tally.{none, one, two}
 
 -- ---- any fact
 

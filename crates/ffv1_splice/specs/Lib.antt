@@ -1,14 +1,12 @@
 pub mod Pieces
 pub mod Standings
-pub mod Placing
-pub mod Several
 pub mod Splice
-pub mod Tally
 pub mod Faults
 pub mod Originals
 pub mod Laws
 pub mod Whole
 pub mod Text
+pub mod Inner
 -- what the clauses cite of the crates below
 pub use Rattle.ffv1_slice.specs.Chain
 pub use Rattle.ffv1_slice.specs.Members

@@ -1,6 +1,6 @@
 -- The frame that copies of one length are spliced to: settled down from its end, settled up from its start, over slices that are lost in
 -- all copies too, and the hole that is left.
-use Rattle.std.specs.Prelude.{ℕ, zero, suc, ◌+◌, ◌-◌, ◌≡◌, ◌<◌, ◌≤◌, ◌⊎◌, List, [], ◌∷◌, ◌++◌, All, Contains, length, map, reverse, take, slice_range}
+use Rattle.std.specs.Prelude.{ℕ, zero, suc, ◌+◌, ◌-◌, ◌≡◌, ◌≤◌, ◌⊎◌, List, [], ◌∷◌, ◌++◌, All, Contains, length, map, reverse, take, slice_range}
 use Rattle.std.specs.List.{flat_map}
 use Rattle.ffv1_slice.specs.Chain.{LinkValue, link_of}
 use Rattle.ffv1_slice.specs.Members.{IsOnly, IsOfNone}
@@ -69,12 +69,6 @@ pub record IsWalkUp (copies : List (List ℕ)) (bound : ℕ) (payload : List ℕ
 pub record IsClaimedEnd (copies : List (List ℕ)) (reach end : ℕ) : Type 0 where
   pub claim : IsClaimedStart copies end 0
   pub within : end ≤ reach
-
--- the first that one copy claims after a place
-pub record IsNextClaimed (copy : List ℕ) (from reach end : ℕ) : Type 0 where
-  pub claimed : IsClaimedEnd (copy ∷ []) reach end
-  pub after : from < end
-  pub first : (other : ℕ) → from < other → IsClaimedEnd (copy ∷ []) reach other → end ≤ other
 
 -- The slice with which the copies begin is lost in all of them, and ends here: no piece begins with them, this end alone is claimed, no
 -- other start is claimed at it, and no piece ends there. But a piece begins there, which bears the end out.

@@ -3,8 +3,9 @@
 ghost use Rattle.std.specs.Prelude.{◌≡◌, ◌+◌, ◌-◌, ◌++◌, ◌<◌, ◌≤◌, ℕ, List, [], ◌∷◌, length, map, take, All, IfOk, MatchOption};
 ghost use Rattle.ffv1_slice.specs.Chain.{IsCut};
 ghost use Rattle.ffv1_splice.specs.Standings.{versions_at};
-ghost use Rattle.ffv1_splice.specs.Tally.{Tallies, starts_tally};
-ghost use Rattle.ffv1_splice.specs.Splice.{IsWalkUp, IsWalkAcross, IsCrossed, IsClaimedEnd, IsNextClaimed, IsLostUpTo, Leg, leg_places};
+ghost use Rattle.ffv1_splice.specs.Inner.Tally.{Tallies, starts_tally};
+ghost use Rattle.ffv1_splice.specs.Splice.{IsWalkUp, IsWalkAcross, IsCrossed, IsClaimedEnd, IsLostUpTo, Leg, leg_places};
+ghost use Rattle.ffv1_splice.specs.Inner.Splice.{IsNextClaimed};
 ghost use Rattle.ffv1_splice.specs.declared.place.Place.{Place};
 
 use crate::place::Place;

@@ -2,7 +2,7 @@
 ghost use Rattle.std.specs.Prelude.{◌≤◌, ◌<◌, length, map, All, IfOk};
 ghost use Rattle.ffv1_slice.specs.Members.{IsOfNone};
 ghost use Rattle.ffv1_splice.specs.Pieces.{IsPiece, IsClaimedStart};
-ghost use Rattle.ffv1_splice.specs.Placing.{IsPlacedOrStop};
+ghost use Rattle.ffv1_splice.specs.Inner.Placing.{IsPlacedOrStop};
 
 use crate::place::{Place, Standing};
 use crate::placing::write_at;

@@ -5,9 +5,9 @@ ghost use Rattle.ffv1_slice.specs.Members.{IsOnly, IsOfTwo, IsOfNone};
 ghost use Rattle.ffv1_splice.specs.Pieces.{IsPiece, IsClaimedStart};
 ghost use Rattle.ffv1_weave.specs.Weave.Weave.{missing, too_many};
 ghost use Rattle.ffv1_splice.specs.Standings.{versions_at, IsWeaveAt, IsUnvotedAt};
-ghost use Rattle.ffv1_splice.specs.Placing.{IsPlaced, IsPlacedOrStop};
+ghost use Rattle.ffv1_splice.specs.Inner.Placing.{IsPlaced, IsPlacedOrStop};
 ghost use Rattle.ffv1_weave.specs.Parts.{written};
-ghost use Rattle.ffv1_splice.specs.Tally.{Tallies, starts_tally};
+ghost use Rattle.ffv1_splice.specs.Inner.Tally.{Tallies, starts_tally};
 
 use crate::first::first_before;
 use crate::place::{Place, Standing};

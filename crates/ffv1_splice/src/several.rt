@@ -6,8 +6,8 @@ ghost use Rattle.ffv1_slice.specs.Members.{IsOfNone, IsOfTwo};
 ghost use Rattle.ffv1_weave.specs.Weave.{weave_tally};
 ghost use Rattle.ffv1_weave.specs.Weave.Weave.{woven, missing};
 ghost use Rattle.ffv1_splice.specs.Pieces.{HasContent, IsPiece, IsClaimedStart};
-ghost use Rattle.ffv1_splice.specs.Placing.{IsPlacedOrStop};
-ghost use Rattle.ffv1_splice.specs.Several.{IsNextClaimedStart, AreTriedBefore, tried_tally, tried_more};
+ghost use Rattle.ffv1_splice.specs.Inner.Placing.{IsPlacedOrStop};
+ghost use Rattle.ffv1_splice.specs.Inner.Several.{IsNextClaimedStart, AreTriedBefore, tried_tally, tried_more};
 
 use crate::place::{Place, Standing};
 use crate::placing::write_at;

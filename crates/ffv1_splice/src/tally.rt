@@ -2,7 +2,7 @@
 ghost use Rattle.std.specs.Prelude.{◌≡◌, ◌≤◌, ◌<◌, ◌↔◌, ℕ, IsTrue, length, map, All, MatchOption};
 ghost use Rattle.ffv1_slice.specs.Chain.{IsCut};
 ghost use Rattle.ffv1_splice.specs.Pieces.{HasContent, IsPiece, IsClaimedStart, IsLeast};
-ghost use Rattle.ffv1_splice.specs.Tally.{Tallies, TalliesMore, TalliesBoth, pieces_tally, starts_tally};
+ghost use Rattle.ffv1_splice.specs.Inner.Tally.{Tallies, TalliesMore, TalliesBoth, pieces_tally, starts_tally};
 
 use ffv1_bits::passes;
 use ffv1_slice::{FOOTER_LENGTH, slice_start};

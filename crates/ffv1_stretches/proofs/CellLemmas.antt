@@ -5,7 +5,7 @@ use Rattle.std.proofs.lemmas.List.Elements.{All-nil, All-cons, All-head, All-tai
 use Rattle.std.proofs.lemmas.List.{take_more, length-map}
 use Rattle.ffv1_stretches.specs.declared.copy.CopyReader.{CopyReader}
 use Rattle.ffv1_stretches.specs.Cells.{versions_in}
-use Rattle.ffv1_stretches.specs.CellSteps.{cell_now, IsAsLong, held_cell, held_cells}
+use Rattle.ffv1_stretches.specs.Inner.CellSteps.{cell_now, IsAsLong, held_cell, held_cells}
 use Rattle.ffv1_stretches.proofs.WordLemmas.{now_of, now_at}
 
 pub held_at : (size : ℕ) (places : List (Option ℕ)) (rooms : List (List ℕ)) (i : ℕ) → i < length places → i < length rooms

@@ -7,7 +7,8 @@ use Rattle.ffv1_devices.specs.Exact.{StopsReading, ReadsNext}
 use Rattle.ffv1_devices.specs.declared.exact.NextFault.{NextFault}
 use Rattle.ffv1_devices.specs.declared.exact.NextFault.TheVariants as faults
 use Rattle.ffv1_devices.proofs.Steps.{Reads-trans, BreaksOff-after}
-use Rattle.ffv1_stretches.specs.Copies.{CopyState, ReadsStretch, ReadsCopy}
+use Rattle.ffv1_stretches.specs.Copies.{CopyState}
+use Rattle.ffv1_stretches.specs.Inner.Copies.{ReadsStretch, ReadsCopy}
 
 pub stops_after : (a b c : ReadLog) (before bytes : List ℕ) → Reads a b before → StopsReading b c bytes → StopsReading a c (before ++ bytes)
 stops_after a b c before bytes read stops =

@@ -3,7 +3,7 @@ use Rattle.std.proofs.Common.{◌≡◌, ℕ, zero, suc, ◌+◌, ◌<◌, List,
 use Rattle.std.specs.List.{zip}
 use Rattle.std.proofs.lemmas.List.{take_more}
 use Rattle.ffv1_stretches.specs.Stretches.{end_after}
-use Rattle.ffv1_stretches.specs.Ends.{end_of}
+use Rattle.ffv1_stretches.specs.Inner.Ends.{end_of}
 use Rattle.ffv1_stretches.specs.declared.ends.End.{End}
 
 -- where they end with one more at these places

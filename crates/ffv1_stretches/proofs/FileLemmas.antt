@@ -11,10 +11,10 @@ use Rattle.ffv1_devices.proofs.Steps.{Reads-trans}
 use Rattle.ffv1_mend.specs.Mended.{MendedValue}
 use Rattle.ffv1_stretches.specs.Stretches.{StretchValue, HasPlace, IsAfter, end_after, ends_after, AreInOrder}
 use Rattle.ffv1_stretches.specs.Cells.{cell_of, cells_of, IsOutcome}
-use Rattle.ffv1_stretches.specs.CellSteps.{HasVersion, IsAsLong, HasRoom, held_cell, held_cells}
+use Rattle.ffv1_stretches.specs.Inner.CellSteps.{HasVersion, IsAsLong, HasRoom, held_cell, held_cells}
 use Rattle.ffv1_stretches.specs.Copies.{CopyState}
 use Rattle.ffv1_stretches.specs.Lines.{stretch_text, mend_text}
-use Rattle.ffv1_stretches.specs.PassSteps.{StepsCopy, StopsCopy, CopyStep}
+use Rattle.ffv1_stretches.specs.Inner.PassSteps.{StepsCopy, StopsCopy, CopyStep}
 use Rattle.ffv1_stretches.specs.Passes.{AreRead, AreReadBut}
 use Rattle.ffv1_stretches.proofs.CopySteps.{stops_after}
 use Rattle.ffv1_stretches.proofs.EndSteps.{moved_ends, length-moved_ends}

@@ -12,7 +12,7 @@ use Rattle.ffv1_mend.specs.declared.kind.Kind.TheVariants.{Crc32}
 use Rattle.ffv1_mend.specs.declared.part.Part.{Part}
 use Rattle.ffv1_stretches.specs.Stretches.{StretchValue}
 use Rattle.ffv1_stretches.specs.Cells.{versions_in, IsOutcome}
-use Rattle.ffv1_stretches.specs.CellSteps.{cell_now, IsUnspliced}
+use Rattle.ffv1_stretches.specs.Inner.CellSteps.{cell_now, IsUnspliced}
 use Rattle.ffv1_stretches.specs.Lines.{is_same}
 use Rattle.ffv1_stretches.proofs.CellLemmas.{cell_at, there_among}
 

@@ -6,7 +6,7 @@ use Rattle.std.proofs.lemmas.List.{take_more, append_assoc, append-nil, take_all
 use Rattle.std.proofs.lemmas.Slice.Zip.{length-zip, get_or-zip}
 use Rattle.ffv1_splice.specs.Splice.{SplicedValue}
 use Rattle.ffv1_mend.specs.declared.part.Part.{Part}
-use Rattle.ffv1_stretches.specs.CellSteps.{cell_now}
+use Rattle.ffv1_stretches.specs.Inner.CellSteps.{cell_now}
 use Rattle.ffv1_stretches.specs.Lines.{cells_between, part_lines, parts_lines}
 use Rattle.ffv1_stretches.proofs.CellLemmas.{cell_at}
 

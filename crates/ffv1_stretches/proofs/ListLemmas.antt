@@ -10,8 +10,8 @@ use Rattle.ffv1_lists.proofs.WordSteps.{words_are_one}
 use Rattle.ffv1_mend.specs.declared.part.Part.{Part}
 use Rattle.ffv1_stretches.specs.Stretches.{StretchValue, FollowsStretch, ends_after, ends_of}
 use Rattle.ffv1_stretches.specs.Listed.{AreStretchWords, ArePartWords, IsNextPart, with_part, AreListed}
-use Rattle.ffv1_stretches.specs.ListSteps.{BeginsPart, AddsPart, AddsNoPart, IsNextStretch, AddsStretch, AddsNoStretch, IsListedTo, AddsLine}
-use Rattle.ffv1_stretches.specs.Ends.{end_of}
+use Rattle.ffv1_stretches.specs.Inner.ListSteps.{BeginsPart, AddsPart, AddsNoPart, IsNextStretch, AddsStretch, AddsNoStretch, IsListedTo, AddsLine}
+use Rattle.ffv1_stretches.specs.Inner.Ends.{end_of}
 use Rattle.ffv1_stretches.specs.declared.ends.End.{End}
 use Rattle.ffv1_stretches.proofs.EndSteps.{length-moved_ends}
 use Rattle.ffv1_stretches.proofs.WordLemmas.{one_stretch, one_part, stretch_is_no_part, part_begins}

@@ -16,11 +16,11 @@ use Rattle.ffv1_stretches.specs.declared.pass.MendFault.{MendFault}
 use Rattle.ffv1_stretches.specs.declared.pass.MendFault.TheVariants as faults
 use Rattle.ffv1_stretches.specs.Stretches.{StretchValue, IsStretchOf, FollowsStretch, ends_after, ends_of, AreInOrder}
 use Rattle.ffv1_stretches.specs.Cells.{cells_of, IsOutcome}
-use Rattle.ffv1_stretches.specs.CellSteps.{HasVersion, IsAsLong, HasRoom, held_cells}
+use Rattle.ffv1_stretches.specs.Inner.CellSteps.{HasVersion, IsAsLong, HasRoom, held_cells}
 use Rattle.ffv1_stretches.specs.Copies.{CopyState, state_of}
 use Rattle.ffv1_stretches.specs.declared.copy.CopyReader.{CopyReader}
 use Rattle.ffv1_stretches.specs.Lines.{stretch_text, mend_text}
-use Rattle.ffv1_stretches.specs.PassSteps.{CopyStep, AreSteps, StopsCopies, ReadsEach, MendsOne}
+use Rattle.ffv1_stretches.specs.Inner.PassSteps.{CopyStep, AreSteps, StopsCopies, ReadsEach, MendsOne}
 use Rattle.ffv1_stretches.specs.Passes.{AreRead, AreReadBut, MendsFront, bytes_of, MendsAll, StopsMending}
 use Rattle.ffv1_stretches.proofs.EndSteps.{moved_ends}
 use Rattle.ffv1_stretches.proofs.ListLemmas.{ends_of-push}

@@ -7,7 +7,7 @@ use Rattle.ffv1_stretches.specs.declared.pass.MendFault.{MendFault}
 use Rattle.ffv1_stretches.specs.declared.pass.MendFault.TheVariants as faults
 use Rattle.ffv1_stretches.specs.Copies.{CopyState, state_of}
 use Rattle.ffv1_stretches.specs.declared.copy.CopyReader.{CopyReader}
-use Rattle.ffv1_stretches.specs.PassSteps.{StepsCopy, StopsCopy, ReadsPlaced, CopyStep, AreSteps, StopsCopies, ReadsEach}
+use Rattle.ffv1_stretches.specs.Inner.PassSteps.{StepsCopy, StopsCopy, ReadsPlaced, CopyStep, AreSteps, StopsCopies, ReadsEach}
 
 -- ---- by index
 

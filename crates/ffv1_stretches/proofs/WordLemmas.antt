@@ -10,7 +10,7 @@ use Rattle.ffv1_mend.specs.declared.kind.Kind.TheVariants.{Frame, Crc32, Plain}
 use Rattle.ffv1_mend.specs.declared.part.Part.{Part}
 use Rattle.ffv1_stretches.specs.Stretches.{StretchValue}
 use Rattle.ffv1_stretches.specs.Listed.{kind_word, part_word, IsPlaceWord, AreStretchWords, ArePartWords}
-use Rattle.ffv1_stretches.specs.ListSteps.{BeginsPart}
+use Rattle.ffv1_stretches.specs.Inner.ListSteps.{BeginsPart}
 
 pub one_number : (word : List ℕ) (m n : ℕ) → IsNumber word m → IsNumber word n → m ≡ n
 one_number word m n p q = sym p.value ∙ q.value

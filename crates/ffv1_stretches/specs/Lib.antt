@@ -1,11 +1,8 @@
 pub mod Stretches
 pub mod Listed
-pub mod ListSteps
-pub mod Ends
 pub mod Copies
-pub mod CellSteps
 pub mod Cells
-pub mod PassSteps
 pub mod Lines
 pub mod Passes
 pub mod Laws
+pub mod Inner

@@ -2,7 +2,7 @@
 ghost use Rattle.std.specs.Prelude.{◌≡◌, length, map, slice_index_or, IfOk};
 ghost use Rattle.std.specs.List.{AllZip};
 ghost use Rattle.ffv1_stretches.specs.Cells.{versions_in};
-ghost use Rattle.ffv1_stretches.specs.CellSteps.{cell_now, HasVersion, HasRoom, held_cell, held_cells};
+ghost use Rattle.ffv1_stretches.specs.Inner.CellSteps.{cell_now, HasVersion, HasRoom, held_cell, held_cells};
 
 use crate::copy::CopyReader;
 use crate::stretch::Stretch;

@@ -1,7 +1,8 @@
 //! A copy of a file, read in the order of its stretches (own).
 ghost use Rattle.std.specs.Prelude.{◌≡◌, ◌+◌, ◌≤◌, length, take};
 ghost use Rattle.ffv1_devices.specs.Exact.{PassesOver};
-ghost use Rattle.ffv1_stretches.specs.Copies.{state_of, unread, ReadsCopy};
+ghost use Rattle.ffv1_stretches.specs.Copies.{state_of, unread};
+ghost use Rattle.ffv1_stretches.specs.Inner.Copies.{ReadsCopy};
 
 use ffv1_devices::{CutShort, NextFault, Source, pass_over, read_next};
 use std::alloc::Global;

@@ -2,7 +2,7 @@
 ghost use Rattle.std.specs.Prelude.{◌≡◌, ◌+◌, ◌≤◌, ◌↔◌, IsTrue, length, map, replicate, IfOk};
 ghost use Rattle.std.specs.List.{AllZip};
 ghost use Rattle.ffv1_stretches.specs.Stretches.{IsAfter, end_after, ends_after};
-ghost use Rattle.ffv1_stretches.specs.Ends.{end_of};
+ghost use Rattle.ffv1_stretches.specs.Inner.Ends.{end_of};
 
 use crate::stretch::Stretch;
 use std::alloc::{AllocError, Global};

@@ -3,7 +3,7 @@ ghost use Rattle.std.specs.Prelude.{◌≡◌, ◌∷◌, ◌++◌, [], IsTrue, 
 ghost use Rattle.std.specs.List.{flat_map, list_all, zip};
 ghost use Rattle.std.specs.Str.{bytes_eq};
 ghost use Rattle.ffv1_stretches.specs.Cells.{IsOutcome};
-ghost use Rattle.ffv1_stretches.specs.CellSteps.{cell_now, IsUnspliced};
+ghost use Rattle.ffv1_stretches.specs.Inner.CellSteps.{cell_now, IsUnspliced};
 ghost use Rattle.ffv1_stretches.specs.Listed.{kind_word};
 ghost use Rattle.ffv1_stretches.specs.Lines.{cell_between, cells_between, is_same, mark_of, marks_of, is_place_settled, is_quiet, place_line, splice_lines, frame_lines, part_lines, parts_lines, state_words, stretch_line, slice_lines, stretch_text};
 

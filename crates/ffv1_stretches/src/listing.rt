@@ -2,8 +2,8 @@
 ghost use Rattle.std.specs.Prelude.{◌≡◌, map, length, replicate, IfOk, IfErr, MatchBool};
 ghost use Rattle.ffv1_stretches.specs.Stretches.{AreInOrder};
 ghost use Rattle.ffv1_stretches.specs.Listed.{AreStretches, IsListFault};
-ghost use Rattle.ffv1_stretches.specs.ListSteps.{AddsPart, AddsNoPart, AddsStretch, AddsNoStretch, IsListedTo, AddsLine};
-ghost use Rattle.ffv1_stretches.specs.Ends.{end_of};
+ghost use Rattle.ffv1_stretches.specs.Inner.ListSteps.{AddsPart, AddsNoPart, AddsStretch, AddsNoStretch, IsListedTo, AddsLine};
+ghost use Rattle.ffv1_stretches.specs.Inner.Ends.{end_of};
 
 use crate::ends::{End, first_ends, follow, next_ends};
 use crate::stretch::Stretch;

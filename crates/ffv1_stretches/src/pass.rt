@@ -3,9 +3,9 @@ ghost use Rattle.std.specs.Prelude.{◌≡◌, All, length, map, replicate, IfEr
 ghost use Rattle.ffv1_devices.specs.Results.{WritesAll};
 ghost use Rattle.ffv1_mend.specs.Improved.{IsWithin};
 ghost use Rattle.ffv1_stretches.specs.Stretches.{IsAfter, FollowsStretch, AreInOrder};
-ghost use Rattle.ffv1_stretches.specs.CellSteps.{cell_now, HasVersion, IsAsLong};
+ghost use Rattle.ffv1_stretches.specs.Inner.CellSteps.{cell_now, HasVersion, IsAsLong};
 ghost use Rattle.ffv1_stretches.specs.Copies.{state_of};
-ghost use Rattle.ffv1_stretches.specs.PassSteps.{ReadsPlaced, ReadsEach, MendsOne};
+ghost use Rattle.ffv1_stretches.specs.Inner.PassSteps.{ReadsPlaced, ReadsEach, MendsOne};
 ghost use Rattle.ffv1_stretches.specs.Passes.{MendsStretches};
 
 use crate::cells::{cells_of, version_at, versions_of};

@@ -6,7 +6,7 @@ ghost use Rattle.ffv1_mend.specs.declared.part.Part.{Part};
 ghost use Rattle.ffv1_lists.specs.Numbers.{IsNumber};
 ghost use Rattle.ffv1_stretches.specs.Stretches.{StretchValue, HasPlace};
 ghost use Rattle.ffv1_stretches.specs.Listed.{kind_word, IsPlaceWord, AreStretchWords, end_of_parts};
-ghost use Rattle.ffv1_stretches.specs.ListSteps.{IsStretchSize, BeginsPart, IsPartOf};
+ghost use Rattle.ffv1_stretches.specs.Inner.ListSteps.{IsStretchSize, BeginsPart, IsPartOf};
 
 use crate::stretch::Stretch;
 use ffv1_bits::PAYLOAD_LIMIT;

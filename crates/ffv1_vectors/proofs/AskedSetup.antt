@@ -10,7 +10,8 @@ use Rattle.ffv1_bits.specs.Limits.{greatest_side}
 use Rattle.ffv1_range.specs.Setup.{SetupValue, SetFields, IsSetFields, IsSetupOf, no_set}
 use Rattle.ffv1_range.specs.SetupForms.{setup_of}
 use Rattle.ffv1_range.specs.Tables.{half_of, halves_of, runs_ended, scale_after, scale_after_all, set_of, SetValue, table_entry}
-use Rattle.ffv1_vectors.specs.Asked.{HasAskedFields, HasTables, HasSet, HasSets, asked_sets, asked_setup}
+use Rattle.ffv1_vectors.specs.Inner.Asked.{HasAskedFields, HasTables, HasSet, HasSets}
+use Rattle.ffv1_vectors.specs.Asked.{asked_sets, asked_setup}
 use Rattle.ffv1_vectors.specs.declared.record.RecordSpec.{RecordSpec}
 
 drop_parts : {A : Type 0} (d : A) (t : ℕ) (xs : List A) (y : A) (ys : List A) → drop t xs ≡ y ∷ ys → (get_or xs t d ≡ y) × (drop (suc t) xs ≡ ys)

@@ -1,5 +1,5 @@
 -- A range encoder (RFC 9043, section 3.8.1), between two bits.
-use Rattle.std.specs.Prelude.{ℕ, ◌+◌, ◌≤◌, List, []}
+use Rattle.std.specs.Prelude.{ℕ, List, []}
 
 -- an encoder: its low end, its range, and the bytes that it has written
 pub record EncoderValue : Type 0 where
@@ -10,9 +10,3 @@ pub record EncoderValue : Type 0 where
 -- the encoder before its first bit
 abbrev pub encoder_start : EncoderValue
 encoder_start = record { low = 0; range = 65280; bytes = [] }
-
--- The range is wide enough for both bits, and the low end, the carry included, has 17 bits.
-pub record IsEncoder (low range : ℕ) : Type 0 where
-  pub wide : 256 ≤ range
-  pub narrow : range ≤ 65280
-  pub short : low + range ≤ 131072

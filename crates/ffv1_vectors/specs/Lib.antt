@@ -1,10 +1,10 @@
 pub mod Asked
 pub mod Damage
 pub mod Spelled
-pub mod Words
 pub mod Frames
 pub mod Suite
 pub mod Encoder
+pub mod Inner
 -- what the clauses cite of the crates below
 pub use Rattle.ffv1_bits.specs.Bits
 pub use Rattle.ffv1_bits.specs.Parity

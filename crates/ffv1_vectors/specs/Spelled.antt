@@ -3,7 +3,6 @@ use Rattle.std.specs.Prelude.{◌≡◌, ◌+◌, ◌<◌, ◌++◌, ℕ, Bool, 
 use Rattle.std.specs.Bool.{MatchBool}
 use Rattle.ffv1_bits.specs.Parity.{PassesParity}
 use Rattle.ffv1_range.specs.Coding.{Coder, bit_at, start_of}
-use Rattle.ffv1_range.specs.Decoder.{Reader, reader_at, reads_bit}
 use Rattle.ffv1_range.specs.HeaderForms.{fields_form}
 use Rattle.ffv1_slice.specs.Chain.{IsFramed, status_before}
 
@@ -31,8 +30,3 @@ pub record IsSpelled (bytes : List ℕ) (first key : Bool) (fields codes : List 
   pub passes : PassesParity bytes
   pub framed : IsFramed bytes
   pub has_status : status_before bytes (length bytes) ≡ status
-
--- A call read the keyframe bit, where there is one, as this.
-abbrev pub ReadsKeyAs : Bool → Bool → Reader → Reader → Type 0
-ReadsKeyAs first key r s =
-    MatchBool first ((c : Coder) × (reads_bit r 128 ≡ Ok (key, c)) × (s ≡ reader_at r (Ok c))) (s ≡ r)

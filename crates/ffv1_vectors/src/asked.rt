@@ -1,7 +1,8 @@
 //! Whether a setup is what a record was asked to say.
 ghost use Rattle.std.specs.Prelude.{◌≡◌, ◌≤◌, ◌<◌, ◌+◌, ◌-◌, ◌*◌, ℕ, IsTrue, IfSome, length, map, pos};
 ghost use Rattle.ffv1_range.specs.Tables.{runs_ended};
-ghost use Rattle.ffv1_vectors.specs.Asked.{asked_sets, IsProfile, HasAskedFields, HasTable, HasSet, HasSets};
+ghost use Rattle.ffv1_vectors.specs.Asked.{asked_sets, IsProfile};
+ghost use Rattle.ffv1_vectors.specs.Inner.Asked.{HasAskedFields, HasTable, HasSet, HasSets};
 
 use crate::record::RecordSpec;
 use ffv1_range::Setup;

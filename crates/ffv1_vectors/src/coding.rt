@@ -5,7 +5,7 @@ ghost use Rattle.std.specs.Prelude.{◌≡◌, ◌<◌, ◌≤◌, ◌+◌, ◌-
 ghost use Rattle.ffv1_bits.specs.Limits.{greatest_side};
 ghost use Rattle.ffv1_range.specs.Setup.{set_contexts};
 ghost use Rattle.ffv1_rice.specs.States.{IsDifference};
-ghost use Rattle.ffv1_vectors.specs.Words.{TakesUpTo};
+ghost use Rattle.ffv1_vectors.specs.Inner.Words.{TakesUpTo};
 
 use crate::fault::MakeFault;
 use crate::plane::{Plane, Residual};

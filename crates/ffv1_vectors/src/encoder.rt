@@ -6,7 +6,8 @@
 ghost use Rattle.std.specs.Prelude.{◌≡◌, ◌+◌, ◌*◌, ◌≤◌, ◌<◌, OnOk, OnErr, IfErr, vec_len, vec_capacity};
 ghost use Rattle.ffv1_range.specs.Coding.{IsBitState, bit_state_after};
 ghost use Rattle.ffv1_range.specs.Decoder.{AreStates};
-ghost use Rattle.ffv1_vectors.specs.Encoder.{IsEncoder, encoder_start};
+ghost use Rattle.ffv1_vectors.specs.Inner.Encoder.{IsEncoder};
+ghost use Rattle.ffv1_vectors.specs.Encoder.{encoder_start};
 ghost use Rattle.ffv1_vectors.specs.declared.fault.MakeFault.TheVariants.{Memory};
 
 use crate::fault::MakeFault;

@@ -4,7 +4,7 @@ ghost use Rattle.ffv1_bits.specs.Limits.{greatest_side};
 ghost use Rattle.ffv1_range.specs.Setup.{IsSetupOf};
 ghost use Rattle.ffv1_vectors.specs.Asked.{IsProfile, asked_setup};
 ghost use Rattle.ffv1_range.specs.Decoder.{AreStates};
-ghost use Rattle.ffv1_range.specs.TableForms.{AreStateRows};
+ghost use Rattle.ffv1_range.specs.Inner.TableForms.{AreStateRows};
 ghost use Rattle.ffv1_vectors.specs.declared.fault.MakeFault.TheVariants.{Memory};
 
 use crate::asked::is_asked;

@@ -3,7 +3,8 @@ ghost use Rattle.std.specs.Prelude.{◌≡◌, ◌<◌, ◌≤◌, ◌^◌, ◌+
 ghost use Rattle.ffv1_bits.specs.Limits.{slice_limit};
 ghost use Rattle.ffv1_bits.specs.Parity.{PassesParity};
 ghost use Rattle.ffv1_slice.specs.Chain.{IsFramed, status_before};
-ghost use Rattle.ffv1_vectors.specs.Spelled.{ReadsAs, IsSpelled, ReadsKeyAs};
+ghost use Rattle.ffv1_vectors.specs.Spelled.{ReadsAs, IsSpelled};
+ghost use Rattle.ffv1_vectors.specs.Inner.Spelled.{ReadsKeyAs};
 ghost use Rattle.ffv1_vectors.specs.declared.fault.MakeFault.TheVariants.{Memory};
 
 use crate::encoder::RangeEncoder;

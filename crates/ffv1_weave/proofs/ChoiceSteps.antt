@@ -11,7 +11,7 @@ use lib.Pointwise.{pointwise}
 use Rattle.ffv1_slice.specs.Members.{HasSameMembers}
 use Rattle.ffv1_weave.specs.Regions.{HaveLength}
 use Rattle.ffv1_weave.proofs.References.{nowhere}
-use Rattle.ffv1_weave.specs.Parts.{AreChoices}
+use Rattle.ffv1_weave.specs.Inner.Parts.{AreChoices}
 
 pub alone : (version other : List ℕ) → Contains (version ∷ []) other → other ≡ version
 alone version other h = let first : h.0 ≡ 0 = omega (arith, h.1) in sym h.2 ∙ ap (λ k. get_or (version ∷ []) k other) first

@@ -12,7 +12,8 @@ use Rattle.ffv1_weave.specs.Seams.{IsSeam}
 use Rattle.ffv1_weave.specs.Grains.{IsPartBy, IsChoiceBy}
 use Rattle.ffv1_weave.specs.Numbers.{AreNumbered, AreMoreThan}
 use Rattle.ffv1_weave.specs.Combinations.{IsCombinationBy}
-use Rattle.ffv1_weave.specs.Parts.{Part, ArePartsFrom, AreAllParts, IsPartFrom, IsFit, parts_end, count_of, chosen, written}
+use Rattle.ffv1_weave.specs.Inner.Parts.{Part, ArePartsFrom, AreAllParts, IsPartFrom, IsFit, parts_end, count_of, chosen}
+use Rattle.ffv1_weave.specs.Parts.{written}
 use Rattle.ffv1_weave.specs.declared.grains.Grain.{Grain}
 use Rattle.ffv1_weave.specs.declared.grains.Grain.TheVariants.{Pairs, Regions, Most}
 use Rattle.ffv1_weave.proofs.GrainSteps.{part_some, part_within, one_part}

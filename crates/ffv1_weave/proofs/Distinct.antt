@@ -4,7 +4,7 @@ use Rattle.std.specs.Prelude.{All}
 use Rattle.std.proofs.lemmas.List.Elements.{Contains-get_or}
 use Rattle.ffv1_slice.specs.Members.{HasSameMembers}
 use Rattle.ffv1_weave.specs.Regions.{HaveLength}
-use Rattle.ffv1_weave.specs.Parts.{AreChoices}
+use Rattle.ffv1_weave.specs.Inner.Parts.{AreChoices}
 use Rattle.ffv1_weave.proofs.References.{values_of, nowhere, value_at, value_there, length-values_of, each_value}
 use Rattle.ffv1_weave.proofs.ChoiceSteps.{choices_are_versions, choices_some}
 

@@ -8,7 +8,7 @@ use Rattle.ffv1_weave.specs.Grains.{grains}
 use Rattle.ffv1_weave.specs.Numbers.{AreNumbered}
 use Rattle.ffv1_weave.specs.Combinations.{IsCombinationBy, HasFew, HasMany}
 use Rattle.ffv1_weave.specs.Weave.{AreMany}
-use Rattle.ffv1_weave.specs.Parts.{Part, AreChoicesBy, IsEdge, IsPartFrom, ArePartsFrom, AreFewParts, AreTriedParts, IsFit, parts_end, count_of}
+use Rattle.ffv1_weave.specs.Inner.Parts.{Part, AreChoicesBy, IsEdge, IsPartFrom, ArePartsFrom, AreFewParts, AreTriedParts, IsFit, parts_end, count_of}
 use Rattle.ffv1_weave.specs.declared.grains.Grain.{Grain}
 use Rattle.ffv1_weave.specs.declared.grains.Grain.TheVariants.{Regions}
 use Rattle.ffv1_weave.specs.declared.weaving.TheConstants.{MOST_COMBINATIONS}

@@ -4,7 +4,7 @@ use Rattle.std.specs.Prelude.{◌⊎◌, Contains}
 use Rattle.ffv1_slice.specs.Members.{IsOnly, IsOfTwo, IsOfNone}
 use Rattle.ffv1_slice.proofs.Links.{Contains-head, Contains-cons}
 use Rattle.ffv1_weave.specs.Checks.{PassesBy}
-use Rattle.ffv1_weave.specs.Found.{PassesAmong, IsFoundAmong}
+use Rattle.ffv1_weave.specs.Inner.Found.{PassesAmong, IsFoundAmong}
 use Rattle.ffv1_weave.specs.declared.check.Check.{Check}
 use Rattle.ffv1_weave.specs.declared.found.Found.{Found}
 use Rattle.ffv1_weave.specs.declared.found.Found.TheVariants as found

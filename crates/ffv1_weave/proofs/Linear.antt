@@ -9,8 +9,9 @@ use Rattle.ffv1_bits.proofs.Sums.{xor_twice}
 use Rattle.ffv1_bits.proofs.SameChanges.{AreSameChanges, all_kept, all_changed, changes_append, remainder_changes}
 use Rattle.ebml_crc.proofs.Elements.{right_leaves_none, element_changes}
 use Rattle.ffv1_weave.specs.Checks.{PassesBy}
-use Rattle.ffv1_weave.specs.Parts.{Part, ArePartsFrom, IsFit, chosen, written}
-use Rattle.ffv1_weave.specs.Changes.{remainder_in, change_of, changes_of, changed}
+use Rattle.ffv1_weave.specs.Inner.Parts.{Part, ArePartsFrom, IsFit, chosen}
+use Rattle.ffv1_weave.specs.Parts.{written}
+use Rattle.ffv1_weave.specs.Inner.Changes.{remainder_in, change_of, changes_of, changed}
 use Rattle.ffv1_weave.specs.declared.check.Check.{Check}
 use Rattle.ffv1_weave.specs.declared.check.Check.TheVariants.{Slice, Element}
 use Rattle.ffv1_weave.specs.declared.grains.Grain.{Grain}

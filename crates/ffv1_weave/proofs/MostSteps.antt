@@ -11,7 +11,7 @@ use Rattle.std.proofs.lemmas.Slice.Eq.{bytes_eq-Decides}
 use Rattle.ffv1_weave.specs.Numbers.{AreNumbered}
 use Rattle.ffv1_weave.specs.Grains.{IsChoiceOf, IsChoiceBy, HasChoice, IsMost}
 use Rattle.ffv1_weave.specs.Regions.{HaveLength}
-use Rattle.ffv1_weave.specs.Parts.{AreChoices, AreChoicesBy, AreDistinct, IsFit}
+use Rattle.ffv1_weave.specs.Inner.Parts.{AreChoices, AreChoicesBy, AreDistinct, IsFit}
 use Rattle.ffv1_weave.specs.declared.grains.Grain.{Grain}
 use Rattle.ffv1_weave.specs.declared.grains.Grain.TheVariants.{Pairs, Regions, Most}
 use Rattle.ffv1_weave.proofs.ChoiceSteps.{alone}

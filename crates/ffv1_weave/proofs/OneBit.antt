@@ -18,7 +18,7 @@ use Rattle.ffv1_bits.proofs.SameChanges.{all_kept, fold_changes}
 use Rattle.ffv1_bits.proofs.Sums.{xor_twice}
 use Rattle.ffv1_weave.specs.Checks.{PassesBy}
 use Rattle.ffv1_weave.specs.Parts.{written}
-use Rattle.ffv1_weave.specs.Inversions.{times_x}
+use Rattle.ffv1_weave.specs.Inner.Inversions.{times_x}
 use Rattle.ffv1_weave.specs.Repairs.{inverted}
 use Rattle.ffv1_weave.specs.declared.check.Check.TheVariants.{Slice}
 use Rattle.ffv1_weave.proofs.Choices.{length-written}

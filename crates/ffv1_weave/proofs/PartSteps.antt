@@ -2,7 +2,7 @@
 use Rattle.std.proofs.Common.{◌≡◌, ℕ, ◌*◌, ◌/◌, ◌<◌, ◌≤◌, List, [], ◌∷◌, ◌++◌, length, refl, sym, ap, ◌∙◌, arith, inl, inr}
 use Rattle.std.proofs.Math.Nat.{le-div_iff_mul-le, mul_comm, mul_assoc, mul-lt-mul_of_pos_left}
 use Rattle.std.proofs.lemmas.Bool.{cases_lt}
-use Rattle.ffv1_weave.specs.Parts.{Part, AreChoicesBy, ArePartsFrom, IsPartFrom, parts_end, count_of}
+use Rattle.ffv1_weave.specs.Inner.Parts.{Part, AreChoicesBy, ArePartsFrom, IsPartFrom, parts_end, count_of}
 use Rattle.ffv1_weave.specs.declared.grains.Grain.{Grain}
 
 -- ---- one part more

@@ -7,11 +7,11 @@ use Rattle.std.proofs.lemmas.List.Elements.{Contains-append_left, Contains-appen
 use Rattle.ffv1_slice.specs.Members.{IsOnly, IsOfTwo, IsOfNone}
 use Rattle.ffv1_slice.proofs.Links.{Contains-head, Contains-cons}
 use Rattle.ffv1_weave.specs.Combinations.{IsCombinationBy}
-use Rattle.ffv1_weave.specs.Parts.{Part, chosen, chosen_below}
+use Rattle.ffv1_weave.specs.Inner.Parts.{Part, chosen, chosen_below}
 use Rattle.ffv1_weave.specs.Weave.{AreMany}
 use Rattle.ffv1_weave.specs.Repairs.{IsRepair, IsRepairOf}
-use Rattle.ffv1_weave.specs.Found.{PassesAmong, IsFoundAmong}
-use Rattle.ffv1_weave.specs.Inversions.{inversions}
+use Rattle.ffv1_weave.specs.Inner.Found.{PassesAmong, IsFoundAmong}
+use Rattle.ffv1_weave.specs.Inner.Inversions.{inversions}
 use Rattle.ffv1_weave.specs.declared.check.Check.TheVariants.{Slice}
 use Rattle.ffv1_weave.specs.declared.grains.Grain.{Grain}
 use Rattle.ffv1_weave.specs.declared.found.Found.{Found}

@@ -11,9 +11,9 @@ use Rattle.ffv1_bits.proofs.Division.{shifted, fold_injective}
 use Rattle.ffv1_slice.specs.Members.{IsOnly}
 use Rattle.ffv1_weave.specs.Checks.{PassesBy}
 use Rattle.ffv1_weave.specs.Regions.{HaveLength, AgreeAt}
-use Rattle.ffv1_weave.specs.Parts.{AreFewParts}
-use Rattle.ffv1_weave.specs.Found.{PassesAmong}
-use Rattle.ffv1_weave.specs.Inversions.{inversions}
+use Rattle.ffv1_weave.specs.Inner.Parts.{AreFewParts}
+use Rattle.ffv1_weave.specs.Inner.Found.{PassesAmong}
+use Rattle.ffv1_weave.specs.Inner.Inversions.{inversions}
 use Rattle.ffv1_weave.specs.Repairs.{inverted, IsRepairOf}
 use Rattle.ffv1_weave.specs.declared.check.Check.TheVariants.{Slice}
 use Rattle.ffv1_weave.specs.declared.grains.Grain.TheVariants.{Pairs}

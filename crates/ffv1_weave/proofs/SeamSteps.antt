@@ -6,7 +6,7 @@ use Rattle.std.proofs.lemmas.List.{get_or_past}
 use Rattle.std.proofs.lemmas.List.Elements.{Contains-get_or}
 use Rattle.ffv1_weave.specs.Regions.{HaveLength, AgreeAt}
 use Rattle.ffv1_weave.specs.Seams.{IsSeam, IsSegment}
-use Rattle.ffv1_weave.specs.Parts.{IsPartFrom}
+use Rattle.ffv1_weave.specs.Inner.Parts.{IsPartFrom}
 use Rattle.ffv1_weave.specs.declared.grains.Grain.TheVariants.{Pairs}
 
 module _ (distance : ℕ) (versions : List (List ℕ)) where

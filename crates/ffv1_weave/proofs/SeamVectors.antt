@@ -6,7 +6,7 @@ use Rattle.ffv1_weave.specs.Regions.{HaveLength, DifferAt, IsRegion}
 use Rattle.ffv1_weave.specs.Seams.{IsSeam, IsSegment}
 use Rattle.ffv1_weave.specs.Checks.{PassesBy}
 use Rattle.ffv1_weave.specs.Combinations.{IsCombinationBy, IsCombination, IsTriedBy, IsValid}
-use Rattle.ffv1_weave.specs.Parts.{Part, AreChoicesBy, IsPartFrom, AreAllParts, IsFit}
+use Rattle.ffv1_weave.specs.Inner.Parts.{Part, AreChoicesBy, IsPartFrom, AreAllParts, IsFit}
 use Rattle.ffv1_weave.specs.declared.check.Check.{Check}
 use Rattle.ffv1_weave.specs.declared.grains.Grain.TheVariants.{Pairs}
 use Rattle.ffv1_weave.proofs.Agreeing.{agree_past, differ_from}

@@ -8,8 +8,8 @@ use Rattle.std.proofs.lemmas.List.Sums.{sum_by_push}
 use Rattle.ffv1_slice.specs.Members.{IsOnly, IsOfTwo, IsOfNone}
 use Rattle.ffv1_weave.specs.Grains.{votes}
 use Rattle.ffv1_weave.specs.Combinations.{IsCombinationBy, HasFew, HasMany}
-use Rattle.ffv1_weave.specs.Parts.{Part, AreDistinct, AreFewParts, chosen_below}
-use Rattle.ffv1_weave.specs.Found.{PassesAmong, IsFoundAmong}
+use Rattle.ffv1_weave.specs.Inner.Parts.{Part, AreDistinct, AreFewParts, chosen_below}
+use Rattle.ffv1_weave.specs.Inner.Found.{PassesAmong, IsFoundAmong}
 use Rattle.ffv1_weave.specs.Votes.{AreThree, AreTriedBy, IsVote, IsVoteOf}
 use Rattle.ffv1_weave.specs.declared.check.Check.TheVariants.{Slice}
 use Rattle.ffv1_weave.specs.declared.found.Found.{Found}

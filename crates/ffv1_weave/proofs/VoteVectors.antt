@@ -9,7 +9,7 @@ use Rattle.ffv1_weave.specs.Numbers.{AreNumbered}
 use Rattle.ffv1_weave.specs.Seams.{IsSeam}
 use Rattle.ffv1_weave.specs.Grains.{HasChoice, IsMost, IsChoiceBy, votes}
 use Rattle.ffv1_weave.specs.Combinations.{IsCombinationBy, HasFew}
-use Rattle.ffv1_weave.specs.Parts.{Part, AreChoicesBy, IsPartFrom, AreFewParts, IsFit}
+use Rattle.ffv1_weave.specs.Inner.Parts.{Part, AreChoicesBy, IsPartFrom, AreFewParts, IsFit}
 use Rattle.ffv1_weave.specs.Votes.{AreThree, AreTriedBy, IsVoteOf}
 use Rattle.ffv1_weave.specs.declared.grains.Grain.{Grain}
 use Rattle.ffv1_weave.specs.declared.grains.Grain.TheVariants.{Regions, Most}

@@ -8,8 +8,8 @@ use Rattle.ffv1_slice.proofs.Links.{Contains-head, Contains-cons}
 use Rattle.ffv1_weave.specs.Regions.{HaveLength}
 use Rattle.ffv1_weave.specs.Numbers.{AreNumbered}
 use Rattle.ffv1_weave.specs.Combinations.{IsCombinationBy, IsValid}
-use Rattle.ffv1_weave.specs.Parts.{Part, IsFit, AreFewParts, AreTriedParts, count_of, chosen, chosen_below}
-use Rattle.ffv1_weave.specs.Found.{PassesAmong, IsFoundAmong}
+use Rattle.ffv1_weave.specs.Inner.Parts.{Part, IsFit, AreFewParts, AreTriedParts, count_of, chosen, chosen_below}
+use Rattle.ffv1_weave.specs.Inner.Found.{PassesAmong, IsFoundAmong}
 use Rattle.ffv1_weave.specs.Weave.{Weave, IsWeaveOf, AreFew, AreMany}
 use Rattle.ffv1_weave.specs.Weave.Weave.{woven, disputed, missing}
 use Rattle.ffv1_weave.specs.declared.check.Check.{Check}
@@ -17,7 +17,7 @@ use Rattle.ffv1_weave.specs.declared.found.Found.{Found}
 use Rattle.ffv1_weave.specs.declared.found.Found.TheVariants as found
 use Rattle.ffv1_weave.specs.declared.parts.Parts.{Parts}
 use Rattle.ffv1_weave.proofs.References.{nowhere, values_of, value_at, length-values_of, each_value}
-use Rattle.ffv1_weave.specs.Changes.{remainder_in, changes_of, changed}
+use Rattle.ffv1_weave.specs.Inner.Changes.{remainder_in, changes_of, changed}
 use Rattle.ffv1_weave.proofs.Linear.{changed_is}
 use Rattle.ffv1_weave.specs.declared.grains.Grain.{Grain}
 use Rattle.ffv1_weave.proofs.Tried.{valid_by, tried_combination}

@@ -6,12 +6,10 @@ pub mod Grains
 pub mod Combinations
 pub mod Weave
 pub mod Parts
-pub mod Changes
 pub mod Laws
 pub mod Repairs
-pub mod Found
-pub mod Inversions
 pub mod Votes
+pub mod Inner
 -- what the clauses cite of the crates below
 pub use Rattle.ebml_crc.specs.Crc
 pub use Rattle.ebml_crc.specs.Element

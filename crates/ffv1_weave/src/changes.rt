@@ -1,8 +1,8 @@
 //! What the choices of parts change of what is left: each is computed once, and a combination's remainder is the
 //! sum of those of its choices.
 ghost use Rattle.std.specs.Prelude.{◌≡◌, ◌+◌, ◌≤◌, ◌<◌, length, map, All, IfOk};
-ghost use Rattle.ffv1_weave.specs.Parts.{IsFit};
-ghost use Rattle.ffv1_weave.specs.Changes.{remainder_in, change_of, changes_of, changed};
+ghost use Rattle.ffv1_weave.specs.Inner.Parts.{IsFit};
+ghost use Rattle.ffv1_weave.specs.Inner.Changes.{remainder_in, change_of, changes_of, changed};
 
 use crate::check::Check;
 use crate::parts::Part;

@@ -1,7 +1,7 @@
 //! The tests by which a combination is valid.
 ghost use Rattle.std.specs.Prelude.{◌≡◌, ◌↔◌, IsTrue};
 ghost use Rattle.ffv1_weave.specs.Checks.{PassesBy};
-ghost use Rattle.ffv1_weave.specs.Changes.{remainder_in};
+ghost use Rattle.ffv1_weave.specs.Inner.Changes.{remainder_in};
 
 use ebml_crc::{element_left, passes_crc32};
 use ffv1_bits::{passes, remainder};

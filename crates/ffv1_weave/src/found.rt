@@ -1,6 +1,6 @@
 //! What is found among byte strings that are tried: those that pass.
 ghost use Rattle.std.specs.Prelude.{ℕ, List, ◌∷◌, IfOk};
-ghost use Rattle.ffv1_weave.specs.Found.{IsFoundAmong};
+ghost use Rattle.ffv1_weave.specs.Inner.Found.{IsFoundAmong};
 
 use crate::check::Check;
 use std::alloc::{AllocError, Global};

@@ -4,8 +4,8 @@ ghost use Rattle.std.specs.Prelude.{◌≡◌, ◌+◌, ◌-◌, ◌*◌, ◌%�
 ghost use Rattle.ffv1_bits.specs.Bits.{bits_of};
 ghost use Rattle.ffv1_bits.specs.Parity.{reduced_at, remainder_of};
 ghost use Rattle.ffv1_weave.specs.Repairs.{inverted};
-ghost use Rattle.ffv1_weave.specs.Found.{IsFoundAmong};
-ghost use Rattle.ffv1_weave.specs.Inversions.{inversions_from, inversions, times_x};
+ghost use Rattle.ffv1_weave.specs.Inner.Found.{IsFoundAmong};
+ghost use Rattle.ffv1_weave.specs.Inner.Inversions.{inversions_from, inversions, times_x};
 ghost use Rattle.ffv1_weave.specs.declared.inversions.TheConstants.{WIDTH, MARKS};
 ghost use Rattle.ffv1_weave.specs.declared.check.Check.TheVariants.{Slice};
 ghost use Rattle.ffv1_weave.specs.declared.repairing.TheConstants.{MOST_REPAIRS};

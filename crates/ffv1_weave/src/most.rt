@@ -2,7 +2,7 @@
 ghost use Rattle.std.specs.Prelude.{◌≤◌, ℕ, length, map, All, IfOk};
 ghost use Rattle.ffv1_weave.specs.Numbers.{AreNumbered};
 ghost use Rattle.ffv1_weave.specs.Grains.{HasChoice};
-ghost use Rattle.ffv1_weave.specs.Parts.{AreChoicesBy, AreDistinct};
+ghost use Rattle.ffv1_weave.specs.Inner.Parts.{AreChoicesBy, AreDistinct};
 ghost use Rattle.ffv1_weave.specs.declared.grains.Grain.TheVariants.{Most};
 
 use crate::parts::choices_between;

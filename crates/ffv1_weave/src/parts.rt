@@ -3,7 +3,7 @@ ghost use Rattle.std.specs.Prelude.{◌≡◌, ◌≤◌, ◌<◌, ℕ, length, 
 ghost use Rattle.ffv1_weave.specs.Regions.{AgreeAt};
 ghost use Rattle.ffv1_weave.specs.Combinations.{HasMany};
 ghost use Rattle.ffv1_weave.specs.Weave.{AreMany};
-ghost use Rattle.ffv1_weave.specs.Parts.{AreChoices, AreChoicesBy, AreDistinct, IsEdge, IsPartFrom, IsFit, AreFewParts, AreTriedParts, chosen};
+ghost use Rattle.ffv1_weave.specs.Inner.Parts.{AreChoices, AreChoicesBy, AreDistinct, IsEdge, IsPartFrom, IsFit, AreFewParts, AreTriedParts, chosen};
 
 use crate::grains::{GRAINS, Grain};
 use crate::most::most_between;
@@ -23,7 +23,7 @@ pub(crate) struct Part<'a> {
 
 impl<'a> Model for Part<'a> {
     ghost use Rattle.std.specs.Prelude.{map};
-    ghost use Rattle.ffv1_weave.specs.Parts.{Part};
+    ghost use Rattle.ffv1_weave.specs.Inner.Parts.{Part};
 
     ghost Value = { Part };
 

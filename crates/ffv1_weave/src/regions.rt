@@ -1,7 +1,7 @@
 //! The regions where versions of a slice differ, found from its front on.
 ghost use Rattle.std.specs.Prelude.{◌≡◌, ◌+◌, ◌-◌, ◌≤◌, ◌<◌, ℕ, length, map, All, IsTrue, MatchBool, MatchOption, IfSome};
 ghost use Rattle.ffv1_weave.specs.Regions.{AgreeAt, DifferAt};
-ghost use Rattle.ffv1_weave.specs.Parts.{IsPartFrom};
+ghost use Rattle.ffv1_weave.specs.Inner.Parts.{IsPartFrom};
 ghost use Rattle.ffv1_weave.specs.declared.grains.Grain.TheVariants.{Regions};
 
 /// How many places in a row at which all versions agree part two regions: places at which versions differ are of one region where

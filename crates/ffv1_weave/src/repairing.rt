@@ -1,7 +1,7 @@
 //! The repair of versions of one slice in which one bit is wrong in all of them: each combination is tried with each of its bits inverted.
 ghost use Rattle.std.specs.Prelude.{◌≡◌, ◌<◌, ℕ, List, [], length, map, All, IfOk, MatchOption, slice_index_or};
 ghost use Rattle.ffv1_weave.specs.Repairs.{IsRepairOf};
-ghost use Rattle.ffv1_weave.specs.Parts.{AreDistinct};
+ghost use Rattle.ffv1_weave.specs.Inner.Parts.{AreDistinct};
 
 use crate::found::Found;
 use crate::inversions::with_inversions;

@@ -2,7 +2,7 @@
 ghost use Rattle.std.specs.Prelude.{◌≡◌, ◌≤◌, ◌<◌, ◌↔◌, ℕ, List, Contains, length, map, All, IsTrue, MatchOption, IfSome};
 ghost use Rattle.ffv1_weave.specs.Regions.{AgreeAt};
 ghost use Rattle.ffv1_weave.specs.Seams.{BeginsStreak, EndsStreak, AreParted, IsSeam};
-ghost use Rattle.ffv1_weave.specs.Parts.{IsEdge, IsPartFrom};
+ghost use Rattle.ffv1_weave.specs.Inner.Parts.{IsEdge, IsPartFrom};
 ghost use Rattle.ffv1_weave.specs.declared.grains.Grain.TheVariants.{Pairs};
 
 use crate::regions::{differ_at, first_from};

@@ -1,8 +1,8 @@
 //! Combinations that are tried: what is left of each is summed of what each of its choices changes of the first one, and only where that is
 //! 0 are its bytes written and looked at. A part with one choice changes nothing, so no parity is taken of it.
 ghost use Rattle.std.specs.Prelude.{◌≡◌, ◌<◌, ◌++◌, ℕ, List, [], length, map, All, IfOk, slice_index_or};
-ghost use Rattle.ffv1_weave.specs.Found.{IsFoundAmong};
-ghost use Rattle.ffv1_weave.specs.Parts.{AreFewParts, chosen_below};
+ghost use Rattle.ffv1_weave.specs.Inner.Found.{IsFoundAmong};
+ghost use Rattle.ffv1_weave.specs.Inner.Parts.{AreFewParts, chosen_below};
 ghost use Rattle.ffv1_weave.specs.declared.grains.Grain.{Grain};
 
 use crate::changes::{changed, tables_of};

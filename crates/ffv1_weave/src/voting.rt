@@ -1,6 +1,6 @@
 //! The vote of versions of one slice: what most of them have in each segment.
 ghost use Rattle.std.specs.Prelude.{◌≡◌, ◌<◌, ◌≤◌, ℕ, List, [], length, map, All, IfOk, MatchOption, slice_index_or};
-ghost use Rattle.ffv1_weave.specs.Parts.{AreDistinct};
+ghost use Rattle.ffv1_weave.specs.Inner.Parts.{AreDistinct};
 ghost use Rattle.ffv1_weave.specs.Votes.{IsVoteOf};
 
 use crate::check::Check;

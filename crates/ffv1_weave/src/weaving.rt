@@ -1,7 +1,7 @@
 //! The weave of versions of one slice or element: each combination is tried.
 ghost use Rattle.std.specs.Prelude.{◌≡◌, ◌<◌, [], length, map, All, IfOk, slice_index_or};
 ghost use Rattle.ffv1_weave.specs.Weave.{IsWeaveOf, weave_tally};
-ghost use Rattle.ffv1_weave.specs.Parts.{AreDistinct};
+ghost use Rattle.ffv1_weave.specs.Inner.Parts.{AreDistinct};
 
 use crate::check::Check;
 use crate::found::Found;

@@ -12,7 +12,8 @@ use Rattle.clap.proofs.OnLiterals.{clap_on_literals}
 use Rattle.clap.proofs.WalkLemmas.{first_value-rows, raw_values-rows}
 use Rattle.ffv1_commands.specs.Fault.{NamesNoPath}
 use Rattle.ffv1_commands.specs.declared.fault.CliFault.{CliFault}
-use Rattle.ffv1_words.specs.Arguments.{rows_matched, IsWord, AreValues, ReadsWords}
+use Rattle.ffv1_words.specs.Inner.Arguments.{rows_matched, ReadsWords}
+use Rattle.ffv1_words.specs.Arguments.{IsWord, AreValues}
 use Rattle.ffv1_words.specs.Grammar.{program_app}
 use Rattle.ffv1_words.specs.declared.words.Words.{Words}
 

@@ -1,18 +1,11 @@
 -- What a command's words are read from: the values that clap finds under each name, its rows.
-use Rattle.std.specs.Prelude.{ℕ, ◌≡◌, ◌∷◌, List, Some, Result, Ok, Err, map, codes}
+use Rattle.std.specs.Prelude.{ℕ, ◌≡◌, ◌∷◌, List, Some, map, codes}
 use Rattle.std.specs.Str.Parse.{digits_value, without_leading_plus}
-use Rattle.clap.specs.Words.{Row, all_of, first_of, rows_of, found_of, subcommand_of}
-use Rattle.clap.specs.declared.parser.matches.ArgMatches.{ArgMatches}
-use Rattle.ffv1_commands.specs.Fault.{NamesNoPath}
-use Rattle.ffv1_commands.specs.declared.fault.CliFault.{CliFault}
+use Rattle.clap.specs.Words.{Row, all_of, first_of, subcommand_of}
 use Rattle.ffv1_words.specs.Grammar.{program_app}
 use Rattle.ffv1_words.specs.declared.words.Recording.{Recording}
 use Rattle.ffv1_words.specs.declared.words.Words.{Words}
 use Rattle.ffv1_words.specs.declared.words.Words.TheVariants.{Chain, Scan, Show, Take, Join, Merge, Report, Restore, Picture, Splice, Mend, Decode, Help, Version}
-
--- what clap found under each name
-abbrev pub rows_matched : ArgMatches → List Row
-rows_matched matches = rows_of (found_of matches)
 
 -- The first value of this name.
 abbrev pub IsWord : List Row → List ℕ → List ℕ → Type 0
@@ -71,11 +64,6 @@ command_name (Mend list out copies) = codes "mend"
 command_name (Decode recording frame out) = codes "decode"
 command_name Help = codes "help"
 command_name Version = codes "version"
-
--- The command of this name was read with its words, or what is at fault names no path.
-abbrev pub ReadsWords : List Row → List ℕ → Result Words CliFault → Type 0
-ReadsWords rows name (Ok words) = (command_name words ≡ name) × AreArguments rows words
-ReadsWords rows name (Err fault) = NamesNoPath fault
 
 -- These arguments, the first of which is the program's name, are read by clap as a command with these words.
 abbrev pub AreReadFrom : List (List ℕ) → Words → Type 0

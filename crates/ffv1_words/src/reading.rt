@@ -4,7 +4,8 @@ ghost use Rattle.ffv1_commands.specs.Fault.{NamesNoPath};
 ghost use Rattle.clap.specs.Words.{app_of, rule_of};
 ghost use Rattle.clap.specs.declared.builder.command.Command.TheViews.{out-Command};
 ghost use Rattle.ffv1_words.specs.Grammar.{word_rule, command_app, with_commands, program_app};
-ghost use Rattle.ffv1_words.specs.Arguments.{rows_matched, IsWord, AreValues, IsNumberWord, IsRecording, AreReadFrom, ReadsWords};
+ghost use Rattle.ffv1_words.specs.Inner.Arguments.{rows_matched, ReadsWords};
+ghost use Rattle.ffv1_words.specs.Arguments.{IsWord, AreValues, IsNumberWord, IsRecording, AreReadFrom};
 
 use crate::words::{Recording, Words};
 use clap::error::ErrorKind;

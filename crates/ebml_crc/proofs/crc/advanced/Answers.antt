@@ -2,7 +2,7 @@ use Rattle.std.proofs.Common.{◌≡◌, ℕ, List, ◌/◌, ◌++◌, length, t
 use Rattle.std.proofs.lemmas.List.{take_all}
 use Rattle.std.specs.List.{concat}
 use Rattle.std.specs.Simd.{first_chunks}
-use Rattle.ebml_crc.specs.Register.{Advances}
+use Rattle.ebml_crc.specs.Inner.Register.{Advances}
 use Rattle.ebml_crc.proofs.Advances.{chunks_and_rest, rest_advanced}
 use Rattle.ebml_crc.proofs.crc.advanced.Goals as goal
 

@@ -1,7 +1,7 @@
 use Rattle.std.proofs.Common.{◌/◌, ◌++◌, length, take}
 use Rattle.std.specs.List.{concat}
 use Rattle.std.specs.Simd.{first_chunks}
-use Rattle.ebml_crc.specs.Register.{Advances}
+use Rattle.ebml_crc.specs.Inner.Register.{Advances}
 use Rattle.ebml_crc.proofs.crc.advanced.Given as goal
 
 -- The chunks and the bytes so far after them were taken.

@@ -1,6 +1,6 @@
 use Rattle.std.proofs.Common.{take}
 use Rattle.std.specs.List.{concat}
-use Rattle.ebml_crc.specs.Register.{Advances}
+use Rattle.ebml_crc.specs.Inner.Register.{Advances}
 use Rattle.ebml_crc.proofs.crc.advanced_by_chunks.Given as goal
 
 -- The chunks so far were taken.

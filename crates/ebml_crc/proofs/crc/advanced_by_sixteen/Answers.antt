@@ -2,7 +2,7 @@ use Rattle.std.proofs.Common.{◌≡◌, ◌++◌, ℕ, List, refl, sym, ap, ◌
 use Rattle.std.specs.Prelude.{bit_xor}
 use Rattle.std.specs.Int.{w64, to_le_bytes}
 use Rattle.std.proofs.lemmas.Nat.{le_bytes_8}
-use Rattle.ebml_crc.specs.Register.{left_before}
+use Rattle.ebml_crc.specs.Inner.Register.{left_before}
 use Rattle.ebml_crc.proofs.Advances.{first_eight, first_eight-small, last_eight, last_eight-small, elements_of_sixteen, sixteen_advanced}
 use Rattle.ebml_crc.proofs.crc.advanced_by_sixteen.Goals as goal
 

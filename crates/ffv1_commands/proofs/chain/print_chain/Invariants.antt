@@ -1,6 +1,6 @@
 use Rattle.std.proofs.Common.{◌≡◌, ◌≤◌, ◌++◌, List, ℕ, length, string_bytes, string_capacity}
 use Rattle.std.specs.List.{flat_map}
-use Rattle.ffv1_commands.specs.Lines.{room, PrintsFront}
+use Rattle.ffv1_commands.specs.Inner.Lines.{room, PrintsFront}
 use Rattle.ffv1_commands.specs.ChainText.{link_line}
 use Rattle.ffv1_commands.proofs.chain.print_chain.Given as goal
 

@@ -1,6 +1,6 @@
 use Rattle.std.proofs.Common.{inl, refl, subst}
 use Rattle.std.proofs.lemmas.Result.{err_from_is_err_and}
-use Rattle.ffv1_commands.specs.Devices.{WritesNamed}
+use Rattle.ffv1_commands.specs.Inner.Devices.{WritesNamed}
 use Rattle.ffv1_commands.specs.declared.path.CommandPath.TheVariants as paths
 use Rattle.ffv1_commands.proofs.MadeFiles.{then_printed}
 use Rattle.ffv1_commands.proofs.NamedFiles.{named-untouched}

@@ -1,6 +1,6 @@
 use Rattle.std.proofs.Common.{◌≡◌}
 use Rattle.std.proofs.lemmas.Result.{err_from_is_err_and}
-use Rattle.ffv1_commands.specs.JoinText.{JoinsFile}
+use Rattle.ffv1_commands.specs.Inner.JoinText.{JoinsFile}
 use Rattle.ffv1_commands.specs.declared.fault.CliFault.TheVariants.{Memory}
 use Rattle.ffv1_commands.specs.declared.path.CommandPath.TheVariants as paths
 use Rattle.ffv1_commands.proofs.InputLaws.{read_alone}

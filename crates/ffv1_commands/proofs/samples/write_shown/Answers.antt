@@ -1,6 +1,6 @@
 use Rattle.std.proofs.Common.{refl, inl, subst}
 use Rattle.std.proofs.lemmas.Result.{err_from_is_err_and}
-use Rattle.ffv1_commands.specs.Devices.{WritesNamed}
+use Rattle.ffv1_commands.specs.Inner.Devices.{WritesNamed}
 use Rattle.ffv1_commands.specs.declared.path.CommandPath.TheVariants as paths
 use Rattle.ffv1_commands.proofs.WrittenBoth.{then_text}
 use Rattle.ffv1_commands.proofs.samples.write_shown.Goals as goal

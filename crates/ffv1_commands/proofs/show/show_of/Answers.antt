@@ -1,6 +1,6 @@
 use Rattle.std.proofs.Common.{refl, subst, ◌∙◌}
 use Rattle.std.proofs.lemmas.Result.{err_from_is_err_and}
-use Rattle.ffv1_commands.specs.Devices.{WritesNamed}
+use Rattle.ffv1_commands.specs.Inner.Devices.{WritesNamed}
 use Rattle.ffv1_commands.specs.Fault.{of_setup}
 use Rattle.ffv1_commands.specs.declared.path.CommandPath.TheVariants as paths
 use Rattle.ffv1_commands.proofs.RecordFaults.{record_unread, record_taken, record_refused, record_one}

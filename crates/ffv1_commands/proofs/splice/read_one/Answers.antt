@@ -1,5 +1,5 @@
 use Rattle.std.proofs.Common.{ℕ, List, Vec, Global}
-use Rattle.ffv1_commands.specs.Devices.{ReadsNamed}
+use Rattle.ffv1_commands.specs.Inner.Devices.{ReadsNamed}
 use Rattle.ffv1_commands.specs.declared.path.CommandPath.TheVariants as paths
 use Rattle.ffv1_commands.proofs.InputLaws.{read_alone}
 use Rattle.ffv1_commands.proofs.splice.read_one.Goals as goal

@@ -1,4 +1,4 @@
-use Rattle.ffv1_commands.specs.TakeText.{TakesCopy}
+use Rattle.ffv1_commands.specs.Inner.TakeText.{TakesCopy}
 use Rattle.ffv1_commands.proofs.InputLaws.{read_alone}
 use Rattle.ffv1_commands.proofs.take.take_copy.Goals as goal
 

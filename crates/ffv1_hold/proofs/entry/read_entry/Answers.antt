@@ -1,7 +1,7 @@
 use Rattle.std.proofs.Common.{[], ◌∷◌, get_or, arith, refl, rules, subst}
 use Rattle.std.proofs.lemmas.Result.{err_from_is_err_and}
 use Rattle.ffv1_hold.specs.HoldingText.{slice_text}
-use Rattle.ffv1_hold.specs.Reading.{TakesText, Never}
+use Rattle.ffv1_hold.specs.Inner.Reading.{TakesText, Never}
 use Rattle.ffv1_hold.specs.FileFaults.{IsPartOfSlice, IsEntryInPlace, IsPartAfter, IsPartOfEntry, SliceIsTooLong, ShowsAfter, EntryShows}
 use Rattle.ffv1_hold.proofs.TextReads.{TakesText-trans, StopsAt-part, StopsAt-after, shown}
 use Rattle.ffv1_hold.proofs.Entries.{single, entry_text-of, part_of_tag, part_of_slice, part_after_slice, slice_shows, after_shows, wrong_stops}

@@ -1,7 +1,7 @@
 use Rattle.std.proofs.Common.{length, take, arith}
 use Rattle.std.proofs.lemmas.Result.{err_from_is_err_and}
 use Rattle.ffv1_hold.specs.HoldingText.{name}
-use Rattle.ffv1_hold.specs.Reading.{IsShorter, Never}
+use Rattle.ffv1_hold.specs.Inner.Reading.{IsShorter, Never}
 use Rattle.ffv1_hold.specs.FileFaults.{IsPartOfMagic, MagicShows}
 use Rattle.ffv1_hold.proofs.TextReads.{TakesText-trans, StopsAt-after, shown}
 use Rattle.ffv1_hold.proofs.Heads.{wrong_name, part_of_name}

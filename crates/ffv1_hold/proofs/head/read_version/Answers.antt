@@ -1,6 +1,6 @@
 use Rattle.std.proofs.Common.{get_or, refl, rules, subst}
 use Rattle.std.proofs.lemmas.Result.{err_from_is_err_and}
-use Rattle.ffv1_hold.specs.Reading.{TakesText}
+use Rattle.ffv1_hold.specs.Inner.Reading.{TakesText}
 use Rattle.ffv1_hold.proofs.TextReads.{StopsAt-part, shown}
 use Rattle.ffv1_hold.proofs.Entries.{single}
 use Rattle.ffv1_hold.proofs.head.read_version.Goals as goal

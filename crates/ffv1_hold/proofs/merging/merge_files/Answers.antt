@@ -1,8 +1,8 @@
 use Rattle.std.proofs.Common.{rules, refl, inl}
 use Rattle.std.proofs.lemmas.Result.{err_from_is_err_and}
-use Rattle.ffv1_hold.specs.Merging.{Start, AreVersions, IsOpened}
+use Rattle.ffv1_hold.specs.Inner.Merging.{Start, AreVersions, IsOpened}
 use Rattle.ffv1_hold.proofs.MergeAnswers.{after_heads, never_other}
-use Rattle.ffv1_hold.proofs.JoinSteps.{JoinWent-after}
+use Rattle.ffv1_hold.proofs.JoinSteps.{MergeWent-after}
 use Rattle.ffv1_hold.proofs.merging.merge_files.Goals as goal
 
 pub returns-in_err-reel : goal.returns-in_err-reel
@@ -38,5 +38,5 @@ returns g c =
       most = done.most s versions opened;
       err = after_heads _ _ _ r (done.err s versions opened);
       untouched = never_other _ _ _ _ r (done.err s versions opened);
-      went = JoinWent-after r _ _ _ _ _ _ (o.went (g.W.Sink.log c.args.sink.now)) done.went;
+      went = MergeWent-after r _ _ _ _ _ _ (o.went (g.W.Sink.log c.args.sink.now)) done.went;
     }

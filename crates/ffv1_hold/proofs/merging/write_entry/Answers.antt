@@ -6,7 +6,7 @@ use Rattle.ffv1_devices.specs.Writing.{WritesFront}
 use Rattle.ffv1_devices.specs.Logs.{Writes}
 use Rattle.ffv1_devices.proofs.Steps.{GoesOn-refl, Writes-trans, StopsWriting-of, StopsWriting-after}
 use Rattle.ffv1_hold.specs.HoldingText.{FileEntry, slice_text, origins_text}
-use Rattle.ffv1_hold.specs.Merging.{digests_union}
+use Rattle.ffv1_hold.specs.Inner.Merging.{digests_union}
 use Rattle.ffv1_hold.proofs.JoinedEntries.{joined_spelled, joined_length}
 use Rattle.ffv1_hold.proofs.merging.write_entry.Goals as goal
 

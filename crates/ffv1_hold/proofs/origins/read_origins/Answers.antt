@@ -1,7 +1,7 @@
 use Rattle.std.proofs.Common.{◌++◌, ◌∷◌, [], length, arith, inl, ap, sym, ◌∙◌, subst, append-nil, length-append}
 use Rattle.std.proofs.lemmas.Result.{err_from_is_err_and}
 use Rattle.ffv1_hold.specs.HoldingText.{be4}
-use Rattle.ffv1_hold.specs.Reading.{TakesText}
+use Rattle.ffv1_hold.specs.Inner.Reading.{TakesText}
 use Rattle.ffv1_hold.specs.FileEntries.{AreOrigins}
 use Rattle.ffv1_hold.proofs.TextReads.{StopsAt-part}
 use Rattle.ffv1_hold.proofs.DigestTexts.{whole}

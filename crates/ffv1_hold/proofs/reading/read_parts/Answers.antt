@@ -4,8 +4,9 @@ use Rattle.ffv1_bits.specs.Limits.{record_limit}
 use Rattle.ffv1_pool.specs.Reels.{Reel}
 use Rattle.ffv1_pool.specs.Contents.{Contents}
 use Rattle.ffv1_hold.specs.HoldingText.{head_text, entries_text, file_entries}
-use Rattle.ffv1_hold.specs.Reading.{TakesText}
-use Rattle.ffv1_hold.specs.FileFaults.{IsPartOfEntries, IsPartOfFile, EntriesAreWhole, FileIsWhole, EntriesShow, FileShows}
+use Rattle.ffv1_hold.specs.Inner.Reading.{TakesText}
+use Rattle.ffv1_hold.specs.FileFaults.{IsPartOfEntries, IsPartOfFile, FileIsWhole, EntriesShow, FileShows}
+use Rattle.ffv1_hold.specs.Inner.FileFaults.{EntriesAreWhole}
 use Rattle.ffv1_hold.proofs.TextReads.{TakesText-trans, StopsAt-after, memory_stops}
 use Rattle.ffv1_hold.proofs.Heads.{head_is_part, head_file, file_from_entries_part, file_from_whole_entries, file_from_entries_fault}
 use Rattle.ffv1_hold.proofs.reading.read_parts.Goals as goal

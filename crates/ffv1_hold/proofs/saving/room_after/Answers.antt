@@ -1,8 +1,8 @@
 use Rattle.std.proofs.Common.{◌≡◌, ◌<◌, ◌++◌, ◌+◌, length, arith, sym, ap, ◌∙◌, length-append}
 use Rattle.ffv1_hold.specs.declared.version.Version.TheVariants.{Second}
 use Rattle.ffv1_pool.specs.Reels.{reel_tiles}
-use Rattle.ffv1_pool.specs.TileSets.{tile_entries}
-use Rattle.ffv1_hold.specs.Saving.{tile_file_entries, file_entries_below}
+use Rattle.ffv1_pool.specs.Inner.TileSets.{tile_entries}
+use Rattle.ffv1_hold.specs.Inner.Saving.{tile_file_entries, file_entries_below}
 use Rattle.ffv1_hold.specs.HoldingText.{entries_text}
 use Rattle.ffv1_hold.proofs.Slots.{entries_text-none}
 use Rattle.ffv1_hold.proofs.TileTexts.{text_below-more, text_goes_on, length-entries_text, file_entries_below-all}

@@ -4,7 +4,7 @@ use Rattle.ffv1_devices.specs.Logs.{Writes, StopsWriting}
 use Rattle.ffv1_devices.proofs.Steps.{Writes-nil, Writes-trans, StopsWriting-after, StopsWriting-of}
 use Rattle.ffv1_pool.specs.Reels.{reel_tiles}
 use Rattle.ffv1_hold.specs.declared.version.Version.TheVariants.{Second}
-use Rattle.ffv1_hold.specs.Saving.{file_entries_below}
+use Rattle.ffv1_hold.specs.Inner.Saving.{file_entries_below}
 use Rattle.ffv1_hold.specs.HoldingText.{entries_text}
 use Rattle.ffv1_hold.proofs.Slots.{entries_text-none}
 use Rattle.ffv1_hold.proofs.TileTexts.{text_below-more, text_goes_on, file_entries_below-all}

@@ -4,7 +4,7 @@ use Rattle.ffv1_devices.specs.Logs.{StopsWriting}
 use Rattle.ffv1_devices.specs.Results.{WritesAll}
 use Rattle.ffv1_devices.proofs.Steps.{StopsWriting-of, WritesAll-after}
 use Rattle.ffv1_hold.specs.HoldingText.{be4}
-use Rattle.ffv1_hold.specs.Merging.{digests_union}
+use Rattle.ffv1_hold.specs.Inner.Merging.{digests_union}
 use Rattle.ffv1_hold.proofs.WrittenParts.{be4_spelled, origins_spelled}
 use Rattle.ffv1_hold.proofs.saving.write_origins.Goals as goal
 

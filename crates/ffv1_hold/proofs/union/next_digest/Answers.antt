@@ -1,6 +1,6 @@
 use Rattle.std.proofs.Common.{sym, ◌∙◌}
 use Rattle.std.proofs.lemmas.List.{nil_from_length}
-use Rattle.ffv1_hold.specs.Merging.{digests_union}
+use Rattle.ffv1_hold.specs.Inner.Merging.{digests_union}
 use Rattle.ffv1_hold.proofs.DigestUnions.{rest_rises, first_less, first_equal, first_greater, first_alone, first_other, union-none}
 use Rattle.ffv1_hold.proofs.union.next_digest.Goals as goal
 

@@ -2,7 +2,7 @@ use Rattle.std.proofs.Common.{◌≡◌, ℕ, List, [], ◌∷◌, ◌++◌, Bor
 use Rattle.std.specs.Prelude.{◌↔◌, IsTrue, Any}
 use Rattle.std.proofs.lemmas.List.{map_push}
 use Rattle.ffv1_weave.proofs.References.{values_of, next_value, all_values, nowhere}
-use Rattle.ffv1_mend.specs.Distinct.{AreDistinctOf}
+use Rattle.ffv1_mend.specs.Inner.Distinct.{AreDistinctOf}
 use Rattle.ffv1_mend.proofs.Members.{has_member, lacks_member, distinct_same, distinct_more}
 use Rattle.ffv1_mend.proofs.distinct.distinct_versions.Goals as goal
 use Rattle.ffv1_mend.proofs.distinct.distinct_versions.Goals.{then-not-is_among+in_ok-push, else-not-is_among}

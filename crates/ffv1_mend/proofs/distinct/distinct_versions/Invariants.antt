@@ -1,5 +1,5 @@
 use Rattle.std.proofs.Common.{map, take}
-use Rattle.ffv1_mend.specs.Distinct.{AreDistinctOf}
+use Rattle.ffv1_mend.specs.Inner.Distinct.{AreDistinctOf}
 use Rattle.ffv1_mend.proofs.distinct.distinct_versions.Given as goal
 
 -- the versions so far

@@ -2,7 +2,8 @@ use Rattle.std.proofs.Common.{rules, ◌≡◌, length, get_or, take, sym, ap, �
 use Rattle.std.specs.Iterator.Adapters.{zip_first, zip_second}
 use Rattle.std.specs.Slice.Iter.{iter_rest}
 use Rattle.std.proofs.lemmas.Slice.Zip.{AllZip-long}
-use Rattle.ffv1_mend.specs.Improved.{IsFitting, patched, given_patches, patches_of}
+use Rattle.ffv1_mend.specs.Inner.Improved.{IsFitting}
+use Rattle.ffv1_mend.specs.Improved.{patched, given_patches, patches_of}
 use Rattle.ffv1_mend.proofs.PartSteps.{part_given, no_part, no_splice, next_pair, no_pair_left}
 use Rattle.ffv1_mend.proofs.improved.has_all.Goals as goal
 

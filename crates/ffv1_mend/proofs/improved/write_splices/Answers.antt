@@ -3,7 +3,8 @@ use Rattle.std.specs.Iterator.Adapters.{zip_first, zip_second}
 use Rattle.std.specs.Slice.Iter.{iter_rest}
 use Rattle.std.proofs.lemmas.Slice.Zip.{AllZip-long}
 use Rattle.ffv1_weave.specs.Parts.{written}
-use Rattle.ffv1_mend.specs.Improved.{IsFitting, patched, whole_patches}
+use Rattle.ffv1_mend.specs.Inner.Improved.{IsFitting}
+use Rattle.ffv1_mend.specs.Improved.{patched, whole_patches}
 use Rattle.ffv1_mend.proofs.PartSteps.{part_whole, no_part, no_splice, next_pair, no_pair_left}
 use Rattle.ffv1_mend.proofs.improved.write_splices.Goals as goal
 

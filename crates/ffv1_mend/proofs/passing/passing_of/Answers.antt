@@ -1,9 +1,9 @@
 use Rattle.std.proofs.Common.{ℕ, List, [], ◌∷◌, ◌++◌, get_or, take, arith, sym, subst}
 use Rattle.ebml_crc.specs.Element.{PassesCrc32}
-use Rattle.ffv1_splice.specs.Tally.{Tallies}
+use Rattle.ffv1_splice.specs.Inner.Tally.{Tallies}
 use Rattle.ffv1_weave.proofs.References.{values_of, next_value, all_values, nowhere}
 use Rattle.ffv1_mend.specs.Mended.{IsPassing}
-use Rattle.ffv1_mend.specs.Passing.{passing_counted}
+use Rattle.ffv1_mend.specs.Inner.Passing.{passing_counted}
 use Rattle.ffv1_mend.proofs.PassingSteps.{one_failed, one_passed}
 use Rattle.ffv1_mend.proofs.passing.passing_of.Goals as goal
 use Rattle.ffv1_mend.proofs.passing.passing_of.Goals.{then-passes_crc32, else-passes_crc32}

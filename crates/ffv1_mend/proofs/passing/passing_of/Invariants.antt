@@ -1,7 +1,7 @@
 use Rattle.std.specs.Prelude.{take, map}
-use Rattle.ffv1_splice.specs.Tally.{Tallies}
+use Rattle.ffv1_splice.specs.Inner.Tally.{Tallies}
 use Rattle.ffv1_mend.specs.Mended.{IsPassing}
-use Rattle.ffv1_mend.specs.Passing.{passing_counted}
+use Rattle.ffv1_mend.specs.Inner.Passing.{passing_counted}
 use Rattle.ffv1_mend.proofs.passing.passing_of.Given as goal
 
 -- what was counted of the versions so far

@@ -4,7 +4,7 @@ use Rattle.std.proofs.Math.ListN.{set}
 use Rattle.std.specs.Vec.{with_items}
 use Rattle.ffv1_range.specs.Tiles.{plane_count}
 use Rattle.ffv1_picture.specs.WholePicture.{Planes}
-use Rattle.ffv1_picture.specs.Drawing.{plane_at, area}
+use Rattle.ffv1_picture.specs.Inner.Drawing.{plane_at, area}
 use Rattle.ffv1_picture.proofs.Drawings.{DrawsPlanes, plane_drawn, rect_fits, draws_same, fits_same}
 use Rattle.ffv1_picture.proofs.drawing.draw_picture.Goals as goal
 

@@ -2,7 +2,7 @@ use Rattle.std.proofs.Common.{◌≡◌, ◌+◌, ◌-◌, ◌*◌, ◌≤◌, l
 use Rattle.std.proofs.lemmas.List.{length-take-le, length-drop, get_or-take, get_or-drop}
 use Rattle.std.proofs.Math.Nat.{mul-le-mul_right}
 use borrow.Rule.Slice.PartMut.{put_mid}
-use Rattle.ffv1_picture.specs.Drawing.{Draws}
+use Rattle.ffv1_picture.specs.Inner.Drawing.{Draws}
 use Rattle.ffv1_picture.proofs.Drawings.{first_rows, row_drawn}
 use Rattle.ffv1_picture.proofs.drawing.draw_plane.Goals as goal
 

@@ -1,4 +1,4 @@
-use Rattle.ffv1_picture.specs.Drawing.{Draws}
+use Rattle.ffv1_picture.specs.Inner.Drawing.{Draws}
 use Rattle.ffv1_picture.proofs.Drawings.{first_rows}
 use Rattle.ffv1_picture.proofs.drawing.draw_plane.Given as goal
 

@@ -1,6 +1,7 @@
 use Rattle.std.proofs.Common.{ℕ, ℤ, List, ◌≡◌, ◌*◌, ◌<◌, length, slice_index}
 use Rattle.ffv1_range.specs.Setup.{set_entry}
-use Rattle.ffv1_plane.specs.Progress.{AreStatesAfter, IsReadTo}
+use Rattle.ffv1_plane.specs.Progress.{AreStatesAfter}
+use Rattle.ffv1_plane.specs.Inner.Progress.{IsReadTo}
 use Rattle.ffv1_plane.proofs.plane.decode_plane.Given as goal
 
 abbrev pub invariant-loop : goal.invariant-loop

@@ -1,5 +1,5 @@
 use Rattle.std.proofs.Common.{◌-◌}
-use Rattle.ffv1_plane.specs.Progress.{IsRunBegun}
+use Rattle.ffv1_plane.specs.Inner.Progress.{IsRunBegun}
 use Rattle.ffv1_plane.proofs.run.read_run.Given as goal
 
 abbrev pub invariant-loop-skipped : goal.invariant-loop-skipped

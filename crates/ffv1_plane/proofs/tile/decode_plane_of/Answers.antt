@@ -3,8 +3,8 @@ use Rattle.ffv1_range.specs.Setup.{set_entry}
 use Rattle.ffv1_range.specs.Tiles.{grid_of, plane_rect}
 use Rattle.ffv1_range.specs.declared.grid.TileRect.{TileRect}
 use Rattle.ffv1_plane.specs.Samples.{IsPlaneOfSize}
-use Rattle.ffv1_plane.specs.Progress.{IsPlaneRead}
-use Rattle.ffv1_plane.specs.Halts.{IsDecodingHalted, IsPlaneOfHalted}
+use Rattle.ffv1_plane.specs.Inner.Progress.{IsPlaneRead}
+use Rattle.ffv1_plane.specs.Inner.Halts.{IsDecodingHalted, IsPlaneOfHalted}
 use Rattle.ffv1_plane.specs.SetTables.{SetTables}
 use Rattle.ffv1_plane.specs.declared.plane.PlaneFault.{PlaneFault}
 use Rattle.ffv1_plane.specs.declared.plane.PlaneFault.TheVariants as plane_faults

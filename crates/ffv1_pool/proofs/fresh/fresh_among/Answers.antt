@@ -1,7 +1,7 @@
 use Rattle.std.proofs.Common.{List, ℕ, ◌+◌, ap, sym, ◌∙◌, subst, map, get_or, refl}
 use Rattle.ffv1_pool.specs.SliceOrder.{Entry, entry_cmp}
-use Rattle.ffv1_pool.specs.Rising.{IsInsertionPlace, IsPlaceOf}
-use Rattle.ffv1_pool.specs.PoolEntries.{entry_in}
+use Rattle.ffv1_pool.specs.Inner.Rising.{IsInsertionPlace, IsPlaceOf}
+use Rattle.ffv1_pool.specs.Inner.PoolEntries.{entry_in}
 use Rattle.ffv1_pool.specs.declared.pool_entry.PoolEntry.{PoolEntry}
 use Rattle.ffv1_pool.proofs.FreshSteps.{IsSifted, none_fresh, entry_held, entry_new, entries_sifted}
 use Rattle.std.proofs.lemmas.Result.{err_from_is_err_and}

@@ -1,5 +1,5 @@
 use Rattle.std.proofs.Common.{map}
-use Rattle.ffv1_pool.specs.PoolEntries.{entry_in}
+use Rattle.ffv1_pool.specs.Inner.PoolEntries.{entry_in}
 use Rattle.ffv1_pool.proofs.FreshSteps.{IsSifted}
 use Rattle.ffv1_pool.proofs.fresh.fresh_among.Given as goal
 

@@ -1,7 +1,7 @@
 use Rattle.std.proofs.Common.{ℕ, List, drop, sum_by, ◌≤◌, vec_capacity, ◌≡◌, ◌<◌, ◌+◌, cond, is_ok, vec_len, subst, ◌++◌, [], length, get_or, ap, ◌∙◌, sym, refl, arith, append_assoc}
 use Rattle.std.proofs.lemmas.List.{append-nil, length-set, get_or_default}
 use Rattle.std.proofs.lemmas.List.Sums.{sum_by-drop_more}
-use Rattle.ffv1_pool.specs.PoolEntries.{slice_in, IsEntryIn}
+use Rattle.ffv1_pool.specs.Inner.PoolEntries.{slice_in, IsEntryIn}
 use Rattle.ffv1_pool.specs.declared.fresh.Fresh.{Fresh}
 use Rattle.ffv1_pool.specs.declared.pool_entry.PoolEntry.{PoolEntry}
 use Rattle.ffv1_pool.proofs.Moves.{begins, slice_long, moved_more, left_more}

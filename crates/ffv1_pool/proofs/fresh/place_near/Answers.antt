@@ -2,7 +2,7 @@ use Rattle.std.proofs.Common.{sym, ap, ◌∙◌}
 use Rattle.std.specs.Cmp.{Equal-is}
 use Rattle.std.proofs.lemmas.List.{get_or_default}
 use Rattle.ffv1_pool.specs.SliceOrder.{Entry, entry_cmp, entries_total, entries_antisymmetric}
-use Rattle.ffv1_pool.specs.PoolEntries.{entry_in}
+use Rattle.ffv1_pool.specs.Inner.PoolEntries.{entry_in}
 use Rattle.ffv1_pool.specs.declared.pool_entry.PoolEntry.{PoolEntry}
 use Rattle.ffv1_pool.proofs.Searches.{place_found}
 use Rattle.ffv1_pool.proofs.fresh.place_near.Goals as goal

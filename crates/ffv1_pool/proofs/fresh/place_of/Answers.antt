@@ -1,7 +1,7 @@
 use Rattle.std.proofs.Common.{rules}
 use Rattle.std.proofs.lemmas.Fn.{always_returns_same}
 use Rattle.ffv1_pool.specs.SliceOrder.{Entry, entry_cmp, entries_total, entries_antisymmetric}
-use Rattle.ffv1_pool.specs.PoolEntries.{entry_in}
+use Rattle.ffv1_pool.specs.Inner.PoolEntries.{entry_in}
 use Rattle.ffv1_pool.proofs.Searches.{searched}
 use Rattle.ffv1_pool.proofs.fresh.place_of.Goals as goal
 

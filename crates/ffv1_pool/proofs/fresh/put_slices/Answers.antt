@@ -1,8 +1,8 @@
 use Rattle.std.proofs.Common.{◌≡◌, map, ap, ◌∙◌, arith}
 use Rattle.ffv1_pool.specs.Sets as set
 use Rattle.ffv1_pool.specs.SliceOrder.{entry_cmp}
-use Rattle.ffv1_pool.specs.PoolEntries.{entry_in}
-use Rattle.ffv1_pool.specs.Fresh.{AreMoved, with_fresh}
+use Rattle.ffv1_pool.specs.Inner.PoolEntries.{entry_in}
+use Rattle.ffv1_pool.specs.Inner.Fresh.{AreMoved, with_fresh}
 use Rattle.ffv1_pool.proofs.PoolGrowth.{take-written, places_within, places_in_order, pool_grown, view_grown, moved_of}
 use Rattle.ffv1_pool.proofs.fresh.put_slices.Goals as goal
 

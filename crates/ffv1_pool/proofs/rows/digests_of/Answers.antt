@@ -1,6 +1,6 @@
 use Rattle.std.proofs.Common.{sym}
 use Rattle.ffv1_pool.specs.SliceOrder.{Entry}
-use Rattle.ffv1_pool.specs.PoolEntries.{entry_in}
+use Rattle.ffv1_pool.specs.Inner.PoolEntries.{entry_in}
 use Rattle.ffv1_pool.proofs.RowParts.{part_rising}
 use Rattle.ffv1_pool.proofs.DigestParts.{digests_in-part}
 use Rattle.ffv1_pool.proofs.rows.digests_of.Goals as goal

@@ -1,7 +1,7 @@
 use Rattle.std.proofs.Common.{ℕ, List, [], get_or, ap, ◌∙◌, subst, refl}
 use Rattle.ffv1_pool.specs.SliceOrder.{Origin, origin_cmp}
-use Rattle.ffv1_pool.specs.Rising.{IsInsertionPlace, IsPlaceOf}
-use Rattle.ffv1_pool.specs.Rows.{rows_of}
+use Rattle.ffv1_pool.specs.Inner.Rising.{IsInsertionPlace, IsPlaceOf}
+use Rattle.ffv1_pool.specs.Inner.Rows.{rows_of}
 use Rattle.ffv1_pool.specs.declared.pool_entry.PoolEntry.{PoolEntry}
 use Rattle.ffv1_pool.proofs.FreshSteps.{no_row_fresh, row_held, row_new, rows_sifted}
 use Rattle.std.proofs.lemmas.Result.{err_from_is_err_and}

@@ -1,4 +1,4 @@
-use Rattle.ffv1_pool.specs.Rows.{rows_of}
+use Rattle.ffv1_pool.specs.Inner.Rows.{rows_of}
 use Rattle.ffv1_pool.proofs.FreshSteps.{AreRowsSifted}
 use Rattle.ffv1_pool.proofs.rows.fresh_rows.Given as goal
 

@@ -1,8 +1,8 @@
 use Rattle.std.proofs.Common.{ℕ, ◌+◌, Result, IfOk, IfErr, rules, subst}
 use Rattle.std.proofs.lemmas.Fn.{always_returns_same}
 use Rattle.ffv1_pool.specs.SliceOrder.{bytes_cmp, origin_cmp}
-use Rattle.ffv1_pool.specs.Rising.{IsPlaceOf, IsInsertionPlace}
-use Rattle.ffv1_pool.specs.Rows.{rows_of}
+use Rattle.ffv1_pool.specs.Inner.Rising.{IsPlaceOf, IsInsertionPlace}
+use Rattle.ffv1_pool.specs.Inner.Rows.{rows_of}
 use Rattle.ffv1_pool.proofs.RowParts.{row_searched}
 use Rattle.ffv1_pool.proofs.rows.place_of_row.Goals as goal
 

@@ -1,9 +1,9 @@
 use Rattle.std.proofs.Common.{◌≡◌, map, ap, ◌∙◌, arith}
 use Rattle.ffv1_pool.specs.Sets as set
 use Rattle.ffv1_pool.specs.SliceOrder.{entry_cmp, origin_cmp}
-use Rattle.ffv1_pool.specs.PoolEntries.{entry_in}
-use Rattle.ffv1_pool.specs.Fresh.{with_fresh}
-use Rattle.ffv1_pool.specs.Rows.{rows_in, AreOwnersMoved}
+use Rattle.ffv1_pool.specs.Inner.PoolEntries.{entry_in}
+use Rattle.ffv1_pool.specs.Inner.Fresh.{with_fresh}
+use Rattle.ffv1_pool.specs.Inner.Rows.{rows_in, AreOwnersMoved}
 use Rattle.ffv1_pool.proofs.PoolGrowth.{take-written}
 use Rattle.ffv1_pool.proofs.RowGrowth.{owner_held, owners_within, owners_in_order, digests_within, digests_in_order, rows_grown, view_rows, settled_of}
 use Rattle.ffv1_pool.proofs.rows.put_rows.Goals as goal

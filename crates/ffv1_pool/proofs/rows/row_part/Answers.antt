@@ -2,7 +2,7 @@ use Rattle.std.proofs.Common.{rules}
 use Rattle.std.specs.Ordering.{is_lt, is_le}
 use Rattle.std.proofs.lemmas.List.Sorted.{IsPartitionPoint-from_clause}
 use Rattle.ffv1_pool.specs.SliceOrder.{Entry, entry_cmp}
-use Rattle.ffv1_pool.specs.PoolEntries.{entry_in}
+use Rattle.ffv1_pool.specs.Inner.PoolEntries.{entry_in}
 use Rattle.ffv1_pool.specs.declared.pool_entry.PoolEntry.{PoolEntry}
 use Rattle.ffv1_pool.proofs.RowParts.{lt_parted, le_parted, row_parted}
 use Rattle.ffv1_pool.proofs.rows.row_part.Goals as goal

@@ -9,7 +9,7 @@ use Rattle.ffv1_slice.proofs.SliceFacts.{found_slices-links}
 use Rattle.ffv1_pool.specs.Sets as set
 use Rattle.ffv1_pool.specs.SliceOrder.{Entry, entries_total, entries_antisymmetric}
 use Rattle.ffv1_pool.specs.Contents.{IsEntryOf, AreEntriesOf}
-use Rattle.ffv1_pool.specs.PoolEntries.{entry_in, IsEntryIn}
+use Rattle.ffv1_pool.specs.Inner.PoolEntries.{entry_in, IsEntryIn}
 use Rattle.ffv1_pool.specs.declared.pool_entry.PoolEntry.{PoolEntry}
 use Rattle.ffv1_pool.proofs.Found.{passed_more, found_more, none_more, entry_of_link, links_fit, length-more, all_passed}
 use Rattle.ffv1_pool.proofs.Sifting.{each-push}

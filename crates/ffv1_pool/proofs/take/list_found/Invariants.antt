@@ -4,7 +4,7 @@ use Rattle.ffv1_slice.specs.Chain.{LinkValue, IsLinkOf, link_of}
 use Rattle.ffv1_slice.specs.Slices.{slice_at}
 use Rattle.ffv1_slice.specs.Walk.{links_of}
 use Rattle.ffv1_pool.specs.Contents.{IsEntryOf}
-use Rattle.ffv1_pool.specs.PoolEntries.{entry_in, AreEntriesIn}
+use Rattle.ffv1_pool.specs.Inner.PoolEntries.{entry_in, AreEntriesIn}
 use Rattle.ffv1_pool.specs.declared.pool_entry.PoolEntry.{PoolEntry}
 use Rattle.ffv1_pool.proofs.take.list_found.Given as goal
 

@@ -1,5 +1,6 @@
 use Rattle.std.proofs.Common.{◌-◌}
-use Rattle.ffv1_range.specs.TableForms.{AreStateRows, contexts_deltas}
+use Rattle.ffv1_range.specs.Inner.TableForms.{AreStateRows}
+use Rattle.ffv1_range.specs.TableForms.{contexts_deltas}
 use Rattle.ffv1_range.specs.declared.fault.SetupFault.TheVariants.{Range}
 use Rattle.ffv1_range.proofs.Forms.{Continues, IsAtPlace}
 use Rattle.ffv1_range.proofs.deltas.read_contexts_deltas.Given as goal

@@ -2,7 +2,7 @@ use Rattle.std.proofs.Common.{◌≡◌, ◌+◌, ◌<◌, ℕ, List, ◌∷◌,
 use Rattle.std.proofs.lemmas.List.{drop_more, drop_all}
 use Rattle.std.proofs.lemmas.Result.{err_from_is_err_and}
 use Rattle.ffv1_range.specs.TableForms.{fresh_rows, sets_deltas}
-use Rattle.ffv1_range.specs.Views.{contexts_of}
+use Rattle.ffv1_range.specs.Inner.Views.{contexts_of}
 use Rattle.ffv1_range.specs.declared.tables.TableSet.{TableSet}
 use Rattle.ffv1_range.specs.declared.fault.SetupFault.TheVariants.{Range}
 use Rattle.ffv1_range.proofs.Forms.{continue_start, is_at_place, at_ok}

@@ -1,7 +1,8 @@
 use Rattle.std.proofs.Common.{drop}
 use Rattle.ffv1_range.specs.Decoder.{AreStates}
-use Rattle.ffv1_range.specs.TableForms.{AreStateRows, fresh_rows, sets_deltas}
-use Rattle.ffv1_range.specs.Views.{contexts_of}
+use Rattle.ffv1_range.specs.Inner.TableForms.{AreStateRows}
+use Rattle.ffv1_range.specs.TableForms.{fresh_rows, sets_deltas}
+use Rattle.ffv1_range.specs.Inner.Views.{contexts_of}
 use Rattle.ffv1_range.specs.declared.fault.SetupFault.TheVariants.{Range}
 use Rattle.ffv1_range.proofs.Forms.{Continues, IsAtPlace}
 use Rattle.ffv1_range.proofs.deltas.read_deltas.Given as goal

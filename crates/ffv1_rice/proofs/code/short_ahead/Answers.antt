@@ -2,7 +2,8 @@ use Rattle.std.proofs.Common.{refl, arith, ◌<◌, ◌/◌, ◌^◌}
 use Rattle.std.proofs.lemmas.Nat.{shr_below}
 use Rattle.ffv1_rice.proofs.Windows.{leading_one, begins_later, front_parts}
 use Rattle.ffv1_bits.specs.Bits.{number_bits}
-use Rattle.ffv1_rice.specs.Codes.{code_bits, BitsBegin}
+use Rattle.ffv1_rice.specs.Codes.{code_bits}
+use Rattle.ffv1_rice.specs.Inner.Codes.{BitsBegin}
 use Rattle.ffv1_rice.proofs.code.short_ahead.Goals as goal
 
 pub short_in-requires-clause-low : goal.short_in-requires-clause-low

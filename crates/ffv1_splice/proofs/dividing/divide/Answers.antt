@@ -3,7 +3,7 @@ use Rattle.std.specs.Prelude.{All}
 use Rattle.ffv1_splice.proofs.Walks.{IsSpliceBefore, division_of}
 use Rattle.ffv1_weave.proofs.References.{values_of, each_value}
 use Rattle.ffv1_splice.proofs.PlaceSteps.{least_size}
-use Rattle.ffv1_splice.specs.Placing.{IsPlaced, IsPlacedOrStop}
+use Rattle.ffv1_splice.specs.Inner.Placing.{IsPlaced, IsPlacedOrStop}
 use Rattle.ffv1_weave.specs.Parts.{written}
 use Rattle.ffv1_splice.proofs.SpliceSteps.{Continues, length-written, continues_more, continues_end}
 use Rattle.ffv1_splice.proofs.dividing.divide.Goals as goal

@@ -2,7 +2,7 @@ use Rattle.std.proofs.Common.{◌≤◌, ℕ, List, length, refl, ap, subst, ◌
 use Rattle.ffv1_weave.proofs.References.{values_of, each_value}
 use Rattle.ffv1_splice.specs.Pieces.{IsPiece, IsClaimedStart}
 use Rattle.ffv1_weave.specs.Parts.{written}
-use Rattle.ffv1_splice.specs.Several.{AreTriedBefore, tried_tally}
+use Rattle.ffv1_splice.specs.Inner.Several.{AreTriedBefore, tried_tally}
 use Rattle.ffv1_splice.proofs.PlaceSteps.{none_not_only, two_not_only, two_not_none}
 use Rattle.ffv1_splice.proofs.FirstSlices.{several_size}
 use Rattle.ffv1_splice.proofs.SeveralSteps.{several_of, none_of_several}

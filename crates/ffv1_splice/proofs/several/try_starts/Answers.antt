@@ -2,7 +2,7 @@ use Rattle.std.proofs.Common.{◌+◌, sym, subst, arith}
 use Rattle.ffv1_weave.specs.Weave.{weave_tally}
 use Rattle.ffv1_weave.proofs.References.{values_of}
 use Rattle.ffv1_splice.specs.Pieces.{HasContent}
-use Rattle.ffv1_splice.specs.Several.{IsNextClaimedStart, AreTriedBefore, tried_tally}
+use Rattle.ffv1_splice.specs.Inner.Several.{IsNextClaimedStart, AreTriedBefore, tried_tally}
 use Rattle.ffv1_splice.proofs.ShortestSteps.{cut_is_short}
 use Rattle.ffv1_splice.proofs.SeveralSteps.{tried_none, tried_next, tried_end}
 use Rattle.ffv1_splice.proofs.several.try_starts.Goals as goal

@@ -3,7 +3,7 @@ use Rattle.std.specs.Prelude.{slice_range}
 use Rattle.ffv1_bits.specs.Parity.{PassesParity}
 use Rattle.ffv1_slice.specs.Chain.{IsCut}
 use Rattle.ffv1_splice.specs.Pieces.{HasContent, IsPiece, IsClaimedStart}
-use Rattle.ffv1_splice.specs.Tally.{Tallies, pieces_tally, starts_tally}
+use Rattle.ffv1_splice.specs.Inner.Tally.{Tallies, pieces_tally, starts_tally}
 use Rattle.ffv1_splice.specs.declared.tally.Pieces.{Pieces}
 use Rattle.ffv1_splice.specs.declared.tally.Starts.{Starts}
 use Rattle.ffv1_weave.proofs.References.{values_of, next_value, all_values, nowhere}

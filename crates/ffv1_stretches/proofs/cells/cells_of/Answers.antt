@@ -1,7 +1,7 @@
 use Rattle.std.proofs.Common.{◌≡◌, ◌<◌, ◌∷◌, [], None, length, map, get_or, ap, sym, ◌∙◌, take_all, arith, subst}
 use Rattle.std.proofs.lemmas.List.{length-map, map-append}
 use Rattle.ffv1_stretches.specs.Stretches.{StretchValue}
-use Rattle.ffv1_stretches.specs.CellSteps.{cell_now, HasRoom, held_cell, held_cells}
+use Rattle.ffv1_stretches.specs.Inner.CellSteps.{cell_now, HasRoom, held_cell, held_cells}
 use Rattle.ffv1_stretches.proofs.Pairs.{pair_at}
 use Rattle.ffv1_stretches.proofs.CellLemmas.{room_of, room_at, held_more, length-held}
 use Rattle.ffv1_stretches.proofs.cells.cells_of.Goals as goal

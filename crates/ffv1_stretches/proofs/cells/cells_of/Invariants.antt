@@ -1,5 +1,5 @@
 use Rattle.std.proofs.Common.{◌≡◌, map, take}
-use Rattle.ffv1_stretches.specs.CellSteps.{cell_now, held_cells}
+use Rattle.ffv1_stretches.specs.Inner.CellSteps.{cell_now, held_cells}
 use Rattle.ffv1_stretches.proofs.cells.cells_of.Given as goal
 
 -- what the copies so far have

@@ -1,7 +1,7 @@
 use Rattle.std.proofs.Common.{◌++◌, ◌∷◌, [], List, ℕ, Bor, Some, None, Vec, Global, map, ap, sym, ◌∙◌, append-nil, take, take_all, arith}
 use Rattle.std.proofs.lemmas.List.{map-append, length-map}
 use Rattle.ffv1_stretches.specs.Cells.{versions_in}
-use Rattle.ffv1_stretches.specs.CellSteps.{cell_now}
+use Rattle.ffv1_stretches.specs.Inner.CellSteps.{cell_now}
 use Rattle.ffv1_stretches.proofs.WordLemmas.{now_of}
 use Rattle.ffv1_stretches.proofs.CellLemmas.{versions_more}
 use Rattle.ffv1_stretches.proofs.cells.versions_of.Goals as goal

@@ -1,6 +1,6 @@
 use Rattle.std.proofs.Common.{◌≡◌, map, take}
 use Rattle.ffv1_stretches.specs.Cells.{versions_in}
-use Rattle.ffv1_stretches.specs.CellSteps.{cell_now}
+use Rattle.ffv1_stretches.specs.Inner.CellSteps.{cell_now}
 use Rattle.ffv1_stretches.proofs.cells.versions_of.Given as goal
 
 -- the versions so far

@@ -4,7 +4,7 @@ use Rattle.std.specs.List.{AllZip}
 use Rattle.std.proofs.Common.{below_more}
 use Rattle.std.proofs.lemmas.List.{length-map}
 use Rattle.ffv1_stretches.specs.Stretches.{IsAfter}
-use Rattle.ffv1_stretches.specs.Ends.{end_of}
+use Rattle.ffv1_stretches.specs.Inner.Ends.{end_of}
 use Rattle.ffv1_stretches.specs.declared.ends.End.{End}
 use Rattle.ffv1_stretches.proofs.Pairs.{pair_at, pairs_from_each}
 use Rattle.ffv1_stretches.proofs.EndSteps.{end_at}

@@ -1,6 +1,6 @@
 use Rattle.std.proofs.Common.{ℕ, ◌<◌, None, map, get_or}
 use Rattle.ffv1_stretches.specs.Stretches.{IsAfter}
-use Rattle.ffv1_stretches.specs.Ends.{end_of}
+use Rattle.ffv1_stretches.specs.Inner.Ends.{end_of}
 use Rattle.ffv1_stretches.proofs.ends.follow.Given as goal
 
 -- Each place so far is where the copy's stretches before end, or after that.

@@ -2,7 +2,7 @@ use Rattle.std.proofs.Common.{◌<◌, ◌≡◌, ◌++◌, ◌∷◌, [], List,
 use Rattle.std.proofs.lemmas.List.{length-map, map-append}
 use Rattle.ffv1_stretches.specs.Stretches.{StretchValue, end_after}
 use Rattle.ffv1_stretches.specs.declared.ends.End.{End}
-use Rattle.ffv1_stretches.specs.Ends.{end_of}
+use Rattle.ffv1_stretches.specs.Inner.Ends.{end_of}
 use Rattle.ffv1_stretches.proofs.EndSteps.{moved_ends, length-moved_ends, moved_ends_more, end_at}
 use Rattle.ffv1_stretches.proofs.ends.next_ends.Goals as goal
 

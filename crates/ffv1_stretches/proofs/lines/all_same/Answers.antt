@@ -1,6 +1,6 @@
 use Rattle.std.proofs.Common.{◌<◌, None, map, length, sym, ap, ◌∙◌, arith}
 use Rattle.std.proofs.lemmas.List.{length-map}
-use Rattle.ffv1_stretches.specs.CellSteps.{cell_now}
+use Rattle.ffv1_stretches.specs.Inner.CellSteps.{cell_now}
 use Rattle.ffv1_stretches.specs.Lines.{is_same}
 use Rattle.ffv1_stretches.proofs.CellLemmas.{cell_at}
 use Rattle.ffv1_stretches.proofs.LineLemmas.{list_all_more, list_all_not}

@@ -1,6 +1,6 @@
 use Rattle.std.proofs.Common.{◌++◌, ◌∷◌, [], ℕ, List, Option, take, map, ap, ◌∙◌}
 use Rattle.std.proofs.lemmas.List.{map-append}
-use Rattle.ffv1_stretches.specs.CellSteps.{cell_now}
+use Rattle.ffv1_stretches.specs.Inner.CellSteps.{cell_now}
 use Rattle.ffv1_stretches.specs.Lines.{cell_between, cells_between}
 use Rattle.ffv1_stretches.proofs.LineLemmas.{cells_more}
 use Rattle.ffv1_stretches.proofs.lines.narrowed.Goals as goal

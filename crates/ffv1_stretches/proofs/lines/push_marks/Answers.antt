@@ -1,5 +1,5 @@
 use Rattle.std.proofs.Common.{◌++◌, ◌∷◌, [], ℕ, List, string_bytes, map, take, ap, ◌∙◌, append_assoc}
-use Rattle.ffv1_stretches.specs.CellSteps.{cell_now}
+use Rattle.ffv1_stretches.specs.Inner.CellSteps.{cell_now}
 use Rattle.ffv1_stretches.specs.Lines.{mark_of, marks_of}
 use Rattle.ffv1_stretches.proofs.LineLemmas.{cells_more}
 use Rattle.ffv1_stretches.proofs.lines.push_marks.Goals as goal

@@ -2,7 +2,7 @@ use Rattle.std.proofs.Common.{◌≡◌, ◌<◌, ◌+◌, ◌++◌, ℕ, List, 
 use Rattle.std.specs.List.{zip}
 use Rattle.ffv1_mend.specs.declared.part.Part.{Part}
 use Rattle.ffv1_splice.specs.Splice.{SplicedValue}
-use Rattle.ffv1_stretches.specs.CellSteps.{cell_now}
+use Rattle.ffv1_stretches.specs.Inner.CellSteps.{cell_now}
 use Rattle.ffv1_stretches.specs.Lines.{cells_between, part_lines, parts_lines}
 use Rattle.ffv1_stretches.proofs.LineLemmas.{parts_more, pairs_taken, lines_of_part}
 use Rattle.ffv1_stretches.proofs.lines.push_parts.Goals as goal

@@ -1,6 +1,6 @@
 use Rattle.std.proofs.Common.{◌≡◌, ℕ, List, sym, subst, true}
 use Rattle.std.specs.Prelude.{All}
-use Rattle.ffv1_stretches.specs.CellSteps.{cell_now}
+use Rattle.ffv1_stretches.specs.Inner.CellSteps.{cell_now}
 use Rattle.ffv1_stretches.specs.Lines.{is_same}
 use Rattle.ffv1_stretches.proofs.KnownMarks.{known_same}
 use Rattle.ffv1_stretches.proofs.lines.push_stretch_marks.Goals as goal

@@ -5,7 +5,7 @@ use Rattle.ffv1_stretches.specs.Stretches.{StretchValue, IsAfter}
 use Rattle.ffv1_stretches.specs.Listed.{AreStretchWords}
 use Rattle.std.specs.Prelude.{IsTrue}
 use Rattle.ffv1_stretches.specs.declared.ends.End.{End}
-use Rattle.ffv1_stretches.specs.Ends.{end_of}
+use Rattle.ffv1_stretches.specs.Inner.Ends.{end_of}
 use Rattle.ffv1_stretches.proofs.WordLemmas.{now_of, one_stretch}
 use Rattle.ffv1_stretches.proofs.listing.add_stretch.Goals as goal
 

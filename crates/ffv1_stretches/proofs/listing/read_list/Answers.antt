@@ -5,7 +5,7 @@ use Rattle.std.proofs.lemmas.List.{length-append}
 use Rattle.ffv1_lists.specs.Lines.{AreLines}
 use Rattle.ffv1_lists.proofs.LineSteps.{empty_lines, lines_of, lines_on}
 use Rattle.ffv1_stretches.specs.Listed.{AreListed}
-use Rattle.ffv1_stretches.specs.ListSteps.{IsListedTo, AddsLine}
+use Rattle.ffv1_stretches.specs.Inner.ListSteps.{IsListedTo, AddsLine}
 use Rattle.ffv1_stretches.proofs.ListLemmas.{listed_to_none, length-listed_none, line_shorter}
 use Rattle.ffv1_stretches.proofs.OrderLemmas.{listed_in_order}
 use Rattle.ffv1_stretches.proofs.listing.read_list.Goals as goal

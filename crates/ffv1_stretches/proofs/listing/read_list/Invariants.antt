@@ -1,7 +1,7 @@
 use Rattle.std.proofs.Common.{◌≡◌, ◌+◌, ◌++◌, ◌≤◌, List, ℕ, length}
 use Rattle.ffv1_lists.specs.Lines.{AreLines}
 use Rattle.ffv1_stretches.specs.Listed.{AreListed}
-use Rattle.ffv1_stretches.specs.ListSteps.{IsListedTo}
+use Rattle.ffv1_stretches.specs.Inner.ListSteps.{IsListedTo}
 use Rattle.ffv1_stretches.proofs.listing.read_list.Given as goal
 
 -- The lines so far list the stretches; with those of the rest they are the lines of the text.

@@ -2,7 +2,7 @@ use Rattle.std.proofs.Common.{◌≡◌, ℕ, map, ap, sym, ◌∙◌, subst}
 use Rattle.std.specs.Prelude.{All}
 use Rattle.ffv1_mend.specs.Improved.{IsWithin}
 use Rattle.ffv1_stretches.specs.Stretches.{StretchValue}
-use Rattle.ffv1_stretches.specs.CellSteps.{cell_now}
+use Rattle.ffv1_stretches.specs.Inner.CellSteps.{cell_now}
 use Rattle.ffv1_stretches.proofs.WordLemmas.{now_of}
 use Rattle.ffv1_stretches.proofs.CellLemmas.{mendable}
 use Rattle.ffv1_stretches.proofs.pass.mend_one.Goals as goal

@@ -1,6 +1,6 @@
 use Rattle.std.proofs.Common.{map, sym, ap, ◌∙◌, arith}
 use Rattle.std.proofs.lemmas.Result.{err_from_is_err_and}
-use Rattle.ffv1_stretches.specs.CellSteps.{cell_now}
+use Rattle.ffv1_stretches.specs.Inner.CellSteps.{cell_now}
 use Rattle.ffv1_stretches.proofs.Mending.{before_all, after_all, stretch_here, follows_here, pass_stops, rooms_held, pass_stays, from_held, long_held, one_stopped, one_mended}
 use Rattle.ffv1_stretches.proofs.pass.mend_stretches.Goals as goal
 

@@ -2,7 +2,7 @@ use Rattle.std.proofs.Common.{◌≡◌, ◌+◌, ◌-◌, ◌*◌, ◌/◌, ℕ
 use Rattle.std.proofs.lemmas.Bool.{false≢true}
 use Rattle.std.proofs.lemmas.List.{drop_more, drop_all, length-map}
 use Rattle.ffv1_range.specs.Tables.{scale_after, scale_after_all}
-use Rattle.ffv1_vectors.specs.Asked.{HasTable, HasTables}
+use Rattle.ffv1_vectors.specs.Inner.Asked.{HasTable, HasTables}
 use Rattle.ffv1_vectors.proofs.asked.has_set.Goals as goal
 
 -- the lengths of each table's runs

@@ -1,6 +1,6 @@
 use Rattle.std.proofs.Common.{◌≡◌, drop, map}
 use Rattle.ffv1_range.specs.Tables.{scale_after_all}
-use Rattle.ffv1_vectors.specs.Asked.{HasTables}
+use Rattle.ffv1_vectors.specs.Inner.Asked.{HasTables}
 use Rattle.ffv1_vectors.proofs.asked.has_set.Given as goal
 
 -- The tables so far are those asked for: all are, where the rest are.

@@ -1,5 +1,5 @@
 use Rattle.std.proofs.Common.{drop, map}
-use Rattle.ffv1_vectors.specs.Asked.{HasSets}
+use Rattle.ffv1_vectors.specs.Inner.Asked.{HasSets}
 use Rattle.ffv1_vectors.proofs.asked.has_sets.Given as goal
 
 -- The sets so far are those asked for: all are, where the rest are.

@@ -1,5 +1,5 @@
 use Rattle.ffv1_range.specs.Decoder.{AreStates}
-use Rattle.ffv1_range.specs.TableForms.{AreStateRows}
+use Rattle.ffv1_range.specs.Inner.TableForms.{AreStateRows}
 use Rattle.ffv1_vectors.proofs.record.spell_deltas.Given as goal
 
 abbrev pub invariant-loop-tables : goal.invariant-loop-tables

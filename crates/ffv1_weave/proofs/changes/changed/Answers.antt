@@ -1,7 +1,7 @@
 use Rattle.std.proofs.Common.{◌≡◌, ◌+◌, ◌/◌, ◌%◌, ℕ, List, ◌∷◌, length, drop, map, get_or, arith, ap, sym, ◌∙◌, subst, ◌<◌}
 use Rattle.std.specs.Prelude.{bit_xor}
 use Rattle.std.proofs.lemmas.List.{drop_more, get_or_read}
-use Rattle.ffv1_weave.specs.Changes.{changed}
+use Rattle.ffv1_weave.specs.Inner.Changes.{changed}
 use Rattle.ffv1_weave.proofs.changes.changed.Goals as goal
 
 pub loop-changes-preserved : goal.loop-changes-preserved

@@ -1,7 +1,7 @@
 use Rattle.std.proofs.Common.{◌≡◌, ◌++◌, ℕ, List, [], ◌∷◌, Vec, Global, length, map, take, ap, sym, ◌∙◌, subst, take_all}
 use Rattle.std.proofs.lemmas.List.{map_push, take_more}
-use Rattle.ffv1_weave.specs.Parts.{Part, IsFit}
-use Rattle.ffv1_weave.specs.Changes.{changes_of}
+use Rattle.ffv1_weave.specs.Inner.Parts.{Part, IsFit}
+use Rattle.ffv1_weave.specs.Inner.Changes.{changes_of}
 use Rattle.ffv1_weave.proofs.WeaveSteps.{put_back}
 use Rattle.ffv1_weave.proofs.changes.tables_of.Goals as goal
 

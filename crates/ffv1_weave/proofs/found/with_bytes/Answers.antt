@@ -1,7 +1,7 @@
 use Rattle.std.proofs.Common.{◌∙◌, subst}
 use Rattle.std.proofs.lemmas.Bool.Decides.{Decides-eqb}
 use Rattle.std.proofs.lemmas.Slice.Eq.{slice_eq-Decides}
-use Rattle.ffv1_weave.specs.Found.{IsFoundAmong}
+use Rattle.ffv1_weave.specs.Inner.Found.{IsFoundAmong}
 use Rattle.ffv1_weave.proofs.FoundSteps.{found_skipped, found_another, found_still}
 use Rattle.ffv1_weave.proofs.found.with_bytes.Goals as goal
 

@@ -1,8 +1,8 @@
 use Rattle.std.proofs.Common.{rules, ◌≡◌, ◌*◌, ◌-◌, ◌+◌, ◌<◌, ◌/◌, ℕ, List, ◌∷◌, ◌++◌, length, get_or, ap, sym, ◌∙◌, subst, refl, arith}
 use Rattle.ffv1_bits.specs.Bits.{bits_of}
 use Rattle.ffv1_bits.specs.Parity.{remainder_of}
-use Rattle.ffv1_weave.specs.Found.{IsFoundAmong}
-use Rattle.ffv1_weave.specs.Inversions.{inversions_from, times_x}
+use Rattle.ffv1_weave.specs.Inner.Found.{IsFoundAmong}
+use Rattle.ffv1_weave.specs.Inner.Inversions.{inversions_from, times_x}
 use Rattle.ffv1_weave.specs.Repairs.{inverted}
 use Rattle.ffv1_weave.specs.declared.check.Check.TheVariants.{Slice}
 use Rattle.ffv1_weave.proofs.OneBit.{power_shifted}

@@ -2,8 +2,8 @@ use Rattle.std.proofs.Common.{rules, ◌≡◌, ◌*◌, ◌-◌, ◌+◌, ◌/�
 use Rattle.std.proofs.lemmas.Bool.{false≢true}
 use Rattle.ffv1_bits.specs.Bits.{bits_of}
 use Rattle.ffv1_bits.specs.Parity.{remainder_of}
-use Rattle.ffv1_weave.specs.Found.{IsFoundAmong}
-use Rattle.ffv1_weave.specs.Inversions.{inversions_from, times_x}
+use Rattle.ffv1_weave.specs.Inner.Found.{IsFoundAmong}
+use Rattle.ffv1_weave.specs.Inner.Inversions.{inversions_from, times_x}
 use Rattle.ffv1_weave.specs.declared.check.Check.TheVariants.{Slice}
 use Rattle.ffv1_weave.proofs.OneBit.{power_left, power_shifted, eight_zeros}
 use Rattle.ffv1_weave.proofs.InversionSteps.{found_all_bits, found_bits_skipped}

@@ -1,6 +1,6 @@
 use Rattle.std.proofs.Common.{◌≡◌, ◌+◌, ◌*◌, ◌-◌, ◌<◌, ◌≤◌, ℕ, List, ◌++◌, length}
-use Rattle.ffv1_weave.specs.Found.{IsFoundAmong}
-use Rattle.ffv1_weave.specs.Inversions.{inversions_from}
+use Rattle.ffv1_weave.specs.Inner.Found.{IsFoundAmong}
+use Rattle.ffv1_weave.specs.Inner.Inversions.{inversions_from}
 use Rattle.ffv1_weave.specs.declared.check.Check.TheVariants.{Slice}
 use Rattle.ffv1_weave.proofs.OneBit.{power_left}
 use Rattle.ffv1_weave.proofs.inversions.with_inversions.Given as goal

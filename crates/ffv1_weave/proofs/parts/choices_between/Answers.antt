@@ -1,7 +1,7 @@
 use Rattle.std.proofs.Common.{◌≡◌, ℕ, List, [], ◌∷◌, ◌++◌, Bor, take, get_or, arith, ap, sym, ◌∙◌, subst}
 use Rattle.std.specs.Prelude.{slice_range}
 use Rattle.std.proofs.lemmas.List.{map_push}
-use Rattle.ffv1_weave.specs.Parts.{AreChoices}
+use Rattle.ffv1_weave.specs.Inner.Parts.{AreChoices}
 use Rattle.ffv1_weave.proofs.References.{values_of, next_value, all_values, nowhere}
 use Rattle.ffv1_weave.proofs.ChoiceSteps.{IsAsked, choices_have, choices_lack, choices_same, choices_more}
 use Rattle.ffv1_weave.proofs.parts.choices_between.Goals as goal

@@ -3,7 +3,7 @@ use Rattle.std.specs.Prelude.{MatchOption}
 use Rattle.std.proofs.lemmas.List.{get_or_default}
 use Rattle.ffv1_weave.specs.Grains.{grains}
 use Rattle.ffv1_weave.specs.Combinations.{HasMany}
-use Rattle.ffv1_weave.specs.Parts.{AreFewParts}
+use Rattle.ffv1_weave.specs.Inner.Parts.{AreFewParts}
 use Rattle.ffv1_weave.specs.declared.grains.Grain.{Grain}
 use Rattle.ffv1_weave.specs.declared.grains.Grain.TheVariants.{Pairs, Regions}
 use Rattle.ffv1_weave.proofs.References.{values_of, length-values_of, each_value}

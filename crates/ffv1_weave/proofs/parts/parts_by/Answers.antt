@@ -1,5 +1,5 @@
 use Rattle.std.proofs.Common.{◌≡◌, ℕ, List, Bor, [], ◌∷◌, ◌++◌, ◌*◌, ◌/◌, ◌<◌, ◌≤◌, length, arith, sym, subst}
-use Rattle.ffv1_weave.specs.Parts.{Part}
+use Rattle.ffv1_weave.specs.Inner.Parts.{Part}
 use Rattle.ffv1_weave.specs.declared.weaving.TheConstants.{MOST_COMBINATIONS}
 use Rattle.ffv1_weave.proofs.References.{values_of, length-values_of, each_value}
 use Rattle.ffv1_weave.proofs.GrainSteps.{part_some}

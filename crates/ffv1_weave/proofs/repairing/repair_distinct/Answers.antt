@@ -1,7 +1,7 @@
 use Rattle.std.proofs.Common.{◌≡◌, ◌*◌, ℕ, List, [], ◌++◌, length, get_or, arith, ap, sym, ◌∙◌, subst, inl, inr}
-use Rattle.ffv1_weave.specs.Found.{IsFoundAmong}
-use Rattle.ffv1_weave.specs.Inversions.{inversions}
-use Rattle.ffv1_weave.specs.Parts.{Part}
+use Rattle.ffv1_weave.specs.Inner.Found.{IsFoundAmong}
+use Rattle.ffv1_weave.specs.Inner.Inversions.{inversions}
+use Rattle.ffv1_weave.specs.Inner.Parts.{Part}
 use Rattle.ffv1_weave.specs.declared.check.Check.TheVariants.{Slice}
 use Rattle.ffv1_weave.proofs.References.{values_of, nowhere, value_at}
 use Rattle.ffv1_weave.proofs.Choices.{IsAlike}

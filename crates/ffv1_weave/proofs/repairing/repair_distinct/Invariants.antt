@@ -1,5 +1,5 @@
 use Rattle.std.proofs.Common.{[], map, get_or}
-use Rattle.ffv1_weave.specs.Found.{IsFoundAmong}
+use Rattle.ffv1_weave.specs.Inner.Found.{IsFoundAmong}
 use Rattle.ffv1_weave.specs.declared.check.Check.TheVariants.{Slice}
 use Rattle.ffv1_weave.proofs.Choices.{IsAlike}
 use Rattle.ffv1_weave.proofs.RepairSteps.{all_inversions}

@@ -1,9 +1,9 @@
 use Rattle.std.proofs.Common.{◌≡◌, ◌<◌, ℕ, List, [], ◌∷◌, ◌++◌, Vec, Global, length, get_or, map, arith, ap, sym, ◌∙◌, subst}
 use Rattle.std.specs.Prelude.{All}
 use Rattle.std.proofs.lemmas.List.{length-map, get_or-map}
-use Rattle.ffv1_weave.specs.Found.{IsFoundAmong}
-use Rattle.ffv1_weave.specs.Parts.{Part, chosen, chosen_below}
-use Rattle.ffv1_weave.specs.Changes.{remainder_in}
+use Rattle.ffv1_weave.specs.Inner.Found.{IsFoundAmong}
+use Rattle.ffv1_weave.specs.Inner.Parts.{Part, chosen, chosen_below}
+use Rattle.ffv1_weave.specs.Inner.Changes.{remainder_in}
 use Rattle.ffv1_weave.proofs.References.{values_of}
 use Rattle.ffv1_weave.proofs.Choices.{IsAlike}
 use Rattle.ffv1_weave.proofs.Linear.{changes_some, passes_leaves_none}

@@ -1,6 +1,6 @@
 use Rattle.std.proofs.Common.{ℕ, List, [], ◌++◌, map, get_or}
-use Rattle.ffv1_weave.specs.Found.{IsFoundAmong}
-use Rattle.ffv1_weave.specs.Parts.{chosen_below}
+use Rattle.ffv1_weave.specs.Inner.Found.{IsFoundAmong}
+use Rattle.ffv1_weave.specs.Inner.Parts.{chosen_below}
 use Rattle.ffv1_weave.proofs.Choices.{IsAlike}
 use Rattle.ffv1_weave.proofs.trying.with_combinations.Given as goal
 

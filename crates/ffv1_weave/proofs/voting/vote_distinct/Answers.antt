@@ -1,6 +1,6 @@
 use Rattle.std.proofs.Common.{◌<◌, ◌+◌, ℕ, List, [], length, get_or, arith, sym, subst, inl, inr}
 use Rattle.std.proofs.lemmas.List.{get_or_default}
-use Rattle.ffv1_weave.specs.Found.{IsFoundAmong}
+use Rattle.ffv1_weave.specs.Inner.Found.{IsFoundAmong}
 use Rattle.ffv1_weave.specs.Grains.{votes}
 use Rattle.ffv1_weave.specs.declared.check.Check.TheVariants.{Slice}
 use Rattle.ffv1_weave.specs.declared.grains.Grain.{Grain}

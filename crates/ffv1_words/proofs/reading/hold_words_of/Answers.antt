@@ -1,5 +1,5 @@
 use Rattle.std.proofs.Common.{sym, subst}
-use Rattle.ffv1_words.specs.Arguments.{rows_matched, ReadsWords}
+use Rattle.ffv1_words.specs.Inner.Arguments.{rows_matched, ReadsWords}
 use Rattle.ffv1_words.proofs.Grammar.{fault_handed}
 use Rattle.ffv1_words.proofs.reading.hold_words_of.Goals as goal
 

@@ -2,7 +2,8 @@ use Rattle.std.proofs.Common.{◌≡◌, ◌∙◌, ap, sym, Result, Ok, Err, If
 use Rattle.clap.specs.Words.{Row, Text, subcommand_of}
 use Rattle.ffv1_commands.specs.Fault.{NamesNoPath}
 use Rattle.ffv1_commands.specs.declared.fault.CliFault.{CliFault}
-use Rattle.ffv1_words.specs.Arguments.{rows_matched, AreReadFrom, ReadsWords}
+use Rattle.ffv1_words.specs.Inner.Arguments.{rows_matched, ReadsWords}
+use Rattle.ffv1_words.specs.Arguments.{AreReadFrom}
 use Rattle.ffv1_words.specs.Grammar.{program_app}
 use Rattle.ffv1_words.specs.declared.words.Words.{Words}
 use Rattle.ffv1_words.proofs.Grammar.{met_of}

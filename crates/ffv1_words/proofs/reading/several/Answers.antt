@@ -1,5 +1,6 @@
 use Rattle.std.proofs.Common.{Bor, List, ℕ, map, option_map, ap, sym, ◌∙◌}
-use Rattle.ffv1_words.specs.Arguments.{rows_matched, AreValues}
+use Rattle.ffv1_words.specs.Inner.Arguments.{rows_matched}
+use Rattle.ffv1_words.specs.Arguments.{AreValues}
 use Rattle.ffv1_words.proofs.Grammar.{raw_values-words, found_or}
 use Rattle.ffv1_words.proofs.reading.several.Goals as goal
 

@@ -1,5 +1,6 @@
 use Rattle.std.proofs.Common.{Bor, List, ℕ, option_map, ap, sym, ◌∙◌}
-use Rattle.ffv1_words.specs.Arguments.{rows_matched, IsWord}
+use Rattle.ffv1_words.specs.Inner.Arguments.{rows_matched}
+use Rattle.ffv1_words.specs.Arguments.{IsWord}
 use Rattle.ffv1_words.proofs.Grammar.{first_value-word, found_or}
 use Rattle.ffv1_words.proofs.reading.word.Goals as goal
 

@@ -1,6 +1,6 @@
 use Rattle.std.proofs.Common.{arith, refl, sym, subst, inl}
 use Rattle.std.proofs.lemmas.Result.{err_from_is_err_and}
-use Rattle.ffv1_hold.specs.Reading.{TakesText, IsShorter, Never}
+use Rattle.ffv1_hold.specs.Inner.Reading.{TakesText, IsShorter, Never}
 use Rattle.ffv1_hold.specs.FileFaults.{IsPartOfSlice, SliceIsTooLong}
 use Rattle.ffv1_hold.proofs.TextReads.{TakesText-trans, StopsAt-part, StopsAt-after, shown}
 use Rattle.ffv1_hold.proofs.Bodies.{part_of_length, part_of_bytes, slice_text-of}

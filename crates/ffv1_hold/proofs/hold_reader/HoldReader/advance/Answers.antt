@@ -1,7 +1,8 @@
 use Rattle.std.proofs.Common.{[], refl, inr}
 use Rattle.std.proofs.lemmas.Result.{err_from_is_err_and}
-use Rattle.ffv1_hold.specs.Reading.{Never}
-use Rattle.ffv1_hold.specs.FileFaults.{IsPartOfEntry, EndIsWhole, EntryShows}
+use Rattle.ffv1_hold.specs.Inner.Reading.{Never}
+use Rattle.ffv1_hold.specs.FileFaults.{IsPartOfEntry, EntryShows}
+use Rattle.ffv1_hold.specs.Inner.FileFaults.{EndIsWhole}
 use Rattle.ffv1_hold.proofs.TextReads.{TakesText-nil, TakesText-then_none, StopsAt-after, broke_after, trailing}
 use Rattle.ffv1_hold.proofs.hold_reader.HoldReader.advance.Goals as goal
 

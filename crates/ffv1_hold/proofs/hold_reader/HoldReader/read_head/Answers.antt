@@ -1,7 +1,8 @@
 use Rattle.std.proofs.Common.{[], arith, inl}
 use Rattle.std.proofs.lemmas.Result.{err_from_is_err_and}
-use Rattle.ffv1_hold.specs.Reading.{Never}
-use Rattle.ffv1_hold.specs.FileFaults.{IsPartOfMagic, IsPartOfHead, HeadIsWhole, MagicShows, HeadShows}
+use Rattle.ffv1_hold.specs.Inner.Reading.{Never}
+use Rattle.ffv1_hold.specs.FileFaults.{IsPartOfMagic, MagicShows}
+use Rattle.ffv1_hold.specs.Inner.FileFaults.{IsPartOfHead, HeadIsWhole, HeadShows}
 use Rattle.ffv1_hold.proofs.TextReads.{TakesText-nil, TakesText-from, StopsAt-after}
 use Rattle.ffv1_hold.proofs.Heads.{head_read}
 use Rattle.ffv1_hold.proofs.hold_reader.HoldReader.read_head.Goals as goal

@@ -2,7 +2,7 @@ use Rattle.std.proofs.Common.{◌≡◌, ℕ, ◌+◌, ◌≤◌, subst, arith}
 use Rattle.ffv1_bits.specs.Limits.{file_limit}
 use Rattle.std.specs.declared.cmp.Ordering.TheVariants.{Less, Equal, Greater}
 use Rattle.std.proofs.lemmas.Result.{err_from_is_err_and}
-use Rattle.ffv1_hold.specs.Merging.{IsTurn}
+use Rattle.ffv1_hold.specs.Inner.Merging.{IsTurn}
 use Rattle.ffv1_hold.proofs.JoinSteps.{AllGoOn-trans, AllGoOn-to, OneStops-after, left_read, right_read, left_stops, right_stops, wrote, entry_stopped}
 use Rattle.ffv1_hold.proofs.MergeSteps.{entry_stops, left_shows_none, less_stands, greater_stands, equal_stands, left_refused, right_refused, left_now_shows_none, ends, same_version_entry, turn_written}
 use Rattle.ffv1_hold.proofs.merging.Merge.merge_entries.Goals as goal

@@ -1,7 +1,7 @@
 use Rattle.std.proofs.Common.{◌≡◌, ◌≤◌, IfSome}
 use Rattle.ffv1_bits.specs.Limits.{file_limit}
 use Rattle.ffv1_hold.specs.FileEntries.{IsFileEntryOf}
-use Rattle.ffv1_hold.specs.Merging.{Start, AreVersions, Stands}
+use Rattle.ffv1_hold.specs.Inner.Merging.{Start, AreVersions, Stands}
 use Rattle.ffv1_hold.specs.MergeLogs.{AllGoOn}
 use Rattle.ffv1_hold.proofs.merging.Merge.merge_entries.Given as goal
 

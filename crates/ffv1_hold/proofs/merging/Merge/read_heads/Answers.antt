@@ -1,6 +1,6 @@
 use Rattle.std.proofs.Common.{◌≡◌, arith, rules, refl, inl, inr, sym, subst}
 use Rattle.std.proofs.lemmas.Result.{err_from_is_err_and}
-use Rattle.ffv1_hold.specs.Reading.{Takes}
+use Rattle.ffv1_hold.specs.Inner.Reading.{Takes}
 use Rattle.ffv1_hold.specs.HoldingText.{head_text}
 use Rattle.ffv1_hold.proofs.JoinSteps.{OneStops-after, AllGoOn-trans, left_read, right_read, left_stops, right_stops, inside}
 use Rattle.ffv1_hold.proofs.merging.Merge.read_heads.Goals as goal

@@ -1,5 +1,5 @@
 use Rattle.std.proofs.Common.{◌+◌, ◌≤◌, refl, sym, ap, subst, length, arith, ◌∙◌}
-use Rattle.ffv1_plane.specs.Rows.{RowsRead}
+use Rattle.ffv1_plane.specs.Inner.Rows.{RowsRead}
 use Rattle.ffv1_plane.proofs.Copies.{row_copied, cells_alike}
 use Rattle.ffv1_plane.proofs.Rows.{count_is}
 use Rattle.ffv1_plane.proofs.lines.Lines.copy_above.Goals as goal

@@ -1,7 +1,7 @@
 use Rattle.std.proofs.Common.{ℕ, ◌≡◌, ◌+◌, ◌-◌, ◌++◌, take, drop, set, get_or, ap, ◌∙◌, subst, length, arith, rules}
 use Rattle.std.proofs.lemmas.List.{get_or_read, length-set}
 use Rattle.std.proofs.lemmas.Result.{err_from_is_err_and}
-use Rattle.ffv1_plane.specs.Rows.{AreNearLines, samples_so_far}
+use Rattle.ffv1_plane.specs.Inner.Rows.{AreNearLines, samples_so_far}
 use Rattle.ffv1_plane.proofs.Rows.{rolled}
 use Rattle.ffv1_plane.proofs.lines.Lines.end_row.Goals as goal
 

@@ -1,5 +1,5 @@
 use Rattle.std.proofs.Common.{◌<◌, ◌+◌, ap, sym, subst, arith}
-use Rattle.ffv1_plane.specs.Rows.{RowsRead}
+use Rattle.ffv1_plane.specs.Inner.Rows.{RowsRead}
 use Rattle.ffv1_plane.proofs.Rows.{pushed, push_is, push_left}
 use Rattle.ffv1_plane.proofs.lines.Lines.push.Goals as goal
 

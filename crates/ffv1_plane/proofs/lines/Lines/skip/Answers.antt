@@ -1,7 +1,7 @@
 use Rattle.std.proofs.Common.{◌≡◌, ◌≤◌, ◌+◌, ◌-◌, arith, length, ap, subst, ◌∙◌, ℕ}
 use Rattle.std.proofs.lemmas.List.{length_push}
 use Rattle.ffv1_plane.specs.Samples.{neighbours_at}
-use Rattle.ffv1_plane.specs.Progress.{AreSkipped}
+use Rattle.ffv1_plane.specs.Inner.Progress.{AreSkipped}
 use Rattle.ffv1_plane.proofs.Reading.{skip_more, skip_on}
 use Rattle.ffv1_plane.proofs.lines.Lines.skip.Goals as goal
 

@@ -1,5 +1,5 @@
 use Rattle.std.proofs.Common.{ℕ, ℤ, ◌≡◌, ◌+◌, length}
-use Rattle.ffv1_plane.specs.Progress.{AreSkipped}
+use Rattle.ffv1_plane.specs.Inner.Progress.{AreSkipped}
 use Rattle.ffv1_plane.proofs.lines.Lines.skip.Given as goal
 
 abbrev pub invariant-loop-done : goal.invariant-loop-done

@@ -1,7 +1,7 @@
 use Rattle.std.proofs.Common.{◌≡◌, ◌≤◌, nat_abs, arith, rules, refl, ap, w32}
 use mir.Val.{SFits}
 use Rattle.std.proofs.lemmas.Int.{to_z-of_z}
-use Rattle.ffv1_plane.specs.Readers.{entry_of}
+use Rattle.ffv1_plane.specs.Inner.Readers.{entry_of}
 use Rattle.ffv1_plane.proofs.Reading.{sample_read_at, code_halted_at}
 use Rattle.ffv1_plane.proofs.plane.PlaneReader.read_code.Goals as goal
 

@@ -1,8 +1,8 @@
 use Rattle.std.proofs.Common.{◌≡◌, ◌≤◌, ◌<◌, ◌-◌, ◌%◌, ℕ, true, pos, length, arith, rules, subst, refl, ◌∙◌}
 use Rattle.std.proofs.lemmas.Int.{ints}
 use Rattle.std.proofs.lemmas.Result.{on_ok_weaker, IfErr-weaker}
-use Rattle.ffv1_plane.specs.Progress.{IsSampleRead}
-use Rattle.ffv1_plane.specs.Readers.{entry_of}
+use Rattle.ffv1_plane.specs.Inner.Progress.{IsSampleRead}
+use Rattle.ffv1_plane.specs.Inner.Readers.{entry_of}
 use Rattle.ffv1_plane.proofs.Reading.{scalar_read_at, zero_here, run_end_read, run_level_read}
 use Rattle.ffv1_plane.proofs.Halting.{scalar_stops, word_halted, level_stops}
 use Rattle.ffv1_plane.proofs.Readers.{same_read, one_more}

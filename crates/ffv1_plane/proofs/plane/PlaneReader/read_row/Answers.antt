@@ -1,7 +1,7 @@
 use Rattle.std.proofs.Common.{◌≡◌, ◌<◌, ◌%◌, length, sym, arith, ap, refl, ◌∙◌}
 use Rattle.std.proofs.lemmas.Result.{err_from_is_err_and}
 use Rattle.ffv1_range.specs.Setup.{set_contexts}
-use Rattle.ffv1_plane.specs.Readers.{entry_of}
+use Rattle.ffv1_plane.specs.Inner.Readers.{entry_of}
 use Rattle.ffv1_plane.proofs.Readers.{same_plane, same_planes, row_halted, same_read, same_halted}
 use Rattle.ffv1_plane.proofs.plane.PlaneReader.read_row.Goals as goal
 

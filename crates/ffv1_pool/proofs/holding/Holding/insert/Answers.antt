@@ -1,7 +1,7 @@
 use Rattle.std.proofs.Common.{◌≡◌, ℕ, ◌<◌, List, [], length, get_or, Result, Ok, Err, OnOk, OnErr, sym, ap, subst, ◌∙◌}
 use Rattle.std.proofs.lemmas.List.{get_or_default}
 use Rattle.ffv1_pool.specs.SliceOrder.{Entry, entries_total, entries_antisymmetric}
-use Rattle.ffv1_pool.specs.TileSets.{TileSlices, with_tile_entry}
+use Rattle.ffv1_pool.specs.Inner.TileSets.{TileSlices, with_tile_entry}
 use Rattle.ffv1_pool.specs.Contents.{Contents, IsEntryOf, AreEntriesOf, AreHeld, AreOfDigestLength}
 use Rattle.ffv1_pool.specs.HoldingParts.{IsKept}
 use Rattle.ffv1_pool.specs.declared.holding.Holding.TheInside.{Inside}

@@ -2,7 +2,7 @@ use Rattle.std.proofs.Common.{sym, ap, ◌∙◌}
 use mathlib.Core.Bool.{true≢false}
 use Rattle.ffv1_pool.specs.Sets as set
 use Rattle.ffv1_pool.specs.SliceOrder.{entry_cmp, origin_cmp}
-use Rattle.ffv1_pool.specs.TileSets.{TileSlices}
+use Rattle.ffv1_pool.specs.Inner.TileSets.{TileSlices}
 use Rattle.ffv1_pool.proofs.holding.Holding.of_reel.Goals as goal
 
 pub invariant_of-result : goal.invariant_of-result

@@ -5,8 +5,8 @@ use Rattle.ffv1_range.specs.Setup.{SetupValue}
 use Rattle.ffv1_slice.specs.Slices.{found_slices}
 use Rattle.ffv1_pool.specs.Sets as set
 use Rattle.ffv1_pool.specs.SliceOrder.{entry_cmp, origin_cmp, entries_total, entries_antisymmetric}
-use Rattle.ffv1_pool.specs.TileSets.{TileSlices, with_more}
-use Rattle.ffv1_pool.specs.PoolEntries.{entry_in, IsPool}
+use Rattle.ffv1_pool.specs.Inner.TileSets.{TileSlices, with_more}
+use Rattle.ffv1_pool.specs.Inner.PoolEntries.{entry_in, IsPool}
 use Rattle.ffv1_pool.specs.declared.pool_entry.PoolEntry.{PoolEntry}
 use Rattle.ffv1_pool.specs.Contents.{Contents, IsEntryOf, AreEntriesOf, AreHeld, AreOfDigestLength, origins_of_copy, with_facts, with_found}
 use Rattle.ffv1_pool.specs.HoldingParts.{IsKept}

@@ -3,7 +3,7 @@ use Rattle.std.proofs.lemmas.Result.{err_from_is_err_and}
 use Rattle.ffv1_pool.specs.Sets as set
 use Rattle.ffv1_pool.specs.SliceOrder.{entries_total, entries_antisymmetric}
 use Rattle.ffv1_pool.specs.Reels.{Reel}
-use Rattle.ffv1_pool.specs.TileSets.{TileSlices}
+use Rattle.ffv1_pool.specs.Inner.TileSets.{TileSlices}
 use Rattle.ffv1_pool.specs.Contents.{Contents, joined, IsEntryOf, AreEntriesOf, AreHeld, AreOfDigestLength}
 use Rattle.ffv1_pool.specs.HoldingParts.{contents, IsKept}
 use Rattle.ffv1_pool.specs.declared.holding.Holding.TheInside.{Inside}

@@ -1,9 +1,9 @@
 use Rattle.std.proofs.Common.{◌≡◌, [], ◌∷◌, length, ap, ◌∙◌}
 use Rattle.ffv1_pool.specs.Sets as set
 use Rattle.ffv1_pool.specs.SliceOrder.{Entry, with_each}
-use Rattle.ffv1_pool.specs.TileSets.{TileSlices}
-use Rattle.ffv1_pool.specs.PoolEntries.{entry_in}
-use Rattle.ffv1_pool.specs.Rows.{rows_in}
+use Rattle.ffv1_pool.specs.Inner.TileSets.{TileSlices}
+use Rattle.ffv1_pool.specs.Inner.PoolEntries.{entry_in}
+use Rattle.ffv1_pool.specs.Inner.Rows.{rows_in}
 use Rattle.ffv1_pool.specs.declared.pool_entry.PoolEntry.{PoolEntry}
 use Rattle.ffv1_pool.proofs.OneRows.{union_one, own_view, own_pool, own_listed, own_rows, OnOk-map}
 use Rattle.ffv1_pool.proofs.OriginSteps.{held_one}

@@ -2,12 +2,12 @@ use Rattle.std.proofs.Common.{◌≡◌, ◌++◌, ℕ, List, map, sym, ap, ◌�
 use Rattle.std.proofs.lemmas.Result.{err_from_is_err_and}
 use Rattle.ffv1_pool.specs.Sets as set
 use Rattle.ffv1_pool.specs.SliceOrder.{Entry, Origin, entry_cmp, origin_cmp}
-use Rattle.ffv1_pool.specs.TileSets.{TileSlices, with_more}
-use Rattle.ffv1_pool.specs.PoolEntries.{entry_in, IsPool}
+use Rattle.ffv1_pool.specs.Inner.TileSets.{TileSlices, with_more}
+use Rattle.ffv1_pool.specs.Inner.PoolEntries.{entry_in, IsPool}
 use Rattle.ffv1_pool.specs.declared.pool_entry.PoolEntry.{PoolEntry}
 use Rattle.ffv1_pool.specs.Contents.{AreHeld}
-use Rattle.ffv1_pool.specs.Fresh.{fresh_in, AreFresh, AreAllFresh}
-use Rattle.ffv1_pool.specs.Rows.{rows_in, rows_of, IsRows, IsStock, fresh_rows_in, AreFreshRows}
+use Rattle.ffv1_pool.specs.Inner.Fresh.{fresh_in, AreFresh, AreAllFresh}
+use Rattle.ffv1_pool.specs.Inner.Rows.{rows_in, rows_of, IsRows, IsStock, fresh_rows_in, AreFreshRows}
 use Rattle.ffv1_pool.proofs.RowGrowth.{rows_after, rows_kept}
 use Rattle.ffv1_pool.proofs.FreshHeld.{fresh_held}
 use Rattle.ffv1_pool.proofs.Errors.{error_is}

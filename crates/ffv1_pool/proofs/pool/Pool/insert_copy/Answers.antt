@@ -2,9 +2,9 @@ use Rattle.std.proofs.Common.{◌≡◌, ℕ, List, map, ap, ◌∙◌}
 use Rattle.sha2.specs.Sha256.{sha256}
 use Rattle.ffv1_pool.specs.Sets as set
 use Rattle.ffv1_pool.specs.SliceOrder.{Entry, Origin}
-use Rattle.ffv1_pool.specs.TileSets.{with_more}
-use Rattle.ffv1_pool.specs.PoolEntries.{entry_in}
-use Rattle.ffv1_pool.specs.Rows.{rows_in}
+use Rattle.ffv1_pool.specs.Inner.TileSets.{with_more}
+use Rattle.ffv1_pool.specs.Inner.PoolEntries.{entry_in}
+use Rattle.ffv1_pool.specs.Inner.Rows.{rows_in}
 use Rattle.ffv1_pool.proofs.OneRows.{marked_listed, marked_rows, OnOk-map}
 use Rattle.ffv1_pool.proofs.OriginSteps.{held_marked}
 use Rattle.ffv1_pool.proofs.pool.Pool.insert_copy.Goals as goal

@@ -1,7 +1,7 @@
 use Rattle.std.proofs.Common.{◌-◌, List, subst, take, drop, map, ap, ◌∙◌}
 use Rattle.ffv1_pool.specs.Sets as set
-use Rattle.ffv1_pool.specs.TileSets.{TileSlices}
-use Rattle.ffv1_pool.specs.PoolEntries.{slice_in, IsTilePart}
+use Rattle.ffv1_pool.specs.Inner.TileSets.{TileSlices}
+use Rattle.ffv1_pool.specs.Inner.PoolEntries.{slice_in, IsTilePart}
 use Rattle.ffv1_pool.specs.declared.pool_entry.PoolEntry.{PoolEntry}
 use Rattle.ffv1_pool.proofs.TileParts.{tiles_rise, tile_slices-part, is_shelf}
 use Rattle.ffv1_pool.proofs.pool.Pool.of_tile.Goals as goal

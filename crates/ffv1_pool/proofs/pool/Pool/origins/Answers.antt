@@ -2,9 +2,10 @@ use Rattle.std.proofs.Common.{◌≡◌, ◌<◌, ℕ, List, length, map, get_or
 use Rattle.std.proofs.lemmas.List.{length-map, get_or-map}
 use Rattle.ffv1_pool.specs.Sets as set
 use Rattle.ffv1_pool.specs.SliceOrder.{Entry, entry_cmp, entries_total}
-use Rattle.ffv1_pool.specs.TileSets.{TileSlices, digests_in}
-use Rattle.ffv1_pool.specs.PoolEntries.{entry_in}
-use Rattle.ffv1_pool.specs.Rows.{rows_in}
+use Rattle.ffv1_pool.specs.Inner.TileSets.{TileSlices}
+use Rattle.ffv1_pool.specs.TileSets.{digests_in}
+use Rattle.ffv1_pool.specs.Inner.PoolEntries.{entry_in}
+use Rattle.ffv1_pool.specs.Inner.Rows.{rows_in}
 use Rattle.ffv1_pool.specs.declared.pool_entry.PoolEntry.{PoolEntry}
 use Rattle.ffv1_pool.proofs.RisingSets.{contains_placed, contains_gap}
 use Rattle.ffv1_pool.proofs.pool.Pool.origins.Goals as goal

@@ -1,8 +1,9 @@
 use Rattle.std.proofs.Common.{List, subst, ap, ◌∙◌, arith}
 use Rattle.ffv1_pool.specs.Sets as set
-use Rattle.ffv1_pool.specs.TileSets.{TileSlices, digests_in}
-use Rattle.ffv1_pool.specs.PoolEntries.{entry_in, IsTilePart}
-use Rattle.ffv1_pool.specs.Rows.{rows_in}
+use Rattle.ffv1_pool.specs.Inner.TileSets.{TileSlices}
+use Rattle.ffv1_pool.specs.TileSets.{digests_in}
+use Rattle.ffv1_pool.specs.Inner.PoolEntries.{entry_in, IsTilePart}
+use Rattle.ffv1_pool.specs.Inner.Rows.{rows_in}
 use Rattle.ffv1_pool.specs.declared.pool_entry.PoolEntry.{PoolEntry}
 use Rattle.ffv1_pool.proofs.TileParts.{tiles_rise, size_part, entry_in_part, place_lent}
 use Rattle.ffv1_pool.proofs.pool.Pool.origins_at.Goals as goal

@@ -1,7 +1,7 @@
 use Rattle.std.proofs.Common.{ap, arith}
 use Rattle.ffv1_pool.specs.SliceOrder.{entries_total}
-use Rattle.ffv1_pool.specs.TileSets.{TileSlices}
-use Rattle.ffv1_pool.specs.PoolEntries.{entry_in}
+use Rattle.ffv1_pool.specs.Inner.TileSets.{TileSlices}
+use Rattle.ffv1_pool.specs.Inner.PoolEntries.{entry_in}
 use Rattle.ffv1_pool.proofs.RisingSets.{size_kept}
 use Rattle.ffv1_pool.proofs.pool.Pool.size.Goals as goal
 

@@ -4,7 +4,7 @@ use Rattle.std.specs.Cmp.{tied_itself}
 use Rattle.std.specs.declared.cmp.Ordering.{Ordering}
 use Rattle.std.specs.declared.cmp.Ordering.TheVariants.{Less, Equal, Greater}
 use Rattle.ffv1_pool.specs.SliceOrder.{bytes_cmp, bytes_total}
-use Rattle.ffv1_pool.specs.PoolEntries.{slice_in}
+use Rattle.ffv1_pool.specs.Inner.PoolEntries.{slice_in}
 use Rattle.ffv1_pool.proofs.pool_entry.PoolEntry.compare_to.Goals as goal
 
 then_tied : (o : Ordering) → ordering_then o Equal ≡ o

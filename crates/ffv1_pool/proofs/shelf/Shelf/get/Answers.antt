@@ -2,7 +2,7 @@ use Rattle.std.proofs.Common.{◌<◌, length, arith, subst, sym}
 use Rattle.std.proofs.lemmas.List.{get_or-map}
 use Rattle.ffv1_slice.specs.Chain.{IsFramed}
 use Rattle.ffv1_pool.specs.SliceOrder.{bytes_total}
-use Rattle.ffv1_pool.specs.PoolEntries.{slice_in}
+use Rattle.ffv1_pool.specs.Inner.PoolEntries.{slice_in}
 use Rattle.ffv1_pool.specs.declared.pool_entry.PoolEntry.{PoolEntry}
 use Rattle.ffv1_pool.proofs.RisingSets.{size_kept, items_kept}
 use Rattle.ffv1_pool.proofs.shelf.Shelf.get.Goals as goal

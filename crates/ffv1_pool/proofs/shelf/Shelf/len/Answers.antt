@@ -1,6 +1,6 @@
 use Rattle.std.proofs.Common.{arith}
 use Rattle.ffv1_pool.specs.SliceOrder.{bytes_total}
-use Rattle.ffv1_pool.specs.PoolEntries.{slice_in}
+use Rattle.ffv1_pool.specs.Inner.PoolEntries.{slice_in}
 use Rattle.ffv1_pool.proofs.RisingSets.{size_kept}
 use Rattle.ffv1_pool.proofs.shelf.Shelf.len.Goals as goal
 

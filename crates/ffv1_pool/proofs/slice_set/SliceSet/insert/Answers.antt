@@ -1,7 +1,8 @@
 use Rattle.std.proofs.Common.{◌≡◌, sym, ap, ◌∙◌, subst, arith, map, not}
 use Rattle.ffv1_pool.specs.Sets as set
 use Rattle.std.specs.List.{insert}
-use Rattle.ffv1_pool.specs.Rising.{IsRising, IsInsertionPlace}
+use Rattle.ffv1_pool.specs.Rising.{IsRising}
+use Rattle.ffv1_pool.specs.Inner.Rising.{IsInsertionPlace}
 use Rattle.ffv1_pool.specs.SliceOrder.{bytes_cmp, bytes_total, bytes_antisymmetric}
 use Rattle.ffv1_pool.proofs.RisingSets.{size_kept, items_kept, size-items, contains_placed, contains_gap, rising_insert, from_list-insert, insert_present, map-insert}
 use Rattle.ffv1_pool.proofs.slice_set.SliceSet.insert.Goals as goal

@@ -1,6 +1,7 @@
 use Rattle.std.proofs.Common.{true, false, sym, ap, ◌∙◌}
 use Rattle.std.proofs.lemmas.Result.{err_from_is_err_and}
-use Rattle.ffv1_range.specs.Views.{set_values, contexts_of, front_value}
+use Rattle.ffv1_range.specs.Views.{set_values}
+use Rattle.ffv1_range.specs.Inner.Views.{contexts_of, front_value}
 use Rattle.ffv1_range.specs.declared.fault.SetupFault.TheVariants.{Range, Size}
 use Rattle.ffv1_range.proofs.TableSteps.{fresh_row-states}
 use Rattle.ffv1_range.proofs.SetupSteps.{not_checked, width_refused, height_refused, start_refused, front_fails, memory_refused, sets_fail, deltas_fail, last_fails, all_read, contexts_of-values}

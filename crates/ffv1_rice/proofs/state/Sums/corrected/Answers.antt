@@ -1,5 +1,6 @@
 use Rattle.std.proofs.Common.{sym, subst}
-use Rattle.ffv1_rice.specs.States.{IsState, IsUncorrected}
+use Rattle.ffv1_rice.specs.States.{IsState}
+use Rattle.ffv1_rice.specs.Inner.States.{IsUncorrected}
 use Rattle.ffv1_rice.proofs.Sums.{count_fits, raised_fits, one_less_fits, bias_less_fits, lowered_fits, bias_more_fits, corrected_fallen, corrected_risen, corrected_same, corrected_range}
 use Rattle.ffv1_rice.proofs.state.Sums.corrected.Goals as goal
 

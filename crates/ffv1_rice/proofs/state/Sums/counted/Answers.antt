@@ -1,5 +1,5 @@
 use Rattle.std.proofs.Common.{sym, subst}
-use Rattle.ffv1_rice.specs.States.{IsUncounted, IsUncorrected}
+use Rattle.ffv1_rice.specs.Inner.States.{IsUncounted, IsUncorrected}
 use Rattle.ffv1_rice.proofs.Sums.{count_more_fits, half_more_fits, counted_halved, counted_more, counted_range}
 use Rattle.ffv1_rice.proofs.state.Sums.counted.Goals as goal
 

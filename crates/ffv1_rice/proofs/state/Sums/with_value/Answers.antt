@@ -1,5 +1,6 @@
 use Rattle.std.proofs.Common.{sym, subst}
-use Rattle.ffv1_rice.specs.States.{IsState, IsUncounted}
+use Rattle.ffv1_rice.specs.States.{IsState}
+use Rattle.ffv1_rice.specs.Inner.States.{IsUncounted}
 use Rattle.ffv1_rice.proofs.Sums.{with_value_drift_fits, with_value_errors_fit, with_value_is, with_value_range}
 use Rattle.ffv1_rice.proofs.state.Sums.with_value.Goals as goal
 

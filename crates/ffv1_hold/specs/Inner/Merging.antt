@@ -15,11 +15,14 @@ use Rattle.ffv1_hold.specs.declared.file_fault.HoldFileFault.TheVariants as faul
 use Rattle.ffv1_hold.specs.declared.version.Version.{Version}
 use Rattle.ffv1_hold.specs.declared.version.Version.TheVariants.{Second}
 use Rattle.ffv1_hold.specs.HoldingText.{FileEntry, origins_limit, head_text, entry_text, begun_text, file_entries, IsStated}
-use Rattle.ffv1_hold.specs.Reading.{Takes, Refuses}
-use Rattle.ffv1_hold.specs.FileEntries.{last_of, Follows, AreOrigins, IsFileEntryOf, next_text}
-use Rattle.ffv1_hold.specs.FileFaults.{IsFileReel, IsPartOfHead, HeadIsWhole, HeadShows}
+use Rattle.ffv1_hold.specs.Inner.Reading.{Takes}
+use Rattle.ffv1_hold.specs.Reading.{Refuses}
+use Rattle.ffv1_hold.specs.FileEntries.{last_of, Follows, AreOrigins, IsFileEntryOf}
+use Rattle.ffv1_hold.specs.Inner.FileEntries.{next_text}
+use Rattle.ffv1_hold.specs.FileFaults.{IsFileReel}
+use Rattle.ffv1_hold.specs.Inner.FileFaults.{IsPartOfHead, HeadIsWhole, HeadShows}
 use Rattle.ffv1_hold.specs.Leads.{LiesWhole, AreAllDigests}
-use Rattle.ffv1_hold.specs.MergedStreams.{Inputs, IsFileOf, IsFileOfSome, ReadsOtherHeads, JoinRefuses, WritesNoEnd, WritesFrontSoFar, WritesAtMost, ReadsBoth, StreamBegins}
+use Rattle.ffv1_hold.specs.MergedStreams.{Inputs, IsFileOf, IsFileOfSome, ReadsOtherHeads, MergeRefuses, WritesNoEnd, WritesFrontSoFar, WritesAtMost, ReadsBoth, StreamBegins}
 
 -- what both inputs had left and the sink held at first, the reel of both heads, and their versions
 pub record Start : Type 0 where
@@ -151,7 +154,7 @@ pub record Stops (i : Inputs) (old new : Option (List ℕ)) (f : HoldFileFault) 
   pub right_version : Version
   pub left_head : StreamBegins i.left_old (head_text left_version reel)
   pub right_head : StreamBegins i.right_old (head_text right_version reel)
-  pub fault : JoinRefuses i f
+  pub fault : MergeRefuses i f
   pub inside : f ≢ faults.OtherReel
   pub no_end : f ≢ faults.Write → WritesNoEnd i old new
   pub write : f ≡ faults.Write → StopsAtWrite i reel old new

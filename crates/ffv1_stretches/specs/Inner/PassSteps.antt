@@ -6,7 +6,8 @@ use Rattle.ffv1_mend.specs.Mended.{MendedValue, is_good}
 use Rattle.ffv1_stretches.specs.Stretches.{StretchValue}
 use Rattle.ffv1_stretches.specs.Cells.{IsOutcome}
 use Rattle.ffv1_stretches.specs.Lines.{stretch_text}
-use Rattle.ffv1_stretches.specs.Copies.{CopyState, ReadsStretch}
+use Rattle.ffv1_stretches.specs.Copies.{CopyState}
+use Rattle.ffv1_stretches.specs.Inner.Copies.{ReadsStretch}
 use Rattle.ffv1_stretches.specs.declared.pass.MendFault.{MendFault}
 use Rattle.ffv1_stretches.specs.declared.pass.MendFault.TheVariants as faults
 

@@ -1,8 +1,8 @@
 -- How far a reader of a plane has come, and how it halts: the notions of Progress and Halts at a reader.
 use Rattle.std.specs.Prelude.{◌≡◌, ℕ, Bool, List, length, ℤ}
 use Rattle.ffv1_range.specs.Setup.{set_contexts, set_entry}
-use Rattle.ffv1_plane.specs.Progress.{IsReadTo}
-use Rattle.ffv1_plane.specs.Halts.{IsNextHalted}
+use Rattle.ffv1_plane.specs.Inner.Progress.{IsReadTo}
+use Rattle.ffv1_plane.specs.Inner.Halts.{IsNextHalted}
 use Rattle.ffv1_plane.specs.declared.plane.PlaneReader.{PlaneReader}
 use Rattle.ffv1_plane.specs.declared.plane.PlaneFault.{PlaneFault}
 

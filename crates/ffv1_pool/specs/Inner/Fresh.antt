@@ -4,8 +4,9 @@ use Rattle.std.specs.List.{insert}
 use Rattle.std.specs.declared.cmp.Ordering.{Ordering}
 use Rattle.ffv1_pool.specs.SliceOrder.{Entry, entry_cmp}
 use Rattle.ffv1_pool.specs.Sets as set
-use Rattle.ffv1_pool.specs.Rising.{IsRising, IsInsertionPlace}
-use Rattle.ffv1_pool.specs.PoolEntries.{entry_in, IsEntryIn}
+use Rattle.ffv1_pool.specs.Rising.{IsRising}
+use Rattle.ffv1_pool.specs.Inner.Rising.{IsInsertionPlace}
+use Rattle.ffv1_pool.specs.Inner.PoolEntries.{entry_in, IsEntryIn}
 use Rattle.ffv1_pool.specs.declared.pool_entry.PoolEntry.{PoolEntry}
 use Rattle.ffv1_pool.specs.declared.fresh.Fresh.{Fresh}
 

@@ -3,7 +3,7 @@ use Rattle.std.specs.Prelude.{ℕ, ◌≡◌, ◌≢◌, List, [], ◌∷◌, �
 use Rattle.ffv1_devices.specs.Logs.{ReadLog}
 use Rattle.ffv1_hold.specs.declared.file_fault.HoldFileFault.{HoldFileFault}
 use Rattle.ffv1_hold.specs.declared.file_fault.HoldFileFault.TheVariants as faults
-use Rattle.ffv1_hold.specs.Reading.{TakesText}
+use Rattle.ffv1_hold.specs.Inner.Reading.{TakesText}
 use Rattle.ffv1_hold.specs.FileEntries.{last_of, FollowsDigest, IsDigest}
 
 -- a byte that is the number of no version

@@ -3,9 +3,10 @@ use Rattle.std.specs.Prelude.{◌≡◌, ℕ, ◌<◌, ◌≤◌, List, length, 
 use Rattle.std.specs.List.{zip}
 use Rattle.std.specs.declared.cmp.Ordering.TheVariants.{Less, Greater}
 use Rattle.ffv1_pool.specs.SliceOrder.{Entry, Origin, entry_cmp, origin_cmp}
-use Rattle.ffv1_pool.specs.Rising.{IsRising, IsInsertionPlace}
-use Rattle.ffv1_pool.specs.PoolEntries.{entry_in, AreEntriesIn, IsPool}
-use Rattle.ffv1_pool.specs.Fresh.{IsMoved}
+use Rattle.ffv1_pool.specs.Rising.{IsRising}
+use Rattle.ffv1_pool.specs.Inner.Rising.{IsInsertionPlace}
+use Rattle.ffv1_pool.specs.Inner.PoolEntries.{entry_in, AreEntriesIn, IsPool}
+use Rattle.ffv1_pool.specs.Inner.Fresh.{IsMoved}
 use Rattle.ffv1_pool.specs.declared.pool_entry.PoolEntry.{PoolEntry}
 use Rattle.ffv1_pool.specs.declared.fresh.Fresh.{Fresh}
 use Rattle.ffv1_pool.specs.declared.rows.Rows.{Rows}

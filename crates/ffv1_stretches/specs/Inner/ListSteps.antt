@@ -4,7 +4,7 @@ use Rattle.ffv1_bits.specs.Limits.{payload_limit}
 use Rattle.ffv1_lists.specs.Numbers.{IsNumber}
 use Rattle.ffv1_mend.specs.declared.part.Part.{Part}
 use Rattle.ffv1_stretches.specs.Stretches.{StretchValue, FollowsStretch, ends_after, ends_of}
-use Rattle.ffv1_stretches.specs.Ends.{end_of}
+use Rattle.ffv1_stretches.specs.Inner.Ends.{end_of}
 use Rattle.ffv1_stretches.specs.declared.ends.End.{End}
 use Rattle.ffv1_stretches.specs.Listed.{part_word, AreStretchWords, ArePartWords, IsNextPart, with_part, AreListed}
 

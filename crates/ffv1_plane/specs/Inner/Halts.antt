@@ -10,7 +10,8 @@ use Rattle.ffv1_rice.specs.declared.code.CodeFault.{CodeFault}
 use Rattle.ffv1_plane.specs.Samples.{plane_of, neighbours_at, context_of, IsPlaneOfSize}
 use Rattle.ffv1_plane.specs.Spelling.{Residuals, residuals_of, PlaneSpells, values_after}
 use Rattle.ffv1_plane.specs.Picture.{ArePlanesOf, IsPlaneIn, plane_set, shaped_plane, no_values}
-use Rattle.ffv1_plane.specs.Progress.{AreStatesAfter, IsReadTo}
+use Rattle.ffv1_plane.specs.Progress.{AreStatesAfter}
+use Rattle.ffv1_plane.specs.Inner.Progress.{IsReadTo}
 use Rattle.ffv1_plane.specs.Stuck.{SpellsFront, IsWordRefused, AreBitsStuck}
 use Rattle.ffv1_plane.specs.declared.plane.PlaneFault.{PlaneFault}
 use Rattle.ffv1_plane.specs.declared.plane.PlaneFault.TheVariants as plane_faults
