@@ -1,5 +1,5 @@
 //! The command `chain`: prints the links of a frame payload and how their chain ends (RFC 9043, section 4.9).
-ghost use Rattle.std.specs.Prelude.{◌≡◌, ◌+◌, ◌≤◌, List, ℕ, [], ◌∷◌, ◌++◌, length, IfErr, OnOk, OnErr, IfSome, IfNone, string_bytes, string_len, string_capacity};
+ghost use Rattle.std.specs.Prelude.{◌≡◌, ◌+◌, ◌≤◌, List, ℕ, [], ◌++◌, length, IfErr, OnOk, OnErr, IfSome, string_bytes, string_len, string_capacity};
 ghost use Rattle.ffv1_bits.specs.Limits.{payload_limit};
 ghost use Rattle.ffv1_commands.specs.Fault.{NamesPath};
 ghost use Rattle.ffv1_commands.specs.Paths.{IsChainPath};
@@ -15,7 +15,7 @@ use crate::fault::CliFault;
 use crate::lines::{ROOM, make_room, push_number, push_word};
 use crate::path::CommandPath;
 use ffv1_hold::{FromRead, Sink, Source, ThroughWrite, WriteFailed, write_field};
-use ffv1_slice::{Chain, ChainEnd, FOOTER_LENGTH, Link};
+use ffv1_slice::{Chain, ChainEnd, FOOTER_LENGTH, Link, next_link};
 use std::alloc::Global;
 use std::io::{Read, Write};
 
@@ -78,14 +78,6 @@ fn print_chain<W: Sink>(
         print_link(text, &link, output)?;
     }
     print_end(text, end, output)
-}
-
-/// The next link of a chain, from the payload's end.
-fn next_link<'a>(chain: &mut Chain<'a>) -> Option<Link<'a>>
-    ensures some { IfSome result (λ link. chain.old.left ≡ link ∷ chain.new.left) }
-    ensures none { IfNone result (chain.old.left ≡ []) }
-{
-    chain.next()
 }
 
 /// Adds the line of a link to the text, what waits there being printed where it might not find room.

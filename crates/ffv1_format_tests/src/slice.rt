@@ -1,7 +1,7 @@
 //! The chain of a payload, and its slices.
 use ffv1_frames::{FRAME, LEFT_DAMAGED, ONE_TILE, RECORDED, RECORDED_RECORD, RIGHT};
 use ffv1_range::{HeadFault, RangeFault, Setup};
-use ffv1_slice::{Chain, ChainEnd, LinkFault, read_slice, slice_of};
+use ffv1_slice::{Chain, ChainEnd, LinkFault, next_link, read_slice, slice_of};
 use std::alloc::Global;
 use std::test::Fail;
 
@@ -67,7 +67,7 @@ fn after_junk(alloc: Global) -> Result<Vec<u8>, Fail> {
 
 /// The tile of the next link of a chain that is a slice of the setup, or `None` where it is none.
 fn next_tile(setup: &Setup, chain: &mut Chain<'_>) -> Option<usize> {
-    slice_of(setup, &chain.next()?).ok()
+    slice_of(setup, &next_link(chain)?).ok()
 }
 
 /// The tiles of the slices that are found in a payload, from its end.

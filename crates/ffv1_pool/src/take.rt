@@ -1,6 +1,6 @@
 //! Taking copies of a frame into a holding (own). A copy's links are found by the sizes in their footers (RFC 9043, section
 //! 4.9.1); those that pass their parity (section 4.9.3) and have a header of the profile are its slices.
-ghost use Rattle.std.specs.Prelude.{◌≡◌, ◌≢◌, ◌⊎◌, ◌*◌, ◌+◌, ◌<◌, ◌≤◌, ◌^◌, length, map, take, [], slice_index_or, ◌∷◌, IfSome, IfNone, IfOk, IfErr, OnOk, OnErr};
+ghost use Rattle.std.specs.Prelude.{◌≡◌, ◌≢◌, ◌⊎◌, ◌*◌, ◌+◌, ◌<◌, ◌≤◌, ◌^◌, length, map, take, [], slice_index_or, IfOk, IfErr, OnOk, OnErr};
 ghost use Rattle.ffv1_bits.specs.Limits.{payload_limit};
 ghost use Rattle.ffv1_slice.specs.Walk.{links_of};
 ghost use Rattle.ffv1_slice.specs.Slices.{found_slices};
@@ -15,7 +15,7 @@ use crate::holding::Holding;
 use crate::pool_entry::PoolEntry;
 use ffv1_bits::PAYLOAD_LIMIT;
 use ffv1_range::Setup;
-use ffv1_slice::{Chain, Link, slice_of};
+use ffv1_slice::{Chain, next_link, slice_of};
 use std::alloc::AllocError;
 
 /// What taking one copy came to.
@@ -142,12 +142,4 @@ fn put_in_order(bytes: &[u8], entries: &mut Vec<PoolEntry>) -> Result<(), AllocE
     entries.sort_by(|one, other| one.compare(bytes, other.tile, other.slice(bytes)))?;
     entries.dedup_by(|next, last| { next.compare(bytes, last.tile, last.slice(bytes)).is_eq() });
     Ok(())
-}
-
-/// The next link of a chain, from the payload's end.
-fn next_link<'a>(chain: &mut Chain<'a>) -> Option<Link<'a>>
-    ensures some { IfSome result (λ link. chain.old.left ≡ link ∷ chain.new.left) }
-    ensures none { IfNone result (chain.old.left ≡ []) }
-{
-    chain.next()
 }

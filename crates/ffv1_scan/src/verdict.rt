@@ -1,8 +1,8 @@
 //! How the bytes of a range stand as a frame payload (RFC 9043, section 4.9).
-ghost use Rattle.std.specs.Prelude.{◌≡◌, [], ◌∷◌, ◌++◌, IfSome, IfNone, OnOk, string_bytes};
+ghost use Rattle.std.specs.Prelude.{◌≡◌, ◌++◌, OnOk, string_bytes};
 ghost use Rattle.ffv1_scan.specs.Verdicts.{is_passing, IsVerdictOf, is_sound, verdict_line};
 
-use ffv1_slice::{Chain, ChainEnd, FOOTER_LENGTH, Link};
+use ffv1_slice::{Chain, ChainEnd, FOOTER_LENGTH, Link, next_link};
 use std::alloc::AllocError;
 
 /// How the bytes of a range stand.
@@ -44,14 +44,6 @@ pub fn judge(bytes: &[u8]) -> Verdict
         passing,
         end,
     }
-}
-
-/// The next link of a chain, from its end.
-fn next_link<'a>(chain: &mut Chain<'a>) -> Option<Link<'a>>
-    ensures some { IfSome result (λ link. chain.old.left ≡ link ∷ chain.new.left) }
-    ensures none { IfNone result (chain.old.left ≡ []) }
-{
-    chain.next()
 }
 
 /// Whether a link has content, and passes its parity.

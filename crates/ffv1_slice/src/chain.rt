@@ -1,6 +1,6 @@
 //! The chain of a payload's slices, from its end (RFC 9043, section 4.9). A link that fails its parity is still a link,
 //! and its size is still followed.
-ghost use Rattle.std.specs.Prelude.{◌≡◌, ◌+◌, ◌-◌, ◌*◌, ◌≤◌, ℕ, length, MatchOption, IfSome, ⊤};
+ghost use Rattle.std.specs.Prelude.{◌≡◌, ◌+◌, ◌-◌, ◌*◌, ◌≤◌, ℕ, [], ◌∷◌, length, MatchOption, IfSome, IfNone, ⊤};
 ghost use Rattle.std.specs.Iterator.{YieldsFirst, item_count, MakesProgress};
 ghost use Rattle.ffv1_bits.specs.Limits.{slice_limit};
 ghost use Rattle.ffv1_slice.specs.Chain.{IsCut, AreLinksOf, IsEnd};
@@ -87,6 +87,15 @@ impl<'a> Iterator for Chain<'a> {
         self.place = start;
         Some(link)
     }
+}
+
+/// The link that the chain gives next, for loops that keep account of those that are left: the one before the link that it gave last,
+/// and at first the one at the payload's end (RFC 9043, section 4.9). `None` if none is left.
+pub fn next_link<'a>(chain: &mut Chain<'a>) -> Option<Link<'a>>
+    ensures some { IfSome result (λ link. chain.old.left ≡ link ∷ chain.new.left) }
+    ensures none { IfNone result (chain.old.left ≡ []) }
+{
+    chain.next()
 }
 
 /// Where the slice begins whose footer ends at this place, counted as the place is, in bytes from the payload's start; `None`
