@@ -239,7 +239,7 @@ fn reports(
         && held.size() == slices.max(1)
 }
 
-/// Tiles beside each other, two copies of them, and what `tells` has of one of the tiles.
+/// Tiles beside each other, two copies of them, and what `reports` has of one of the tiles.
 type Reported = (u32, [&'static [u8]; 2], usize, (usize, Option<u8>, usize));
 
 /// Whether the tile of these copies' holding is as the row says.

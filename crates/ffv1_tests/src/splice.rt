@@ -278,7 +278,7 @@ fn reports(
 /// prints.
 type Reported = (Changes, Changes, bool, Changes, &'static str);
 
-static TOLD: [Reported; 7] = [
+static REPORTED: [Reported; 7] = [
     (
         FIRST_COPY,
         SECOND_COPY,
@@ -345,7 +345,7 @@ fn reports_of_changed(alloc: Global, reported: &Reported) -> bool {
 
 #[test]
 fn the_command_writes_and_reports_the_splice(rt: HostRuntime) {
-    for reported in &TOLD {
+    for reported in &REPORTED {
         assert!(rt; reports_of_changed(rt.alloc(), reported));
     }
     assert!(rt; reports(rt.alloc(), (&[], &[]), true, &[], "end whole\n"));
