@@ -85,7 +85,7 @@ settled_lines original (place ∷ places) settled within =
     λ i. line i ++ rest i
 
 module _ (original : List ℕ) (copies : List (List ℕ)) (spliced : SplicedValue) (is : IsSpliceOf copies spliced)
-    (given : splice.IsOriginal original spliced) where
+    (given : splice.IsSplicedOriginal original spliced) where
   within : All (λ place. place.start ≤ place.end × place.end ≤ length original) spliced.places
   within =
       subst (λ n. All (λ place. place.start ≤ place.end × place.end ≤ n) spliced.places) (ap length given.payload)
@@ -135,7 +135,7 @@ gives_if_true original copies one given = record {
 }
 
 gives_only : (original : List ℕ) (copies : List (List ℕ)) → ((i : ℕ) → i < length copies → length (get_or copies i []) ≡ length original)
-    → ((spliced : SplicedValue) → IsSpliceOf copies spliced → splice.IsOriginal original spliced) → GiveOnly copies original
+    → ((spliced : SplicedValue) → IsSpliceOf copies spliced → splice.IsSplicedOriginal original spliced) → GiveOnly copies original
 gives_only original copies one given = record {
   made = λ made is.
       let by = made_by copies made is in

@@ -168,7 +168,7 @@ covered_among original versions from parts mended is within some covered right =
 
 module _ (original : List ℕ) (versions : List (List ℕ)) (from : List ℕ) (parts : List Part) (mended : MendedValue)
     (of : IsOriginalOf original versions parts mended) where
-  kept_weave : (weave : Weave) → IsWeaveOf Element (improved versions parts mended.splices) weave → weave_laws.MendKeepsOriginal original weave
+  kept_weave : (weave : Weave) → IsWeaveOf Element (improved versions parts mended.splices) weave → weave_laws.KeepsOriginal original weave
   kept_weave weave h = original_is_woven Element original (improved versions parts mended.splices) weave of.passes of.among h
 
   kept : (state : State) → ElementStands versions from parts mended.splices mended.bytes state → MendKeepsOriginal original versions parts mended state

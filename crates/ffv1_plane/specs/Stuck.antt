@@ -107,6 +107,18 @@ pub record AreBitsStuck (setup : SetupValue) (head : SliceHead) (planes : List (
   pub refused : IsWordRefused (values_before_plane setup head planes plane) (residuals_of (tile_plane setup head planes plane))
       (scan_place setup head.tile plane y x) part others fault
 
+-- A content that is stuck at sample s of a plane, from its first byte on, and which definition says what of it:
+--
+--     header | planes below the plane | words of the plane that start before s | a word that can't be read
+--            | ------- whole -------- | ---------------- part ---------------- | others
+--            | ------------------------- front -----------------------------   |
+--
+--     IsStuckAt          the header, and that `front` begins the bits of a picture
+--     AreBitsStuck       `whole`, by PlanesBelow, and then `part`
+--     IsWordRefused      `others`: a word of a run that ends too early (IsRunWordShort), or a code that is refused (IsCodeRefused)
+--     IsRunWordDue,      `part`: which word is due at s after it
+--     IsCodeDue
+
 -- The content of a slice is stuck at a sample of a tile: it has a header of the tile, and for some picture of the tile and
 -- the bits of that picture, those of them before the sample's word begin the bits after the header, and what follows
 -- there can't be read, for this fault.

@@ -119,7 +119,7 @@ intact_each start end link = let at = slice_of_link vectors.setup vectors.frame 
     intact (suc (suc k)) lt s e is = absurd (omega arith)
 
 -- neither has the frame, and both together have it
-pub spliced_to_the_frame : (spliced : SplicedValue) → IsSpliceOf copies spliced → laws.IsOriginal vectors.frame spliced
+pub spliced_to_the_frame : (spliced : SplicedValue) → IsSpliceOf copies spliced → laws.IsSplicedOriginal vectors.frame spliced
 spliced_to_the_frame spliced is = near_copies_splice.original vectors.frame copies spliced are_near intact_each is
 
 -- ---- zeros
