@@ -12,6 +12,7 @@ use Rattle.ffv1_weave.specs.declared.check.Check.TheVariants.{Element}
 use Rattle.ffv1_weave.specs.Laws.{IsCovered}
 use Rattle.ffv1_weave.specs.Laws as weave_laws
 use Rattle.ffv1_weave.proofs.Agreeing.{agree_past}
+use Rattle.ffv1_weave.proofs.RegionSteps.{within_window}
 use Rattle.ffv1_weave.proofs.WeaveLaws.{covered_is_combination}
 use Rattle.ffv1_weave.proofs.Coarsest.{original_is_woven}
 use Rattle.ffv1_weave.proofs.Choices.{length-written, written_before, written_inside, written_after, same_range, range_at}
@@ -94,7 +95,9 @@ module _ (original : List ℕ) (versions : List (List ℕ)) (parts : List Part) 
         some = h.some;
         first = λ agree. h.first (agree_on start agree);
         last = λ agree. let last : DifferAt (improved versions parts splices) (end - 1) = h.last in last (agree_on (end - 1) agree);
-        within = λ i low high. let spot = h.within i low high in (spot.0, spot.1, spot.2, λ agree. spot.3 (agree_on spot.0 agree));
+        within = λ i low high.
+            let spot = within_window (improved versions parts splices) start end h i low high in
+            (spot.0, spot.1, spot.2, λ agree. spot.3 (agree_on spot.0 agree));
       }
 
   pub original_among : IsCombination (improved versions parts splices) original

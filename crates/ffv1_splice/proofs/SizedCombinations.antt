@@ -13,6 +13,7 @@ use Rattle.ffv1_slice.specs.Chain.{IsFramed}
 use Rattle.ffv1_weave.specs.Regions.{HaveLength, AgreeAt, DifferAt, IsRegion}
 use Rattle.ffv1_weave.specs.Combinations.{IsCombination}
 use Rattle.ffv1_weave.proofs.Agreeing.{agree_past}
+use Rattle.ffv1_weave.proofs.RegionSteps.{within_window}
 use Rattle.ffv1_weave.proofs.Choices.{same_range, range_at}
 use Rattle.ffv1_splice.specs.Standings.{versions_at, sized}
 use Rattle.ffv1_splice.proofs.PlaceSteps.{AllReach}
@@ -180,7 +181,9 @@ module _ (copies : List (List ℕ)) (start end : ℕ) (copy slice : List ℕ) (r
         some = h.some;
         first = λ agree. h.first (agree_sized from agree);
         last = λ agree. let last : DifferAt (map sized versions) (to - 1) = h.last in last (agree_sized (to - 1) agree);
-        within = λ i low high. let spot = h.within i low high in (spot.0, spot.1, spot.2, λ agree. spot.3 (agree_sized spot.0 agree));
+        within = λ i low high.
+            let spot = within_window (map sized versions) from to h i low high in
+            (spot.0, spot.1, spot.2, λ agree. spot.3 (agree_sized spot.0 agree));
       }
 
   -- what the slice has of one version, it has of that version with its size

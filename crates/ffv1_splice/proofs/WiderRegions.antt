@@ -4,6 +4,7 @@ use Rattle.std.specs.Prelude.{◌⊎◌}
 use Rattle.std.proofs.lemmas.Bool.{cases_lt, cases_eq}
 use Rattle.ffv1_weave.specs.Regions.{HaveLength, AgreeAt, DifferAt, IsRegion}
 use Rattle.ffv1_weave.proofs.Agreeing.{AgreeSoFar, agree_from, agree_past, differ_from}
+use Rattle.ffv1_weave.proofs.RegionSteps.{window_within}
 
 module _ (versions : List (List ℕ)) where
   -- whether the first versions agree at a place
@@ -119,7 +120,7 @@ module _ (versions : List (List ℕ)) where
         last = h.last;
         before = λ i lt near. absurd (omega arith);
         after = after;
-        within = h.within;
+        within = λ i low high differ. window_within versions start end h.last h.within i low high;
       },
     )
     to_start (suc fuel) start end past h after = elim (some_differ (start - 64) (start - (start - 64))) [
@@ -132,7 +133,7 @@ module _ (versions : List (List ℕ)) where
           last = h.last;
           before = λ i lt near. quiet i (omega arith) (omega arith);
           after = after;
-          within = h.within;
+          within = λ i low high differ. window_within versions start end h.last h.within i low high;
         },
       )
       | inr found ↦

@@ -23,12 +23,12 @@ use Rattle.ffv1_weave.proofs.Tried.{tried_grain, valid_by}
 -- ---- the region of a place at which versions differ
 
 module _ (versions : List (List ℕ)) where
-  -- versions differ at the first place and at the last, and nowhere between agree at so many places in a row
+  -- versions differ at the first place and at the last, and each one at which they do, but the last, has another one near after it
   record IsClose (start end : ℕ) : Type 0 where
     some : start < end
     first : DifferAt versions start
     last : DifferAt versions (end - 1)
-    within : (i : ℕ) → start ≤ i → i + SEPARATION ≤ end → (j : ℕ) × (i ≤ j) × (j < i + SEPARATION) × DifferAt versions j
+    within : (i : ℕ) → start ≤ i → i + 1 < end → DifferAt versions i → (j : ℕ) × (i < j) × (j ≤ i + SEPARATION) × (j < end) × DifferAt versions j
 
   close_at : (place : ℕ) → DifferAt versions place → IsClose place (place + 1)
   close_at place differ =
@@ -36,7 +36,7 @@ module _ (versions : List (List ℕ)) where
         some = omega arith;
         first = differ;
         last = let same : place ≡ place + 1 - 1 = omega arith in subst (DifferAt versions) same differ;
-        within = λ i low high. absurd (omega arith);
+        within = λ i low high here. absurd (omega arith);
       }
 
   later : (start end j : ℕ) → IsClose start end → end ≤ j → j < end + SEPARATION → DifferAt versions j → IsClose start (j + 1)
@@ -46,12 +46,9 @@ module _ (versions : List (List ℕ)) where
         some = omega arith;
         first = h.first;
         last = let same : j ≡ j + 1 - 1 = omega arith in subst (DifferAt versions) same differ;
-        within = λ i above below. elim (cases_lt end (i + SEPARATION)) [
-          | inr old ↦ h.within i above old
-          | inl new ↦ elim (cases_lt i end) [
-            | inl before ↦ (end - 1, omega arith, omega arith, h.last)
-            | inr there ↦ (j, omega arith, omega arith, differ)
-          ]
+        within = λ i above below here. elim (cases_lt (i + 1) end) [
+          | inl old ↦ let next = h.within i above old here in (next.0, next.1, next.2, (let lt = next.3 in omega arith), next.4)
+          | inr new ↦ (j, omega arith, omega arith, omega arith, differ)
         ];
       }
 
@@ -62,12 +59,9 @@ module _ (versions : List (List ℕ)) where
         some = omega arith;
         first = differ;
         last = h.last;
-        within = λ i above below. elim (cases_lt i start) [
-          | inr old ↦ h.within i old below
-          | inl new ↦ elim (cases_lt start (i + SEPARATION)) [
-            | inl there ↦ (start, omega arith, there, h.first)
-            | inr past ↦ (j, omega arith, omega arith, differ)
-          ]
+        within = λ i above below here. elim (cases_lt i start) [
+          | inr old ↦ h.within i old below here
+          | inl new ↦ (start, new, omega arith, h.some, h.first)
         ];
       }
 

@@ -1,5 +1,5 @@
--- Regions: how they are found, and that they never overlap.
-use Rattle.std.proofs.Common.{◌≡◌, ℕ, ◌+◌, ◌-◌, ◌<◌, ◌≤◌, List, sym, subst, arith, inl, inr}
+-- Regions: how they are found, what else is true of them, and that they never overlap.
+use Rattle.std.proofs.Common.{◌≡◌, ℕ, zero, suc, ◌+◌, ◌-◌, ◌<◌, ◌≤◌, List, sym, subst, arith, inl, inr}
 use Rattle.std.proofs.lemmas.Bool.{cases_lt}
 use Rattle.ffv1_weave.specs.Regions.{AgreeAt, DifferAt, IsRegion}
 use Rattle.ffv1_weave.specs.declared.regions.TheConstants.{SEPARATION}
@@ -13,7 +13,8 @@ pub record IsEndSoFar (versions : List (List ℕ)) (start end place size : ℕ) 
   pub within : place ≤ size
   pub last : DifferAt versions (end - 1)
   pub quiet : (i : ℕ) → end ≤ i → i < place → AgreeAt versions i
-  pub dense : (i : ℕ) → start ≤ i → i + SEPARATION ≤ end → (j : ℕ) × (i ≤ j) × (j < i + SEPARATION) × DifferAt versions j
+  pub followed : (i : ℕ) → start ≤ i → i + 1 < end → DifferAt versions i
+      → (j : ℕ) × (i < j) × (j ≤ i + SEPARATION) × (j < end) × DifferAt versions j
 
 module _ (versions : List (List ℕ)) where
   pub end_begins : (start size : ℕ) → start < size → DifferAt versions start → IsEndSoFar versions start (start + 1) (start + 1) size
@@ -24,7 +25,7 @@ module _ (versions : List (List ℕ)) where
         within = omega arith;
         last = let same : start ≡ start + 1 - 1 = omega arith in subst (DifferAt versions) same first;
         quiet = λ i h k. absurd (omega arith);
-        dense = λ i h k. absurd (omega arith);
+        followed = λ i h k differ. absurd (omega arith);
       }
 
   pub end_stays : (start end place size : ℕ) → place < size → AgreeAt versions place → IsEndSoFar versions start end place size
@@ -40,7 +41,7 @@ module _ (versions : List (List ℕ)) where
           | inl below ↦ h.quiet i low below
           | inr above ↦ let same : place ≡ i = omega arith in subst (AgreeAt versions) same agree
         ];
-        dense = h.dense;
+        followed = h.followed;
       }
 
   pub end_moves : (start end place size : ℕ) → place < size → place < end + SEPARATION → DifferAt versions place → IsEndSoFar versions start end place size
@@ -54,13 +55,71 @@ module _ (versions : List (List ℕ)) where
         within = omega arith;
         last = let same : place ≡ place + 1 - 1 = omega arith in subst (DifferAt versions) same differ;
         quiet = λ i low high. absurd (omega arith);
-        dense = λ i low high. elim (cases_lt end (i + SEPARATION)) [
-          | inl far ↦ elim (cases_lt i end) [
-            | inl below ↦ (end - 1, omega arith, omega arith, h.last)
-            | inr above ↦ (place, omega arith, omega arith, differ)
-          ]
-          | inr inside ↦ h.dense i low inside
+        followed = λ i low high here. elim (cases_lt (i + 1) end) [
+          | inl inside ↦ let next = h.followed i low inside here in
+              (next.0, next.1, next.2, (let below = next.3 in omega arith), next.4)
+          | inr past ↦ (place, omega arith, omega arith, omega arith, differ)
         ];
+      }
+
+  -- ---- a region by its gaps
+
+  -- Before it and after it the versions agree at SEPARATION places in a row at least, and within it nowhere at so many.
+  pub record IsRegionByGaps (start end : ℕ) : Type 0 where
+    pub some : start < end
+    pub first : DifferAt versions start
+    pub last : DifferAt versions (end - 1)
+    pub before : (i : ℕ) → i < start → start ≤ i + SEPARATION → AgreeAt versions i
+    pub after : (i : ℕ) → end ≤ i → i < end + SEPARATION → AgreeAt versions i
+    pub within : (i : ℕ) → start ≤ i → i + SEPARATION ≤ end → (j : ℕ) × (i ≤ j) × (j < i + SEPARATION) × DifferAt versions j
+
+  -- from a place where they differ on, up to the first one not before i
+  walk : (fuel start end i place : ℕ) → i ≤ place + fuel → start ≤ place → place ≤ i → i + SEPARATION ≤ end → IsRegion versions start end
+      → DifferAt versions place → (j : ℕ) × (i ≤ j) × (j < i + SEPARATION) × DifferAt versions j
+  walk zero start end i place far low below high h differ = (place, omega arith, omega arith, differ)
+  walk (suc fuel) start end i place far low below high h differ = elim (cases_lt place i) [
+    | inr there ↦ (place, there, omega arith, differ)
+    | inl short ↦
+        let next = h.within place low (omega arith) differ in
+        let after = next.1 in
+        let near = next.2 in
+        elim (cases_lt next.0 i) [
+          | inl again ↦ walk fuel start end i next.0 (omega arith) (omega arith) (omega arith) high h next.4
+          | inr there ↦ (next.0, there, omega arith, next.4)
+        ]
+  ]
+
+  -- within a region they agree nowhere at SEPARATION places in a row
+  pub within_window : (start end : ℕ) → IsRegion versions start end → (i : ℕ) → start ≤ i → i + SEPARATION ≤ end
+      → (j : ℕ) × (i ≤ j) × (j < i + SEPARATION) × DifferAt versions j
+  within_window start end h i low high = walk i start end i start (omega arith) (omega arith) low high h h.first
+
+  -- and where they do so nowhere, each place but the last has another one near after it
+  pub window_within : (start end : ℕ) → DifferAt versions (end - 1)
+      → ((i : ℕ) → start ≤ i → i + SEPARATION ≤ end → (j : ℕ) × (i ≤ j) × (j < i + SEPARATION) × DifferAt versions j) → (i : ℕ) → start ≤ i → i + 1 < end
+      → (j : ℕ) × (i < j) × (j ≤ i + SEPARATION) × (j < end) × DifferAt versions j
+  window_within start end last window i low high = elim (cases_lt end (i + 1 + SEPARATION)) [
+    | inl near ↦ (end - 1, omega arith, omega arith, omega arith, last)
+    | inr far ↦
+        let spot = window (i + 1) (omega arith) far in
+        let above = spot.1 in
+        let below = spot.2 in
+        (spot.0, omega arith, omega arith, omega arith, spot.3)
+  ]
+
+  pub region_by_gaps : (start end : ℕ) → IsRegion versions start end → IsRegionByGaps start end
+  region_by_gaps start end h =
+      record { some = h.some; first = h.first; last = h.last; before = h.before; after = h.after; within = within_window start end h }
+
+  pub region_from_gaps : (start end : ℕ) → IsRegionByGaps start end → IsRegion versions start end
+  region_from_gaps start end h =
+      record {
+        some = h.some;
+        first = h.first;
+        last = h.last;
+        before = h.before;
+        after = h.after;
+        within = λ i low high differ. window_within start end h.last h.within i low high;
       }
 
   -- ---- two regions
@@ -70,7 +129,7 @@ module _ (versions : List (List ℕ)) where
       elim (cases_lt s t) [
         | inl below ↦ elim (cases_lt t (s + SEPARATION)) [
           | inl near ↦ absurd (h.first (k.before s below (omega arith)))
-          | inr far ↦ let spot = h.within (t - SEPARATION) (omega arith) (omega arith) in
+          | inr far ↦ let spot = within_window s e h (t - SEPARATION) (omega arith) (omega arith) in
               let up = spot.1 in let down = spot.2 in
               absurd (spot.3 (k.before spot.0 (omega arith) (omega arith)))
         ]
@@ -82,7 +141,7 @@ module _ (versions : List (List ℕ)) where
       let some = h.some in
       elim (cases_lt (f - 1) (e + SEPARATION)) [
         | inl near ↦ k.last (h.after (f - 1) (omega arith) near)
-        | inr far ↦ let spot = k.within e (omega arith) (omega arith) in
+        | inr far ↦ let spot = within_window s f k e (omega arith) (omega arith) in
             spot.3 (h.after spot.0 spot.1 spot.2)
       ]
 

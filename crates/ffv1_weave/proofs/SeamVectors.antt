@@ -57,7 +57,7 @@ all_one_region =
       last = differ 2 (omega arith);
       before = λ i lt near. absurd (omega arith);
       after = λ i low near. agree_past three 3 i long low;
-      within = λ i low high. absurd (omega arith);
+      within = λ i low high here. (2, omega arith, omega arith, omega arith, differ 2 (omega arith));
     }
 
 -- The undamaged bytes are no combination of regions.

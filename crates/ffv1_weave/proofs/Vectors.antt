@@ -54,7 +54,7 @@ region =
         | inl below ↦ let is : 2 ≡ i = omega arith in subst (AgreeAt versions) is last_agrees
         | inr past ↦ agree_past versions 3 i three past
       ];
-      within = λ i low high. absurd (omega arith);
+      within = λ i low high here. absurd (omega arith);
     }
 
 -- A byte that no version has there makes no combination.
@@ -128,10 +128,7 @@ one_of_both =
       last = end_differs 63;
       before = λ i lt near. absurd (omega arith);
       after = λ i low near. agree_past (spread 63) 65 i (long 63) low;
-      within = λ i low high. elim (cases_lt 0 i) [
-        | inl above ↦ (64, omega arith, omega arith, end_differs 63)
-        | inr none ↦ (0, omega arith, omega arith, start_differs 63)
-      ];
+      within = λ i low high here. (64, omega arith, omega arith, omega arith, end_differs 63);
     }
 
 -- sixty-four between, so at a distance of 65: two
@@ -143,7 +140,7 @@ first_of_two =
       last = start_differs 64;
       before = λ i lt near. absurd (omega arith);
       after = λ i low near. between_agrees 64 i (omega arith) (omega arith);
-      within = λ i low high. absurd (omega arith);
+      within = λ i low high here. absurd (omega arith);
     }
 
 pub second_of_two : IsRegion (spread 64) 65 66
@@ -154,8 +151,15 @@ second_of_two =
       last = end_differs 64;
       before = λ i lt near. between_agrees 64 i (omega arith) (omega arith);
       after = λ i low near. agree_past (spread 64) 66 i (long 64) low;
-      within = λ i low high. absurd (omega arith);
+      within = λ i low high here. absurd (omega arith);
     }
+
+-- and so not one
+pub not_of_both : IsRegion (spread 64) 0 66 → ⊥
+not_of_both h =
+    let next = h.within 0 (omega arith) (omega arith) (start_differs 64) in
+    let near = next.2 in
+    next.4 (between_agrees 64 next.0 next.1 (omega arith))
 
 -- ---- the seams and the segments of these two
 

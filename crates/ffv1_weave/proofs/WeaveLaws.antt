@@ -35,7 +35,9 @@ module _ (versions others : List (List ℕ)) (same : HasSameMembers versions oth
         last = λ agree. let last : DifferAt others (end - 1) = h.last in last (agree_as (end - 1) agree);
         before = λ i low near. agree_back i (h.before i low near);
         after = λ i low near. agree_back i (h.after i low near);
-        within = λ i low high. let spot = h.within i low high in (spot.0, spot.1, spot.2, λ agree. spot.3 (agree_as spot.0 agree));
+        within = λ i low high differ.
+            let next = h.within i low high (λ agree. differ (agree_back i agree)) in
+            (next.0, next.1, next.2, next.3, λ agree. next.4 (agree_as next.0 agree));
       }
 
   seam_as : (distance place : ℕ) → IsSeam distance versions place → IsSeam distance others place

@@ -14,12 +14,15 @@ AgreeAt versions i = (one other : List ℕ) → Contains versions one → Contai
 abbrev pub DifferAt : List (List ℕ) → ℕ → Type 0
 DifferAt versions i = AgreeAt versions i → ⊥
 
--- A region, from its start up to its end: the versions differ at its first place and at its last. Before it and after it they agree at
--- `SEPARATION` places in a row at least, which is 64, and within it nowhere at so many.
+-- Two successive places where the versions differ are in one region if they are at most `SEPARATION` apart, which is 64. A region goes from its
+-- first place, `start`, to its last, `end - 1`. No place where they differ comes before the first and is at most `SEPARATION` from it, and none
+-- comes after the last and is at most `SEPARATION` from it. Each place of the region where they differ, but the last, has another one after it in
+-- the region, at most `SEPARATION` from it.
 pub record IsRegion (versions : List (List ℕ)) (start end : ℕ) : Type 0 where
   pub some : start < end
   pub first : DifferAt versions start
   pub last : DifferAt versions (end - 1)
   pub before : (i : ℕ) → i < start → start ≤ i + SEPARATION → AgreeAt versions i
   pub after : (i : ℕ) → end ≤ i → i < end + SEPARATION → AgreeAt versions i
-  pub within : (i : ℕ) → start ≤ i → i + SEPARATION ≤ end → (j : ℕ) × (i ≤ j) × (j < i + SEPARATION) × DifferAt versions j
+  pub within : (i : ℕ) → start ≤ i → i + 1 < end → DifferAt versions i
+      → (j : ℕ) × (i < j) × (j ≤ i + SEPARATION) × (j < end) × DifferAt versions j

@@ -84,7 +84,8 @@ fn end_from(versions: &[&[u8]], start: usize, size: usize) -> usize
     ensures beyond { start < result }
     ensures last { DifferAt (map (λ version. version.now) versions.now) (result - 1) }
     ensures after { (i : ℕ) → result ≤ i → i < result + SEPARATION → AgreeAt (map (λ version. version.now) versions.now) i }
-    ensures dense { (i : ℕ) → start ≤ i → i + SEPARATION ≤ result → (j : ℕ) × (i ≤ j) × (j < i + SEPARATION) × DifferAt (map (λ version. version.now) versions.now) j }
+    ensures followed { (i : ℕ) → start ≤ i → i + 1 < result → DifferAt (map (λ version. version.now) versions.now) i
+        → (j : ℕ) × (i < j) × (j ≤ i + SEPARATION) × (j < result) × DifferAt (map (λ version. version.now) versions.now) j }
 {
     let mut end = start + 1;
     let mut place = end;

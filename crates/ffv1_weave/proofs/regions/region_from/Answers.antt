@@ -41,7 +41,7 @@ returns c =
             | inr inside ↦ first.until i inside low
           ];
           after = last.after;
-          within = last.dense;
+          within = last.followed;
         };
       };
       within = last.within;
