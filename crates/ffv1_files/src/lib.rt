@@ -8,3 +8,5 @@ mod paths;
 mod tests;
 
 pub use files::{InputFile, OutputFile};
+pub use once::Opener;
+pub use paths::PathToRead;

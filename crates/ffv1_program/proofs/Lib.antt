@@ -2,3 +2,4 @@ pub mod Equals
 pub mod Words
 pub mod Zips
 pub mod Begun
+pub mod Openings

@@ -118,39 +118,41 @@ abbrev pub StopsPrinting : (text : List ℕ) (printed_before printed_after : Opt
 StopsPrinting text printed_before printed_after fault =
     (fault ≡ faults.Write paths.StandardOutput) × WritesFront printed_before printed_after text
 
--- Why the command stopped, and what that left in the file that is made and in what is printed.
-abbrev pub StopsCommand : (List ℕ → Option (List ℕ)) → Words → (out_before out_after printed_before printed_after : Option (List ℕ))
-    → CliFault → Type 0
-StopsCommand bytes_at (Chain frame) out_before out_after printed_before printed_after fault =
+-- Why the command stopped, and what that left in the file that is made and in what is printed. What holds of the word of a file that was
+-- not opened is `unopened` of it.
+abbrev pub StopsCommand : (List ℕ → Option (List ℕ)) → (unopened : List ℕ → Type 0) → Words
+    → (out_before out_after printed_before printed_after : Option (List ℕ)) → CliFault → Type 0
+StopsCommand bytes_at unopened (Chain frame) out_before out_after printed_before printed_after fault =
     ChainStops (bytes_at frame.now) printed_before printed_after fault
-StopsCommand bytes_at (Scan ranges file) out_before out_after printed_before printed_after fault =
+StopsCommand bytes_at unopened (Scan ranges file) out_before out_after printed_before printed_after fault =
     ScanStops (bytes_at ranges.now) (bytes_at file.now) printed_before printed_after fault
-StopsCommand bytes_at (Show recording) out_before out_after printed_before printed_after fault =
+StopsCommand bytes_at unopened (Show recording) out_before out_after printed_before printed_after fault =
     ShowStops recording.width recording.height (bytes_at recording.record.now) printed_before printed_after fault
-StopsCommand bytes_at (Take recording out copies) out_before out_after printed_before printed_after fault =
+StopsCommand bytes_at unopened (Take recording out copies) out_before out_after printed_before printed_after fault =
     TakeStops (bytes_at recording.record.now) recording.width recording.height (bytes_of_all bytes_at copies.items)
     out_before out_after printed_before printed_after fault
-StopsCommand bytes_at (Join out first others) out_before out_after printed_before printed_after fault =
+StopsCommand bytes_at unopened (Join out first others) out_before out_after printed_before printed_after fault =
     JoinStops (bytes_at first.now ∷ bytes_of_all bytes_at others.items) out_before out_after printed_before printed_after fault
-StopsCommand bytes_at (Merge out left right) out_before out_after printed_before printed_after fault =
-    StopsMerging (IsEither out.now left.now right.now) (bytes_at left.now) (bytes_at right.now) out_before out_after fault
-StopsCommand bytes_at (Report file) out_before out_after printed_before printed_after fault =
+StopsCommand bytes_at unopened (Merge out left right) out_before out_after printed_before printed_after fault =
+    StopsMerging (IsEither out.now left.now right.now) unopened left.now right.now (bytes_at left.now) (bytes_at right.now)
+    out_before out_after fault
+StopsCommand bytes_at unopened (Report file) out_before out_after printed_before printed_after fault =
     ReportStops (bytes_at file.now) printed_before printed_after fault
-StopsCommand bytes_at (Restore file out) out_before out_after printed_before printed_after fault =
+StopsCommand bytes_at unopened (Restore file out) out_before out_after printed_before printed_after fault =
     RestoreStops (bytes_at file.now) out_before out_after printed_before printed_after fault
-StopsCommand bytes_at (Picture file out) out_before out_after printed_before printed_after fault =
+StopsCommand bytes_at unopened (Picture file out) out_before out_after printed_before printed_after fault =
     PictureStops (bytes_at file.now) out_before out_after printed_before printed_after fault
-StopsCommand bytes_at (Splice out copies) out_before out_after printed_before printed_after fault =
+StopsCommand bytes_at unopened (Splice out copies) out_before out_after printed_before printed_after fault =
     StopsSplicing (bytes_of_all bytes_at copies.items) out_before out_after printed_before printed_after fault
-StopsCommand bytes_at (Mend list out copies) out_before out_after printed_before printed_after fault =
+StopsCommand bytes_at unopened (Mend list out copies) out_before out_after printed_before printed_after fault =
     StopsMendingFiles (IsInput out.now list.now copies.items) (bytes_at list.now) (bytes_of_all bytes_at copies.items)
     out_before out_after printed_before printed_after fault
-StopsCommand bytes_at (Decode recording frame out) out_before out_after printed_before printed_after fault =
+StopsCommand bytes_at unopened (Decode recording frame out) out_before out_after printed_before printed_after fault =
     DecodeStops (bytes_at recording.record.now) recording.width recording.height (bytes_at frame.now)
     out_before out_after printed_before printed_after fault
-StopsCommand bytes_at Help out_before out_after printed_before printed_after fault =
+StopsCommand bytes_at unopened Help out_before out_after printed_before printed_after fault =
     StopsPrinting help_text printed_before printed_after fault
-StopsCommand bytes_at Version out_before out_after printed_before printed_after fault =
+StopsCommand bytes_at unopened Version out_before out_after printed_before printed_after fault =
     StopsPrinting version_text printed_before printed_after fault
 
 -- What a fault of the command left as it was, of the file that is made and of what is printed.

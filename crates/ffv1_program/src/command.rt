@@ -4,6 +4,7 @@ ghost use Rattle.std.specs.Io.KnownBytes.{Appends};
 ghost use Rattle.ffv1_help.specs.Texts.{help_text, version_text};
 ghost use Rattle.ffv1_commands.specs.Fault.{NamesPath};
 ghost use Rattle.ffv1_words.specs.WordPaths.{IsPathOf};
+ghost use Rattle.ffv1_program.specs.Merging.{FailsToOpen};
 ghost use Rattle.ffv1_program.specs.Running.{out_word, IfNoneMade, IfAlwaysMade, IsRefused, DoesCommand, StopsCommand, StopsPrinting, KeepsAtFault};
 
 use crate::files::{FileSystem, MakeFile};
@@ -73,7 +74,7 @@ pub fn run<'a, F: FileSystem<'a>, O: MakeFile, W: Write>(
     requires { O.is_unmade_at made.old (out_word words.now) }
     ensures ok { IfOk result (DoesCommand (F.bytes_at files.now) words.now
         (O.contents made.old) (O.contents made.new) (W.contents output.old) (W.contents output.new)) }
-    ensures err { IfErr result (StopsCommand (F.bytes_at files.now) words.now
+    ensures err { IfErr result (StopsCommand (F.bytes_at files.now) (FailsToOpen (F.is_input_at files.now) F.Input.cannot_open) words.now
         (O.contents made.old) (O.contents made.new) (W.contents output.old) (W.contents output.new)) }
     ensures kept { IfErr result (KeepsAtFault words.now (made.new ≡ made.old) (output.new ≡ output.old)) }
     ensures refused { IsRefused words.now → IsErrOf result (CliFault.Write CommandPath.Out)

@@ -1,7 +1,7 @@
 //! The files of a runtime (own), of which no contract can say the bytes.
 
 use crate::files::{FileSystem, MakeFile, ReadFile};
-use ffv1_files::{InputFile, OutputFile};
+use ffv1_files::{InputFile, Opener, OutputFile, PathToRead};
 use std::io;
 use std::rt::Files;
 
@@ -18,10 +18,16 @@ impl<'a, R: Files> Disk<'a, R> {
     }
 }
 
-impl<R: Files> ReadFile for InputFile<'_, R> {
+impl<'a, R: Files> ReadFile for InputFile<'a, R> {
+    ghost use Rattle.std.specs.Prelude.{Err};
+    ghost use Rattle.std.specs.declared.io.Error.{Error};
     ghost use Rattle.ffv1_files.specs.Files.{IsFileOpened};
+    ghost use Rattle.ffv1_files.specs.Once.{OpensOnce};
 
     ghost is_opened = { λ file. IsFileOpened file };
+
+    // its opening came to some error, and left it as it was
+    ghost cannot_open = { λ file. (error : Error) × OpensOnce ⟦<PathToRead<'a, R> as Opener>⟧.opens file.file (Err error) file.file };
 
     fn open(&mut self) -> io::Result<()> {
         InputFile::open(self)

@@ -1,5 +1,5 @@
 //! The files of a program by their paths (own): those that it reads, and the one that it makes.
-ghost use Rattle.std.specs.Prelude.{◌≡◌, ℕ, List, Option, IfOk};
+ghost use Rattle.std.specs.Prelude.{◌≡◌, ℕ, List, Option, IfOk, IfErr};
 
 use std::io;
 use std::io::{Read, Write};
@@ -8,10 +8,14 @@ use std::io::{Read, Write};
 pub trait ReadFile: Read {
     ghost is_opened: { Self → Type 0 };
 
+    // an opening of this file failed
+    ghost cannot_open: { Self → Type 0 };
+
     /// Opens the file, if it was not opened yet: so that it is there to be read. Where that fails, the error is why.
     fn open(&mut self) -> io::Result<()>
         ensures bytes { Self.remaining self.new ≡ Self.remaining self.old }
-        ensures opened { IfOk result (λ _. is_opened self.new) };
+        ensures opened { IfOk result (λ _. is_opened self.new) }
+        ensures failed { IfErr result (λ _. cannot_open self.old) };
 }
 
 /// The files that are read, by their paths.

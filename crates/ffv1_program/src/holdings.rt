@@ -8,7 +8,7 @@ ghost use Rattle.ffv1_commands.specs.JoinText.{JoinsFiles, JoinStops};
 ghost use Rattle.ffv1_commands.specs.MergeText.{MergesFiles};
 ghost use Rattle.ffv1_commands.specs.ReportedText.{ReportsFile, ReportStops};
 ghost use Rattle.ffv1_commands.specs.RestoreText.{RestoresFile, RestoreStops};
-ghost use Rattle.ffv1_program.specs.Merging.{IsEither, IfNotBegun, StopsMerging};
+ghost use Rattle.ffv1_program.specs.Merging.{IsEither, FailsToOpen, IfNotBegun, StopsMerging};
 
 use crate::files::{FileSystem, ReadFile};
 use crate::inputs::inputs_of;
@@ -96,8 +96,9 @@ pub fn merge_files<'a, F: FileSystem<'a>, O: Write>(
 ) -> Result<(), CliFault>
     ensures ok { OnOk result (MergesFiles (F.bytes_at files.now left.now) (F.bytes_at files.now right.now)
         (O.contents made.old) (O.contents made.new)) }
-    ensures err { IfErr result (StopsMerging (IsEither out.now left.now right.now) (F.bytes_at files.now left.now) (F.bytes_at files.now right.now)
-        (O.contents made.old) (O.contents made.new)) }
+    ensures err { IfErr result (StopsMerging (IsEither out.now left.now right.now)
+        (FailsToOpen (F.is_input_at files.now) F.Input.cannot_open) left.now right.now
+        (F.bytes_at files.now left.now) (F.bytes_at files.now right.now) (O.contents made.old) (O.contents made.new)) }
     ensures refused { IsEither out.now left.now right.now → IsErrOf result (CliFault.Write CommandPath.Out) × (made.new ≡ made.old) }
     ensures untouched { IfErr result (λ fault. IfNotBegun fault (made.new ≡ made.old)) }
     ensures names { IfErr result (NamesPath IsMergePath) }

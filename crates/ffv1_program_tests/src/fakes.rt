@@ -1,5 +1,5 @@
 //! Files that note in which order they are opened and made. The path of each is a digit: that of 0 is not there, and can't be made.
-ghost use Rattle.std.specs.Prelude.{◌≡◌};
+ghost use Rattle.std.specs.Prelude.{◌≡◌, ◌⊎◌, IfErr, codes};
 
 use ffv1_program::{FileSystem, MakeFile, ReadFile};
 use std::cell::Cell;
@@ -25,12 +25,14 @@ impl Order {
         self.number.get()
     }
 
-    /// Adds a file of this path, which fails for that of 0.
-    fn add(&self, path: &str) -> io::Result<()> {
-        let digit = path.parse::<u8>().unwrap_or(0);
-        if digit == 0 {
+    /// Adds a file of this path, which fails for that of 0, and for no path.
+    fn add(&self, path: &str) -> io::Result<()>
+        ensures { IfErr result (λ _. (path.now ≡ codes "0") ⊎ (path.now ≡ codes "")) }
+    {
+        if path == "0" || path == "" {
             return Err(io::Error::from(ErrorKind::NotFound));
         }
+        let digit = path.parse::<u8>().unwrap_or(0);
         let number = self.number.get().wrapping_mul(10);
         self.number.set(number.wrapping_add(u32::from(digit)));
         Ok(())
@@ -69,9 +71,12 @@ impl Read for FakeInput<'_> {
 }
 
 impl ReadFile for FakeInput<'_> {
-    ghost use Rattle.std.specs.Prelude.{◌≡◌, true};
+    ghost use Rattle.std.specs.Prelude.{◌≡◌, ◌⊎◌, true, false, codes};
 
     ghost is_opened = { λ file. file.is_open ≡ true };
+
+    // it is not open, and its path is that of no file
+    ghost cannot_open = { λ file. (file.is_open ≡ false) × ((file.path.now ≡ codes "0") ⊎ (file.path.now ≡ codes "")) };
 
     fn open(&mut self) -> io::Result<()> {
         if !self.is_open {

@@ -1,4 +1,5 @@
 use Rattle.std.proofs.Common.{refl}
+use Rattle.ffv1_program.specs.Merging.{FailsToOpen}
 use Rattle.ffv1_program.specs.Running.{StopsCommand}
 use Rattle.ffv1_program.proofs.Equals.{handed_on}
 use Rattle.ffv1_program.proofs.command.run.Goals as goal
@@ -7,7 +8,8 @@ pub returns-in_err-take_files-in-Take-clause-err :
     goal.returns-in_err-take_files-in-Take-clause-err
 returns-in_err-take_files-in-Take-clause-err g c =
     let said = rw c.as_slice.ensures.value at c.in_err-take_files-in-Take.ensures.err in
-    handed_on (StopsCommand (g.F.FileSystem.bytes_at c.args.files.now) c.args.words.now (g.O.Write.contents c.args.made.now)
+    handed_on (StopsCommand (g.F.FileSystem.bytes_at c.args.files.now)
+    (FailsToOpen (g.F.FileSystem.is_input_at c.args.files.now) g.F.Input.ReadFile.cannot_open) c.args.words.now (g.O.Write.contents c.args.made.now)
     (g.O.Write.contents c.take_files.new.made) (g.W.Write.contents c.args.output.now) (g.W.Write.contents c.take_files.new.output))
     _ _ c.from_residual-in_err-take_files-in-Take.ensures.1 (rw c.in-Take.is said)
 
@@ -40,7 +42,8 @@ pub returns-in_err-join_files-in-Join-clause-err :
     goal.returns-in_err-join_files-in-Join-clause-err
 returns-in_err-join_files-in-Join-clause-err g c =
     let said = rw c.as_slice-in-Join.ensures.value at c.in_err-join_files-in-Join.ensures.err in
-    handed_on (StopsCommand (g.F.FileSystem.bytes_at c.args.files.now) c.args.words.now (g.O.Write.contents c.args.made.now)
+    handed_on (StopsCommand (g.F.FileSystem.bytes_at c.args.files.now)
+    (FailsToOpen (g.F.FileSystem.is_input_at c.args.files.now) g.F.Input.ReadFile.cannot_open) c.args.words.now (g.O.Write.contents c.args.made.now)
     (g.O.Write.contents c.join_files.new.made) (g.W.Write.contents c.args.output.now) (g.W.Write.contents c.join_files.new.output))
     _ _ c.from_residual-in_err-join_files-in-Join.ensures.1 (rw c.in-Join.is said)
 
