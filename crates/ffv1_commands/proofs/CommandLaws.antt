@@ -61,7 +61,7 @@ whole_inputs (c ∷ cs) (b ∷ bs) each =
 -- a file is that of one holding
 one_holding : (g h : Contents) (file : List ℕ) → IsHoldingFile (Some file) g → file ≡ holding_text h → HasFile h → g ≡ h
 one_holding g h file is text has = one_text g h file is.sound has.sound is.fits.record' has.fits.record'
-    (is.version, is.fits.reported, is.text) (Second, has.fits.reported, text)
+    (is.version, is.fits.stated, is.text) (Second, has.fits.stated, text)
 
 -- ---- a tree of commands
 

@@ -18,7 +18,7 @@ pub offset_bounds-entries-place : goal.offset_bounds-entries-place
 offset_bounds-entries-place c =
     let lt : c.args.place < length c.self.inside.entries.now =
     omega (arith, c.requires, size_kept bytes_total (slice_in c.self.inside.bytes.now) c.self.inside.entries.now _ c.self.invariant.rising c.self.view_is) in
-    omega (arith, c.self.reported)
+    omega (arith, c.self.told)
 
 pub returns : goal.returns
 returns c =
