@@ -5,8 +5,8 @@
  *   EACH     before each read and write so many in a row are interrupted
  *   FAILS    the name of the file whose reads or writes fail, once PLACE bytes of it were taken, with the number ERROR, or take nothing
  *            where that is 0; and go on after TIMES of them, where that is not 0
- *   TOLD     the file descriptor to which a line is written for each of these files that is opened or made, also if it stands for a
- *            standard stream then, that was read to its end, and that is closed
+ *   LOG      the file descriptor to which a line is written for each of these files that is opened or made, also if it stands for
+ *            a standard stream then, that was read to its end, and that is closed
  */
 #define _GNU_SOURCE
 #include <dlfcn.h>
@@ -30,7 +30,7 @@ static struct device devices[MOST];
 static const char *failing;
 static size_t bite, place;
 static unsigned long each, times;
-static int error_number, told;
+static int error_number, log_descriptor;
 static ssize_t (*system_read)(int, void *, size_t);
 static ssize_t (*system_write)(int, const void *, size_t);
 static int (*system_open)(const char *, int, ...);
@@ -56,7 +56,7 @@ static void begin(void)
     each = number("EACH");
     times = number("TIMES");
     error_number = (int)number("ERROR");
-    told = (int)number("TOLD");
+    log_descriptor = (int)number("LOG");
     strcpy(devices[1].name, "1");
 }
 
@@ -67,24 +67,24 @@ static struct device *device_of(int fd)
     return fd >= 0 && fd < MOST && devices[fd].name[0] ? &devices[fd] : NULL;
 }
 
-static void tell(const char *what, const char *name)
+static void report(const char *what, const char *name)
 {
     char line[2 * LONGEST];
     size_t length = strlen(what);
-    if (!told)
+    if (!log_descriptor)
         return;
     memcpy(line, what, length);
     line[length] = ' ';
     strcpy(line + length + 1, name);
     strcat(line, "\n");
-    if (system_write(told, line, strlen(line)) < 0)
+    if (system_write(log_descriptor, line, strlen(line)) < 0)
         _exit(99);
 }
 
 /* Whether a try fails, with what it returns; else how many bytes it may take of so many. */
-static int fails(struct device *device, size_t *count, ssize_t *answer)
+static int fails(struct device *device, size_t *count, ssize_t *result)
 {
-    *answer = -1;
+    *result = -1;
     if (*count == 0)
         return 0;
     if (device->interrupted < each) {
@@ -105,7 +105,7 @@ static int fails(struct device *device, size_t *count, ssize_t *answer)
     device->failed += 1;
     errno = error_number;
     if (!error_number)
-        *answer = 0;
+        *result = 0;
     return 1;
 }
 
@@ -113,31 +113,31 @@ ssize_t read(int fd, void *bytes, size_t count)
 {
     struct device *device = device_of(fd);
     size_t asked = count;
-    ssize_t answer;
+    ssize_t result;
     if (!device)
         return system_read(fd, bytes, count);
-    if (fails(device, &count, &answer))
-        return answer;
-    answer = system_read(fd, bytes, count);
-    if (answer > 0)
-        device->taken += (size_t)answer;
-    if (answer == 0 && asked)
-        tell("ended", device->name);
-    return answer;
+    if (fails(device, &count, &result))
+        return result;
+    result = system_read(fd, bytes, count);
+    if (result > 0)
+        device->taken += (size_t)result;
+    if (result == 0 && asked)
+        report("ended", device->name);
+    return result;
 }
 
 ssize_t write(int fd, const void *bytes, size_t count)
 {
     struct device *device = device_of(fd);
-    ssize_t answer;
+    ssize_t result;
     if (!device)
         return system_write(fd, bytes, count);
-    if (fails(device, &count, &answer))
-        return answer;
-    answer = system_write(fd, bytes, count);
-    if (answer > 0)
-        device->taken += (size_t)answer;
-    return answer;
+    if (fails(device, &count, &result))
+        return result;
+    result = system_write(fd, bytes, count);
+    if (result > 0)
+        device->taken += (size_t)result;
+    return result;
 }
 
 static int opened(int fd, const char *path, int flags)
@@ -146,9 +146,9 @@ static int opened(int fd, const char *path, int flags)
         return fd;
     memset(&devices[fd], 0, sizeof devices[fd]);
     strcpy(devices[fd].name, path);
-    tell((flags & O_ACCMODE) == O_RDONLY ? "opened" : "made", path);
+    report((flags & O_ACCMODE) == O_RDONLY ? "opened" : "made", path);
     if (fd <= 2)
-        tell("stream", path);
+        report("stream", path);
     return fd;
 }
 
@@ -178,7 +178,7 @@ int close(int fd)
 {
     struct device *device = device_of(fd);
     if (device && fd != 1) {
-        tell("closed", device->name);
+        report("closed", device->name);
         device->name[0] = 0;
     }
     return system_close(fd);
