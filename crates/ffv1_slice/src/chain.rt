@@ -90,10 +90,11 @@ impl<'a> Iterator for Chain<'a> {
 }
 
 /// The link that the chain gives next, for loops that keep account of those that are left: the one before the link that it gave last,
-/// and at first the one at the payload's end (RFC 9043, section 4.9). `None` if none is left.
+/// and at first the one at the payload's end (RFC 9043, section 4.9). `None` if none is left. The payload is unchanged.
 pub fn next_link<'a>(chain: &mut Chain<'a>) -> Option<Link<'a>>
     ensures some { IfSome result (λ link. chain.old.left ≡ link ∷ chain.new.left) }
     ensures none { IfNone result (chain.old.left ≡ []) }
+    ensures payload { chain.new.payload ≡ chain.old.payload }
 {
     chain.next()
 }
