@@ -5,6 +5,7 @@
 
 mod fault;
 mod fresh;
+mod held_rows;
 mod holding;
 mod joins;
 mod laws;

@@ -12,8 +12,9 @@ ghost use Rattle.ffv1_pool.specs.Inner.Rows.{rows_of, AreRows};
 
 use crate::fault::HoldFault;
 use crate::fresh::{Fresh, fresh_among, place_of, put_slices, room_of};
+use crate::held_rows::HeldRows;
 use crate::pool_entry::PoolEntry;
-use crate::rows::{FreshRows, Rows, digests_of, fresh_rows, put_rows};
+use crate::rows::{Rows, digests_of, fresh_rows};
 use crate::shelf::Shelf;
 use sha2::{Digest, Sha256};
 use std::alloc::{AllocError, Global};
@@ -26,10 +27,8 @@ pub(crate) struct Pool {
     tiles: usize,
     bytes: Vec<u8>,
     entries: Vec<PoolEntry>,
-    /// The entry of each row's slice. Bytes never move, so it stays the entry of that slice.
-    owners: Vec<PoolEntry>,
-    /// The digest of each row.
-    digests: Vec<[u8; 32]>,
+    /// Which copies gave each slice.
+    rows: HeldRows,
     alloc: Global,
 }
 
@@ -48,10 +47,10 @@ impl Model for Pool {
     ghost view = { λ a. record {
       tiles = a.tiles;
       slices = set.from_list (map (entry_in a.bytes.items) a.entries.items);
-      origins = set.from_list (rows_in a.bytes.items a.owners.items a.digests.items);
+      origins = set.from_list (rows_in a.bytes.items a.rows.owners.items a.rows.digests.items);
     } };
 
-    ghost invariant = { λ a. IsStock a.bytes.items a.entries.items a.owners.items a.digests.items };
+    ghost invariant = { λ a. IsStock a.bytes.items a.entries.items a.rows.owners.items a.rows.digests.items };
 }
 
 impl Pool {
@@ -63,8 +62,7 @@ impl Pool {
             tiles,
             bytes: Vec::new(alloc),
             entries: Vec::with_capacity(alloc, tiles)?,
-            owners: Vec::new(alloc),
-            digests: Vec::new(alloc),
+            rows: HeldRows::new(alloc),
             alloc,
         })
     }
@@ -105,11 +103,7 @@ impl Pool {
     {
         match place_of(&self.bytes, &self.entries, tile, slice) {
             Ok(place) => {
-                let rows = Rows {
-                    bytes: &self.bytes,
-                    owners: &self.owners,
-                    digests: &self.digests,
-                };
+                let rows = self.rows.lent(&self.bytes);
                 Some(digests_of(rows, self.entries[place]))
             }
             Err(_) => None,
@@ -124,11 +118,7 @@ impl Pool {
             ≡ digests_in self.now.origins (tile, slice_index_or (set.items (tile_slices self.now.slices tile)) place d) }
         ensures rising { AreDigests result.now }
     {
-        let rows = Rows {
-            bytes: &self.bytes,
-            owners: &self.owners,
-            digests: &self.digests,
-        };
+        let rows = self.rows.lent(&self.bytes);
         let (start, _) = tile_part(&self.entries, tile);
         digests_of(rows, self.entries[start + place])
     }
@@ -185,11 +175,7 @@ impl Pool {
         ensures memory { OnErr result (result ≡ Err HoldFault.Memory) }
         ensures err { OnErr result (self.new ≡ self.old) }
     {
-        let rows = Rows {
-            bytes: &other.bytes,
-            owners: &other.owners,
-            digests: &other.digests,
-        };
+        let rows = other.rows.lent(&other.bytes);
         self.insert_all(&other.entries, rows)
     }
 
@@ -206,50 +192,27 @@ impl Pool {
         ensures err { OnErr result (self.new ≡ self.old) }
     {
         let mut fresh = fresh_among(self.alloc, &self.bytes, &self.entries, rows.bytes, entries)?;
-        let held = Rows {
-            bytes: &self.bytes,
-            owners: &self.owners,
-            digests: &self.digests,
-        };
+        let held = self.rows.lent(&self.bytes);
         let mut new = fresh_rows(self.alloc, held, rows, &fresh)?;
-        make_room(
-            &mut self.bytes,
-            &mut self.entries,
-            &mut self.owners,
-            &mut self.digests,
-            &fresh,
-            &new,
-        )?;
+        make_room(&mut self.bytes, &mut self.entries, &fresh)?;
+        self.rows.make_room(&new)?;
         put_slices(rows.bytes, &mut self.bytes, &mut self.entries, &mut fresh);
-        put_rows(
-            rows.bytes,
-            &self.bytes,
-            &self.entries,
-            &mut self.owners,
-            &mut self.digests,
-            &mut new,
-        );
+        self.rows
+            .put(rows.bytes, &self.bytes, &self.entries, &mut new);
         Ok(())
     }
 }
 
-/// Makes room in a pool's parts for new entries, their slices and new rows. After a refusal there may be room for some of them.
+/// Makes room in a pool's bytes and entries for new entries and their slices. After a refusal there may be room for the bytes.
 fn make_room(
     bytes: &mut Vec<u8>,
     entries: &mut Vec<PoolEntry>,
-    owners: &mut Vec<PoolEntry>,
-    digests: &mut Vec<[u8; 32]>,
     fresh: &[Fresh<PoolEntry>],
-    new: &FreshRows,
 ) -> Result<(), HoldFault>
     ensures bytes { bytes.new.items ≡ bytes.old.items }
     ensures entries { entries.new.items ≡ entries.old.items }
-    ensures owners { owners.new.items ≡ owners.old.items }
-    ensures digests { digests.new.items ≡ digests.old.items }
     ensures room { OnOk result (vec_len bytes.new + sum_by (λ new. new.item.length) fresh.now ≤ vec_capacity bytes.new) }
     ensures places { OnOk result (vec_len entries.new + length fresh.now ≤ vec_capacity entries.new) }
-    ensures for_owners { OnOk result (vec_len owners.new + length new.now.owners.items ≤ vec_capacity owners.new) }
-    ensures for_digests { OnOk result (vec_len digests.new + length new.now.digests.items ≤ vec_capacity digests.new) }
     ensures memory { OnErr result (result ≡ Err HoldFault.Memory) }
 {
     let Some(room) = room_of(fresh) else {
@@ -257,8 +220,6 @@ fn make_room(
     };
     bytes.reserve(room)?;
     entries.reserve(fresh.len())?;
-    owners.reserve(new.owners.len())?;
-    digests.reserve(new.digests.len())?;
     Ok(())
 }
 

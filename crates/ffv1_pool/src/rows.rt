@@ -11,7 +11,7 @@ ghost use Rattle.ffv1_pool.specs.Inner.Fresh.{AreAllFresh};
 ghost use Rattle.ffv1_pool.specs.Inner.Rows.{rows_in, rows_of, IsRows, AreRows, IsRowPart, fresh_rows_in, AreFreshRows, AreOwnersMoved};
 
 use crate::fault::HoldFault;
-use crate::fresh::{Fresh, place_near, spread};
+use crate::fresh::Fresh;
 use crate::pool_entry::PoolEntry;
 use std::alloc::Global;
 
@@ -146,52 +146,5 @@ fn place_before(entries: &[Fresh<PoolEntry>], index: usize) -> usize {
     match entries.get(index) {
         Some(new) => new.place,
         None => usize::MAX,
-    }
-}
-
-/// Puts new rows, whose owners' slices lie in `from`, among the others, with the entries of the same slices in `bytes`
-/// as their owners. Each of these slices has to be there, and there has to be room.
-pub(crate) fn put_rows(
-    from: &[u8],
-    bytes: &[u8],
-    entries: &[PoolEntry],
-    owners: &mut Vec<PoolEntry>,
-    digests: &mut Vec<[u8; 32]>,
-    fresh: &mut FreshRows,
-)
-    requires pool { IsPool bytes.now entries.now }
-    requires rows { IsRows bytes.now owners.old.items digests.old.items }
-    requires fresh { AreFreshRows (rows_in bytes.now owners.old.items digests.old.items) from.now fresh.old.owners.items fresh.old.digests.items }
-    requires held { AreHeld (set.from_list (map (entry_in bytes.now) entries.now))
-        (set.from_list (fresh_rows_in from.now fresh.old.owners.items fresh.old.digests.items)) }
-    requires room { vec_len owners.old + length fresh.old.owners.items ≤ vec_capacity owners.old }
-    requires places { vec_len digests.old + length fresh.old.digests.items ≤ vec_capacity digests.old }
-    ensures rows { IsRows bytes.now owners.new.items digests.new.items }
-    ensures origins { set.from_list {R = origin_cmp} (rows_in bytes.now owners.new.items digests.new.items)
-        ≡ set.union (set.from_list (rows_in bytes.now owners.old.items digests.old.items))
-        (set.from_list (fresh_rows_in from.now fresh.old.owners.items fresh.old.digests.items)) }
-{
-    settle(from, bytes, entries, &mut fresh.owners);
-    spread(owners, &fresh.owners);
-    spread(digests, &fresh.digests);
-}
-
-/// Puts in place of new owners, whose slices lie in `from`, the entries of the same slices, which all have to be there. Where rows
-/// stand as entries do, an owner's entry is where its row goes.
-fn settle(from: &[u8], bytes: &[u8], entries: &[PoolEntry], owners: &mut [Fresh<PoolEntry>])
-    requires pool { IsPool bytes.now entries.now }
-    requires held { (i : ℕ) (d : Fresh PoolEntry) → i < length owners.old
-        → set.contains (set.from_list {R = entry_cmp} (map (entry_in bytes.now) entries.now)) (entry_in from.now (slice_index_or owners.old i d).item) ≡ true }
-    ensures { AreOwnersMoved from.now bytes.now owners.old owners.new }
-{
-    for index in 0..owners.len() {
-        let Fresh { place, item } = owners[index];
-        let near = place.saturating_add(index);
-        if let Ok(at) = place_near(bytes, entries, near, item.tile, item.slice(from)) {
-            owners[index] = Fresh {
-                place,
-                item: entries[at],
-            };
-        }
     }
 }

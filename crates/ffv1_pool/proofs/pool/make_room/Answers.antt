@@ -3,38 +3,23 @@ use Rattle.std.proofs.lemmas.Result.{err_from_is_err_and}
 use Rattle.ffv1_pool.proofs.pool.make_room.Goals as goal
 
 pub returns-in_default : goal.returns-in_default
-returns-in_default c =
-    record { bytes = refl; entries = refl; owners = refl; digests = refl; room = tt; places = tt; for_owners = tt; for_digests = tt; memory = refl }
+returns-in_default c = record { bytes = refl; entries = refl; room = tt; places = tt; memory = refl }
 
 pub returns : goal.returns
 returns c = record {
   bytes = c.reserve.ensures.items;
   entries = c.reserve-2.ensures.items;
-  owners = c.reserve-3.ensures.items;
-  digests = c.reserve-4.ensures.items;
   room = omega (arith, c.in_ok-reserve.ensures.ok, c.in-Some.ensures);
   places = c.in_ok-reserve-2.ensures.ok;
-  for_owners = omega (arith, c.in_ok-reserve-3.ensures.ok, c.len.ensures);
-  for_digests = omega (arith, c.in_ok-reserve-4.ensures.ok, c.len-2.ensures);
   memory = tt;
 }
 
 pub returns-in_err-reserve : goal.returns-in_err-reserve
 returns-in_err-reserve c =
     let p = err_from_is_err_and c.from_residual.result c.from_residual.ensures.1 in
-    rw (p.1, p.2) (record { bytes = c.reserve.ensures.items; entries = refl; owners = refl; digests = refl; room = tt; places = tt; for_owners = tt; for_digests = tt; memory = refl })
+    rw (p.1, p.2) (record { bytes = c.reserve.ensures.items; entries = refl; room = tt; places = tt; memory = refl })
 
 pub returns-in_err-reserve-2 : goal.returns-in_err-reserve-2
 returns-in_err-reserve-2 c =
     let p = err_from_is_err_and c.from_residual-in_err-reserve-2.result c.from_residual-in_err-reserve-2.ensures.1 in
-    rw (p.1, p.2) (record { bytes = c.reserve.ensures.items; entries = c.reserve-2.ensures.items; owners = refl; digests = refl; room = tt; places = tt; for_owners = tt; for_digests = tt; memory = refl })
-
-pub returns-in_err-reserve-3 : goal.returns-in_err-reserve-3
-returns-in_err-reserve-3 c =
-    let p = err_from_is_err_and c.from_residual-in_err-reserve-3.result c.from_residual-in_err-reserve-3.ensures.1 in
-    rw (p.1, p.2) (record { bytes = c.reserve.ensures.items; entries = c.reserve-2.ensures.items; owners = c.reserve-3.ensures.items; digests = refl; room = tt; places = tt; for_owners = tt; for_digests = tt; memory = refl })
-
-pub returns-in_err-reserve-4 : goal.returns-in_err-reserve-4
-returns-in_err-reserve-4 c =
-    let p = err_from_is_err_and c.from_residual-in_err-reserve-4.result c.from_residual-in_err-reserve-4.ensures.1 in
-    rw (p.1, p.2) (record { bytes = c.reserve.ensures.items; entries = c.reserve-2.ensures.items; owners = c.reserve-3.ensures.items; digests = c.reserve-4.ensures.items; room = tt; places = tt; for_owners = tt; for_digests = tt; memory = refl })
+    rw (p.1, p.2) (record { bytes = c.reserve.ensures.items; entries = c.reserve-2.ensures.items; room = tt; places = tt; memory = refl })

@@ -23,9 +23,10 @@ returns-in-Ok-clause-digests c =
     ap (entry_in kept.bytes.items) c.index.ensures
     ∙ (λ i. entry_in (sym c.deref.ensures.value i) (get_or (sym c.deref-2.ensures.value i) c.in-Ok.place c.index.result.now)) ∙ listed in
     let origins = ap (λ (h : TileSlices). h.origins) c.self.view_is in
+    let lent = c.lent-rows.ensures in
+    let bytes = lent.bytes ∙ c.deref-in-Ok.ensures.value in
     c.digests_of.ensures.digests
-    ∙ (λ i. digests_in (set.from_list (rows_in (c.deref-in-Ok.ensures.value i) (c.deref-in-Ok-2.ensures.value i) (c.deref-in-Ok-3.ensures.value i)))
-    (entry_in (c.deref-in-Ok.ensures.value i) c.index.result.now))
+    ∙ (λ i. digests_in (set.from_list (rows_in (bytes i) (lent.owners i) (lent.digests i))) (entry_in (bytes i) c.index.result.now))
     ∙ (λ i. digests_in (origins i) (entry i))
 
 -- what the set that is shown contains is what the entries that were lent say

@@ -9,8 +9,8 @@ use Rattle.ffv1_pool.specs.declared.fresh.Fresh.{Fresh}
 use Rattle.ffv1_pool.specs.declared.pool_entry.PoolEntry.{PoolEntry}
 use Rattle.ffv1_pool.proofs.RisingSets.{contains_gap}
 use Rattle.ffv1_pool.proofs.Settling.{settled_more, settled_left}
-use Rattle.ffv1_pool.proofs.rows.settle.Goals as goal
-use Rattle.ffv1_pool.proofs.rows.settle.Goals.{in-Ok, in_default}
+use Rattle.ffv1_pool.proofs.held_rows.settle.Goals as goal
+use Rattle.ffv1_pool.proofs.held_rows.settle.Goals.{in-Ok, in_default}
 
 abbrev no_entry : PoolEntry
 no_entry = record { tile = 0; start = 0; length = 0 }

@@ -2,7 +2,7 @@ use Rattle.std.proofs.Common.{◌≡◌, ℕ, ◌<◌, ◌≤◌, length, get_or
 use Rattle.ffv1_pool.specs.Inner.Fresh.{IsMoved}
 use Rattle.ffv1_pool.specs.declared.fresh.Fresh.{Fresh}
 use Rattle.ffv1_pool.specs.declared.pool_entry.PoolEntry.{PoolEntry}
-use Rattle.ffv1_pool.proofs.rows.settle.Given as goal
+use Rattle.ffv1_pool.proofs.held_rows.settle.Given as goal
 
 -- the owners passed so far are settled
 abbrev pub invariant-loop-index : goal.invariant-loop-index

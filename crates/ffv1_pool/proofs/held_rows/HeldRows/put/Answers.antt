@@ -6,7 +6,7 @@ use Rattle.ffv1_pool.specs.Inner.Fresh.{with_fresh}
 use Rattle.ffv1_pool.specs.Inner.Rows.{rows_in, AreOwnersMoved}
 use Rattle.ffv1_pool.proofs.PoolGrowth.{take-written}
 use Rattle.ffv1_pool.proofs.RowGrowth.{owner_held, owners_within, owners_in_order, digests_within, digests_in_order, rows_grown, view_rows, settled_of}
-use Rattle.ffv1_pool.proofs.rows.put_rows.Goals as goal
+use Rattle.ffv1_pool.proofs.held_rows.HeldRows.put.Goals as goal
 
 pub settle-requires-clause-held : goal.settle-requires-clause-held
 settle-requires-clause-held c =
@@ -25,13 +25,13 @@ written c =
 
 pub spread-requires-clause-places : goal.spread-requires-clause-places
 spread-requires-clause-places c = rw (written c)
-    (owners_within c.args.bytes.now c.args.owners.now.items c.args.digests.now.items c.requires.rows c.args.from.now
+    (owners_within c.args.bytes.now c.args.self.now.owners.items c.args.self.now.digests.items c.requires.rows c.args.from.now
     c.args.fresh.now.owners.items
     c.settle.new.owners c.args.fresh.now.digests.items c.requires.fresh (settled c))
 
 pub spread-requires-clause-rising : goal.spread-requires-clause-rising
 spread-requires-clause-rising c = rw (written c)
-    (owners_in_order c.args.bytes.now c.args.owners.now.items c.args.digests.now.items c.requires.rows c.args.from.now
+    (owners_in_order c.args.bytes.now c.args.self.now.owners.items c.args.self.now.digests.items c.requires.rows c.args.from.now
     c.args.fresh.now.owners.items
     c.settle.new.owners c.args.fresh.now.digests.items c.requires.fresh (settled c))
 
@@ -40,13 +40,13 @@ settled_then c = settled_of _ _ _ _ _ c.deref_mut.ensures.value c.settle.ensures
 
 pub spread-requires-2-clause-places : goal.spread-requires-2-clause-places
 spread-requires-2-clause-places c = rw c.deref-2.ensures.value
-    (digests_within c.args.bytes.now c.args.owners.now.items c.args.digests.now.items c.requires.rows c.args.from.now
+    (digests_within c.args.bytes.now c.args.self.now.owners.items c.args.self.now.digests.items c.requires.rows c.args.from.now
     c.args.fresh.now.owners.items
     c.settle.new.owners c.args.fresh.now.digests.items c.requires.fresh (settled_then c))
 
 pub spread-requires-2-clause-rising : goal.spread-requires-2-clause-rising
 spread-requires-2-clause-rising c = rw c.deref-2.ensures.value
-    (digests_in_order c.args.bytes.now c.args.owners.now.items c.args.digests.now.items c.requires.rows c.args.from.now
+    (digests_in_order c.args.bytes.now c.args.self.now.owners.items c.args.self.now.digests.items c.requires.rows c.args.from.now
     c.args.fresh.now.owners.items
     c.settle.new.owners c.args.fresh.now.digests.items c.requires.fresh (settled_then c))
 
@@ -59,21 +59,21 @@ written_last c =
     c.deref.ensures.value
     ∙ take-written c.settle.new.owners c.args.fresh.now.owners.items c.args.fresh.now.owners.len (omega (arith, (settled_last c).long))
 
-owners : (c : goal.After-spread-2) → c.spread.new.items.items ≡ with_fresh c.settle.new.owners c.args.owners.now.items
-owners c = c.spread.ensures ∙ ap (λ fs. with_fresh fs c.args.owners.now.items) (written_last c)
+owners : (c : goal.After-spread-2) → c.spread.new.items.items ≡ with_fresh c.settle.new.owners c.args.self.now.owners.items
+owners c = c.spread.ensures ∙ ap (λ fs. with_fresh fs c.args.self.now.owners.items) (written_last c)
 
-digests : (c : goal.After-spread-2) → c.spread-2.new.items.items ≡ with_fresh c.args.fresh.now.digests.items c.args.digests.now.items
-digests c = c.spread-2.ensures ∙ ap (λ fs. with_fresh fs c.args.digests.now.items) c.deref-2.ensures.value
+digests : (c : goal.After-spread-2) → c.spread-2.new.items.items ≡ with_fresh c.args.fresh.now.digests.items c.args.self.now.digests.items
+digests c = c.spread-2.ensures ∙ ap (λ fs. with_fresh fs c.args.self.now.digests.items) c.deref-2.ensures.value
 
 pub returns-clause-rows : goal.returns-clause-rows
 returns-clause-rows c = rw (owners c, digests c)
-    (rows_grown c.args.bytes.now c.args.owners.now.items c.args.digests.now.items c.requires.rows c.args.from.now
+    (rows_grown c.args.bytes.now c.args.self.now.owners.items c.args.self.now.digests.items c.requires.rows c.args.from.now
     c.args.fresh.now.owners.items
     c.settle.new.owners c.args.fresh.now.digests.items c.requires.fresh (settled_last c))
 
 pub returns-clause-origins : goal.returns-clause-origins
 returns-clause-origins c =
     (λ i. set.from_list {R = origin_cmp} (rows_in c.args.bytes.now (owners c i) (digests c i)))
-    ∙ view_rows c.args.bytes.now c.args.owners.now.items c.args.digests.now.items c.requires.rows c.args.from.now
+    ∙ view_rows c.args.bytes.now c.args.self.now.owners.items c.args.self.now.digests.items c.requires.rows c.args.from.now
     c.args.fresh.now.owners.items
     c.settle.new.owners c.args.fresh.now.digests.items c.requires.fresh (settled_last c)
