@@ -4,7 +4,7 @@ use Rattle.std.specs.Prelude.{◌⊎◌, All, Contains}
 use Rattle.std.proofs.lemmas.Bool.{cases_lt}
 use Rattle.std.proofs.lemmas.List.Elements.{All-head, All-tail, Contains-get_or}
 use Rattle.ffv1_weave.specs.Parts.{written}
-use Rattle.ffv1_weave.specs.Regions.{AgreeAt, DifferAt, IsRegion}
+use Rattle.ffv1_weave.specs.Regions.{AgreeAt}
 use Rattle.ffv1_weave.specs.Combinations.{IsCombination}
 use Rattle.ffv1_weave.specs.Weave.{Weave, IsWeaveOf}
 use Rattle.ffv1_weave.specs.Weave.Weave.{woven, missing}
@@ -12,7 +12,6 @@ use Rattle.ffv1_weave.specs.declared.check.Check.TheVariants.{Element}
 use Rattle.ffv1_weave.specs.Laws.{IsCovered}
 use Rattle.ffv1_weave.specs.Laws as weave_laws
 use Rattle.ffv1_weave.proofs.Agreeing.{agree_past}
-use Rattle.ffv1_weave.proofs.RegionSteps.{within_window}
 use Rattle.ffv1_weave.proofs.WeaveLaws.{covered_is_combination}
 use Rattle.ffv1_weave.proofs.Coarsest.{original_is_woven}
 use Rattle.ffv1_weave.proofs.Choices.{length-written, written_before, written_inside, written_after, same_range, range_at}
@@ -30,7 +29,7 @@ use Rattle.ffv1_mend.specs.declared.state.State.TheVariants.{Whole, Disputed, Wo
 use Rattle.ffv1_mend.proofs.Fitting.{Fits, length-patched, given_fit, splices_fit}
 use Rattle.ffv1_mend.proofs.Members.{mapped_there, mapped_of}
 use Rattle.ffv1_mend.proofs.Vouched.{good_given, good_only}
-use Rattle.ffv1_splice.proofs.WiderRegions.{IsDense, in_region}
+use Rattle.ffv1_weave.proofs.WiderRegions.{region_around}
 
 module _ (original : List ℕ) where
   -- At each place all bytes of this length keep what they have, or all get the original's.
@@ -89,17 +88,6 @@ module _ (original : List ℕ) (versions : List (List ℕ)) (parts : List Part) 
   there_of : (version : List ℕ) → Contains versions version → Contains (improved versions parts splices) (patched version (given_patches parts splices))
   there_of version there = mapped_there (λ version. patched version (given_patches parts splices)) versions version there
 
-  dense : (start end : ℕ) → IsRegion (improved versions parts splices) start end → IsDense versions start end
-  dense start end h =
-      record {
-        some = h.some;
-        first = λ agree. h.first (agree_on start agree);
-        last = λ agree. let last : DifferAt (improved versions parts splices) (end - 1) = h.last in last (agree_on (end - 1) agree);
-        within = λ i low high.
-            let spot = within_window (improved versions parts splices) start end h i low high in
-            (spot.0, spot.1, spot.2, λ agree. spot.3 (agree_on spot.0 agree));
-      }
-
   pub original_among : IsCombination (improved versions parts splices) original
   original_among =
       record {
@@ -116,7 +104,7 @@ module _ (original : List ℕ) (versions : List (List ℕ)) (parts : List Part) 
                   sym (first ∙ stays a.0 (covered.one_length a.0 a.1) ∙ covered.right i same a.0 a.1)
             ];
         parts = λ start end region.
-            let wide = in_region versions (length original) covered.one_length start end (dense start end region) in
+            let wide = region_around versions (improved versions parts splices) (length original) start end covered.one_length agree_on region in
             let intact = covered.intact wide.begin wide.last wide.region in
             let version : List ℕ = intact.0 in
             let low = wide.before in

@@ -10,7 +10,7 @@ use Rattle.ffv1_slice.specs.Chain.{size_before, IsCut, IsFramed}
 use Rattle.ffv1_slice.specs.Members.{HasSameMembers, IsOfNone}
 use Rattle.ffv1_slice.proofs.NearLaws.{length-range, size_of_range}
 use Rattle.ffv1_weave.specs.Combinations.{IsCombination}
-use Rattle.ffv1_weave.specs.Regions.{HaveLength, DifferAt}
+use Rattle.ffv1_weave.specs.Regions.{HaveLength}
 use Rattle.ffv1_weave.specs.Weave.{weave_tally}
 use Rattle.ffv1_weave.specs.Weave.Weave.{woven}
 use Rattle.ffv1_weave.specs.declared.weaving.Outcome.{Outcome}
@@ -21,7 +21,8 @@ use Rattle.ffv1_splice.specs.Standings.{versions_at, sized, IsWeaveFromFront, Is
 use Rattle.ffv1_splice.specs.declared.place.Standing.TheVariants.{Woven}
 use Rattle.ffv1_splice.proofs.PlaceSteps.{AllReach, claim_below, none_not_only}
 use Rattle.ffv1_splice.proofs.Versions.{mapped_there, mapped_of, same_mapped, same_versions, version_there, version_of, version_length, weave_size}
-use Rattle.ffv1_splice.proofs.WiderRegions.{some_differ, in_region}
+use Rattle.ffv1_weave.proofs.Agreeing.{some_differ}
+use Rattle.ffv1_weave.proofs.WiderRegions.{region_of}
 
 -- ---- bytes with their size
 
@@ -138,12 +139,7 @@ module _ (versions : List (List ℕ)) (size : ℕ) (long : HaveLength versions s
         | inr found ↦
             let low = found.1 in
             let lt = found.2 in
-            let wide = in_region versions size long found.0 (found.0 + 1) (record {
-              some = omega arith;
-              first = found.3;
-              last = let same : found.0 ≡ found.0 + 1 - 1 = omega arith in subst (DifferAt versions) same found.3;
-              within = λ i above below. absurd (omega arith);
-            }) in
+            let wide = region_of versions size found.0 long found.3 in
             let before = wide.before in
             let beyond = wide.beyond in
             let whole = is.parts wide.begin wide.last wide.region in (

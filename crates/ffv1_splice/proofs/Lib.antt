@@ -5,7 +5,6 @@ pub mod ClaimedEnds
 pub mod PlaceSteps
 pub mod Versions
 pub mod RepairSteps
-pub mod WiderRegions
 pub mod FirstSlices
 pub mod SeveralSteps
 pub mod SizedCombinations

@@ -10,16 +10,15 @@ use Rattle.byteorder.specs.Numbers.{length-bytes_high_first}
 use Rattle.ffv1_bits.specs.Parity.{AreBytes}
 use Rattle.ffv1_bits.proofs.Bytes.{AreBytes-range}
 use Rattle.ffv1_slice.specs.Chain.{IsFramed}
-use Rattle.ffv1_weave.specs.Regions.{HaveLength, AgreeAt, DifferAt, IsRegion}
+use Rattle.ffv1_weave.specs.Regions.{HaveLength, AgreeAt}
 use Rattle.ffv1_weave.specs.Combinations.{IsCombination}
 use Rattle.ffv1_weave.proofs.Agreeing.{agree_past}
-use Rattle.ffv1_weave.proofs.RegionSteps.{within_window}
 use Rattle.ffv1_weave.proofs.Choices.{same_range, range_at}
 use Rattle.ffv1_splice.specs.Standings.{versions_at, sized}
 use Rattle.ffv1_splice.proofs.PlaceSteps.{AllReach}
 use Rattle.ffv1_splice.proofs.Versions.{mapped_there, mapped_of, version_there, version_of, version_length}
 use Rattle.ffv1_splice.proofs.FirstSlices.{length-sized, same_inside, combination_between}
-use Rattle.ffv1_splice.proofs.WiderRegions.{IsDense, in_region}
+use Rattle.ffv1_weave.proofs.WiderRegions.{region_around}
 
 -- ---- bytes with their size, place by place
 
@@ -175,17 +174,6 @@ module _ (copies : List (List ℕ)) (start end : ℕ) (copy slice : List ℕ) (r
       ] in
       ap (λ z. get_or z i 0) a.2 ∙ same ∙ sym (ap (λ z. get_or z i 0) b.2)
 
-  dense : (from to : ℕ) → IsRegion (map sized versions) from to → IsDense versions from to
-  dense from to h =
-      record {
-        some = h.some;
-        first = λ agree. h.first (agree_sized from agree);
-        last = λ agree. let last : DifferAt (map sized versions) (to - 1) = h.last in last (agree_sized (to - 1) agree);
-        within = λ i low high.
-            let spot = within_window (map sized versions) from to h i low high in
-            (spot.0, spot.1, spot.2, λ agree. spot.3 (agree_sized spot.0 agree));
-      }
-
   -- what the slice has of one version, it has of that version with its size
   same_at : (version : List ℕ) → Contains versions version → (i : ℕ) → get_or slice i 0 ≡ get_or version i 0 → get_or slice i 0 ≡ get_or (sized version) i 0
   same_at version here i same = elim (field_or_not size i (omega arith)) [
@@ -211,7 +199,7 @@ module _ (copies : List (List ℕ)) (start end : ℕ) (copy slice : List ℕ) (r
             ] in
             same ∙ sym (ap (λ z. get_or z i 0) a.2);
         parts = λ from to region.
-            let wide = in_region versions size long from to (dense from to region) in
+            let wide = region_around versions (map sized versions) size from to long agree_sized region in
             let whole = is.parts wide.begin wide.last wide.region in
             let low = wide.before in
             let high = wide.beyond in

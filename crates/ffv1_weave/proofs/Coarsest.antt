@@ -1,9 +1,9 @@
 -- Regions are the coarsest grain: what is a combination of regions is one of segments.
-use Rattle.std.proofs.Common.{◌≡◌, ℕ, zero, suc, ◌+◌, ◌-◌, ◌<◌, ◌≤◌, List, length, get_or, sym, ap, ◌∙◌, subst, arith, inl, inr}
+use Rattle.std.proofs.Common.{◌≡◌, ℕ, zero, suc, ◌-◌, ◌<◌, ◌≤◌, List, length, get_or, sym, ap, ◌∙◌, subst, arith, inl, inr}
 use Rattle.std.specs.Prelude.{Contains, slice_range}
 use Rattle.std.proofs.lemmas.Bool.{cases_lt}
 use Rattle.std.proofs.lemmas.List.{get_or_default}
-use Rattle.ffv1_weave.specs.Regions.{HaveLength, AgreeAt, DifferAt, IsRegion}
+use Rattle.ffv1_weave.specs.Regions.{HaveLength, DifferAt, IsRegion}
 use Rattle.ffv1_weave.specs.Seams.{IsSeam, IsSegment}
 use Rattle.ffv1_weave.specs.Grains.{grains}
 use Rattle.ffv1_weave.specs.Checks.{PassesBy}
@@ -14,125 +14,16 @@ use Rattle.ffv1_weave.specs.Laws.{KeepsOriginal, OriginalIsWoven, TriedOriginalI
 use Rattle.ffv1_weave.specs.declared.check.Check.{Check}
 use Rattle.ffv1_weave.specs.declared.grains.Grain.TheVariants.{Pairs, Regions}
 use Rattle.ffv1_weave.specs.declared.regions.TheConstants.{SEPARATION}
-use Rattle.ffv1_weave.proofs.Agreeing.{agree_past, some_differ, two_of}
+use Rattle.ffv1_weave.proofs.Agreeing.{some_differ, two_of}
+use Rattle.ffv1_weave.proofs.WiderRegions.{region_of}
 use Rattle.ffv1_weave.proofs.SeamSteps.{segment_within}
 use Rattle.ffv1_weave.proofs.GrainSteps.{region_within}
 use Rattle.ffv1_weave.proofs.Choices.{same_range, range_at}
 use Rattle.ffv1_weave.proofs.Tried.{tried_grain, valid_by}
 
--- ---- the region of a place at which versions differ
+-- ---- the ends of a region are seams
 
 module _ (versions : List (List ℕ)) where
-  -- versions differ at the first place and at the last, and each one at which they do, but the last, has another one near after it
-  record IsClose (start end : ℕ) : Type 0 where
-    some : start < end
-    first : DifferAt versions start
-    last : DifferAt versions (end - 1)
-    within : (i : ℕ) → start ≤ i → i + 1 < end → DifferAt versions i → (j : ℕ) × (i < j) × (j ≤ i + SEPARATION) × (j < end) × DifferAt versions j
-
-  close_at : (place : ℕ) → DifferAt versions place → IsClose place (place + 1)
-  close_at place differ =
-      record {
-        some = omega arith;
-        first = differ;
-        last = let same : place ≡ place + 1 - 1 = omega arith in subst (DifferAt versions) same differ;
-        within = λ i low high here. absurd (omega arith);
-      }
-
-  later : (start end j : ℕ) → IsClose start end → end ≤ j → j < end + SEPARATION → DifferAt versions j → IsClose start (j + 1)
-  later start end j h low near differ =
-      let some = h.some in
-      record {
-        some = omega arith;
-        first = h.first;
-        last = let same : j ≡ j + 1 - 1 = omega arith in subst (DifferAt versions) same differ;
-        within = λ i above below here. elim (cases_lt (i + 1) end) [
-          | inl old ↦ let next = h.within i above old here in (next.0, next.1, next.2, (let lt = next.3 in omega arith), next.4)
-          | inr new ↦ (j, omega arith, omega arith, omega arith, differ)
-        ];
-      }
-
-  sooner : (start end j : ℕ) → IsClose start end → j < start → start ≤ j + SEPARATION → DifferAt versions j → IsClose j end
-  sooner start end j h low near differ =
-      let some = h.some in
-      record {
-        some = omega arith;
-        first = differ;
-        last = h.last;
-        within = λ i above below here. elim (cases_lt i start) [
-          | inr old ↦ h.within i old below here
-          | inl new ↦ (start, new, omega arith, h.some, h.first)
-        ];
-      }
-
-  record HasLast (start end : ℕ) : Type 0 where
-    last : ℕ
-    beyond : end ≤ last
-    close : IsClose start last
-    after : (i : ℕ) → last ≤ i → i < last + SEPARATION → AgreeAt versions i
-
-  to_last : (size fuel start end : ℕ) → HaveLength versions size → size ≤ end + fuel → IsClose start end → HasLast start end
-  to_last size zero start end long past h =
-      record { last = end; beyond = omega arith; close = h; after = λ i low lt. agree_past versions size i long (omega arith) }
-  to_last size (suc fuel) start end long past h = elim (some_differ versions end SEPARATION) [
-    | inl quiet ↦ record { last = end; beyond = omega arith; close = h; after = quiet }
-    | inr found ↦
-        let low = found.1 in
-        let rest = to_last size fuel start (found.0 + 1) long (omega arith) (later start end found.0 h found.1 found.2 found.3) in
-        let beyond = rest.beyond in
-        record { last = rest.last; beyond = omega arith; close = rest.close; after = rest.after }
-  ]
-
-  to_first : (fuel start end : ℕ) → start ≤ fuel → IsClose start end → ((i : ℕ) → end ≤ i → i < end + SEPARATION → AgreeAt versions i)
-      → (begin : ℕ) × (begin ≤ start) × IsRegion versions begin end
-  to_first zero start end past h after = (
-    start,
-    omega arith,
-    record {
-      some = h.some;
-      first = h.first;
-      last = h.last;
-      before = λ i lt near. absurd (omega arith);
-      after = after;
-      within = h.within;
-    },
-  )
-  to_first (suc fuel) start end past h after = elim (some_differ versions (start - SEPARATION) (start - (start - SEPARATION))) [
-    | inl quiet ↦ (
-      start,
-      omega arith,
-      record {
-        some = h.some;
-        first = h.first;
-        last = h.last;
-        before = λ i lt near. quiet i (omega arith) (omega arith);
-        after = after;
-        within = h.within;
-      },
-    )
-    | inr found ↦
-        let low = found.1 in
-        let lt = found.2 in
-        let rest = to_first fuel found.0 end (omega arith) (sooner start end found.0 h (omega arith) (omega arith) found.3) after in
-        (rest.0, (let below = rest.1 in omega arith), rest.2)
-  ]
-
-  pub record IsInRegion (place : ℕ) : Type 0 where
-    pub begin : ℕ
-    pub last : ℕ
-    pub before : begin ≤ place
-    pub beyond : place < last
-    pub region : IsRegion versions begin last
-
-  pub region_of : (size place : ℕ) → HaveLength versions size → DifferAt versions place → IsInRegion place
-  region_of size place long differ =
-      let up = to_last size size place (place + 1) long (omega arith) (close_at place differ) in
-      let down = to_first place place up.last (omega arith) up.close up.after in
-      let beyond = up.beyond in
-      record { begin = down.0; last = up.last; before = down.1; beyond = omega arith; region = down.2 }
-
-  -- ---- its ends are seams
-
   first_is_seam : (distance start end : ℕ) → distance ≤ SEPARATION → IsRegion versions start end → IsSeam distance versions start
   first_is_seam distance start end near h =
       let two = two_of versions start h.first in
@@ -168,7 +59,7 @@ module _ (versions : List (List ℕ)) where
   in_region : (distance size start end place : ℕ) → distance ≤ SEPARATION → HaveLength versions size → IsSegment distance versions start end → start ≤ place
       → place < end → DifferAt versions place → (s e : ℕ) × (s ≤ start) × (end ≤ e) × IsRegion versions s e
   in_region distance size start end place near long h low lt differ =
-      let region = region_of size place long differ in
+      let region = region_of versions size place long differ in
       let before = region.before in
       let beyond = region.beyond in (
         region.begin,

@@ -1,6 +1,7 @@
 pub mod References
 pub mod Agreeing
 pub mod RegionSteps
+pub mod WiderRegions
 pub mod SeamSteps
 pub mod GrainSteps
 pub mod ChoiceSteps
@@ -19,6 +20,7 @@ pub mod OneBit
 pub mod FoundSteps
 pub mod InversionSteps
 pub mod RepairSteps
+pub mod Returned
 pub mod RepairLaws
 pub mod VoteLaws
 pub mod VoteSteps

@@ -1,11 +1,10 @@
 -- Laws of repairs.
-use Rattle.std.proofs.Common.{◌≡◌, ℕ, ◌*◌, List, length, Option, Some, None, Result, Vec, Global, sym, ap, ◌∙◌}
-use Rattle.std.specs.Prelude.{IfOk, MatchOption}
+use Rattle.std.proofs.Common.{◌≡◌, ℕ, ◌*◌, List, length, Option, Result, Vec, Global, sym, ap, ◌∙◌}
 use Rattle.std.specs.declared.alloc.AllocError.{AllocError}
-use Rattle.std.proofs.lemmas.Result.{IfOk-weaker}
 use Rattle.ffv1_slice.specs.Members.{HasSameMembers}
 use Rattle.ffv1_weave.specs.Repairs.{IsRepair, IsRepairOf, SameVersionsRepair, OriginalIsRepaired}
 use Rattle.ffv1_weave.proofs.Tried.{one_count}
+use Rattle.ffv1_weave.proofs.Returned.{IsReturnedBy, returned_as}
 use Rattle.ffv1_weave.proofs.WeaveLaws.{same_back, combination_as, tried_as, few_as}
 
 pub repair_as : (versions others : List (List ℕ)) → HasSameMembers versions others → (bytes : List ℕ) → IsRepair versions bytes → IsRepair others bytes
@@ -50,19 +49,8 @@ same_versions_repair =
 pub original_is_repaired : OriginalIsRepaired
 original_is_repaired original versions bytes count original_there h = sym (h.only.others original original_there)
 
--- ---- what is returned for versions is right for others with the same members
-
-abbrev IsTalliedBy : List (List ℕ) → Option (Vec ℕ Global × ℕ) → Type 0
-IsTalliedBy versions found =
-    MatchOption found ((bytes : List ℕ) (count : ℕ) → IsRepairOf versions bytes count → ⊥) (λ (bytes, count). IsRepairOf versions bytes.items count)
-
-abbrev pub IsAnswered : List (List ℕ) → Result (Option (Vec ℕ Global × ℕ)) AllocError → Type 0
-IsAnswered versions answer = IfOk answer (IsTalliedBy versions)
-
-module _ (versions others : List (List ℕ)) (same : HasSameMembers versions others) where
-  tallied_as : (found : Option (Vec ℕ Global × ℕ)) → IsTalliedBy versions found → IsTalliedBy others found
-  tallied_as None h = λ bytes count repair. h bytes count (repair_of_as others versions (same_back versions others same) bytes count repair)
-  tallied_as (Some repaired) h = repair_of_as versions others same repaired.0.items repaired.1 h
-
-  pub answered_as : (answer : Result (Option (Vec ℕ Global × ℕ)) AllocError) → IsAnswered versions answer → IsAnswered others answer
-  answered_as answer h = IfOk-weaker answer (IsTalliedBy versions) (IsTalliedBy others) tallied_as h
+-- what is returned for versions is right for others with the same members
+pub returned_repair_as : (versions others : List (List ℕ)) → HasSameMembers versions others → (returned : Result (Option (Vec ℕ Global × ℕ)) AllocError)
+    → IsReturnedBy (IsRepairOf versions) returned → IsReturnedBy (IsRepairOf others) returned
+returned_repair_as versions others same =
+    returned_as (IsRepairOf versions) (IsRepairOf others) (repair_of_as versions others same) (repair_of_as others versions (same_back versions others same))

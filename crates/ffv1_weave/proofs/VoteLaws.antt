@@ -1,8 +1,7 @@
 -- Laws of votes.
-use Rattle.std.proofs.Common.{◌≡◌, ℕ, List, get_or, Option, Some, None, Result, Vec, Global, sym, ap, ◌∙◌, arith, inl, inr}
-use Rattle.std.specs.Prelude.{IfOk, MatchOption, sum}
+use Rattle.std.proofs.Common.{◌≡◌, ℕ, List, get_or, Option, Result, Vec, Global, sym, ap, ◌∙◌, arith, inl, inr}
+use Rattle.std.specs.Prelude.{sum}
 use Rattle.std.specs.declared.alloc.AllocError.{AllocError}
-use Rattle.std.proofs.lemmas.Result.{IfOk-weaker}
 use Rattle.std.proofs.lemmas.List.{ext_get_or}
 use Rattle.ffv1_slice.specs.Members.{HasSameMembers}
 use Rattle.ffv1_weave.specs.Combinations.{IsCombinationBy}
@@ -12,6 +11,7 @@ use Rattle.ffv1_weave.specs.declared.grains.Grain.{Grain}
 use Rattle.ffv1_weave.specs.declared.grains.Grain.TheVariants.{Regions}
 use Rattle.ffv1_weave.proofs.Numbering.{one_number}
 use Rattle.ffv1_weave.proofs.Tried.{few_or_many}
+use Rattle.ffv1_weave.proofs.Returned.{IsReturnedBy, returned_as}
 use Rattle.ffv1_weave.proofs.WeaveLaws.{same_back, combination_as, has_few_as, has_many_as}
 
 module _ (versions others : List (List ℕ)) (same : HasSameMembers versions others) where
@@ -94,19 +94,8 @@ same_versions_vote =
 pub original_is_voted : OriginalIsVoted
 original_is_voted original versions bytes count original_there h = sym (h.only.others original original_there)
 
--- ---- what is returned for versions is right for others with the same members
-
-abbrev IsTalliedBy : List (List ℕ) → Option (Vec ℕ Global × ℕ) → Type 0
-IsTalliedBy versions found =
-    MatchOption found ((bytes : List ℕ) (count : ℕ) → IsVoteOf versions bytes count → ⊥) (λ (bytes, count). IsVoteOf versions bytes.items count)
-
-abbrev pub IsVoteAnswered : List (List ℕ) → Result (Option (Vec ℕ Global × ℕ)) AllocError → Type 0
-IsVoteAnswered versions answer = IfOk answer (IsTalliedBy versions)
-
-module _ (versions others : List (List ℕ)) (same : HasSameMembers versions others) where
-  tallied_as : (found : Option (Vec ℕ Global × ℕ)) → IsTalliedBy versions found → IsTalliedBy others found
-  tallied_as None h = λ bytes count vote. h bytes count (vote_of_as others versions (same_back versions others same) bytes count vote)
-  tallied_as (Some voted) h = vote_of_as versions others same voted.0.items voted.1 h
-
-  pub vote_answered_as : (answer : Result (Option (Vec ℕ Global × ℕ)) AllocError) → IsVoteAnswered versions answer → IsVoteAnswered others answer
-  vote_answered_as answer h = IfOk-weaker answer (IsTalliedBy versions) (IsTalliedBy others) tallied_as h
+-- what is returned for versions is right for others with the same members
+pub returned_vote_as : (versions others : List (List ℕ)) → HasSameMembers versions others → (returned : Result (Option (Vec ℕ Global × ℕ)) AllocError)
+    → IsReturnedBy (IsVoteOf versions) returned → IsReturnedBy (IsVoteOf others) returned
+returned_vote_as versions others same =
+    returned_as (IsVoteOf versions) (IsVoteOf others) (vote_of_as versions others same) (vote_of_as others versions (same_back versions others same))

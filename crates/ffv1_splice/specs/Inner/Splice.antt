@@ -1,5 +1,5 @@
 -- The next end that is claimed.
-use Rattle.std.specs.Prelude.{ℕ, ◌-◌, ◌<◌, ◌≤◌, List, [], ◌∷◌}
+use Rattle.std.specs.Prelude.{ℕ, ◌<◌, ◌≤◌, List, [], ◌∷◌}
 use Rattle.ffv1_splice.specs.Splice.{IsClaimedEnd}
 
 -- the first that one copy claims after a place

@@ -1,28 +1,21 @@
-use Rattle.std.proofs.Common.{ℕ, List, Bor, length, arith, ap, subst}
+use Rattle.std.proofs.Common.{ℕ, List, Bor}
 use Rattle.ffv1_weave.proofs.References.{values_of}
-use Rattle.ffv1_weave.proofs.Distinct.{same_distinct, some_distinct, long_distinct}
-use Rattle.ffv1_weave.proofs.WeaveLaws.{same_back}
-use Rattle.ffv1_weave.proofs.RepairLaws.{IsAnswered, answered_as}
+use Rattle.ffv1_weave.proofs.Distinct.{some_lent, lent_long, lent_same}
+use Rattle.ffv1_weave.proofs.RepairLaws.{returned_repair_as}
 use Rattle.ffv1_weave.proofs.repairing.repair.Goals as goal
 
 pub repair_distinct-requires-clause-some : goal.repair_distinct-requires-clause-some
 repair_distinct-requires-clause-some c =
-    omega (
-      arith,
-      ap length c.as_slice.ensures.value,
-      some_distinct c.args.versions.now c.in_ok-distinct.distinct.items 0 _ c.requires.some c.in_ok-distinct.ensures,
-    )
+    some_lent c.args.versions.now c.in_ok-distinct.distinct.items c.as_slice.result.now 0 _ c.as_slice.ensures.value c.requires.some c.in_ok-distinct.ensures
 
 pub repair_distinct-requires-clause-lengths : goal.repair_distinct-requires-clause-lengths
 repair_distinct-requires-clause-lengths c =
-    long_distinct c.args.versions.now c.in_ok-distinct.distinct.items c.as_slice.result.now c.as_slice.ensures.value c.requires.some c.requires.lengths
+    lent_long c.args.versions.now c.in_ok-distinct.distinct.items c.as_slice.result.now c.as_slice.ensures.value c.requires.some c.requires.lengths
     c.in_ok-distinct.ensures
 
 pub returns : goal.returns
 returns c =
     let versions : List (Bor (List ℕ)) = c.args.versions.now in
-    let distinct : List (Bor (List ℕ)) = c.in_ok-distinct.distinct.items in
-    let back = same_back (values_of versions) (values_of distinct)
-    (same_distinct versions distinct c.requires.some c.requires.lengths c.in_ok-distinct.ensures) in
-    answered_as (values_of distinct) (values_of versions) back c.repair_distinct.result
-    (subst (λ items. IsAnswered (values_of items) c.repair_distinct.result) c.as_slice.ensures.value c.repair_distinct.ensures)
+    let lent : List (Bor (List ℕ)) = c.as_slice.result.now in
+    let same = lent_same versions c.in_ok-distinct.distinct.items lent c.as_slice.ensures.value c.requires.some c.requires.lengths c.in_ok-distinct.ensures in
+    returned_repair_as (values_of lent) (values_of versions) same c.repair_distinct.result c.repair_distinct.ensures
