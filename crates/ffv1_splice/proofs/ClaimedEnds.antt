@@ -11,7 +11,9 @@ use Rattle.ffv1_splice.specs.Pieces.{HasContent}
 use Rattle.ffv1_splice.specs.Splice.{IsClaimedEnd}
 use Rattle.ffv1_splice.specs.Inner.Splice.{IsNextClaimed}
 use Rattle.ffv1_splice.specs.Inner.Tally.{Tally, Tallies, TalliesBoth}
-use Rattle.ffv1_splice.proofs.TallySteps.{alone, tallies_both}
+use Rattle.ffv1_weave.proofs.ChoiceSteps.{alone}
+use Rattle.ffv1_weave.proofs.FoundSteps.{two_as}
+use Rattle.ffv1_splice.proofs.TallySteps.{tallies_both}
 use Rattle.ffv1_splice.proofs.ShortestSteps.{cut_is_short}
 
 -- ---- one copy
@@ -101,14 +103,7 @@ module _ (copies : List (List ℕ)) (copy : List ℕ) (reach : ℕ) where
 
 -- two ends that some of the copies claim
 pub two_of_first : (copies : List (List ℕ)) (count reach : ℕ) → IsOfTwo (IsClaimedEnd (take count copies) reach) → IsOfTwo (IsClaimedEnd copies reach)
-two_of_first copies count reach two =
-    record {
-      one = two.one;
-      other = two.other;
-      one_there = on two.one two.one_there;
-      other_there = on two.other two.other_there;
-      differ = two.differ;
-    }
+two_of_first copies count reach = two_as (IsClaimedEnd (take count copies) reach) (IsClaimedEnd copies reach) on
   where
     on : (end : ℕ) → IsClaimedEnd (take count copies) reach end → IsClaimedEnd copies reach end
     on end h =

@@ -14,7 +14,7 @@ use Rattle.ffv1_slice.specs.Chain.{IsCut, footer_before}
 use Rattle.ffv1_slice.specs.Members.{IsOfNone}
 use Rattle.ffv1_slice.proofs.NearLaws.{length-range}
 use Rattle.ffv1_splice.specs.Pieces.{HasContent, IsPiece, PieceFrom, IsPieceFrom, IsShortest}
-use Rattle.ffv1_splice.proofs.TallySteps.{alone}
+use Rattle.ffv1_weave.proofs.ChoiceSteps.{alone}
 
 -- ---- one copy
 

@@ -1,10 +1,12 @@
 -- The pieces that end at a place, and the starts that are claimed there, with one more copy.
-use Rattle.std.proofs.Common.{◌≡◌, ℕ, List, [], ◌∷◌, ◌++◌, get_or, refl, sym, ap, ◌∙◌, subst, arith, inl, inr}
+use Rattle.std.proofs.Common.{◌≡◌, ℕ, List, [], ◌∷◌, ◌++◌, refl, sym, ap, ◌∙◌, subst, arith, inl, inr}
 use Rattle.std.specs.Prelude.{◌⊎◌, Contains, slice_range}
 use Rattle.std.proofs.lemmas.List.Elements.{Contains-append_left, Contains-append_right, Contains-append_cases}
 use Rattle.ffv1_bits.specs.Parity.{PassesParity}
 use Rattle.ffv1_slice.specs.Chain.{IsCut, LinkValue, link_of}
 use Rattle.ffv1_splice.specs.Pieces.{HasContent, IsPiece, IsClaimedStart}
+use Rattle.ffv1_weave.proofs.ChoiceSteps.{alone}
+use Rattle.ffv1_weave.proofs.FoundSteps.{two_as}
 use Rattle.ffv1_splice.specs.Inner.Tally.{Tally, Tallies, TalliesMore, TalliesBoth}
 use Rattle.ffv1_splice.specs.Inner.Tally.Tally.{none, one, two}
 
@@ -14,8 +16,7 @@ use Rattle.ffv1_splice.specs.Inner.Tally.Tally.{none, one, two}
 pub tallies_same : {X : Type 0} (P Q : X → Type 0) (claim : Tally X) → ((x : X) → P x → Q x) → ((x : X) → Q x → P x) → Tallies P claim → Tallies Q claim
 tallies_same P Q none on back h = λ x q. h x (back x q)
 tallies_same P Q (one value) on back h = record { there = on value h.there; others = λ x q. h.others x (back x q) }
-tallies_same P Q two on back h =
-    record { one = h.one; other = h.other; one_there = on h.one h.one_there; other_there = on h.other h.other_there; differ = h.differ }
+tallies_same P Q two on back h = two_as P Q on h
 
 -- one more value
 pub tallies_more : {X : Type 0} (P Q : X → Type 0) (claim after : Tally X) (value : X) → ((x : X) → P x → Q x) → Q value → ((x : X) → Q x → P x ⊎ (x ≡ value))
@@ -31,8 +32,7 @@ tallies_more P Q (one first) after value on new cases more h =
       | inr apart ↦ subst (Tallies Q) (sym apart.1) (record { one = first; other = value; one_there = on first h.there; other_there = new; differ = apart.0 })
     ]
 tallies_more P Q two after value on new cases more h =
-    subst (Tallies Q) (sym more)
-    (record { one = h.one; other = h.other; one_there = on h.one h.one_there; other_there = on h.other h.other_there; differ = h.differ })
+    subst (Tallies Q) (sym more) (two_as P Q on h)
 
 -- and all values of another count
 pub tallies_both : {X : Type 0} (P Q R : X → Type 0) (claim others after : Tally X) → ((x : X) → P x → R x) → ((x : X) → Q x → R x) → ((x : X) → R x → P x ⊎ Q x)
@@ -43,13 +43,9 @@ tallies_both P Q R claim none after mine theirs cases both h k =
 tallies_both P Q R claim (one value) after mine theirs cases both h k =
     tallies_more P R claim after value mine (theirs value k.there) (λ x r. elim (cases x r) [ inl p ↦ inl p | inr q ↦ inr (k.others x q) ]) both h
 tallies_both P Q R claim two after mine theirs cases both h k =
-    subst (Tallies R) (sym both)
-    (record { one = k.one; other = k.other; one_there = theirs k.one k.one_there; other_there = theirs k.other k.other_there; differ = k.differ })
+    subst (Tallies R) (sym both) (two_as Q R theirs k)
 
 -- ---- one more copy
-
-pub alone : (copy other : List ℕ) → Contains (copy ∷ []) other → other ≡ copy
-alone copy other h = let first : h.0 ≡ 0 = omega (arith, h.1) in sym h.2 ∙ ap (λ k. get_or (copy ∷ []) k other) first
 
 module _ (copies : List (List ℕ)) (copy : List ℕ) (end : ℕ) where
   more_copies : List (List ℕ)
@@ -144,14 +140,7 @@ module _ (copies : List (List ℕ)) (copy : List ℕ) (end : ℕ) where
             (subst (λ p. PassesParity p.bytes) same.0 h.there.passes) (inl same) h
         | inr apart ↦ absurd (cc (apart.1))
       ]
-  pieces-kept two start cut more h =
-      record {
-        one = h.one;
-        other = h.other;
-        one_there = piece_on h.one h.one_there;
-        other_there = piece_on h.other h.other_there;
-        differ = h.differ;
-      }
+  pieces-kept two start cut more h = two_as (IsPiece copies end) (IsPiece (copies ++ copy ∷ []) end) piece_on h
 
   pub starts-cut : (claim after : Tally ℕ) (start : ℕ) → IsCut copy start end → HasContent start end → TalliesMore claim start after
       → Tallies (IsClaimedStart copies end) claim

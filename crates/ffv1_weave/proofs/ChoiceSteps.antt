@@ -16,6 +16,28 @@ use Rattle.ffv1_weave.specs.Inner.Parts.{AreChoices}
 pub alone : (version other : List ℕ) → Contains (version ∷ []) other → other ≡ version
 alone version other h = let first : h.0 ≡ 0 = omega (arith, h.1) in sym h.2 ∙ ap (λ k. get_or (version ∷ []) k other) first
 
+-- what is listed once, and one more that is not among it
+module _ (listed : List (List ℕ)) (one : List ℕ) where
+  pub listed_at : (k : ℕ) → k < length listed → get_or (listed ++ one ∷ []) k [] ≡ get_or listed k []
+  listed_at k lt = get_or_append_left listed (one ∷ []) [] k lt
+
+  pub pushed_at : (k : ℕ) → k ≡ length listed → get_or (listed ++ one ∷ []) k [] ≡ one
+  pushed_at k is = get_or_push listed one [] k (sym is)
+
+  pub once_pushed : ((j k : ℕ) → j < length listed → k < length listed → get_or listed j [] ≡ get_or listed k [] → j ≡ k)
+      → ((k : ℕ) → k < length listed → get_or listed k [] ≡ one → ⊥) → (j k : ℕ) → j < length (listed ++ one ∷ []) → k < length (listed ++ one ∷ [])
+      → get_or (listed ++ one ∷ []) j [] ≡ get_or (listed ++ one ∷ []) k [] → j ≡ k
+  once_pushed once apart j k low lt same = elim (cases_lt j (length listed)) [
+    | inl j_below ↦ elim (cases_lt k (length listed)) [
+      | inl k_below ↦ once j k j_below k_below (sym (listed_at j j_below) ∙ same ∙ listed_at k k_below)
+      | inr k_above ↦ absurd (apart j j_below (sym (listed_at j j_below) ∙ same ∙ pushed_at k (omega (arith, length_push listed one))))
+    ]
+    | inr j_above ↦ elim (cases_lt k (length listed)) [
+      | inl k_below ↦ absurd (apart k k_below (sym (listed_at k k_below) ∙ sym same ∙ pushed_at j (omega (arith, length_push listed one))))
+      | inr k_above ↦ omega (arith, length_push listed one)
+    ]
+  ]
+
 module _ (start end : ℕ) where
   pub choices_none : AreChoices [] start end []
   choices_none =
@@ -48,33 +70,18 @@ module _ (start end : ℕ) where
         ];
         only = λ k lt. elim (cases_lt k (length choices)) [
           | inl below ↦ let p = h.only k below in
-              (p.0, Contains-append_left versions (version ∷ []) p.0 p.1, at_left k below ∙ p.2)
+              (p.0, Contains-append_left versions (version ∷ []) p.0 p.1, listed_at choices choice k below ∙ p.2)
           | inr above ↦ (
             version,
             Contains-append_right versions (version ∷ []) version (0, omega arith, refl),
-            at_last k (omega (arith, length_push choices choice)),
+            pushed_at choices choice k (omega (arith, length_push choices choice)),
           )
         ];
-        once = λ j k low lt same. elim (cases_lt j (length choices)) [
-          | inl j_below ↦ elim (cases_lt k (length choices)) [
-            | inl k_below ↦ h.once j k j_below k_below (sym (at_left j j_below) ∙ same ∙ at_left k k_below)
-            | inr k_above ↦ absurd (apart j j_below (sym (at_left j j_below) ∙ same ∙ at_last k (omega (arith, length_push choices choice))))
-          ]
-          | inr j_above ↦ elim (cases_lt k (length choices)) [
-            | inl k_below ↦ absurd (apart k k_below (sym (at_left k k_below) ∙ sym same ∙ at_last j (omega (arith, length_push choices choice))))
-            | inr k_above ↦ omega (arith, length_push choices choice)
-          ]
-        ];
+        once = once_pushed choices choice h.once apart;
       }
     where
       choice : List ℕ
       choice = slice_range version start end
-
-      at_left : (k : ℕ) → k < length choices → get_or (choices ++ slice_range version start end ∷ []) k [] ≡ get_or choices k []
-      at_left k lt = get_or_append_left choices (slice_range version start end ∷ []) [] k lt
-
-      at_last : (k : ℕ) → k ≡ length choices → get_or (choices ++ slice_range version start end ∷ []) k [] ≡ slice_range version start end
-      at_last k is = get_or_push choices (slice_range version start end) [] k (sym is)
 
       apart : (k : ℕ) → k < length choices → get_or choices k [] ≡ slice_range version start end → ⊥
       apart k lt is = new (k, lt, get_or_default choices k (slice_range version start end) [] lt ∙ is)

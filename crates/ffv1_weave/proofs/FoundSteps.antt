@@ -11,22 +11,22 @@ use Rattle.ffv1_weave.specs.declared.found.Found.TheVariants as found
 
 -- ---- the same fact, said in another way
 
+pub two_as : {X : Type 0} (P Q : X → Type 0) → ((value : X) → P value → Q value) → IsOfTwo P → IsOfTwo Q
+two_as P Q to two =
+    record {
+      one = two.one;
+      other = two.other;
+      one_there = to two.one two.one_there;
+      other_there = to two.other two.other_there;
+      differ = two.differ;
+    }
+
 module _ {X : Type 0} (P Q : X → Type 0) (to : (value : X) → P value → Q value) (from : (value : X) → Q value → P value) where
   pub none_as : IsOfNone P → IsOfNone Q
   none_as none value h = none value (from value h)
 
   pub only_as : (value : X) → IsOnly P value → IsOnly Q value
   only_as value only = record { there = to value only.there; others = λ other h. only.others other (from other h) }
-
-  pub two_as : IsOfTwo P → IsOfTwo Q
-  two_as two =
-      record {
-        one = two.one;
-        other = two.other;
-        one_there = to two.one two.one_there;
-        other_there = to two.other two.other_there;
-        differ = two.differ;
-      }
 
 -- ---- one more
 
@@ -53,7 +53,7 @@ module _ (check : Check) (bytes : List ℕ) (tried : List (List ℕ)) where
   found_skipped fails found.Nothing h = none_as (PassesAmong check tried) (PassesAmong check (bytes ∷ tried)) found_before (found_apart fails) h
   found_skipped fails (found.One one) h =
       only_as (PassesAmong check tried) (PassesAmong check (bytes ∷ tried)) found_before (found_apart fails) one.items h
-  found_skipped fails found.Several h = two_as (PassesAmong check tried) (PassesAmong check (bytes ∷ tried)) found_before (found_apart fails) h
+  found_skipped fails found.Several h = two_as (PassesAmong check tried) (PassesAmong check (bytes ∷ tried)) found_before h
 
   -- another that passes is the second
   pub found_another : PassesBy check bytes → (one : List ℕ) → (one ≡ bytes → ⊥) → IsOnly (PassesAmong check tried) one
@@ -68,11 +68,4 @@ module _ (check : Check) (bytes : List ℕ) (tried : List (List ℕ)) where
       }
 
   pub found_still : IsOfTwo (PassesAmong check tried) → IsOfTwo (PassesAmong check (bytes ∷ tried))
-  found_still two =
-      record {
-        one = two.one;
-        other = two.other;
-        one_there = found_before two.one two.one_there;
-        other_there = found_before two.other two.other_there;
-        differ = two.differ;
-      }
+  found_still = two_as (PassesAmong check tried) (PassesAmong check (bytes ∷ tried)) found_before

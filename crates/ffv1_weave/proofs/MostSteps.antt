@@ -4,7 +4,7 @@ use Rattle.std.specs.Prelude.{◌⊎◌, Contains, slice_range}
 use Rattle.std.specs.Bool.{Decides}
 use Rattle.std.specs.Str.{bytes_eq}
 use Rattle.std.proofs.lemmas.Bool.{cases_lt, false≢true}
-use Rattle.std.proofs.lemmas.List.{get_or_append_left, get_or_push, length_push, get_or_default, get_or-take, length-take-le, take_more, take_all}
+use Rattle.std.proofs.lemmas.List.{length_push, get_or_default, get_or-take, length-take-le, take_more, take_all}
 use Rattle.std.proofs.lemmas.List.Edits.{length-between}
 use Rattle.std.proofs.lemmas.List.Elements.{Contains-append_left, Contains-append_right, Contains-append_cases, Contains-get_or}
 use Rattle.std.proofs.lemmas.Slice.Eq.{bytes_eq-Decides}
@@ -14,7 +14,7 @@ use Rattle.ffv1_weave.specs.Regions.{HaveLength}
 use Rattle.ffv1_weave.specs.Inner.Parts.{AreChoices, AreChoicesBy, AreDistinct, IsFit}
 use Rattle.ffv1_weave.specs.declared.grains.Grain.{Grain}
 use Rattle.ffv1_weave.specs.declared.grains.Grain.TheVariants.{Pairs, Regions, Most}
-use Rattle.ffv1_weave.proofs.ChoiceSteps.{alone}
+use Rattle.ffv1_weave.proofs.ChoiceSteps.{alone, listed_at, pushed_at, once_pushed}
 use Rattle.ffv1_weave.proofs.Numbering.{one_number}
 use Rattle.ffv1_weave.proofs.Agreeing.{at_index}
 use Rattle.ffv1_weave.proofs.NextSegment.{one_or_none}
@@ -356,29 +356,14 @@ module _ (versions : List (List ℕ)) (start end : ℕ) (choices : List (List �
                 Contains-append_right most (choice ∷ []) (get_or choices k []) (0, omega arith, ap (λ n. get_or choices n []) (sym here))
           ];
           only = λ k lt. elim (cases_lt k (length most)) [
-            | inl below ↦ let of = h.only k below in (of.0, (let low = of.1 in omega arith), at_left k below ∙ of.2, of.3)
-            | inr above ↦ (i, omega arith, at_last k (omega (arith, length_push most choice)), subst (Have versions start end choice) as_many have)
+            | inl below ↦ let of = h.only k below in (of.0, (let low = of.1 in omega arith), listed_at most choice k below ∙ of.2, of.3)
+            | inr above ↦ (i, omega arith, pushed_at most choice k (omega (arith, length_push most choice)), subst (Have versions start end choice) as_many have)
           ];
-          once = λ j k low lt same. elim (cases_lt j (length most)) [
-            | inl j_below ↦ elim (cases_lt k (length most)) [
-              | inl k_below ↦ h.once j k j_below k_below (sym (at_left j j_below) ∙ same ∙ at_left k k_below)
-              | inr k_above ↦ absurd (apart j j_below (sym (at_left j j_below) ∙ same ∙ at_last k (omega (arith, length_push most choice))))
-            ]
-            | inr j_above ↦ elim (cases_lt k (length most)) [
-              | inl k_below ↦ absurd (apart k k_below (sym (at_left k k_below) ∙ sym same ∙ at_last j (omega (arith, length_push most choice))))
-              | inr k_above ↦ omega (arith, length_push most choice)
-            ]
-          ];
+          once = once_pushed most choice h.once apart;
         }
       where
         choice : List ℕ
         choice = get_or choices i []
-
-        at_left : (k : ℕ) → k < length most → get_or (most ++ get_or choices i [] ∷ []) k [] ≡ get_or most k []
-        at_left k lt = get_or_append_left most (get_or choices i [] ∷ []) [] k lt
-
-        at_last : (k : ℕ) → k ≡ length most → get_or (most ++ get_or choices i [] ∷ []) k [] ≡ get_or choices i []
-        at_last k is = get_or_push most (get_or choices i []) [] k (sym is)
 
         apart : (k : ℕ) → k < length most → get_or most k [] ≡ get_or choices i [] → ⊥
         apart k lt is =

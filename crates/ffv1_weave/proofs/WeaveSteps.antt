@@ -217,7 +217,7 @@ module _ (check : Check) {versions : List (List ℕ)} {parts : List Part} {count
   woven_of : (what : Found) → IsFoundAmong check all_chosen what → IsWeaveOf check versions (weave_found what count)
   woven_of found.Nothing h = (none_as (PassesAmong check all_chosen) (IsValid check versions) is_valid is_passing h, are_few)
   woven_of (found.One bytes) h = (only_as (PassesAmong check all_chosen) (IsValid check versions) is_valid is_passing bytes.items h, are_few)
-  woven_of found.Several h = (two_as (PassesAmong check all_chosen) (IsValid check versions) is_valid is_passing h, (count, are_few))
+  woven_of found.Several h = (two_as (PassesAmong check all_chosen) (IsValid check versions) is_valid h, (count, are_few))
 
   -- nothing is found before one is tried
   pub found_woven : (what : Found) → ((others : List (List ℕ)) → IsFoundAmong check others found.Nothing

@@ -3,7 +3,7 @@ use Rattle.std.specs.Prelude.{Contains}
 use Rattle.std.proofs.lemmas.List.Elements.{Contains-append_cases}
 use Rattle.ffv1_bits.specs.Parity.{AreBytes}
 use Rattle.ffv1_weave.proofs.References.{values_of, next_value, all_values, nowhere}
-use Rattle.ffv1_splice.proofs.TallySteps.{alone}
+use Rattle.ffv1_weave.proofs.ChoiceSteps.{alone}
 use Rattle.ffv1_splice.proofs.SeveralSteps.{IsNext, next_kept, next_more}
 use Rattle.ffv1_splice.proofs.several.next_claimed_start.Goals as goal
 use Rattle.ffv1_splice.proofs.several.next_claimed_start.Goals.{in-Some, in_default}
