@@ -17,6 +17,7 @@ use Rattle.ffv1_weave.proofs.Coarsest.{original_is_woven}
 use Rattle.ffv1_weave.proofs.Choices.{length-written, written_before, written_inside, written_after, same_range, range_at}
 use Rattle.ffv1_splice.specs.Splice.{SplicedValue}
 use Rattle.ffv1_splice.proofs.WovenLaws.{given_back_is_original}
+use Rattle.ffv1_splice.proofs.Versions.{mapped_there, mapped_of}
 use Rattle.ffv1_mend.specs.Improved.{IsWithin, IsRight, Patch, patched, given_patches, improved}
 use Rattle.ffv1_mend.specs.Inner.Improved.{AreFitting}
 use Rattle.ffv1_mend.specs.Mended.{MendedValue, ElementStands, IsElementMend, IsMendOf, is_good}
@@ -27,7 +28,6 @@ use Rattle.ffv1_mend.specs.declared.part.Part.{Part}
 use Rattle.ffv1_mend.specs.declared.state.State.{State}
 use Rattle.ffv1_mend.specs.declared.state.State.TheVariants.{Whole, Disputed, Woven, Missing, Alone, Agreed, Open}
 use Rattle.ffv1_mend.proofs.Fitting.{Fits, length-patched, given_fit, splices_fit}
-use Rattle.ffv1_mend.proofs.Members.{mapped_there, mapped_of}
 use Rattle.ffv1_mend.proofs.Vouched.{good_given, good_only}
 use Rattle.ffv1_weave.proofs.WiderRegions.{region_around}
 

@@ -9,28 +9,9 @@ use Rattle.ffv1_mend.specs.Inner.Distinct.{AreDistinctOf}
 
 -- ---- the same members
 
-pub members_back : {T : Type 0} (xs ys : List T) → HasSameMembers xs ys → HasSameMembers ys xs
-members_back xs ys same x = ((same x).1, (same x).0)
-
 -- a list with no members has none of another's
 pub members_some : (xs ys : List (List ℕ)) → HasSameMembers xs ys → 0 < length xs → 0 < length ys
 members_some xs ys same some = let there = (same (get_or xs 0 [])).0 (Contains-get_or xs 0 [] some) in omega (arith, there.1)
-
-pub mapped_there : (f : List ℕ → List ℕ) (xs : List (List ℕ)) (x : List ℕ) → Contains xs x → Contains (map f xs) (f x)
-mapped_there f xs x there = (there.0, omega (arith, there.1, length-map xs f), get_or-map f xs there.0 x (f x) there.1 ∙ ap f there.2)
-
-pub mapped_of : (f : List ℕ → List ℕ) (xs : List (List ℕ)) (y : List ℕ) → Contains (map f xs) y → (x : List ℕ) × Contains xs x × (y ≡ f x)
-mapped_of f xs y there =
-    let lt : there.0 < length xs = omega (arith, there.1, length-map xs f) in
-    (get_or xs there.0 [], Contains-get_or xs there.0 [] lt, sym there.2 ∙ get_or-map f xs there.0 [] y lt)
-
-map_on : (f : List ℕ → List ℕ) (xs ys : List (List ℕ)) → ((x : List ℕ) → Contains xs x → Contains ys x) → (y : List ℕ) → Contains (map f xs) y
-    → Contains (map f ys) y
-map_on f xs ys on y there =
-    let of = mapped_of f xs y there in subst (Contains (map f ys)) (sym of.2) (mapped_there f ys of.0 (on of.0 of.1))
-
-pub members_map : (f : List ℕ → List ℕ) (xs ys : List (List ℕ)) → HasSameMembers xs ys → HasSameMembers (map f xs) (map f ys)
-members_map f xs ys same y = (map_on f xs ys (λ x. (same x).0) y, map_on f ys xs (λ x. (same x).1) y)
 
 -- ---- one more member
 

@@ -5,12 +5,12 @@ use Rattle.ffv1_slice.specs.Members.{HasSameMembers, IsOnly, IsOfTwo}
 use Rattle.ffv1_weave.specs.Weave.{Weave, IsWeaveOf}
 use Rattle.ffv1_weave.specs.Weave.Weave.{woven, disputed, missing, too_many}
 use Rattle.ffv1_weave.specs.declared.check.Check.TheVariants.{Element}
-use Rattle.ffv1_weave.proofs.WeaveLaws.{same_versions_weave}
+use Rattle.ffv1_weave.proofs.WeaveLaws.{same_versions_weave, same_back}
 use Rattle.ffv1_splice.specs.Standings.{versions_at}
 use Rattle.ffv1_splice.specs.Splice.{SplicedValue, IsSettledOrWoven, IsGivenBack}
 use Rattle.ffv1_splice.proofs.Versions.{same_versions}
 use Rattle.ffv1_splice.proofs.OneSplice.{same_copies_splice}
-use Rattle.ffv1_splice.proofs.TallySteps.{alone}
+use Rattle.ffv1_weave.proofs.ChoiceSteps.{alone}
 use Rattle.ffv1_mend.specs.Improved.{AreSplicesOf, improved, fallback}
 use Rattle.ffv1_mend.specs.Mended.{MendedValue, IsPassing, ElementStands, IsWholeInAll, IsElementMend, IsFrameSettled, FrameStands, IsFrameMend, PlainStands, IsMendOf, is_good}
 use Rattle.ffv1_mend.specs.Laws.{IsUnanimous, IsSameMend, SameVersionsMend}
@@ -19,7 +19,6 @@ use Rattle.ffv1_mend.specs.declared.kind.Kind.TheVariants.{Frame, Crc32, Plain}
 use Rattle.ffv1_mend.specs.declared.part.Part.{Part}
 use Rattle.ffv1_mend.specs.declared.state.State.{State}
 use Rattle.ffv1_mend.specs.declared.state.State.TheVariants.{Whole, Disputed, Woven, Missing, Alone, Agreed, Open}
-use Rattle.ffv1_mend.proofs.Members.{members_back}
 use Rattle.ffv1_mend.proofs.SameMembers.{improved_as, passing_as, passing_back, all_as}
 
 same_value : (one other : MendedValue) → one.state ≡ other.state → one.bytes ≡ other.bytes → one.splices ≡ other.splices → one ≡ other
@@ -168,7 +167,7 @@ same_elements versions others same from other_from parts one other h k = elim h.
       ]
   | inr each ↦ elim k.splices [
     | inl others_all ↦
-        absurd (each.0 (whole_too others versions (members_back versions others same) other_from from parts other one k h others_all.0).0)
+        absurd (each.0 (whole_too others versions (same_back versions others same) other_from from parts other one k h others_all.0).0)
     | inr others_each ↦ each_spliced versions others same from other_from parts one other h k each.1 others_each.1
   ]
 ]

@@ -4,7 +4,8 @@ use Rattle.std.specs.Prelude.{◌⊎◌}
 use Rattle.std.proofs.lemmas.List.Elements.{Contains-append_left, Contains-append_right, Contains-append_cases}
 use Rattle.ebml_crc.specs.Element.{PassesCrc32}
 use Rattle.ffv1_splice.specs.Inner.Tally.{Tally, Tallies, TalliesMore}
-use Rattle.ffv1_splice.proofs.TallySteps.{alone, tallies_same, tallies_more}
+use Rattle.ffv1_weave.proofs.ChoiceSteps.{alone}
+use Rattle.ffv1_splice.proofs.TallySteps.{tallies_same, tallies_more}
 use Rattle.ffv1_mend.specs.Mended.{IsPassing}
 
 module _ (versions : List (List ℕ)) (version : List ℕ) where

@@ -1,14 +1,15 @@
 -- What becomes of a stretch rests on the set of its versions, but for how many there are of bytes without a checksum.
 use Rattle.std.proofs.Common.{◌≡◌, ℕ, ◌<◌, List, [], ◌∷◌, Bor, Ok, Err, Result, length, get_or, sym, subst, arith, inl, inr}
 use Rattle.std.specs.Prelude.{All, Contains, MatchResult, IsErrAnd, IfOk}
-use Rattle.ffv1_slice.specs.Members.{HasSameMembers, IsOnly, IsOfTwo}
+use Rattle.ffv1_slice.specs.Members.{HasSameMembers, IsOnly}
 use Rattle.ffv1_weave.specs.Weave.{Weave, IsWeaveOf}
 use Rattle.ffv1_weave.specs.Weave.Weave.{woven, disputed, missing, too_many}
 use Rattle.ffv1_weave.specs.declared.check.Check.TheVariants.{Element}
 use Rattle.ffv1_splice.specs.Standings.{versions_at}
 use Rattle.ffv1_splice.specs.Splice.{SplicedValue, IsSpliceOf}
-use Rattle.ffv1_weave.proofs.WeaveLaws.{weave_as}
-use Rattle.ffv1_splice.proofs.Versions.{same_versions}
+use Rattle.ffv1_weave.proofs.WeaveLaws.{weave_as, same_back}
+use Rattle.ffv1_weave.proofs.FoundSteps.{only_as, two_as}
+use Rattle.ffv1_splice.proofs.Versions.{same_versions, same_mapped}
 use Rattle.ffv1_splice.proofs.OneSplice.{splice_there}
 use Rattle.ffv1_mend.specs.Improved.{AreSplicesOf, patched, given_patches, improved}
 use Rattle.ffv1_mend.specs.Mended.{MendedValue, IsPassing, ElementStands, IsElementMend}
@@ -16,21 +17,15 @@ use Rattle.ffv1_mend.specs.declared.part.Part.{Part}
 use Rattle.ffv1_mend.specs.declared.state.State.{State}
 use Rattle.ffv1_mend.specs.declared.state.State.TheVariants.{Whole, Disputed, Woven, Missing, Alone, Agreed, Open}
 use Rattle.ffv1_weave.proofs.References.{values_of, value_there, each_value, length-values_of}
-use Rattle.ffv1_mend.proofs.Members.{members_back, members_map, members_some}
-
-pub only_as : {X : Type 0} (P Q : X → Type 0) (x : X) → ((x : X) → P x → Q x) → ((x : X) → Q x → P x) → IsOnly P x → IsOnly Q x
-only_as P Q x on back h = record { there = on x h.there; others = λ y q. h.others y (back y q) }
-
-two_as : {X : Type 0} (P Q : X → Type 0) → ((x : X) → P x → Q x) → IsOfTwo P → IsOfTwo Q
-two_as P Q on h = record { one = h.one; other = h.other; one_there = on h.one h.one_there; other_there = on h.other h.other_there; differ = h.differ }
+use Rattle.ffv1_mend.proofs.Members.{members_some}
 
 pub improved_as : (versions others : List (List ℕ)) (parts : List Part) (splices : List SplicedValue) → HasSameMembers versions others
     → HasSameMembers (improved versions parts splices) (improved others parts splices)
-improved_as versions others parts splices same = members_map (λ version. patched version (given_patches parts splices)) versions others same
+improved_as versions others parts splices same = same_mapped (λ version. patched version (given_patches parts splices)) versions others same
 
 module _ (versions others : List (List ℕ)) (same : HasSameMembers versions others) where
   back : HasSameMembers others versions
-  back = members_back versions others same
+  back = same_back versions others same
 
   pub passing_as : (version : List ℕ) → IsPassing versions version → IsPassing others version
   passing_as version h = record { there = (same version).0 h.there; passes = h.passes }
@@ -48,7 +43,7 @@ module _ (versions others : List (List ℕ)) (same : HasSameMembers versions oth
 
   stands_as : (from : List ℕ) (parts : List Part) (splices : List SplicedValue) (bytes : List ℕ) (state : State)
       → ElementStands versions from parts splices bytes state → ElementStands others from parts splices bytes state
-  stands_as from parts splices bytes Whole h = only_as (IsPassing versions) (IsPassing others) bytes passing_as passing_back h
+  stands_as from parts splices bytes Whole h = only_as (IsPassing versions) (IsPassing others) passing_as passing_back bytes h
   stands_as from parts splices bytes Disputed h = (two_as (IsPassing versions) (IsPassing others) passing_as h.0, h.1)
   stands_as from parts splices bytes (Woven count) h = (λ version p. h.0 version (passing_back version p), improved_weave parts splices (woven bytes count) h.1)
   stands_as from parts splices bytes Missing h = (
@@ -64,10 +59,10 @@ module _ (versions others : List (List ℕ)) (same : HasSameMembers versions oth
   stands_as from parts splices bytes Open h = h
 
   pub all_as : (bytes : List ℕ) → IsOnly (Contains versions) bytes → IsOnly (Contains others) bytes
-  all_as bytes h = only_as (Contains versions) (Contains others) bytes (λ version. (same version).0) (λ version. (same version).1) h
+  all_as bytes h = only_as (Contains versions) (Contains others) (λ version. (same version).0) (λ version. (same version).1) bytes h
 
   all_back : (bytes : List ℕ) → IsOnly (Contains others) bytes → IsOnly (Contains versions) bytes
-  all_back bytes h = only_as (Contains others) (Contains versions) bytes (λ version. (same version).1) (λ version. (same version).0) h
+  all_back bytes h = only_as (Contains others) (Contains versions) (λ version. (same version).1) (λ version. (same version).0) bytes h
 
 -- each part's splice
 pub splices_as : (versions others : List (List ℕ)) → HasSameMembers versions others → (parts : List Part) (splices : List SplicedValue)
@@ -109,12 +104,12 @@ module _ (versions lent : List (Bor (List ℕ))) (same : HasSameMembers (values_
       each_value versions (λ version. length version ≡ size) long (get_or lent k d).now ((same (get_or lent k d).now).1 (value_there lent k d lt))
 
   pub splice_lent : (spliced : SplicedValue) → IsSpliceOf (values_of lent) spliced → IsSpliceOf (values_of versions) spliced
-  splice_lent spliced h = splice_as (values_of lent) (values_of versions) (members_back (values_of versions) (values_of lent) same) spliced h
+  splice_lent spliced h = splice_as (values_of lent) (values_of versions) (same_back (values_of versions) (values_of lent) same) spliced h
 
   pub element_lent : (from : List ℕ) (parts : List Part) (mended : MendedValue) → IsElementMend (values_of lent) from parts mended
       → IsElementMend (values_of versions) from parts mended
   element_lent from parts mended h =
-      element_as (values_of lent) (values_of versions) (members_back (values_of versions) (values_of lent) same) from parts mended h
+      element_as (values_of lent) (values_of versions) (same_back (values_of versions) (values_of lent) same) from parts mended h
 
 -- a result whose refusal was mapped has the same value
 pub kept_ok : {X E F : Type 0} (r : Result X E) (s : Result X F) (P : X → Type 0) (Q : E → F → Type 0)

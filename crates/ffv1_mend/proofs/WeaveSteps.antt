@@ -8,14 +8,14 @@ use Rattle.ffv1_weave.specs.Weave.Weave.{disputed, missing, too_many}
 use Rattle.ffv1_weave.specs.declared.check.Check.TheVariants.{Element}
 use Rattle.ffv1_weave.specs.declared.weaving.Outcome.{Outcome}
 use Rattle.ffv1_weave.specs.declared.weaving.Outcome.TheVariants as outcome
-use Rattle.ffv1_weave.proofs.WeaveLaws.{weave_as}
+use Rattle.ffv1_weave.proofs.WeaveLaws.{weave_as, same_back}
 use Rattle.ffv1_weave.proofs.References.{values_of, value_there, each_value, nowhere, length-values_of}
 use Rattle.ffv1_splice.specs.Splice.{SplicedValue}
+use Rattle.ffv1_splice.proofs.Versions.{mapped_there, mapped_of}
 use Rattle.ffv1_mend.specs.Improved.{patched, given_patches, improved}
 use Rattle.ffv1_mend.specs.Inner.Improved.{AreFitting}
 use Rattle.ffv1_mend.specs.declared.part.Part.{Part}
 use Rattle.ffv1_mend.proofs.Fitting.{length-improved}
-use Rattle.ffv1_mend.proofs.Members.{members_back, mapped_of, mapped_there}
 
 module _ (versions lent : List (Bor (List ℕ))) (parts : List Part) (splices : List SplicedValue)
     (same : HasSameMembers (improved (values_of versions) parts splices) (values_of lent)) where
@@ -40,7 +40,7 @@ module _ (versions lent : List (Bor (List ℕ))) (parts : List Part) (splices : 
   pub weave_lent : (weave : Weave) → IsWeaveOf Element (values_of lent) weave → IsWeaveOf Element (improved (values_of versions) parts splices) weave
   weave_lent weave h =
       weave_as Element (values_of lent) (improved (values_of versions) parts splices)
-      (members_back (improved (values_of versions) parts splices) (values_of lent) same) weave h
+      (same_back (improved (values_of versions) parts splices) (values_of lent) same) weave h
 
 -- what was woven where nothing is
 pub not_woven : (versions : List (List ℕ)) (made : Outcome) → IsWeaveOf Element versions (weave_tally made)
