@@ -8,7 +8,6 @@ use Rattle.ffv1_slice.specs.Members.{IsOnly}
 use Rattle.ffv1_splice.specs.Splice.{IsSpliceOf}
 use Rattle.ffv1_splice.specs.Standings.{versions_at}
 use Rattle.ffv1_mend.specs.Mended.{MendedValue, IsMendOf, IsElementMend, HasSplices}
-use Rattle.ffv1_mend.specs.declared.kind.Kind.TheVariants.{Crc32}
 use Rattle.ffv1_mend.specs.declared.part.Part.{Part}
 use Rattle.ffv1_stretches.specs.Stretches.{StretchValue}
 use Rattle.ffv1_stretches.specs.Cells.{versions_in, IsOutcome}

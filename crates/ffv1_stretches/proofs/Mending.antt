@@ -12,6 +12,7 @@ use Rattle.ffv1_devices.specs.Logs.{ReadLog, WriteLog, Writes, StopsWriting}
 use Rattle.ffv1_devices.specs.Exact.{StopsReading}
 use Rattle.ffv1_devices.proofs.Steps.{Reads-nil, Writes-nil, Writes-trans, StopsWriting-after}
 use Rattle.ffv1_mend.specs.Mended.{MendedValue, is_good}
+use Rattle.ffv1_mend.proofs.PartSteps.{zip_push}
 use Rattle.ffv1_stretches.specs.declared.pass.MendFault.{MendFault}
 use Rattle.ffv1_stretches.specs.declared.pass.MendFault.TheVariants as faults
 use Rattle.ffv1_stretches.specs.Stretches.{StretchValue, IsStretchOf, FollowsStretch, ends_after, ends_of, AreInOrder}
@@ -25,7 +26,7 @@ use Rattle.ffv1_stretches.specs.Passes.{AreRead, AreReadBut, MendsFront, bytes_o
 use Rattle.ffv1_stretches.proofs.EndSteps.{moved_ends}
 use Rattle.ffv1_stretches.proofs.ListLemmas.{ends_of-push}
 use Rattle.ffv1_stretches.proofs.OrderLemmas.{in_order_last, in_order_front}
-use Rattle.ffv1_stretches.proofs.Pairs.{pairs_so, pairs_push, pairs_long}
+use Rattle.ffv1_stretches.proofs.Pairs.{pairs_so, pairs_long}
 use Rattle.ffv1_stretches.proofs.PassLemmas.{parted_at}
 use Rattle.ffv1_stretches.proofs.FileLemmas.{joined, AreReadAs, ends_are_lengths, as_many_files, all_are_read, places_of, olds_of, mores_of, read_on, held_all, cells_here, ends_on, stopped_mores, but_one_read, all_read_so_far, stopped_most, stopped_short, at_seam, long_cells, has_version, AreBelow, Rise, most_later, ends_rise, kept_all, text_push}
 
@@ -345,7 +346,7 @@ module _ (copies : ℕ) (stretches front : List StretchValue) (s : StretchValue)
       kept' = (front_more mores next_many next_most).outcomes
 
       next_outcomes : AllZip (λ stretch one. IsOutcome (cells_of next_files stretch) stretch one) (front ++ s ∷ []) next_mended
-      next_outcomes = pairs_push (λ stretch one. IsOutcome (cells_of next_files stretch) stretch one) front so_far.mended s one kept'
+      next_outcomes = zip_push (λ stretch one. IsOutcome (cells_of next_files stretch) stretch one) front so_far.mended s one kept'
           (subst (λ cells. IsOutcome cells s one) cells_are outcome)
 
       next_bytes : bytes_of next_mended ≡ bytes_of so_far.mended ++ one.bytes

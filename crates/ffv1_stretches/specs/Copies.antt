@@ -1,5 +1,5 @@
 -- A copy that is read in the order of its stretches.
-use Rattle.std.specs.Prelude.{ℕ, ◌+◌, ◌-◌, List, []}
+use Rattle.std.specs.Prelude.{ℕ, ◌+◌, List, []}
 use Rattle.ffv1_devices.specs.Logs.{ReadLog}
 use Rattle.ffv1_stretches.specs.declared.copy.CopyReader.{CopyReader}
 

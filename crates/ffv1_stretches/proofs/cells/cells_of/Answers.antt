@@ -1,8 +1,8 @@
 use Rattle.std.proofs.Common.{◌≡◌, ◌<◌, ◌∷◌, [], None, length, map, get_or, ap, sym, ◌∙◌, take_all, arith, subst}
 use Rattle.std.proofs.lemmas.List.{length-map, map-append}
+use Rattle.ffv1_mend.proofs.PartSteps.{zip_at}
 use Rattle.ffv1_stretches.specs.Stretches.{StretchValue}
 use Rattle.ffv1_stretches.specs.Inner.CellSteps.{cell_now, HasRoom, held_cell, held_cells}
-use Rattle.ffv1_stretches.proofs.Pairs.{pair_at}
 use Rattle.ffv1_stretches.proofs.CellLemmas.{room_of, room_at, held_more, length-held}
 use Rattle.ffv1_stretches.proofs.cells.cells_of.Goals as goal
 
@@ -15,7 +15,7 @@ cell_of-requires g c =
     let count = c.requires.count in
     let lt : i < length c.args.stretch.now.places = omega (arith, ap length places) in
     let within : i < length c.args.copies.now = omega (arith, count, lt) in
-    let held = pair_at (HasRoom c.args.stretch.now.size) c.args.stretch.now.places (map room_of c.args.copies.now) None [] i c.requires.held lt in
+    let held = zip_at (HasRoom c.args.stretch.now.size) c.args.stretch.now.places (map room_of c.args.copies.now) i None [] c.requires.held lt in
     subst (λ n. HasRoom n (get_or c.as_slice-places.result.now i None) c.index-copies-index.result.room.items) (sym size)
     (subst (λ ps. HasRoom c.args.stretch.now.size (get_or ps i None) c.index-copies-index.result.room.items) (sym places)
     (subst (HasRoom c.args.stretch.now.size (get_or c.args.stretch.now.places i None)) (room_at c.args.copies.now i c.index-copies-index.result within c.index-copies-index.is) held))

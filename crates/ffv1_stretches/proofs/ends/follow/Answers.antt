@@ -3,10 +3,11 @@ use Rattle.std.specs.Prelude.{IsTrue}
 use Rattle.std.specs.List.{AllZip}
 use Rattle.std.proofs.Common.{below_more}
 use Rattle.std.proofs.lemmas.List.{length-map}
+use Rattle.ffv1_mend.proofs.PartSteps.{zip_at}
 use Rattle.ffv1_stretches.specs.Stretches.{IsAfter}
 use Rattle.ffv1_stretches.specs.Inner.Ends.{end_of}
 use Rattle.ffv1_stretches.specs.declared.ends.End.{End}
-use Rattle.ffv1_stretches.proofs.Pairs.{pair_at, pairs_from_each}
+use Rattle.ffv1_stretches.proofs.Pairs.{pairs_from_each}
 use Rattle.ffv1_stretches.proofs.EndSteps.{end_at}
 use Rattle.ffv1_stretches.proofs.ends.follow.Goals as goal
 
@@ -28,7 +29,7 @@ returns-then-not-is_after c =
     let within : i < length (map end_of c.args.ends.now) = omega (arith, length-map c.args.ends.now end_of, lt) in
     let no : AllZip IsAfter (map end_of c.args.ends.now) c.args.places.now → IsTrue false = λ all.
     c.if-not-is_after.ensures.1 (subst (λ n. IsAfter n (get_or c.args.places.now i None)) (end_at c.args.ends.now i no_end lt)
-    (pair_at IsAfter (map end_of c.args.ends.now) c.args.places.now 0 None i all within)) in
+    (zip_at IsAfter (map end_of c.args.ends.now) c.args.places.now i 0 None all within)) in
     (λ yes. absurd (cc), no)
 
 pub returns : goal.returns

@@ -1,9 +1,9 @@
 use Rattle.std.proofs.Common.{◌≡◌, ◌<◌, ℕ, List, None, length, map, get_or, ap, sym, subst, ◌∙◌, arith}
 use Rattle.std.proofs.lemmas.Result.{err_from_is_err_and}
 use Rattle.std.proofs.lemmas.List.{length-map, get_or-map}
+use Rattle.ffv1_mend.proofs.PartSteps.{zip_at}
 use Rattle.ffv1_stretches.specs.Stretches.{StretchValue, IsAfter}
 use Rattle.ffv1_stretches.specs.Copies.{CopyState, state_of}
-use Rattle.ffv1_stretches.proofs.Pairs.{pair_at}
 use Rattle.ffv1_stretches.proofs.PassLemmas.{none_read, is_old, all_read, copy_steps, copies_stop}
 use Rattle.ffv1_stretches.proofs.pass.read_stretch.Goals as goal
 
@@ -27,7 +27,7 @@ read_placed-requires g c =
     let few : i < length (map (state_of g.S.Source.log) c.args.copies.now) = omega (arith, count, lt, length-map c.args.copies.now (state_of g.S.Source.log)) in
     let many : i < length (map (λ (s : CopyState). s.end) (map (state_of g.S.Source.log) c.args.copies.now)) =
     omega (arith, few, length-map (map (state_of g.S.Source.log) c.args.copies.now) (λ (s : CopyState). s.end)) in
-    let after = pair_at IsAfter ends c.args.stretch.now.places 0 None i c.requires.follows many in
+    let after = zip_at IsAfter ends c.args.stretch.now.places i 0 None c.requires.follows many in
     let same : get_or (map (λ (s : CopyState). s.end) (map (state_of g.S.Source.log) c.args.copies.now)) i 0
     ≡ (state_of g.S.Source.log (get_or c.loop-index.copies i c.index-copies-index.result)).end =
     get_or-map (λ (s : CopyState). s.end) olds i d 0 few
