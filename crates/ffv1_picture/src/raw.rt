@@ -3,7 +3,7 @@ ghost use Rattle.std.specs.List.{flat_map};
 ghost use Rattle.ffv1_devices.specs.Results.{WritesAll};
 
 use crate::frame::Frame;
-use ffv1_hold::{Sink, WriteFailed, write_field};
+use ffv1_devices::{Sink, WriteFailed, write_field};
 
 /// Why the samples of a frame were not written.
 #[derive(Clone, Copy, Debug, PartialEq, Eq)]
