@@ -14,7 +14,7 @@ use crate::devices::read_file;
 use crate::fault::CliFault;
 use crate::lines::{ROOM, make_room, push_number, push_word};
 use crate::path::CommandPath;
-use ffv1_hold::{FromRead, Sink, Source, ThroughWrite, WriteFailed, write_field};
+use ffv1_devices::{FromRead, Sink, Source, ThroughWrite, WriteFailed, write_field};
 use ffv1_slice::{Chain, ChainEnd, FOOTER_LENGTH, Link, next_link};
 use std::alloc::Global;
 use std::io::{Read, Write};

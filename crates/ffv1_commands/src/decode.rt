@@ -11,7 +11,7 @@ use crate::devices::read_file;
 use crate::fault::CliFault;
 use crate::path::CommandPath;
 use crate::samples::write_shown;
-use ffv1_hold::{FromRead, Sink, Source, ThroughWrite};
+use ffv1_devices::{FromRead, Sink, Source, ThroughWrite};
 use ffv1_picture::{Decoder, Frame};
 use std::alloc::{AllocError, Global};
 use std::io::{Read, Write};

@@ -6,7 +6,8 @@ ghost use Rattle.ffv1_commands.specs.InTurn.{log_of};
 use crate::fault::CliFault;
 use crate::path::CommandPath;
 use ffv1_bits::PAYLOAD_LIMIT;
-use ffv1_hold::{FromRead, HoldFault, Sink, Source, WholeFault, read_whole, write_field};
+use ffv1_devices::{FromRead, Sink, Source, WholeFault, read_whole, write_field};
+use ffv1_hold::HoldFault;
 use std::alloc::Global;
 use std::io::{BufReader, Read};
 

@@ -1,6 +1,7 @@
 //! Why a command stopped, and how that is reported.
 ghost use Rattle.std.specs.Prelude.{◌≡◌, IfOk, string_bytes};
-ghost use Rattle.ffv1_commands.specs.Fault.{named_path, fault_line, setup_fault_number, hold_fault_number, hold_file_fault_number, frame_fault_line, of_hold_file, of_merge, exit_status_of};
+ghost use Rattle.ffv1_commands.specs.Fault.{named_path, fault_line, setup_fault_number, hold_fault_number, hold_file_fault_number, frame_fault_line, of_setup, of_hold, of_frame, of_restore, of_mend, of_hold_file, of_merge, exit_status_of};
+ghost use Rattle.ffv1_commands.specs.declared.fault.CliFault.TheVariants.{Memory};
 
 use crate::path::CommandPath;
 use ffv1_hold::{HoldFault, HoldFileFault, RestoreFault};
@@ -114,9 +115,6 @@ impl CliFault {
 }
 
 impl From<SetupFault> for CliFault {
-    ghost use Rattle.std.specs.Prelude.{◌≡◌};
-    ghost use Rattle.ffv1_commands.specs.Fault.{of_setup};
-
     ghost from_gives = { λ fault result. result ≡ of_setup fault };
 
     /// Memory is reported as `Memory`.
@@ -129,9 +127,6 @@ impl From<SetupFault> for CliFault {
 }
 
 impl From<HoldFault> for CliFault {
-    ghost use Rattle.std.specs.Prelude.{◌≡◌};
-    ghost use Rattle.ffv1_commands.specs.Fault.{of_hold};
-
     ghost from_gives = { λ fault result. result ≡ of_hold fault };
 
     /// Memory is reported as `Memory`.
@@ -144,9 +139,6 @@ impl From<HoldFault> for CliFault {
 }
 
 impl From<FrameFault> for CliFault {
-    ghost use Rattle.std.specs.Prelude.{◌≡◌};
-    ghost use Rattle.ffv1_commands.specs.Fault.{of_frame};
-
     ghost from_gives = { λ fault result. result ≡ of_frame fault };
 
     /// Memory is reported as `Memory`.
@@ -159,9 +151,6 @@ impl From<FrameFault> for CliFault {
 }
 
 impl From<RestoreFault> for CliFault {
-    ghost use Rattle.std.specs.Prelude.{◌≡◌};
-    ghost use Rattle.ffv1_commands.specs.Fault.{of_restore};
-
     ghost from_gives = { λ fault result. result ≡ of_restore fault };
 
     /// Memory is reported as `Memory`.
@@ -175,9 +164,6 @@ impl From<RestoreFault> for CliFault {
 }
 
 impl From<MendFault> for CliFault {
-    ghost use Rattle.std.specs.Prelude.{◌≡◌};
-    ghost use Rattle.ffv1_commands.specs.Fault.{of_mend};
-
     ghost from_gives = { λ fault result. result ≡ of_mend fault };
 
     /// A device is reported by its path, and memory as `Memory`.
@@ -192,9 +178,6 @@ impl From<MendFault> for CliFault {
 }
 
 impl From<AllocError> for CliFault {
-    ghost use Rattle.std.specs.Prelude.{◌≡◌};
-    ghost use Rattle.ffv1_commands.specs.declared.fault.CliFault.TheVariants.{Memory};
-
     ghost from_gives = { λ _ result. result ≡ Memory };
 
     fn from(_refusal: AllocError) -> CliFault {
@@ -203,9 +186,6 @@ impl From<AllocError> for CliFault {
 }
 
 impl<T: Drop> From<AllocFailed<T>> for CliFault {
-    ghost use Rattle.std.specs.Prelude.{◌≡◌};
-    ghost use Rattle.ffv1_commands.specs.declared.fault.CliFault.TheVariants.{Memory};
-
     ghost from_gives = { λ _ result. result ≡ Memory };
 
     fn from(_refusal: AllocFailed<T>) -> CliFault {

@@ -6,7 +6,8 @@ ghost use Rattle.ffv1_commands.specs.Inner.Holdings.{ReadsHeld, SavesNamed, Writ
 use crate::devices::write_file;
 use crate::fault::{CliFault, of_hold_file};
 use crate::path::CommandPath;
-use ffv1_hold::{HoldFileFault, Holding, Sink, Source, read_hold, write_hold};
+use ffv1_devices::{Sink, Source};
+use ffv1_hold::{HoldFileFault, Holding, read_hold, write_hold};
 use std::alloc::Global;
 
 /// The holding of the file that is this path of the command.

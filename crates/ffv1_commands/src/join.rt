@@ -11,7 +11,8 @@ use crate::devices::buffered;
 use crate::fault::CliFault;
 use crate::holdings::{read_holding, write_made};
 use crate::path::CommandPath;
-use ffv1_hold::{Holding, Join, Sink, Source, ThroughWrite};
+use ffv1_devices::{Sink, Source, ThroughWrite};
+use ffv1_hold::{Holding, Join};
 use std::alloc::{AllocError, Global};
 use std::io::{Read, Write};
 

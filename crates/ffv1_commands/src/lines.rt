@@ -5,7 +5,7 @@ ghost use Rattle.std.specs.Fmt.{decimal};
 ghost use Rattle.ffv1_devices.specs.Logs.{StopsWriting};
 ghost use Rattle.ffv1_commands.specs.Inner.Lines.{room, longest_line, PrintsFront};
 
-use ffv1_hold::{Sink, WriteFailed, write_field};
+use ffv1_devices::{Sink, WriteFailed, write_field};
 use itoa::Buffer;
 
 /// How many bytes a text has room for, in which lines wait.

@@ -12,7 +12,7 @@ ghost use Rattle.ffv1_commands.specs.Paths.{IsMendPath};
 use crate::devices::read_file;
 use crate::fault::CliFault;
 use crate::path::CommandPath;
-use ffv1_hold::{FromRead, Sink, Source, ThroughWrite};
+use ffv1_devices::{FromRead, Sink, Source, ThroughWrite};
 use ffv1_stretches::{CopyReader, ListFault, MendFault, Stretch, mend_stretches, read_list};
 use std::alloc::{AllocError, Global};
 use std::io::{Read, Write};

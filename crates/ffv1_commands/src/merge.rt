@@ -11,7 +11,8 @@ ghost use Rattle.ffv1_commands.specs.MergeText.{MergesFiles, IsMergeFault, Merge
 
 use crate::fault::{CliFault, of_merge};
 use crate::path::CommandPath;
-use ffv1_hold::{FromRead, HoldFileFault, Sink, Source, ThroughWrite, join_streams};
+use ffv1_devices::{FromRead, Sink, Source, ThroughWrite};
+use ffv1_hold::{HoldFileFault, join_streams};
 use std::alloc::Global;
 use std::io::{Read, Write};
 

@@ -10,7 +10,7 @@ use crate::fault::CliFault;
 use crate::holdings::read_holding;
 use crate::path::CommandPath;
 use crate::samples::write_shown;
-use ffv1_hold::{Sink, Source, ThroughWrite};
+use ffv1_devices::{Sink, Source, ThroughWrite};
 use ffv1_picture::{TileOutcome, picture};
 use ffv1_plane::TileFault;
 use std::alloc::{AllocError, Global};

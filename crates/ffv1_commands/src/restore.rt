@@ -9,7 +9,7 @@ use crate::devices::{buffered, write_both};
 use crate::fault::CliFault;
 use crate::holdings::read_holding;
 use crate::path::CommandPath;
-use ffv1_hold::{Sink, Source, ThroughWrite};
+use ffv1_devices::{Sink, Source, ThroughWrite};
 use std::alloc::{AllocError, Global};
 use std::io::{Read, Write};
 

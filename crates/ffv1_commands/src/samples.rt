@@ -5,7 +5,7 @@ ghost use Rattle.ffv1_commands.specs.SamplesText.{raw_bytes};
 use crate::devices::write_file;
 use crate::fault::CliFault;
 use crate::path::CommandPath;
-use ffv1_hold::Sink;
+use ffv1_devices::Sink;
 use ffv1_picture::{Frame, WriteFault, write_raw};
 
 /// Writes the samples of a frame to OUT, or a front of them where that fails.

@@ -10,7 +10,7 @@ ghost use Rattle.ffv1_commands.specs.ScanText.{IsFaultOfRanges, ScansDevices, Sc
 use crate::devices::read_file;
 use crate::fault::CliFault;
 use crate::path::CommandPath;
-use ffv1_hold::{FromRead, Sink, Source, ThroughWrite};
+use ffv1_devices::{FromRead, Sink, Source, ThroughWrite};
 use ffv1_scan::{ByteRange, RangesFault, ScanFault, read_ranges, scan};
 use std::alloc::Global;
 use std::io::{Read, Write};

@@ -11,7 +11,7 @@ ghost use Rattle.ffv1_commands.specs.Devices.{UnlessWriting};
 use crate::devices::{read_file, write_file};
 use crate::fault::CliFault;
 use crate::path::CommandPath;
-use ffv1_hold::{FromRead, Sink, Source, ThroughWrite};
+use ffv1_devices::{FromRead, Sink, Source, ThroughWrite};
 use ffv1_range::Setup;
 use std::alloc::{AllocError, Global};
 use std::io::{Read, Write};

@@ -12,7 +12,7 @@ ghost use Rattle.ffv1_commands.specs.SpliceText.{standing_line, splice_text, IsL
 use crate::devices::{read_file, write_both};
 use crate::fault::CliFault;
 use crate::path::CommandPath;
-use ffv1_hold::{FromRead, Sink, ThroughWrite};
+use ffv1_devices::{FromRead, Sink, ThroughWrite};
 use ffv1_splice::{Place, SpliceFault, Spliced, push_front, push_place, splice};
 use std::alloc::{AllocError, Global};
 use std::io::{Read, Write};

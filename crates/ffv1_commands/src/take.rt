@@ -13,7 +13,8 @@ use crate::devices::{read_copy, read_file};
 use crate::fault::CliFault;
 use crate::holdings::write_made;
 use crate::path::CommandPath;
-use ffv1_hold::{FromRead, Holding, Sink, Source, Taken, ThroughWrite};
+use ffv1_devices::{FromRead, Sink, Source, ThroughWrite};
+use ffv1_hold::{Holding, Taken};
 use std::alloc::{AllocError, Global};
 use std::io::{Read, Write};
 
