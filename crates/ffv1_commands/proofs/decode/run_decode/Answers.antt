@@ -1,17 +1,26 @@
-use Rattle.std.proofs.Common.{rules, ap}
+use Rattle.std.proofs.Common.{ℕ, List, Option, rules, ap}
 use Rattle.ffv1_devices.specs.Streams.{reader_of}
+use Rattle.ffv1_commands.specs.DecodeText.{DecodesFile, DecodeStops}
+use Rattle.ffv1_commands.specs.Paths.{IsDecodePath}
 use Rattle.ffv1_commands.proofs.DecodeSteps.{decode_of_bytes}
-use Rattle.ffv1_commands.proofs.Wrapped.{both_through, if_of_record}
+use Rattle.ffv1_commands.proofs.OfBytes.{OfBytes}
+use Rattle.ffv1_commands.proofs.Wrapped.{both_through, if_of_record, remaining_as, contents_as, six_as}
 use Rattle.ffv1_commands.proofs.decode.run_decode.Goals as goal
 
 pub returns : goal.returns
 returns g c =
-    let bytes = decode_of_bytes _ _ _ _ _ _ _ _ _ _ c.decode_of.result c.decode_of.ensures.reported in
-    let kept = both_through c.decode_of.result _ _ _ _ _ _ c.new-3.ensures.writer c.new-4.ensures.writer c.decode_of.ensures.untouched in
+    let r = c.decode_of.result in
+    let bytes = decode_of_bytes _ _ _ _ _ _ _ _ _ _ r c.decode_of.ensures.reported in
+    let record' = remaining_as _ _ c.new.ensures.log in
+    let frame = remaining_as _ _ c.new-2.ensures.log in
+    let out = contents_as _ _ c.new-3.ensures.log in
+    let output = contents_as _ _ c.new-4.ensures.log in
+    let Of = λ (a b ob oa pb pa : Option (List ℕ)). OfBytes (λ done. DecodesFile a c.args.width c.args.height b ob oa pb pa)
+    (DecodeStops a c.args.width c.args.height b ob oa pb pa) IsDecodePath r in
     record {
-      ok = search (rules, bytes.ok);
-      err = search (rules, bytes.err);
-      untouched = search (rules, kept);
-      in_turn = if_of_record _ _ c.decode_of.result (λ same. search (rules, ap reader_of same)) c.decode_of.ensures.in_turn;
+      ok = (six_as _ _ _ _ _ _ record' frame out _ _ (search rules) _ _ output _ _ (search rules) Of bytes).ok;
+      err = (six_as _ _ _ _ _ _ record' frame out _ _ (search rules) _ _ output _ _ (search rules) Of bytes).err;
+      untouched = both_through r _ _ _ _ _ _ _ _ c.new-3.ensures.writer c.new-4.ensures.writer (search rules) (search rules) c.decode_of.ensures.untouched;
+      in_turn = if_of_record _ _ r (λ same. search (rules, ap reader_of same)) c.decode_of.ensures.in_turn;
       names = bytes.names;
     }
