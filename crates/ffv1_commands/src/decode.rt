@@ -68,7 +68,7 @@ pub fn decode_of<R: Source, F: Source, O: Sink, W: Sink>(
     ensures in_turn { IfErr result (λ fault. IfOfRecord fault (input.new ≡ input.old)) }
 {
     let decoder = read_decoder(alloc, configuration, width, height)?;
-    let frame = read_frame(alloc, &decoder, input)?;
+    let frame = read_frame(alloc, decoder, input)?;
     let line = decoded_text(alloc, frame.width, frame.height, frame.planes.len())?;
     write_shown(out, &frame, output, line.as_str())
 }
@@ -88,9 +88,9 @@ fn read_decoder<R: Source>(
 }
 
 /// The frame that a payload spells.
-fn read_frame<F: Source>(alloc: Global, decoder: &Decoder, input: &mut F) -> Result<Frame, CliFault>
-    ensures ok { IfOk result (TakesFrame decoder.now (F.log input.old) (F.log input.new)) }
-    ensures err { IfErr result (FrameStops decoder.now (F.log input.old) (F.log input.new)) }
+fn read_frame<F: Source>(alloc: Global, decoder: Decoder, input: &mut F) -> Result<Frame, CliFault>
+    ensures ok { IfOk result (TakesFrame decoder (F.log input.old) (F.log input.new)) }
+    ensures err { IfErr result (FrameStops decoder (F.log input.old) (F.log input.new)) }
 {
     let payload = read_file(alloc, input, CommandPath::Frame)?;
     Ok(decoder.decode_frame(payload.as_slice())?)

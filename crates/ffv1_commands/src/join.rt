@@ -1,5 +1,7 @@
 //! The command `join`: makes the holding file of the union of holding files (own).
-ghost use Rattle.std.specs.Prelude.{◌≡◌, ◌+◌, ◌<◌, ◌^◌, [], ◌∷◌, ◌++◌, length, map, IfOk, IfErr, OnOk, string_bytes};
+ghost use Rattle.std.specs.Prelude.{◌≡◌, ◌≢◌, ◌+◌, ◌<◌, ◌^◌, [], ◌∷◌, ◌++◌, length, map, Err, IfOk, IfErr, OnOk, string_bytes};
+ghost use Rattle.ffv1_pool.specs.Contents.{IsSameReel, joined};
+ghost use Rattle.ffv1_pool.specs.Sets.{size};
 ghost use Rattle.ffv1_commands.specs.Fault.{NamesPath};
 ghost use Rattle.ffv1_commands.specs.Paths.{IsJoinPath};
 ghost use Rattle.ffv1_commands.specs.Devices.{UnlessWriting};
@@ -12,7 +14,7 @@ use crate::fault::CliFault;
 use crate::holdings::{read_holding, write_made};
 use crate::path::CommandPath;
 use ffv1_devices::{Sink, Source, ThroughWrite};
-use ffv1_hold::{Holding, Join};
+use ffv1_hold::{HoldFault, Holding, Join};
 use std::alloc::{AllocError, Global};
 use std::io::{Read, Write};
 
@@ -121,12 +123,21 @@ fn join_file_of<R: Source>(
     requires { before < 2 ^ 63 }
     ensures { JoinsFile result before whole.old whole.new (string_bytes lines.old) (string_bytes lines.new) (R.log file.old) (R.log file.new) }
 {
-    let new = {
-        let other = read_holding(alloc, file, CommandPath::Hold(before))?;
-        whole.join_with(&other)?
-    };
+    let other = read_holding(alloc, file, CommandPath::Hold(before))?;
+    let new = join_in(whole, other)?;
     push_file(lines, before + 1, new)?;
     Ok(())
+}
+
+/// Joins a holding into another, and returns how many of its slices this one had not.
+fn join_in(whole: &mut Holding, other: Holding) -> Result<usize, HoldFault>
+    ensures joined { OnOk result (whole.new ≡ joined whole.old other) }
+    ensures growth { IfOk result (λ new. size whole.new.slices ≡ size whole.old.slices + new) }
+    ensures joinable { OnOk result (IsSameReel whole.old other) }
+    ensures other_reel { result ≡ Err HoldFault.OtherReel → ¬ IsSameReel whole.old other }
+    ensures too_long { result ≢ Err HoldFault.PayloadTooLong }
+{
+    whole.join_with(&other)
 }
 
 /// Adds the line of a file.

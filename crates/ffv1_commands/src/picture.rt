@@ -1,5 +1,6 @@
 //! The command `picture`: writes what can be shown of a holding file (own).
 ghost use Rattle.std.specs.Prelude.{◌≡◌, ◌++◌, ◌<◌, ◌^◌, ◌↔◌, All, IsTrue, IfOk, IfErr, OnOk, length, string_bytes};
+ghost use Rattle.ffv1_picture.specs.PartialPictures.{IsPartialPicture};
 ghost use Rattle.ffv1_commands.specs.Fault.{NamesPath};
 ghost use Rattle.ffv1_commands.specs.Paths.{IsHoldPath};
 ghost use Rattle.ffv1_commands.specs.Devices.{UnlessWriting};
@@ -11,7 +12,8 @@ use crate::holdings::read_holding;
 use crate::path::CommandPath;
 use crate::samples::write_shown;
 use ffv1_devices::{Sink, Source, ThroughWrite};
-use ffv1_picture::{TileOutcome, picture};
+use ffv1_hold::Holding;
+use ffv1_picture::{Partial, TileOutcome, picture};
 use ffv1_plane::TileFault;
 use std::alloc::{AllocError, Global};
 use std::io::{Read, Write};
@@ -54,13 +56,18 @@ pub fn picture_of<R: Source, O: Sink, W: Sink>(
     ensures reported { ReportsPicture result (R.log file.old) (R.log file.new) (O.log out.old) (O.log out.new) (W.log output.old) (W.log output.new) }
     ensures untouched { IfErr result (λ fault. UnlessWriting fault ((out.new ≡ out.old) × (output.new ≡ output.old))) }
 {
-    let partial = {
-        let holding = read_holding(alloc, file, CommandPath::Hold(0))?;
-        picture(alloc, &holding)?
-    };
+    let holding = read_holding(alloc, file, CommandPath::Hold(0))?;
+    let partial = picture_of_holding(alloc, holding)?;
     let lines = outcomes_text(alloc, partial.tiles.as_slice())?;
     write_shown(out, &partial.frame, output, lines.as_str())?;
     Ok(are_decoded(partial.tiles.as_slice()))
+}
+
+/// The partial picture of a holding.
+fn picture_of_holding(alloc: Global, holding: Holding) -> Result<Partial, AllocError>
+    ensures partial { IfOk result (IsPartialPicture holding) }
+{
+    picture(alloc, &holding)
 }
 
 /// Whether each tile has samples.

@@ -1,5 +1,6 @@
 //! The command `report`: prints the damage report of a holding file (own).
-ghost use Rattle.std.specs.Prelude.{◌≡◌, IfErr, OnOk};
+ghost use Rattle.std.specs.Prelude.{◌≡◌, IfOk, IfErr, OnOk, string_bytes};
+ghost use Rattle.ffv1_picture.specs.ReportText.{report_text};
 ghost use Rattle.ffv1_commands.specs.Fault.{NamesPath};
 ghost use Rattle.ffv1_commands.specs.Paths.{IsReportPath};
 ghost use Rattle.ffv1_commands.specs.Devices.{UnlessWriting};
@@ -10,8 +11,9 @@ use crate::fault::CliFault;
 use crate::holdings::read_holding;
 use crate::path::CommandPath;
 use ffv1_devices::{Sink, Source, ThroughWrite};
+use ffv1_hold::Holding;
 use ffv1_picture::report;
-use std::alloc::Global;
+use std::alloc::{AllocError, Global};
 use std::io::{Read, Write};
 
 /// Reads a holding file to its end, and prints its damage report: a line for the recording, one for each tile, one that
@@ -44,6 +46,13 @@ pub fn report_of<R: Source, W: Sink>(
     ensures untouched { IfErr result (λ fault. UnlessWriting fault (output.new ≡ output.old)) }
 {
     let holding = read_holding(alloc, file, CommandPath::Hold(0))?;
-    let text = report(alloc, &holding)?;
+    let text = report_of_holding(alloc, holding)?;
     write_file(output, CommandPath::StandardOutput, text.as_bytes())
+}
+
+/// The damage report of a holding.
+fn report_of_holding(alloc: Global, holding: Holding) -> Result<String, AllocError>
+    ensures { IfOk result (λ text. string_bytes text ≡ report_text holding) }
+{
+    report(alloc, &holding)
 }

@@ -1,5 +1,7 @@
 //! The command `restore`: writes the frame payload that a holding file restores (own).
 ghost use Rattle.std.specs.Prelude.{◌≡◌, IfOk, IfErr, OnOk, string_bytes};
+ghost use Rattle.ffv1_pool.specs.Refusals.{IsRefusal};
+ghost use Rattle.ffv1_pool.specs.Standing.{AreSettled, restored_payload};
 ghost use Rattle.ffv1_commands.specs.Fault.{NamesPath};
 ghost use Rattle.ffv1_commands.specs.Paths.{IsHoldPath};
 ghost use Rattle.ffv1_commands.specs.Devices.{UnlessWriting};
@@ -10,6 +12,7 @@ use crate::fault::CliFault;
 use crate::holdings::read_holding;
 use crate::path::CommandPath;
 use ffv1_devices::{Sink, Source, ThroughWrite};
+use ffv1_hold::{Holding, RestoreFault};
 use std::alloc::{AllocError, Global};
 use std::io::{Read, Write};
 
@@ -51,12 +54,19 @@ pub fn restore_of<R: Source, O: Sink, W: Sink>(
     ensures reported { ReportsRestore result (R.log file.old) (R.log file.new) (O.log out.old) (O.log out.new) (W.log output.old) (W.log output.new) }
     ensures untouched { IfErr result (λ fault. UnlessWriting fault ((out.new ≡ out.old) × (output.new ≡ output.old))) }
 {
-    let payload = {
-        let holding = read_holding(alloc, file, CommandPath::Hold(0))?;
-        holding.restore()?
-    };
+    let holding = read_holding(alloc, file, CommandPath::Hold(0))?;
+    let payload = restored(holding)?;
     let line = restored_text(alloc, payload.len())?;
     write_both(out, payload.as_slice(), output, line.as_str())
+}
+
+/// The payload that a holding restores.
+fn restored(holding: Holding) -> Result<Vec<u8>, RestoreFault>
+    ensures ok { IfOk result (λ payload. payload.items ≡ restored_payload holding) }
+    ensures settled { OnOk result (AreSettled holding) }
+    ensures refused { IfErr result (IsRefusal holding) }
+{
+    holding.restore()
 }
 
 /// The line of how many bytes were restored.

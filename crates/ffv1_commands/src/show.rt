@@ -58,9 +58,13 @@ pub fn show_of<R: Source, W: Sink>(
     ensures reported { ReportsShow result width height (R.log input.old) (R.log input.new) (W.log output.old) (W.log output.new) }
     ensures untouched { IfErr result (λ fault. UnlessWriting fault (output.new ≡ output.old)) }
 {
-    let config = read_file(alloc, input, CommandPath::Record)?;
-    let setup = Setup::read(alloc, config.as_slice(), width, height)?;
-    let text = setup_text(alloc, &setup)?;
+    let text = {
+        let setup = {
+            let config = read_file(alloc, input, CommandPath::Record)?;
+            Setup::read(alloc, config.as_slice(), width, height)?
+        };
+        setup_text(alloc, &setup)?
+    };
     write_file(output, CommandPath::StandardOutput, text.as_bytes())
 }
 

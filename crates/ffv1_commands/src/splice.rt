@@ -64,7 +64,7 @@ pub fn splice_of<C: Read, O: Sink, W: Sink>(
     ensures untouched { IfErr result (λ fault. UnlessWriting fault ((out.new ≡ out.old) × (output.new ≡ output.old))) }
 {
     let read = read_copies(alloc, copies)?;
-    let spliced = spliced_of(alloc, read.as_slice())?;
+    let spliced = splice_of_read(alloc, read)?;
     let text = spliced_text(alloc, &spliced)?;
     write_both(out, spliced.payload(), output, text.as_str())?;
     Ok(spliced.is_given_back())
@@ -90,6 +90,15 @@ fn read_one<C: Read>(alloc: Global, copy: &mut C, before: usize) -> Result<Vec<u
     ensures { ReadsAlone (ReadsNamed (λ v. v.items) (CommandPath.Copy before) result) (C.remaining copy.old) }
 {
     read_file(alloc, &mut FromRead::new(copy), CommandPath::Copy(before))
+}
+
+/// The splice of copies that were read, of which there is one at least.
+fn splice_of_read(alloc: Global, read: Vec<Vec<u8>>) -> Result<Spliced, CliFault>
+    requires { 0 < length read.items }
+    ensures ok { IfOk result (IsSpliceOf (map (λ copy. copy.items) read.items)) }
+    ensures err { IfErr result (IsLengthFault (map (λ copy. copy.items) read.items)) }
+{
+    spliced_of(alloc, read.as_slice())
 }
 
 /// The splice of copies, of which there is one at least.

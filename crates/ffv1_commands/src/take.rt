@@ -78,8 +78,10 @@ pub fn take_of<R: Source, C: Read, O: Sink, W: Sink>(
         (O.log out.old) (O.log out.new) (W.log output.old) (W.log output.new) }
     ensures untouched { IfErr result (λ fault. UnlessWriting fault ((out.new ≡ out.old) × (output.new ≡ output.old))) }
 {
-    let config = read_file(alloc, configuration, CommandPath::Record)?;
-    let mut holding = Holding::new(alloc, config.as_slice(), width, height)?;
+    let mut holding = {
+        let config = read_file(alloc, configuration, CommandPath::Record)?;
+        Holding::new(alloc, config.as_slice(), width, height)?
+    };
     let lines = take_copies(alloc, &mut holding, copies)?;
     write_made(out, &holding, output, lines.as_str())
 }

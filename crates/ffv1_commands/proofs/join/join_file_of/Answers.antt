@@ -13,8 +13,8 @@ returns-in_err-other g c =
 pub returns-in_err-new : goal.returns-in_err-new
 returns-in_err-new g c =
     let p = err_from_is_err_and c.from_residual-in_err-new.result c.from_residual-in_err-new.ensures.1 in
-    rw (p.1, p.2) (join_refused c.args.before _ _ c.args.whole.now c.in_ok-other.other c.in_ok-other.ensures.read c.join_with.result
-    c.in_err-new.field-0.0 c.in_err-new.was c.join_with.ensures.other_reel c.join_with.ensures.too_long)
+    rw (p.1, p.2) (join_refused c.args.before _ _ c.args.whole.now c.in_ok-other.other c.in_ok-other.ensures.read c.join_in.result
+    c.in_err-new.field-0.0 c.in_err-new.was c.join_in.ensures.other_reel c.join_in.ensures.too_long)
 
 pub returns-in_err-push_file : goal.returns-in_err-push_file
 returns-in_err-push_file g c =
@@ -28,5 +28,5 @@ returns g c = record {
   same = c.in_ok-new.ensures.joinable;
   held = c.in_ok-new.ensures.joined;
   line = c.in_ok-push_file.ensures ∙ ap (λ t. string_bytes c.args.lines.now ++ t)
-      (line_of_join-from _ c.args.whole.now c.in_ok-other.other c.join_with.new.self c.in_ok-new.new c.in_ok-new.ensures.joined c.in_ok-new.ensures.growth);
+      (line_of_join-from _ c.args.whole.now c.in_ok-other.other c.join_in.new.whole c.in_ok-new.new c.in_ok-new.ensures.joined c.in_ok-new.ensures.growth);
 }

@@ -1,8 +1,6 @@
-use Rattle.std.proofs.Common.{◌≡◌, ◌<◌, ℕ, List, Vec, Global, Err, length, map, refl, ap, ◌∙◌, subst, arith, inl, inr}
+use Rattle.std.proofs.Common.{◌<◌, ℕ, Vec, Global, Err, length, map, refl, ◌∙◌, arith, inl, inr}
 use Rattle.std.proofs.lemmas.Result.{err_from_is_err_and}
 use Rattle.std.proofs.lemmas.List.{length-map}
-use Rattle.ffv1_splice.specs.Splice.{SplicedValue, IsSpliceOf}
-use Rattle.ffv1_commands.specs.SpliceText.{IsLengthFault}
 use Rattle.ffv1_commands.specs.declared.path.CommandPath.TheVariants as paths
 use Rattle.ffv1_commands.proofs.InputFaults.{IsUnwritten, untouched_both}
 use Rattle.ffv1_commands.proofs.InputLaws.{taken_whole, length-AreWholeInputs}
@@ -10,11 +8,6 @@ use Rattle.ffv1_commands.proofs.UnreadFiles.{file_says}
 use Rattle.ffv1_commands.proofs.WrittenBoth.{both_untouched}
 use Rattle.ffv1_commands.proofs.SpliceCommandSteps.{length_says, length_refused, splices, splice_stopped}
 use Rattle.ffv1_commands.proofs.splice.splice_of.Goals as goal
-
--- the splice is that of the copies that were read
-splice_of_read : (all read : List (Vec ℕ Global)) (spliced : SplicedValue) → all ≡ read → IsSpliceOf (map (λ copy. copy.items) all) spliced
-    → IsSpliceOf (map (λ copy. copy.items) read) spliced
-splice_of_read all read spliced same is = subst (λ (copies : List (Vec ℕ Global)). IsSpliceOf (map (λ copy. copy.items) copies) spliced) same is
 
 pub returns-in_err-read : goal.returns-in_err-read
 returns-in_err-read g c =
@@ -24,8 +17,8 @@ returns-in_err-read g c =
     let none = file_says IsUnwritten (paths.Copy stops.index) _ stops.stopped.0 (λ unread. tt) (λ within. tt) f stops.stopped.1 in
     rw (p.1, p.2) (record { reported = inl (stops, (refl, refl)); untouched = untouched_both c.args.out.now c.args.output.now f none })
 
-pub spliced_of-requires : goal.spliced_of-requires
-spliced_of-requires g c =
+pub splice_of_read-requires : goal.splice_of_read-requires
+splice_of_read-requires g c =
     let copies = map g.C.Read.remaining c.args.copies.now in
     let read = map (λ (copy : Vec ℕ Global). copy.items) c.in_ok-read.read.items in
     let some : 0 < length c.args.copies.now = c.requires in
@@ -35,7 +28,6 @@ spliced_of-requires g c =
           (taken_whole copies read c.in_ok-read.ensures.ok),
       length-map c.args.copies.now g.C.Read.remaining,
       length-map c.in_ok-read.read.items (λ (copy : Vec ℕ Global). copy.items),
-      ap length c.as_slice.ensures.value,
     )
 
 pub returns-in_err-spliced : goal.returns-in_err-spliced
@@ -43,8 +35,7 @@ returns-in_err-spliced g c =
     let p = err_from_is_err_and c.from_residual-in_err-spliced.result c.from_residual-in_err-spliced.ensures.1 in
     let f = c.in_err-spliced.field-0.0 in
     let copies = map (λ (copy : Vec ℕ Global). copy.items) c.in_ok-read.read.items in
-    let stops : IsLengthFault (map (λ (copy : Vec ℕ Global). copy.items) c.in_ok-read.read.items) f =
-    subst (λ (all : List (Vec ℕ Global)). IsLengthFault (map (λ copy. copy.items) all) f) c.as_slice.ensures.value c.in_err-spliced.ensures.err in
+    let stops = c.in_err-spliced.ensures.err in
     let none = length_says copies IsUnwritten f (λ index is. tt) tt stops in
     rw (p.1, p.2) (record {
       reported = inr (copies, c.in_ok-read.ensures.ok, length_refused copies _ _ f stops);
@@ -66,7 +57,7 @@ returns-in_err-write_both g c =
     let wrote = c.in_err-write_both.ensures in
     let copies = map (λ (copy : Vec ℕ Global). copy.items) c.in_ok-read.read.items in
     let spliced = c.in_ok-spliced.spliced in
-    let is = splice_of_read _ c.in_ok-read.read.items spliced c.as_slice.ensures.value c.in_ok-spliced.ensures.ok in
+    let is = c.in_ok-spliced.ensures.ok in
     let text = c.as_str.ensures.value ∙ c.in_ok-text.ensures in
     let stops = splice_stopped copies _ _ _ _ spliced is c.payload.result.now c.as_str.result.now c.payload.ensures text f wrote in
     rw (p.1, p.2) (record {
@@ -79,7 +70,7 @@ returns g c =
     let wrote = c.in_ok-write_both.ensures in
     let copies = map (λ (copy : Vec ℕ Global). copy.items) c.in_ok-read.read.items in
     let spliced = c.in_ok-spliced.spliced in
-    let is = splice_of_read _ c.in_ok-read.read.items spliced c.as_slice.ensures.value c.in_ok-spliced.ensures.ok in
+    let is = c.in_ok-spliced.ensures.ok in
     let text = c.as_str.ensures.value ∙ c.in_ok-text.ensures in
     record {
       reported = (
