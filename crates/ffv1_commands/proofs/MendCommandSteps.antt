@@ -33,6 +33,14 @@ use Rattle.ffv1_commands.proofs.SpliceCommandSteps.{map_push}
 abbrev pub inputs_of : List ReadLog → List (Option (List ℕ))
 inputs_of logs = map (λ log. log.remaining) logs
 
+-- ---- what a fault says of what is untouched
+
+pub list_kept : (P : Type 0) (fault : CliFault) → P → IfOfList paths.List fault P
+list_kept P (faults.Read named) kept = λ is. kept
+list_kept P (faults.Ranges number) kept = kept
+list_kept P (faults.List number) kept = kept
+list_kept P fault kept = tt
+
 -- ---- copies of which nothing was read yet
 
 module _ {C D : Type 0} (state : C → CopyState) (remaining : D → Option (List ℕ)) where

@@ -1,20 +1,41 @@
-use Rattle.std.proofs.Common.{sym, refl, inr}
+use Rattle.std.proofs.Common.{ℕ, sym, refl, subst, inl, inr}
 use Rattle.std.proofs.lemmas.List.{length-map}
 use Rattle.std.proofs.lemmas.Result.{err_from_is_err_and}
-use Rattle.ffv1_commands.proofs.MendCommandSteps.{listed_so}
+use Rattle.ffv1_commands.specs.MendText.{IsFaultOfList}
+use Rattle.ffv1_commands.proofs.MendCommandSteps.{listed_so, list_kept, pass_is_later}
 use Rattle.ffv1_commands.proofs.mend.mend_of.Goals as goal
 
-pub returns-in_err-mend_stretches-clause-reported : goal.returns-in_err-mend_stretches-clause-reported
-returns-in_err-mend_stretches-clause-reported g c =
-    let p = err_from_is_err_and c.from_residual-in_err-mend_stretches.result c.from_residual-in_err-mend_stretches.ensures.1 in
-    rw (p.1, p.2) (inr (
-      c.in_err-mend_stretches.field-0.0,
-      refl,
-      listed_so _ _ _ _ _ c.in_ok-stretches.stretches.items _ c.as_slice.ensures.value (sym (length-map c.args.copies.now _)) c.in_ok-stretches.ensures.ok
-          c.in_err-mend_stretches.ensures,
-    ))
+pub returns-in_err-stretches : goal.returns-in_err-stretches
+returns-in_err-stretches g c =
+    let p = err_from_is_err_and c.from_residual.result c.from_residual.ensures.1 in
+    let f = c.in_err-stretches.field-0.0 in
+    rw (p.1, p.2) (record {
+      reported = inl (
+        subst (λ (n : ℕ). IsFaultOfList n (g.R.Source.log c.args.list.now) (g.R.Source.log c.listed_stretches.new.list) f)
+            (sym (length-map c.args.copies.now _)) c.in_err-stretches.ensures.err,
+        refl,
+        (refl, refl),
+      );
+      untouched = list_kept _ f (refl, refl, refl);
+    })
 
-pub returns-clause-reported : goal.returns-clause-reported
-returns-clause-reported g c =
-    listed_so _ _ _ _ _ c.in_ok-stretches.stretches.items _ c.as_slice.ensures.value (sym (length-map c.args.copies.now _)) c.in_ok-stretches.ensures.ok
-    c.in_ok-mend_stretches.ensures
+pub returns-in_err-mend_stretches : goal.returns-in_err-mend_stretches
+returns-in_err-mend_stretches g c =
+    let p = err_from_is_err_and c.from_residual-in_err-mend_stretches.result c.from_residual-in_err-mend_stretches.ensures.1 in
+    let stop = c.in_err-mend_stretches.field-0.0 in
+    rw (p.1, p.2) (record {
+      reported = inr (
+        stop,
+        refl,
+        listed_so _ _ _ _ _ c.in_ok-stretches.stretches.items _ c.as_slice.ensures.value (sym (length-map c.args.copies.now _)) c.in_ok-stretches.ensures.ok
+            c.in_err-mend_stretches.ensures,
+      );
+      untouched = pass_is_later stop _;
+    })
+
+pub returns : goal.returns
+returns g c = record {
+  reported = listed_so _ _ _ _ _ c.in_ok-stretches.stretches.items _ c.as_slice.ensures.value (sym (length-map c.args.copies.now _))
+      c.in_ok-stretches.ensures.ok c.in_ok-mend_stretches.ensures;
+  untouched = tt;
+}
