@@ -1,7 +1,9 @@
 -- A command over readers and writers that wraps them as sources and sinks: what it leaves unchanged.
 use Rattle.std.proofs.Common.{◌≡◌, ◌∙◌, ℕ, List, Option, sym, ap, subst, Result, Ok, Err, IfErr, IsErrAnd}
 use Rattle.ffv1_devices.specs.Logs.{ReadLog, WriteLog}
-use Rattle.ffv1_devices.specs.Streams.{writer_of}
+use Rattle.std.specs.Borrow.{MutBor}
+use Rattle.ffv1_devices.specs.Streams.{reader_of, writer_of}
+use Rattle.ffv1_devices.specs.declared.streams.FromRead.{FromRead}
 use Rattle.ffv1_devices.specs.declared.streams.ThroughWrite.{ThroughWrite}
 use Rattle.ffv1_commands.specs.Devices.{UnlessWriting, IfOfRecord}
 use Rattle.ffv1_commands.specs.declared.fault.CliFault.{CliFault}
@@ -36,6 +38,14 @@ pub both_through : {T O W : Type 0} (r : Result T CliFault) (out out' : ThroughW
 both_through r out out' output output' o o' w w' made printed made' printed' kept =
     unless_writing ((out' ≡ out) × (output' ≡ output)) ((o' ≡ o) × (w' ≡ w)) r
     (λ same. (sym made' ∙ ap writer_of same.0 ∙ made, sym printed' ∙ ap writer_of same.1 ∙ printed)) kept
+
+-- so is an input that is read after the record, of which this is left
+module _ {T R : Type 0} (r : Result T CliFault) (old new : FromRead (MutBor R)) (reader : MutBor R) (left : R) where
+  pub reader_kept : reader_of old ≡ reader → (reader.ghost_name ≡ (reader_of new).ghost_name → left ≡ (reader_of new).now)
+      → IfErr r (λ fault. IfOfRecord fault (new ≡ old)) → IfErr r (λ fault. IfOfRecord fault (left ≡ reader.now))
+  reader_kept is leaves kept = if_of_record (new ≡ old) (left ≡ reader.now) r (λ same.
+      let here : reader_of new ≡ reader = ap reader_of same ∙ is in
+      leaves (ap (λ (b : MutBor R). b.ghost_name) (sym here)) ∙ ap (λ (b : MutBor R). b.now) here) kept
 
 -- what a log has is what the wrapper's reader or writer has
 pub remaining_as : (a b : ReadLog) → a ≡ b → a.remaining ≡ b.remaining

@@ -1,10 +1,9 @@
-use Rattle.std.proofs.Common.{ℕ, List, Option, rules, ap}
-use Rattle.ffv1_devices.specs.Streams.{reader_of}
+use Rattle.std.proofs.Common.{ℕ, List, Option, rules}
 use Rattle.ffv1_commands.specs.DecodeText.{DecodesFile, DecodeStops}
 use Rattle.ffv1_commands.specs.Paths.{IsDecodePath}
 use Rattle.ffv1_commands.proofs.DecodeSteps.{decode_of_bytes}
 use Rattle.ffv1_commands.proofs.OfBytes.{OfBytes}
-use Rattle.ffv1_commands.proofs.Wrapped.{both_through, if_of_record, remaining_as, contents_as, six_as}
+use Rattle.ffv1_commands.proofs.Wrapped.{both_through, reader_kept, remaining_as, contents_as, six_as}
 use Rattle.ffv1_commands.proofs.decode.run_decode.Goals as goal
 
 pub returns : goal.returns
@@ -21,6 +20,6 @@ returns g c =
       ok = (six_as _ _ _ _ _ _ record' frame out _ _ (search rules) _ _ output _ _ (search rules) Of bytes).ok;
       err = (six_as _ _ _ _ _ _ record' frame out _ _ (search rules) _ _ output _ _ (search rules) Of bytes).err;
       untouched = both_through r _ _ _ _ _ _ _ _ c.new-3.ensures.writer c.new-4.ensures.writer (search rules) (search rules) c.decode_of.ensures.untouched;
-      in_turn = if_of_record _ _ r (λ same. search (rules, ap reader_of same)) c.decode_of.ensures.in_turn;
+      in_turn = reader_kept r _ _ _ _ c.new-2.ensures.reader (search rules) c.decode_of.ensures.in_turn;
       names = bytes.names;
     }
