@@ -3,3 +3,4 @@ pub mod Words
 pub mod Zips
 pub mod Begun
 pub mod Openings
+pub mod Lists
