@@ -5,6 +5,11 @@ use Rattle.std.proofs.Common.{◌≡◌, Result, Ok, Err, IfErr, IsErrAnd, sym, 
 pub holds_of_equals : {A B : Type 0} (P : A → B → Type 0) {a a' : A} {b b' : B} → a ≡ a' → b ≡ b' → P a b → P a' b'
 holds_of_equals P {a' = a'} {b = b} first second holds = subst (P a') second (subst (λ a. P a b) first holds)
 
+-- what holds of three values holds of their equals
+pub holds_of_three : {A B C : Type 0} (P : A → B → C → Type 0) {a a' : A} {b b' : B} {c c' : C} → a ≡ a' → b ≡ b' → c ≡ c' → P a b c → P a' b' c'
+holds_of_three P {a' = a'} {b' = b'} {c = c} first second third holds =
+    subst (λ c. P a' b' c) third (holds_of_equals (λ a b. P a b c) first second holds)
+
 -- what holds of a fault holds where it is handed on
 pub handed_on : {T E : Type 0} (P : E → Type 0) (fault : E) (result : Result T E) → IsErrAnd result (λ other. other ≡ fault)
     → P fault → IfErr result P

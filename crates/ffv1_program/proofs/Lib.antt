@@ -4,3 +4,4 @@ pub mod Zips
 pub mod Begun
 pub mod Openings
 pub mod Lists
+pub mod Runs

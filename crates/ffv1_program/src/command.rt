@@ -1,5 +1,5 @@
 //! A command of words, run on the files that they name (own).
-ghost use Rattle.std.specs.Prelude.{◌≡◌, IfOk, IfErr, IsErrOf, MatchResult, true};
+ghost use Rattle.std.specs.Prelude.{◌≡◌, Ok, Err, IfOk, IfErr, IsErrOf, MatchResult, true};
 ghost use Rattle.std.specs.Io.KnownBytes.{Appends};
 ghost use Rattle.ffv1_help.specs.Texts.{help_text, version_text};
 ghost use Rattle.ffv1_commands.specs.Fault.{NamesPath};
@@ -59,6 +59,16 @@ fn print_version<W: Write>(output: &mut W) -> Result<(), CliFault>
     }
 }
 
+/// What a command returns that has no more to say than that it was done.
+fn all_done(done: Result<(), CliFault>) -> Result<bool, CliFault>
+    ensures { MatchResult result (λ answer. (answer ≡ true) × (done ≡ Ok tt)) (λ fault. done ≡ Err fault) }
+{
+    match done {
+        Ok(()) => Ok(true),
+        Err(fault) => Err(fault),
+    }
+}
+
 /// Runs a command on the files that its words name; `made` is the one that it makes. Returns `false` where `picture` wrote its file and
 /// some tile has no samples, or `splice` its own and not all of the frame is given back, or `mend` its own and a stretch is missing,
 /// disputed or open, or `scan` found a range that is not whole with all its links passing; else `true`.
@@ -84,34 +94,33 @@ pub fn run<'a, F: FileSystem<'a>, O: MakeFile, W: Write>(
     ensures names { IfErr result (NamesPath (IsPathOf words.now)) }
 {
     match words {
-        Words::Chain { frame } => chain_file(alloc, files, frame, output)?,
-        Words::Scan { ranges, file } => return scan_files(alloc, files, ranges, file, output),
-        Words::Show { recording } => show_record(alloc, files, recording, output)?,
+        Words::Chain { frame } => all_done(chain_file(alloc, files, frame, output)),
+        Words::Scan { ranges, file } => scan_files(alloc, files, ranges, file, output),
+        Words::Show { recording } => all_done(show_record(alloc, files, recording, output)),
         Words::Take {
             recording,
             copies,
             ..
-        } => take_files(alloc, files, recording, copies.as_slice(), made, output)?,
+        } => all_done(take_files(alloc, files, recording, copies.as_slice(), made, output)),
         Words::Join { first, others, .. } => {
-            join_files(alloc, files, first, others.as_slice(), made, output)?
+            all_done(join_files(alloc, files, first, others.as_slice(), made, output))
         }
-        Words::Merge { out, left, right } => merge_files(alloc, files, left, right, out, made)?,
-        Words::Report { file } => report_file(alloc, files, file, output)?,
-        Words::Restore { file, .. } => restore_file(alloc, files, file, made, output)?,
-        Words::Picture { file, .. } => return picture_file(alloc, files, file, made, output),
-        Words::Splice { copies, .. } => {
-            return splice_files(alloc, files, copies.as_slice(), made, output);
-        }
+        Words::Merge { out, left, right } => all_done(merge_files(
+            alloc, files, left, right, out, made,
+        )),
+        Words::Report { file } => all_done(report_file(alloc, files, file, output)),
+        Words::Restore { file, .. } => all_done(restore_file(alloc, files, file, made, output)),
+        Words::Picture { file, .. } => picture_file(alloc, files, file, made, output),
+        Words::Splice { copies, .. } => splice_files(alloc, files, copies.as_slice(), made, output),
         Words::Mend { list, out, copies } => {
-            return mend_files(alloc, files, list, copies.as_slice(), out, made, output);
+            mend_files(alloc, files, list, copies.as_slice(), out, made, output)
         }
         Words::Decode {
             recording,
             frame,
             ..
-        } => decode_files(alloc, files, recording, frame, made, output)?,
-        Words::Help => print_help(output)?,
-        Words::Version => print_version(output)?,
+        } => all_done(decode_files(alloc, files, recording, frame, made, output)),
+        Words::Help => all_done(print_help(output)),
+        Words::Version => all_done(print_version(output)),
     }
-    Ok(true)
 }

@@ -1,53 +1,171 @@
-use Rattle.std.proofs.Common.{refl}
-use Rattle.ffv1_program.specs.Merging.{FailsToOpen}
-use Rattle.ffv1_program.specs.Running.{StopsCommand}
-use Rattle.ffv1_program.proofs.Equals.{handed_on}
+use Rattle.std.proofs.Common.{◌≡◌, refl, rules}
+use Rattle.ffv1_program.proofs.Runs.{all_ok, all_err, all_err_of, all_ok_beside, nothing_said, beside, kept_beside, printing_is_writing, printed, unprinted}
 use Rattle.ffv1_program.proofs.command.run.Goals as goal
 
-pub returns-in_err-take_files-in-Take-clause-err :
-    goal.returns-in_err-take_files-in-Take-clause-err
-returns-in_err-take_files-in-Take-clause-err g c =
-    let said = rw c.as_slice.ensures.value at c.in_err-take_files-in-Take.ensures.err in
-    handed_on (StopsCommand (g.F.FileSystem.bytes_at c.args.files.now)
-    (FailsToOpen (g.F.FileSystem.is_input_at c.args.files.now) g.F.Input.ReadFile.cannot_open) c.args.words.now (g.O.Write.contents c.args.made.now)
-    (g.O.Write.contents c.take_files.new.made) (g.W.Write.contents c.args.output.now) (g.W.Write.contents c.take_files.new.output))
-    _ _ c.from_residual-in_err-take_files-in-Take.ensures.1 (rw c.in-Take.is said)
+pub returns-in-Chain : goal.returns-in-Chain
+returns-in-Chain g c =
+    record {
+      ok = rw c.in-Chain.is (all_ok c.chain_file.result c.all_done.result _ c.all_done.ensures c.chain_file.ensures.ok);
+      err = rw c.in-Chain.is (all_err c.chain_file.result c.all_done.result _ c.all_done.ensures c.chain_file.ensures.err);
+      kept = rw c.in-Chain.is (all_err c.chain_file.result c.all_done.result _ c.all_done.ensures (kept_beside c.chain_file.result _ _ refl c.chain_file.ensures.untouched));
+      refused = rw c.in-Chain.is (λ is. absurd is);
+      none_made = rw c.in-Chain.is refl;
+      always_made = rw c.in-Chain.is (nothing_said c.all_done.result);
+      names = rw c.in-Chain.is (all_err c.chain_file.result c.all_done.result _ c.all_done.ensures c.chain_file.ensures.names);
+    }
 
-pub returns-in-Splice-clause-ok : goal.returns-in-Splice-clause-ok
-returns-in-Splice-clause-ok g c =
-    rw c.in-Splice.is (rw c.as_slice-in-Splice.ensures.value at c.splice_files.ensures.ok)
+pub returns-in-Scan : goal.returns-in-Scan
+returns-in-Scan g c =
+    record {
+      ok = rw c.in-Scan.is (c.scan_files.ensures.ok);
+      err = rw c.in-Scan.is (c.scan_files.ensures.err);
+      kept = rw c.in-Scan.is (c.scan_files.ensures.untouched);
+      refused = rw c.in-Scan.is (λ is. absurd is);
+      none_made = rw c.in-Scan.is refl;
+      always_made = rw c.in-Scan.is (nothing_said c.scan_files.result);
+      names = rw c.in-Scan.is (c.scan_files.ensures.names);
+    }
 
-pub returns-in-Splice-clause-err : goal.returns-in-Splice-clause-err
-returns-in-Splice-clause-err g c =
-    rw c.in-Splice.is (rw c.as_slice-in-Splice.ensures.value at c.splice_files.ensures.err)
+pub returns-in-Show : goal.returns-in-Show
+returns-in-Show g c =
+    record {
+      ok = rw c.in-Show.is (all_ok c.show_record.result c.all_done-in-Show.result _ c.all_done-in-Show.ensures c.show_record.ensures.ok);
+      err = rw c.in-Show.is (all_err c.show_record.result c.all_done-in-Show.result _ c.all_done-in-Show.ensures c.show_record.ensures.err);
+      kept = rw c.in-Show.is (all_err c.show_record.result c.all_done-in-Show.result _ c.all_done-in-Show.ensures (kept_beside c.show_record.result _ _ refl c.show_record.ensures.untouched));
+      refused = rw c.in-Show.is (λ is. absurd is);
+      none_made = rw c.in-Show.is refl;
+      always_made = rw c.in-Show.is (nothing_said c.all_done-in-Show.result);
+      names = rw c.in-Show.is (all_err c.show_record.result c.all_done-in-Show.result _ c.all_done-in-Show.ensures c.show_record.ensures.names);
+    }
 
-pub returns-in-Mend-clause-ok : goal.returns-in-Mend-clause-ok
-returns-in-Mend-clause-ok g c =
-    rw c.in-Mend.is (rw c.as_slice-in-Mend.ensures.value at c.mend_files.ensures.ok)
+pub returns-in-Take : goal.returns-in-Take
+returns-in-Take g c =
+    record {
+      ok = rw c.in-Take.is (all_ok c.take_files.result c.all_done-in-Take.result _ c.all_done-in-Take.ensures (rw c.as_slice.ensures.value at c.take_files.ensures.ok));
+      err = rw c.in-Take.is (all_err c.take_files.result c.all_done-in-Take.result _ c.all_done-in-Take.ensures (rw c.as_slice.ensures.value at c.take_files.ensures.err));
+      kept = rw c.in-Take.is (all_err c.take_files.result c.all_done-in-Take.result _ c.all_done-in-Take.ensures c.take_files.ensures.untouched);
+      refused = rw c.in-Take.is (λ is. absurd is);
+      none_made = rw c.in-Take.is tt;
+      always_made = rw c.in-Take.is (nothing_said c.all_done-in-Take.result);
+      names = search rules;
+    }
 
-pub returns-in-Mend-clause-err : goal.returns-in-Mend-clause-err
-returns-in-Mend-clause-err g c =
-    rw c.in-Mend.is (rw c.as_slice-in-Mend.ensures.value at c.mend_files.ensures.err)
+pub returns-in-Join : goal.returns-in-Join
+returns-in-Join g c =
+    record {
+      ok = rw c.in-Join.is (all_ok c.join_files.result c.all_done-in-Join.result _ c.all_done-in-Join.ensures (rw c.as_slice-in-Join.ensures.value at c.join_files.ensures.ok));
+      err = rw c.in-Join.is (all_err c.join_files.result c.all_done-in-Join.result _ c.all_done-in-Join.ensures (rw c.as_slice-in-Join.ensures.value at c.join_files.ensures.err));
+      kept = rw c.in-Join.is (all_err c.join_files.result c.all_done-in-Join.result _ c.all_done-in-Join.ensures c.join_files.ensures.untouched);
+      refused = rw c.in-Join.is (λ is. absurd is);
+      none_made = rw c.in-Join.is tt;
+      always_made = rw c.in-Join.is (nothing_said c.all_done-in-Join.result);
+      names = search rules;
+    }
 
-pub returns-in-Mend-clause-refused : goal.returns-in-Mend-clause-refused
-returns-in-Mend-clause-refused g c =
-    rw c.in-Mend.is (rw c.as_slice-in-Mend.ensures.value at c.mend_files.ensures.refused)
+pub returns-in-Merge : goal.returns-in-Merge
+returns-in-Merge g c =
+    record {
+      ok = rw c.in-Merge.is (all_ok_beside c.merge_files.result c.all_done-in-Merge.result (g.W.Write.contents c.args.output.now ≡ g.W.Write.contents c.args.output.now) _ c.all_done-in-Merge.ensures refl c.merge_files.ensures.ok);
+      err = rw c.in-Merge.is (all_err c.merge_files.result c.all_done-in-Merge.result _ c.all_done-in-Merge.ensures c.merge_files.ensures.err);
+      kept = rw c.in-Merge.is (all_err c.merge_files.result c.all_done-in-Merge.result _ c.all_done-in-Merge.ensures (beside c.merge_files.result _ _ refl c.merge_files.ensures.untouched));
+      refused = rw c.in-Merge.is (λ is. let said = c.merge_files.ensures.refused is in (all_err_of c.merge_files.result c.all_done-in-Merge.result _ c.all_done-in-Merge.ensures said.0, said.1, refl));
+      none_made = rw c.in-Merge.is tt;
+      always_made = rw c.in-Merge.is (nothing_said c.all_done-in-Merge.result);
+      names = rw c.in-Merge.is (all_err c.merge_files.result c.all_done-in-Merge.result _ c.all_done-in-Merge.ensures c.merge_files.ensures.names);
+    }
 
-pub returns-in_ok-take_files-in-Take-clause-ok : goal.returns-in_ok-take_files-in-Take-clause-ok
-returns-in_ok-take_files-in-Take-clause-ok g c =
-    let said = rw c.as_slice.ensures.value at c.in_ok-take_files-in-Take.ensures.ok in
-    rw c.in-Take.is (refl, said)
+pub returns-in-Report : goal.returns-in-Report
+returns-in-Report g c =
+    record {
+      ok = rw c.in-Report.is (all_ok c.report_file.result c.all_done-in-Report.result _ c.all_done-in-Report.ensures c.report_file.ensures.ok);
+      err = rw c.in-Report.is (all_err c.report_file.result c.all_done-in-Report.result _ c.all_done-in-Report.ensures c.report_file.ensures.err);
+      kept = rw c.in-Report.is (all_err c.report_file.result c.all_done-in-Report.result _ c.all_done-in-Report.ensures (kept_beside c.report_file.result _ _ refl c.report_file.ensures.untouched));
+      refused = rw c.in-Report.is (λ is. absurd is);
+      none_made = rw c.in-Report.is refl;
+      always_made = rw c.in-Report.is (nothing_said c.all_done-in-Report.result);
+      names = rw c.in-Report.is (all_err c.report_file.result c.all_done-in-Report.result _ c.all_done-in-Report.ensures c.report_file.ensures.names);
+    }
 
-pub returns-in_err-join_files-in-Join-clause-err :
-    goal.returns-in_err-join_files-in-Join-clause-err
-returns-in_err-join_files-in-Join-clause-err g c =
-    let said = rw c.as_slice-in-Join.ensures.value at c.in_err-join_files-in-Join.ensures.err in
-    handed_on (StopsCommand (g.F.FileSystem.bytes_at c.args.files.now)
-    (FailsToOpen (g.F.FileSystem.is_input_at c.args.files.now) g.F.Input.ReadFile.cannot_open) c.args.words.now (g.O.Write.contents c.args.made.now)
-    (g.O.Write.contents c.join_files.new.made) (g.W.Write.contents c.args.output.now) (g.W.Write.contents c.join_files.new.output))
-    _ _ c.from_residual-in_err-join_files-in-Join.ensures.1 (rw c.in-Join.is said)
+pub returns-in-Restore : goal.returns-in-Restore
+returns-in-Restore g c =
+    record {
+      ok = rw c.in-Restore.is (all_ok c.restore_file.result c.all_done-in-Restore.result _ c.all_done-in-Restore.ensures c.restore_file.ensures.ok);
+      err = rw c.in-Restore.is (all_err c.restore_file.result c.all_done-in-Restore.result _ c.all_done-in-Restore.ensures c.restore_file.ensures.err);
+      kept = rw c.in-Restore.is (all_err c.restore_file.result c.all_done-in-Restore.result _ c.all_done-in-Restore.ensures c.restore_file.ensures.untouched);
+      refused = rw c.in-Restore.is (λ is. absurd is);
+      none_made = rw c.in-Restore.is tt;
+      always_made = rw c.in-Restore.is (nothing_said c.all_done-in-Restore.result);
+      names = rw c.in-Restore.is (all_err c.restore_file.result c.all_done-in-Restore.result _ c.all_done-in-Restore.ensures c.restore_file.ensures.names);
+    }
 
-pub returns-in_ok-join_files-in-Join-clause-ok : goal.returns-in_ok-join_files-in-Join-clause-ok
-returns-in_ok-join_files-in-Join-clause-ok g c =
-    let said = rw c.as_slice-in-Join.ensures.value at c.in_ok-join_files-in-Join.ensures.ok in
-    rw c.in-Join.is (refl, said)
+pub returns-in-Picture : goal.returns-in-Picture
+returns-in-Picture g c =
+    record {
+      ok = rw c.in-Picture.is (c.picture_file.ensures.ok);
+      err = rw c.in-Picture.is (c.picture_file.ensures.err);
+      kept = rw c.in-Picture.is (c.picture_file.ensures.untouched);
+      refused = rw c.in-Picture.is (λ is. absurd is);
+      none_made = rw c.in-Picture.is tt;
+      always_made = rw c.in-Picture.is (nothing_said c.picture_file.result);
+      names = rw c.in-Picture.is (c.picture_file.ensures.names);
+    }
+
+pub returns-in-Splice : goal.returns-in-Splice
+returns-in-Splice g c =
+    record {
+      ok = rw c.in-Splice.is ((rw c.as_slice-in-Splice.ensures.value at c.splice_files.ensures.ok));
+      err = rw c.in-Splice.is ((rw c.as_slice-in-Splice.ensures.value at c.splice_files.ensures.err));
+      kept = rw c.in-Splice.is (c.splice_files.ensures.untouched);
+      refused = rw c.in-Splice.is (λ is. absurd is);
+      none_made = rw c.in-Splice.is tt;
+      always_made = rw c.in-Splice.is (c.splice_files.ensures.is_made);
+      names = search rules;
+    }
+
+pub returns-in-Mend : goal.returns-in-Mend
+returns-in-Mend g c =
+    record {
+      ok = rw c.in-Mend.is ((rw c.as_slice-in-Mend.ensures.value at c.mend_files.ensures.ok));
+      err = rw c.in-Mend.is ((rw c.as_slice-in-Mend.ensures.value at c.mend_files.ensures.err));
+      kept = rw c.in-Mend.is (c.mend_files.ensures.untouched);
+      refused = rw c.in-Mend.is (rw c.as_slice-in-Mend.ensures.value at c.mend_files.ensures.refused);
+      none_made = rw c.in-Mend.is tt;
+      always_made = rw c.in-Mend.is (c.mend_files.ensures.is_made);
+      names = search rules;
+    }
+
+pub returns-in-Decode : goal.returns-in-Decode
+returns-in-Decode g c =
+    record {
+      ok = rw c.in-Decode.is (all_ok c.decode_files.result c.all_done-in-Decode.result _ c.all_done-in-Decode.ensures c.decode_files.ensures.ok);
+      err = rw c.in-Decode.is (all_err c.decode_files.result c.all_done-in-Decode.result _ c.all_done-in-Decode.ensures c.decode_files.ensures.err);
+      kept = rw c.in-Decode.is (all_err c.decode_files.result c.all_done-in-Decode.result _ c.all_done-in-Decode.ensures c.decode_files.ensures.untouched);
+      refused = rw c.in-Decode.is (λ is. absurd is);
+      none_made = rw c.in-Decode.is tt;
+      always_made = rw c.in-Decode.is (nothing_said c.all_done-in-Decode.result);
+      names = rw c.in-Decode.is (all_err c.decode_files.result c.all_done-in-Decode.result _ c.all_done-in-Decode.ensures c.decode_files.ensures.names);
+    }
+
+pub returns-in-Help : goal.returns-in-Help
+returns-in-Help g c =
+    record {
+      ok = rw c.in-Help.is (all_ok c.print_help.result c.all_done-in-Help.result _ c.all_done-in-Help.ensures (printed c.print_help.result _ _ c.print_help.ensures.reported));
+      err = rw c.in-Help.is (all_err c.print_help.result c.all_done-in-Help.result _ c.all_done-in-Help.ensures (unprinted c.print_help.result _ _ c.print_help.ensures.reported));
+      kept = rw c.in-Help.is (all_err c.print_help.result c.all_done-in-Help.result _ c.all_done-in-Help.ensures (printing_is_writing c.print_help.result _ _ _ _ c.print_help.ensures.reported));
+      refused = rw c.in-Help.is (λ is. absurd is);
+      none_made = rw c.in-Help.is refl;
+      always_made = rw c.in-Help.is (nothing_said c.all_done-in-Help.result);
+      names = rw c.in-Help.is (all_err c.print_help.result c.all_done-in-Help.result _ c.all_done-in-Help.ensures c.print_help.ensures.names);
+    }
+
+pub returns-in-Version : goal.returns-in-Version
+returns-in-Version g c =
+    record {
+      ok = rw c.in-Version.is (all_ok c.print_version.result c.all_done-in-Version.result _ c.all_done-in-Version.ensures (printed c.print_version.result _ _ c.print_version.ensures.reported));
+      err = rw c.in-Version.is (all_err c.print_version.result c.all_done-in-Version.result _ c.all_done-in-Version.ensures (unprinted c.print_version.result _ _ c.print_version.ensures.reported));
+      kept = rw c.in-Version.is (all_err c.print_version.result c.all_done-in-Version.result _ c.all_done-in-Version.ensures (printing_is_writing c.print_version.result _ _ _ _ c.print_version.ensures.reported));
+      refused = rw c.in-Version.is (λ is. absurd is);
+      none_made = rw c.in-Version.is refl;
+      always_made = rw c.in-Version.is (nothing_said c.all_done-in-Version.result);
+      names = rw c.in-Version.is (all_err c.print_version.result c.all_done-in-Version.result _ c.all_done-in-Version.ensures c.print_version.ensures.names);
+    }
