@@ -5,3 +5,4 @@ pub mod Begun
 pub mod Openings
 pub mod Lists
 pub mod Runs
+pub mod Makes

@@ -1,6 +1,8 @@
 //! The files of a program by their paths (own): those that it reads, and the one that it makes.
-ghost use Rattle.std.specs.Prelude.{◌≡◌, ℕ, List, Option, IfOk, IfErr};
+ghost use Rattle.std.specs.Prelude.{◌≡◌, ◌⊎◌, ℕ, List, Option, Ok, Err, IfOk, IfErr};
+ghost use Rattle.ffv1_program.specs.Splicing.{IsUnmade};
 
+use ffv1_commands::{CliFault, CommandPath};
 use std::io;
 use std::io::{Read, Write};
 
@@ -45,4 +47,23 @@ pub trait MakeFile: Write {
     fn make(&mut self) -> io::Result<()>
         ensures bytes { Self.contents self.new ≡ Self.contents self.old }
         ensures made { IfOk result (λ _. is_made self.new) };
+}
+
+/// What a command returns that makes its file even of no bytes: where all was done, the file is made, if it is not made yet. Where that
+/// fails, the file is at fault.
+pub(crate) fn make_after<O: MakeFile>(
+    done: Result<bool, CliFault>,
+    made: &mut O,
+) -> Result<bool, CliFault>
+    ensures bytes { O.contents made.new ≡ O.contents made.old }
+    ensures ok { IfOk result (λ answer. (done ≡ Ok answer) × O.is_made made.new) }
+    ensures err { IfErr result (λ fault. ((done ≡ Err fault) × (made.new ≡ made.old)) ⊎ IsUnmade (λ answer. done ≡ Ok answer) fault) }
+{
+    match done {
+        Ok(answer) => match made.make() {
+            Ok(()) => Ok(answer),
+            Err(_) => Err(CliFault::Write(CommandPath::Out)),
+        },
+        Err(fault) => Err(fault),
+    }
 }

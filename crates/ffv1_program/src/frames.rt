@@ -10,7 +10,7 @@ ghost use Rattle.ffv1_commands.specs.ShowText.{PrintsSetup, ShowStops};
 ghost use Rattle.ffv1_commands.specs.SpliceText.{SplicesCopies};
 ghost use Rattle.ffv1_program.specs.Splicing.{StopsSplicing};
 
-use crate::files::{FileSystem, MakeFile};
+use crate::files::{FileSystem, MakeFile, make_after};
 use crate::inputs::inputs_of;
 use ffv1_commands::{CliFault, CommandPath, run_chain, run_scan, run_show, run_splice};
 use ffv1_words::Recording;
@@ -109,9 +109,6 @@ pub fn splice_files<'a, F: FileSystem<'a>, O: MakeFile, W: Write>(
         return Err(CliFault::Words);
     }
     let mut copies = inputs_of(alloc, files, copies)?;
-    let all = run_splice(alloc, copies.as_mut_slice(), made, output)?;
-    match made.make() {
-        Ok(()) => Ok(all),
-        Err(_) => Err(CliFault::Write(CommandPath::Out)),
-    }
+    let all = run_splice(alloc, copies.as_mut_slice(), made, output);
+    make_after(all, made)
 }

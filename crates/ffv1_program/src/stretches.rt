@@ -7,7 +7,7 @@ ghost use Rattle.ffv1_commands.specs.Lists.{IfOfList};
 ghost use Rattle.ffv1_commands.specs.MendText.{MendsFiles};
 ghost use Rattle.ffv1_program.specs.Splicing.{IsInput, StopsMendingFiles};
 
-use crate::files::{FileSystem, MakeFile};
+use crate::files::{FileSystem, MakeFile, make_after};
 use crate::inputs::inputs_of;
 use ffv1_commands::{CliFault, CommandPath, run_mend};
 use std::alloc::Global;
@@ -49,9 +49,6 @@ pub fn mend_files<'a, F: FileSystem<'a>, O: MakeFile, W: Write>(
         return Err(CliFault::Write(CommandPath::Out));
     }
     let copies = inputs_of(alloc, files, copies)?;
-    let good = run_mend(alloc, &mut files.input(list), copies, made, output)?;
-    match made.make() {
-        Ok(()) => Ok(good),
-        Err(_) => Err(CliFault::Write(CommandPath::Out)),
-    }
+    let good = run_mend(alloc, &mut files.input(list), copies, made, output);
+    make_after(good, made)
 }

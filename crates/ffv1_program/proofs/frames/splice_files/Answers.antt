@@ -1,18 +1,27 @@
-use Rattle.std.proofs.Common.{◌∙◌, ap, map, refl, sym, inr}
-use Rattle.ffv1_commands.specs.SpliceText.{SplicesCopies}
-use Rattle.ffv1_program.proofs.Equals.{holds_of_equals}
+use Rattle.std.proofs.Common.{◌∙◌, ap, map, refl, rules, inl, inr}
+use Rattle.ffv1_commands.specs.Devices.{UnlessWriting}
+use Rattle.ffv1_commands.specs.declared.fault.CliFault.TheVariants as faults
+use Rattle.ffv1_program.proofs.Makes.{made_ok, made_is, made_err, made_fault, made_kept}
+use Rattle.ffv1_program.proofs.Equals.{is_fault}
 use Rattle.ffv1_program.proofs.frames.splice_files.Goals as goal
 
--- all was done, but for making the file
-pub returns-clause-err : goal.returns-clause-err
-returns-clause-err g c =
-    inr (inr (
-      refl,
-      (
-        c.in_ok-all.all,
-        holds_of_equals (λ copies out. SplicesCopies copies (g.O.Write.contents c.args.made.now) out
-            (g.W.Write.contents c.args.output.now) (g.W.Write.contents c.run_splice.new.output) c.in_ok-all.all)
-            (ap (map g.F.Input.Read.remaining) c.as_mut_slice.ensures.value ∙ c.in_ok-copies.ensures.bytes)
-            (sym c.make.ensures.bytes) c.in_ok-all.ensures.ok,
-      ),
-    ))
+-- memory for the copies was refused, and nothing was written
+pub returns-in_err-copies : goal.returns-in_err-copies
+returns-in_err-copies g c =
+    rw (is_fault faults.Memory c.from_residual.result c.from_residual.ensures.1)
+    (record { ok = tt; is_made = tt; err = inr (inl tt); untouched = (refl, refl); names = tt })
+
+pub returns : goal.returns
+returns g c =
+    let copies = ap (map g.F.Input.Read.remaining) c.as_mut_slice.ensures.value ∙ c.in_ok-copies.ensures.bytes in
+    record {
+      ok = made_ok c.run_splice-all.result c.make_after.result _ _ c.make_after.ensures.ok
+          (rw (copies, ← c.make_after.ensures.bytes) at c.run_splice-all.ensures.ok);
+      is_made = made_is c.run_splice-all.result c.make_after.result _ c.make_after.ensures.ok;
+      err = made_err c.run_splice-all.result c.make_after.result _ _ _ _ c.make_after.ensures.err
+          (rw (copies, ← c.make_after.ensures.bytes) at c.run_splice-all.ensures.ok)
+          (rw (copies, ← c.make_after.ensures.bytes) at c.run_splice-all.ensures.err);
+      untouched = made_kept c.run_splice-all.result c.make_after.result c.args.made.now c.run_splice-all.new.out c.make_after.new.made _ UnlessWriting
+          c.make_after.ensures.err (λ _. tt) c.run_splice-all.ensures.untouched;
+      names = search rules;
+    }

@@ -1,11 +1,19 @@
-use Rattle.std.proofs.Common.{◌∙◌, ap, map, IfErr}
-use Rattle.ffv1_commands.specs.TakeText.{TakeStops}
-use Rattle.ffv1_program.proofs.Equals.{holds_of_equals}
+use Rattle.std.proofs.Common.{◌∙◌, ap, map, refl, rules}
+use Rattle.ffv1_commands.specs.declared.fault.CliFault.TheVariants as faults
+use Rattle.ffv1_program.proofs.Equals.{is_fault}
 use Rattle.ffv1_program.proofs.holdings.take_files.Goals as goal
 
-pub returns-clause-err : goal.returns-clause-err
-returns-clause-err g c =
-    holds_of_equals (λ record' copies. IfErr c.run_take.result (TakeStops record' c.args.recording.now.width c.args.recording.now.height copies
-    (g.O.Write.contents c.args.made.now) (g.O.Write.contents c.run_take.new.out) (g.W.Write.contents c.args.output.now)
-    (g.W.Write.contents c.run_take.new.output)))
-    c.input.ensures.bytes (ap (map g.F.Input.Read.remaining) c.as_mut_slice.ensures.value ∙ c.in_ok-copies.ensures.bytes) c.run_take.ensures.err
+-- memory for the copies was refused, and nothing was written
+pub returns-in_err-copies : goal.returns-in_err-copies
+returns-in_err-copies g c =
+    rw (is_fault faults.Memory c.from_residual.result c.from_residual.ensures.1) (record { ok = tt; err = tt; untouched = (refl, refl); names = tt })
+
+pub returns : goal.returns
+returns g c =
+    let copies = ap (map g.F.Input.Read.remaining) c.as_mut_slice.ensures.value ∙ c.in_ok-copies.ensures.bytes in
+    record {
+      ok = rw (c.input.ensures.bytes, copies) at c.run_take.ensures.ok;
+      err = rw (c.input.ensures.bytes, copies) at c.run_take.ensures.err;
+      untouched = c.run_take.ensures.untouched;
+      names = search rules;
+    }

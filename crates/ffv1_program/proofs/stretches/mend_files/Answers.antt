@@ -1,29 +1,36 @@
-use Rattle.std.proofs.Common.{map, refl, sym, inl, inr}
+use Rattle.std.proofs.Common.{map, refl, rules, inl, inr}
 use Rattle.std.proofs.KnownBytes.{Keeps-refl}
-use Rattle.ffv1_commands.specs.MendText.{MendsFiles, of_list}
+use Rattle.ffv1_commands.specs.Lists.{IfOfList}
+use Rattle.ffv1_commands.specs.MendText.{of_list}
 use Rattle.ffv1_commands.specs.declared.fault.CliFault.TheVariants as faults
-use Rattle.ffv1_program.specs.Splicing.{IsInput, StopsMendingFiles}
-use Rattle.ffv1_program.proofs.Equals.{handed_on, holds_of_three}
+use Rattle.ffv1_commands.specs.declared.path.CommandPath.TheVariants as paths
+use Rattle.ffv1_program.proofs.Makes.{made_ok, made_is, made_err, made_fault, made_kept}
+use Rattle.ffv1_program.proofs.Equals.{is_fault}
 use Rattle.ffv1_program.proofs.stretches.mend_files.Goals as goal
 
 -- memory for the copies was refused, and nothing was written
-pub returns-in_err-copies-clause-err : goal.returns-in_err-copies-clause-err
-returns-in_err-copies-clause-err g c =
-    handed_on (StopsMendingFiles (IsInput c.args.out.now c.args.list.now c.args.copies.now) (g.F.FileSystem.bytes_at c.args.files.now c.args.list.now)
-    (map (λ copy. g.F.FileSystem.bytes_at c.args.files.now copy.now) c.args.copies.now)
-    (g.O.Write.contents c.args.made.now) (g.O.Write.contents c.args.made.now) (g.W.Write.contents c.args.output.now)
-    (g.W.Write.contents c.args.output.now))
-    faults.Memory _ c.from_residual.ensures.1 (inr (inl (of_list faults.Memory tt (Keeps-refl _) (Keeps-refl _))))
+pub returns-in_err-copies : goal.returns-in_err-copies
+returns-in_err-copies g c =
+    rw (is_fault faults.Memory c.from_residual.result c.from_residual.ensures.1) (record {
+      ok = tt;
+      is_made = tt;
+      err = inr (inl (of_list faults.Memory tt (Keeps-refl _) (Keeps-refl _)));
+      refused = search rules;
+      untouched = tt;
+      names = tt;
+    })
 
--- all was done, but for making the file
-pub returns-in-Err-clause-err : goal.returns-in-Err-clause-err
-returns-in-Err-clause-err g c =
-    inr (inr (
-      refl,
-      (
-        c.in_ok-good.good,
-        holds_of_three (λ list copies out. MendsFiles list copies (g.O.Write.contents c.args.made.now) out
-            (g.W.Write.contents c.args.output.now) (g.W.Write.contents c.run_mend.new.output) c.in_ok-good.good)
-            c.input.ensures.bytes c.in_ok-copies.ensures.bytes (sym c.make.ensures.bytes) c.in_ok-good.ensures.ok,
-      ),
-    ))
+pub returns : goal.returns
+returns g c =
+    record {
+      ok = made_ok c.run_mend-good.result c.make_after.result _ _ c.make_after.ensures.ok
+          (rw (c.input.ensures.bytes, c.in_ok-copies.ensures.bytes, ← c.make_after.ensures.bytes) at c.run_mend-good.ensures.ok);
+      is_made = made_is c.run_mend-good.result c.make_after.result _ c.make_after.ensures.ok;
+      err = made_err c.run_mend-good.result c.make_after.result _ _ _ _ c.make_after.ensures.err
+          (rw (c.input.ensures.bytes, c.in_ok-copies.ensures.bytes, ← c.make_after.ensures.bytes) at c.run_mend-good.ensures.ok)
+          (rw (c.input.ensures.bytes, c.in_ok-copies.ensures.bytes, ← c.make_after.ensures.bytes) at c.run_mend-good.ensures.err);
+      refused = search rules;
+      untouched = made_kept c.run_mend-good.result c.make_after.result c.args.made.now c.run_mend-good.new.out c.make_after.new.made _ (IfOfList paths.List)
+          c.make_after.ensures.err (λ _. tt) c.run_mend-good.ensures.untouched;
+      names = search rules;
+    }
