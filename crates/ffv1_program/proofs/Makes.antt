@@ -25,13 +25,6 @@ made_err done (Err fault) Kept Refused Stops Done (inl (is, kept)) did stops = i
 made_err done (Err fault) Kept Refused Stops Done (inr (is, (answer, same))) did stops =
     inr (inr (is, (answer, subst (λ done. IfOk done Done) same did)))
 
--- what holds of each fault, and where the file was not made
-pub made_fault : (done result : Result Bool CliFault) (Kept : Type 0) (P : CliFault → Type 0) → IsAfter done result Kept → P (faults.Write paths.Out)
-    → IfErr done P → IfErr result P
-made_fault done (Ok answer) Kept P after unmade holds = tt
-made_fault done (Err fault) Kept P (inl (is, kept)) unmade holds = subst (λ done. IfErr done P) is holds
-made_fault done (Err fault) Kept P (inr (is, all)) unmade holds = subst P (sym is) unmade
-
 -- what a fault left as it was, and the file that was not made
 pub made_kept : {O : Type 0} (done result : Result Bool CliFault) (old then new : O) (P : Type 0) (Unless : CliFault → Type 0 → Type 0)
     → IsAfter done result (new ≡ then) → ((Q : Type 0) → Unless (faults.Write paths.Out) Q) → IfErr done (λ fault. Unless fault ((then ≡ old) × P))

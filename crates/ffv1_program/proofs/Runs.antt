@@ -1,5 +1,5 @@
 -- What a command returns, by what it calls.
-use Rattle.std.proofs.Common.{◌≡◌, ◌∙◌, Bool, true, Result, Ok, Err, IfOk, IfErr, IsErrOf, MatchResult, OnOk, refl, sym, ap, subst}
+use Rattle.std.proofs.Common.{◌≡◌, Bool, true, Result, Ok, Err, IfOk, IfErr, IsErrOf, MatchResult, OnOk, sym, subst}
 use Rattle.ffv1_commands.specs.Devices.{UnlessWriting}
 use Rattle.ffv1_commands.specs.declared.fault.CliFault.{CliFault}
 use Rattle.ffv1_commands.specs.declared.fault.CliFault.TheVariants as faults

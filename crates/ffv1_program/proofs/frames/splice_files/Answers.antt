@@ -1,7 +1,7 @@
 use Rattle.std.proofs.Common.{◌∙◌, ap, map, refl, rules, inl, inr}
 use Rattle.ffv1_commands.specs.Devices.{UnlessWriting}
 use Rattle.ffv1_commands.specs.declared.fault.CliFault.TheVariants as faults
-use Rattle.ffv1_program.proofs.Makes.{made_ok, made_is, made_err, made_fault, made_kept}
+use Rattle.ffv1_program.proofs.Makes.{made_ok, made_is, made_err, made_kept}
 use Rattle.ffv1_program.proofs.Equals.{is_fault}
 use Rattle.ffv1_program.proofs.frames.splice_files.Goals as goal
 

@@ -1,10 +1,10 @@
-use Rattle.std.proofs.Common.{map, refl, rules, inl, inr}
+use Rattle.std.proofs.Common.{rules, inl, inr}
 use Rattle.std.proofs.KnownBytes.{Keeps-refl}
 use Rattle.ffv1_commands.specs.Lists.{IfOfList}
 use Rattle.ffv1_commands.specs.MendText.{of_list}
 use Rattle.ffv1_commands.specs.declared.fault.CliFault.TheVariants as faults
 use Rattle.ffv1_commands.specs.declared.path.CommandPath.TheVariants as paths
-use Rattle.ffv1_program.proofs.Makes.{made_ok, made_is, made_err, made_fault, made_kept}
+use Rattle.ffv1_program.proofs.Makes.{made_ok, made_is, made_err, made_kept}
 use Rattle.ffv1_program.proofs.Equals.{is_fault}
 use Rattle.ffv1_program.proofs.stretches.mend_files.Goals as goal
 
