@@ -7,29 +7,29 @@ use Rattle.ffv1_program.specs.Splicing.{IsUnmade}
 
 -- The fault is that of what was done, which leaves the file as it was; or all was done, but the file was not made.
 abbrev pub IsAfter : (done result : Result Bool CliFault) (Kept : Type 0) → Type 0
-IsAfter done result Kept = IfErr result (λ fault. ((done ≡ Err fault) × Kept) ⊎ IsUnmade (λ answer. done ≡ Ok answer) fault)
+IsAfter done result Kept = IfErr result (λ fault. ((done ≡ Err fault) × Kept) ⊎ IsUnmade (λ value. done ≡ Ok value) fault)
 
-pub made_ok : (done result : Result Bool CliFault) (Done : Bool → Type 0) (Made : Type 0) → IfOk result (λ answer. (done ≡ Ok answer) × Made)
+pub made_ok : (done result : Result Bool CliFault) (Done : Bool → Type 0) (Made : Type 0) → IfOk result (λ value. (done ≡ Ok value) × Made)
     → IfOk done Done → IfOk result Done
-made_ok done (Ok answer) Done Made is did = subst (λ done. IfOk done Done) is.0 did
+made_ok done (Ok value) Done Made is did = subst (λ done. IfOk done Done) is.0 did
 made_ok done (Err fault) Done Made is did = tt
 
-pub made_is : (done result : Result Bool CliFault) (Made : Type 0) → IfOk result (λ answer. (done ≡ Ok answer) × Made) → IfOk result (λ _. Made)
-made_is done (Ok answer) Made is = is.1
+pub made_is : (done result : Result Bool CliFault) (Made : Type 0) → IfOk result (λ value. (done ≡ Ok value) × Made) → IfOk result (λ _. Made)
+made_is done (Ok value) Made is = is.1
 made_is done (Err fault) Made is = tt
 
 pub made_err : (done result : Result Bool CliFault) (Kept : Type 0) (Refused Stops : CliFault → Type 0) (Done : Bool → Type 0) → IsAfter done result Kept
     → IfOk done Done → IfErr done Stops → IfErr result (λ fault. Refused fault ⊎ Stops fault ⊎ IsUnmade Done fault)
-made_err done (Ok answer) Kept Refused Stops Done after did stops = tt
+made_err done (Ok value) Kept Refused Stops Done after did stops = tt
 made_err done (Err fault) Kept Refused Stops Done (inl (is, kept)) did stops = inr (inl (subst (λ done. IfErr done Stops) is stops))
-made_err done (Err fault) Kept Refused Stops Done (inr (is, (answer, same))) did stops =
-    inr (inr (is, (answer, subst (λ done. IfOk done Done) same did)))
+made_err done (Err fault) Kept Refused Stops Done (inr (is, (value, same))) did stops =
+    inr (inr (is, (value, subst (λ done. IfOk done Done) same did)))
 
 -- what a fault left as it was, and the file that was not made
 pub made_kept : {O : Type 0} (done result : Result Bool CliFault) (old then new : O) (P : Type 0) (Unless : CliFault → Type 0 → Type 0)
     → IsAfter done result (new ≡ then) → ((Q : Type 0) → Unless (faults.Write paths.Out) Q) → IfErr done (λ fault. Unless fault ((then ≡ old) × P))
     → IfErr result (λ fault. Unless fault ((new ≡ old) × P))
-made_kept done (Ok answer) old then new P Unless after unmade holds = tt
+made_kept done (Ok value) old then new P Unless after unmade holds = tt
 made_kept done (Err fault) old then new P Unless (inl (is, kept)) unmade holds =
     subst (λ made. Unless fault ((made ≡ old) × P)) (sym kept) (subst (λ done. IfErr done (λ fault. Unless fault ((then ≡ old) × P))) is holds)
 made_kept done (Err fault) old then new P Unless (inr (is, all)) unmade holds =

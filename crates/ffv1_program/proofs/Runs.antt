@@ -7,28 +7,28 @@ use Rattle.ffv1_commands.specs.declared.path.CommandPath.{CommandPath}
 
 -- that all was done is returned as `true`, and a fault as it is
 abbrev pub IsAllDone : Result (Unit {0}) CliFault → Result Bool CliFault → Type 0
-IsAllDone done result = MatchResult result (λ answer. (answer ≡ true) × (done ≡ Ok tt)) (λ fault. done ≡ Err fault)
+IsAllDone done result = MatchResult result (λ value. (value ≡ true) × (done ≡ Ok tt)) (λ fault. done ≡ Err fault)
 
 pub all_ok : (done : Result (Unit {0}) CliFault) (result : Result Bool CliFault) (P : Type 0) → IsAllDone done result → OnOk done P
-    → IfOk result (λ answer. (answer ≡ true) × P)
-all_ok done (Ok answer) P is holds = (is.0, subst (λ done. OnOk done P) is.1 holds)
+    → IfOk result (λ value. (value ≡ true) × P)
+all_ok done (Ok value) P is holds = (is.0, subst (λ done. OnOk done P) is.1 holds)
 all_ok done (Err fault) P is holds = tt
 
 -- the same beside what holds anyhow
 pub all_ok_beside : (done : Result (Unit {0}) CliFault) (result : Result Bool CliFault) (P Q : Type 0) → IsAllDone done result → P → OnOk done Q
-    → IfOk result (λ answer. (answer ≡ true) × P × Q)
-all_ok_beside done (Ok answer) P Q is holds did = (is.0, holds, subst (λ done. OnOk done Q) is.1 did)
+    → IfOk result (λ value. (value ≡ true) × P × Q)
+all_ok_beside done (Ok value) P Q is holds did = (is.0, holds, subst (λ done. OnOk done Q) is.1 did)
 all_ok_beside done (Err fault) P Q is holds did = tt
 
 pub all_err : (done : Result (Unit {0}) CliFault) (result : Result Bool CliFault) (P : CliFault → Type 0) → IsAllDone done result → IfErr done P
     → IfErr result P
-all_err done (Ok answer) P is holds = tt
+all_err done (Ok value) P is holds = tt
 all_err done (Err fault) P is holds = subst (λ done. IfErr done P) is holds
 
 -- a fault that is returned is this one
 pub all_err_of : (done : Result (Unit {0}) CliFault) (result : Result Bool CliFault) (fault : CliFault) → IsAllDone done result → IsErrOf done fault
     → IsErrOf result fault
-all_err_of done (Ok answer) fault is err = cc (is.1, err)
+all_err_of done (Ok value) fault is err = cc (is.1, err)
 all_err_of done (Err other) fault is err = cc (is, err)
 
 -- nothing is said of what is returned

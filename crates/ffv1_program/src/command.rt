@@ -61,7 +61,7 @@ fn print_version<W: Write>(output: &mut W) -> Result<(), CliFault>
 
 /// What a command returns that has no more to say than that it was done.
 fn all_done(done: Result<(), CliFault>) -> Result<bool, CliFault>
-    ensures { MatchResult result (λ answer. (answer ≡ true) × (done ≡ Ok tt)) (λ fault. done ≡ Err fault) }
+    ensures { MatchResult result (λ all. (all ≡ true) × (done ≡ Ok tt)) (λ fault. done ≡ Err fault) }
 {
     match done {
         Ok(()) => Ok(true),

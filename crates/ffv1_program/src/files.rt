@@ -56,12 +56,12 @@ pub(crate) fn make_after<O: MakeFile>(
     made: &mut O,
 ) -> Result<bool, CliFault>
     ensures bytes { O.contents made.new ≡ O.contents made.old }
-    ensures ok { IfOk result (λ answer. (done ≡ Ok answer) × O.is_made made.new) }
-    ensures err { IfErr result (λ fault. ((done ≡ Err fault) × (made.new ≡ made.old)) ⊎ IsUnmade (λ answer. done ≡ Ok answer) fault) }
+    ensures ok { IfOk result (λ all. (done ≡ Ok all) × O.is_made made.new) }
+    ensures err { IfErr result (λ fault. ((done ≡ Err fault) × (made.new ≡ made.old)) ⊎ IsUnmade (λ all. done ≡ Ok all) fault) }
 {
     match done {
-        Ok(answer) => match made.make() {
-            Ok(()) => Ok(answer),
+        Ok(all) => match made.make() {
+            Ok(()) => Ok(all),
             Err(_) => Err(CliFault::Write(CommandPath::Out)),
         },
         Err(fault) => Err(fault),
