@@ -7,8 +7,8 @@ fn bits_come_most_significant_first(rt: HostRuntime) {
     let first = (bits.take(3), bits.bit(), bits.fork().take(8));
     let places = (bits.place(), bits.left());
     let last = (bits.take(12), bits.bit(), bits.place(), bits.left());
-    assert!(rt; first == (Some(5), Some(true), Some(0x60)) && places == (4, 12));
-    assert!(rt; last == (Some(0x60F), None, 16, 0));
+    let wanted = ((Some(5), Some(true), Some(0x60)), (4, 12));
+    assert!(rt; ((first, places), last) == (wanted, (Some(0x60F), None, 16, 0)));
 }
 
 /// How many of the bits of `FF FF FF` are taken next, what they are, and the place after them.
@@ -48,7 +48,10 @@ fn a_look_ahead_reads_nothing(rt: HostRuntime) {
         bits.left(),
     );
     let last = (is_skipped(&mut bits, 12), bits.peek(), bits.take(12));
-    assert!(rt; first == Some(0xB6_0F12_3456_789A));
-    assert!(rt; second == (true, Some(0x60_F123_4567_89AB), 4, 68));
-    assert!(rt; last == (true, None, Some(0x123)));
+    let wanted = (
+        Some(0xB6_0F12_3456_789A),
+        (true, Some(0x60_F123_4567_89AB), 4, 68),
+        (true, None, Some(0x123)),
+    );
+    assert!(rt; (first, second, last) == wanted);
 }

@@ -5,7 +5,7 @@ ghost use Rattle.ffv1_range.specs.Tiles.{plane_count, grid_of};
 use crate::frames::setup_of;
 use ffv1_range::{Setup, TileRect};
 use ffv1_vectors::SuiteTables;
-use std::test::Fail;
+use std::alloc::Global;
 
 /// A rectangle of these columns and rows.
 fn rect(x: u32, y: u32, w: u32, h: u32) -> Option<TileRect> {
@@ -54,34 +54,47 @@ fn plane_size_of(setup: &Setup, plane: usize) -> Option<TileRect> {
     }
 }
 
-#[test]
-fn chroma_rectangles_overlap(rt: HostRuntime) -> Result<(), Fail> {
-    let alloc = rt.alloc();
-    let setup = setup_of(alloc, SuiteTables::OneRun, Some((1, 1)), (2, 1), (6, 2))?;
-    let tiles = [tile_of(&setup, 0), tile_of(&setup, 1)];
+/// Whether a setup of 6 x 2 samples has chroma rectangles that overlap.
+fn overlaps(setup: &Setup) -> bool {
+    let tiles = [tile_of(setup, 0), tile_of(setup, 1)];
     let planes = [
-        plane_rect_of(&setup, 0, 1),
-        plane_rect_of(&setup, 1, 2),
-        plane_size_of(&setup, 1),
+        plane_rect_of(setup, 0, 1),
+        plane_rect_of(setup, 1, 2),
+        plane_size_of(setup, 1),
     ];
     let wanted = (
         (2, 1, 2),
         [rect(0, 0, 3, 2), rect(3, 0, 3, 2)],
         [rect(0, 0, 2, 1), rect(1, 0, 2, 1), rect(0, 0, 3, 1)],
     );
-    assert!(rt; (counts(&setup), tiles, planes) == wanted);
-    Ok(())
+    (counts(setup), tiles, planes) == wanted
+}
+
+/// Whether a setup of 3 x 2 samples has a chroma column in no tile.
+fn leaves_a_column(setup: &Setup) -> bool {
+    let planes = [
+        plane_rect_of(setup, 0, 1),
+        plane_rect_of(setup, 1, 1),
+        plane_size_of(setup, 2),
+    ];
+    planes == [rect(0, 0, 1, 1), rect(0, 0, 1, 1), rect(0, 0, 2, 1)]
+}
+
+/// Whether frames of this width have such rectangles, or such a column.
+fn is_shaped(alloc: Global, width: u32) -> bool {
+    match setup_of(alloc, SuiteTables::OneRun, Some((1, 1)), (2, 1), (width, 2)) {
+        Ok(setup) if width == 6 => overlaps(&setup),
+        Ok(setup) => leaves_a_column(&setup),
+        Err(_) => false,
+    }
 }
 
 #[test]
-fn chroma_column_in_no_tile(rt: HostRuntime) -> Result<(), Fail> {
-    let alloc = rt.alloc();
-    let setup = setup_of(alloc, SuiteTables::OneRun, Some((1, 1)), (2, 1), (3, 2))?;
-    let planes = [
-        plane_rect_of(&setup, 0, 1),
-        plane_rect_of(&setup, 1, 1),
-        plane_size_of(&setup, 2),
-    ];
-    assert!(rt; planes == [rect(0, 0, 1, 1), rect(0, 0, 1, 1), rect(0, 0, 2, 1)]);
-    Ok(())
+fn chroma_rectangles_overlap(rt: HostRuntime) {
+    assert!(rt; is_shaped(rt.alloc(), 6));
+}
+
+#[test]
+fn chroma_column_in_no_tile(rt: HostRuntime) {
+    assert!(rt; is_shaped(rt.alloc(), 3));
 }

@@ -3,7 +3,7 @@ use crate::frames::{are_zeros, frame_of, setup_by, setup_of};
 use ffv1_bits::{
     Bits, FILE_LIMIT, GREATEST_SIDE, MOST_TILES, PAYLOAD_LIMIT, RECORD_LIMIT, SLICE_LIMIT,
 };
-use ffv1_plane::{TileFault, TilePicture, decode_tile};
+use ffv1_plane::{TilePicture, decode_tile};
 use ffv1_range::{Setup, SetupFault, TileRect};
 use ffv1_rice::{RunIndex, RunWord};
 use ffv1_slice::Chain;
@@ -13,14 +13,13 @@ use ffv1_vectors::{
 };
 use ffv1_weave::{MOST_COMBINATIONS, MOST_REPAIRS};
 use std::alloc::{AllocError, Global};
-use std::test::Fail;
 
 #[test]
 fn limits_are_these_numbers(rt: HostRuntime) {
-    assert!(rt; GREATEST_SIDE == 65535 && MOST_TILES == 4096);
-    assert!(rt; PAYLOAD_LIMIT == 1_073_741_824 && SLICE_LIMIT == 16_777_223);
-    assert!(rt; RECORD_LIMIT == 16_777_216 && FILE_LIMIT == 2_147_483_648);
-    assert!(rt; MOST_COMBINATIONS == 4096 && MOST_REPAIRS == 1_048_576);
+    let most = (GREATEST_SIDE, MOST_TILES, MOST_COMBINATIONS, MOST_REPAIRS);
+    let limits = (PAYLOAD_LIMIT, SLICE_LIMIT, RECORD_LIMIT, FILE_LIMIT);
+    let wanted = (1_073_741_824, 16_777_223, 16_777_216, 2_147_483_648);
+    assert!(rt; (most, limits) == ((65535, 4096, 4096, 1_048_576), wanted));
 }
 
 /// What a gray record of a grid is to say, its tables of one run each.
@@ -46,8 +45,10 @@ fn greatest_setup(alloc: Global, grid: (u32, u32)) -> Result<Setup, MakeFault> {
 
 /// Why the record of one tile is refused for frames of this size.
 fn size_fault(alloc: Global, width: u32, height: u32) -> Result<Option<SetupFault>, MakeFault> {
-    let record = make_record(alloc, &gray_spec(alloc, (1, 1))?)?;
-    Ok(Setup::read(alloc, &record, width, height).err())
+    match make_record(alloc, &gray_spec(alloc, (1, 1))?) {
+        Ok(record) => Ok(Setup::read(alloc, &record, width, height).err()),
+        Err(fault) => Err(fault),
+    }
 }
 
 /// Sizes of frames, and why they are refused.
@@ -68,7 +69,21 @@ fn sides_end_at_65535(rt: HostRuntime) {
 
 /// How many tiles a record of this grid has that is made.
 fn made_tiles(alloc: Global, grid: (u32, u32)) -> Result<usize, MakeFault> {
-    Ok(greatest_setup(alloc, grid)?.grid().tiles())
+    match greatest_setup(alloc, grid) {
+        Ok(setup) => Ok(setup.grid().tiles()),
+        Err(fault) => Err(fault),
+    }
+}
+
+/// Why a record that was spelled is not read for the greatest frames.
+fn read_fault(
+    alloc: Global,
+    record: Result<Vec<u8>, MakeFault>,
+) -> Result<Option<SetupFault>, MakeFault> {
+    match record {
+        Ok(record) => Ok(Setup::read(alloc, &record, GREATEST_SIDE, GREATEST_SIDE).err()),
+        Err(fault) => Err(fault),
+    }
 }
 
 /// Why a record of this grid is not made, and why it is not read where it is spelled.
@@ -77,10 +92,8 @@ fn refused_grid(
     grid: (u32, u32),
 ) -> Result<(Option<MakeFault>, Option<SetupFault>), MakeFault> {
     let spec = gray_spec(alloc, grid)?;
-    let made = make_record(alloc, &spec).err();
-    let record = spell_record(alloc, &spec)?;
-    let read = Setup::read(alloc, &record, GREATEST_SIDE, GREATEST_SIDE).err();
-    Ok((made, read))
+    let read = read_fault(alloc, spell_record(alloc, &spec))?;
+    Ok((make_record(alloc, &spec).err(), read))
 }
 
 /// Grids of as many tiles as there may be.
@@ -102,9 +115,13 @@ fn tiles_end_at_4096(rt: HostRuntime) {
 
 /// Where the last tile of the greatest frames of a grid lies.
 fn last_tile(alloc: Global, grid: (u32, u32)) -> Result<TileRect, MakeFault> {
-    let setup = greatest_setup(alloc, grid)?;
-    let grid = setup.grid();
-    Ok(grid.tile(grid.tiles() - 1))
+    match greatest_setup(alloc, grid) {
+        Ok(setup) => {
+            let grid = setup.grid();
+            Ok(grid.tile(grid.tiles() - 1))
+        }
+        Err(fault) => Err(fault),
+    }
 }
 
 #[test]
@@ -146,12 +163,22 @@ fn is_decoded(
     setup: &Setup,
     content: &[u8],
     (samples, spare_bits): (usize, usize),
-) -> Result<bool, TileFault> {
+) -> bool {
     if setup.grid().tiles() == 0 || content.len() > 1 << 30 {
-        return Ok(false);
+        return false;
     }
-    let picture = decode_tile(alloc, setup, 0, content)?;
-    Ok(is_zeros(&picture, samples) && picture.spare_bits == spare_bits)
+    match decode_tile(alloc, setup, 0, content) {
+        Ok(picture) => picture.spare_bits == spare_bits && is_zeros(&picture, samples),
+        Err(_) => false,
+    }
+}
+
+/// Whether the frame of zeros is made with this content.
+fn is_coded(alloc: Global, setup: &Setup, content: &[u8]) -> bool {
+    match zeros(alloc, setup) {
+        Ok(frame) => has_content(&frame, content),
+        Err(_) => false,
+    }
 }
 
 /// Rows of 65535 zeros, how many zeros they are, the content of their slice, and its bits to spare.
@@ -167,20 +194,23 @@ fn codes_zeros(
     rows: u32,
     content: &[u8],
     zeros_and_spare: (usize, usize),
-) -> Result<(bool, bool), Fail> {
+) -> (bool, bool) {
     let size = (GREATEST_SIDE, rows);
-    let setup = setup_of(alloc, SuiteTables::OneRun, None, (1, 1), size)?;
-    let made = has_content(&zeros(alloc, &setup)?, content);
-    Ok((made, is_decoded(alloc, &setup, content, zeros_and_spare)?))
+    match setup_of(alloc, SuiteTables::OneRun, None, (1, 1), size) {
+        Ok(setup) => (
+            is_coded(alloc, &setup, content),
+            is_decoded(alloc, &setup, content, zeros_and_spare),
+        ),
+        Err(_) => (false, false),
+    }
 }
 
 #[test]
-fn longest_lines_of_zeros(rt: HostRuntime) -> Result<(), Fail> {
+fn longest_lines_of_zeros(rt: HostRuntime) {
     for &(rows, samples, content, spare_bits) in &LINES {
-        let reported = codes_zeros(rt.alloc(), rows, content, (samples, spare_bits))?;
+        let reported = codes_zeros(rt.alloc(), rows, content, (samples, spare_bits));
         assert!(rt; reported == (true, true));
     }
-    Ok(())
 }
 
 /// The last word of a line of 65535 zeros at this index, and the index after the line.

@@ -1,13 +1,13 @@
 //! Tiles decoded to their samples, and refused.
 ghost use Rattle.std.specs.Prelude.{◌≤◌, length};
 
+use crate::frames::are_zeros;
 use crate::recorded;
-use ffv1_bits::{Bits, remainder};
+use ffv1_bits::{Bits, remainder, remainder_after};
 use ffv1_plane::{TileFault, TilePicture, decode_tile};
 use ffv1_range::{HeadFault, RangeFault, Setup};
 use ffv1_rice::{CodeFault, RunIndex, RunWord, VlcState};
 use std::alloc::Global;
-use std::test::*;
 
 /// A gray record whose tables are one run each.
 const GRAY: [u8; 18] = [
@@ -27,28 +27,30 @@ const TWO_CONTEXTS: [u8; 19] = [
     0x8E, 0x4F, 0xE6,
 ];
 
-/// The picture of a tile, whose number has to be one of the setup's.
+/// The picture of a tile, if the setup has it.
 fn decoded(
     alloc: Global,
     setup: &Setup,
     tile: usize,
     content: &[u8],
-) -> Result<Result<TilePicture, TileFault>, Fail> {
+) -> Option<Result<TilePicture, TileFault>> {
     if tile >= setup.grid().tiles() || content.len() > 1 << 30 {
-        return Err("no tile of the setup".into());
+        return None;
     }
-    Ok(decode_tile(alloc, setup, tile, content))
+    Some(decode_tile(alloc, setup, tile, content))
 }
 
-/// The picture of a frame of one tile.
+/// The picture of a frame of one tile, or why there is none; `None` where there is no setup.
 fn one_tile(
     alloc: Global,
     record: &[u8],
     (width, height): (u32, u32),
     content: &[u8],
-) -> Result<TilePicture, Fail> {
-    let setup = Setup::read(alloc, record, width, height)?;
-    Ok(decoded(alloc, &setup, 0, content)??)
+) -> Option<Result<TilePicture, TileFault>> {
+    match Setup::read(alloc, record, width, height) {
+        Ok(setup) => decoded(alloc, &setup, 0, content),
+        Err(_) => None,
+    }
 }
 
 /// Whether a picture has just these planes, and so many spare bits.
@@ -118,12 +120,14 @@ static WORKED: [Worked; 12] = [
 ];
 
 #[test]
-fn worked_tiles_have_their_samples(rt: HostRuntime) -> Result<(), Fail> {
+fn worked_tiles_have_their_samples(rt: HostRuntime) {
     for &(record, size, content, planes, spare_bits) in &WORKED {
-        let picture = one_tile(rt.alloc(), record, size, content)?;
-        assert!(rt; is_picture(&picture, planes, spare_bits));
+        let is_worked = match one_tile(rt.alloc(), record, size, content) {
+            Some(Ok(picture)) => is_picture(&picture, planes, spare_bits),
+            _ => false,
+        };
+        assert!(rt; is_worked);
     }
-    Ok(())
 }
 
 /// Contents of gray frames of these sizes with a fault of a code, and the row and column of its sample.
@@ -172,30 +176,24 @@ static UNREADABLE: [(&[u8], (u32, u32), CodeFault, usize, usize); 8] = [
 ];
 
 /// Why a content of a gray frame of this size is no picture, if it is none.
-fn gray_fault(
-    alloc: Global,
-    content: &[u8],
-    (width, height): (u32, u32),
-) -> Result<Option<TileFault>, Fail> {
-    let setup = Setup::read(alloc, &GRAY, width, height)?;
-    Ok(decoded(alloc, &setup, 0, content)?.err())
+fn gray_fault(alloc: Global, content: &[u8], size: (u32, u32)) -> Option<TileFault> {
+    match one_tile(alloc, &GRAY, size, content) {
+        Some(picture) => picture.err(),
+        None => None,
+    }
 }
 
 #[test]
-fn codes_without_a_sample_are_reported(rt: HostRuntime) -> Result<(), Fail> {
+fn codes_without_a_sample_are_reported(rt: HostRuntime) {
     for &(content, size, fault, y, x) in &UNREADABLE {
-        let reported = gray_fault(rt.alloc(), content, size)?;
-        assert!(rt;
-            reported
-                == Some(TileFault::Code {
-                    fault,
-                    plane: 0,
-                    y,
-                    x
-                })
-        );
+        let wanted = TileFault::Code {
+            fault,
+            plane: 0,
+            y,
+            x,
+        };
+        assert!(rt; gray_fault(rt.alloc(), content, size) == Some(wanted));
     }
-    Ok(())
 }
 
 /// Contents without a header of the tile, and why.
@@ -205,12 +203,10 @@ static HEADLESS: [(&[u8], HeadFault); 2] = [
 ];
 
 #[test]
-fn contents_without_a_header_are_reported(rt: HostRuntime) -> Result<(), Fail> {
+fn contents_without_a_header_are_reported(rt: HostRuntime) {
     for &(content, fault) in &HEADLESS {
-        let reported = gray_fault(rt.alloc(), content, (1, 1))?;
-        assert!(rt; reported == Some(TileFault::Head(fault)));
+        assert!(rt; gray_fault(rt.alloc(), content, (1, 1)) == Some(TileFault::Head(fault)));
     }
-    Ok(())
 }
 
 /// What is read of a tile's bits after its header: the word of a run with so many samples left, or a level.
@@ -256,11 +252,17 @@ fn a_worked_tile_ends_with_its_state(rt: HostRuntime) {
         Step::Word(1, RunWord::Rest(0)),
         Step::Level(1),
     ];
-    for (count, state, index) in [(2, (0, 8, 1, 2), 0), (6, (-1, 9, 1, 3), 1)] {
-        let mut bits = Bits::new(&[0x13, 0x50]);
-        let read = read_plane(&mut bits, &mut VlcState::start(), &steps[..count]);
-        assert!(rt; read == Some((state, index)));
-    }
+    let two = read_plane(
+        &mut Bits::new(&[0x13, 0x50]),
+        &mut VlcState::start(),
+        &steps[..2],
+    );
+    let all = read_plane(
+        &mut Bits::new(&[0x13, 0x50]),
+        &mut VlcState::start(),
+        &steps,
+    );
+    assert!(rt; (two, all) == (Some(((0, 8, 1, 2), 0)), Some(((-1, 9, 1, 3), 1))));
 }
 
 #[test]
@@ -274,8 +276,12 @@ fn cr_goes_on_with_the_state_of_cb(rt: HostRuntime) {
     let y = read_plane(&mut bits, &mut luma, &run);
     let cb = read_plane(&mut bits, &mut chroma, &five);
     let cr = read_plane(&mut bits, &mut chroma, &five);
-    assert!(rt; y == Some(((0, 4, 0, 1), 1)) && bits.left() == 4);
-    assert!(rt; cb == Some(((0, 8, 1, 2), 0)) && cr == Some(((0, 11, 2, 3), 0)));
+    let wanted = (
+        Some(((0, 4, 0, 1), 1)),
+        Some(((0, 8, 1, 2), 0)),
+        Some(((0, 11, 2, 3), 0)),
+    );
+    assert!(rt; ((y, cb, cr), bits.left()) == (wanted, 4));
 }
 
 /// The run index after a line of so many zeros, or `None` where it is no such line.
@@ -298,23 +304,22 @@ fn index_after_line(bits: &mut Bits<'_>, index: &mut RunIndex, width: u32) -> Op
 fn three_lines_of_16384_zeros_reach_index_31(rt: HostRuntime) {
     let mut bits = Bits::new(&[0xFF, 0xFF, 0xFF, 0xFF, 0x80]);
     let mut index = RunIndex::start();
-    for reached in [29, 30, 31] {
-        assert!(rt; index_after_line(&mut bits, &mut index, 16384) == Some(reached));
-    }
-    assert!(rt; bits.left() == 7);
+    let reached = (
+        index_after_line(&mut bits, &mut index, 16384),
+        index_after_line(&mut bits, &mut index, 16384),
+        index_after_line(&mut bits, &mut index, 16384),
+    );
+    assert!(rt; (reached, bits.left()) == ((Some(29), Some(30), Some(31)), 7));
 }
 
 /// Whether a picture has one plane of so many zeros, and so many spare bits.
 fn is_of_zeros(picture: &TilePicture, samples: usize, spare_bits: usize) -> bool {
-    let [plane] = picture.planes.as_slice() else {
-        return false;
-    };
-    for sample in plane {
-        if *sample != 0 {
-            return false;
+    match picture.planes.as_slice() {
+        [plane] => {
+            plane.len() == samples && picture.spare_bits == spare_bits && are_zeros(plane)
         }
+        _ => false,
     }
-    plane.len() == samples && picture.spare_bits == spare_bits
 }
 
 /// Contents of zeros in lines of 16384 samples, how many lines and samples they are, and their spare bits.
@@ -331,56 +336,43 @@ static ZEROS: [(&[u8], u32, usize, usize); 2] = [
 ];
 
 #[test]
-fn lines_of_zeros(rt: HostRuntime) -> Result<(), Fail> {
+fn lines_of_zeros(rt: HostRuntime) {
     for &(content, height, samples, spare_bits) in &ZEROS {
-        let picture = one_tile(rt.alloc(), &GRAY, (16384, height), content)?;
-        assert!(rt; is_of_zeros(&picture, samples, spare_bits));
+        let are_zeros = match one_tile(rt.alloc(), &GRAY, (16384, height), content) {
+            Some(Ok(picture)) => is_of_zeros(&picture, samples, spare_bits),
+            _ => false,
+        };
+        assert!(rt; are_zeros);
     }
-    Ok(())
 }
 
 /// The remainder of samples, followed by four bytes of 0.
-fn remainder_of(alloc: Global, samples: &[u8]) -> Result<u32, Fail> {
-    let mut bytes = Vec::from_slice(alloc, samples)?;
-    bytes.extend_from_slice(&[0; 4])?;
-    Ok(remainder(&bytes))
+fn remainder_of(samples: &[u8]) -> u32 {
+    remainder_after(remainder(samples), &[0; 4])
 }
 
 /// Whether the planes of a picture have these remainders.
-fn has_remainders(alloc: Global, picture: &TilePicture, remainders: &[u32]) -> Result<bool, Fail> {
+fn has_remainders(picture: &TilePicture, remainders: &[u32]) -> bool {
     for (plane, wanted) in picture.planes.iter().zip(remainders) {
-        if remainder_of(alloc, plane)? != *wanted {
-            return Ok(false);
+        if remainder_of(plane) != *wanted {
+            return false;
         }
     }
-    Ok(picture.planes.len() == remainders.len())
-}
-
-/// Whether a tile of a recorded frame is decoded to the samples of these remainders.
-fn is_tile_as_recorded(
-    alloc: Global,
-    setup: &Setup,
-    tile: usize,
-    (content, wanted): (&[u8], &[u32]),
-) -> Result<bool, Fail> {
-    let picture = decoded(alloc, setup, tile, content)??;
-    has_remainders(alloc, &picture, wanted)
+    picture.planes.len() == remainders.len()
 }
 
 /// Whether each tile of a recorded frame is decoded to the samples of these remainders.
-fn is_as_recorded(
-    alloc: Global,
-    record: &[u8],
-    (width, height): (u32, u32),
-    tiles: &[(&[u8], &[u32])],
-) -> Result<bool, Fail> {
-    let setup = Setup::read(alloc, record, width, height)?;
+fn are_as_recorded(alloc: Global, setup: &Setup, tiles: &[(&[u8], &[u32])]) -> bool {
     for (tile, row) in tiles.iter().enumerate() {
-        if !is_tile_as_recorded(alloc, &setup, tile, *row)? {
-            return Ok(false);
+        let is_as_recorded = match decoded(alloc, setup, tile, row.0) {
+            Some(Ok(picture)) => has_remainders(&picture, row.1),
+            _ => false,
+        };
+        if !is_as_recorded {
+            return false;
         }
     }
-    Ok(true)
+    true
 }
 
 /// A record, a frame's size, and for each tile its content and the remainders of its planes.
@@ -398,9 +390,12 @@ static FRAMES: [Recorded; 4] = [
 ];
 
 #[test]
-fn recorded_frames_are_as_ffmpeg_decodes_them(rt: HostRuntime) -> Result<(), Fail> {
-    for &(record, size, tiles) in &FRAMES {
-        assert!(rt; is_as_recorded(rt.alloc(), record, size, tiles)?);
+fn recorded_frames_are_as_ffmpeg_decodes_them(rt: HostRuntime) {
+    for &(record, (width, height), tiles) in &FRAMES {
+        let is_as_recorded = match Setup::read(rt.alloc(), record, width, height) {
+            Ok(setup) => are_as_recorded(rt.alloc(), &setup, tiles),
+            Err(_) => false,
+        };
+        assert!(rt; is_as_recorded);
     }
-    Ok(())
 }

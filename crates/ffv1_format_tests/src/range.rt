@@ -5,7 +5,6 @@ ghost use Rattle.ffv1_range.specs.Decoder.{AreStates};
 use crate::recorded;
 use ffv1_range::{RangeDecoder, RangeFault, Setup, SetupFault};
 use std::alloc::Global;
-use std::test::Fail;
 
 /// A row of states before its first bit.
 fn fresh_row() -> [u8; 32]
@@ -32,16 +31,6 @@ fn reads_signed(decoder: &mut RangeDecoder<'_>, values: &[i64]) -> bool {
     let mut states = fresh_row();
     for value in values {
         if decoder.signed(&mut states) != Ok(*value) {
-            return false;
-        }
-    }
-    true
-}
-
-/// Whether each of these records is refused so for frames of the greatest size.
-fn are_refused(alloc: Global, refusals: &[(&[u8], SetupFault)]) -> bool {
-    for (record, fault) in refusals {
-        if Setup::read(alloc, record, 65535, 65535).err() != Some(*fault) {
             return false;
         }
     }
@@ -125,8 +114,9 @@ fn length_parity_and_size_are_judged_first(rt: HostRuntime) {
     }
 }
 
-/// Records with values that can't be read.
-static UNREADABLE: [(&[u8], SetupFault); 2] = [
+/// Records that are refused for frames of the greatest size, and why.
+static REFUSED: [(&[u8], SetupFault); 16] = [
+    // values that can't be read
     (
         &[0xFF, 0x00, 0x4E, 0xBF, 0x24, 0xC9],
         SetupFault::Range(RangeFault::Start),
@@ -135,15 +125,7 @@ static UNREADABLE: [(&[u8], SetupFault); 2] = [
         &[0x7F, 0x7F, 0xFD, 0x2F, 0x3C, 0xDD, 0x76],
         SetupFault::Range(RangeFault::SymbolTooLong),
     ),
-];
-
-#[test]
-fn values_that_cannot_be_read_are_refused(rt: HostRuntime) {
-    assert!(rt; are_refused(rt.alloc(), &UNREADABLE));
-}
-
-/// Records of other codings, and why they are refused.
-static OTHER_CODINGS: [(&[u8], SetupFault); 5] = [
+    // other codings
     (
         &[
             0x61, 0x36, 0x56, 0x1D, 0x79, 0xDF, 0xBF, 0x7E, 0xFD, 0xFB, 0xF7, 0xEF, 0xD8, 0xD4,
@@ -179,15 +161,7 @@ static OTHER_CODINGS: [(&[u8], SetupFault); 5] = [
         ],
         SetupFault::Depth,
     ),
-];
-
-#[test]
-fn other_codings_are_refused(rt: HostRuntime) {
-    assert!(rt; are_refused(rt.alloc(), &OTHER_CODINGS));
-}
-
-/// Records of other planes or too many tiles, and why they are refused.
-static OTHER_PLANES: [(&[u8], SetupFault); 4] = [
+    // other planes or too many tiles
     (
         &[
             0x56, 0x2B, 0x84, 0x92, 0x76, 0xC7, 0x8F, 0x1E, 0x3C, 0x78, 0xF1, 0xE3, 0xB0, 0x82,
@@ -216,15 +190,7 @@ static OTHER_PLANES: [(&[u8], SetupFault); 4] = [
         ],
         SetupFault::TooManyTiles,
     ),
-];
-
-#[test]
-fn other_planes_and_grids_are_refused(rt: HostRuntime) {
-    assert!(rt; are_refused(rt.alloc(), &OTHER_PLANES));
-}
-
-/// Records of other tables or parities, and why they are refused.
-static OTHER_TABLES: [(&[u8], SetupFault); 5] = [
+    // other tables or parities
     (
         &[
             0x56, 0x2B, 0x83, 0xDF, 0x90, 0x26, 0x4C, 0x99, 0x32, 0x64, 0xC9, 0x92, 0xEE, 0xF0,
@@ -263,8 +229,10 @@ static OTHER_TABLES: [(&[u8], SetupFault); 5] = [
 ];
 
 #[test]
-fn other_tables_are_refused(rt: HostRuntime) {
-    assert!(rt; are_refused(rt.alloc(), &OTHER_TABLES));
+fn records_of_other_values_are_refused(rt: HostRuntime) {
+    for &(record, fault) in &REFUSED {
+        assert!(rt; Setup::read(rt.alloc(), record, 65535, 65535).err() == Some(fault));
+    }
 }
 
 /// A record of 4:2:0 frames of 720 x 576 samples in 6 x 4 tiles.
@@ -298,12 +266,14 @@ fn has_chroma(setup: &Setup, has_chroma: bool, shifts: [u32; 2]) -> bool {
 }
 
 #[test]
-fn recorded_records_are_read(rt: HostRuntime) -> Result<(), Fail> {
+fn recorded_records_are_read(rt: HostRuntime) {
     for &(record, size_and_grid, chroma, shifts) in &RECORDED {
-        let setup = Setup::read(rt.alloc(), record, size_and_grid[0], size_and_grid[1])?;
-        assert!(rt; is_recorded(&setup, size_and_grid) && has_chroma(&setup, chroma, shifts));
+        let is_read = match Setup::read(rt.alloc(), record, size_and_grid[0], size_and_grid[1]) {
+            Ok(setup) => is_recorded(&setup, size_and_grid) && has_chroma(&setup, chroma, shifts),
+            Err(_) => false,
+        };
+        assert!(rt; is_read);
     }
-    Ok(())
 }
 
 /// Sizes of frames in 6 x 4 tiles, and whether they are refused.
@@ -355,10 +325,12 @@ fn has_entries(setup: &Setup, entries: &[(usize, usize, i32)]) -> bool {
 }
 
 #[test]
-fn entries_count_the_runs_that_have_ended(rt: HostRuntime) -> Result<(), Fail> {
-    let setup = Setup::read(rt.alloc(), &THREE_RUNS, 1, 1)?;
-    assert!(rt; has_entries(&setup, &ENTRIES));
-    Ok(())
+fn entries_count_the_runs_that_have_ended(rt: HostRuntime) {
+    let are_counted = match Setup::read(rt.alloc(), &THREE_RUNS, 1, 1) {
+        Ok(setup) => has_entries(&setup, &ENTRIES),
+        Err(_) => false,
+    };
+    assert!(rt; are_counted);
 }
 
 /// A gray record of two sets, the second with two contexts, and a delta for each state.
@@ -401,10 +373,12 @@ static MORE_FIELDS: [(&[u8], usize, u32, u32); 3] = [
 ];
 
 #[test]
-fn what_is_not_needed_is_dropped(rt: HostRuntime) -> Result<(), Fail> {
+fn what_is_not_needed_is_dropped(rt: HostRuntime) {
     for &(record, sets, first, last) in &MORE_FIELDS {
-        let setup = Setup::read(rt.alloc(), record, 1, 1)?;
-        assert!(rt; has_contexts(&setup, sets, first, last));
+        let is_dropped = match Setup::read(rt.alloc(), record, 1, 1) {
+            Ok(setup) => has_contexts(&setup, sets, first, last),
+            Err(_) => false,
+        };
+        assert!(rt; is_dropped);
     }
-    Ok(())
 }

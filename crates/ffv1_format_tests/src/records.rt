@@ -8,7 +8,6 @@ use ffv1_range::{HeadFault, RangeFault, Setup, SetupFault};
 use ffv1_slice::{LinkFault, read_slice};
 use ffv1_vectors::{MakeFault, RangeEncoder, RecordSpec, make_record, spell_record, spell_slice};
 use std::alloc::{AllocError, Global};
-use std::test::Fail;
 
 const ONE: &[u32] = &[128];
 
@@ -82,15 +81,22 @@ fn beyond_from(alloc: Global, right: usize) -> Result<RecordSpec, AllocError> {
     })
 }
 
-/// Why a record is refused, for frames of this side.
-fn fault_of(alloc: Global, record: Vec<u8>, side: u32) -> Option<SetupFault> {
-    Setup::read(alloc, &record, side, side).err()
+/// Why a record that was made is refused, for frames of this side.
+fn fault_of(
+    alloc: Global,
+    record: Result<Vec<u8>, MakeFault>,
+    side: u32,
+) -> Result<Option<SetupFault>, MakeFault> {
+    match record {
+        Ok(record) => Ok(Setup::read(alloc, &record, side, side).err()),
+        Err(fault) => Err(fault),
+    }
 }
 
 /// Why a record of which so many fields are of the profile is refused, for frames of this side.
 fn front_fault(alloc: Global, right: usize, side: u32) -> Result<Option<SetupFault>, MakeFault> {
-    let record = spell_record(alloc, &beyond_from(alloc, right)?)?;
-    Ok(fault_of(alloc, record, side))
+    let spec = beyond_from(alloc, right)?;
+    fault_of(alloc, spell_record(alloc, &spec), side)
 }
 
 /// How many fields are of the profile, the side of the frames, and why the record is refused for them.
@@ -208,15 +214,13 @@ fn says_deltas(setup: &Setup) -> bool {
         && (setup.contexts(0), setup.contexts(1)) == (5, 2)
 }
 
-/// Whether a record reads as that record says.
-fn reads_deltas(alloc: Global, record: &[u8]) -> Result<bool, SetupFault> {
-    Ok(says_deltas(&Setup::read(alloc, record, 3, 2)?))
-}
-
 #[test]
 fn deltas_are_written_for_each_context(rt: HostRuntime) {
-    let made = is_made(with_deltas(rt.alloc()), &WITH_DELTAS);
-    assert!(rt; (made, reads_deltas(rt.alloc(), &WITH_DELTAS)) == (true, Ok(true)));
+    let are_read = match Setup::read(rt.alloc(), &WITH_DELTAS, 3, 2) {
+        Ok(setup) => says_deltas(&setup),
+        Err(_) => false,
+    };
+    assert!(rt; is_made(with_deltas(rt.alloc()), &WITH_DELTAS) && are_read);
 }
 
 /// The record of a gray recording of 666 contexts, with such a delta for each of their states.
@@ -233,19 +237,27 @@ fn says_666_contexts(setup: &Setup) -> bool {
         && (setup.entry(0, 2, 127), setup.entry(0, 3, 127)) == (605, 0)
 }
 
-/// The length of the record with such a delta, and whether it reads as that recording says.
-fn read_666_contexts(alloc: Global, delta: Option<i32>) -> Result<(usize, bool), Fail> {
-    let record = of_666_contexts(alloc, delta)?;
-    let said = says_666_contexts(&Setup::read(alloc, &record, 1, 1)?);
-    Ok((record.len(), said))
+/// The length of a record, if it reads as that recording says.
+fn length_read(alloc: Global, record: &[u8]) -> Option<usize> {
+    match Setup::read(alloc, record, 1, 1) {
+        Ok(setup) => says_666_contexts(&setup).then_some(record.len()),
+        Err(_) => None,
+    }
+}
+
+/// The length of the record with such a delta, if it reads as that recording says.
+fn length_of_666_contexts(alloc: Global, delta: Option<i32>) -> Option<usize> {
+    match of_666_contexts(alloc, delta) {
+        Ok(record) => length_read(alloc, &record),
+        Err(_) => None,
+    }
 }
 
 #[test]
-fn deltas_of_666_contexts_are_passed_over(rt: HostRuntime) -> Result<(), Fail> {
-    let (plain, without) = read_666_contexts(rt.alloc(), None)?;
-    let (longer, with) = read_666_contexts(rt.alloc(), Some(-3))?;
-    assert!(rt; (plain < longer, without, with) == (true, true, true));
-    Ok(())
+fn deltas_of_666_contexts_are_passed_over(rt: HostRuntime) {
+    let plain = length_of_666_contexts(rt.alloc(), None);
+    let longer = length_of_666_contexts(rt.alloc(), Some(-3));
+    assert!(rt; plain.is_some() && plain < longer);
 }
 
 /// A record of which nearly nothing is of the profile, as an independent program makes it.
@@ -315,17 +327,18 @@ fn records_that_count_other_sets_are_not_made(rt: HostRuntime) {
     assert!(rt; counted(rt.alloc(), 2).err() == Some(MakeFault::NotSelf));
 }
 
-/// Why the record that says the front of such a symbol alone is refused.
-fn symbol_fault(alloc: Global, count: usize) -> Result<Option<SetupFault>, MakeFault> {
+/// The record that says the front of such a symbol alone.
+fn with_symbol(alloc: Global, count: usize) -> Result<Vec<u8>, MakeFault> {
     let mut encoder = RangeEncoder::new(alloc);
     spell_front(&mut encoder, count)?;
-    Ok(fault_of(alloc, with_parity(encoder.finish_closed()?)?, 1))
+    Ok(with_parity(encoder.finish_closed()?)?)
 }
 
 #[test]
 fn symbols_of_too_many_bits_are_refused(rt: HostRuntime) {
     let too_long = SetupFault::Range(RangeFault::SymbolTooLong);
-    assert!(rt; symbol_fault(rt.alloc(), 32) == Ok(Some(too_long)));
+    let fault = fault_of(rt.alloc(), with_symbol(rt.alloc(), 32), 1);
+    assert!(rt; fault == Ok(Some(too_long)));
 }
 
 /// The fields of a header for the tile in this column.
@@ -377,16 +390,17 @@ fn tiles_beside(alloc: Global, across: u32) -> Result<Setup, MakeFault> {
     setup_by(alloc, &spec, (across, 1))
 }
 
-/// How a slice is read, in a recording of two tiles, that is the first or a later one, with this key bit and these
-/// fields.
-fn read_of(
+/// How a slice that was made is read, in a recording of two tiles, that is the first or a later one.
+fn read_in_two(
     alloc: Global,
-    (first, key): (bool, bool),
-    fields: &[u32; 9],
+    slice: Result<Vec<u8>, MakeFault>,
+    first: bool,
 ) -> Result<Result<usize, LinkFault>, MakeFault> {
-    let setup = tiles_beside(alloc, 2)?;
-    let slice = spell_slice(alloc, first, key, fields, &[0x80], 0)?;
-    Ok(read_slice(&setup, &slice, first))
+    let slice = slice?;
+    match tiles_beside(alloc, 2) {
+        Ok(setup) => Ok(read_slice(&setup, &slice, first)),
+        Err(fault) => Err(fault),
+    }
 }
 
 /// Whether a slice is the first, its key bit, the fields of its header, and the tile it is of, or why it is of none.
@@ -428,7 +442,8 @@ static READ: [(bool, bool, [u32; 9], Result<usize, LinkFault>); 7] = [
 #[test]
 fn slices_are_read_by_their_fields(rt: HostRuntime) {
     for (first, key, fields, wanted) in &READ {
-        assert!(rt; read_of(rt.alloc(), (*first, *key), fields) == Ok(*wanted));
+        let slice = spell_slice(rt.alloc(), *first, *key, fields, &[0x80], 0);
+        assert!(rt; read_in_two(rt.alloc(), slice, *first) == Ok(*wanted));
     }
 }
 
@@ -511,18 +526,20 @@ fn recorded(
     make_record(alloc, &spec)
 }
 
-/// Whether a record is made that FFmpeg wrote.
-fn is_recorded(alloc: Global, record: &[u8], shape: [u32; 6]) -> Result<bool, MakeFault> {
-    let made = recorded(alloc, shape)?;
+/// Whether a record was made that FFmpeg wrote.
+fn is_recorded(made: Result<Vec<u8>, MakeFault>, record: &[u8]) -> bool {
+    let Ok(made) = made else {
+        return false;
+    };
     // FFmpeg wrote a zero byte more after one of them.
     let (front, later) = record.split_at(made.len().min(record.len()));
-    Ok(made.as_slice() == front && are_zeros(later))
+    made.as_slice() == front && are_zeros(later)
 }
 
 #[test]
 fn recorded_records_are_made(rt: HostRuntime) {
     for &(record, shape) in &RECORDED {
-        assert!(rt; is_recorded(rt.alloc(), record, shape) == Ok(true));
+        assert!(rt; is_recorded(recorded(rt.alloc(), shape), record));
     }
 }
 
@@ -560,17 +577,21 @@ fn has_contexts(setup: &Setup, contexts: &[u32]) -> bool {
 }
 
 #[test]
-fn eight_sets_are_read(rt: HostRuntime) -> Result<(), Fail> {
-    let wanted = [1, 2, 3, 6, 6, 3, 128, 1];
-    assert!(rt; has_contexts(&eight_sets(rt.alloc())?, &wanted));
-    Ok(())
+fn eight_sets_are_read(rt: HostRuntime) {
+    let are_read = match eight_sets(rt.alloc()) {
+        Ok(setup) => has_contexts(&setup, &[1, 2, 3, 6, 6, 3, 128, 1]),
+        Err(_) => false,
+    };
+    assert!(rt; are_read);
 }
 
 /// The length of the first slice with so many bytes of codes, and whether it starts with its header and a code.
 fn long_slice(alloc: Global, count: usize) -> Result<(usize, bool), MakeFault> {
     let codes = vec![in alloc; 0x80; count]?;
-    let slice = spell_slice(alloc, true, true, &fields_of(0), &codes, 0)?;
-    Ok((slice.len(), slice.starts_with(&[0xFD, 0xF6, 0x80])))
+    match spell_slice(alloc, true, true, &fields_of(0), &codes, 0) {
+        Ok(slice) => Ok((slice.len(), slice.starts_with(&[0xFD, 0xF6, 0x80]))),
+        Err(fault) => Err(fault),
+    }
 }
 
 #[test]

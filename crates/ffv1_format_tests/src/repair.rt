@@ -1,12 +1,13 @@
 //! Slices of which one bit is wrong in all versions.
 use crate::parity::with_parity;
 use crate::weave::{Damage, version_of};
-use ffv1_weave::{MOST_REPAIRS, repair, vote};
+use ffv1_weave::{Check, MOST_REPAIRS, Outcome, repair, vote, weave};
 use std::alloc::{AllocError, Global};
 
-/// A call that tries what may be a slice where no combination of its versions is one.
+/// A call that puts a slice together of its versions, or tries what may be one where no combination of them is.
 #[derive(Clone, Copy)]
 pub(crate) enum Call {
+    Weave,
     Repair,
     Vote,
 }
@@ -18,8 +19,22 @@ pub(crate) enum Reported {
     Slice(usize),
     Other,
     Nothing,
+    Disputed,
+    /// None of so many combinations.
+    Missing(usize),
+    TooMany,
     /// The versions are of no one length, or there are none.
     Uneven,
+}
+
+/// What comes of weaving, in the words of the other calls; or what else is reported.
+fn woven(outcome: Outcome) -> Result<Option<(Vec<u8>, usize)>, Reported> {
+    match outcome {
+        Outcome::Woven(bytes, count) => Ok(Some((bytes, count))),
+        Outcome::Disputed => Err(Reported::Disputed),
+        Outcome::Missing(count) => Err(Reported::Missing(count)),
+        Outcome::TooMany => Err(Reported::TooMany),
+    }
 }
 
 /// What comes of the call on these versions of a slice.
@@ -37,14 +52,30 @@ fn reported_of(
         return Ok(Reported::Uneven);
     }
     let answer = match call {
-        Call::Repair => repair(alloc, versions)?,
-        Call::Vote => vote(alloc, versions)?,
+        Call::Weave => woven(weave(alloc, Check::Slice, versions)?),
+        Call::Repair => Ok(repair(alloc, versions)?),
+        Call::Vote => Ok(vote(alloc, versions)?),
     };
     Ok(match answer {
-        Some((bytes, count)) if bytes.as_slice() == slice => Reported::Slice(count),
-        Some(_) => Reported::Other,
-        None => Reported::Nothing,
+        Ok(Some((bytes, count))) if bytes.as_slice() == slice => Reported::Slice(count),
+        Ok(Some(_)) => Reported::Other,
+        Ok(None) => Reported::Nothing,
+        Err(reported) => reported,
     })
+}
+
+/// What comes of the call on copies of a slice.
+fn reported_of_copies(
+    alloc: Global,
+    call: Call,
+    slice: &[u8],
+    copies: &[Vec<u8>],
+) -> Result<Reported, AllocError> {
+    let mut versions = Vec::new(alloc);
+    for copy in copies {
+        versions.push(copy.as_slice())?;
+    }
+    reported_of(alloc, call, slice, &versions)
 }
 
 /// What comes of the call on the slice's versions with these damages.
@@ -53,16 +84,12 @@ pub(crate) fn reported_of_damages(
     call: Call,
     damages: &[Damage<'_>],
 ) -> Result<Reported, AllocError> {
-    let slice = version_of(alloc, &[])?;
     let mut copies = Vec::new(alloc);
     for damage in damages {
         copies.push(version_of(alloc, damage)?)?;
     }
-    let mut versions = Vec::new(alloc);
-    for copy in copies.as_slice() {
-        versions.push(copy.as_slice())?;
-    }
-    reported_of(alloc, call, &slice, &versions)
+    let slice = version_of(alloc, &[])?;
+    reported_of_copies(alloc, call, &slice, &copies)
 }
 
 /// How many bits the slice has. It has 1029 bytes of content, 3 of its size, its status, and 4 of its parity.

@@ -75,7 +75,7 @@ fn codes_of_the_first_state(rt: HostRuntime) {
 fn value_3_from_the_start(rt: HostRuntime) {
     let mut state = VlcState::start();
     let code = state.decode(&mut Bits::new(&[0x60]), false);
-    assert!(rt; code == Ok(3) && state.parts() == (0, 7, 1, 2) && state.k() == 2);
+    assert!(rt; (code, state.parts(), state.k()) == (Ok(3), (0, 7, 1, 2), 2));
 }
 
 /// The state after codes of a difference, all of them 0, or `None` where one of them is another.
@@ -96,8 +96,8 @@ fn codes_of_128_zeros(rt: HostRuntime) {
     bytes[0] = 0x95;
     bytes[16] = 0xF0;
     let mut bits = Bits::new(&bytes);
-    assert!(rt; state_after_zeros(&mut bits, 128) == Some((0, 2, 0, 65)));
-    assert!(rt; bits.left() == 4);
+    let state = state_after_zeros(&mut bits, 128);
+    assert!(rt; (state, bits.left()) == (Some((0, 2, 0, 65)), 4));
 }
 
 #[test]
@@ -110,20 +110,31 @@ fn parameters_of_7_and_6(rt: HostRuntime) {
     let escape = state.decode(&mut Bits::new(&[0x00, 0x0F, 0x50]), false);
     let short = state.decode(&mut Bits::new(&[0x20, 0x00]), false);
     let last = (state.decode(&mut bits, false), state.parts(), state.k());
-    assert!(rt; first == (Ok(-128), (-1, 132, -1, 2), 7));
-    assert!(rt; escape == Err(CodeFault::EscapeNotNeeded) && short == Err(CodeFault::CodeTooLarge));
-    assert!(rt; last == (Ok(-1), (-1, 132, -1, 3), 6));
+    let states = (
+        (Ok(-128), (-1, 132, -1, 2), 7),
+        (Ok(-1), (-1, 132, -1, 3), 6),
+    );
+    let refused = (
+        Err(CodeFault::EscapeNotNeeded),
+        Err(CodeFault::CodeTooLarge),
+    );
+    assert!(rt; ((first, last), (escape, short)) == (states, refused));
 }
 
 #[test]
 fn lines_of_zeros(rt: HostRuntime) {
     let mut bits = Bits::new(&[0xFC]);
     let mut index = RunIndex::start();
-    for (left, run) in [(8, 1), (7, 1), (6, 1), (5, 1), (4, 2), (2, 2)] {
-        let word = index.read(&mut bits, left);
-        assert!(rt; word == Ok(RunWord::Full(run)));
-    }
-    assert!(rt; index.index() == 6);
+    let words = [
+        index.read(&mut bits, 8),
+        index.read(&mut bits, 7),
+        index.read(&mut bits, 6),
+        index.read(&mut bits, 5),
+        index.read(&mut bits, 4),
+        index.read(&mut bits, 2),
+    ];
+    let (one, two) = (Ok(RunWord::Full(1)), Ok(RunWord::Full(2)));
+    assert!(rt; (words, index.index()) == ([one, one, one, one, two, two], 6));
 }
 
 /// Bytes, the bits and the whole words that are passed over, how many samples are left, the word, the index and the place.
@@ -156,22 +167,24 @@ static WORDS: [Word; 10] = [
 fn words_after_whole_ones(rt: HostRuntime) {
     for &(bytes, skipped, words, left, word, index, place) in &WORDS {
         assert!(rt; bytes.len() <= 8 && skipped <= 8 && 1 <= left && left <= 65535);
-        let (read, reached, later) = word_after(bytes, skipped, words, left);
-        assert!(rt; read == word && reached == index && later == place);
+        assert!(rt; word_after(bytes, skipped, words, left) == (word, index, place));
     }
 }
 
+/// Differences, and what is left of them in eight bits.
+static FOLDED: [(i32, i32); 7] = [
+    (0, 0),
+    (127, 127),
+    (128, -128),
+    (-128, -128),
+    (-129, 127),
+    (255, -1),
+    (-255, 1),
+];
+
 #[test]
 fn fold_keeps_eight_bits(rt: HostRuntime) {
-    for (d, folded) in [
-        (0, 0),
-        (127, 127),
-        (128, -128),
-        (-128, -128),
-        (-129, 127),
-        (255, -1),
-        (-255, 1),
-    ] {
+    for &(d, folded) in &FOLDED {
         assert!(rt; fold(d) == folded);
     }
 }

@@ -1,6 +1,6 @@
 //! Slices that are put together from damaged versions.
 use crate::recorded::QUARTERED;
-use ffv1_weave::{Check, Outcome, weave};
+use crate::repair::{Call, Reported, reported_of_damages};
 use std::alloc::{AllocError, Global};
 
 /// The footer of the first slice of `QUARTERED`, as FFmpeg wrote it.
@@ -21,63 +21,9 @@ pub(crate) fn version_of(alloc: Global, damage: Damage<'_>) -> Result<Vec<u8>, A
     Ok(bytes)
 }
 
-/// What comes of weaving versions of the slice.
-#[derive(Clone, Copy, PartialEq, Eq)]
-enum Reported {
-    /// The slice itself, of so many combinations.
-    Slice(usize),
-    Other,
-    Disputed,
-    /// None of so many combinations.
-    Missing(usize),
-    TooMany,
-    /// The versions are of no one length, or there are none.
-    Uneven,
-}
-
-/// What comes of weaving these versions of a slice.
-fn reported_of(alloc: Global, slice: &[u8], versions: &[&[u8]]) -> Result<Reported, AllocError> {
-    if versions.is_empty()
-        || !versions
-            .iter()
-            .all(|version| version.len() == versions[0].len())
-    {
-        return Ok(Reported::Uneven);
-    }
-    Ok(match weave(alloc, Check::Slice, versions)? {
-        Outcome::Woven(bytes, count) if bytes.as_slice() == slice => Reported::Slice(count),
-        Outcome::Woven(_, _) => Reported::Other,
-        Outcome::Disputed => Reported::Disputed,
-        Outcome::Missing(count) => Reported::Missing(count),
-        Outcome::TooMany => Reported::TooMany,
-    })
-}
-
-/// What comes of weaving copies of a slice.
-fn reported_of_copies(
-    alloc: Global,
-    slice: &[u8],
-    copies: &[Vec<u8>],
-) -> Result<Reported, AllocError> {
-    let mut versions = Vec::new(alloc);
-    for copy in copies {
-        versions.push(copy.as_slice())?;
-    }
-    reported_of(alloc, slice, &versions)
-}
-
-/// What comes of weaving the slice's versions with these damages.
-fn reported_of_damages(alloc: Global, damages: &[Damage<'_>]) -> Result<Reported, AllocError> {
-    let mut copies = Vec::new(alloc);
-    for damage in damages {
-        copies.push(version_of(alloc, damage)?)?;
-    }
-    reported_of_copies(alloc, &version_of(alloc, &[])?, &copies)
-}
-
 /// Whether this comes of weaving the slice's versions with these damages.
 fn is_reported(alloc: Global, damages: &[Damage<'_>], reported: Reported) -> bool {
-    reported_of_damages(alloc, damages) == Ok(reported)
+    reported_of_damages(alloc, Call::Weave, damages) == Ok(reported)
 }
 
 /// Versions by their damage, and what is woven of them.
