@@ -6,28 +6,13 @@ use crate::devices::{Input, Output};
 use ffv1_devices::{FromRead, FromWrite, Source};
 use ffv1_stretches::{CopyReader, MendFault, mend_stretches, read_list};
 use std::alloc::Global;
-use std::test::Fail;
 
-/// What a pass returned, made and printed.
-#[derive(Drop)]
-pub(crate) struct Pass {
-    answer: Result<bool, MendFault>,
-    made: Vec<u8>,
-    printed: Vec<u8>,
-}
-
-impl Pass {
-    /// Whether it returned, made and printed this.
-    pub(crate) fn came_to(
-        &self,
-        answer: Result<bool, MendFault>,
-        made: &[u8],
-        printed: &str,
-    ) -> bool {
-        self.answer == answer
-            && self.made.as_slice() == made
-            && self.printed.as_slice() == printed.as_bytes()
-    }
+/// What a pass is to return, make and print.
+#[derive(Clone, Copy)]
+pub(crate) struct Wanted<'a> {
+    pub(crate) answer: Result<bool, MendFault>,
+    pub(crate) made: &'a [u8],
+    pub(crate) printed: &'a str,
 }
 
 /// How many bytes OUT and the output take.
@@ -43,58 +28,66 @@ pub(crate) const AMPLE: Rooms = Rooms {
     output: usize::MAX,
 };
 
-/// A pass over copies of which nothing was read yet.
-fn pass_over<S: Source>(
+/// Whether a pass over copies of which nothing was read yet comes to this.
+fn comes_to<S: Source>(
     alloc: Global,
     list: &str,
     copies: &mut [CopyReader<S>],
     rooms: Rooms,
-) -> Result<Pass, Fail>
+    wanted: Wanted<'_>,
+) -> bool
     requires { All (λ copy. (state_of S.log copy).end ≡ 0) copies.old }
 {
-    let stretches = read_list(alloc, list.as_bytes(), copies.len())?;
+    let Ok(stretches) = read_list(alloc, list.as_bytes(), copies.len()) else {
+        return false;
+    };
     let mut out = FromWrite::new(Output::new(alloc, rooms.out));
     let mut output = FromWrite::new(Output::new(alloc, rooms.output));
     let answer = mend_stretches(alloc, stretches.as_slice(), copies, &mut out, &mut output);
-    Ok(Pass {
-        answer,
-        made: out.into_inner().bytes,
-        printed: output.into_inner().bytes,
-    })
+    let (made, printed) = (out.into_inner().bytes, output.into_inner().bytes);
+    answer == wanted.answer
+        && made.as_slice() == wanted.made
+        && printed.as_slice() == wanted.printed.as_bytes()
 }
 
-/// A pass over two copies.
-pub(crate) fn pass_of_two<'a>(
+/// Whether a pass over two copies does.
+pub(crate) fn two_come_to<'a>(
     alloc: Global,
     list: &str,
     one: Input<'a>,
     other: Input<'a>,
     rooms: Rooms,
-) -> Result<Pass, Fail> {
+    wanted: Wanted<'_>,
+) -> bool {
     let mut copies = [
         CopyReader::new(alloc, FromRead::new(one)),
         CopyReader::new(alloc, FromRead::new(other)),
     ];
-    pass_over(alloc, list, &mut copies, rooms)
+    comes_to(alloc, list, &mut copies, rooms, wanted)
 }
 
-/// A pass over copies that end after these bytes, where OUT and the output take all.
-pub(crate) fn pass_of_files(
+/// Whether a pass over copies that end after these bytes does, where OUT and the output take all.
+pub(crate) fn files_come_to(
     alloc: Global,
     list: &str,
-    one: &[u8],
-    other: &[u8],
-) -> Result<Pass, Fail> {
-    pass_of_two(alloc, list, Input::ending(one), Input::ending(other), AMPLE)
+    (one, other): (&[u8], &[u8]),
+    wanted: Wanted<'_>,
+) -> bool {
+    let (one, other) = (Input::ending(one), Input::ending(other));
+    two_come_to(alloc, list, one, other, AMPLE, wanted)
 }
 
 /// The same of three copies.
-pub(crate) fn pass_of_three(alloc: Global, list: &str, files: [&[u8]; 3]) -> Result<Pass, Fail> {
-    let [one, other, third] = files;
+pub(crate) fn three_come_to(
+    alloc: Global,
+    list: &str,
+    [one, other, third]: [&[u8]; 3],
+    wanted: Wanted<'_>,
+) -> bool {
     let mut copies = [
         CopyReader::new(alloc, FromRead::new(Input::ending(one))),
         CopyReader::new(alloc, FromRead::new(Input::ending(other))),
         CopyReader::new(alloc, FromRead::new(Input::ending(third))),
     ];
-    pass_over(alloc, list, &mut copies, AMPLE)
+    comes_to(alloc, list, &mut copies, AMPLE, wanted)
 }

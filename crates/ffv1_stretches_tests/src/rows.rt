@@ -1,129 +1,252 @@
 //! Passes over copies that are read to the end of their last stretch: what is made and printed.
 use crate::element::changed;
-use crate::pass::{pass_of_files, pass_of_three};
+use crate::pass::{Wanted, files_come_to, three_come_to};
 use ffv1_frames::{FRAME, LEFT_DAMAGED, RIGHT_DAMAGED};
-use std::test::Fail;
+use std::alloc::Global;
+
+/// What is shown, a list, two copies, whether all is good, and what is made and printed.
+type Row = (
+    &'static str,
+    &'static str,
+    (&'static [u8], &'static [u8]),
+    bool,
+    &'static [u8],
+    &'static str,
+);
+
+/// An element that is its CRC-32 and nine bytes.
+const RIGHT: &[u8] = b"\xBF\x84\x26\x39\xF4\xCB123456789";
+
+/// The same with another byte.
+const WRONG: &[u8] = b"\xBF\x84\x26\x39\xF4\xCB124456789";
+
+/// That one with its own CRC-32.
+const OTHER: &[u8] = b"\xBF\x84\xA8\x07\x53\x0E124456789";
+
+/// Two slices of a frame, of which each copy has one.
+const FRAME_LINES: &str =
+    "stretch 1 frame whole 00\n  11..22 settled 10\n  0..11 settled 01\n  end whole\n";
+
+/// Four stretches.
+const FOUR_LINES: &str =
+    "stretch 1 plain alone -1\nstretch 2 plain agreed 11\nstretch 3 plain alone 1-\n\
+stretch 4 plain alone -1\n";
+
+static ROWS: [Row; 12] = [
+    (
+        "no stretches make nothing",
+        "",
+        (b"abc", b"abd"),
+        true,
+        b"",
+        "",
+    ),
+    (
+        "frames have the lines of their splice",
+        "frame 22 1 0 0\n",
+        (&LEFT_DAMAGED, &RIGHT_DAMAGED),
+        true,
+        &FRAME,
+        FRAME_LINES,
+    ),
+    (
+        "frames that all copies have need none",
+        "frame 22 1 0 0\n",
+        (&FRAME, &FRAME),
+        true,
+        &FRAME,
+        "stretch 1 frame whole 11\n",
+    ),
+    (
+        "a frame that is repaired is reported as missing",
+        "frame 22 2 - 0\n",
+        (b"", &LEFT_DAMAGED),
+        false,
+        &FRAME,
+        "stretch 1 frame missing -0\n  11..22 settled -1\n  0..11 repaired 88 -0\n  end whole\n",
+    ),
+    (
+        "bytes without a checksum are open, and the second copy is followed",
+        "plain 3 2 0 1\n",
+        (b"abc", b"xabd"),
+        false,
+        b"abd",
+        "stretch 1 plain open 01\n",
+    ),
+    (
+        "the same, and the first copy is followed",
+        "plain 3 1 0 1\n",
+        (b"abc", b"xabd"),
+        false,
+        b"abc",
+        "stretch 1 plain open 10\n",
+    ),
+    (
+        "bytes without a checksum are alone",
+        "plain 3 1 0 -\n",
+        (b"abc", b"anything"),
+        true,
+        b"abc",
+        "stretch 1 plain alone 1-\n",
+    ),
+    (
+        "elements that pass stand",
+        "crc32 15 1 0 0\n",
+        (RIGHT, WRONG),
+        true,
+        RIGHT,
+        "stretch 1 crc32 whole 10\n",
+    ),
+    (
+        "an element that does not pass is missing",
+        "crc32 15 2 - 0\n",
+        (RIGHT, WRONG),
+        false,
+        WRONG,
+        "stretch 1 crc32 missing -1\n",
+    ),
+    (
+        "elements that pass and differ are disputed, and the first copy is followed",
+        "crc32 15 1 0 0\n",
+        (RIGHT, OTHER),
+        false,
+        RIGHT,
+        "stretch 1 crc32 disputed 10\n",
+    ),
+    (
+        "the same, and the second copy is followed",
+        "crc32 15 2 0 0\n",
+        (RIGHT, OTHER),
+        false,
+        OTHER,
+        "stretch 1 crc32 disputed 01\n",
+    ),
+    (
+        "bytes between stretches are passed over",
+        "plain 1 2 - 1\nplain 2 1 1 3\nplain 3 1 5 -\nplain 1 2 - 6\n",
+        (b".bc..def.", b".a.bc.g."),
+        true,
+        b"abcdefg",
+        FOUR_LINES,
+    ),
+];
 
 #[test]
-fn no_stretches_make_nothing(rt: HostRuntime) -> Result<(), Fail> {
-    let pass = pass_of_files(rt.alloc(), "", b"abc", b"abd")?;
-    assert!(rt; pass.came_to(Ok(true), b"", ""));
-    Ok(())
+fn passes_make_and_print_their_stretches(rt: HostRuntime) {
+    for &(shown, list, copies, is_good, made, printed) in &ROWS {
+        let wanted = Wanted {
+            answer: Ok(is_good),
+            made,
+            printed,
+        };
+        assert!(rt; files_come_to(rt.alloc(), list, copies, wanted), "{shown}");
+    }
 }
 
 #[test]
-fn frames_have_the_lines_of_their_splice(rt: HostRuntime) -> Result<(), Fail> {
-    let list = "frame 22 1 0 0\n";
-    let lines = "stretch 1 frame whole 00\n  11..22 settled 10\n  0..11 settled 01\n  end whole\n";
-    let pass = pass_of_files(rt.alloc(), list, &LEFT_DAMAGED, &RIGHT_DAMAGED)?;
-    assert!(rt; pass.came_to(Ok(true), &FRAME, lines));
-    let pass = pass_of_files(rt.alloc(), list, &FRAME, &FRAME)?;
-    assert!(rt; pass.came_to(Ok(true), &FRAME, "stretch 1 frame whole 11\n"));
-    Ok(())
-}
-
-#[test]
-fn frame_that_is_missing_has_lines_where_one_copy_has_it(rt: HostRuntime) -> Result<(), Fail> {
+fn frame_that_is_missing_has_lines_where_one_copy_has_it(rt: HostRuntime) {
     let mut torn = LEFT_DAMAGED;
     torn[1] ^= 1;
-    let lines =
-        "stretch 1 frame missing -1\n  11..22 settled -1\n  0..11 missing -1\n  end whole\n";
-    let pass = pass_of_files(rt.alloc(), "frame 22 2 - 0\n", b"", &torn)?;
-    assert!(rt; pass.came_to(Ok(false), &torn, lines));
-    Ok(())
+    let wanted = Wanted {
+        answer: Ok(false),
+        made: &torn,
+        printed: "stretch 1 frame missing -1\n  11..22 settled -1\n  0..11 missing -1\n  end whole\n",
+    };
+    assert!(rt; files_come_to(rt.alloc(), "frame 22 2 - 0\n", (b"", &torn), wanted));
 }
 
 #[test]
-fn frame_that_is_repaired_is_reported_as_missing(rt: HostRuntime) -> Result<(), Fail> {
-    let lines =
-        "stretch 1 frame missing -0\n  11..22 settled -1\n  0..11 repaired 88 -0\n  end whole\n";
-    let pass = pass_of_files(rt.alloc(), "frame 22 2 - 0\n", b"", &LEFT_DAMAGED)?;
-    assert!(rt; pass.came_to(Ok(false), &FRAME, lines));
-    Ok(())
+fn bytes_that_three_copies_have_are_agreed(rt: HostRuntime) {
+    let wanted = Wanted {
+        answer: Ok(true),
+        made: b"abc",
+        printed: "stretch 1 plain agreed 111\n",
+    };
+    let copies: [&[u8]; 3] = [b"abc", b"xabc", b"xyabcz"];
+    assert!(rt; three_come_to(rt.alloc(), "plain 3 1 0 1 2\n", copies, wanted));
+}
+
+/// A list, the bytes of the element that are changed in two copies of it, whether all is good, the bytes that are changed in
+/// what is made, and what is printed.
+type ElementRow = (
+    &'static str,
+    (&'static [usize], &'static [usize]),
+    bool,
+    &'static [usize],
+    &'static str,
+);
+
+/// Elements that are woven, and parts that have the lines of their splices.
+static ELEMENTS: [ElementRow; 3] = [
+    (
+        "crc32 80 1 0 0\n",
+        (&[10], &[78]),
+        true,
+        &[],
+        "stretch 1 crc32 woven 4 00\n",
+    ),
+    (
+        "crc32 80 1 0 0\npart 14 22\n",
+        (&[10, 16], &[27, 78]),
+        true,
+        &[],
+        "stretch 1 crc32 woven 4 00\n  part 1\n  11..22 settled 10\n  0..11 settled 01\n  end whole\n",
+    ),
+    (
+        "crc32 80 1 0 0\npart 14 22\n",
+        (&[16, 40], &[27, 40]),
+        false,
+        &[40],
+        "stretch 1 crc32 missing 00\n  part 1\n  11..22 settled 10\n  0..11 settled 01\n  end whole\n",
+    ),
+];
+
+/// Whether copies of the element come to what the row says.
+fn comes_to(alloc: Global, (list, (one, other), is_good, made, printed): &ElementRow) -> bool {
+    let (one, other) = (changed(one), changed(other));
+    let wanted = Wanted {
+        answer: Ok(*is_good),
+        made: &changed(made),
+        printed,
+    };
+    files_come_to(alloc, list, (&one, &other), wanted)
 }
 
 #[test]
-fn bytes_without_a_checksum_have_one_line(rt: HostRuntime) -> Result<(), Fail> {
-    let open = pass_of_files(rt.alloc(), "plain 3 2 0 1\n", b"abc", b"xabd")?;
-    assert!(rt; open.came_to(Ok(false), b"abd", "stretch 1 plain open 01\n"));
-    let first = pass_of_files(rt.alloc(), "plain 3 1 0 1\n", b"abc", b"xabd")?;
-    assert!(rt; first.came_to(Ok(false), b"abc", "stretch 1 plain open 10\n"));
-    let alone = pass_of_files(rt.alloc(), "plain 3 1 0 -\n", b"abc", b"anything")?;
-    assert!(rt; alone.came_to(Ok(true), b"abc", "stretch 1 plain alone 1-\n"));
-    let agreed = pass_of_three(
-        rt.alloc(),
-        "plain 3 1 0 1 2\n",
-        [b"abc", b"xabc", b"xyabcz"],
-    )?;
-    assert!(rt; agreed.came_to(Ok(true), b"abc", "stretch 1 plain agreed 111\n"));
-    Ok(())
+fn elements_are_woven_and_their_parts_spliced(rt: HostRuntime) {
+    for row in &ELEMENTS {
+        assert!(rt; comes_to(rt.alloc(), row));
+    }
 }
 
 #[test]
-fn elements_that_pass_stand(rt: HostRuntime) -> Result<(), Fail> {
-    let right = b"\xBF\x84\x26\x39\xF4\xCB123456789";
-    let wrong = b"\xBF\x84\x26\x39\xF4\xCB124456789";
-    let whole = pass_of_files(rt.alloc(), "crc32 15 1 0 0\n", right, wrong)?;
-    assert!(rt; whole.came_to(Ok(true), right, "stretch 1 crc32 whole 10\n"));
-    let missing = pass_of_files(rt.alloc(), "crc32 15 2 - 0\n", right, wrong)?;
-    assert!(rt; missing.came_to(Ok(false), wrong, "stretch 1 crc32 missing -1\n"));
-    Ok(())
-}
-
-#[test]
-fn elements_that_pass_and_differ_are_disputed(rt: HostRuntime) -> Result<(), Fail> {
-    let one = b"\xBF\x84\x26\x39\xF4\xCB123456789";
-    let other = b"\xBF\x84\xA8\x07\x53\x0E124456789";
-    let first = pass_of_files(rt.alloc(), "crc32 15 1 0 0\n", one, other)?;
-    assert!(rt; first.came_to(Ok(false), one, "stretch 1 crc32 disputed 10\n"));
-    let second = pass_of_files(rt.alloc(), "crc32 15 2 0 0\n", one, other)?;
-    assert!(rt; second.came_to(Ok(false), other, "stretch 1 crc32 disputed 01\n"));
-    Ok(())
-}
-
-#[test]
-fn elements_are_woven(rt: HostRuntime) -> Result<(), Fail> {
+fn an_element_that_a_third_copy_lacks_is_woven(rt: HostRuntime) {
     let (one, other) = (changed(&[10]), changed(&[78]));
-    let woven = pass_of_files(rt.alloc(), "crc32 80 1 0 0\n", &one, &other)?;
-    assert!(rt; woven.came_to(Ok(true), &changed(&[]), "stretch 1 crc32 woven 4 00\n"));
-    let third = pass_of_three(rt.alloc(), "crc32 80 1 0 0 -\n", [&one, &other, b""])?;
-    assert!(rt; third.came_to(Ok(true), &changed(&[]), "stretch 1 crc32 woven 4 00-\n"));
-    Ok(())
+    let wanted = Wanted {
+        answer: Ok(true),
+        made: &changed(&[]),
+        printed: "stretch 1 crc32 woven 4 00-\n",
+    };
+    assert!(rt;
+        three_come_to(
+            rt.alloc(),
+            "crc32 80 1 0 0 -\n",
+            [&one, &other, b""],
+            wanted
+        )
+    );
 }
 
 #[test]
-fn parts_have_the_lines_of_their_splices(rt: HostRuntime) -> Result<(), Fail> {
-    let list = "crc32 80 1 0 0\npart 14 22\n";
-    let (one, other) = (changed(&[10, 16]), changed(&[27, 78]));
-    let slices = "  part 1\n  11..22 settled 10\n  0..11 settled 01\n  end whole\n";
-    let woven = pass_of_files(rt.alloc(), list, &one, &other)?;
-    let lines = format!(in rt.alloc(); "stretch 1 crc32 woven 4 00\n{slices}")?;
-    assert!(rt; woven.came_to(Ok(true), &changed(&[]), lines.as_str()));
-    let (one, other) = (changed(&[16, 40]), changed(&[27, 40]));
-    let missing = pass_of_files(rt.alloc(), list, &one, &other)?;
-    let lines = format!(in rt.alloc(); "stretch 1 crc32 missing 00\n{slices}")?;
-    assert!(rt; missing.came_to(Ok(false), &changed(&[40]), lines.as_str()));
-    Ok(())
-}
-
-#[test]
-fn bytes_between_stretches_are_passed_over(rt: HostRuntime) -> Result<(), Fail> {
-    let list = "plain 1 2 - 1\nplain 2 1 1 3\nplain 3 1 5 -\nplain 1 2 - 6\n";
-    let lines = "stretch 1 plain alone -1\nstretch 2 plain agreed 11\nstretch 3 plain alone 1-\n\
-stretch 4 plain alone -1\n";
-    let pass = pass_of_files(rt.alloc(), list, b".bc..def.", b".a.bc.g.")?;
-    assert!(rt; pass.came_to(Ok(true), b"abcdefg", lines));
-    Ok(())
-}
-
-#[test]
-fn pieces_between_stretches_are_passed_over(rt: HostRuntime) -> Result<(), Fail> {
+fn pieces_between_stretches_are_passed_over(rt: HostRuntime) {
     let mut one = [0; 20000];
     one[0] = b'a';
     one[19999] = b'b';
+    let wanted = Wanted {
+        answer: Ok(true),
+        made: b"ab",
+        printed: "stretch 1 plain alone 1-\nstretch 2 plain alone 1-\n",
+    };
     let list = "plain 1 1 0 -\nplain 1 1 19999 -\n";
-    let lines = "stretch 1 plain alone 1-\nstretch 2 plain alone 1-\n";
-    let pass = pass_of_files(rt.alloc(), list, &one, b"")?;
-    assert!(rt; pass.came_to(Ok(true), b"ab", lines));
-    Ok(())
+    assert!(rt; files_come_to(rt.alloc(), list, (&one, b""), wanted));
 }
