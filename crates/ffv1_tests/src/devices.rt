@@ -65,8 +65,8 @@ fn read_after(alloc: Global, times: u32) -> (Result<bool, WholeFault>, u64) {
 
 #[test]
 fn sixty_five_interrupted_reads_are_a_failure(rt: HostRuntime) {
-    assert!(rt; read_after(rt.alloc(), 64) == (Ok(true), 64));
-    assert!(rt; read_after(rt.alloc(), 65) == (Err(WholeFault::Read), 65));
+    let read = (read_after(rt.alloc(), 64), read_after(rt.alloc(), 65));
+    assert!(rt; read == ((Ok(true), 64), (Err(WholeFault::Read), 65)));
 }
 
 /// Whether so many tries of a sink failed, and these bytes were written.
@@ -77,13 +77,12 @@ fn has_written(sink: FromWrite<Halting>, failures: u64, bytes: &[u8]) -> bool {
 #[test]
 fn sixty_five_interrupted_writes_are_a_failure(rt: HostRuntime) {
     let mut patient = halting_sink(rt.alloc(), 64);
-    let answer = write_pair(&mut patient, b"a", b"b");
+    let taken = write_pair(&mut patient, b"a", b"b");
     let is_written = has_written(patient, 128, b"ab");
-    assert!(rt; answer.is_ok() && is_written);
     let mut failing = halting_sink(rt.alloc(), 65);
-    let answer = write_field(&mut failing, b"ab");
+    let refused = write_field(&mut failing, b"ab");
     let is_left = has_written(failing, 65, b"");
-    assert!(rt; answer == Err(WriteFailed) && is_left);
+    assert!(rt; (taken, is_written, refused, is_left) == (Ok(()), true, Err(WriteFailed), true));
 }
 
 /// A writer that takes all that it is given, and counts the writes and the bytes.
@@ -149,24 +148,31 @@ fn what_is_read_is_written_through_a_borrow(rt: HostRuntime) {
     let mut source = FromRead::new(b"abc".as_slice());
     let mut front = [0u8; 2];
     let count = read_full(&mut source, &mut front);
-    let is_written = is_written_as(rt.alloc(), &front, b"ab");
-    assert!(rt; (count, is_written) == (Ok(2), true));
     let rest = (next_byte(&mut source), next_byte(&mut source));
-    assert!(rt; rest == (Ok(Some(b'c')), Ok(None)));
+    let is_written = is_written_as(rt.alloc(), &front, b"ab");
+    assert!(rt; (count, rest) == (Ok(2), (Ok(Some(b'c')), Ok(None))) && is_written);
+}
+
+/// Whether so many bytes are read to the front of a room, which then has these.
+fn has_next(source: &mut FromRead<&[u8]>, count: usize, room: &mut Vec<u8>, wanted: &[u8]) -> bool {
+    read_next(source, count, room) == Ok(()) && room.as_slice() == wanted
+}
+
+/// Whether bytes come to the front of a room, which keeps its length where fewer come or too many are claimed.
+fn come_to_the_front(alloc: Global) -> bool {
+    let mut source = FromRead::new(b"abcdefgh".as_slice());
+    let mut room = Vec::new(alloc);
+    let passed = pass_over(&mut source, 2, &mut [0u8; 1]);
+    let longer = has_next(&mut source, 3, &mut room, b"cde");
+    let shorter = has_next(&mut source, 2, &mut room, b"fge");
+    let claimed = read_next(&mut source, usize::MAX, &mut room);
+    let reported = (passed, longer, shorter, claimed, room.len());
+    reported == (Ok(()), true, true, Err(NextFault::Read), 3)
 }
 
 #[test]
 fn next_bytes_come_to_the_front_of_a_room(rt: HostRuntime) {
-    let mut source = FromRead::new(b"abcdefgh".as_slice());
-    let mut room = Vec::new(rt.alloc());
-    let passed = pass_over(&mut source, 2, &mut [0u8; 1]);
-    let next = read_next(&mut source, 3, &mut room);
-    assert!(rt; (passed, next) == (Ok(()), Ok(())));
-    assert!(rt; room.as_slice() == b"cde".as_slice());
-    let shorter = read_next(&mut source, 2, &mut room);
-    assert!(rt; shorter == Ok(()) && room.as_slice() == b"fge".as_slice());
-    let claimed = read_next(&mut source, usize::MAX, &mut room);
-    assert!(rt; claimed == Err(NextFault::Read) && room.len() == 3);
+    assert!(rt; come_to_the_front(rt.alloc()));
 }
 
 /// How long a room is into which more was to be read than a source of so many bytes has, or `None` where that is not reported.
@@ -198,8 +204,10 @@ fn room_is_made_as_bytes_come(rt: HostRuntime) {
 fn a_buffer_is_filled_or_cut_short(rt: HostRuntime) {
     let mut source = FromRead::new(b"abc".as_slice());
     let mut front = [0u8; 2];
-    let filled = fill(&mut source, &mut front);
-    assert!(rt; filled == Ok(()) && front == *b"ab");
-    assert!(rt; fill(&mut source, &mut front) == Err(CutShort));
-    assert!(rt; pass_over(&mut source, 1, &mut front) == Err(CutShort));
+    let filled = (fill(&mut source, &mut front), front);
+    let cut = (
+        fill(&mut source, &mut front),
+        pass_over(&mut source, 1, &mut front),
+    );
+    assert!(rt; (filled, cut) == ((Ok(()), *b"ab"), (Err(CutShort), Err(CutShort))));
 }

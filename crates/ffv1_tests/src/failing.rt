@@ -1,17 +1,16 @@
 //! The commands on devices that fail after any number of bytes: which path is named, and what is left in the outputs.
-use crate::commands::{ended, taken};
+use crate::commands::taken;
 use crate::streams::Narrow;
 use crate::suite::merged;
 use ffv1_commands::{
     CliFault, CommandPath, run_chain, run_decode, run_join, run_merge, run_picture, run_report,
     run_restore, run_show, run_splice, run_take,
 };
-use ffv1_frames::{FRAME, TWO_TILES};
+use ffv1_frames::{FRAME, LEFT_DAMAGED, TWO_TILES};
 use ffv1_hold::HoldFileFault;
 use std::alloc::Global;
 use std::io;
 use std::io::{ErrorKind, Read, Write};
-use std::test::Fail;
 
 /// What an input does after its bytes.
 #[derive(Clone, Copy)]
@@ -56,6 +55,13 @@ impl<'a> Input<'a> {
             later_interruptions: before_each,
             after: After::End,
         }
+    }
+
+    /// One that goes on with zeros and never ends.
+    pub(crate) fn endless(bytes: &'a [u8]) -> Input<'a> {
+        let mut input = Input::new(bytes);
+        input.after = After::Zeros;
+        input
     }
 
     /// Has it fail after so many bytes.
@@ -213,20 +219,31 @@ fn run<'a>(
     }
 }
 
-/// The holding file of a copy.
-fn held(alloc: Global, copy: &[u8]) -> Result<Vec<u8>, Fail> {
-    let (file, _printed) = taken(alloc, &TWO_TILES, (2, 1), &mut [copy])?;
-    Ok(file)
+/// The holding file of a copy, if it is taken.
+fn held(alloc: Global, copy: &[u8]) -> Option<Vec<u8>> {
+    match taken(alloc, &TWO_TILES, (2, 1), &mut [copy]) {
+        Some((file, _printed)) => Some(file),
+        None => None,
+    }
+}
+
+/// These two files, and that of their union, if `merge` makes one.
+fn with_union(alloc: Global, part: Vec<u8>, whole: Vec<u8>) -> Option<Files> {
+    match merged(alloc, &part, &whole) {
+        Some(union) => Some(Files { part, whole, union }),
+        None => None,
+    }
 }
 
 /// The files of the frame: of a copy with a damaged tile 0, and of the frame as it is.
-fn holding_files(alloc: Global) -> Result<Files, Fail> {
-    let mut copy = FRAME;
-    copy[2] = 0;
-    let part = held(alloc, &copy)?;
-    let whole = held(alloc, &FRAME)?;
-    let union = merged(alloc, &part, &whole)?;
-    Ok(Files { part, whole, union })
+fn holding_files(alloc: Global) -> Option<Files> {
+    let Some(part) = held(alloc, &LEFT_DAMAGED) else {
+        return None;
+    };
+    match held(alloc, &FRAME) {
+        Some(whole) => with_union(alloc, part, whole),
+        None => None,
+    }
 }
 
 /// Whether a command reports that this path was not read.
@@ -288,22 +305,31 @@ fn unreported_after(
 }
 
 /// The same of all inputs of a command.
-fn unreported_input(alloc: Global, command: Command) -> Result<Option<usize>, Fail> {
-    let files = holding_files(alloc)?;
-    let first = unreported_after(alloc, command, &files, false);
+fn unreported_input(alloc: Global, command: Command, files: &Files) -> Option<usize> {
+    let first = unreported_after(alloc, command, files, false);
     if first.is_some() || command.paths().1.is_none() {
-        return Ok(first);
+        return first;
     }
-    Ok(unreported_after(alloc, command, &files, true))
+    unreported_after(alloc, command, files, true)
+}
+
+/// The first command of which there is such an input, and after how many bytes.
+fn first_unreported(alloc: Global, files: &Files) -> Option<(Command, usize)> {
+    for &command in &COMMANDS {
+        if let Some(room) = unreported_input(alloc, command, files) {
+            return Some((command, room));
+        }
+    }
+    None
 }
 
 #[test]
-fn inputs_that_fail_are_reported(rt: HostRuntime) -> Result<(), Fail> {
-    for &command in &COMMANDS {
-        let room = unreported_input(rt.alloc(), command)?;
-        assert!(rt; room.is_none(), "{command:?} {room:?}");
-    }
-    Ok(())
+fn inputs_that_fail_are_reported(rt: HostRuntime) {
+    let unreported = match holding_files(rt.alloc()) {
+        Some(files) => first_unreported(rt.alloc(), &files),
+        None => Some((Command::Take, 0)),
+    };
+    assert!(rt; unreported.is_none(), "{unreported:?}");
 }
 
 /// What a command returns, makes and prints where there is so much room for what it makes and for what it prints.
@@ -371,24 +397,34 @@ fn output_without_front(
 }
 
 /// The same of all outputs of a command.
-fn without_front(alloc: Global, command: Command) -> Result<Option<usize>, Fail> {
-    let files = holding_files(alloc)?;
-    let (answer, made, printed) = ran_with_room(alloc, command, &files, usize::MAX, usize::MAX);
-    ended(answer, "ample memory")?;
-    let out = out_without_front(alloc, command, &files, &made);
-    if out.is_some() {
-        return Ok(out);
+fn without_front(alloc: Global, command: Command, files: &Files) -> Option<usize> {
+    let (answer, made, printed) = ran_with_room(alloc, command, files, usize::MAX, usize::MAX);
+    let out = out_without_front(alloc, command, files, &made);
+    let output = output_without_front(alloc, command, files, (&made, &printed));
+    if answer.is_ok() {
+        out.or(output)
+    } else {
+        Some(usize::MAX)
     }
-    Ok(output_without_front(alloc, command, &files, (&made, &printed)))
+}
+
+/// The first command of which there is such an output, and after how many bytes.
+fn first_without_front(alloc: Global, files: &Files) -> Option<(Command, usize)> {
+    for &command in &COMMANDS {
+        if let Some(room) = without_front(alloc, command, files) {
+            return Some((command, room));
+        }
+    }
+    None
 }
 
 #[test]
-fn outputs_that_fail_have_a_front(rt: HostRuntime) -> Result<(), Fail> {
-    for &command in &COMMANDS {
-        let room = without_front(rt.alloc(), command)?;
-        assert!(rt; room.is_none(), "{command:?} {room:?}");
-    }
-    Ok(())
+fn outputs_that_fail_have_a_front(rt: HostRuntime) {
+    let without_front = match holding_files(rt.alloc()) {
+        Some(files) => first_without_front(rt.alloc(), &files),
+        None => Some((Command::Take, 0)),
+    };
+    assert!(rt; without_front.is_none(), "{without_front:?}");
 }
 
 /// What a command returns where one of its devices, its inputs and then its outputs, is interrupted so often in a row.
@@ -435,43 +471,48 @@ fn interruptions_are_reported(
 }
 
 /// The device of a command of which this does not hold.
-fn unreported_device(alloc: Global, command: Command) -> Result<Option<usize>, Fail> {
-    let files = holding_files(alloc)?;
+fn unreported_device(alloc: Global, command: Command, files: &Files) -> Option<usize> {
     for device in 0..4 {
-        if !interruptions_are_reported(alloc, command, &files, device) {
-            return Ok(Some(device));
+        if !interruptions_are_reported(alloc, command, files, device) {
+            return Some(device);
         }
     }
-    Ok(None)
+    None
+}
+
+/// The first command that has such a device, and which.
+fn first_uncounted(alloc: Global, files: &Files) -> Option<(Command, usize)> {
+    for &command in &COMMANDS {
+        if let Some(device) = unreported_device(alloc, command, files) {
+            return Some((command, device));
+        }
+    }
+    None
 }
 
 #[test]
-fn sixty_five_interruptions_in_a_row_are_reported(rt: HostRuntime) -> Result<(), Fail> {
-    for &command in &COMMANDS {
-        let device = unreported_device(rt.alloc(), command)?;
-        assert!(rt; device.is_none(), "{command:?} {device:?}");
-    }
-    Ok(())
+fn sixty_five_interruptions_in_a_row_are_reported(rt: HostRuntime) {
+    let uncounted = match holding_files(rt.alloc()) {
+        Some(files) => first_uncounted(rt.alloc(), &files),
+        None => Some((Command::Take, 0)),
+    };
+    assert!(rt; uncounted.is_none(), "{uncounted:?}");
 }
 
 /// Whether `restore` reports this fault of a holding file that never ends.
 fn endless_shows(alloc: Global, file: &[u8], fault: HoldFileFault) -> bool {
-    let mut input = Input::new(file);
-    input.after = After::Zeros;
+    let mut input = Input::endless(file);
     let (mut out, mut printed) = (Output::new(alloc), Output::new(alloc));
     let answer = run_restore(alloc, &mut input, &mut out, &mut printed);
     matches!(answer, Err(CliFault::HoldFile(reported)) if reported == fault)
 }
 
-/// Whether files that never end are reported so: one of zeros alone is no holding file, and a whole one has trailing bytes.
-fn endless_are_reported(alloc: Global) -> Result<bool, Fail> {
-    let files = holding_files(alloc)?;
-    let is_none = endless_shows(alloc, &[], HoldFileFault::Magic);
-    Ok(is_none && endless_shows(alloc, &files.whole, HoldFileFault::Trailing))
-}
-
 #[test]
-fn files_that_never_end_show_their_first_fault(rt: HostRuntime) -> Result<(), Fail> {
-    assert!(rt; endless_are_reported(rt.alloc())?);
-    Ok(())
+fn files_that_never_end_show_their_first_fault(rt: HostRuntime) {
+    // Zeros alone are no holding file, and a whole one has trailing bytes.
+    let is_trailing = match held(rt.alloc(), &FRAME) {
+        Some(whole) => endless_shows(rt.alloc(), &whole, HoldFileFault::Trailing),
+        None => false,
+    };
+    assert!(rt; is_trailing && endless_shows(rt.alloc(), &[], HoldFileFault::Magic));
 }

@@ -1,4 +1,5 @@
 //! A holding file byte for byte, devices that fail after any part of it, and plans.
+use crate::failing::Input;
 use crate::picture::joined;
 use crate::streams::{Failing, has_taken, narrow_sink};
 use ffv1_frames::{BLACK, DARK, ONE_TILE};
@@ -8,9 +9,7 @@ use ffv1_hold::{
 };
 use ffv1_range::SetupFault;
 use std::alloc::{AllocError, Global};
-use std::io;
-use std::io::{ErrorKind, Read};
-use std::test::Fail;
+use std::io::ErrorKind;
 
 /// The holding file of both of version 1: the name and the version, the size 1 x 1 and the record, an entry for each,
 /// which rise, and the end.
@@ -31,7 +30,7 @@ const AGAIN: [u8; 82] = [
 
 /// The file of a holding that took both as copies: after each slice stands the SHA-256 digest of its copy, which is the
 /// slice alone.
-const SECOND: [u8; 146] = [
+pub(crate) const SECOND: [u8; 146] = [
     0x46, 0x46, 0x56, 0x31, 0x48, 0x4C, 0x44, 2, 0, 0, 0, 1, 0, 0, 0, 1, 0, 0, 0, 0x11, 0x56, 0x2B,
     0x83, 0xBD, 0xC5, 0x3A, 0x74, 0xE9, 0xD3, 0xA7, 0x4E, 0x9D, 0x26, 0x60, 0x98, 0x8D, 0xE6, 1, 0,
     0, 0, 0, 0, 0x0B, 0xFD, 0xF6, 0x40, 0, 0, 3, 0, 0x17, 0x60, 0xA5, 0x79, 0, 0, 0, 1, 0xB0, 0xB4,
@@ -42,40 +41,34 @@ const SECOND: [u8; 146] = [
     0xAD, 0x2D, 0x5D, 0xE9, 0x19, 0xE8, 0xD5, 0xE7, 0x1D, 0x94, 0x7F, 0x53, 0,
 ];
 
-/// A reader of bytes that goes on with zeros and never ends.
-#[derive(Drop)]
-struct Endless<'a> {
-    bytes: &'a [u8],
-}
-
-impl<'a> Read for Endless<'a> {
-    fn read(&mut self, buf: &mut [u8]) -> io::Result<usize> {
-        let mut left = self.bytes;
-        let count = left.read(buf)?;
-        self.bytes = left;
-        if count > 0 {
-            return Ok(count);
-        }
-        buf.fill(0);
-        Ok(buf.len())
+/// The file of a holding, if it is written.
+pub(crate) fn written(alloc: Global, holding: &Holding) -> Option<Vec<u8>> {
+    let mut sink = FromWrite::new(Vec::new(alloc));
+    match write_hold(holding, &mut sink) {
+        Ok(()) => Some(sink.into_inner()),
+        Err(_) => None,
     }
 }
 
-/// The file of a holding.
-pub(crate) fn written(alloc: Global, holding: &Holding) -> Result<Vec<u8>, Fail> {
-    let mut sink = FromWrite::new(Vec::new(alloc));
-    write_hold(holding, &mut sink)?;
-    Ok(sink.into_inner())
-}
-
 /// The holding of a file.
-pub(crate) fn read_back(alloc: Global, file: &[u8]) -> Result<Holding, Fail> {
-    Ok(read_hold(alloc, &mut FromRead::new(file))?)
+pub(crate) fn read_back(alloc: Global, file: &[u8]) -> Result<Holding, HoldFileFault> {
+    read_hold(alloc, &mut FromRead::new(file))
 }
 
 /// Whether a holding is written as this file.
-pub(crate) fn is_file_of(alloc: Global, holding: &Holding, file: &[u8]) -> Result<bool, Fail> {
-    Ok(written(alloc, holding)?.as_slice() == file)
+pub(crate) fn is_file_of(alloc: Global, holding: &Holding, file: &[u8]) -> bool {
+    match written(alloc, holding) {
+        Some(bytes) => bytes.as_slice() == file,
+        None => false,
+    }
+}
+
+/// Whether a holding was made, and is written as this file.
+fn is_held_as<Fault: Copy>(alloc: Global, made: Result<Holding, Fault>, file: &[u8]) -> bool {
+    match made {
+        Ok(holding) => is_file_of(alloc, &holding, file),
+        Err(_) => false,
+    }
 }
 
 /// Why these bytes are refused if the device after them ends, or fails first.
@@ -137,33 +130,23 @@ fn each_front_is_left(alloc: Global, holding: &Holding, file: &[u8]) -> bool {
     true
 }
 
-/// Whether the sinks that fail while the holding of a file is written have its fronts.
-fn fails_at_each_place(alloc: Global, file: &[u8]) -> Result<bool, Fail> {
-    let holding = read_back(alloc, file)?;
-    Ok(each_front_is_left(alloc, &holding, file))
-}
-
 #[test]
-fn a_failing_sink_is_reported_as_that(rt: HostRuntime) -> Result<(), Fail> {
-    assert!(rt; fails_at_each_place(rt.alloc(), &SECOND)?);
-    Ok(())
-}
-
-/// Whether the holding of a file is written as this one.
-fn is_written_as(alloc: Global, file: &[u8], wanted: &[u8]) -> Result<bool, Fail> {
-    let holding = read_back(alloc, file)?;
-    is_file_of(alloc, &holding, wanted)
+fn a_failing_sink_is_reported_as_that(rt: HostRuntime) {
+    let is_reported = match read_back(rt.alloc(), &SECOND) {
+        Ok(holding) => each_front_is_left(rt.alloc(), &holding, &SECOND),
+        Err(_) => false,
+    };
+    assert!(rt; is_reported);
 }
 
 /// Files, and what their holdings are written as.
 static WRITTEN: [(&[u8], &[u8]); 3] = [(&FILE, &AGAIN), (&AGAIN, &AGAIN), (&SECOND, &SECOND)];
 
 #[test]
-fn a_file_of_either_version_is_written_as_one_of_the_second(rt: HostRuntime) -> Result<(), Fail> {
+fn a_file_of_either_version_is_written_as_one_of_the_second(rt: HostRuntime) {
     for &(file, wanted) in &WRITTEN {
-        assert!(rt; is_written_as(rt.alloc(), file, wanted)?);
+        assert!(rt; is_held_as(rt.alloc(), read_back(rt.alloc(), file), wanted));
     }
-    Ok(())
 }
 
 /// A place of `FILE`, a byte that is put there, how many bytes show its fault, and the fault.
@@ -206,23 +189,23 @@ fn a_fault_that_was_read_comes_before_the_device(rt: HostRuntime) {
     }
 }
 
-/// Whether a file of these parts ends in something out of order.
-fn ends_out_of_order(alloc: Global, parts: &[&[u8]]) -> Result<bool, Fail> {
-    let file = joined(alloc, parts)?;
-    Ok(ends_in(alloc, &file, HoldFileFault::Order))
+/// Whether a file of these parts ends in this fault.
+fn parts_end_in(alloc: Global, parts: &[&[u8]], fault: HoldFileFault) -> bool {
+    match joined(alloc, parts) {
+        Ok(file) => ends_in(alloc, &file, fault),
+        Err(_) => false,
+    }
 }
 
 /// Whether a file is out of order that goes on with the greater of two parts first, and one that goes on with it twice.
-fn has_to_rise(alloc: Global, front: &[u8], lesser: &[u8], greater: &[u8]) -> Result<bool, Fail> {
-    let is_falling = ends_out_of_order(alloc, &[front, greater, lesser])?;
-    let is_twice = ends_out_of_order(alloc, &[front, greater, greater])?;
-    Ok(is_falling && is_twice)
+fn has_to_rise(alloc: Global, front: &[u8], lesser: &[u8], greater: &[u8]) -> bool {
+    parts_end_in(alloc, &[front, greater, lesser], HoldFileFault::Order)
+        && parts_end_in(alloc, &[front, greater, greater], HoldFileFault::Order)
 }
 
 #[test]
-fn an_entry_out_of_order_comes_before_the_device(rt: HostRuntime) -> Result<(), Fail> {
-    assert!(rt; has_to_rise(rt.alloc(), &FILE[..37], &FILE[37..55], &FILE[55..73])?);
-    Ok(())
+fn an_entry_out_of_order_comes_before_the_device(rt: HostRuntime) {
+    assert!(rt; has_to_rise(rt.alloc(), &FILE[..37], &FILE[37..55], &FILE[55..73]));
 }
 
 /// A file, a place of it, the greatest number that may stand there, in four bytes, and one more.
@@ -233,56 +216,31 @@ static NUMBERS: [(&[u8], usize, u32, u32); 3] = [
     (&SECOND, 55, 67_108_864, 67_108_865),
 ];
 
-/// What stands before a place of a file, and then this number.
-fn front_with(
-    alloc: Global,
-    file: &[u8],
-    place: usize,
-    number: u32,
-) -> Result<Vec<u8>, AllocError> {
-    let mut front = Vec::from_slice(alloc, file.get(..place).unwrap_or(&[]))?;
-    front.extend_from_slice(&number.to_be_bytes())?;
-    Ok(front)
-}
-
 /// Whether a file goes on after the one number, so that the device fails, and ends in the other, which is too great.
-fn ends_at(
-    alloc: Global,
-    file: &[u8],
-    place: usize,
-    most: u32,
-    more: u32,
-) -> Result<bool, AllocError> {
-    let most = front_with(alloc, file, place, most)?;
-    let more = front_with(alloc, file, place, more)?;
-    Ok(
-        fault_after(alloc, &most, true) == Some(HoldFileFault::Read)
-            && ends_in(alloc, &more, HoldFileFault::TooLong),
-    )
+fn ends_at(alloc: Global, front: &[u8], most: u32, more: u32) -> bool {
+    parts_end_in(alloc, &[front, &most.to_be_bytes()], HoldFileFault::Read)
+        && parts_end_in(alloc, &[front, &more.to_be_bytes()], HoldFileFault::TooLong)
 }
 
 #[test]
 fn a_number_past_its_limit_comes_before_the_device(rt: HostRuntime) {
     for &(file, place, most, more) in &NUMBERS {
-        assert!(rt;
-            ends_at(rt.alloc(), file, place, most, more) == Ok(true),
-            "at {place}"
-        );
+        let front = file.get(..place).unwrap_or(&[]);
+        assert!(rt; ends_at(rt.alloc(), front, most, more), "at {place}");
     }
 }
 
 #[test]
-fn a_digest_out_of_order_comes_before_the_device(rt: HostRuntime) -> Result<(), Fail> {
+fn a_digest_out_of_order_comes_before_the_device(rt: HostRuntime) {
     // Both digests after the first slice, which is the greater one's.
     let mut file = SECOND;
     file[58] = 2;
-    assert!(rt; has_to_rise(rt.alloc(), &file[..59], &file[113..145], &file[59..91])?);
-    Ok(())
+    assert!(rt; has_to_rise(rt.alloc(), &file[..59], &file[113..145], &file[59..91]));
 }
 
 /// The fault of bytes with zeros after them that never end, and how many were taken.
 fn shown_of_endless(alloc: Global, bytes: &[u8]) -> (Option<HoldFileFault>, u64) {
-    let mut endless = FromRead::new(Endless { bytes });
+    let mut endless = FromRead::new(Input::endless(bytes));
     let shown = read_hold(alloc, &mut endless).err();
     (shown, endless.taken())
 }
@@ -295,50 +253,36 @@ fn a_reader_that_never_ends_shows_its_first_fault(rt: HostRuntime) {
     assert!(rt; file == (Some(HoldFileFault::Trailing), 75));
 }
 
-/// A plan in memory of its own, so that another one can go on from it.
-pub(crate) fn boxed<'a>(alloc: Global, plan: Plan<'a>) -> Result<Box<Plan<'a>>, Fail> {
-    Ok(Box::new(alloc, plan)?)
-}
-
 /// Two copies, one after the other.
-fn one_by_one<'a>(alloc: Global, first: &'a [u8], second: &'a [u8]) -> Result<Plan<'a>, Fail> {
-    let only_first = Plan::Take(boxed(alloc, Plan::New)?, first);
-    Ok(Plan::Take(boxed(alloc, only_first)?, second))
+fn one_by_one<'a>(
+    alloc: Global,
+    first: &'a [u8],
+    second: &'a [u8],
+) -> Result<Plan<'a>, AllocError> {
+    let only_first = Plan::Take(Box::new(alloc, Plan::New)?, first);
+    Ok(Plan::Take(Box::new(alloc, only_first)?, second))
 }
 
 /// A list of copies, through a file, joined with nothing.
-fn through_a_file<'a>(alloc: Global, copies: &'a [&'a [u8]]) -> Result<Plan<'a>, Fail> {
-    let all = Plan::TakeAll(boxed(alloc, Plan::New)?, copies);
-    let read = boxed(alloc, Plan::Reread(boxed(alloc, all)?))?;
-    Ok(Plan::Join(read, boxed(alloc, Plan::New)?))
-}
-
-/// What a plan for frames of one sample makes.
-fn made(alloc: Global, plan: &Plan<'_>) -> Result<Holding, Fail> {
-    Ok(run(alloc, plan, &ONE_TILE, 1, 1)?)
+fn through_a_file<'a>(alloc: Global, copies: &'a [&'a [u8]]) -> Result<Plan<'a>, AllocError> {
+    let all = Plan::TakeAll(Box::new(alloc, Plan::New)?, copies);
+    let read = Plan::Reread(Box::new(alloc, all)?);
+    Ok(Plan::Join(Box::new(alloc, read)?, Box::new(alloc, Plan::New)?))
 }
 
 /// Whether what a plan for frames of one sample makes is the holding of this file.
-fn makes(alloc: Global, plan: &Plan<'_>, file: &[u8]) -> Result<bool, Fail> {
-    let holding = made(alloc, plan)?;
-    is_file_of(alloc, &holding, file)
-}
-
-/// Whether two copies, one after the other, make this file.
-fn makes_one_by_one(alloc: Global, copies: [&[u8]; 2], file: &[u8]) -> Result<bool, Fail> {
-    let plan = one_by_one(alloc, copies[0], copies[1])?;
-    makes(alloc, &plan, file)
-}
-
-/// Whether a list of copies, through a file, makes this file.
-fn makes_through_a_file(alloc: Global, copies: &[&[u8]], file: &[u8]) -> Result<bool, Fail> {
-    let plan = through_a_file(alloc, copies)?;
-    makes(alloc, &plan, file)
+fn makes(alloc: Global, plan: Result<Plan<'_>, AllocError>, file: &[u8]) -> bool {
+    match plan {
+        Ok(plan) => is_held_as(alloc, run(alloc, &plan, &ONE_TILE, 1, 1), file),
+        Err(_) => false,
+    }
 }
 
 #[test]
-fn plans_of_the_same_copies_give_one_file(rt: HostRuntime) -> Result<(), Fail> {
-    assert!(rt; makes_one_by_one(rt.alloc(), [&BLACK, &DARK], &SECOND)?);
-    assert!(rt; makes_through_a_file(rt.alloc(), &[&DARK, &BLACK, &DARK], &SECOND)?);
-    Ok(())
+fn plans_of_the_same_copies_give_one_file(rt: HostRuntime) {
+    let one_by_one = one_by_one(rt.alloc(), &BLACK, &DARK);
+    let is_made = makes(rt.alloc(), one_by_one, &SECOND);
+    let copies: [&[u8]; 3] = [&DARK, &BLACK, &DARK];
+    let through_a_file = through_a_file(rt.alloc(), &copies);
+    assert!(rt; makes(rt.alloc(), through_a_file, &SECOND) && is_made);
 }

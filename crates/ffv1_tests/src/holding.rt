@@ -4,7 +4,6 @@ use ffv1_hold::{HoldFault, Holding, Join, RestoreFault, SliceSet, Taken, TileSta
 use ffv1_range::SetupFault;
 use sha2::{Digest, Sha256};
 use std::alloc::Global;
-use std::test::Fail;
 
 /// The slice of tile 0 with one sample 1, whose error status says that it can't be corrected.
 const DARK_DAMAGED: [u8; 11] = [0xFD, 0xF6, 0x40, 0, 0, 3, 2, 0x1E, 0xE2, 0x9E, 0x17];
@@ -18,20 +17,24 @@ const AFTER_JUNK: [u8; 27] = [
     0x80, 0, 0, 3, 0, 0x56, 0x0F, 0xD7, 0x3B,
 ];
 
-/// What is held of copies of a frame of this size.
+/// What is held of copies of a frame of this size, if they are taken.
 pub(crate) fn held_of(
     alloc: Global,
     record: &[u8],
     (width, height): (u32, u32),
     copies: &[&[u8]],
-) -> Result<Holding, Fail> {
-    let mut holding = Holding::new(alloc, record, width, height)?;
-    holding.take_all(copies)?;
-    Ok(holding)
+) -> Option<Holding> {
+    let Ok(mut holding) = Holding::new(alloc, record, width, height) else {
+        return None;
+    };
+    match holding.take_all(copies) {
+        Ok(()) => Some(holding),
+        Err(_) => None,
+    }
 }
 
 /// What is held of two copies of a frame of so many tiles beside each other, one sample each.
-fn held_beside(alloc: Global, tiles: u32, copies: [&[u8]; 2]) -> Result<Holding, Fail> {
+fn held_beside(alloc: Global, tiles: u32, copies: [&[u8]; 2]) -> Option<Holding> {
     let record = if tiles == 1 { &ONE_TILE } else { &TWO_TILES };
     held_of(alloc, record, (tiles, 1), &copies)
 }
@@ -49,48 +52,40 @@ fn takes_each_once(set: &mut SliceSet) -> bool {
     true
 }
 
-/// How many slices sets have in all.
-fn in_all(alloc: Global, sets: &[SliceSet]) -> Result<usize, Fail> {
+/// How many slices two sets have in all.
+fn in_both(
+    alloc: Global,
+    one: Result<SliceSet, HoldFault>,
+    other: Result<SliceSet, HoldFault>,
+) -> Option<usize> {
+    let (Ok(one), Ok(other)) = (one, other) else {
+        return None;
+    };
     let mut all = SliceSet::new(alloc);
-    Ok(join_all(&mut all, sets)?)
-}
-
-/// How many slices a set and its copy have in all.
-fn with_its_copy(alloc: Global, set: SliceSet) -> Result<usize, Fail> {
-    let copy = set.copied()?;
-    in_all(alloc, &[set, copy])
+    join_all(&mut all, &[one, other]).ok()
 }
 
 #[test]
-fn slices_are_kept_once_in_rising_order(rt: HostRuntime) -> Result<(), Fail> {
+fn slices_are_kept_once_in_rising_order(rt: HostRuntime) {
     let mut set = SliceSet::new(rt.alloc());
     let is_kept = takes_each_once(&mut set) && set.len() == 2 && set.get(0) == DARK.as_slice();
-    let count = with_its_copy(rt.alloc(), set)?;
-    assert!(rt; is_kept && count == 2);
-    Ok(())
+    let copy = set.copied();
+    let count = in_both(rt.alloc(), Ok(set), copy);
+    assert!(rt; is_kept && count == Some(2));
 }
 
-/// The set of one slice.
-fn set_of(alloc: Global, slice: &[u8]) -> Result<SliceSet, Fail> {
-    let mut set = SliceSet::new(alloc);
-    set.insert(slice)?;
-    Ok(set)
-}
-
-/// How many slices the copies of two sets have in all.
-fn in_copies(alloc: Global, left: &SliceSet, right: &SliceSet) -> Result<usize, Fail> {
-    let first = left.copied()?;
-    in_all(alloc, &[first, right.copied()?])
+/// Whether sets of one slice each are joined, by copies of them and into the first.
+fn are_joined(alloc: Global) -> bool {
+    let (mut black, mut dark) = (SliceSet::new(alloc), SliceSet::new(alloc));
+    let inserted = (black.insert(&BLACK), dark.insert(&DARK));
+    let count = in_both(alloc, black.copied(), dark.copied());
+    let added = (black.join_with(&dark), black.join_with(&dark));
+    (inserted, count, added) == ((Ok(true), Ok(true)), Some(2), (Ok(1), Ok(0)))
 }
 
 #[test]
-fn sets_that_differ_are_joined(rt: HostRuntime) -> Result<(), Fail> {
-    let mut black = set_of(rt.alloc(), &BLACK)?;
-    let dark = set_of(rt.alloc(), &DARK)?;
-    let count = in_copies(rt.alloc(), &black, &dark)?;
-    let added = (black.join_with(&dark), black.join_with(&dark));
-    assert!(rt; count == 2 && added == (Ok(1), Ok(0)));
-    Ok(())
+fn sets_that_differ_are_joined(rt: HostRuntime) {
+    assert!(rt; are_joined(rt.alloc()));
 }
 
 /// Copies that are taken one after the other, and their links, slices and new slices.
@@ -103,14 +98,23 @@ static TAKEN: [(&[u8], usize, usize, usize); 6] = [
     (&FRAME, 2, 2, 0),
 ];
 
-#[test]
-fn a_copy_reports_what_was_taken(rt: HostRuntime) -> Result<(), Fail> {
-    let mut holding = Holding::new(rt.alloc(), &TWO_TILES, 2, 1)?;
+/// Whether a holding takes those copies, and reports that of each.
+fn takes_each(holding: &mut Holding) -> bool {
     for &(copy, links, slices, new) in &TAKEN {
-        let taken = Taken { links, slices, new };
-        assert!(rt; holding.take(copy) == Ok(taken));
+        if holding.take(copy) != Ok(Taken { links, slices, new }) {
+            return false;
+        }
     }
-    Ok(())
+    true
+}
+
+#[test]
+fn a_copy_reports_what_was_taken(rt: HostRuntime) {
+    let is_reported = match Holding::new(rt.alloc(), &TWO_TILES, 2, 1) {
+        Ok(mut holding) => takes_each(&mut holding),
+        Err(_) => false,
+    };
+    assert!(rt; is_reported);
 }
 
 /// Whether the origins of a slice of a tile are the digests of these copies.
@@ -140,48 +144,53 @@ fn are_shared(held: &Holding, copies: &[&[u8]]) -> bool {
 
 /// Whether the slices of the holding of both damaged copies are apart, and joining it to that of the frame adds the other
 /// copy to a slice's, and no slice.
-fn adds_origins(alloc: Global, held: &Holding) -> Result<bool, Fail> {
-    let mut both = held_beside(alloc, 2, [&FRAME, &LEFT_DAMAGED])?;
+fn adds_origins(alloc: Global, held: &Holding) -> bool {
+    let Some(mut both) = held_beside(alloc, 2, [&FRAME, &LEFT_DAMAGED]) else {
+        return false;
+    };
     let before = are_apart(held) && are_shared(&both, &[&FRAME]);
-    let joined = both.join_with(held) == Ok(0);
-    Ok(before && joined && are_shared(&both, &[&FRAME, &RIGHT_DAMAGED]))
+    let joined = both.join_with(held);
+    before && joined == Ok(0) && are_shared(&both, &[&FRAME, &RIGHT_DAMAGED])
 }
 
 /// Both damaged copies, one of them twice.
 static DAMAGED: [&[u8]; 3] = [&LEFT_DAMAGED, &RIGHT_DAMAGED, &LEFT_DAMAGED];
 
-/// Whether the origins of what is held of them are digests of whole copies.
-fn has_whole_copies(alloc: Global) -> Result<bool, Fail> {
-    let held = held_of(alloc, &TWO_TILES, (2, 1), &DAMAGED)?;
-    adds_origins(alloc, &held)
-}
-
 #[test]
-fn origins_are_the_digests_of_whole_copies(rt: HostRuntime) -> Result<(), Fail> {
-    assert!(rt; has_whole_copies(rt.alloc())?);
-    Ok(())
+fn origins_are_the_digests_of_whole_copies(rt: HostRuntime) {
+    let are_whole = match held_of(rt.alloc(), &TWO_TILES, (2, 1), &DAMAGED) {
+        Some(held) => adds_origins(rt.alloc(), &held),
+        None => false,
+    };
+    assert!(rt; are_whole);
 }
 
-/// What is restored of two copies of a frame of so many tiles.
-fn restored(
+/// Whether a payload is these bytes, or there is none for this reason.
+pub(crate) fn is_payload(
+    payload: Result<Vec<u8>, RestoreFault>,
+    wanted: Result<&[u8], RestoreFault>,
+) -> bool {
+    match payload {
+        Ok(payload) => wanted == Ok(payload.as_slice()),
+        Err(fault) => wanted == Err(fault),
+    }
+}
+
+/// Whether two copies of a frame of so many tiles are restored to this, or are not for this reason.
+fn is_restored(
     alloc: Global,
     tiles: u32,
     copies: [&[u8]; 2],
-) -> Result<Result<Vec<u8>, RestoreFault>, Fail> {
-    let holding = held_beside(alloc, tiles, copies)?;
-    Ok(holding.restore())
+    wanted: Result<&[u8], RestoreFault>,
+) -> bool {
+    match held_beside(alloc, tiles, copies) {
+        Some(holding) => is_payload(holding.restore(), wanted),
+        None => false,
+    }
 }
 
-/// Tiles beside each other, two copies of them, and what they are restored to.
-type Settled = (u32, [&'static [u8]; 2], &'static [u8]);
-
-/// Whether these copies are restored to what the row says.
-fn is_restored(alloc: Global, (tiles, copies, wanted): &Settled) -> Result<bool, Fail> {
-    Ok(restored(alloc, *tiles, *copies)??.as_slice() == *wanted)
-}
-
-/// Copies with which all tiles are settled.
-static SETTLED: [Settled; 5] = [
+/// Tiles beside each other and copies of them with which all are settled, and what they are restored to.
+static SETTLED: [(u32, [&[u8]; 2], &[u8]); 5] = [
     (2, [&LEFT_DAMAGED, &RIGHT_DAMAGED], &FRAME),
     (2, [&RIGHT_DAMAGED, &LEFT_DAMAGED], &FRAME),
     (2, [&LEFT_DAMAGED, &FRAME], &FRAME),
@@ -190,11 +199,10 @@ static SETTLED: [Settled; 5] = [
 ];
 
 #[test]
-fn settled_tiles_are_restored(rt: HostRuntime) -> Result<(), Fail> {
-    for row in &SETTLED {
-        assert!(rt; is_restored(rt.alloc(), row)?);
+fn settled_tiles_are_restored(rt: HostRuntime) {
+    for &(tiles, copies, wanted) in &SETTLED {
+        assert!(rt; is_restored(rt.alloc(), tiles, copies, Ok(wanted)));
     }
-    Ok(())
 }
 
 /// Tiles beside each other, two copies of them, and why they are not restored.
@@ -210,11 +218,10 @@ static UNSETTLED: [(u32, [&[u8]; 2], RestoreFault); 4] = [
 ];
 
 #[test]
-fn the_first_unsettled_tile_is_reported(rt: HostRuntime) -> Result<(), Fail> {
+fn the_first_unsettled_tile_is_reported(rt: HostRuntime) {
     for &(tiles, copies, fault) in &UNSETTLED {
-        assert!(rt; restored(rt.alloc(), tiles, copies)?.err() == Some(fault));
+        assert!(rt; is_restored(rt.alloc(), tiles, copies, Err(fault)));
     }
-    Ok(())
 }
 
 /// How many slices of a tile have the least error_status.
@@ -243,9 +250,11 @@ fn reports(
 type Reported = (u32, [&'static [u8]; 2], usize, (usize, Option<u8>, usize));
 
 /// Whether the tile of these copies' holding is as the row says.
-fn is_reported(alloc: Global, (tiles, copies, tile, reported): &Reported) -> Result<bool, Fail> {
-    let held = held_beside(alloc, *tiles, *copies)?;
-    Ok(reports(&held, *tile, *reported))
+fn is_reported(alloc: Global, (tiles, copies, tile, reported): &Reported) -> bool {
+    match held_beside(alloc, *tiles, *copies) {
+        Some(held) => reports(&held, *tile, *reported),
+        None => false,
+    }
 }
 
 /// Tiles without a slice, with one and with two.
@@ -259,29 +268,26 @@ static HELD: [Reported; 6] = [
 ];
 
 #[test]
-fn tiles_report_what_is_held_of_them(rt: HostRuntime) -> Result<(), Fail> {
+fn tiles_report_what_is_held_of_them(rt: HostRuntime) {
     for row in &HELD {
-        assert!(rt; is_reported(rt.alloc(), row)?);
+        assert!(rt; is_reported(rt.alloc(), row));
     }
-    Ok(())
 }
 
 /// What joining the holding of a frame of one tile to another holding returns.
-fn sample_joined(alloc: Global, held: &mut Holding) -> Result<Result<usize, HoldFault>, Fail> {
-    let sample = held_beside(alloc, 1, [&BLACK, &DARK])?;
-    Ok(held.join_with(&sample))
-}
-
-/// What joining the holding of a frame of one tile to that of a frame of two returns.
-fn sizes_joined(alloc: Global) -> Result<Result<usize, HoldFault>, Fail> {
-    let mut frame = held_beside(alloc, 2, [&FRAME, &FRAME])?;
-    sample_joined(alloc, &mut frame)
+fn sample_joined(alloc: Global, held: &mut Holding) -> Option<Result<usize, HoldFault>> {
+    match held_beside(alloc, 1, [&BLACK, &DARK]) {
+        Some(sample) => Some(held.join_with(&sample)),
+        None => None,
+    }
 }
 
 #[test]
-fn other_sizes_do_not_join(rt: HostRuntime) -> Result<(), Fail> {
+fn other_sizes_do_not_join(rt: HostRuntime) {
+    let joined = match held_beside(rt.alloc(), 2, [&FRAME, &FRAME]) {
+        Some(mut frame) => sample_joined(rt.alloc(), &mut frame),
+        None => None,
+    };
     let short = Holding::new(rt.alloc(), &[0; 5], 1, 1).err();
-    let joined = sizes_joined(rt.alloc())?;
-    assert!(rt; short == Some(SetupFault::TooShort) && joined == Err(HoldFault::OtherReel));
-    Ok(())
+    assert!(rt; short == Some(SetupFault::TooShort) && joined == Some(Err(HoldFault::OtherReel)));
 }

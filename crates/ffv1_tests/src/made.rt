@@ -1,9 +1,8 @@
 //! The frames of `tests/made`, which FFmpeg's decoder reads too: the makers make them as they are stored.
-use crate::suite::{asked_samples, frame_of};
+use crate::suite::{Made, asked_samples, frame_of};
 use ffv1_vectors::{SuiteCase, SuiteContent, SuiteTables};
 use sha2::{Digest, Sha256};
 use std::alloc::Global;
-use std::test::Fail;
 
 /// A case whose frame is stored, and the SHA-256 digest of its record, payload and planes, one after the other.
 type Stored = (
@@ -171,27 +170,35 @@ static STORED: [Stored; 19] = [
 ];
 
 /// Whether bytes are what these digits say.
-fn are_digits_of(alloc: Global, bytes: &[u8], digits: &str) -> Result<bool, Fail> {
+fn are_digits_of(alloc: Global, bytes: &[u8], digits: &str) -> bool {
     let mut text = String::new(alloc);
     for byte in bytes {
-        write!(text, "{byte:02x}")?;
+        if write!(text, "{byte:02x}").is_err() {
+            return false;
+        }
     }
-    Ok(text.as_str() == digits)
+    text.as_str() == digits
 }
 
-/// The SHA-256 digest of what the makers make of a case.
-fn digest_of(alloc: Global, case: &SuiteCase) -> Result<[u8; 32], Fail> {
-    let made = frame_of(alloc, case)?;
-    let samples = asked_samples(alloc, &made)?;
+/// The SHA-256 digest of a frame that the makers made, and of its samples.
+fn digest_of(made: &Made, samples: &[u8]) -> [u8; 32] {
     let mut hasher = Sha256::new();
     hasher.update(&made.record);
     hasher.update(&made.payload);
-    hasher.update(&samples);
-    Ok(hasher.finalize())
+    hasher.update(samples);
+    hasher.finalize()
+}
+
+/// Whether the digest of a frame is what these digits say.
+fn has_digits(alloc: Global, made: &Made, digits: &str) -> bool {
+    match asked_samples(alloc, made) {
+        Ok(samples) => are_digits_of(alloc, &digest_of(made, &samples), digits),
+        Err(_) => false,
+    }
 }
 
 /// Whether the makers make what is stored of a case.
-fn is_made_as_stored(alloc: Global, stored: &Stored) -> Result<bool, Fail> {
+fn is_made_as_stored(alloc: Global, stored: &Stored) -> bool {
     let &(tables, chroma, grid, content, size, digits) = stored;
     let case = SuiteCase {
         tables,
@@ -200,13 +207,15 @@ fn is_made_as_stored(alloc: Global, stored: &Stored) -> Result<bool, Fail> {
         content,
         size,
     };
-    are_digits_of(alloc, &digest_of(alloc, &case)?, digits)
+    match frame_of(alloc, &case) {
+        Some(made) => has_digits(alloc, &made, digits),
+        None => false,
+    }
 }
 
 #[test]
-fn stored_frames_are_made(rt: HostRuntime) -> Result<(), Fail> {
+fn stored_frames_are_made(rt: HostRuntime) {
     for stored in &STORED {
-        assert!(rt; is_made_as_stored(rt.alloc(), stored)?);
+        assert!(rt; is_made_as_stored(rt.alloc(), stored));
     }
-    Ok(())
 }

@@ -1,8 +1,7 @@
 //! `mend` on devices that fail after any number of bytes, or are interrupted: which path is named, and what is left in the outputs.
 use crate::failing::{Input, Output};
 use ffv1_commands::{CliFault, CommandPath, run_mend};
-use std::alloc::Global;
-use std::test::Fail;
+use std::alloc::{AllocError, Global};
 
 /// The stretches of two copies; the second does not have the last.
 const LIST: &[u8] = b"plain 3 1 0 1\nframe 22 1 3 4\nplain 2 1 25 -\n";
@@ -44,7 +43,7 @@ enum Device {
 }
 
 /// Each device, and after how many bytes it may fail: those that are read or written, and of the list, which is read to its end, one more.
-const DEVICES: [(Device, usize); 5] = [
+static DEVICES: [(Device, usize); 5] = [
     (Device::List, 45),
     (Device::First, 27),
     (Device::Second, 26),
@@ -105,7 +104,7 @@ struct Ran {
 }
 
 /// Runs the command on these devices.
-fn run(alloc: Global, devices: Devices) -> Result<Ran, Fail> {
+fn run(alloc: Global, devices: Devices) -> Result<Ran, AllocError> {
     let Devices {
         mut list,
         first,
@@ -175,58 +174,58 @@ fn left_after(device: Device, room: usize) -> (usize, usize) {
 }
 
 /// Whether a device that fails after so many bytes is named, and just what comes before is made and printed.
-fn failure_is_named(alloc: Global, device: Device, room: usize) -> Result<bool, Fail> {
+fn failure_is_named(alloc: Global, device: Device, room: usize) -> bool {
     let mut devices = Devices::new(alloc);
     devices.fail_after(device, room);
-    let ran = run(alloc, devices)?;
-    Ok(is_named(&ran.answer, device) && has_left(&ran, left_after(device, room)))
+    match run(alloc, devices) {
+        Ok(ran) => is_named(&ran.answer, device) && has_left(&ran, left_after(device, room)),
+        Err(_) => false,
+    }
 }
 
 /// After how many of so many bytes that is not so.
-fn unnamed_after(alloc: Global, device: Device, size: usize) -> Result<Option<usize>, Fail> {
+fn unnamed_after(alloc: Global, device: Device, size: usize) -> Option<usize> {
     for room in 0..size {
-        if !failure_is_named(alloc, device, room)? {
-            return Ok(Some(room));
+        if !failure_is_named(alloc, device, room) {
+            return Some(room);
         }
     }
-    Ok(None)
+    None
 }
 
 #[test]
-fn devices_that_fail_are_named(rt: HostRuntime) -> Result<(), Fail> {
-    for (device, size) in DEVICES {
-        let room = unnamed_after(rt.alloc(), device, size)?;
+fn devices_that_fail_are_named(rt: HostRuntime) {
+    for &(device, size) in &DEVICES {
+        let room = unnamed_after(rt.alloc(), device, size);
         assert!(rt; room.is_none(), "{device:?} {room:?}");
     }
-    Ok(())
 }
 
 /// What is done where a device is interrupted so many times in a row.
-fn interrupted(alloc: Global, device: Device, times: u32) -> Result<Ran, Fail> {
+fn interrupted(alloc: Global, device: Device, times: u32) -> Result<Ran, AllocError> {
     let mut devices = Devices::new(alloc);
     devices.interrupt(device, times);
     run(alloc, devices)
 }
 
 /// Whether 64 interruptions of a device are passed over, and 65 are a failure.
-fn interruptions_are_counted(alloc: Global, device: Device) -> Result<bool, Fail> {
-    let passed = interrupted(alloc, device, 64)?;
-    let failed = interrupted(alloc, device, 65)?;
-    Ok(
-        matches!(passed.answer, Ok(true))
-            && has_left(&passed, (27, 127))
-            && is_named(&failed.answer, device)
-            && has_left(&failed, left_after(device, 0)),
-    )
+fn interruptions_are_counted(alloc: Global, device: Device) -> bool {
+    let passed = interrupted(alloc, device, 64);
+    let failed = interrupted(alloc, device, 65);
+    match (&passed, &failed) {
+        (Ok(passed), Ok(failed)) => {
+            matches!(passed.answer, Ok(true))
+                && has_left(passed, (27, 127))
+                && is_named(&failed.answer, device)
+                && has_left(failed, left_after(device, 0))
+        }
+        _ => false,
+    }
 }
 
 #[test]
-fn sixty_five_interruptions_of_a_device_are_a_failure(rt: HostRuntime) -> Result<(), Fail> {
-    for (device, _size) in DEVICES {
-        assert!(rt;
-            interruptions_are_counted(rt.alloc(), device)?,
-            "{device:?}"
-        );
+fn sixty_five_interruptions_of_a_device_are_a_failure(rt: HostRuntime) {
+    for &(device, _size) in &DEVICES {
+        assert!(rt; interruptions_are_counted(rt.alloc(), device), "{device:?}");
     }
-    Ok(())
 }

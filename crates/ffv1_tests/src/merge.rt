@@ -1,14 +1,11 @@
 //! Two holding files that are joined as streams: beside `join`, cut and changed at every byte, on devices that fail.
-use crate::hold::{read_back, written};
+use crate::hold::{SECOND, read_back, written};
 use crate::holding::held_of;
 use crate::streams::{Failing, has_taken, narrow_sink};
 use ffv1_frames::{BLACK, DARK, ONE_TILE};
-use ffv1_hold::{
-    FromRead, FromWrite, HoldFileFault, Holding, Join, Sink, Source, join_streams, read_hold,
-};
+use ffv1_hold::{FromRead, FromWrite, HoldFileFault, Holding, Join, Sink, Source, join_streams};
 use std::alloc::Global;
 use std::io::ErrorKind;
-use std::test::Fail;
 
 /// Another copy with the first of them, and junk after it.
 const TWICE: [u8; 19] = [
@@ -22,9 +19,12 @@ const FIRST: [u8; 56] = [
     0, 0, 0, 0, 0x0B, 0xFD, 0xF6, 0x80, 0, 0, 3, 0, 0x1C, 0x3E, 0xA0, 0x9B, 0,
 ];
 
-/// The file of the holding of these copies, of frames of this width and one line.
-fn file_of(alloc: Global, copies: &[&[u8]], width: u32) -> Result<Vec<u8>, Fail> {
-    written(alloc, &held_of(alloc, &ONE_TILE, (width, 1), copies)?)
+/// The file of the holding of these copies, of frames of this width and one line, if it is written.
+fn file_of(alloc: Global, copies: &[&[u8]], width: u32) -> Option<Vec<u8>> {
+    match held_of(alloc, &ONE_TILE, (width, 1), copies) {
+        Some(holding) => written(alloc, &holding),
+        None => None,
+    }
 }
 
 /// What two files come to as streams, and what was written.
@@ -39,22 +39,25 @@ fn merged(alloc: Global, left: &[u8], right: &[u8]) -> (Result<(), HoldFileFault
     (answer, sink.into_inner())
 }
 
-/// The file of a holding that another one is joined to.
-fn joined_held(alloc: Global, whole: &mut Holding, other: &Holding) -> Result<Vec<u8>, Fail> {
-    whole.join_with(other)?;
-    written(alloc, whole)
+/// The file of a holding that the one of a file is joined to, if there is one.
+fn joined_file(alloc: Global, whole: &mut Holding, file: &[u8]) -> Option<Vec<u8>> {
+    let joined = match read_back(alloc, file) {
+        Ok(other) => whole.join_with(&other).is_ok(),
+        Err(_) => false,
+    };
+    if joined { written(alloc, whole) } else { None }
 }
 
-/// The file of a holding that the one of a file is joined to.
-fn joined_file(alloc: Global, whole: &mut Holding, file: &[u8]) -> Result<Vec<u8>, Fail> {
-    let other = read_back(alloc, file)?;
-    joined_held(alloc, whole, &other)
-}
-
-/// The file of the union of two files' holdings.
-fn joined(alloc: Global, left: &[u8], right: &[u8]) -> Result<Vec<u8>, Fail> {
-    let mut whole = read_back(alloc, left)?;
-    joined_file(alloc, &mut whole, right)
+/// Whether a file is that of the union of two files' holdings.
+fn is_union(alloc: Global, file: &[u8], left: &[u8], right: &[u8]) -> bool {
+    let union = match read_back(alloc, left) {
+        Ok(mut whole) => joined_file(alloc, &mut whole, right),
+        Err(_) => None,
+    };
+    match union {
+        Some(union) => union.as_slice() == file,
+        None => false,
+    }
 }
 
 /// The copies of no slice, of each of two, of both, and of one in two copies.
@@ -66,56 +69,41 @@ static COPIES: [&[&[u8]]; 5] = [
     &[&BLACK, &TWICE],
 ];
 
-/// The files of the holdings of those copies, and one of version 1.
-fn files(alloc: Global) -> Result<Vec<Vec<u8>>, Fail> {
-    let mut files = Vec::new(alloc);
-    for &copies in &COPIES {
-        files.push(file_of(alloc, copies, 1)?)?;
-    }
-    files.push(Vec::from_slice(alloc, &FIRST)?)?;
-    Ok(files)
+/// Whether two files are refused as streams, and leave no file; or `None` where they leave one, or do not come to what `join`
+/// makes.
+fn is_refused(alloc: Global, left: &[u8], right: &[u8]) -> Option<bool> {
+    let (answer, file) = merged(alloc, left, right);
+    let is_right = match answer {
+        Ok(()) => is_union(alloc, &file, left, right),
+        Err(_) => read_back(alloc, &file).is_err(),
+    };
+    is_right.then_some(answer.is_err())
 }
 
-/// Whether two files are refused as streams, and leave no file. Where they are not, they have to come to what `join` makes.
-fn is_refused(alloc: Global, left: &[u8], right: &[u8]) -> Result<bool, Fail> {
-    let (answer, file) = merged(alloc, left, right);
-    if answer.is_err() {
-        if read_hold(alloc, &mut FromRead::new(file.as_slice())).is_ok() {
-            return Err(Fail::from("a file beside a fault"));
+/// Whether a file and each of those copies' files, and one of version 1, come to what `join` makes.
+fn come_to_union(alloc: Global, left: &[u8]) -> bool {
+    for &copies in &COPIES {
+        let is_union = match file_of(alloc, copies, 1) {
+            Some(right) => is_refused(alloc, left, &right) == Some(false),
+            None => false,
+        };
+        if !is_union {
+            return false;
         }
-        return Ok(true);
     }
-    if file != joined(alloc, left, right)? {
-        return Err(Fail::from("another file than join's"));
-    }
-    Ok(false)
+    is_refused(alloc, left, &FIRST) == Some(false)
 }
 
 #[test]
-fn streams_come_to_what_join_makes(rt: HostRuntime) -> Result<(), Fail> {
-    let alloc = rt.alloc();
-    let files = files(alloc)?;
-    for left in &files {
-        for right in &files {
-            assert!(rt; !is_refused(alloc, left, right)?);
-        }
+fn streams_come_to_what_join_makes(rt: HostRuntime) {
+    for &copies in &COPIES {
+        let is_union = match file_of(rt.alloc(), copies, 1) {
+            Some(left) => come_to_union(rt.alloc(), &left),
+            None => false,
+        };
+        assert!(rt; is_union);
     }
-    Ok(())
-}
-
-/// The file of two slices, and that of one of them.
-#[derive(Drop)]
-struct Pair {
-    both: Vec<u8>,
-    one: Vec<u8>,
-}
-
-/// The file of a holding of both slices, and that of this one alone.
-fn pair_with(alloc: Global, one: &[u8]) -> Result<Pair, Fail> {
-    Ok(Pair {
-        both: file_of(alloc, &[&BLACK, &DARK], 1)?,
-        one: file_of(alloc, &[one], 1)?,
-    })
+    assert!(rt; come_to_union(rt.alloc(), &FIRST));
 }
 
 /// Whether a cut file among two is reported, and what was written is a front of their union's file, without its end.
@@ -136,28 +124,47 @@ fn each_cut_is_reported(alloc: Global, both: &[u8], one: &[u8]) -> bool {
 }
 
 #[test]
-fn a_cut_input_leaves_no_end(rt: HostRuntime) -> Result<(), Fail> {
-    let pair = pair_with(rt.alloc(), &DARK)?;
-    assert!(rt; each_cut_is_reported(rt.alloc(), &pair.both, &pair.one));
-    Ok(())
+fn a_cut_input_leaves_no_end(rt: HostRuntime) {
+    let is_reported = match file_of(rt.alloc(), &[&DARK], 1) {
+        Some(dark) => each_cut_is_reported(rt.alloc(), &SECOND, &dark),
+        None => false,
+    };
+    assert!(rt; is_reported);
+}
+
+/// Whether the file of both slices is refused where a byte of it is changed, beside another file, as either input; or `None`
+/// where it is refused as one of them alone.
+fn is_refused_changed(alloc: Global, other: &[u8], place: usize) -> Option<bool> {
+    let mut changed = SECOND;
+    if let Some(byte) = changed.get_mut(place) {
+        *byte ^= 0xFF;
+    }
+    let is_first = is_refused(alloc, &changed, other);
+    if is_refused(alloc, other, &changed) == is_first {
+        is_first
+    } else {
+        None
+    }
+}
+
+/// At how many places it is.
+fn count_refused(alloc: Global, other: &[u8]) -> Option<usize> {
+    let mut refused = 0usize;
+    for place in 0..SECOND.len() {
+        let is_refused = is_refused_changed(alloc, other, place)?;
+        refused = refused.saturating_add(usize::from(is_refused));
+    }
+    Some(refused)
 }
 
 #[test]
-fn a_changed_byte_leaves_no_file(rt: HostRuntime) -> Result<(), Fail> {
-    let alloc = rt.alloc();
-    let pair = pair_with(alloc, &DARK)?;
-    let mut refused = 0usize;
-    for place in 0..pair.both.len() {
-        let mut changed = pair.both.clone()?;
-        changed[place] ^= 0xFF;
-        let is_first = is_refused(alloc, &changed, &pair.one)?;
-        let is_second = is_refused(alloc, &pair.one, &changed)?;
-        assert!(rt; is_first == is_second);
-        refused = refused.saturating_add(usize::from(is_first));
-    }
-    // A changed digest is another copy's: there are two of 32 bytes.
-    assert!(rt; refused == pair.both.len().saturating_sub(64));
-    Ok(())
+fn a_changed_byte_leaves_no_file(rt: HostRuntime) {
+    let refused = match file_of(rt.alloc(), &[&DARK], 1) {
+        Some(dark) => count_refused(rt.alloc(), &dark),
+        None => None,
+    };
+    // Of 146 bytes, but a changed digest is another copy's: there are two of 32 bytes.
+    assert!(rt; refused == Some(82));
 }
 
 /// Whether a sink that fails after so many bytes of a file of 146 has that front of it, and no more of its entries, which
@@ -187,10 +194,12 @@ fn each_front_is_left(alloc: Global, file: &[u8], right: &[u8]) -> bool {
 }
 
 #[test]
-fn a_failed_write_leaves_a_front_and_reads_no_further(rt: HostRuntime) -> Result<(), Fail> {
-    let pair = pair_with(rt.alloc(), &BLACK)?;
-    assert!(rt; each_front_is_left(rt.alloc(), &pair.both, &pair.one));
-    Ok(())
+fn a_failed_write_leaves_a_front_and_reads_no_further(rt: HostRuntime) {
+    let is_left = match file_of(rt.alloc(), &[&BLACK], 1) {
+        Some(black) => each_front_is_left(rt.alloc(), &SECOND, &black),
+        None => false,
+    };
+    assert!(rt; is_left);
 }
 
 /// What a file that fails after its bytes comes to with another one, as the first or the second input, and what was written.
@@ -241,10 +250,12 @@ fn each_failure_is_reported(alloc: Global, both: &[u8], one: &[u8]) -> bool {
 }
 
 #[test]
-fn an_input_that_fails_is_reported_and_leaves_no_end(rt: HostRuntime) -> Result<(), Fail> {
-    let pair = pair_with(rt.alloc(), &DARK)?;
-    assert!(rt; each_failure_is_reported(rt.alloc(), &pair.both, &pair.one));
-    Ok(())
+fn an_input_that_fails_is_reported_and_leaves_no_end(rt: HostRuntime) {
+    let is_reported = match file_of(rt.alloc(), &[&DARK], 1) {
+        Some(dark) => each_failure_is_reported(rt.alloc(), &SECOND, &dark),
+        None => false,
+    };
+    assert!(rt; is_reported);
 }
 
 /// What joining a file, after which tries are interrupted so many times in a row, with itself returns.
@@ -259,20 +270,31 @@ fn interrupted(alloc: Global, file: &[u8], times: u32) -> Result<(), HoldFileFau
 }
 
 #[test]
-fn interrupted_streams_are_tried_again(rt: HostRuntime) -> Result<(), Fail> {
-    let black = file_of(rt.alloc(), &[&BLACK], 1)?;
-    let patient = interrupted(rt.alloc(), &black, 64);
-    let failing = interrupted(rt.alloc(), &black, 65);
-    assert!(rt; patient.is_ok() && failing == Err(HoldFileFault::Read));
-    Ok(())
+fn interrupted_streams_are_tried_again(rt: HostRuntime) {
+    let tried = match file_of(rt.alloc(), &[&BLACK], 1) {
+        Some(black) => (
+            interrupted(rt.alloc(), &black, 64),
+            interrupted(rt.alloc(), &black, 65),
+        ),
+        None => (Ok(()), Ok(())),
+    };
+    assert!(rt; tried == (Ok(()), Err(HoldFileFault::Read)));
+}
+
+/// Whether a file is reported to be of another reel than that of frames of two samples, and nothing is written.
+fn is_of_other_reel(alloc: Global, file: &[u8]) -> bool {
+    let (answer, written) = match file_of(alloc, &[], 2) {
+        Some(other) => merged(alloc, file, &other),
+        None => (Ok(()), Vec::new(alloc)),
+    };
+    answer == Err(HoldFileFault::OtherReel) && written.is_empty()
 }
 
 #[test]
-fn heads_of_two_reels_are_reported_before_anything_is_written(rt: HostRuntime) -> Result<(), Fail> {
-    let alloc = rt.alloc();
-    let black = file_of(alloc, &[&BLACK], 1)?;
-    let other = file_of(alloc, &[], 2)?;
-    let (answer, file) = merged(alloc, &black, &other);
-    assert!(rt; answer == Err(HoldFileFault::OtherReel) && file.is_empty());
-    Ok(())
+fn heads_of_two_reels_are_reported_before_anything_is_written(rt: HostRuntime) {
+    let is_reported = match file_of(rt.alloc(), &[&BLACK], 1) {
+        Some(black) => is_of_other_reel(rt.alloc(), &black),
+        None => false,
+    };
+    assert!(rt; is_reported);
 }

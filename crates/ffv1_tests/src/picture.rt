@@ -1,8 +1,7 @@
 //! Real slices: the frames, the pictures and the reports that they give.
 //!
 //! Helpers make the calls, so that each test sees plain values.
-use crate::hold::boxed;
-use crate::holding::held_of;
+use crate::holding::{held_of, is_payload};
 use crate::streams::{has_taken, narrow_sink};
 use ffv1_frames::{BLACK, FRAME, LEFT_DAMAGED, RIGHT, RIGHT_DAMAGED};
 use ffv1_hold::{FromWrite, Holding, Plan, RestoreFault, Sink};
@@ -13,8 +12,7 @@ use ffv1_picture::{
 use ffv1_plane::TileFault;
 use ffv1_range::{HeadFault, SetupFault};
 use ffv1_slice::LinkFault;
-use std::alloc::Global;
-use std::test::Fail;
+use std::alloc::{AllocError, Global};
 
 /// A gray record of two tiles beside each other, its five tables of one run each.
 pub(crate) const TWO_TILES: [u8; 18] = [
@@ -46,7 +44,7 @@ const LEFT_OF_6: [u8; 17] = [
 ];
 
 /// Slices, one after the other.
-pub(crate) fn joined(alloc: Global, slices: &[&[u8]]) -> Result<Vec<u8>, Fail> {
+pub(crate) fn joined(alloc: Global, slices: &[&[u8]]) -> Result<Vec<u8>, AllocError> {
     let mut payload = Vec::new(alloc);
     for slice in slices {
         payload.extend_from_slice(slice)?;
@@ -55,15 +53,20 @@ pub(crate) fn joined(alloc: Global, slices: &[&[u8]]) -> Result<Vec<u8>, Fail> {
 }
 
 /// The samples of a frame, as they are written.
-fn written(alloc: Global, frame: &Frame) -> Result<Vec<u8>, Fail> {
+fn written(alloc: Global, frame: &Frame) -> Option<Vec<u8>> {
     let mut sink = FromWrite::new(Vec::new(alloc));
-    write_raw(frame, &mut sink).ok().ok_or("memory is ample")?;
-    Ok(sink.into_inner())
+    match write_raw(frame, &mut sink) {
+        Ok(()) => Some(sink.into_inner()),
+        Err(_) => None,
+    }
 }
 
 /// Whether these are the samples of a frame.
-fn shows(alloc: Global, frame: &Frame, samples: &[u8]) -> Result<bool, Fail> {
-    Ok(written(alloc, frame)?.as_slice() == samples)
+fn shows(alloc: Global, frame: &Frame, samples: &[u8]) -> bool {
+    match written(alloc, frame) {
+        Some(written) => written.as_slice() == samples,
+        None => false,
+    }
 }
 
 /// Whether a frame is gray, of two samples beside each other.
@@ -72,92 +75,80 @@ fn is_gray_of_2(frame: &Frame) -> bool {
     size == (2, 1, 0, 0) && !frame.has_chroma && frame.planes.len() == 1
 }
 
-/// Why slices are no frame of this width and one line.
+/// Why a payload is no frame of this width and one line, if there is a decoder of them.
+fn fault_of_payload(
+    alloc: Global,
+    config: &[u8],
+    width: u32,
+    payload: &[u8],
+) -> Option<Option<FrameFault>> {
+    match Decoder::new(alloc, config, width, 1) {
+        Ok(decoder) => Some(decoder.decode_frame(payload).err()),
+        Err(_) => None,
+    }
+}
+
+/// The same of slices.
 fn fault_of(
     alloc: Global,
     config: &[u8],
     width: u32,
     slices: &[&[u8]],
-) -> Result<Option<FrameFault>, Fail> {
-    let payload = joined(alloc, slices)?;
-    let decoder = Decoder::new(alloc, config, width, 1)?;
-    Ok(decoder.decode_frame(&payload).err())
-}
-
-/// What a plan for a frame of two gray tiles comes to.
-fn restored_by(alloc: Global, plan: &Plan<'_>) -> Result<Restoration, Fail> {
-    Ok(
-        restored(alloc, plan, &TWO_TILES, 2, 1)
-            .ok()
-            .ok_or("ample memory")?,
-    )
-}
-
-/// What copies of such a frame come to.
-fn restored_of_two(alloc: Global, copies: &[&[u8]]) -> Result<Restoration, Fail> {
-    let plan = Plan::TakeAll(boxed(alloc, Plan::New)?, copies);
-    restored_by(alloc, &plan)
-}
-
-/// What can be shown of a holding.
-fn shown(alloc: Global, holding: &Holding) -> Result<Partial, Fail> {
-    Ok(picture(alloc, holding)?)
-}
-
-/// What can be shown of copies of a frame of this size.
-fn shown_of(
-    alloc: Global,
-    record: &[u8],
-    size: (u32, u32),
-    copies: &[&[u8]],
-) -> Result<Partial, Fail> {
-    let holding = held_of(alloc, record, size, copies)?;
-    shown(alloc, &holding)
-}
-
-/// Whether the report of a holding is this text.
-fn is_reported_as(alloc: Global, holding: &Holding, text: &str) -> Result<bool, Fail> {
-    Ok(report(alloc, holding)?.as_str() == text)
-}
-
-/// Whether the report of copies of a frame of two gray tiles is this text.
-fn are_reported_as(alloc: Global, copies: &[&[u8]], text: &str) -> Result<bool, Fail> {
-    let holding = held_of(alloc, &TWO_TILES, (2, 1), copies)?;
-    is_reported_as(alloc, &holding, text)
-}
-
-/// Whether a payload is these bytes, or there is none for this reason.
-fn is_payload(
-    payload: &Result<Vec<u8>, RestoreFault>,
-    wanted: Result<&[u8], RestoreFault>,
-) -> bool {
-    match (payload, wanted) {
-        (Ok(payload), Ok(bytes)) => payload.as_slice() == bytes,
-        (Err(fault), Err(wanted)) => *fault == wanted,
-        _ => false,
+) -> Option<Option<FrameFault>> {
+    match joined(alloc, slices) {
+        Ok(payload) => fault_of_payload(alloc, config, width, &payload),
+        Err(_) => None,
     }
 }
 
-/// Whether what was restored is this payload, and a picture of these samples.
-fn is_restored(
-    alloc: Global,
-    restored: &Restoration,
-    payload: Result<&[u8], RestoreFault>,
-    samples: &[u8],
-) -> Result<bool, Fail> {
-    let is_shown = shows(alloc, &restored.picture.frame, samples)?;
-    Ok(is_shown && is_payload(&restored.payload, payload))
+/// What can be shown of copies of a frame of this size.
+fn shown_of(alloc: Global, record: &[u8], size: (u32, u32), copies: &[&[u8]]) -> Option<Partial> {
+    match held_of(alloc, record, size, copies) {
+        Some(holding) => picture(alloc, &holding).ok(),
+        None => None,
+    }
 }
 
-/// Whether what is restored of copies of a frame of two gray tiles is this payload, and a picture of these samples.
+/// Whether the report of a holding is this text.
+fn is_reported_as(alloc: Global, holding: &Holding, text: &str) -> bool {
+    match report(alloc, holding) {
+        Ok(report) => report.as_str() == text,
+        Err(_) => false,
+    }
+}
+
+/// Whether what a plan for a frame of two gray tiles comes to is this payload, and a picture of these samples.
+fn is_restored(
+    alloc: Global,
+    plan: &Plan<'_>,
+    wanted: Result<&[u8], RestoreFault>,
+    samples: &[u8],
+) -> bool {
+    let Ok(
+        Restoration {
+            payload,
+            picture,
+            ..
+        },
+    ) = restored(alloc, plan, &TWO_TILES, 2, 1)
+    else {
+        return false;
+    };
+    let is_payload = is_payload(payload, wanted);
+    is_payload && shows(alloc, &picture.frame, samples)
+}
+
+/// Whether what is restored of copies of such a frame is this payload, and a picture of these samples.
 fn come_to(
     alloc: Global,
     copies: &[&[u8]],
     payload: Result<&[u8], RestoreFault>,
     samples: &[u8],
-) -> Result<bool, Fail> {
-    let restored = restored_of_two(alloc, copies)?;
-    is_restored(alloc, &restored, payload, samples)
+) -> bool {
+    match Box::new(alloc, Plan::New) {
+        Ok(new) => is_restored(alloc, &Plan::TakeAll(new, copies), payload, samples),
+        Err(_) => false,
+    }
 }
 
 /// Whether a fault is that of a code that begins at the first sample.
@@ -174,16 +165,25 @@ fn is_at_first_sample(fault: TileFault) -> bool {
 }
 
 /// Whether tile 0 has such a fault, and is the first that has one.
-fn stops_at_first_sample(fault: Option<FrameFault>) -> bool {
-    matches!(fault, Some(FrameFault::Tile { tile: 0, cause }) if is_at_first_sample(cause))
+fn stops_at_first_sample(fault: Option<Option<FrameFault>>) -> bool {
+    matches!(fault, Some(Some(FrameFault::Tile { tile: 0, cause })) if is_at_first_sample(cause))
+}
+
+/// Whether a decoder decodes the frame to its samples.
+fn decodes(alloc: Global, decoder: &Decoder) -> bool {
+    match decoder.decode_frame(&FRAME) {
+        Ok(frame) => is_gray_of_2(&frame) && shows(alloc, &frame, &[0, 0]),
+        Err(_) => false,
+    }
 }
 
 #[test]
-fn frame_decodes_to_its_samples(rt: HostRuntime) -> Result<(), Fail> {
-    let decoder = Decoder::new(rt.alloc(), &TWO_TILES, 2, 1)?;
-    let frame = decoder.decode_frame(&FRAME)?;
-    assert!(rt; is_gray_of_2(&frame) && shows(rt.alloc(), &frame, &[0, 0])?);
-    Ok(())
+fn frame_decodes_to_its_samples(rt: HostRuntime) {
+    let is_decoded = match Decoder::new(rt.alloc(), &TWO_TILES, 2, 1) {
+        Ok(decoder) => decodes(rt.alloc(), &decoder),
+        Err(_) => false,
+    };
+    assert!(rt; is_decoded);
 }
 
 /// Records, widths, slices of them, and why they are no frame, if they are none.
@@ -224,13 +224,12 @@ static FRAMES: [(&[u8], u32, &[&[u8]], Option<FrameFault>); 7] = [
 ];
 
 #[test]
-fn frames_of_other_slices_are_refused(rt: HostRuntime) -> Result<(), Fail> {
+fn frames_of_other_slices_are_refused(rt: HostRuntime) {
     for &(record, width, slices, fault) in &FRAMES {
-        assert!(rt; fault_of(rt.alloc(), record, width, slices)? == fault);
+        assert!(rt; fault_of(rt.alloc(), record, width, slices) == Some(fault));
     }
-    let cut = fault_of(rt.alloc(), &TWO_TILES, 2, &[&CUT, &RIGHT])?;
+    let cut = fault_of(rt.alloc(), &TWO_TILES, 2, &[&CUT, &RIGHT]);
     assert!(rt; stops_at_first_sample(cut));
-    Ok(())
 }
 
 #[test]
@@ -246,16 +245,17 @@ const RIGHT_ALONE: [TileOutcome; 2] = [
 ];
 
 /// Whether a picture is of tile 1 alone.
-fn is_right_alone(alloc: Global, picture: &Partial) -> Result<bool, Fail> {
-    let tiles = picture.tiles.as_slice() == RIGHT_ALONE.as_slice();
-    Ok(tiles && shows(alloc, &picture.frame, &[128, 0])?)
+fn is_right_alone(alloc: Global, picture: &Partial) -> bool {
+    picture.tiles.as_slice() == RIGHT_ALONE.as_slice() && shows(alloc, &picture.frame, &[128, 0])
 }
 
 #[test]
-fn damaged_copy_shows_what_it_has(rt: HostRuntime) -> Result<(), Fail> {
-    let partial = shown_of(rt.alloc(), &TWO_TILES, (2, 1), &[&LEFT_DAMAGED])?;
-    assert!(rt; is_right_alone(rt.alloc(), &partial)?);
-    Ok(())
+fn damaged_copy_shows_what_it_has(rt: HostRuntime) {
+    let is_shown = match shown_of(rt.alloc(), &TWO_TILES, (2, 1), &[&LEFT_DAMAGED]) {
+        Some(partial) => is_right_alone(rt.alloc(), &partial),
+        None => false,
+    };
+    assert!(rt; is_shown);
 }
 
 /// The report of the frame.
@@ -268,23 +268,24 @@ const REPORT: &str = "reel 2x1 tiles 2\n\
      frame bytes 22 sha256 d851a6f33e0e3c5daec4bafe4532347e5331626564719420468000160d2fb0a1\n";
 
 #[test]
-fn whole_frame_is_reported_with_its_digest(rt: HostRuntime) -> Result<(), Fail> {
-    assert!(rt; are_reported_as(rt.alloc(), &[&FRAME], REPORT)?);
-    Ok(())
+fn whole_frame_is_reported_with_its_digest(rt: HostRuntime) {
+    let is_reported = match held_of(rt.alloc(), &TWO_TILES, (2, 1), &[&FRAME]) {
+        Some(holding) => is_reported_as(rt.alloc(), &holding, REPORT),
+        None => false,
+    };
+    assert!(rt; is_reported);
 }
 
 #[test]
-fn damaged_copies_come_back_whole(rt: HostRuntime) -> Result<(), Fail> {
+fn damaged_copies_come_back_whole(rt: HostRuntime) {
     let copies: [&[u8]; 2] = [&RIGHT_DAMAGED, &LEFT_DAMAGED];
-    assert!(rt; come_to(rt.alloc(), &copies, Ok(&FRAME), &[0, 0])?);
-    Ok(())
+    assert!(rt; come_to(rt.alloc(), &copies, Ok(&FRAME), &[0, 0]));
 }
 
 #[test]
-fn one_damaged_copy_is_missing_a_tile(rt: HostRuntime) -> Result<(), Fail> {
+fn one_damaged_copy_is_missing_a_tile(rt: HostRuntime) {
     let missing = Err(RestoreFault::Missing(0));
-    assert!(rt; come_to(rt.alloc(), &[&LEFT_DAMAGED], missing, &[128, 0])?);
-    Ok(())
+    assert!(rt; come_to(rt.alloc(), &[&LEFT_DAMAGED], missing, &[128, 0]));
 }
 
 /// Whether a sink that fails after so many bytes counts one failure and has that front of the samples.
@@ -296,19 +297,28 @@ fn has_front(alloc: Global, frame: &Frame, room: usize, samples: &[u8]) -> bool 
 }
 
 /// Whether a sink that fails after any number of the 18 samples of a frame has that front of them.
-fn each_front_is_left(alloc: Global, frame: &Frame) -> Result<bool, Fail> {
-    let samples = written(alloc, frame)?;
+fn each_front_is_left(alloc: Global, frame: &Frame, samples: &[u8]) -> bool {
     for room in 0..18 {
-        if !has_front(alloc, frame, room, &samples) {
-            return Ok(false);
+        if !has_front(alloc, frame, room, samples) {
+            return false;
         }
     }
-    Ok(samples.len() == 18)
+    samples.len() == 18
+}
+
+/// The same of what is written of it.
+fn fronts_are_left(alloc: Global, frame: &Frame) -> bool {
+    match written(alloc, frame) {
+        Some(samples) => each_front_is_left(alloc, frame, &samples),
+        None => false,
+    }
 }
 
 #[test]
-fn failing_sink_has_a_front_of_the_samples(rt: HostRuntime) -> Result<(), Fail> {
-    let shown = shown_of(rt.alloc(), &WITH_CHROMA, (6, 2), &[&LEFT_OF_6])?;
-    assert!(rt; each_front_is_left(rt.alloc(), &shown.frame)?);
-    Ok(())
+fn failing_sink_has_a_front_of_the_samples(rt: HostRuntime) {
+    let are_left = match shown_of(rt.alloc(), &WITH_CHROMA, (6, 2), &[&LEFT_OF_6]) {
+        Some(shown) => fronts_are_left(rt.alloc(), &shown.frame),
+        None => false,
+    };
+    assert!(rt; are_left);
 }

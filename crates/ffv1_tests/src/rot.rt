@@ -8,22 +8,16 @@ use ffv1_range::{Setup, SetupFault};
 use ffv1_slice::{Chain, slice_of};
 use ffv1_vectors::{SUITE_NUMBERS, SuiteCase, SuiteTables, cut, suite_case, zero};
 use std::alloc::Global;
-use std::test::Fail;
 
-/// Bytes that are cut at a place, or from a place on zeroed for eight bytes; `None` where there are not so many.
-fn rotten(
-    alloc: Global,
-    bytes: &[u8],
-    place: usize,
-    is_cut: bool,
-) -> Result<Option<Vec<u8>>, Fail> {
+/// Bytes that are cut at a place, or from a place on zeroed for eight bytes; the bytes themselves where there are not so many.
+fn rotten(alloc: Global, bytes: &[u8], place: usize, is_cut: bool) -> Option<Vec<u8>> {
     if is_cut && place < bytes.len() {
-        return Ok(Some(cut(alloc, bytes, place)?));
+        return cut(alloc, bytes, place).ok();
     }
     if !is_cut && bytes.len() >= 8 && place <= bytes.len() - 8 {
-        return Ok(Some(zero(alloc, bytes, place, place + 8)?));
+        return zero(alloc, bytes, place, place + 8).ok();
     }
-    Ok(None)
+    bytes.to_vec(alloc).ok()
 }
 
 /// The slice of a tile that is found in a payload, the last one.
@@ -68,42 +62,37 @@ fn are_of_original(made: &Made, holding: &Holding, outcomes: &[TileOutcome]) -> 
 }
 
 /// Whether each tile of a holding is missing or of the original, and comes out so.
-fn holds_of_original(alloc: Global, made: &Made, holding: &Holding) -> Result<bool, Fail> {
-    let partial = picture(alloc, holding)?;
-    Ok(are_of_original(made, holding, &partial.tiles))
+fn holds_of_original(alloc: Global, made: &Made, holding: &Holding) -> bool {
+    match picture(alloc, holding) {
+        Ok(partial) => are_of_original(made, holding, &partial.tiles),
+        Err(_) => false,
+    }
 }
 
 /// Whether a rotten payload is decoded exactly where it is the original.
-fn is_decoded_as_original(alloc: Global, made: &Made, rotten: &[u8]) -> Result<bool, Fail> {
-    let decoder = Decoder::new(alloc, &made.record, made.size.0, made.size.1)?;
-    let is_whole = decoder.decode_frame(rotten).is_ok();
-    Ok(is_whole == (rotten == made.payload.as_slice()))
-}
-
-/// Whether a holding, which has no slices yet, takes only slices of the original from a rotten payload.
-fn takes_of_original(
-    alloc: Global,
-    made: &Made,
-    holding: &mut Holding,
-    rotten: &[u8],
-) -> Result<bool, Fail> {
-    let taken = holding.take(rotten).ok().ok_or("ample memory")?;
-    let is_original = holds_of_original(alloc, made, holding)?;
-    Ok(is_original && taken.links <= rotten.len() / 8)
+fn is_decoded_as_original(alloc: Global, made: &Made, rotten: &[u8]) -> bool {
+    match Decoder::new(alloc, &made.record, made.size.0, made.size.1) {
+        Ok(decoder) => {
+            decoder.decode_frame(rotten).is_ok() == (rotten == made.payload.as_slice())
+        }
+        Err(_) => false,
+    }
 }
 
 /// Whether a rotten payload gives only slices of the original.
-fn gives_slices_of_original(alloc: Global, made: &Made, rotten: &[u8]) -> Result<bool, Fail> {
-    let mut holding = Holding::new(alloc, &made.record, made.size.0, made.size.1)?;
-    takes_of_original(alloc, made, &mut holding, rotten)
+fn gives_slices_of_original(alloc: Global, made: &Made, rotten: &[u8]) -> bool {
+    let Ok(mut holding) = Holding::new(alloc, &made.record, made.size.0, made.size.1) else {
+        return false;
+    };
+    match holding.take(rotten) {
+        Ok(taken) => { taken.links <= rotten.len() / 8 && holds_of_original(alloc, made, &holding) }
+        Err(_) => false,
+    }
 }
 
 /// Whether a rotten payload gives only slices of the original, and is decoded exactly where it is the original.
-fn payload_is_judged(alloc: Global, made: &Made, rotten: &[u8]) -> Result<bool, Fail> {
-    Ok(
-        gives_slices_of_original(alloc, made, rotten)?
-            && is_decoded_as_original(alloc, made, rotten)?,
-    )
+fn payload_is_judged(alloc: Global, made: &Made, rotten: &[u8]) -> bool {
+    gives_slices_of_original(alloc, made, rotten) && is_decoded_as_original(alloc, made, rotten)
 }
 
 /// Whether a rotten record is refused by its length or its parity, unless nothing of it has changed.
@@ -130,99 +119,93 @@ fn is_reported_of(fault: HoldFileFault, file: &[u8], rotten: &[u8]) -> bool {
 
 /// Whether a rotten holding file is reported as cut, or for a fault of its bytes, or is the file of what is read of it:
 /// nothing of it has changed, or a digest.
-fn file_is_judged(alloc: Global, file: &[u8], rotten: &[u8]) -> Result<bool, Fail> {
+fn file_is_judged(alloc: Global, file: &[u8], rotten: &[u8]) -> bool {
     match read_hold(alloc, &mut FromRead::new(rotten)) {
         Ok(holding) => is_file_of(alloc, &holding, rotten),
-        Err(fault) => Ok(is_reported_of(fault, file, rotten)),
+        Err(fault) => is_reported_of(fault, file, rotten),
     }
-}
-
-/// The file of a holding when it has taken a payload.
-fn written_of_taken(alloc: Global, holding: &mut Holding, payload: &[u8]) -> Result<Vec<u8>, Fail> {
-    holding.take(payload).ok().ok_or("ample memory")?;
-    written(alloc, holding)
 }
 
 /// The holding file of a frame.
-fn file_of(alloc: Global, made: &Made) -> Result<Vec<u8>, Fail> {
-    let mut holding = Holding::new(alloc, &made.record, made.size.0, made.size.1)?;
-    written_of_taken(alloc, &mut holding, &made.payload)
+fn file_of(alloc: Global, made: &Made) -> Option<Vec<u8>> {
+    let Ok(mut holding) = Holding::new(alloc, &made.record, made.size.0, made.size.1) else {
+        return None;
+    };
+    match holding.take(&made.payload) {
+        Ok(_) => written(alloc, &holding),
+        Err(_) => None,
+    }
 }
 
-/// Whether a frame is judged rightly wherever it is cut or zeroed.
-fn frame_is_judged(alloc: Global, made: &Made, is_cut: bool) -> Result<bool, Fail> {
-    for place in 0..made.payload.len() {
-        if let Some(bytes) = rotten(alloc, &made.payload, place, is_cut)? {
-            if !payload_is_judged(alloc, made, &bytes)? {
-                return Ok(false);
-            }
+/// What rots of a frame.
+#[derive(Clone, Copy)]
+enum Part<'a> {
+    Payload,
+    Record,
+    /// Its holding file.
+    File(&'a [u8]),
+}
+
+/// Whether a part of a frame is judged rightly where it is rotten.
+fn part_is_judged(alloc: Global, made: &Made, part: Part<'_>, rotten: &[u8]) -> bool {
+    match part {
+        Part::Payload => payload_is_judged(alloc, made, rotten),
+        Part::Record => record_is_judged(alloc, made, rotten),
+        Part::File(file) => file_is_judged(alloc, file, rotten),
+    }
+}
+
+/// Whether a part of a frame, which is these bytes, is judged rightly wherever it is cut or zeroed.
+fn is_judged_everywhere(
+    alloc: Global,
+    made: &Made,
+    (part, bytes): (Part<'_>, &[u8]),
+    is_cut: bool,
+) -> bool {
+    for place in 0..bytes.len() {
+        let is_judged = match rotten(alloc, bytes, place, is_cut) {
+            Some(rotten) => part_is_judged(alloc, made, part, &rotten),
+            None => false,
+        };
+        if !is_judged {
+            return false;
         }
     }
-    Ok(true)
+    true
 }
 
-/// Whether a frame's record is, wherever it is cut or zeroed.
-fn records_are_judged(alloc: Global, made: &Made, is_cut: bool) -> Result<bool, Fail> {
-    for place in 0..made.record.len() {
-        if let Some(bytes) = rotten(alloc, &made.record, place, is_cut)? {
-            if !record_is_judged(alloc, made, &bytes) {
-                return Ok(false);
-            }
-        }
+/// Whether each part of a frame is.
+fn is_judged(alloc: Global, made: &Made, file: &[u8], is_cut: bool) -> bool {
+    is_judged_everywhere(alloc, made, (Part::Payload, &made.payload), is_cut)
+        && is_judged_everywhere(alloc, made, (Part::Record, &made.record), is_cut)
+        && is_judged_everywhere(alloc, made, (Part::File(file), file), is_cut)
+}
+
+/// Whether a frame is judged wherever it is cut and wherever it is zeroed.
+fn rots(alloc: Global, made: &Made) -> bool {
+    match file_of(alloc, made) {
+        Some(file) => is_judged(alloc, made, &file, true) && is_judged(alloc, made, &file, false),
+        None => false,
     }
-    Ok(true)
 }
 
-/// Whether a frame's holding file is, wherever it is cut or zeroed.
-fn files_are_judged(alloc: Global, made: &Made, is_cut: bool) -> Result<bool, Fail> {
-    let file = file_of(alloc, made)?;
-    for place in 0..file.len() {
-        if let Some(bytes) = rotten(alloc, &file, place, is_cut)? {
-            if !file_is_judged(alloc, &file, &bytes)? {
-                return Ok(false);
-            }
-        }
+/// Whether the frame of a case rots: those of at most 1000 bytes do.
+fn case_rots(alloc: Global, case: &SuiteCase) -> bool {
+    match frame_of(alloc, case) {
+        Some(made) => made.payload.len() <= 1000 && rots(alloc, &made),
+        None => false,
     }
-    Ok(true)
-}
-
-/// Whether all of a frame is.
-fn is_judged(alloc: Global, made: &Made, is_cut: bool) -> Result<bool, Fail> {
-    Ok(
-        frame_is_judged(alloc, made, is_cut)?
-            && records_are_judged(alloc, made, is_cut)?
-            && files_are_judged(alloc, made, is_cut)?,
-    )
-}
-
-/// Whether a frame rots: those of at most 1000 bytes do, and each is judged wherever it is cut and wherever it is zeroed.
-fn rots(alloc: Global, made: &Made) -> Result<bool, Fail> {
-    if made.payload.len() > 1000 {
-        return Ok(false);
-    }
-    if is_judged(alloc, made, true)? && is_judged(alloc, made, false)? {
-        return Ok(true);
-    }
-    Err("a frame that is judged".into())
-}
-
-/// Whether the frame of a case rots.
-fn case_rots(alloc: Global, case: &SuiteCase) -> Result<bool, Fail> {
-    let made = frame_of(alloc, case)?;
-    rots(alloc, &made)
 }
 
 /// How many frames with these tables rot.
-fn count_judged(alloc: Global, tables: SuiteTables) -> Result<usize, Fail> {
+fn count_judged(alloc: Global, tables: SuiteTables) -> usize {
     let mut count = 0usize;
     for number in 0..SUITE_NUMBERS {
         if let Some(case) = suite_case(tables, number) {
-            if case_rots(alloc, &case)? {
-                count = count.saturating_add(1);
-            }
+            count = count.saturating_add(usize::from(case_rots(alloc, &case)));
         }
     }
-    Ok(count)
+    count
 }
 
 /// The tables of the suite.
@@ -233,16 +216,15 @@ static TABLES: [SuiteTables; 3] = [
 ];
 
 /// How many frames of the suite rot.
-fn count_all_judged(alloc: Global) -> Result<usize, Fail> {
+fn count_all_judged(alloc: Global) -> usize {
     let mut count = 0usize;
     for &tables in &TABLES {
-        count = count.saturating_add(count_judged(alloc, tables)?);
+        count = count.saturating_add(count_judged(alloc, tables));
     }
-    Ok(count)
+    count
 }
 
 #[test]
-fn rotten_bytes_are_judged(rt: HostRuntime) -> Result<(), Fail> {
-    assert!(rt; count_all_judged(rt.alloc())? == 1343);
-    Ok(())
+fn rotten_bytes_are_judged(rt: HostRuntime) {
+    assert!(rt; count_all_judged(rt.alloc()) == 1343);
 }

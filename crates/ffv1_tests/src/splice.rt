@@ -3,7 +3,6 @@ use ffv1_commands::{CliFault, CommandPath, run_splice};
 use ffv1_frames::RECORDED;
 use ffv1_splice::{Place, SpliceFault, Spliced, Standing, splice};
 use std::alloc::Global;
-use std::test::Fail;
 
 /// The places of its slices, from its end, that stand so.
 fn places(standings: [Standing; 4]) -> [Place; 4] {
@@ -94,11 +93,15 @@ fn gives(
     places: &[Place],
     front: usize,
     payload: &[u8],
-) -> Result<bool, Fail> {
-    let spliced = splice(alloc, &[one, other])?;
-    let turned = splice(alloc, &[other, one, other])?;
-    let is_given = is_splice(&spliced, places, front, payload);
-    Ok(is_given && is_splice(&turned, places, front, payload))
+) -> bool {
+    let spliced = splice(alloc, &[one, other]);
+    let turned = splice(alloc, &[other, one, other]);
+    match (&spliced, &turned) {
+        (Ok(spliced), Ok(turned)) => {
+            is_splice(spliced, places, front, payload) && is_splice(turned, places, front, payload)
+        }
+        _ => false,
+    }
 }
 
 /// The same of two copies where these bytes are changed: their slices stand so, and what is spliced is the frame where
@@ -108,149 +111,148 @@ fn changed_give(
     (one, other): (Changes, Changes),
     standings: [Standing; 4],
     payload: Changes,
-) -> Result<bool, Fail> {
+) -> bool {
     let copies = (changed(one), changed(other));
     let (places, payload) = (places(standings), changed(payload));
     gives(alloc, (&copies.0, &copies.1), &places, 0, &payload)
 }
 
-/// Pairs of copies of which each slice is in one.
-static PAIRS: [(Changes, Changes); 2] = [(FIRST_COPY, SECOND_COPY), (SIZE_DAMAGED, &[])];
+/// What is shown, the bytes that are changed in two copies, how their slices stand, and the bytes that are changed in what is
+/// spliced.
+type Row = (&'static str, (Changes, Changes), [Standing; 4], Changes);
+
+const SETTLED: Standing = Standing::Settled;
+
+/// Damage in the second slice alone.
+const SECOND_ALONE: Changes = &[(103, 1)];
+
+static ROWS: [Row; 15] = [
+    (
+        "slices that a copy has are settled",
+        (FIRST_COPY, SECOND_COPY),
+        [SETTLED; 4],
+        &[],
+    ),
+    (
+        "a size that a copy has is settled",
+        (SIZE_DAMAGED, &[]),
+        [SETTLED; 4],
+        &[],
+    ),
+    (
+        "slices that no copy has are missing",
+        (TWO_BITS, TWO_BITS),
+        [SETTLED, Standing::Missing, SETTLED, Standing::Missing],
+        TWO_BITS,
+    ),
+    (
+        "a bit that is wrong in all copies is repaired",
+        (SECOND_ALONE, SECOND_ALONE),
+        [SETTLED, SETTLED, Standing::Repaired(496), SETTLED],
+        &[],
+    ),
+    (
+        "a bit of each of two slices that is wrong in all copies is repaired",
+        (FIRST_COPY, FIRST_COPY),
+        [
+            SETTLED,
+            Standing::Repaired(896),
+            SETTLED,
+            Standing::Repaired(424),
+        ],
+        &[],
+    ),
+    (
+        "another bit of one byte in each copy is repaired",
+        (&[(230, 1)], &[(230, 2)]),
+        [Standing::Repaired(1744), SETTLED, SETTLED, SETTLED],
+        &[],
+    ),
+    (
+        "slices that no copy has whole are woven",
+        (&[(230, 1)], &[(295, 1)]),
+        [Standing::Woven(4), SETTLED, SETTLED, SETTLED],
+        &[],
+    ),
+    (
+        "bytes of one region are woven",
+        (&[(230, 1)], &[(231, 1)]),
+        [Standing::Woven(4), SETTLED, SETTLED, SETTLED],
+        &[],
+    ),
+    (
+        "a byte that is wrong in all copies is missing: of two bytes the lesser is given",
+        (&[(230, 3)], &[(230, 12)]),
+        [Standing::Missing, SETTLED, SETTLED, SETTLED],
+        &[(230, 3)],
+    ),
+    (
+        "slices that differ and pass are disputed",
+        (&[], OTHER_FIRST_SLICE),
+        [SETTLED, SETTLED, SETTLED, Standing::Disputed],
+        &[],
+    ),
+    (
+        "a size that all copies lost follows from its place",
+        (SIZE_DAMAGED, SIZE_DAMAGED),
+        [SETTLED, SETTLED, Standing::Woven(1), SETTLED],
+        &[],
+    ),
+    (
+        "a slice that all copies lost with its size is undivided",
+        (LOST, LOST),
+        [SETTLED, SETTLED, Standing::Undivided, SETTLED],
+        LOST,
+    ),
+    (
+        "places go on over a slice that all copies lost, to one that is woven",
+        (THIRD_LOST_FIRST_HURT, THIRD_LOST_FIRST_HURT_ELSEWHERE),
+        [SETTLED, Standing::Undivided, SETTLED, Standing::Woven(4)],
+        THIRD_LOST,
+    ),
+    (
+        "places go on over a slice that all copies lost, to one that is missing",
+        (THIRD_LOST_FIRST_HURT, THIRD_LOST_FIRST_HURT),
+        [SETTLED, Standing::Undivided, SETTLED, Standing::Missing],
+        THIRD_LOST_FIRST_HURT,
+    ),
+    (
+        "a footer in the hole that leads below it reports no start",
+        (SIZE_TOO_LARGE, &[(120, 1)]),
+        [SETTLED, Standing::Woven(4), SETTLED, SETTLED],
+        &[],
+    ),
+];
 
 #[test]
-fn slices_that_a_copy_has_are_settled(rt: HostRuntime) -> Result<(), Fail> {
-    for &pair in &PAIRS {
-        assert!(rt; changed_give(rt.alloc(), pair, [Standing::Settled; 4], &[])?);
+fn slices_of_changed_copies_stand_so(rt: HostRuntime) {
+    for &(shown, copies, standings, payload) in &ROWS {
+        assert!(rt;
+            changed_give(rt.alloc(), copies, standings, payload),
+            "{shown}"
+        );
     }
-    Ok(())
-}
-
-#[test]
-fn slices_that_no_copy_has_are_missing(rt: HostRuntime) -> Result<(), Fail> {
-    let (settled, missing) = (Standing::Settled, Standing::Missing);
-    let standings = [settled, missing, settled, missing];
-    assert!(rt; changed_give(rt.alloc(), (TWO_BITS, TWO_BITS), standings, TWO_BITS)?);
-    Ok(())
 }
 
 /// Whether the splice of two copies with this damage has the frame's bytes, and is not given back.
-fn is_repaired(alloc: Global, changes: Changes) -> Result<bool, Fail> {
+fn is_repaired(alloc: Global, changes: Changes) -> bool {
     let copy = changed(changes);
-    let spliced = splice(alloc, &[&copy, &copy])?;
-    Ok(spliced.payload() == RECORDED.as_slice() && !spliced.is_given_back())
+    match splice(alloc, &[&copy, &copy]) {
+        Ok(spliced) => spliced.payload() == RECORDED.as_slice() && !spliced.is_given_back(),
+        Err(_) => false,
+    }
 }
 
 #[test]
-fn a_bit_that_is_wrong_in_all_copies_is_repaired(rt: HostRuntime) -> Result<(), Fail> {
-    const SECOND: Changes = &[(103, 1)];
-    let settled = Standing::Settled;
-    let standings = [settled, settled, Standing::Repaired(496), settled];
-    assert!(rt; changed_give(rt.alloc(), (SECOND, SECOND), standings, &[])?);
-    assert!(rt; is_repaired(rt.alloc(), SECOND)?);
-    let standings = [
-        settled,
-        Standing::Repaired(896),
-        settled,
-        Standing::Repaired(424),
-    ];
-    assert!(rt; changed_give(rt.alloc(), (FIRST_COPY, FIRST_COPY), standings, &[])?);
-    assert!(rt; is_repaired(rt.alloc(), FIRST_COPY)?);
-    Ok(())
+fn what_is_repaired_is_not_given_back(rt: HostRuntime) {
+    assert!(rt; is_repaired(rt.alloc(), SECOND_ALONE) && is_repaired(rt.alloc(), FIRST_COPY));
 }
 
 #[test]
-fn another_bit_of_one_byte_in_each_copy_is_repaired(rt: HostRuntime) -> Result<(), Fail> {
-    let settled = Standing::Settled;
-    let standings = [Standing::Repaired(1744), settled, settled, settled];
-    assert!(rt; changed_give(rt.alloc(), (&[(230, 1)], &[(230, 2)]), standings, &[])?);
-    Ok(())
-}
-
-#[test]
-fn slices_that_no_copy_has_whole_are_woven(rt: HostRuntime) -> Result<(), Fail> {
-    let settled = Standing::Settled;
-    let standings = [Standing::Woven(4), settled, settled, settled];
-    assert!(rt; changed_give(rt.alloc(), (&[(230, 1)], &[(295, 1)]), standings, &[])?);
-    Ok(())
-}
-
-#[test]
-fn bytes_of_one_region_are_woven(rt: HostRuntime) -> Result<(), Fail> {
-    let settled = Standing::Settled;
-    let standings = [Standing::Woven(4), settled, settled, settled];
-    assert!(rt; changed_give(rt.alloc(), (&[(230, 1)], &[(231, 1)]), standings, &[])?);
-    Ok(())
-}
-
-#[test]
-fn a_byte_that_is_wrong_in_all_copies_is_missing(rt: HostRuntime) -> Result<(), Fail> {
-    let settled = Standing::Settled;
-    let (one, other) = (changed(&[(230, 3)]), changed(&[(230, 12)]));
-    let expected = places([Standing::Missing, settled, settled, settled]);
-    let least = one.as_slice().min(&other);
-    assert!(rt; gives(rt.alloc(), (&one, &other), &expected, 0, least)?);
-    Ok(())
-}
-
-#[test]
-fn slices_that_differ_and_pass_are_disputed(rt: HostRuntime) -> Result<(), Fail> {
-    let settled = Standing::Settled;
-    let standings = [settled, settled, settled, Standing::Disputed];
-    assert!(rt; changed_give(rt.alloc(), (&[], OTHER_FIRST_SLICE), standings, &[])?);
-    Ok(())
-}
-
-#[test]
-fn a_size_that_all_copies_lost_follows_from_its_place(rt: HostRuntime) -> Result<(), Fail> {
-    let settled = Standing::Settled;
-    let standings = [settled, settled, Standing::Woven(1), settled];
-    assert!(rt; changed_give(rt.alloc(), (SIZE_DAMAGED, SIZE_DAMAGED), standings, &[])?);
-    Ok(())
-}
-
-#[test]
-fn a_slice_that_all_copies_lost_with_its_size_is_undivided(rt: HostRuntime) -> Result<(), Fail> {
-    let (settled, undivided) = (Standing::Settled, Standing::Undivided);
-    let standings = [settled, settled, undivided, settled];
-    assert!(rt; changed_give(rt.alloc(), (LOST, LOST), standings, LOST)?);
-    Ok(())
-}
-
-#[test]
-fn places_go_on_over_a_slice_that_all_copies_lost(rt: HostRuntime) -> Result<(), Fail> {
-    let (settled, undivided) = (Standing::Settled, Standing::Undivided);
-    let woven = [settled, undivided, settled, Standing::Woven(4)];
-    let pair = (THIRD_LOST_FIRST_HURT, THIRD_LOST_FIRST_HURT_ELSEWHERE);
-    assert!(rt; changed_give(rt.alloc(), pair, woven, THIRD_LOST)?);
-    let missing = [settled, undivided, settled, Standing::Missing];
-    let pair = (THIRD_LOST_FIRST_HURT, THIRD_LOST_FIRST_HURT);
-    assert!(rt; changed_give(rt.alloc(), pair, missing, THIRD_LOST_FIRST_HURT)?);
-    Ok(())
-}
-
-#[test]
-fn a_footer_in_the_hole_that_leads_below_it_reports_no_start(rt: HostRuntime) -> Result<(), Fail> {
-    let settled = Standing::Settled;
-    let standings = [settled, Standing::Woven(4), settled, settled];
-    let pair: (Changes, Changes) = (SIZE_TOO_LARGE, &[(120, 1)]);
-    assert!(rt; changed_give(rt.alloc(), pair, standings, &[])?);
-    Ok(())
-}
-
-#[test]
-fn a_front_where_no_start_is_reported_is_not_divided(rt: HostRuntime) -> Result<(), Fail> {
+fn a_front_where_no_start_is_reported_is_not_divided(rt: HostRuntime) {
     let copy = changed(FIRST_LOST);
-    let [last, third, second, ..] = places([Standing::Settled; 4]);
-    assert!(rt;
-        gives(
-            rt.alloc(),
-            (&copy, &copy),
-            &[last, third, second],
-            53,
-            &copy
-        )?
-    );
-    Ok(())
+    let places = places([SETTLED; 4]);
+    assert!(rt; gives(rt.alloc(), (&copy, &copy), &places[..3], 53, &copy));
 }
 
 #[test]
