@@ -116,18 +116,18 @@ pub record ContextAt (closed : Bool) (n k : ℕ) (c : Coder) (deltas : List (Lis
   pub small : All (λ delta. IsSymbol (unsigned_abs delta)) values
   pub coded : (main : List ℕ) → AreCoded closed (context_row_bits k values) (place_of c (main, deltas)) (place_of q.coder (main, q.states))
 
+-- where a form gave its place back, no bits are coded up to what it gave
+none_coded : (closed : Bool) (c : Coder) (deltas : List (List ℕ)) (y : Unit {0} × PlaceOf (List (List ℕ))) → (tt, place_of c deltas) ≡ y
+    → (main : List ℕ) → AreCoded closed [] (place_of c (main, deltas)) (place_of y.1.coder (main, y.1.states))
+none_coded closed c deltas y h main =
+    subst (λ z. AreCoded closed [] (place_of c (main, deltas)) (place_of z.coder (main, z.states))) (ap (λ z. z.1) h)
+    (nothing_coded closed (place_of c (main, deltas)))
+
 context-found : (closed : Bool) (n k : ℕ) (c : Coder) (deltas : List (List ℕ)) (y : Unit {0} × PlaceOf (List (List ℕ))) → k + n ≡ 32
     → context_deltas n k closed (place_of c deltas) ≡ Ok y → ContextAt closed n k c deltas y.1
 unfolding context_deltas context_rest context_row_bits
 context-found closed zero k c deltas y e h =
-    let pair = same_ok (tt, place_of c deltas) y h in
-    record {
-      values = [];
-      size = refl;
-      small = All-nil IsDelta;
-      coded = λ main. subst (λ z. AreCoded closed [] (place_of c (main, deltas)) (place_of z.coder (main, z.states))) (ap (λ z. z.1) pair)
-          (nothing_coded closed (place_of c (main, deltas)));
-    }
+    record { values = []; size = refl; small = All-nil IsDelta; coded = none_coded closed c deltas y (same_ok (tt, place_of c deltas) y h) }
 context-found closed (suc n) k c deltas y e h =
     let x = bind_is_ok (delta_form k closed (place_of c deltas)) (λ x. context_rest n k x.0 closed x.1) y h in
     let d = delta-found closed k c deltas x.0 (omega arith) x.1 in
@@ -198,14 +198,7 @@ contexts-found : (closed : Bool) (n : ℕ) (c : Coder) (deltas : List (List ℕ)
     → contexts_deltas n closed (place_of c deltas) ≡ Ok y → ContextsAt closed n c deltas y.1
 unfolding contexts_deltas contexts_rest
 contexts-found closed zero c deltas y h =
-    let pair = same_ok (tt, place_of c deltas) y h in
-    record {
-      values = [];
-      size = refl;
-      each = All-nil IsContext;
-      coded = λ main. subst (λ z. AreCoded closed [] (place_of c (main, deltas)) (place_of z.coder (main, z.states))) (ap (λ z. z.1) pair)
-          (nothing_coded closed (place_of c (main, deltas)));
-    }
+    record { values = []; size = refl; each = All-nil IsContext; coded = none_coded closed c deltas y (same_ok (tt, place_of c deltas) y h) }
 contexts-found closed (suc n) c deltas y h =
     let x = bind_is_ok (context_deltas 32 0 closed (place_of c deltas)) (λ x. contexts_rest n x.0 closed x.1) y h in
     let d = context-found closed 32 0 c deltas x.0 refl x.1 in

@@ -54,10 +54,6 @@ reader_at-again r s at e = ap (λ z. reader_at z at) e
 pub at_ok : (r s : Reader) (c : Coder) → s ≡ reader_at r (Ok c) → s.at ≡ Ok c
 at_ok r s c e = ap (λ z. z.at) e
 
--- a fault that is kept after a step is kept from its start on
-pub kept_on : (r s t : Reader) (c : Coder) (fault : RangeFault) → s ≡ reader_at r (Ok c) → t ≡ reader_at s (Err fault) → t ≡ reader_at r (Err fault)
-kept_on r s t c fault e kept = kept ∙ ap (λ z. reader_at z (Err fault)) e
-
 -- a decoder that is at a place, and not at a fault
 abbrev pub IsAtPlace : Reader → Type 0
 IsAtPlace r = (c : Coder) × (r.at ≡ Ok c)

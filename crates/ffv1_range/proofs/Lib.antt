@@ -9,10 +9,8 @@ pub mod TileLaws
 pub mod HeaderSteps
 pub mod HeaderFound
 pub mod DeltaSteps
-pub mod FrontSteps
 pub mod SetupSteps
 pub mod FieldRuns
-pub mod PlanSteps
 pub mod RowRuns
 pub mod TableRuns
 pub mod DeltaRuns

@@ -1,5 +1,5 @@
 -- A symbol read bit by bit, as its loops go.
-use Rattle.std.proofs.Common.{◌≡◌, ℕ, suc, ◌+◌, ◌*◌, ◌<◌, ◌≤◌, Bool, true, false, List, Result, Ok, Err, refl, sym, ap, ◌∙◌, subst, arith, ◌^◌}
+use Rattle.std.proofs.Common.{◌≡◌, ℕ, suc, ◌+◌, ◌*◌, ◌<◌, ◌≤◌, Bool, true, false, List, Ok, Err, refl, sym, ap, ◌∙◌, subst, arith, ◌^◌}
 use Rattle.std.specs.Prelude.{min, ℤ, pos, neg_ℤ, if◌then◌else◌}
 use Rattle.std.proofs.Math.Nat.{pow-suc, mul-le-mul_left, mul-le-mul_right}
 use Rattle.std.proofs.lemmas.Nat.{pow_pos}
@@ -9,10 +9,10 @@ use Rattle.ffv1_bits.proofs.Places.{bool_byte-bit_value}
 use Rattle.ffv1_range.specs.Coding.{Coder}
 use Rattle.ffv1_range.specs.Decoder.{Reader}
 use Rattle.ffv1_range.specs.Forms.{Form, ◌>>=◌, giving, from_place, form_at, ReadsForm, same_fault, slot_form}
-use Rattle.ffv1_range.specs.Reading.{exponent_form, low_form, symbol_form, signed_symbol_form}
+use Rattle.ffv1_range.specs.Reading.{exponent_form, low_form}
 use Rattle.ffv1_range.specs.declared.coding.RangeFault.{RangeFault}
 use Rattle.ffv1_range.specs.declared.coding.RangeFault.TheVariants.{SymbolTooLong}
-use Rattle.ffv1_range.proofs.Forms.{Continues, place_of, continue_step, continue_both, continue_end, continue_give, stop, continue_next, continue_stop}
+use Rattle.ffv1_range.proofs.Forms.{Continues, place_of, continue_step, continue_both, continue_end, continue_give, stop}
 
 -- ---- the exponent
 
@@ -115,51 +115,7 @@ pub fits_now : (n m : ℕ) → (m + 1) * 2 ^ n ≤ 2 ^ 32 → m < 2 ^ 32
 fits_now n m l =
     let p : (m + 1) * 1 ≤ (m + 1) * 2 ^ n = mul-le-mul_left (m + 1) (pow_pos n) in omega arith
 
--- ---- whole symbols
-
-large_form : Form (List ℕ) ℕ RangeFault
-large_form = exponent_form 32 0 >>= λ e. low_form e 1
-
-symbol_rest : Bool → Form (List ℕ) ℕ RangeFault
-symbol_rest is_zero = if is_zero then giving 0 else large_form
-
-pub symbol_fails : (f : RangeFault) (r s : Reader) (row states : List ℕ) → ReadsForm same_fault (slot_form 0) r row (Err f) s states
-    → ReadsForm same_fault symbol_form r row (Err f) s states
-unfolding symbol_form symbol_rest large_form
-symbol_fails f r s row states h = stop same_fault (slot_form 0) symbol_rest r s row states f h
-
-pub symbol_zero : (bit : Bool) (r s : Reader) (row states : List ℕ) → bit ≡ true → ReadsForm same_fault (slot_form 0) r row (Ok bit) s states
-    → ReadsForm same_fault symbol_form r row (Ok 0) s states
-unfolding symbol_form symbol_rest large_form
-symbol_zero bit r s row states b h =
-    continue_end same_fault symbol_form (symbol_rest true) r s s row states states (Ok 0)
-    (continue_step same_fault (slot_form 0) symbol_rest r s row states true (subst (λ z. ReadsForm same_fault (slot_form 0) r row (Ok z) s states) b h))
-    (continue_give same_fault s h.0 states 0 (symbol_rest true) (ap (λ z. z.at) h.2) refl)
-
-symbol_large : (bit : Bool) (r s : Reader) (row states : List ℕ) → bit ≡ false → ReadsForm same_fault (slot_form 0) r row (Ok bit) s states
-    → Continues same_fault symbol_form r row large_form s states
-unfolding symbol_form symbol_rest large_form
-symbol_large bit r s row states b h =
-    continue_step same_fault (slot_form 0) symbol_rest r s row states false (subst (λ z. ReadsForm same_fault (slot_form 0) r row (Ok z) s states) b h)
-
-pub symbol_too_long : (bit : Bool) (f : RangeFault) (r s t : Reader) (row states after : List ℕ) → bit ≡ false
-    → ReadsForm same_fault (slot_form 0) r row (Ok bit) s states
-    → ReadsForm same_fault (exponent_form 32 0) s states (Err f) t after → ReadsForm same_fault symbol_form r row (Err f) t after
-unfolding large_form
-symbol_too_long bit f r s t row states after b h k =
-    continue_end same_fault symbol_form large_form r s t row states after (Err f) (symbol_large bit r s row states b h)
-    (stop same_fault (exponent_form 32 0) (λ e. low_form e 1) s t states after f k)
-
-pub symbol_read : (bit : Bool) (e : ℕ) (r s t u : Reader) (row states mid after : List ℕ) (result : Result ℕ RangeFault) → bit ≡ false
-    → ReadsForm same_fault (slot_form 0) r row (Ok bit) s states → ReadsForm same_fault (exponent_form 32 0) s states (Ok e) t mid
-    → ReadsForm same_fault (low_form e 1) t mid result u after
-    → ReadsForm same_fault symbol_form r row result u after
-unfolding large_form
-symbol_read bit e r s t u row states mid after result b h k l =
-    continue_end same_fault symbol_form (low_form e 1) r t u row mid after result
-    (continue_both same_fault symbol_form large_form (low_form e 1) r s t row states mid (symbol_large bit r s row states b h)
-    (continue_step same_fault (exponent_form 32 0) (λ e. low_form e 1) s t states mid e k))
-    l
+-- ---- what follows each part of a signed symbol
 
 unfoldable pub sign_rest : ℕ → Bool → Form (List ℕ) ℤ RangeFault
 sign_rest a is_negative = giving (if is_negative then neg_ℤ (pos a) else pos a)
@@ -172,70 +128,3 @@ signed_exponent_rest e = low_form e 1 >>= magnitude_rest e
 
 unfoldable pub signed_rest : Bool → Form (List ℕ) ℤ RangeFault
 signed_rest is_zero = if is_zero then giving (pos 0) else (exponent_form 32 0 >>= signed_exponent_rest)
-
-pub signed_fails : (f : RangeFault) (r s : Reader) (row states : List ℕ) → ReadsForm same_fault (slot_form 0) r row (Err f) s states
-    → ReadsForm same_fault signed_symbol_form r row (Err f) s states
-unfolding signed_symbol_form signed_rest signed_exponent_rest magnitude_rest sign_rest
-signed_fails f r s row states h = stop same_fault (slot_form 0) signed_rest r s row states f h
-
-pub signed_zero : (bit : Bool) (r s : Reader) (row states : List ℕ) → bit ≡ true → ReadsForm same_fault (slot_form 0) r row (Ok bit) s states
-    → ReadsForm same_fault signed_symbol_form r row (Ok (pos 0)) s states
-unfolding signed_symbol_form signed_rest signed_exponent_rest magnitude_rest sign_rest
-signed_zero bit r s row states b h =
-    continue_end same_fault signed_symbol_form (signed_rest true) r s s row states states (Ok (pos 0))
-    (continue_step same_fault (slot_form 0) signed_rest r s row states true (subst (λ z. ReadsForm same_fault (slot_form 0) r row (Ok z) s states) b h))
-    (continue_give same_fault s h.0 states (pos 0) (signed_rest true) (ap (λ z. z.at) h.2) refl)
-
--- a signed symbol that is not 0, as far as its exponent, its magnitude and its sign
-
-signed_large : (bit : Bool) (r s : Reader) (row states : List ℕ) → bit ≡ false → ReadsForm same_fault (slot_form 0) r row (Ok bit) s states
-    → Continues same_fault signed_symbol_form r row (exponent_form 32 0 >>= signed_exponent_rest) s states
-unfolding signed_symbol_form signed_rest signed_exponent_rest magnitude_rest sign_rest
-signed_large bit r s row states b h =
-    continue_step same_fault (slot_form 0) signed_rest r s row states false (subst (λ z. ReadsForm same_fault (slot_form 0) r row (Ok z) s states) b h)
-
-pub signed_exponent_fails : (bit : Bool) (f : RangeFault) (r s t : Reader) (row states after : List ℕ) → bit ≡ false
-    → ReadsForm same_fault (slot_form 0) r row (Ok bit) s states → ReadsForm same_fault (exponent_form 32 0) s states (Err f) t after
-    → ReadsForm same_fault signed_symbol_form r row (Err f) t after
-signed_exponent_fails bit f r s t row states after b h k =
-    continue_stop same_fault signed_symbol_form (exponent_form 32 0) signed_exponent_rest r s t row states after f (signed_large bit r s row states b h) k
-
-signed_exponent : (bit : Bool) (e : ℕ) (r s t : Reader) (row states mid : List ℕ) → bit ≡ false
-    → ReadsForm same_fault (slot_form 0) r row (Ok bit) s states → ReadsForm same_fault (exponent_form 32 0) s states (Ok e) t mid
-    → Continues same_fault signed_symbol_form r row (low_form e 1 >>= magnitude_rest e) t mid
-unfolding signed_exponent_rest
-signed_exponent bit e r s t row states mid b h k =
-    continue_next same_fault signed_symbol_form (exponent_form 32 0) signed_exponent_rest r s t row states mid e (signed_large bit r s row states b h) k
-
-pub signed_magnitude_fails : (bit : Bool) (e : ℕ) (f : RangeFault) (r s t u : Reader) (row states mid after : List ℕ) → bit ≡ false
-    → ReadsForm same_fault (slot_form 0) r row (Ok bit) s states → ReadsForm same_fault (exponent_form 32 0) s states (Ok e) t mid
-    → ReadsForm same_fault (low_form e 1) t mid (Err f) u after → ReadsForm same_fault signed_symbol_form r row (Err f) u after
-signed_magnitude_fails bit e f r s t u row states mid after b h k l =
-    continue_stop same_fault signed_symbol_form (low_form e 1) (magnitude_rest e) r t u row mid after f (signed_exponent bit e r s t row states mid b h k) l
-
--- all but the sign
-pub AreBeforeSign : ℕ → ℕ → Reader → List ℕ → Reader → List ℕ → Type 0
-AreBeforeSign slot a r row u late = Continues same_fault signed_symbol_form r row (slot_form slot >>= sign_rest a) u late
-
-pub signed_magnitude : (bit : Bool) (e a slot : ℕ) (r s t u : Reader) (row states mid late : List ℕ) → bit ≡ false → slot ≡ 11 + min e 10
-    → ReadsForm same_fault (slot_form 0) r row (Ok bit) s states → ReadsForm same_fault (exponent_form 32 0) s states (Ok e) t mid
-    → ReadsForm same_fault (low_form e 1) t mid (Ok a) u late → AreBeforeSign slot a r row u late
-unfolding magnitude_rest AreBeforeSign
-signed_magnitude bit e a slot r s t u row states mid late b m h k l =
-    subst (λ z. Continues same_fault signed_symbol_form r row (slot_form z >>= sign_rest a) u late) (sym m)
-    (continue_next same_fault signed_symbol_form (low_form e 1) (magnitude_rest e) r t u row mid late a (signed_exponent bit e r s t row states mid b h k) l)
-
-pub sign_fails : (a slot : ℕ) (f : RangeFault) (r u s : Reader) (row late states : List ℕ) → AreBeforeSign slot a r row u late
-    → ReadsForm same_fault (slot_form slot) u late (Err f) s states → ReadsForm same_fault signed_symbol_form r row (Err f) s states
-unfolding AreBeforeSign
-sign_fails a slot f r u s row late states k h =
-    continue_stop same_fault signed_symbol_form (slot_form slot) (sign_rest a) r u s row late states f k h
-
-pub sign_read : (a slot : ℕ) (is_negative : Bool) (r u s : Reader) (row late states : List ℕ) (z : ℤ) → z ≡ (if is_negative then neg_ℤ (pos a) else pos a)
-    → AreBeforeSign slot a r row u late → ReadsForm same_fault (slot_form slot) u late (Ok is_negative) s states
-    → ReadsForm same_fault signed_symbol_form r row (Ok z) s states
-unfolding sign_rest AreBeforeSign
-sign_read a slot is_negative r u s row late states z e k h =
-    continue_end same_fault signed_symbol_form (sign_rest a is_negative) r s s row states states (Ok z)
-    (continue_next same_fault signed_symbol_form (slot_form slot) (sign_rest a) r u s row late states is_negative k h)
-    (continue_give same_fault s h.0 states z (sign_rest a is_negative) (ap (λ z. z.at) h.2) (ap (λ y. Ok (y, place_of h.0 states)) (sym e)))

@@ -89,6 +89,19 @@ pub fn next_state(state: u8, bit: bool) -> u8
     (256 - u32::from(state_after_one(mirrored))) as u8
 }
 
+/// A decoder at the start of a content.
+fn start(content: &[u8], closed: bool) -> Result<RangeDecoder<'_>, RangeFault>
+    ensures { Starts closed content.now result }
+{
+    let interval = first_interval(content, closed)?;
+    Ok(RangeDecoder {
+        interval,
+        total: content.len(),
+        closed,
+        fault: None,
+    })
+}
+
 /// The interval of the first two bytes.
 #[tactic(auto, unfolding(crate::specs::Coding::start_of))]
 fn first_interval(content: &[u8], closed: bool) -> Result<Interval<'_>, RangeFault>
@@ -130,13 +143,7 @@ impl<'a> RangeDecoder<'a> {
     pub fn closed(content: &'a [u8]) -> Result<RangeDecoder<'a>, RangeFault>
         ensures { Starts true content.now result }
     {
-        let interval = first_interval(content, true)?;
-        Ok(RangeDecoder {
-            interval,
-            total: content.len(),
-            closed: true,
-            fault: None,
-        })
+        start(content, true)
     }
 
     /// A decoder of a content that nothing follows (sentinel mode, RFC 9043, section 3.8.1.1.1).
@@ -146,13 +153,7 @@ impl<'a> RangeDecoder<'a> {
     pub fn sentinel(content: &'a [u8]) -> Result<RangeDecoder<'a>, RangeFault>
         ensures { Starts false content.now result }
     {
-        let interval = first_interval(content, false)?;
-        Ok(RangeDecoder {
-            interval,
-            total: content.len(),
-            closed: false,
-            fault: None,
-        })
+        start(content, false)
     }
 
     /// Reads the bit at state 129 that ends the values, and returns the place, in bytes from the content's start, of the

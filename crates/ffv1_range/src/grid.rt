@@ -39,35 +39,13 @@ impl Model for Grid {
 
     ghost Value = { GridValue };
 
-    ghost view = { λ g. record {
-      width = g.width;
-      height = g.height;
-      across = g.across;
-      down = g.down;
-      has_chroma = g.has_chroma;
-      shift_h = g.shift_h;
-      shift_v = g.shift_v;
-    } };
+    ghost use Rattle.ffv1_range.specs.Inner.Grids.{grid_value, grid_fields};
 
-    ghost inverse = { λ g. record {
-      width = g.width;
-      height = g.height;
-      across = g.across;
-      down = g.down;
-      has_chroma = g.has_chroma;
-      shift_h = g.shift_h;
-      shift_v = g.shift_v;
-    } };
+    ghost view = { grid_value };
 
-    ghost invariant = { λ g. IsGrid (record {
-      width = g.width;
-      height = g.height;
-      across = g.across;
-      down = g.down;
-      has_chroma = g.has_chroma;
-      shift_h = g.shift_h;
-      shift_v = g.shift_v;
-    }) };
+    ghost inverse = { grid_fields };
+
+    ghost invariant = { λ g. IsGrid (grid_value g) };
 }
 
 impl Grid {
@@ -85,44 +63,6 @@ impl Grid {
             has_chroma: setup.planes.has_chroma,
             shift_h: setup.planes.shift_h,
             shift_v: setup.planes.shift_v,
-        }
-    }
-
-    /// The grid with these numbers of tiles across and down.
-    pub(crate) fn new(
-        size: (u32, u32),
-        across: u32,
-        down: u32,
-        has_chroma: bool,
-        shifts: (u32, u32),
-    ) -> Grid
-        requires { IsGrid (record {
-          width = size.0;
-          height = size.1;
-          across = across;
-          down = down;
-          has_chroma = has_chroma;
-          shift_h = shifts.0;
-          shift_v = shifts.1;
-        }) }
-        ensures { result ≡ record {
-          width = size.0;
-          height = size.1;
-          across = across;
-          down = down;
-          has_chroma = has_chroma;
-          shift_h = shifts.0;
-          shift_v = shifts.1;
-        } }
-    {
-        Grid {
-            width: size.0,
-            height: size.1,
-            across,
-            down,
-            has_chroma,
-            shift_h: shifts.0,
-            shift_v: shifts.1,
         }
     }
 

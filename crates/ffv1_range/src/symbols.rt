@@ -14,6 +14,7 @@ impl RangeDecoder<'_> {
     ///
     /// Refused with `Short` where a byte past the content is wanted in sentinel mode, and with `SymbolTooLong` where
     /// the exponent would pass 31. A fault is returned by each later call too, and leaves all states in 8..=248.
+    #[tactic(auto, unfolding(crate::specs::Reading::symbol_form))]
     pub fn unsigned(&mut self, states: &mut [u8; 32]) -> Result<u32, RangeFault>
         requires { AreStates states.old }
         ensures read { ReadsForm same_fault symbol_form self.old states.old result self.new states.new }
@@ -29,6 +30,7 @@ impl RangeDecoder<'_> {
 
     /// Reads a signed symbol, as `unsigned` reads its absolute value, and its sign where that is not 0. Refused as
     /// `unsigned` is.
+    #[tactic(auto, unfolding(crate::specs::Reading::signed_symbol_form))]
     pub fn signed(&mut self, states: &mut [u8; 32]) -> Result<i64, RangeFault>
         requires { AreStates states.old }
         ensures read { ReadsForm same_fault signed_symbol_form self.old states.old result self.new states.new }

@@ -3,7 +3,7 @@ use Rattle.std.specs.Prelude.{◌≡◌, Result, Ok, Err}
 use Rattle.ffv1_range.specs.Coding.{Coder}
 use Rattle.ffv1_range.specs.Decoder.{Reader, reader_at}
 use Rattle.ffv1_range.specs.declared.coding.RangeFault.{RangeFault}
-use Rattle.ffv1_range.specs.Forms.{Form, form_at, ReadsForm}
+use Rattle.ffv1_range.specs.Forms.{Form, form_at}
 
 -- `ReadsForm` through a view of what was returned
 abbrev pub ReadsFormAs : {X Y A E : Type 0} → (RangeFault → E) → (Y → A) → Form X A E → Reader → X → Result Y E → Reader → X → Type 0
