@@ -177,40 +177,24 @@ eight_left a b c d e f g h more =
     (first_left c (d ∷ e ∷ f ∷ g ∷ h ∷ []) more 5 _ refl (first_left d (e ∷ f ∷ g ∷ h ∷ []) more 4 _ refl
     (first_left e (f ∷ g ∷ h ∷ []) more 3 _ refl (first_left f (g ∷ h ∷ []) more 2 _ refl (first_left g (h ∷ []) more 1 _ refl (entry_left more h)))))))
 
--- the elements of a list of sixteen
-abbrev pub first_eight : List ℕ → List ℕ
-first_eight xs =
-    get_or xs 0 0 ∷ get_or xs 1 0 ∷ get_or xs 2 0 ∷ get_or xs 3 0
-    ∷ get_or xs 4 0 ∷ get_or xs 5 0 ∷ get_or xs 6 0 ∷ get_or xs 7 0 ∷ []
+-- eight elements of a list, from one on
+abbrev pub eight_from : ℕ → List ℕ → List ℕ
+eight_from k xs =
+    get_or xs k 0 ∷ get_or xs (k + 1) 0 ∷ get_or xs (k + 2) 0 ∷ get_or xs (k + 3) 0
+    ∷ get_or xs (k + 4) 0 ∷ get_or xs (k + 5) 0 ∷ get_or xs (k + 6) 0 ∷ get_or xs (k + 7) 0 ∷ []
 
-abbrev pub last_eight : List ℕ → List ℕ
-last_eight xs =
-    get_or xs 8 0 ∷ get_or xs 9 0 ∷ get_or xs 10 0 ∷ get_or xs 11 0
-    ∷ get_or xs 12 0 ∷ get_or xs 13 0 ∷ get_or xs 14 0 ∷ get_or xs 15 0 ∷ []
+pub eight_from-small : (k : ℕ) (xs : List ℕ) → ((i : ℕ) → get_or xs i 0 < 256) → (i : ℕ) → get_or (eight_from k xs) i 0 < 256
+eight_from-small k xs small zero = small k
+eight_from-small k xs small (suc zero) = small (k + 1)
+eight_from-small k xs small (suc (suc zero)) = small (k + 2)
+eight_from-small k xs small (suc (suc (suc zero))) = small (k + 3)
+eight_from-small k xs small (suc (suc (suc (suc zero)))) = small (k + 4)
+eight_from-small k xs small (suc (suc (suc (suc (suc zero))))) = small (k + 5)
+eight_from-small k xs small (suc (suc (suc (suc (suc (suc zero)))))) = small (k + 6)
+eight_from-small k xs small (suc (suc (suc (suc (suc (suc (suc zero))))))) = small (k + 7)
+eight_from-small k xs small (suc (suc (suc (suc (suc (suc (suc (suc i)))))))) = lit< tt
 
-pub first_eight-small : (xs : List ℕ) → ((i : ℕ) → get_or xs i 0 < 256) → (i : ℕ) → get_or (first_eight xs) i 0 < 256
-first_eight-small xs small zero = small 0
-first_eight-small xs small (suc zero) = small 1
-first_eight-small xs small (suc (suc zero)) = small 2
-first_eight-small xs small (suc (suc (suc zero))) = small 3
-first_eight-small xs small (suc (suc (suc (suc zero)))) = small 4
-first_eight-small xs small (suc (suc (suc (suc (suc zero))))) = small 5
-first_eight-small xs small (suc (suc (suc (suc (suc (suc zero)))))) = small 6
-first_eight-small xs small (suc (suc (suc (suc (suc (suc (suc zero))))))) = small 7
-first_eight-small xs small (suc (suc (suc (suc (suc (suc (suc (suc i)))))))) = lit< tt
-
-pub last_eight-small : (xs : List ℕ) → ((i : ℕ) → get_or xs i 0 < 256) → (i : ℕ) → get_or (last_eight xs) i 0 < 256
-last_eight-small xs small zero = small 8
-last_eight-small xs small (suc zero) = small 9
-last_eight-small xs small (suc (suc zero)) = small 10
-last_eight-small xs small (suc (suc (suc zero))) = small 11
-last_eight-small xs small (suc (suc (suc (suc zero)))) = small 12
-last_eight-small xs small (suc (suc (suc (suc (suc zero))))) = small 13
-last_eight-small xs small (suc (suc (suc (suc (suc (suc zero)))))) = small 14
-last_eight-small xs small (suc (suc (suc (suc (suc (suc (suc zero))))))) = small 15
-last_eight-small xs small (suc (suc (suc (suc (suc (suc (suc (suc i)))))))) = lit< tt
-
-pub elements_of_sixteen : (xs : List ℕ) → length xs ≡ 16 → xs ≡ first_eight xs ++ last_eight xs
+pub elements_of_sixteen : (xs : List ℕ) → length xs ≡ 16 → xs ≡ eight_from 0 xs ++ eight_from 8 xs
 elements_of_sixteen [] h = absurd (omega arith)
 elements_of_sixteen (x0 ∷ []) h = absurd (omega arith)
 elements_of_sixteen (x0 ∷ x1 ∷ []) h = absurd (omega arith)
