@@ -125,14 +125,6 @@ one_fault s level bits fault other given also =
 
 -- ---- faults of readings
 
--- a fault of a number is one of a code under its state
-pub code_fault : (s : ContextState) (level : Bool) (k : ℕ) (bits : List Bool) (fault : CodeFault) → IsParameter s k → IsNumberFault k bits fault
-    → IsCodeFault s level bits fault
-code_fault s level k bits faults.Truncated parameter given = (k, parameter, given)
-code_fault s level k bits faults.EscapeNotNeeded parameter given = (k, parameter, given)
-code_fault s level k bits faults.CodeTooLarge parameter given = (k, parameter, given)
-code_fault s level k bits faults.LevelTooLarge parameter given = absurd given
-
 pub large_level : (s : ContextState) (level : Bool) (value : ℤ) (old new : Reading) → IsValueRead s value old new → level ≡ true → value ≡ pos 127
     → IsLargeLevel s level old.left
 large_level s level value old new read levels top = record {

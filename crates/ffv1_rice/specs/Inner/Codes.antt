@@ -1,5 +1,5 @@
 -- How bits begin, and why a number is refused.
-use Rattle.std.specs.Prelude.{◌≡◌, ℕ, ◌+◌, ◌-◌, Bool, List, ◌++◌, length}
+use Rattle.std.specs.Prelude.{◌≡◌, ℕ, Bool, List, ◌++◌, length}
 use Rattle.ffv1_rice.specs.declared.code.CodeFault.{CodeFault}
 use Rattle.ffv1_rice.specs.declared.code.CodeFault.TheVariants as faults
 use Rattle.ffv1_rice.specs.Codes.{IsCutCode, IsNeedlessEscape, IsLargeCode}

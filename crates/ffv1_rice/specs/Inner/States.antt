@@ -1,6 +1,6 @@
 -- States before and after they are counted and corrected.
-use Rattle.std.specs.Prelude.{◌+◌, ◌*◌, ◌<◌, ◌≤◌, ℤ, pos, neg_ℤ, ◌≤ℤ◌, ◌<ℤ◌}
-use Rattle.ffv1_rice.specs.States.{ContextState, counted}
+use Rattle.std.specs.Prelude.{◌+◌, ◌*◌, ◌≤◌, pos, neg_ℤ, ◌≤ℤ◌, ◌<ℤ◌}
+use Rattle.ffv1_rice.specs.States.{ContextState}
 
 -- once a value has entered the sums ..
 pub record IsUncounted (s : ContextState) : Type 0 where

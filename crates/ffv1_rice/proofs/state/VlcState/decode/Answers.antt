@@ -9,7 +9,7 @@ use Rattle.ffv1_bits.specs.Reader.{Reading, ReadsBits}
 use Rattle.ffv1_rice.specs.Codes.{code_bits, IsCoded}
 use Rattle.ffv1_rice.specs.States.{ContextState, sign_number, flipped, coded_value, IsDifference, IsParameter}
 use Rattle.ffv1_rice.proofs.Windows.{begun_fits, begun_read, begun_after, reading_after}
-use Rattle.ffv1_rice.proofs.Faults.{code_fault, large_level, no_level_above, no_difference_at_fault}
+use Rattle.ffv1_rice.proofs.Faults.{large_level, no_level_above, no_difference_at_fault}
 use Rattle.ffv1_rice.proofs.state.VlcState.decode.Goals as goal
 
 IsCodedDifference-of_z : (level : Bool) (d : ℤ) → IsCodedDifference level d → IsCodedDifference level (to_z w32 (of_z w32 d))
@@ -40,20 +40,10 @@ skip-requires c = begun_fits _ _ _ c.in_ok-ahead.ensures.ok
 pub update-requires : goal.update-requires
 update-requires c = IsDifference-of_z c.coded-coded.result c.coded-coded.ensures.range
 
-pub returns-in_err-ahead : goal.returns-in_err-ahead
-returns-in_err-ahead c =
-    let p = err_from_is_err_and c.from_residual.result c.from_residual.ensures.1 in
-    rw (p.1, p.2)
-    (record {
-      range = tt;
-      ok = tt;
-      state = tt;
-      found = λ difference after given spelled.
-          absurd (no_difference_at_fault c.args.self.now c.args.level c.in_err-ahead.field-0.0 c.k.result difference c.args.bits.now after
-          c.k.ensures.parameter c.in_err-ahead.ensures.err spelled);
-      err = code_fault c.args.self.now c.args.level c.k.result c.args.bits.now.left c.in_err-ahead.field-0.0 c.k.ensures.parameter c.in_err-ahead.ensures.err;
-      unchanged = (refl, refl);
-    })
+pub returns-in_err-ahead-clause-found : goal.returns-in_err-ahead-clause-found
+returns-in_err-ahead-clause-found c = λ difference after given spelled.
+    absurd (no_difference_at_fault c.args.self.now c.args.level c.in_err-ahead.field-0.0 c.k.result difference c.args.bits.now after c.k.ensures.parameter
+    c.in_err-ahead.ensures.err spelled)
 
 pub returns-in_err-difference : goal.returns-in_err-difference
 returns-in_err-difference c =
