@@ -1,5 +1,6 @@
 -- Outside vectors, computed.
 use Rattle.std.proofs.Common.{◌≡◌, true, false, [], ◌∷◌, ◌++◌, refl}
+use Rattle.std.specs.Prelude.{map}
 use Rattle.ffv1_bits.specs.Bits.{number_bits, bits_of}
 use Rattle.ffv1_bits.specs.Reader.{ReadsBits}
 use Rattle.ffv1_bits.specs.Parity.{polynomial_of, reduced_at, divided, remainder_of}
@@ -8,21 +9,11 @@ one : remainder_of (bits_of (0x01 ∷ [])) ≡ 1
 unfolding number_bits bits_of polynomial_of reduced_at divided remainder_of
 one = refl
 
-one_shifted : remainder_of (bits_of (0x01 ∷ 0 ∷ 0 ∷ 0 ∷ 0 ∷ [])) ≡ 0x04C11DB7
+-- a byte before four of 0
+shifted : map (λ byte. remainder_of (bits_of (byte ∷ 0 ∷ 0 ∷ 0 ∷ 0 ∷ []))) (0x01 ∷ 0x02 ∷ 0xFF ∷ 0xFD ∷ [])
+    ≡ 0x04C11DB7 ∷ 0x09823B6E ∷ 0xB1F740B4 ∷ 0xB8757BDA ∷ []
 unfolding number_bits bits_of polynomial_of reduced_at divided remainder_of
-one_shifted = refl
-
-two_shifted : remainder_of (bits_of (0x02 ∷ 0 ∷ 0 ∷ 0 ∷ 0 ∷ [])) ≡ 0x09823B6E
-unfolding number_bits bits_of polynomial_of reduced_at divided remainder_of
-two_shifted = refl
-
-ff_shifted : remainder_of (bits_of (0xFF ∷ 0 ∷ 0 ∷ 0 ∷ 0 ∷ [])) ≡ 0xB1F740B4
-unfolding number_bits bits_of polynomial_of reduced_at divided remainder_of
-ff_shifted = refl
-
-fd_shifted : remainder_of (bits_of (0xFD ∷ 0 ∷ 0 ∷ 0 ∷ 0 ∷ [])) ≡ 0xB8757BDA
-unfolding number_bits bits_of polynomial_of reduced_at divided remainder_of
-fd_shifted = refl
+shifted = refl
 
 slice : remainder_of (bits_of (0xFD ∷ 0xF6 ∷ 0x80 ∷ 0 ∷ 0 ∷ 3 ∷ 0 ∷ 0x1C ∷ 0x3E ∷ 0xA0 ∷ 0x9B ∷ [])) ≡ 0
 unfolding number_bits bits_of polynomial_of reduced_at divided remainder_of
