@@ -34,7 +34,7 @@ difference_range p s = either (int_lt (context_at p s) (pos 0))
     either false = fold_range (pos (get_or p.samples s 0) -ℤ pos (prediction_at p s))
 
 module _ (w : ℕ) (entry : ℕ → ℕ → ℤ) (some : 0 < w) (xs ys : List ℕ) (small : (j : ℕ) → get_or xs j 0 < 256) (tiny : (j : ℕ) → get_or ys j 0 < 256) where
-  pub contexts_same : (n : ℕ) → ((j : ℕ) → j < n → get_or xs j 0 ≡ get_or ys j 0) → context_at (plane_of w entry xs) n ≡ context_at (plane_of w entry ys) n
+  contexts_same : (n : ℕ) → ((j : ℕ) → j < n → get_or xs j 0 ≡ get_or ys j 0) → context_at (plane_of w entry xs) n ≡ context_at (plane_of w entry ys) n
   contexts_same n same = ap (context_of entry) (neighbours_same w n some xs ys same)
 
   pub samples_same : (n : ℕ) → ((j : ℕ) → j < n → difference_at (plane_of w entry xs) j ≡ difference_at (plane_of w entry ys) j) → (j : ℕ) → j < n
@@ -53,6 +53,11 @@ module _ (w : ℕ) (entry : ℕ → ℕ → ℤ) (some : 0 < w) (xs ys : List �
       subst (λ (i : ℕ). get_or xs i 0 ≡ get_or ys i 0) j_is same)
       (cases_lt j n)
 
+  -- where all differences before a place are the same, the contexts there are
+  pub contexts_alike : (n : ℕ) → ((j : ℕ) → j < n → difference_at (plane_of w entry xs) j ≡ difference_at (plane_of w entry ys) j)
+      → context_at (plane_of w entry xs) n ≡ context_at (plane_of w entry ys) n
+  contexts_alike n alike = contexts_same n (samples_same n alike)
+
   pub one_plane : (earlier : ℕ → List ℤ) (front words rest more : List Bool) → length xs ≡ length ys → PlaneSpells earlier (plane_of w entry xs) front
       → PlaneSpells earlier (plane_of w entry ys) words
       → front ++ rest ≡ words ++ more → (xs ≡ ys) × (rest ≡ more)
@@ -64,5 +69,5 @@ module _ (w : ℕ) (entry : ℕ → ℕ → ℤ) (some : 0 < w) (xs ys : List �
       let read = one_reading earlier w (context_at (plane_of w entry xs)) (context_at (plane_of w entry ys)) (difference_at (plane_of w entry xs))
       (difference_at (plane_of w entry ys)) some
       (difference_range (plane_of w entry xs)) (difference_range (plane_of w entry ys))
-      (λ k alike. contexts_same k (samples_same k alike)) (length xs) front words rest more next last a b' same in
+      contexts_alike (length xs) front words rest more next last a b' same in
       (ext_get_or 0 xs ys lengths (samples_same (length xs) read.0.differences), read.2)

@@ -11,14 +11,14 @@ use Rattle.ffv1_range.specs.declared.head.HeadFault.{HeadFault}
 use Rattle.ffv1_range.specs.declared.head.SliceHead.{SliceHead}
 use Rattle.ffv1_range.proofs.HeaderFound.{head_run}
 use Rattle.ffv1_rice.specs.declared.code.CodeFault.{CodeFault}
-use Rattle.ffv1_plane.specs.Samples.{plane_of, context_at, difference_at}
+use Rattle.ffv1_plane.specs.Samples.{context_at, difference_at}
 use Rattle.ffv1_plane.specs.Spelling.{residuals_of, PlaneSpells, values_after}
 use Rattle.ffv1_plane.specs.Picture.{PictureValue, ArePlanesOf, samples_of, plane_set, shaped_plane, tile_plane, no_values, IsPictureOf}
 use Rattle.ffv1_plane.specs.Stuck.{IsWordRefused, values_before_plane, PlanesBelow, scan_place, AreBitsStuck, IsStuckAt}
 use Rattle.ffv1_plane.specs.StuckLaws.{StuckSpellsNothing, IsOnePlace, StuckIsOne, IsRefusedFor, OneAnswer}
 use Rattle.ffv1_plane.specs.declared.tile.TileFault.{TileFault}
 use Rattle.ffv1_plane.specs.declared.tile.TileFault.TheVariants.{Head, OtherTile, Code, Memory}
-use Rattle.ffv1_plane.proofs.OnePlane.{difference_range, contexts_same, samples_same}
+use Rattle.ffv1_plane.proofs.OnePlane.{difference_range, contexts_alike}
 use Rattle.ffv1_plane.proofs.Pictures.{some_columns, same_plane, head_is_one}
 use Rattle.ffv1_plane.proofs.Fronts.{below_front, below_of_picture, place_below}
 use Rattle.ffv1_plane.proofs.Refused.{IsOneWord, refused_excludes, refused_one}
@@ -58,25 +58,26 @@ module _ (setup : SetupValue) (head : SliceHead) (profile : IsInProfile setup) (
         one.1,
       )
 
-  -- one plane of two pictures
+  -- one plane of two pictures: where all differences before a place are the same, the contexts there are
+  plane_determined : (n : ℕ) (planes others : List (List ℕ)) → n < plane_count (grid_of setup) → ArePlanesOf setup head.tile planes
+      → ArePlanesOf setup head.tile others → (k : ℕ)
+      → ((j : ℕ) → j < k → difference_at (tile_plane setup head planes n) j ≡ difference_at (tile_plane setup head others n) j)
+      → context_at (tile_plane setup head planes n) k ≡ context_at (tile_plane setup head others n) k
+  plane_determined n planes others there a b =
+      contexts_alike _ (set_entry setup (plane_set head n)) (some_columns setup head profile inside n) (samples_of planes n) (samples_of others n)
+      (a.sizes n there).bytes (b.sizes n there).bytes
+
   plane_excludes : (n : ℕ) (planes others : List (List ℕ)) (earlier : ℕ → List ℤ) (s : ℕ) (part rest front tail : List Bool) (fault : CodeFault)
       → n < plane_count (grid_of setup) → ArePlanesOf setup head.tile planes → ArePlanesOf setup head.tile others
       → s < length (samples_of others n) → IsWordRefused earlier (residuals_of (tile_plane setup head planes n)) s part rest fault
       → PlaneSpells earlier (tile_plane setup head others n) front → part ++ rest ≡ front ++ tail → ⊥
   unfolding residuals_of
   plane_excludes n planes others earlier s part rest front tail fault there a b low refused spells same =
-      let w = (plane_rect (grid_of setup) head.tile n).w in
-      let entry = set_entry setup (plane_set head n) in
-      let xs = samples_of planes n in
-      let ys = samples_of others n in
-      let small = (a.sizes n there).bytes in
-      let tiny = (b.sizes n there).bytes in
-      refused_excludes earlier w (context_at (plane_of w entry xs)) (context_at (plane_of w entry ys)) (difference_at (plane_of w entry xs))
-      (difference_at (plane_of w entry ys)) (some_columns setup head profile inside n)
-      (difference_range (plane_of w entry xs)) (difference_range (plane_of w entry ys))
-      (λ k alike. contexts_same w entry (some_columns setup head profile inside n) xs ys small tiny k
-      (samples_same w entry (some_columns setup head profile inside n) xs ys small tiny k alike))
-      s (length ys) spells.0 part rest front tail fault low refused spells.1 same
+      let p = tile_plane setup head planes n in
+      let q = tile_plane setup head others n in
+      refused_excludes earlier _ (context_at p) (context_at q) (difference_at p) (difference_at q) (some_columns setup head profile inside n)
+      (difference_range p) (difference_range q) (plane_determined n planes others there a b)
+      s (length (samples_of others n)) spells.0 part rest front tail fault low refused spells.1 same
 
   plane_one : (n : ℕ) (planes others : List (List ℕ)) (earlier : ℕ → List ℤ) (s t : ℕ) (part rest more tail : List Bool) (fault other : CodeFault)
       → n < plane_count (grid_of setup) → ArePlanesOf setup head.tile planes → ArePlanesOf setup head.tile others
@@ -84,17 +85,10 @@ module _ (setup : SetupValue) (head : SliceHead) (profile : IsInProfile setup) (
       → IsWordRefused earlier (residuals_of (tile_plane setup head others n)) t more tail other → part ++ rest ≡ more ++ tail → IsOneWord s t fault other
   unfolding residuals_of
   plane_one n planes others earlier s t part rest more tail fault other there a b refused refused_too same =
-      let w = (plane_rect (grid_of setup) head.tile n).w in
-      let entry = set_entry setup (plane_set head n) in
-      let xs = samples_of planes n in
-      let ys = samples_of others n in
-      let small = (a.sizes n there).bytes in
-      let tiny = (b.sizes n there).bytes in
-      refused_one earlier w (context_at (plane_of w entry xs)) (context_at (plane_of w entry ys)) (difference_at (plane_of w entry xs))
-      (difference_at (plane_of w entry ys)) (some_columns setup head profile inside n)
-      (difference_range (plane_of w entry xs)) (difference_range (plane_of w entry ys))
-      (λ k alike. contexts_same w entry (some_columns setup head profile inside n) xs ys small tiny k
-      (samples_same w entry (some_columns setup head profile inside n) xs ys small tiny k alike))
+      let p = tile_plane setup head planes n in
+      let q = tile_plane setup head others n in
+      refused_one earlier _ (context_at p) (context_at q) (difference_at p) (difference_at q) (some_columns setup head profile inside n)
+      (difference_range p) (difference_range q) (plane_determined n planes others there a b)
       s t part rest more tail fault other refused refused_too same
 
   after_whole : (bits front whole part others : List Bool) → bits ≡ front ++ others → front ≡ whole ++ part → bits ≡ whole ++ (part ++ others)

@@ -112,13 +112,6 @@ module _ (setup : SetupValue) (head : SliceHead) (profile : IsInProfile setup) (
       a.cr_spells (subst P (sym first.0) b.cr_spells) first.1 in
       (first.0, second.0, second.1)
 
-  pub luma_read : (bits rest : List Bool) (states after : List ContextState) (samples : List ℕ) → AreStatesAfter no_values states
-      → IsPlaneIn (plane_rect (grid_of setup) head.tile 0) samples
-      → IsPlaneRead (plane_rect (grid_of setup) head.tile 0).w (plane_rect (grid_of setup) head.tile 0).h
-      (set_entry setup (plane_set head 0)) states bits samples after rest → IsLumaRead setup head bits samples rest
-  luma_read bits rest states after samples fresh size read =
-      let one = read no_values fresh in record { size = size; front = one.0; begins = one.1; spells = one.2 }
-
   pub chroma_read : (bits mid rest : List Bool) (states between after : List ContextState) (cb cr : List ℕ) → AreStatesAfter no_values states
       → IsPlaneIn (plane_rect (grid_of setup) head.tile 1) cb → IsPlaneIn (plane_rect (grid_of setup) head.tile 2) cr
       → IsPlaneRead (plane_rect (grid_of setup) head.tile 1).w (plane_rect (grid_of setup) head.tile 1).h

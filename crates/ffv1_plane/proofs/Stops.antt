@@ -45,20 +45,6 @@ tile_plane_stops setup head plane states bits fault sample some halts = (
       },
 )
 
-pub luma_stops : (setup : SetupValue) (head : SliceHead) (states : List ContextState) (bits : List Bool) → AreStatesAfter no_values states
-    → (fault : TileFault) → IsPlaneOfHalted setup head 0 states bits fault → IsLumaHalted setup head bits fault
-luma_stops setup head states bits fresh (Code fault level y x) h = (h.0, h.1 no_values fresh)
-luma_stops setup head states bits fresh Memory h = tt
-luma_stops setup head states bits fresh (Head fault) h = absurd h
-luma_stops setup head states bits fresh OtherTile h = absurd h
-
-pub cb_stops : (setup : SetupValue) (head : SliceHead) (states : List ContextState) (bits : List Bool) → AreStatesAfter no_values states
-    → (fault : TileFault) → IsPlaneOfHalted setup head 1 states bits fault → IsChromaHalted setup head bits fault
-cb_stops setup head states bits fresh (Code fault level y x) h = inl (h.0, h.1 no_values fresh)
-cb_stops setup head states bits fresh Memory h = tt
-cb_stops setup head states bits fresh (Head fault) h = absurd h
-cb_stops setup head states bits fresh OtherTile h = absurd h
-
 pub cr_stops : (setup : SetupValue) (head : SliceHead) (states between : List ContextState) (bits mid : List Bool) (cb : List ℕ)
     → AreStatesAfter no_values states → IsPlaneIn (plane_rect (grid_of setup) head.tile 1) cb
     → IsPlaneRead (plane_rect (grid_of setup) head.tile 1).w (plane_rect (grid_of setup) head.tile 1).h

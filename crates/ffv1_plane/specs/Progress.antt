@@ -1,5 +1,5 @@
 -- The adaptive states that earlier values leave.
-use Rattle.std.specs.Prelude.{◌≡◌, ℕ, ◌-◌, ◌<◌, List, length, get_or, ℤ}
+use Rattle.std.specs.Prelude.{◌≡◌, ℕ, ◌<◌, List, length, get_or, ℤ}
 use Rattle.ffv1_rice.specs.States.{ContextState, start_state}
 use Rattle.ffv1_plane.specs.Spelling.{state_after}
 

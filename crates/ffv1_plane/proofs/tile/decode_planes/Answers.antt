@@ -17,30 +17,18 @@ decode_chroma-requires c = record {
   chroma = ap (λ b. if b then 3 else 1) (sym c.if-has_chroma.ensures);
 }
 
-pub returns-in_err-luma : goal.returns-in_err-luma
-returns-in_err-luma c =
+pub returns-in_err-luma-clause-err : goal.returns-in_err-luma-clause-err
+returns-in_err-luma-clause-err c =
     let p = err_from_is_err_and c.from_residual.result c.from_residual.ensures.1 in
     rw (p.1, p.2)
-    (record {
-      ok = tt;
-      err = luma_planes c.args.setup.now c.args.head.now c.requires.profile c.requires.tile c.args.bits.now.left _ c.in_err-luma.ensures.err;
-    })
+    (luma_planes c.args.setup.now c.args.head.now c.requires.profile c.requires.tile c.args.bits.now.left _ c.in_err-luma.ensures.err)
 
-pub returns-in_err-cb : goal.returns-in_err-cb
-returns-in_err-cb c =
+pub returns-in_err-cb-clause-err : goal.returns-in_err-cb-clause-err
+returns-in_err-cb-clause-err c =
     let p = err_from_is_err_and c.from_residual-in_err-cb.result c.from_residual-in_err-cb.ensures.1 in
-    let colour : c.args.setup.now.has_chroma ≡ true = sym c.if-has_chroma.ensures in
     rw (p.1, p.2)
-    (record {
-      ok = tt;
-      err =
-          chroma_planes c.args.setup.now c.args.head.now c.requires.profile c.requires.tile c.args.bits.now.left c.decode_luma.new.bits.left
-          c.in_ok-luma.luma.items colour c.in_ok-luma.ensures.ok _ c.in_err-cb.ensures.err;
-    })
-
-pub returns-in_err-vec : goal.returns-in_err-vec
-returns-in_err-vec c =
-    let p = err_from_is_err_and c.from_residual-in_err-vec.result c.from_residual-in_err-vec.ensures.1 in rw (p.1, p.2) (record { ok = tt; err = tt })
+    (chroma_planes c.args.setup.now c.args.head.now c.requires.profile c.requires.tile c.args.bits.now.left c.decode_luma.new.bits.left
+    c.in_ok-luma.luma.items (sym c.if-has_chroma.ensures) c.in_ok-luma.ensures.ok _ c.in_err-cb.ensures.err)
 
 pub returns-in_ok-vec : goal.returns-in_ok-vec
 returns-in_ok-vec c =
@@ -53,10 +41,6 @@ returns-in_ok-vec c =
           c.in_ok-luma.luma.items c.in_ok-cb.cb.items c.in_ok-cb.cr.items colour c.in_ok-luma.ensures.ok c.in_ok-cb.ensures.ok);
       err = tt;
     }
-
-pub returns-in_err-vec-2 : goal.returns-in_err-vec-2
-returns-in_err-vec-2 c =
-    let p = err_from_is_err_and c.from_residual-in_err-vec-2.result c.from_residual-in_err-vec-2.ensures.1 in rw (p.1, p.2) (record { ok = tt; err = tt })
 
 pub returns-in_ok-vec-2 : goal.returns-in_ok-vec-2
 returns-in_ok-vec-2 c =

@@ -4,23 +4,10 @@ use Rattle.ffv1_plane.proofs.Copies.{row_copied, cells_alike}
 use Rattle.ffv1_plane.proofs.Rows.{count_is}
 use Rattle.ffv1_plane.proofs.lines.Lines.copy_above.Goals as goal
 
-pub overflow_add-from : goal.overflow_add-from
-overflow_add-from c = omega (arith, c.self.invariant.within, c.self.invariant.wide)
-
-pub overflow_add-end : goal.overflow_add-end
-overflow_add-end c =
-    let inside : c.self.inside.x + c.args.count ≤ c.self.inside.width = subst (λ (r : RowsRead). r.x + c.args.count ≤ r.width) (sym c.self.view_is) c.requires.count in
-    omega (arith, inside, c.self.invariant.wide)
-
 pub copy_from_slice-requires : goal.copy_from_slice-requires
 copy_from_slice-requires c =
     cells_alike _ _ _ _ (ap length c.deref_mut.ensures.value ∙ c.self.invariant.line_long
     ∙ sym (ap length c.deref.ensures.value ∙ c.self.invariant.above_long))
-
-pub overflow_add-self : goal.overflow_add-self
-overflow_add-self c =
-    let inside : c.self.inside.x + c.args.count ≤ c.self.inside.width = subst (λ (r : RowsRead). r.x + c.args.count ≤ r.width) (sym c.self.view_is) c.requires.count in
-    omega (arith, inside, c.self.invariant.wide)
 
 pub invariant_of-self : goal.invariant_of-self
 invariant_of-self c =

@@ -7,6 +7,14 @@ use Rattle.ffv1_plane.proofs.Reading.{scalar_read_at, zero_here, run_end_read, r
 use Rattle.ffv1_plane.proofs.Halting.{scalar_stops, word_halted, level_stops}
 use Rattle.ffv1_plane.proofs.Readers.{same_read, one_more}
 use Rattle.ffv1_plane.proofs.plane.PlaneReader.read_next.Goals as goal
+use Rattle.ffv1_plane.proofs.plane.PlaneReader.read_next.Goals.{After-read_run}
+
+-- where a run is due: the width, the context, and what is left of the row
+run_due : (c : After-read_run) → (1 ≤ c.args.self.now.lines.width) × (c.context-context.result ≡ pos 0)
+    × (c.width.result - c.column.result ≡ c.args.self.now.lines.width - length c.args.self.now.lines.samples % c.args.self.now.lines.width)
+run_due c =
+    let place = c.column.ensures.place (omega (arith, c.requires.inside, c.column.ensures.value)) in
+    (omega (arith, c.requires.inside), omega (arith, ints), omega (arith, place, c.width.ensures.value))
 
 pub returns-then-context-ne0 : goal.returns-then-context-ne0
 returns-then-context-ne0 c =
@@ -37,35 +45,27 @@ returns-then-context-ne0 c =
 
 pub returns-in-Err : goal.returns-in-Err
 returns-in-Err c =
-    let some : 1 ≤ c.args.self.now.lines.width = omega (arith, c.requires.inside) in
-    let zero_is : c.context-context.result ≡ pos 0 = omega (arith, ints) in
-    let place = c.column.ensures.place (omega (arith, c.requires.inside, c.column.ensures.value)) in
-    let left_is : c.width.result - c.column.result ≡ c.args.self.now.lines.width - length c.args.self.now.lines.samples % c.args.self.now.lines.width =
-    omega (arith, place, c.width.ensures.value) in
-    let cut = rw left_is at c.in-Err.ensures.err in
+    let due = run_due (goal.at.returns-in-Err c).After-read_run in
+    let cut = rw due.2 at c.in-Err.ensures.err in
     record {
       same = record { width = refl; tables = refl; states = refl };
       left = tt;
       read = tt;
       more = tt;
       count = tt;
-      err = word_halted c.args.self.now.lines.width (entry_of c.args.self.now) some c.args.self.now.lines.samples c.args.self.now.index
+      err = word_halted c.args.self.now.lines.width (entry_of c.args.self.now) due.0 c.args.self.now.lines.samples c.args.self.now.index
           c.args.self.now.states.items
           c.args.self.now.bits.left
-          c.neighbours-near.result c.context-context.result c.neighbours-near.ensures c.context-context.ensures.value zero_is _ _ _ c.in-Err.ensures.truncated
+          c.neighbours-near.result c.context-context.result c.neighbours-near.ensures c.context-context.ensures.value due.1 _ _ _ c.in-Err.ensures.truncated
           (search rules) cut;
     }
 
 pub returns-then-count-most : goal.returns-then-count-most
 returns-then-count-most c =
-    let some : 1 ≤ c.args.self.now.lines.width = omega (arith, c.requires.inside) in
-    let zero_is : c.context-context.result ≡ pos 0 = omega (arith, ints) in
-    let place = c.column.ensures.place (omega (arith, c.requires.inside, c.column.ensures.value)) in
-    let left_is : c.width.result - c.column.result ≡ c.args.self.now.lines.width - length c.args.self.now.lines.samples % c.args.self.now.lines.width =
-    omega (arith, place, c.width.ensures.value) in
-    let run = rw left_is at c.in-Ok.ensures.ok in
+    let due = run_due (goal.at.returns-then-count-most c).After-read_run in
+    let run = rw due.2 at c.in-Ok.ensures.ok in
     let less : c.in-Ok.count < c.args.self.now.lines.width - length c.args.self.now.lines.samples % c.args.self.now.lines.width =
-    omega (arith, left_is, c.if-count-most.true) in
+    omega (arith, due.2, c.if-count-most.true) in
     let same = c.read_level.ensures.same in
     record {
       same = record { width = same.width ∙ c.skip.ensures.width; tables = same.tables; states = same.states };
@@ -75,10 +75,10 @@ returns-then-count-most c =
           c.read_level.new.self.tables.now c.read_run.new.index c.read_level.new.self.index whole c.read_level.new.self.bits.left
           c.read_level.new.self.lines.samples c.read_level.new.self.lines.samples c.read_level.new.self.states.items
           (same.width ∙ c.skip.ensures.width) same.tables c.read_level.ensures.index refl
-          (run_level_read earlier c.args.self.now.lines.width (entry_of c.args.self.now) some whole c.args.self.now.bits.left c.args.self.now.lines.samples
+          (run_level_read earlier c.args.self.now.lines.width (entry_of c.args.self.now) due.0 whole c.args.self.now.bits.left c.args.self.now.lines.samples
           c.skip.new.self.samples c.args.self.now.index c.args.self.now.states.items so_far
-          (zero_here c.args.self.now.lines.width (entry_of c.args.self.now) c.args.self.now.lines.samples c.neighbours-near.result c.context-context.result some
-          c.neighbours-near.ensures c.context-context.ensures.value zero_is)
+          (zero_here c.args.self.now.lines.width (entry_of c.args.self.now) c.args.self.now.lines.samples c.neighbours-near.result c.context-context.result due.0
+          c.neighbours-near.ensures c.context-context.ensures.value due.1)
           c.in-Ok.count c.read_run.new.index c.read_run.new.bits.left run (c.skip.ensures.skipped (entry_of c.args.self.now))
           _ _ _ less
           (subst (λ (w : ℕ). IsSampleRead w (entry_of c.args.self.now) true c.skip.new.self.samples c.args.self.now.states.items c.read_run.new.bits.left
@@ -88,10 +88,10 @@ returns-then-count-most c =
       count = on_ok_weaker c.read_level.result (λ more. omega (arith, more, c.skip.ensures.x, c.skip.ensures.count))
           (one_more c.read_level.result _ _ _ _ _ _ _ _ _ c.skip.new.self.x c.read_level.new.self.lines.x c.read_level.ensures.moved c.read_level.ensures.read);
       err = IfErr-weaker c.read_level.result _ _
-          (level_stops c.args.self.now.lines.width (entry_of c.args.self.now) some c.args.self.now.lines.samples c.args.self.now.index
+          (level_stops c.args.self.now.lines.width (entry_of c.args.self.now) due.0 c.args.self.now.lines.samples c.args.self.now.index
           c.args.self.now.states.items
           c.args.self.now.bits.left
-          c.neighbours-near.result c.context-context.result c.neighbours-near.ensures c.context-context.ensures.value zero_is c.skip.new.self.samples
+          c.neighbours-near.result c.context-context.result c.neighbours-near.ensures c.context-context.ensures.value due.1 c.skip.new.self.samples
           c.in-Ok.count
           c.read_run.new.index c.read_run.new.bits.left run
           (c.skip.ensures.skipped (entry_of c.args.self.now)) less c.skip.ensures.bytes)
@@ -100,24 +100,20 @@ returns-then-count-most c =
 
 pub returns-else-count-most : goal.returns-else-count-most
 returns-else-count-most c =
-    let some : 1 ≤ c.args.self.now.lines.width = omega (arith, c.requires.inside) in
-    let zero_is : c.context-context.result ≡ pos 0 = omega (arith, ints) in
-    let place = c.column.ensures.place (omega (arith, c.requires.inside, c.column.ensures.value)) in
-    let left_is : c.width.result - c.column.result ≡ c.args.self.now.lines.width - length c.args.self.now.lines.samples % c.args.self.now.lines.width =
-    omega (arith, place, c.width.ensures.value) in
-    let run = rw left_is at c.in-Ok.ensures.ok in
+    let due = run_due (goal.at.returns-else-count-most c).After-read_run in
+    let run = rw due.2 at c.in-Ok.ensures.ok in
     let whole_row : c.args.self.now.lines.width - length c.args.self.now.lines.samples % c.args.self.now.lines.width ≡ c.in-Ok.count =
-    (let enough = c.if-count-most.false in omega (arith, left_is, enough, run.fits)) in
+    (let enough = c.if-count-most.false in omega (arith, due.2, enough, run.fits)) in
     record {
       same = record { width = c.skip.ensures.width; tables = refl; states = refl };
       left = λ inside. absurd (omega (arith, inside, c.skip.ensures.x, c.skip.ensures.width, c.width.ensures.value, c.column.ensures.value));
       read = λ earlier whole so_far. same_read earlier c.args.self.now.lines.width c.skip.new.self.width c.args.self.now.tables.now c.args.self.now.tables.now
           c.read_run.new.index c.read_run.new.index whole c.read_run.new.bits.left
           c.skip.new.self.samples c.skip.new.self.samples c.args.self.now.states.items c.skip.ensures.width refl refl refl
-          (run_end_read earlier c.args.self.now.lines.width (entry_of c.args.self.now) some whole c.args.self.now.bits.left c.args.self.now.lines.samples
+          (run_end_read earlier c.args.self.now.lines.width (entry_of c.args.self.now) due.0 whole c.args.self.now.bits.left c.args.self.now.lines.samples
           c.skip.new.self.samples c.args.self.now.index c.args.self.now.states.items so_far
-          (zero_here c.args.self.now.lines.width (entry_of c.args.self.now) c.args.self.now.lines.samples c.neighbours-near.result c.context-context.result some
-          c.neighbours-near.ensures c.context-context.ensures.value zero_is)
+          (zero_here c.args.self.now.lines.width (entry_of c.args.self.now) c.args.self.now.lines.samples c.neighbours-near.result c.context-context.result due.0
+          c.neighbours-near.ensures c.context-context.ensures.value due.1)
           c.in-Ok.count c.read_run.new.index c.read_run.new.bits.left run (c.skip.ensures.skipped (entry_of c.args.self.now)) whole_row);
       more = omega (arith, c.requires.inside, c.skip.ensures.x, c.width.ensures.value, c.column.ensures.value);
       count = omega (arith, c.skip.ensures.x, c.skip.ensures.count);
