@@ -1,5 +1,5 @@
 -- The planes of a tile: their sizes, and that bits begin with those of one picture.
-use Rattle.std.proofs.Common.{◌≡◌, ℕ, zero, suc, ◌-◌, ◌^◌, ◌<◌, ◌≤◌, Bool, true, false, cond, List, [], ◌∷◌, ◌++◌, length, map, take, drop, length-drop, refl, sym, ap, ◌∙◌, subst, arith, append_assoc, ℤ}
+use Rattle.std.proofs.Common.{◌≡◌, ℕ, zero, suc, ◌-◌, ◌^◌, ◌<◌, ◌≤◌, Bool, true, false, cond, List, [], ◌∷◌, ◌++◌, length, map, take, drop, length-drop, refl, sym, ap, ◌∙◌, subst, arith, append_assoc, ℤ, rules}
 use Rattle.std.specs.Prelude.{◌==◌}
 use Rattle.std.specs.Int.{div_ceil}
 use Rattle.std.proofs.lemmas.List.{append-nil, ext_get_or, take_all}
@@ -25,17 +25,7 @@ use Rattle.ffv1_plane.proofs.OnePlane.{one_plane}
 -- ---- sizes
 
 is_grid : (setup : SetupValue) → IsInProfile setup → IsGrid (grid_of setup)
-is_grid setup h = record {
-  some_across = h.some_across;
-  some_down = h.some_down;
-  not_finer_across = h.coarse_across;
-  not_finer_down = h.coarse_down;
-  few_tiles = h.few_tiles;
-  width_limit = h.narrow;
-  height_limit = h.low;
-  shift_h_limit = h.small_h;
-  shift_v_limit = h.small_v;
-}
+is_grid setup h = search rules
 
 ceil_within : (a shift : ℕ) → 1 ≤ a → shift ≤ 2 → (1 ≤ div_ceil a (2 ^ shift)) × (div_ceil a (2 ^ shift) ≤ a)
 ceil_within a zero some low = (omega arith, omega arith)
