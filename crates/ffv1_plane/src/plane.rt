@@ -16,7 +16,7 @@ use crate::run::read_run;
 use crate::tables::Tables;
 use ffv1_bits::Bits;
 use ffv1_rice::{CodeFault, RunIndex, VlcState};
-use std::alloc::{AllocError, AllocFailed, Global};
+use std::alloc::Global;
 
 /// Why a plane can't be read.
 #[derive(Clone, Copy)]
@@ -25,17 +25,6 @@ pub(crate) enum PlaneFault {
     Code { fault: CodeFault, sample: usize },
     /// An allocation of memory failed.
     Memory,
-}
-
-impl From<AllocError> for PlaneFault {
-    ghost use Rattle.std.specs.Prelude.{◌≡◌};
-    ghost use Rattle.ffv1_plane.specs.declared.plane.PlaneFault.TheVariants.{Memory};
-
-    ghost from_gives = { λ error result. result ≡ Memory };
-
-    fn from(_error: AllocError) -> PlaneFault {
-        PlaneFault::Memory
-    }
 }
 
 /// A plane that is read: its lines, the tables and the states of its contexts, the run index, and the bits that are left.
@@ -177,7 +166,9 @@ pub(crate) fn decode_plane(
         read.1.items bits.new.left) }
     ensures err { IfErr result (IsDecodingHalted width height (set_entry tables.now.setup tables.now.set) states.items bits.old.left) }
 {
-    let lines = Lines::new(alloc, width, height)?;
+    let Ok(lines) = Lines::new(alloc, width, height) else {
+        return Err(PlaneFault::Memory);
+    };
     let mut reader = PlaneReader {
         lines,
         tables,
@@ -187,7 +178,9 @@ pub(crate) fn decode_plane(
     };
     for _ in 0..height {
         reader.read_row()?;
-        reader.lines.end_row()?;
+        let Ok(()) = reader.lines.end_row() else {
+            return Err(PlaneFault::Memory);
+        };
     }
     let PlaneReader {
         lines,

@@ -10,10 +10,6 @@ use Rattle.ffv1_plane.proofs.plane.decode_plane.Goals as goal
 pub new-requires : goal.new-requires
 new-requires c = record { some = c.requires.some; width = c.requires.width; height = c.requires.height }
 
-pub returns-in_err-lines : goal.returns-in_err-lines
-returns-in_err-lines c =
-    let p = err_from_is_err_and c.from_residual.result c.from_residual.ensures.1 in rw (p.1, p.2) (record { len = tt; size = tt; read = tt; err = tt })
-
 pub read_row-requires : goal.read_row-requires
 read_row-requires c = record {
   states = c.loop.invariant.states ∙ c.requires.contexts ∙ ap (λ t. set_contexts t.setup t.set) (sym c.loop.invariant.tables);
@@ -30,15 +26,15 @@ into_rows-requires c = c.loop.invariant.start
 
 pub loop-init : goal.loop-init
 loop-init c =
-    let samples = ap (λ r. r.samples) c.in_ok-lines.ensures in
+    let samples = ap (λ r. r.samples) c.in-Ok.ensures in
     record {
       read = λ earlier after.
           rw (samples, c.start.ensures, c.fork.ensures) (no_samples earlier c.args.width
           (set_entry c.args.tables.now.setup c.args.tables.now.set) c.args.bits.now.left c.args.states.items after);
-      width = ap (λ r. r.width) c.in_ok-lines.ensures;
+      width = ap (λ r. r.width) c.in-Ok.ensures;
       tables = refl;
       states = refl;
-      start = ap (λ r. r.x) c.in_ok-lines.ensures;
+      start = ap (λ r. r.x) c.in-Ok.ensures;
       size = omega (arith, ap length samples);
       bytes = λ s. let e = ap (λ l. slice_index l s) samples in omega (arith, e);
     }
@@ -46,7 +42,7 @@ loop-init c =
 pub loop-preserved : goal.loop-preserved
 loop-preserved c =
     let same = c.in_ok-read_row.ensures.same in
-    let ended = c.in_ok-end_row.ensures in
+    let ended = c.in-Ok-end_row.ensures in
     let width = ap (λ r. r.width) ended ∙ same.width ∙ c.loop.invariant.width in
     let samples = ap (λ r. r.samples) ended in
     record {
@@ -70,7 +66,7 @@ loop-preserved c =
 
 pub returns-in_err-read_row : goal.returns-in_err-read_row
 returns-in_err-read_row c =
-    let p = err_from_is_err_and c.from_residual-in_err-read_row.result c.from_residual-in_err-read_row.ensures.1 in
+    let p = err_from_is_err_and c.from_residual.result c.from_residual.ensures.1 in
     let rows : (c.loop.counter + 1) * c.args.width ≤ c.args.height * c.args.width = mul-le-mul_right c.args.width (omega arith) in
     rw (p.1, p.2)
     (record {
@@ -85,11 +81,6 @@ returns-in_err-read_row c =
           c.loop.reader.states.items c.loop.reader.bits.left _
           (sym c.loop.invariant.width) (sym c.loop.invariant.tables) c.in_err-read_row.ensures.err);
     })
-
-pub returns-in_err-end_row : goal.returns-in_err-end_row
-returns-in_err-end_row c =
-    let p = err_from_is_err_and c.from_residual-in_err-end_row.result c.from_residual-in_err-end_row.ensures.1 in
-    rw (p.1, p.2) (record { len = tt; size = tt; read = tt; err = tt })
 
 pub returns : goal.returns
 returns c =
