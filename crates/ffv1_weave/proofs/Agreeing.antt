@@ -27,6 +27,14 @@ module _ (versions : List (List ℕ)) where
   agree_past size i long past one other there here =
       get_or_past one i 0 (omega (arith, long one there)) ∙ sym (get_or_past other i 0 (omega (arith, long other here)))
 
+  -- where they agree up to their end, they agree from there on
+  pub agree_on : (size from until : ℕ) → HaveLength versions size → size ≤ until → ((i : ℕ) → from ≤ i → i < until → AgreeAt versions i)
+      → (i : ℕ) → from ≤ i → AgreeAt versions i
+  agree_on size from until long whole so_far i low = elim (cases_lt i until) [
+    | inl below ↦ so_far i low below
+    | inr above ↦ agree_past size i long (omega arith)
+  ]
+
   pub agree_with_first : (i : ℕ) → 0 < length versions → AgreeAt versions i → (version : List ℕ) → Contains versions version
       → get_or version i 0 ≡ get_or (get_or versions 0 []) i 0
   agree_with_first i some agree version there = agree version (get_or versions 0 []) there (Contains-get_or versions 0 [] some)

@@ -14,9 +14,9 @@ use Rattle.ffv1_weave.specs.Laws.{KeepsOriginal, OriginalIsWoven, TriedOriginalI
 use Rattle.ffv1_weave.specs.declared.check.Check.{Check}
 use Rattle.ffv1_weave.specs.declared.grains.Grain.TheVariants.{Pairs, Regions}
 use Rattle.ffv1_weave.specs.declared.regions.TheConstants.{SEPARATION}
-use Rattle.ffv1_weave.proofs.Agreeing.{some_differ, two_of}
+use Rattle.ffv1_weave.proofs.Agreeing.{some_differ}
 use Rattle.ffv1_weave.proofs.WiderRegions.{region_of}
-use Rattle.ffv1_weave.proofs.SeamSteps.{segment_within}
+use Rattle.ffv1_weave.proofs.SeamSteps.{seam_before, seam_after, segment_within}
 use Rattle.ffv1_weave.proofs.GrainSteps.{region_within}
 use Rattle.ffv1_weave.proofs.Choices.{same_range, range_at}
 use Rattle.ffv1_weave.proofs.Tried.{tried_grain, valid_by}
@@ -25,35 +25,12 @@ use Rattle.ffv1_weave.proofs.Tried.{tried_grain, valid_by}
 
 module _ (versions : List (List ℕ)) where
   first_is_seam : (distance start end : ℕ) → distance ≤ SEPARATION → IsRegion versions start end → IsSeam distance versions start
-  first_is_seam distance start end near h =
-      let two = two_of versions start h.first in
-      record {
-        one = two.one;
-        other = two.other;
-        one_there = two.one_there;
-        other_there = two.other_there;
-        parted = inl (record {
-          differ = two.differ;
-          before = λ i lt close. h.before i lt (omega arith) two.one two.other two.one_there two.other_there;
-        });
-      }
+  first_is_seam distance start end near h = seam_before distance versions start h.first (λ i lt close. h.before i lt (omega arith))
 
   last_is_seam : (distance start end : ℕ) → distance ≤ SEPARATION → IsRegion versions start end → IsSeam distance versions end
   last_is_seam distance start end near h =
-      let two = two_of versions (end - 1) h.last in
       let some = h.some in
-      record {
-        one = two.one;
-        other = two.other;
-        one_there = two.one_there;
-        other_there = two.other_there;
-        parted = inr (record {
-          last = end - 1;
-          next = omega arith;
-          differ = two.differ;
-          after = λ i low lt. h.after i low (omega arith) two.one two.other two.one_there two.other_there;
-        });
-      }
+      seam_after distance versions (end - 1) end (omega arith) h.last (λ i low lt. h.after i low (omega arith))
 
   -- A segment in which versions differ lies in one region.
   in_region : (distance size start end place : ℕ) → distance ≤ SEPARATION → HaveLength versions size → IsSegment distance versions start end → start ≤ place

@@ -26,6 +26,7 @@ pub mod VoteLaws
 pub mod VoteSteps
 pub mod Coarsest
 pub mod Vectors
+pub mod ThreeVersions
 pub mod MostVectors
 pub mod SeamVectors
 pub mod RepairVectors

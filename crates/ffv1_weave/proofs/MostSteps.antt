@@ -303,20 +303,31 @@ module _ (versions : List (List ℕ)) (start end : ℕ) (choices : List (List �
     same_count k other is numbers =
         one_number (HasChoice versions start end (get_or choices i [])) other count (subst (λ n. Have versions start end (get_or choices n []) other) is numbers) have
 
+    -- no more than a bound have the next one, as those before it
+    least_next : (bound : ℕ) → greatest ≤ bound → count ≤ bound → (k other : ℕ) → k < i + 1 → Have versions start end (get_or choices k []) other → other ≤ bound
+    least_next bound old new k other lt numbers = elim (cases_lt k i) [
+      | inl below ↦ let low = h.least k other below numbers in omega arith
+      | inr above ↦ let same = same_count k other (omega arith) numbers in omega arith
+    ]
+
+    -- all that so many have are listed, where those before it and itself are
+    each_next : (now : List (List ℕ)) (bound : ℕ) → ((k : ℕ) → k < i → Have versions start end (get_or choices k []) bound → Contains now (get_or choices k []))
+        → (Have versions start end (get_or choices i []) bound → Contains now (get_or choices i []))
+        → (k : ℕ) → k < i + 1 → Have versions start end (get_or choices k []) bound → Contains now (get_or choices k [])
+    each_next now bound old new k lt numbers = elim (cases_lt k i) [
+      | inl below ↦ old k below numbers
+      | inr above ↦ let here : i ≡ k = omega arith in
+          subst (λ n. Have versions start end (get_or choices n []) bound → Contains now (get_or choices n [])) here new numbers
+    ]
+
     -- fewer have the next one
     pub most_fewer : count < greatest → AreMostSoFar versions start end choices (i + 1) most greatest
     most_fewer less =
         record {
           within = omega arith;
-          least = λ k other lt numbers. elim (cases_lt k i) [
-            | inl below ↦ h.least k other below numbers
-            | inr above ↦ let same = same_count k other (omega arith) numbers in omega arith
-          ];
+          least = least_next greatest (omega arith) (omega arith);
           reached = h.reached;
-          each = λ k lt numbers. elim (cases_lt k i) [
-            | inl below ↦ h.each k below numbers
-            | inr above ↦ let same = same_count k greatest (omega arith) numbers in absurd (omega arith)
-          ];
+          each = each_next most greatest h.each (λ numbers. let same = same_count i greatest refl numbers in absurd (omega arith));
           only = λ k lt. let of = h.only k lt in (of.0, (let low = of.1 in omega arith), of.2, of.3);
           once = h.once;
         }
@@ -326,15 +337,10 @@ module _ (versions : List (List ℕ)) (start end : ℕ) (choices : List (List �
     most_more more =
         record {
           within = omega arith;
-          least = λ k other lt numbers. elim (cases_lt k i) [
-            | inl below ↦ let low = h.least k other below numbers in omega arith
-            | inr above ↦ let same = same_count k other (omega arith) numbers in omega arith
-          ];
+          least = least_next count (omega arith) (omega arith);
           reached = inr (get_or choices i [], have);
-          each = λ k lt numbers. elim (cases_lt k i) [
-            | inl below ↦ let low = h.least k count below numbers in absurd (omega arith)
-            | inr above ↦ let here : k ≡ i = omega arith in (0, omega arith, ap (λ n. get_or choices n []) (sym here))
-          ];
+          each = each_next (get_or choices i [] ∷ []) count (λ k below numbers. let low = h.least k count below numbers in absurd (omega arith))
+              (λ numbers. (0, omega arith, refl));
           only = λ k lt. let first : k ≡ 0 = omega arith in
               (i, omega arith, ap (λ n. get_or (get_or choices i [] ∷ []) n []) first, have);
           once = λ j k low lt same. omega arith;
@@ -345,16 +351,11 @@ module _ (versions : List (List ℕ)) (start end : ℕ) (choices : List (List �
     most_too as_many =
         record {
           within = omega arith;
-          least = λ k other lt numbers. elim (cases_lt k i) [
-            | inl below ↦ h.least k other below numbers
-            | inr above ↦ let same = same_count k other (omega arith) numbers in omega arith
-          ];
+          least = least_next greatest (omega arith) (omega arith);
           reached = h.reached;
-          each = λ k lt numbers. elim (cases_lt k i) [
-            | inl below ↦ Contains-append_left most (choice ∷ []) (get_or choices k []) (h.each k below numbers)
-            | inr above ↦ let here : k ≡ i = omega arith in
-                Contains-append_right most (choice ∷ []) (get_or choices k []) (0, omega arith, ap (λ n. get_or choices n []) (sym here))
-          ];
+          each = each_next (most ++ choice ∷ []) greatest
+              (λ k below numbers. Contains-append_left most (choice ∷ []) (get_or choices k []) (h.each k below numbers))
+              (λ numbers. Contains-append_right most (choice ∷ []) choice (0, omega arith, refl));
           only = λ k lt. elim (cases_lt k (length most)) [
             | inl below ↦ let of = h.only k below in (of.0, (let low = of.1 in omega arith), listed_at most choice k below ∙ of.2, of.3)
             | inr above ↦ (i, omega arith, pushed_at most choice k (omega (arith, length_push most choice)), subst (Have versions start end choice) as_many have)

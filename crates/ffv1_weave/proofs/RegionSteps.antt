@@ -17,16 +17,22 @@ pub record IsEndSoFar (versions : List (List ℕ)) (start end place size : ℕ) 
       → (j : ℕ) × (i < j) × (j ≤ i + SEPARATION) × (j < end) × DifferAt versions j
 
 module _ (versions : List (List ℕ)) where
-  pub end_begins : (start size : ℕ) → start < size → DifferAt versions start → IsEndSoFar versions start (start + 1) (start + 1) size
-  end_begins start size within first =
+  -- the end is after a place where they differ, and no further place was looked at
+  end_after : (start place size : ℕ) → start ≤ place → place < size → DifferAt versions place
+      → ((i : ℕ) → start ≤ i → i + 1 < place + 1 → DifferAt versions i → (j : ℕ) × (i < j) × (j ≤ i + SEPARATION) × (j < place + 1) × DifferAt versions j)
+      → IsEndSoFar versions start (place + 1) (place + 1) size
+  end_after start place size from within differ followed =
       record {
         some = omega arith;
         order = omega arith;
         within = omega arith;
-        last = let same : start ≡ start + 1 - 1 = omega arith in subst (DifferAt versions) same first;
-        quiet = λ i h k. absurd (omega arith);
-        followed = λ i h k differ. absurd (omega arith);
+        last = let same : place ≡ place + 1 - 1 = omega arith in subst (DifferAt versions) same differ;
+        quiet = λ i low high. absurd (omega arith);
+        followed = followed;
       }
+
+  pub end_begins : (start size : ℕ) → start < size → DifferAt versions start → IsEndSoFar versions start (start + 1) (start + 1) size
+  end_begins start size within first = end_after start start size (omega arith) within first (λ i low high differ. absurd (omega arith))
 
   pub end_stays : (start end place size : ℕ) → place < size → AgreeAt versions place → IsEndSoFar versions start end place size
       → IsEndSoFar versions start end (place + 1) size
@@ -49,18 +55,11 @@ module _ (versions : List (List ℕ)) where
   end_moves start end place size within near differ h =
       let order = h.order in
       let some = h.some in
-      record {
-        some = omega arith;
-        order = omega arith;
-        within = omega arith;
-        last = let same : place ≡ place + 1 - 1 = omega arith in subst (DifferAt versions) same differ;
-        quiet = λ i low high. absurd (omega arith);
-        followed = λ i low high here. elim (cases_lt (i + 1) end) [
-          | inl inside ↦ let next = h.followed i low inside here in
-              (next.0, next.1, next.2, (let below = next.3 in omega arith), next.4)
-          | inr past ↦ (place, omega arith, omega arith, omega arith, differ)
-        ];
-      }
+      end_after start place size (omega arith) within differ (λ i low high here. elim (cases_lt (i + 1) end) [
+        | inl inside ↦ let next = h.followed i low inside here in
+            (next.0, next.1, next.2, (let below = next.3 in omega arith), next.4)
+        | inr past ↦ (place, omega arith, omega arith, omega arith, differ)
+      ])
 
   -- ---- a region by its gaps
 

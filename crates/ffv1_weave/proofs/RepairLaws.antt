@@ -1,11 +1,10 @@
 -- Laws of repairs.
-use Rattle.std.proofs.Common.{◌≡◌, ℕ, ◌*◌, List, length, Option, Result, Vec, Global, sym, ap, ◌∙◌}
-use Rattle.std.specs.declared.alloc.AllocError.{AllocError}
+use Rattle.std.proofs.Common.{◌≡◌, ℕ, ◌*◌, List, length, sym, ap, ◌∙◌}
 use Rattle.ffv1_slice.specs.Members.{HasSameMembers}
 use Rattle.ffv1_weave.specs.Repairs.{IsRepair, IsRepairOf, SameVersionsRepair, OriginalIsRepaired}
 use Rattle.ffv1_weave.proofs.Tried.{one_count}
-use Rattle.ffv1_weave.proofs.Returned.{IsReturnedBy, returned_as}
-use Rattle.ffv1_weave.proofs.WeaveLaws.{same_back, combination_as, tried_as, few_as}
+use Rattle.ffv1_weave.proofs.Returned.{RestsOnMembers, only_as}
+use Rattle.ffv1_weave.proofs.WeaveLaws.{combination_as, tried_as, few_as}
 
 pub repair_as : (versions others : List (List ℕ)) → HasSameMembers versions others → (bytes : List ℕ) → IsRepair versions bytes → IsRepair others bytes
 repair_as versions others same bytes h =
@@ -21,14 +20,10 @@ repair_as versions others same bytes h =
       passes = h.passes;
     }
 
-pub repair_of_as : (versions others : List (List ℕ)) → HasSameMembers versions others → (bytes : List ℕ) (count : ℕ) → IsRepairOf versions bytes count
-    → IsRepairOf others bytes count
+pub repair_of_as : RestsOnMembers IsRepairOf
 repair_of_as versions others same bytes count h =
     record {
-      only = record {
-        there = repair_as versions others same bytes h.only.there;
-        others = λ other repair. h.only.others other (repair_as others versions (same_back versions others same) other repair);
-      };
+      only = only_as IsRepair repair_as versions others same bytes h.only;
       combinations = h.combinations;
       few = few_as versions others same h.combinations h.few;
       counted = h.counted;
@@ -48,9 +43,3 @@ same_versions_repair =
 
 pub original_is_repaired : OriginalIsRepaired
 original_is_repaired original versions bytes count original_there h = sym (h.only.others original original_there)
-
--- what is returned for versions is right for others with the same members
-pub returned_repair_as : (versions others : List (List ℕ)) → HasSameMembers versions others → (returned : Result (Option (Vec ℕ Global × ℕ)) AllocError)
-    → IsReturnedBy (IsRepairOf versions) returned → IsReturnedBy (IsRepairOf others) returned
-returned_repair_as versions others same =
-    returned_as (IsRepairOf versions) (IsRepairOf others) (repair_of_as versions others same) (repair_of_as others versions (same_back versions others same))

@@ -1,15 +1,42 @@
 -- Seams and segments: where a seam can lie, and that segments never overlap.
-use Rattle.std.proofs.Common.{◌≡◌, ℕ, ◌-◌, ◌<◌, ◌≤◌, List, [], length, get_or, sym, ◌∙◌, subst, arith, inl, inr}
-use Rattle.std.specs.Prelude.{◌⊎◌}
+use Rattle.std.proofs.Common.{◌≡◌, ℕ, ◌+◌, ◌-◌, ◌<◌, ◌≤◌, List, [], length, get_or, sym, ◌∙◌, subst, arith, inl, inr}
+use Rattle.std.specs.Prelude.{◌⊎◌, Contains}
 use Rattle.std.proofs.lemmas.Bool.{cases_lt}
 use Rattle.std.proofs.lemmas.List.{get_or_past}
 use Rattle.std.proofs.lemmas.List.Elements.{Contains-get_or}
-use Rattle.ffv1_weave.specs.Regions.{HaveLength, AgreeAt}
-use Rattle.ffv1_weave.specs.Seams.{IsSeam, IsSegment}
+use Rattle.ffv1_weave.specs.Regions.{HaveLength, AgreeAt, DifferAt}
+use Rattle.ffv1_weave.specs.Seams.{AreParted, IsSeam, IsSegment}
 use Rattle.ffv1_weave.specs.Inner.Parts.{IsPartFrom}
 use Rattle.ffv1_weave.specs.declared.grains.Grain.TheVariants.{Pairs}
+use Rattle.ffv1_weave.proofs.Agreeing.{two_of}
 
 module _ (distance : ℕ) (versions : List (List ℕ)) where
+  -- ---- a seam by two versions, and by a place where versions differ
+
+  pub seam_of : (place : ℕ) (one other : List ℕ) → Contains versions one → Contains versions other → AreParted distance one other place
+      → IsSeam distance versions place
+  seam_of place one other there here parted = record { one = one; other = other; one_there = there; other_there = here; parted = parted }
+
+  seam_by : (place at : ℕ) → DifferAt versions at
+      → ((one other : List ℕ) → Contains versions one → Contains versions other → (get_or one at 0 ≡ get_or other at 0 → ⊥) → AreParted distance one other place)
+      → IsSeam distance versions place
+  seam_by place at differ parted =
+      let two = two_of versions at differ in
+      seam_of place two.one two.other two.one_there two.other_there (parted two.one two.other two.one_there two.other_there two.differ)
+
+  -- before it all agree
+  pub seam_before : (place : ℕ) → DifferAt versions place → ((i : ℕ) → i < place → place ≤ i + distance → AgreeAt versions i) → IsSeam distance versions place
+  seam_before place differ quiet = seam_by place place differ (λ one other there here apart.
+      inl (record { differ = apart; before = λ i lt near. quiet i lt near one other there here }))
+
+  -- after it all agree
+  pub seam_after : (last place : ℕ) → place ≡ last + 1 → DifferAt versions last → ((i : ℕ) → place ≤ i → i < place + distance → AgreeAt versions i)
+      → IsSeam distance versions place
+  seam_after last place next differ quiet = seam_by place last differ (λ one other there here apart.
+      inr (record { last = last; next = next; differ = apart; after = λ i low lt. quiet i low lt one other there here }))
+
+  -- ---- where a seam can lie
+
   -- Where all versions agree at a place and at the one before it, it is no seam.
   pub quiet_no_seam : (place : ℕ) → AgreeAt versions (place - 1) → AgreeAt versions place → IsSeam distance versions place → ⊥
   quiet_no_seam place before here seam = elim seam.parted [

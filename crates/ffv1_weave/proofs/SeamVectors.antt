@@ -11,6 +11,7 @@ use Rattle.ffv1_weave.specs.declared.check.Check.{Check}
 use Rattle.ffv1_weave.specs.declared.grains.Grain.TheVariants.{Pairs}
 use Rattle.ffv1_weave.proofs.Agreeing.{agree_past, differ_from}
 use Rattle.ffv1_weave.proofs.MostSteps.{choices_of_pairs}
+use Rattle.ffv1_weave.proofs.SeamSteps.{seam_of}
 use Rattle.ffv1_weave.proofs.Choices.{numbered}
 use Rattle.ffv1_weave.proofs.Tried.{valid_by}
 
@@ -76,13 +77,7 @@ no_combination_of_regions is = let version = is.parts 0 3 all_one_region in none
 seam_at : (place : ℕ) (one other : List ℕ) → Contains three one → Contains three other → (get_or one place 0 ≡ get_or other place 0 → ⊥)
     → IsSeam 0 three place
 seam_at place one other there here apart =
-    record {
-      one = one;
-      other = other;
-      one_there = there;
-      other_there = here;
-      parted = inl (record { differ = apart; before = λ i lt near. absurd (omega arith) });
-    }
+    seam_of 0 three place one other there here (inl (record { differ = apart; before = λ i lt near. absurd (omega arith) }))
 
 seam_one : IsSeam 0 three 1
 seam_one = seam_at 1 (2 ∷ 1 ∷ 1 ∷ []) (1 ∷ 2 ∷ 1 ∷ []) first_there second_there (λ same. absurd (omega arith))

@@ -8,8 +8,10 @@ use Rattle.std.proofs.lemmas.List.{get_or-replicate, length-replicate, get_or-ap
 use Rattle.ffv1_weave.specs.Regions.{HaveLength, AgreeAt, DifferAt, IsRegion}
 use Rattle.ffv1_weave.specs.Seams.{IsSeam, IsSegment}
 use Rattle.ffv1_weave.specs.Combinations.{IsCombination}
-use Rattle.ffv1_weave.proofs.Agreeing.{agree_from, agree_past, differ_from, two_of}
+use Rattle.ffv1_weave.specs.declared.regions.TheConstants.{SEPARATION}
+use Rattle.ffv1_weave.proofs.Agreeing.{agree_from, agree_past, differ_from}
 use Rattle.ffv1_weave.proofs.RegionSteps.{one_region}
+use Rattle.ffv1_weave.proofs.SeamSteps.{seam_before, seam_after}
 
 pub versions : List (List ℕ)
 versions = (1 ∷ 2 ∷ 3 ∷ []) ∷ (1 ∷ 5 ∷ 3 ∷ []) ∷ []
@@ -20,42 +22,53 @@ three version (zero, lt, is) = ap length (sym is)
 three version (suc zero, lt, is) = ap length (sym is)
 three version (suc (suc k), lt, is) = absurd (omega arith)
 
+module _ (a b : List ℕ) where
+  two_agree : (j : ℕ) → get_or b j 0 ≡ get_or a j 0 → AgreeAt (a ∷ b ∷ []) j
+  two_agree j h = agree_from (a ∷ b ∷ []) j same
+    where
+      same : (k : ℕ) → k < 2 → get_or (get_or (a ∷ b ∷ []) k []) j 0 ≡ get_or a j 0
+      same zero lt = refl
+      same (suc zero) lt = h
+      same (suc (suc k)) lt = absurd (omega arith)
+
 first_agrees : AgreeAt versions 0
 unfolding versions
-first_agrees = agree_from versions 0 same
-  where
-    same : (k : ℕ) → k < 2 → get_or (get_or versions k []) 0 0 ≡ 1
-    same zero lt = refl
-    same (suc zero) lt = refl
-    same (suc (suc k)) lt = absurd (omega arith)
+first_agrees = two_agree (1 ∷ 2 ∷ 3 ∷ []) (1 ∷ 5 ∷ 3 ∷ []) 0 refl
 
 last_agrees : AgreeAt versions 2
 unfolding versions
-last_agrees = agree_from versions 2 same
-  where
-    same : (k : ℕ) → k < 2 → get_or (get_or versions k []) 2 0 ≡ 3
-    same zero lt = refl
-    same (suc zero) lt = refl
-    same (suc (suc k)) lt = absurd (omega arith)
+last_agrees = two_agree (1 ∷ 2 ∷ 3 ∷ []) (1 ∷ 5 ∷ 3 ∷ []) 2 refl
+
+-- from the last byte on they agree
+rest_agrees : (i : ℕ) → 2 ≤ i → AgreeAt versions i
+rest_agrees i low = elim (cases_lt i 3) [
+  | inl below ↦ let is : 2 ≡ i = omega arith in subst (AgreeAt versions) is last_agrees
+  | inr past ↦ agree_past versions 3 i three past
+]
 
 second_differs : DifferAt versions 1
 unfolding versions
 second_differs = differ_from versions 1 1 (omega arith) (λ same. absurd (omega arith))
 
+-- a region of one place
+region_at : (of : List (List ℕ)) (place end : ℕ) → place + 1 ≡ end → DifferAt of place → ((i : ℕ) → i < place → place ≤ i + SEPARATION → AgreeAt of i)
+    → ((i : ℕ) → end ≤ i → i < end + SEPARATION → AgreeAt of i) → IsRegion of place end
+region_at of place end next differ before after =
+    let last : place ≡ end - 1 = omega arith in
+    record {
+      some = omega arith;
+      first = differ;
+      last = subst (DifferAt of) last differ;
+      before = before;
+      after = after;
+      within = λ i low high here. absurd (omega arith);
+    }
+
 -- the region from the second byte up to the third
 region : IsRegion versions 1 2
 region =
-    record {
-      some = omega arith;
-      first = second_differs;
-      last = second_differs;
-      before = λ i lt near. let is : 0 ≡ i = omega arith in subst (AgreeAt versions) is first_agrees;
-      after = λ i low near. elim (cases_lt i 3) [
-        | inl below ↦ let is : 2 ≡ i = omega arith in subst (AgreeAt versions) is last_agrees
-        | inr past ↦ agree_past versions 3 i three past
-      ];
-      within = λ i low high here. absurd (omega arith);
-    }
+    region_at versions 1 2 refl second_differs (λ i lt near. let is : 0 ≡ i = omega arith in subst (AgreeAt versions) is first_agrees)
+    (λ i low near. rest_agrees i low)
 
 -- A byte that no version has there makes no combination.
 pub no_combination : IsCombination versions (1 ∷ 4 ∷ 3 ∷ []) → ⊥
@@ -74,10 +87,7 @@ alone start end h = elim (cases_lt start 2) [
     | inl high ↦ let one = one_region versions start end 1 2 h region low high in one
     | inr below ↦ let some = h.some in let is : 0 ≡ start = omega arith in absurd (h.first (subst (AgreeAt versions) is first_agrees))
   ]
-  | inr high ↦ absurd (h.first (elim (cases_lt start 3) [
-    | inl below ↦ let is : 2 ≡ start = omega arith in subst (AgreeAt versions) is last_agrees
-    | inr past ↦ agree_past versions 3 start three past
-  ]))
+  | inr high ↦ absurd (h.first (rest_agrees start high))
 ]
 
 -- ---- two versions that differ at the first place and at the last, with so many zeros between
@@ -134,25 +144,12 @@ one_of_both =
 -- sixty-four between, so at a distance of 65: two
 pub first_of_two : IsRegion (spread 64) 0 1
 first_of_two =
-    record {
-      some = omega arith;
-      first = start_differs 64;
-      last = start_differs 64;
-      before = λ i lt near. absurd (omega arith);
-      after = λ i low near. between_agrees 64 i (omega arith) (omega arith);
-      within = λ i low high here. absurd (omega arith);
-    }
+    region_at (spread 64) 0 1 refl (start_differs 64) (λ i lt near. absurd (omega arith)) (λ i low near. between_agrees 64 i (omega arith) (omega arith))
 
 pub second_of_two : IsRegion (spread 64) 65 66
 second_of_two =
-    record {
-      some = omega arith;
-      first = end_differs 64;
-      last = end_differs 64;
-      before = λ i lt near. between_agrees 64 i (omega arith) (omega arith);
-      after = λ i low near. agree_past (spread 64) 66 i (long 64) low;
-      within = λ i low high here. absurd (omega arith);
-    }
+    region_at (spread 64) 65 66 refl (end_differs 64) (λ i lt near. between_agrees 64 i (omega arith) (omega arith))
+    (λ i low near. agree_past (spread 64) 66 i (long 64) low)
 
 -- and so not one
 pub not_of_both : IsRegion (spread 64) 0 66 → ⊥
@@ -164,23 +161,15 @@ not_of_both h =
 -- ---- the seams and the segments of these two
 
 module _ (a b : List ℕ) where
-  two_agree : (j : ℕ) → get_or b j 0 ≡ get_or a j 0 → AgreeAt (a ∷ b ∷ []) j
-  two_agree j h = agree_from (a ∷ b ∷ []) j same
-    where
-      same : (k : ℕ) → k < 2 → get_or (get_or (a ∷ b ∷ []) k []) j 0 ≡ get_or a j 0
-      same zero lt = refl
-      same (suc zero) lt = h
-      same (suc (suc k)) lt = absurd (omega arith)
-
   -- where two of them differ somewhere, they differ wherever any do
   two_differ : (i j : ℕ) (one other : List ℕ) → Contains (a ∷ b ∷ []) one → Contains (a ∷ b ∷ []) other
       → (get_or one i 0 ≡ get_or other i 0 → ⊥) → DifferAt (a ∷ b ∷ []) j → get_or one j 0 ≡ get_or other j 0 → ⊥
   two_differ i j one other (zero, lt, is) (zero, less, it) apart differ same = apart (ap (λ v. get_or v i 0) (sym is ∙ it))
   two_differ i j one other (suc zero, lt, is) (suc zero, less, it) apart differ same = apart (ap (λ v. get_or v i 0) (sym is ∙ it))
   two_differ i j one other (zero, lt, is) (suc zero, less, it) apart differ same =
-      differ (two_agree j (ap (λ v. get_or v j 0) it ∙ sym same ∙ ap (λ v. get_or v j 0) (sym is)))
+      differ (two_agree a b j (ap (λ v. get_or v j 0) it ∙ sym same ∙ ap (λ v. get_or v j 0) (sym is)))
   two_differ i j one other (suc zero, lt, is) (zero, less, it) apart differ same =
-      differ (two_agree j (ap (λ v. get_or v j 0) is ∙ same ∙ ap (λ v. get_or v j 0) (sym it)))
+      differ (two_agree a b j (ap (λ v. get_or v j 0) is ∙ same ∙ ap (λ v. get_or v j 0) (sym it)))
   two_differ i j one other (suc (suc k), lt, is) here apart differ same = absurd (omega arith)
   two_differ i j one other (zero, lt, is) (suc (suc k), less, it) apart differ same = absurd (omega arith)
   two_differ i j one other (suc zero, lt, is) (suc (suc k), less, it) apart differ same = absurd (omega arith)
@@ -205,34 +194,10 @@ only_ends space i differ = elim (cases_lt 0 i) [
 ]
 
 module _ (distance space : ℕ) where
-  begins_at : (place : ℕ) → DifferAt (spread space) place → ((i : ℕ) → i < place → place ≤ i + distance → AgreeAt (spread space) i)
-      → IsSeam distance (spread space) place
-  begins_at place differ quiet =
-      let two = two_of (spread space) place differ in
-      record {
-        one = two.one;
-        other = two.other;
-        one_there = two.one_there;
-        other_there = two.other_there;
-        parted = inl (record { differ = two.differ; before = λ i lt near. quiet i lt near two.one two.other two.one_there two.other_there });
-      }
-
-  ends_at : (last : ℕ) → DifferAt (spread space) last → ((i : ℕ) → last < i → i ≤ last + distance → AgreeAt (spread space) i)
-      → IsSeam distance (spread space) (last + 1)
-  ends_at last differ quiet =
-      let two = two_of (spread space) last differ in
-      record {
-        one = two.one;
-        other = two.other;
-        one_there = two.one_there;
-        other_there = two.other_there;
-        parted = inr (record {
-          last = last;
-          next = refl;
-          differ = two.differ;
-          after = λ i low near. quiet i (omega arith) (omega arith) two.one two.other two.one_there two.other_there;
-        });
-      }
+  -- their end is a seam
+  end_is_seam : IsSeam distance (spread space) (space + 2)
+  end_is_seam = seam_after distance (spread space) (space + 1) (space + 2) (omega arith) (end_differs space)
+      (λ i low near. agree_past (spread space) (space + 2) i (long space) low)
 
   -- where the two places are further apart than the distance, each is a segment
   two_segments : distance ≤ space → IsSegment distance (spread space) 0 1 × IsSegment distance (spread space) (space + 1) (space + 2)
@@ -240,16 +205,13 @@ module _ (distance space : ℕ) where
     record {
       some = omega arith;
       first = inl refl;
-      last = inl (ends_at 0 (start_differs space) (λ i low near. between_agrees space i low (omega arith)));
+      last = inl (seam_after distance (spread space) 0 1 refl (start_differs space) (λ i low near. between_agrees space i low (omega arith)));
       within = λ i low lt seam. absurd (omega arith);
     },
     record {
       some = omega arith;
-      first = inr (begins_at (space + 1) (end_differs space) (λ i lt near. between_agrees space i (omega arith) lt));
-      last =
-          let is : space + 1 + 1 ≡ space + 2 = omega arith in
-          inl (subst (IsSeam distance (spread space)) is (ends_at (space + 1) (end_differs space)
-          (λ i low near. agree_past (spread space) (space + 2) i (long space) (omega arith))));
+      first = inr (seam_before distance (spread space) (space + 1) (end_differs space) (λ i lt near. between_agrees space i (omega arith) lt));
+      last = inl end_is_seam;
       within = λ i low lt seam. absurd (omega arith);
     },
   )
@@ -260,10 +222,7 @@ module _ (distance space : ℕ) where
       record {
         some = omega arith;
         first = inl refl;
-        last =
-            let is : space + 1 + 1 ≡ space + 2 = omega arith in
-            inl (subst (IsSeam distance (spread space)) is (ends_at (space + 1) (end_differs space)
-            (λ i low close. agree_past (spread space) (space + 2) i (long space) (omega arith))));
+        last = inl end_is_seam;
         within = λ i low lt seam. elim seam.parted [
           | inl begins ↦ elim (only_ends space i (λ agree. begins.differ (agree seam.one seam.other seam.one_there seam.other_there))) [
             | inl none ↦ omega arith

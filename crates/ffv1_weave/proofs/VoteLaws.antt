@@ -1,7 +1,6 @@
 -- Laws of votes.
-use Rattle.std.proofs.Common.{◌≡◌, ℕ, List, get_or, Option, Result, Vec, Global, sym, ap, ◌∙◌, arith, inl, inr}
+use Rattle.std.proofs.Common.{◌≡◌, ℕ, List, get_or, sym, ap, ◌∙◌, arith, inl, inr}
 use Rattle.std.specs.Prelude.{sum}
-use Rattle.std.specs.declared.alloc.AllocError.{AllocError}
 use Rattle.std.proofs.lemmas.List.{ext_get_or}
 use Rattle.ffv1_slice.specs.Members.{HasSameMembers}
 use Rattle.ffv1_weave.specs.Combinations.{IsCombinationBy}
@@ -11,8 +10,8 @@ use Rattle.ffv1_weave.specs.declared.grains.Grain.{Grain}
 use Rattle.ffv1_weave.specs.declared.grains.Grain.TheVariants.{Regions}
 use Rattle.ffv1_weave.proofs.Numbering.{one_number}
 use Rattle.ffv1_weave.proofs.Tried.{few_or_many}
-use Rattle.ffv1_weave.proofs.Returned.{IsReturnedBy, returned_as}
-use Rattle.ffv1_weave.proofs.WeaveLaws.{same_back, combination_as, has_few_as, has_many_as}
+use Rattle.ffv1_weave.proofs.Returned.{RestsOnMembers, only_as}
+use Rattle.ffv1_weave.proofs.WeaveLaws.{combination_as, has_few_as, has_many_as}
 
 module _ (versions others : List (List ℕ)) (same : HasSameMembers versions others) where
   three_as : AreThree versions → AreThree others
@@ -47,14 +46,10 @@ module _ (versions others : List (List ℕ)) (same : HasSameMembers versions oth
     | inr many ↦ inr (has_many_as versions others same grain many.0, many.1)
   ]
 
-pub vote_of_as : (versions others : List (List ℕ)) → HasSameMembers versions others → (bytes : List ℕ) (count : ℕ) → IsVoteOf versions bytes count
-    → IsVoteOf others bytes count
+pub vote_of_as : RestsOnMembers IsVoteOf
 vote_of_as versions others same bytes count h =
     record {
-      only = record {
-        there = vote_as versions others same bytes h.only.there;
-        others = λ other vote. h.only.others other (vote_as others versions (same_back versions others same) other vote);
-      };
+      only = only_as IsVote vote_as versions others same bytes h.only;
       tried = h.tried;
       all = h.all;
       each = λ k lt. tried_by_as versions others same (get_or votes k Regions) (get_or h.tried k 0) (h.each k lt);
@@ -93,9 +88,3 @@ same_versions_vote =
 
 pub original_is_voted : OriginalIsVoted
 original_is_voted original versions bytes count original_there h = sym (h.only.others original original_there)
-
--- what is returned for versions is right for others with the same members
-pub returned_vote_as : (versions others : List (List ℕ)) → HasSameMembers versions others → (returned : Result (Option (Vec ℕ Global × ℕ)) AllocError)
-    → IsReturnedBy (IsVoteOf versions) returned → IsReturnedBy (IsVoteOf others) returned
-returned_vote_as versions others same =
-    returned_as (IsVoteOf versions) (IsVoteOf others) (vote_of_as versions others same) (vote_of_as others versions (same_back versions others same))

@@ -3,25 +3,25 @@
 -- twice.
 use Rattle.std.proofs.Common.{◌≡◌, ℕ, zero, suc, ◌+◌, ◌<◌, ◌≤◌, List, [], ◌∷◌, length, get_or, refl, sym, ap, ◌∙◌, subst, arith, inl, inr}
 use Rattle.std.specs.Prelude.{◌⊎◌, All, Contains, slice_range}
+use Rattle.std.proofs.lemmas.Bool.{cases_lt}
 use Rattle.ffv1_slice.specs.Members.{HasSameMembers}
 use Rattle.ffv1_weave.specs.Regions.{HaveLength, AgreeAt}
-use Rattle.ffv1_weave.specs.Numbers.{AreNumbered}
 use Rattle.ffv1_weave.specs.Seams.{IsSeam}
-use Rattle.ffv1_weave.specs.Grains.{HasChoice, IsMost, IsChoiceBy, votes}
+use Rattle.ffv1_weave.specs.Grains.{IsMost, IsChoiceBy, votes}
 use Rattle.ffv1_weave.specs.Combinations.{IsCombinationBy, HasFew}
 use Rattle.ffv1_weave.specs.Inner.Parts.{Part, AreChoicesBy, IsPartFrom, AreFewParts, IsFit}
 use Rattle.ffv1_weave.specs.Votes.{AreThree, AreTriedBy, IsVoteOf}
 use Rattle.ffv1_weave.specs.declared.grains.Grain.{Grain}
 use Rattle.ffv1_weave.specs.declared.grains.Grain.TheVariants.{Regions, Most}
 use Rattle.ffv1_weave.proofs.Agreeing.{agree_from}
-use Rattle.ffv1_weave.proofs.Numbering.{one_number}
 use Rattle.ffv1_weave.proofs.ChoiceSteps.{alone}
-use Rattle.ffv1_weave.proofs.MostSteps.{have_none, have_same, have_more, most_of, choices_fit}
+use Rattle.ffv1_weave.proofs.MostSteps.{choices_fit}
+use Rattle.ffv1_weave.proofs.SeamSteps.{seam_of}
+use Rattle.ffv1_weave.proofs.ThreeVersions.{of_each, votes_of, is_most, is_not_most}
 use Rattle.ffv1_weave.proofs.Finest.{has_few}
 use Rattle.ffv1_weave.proofs.WeaveSteps.{HaveFewParts, chosen_where}
 use Rattle.ffv1_weave.proofs.VoteLaws.{vote_of_as}
 use Rattle.ffv1_weave.proofs.VoteSteps.{no_vote_of_two}
-use Rattle.ffv1_weave.proofs.MostVectors.{none_there}
 use Rattle.ffv1_weave.proofs.RepairVectors.{small_slice, small_passes}
 
 abbrev original : List ℕ
@@ -48,20 +48,17 @@ other_there = (1, omega arith, refl)
 third_there : Contains three third
 third_there = (2, omega arith, refl)
 
-not_one : Contains (one ∷ []) other → ⊥
-not_one (zero, lt, is) = let e = ap (λ z. get_or z 0 0) is in omega arith
-not_one (suc k, lt, is) = omega arith
+one_other : one ≡ other → ⊥
+one_other same = let e = ap (λ z. get_or z 0 0) same in absurd (omega arith)
 
-not_two : Contains (one ∷ other ∷ []) third → ⊥
-not_two (zero, lt, is) = let e = ap (λ z. get_or z 0 0) is in omega arith
-not_two (suc zero, lt, is) = let e = ap (λ z. get_or z 1 0) is in omega arith
-not_two (suc (suc k), lt, is) = omega arith
+one_third : one ≡ third → ⊥
+one_third same = let e = ap (λ z. get_or z 0 0) same in absurd (omega arith)
+
+other_third : other ≡ third → ⊥
+other_third same = let e = ap (λ z. get_or z 1 0) same in absurd (omega arith)
 
 long : HaveLength three 9
-long version (zero, lt, is) = ap length (sym is)
-long version (suc zero, lt, is) = ap length (sym is)
-long version (suc (suc zero), lt, is) = ap length (sym is)
-long version (suc (suc (suc k)), lt, is) = absurd (omega arith)
+long = of_each one other third (λ version. length version ≡ 9) refl refl refl
 
 rest_agrees : (i : ℕ) → 3 ≤ i → AgreeAt three i
 rest_agrees zero low = absurd (omega arith)
@@ -80,51 +77,30 @@ rest_agrees (suc (suc (suc i))) low = agree_from three (suc (suc (suc i))) same
 module _ (distance : ℕ) where
   -- the second and the third version differ from the second byte on
   seam_one : IsSeam distance three 1
-  seam_one =
-      record {
-        one = other;
-        other = third;
-        one_there = other_there;
-        other_there = third_there;
-        parted = inl (record { differ = λ same. absurd (omega arith); before = before });
-      }
+  seam_one = seam_of distance three 1 other third other_there third_there (inl (record { differ = λ same. absurd (omega arith); before = before }))
     where
       before : (i : ℕ) → i < 1 → 1 ≤ i + distance → get_or other i 0 ≡ get_or third i 0
       before zero lt near = refl
       before (suc i) lt near = absurd (omega arith)
 
+  -- two versions that are the same after a place where they differ
+  seam_past : (last : ℕ) (a b : List ℕ) → Contains three a → Contains three b → (get_or a last 0 ≡ get_or b last 0 → ⊥)
+      → ((i : ℕ) → last < i → get_or a i 0 ≡ get_or b i 0) → IsSeam distance three (last + 1)
+  seam_past last a b there here apart same =
+      seam_of distance three (last + 1) a b there here
+      (inr (record { last = last; next = refl; differ = apart; after = λ i low lt. same i (omega arith) }))
+
   -- the first and the second version differ up to the third byte
   seam_two : IsSeam distance three 2
-  seam_two =
-      record {
-        one = one;
-        other = other;
-        one_there = one_there;
-        other_there = other_there;
-        parted = inr (record { last = 1; next = refl; differ = λ same. absurd (omega arith); after = after });
-      }
-    where
-      after : (i : ℕ) → 2 ≤ i → i < 2 + distance → get_or one i 0 ≡ get_or other i 0
-      after zero low lt = absurd (omega arith)
-      after (suc zero) low lt = absurd (omega arith)
-      after (suc (suc i)) low lt = refl
+  seam_two = seam_past 1 one other one_there other_there (λ same. absurd (omega arith)) (λ i low. elim (cases_lt 2 i) [
+    | inl past ↦ rest_agrees i past one other one_there other_there
+    | inr here ↦ let is : 2 ≡ i = omega arith in subst (λ n. get_or one n 0 ≡ get_or other n 0) is refl
+  ])
 
   -- the first and the third version differ up to the fourth
   seam_three : IsSeam distance three 3
   seam_three =
-      record {
-        one = one;
-        other = third;
-        one_there = one_there;
-        other_there = third_there;
-        parted = inr (record { last = 2; next = refl; differ = λ same. absurd (omega arith); after = after });
-      }
-    where
-      after : (i : ℕ) → 3 ≤ i → i < 3 + distance → get_or one i 0 ≡ get_or third i 0
-      after zero low lt = absurd (omega arith)
-      after (suc zero) low lt = absurd (omega arith)
-      after (suc (suc zero)) low lt = absurd (omega arith)
-      after (suc (suc (suc i))) low lt = refl
+      seam_past 2 one third one_there third_there (λ same. absurd (omega arith)) (λ i low. rest_agrees i low one third one_there third_there)
 
   next : (start : ℕ) → (start ≡ 0) ⊎ IsSeam distance three start → IsSeam distance three (start + 1) → IsPartFrom (Most distance) three start start (start + 1)
   next start first last =
@@ -136,95 +112,34 @@ module _ (distance : ℕ) where
 
 -- ---- what most have: at each of the three places two versions have the byte of the original, and one has another
 
-two_first : AreNumbered (HasChoice three 0 1 (0x5A ∷ [])) 2
-two_first =
-    have_more 0 1 (0x5A ∷ []) (one ∷ other ∷ []) third 1 not_two refl
-    (have_more 0 1 (0x5A ∷ []) (one ∷ []) other 0 not_one refl
-    (have_same 0 1 (0x5A ∷ []) [] one 0 (λ is. let e = ap (λ z. get_or z 0 0) is in absurd (omega arith))
-    (have_none 0 1 (0x5A ∷ []))))
+module _ (place : ℕ) where
+  -- how many have a byte
+  abbrev votes_for : List ℕ → ℕ
+  votes_for choice = votes_of one other third one_other one_third other_third place (place + 1) choice
 
-one_first : AreNumbered (HasChoice three 0 1 (0x5B ∷ [])) 1
-one_first =
-    have_same 0 1 (0x5B ∷ []) (one ∷ other ∷ []) third 1 (λ is. let e = ap (λ z. get_or z 0 0) is in absurd (omega arith))
-    (have_same 0 1 (0x5B ∷ []) (one ∷ []) other 1 (λ is. let e = ap (λ z. get_or z 0 0) is in absurd (omega arith))
-    (have_more 0 1 (0x5B ∷ []) [] one 0 (none_there one) refl
-    (have_none 0 1 (0x5B ∷ []))))
+  -- a version has the one or the other
+  abbrev HasEither : List ℕ → List ℕ → List ℕ → Type 0
+  HasEither right wrong version = (right ≡ slice_range version place (place + 1)) ⊎ (wrong ≡ slice_range version place (place + 1))
 
-two_second : AreNumbered (HasChoice three 1 2 (0x00 ∷ [])) 2
-two_second =
-    have_more 1 2 (0x00 ∷ []) (one ∷ other ∷ []) third 1 not_two refl
-    (have_same 1 2 (0x00 ∷ []) (one ∷ []) other 1 (λ is. let e = ap (λ z. get_or z 0 0) is in absurd (omega arith))
-    (have_more 1 2 (0x00 ∷ []) [] one 0 (none_there one) refl
-    (have_none 1 2 (0x00 ∷ []))))
+module _ (place : ℕ) (right wrong : List ℕ) (two : votes_for place right ≡ 2) (single : votes_for place wrong ≡ 1)
+    (some : (version : List ℕ) × Contains three version × (right ≡ slice_range version place (place + 1))) (first : HasEither place right wrong one)
+    (second : HasEither place right wrong other) (last : HasEither place right wrong third) where
+  either : (version : List ℕ) → Contains three version → HasEither place right wrong version
+  either = of_each one other third (HasEither place right wrong) first second last
 
-one_second : AreNumbered (HasChoice three 1 2 (0x01 ∷ [])) 1
-one_second =
-    have_same 1 2 (0x01 ∷ []) (one ∷ other ∷ []) third 1 (λ is. let e = ap (λ z. get_or z 0 0) is in absurd (omega arith))
-    (have_more 1 2 (0x01 ∷ []) (one ∷ []) other 0 not_one refl
-    (have_same 1 2 (0x01 ∷ []) [] one 0 (λ is. let e = ap (λ z. get_or z 0 0) is in absurd (omega arith))
-    (have_none 1 2 (0x01 ∷ []))))
-
-two_third : AreNumbered (HasChoice three 2 3 (0x00 ∷ [])) 2
-two_third =
-    have_same 2 3 (0x00 ∷ []) (one ∷ other ∷ []) third 2 (λ is. let e = ap (λ z. get_or z 0 0) is in absurd (omega arith))
-    (have_more 2 3 (0x00 ∷ []) (one ∷ []) other 1 not_one refl
-    (have_more 2 3 (0x00 ∷ []) [] one 0 (none_there one) refl
-    (have_none 2 3 (0x00 ∷ []))))
-
-one_third : AreNumbered (HasChoice three 2 3 (0x01 ∷ [])) 1
-one_third =
-    have_more 2 3 (0x01 ∷ []) (one ∷ other ∷ []) third 0 not_two refl
-    (have_same 2 3 (0x01 ∷ []) (one ∷ []) other 0 (λ is. let e = ap (λ z. get_or z 0 0) is in absurd (omega arith))
-    (have_same 2 3 (0x01 ∷ []) [] one 0 (λ is. let e = ap (λ z. get_or z 0 0) is in absurd (omega arith))
-    (have_none 2 3 (0x01 ∷ []))))
-
--- each version has the one or the other
-Either : (place : ℕ) → List ℕ → List ℕ → Type 0
-Either place right wrong =
-    (version : List ℕ) → Contains three version → (right ≡ slice_range version place (place + 1)) ⊎ (wrong ≡ slice_range version place (place + 1))
-
-either_first : Either 0 (0x5A ∷ []) (0x5B ∷ [])
-unfolding Either
-either_first version (zero, lt, is) = inr (ap (λ v. slice_range v 0 1) is)
-either_first version (suc zero, lt, is) = inl (ap (λ v. slice_range v 0 1) is)
-either_first version (suc (suc zero), lt, is) = inl (ap (λ v. slice_range v 0 1) is)
-either_first version (suc (suc (suc k)), lt, is) = absurd (omega arith)
-
-either_second : Either 1 (0x00 ∷ []) (0x01 ∷ [])
-unfolding Either
-either_second version (zero, lt, is) = inl (ap (λ v. slice_range v 1 2) is)
-either_second version (suc zero, lt, is) = inr (ap (λ v. slice_range v 1 2) is)
-either_second version (suc (suc zero), lt, is) = inl (ap (λ v. slice_range v 1 2) is)
-either_second version (suc (suc (suc k)), lt, is) = absurd (omega arith)
-
-either_third : Either 2 (0x00 ∷ []) (0x01 ∷ [])
-unfolding Either
-either_third version (zero, lt, is) = inl (ap (λ v. slice_range v 2 3) is)
-either_third version (suc zero, lt, is) = inl (ap (λ v. slice_range v 2 3) is)
-either_third version (suc (suc zero), lt, is) = inr (ap (λ v. slice_range v 2 3) is)
-either_third version (suc (suc (suc k)), lt, is) = absurd (omega arith)
-
-module _ (place : ℕ) (right wrong : List ℕ) (two : AreNumbered (HasChoice three place (place + 1) right) 2)
-    (single : AreNumbered (HasChoice three place (place + 1) wrong) 1) (either : Either place right wrong) where
-  abbrev Have : List ℕ → ℕ → Type 0
-  Have choice count = AreNumbered (HasChoice three place (place + 1) choice) count
+  no_more : (version : List ℕ) → HasEither place right wrong version → votes_for place (slice_range version place (place + 1)) ≤ votes_for place right
+  no_more version (inl is) = omega (arith, ap (votes_for place) is)
+  no_more version (inr is) = omega (arith, ap (votes_for place) is)
 
   right_is_most : IsMost three place (place + 1) right
-  unfolding Either
-  right_is_most = most_of three place (place + 1) right 2 two (λ version more there numbers. elim (either version there) [
-    | inl is ↦ let same = one_number (HasChoice three place (place + 1) right) more 2 (subst (λ p. Have p more) (sym is) numbers) two in omega arith
-    | inr is ↦ let same = one_number (HasChoice three place (place + 1) wrong) more 1 (subst (λ p. Have p more) (sym is) numbers) single in omega arith
-  ])
+  right_is_most =
+      is_most one other third one_other one_third other_third place (place + 1) right (no_more one first) (no_more other second) (no_more third last)
 
   wrong_is_not : IsMost three place (place + 1) wrong → ⊥
-  wrong_is_not h =
-      let same = one_number (HasChoice three place (place + 1) wrong) h.count 1 h.have single in
-      let more = h.others right 2 two in
-      omega arith
+  wrong_is_not = is_not_most one other third one_other one_third other_third place (place + 1) wrong right (omega arith)
 
   -- so the byte of the original alone can be taken
   taken : (distance : ℕ) → AreChoicesBy (Most distance) three place (place + 1) (right ∷ [])
-  unfolding Either
   taken distance =
       record {
         each = λ choice is. elim (either is.0.0 is.0.1) [
@@ -235,11 +150,8 @@ module _ (place : ℕ) (right wrong : List ℕ) (two : AreNumbered (HasChoice th
         once = λ j k low lt same. omega arith;
       }
     where
-      version_with : (version : List ℕ) × Contains three version × (right ≡ slice_range version place (place + 1))
-      version_with = let has = two.are 0 (omega arith) in (two.at 0, has.there, has.has)
-
       only : (k : ℕ) → k < 1 → IsChoiceBy (Most distance) three place (place + 1) (get_or (right ∷ []) k [])
-      only zero lt = (version_with, right_is_most)
+      only zero lt = (some, right_is_most)
       only (suc k) lt = absurd (omega arith)
 
 -- ---- one combination at each distance
@@ -251,13 +163,13 @@ parts =
 
 module _ (distance : ℕ) where
   first_taken : AreChoicesBy (Most distance) three 0 1 ((0x5A ∷ []) ∷ [])
-  first_taken = taken 0 (0x5A ∷ []) (0x5B ∷ []) two_first one_first either_first distance
+  first_taken = taken 0 (0x5A ∷ []) (0x5B ∷ []) refl refl (other, other_there, refl) (inr refl) (inl refl) (inl refl) distance
 
   second_taken : AreChoicesBy (Most distance) three 1 2 ((0x00 ∷ []) ∷ [])
-  second_taken = taken 1 (0x00 ∷ []) (0x01 ∷ []) two_second one_second either_second distance
+  second_taken = taken 1 (0x00 ∷ []) (0x01 ∷ []) refl refl (one, one_there, refl) (inl refl) (inr refl) (inl refl) distance
 
   third_taken : AreChoicesBy (Most distance) three 2 3 ((0x00 ∷ []) ∷ [])
-  third_taken = taken 2 (0x00 ∷ []) (0x01 ∷ []) two_third one_third either_third distance
+  third_taken = taken 2 (0x00 ∷ []) (0x01 ∷ []) refl refl (one, one_there, refl) (inl refl) (inl refl) (inr refl) distance
 
   fit : All (IsFit 9) parts
   fit zero d lt = choices_fit (Most distance) 0 1 three ((0x5A ∷ []) ∷ []) 9 long (omega arith) (omega arith) (omega arith) first_taken
@@ -309,9 +221,9 @@ three_differ =
       one_there = one_there;
       other_there = other_there;
       third_there = third_there;
-      one_other = λ same. let e = ap (λ z. get_or z 0 0) same in absurd (omega arith);
-      one_third = λ same. let e = ap (λ z. get_or z 0 0) same in absurd (omega arith);
-      other_third = λ same. let e = ap (λ z. get_or z 1 0) same in absurd (omega arith);
+      one_other = one_other;
+      one_third = one_third;
+      other_third = other_third;
     }
 
 -- The original is voted, of one combination at each of the four distances.

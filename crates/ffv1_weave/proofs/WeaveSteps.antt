@@ -184,6 +184,14 @@ module _ {grain : Grain} {parts : List Part} {count : ℕ} (versions : List (Bor
       let now = put_back len new items size (ap length new_is ∙ there.size ∙ sym alike.size) ∙ new_is in
       record { are = now; alike = subst (λ b. IsAlike (values_of versions) 0 b first) (sym now) there }
 
+  -- the first combination, as it is lent, still has what all versions have
+  pub first_alike : (len : ℕ) (new lent items : List ℕ) (parts_now : List Part) → new ≡ chosen parts_now 0 lent → parts_now ≡ parts → lent ≡ items
+      → IsAlike (values_of versions) 0 items first → len ≡ length items → (now : List ℕ) → now ≡ take len (new ++ drop (length new) items)
+      → IsAlike (values_of versions) 0 now first
+  first_alike len new lent items parts_now made is lent_is alike size now now_is =
+      let chosen_first = written_over 0 len new lent items parts_now (some_tried have) made is lent_is alike size in
+      subst (λ b. IsAlike (values_of versions) 0 b first) (sym now_is) chosen_first.alike
+
 -- ---- the weave of what is found
 
 -- what is woven of what is found among so many

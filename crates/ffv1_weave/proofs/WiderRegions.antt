@@ -67,33 +67,16 @@ module _ (versions : List (List ℕ)) where
         record { last = rest.last; beyond = omega arith; close = rest.close; after = rest.after }
   ]
 
+  -- a region, where they agree at enough places before it and after it
+  close_region : (start end : ℕ) → IsClose start end → ((i : ℕ) → i < start → start ≤ i + SEPARATION → AgreeAt versions i)
+      → ((i : ℕ) → end ≤ i → i < end + SEPARATION → AgreeAt versions i) → IsRegion versions start end
+  close_region start end h before after = record { some = h.some; first = h.first; last = h.last; before = before; after = after; within = h.within }
+
   to_first : (fuel start end : ℕ) → start ≤ fuel → IsClose start end → ((i : ℕ) → end ≤ i → i < end + SEPARATION → AgreeAt versions i)
       → (begin : ℕ) × (begin ≤ start) × IsRegion versions begin end
-  to_first zero start end past h after = (
-    start,
-    omega arith,
-    record {
-      some = h.some;
-      first = h.first;
-      last = h.last;
-      before = λ i lt near. absurd (omega arith);
-      after = after;
-      within = h.within;
-    },
-  )
+  to_first zero start end past h after = (start, omega arith, close_region start end h (λ i lt near. absurd (omega arith)) after)
   to_first (suc fuel) start end past h after = elim (some_differ versions (start - SEPARATION) (start - (start - SEPARATION))) [
-    | inl quiet ↦ (
-      start,
-      omega arith,
-      record {
-        some = h.some;
-        first = h.first;
-        last = h.last;
-        before = λ i lt near. quiet i (omega arith) (omega arith);
-        after = after;
-        within = h.within;
-      },
-    )
+    | inl quiet ↦ (start, omega arith, close_region start end h (λ i lt near. quiet i (omega arith) (omega arith)) after)
     | inr found ↦
         let low = found.1 in
         let lt = found.2 in

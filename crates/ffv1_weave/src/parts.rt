@@ -1,5 +1,6 @@
 //! The parts of versions with what these have there, and the combinations by number.
-ghost use Rattle.std.specs.Prelude.{◌≡◌, ◌≤◌, ◌<◌, ℕ, length, map, All, MatchOption, IfSome, IfOk};
+ghost use Rattle.std.specs.Prelude.{◌≡◌, ◌≤◌, ◌<◌, ℕ, [], length, map, All, MatchOption, IfSome, IfOk, slice_index_or};
+ghost use Rattle.ffv1_slice.specs.Members.{HasSameMembers};
 ghost use Rattle.ffv1_weave.specs.Regions.{AgreeAt};
 ghost use Rattle.ffv1_weave.specs.Combinations.{HasMany};
 ghost use Rattle.ffv1_weave.specs.Weave.{AreMany};
@@ -56,6 +57,22 @@ pub(crate) fn choices_between<'a>(
         }
     }
     Ok(choices)
+}
+
+/// The different versions, each once. There is one version at least, and all are as long as the first.
+pub(crate) fn distinct_versions<'a>(
+    alloc: Global,
+    versions: &[&'a [u8]],
+) -> Result<Vec<&'a [u8]>, AllocError>
+    requires some { 0 < length versions.now }
+    requires lengths { All (λ version. length version.now ≡ length (slice_index_or (map (λ version. version.now) versions.now) 0 [])) versions.now }
+    ensures same { IfOk result (λ distinct. HasSameMembers (map (λ version. version.now) versions.now) (map (λ version. version.now) distinct.items)) }
+    ensures some { IfOk result (λ distinct. 0 < length distinct.items) }
+    ensures lengths { IfOk result (λ distinct. All (λ version. length version.now ≡ length (slice_index_or (map (λ version. version.now) distinct.items) 0 []))
+        distinct.items) }
+    ensures distinct { IfOk result (λ distinct. AreDistinct (map (λ version. version.now) distinct.items)) }
+{
+    choices_between(alloc, versions, 0, versions[0].len())
 }
 
 /// The byte strings that can be taken between two places by a grain, each once. Each version has the places, and no two are equal.

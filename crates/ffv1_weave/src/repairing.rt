@@ -5,7 +5,7 @@ ghost use Rattle.ffv1_weave.specs.Inner.Parts.{AreDistinct};
 
 use crate::found::Found;
 use crate::inversions::with_inversions;
-use crate::parts::{choices_between, choose, finest_parts};
+use crate::parts::{choose, distinct_versions, finest_parts};
 use std::alloc::{AllocError, Global};
 
 /// The greatest number of repairs that are tried: each combination with each of its bits inverted. Where versions have more, none is.
@@ -32,7 +32,7 @@ pub fn repair(alloc: Global, versions: &[&[u8]]) -> Result<Option<(Vec<u8>, usiz
         ((bytes : List ℕ) (count : ℕ) → IsRepairOf (map (λ version. version.now) versions.now) bytes count → ⊥)
         (λ (bytes, count). IsRepairOf (map (λ version. version.now) versions.now) bytes.items count)) }
 {
-    let distinct = choices_between(alloc, versions, 0, versions[0].len())?;
+    let distinct = distinct_versions(alloc, versions)?;
     repair_distinct(alloc, distinct.as_slice())
 }
 

@@ -6,7 +6,7 @@ ghost use Rattle.ffv1_weave.specs.Votes.{IsVoteOf};
 use crate::check::Check;
 use crate::found::Found;
 use crate::grains::VOTES;
-use crate::parts::{choices_between, parts_by};
+use crate::parts::{distinct_versions, parts_by};
 use crate::trying::with_combinations;
 use std::alloc::{AllocError, Global};
 
@@ -33,7 +33,7 @@ pub fn vote(alloc: Global, versions: &[&[u8]]) -> Result<Option<(Vec<u8>, usize)
         ((bytes : List ℕ) (count : ℕ) → IsVoteOf (map (λ version. version.now) versions.now) bytes count → ⊥)
         (λ (bytes, count). IsVoteOf (map (λ version. version.now) versions.now) bytes.items count)) }
 {
-    let distinct = choices_between(alloc, versions, 0, versions[0].len())?;
+    let distinct = distinct_versions(alloc, versions)?;
     if distinct.len() < 3 {
         return Ok(None);
     }

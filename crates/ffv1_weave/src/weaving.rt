@@ -5,7 +5,7 @@ ghost use Rattle.ffv1_weave.specs.Inner.Parts.{AreDistinct};
 
 use crate::check::Check;
 use crate::found::Found;
-use crate::parts::{choices_between, finest_parts};
+use crate::parts::{distinct_versions, finest_parts};
 use crate::trying::with_combinations;
 use std::alloc::{AllocError, Global};
 
@@ -71,6 +71,6 @@ pub fn weave(alloc: Global, check: Check, versions: &[&[u8]]) -> Result<Outcome,
     requires lengths { All (λ version. length version.now ≡ length (slice_index_or (map (λ version. version.now) versions.now) 0 [])) versions.now }
     ensures { IfOk result (λ outcome. IsWeaveOf check (map (λ version. version.now) versions.now) (weave_tally outcome)) }
 {
-    let distinct = choices_between(alloc, versions, 0, versions[0].len())?;
+    let distinct = distinct_versions(alloc, versions)?;
     weave_distinct(alloc, check, distinct.as_slice())
 }

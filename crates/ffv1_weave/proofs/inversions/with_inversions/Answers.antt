@@ -35,9 +35,6 @@ with_bits_before-requires-clause-power c =
 pub with_bits_before-requires-clause-within : goal.with_bits_before-requires-clause-within
 with_bits_before-requires-clause-within c = c.loop-bit.invariant.within
 
-pub returns-in_err-found-clause-same : goal.returns-in_err-found-clause-same
-returns-in_err-found-clause-same c = c.with_bits_before.ensures.same ∙ c.loop-bit.invariant.same
-
 pub loop-bit-preserved : goal.loop-bit-preserved
 loop-bit-preserved c =
     let bytes : List ℕ = c.loop-bit.bytes in

@@ -1,20 +1,17 @@
 use Rattle.std.proofs.Common.{◌≡◌, ◌<◌, ℕ, List, length, true, false, arith, inl, inr, sym, ◌∙◌}
 use Rattle.std.specs.Prelude.{◌⊎◌}
-use Rattle.std.proofs.lemmas.Bool.{cases_lt, le-ltb, false≢true}
+use Rattle.std.proofs.lemmas.Bool.{le-ltb, false≢true}
 use Rattle.ffv1_weave.specs.Seams.{IsSeam}
 use Rattle.ffv1_weave.proofs.References.{values_of, length-values_of, each_value}
-use Rattle.ffv1_weave.proofs.Agreeing.{agree_past}
+use Rattle.ffv1_weave.proofs.Agreeing.{agree_on}
 use Rattle.ffv1_weave.proofs.SeamSteps.{segment_after}
 use Rattle.ffv1_weave.proofs.segments.segment_from.Goals as goal
 use Rattle.ffv1_weave.proofs.segments.segment_from.Goals.{then-from-first, else-from-first, then-seam, else-seam}
 
 pub returns-then-first-size-clause-part : goal.returns-then-first-size-clause-part
-returns-then-first-size-clause-part c = λ i low.
-    elim (cases_lt i c.first_from-first.result) [
-      | inl below ↦ c.first_from-first.ensures.until i low below
-      | inr above ↦ agree_past (values_of c.args.versions.now) c.args.size i
-          (each_value c.args.versions.now (λ version. length version ≡ c.args.size) c.requires.lengths) (omega arith)
-    ]
+returns-then-first-size-clause-part c =
+    agree_on (values_of c.args.versions.now) c.args.size c.args.from c.first_from-first.result
+    (each_value c.args.versions.now (λ version. length version ≡ c.args.size) c.requires.lengths) (omega arith) c.first_from-first.ensures.until
 
 pub returns-clause-part : goal.returns-clause-part
 returns-clause-part c =

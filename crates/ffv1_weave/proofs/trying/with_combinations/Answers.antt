@@ -1,14 +1,13 @@
-use Rattle.std.proofs.Common.{◌≡◌, ◌<◌, ℕ, List, [], ◌∷◌, ◌++◌, Vec, Global, length, get_or, map, arith, ap, sym, ◌∙◌, subst}
+use Rattle.std.proofs.Common.{◌≡◌, ◌<◌, ℕ, List, [], ◌∷◌, ◌++◌, Vec, Global, length, get_or, map, arith, ap, sym, ◌∙◌, subst, refl}
 use Rattle.std.specs.Prelude.{All}
 use Rattle.std.proofs.lemmas.List.{length-map, get_or-map}
 use Rattle.ffv1_weave.specs.Inner.Found.{IsFoundAmong}
 use Rattle.ffv1_weave.specs.Inner.Parts.{Part, chosen, chosen_below}
 use Rattle.ffv1_weave.specs.Inner.Changes.{remainder_in}
 use Rattle.ffv1_weave.proofs.References.{values_of}
-use Rattle.ffv1_weave.proofs.Choices.{IsAlike}
 use Rattle.ffv1_weave.proofs.Linear.{changes_some, passes_leaves_none}
 use Rattle.ffv1_weave.proofs.FoundSteps.{found_skipped}
-use Rattle.ffv1_weave.proofs.WeaveSteps.{have_few_parts, some_tried, alike_first, tables_are, tables_fit, left_is, written_over, next_below}
+use Rattle.ffv1_weave.proofs.WeaveSteps.{have_few_parts, first_alike, alike_first, tables_are, tables_fit, left_is, written_over, next_below}
 use Rattle.ffv1_weave.proofs.trying.with_combinations.Goals as goal
 
 -- what a table has
@@ -18,19 +17,17 @@ entries tables = map (λ table. table.items) tables
 pub loop-code-init : goal.loop-code-init
 loop-code-init c =
     let have = have_few_parts c.args.versions.now c.requires.some c.requires.lengths c.requires.few.1 in
-    let start = written_over c.args.versions.now have 0 c.in_ok-bytes.bytes.len c.choose.new.bytes _ c.in_ok-bytes.bytes.items _ (some_tried have) c.choose.ensures
+    let alike = first_alike c.args.versions.now have c.in_ok-bytes.bytes.len c.choose.new.bytes _ c.in_ok-bytes.bytes.items _ c.choose.ensures
     c.as_slice.ensures.value c.deref_mut.ensures.value (alike_first c.args.versions.now have c.in_ok-bytes.bytes.items c.in_ok-bytes.ensures.items)
-    c.in_ok-bytes.bytes.ok.0 in
-    record { alike = start.alike; found = λ others h. h }
+    c.in_ok-bytes.bytes.ok.0 _ refl in
+    record { alike = alike; found = λ others h. h }
 
 pub changed-requires : goal.changed-requires
 changed-requires c =
     let have = have_few_parts c.args.versions.now c.requires.some c.requires.lengths c.requires.few.1 in
-    let start = written_over c.args.versions.now have 0 c.in_ok-bytes.bytes.len c.choose.new.bytes _ c.in_ok-bytes.bytes.items _ (some_tried have) c.choose.ensures
+    let alike = first_alike c.args.versions.now have c.in_ok-bytes.bytes.len c.choose.new.bytes _ c.in_ok-bytes.bytes.items _ c.choose.ensures
     c.as_slice.ensures.value c.deref_mut.ensures.value (alike_first c.args.versions.now have c.in_ok-bytes.bytes.items c.in_ok-bytes.ensures.items)
-    c.in_ok-bytes.bytes.ok.0 in
-    let alike : IsAlike (values_of c.args.versions.now) 0 c.as_slice-3.result.now (get_or (values_of c.args.versions.now) 0 []) =
-    subst (λ b. IsAlike (values_of c.args.versions.now) 0 b (get_or (values_of c.args.versions.now) 0 [])) (sym c.as_slice-3.ensures.value) start.alike in
+    c.in_ok-bytes.bytes.ok.0 _ c.as_slice-3.ensures.value in
     let tables = tables_are c.args.versions.now have c.args.check c.as_slice-3.result.now alike _ _
     (ap entries c.as_slice-in-loop-code.ensures.value ∙ c.in_ok-tables.ensures) c.as_slice-4.ensures.value in
     let fit = tables_fit c.args.versions.now have c.args.check c.as_slice-3.result.now alike _ _
@@ -48,11 +45,9 @@ loop-code-preserved-then-changed-ne0 c =
     let first : List ℕ = get_or (values_of c.args.versions.now) 0 [] in
     let code : ℕ = c.loop-code.code in
     let have = have_few_parts c.args.versions.now c.requires.some c.requires.lengths c.requires.few.1 in
-    let start = written_over c.args.versions.now have 0 c.in_ok-bytes.bytes.len c.choose.new.bytes _ c.in_ok-bytes.bytes.items _ (some_tried have) c.choose.ensures
+    let alike = first_alike c.args.versions.now have c.in_ok-bytes.bytes.len c.choose.new.bytes _ c.in_ok-bytes.bytes.items _ c.choose.ensures
     c.as_slice.ensures.value c.deref_mut.ensures.value (alike_first c.args.versions.now have c.in_ok-bytes.bytes.items c.in_ok-bytes.ensures.items)
-    c.in_ok-bytes.bytes.ok.0 in
-    let alike : IsAlike (values_of c.args.versions.now) 0 c.as_slice-3.result.now (get_or (values_of c.args.versions.now) 0 []) =
-    subst (λ b. IsAlike (values_of c.args.versions.now) 0 b (get_or (values_of c.args.versions.now) 0 [])) (sym c.as_slice-3.ensures.value) start.alike in
+    c.in_ok-bytes.bytes.ok.0 _ c.as_slice-3.ensures.value in
     let left = left_is c.args.versions.now have c.args.check c.as_slice-3.result.now alike _ _
     (ap entries c.as_slice-in-loop-code.ensures.value ∙ c.in_ok-tables.ensures) c.as_slice-4.ensures.value code c.remainder-base.result c.changed.result
     (c.remainder-base.ensures ∙ ap (remainder_in c.args.check) (c.as_slice-2.ensures.value ∙ sym c.as_slice-3.ensures.value)) c.changed.ensures in

@@ -1,0 +1,26 @@
+use Rattle.std.proofs.Common.{◌≡◌, ◌<◌, ℕ, List, [], Bor, length, get_or}
+use Rattle.std.specs.Prelude.{All}
+use Rattle.std.proofs.lemmas.Result.{IfOk-weaker}
+use Rattle.ffv1_slice.specs.Members.{HasSameMembers}
+use Rattle.ffv1_weave.specs.Inner.Parts.{AreChoices, AreDistinct}
+use Rattle.ffv1_weave.proofs.References.{values_of, nowhere}
+use Rattle.ffv1_weave.proofs.Distinct.{distinct_same, distinct_some, distinct_lengths}
+use Rattle.ffv1_weave.proofs.parts.distinct_versions.Goals as goal
+
+pub returns : goal.returns
+returns c =
+    let versions : List (Bor (List ℕ)) = c.args.versions.now in
+    let some = c.requires.some in
+    let lengths = c.requires.lengths in
+    let of : (Is : List (Bor (List ℕ)) → Type 0)
+    → ((distinct : List (Bor (List ℕ))) → AreChoices (values_of versions) 0 (length (get_or versions 0 nowhere).now) (values_of distinct) → Is distinct)
+    → _ = λ Is is. IfOk-weaker c.choices_between.result
+    (λ distinct. AreChoices (values_of versions) 0 (length (get_or versions 0 nowhere).now) (values_of distinct.items)) (λ distinct. Is distinct.items)
+    (λ distinct choices. is distinct.items choices) c.choices_between.ensures in
+    record {
+      same = of (λ distinct. HasSameMembers (values_of versions) (values_of distinct)) (λ distinct. distinct_same versions distinct some lengths);
+      some = of (λ distinct. 0 < length distinct) (λ distinct. distinct_some versions distinct some lengths);
+      lengths = of (λ distinct. All (λ version. length version.now ≡ length (get_or (values_of distinct) 0 [])) distinct)
+          (λ distinct. distinct_lengths versions distinct some lengths);
+      distinct = of (λ distinct. AreDistinct (values_of distinct)) (λ distinct choices. choices.once);
+    }
