@@ -1,15 +1,17 @@
 -- The frame that is filled: what is settled down and up, and what the hole is divided to.
-use Rattle.std.proofs.Common.{◌≡◌, ℕ, zero, suc, ◌+◌, ◌-◌, ◌≤◌, List, ◌++◌, length, get_or, take, drop, refl, sym, ap, ◌∙◌, subst, arith, take-append-drop}
+use Rattle.std.proofs.Common.{◌≡◌, ℕ, zero, suc, ◌+◌, ◌-◌, ◌≤◌, List, Bor, ◌++◌, length, get_or, take, drop, refl, sym, ap, ◌∙◌, subst, arith, take-append-drop}
 use Rattle.std.specs.Prelude.{All, Contains, reverse, slice_range}
 use Rattle.std.proofs.Math.Seq.{drop-append_seam}
 use Rattle.std.proofs.lemmas.List.{length-append, length-drop, length-take-le, take-append-le, drop-drop}
 use Rattle.std.proofs.lemmas.Slice.{take-put_mid, take-put_mid_below, between-put_mid, drop-put_mid}
 use borrow.Rule.Slice.PartMut.{put_mid}
 use Rattle.ffv1_slice.proofs.NearLaws.{length-range}
+use Rattle.ffv1_weave.proofs.References.{values_of, each_value}
 use Rattle.ffv1_splice.specs.Standings.{versions_at}
 use Rattle.ffv1_splice.specs.Splice.{SplicedValue, LieFrom, IsWalkDown, IsBound, IsWalkUp, Leg, IsWalkAcross, leg_places, IsDivisionOf, IsSpliceOf, hole_places, front_of}
 use Rattle.ffv1_splice.specs.declared.place.Place.{Place}
 use Rattle.ffv1_splice.proofs.Versions.{version_of}
+use Rattle.ffv1_splice.proofs.BoundSteps.{bound_within}
 use Rattle.ffv1_splice.proofs.Walks.{stands_below, front_below, ends_below}
 use Rattle.ffv1_splice.proofs.SettlingSteps.{take_earlier, down_kept}
 use Rattle.ffv1_splice.proofs.Crossings.{walk_kept, legs_order, legs_kept}
@@ -51,6 +53,38 @@ length-below down up bound end front below within =
     let sum = length-append up (drop bound down) in
     let rest = length-drop bound down in
     omega arith
+
+-- where a hole lies, between what was settled down and what was settled up
+pub record IsHole (down up : List ℕ) (start bound end : ℕ) : Type 0 where
+  pub low : start ≤ bound
+  pub below : bound ≤ end
+  pub within : end ≤ length down
+  pub long : length (take bound down) ≡ bound
+  pub front : length up ≡ bound
+
+pub is_hole : (copies : List (List ℕ)) (down up : List ℕ) (start bound end : ℕ) → IsBound copies end bound → end ≤ length down
+    → length up ≡ length (take bound down) → start ≤ length up → IsHole down up start bound end
+is_hole copies down up start bound end room within same low =
+    let below = bound_within copies end bound room in
+    let long = length-take-le bound down (omega arith) in
+    record { low = omega arith; below = below; within = within; long = long; front = same ∙ long }
+
+-- where its places lie, and their front
+pub hole_within : (copies : List (Bor (List ℕ))) (payload down up : List ℕ) (start bound end : ℕ) (places : List Place) (front : ℕ) (hole : List ℕ)
+    (versions : List (List ℕ)) → IsHole down up start bound end → All (λ copy. length copy.now ≡ length payload) copies → length down ≡ length payload
+    → versions ≡ versions_at (values_of copies) start end → IsDivisionOf versions (record { places = places; front = front; payload = hole })
+    → All (λ place. place.start ≤ place.end × start + place.end ≤ end) places × (start + front ≤ end)
+hole_within copies payload down up start bound end places front hole versions at one same are is =
+    let all : List (List ℕ) = versions_at (values_of copies) start end in
+    let divided : SplicedValue = record { places = places; front = front; payload = hole } in
+    let order : start ≤ end = let low = at.low in let below = at.below in omega arith in
+    let here : IsDivisionOf all divided = subst (λ vs. IsDivisionOf vs divided) are is in
+    let within : end ≤ length payload = let reach = at.within in omega arith in
+    let long : length hole ≡ end - start =
+    division_long (values_of copies) start end (length payload) divided (each_value copies (λ copy. length copy ≡ length payload) one) order within here in (
+      λ k d lt. let place = division_within all divided here k d lt in (place.0, let inside = place.1 in omega arith),
+      let low = front_within all divided here in omega arith,
+    )
 
 -- what was settled down, over its front what was settled up, and over what lies between what the hole has
 module _ (down up hole : List ℕ) (start bound end : ℕ) (order : start ≤ bound) (below : bound ≤ end) (within : end ≤ length down)

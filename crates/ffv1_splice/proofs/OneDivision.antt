@@ -260,6 +260,20 @@ one_division copies end ps qs f g a b (goes {start = s} {front = u} {standing = 
     ap (λ z. value_more end z (value_of more u c)) place
     ∙ ap (λ z. value_more end (record { start = t; bytes = others_bytes; standing = y }) z) rest
 
+-- what is woven from the front rests on the pieces, on the claimed starts, and on the versions with their size
+front_by : (copies others : List (List ℕ)) (end : ℕ) (weave : Weave) → ((piece : LinkValue) → IsPiece others end piece → IsPiece copies end piece)
+    → ((start : ℕ) → IsClaimedStart others end start → IsClaimedStart copies end start)
+    → HasSameMembers (map sized (versions_at copies 0 end)) (map sized (versions_at others 0 end)) → IsWeaveFromFront copies end weave
+    → IsWeaveFromFront others end weave
+front_by copies others end weave piece_back start_back same h =
+    record {
+      none = λ piece p. h.none piece (piece_back piece p);
+      no_claim = λ start claim. h.no_claim start (start_back start claim);
+      content = h.content;
+      short = h.short;
+      weave' = weave_as Slice (map sized (versions_at copies 0 end)) (map sized (versions_at others 0 end)) same weave h.weave';
+    }
+
 -- ---- the same copies have the same pieces and claimed starts
 
 module _ (copies others : List (List ℕ)) (same : HasSameMembers copies others) where
@@ -303,26 +317,11 @@ module _ (copies others : List (List ℕ)) (same : HasSameMembers copies others)
       }
 
   front_there : (end : ℕ) (weave : Weave) → IsWeaveFromFront copies end weave → IsWeaveFromFront others end weave
-  front_there end weave h =
-      record {
-        none = λ piece p. h.none piece (piece_here end piece p);
-        no_claim = λ start claim. h.no_claim start (start_here end start claim);
-        content = h.content;
-        short = h.short;
-        weave' = weave_as Slice (map sized (versions_at copies 0 end)) (map sized (versions_at others 0 end)) (same_sized copies others same 0 end) weave
-            h.weave';
-      }
+  front_there end weave h = front_by copies others end weave (piece_here end) (start_here end) (same_sized copies others same 0 end) h
 
   front_here : (end : ℕ) (weave : Weave) → IsWeaveFromFront others end weave → IsWeaveFromFront copies end weave
   front_here end weave h =
-      record {
-        none = λ piece p. h.none piece (piece_there end piece p);
-        no_claim = λ start claim. h.no_claim start (start_there end start claim);
-        content = h.content;
-        short = h.short;
-        weave' = weave_as Slice (map sized (versions_at others 0 end)) (map sized (versions_at copies 0 end))
-            (same_sized others copies (same_back copies others same) 0 end) weave h.weave';
-      }
+      front_by others copies end weave (piece_there end) (start_there end) (same_sized others copies (same_back copies others same) 0 end) h
 
   repair_there : (start end : ℕ) (bytes : List ℕ) (count : ℕ) → IsRepairOf (versions_at copies start end) bytes count
       → IsRepairOf (versions_at others start end) bytes count

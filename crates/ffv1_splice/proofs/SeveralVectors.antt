@@ -22,14 +22,14 @@ use Rattle.ffv1_splice.specs.Standings.{versions_at, sized, StandsAs}
 use Rattle.ffv1_splice.specs.declared.place.Standing.TheVariants.{Woven}
 use Rattle.ffv1_splice.proofs.FirstSlices.{same_inside}
 use Rattle.ffv1_splice.proofs.SeveralSteps.{zeros_anywhere}
-use Rattle.ffv1_splice.proofs.Vectors.{first_of, twice_one, twice_few, first_slice_passes}
+use Rattle.ffv1_splice.proofs.Vectors.{slice_with, first_of, tried_first, twice_one, twice_few, first_slice_passes}
 
 abbrev hurt_first : List ℕ
-hurt_first = 0xFC ∷ 0xF6 ∷ 0x80 ∷ 0 ∷ 0 ∷ 3 ∷ 0 ∷ 0x1C ∷ 0x3E ∷ 0xA0 ∷ 0x9B ∷ []
+hurt_first = slice_with 0xFC 0 0 3
 
 -- its size field gives a slice that begins a byte later
 abbrev hurt_size : List ℕ
-hurt_size = 0xFD ∷ 0xF6 ∷ 0x80 ∷ 0 ∷ 0 ∷ 2 ∷ 0 ∷ 0x1C ∷ 0x3E ∷ 0xA0 ∷ 0x9B ∷ []
+hurt_size = slice_with 0xFD 0 0 2
 
 abbrev pub torn_copies : List (List ℕ)
 torn_copies = hurt_first ∷ hurt_size ∷ []
@@ -154,21 +154,15 @@ once (suc j) zero low lt same = absurd (apart (sym same))
 once (suc j) (suc k) low lt same = omega arith
 
 tried_two : IsTriedBy two (first_of grains (omega arith)) 2
-tried_two = record {
-  place = 0;
-  there = omega arith;
-  is = refl;
-  finer = λ k lt. absurd (omega arith);
-  few = record {
-    numbered = record {
-      at = numbered;
-      are = λ k lt. itself (numbered k) (number_there k);
-      all = λ bytes is. elim (either bytes is) [ inl hurt ↦ (0, omega arith, sym hurt) | inr right ↦ (1, omega arith, sym right) ];
-      once = once;
-    };
-    few = omega arith;
+tried_two = tried_first two 2 (record {
+  numbered = record {
+    at = numbered;
+    are = λ k lt. itself (numbered k) (number_there k);
+    all = λ bytes is. elim (either bytes is) [ inl hurt ↦ (0, omega arith, sym hurt) | inr right ↦ (1, omega arith, sym right) ];
+    once = once;
   };
-}
+  few = omega arith;
+})
 
 woven_of_two : IsWeaveOf Slice two (woven vectors.first_slice 2)
 woven_of_two = (

@@ -20,7 +20,7 @@ use Rattle.ffv1_slice.proofs.FoundLaws.{original_cut, bytes_of_tile}
 use Rattle.ffv1_slice.proofs.NearLaws.{length-range, size_of_range}
 use Rattle.ffv1_slice.proofs.NearVectors as vectors
 use Rattle.ffv1_weave.specs.Grains.{grains}
-use Rattle.ffv1_weave.specs.Combinations.{IsCombinationBy, IsTriedBy}
+use Rattle.ffv1_weave.specs.Combinations.{IsCombinationBy, HasFew, IsTriedBy}
 use Rattle.ffv1_weave.specs.Weave.{AreFew}
 use Rattle.ffv1_splice.specs.Pieces.{HasContent, IsLeast}
 use Rattle.ffv1_splice.specs.Standings.{versions_at, sized, StandsAs, IsStop}
@@ -231,15 +231,13 @@ zeros_are_spliced = record {
 
 -- ---- a first slice whose size field is lost in each copy
 
+-- the first slice, with another first byte and another size
+abbrev pub slice_with : (first high middle low : ℕ) → List ℕ
+slice_with first high middle low = first ∷ 0xF6 ∷ 0x80 ∷ high ∷ middle ∷ low ∷ 0 ∷ 0x1C ∷ 0x3E ∷ 0xA0 ∷ 0x9B ∷ []
+
 -- the size field that is lost in one copy gives more than there is, and in the other no content
-abbrev lost : List ℕ
-lost = 0xFD ∷ 0xF6 ∷ 0x80 ∷ 0xFF ∷ 0xFF ∷ 0xFF ∷ 0 ∷ 0x1C ∷ 0x3E ∷ 0xA0 ∷ 0x9B ∷ []
-
-abbrev other_lost : List ℕ
-other_lost = 0xFD ∷ 0xF6 ∷ 0x80 ∷ 0 ∷ 0 ∷ 0 ∷ 0 ∷ 0x1C ∷ 0x3E ∷ 0xA0 ∷ 0x9B ∷ []
-
 abbrev pub lost_copies : List (List ℕ)
-lost_copies = lost ∷ other_lost ∷ []
+lost_copies = slice_with 0xFD 0xFF 0xFF 0xFF ∷ slice_with 0xFD 0 0 0 ∷ []
 
 both_sized : map sized (versions_at lost_copies 0 11) ≡ vectors.first_slice ∷ vectors.first_slice ∷ []
 both_sized = refl
@@ -248,8 +246,8 @@ lost_cut : (copy : List ℕ) (start : ℕ) → Contains lost_copies copy → IsC
 lost_cut copy start there cut content = at there.0 there.1 there.2
   where
     at : (k : ℕ) → k < 2 → get_or lost_copies k copy ≡ copy → ⊥
-    at zero lt same = let claim : IsCut lost start 11 = subst (λ c. IsCut c start 11) (sym same) cut in absurd (omega arith)
-    at (suc zero) lt same = let claim : IsCut other_lost start 11 = subst (λ c. IsCut c start 11) (sym same) cut in absurd (omega arith)
+    at zero lt same = let claim : IsCut (slice_with 0xFD 0xFF 0xFF 0xFF) start 11 = subst (λ c. IsCut c start 11) (sym same) cut in absurd (omega arith)
+    at (suc zero) lt same = let claim : IsCut (slice_with 0xFD 0 0 0) start 11 = subst (λ c. IsCut c start 11) (sym same) cut in absurd (omega arith)
     at (suc (suc k)) lt same = absurd (omega arith)
 
 -- ---- a slice that both copies have
@@ -257,6 +255,11 @@ lost_cut copy start there cut content = at there.0 there.1 there.2
 abbrev pub first_of : {X : Type 0} → (xs : List X) → 0 < length xs → X
 first_of [] some = absurd (omega arith)
 first_of (x ∷ xs) some = x
+
+-- the finest grain is tried, where it has few enough combinations
+pub tried_first : (versions : List (List ℕ)) (count : ℕ) → HasFew versions (first_of grains (omega arith)) count
+    → IsTriedBy versions (first_of grains (omega arith)) count
+tried_first versions count few = record { place = 0; there = omega arith; is = refl; finer = λ k lt. absurd (omega arith); few = few }
 
 module _ (slice : List ℕ) where
   twice : (copy : List ℕ) → Contains (slice ∷ slice ∷ []) copy → copy ≡ slice
@@ -282,21 +285,15 @@ module _ (slice : List ℕ) where
       }
 
   twice_tried : IsTriedBy (slice ∷ slice ∷ []) (first_of grains (omega arith)) 1
-  twice_tried = record {
-    place = 0;
-    there = omega arith;
-    is = refl;
-    finer = λ k lt. absurd (omega arith);
-    few = record {
-      numbered = record {
-        at = λ k. slice;
-        are = λ k lt. twice_combination;
-        all = λ bytes is. (0, omega arith, sym (twice_one _ bytes is));
-        once = λ j k low lt same. omega arith;
-      };
-      few = omega arith;
+  twice_tried = tried_first (slice ∷ slice ∷ []) 1 (record {
+    numbered = record {
+      at = λ k. slice;
+      are = λ k lt. twice_combination;
+      all = λ bytes is. (0, omega arith, sym (twice_one _ bytes is));
+      once = λ j k low lt same. omega arith;
     };
-  }
+    few = omega arith;
+  })
 
   pub twice_few : AreFew (slice ∷ slice ∷ []) 1
   twice_few = record { grain = first_of grains (omega arith); tried = twice_tried }
@@ -333,18 +330,12 @@ lost_stands = inr (inl (
 
 -- ---- places in words
 
-voted_word : standing_word (Voted 4096) ≡ codes "voted 4096"
+voted_words : (standing_word (Voted 4096) ≡ codes "voted 4096")
+    × (place_words (record { start = 1833; end = 3698; standing = Voted 12 }) ≡ codes "1833..3698 voted 12")
 unfolding digits
-voted_word = refl
+voted_words = (refl, refl)
 
-voted_place : place_words (record { start = 1833; end = 3698; standing = Voted 12 }) ≡ codes "1833..3698 voted 12"
+repaired_words : (standing_word (Repaired 1048576) ≡ codes "repaired 1048576")
+    × (place_words (record { start = 3698; end = 4515; standing = Repaired 6536 }) ≡ codes "3698..4515 repaired 6536")
 unfolding digits
-voted_place = refl
-
-repaired_word : standing_word (Repaired 1048576) ≡ codes "repaired 1048576"
-unfolding digits
-repaired_word = refl
-
-repaired_place : place_words (record { start = 3698; end = 4515; standing = Repaired 6536 }) ≡ codes "3698..4515 repaired 6536"
-unfolding digits
-repaired_place = refl
+repaired_words = (refl, refl)

@@ -127,23 +127,22 @@ sized_slice copies start end slice framed passes no_claim among bytes Undivided 
 -- ---- what is woven in a splice
 
 module _ (original : List ℕ) (copies : List (List ℕ)) (spliced : SplicedValue) (is : IsSpliceOf copies spliced) where
-  keeps_settled : (place : Place) → place.standing ≡ Settled → KeepsLink original copies spliced place
-  keeps_settled place settled =
+  -- a place that is neither woven nor repaired, missing or voted
+  keeps_unless : (place : Place) → ((n : ℕ) → place.standing ≡ Woven n → ⊥) → ((n : ℕ) → place.standing ≡ Repaired n → ⊥)
+      → (place.standing ≡ Missing → ⊥) → ((n : ℕ) → place.standing ≡ Voted n → ⊥) → KeepsLink original copies spliced place
+  keeps_unless place not_woven not_repaired not_missing not_voted =
       record {
-        woven = λ count woven. absurd (cc);
-        unrepaired = λ count repaired. absurd (cc);
-        missing = λ missing. absurd (cc);
-        voted = λ count voted. absurd (cc);
+        woven = λ n woven. absurd (not_woven n woven);
+        unrepaired = λ n repaired. absurd (not_repaired n repaired);
+        missing = λ missing. absurd (not_missing missing);
+        voted = λ n voted. absurd (not_voted n voted);
       }
 
+  keeps_settled : (place : Place) → place.standing ≡ Settled → KeepsLink original copies spliced place
+  keeps_settled place settled = keeps_unless place (λ n woven. cc) (λ n repaired. cc) (λ missing. cc) (λ n voted. cc)
+
   keeps_undivided : (place : Place) → place.standing ≡ Undivided → KeepsLink original copies spliced place
-  keeps_undivided place stands =
-      record {
-        woven = λ count woven. absurd (cc);
-        unrepaired = λ count repaired. absurd (cc);
-        missing = λ missing. absurd (cc);
-        voted = λ count voted. absurd (cc);
-      }
+  keeps_undivided place stands = keeps_unless place (λ n woven. cc) (λ n repaired. cc) (λ missing. cc) (λ n voted. cc)
 
   keeps_link : (place : Place) → IsPlaceOf copies spliced is place → IsLinkOf original place.start place.end
       → PassesParity (slice_range original place.start place.end) → IsAmong original copies place.start place.end → KeepsLink original copies spliced place

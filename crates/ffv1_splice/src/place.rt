@@ -1,4 +1,7 @@
 //! The places of a spliced frame.
+ghost use Rattle.std.specs.Prelude.{◌≡◌, ◌++◌, [], ◌∷◌, OnOk};
+
+use std::alloc::AllocError;
 
 /// How a place of a spliced frame stands.
 #[derive(Clone, Copy, Debug, PartialEq, Eq)]
@@ -44,4 +47,21 @@ pub struct Place {
     pub end: usize,
     /// How it stands.
     pub standing: Standing,
+}
+
+/// Adds a place.
+pub(crate) fn push_place(
+    places: &mut Vec<Place>,
+    start: usize,
+    end: usize,
+    standing: Standing,
+) -> Result<(), AllocError>
+    ensures { OnOk result (places.new.items ≡ places.old.items ++ record { start = start; end = end; standing = standing } ∷ []) }
+{
+    places.push(Place {
+        start,
+        end,
+        standing,
+    })?;
+    Ok(())
 }

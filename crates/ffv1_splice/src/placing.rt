@@ -4,7 +4,7 @@ ghost use Rattle.std.specs.Prelude.{◌≡◌, ◌+◌, ◌≤◌, ◌<◌, ℕ,
 ghost use Rattle.ffv1_slice.specs.Members.{IsOnly, IsOfTwo, IsOfNone};
 ghost use Rattle.ffv1_splice.specs.Pieces.{IsPiece, IsClaimedStart};
 ghost use Rattle.ffv1_weave.specs.Weave.Weave.{missing, too_many};
-ghost use Rattle.ffv1_splice.specs.Standings.{versions_at, IsWeaveAt, IsUnvotedAt};
+ghost use Rattle.ffv1_splice.specs.Standings.{versions_at, IsWeaveAt};
 ghost use Rattle.ffv1_splice.specs.Inner.Placing.{IsPlaced, IsPlacedOrStop};
 ghost use Rattle.ffv1_weave.specs.Parts.{written};
 ghost use Rattle.ffv1_splice.specs.Inner.Tally.{Tallies, starts_tally};
@@ -158,37 +158,13 @@ fn vote_at(
         return Ok(Standing::Voted(count));
     }
     if all_tried {
-        return repair_at(alloc, copies, versions, start, end, payload);
+        if let Some((repaired, count)) = repair(alloc, versions)? {
+            write_at(payload, start, repaired.as_slice());
+            return Ok(Standing::Repaired(count));
+        }
     }
     write_at(payload, start, least_at(copies, start, end));
     Ok(Standing::Missing)
-}
-
-/// How the place between these ends stands, of whose versions no combination is a slice, and which is not voted: it is repaired, or the
-/// lexicographically smallest of the copies' bytes are written.
-fn repair_at(
-    alloc: Global,
-    copies: &[&[u8]],
-    versions: &[&[u8]],
-    start: usize,
-    end: usize,
-    payload: &mut [u8],
-) -> Result<Standing, AllocError>
-    requires some { 0 < length copies.now }
-    requires within { All (λ copy. end ≤ length copy.now) copies.now }
-    requires room { end ≤ length payload.old }
-    requires versions { map (λ version. version.now) versions.now ≡ versions_at (map (λ copy. copy.now) copies.now) start end }
-    requires missed { (count : ℕ) × IsWeaveAt (map (λ copy. copy.now) copies.now) start end (missing count) }
-    requires unvoted { IsUnvotedAt (map (λ copy. copy.now) copies.now) start end }
-    ensures { IfOk result (λ standing. IsPlaced (map (λ copy. copy.now) copies.now) end payload.old payload.new
-        (record { start = start; end = end; standing = standing })) }
-{
-    let Some((repaired, count)) = repair(alloc, versions)? else {
-        write_at(payload, start, least_at(copies, start, end));
-        return Ok(Standing::Missing);
-    };
-    write_at(payload, start, repaired.as_slice());
-    Ok(Standing::Repaired(count))
 }
 
 /// What each copy has between two places. Each has them.

@@ -6,7 +6,7 @@ ghost use Rattle.ffv1_splice.specs.Pieces.{IsPiece, PieceFrom, IsShortest};
 ghost use Rattle.ffv1_splice.specs.Splice.{IsWalkDown, IsBound, IsWalkUp};
 ghost use Rattle.ffv1_splice.specs.declared.place.Place.{Place};
 
-use crate::place::{Place, Standing};
+use crate::place::{Place, Standing, push_place};
 use crate::placing::write_at;
 use crate::shortest::first_from;
 use crate::tally::{Pieces, claimed_start, tally_at};
@@ -41,12 +41,7 @@ pub(crate) fn settle_down(
     let mut end = payload.len();
     while let Some((start, bytes)) = only_piece(copies, end) {
         write_at(payload, start, bytes);
-        let standing = Standing::Settled;
-        places.push(Place {
-            start,
-            end,
-            standing,
-        })?;
+        push_place(&mut places, start, end, Standing::Settled)?;
         end = start;
     }
     Ok((places, end))
@@ -106,12 +101,7 @@ pub(crate) fn settle_up(
     while let Some(bytes) = settled_from(copies, start, payload.len()) {
         write_at(payload, start, bytes);
         let end = start + bytes.len();
-        let standing = Standing::Settled;
-        places.push(Place {
-            start,
-            end,
-            standing,
-        })?;
+        push_place(places, start, end, Standing::Settled)?;
         start = end;
     }
     Ok(start)

@@ -1,11 +1,18 @@
-use Rattle.std.proofs.Common.{◌+◌, ℕ, List, length, subst}
+use Rattle.std.proofs.Common.{◌≡◌, ◌+◌, ℕ, List, length, subst}
 use Rattle.ffv1_slice.specs.Members.{IsOnly}
 use Rattle.ffv1_splice.specs.Pieces.{IsPiece, IsClaimedStart, PieceFrom}
 use Rattle.ffv1_splice.specs.Splice.{IsClaimedEnd}
 use Rattle.ffv1_splice.specs.Inner.Tally.{Tallies, pieces_tally, starts_tally}
+use Rattle.ffv1_splice.specs.declared.tally.Starts.{Starts}
+use Rattle.ffv1_splice.specs.declared.tally.Starts.TheVariants.{One}
 use Rattle.ffv1_weave.proofs.References.{values_of}
 use Rattle.ffv1_splice.proofs.Crossings.{lost_where_claimed, lost_where_no_piece, lost_where_claim, lost_where_borne_out, is_lost}
 use Rattle.ffv1_splice.proofs.crossing.lost_up_to.Goals as goal
+
+-- the one end that is claimed
+only_end : (copies : List (List ℕ)) (reach : ℕ) (claim : Starts) (end : ℕ) → claim ≡ One end → Tallies (IsClaimedEnd copies reach) (starts_tally claim)
+    → IsOnly (IsClaimedEnd copies reach) end
+only_end copies reach claim end is tallies = subst (λ ends. Tallies (IsClaimedEnd copies reach) (starts_tally ends)) is tallies
 
 pub returns-in_default : goal.returns-in_default
 returns-in_default c =
@@ -13,23 +20,18 @@ returns-in_default c =
 
 pub returns-in_default-pieces : goal.returns-in_default-pieces
 returns-in_default-pieces c =
-    let copies : List (List ℕ) = values_of c.args.copies.now in
-    let only : IsOnly (IsClaimedEnd copies c.args.reach) c.in-One.end =
-    subst (λ claim. Tallies (IsClaimedEnd copies c.args.reach) (starts_tally claim)) c.in-One.is c.claimed_ends.ensures in
-    lost_where_no_piece copies c.args.reach c.in-One.end only _ c.tally_at-starts.ensures.pieces c.in_default-pieces.not-None
+    lost_where_no_piece (values_of c.args.copies.now) c.args.reach c.in-One.end
+    (only_end (values_of c.args.copies.now) c.args.reach _ c.in-One.end c.in-One.is c.claimed_ends.ensures) _ c.tally_at-starts.ensures.pieces c.in_default-pieces.not-None
 
 pub returns-in_default-starts : goal.returns-in_default-starts
 returns-in_default-starts c =
-    let copies : List (List ℕ) = values_of c.args.copies.now in
-    let only : IsOnly (IsClaimedEnd copies c.args.reach) c.in-One.end =
-    subst (λ claim. Tallies (IsClaimedEnd copies c.args.reach) (starts_tally claim)) c.in-One.is c.claimed_ends.ensures in
-    lost_where_claim copies c.args.reach c.in-One.end only _ c.tally_at-starts.ensures.starts c.in_default-starts.not-One
+    lost_where_claim (values_of c.args.copies.now) c.args.reach c.in-One.end
+    (only_end (values_of c.args.copies.now) c.args.reach _ c.in-One.end c.in-One.is c.claimed_ends.ensures) _ c.tally_at-starts.ensures.starts c.in_default-starts.not-One
 
 pub returns-in-Some : goal.returns-in-Some
 returns-in-Some c =
     let copies : List (List ℕ) = values_of c.args.copies.now in
-    let only : IsOnly (IsClaimedEnd copies c.args.reach) c.in-One.end =
-    subst (λ claim. Tallies (IsClaimedEnd copies c.args.reach) (starts_tally claim)) c.in-One.is c.claimed_ends.ensures in
+    let only = only_end copies c.args.reach _ c.in-One.end c.in-One.is c.claimed_ends.ensures in
     let next : PieceFrom = record { end = c.in-One.end + length c.in-Some.field-0.now; bytes = c.in-Some.field-0.now } in
     is_lost copies c.args.reach c.in-One.end only c.in-One-starts.field-0 next
     (subst (λ claim. Tallies (IsClaimedStart copies c.in-One.end) (starts_tally claim)) c.in-One-starts.is c.tally_at-starts.ensures.starts)
@@ -38,7 +40,5 @@ returns-in-Some c =
 
 pub returns-in-None-first_from : goal.returns-in-None-first_from
 returns-in-None-first_from c =
-    let copies : List (List ℕ) = values_of c.args.copies.now in
-    let only : IsOnly (IsClaimedEnd copies c.args.reach) c.in-One.end =
-    subst (λ claim. Tallies (IsClaimedEnd copies c.args.reach) (starts_tally claim)) c.in-One.is c.claimed_ends.ensures in
-    lost_where_borne_out copies c.args.reach c.in-One.end only c.in-None-first_from.ensures
+    lost_where_borne_out (values_of c.args.copies.now) c.args.reach c.in-One.end
+    (only_end (values_of c.args.copies.now) c.args.reach _ c.in-One.end c.in-One.is c.claimed_ends.ensures) c.in-None-first_from.ensures

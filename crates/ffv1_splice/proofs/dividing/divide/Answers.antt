@@ -1,4 +1,4 @@
-use Rattle.std.proofs.Common.{◌≡◌, ◌≤◌, ℕ, List, None, length, drop, arith, ap, sym, ◌∙◌, subst}
+use Rattle.std.proofs.Common.{◌≡◌, ◌≤◌, ℕ, List, Bor, None, length, drop, arith, ap, sym, ◌∙◌, subst}
 use Rattle.std.specs.Prelude.{All}
 use Rattle.ffv1_splice.proofs.Walks.{IsSpliceBefore, division_of}
 use Rattle.ffv1_weave.proofs.References.{values_of, each_value}
@@ -8,12 +8,14 @@ use Rattle.ffv1_weave.specs.Parts.{written}
 use Rattle.ffv1_splice.proofs.SpliceSteps.{Continues, length-written, continues_more, continues_end}
 use Rattle.ffv1_splice.proofs.dividing.divide.Goals as goal
 
+-- each copy has a place of the payload
+reach_end : (copies : List (Bor (List ℕ))) (old payload : List ℕ) (end : ℕ) → All (λ copy. length copy.now ≡ length old) copies
+    → length payload ≡ length old → end ≤ length payload → All (λ copy. end ≤ length copy.now) copies
+reach_end copies old payload end long same within k d lt = let size = long k d lt in omega arith
+
 pub place_before-requires-clause-within : goal.place_before-requires-clause-within
-place_before-requires-clause-within c = λ k d lt.
-    let long = c.requires.long k d lt in
-    let same = c.loop-places.invariant.same_length in
-    let within = c.loop-places.invariant.within in
-    omega arith
+place_before-requires-clause-within c =
+    reach_end c.args.copies.now _ _ c.loop-places.end c.requires.long c.loop-places.invariant.same_length c.loop-places.invariant.within
 
 pub loop-places-preserved : goal.loop-places-preserved
 loop-places-preserved c =
@@ -36,11 +38,8 @@ loop-places-preserved c =
     }
 
 pub least_at-requires-clause-within : goal.least_at-requires-clause-within
-least_at-requires-clause-within c = λ k d lt.
-    let long = c.requires.long k d lt in
-    let same = c.loop-places.invariant.same_length in
-    let within = c.loop-places.invariant.within in
-    omega arith
+least_at-requires-clause-within c =
+    reach_end c.args.copies.now _ _ c.loop-places.end c.requires.long c.loop-places.invariant.same_length c.loop-places.invariant.within
 
 pub returns : goal.returns
 returns c =
@@ -50,8 +49,7 @@ returns c =
     let within = c.loop-places.invariant.within in
     let stopped : IsPlacedOrStop (values_of c.args.copies.now) c.loop-places.end payload c.place_before.new.payload None =
     subst (IsPlacedOrStop (values_of c.args.copies.now) c.loop-places.end payload c.place_before.new.payload) c.in_default.is c.in_ok-place.ensures in
-    let reach : All (λ copy. c.loop-places.end ≤ length copy.now) c.args.copies.now =
-    λ k d lt. let long = c.requires.long k d lt in omega arith in
+    let reach = reach_end c.args.copies.now _ _ c.loop-places.end c.requires.long same within in
     let size = least_size (values_of c.args.copies.now) 0 c.loop-places.end bytes
     (each_value c.args.copies.now (λ copy. c.loop-places.end ≤ length copy) reach) (omega arith) c.least_at.ensures in
     let is : c.write_at.new.payload ≡ written payload 0 bytes = c.write_at.ensures ∙ ap (λ z. written z 0 bytes) stopped.1 in

@@ -1,6 +1,6 @@
-use Rattle.std.proofs.Common.{◌≡◌, ℕ, ◌-◌, ◌≤◌, List, ◌++◌, length, take, drop, sym, ap, ◌∙◌, subst, arith}
+use Rattle.std.proofs.Common.{◌≡◌, ℕ, ◌+◌, ◌-◌, ◌≤◌, List, ◌++◌, length, drop, sym, ap, ◌∙◌, subst, arith}
 use Rattle.std.specs.Prelude.{All, map, reverse}
-use Rattle.std.proofs.lemmas.List.{append_assoc, length-take-le}
+use Rattle.std.proofs.lemmas.List.{append_assoc}
 use Rattle.ffv1_slice.proofs.NearLaws.{length-range}
 use Rattle.ffv1_splice.specs.Standings.{versions_at}
 use Rattle.ffv1_splice.specs.Splice.{SplicedValue, IsWalkUp, IsWalkAcross, IsDivisionOf, moved_by, undivided_places}
@@ -8,8 +8,7 @@ use Rattle.ffv1_splice.specs.declared.place.Place.{Place}
 use Rattle.ffv1_weave.proofs.References.{values_of, each_value}
 use Rattle.ffv1_splice.proofs.PlaceSteps.{AllReach}
 use Rattle.ffv1_splice.proofs.Versions.{version_length, length_of}
-use Rattle.ffv1_splice.proofs.BoundSteps.{bound_within}
-use Rattle.ffv1_splice.proofs.FillSteps.{division_within, front_within, division_long, front_is, length-below, filled_splice}
+use Rattle.ffv1_splice.proofs.FillSteps.{division_long, front_is, length-below, is_hole, hole_within, filled_splice}
 use Rattle.ffv1_splice.proofs.splicing.fill.Goals as goal
 use Rattle.ffv1_splice.proofs.splicing.fill.Goals.{then-start-eq0, else-start-eq0}
 
@@ -18,61 +17,33 @@ divide-requires-clause-long c = λ k d lt.
     let copies : List (List ℕ) = values_of c.args.copies.now in
     let start : ℕ = c.in_ok-below.start in
     let end : ℕ = c.in_ok-above.end in
-    let bound : ℕ = c.bound_below-bound.result in
-    let below_end : bound ≤ end = bound_within copies end bound c.bound_below-bound.ensures in
-    let down : List ℕ = c.settle_down.new.payload in
-    let up : List ℕ = c.walk_up.new.payload in
-    let within : end ≤ length down = c.in_ok-above.ensures.within in
-    let front : length up ≡ bound = c.in_ok-below.ensures.long ∙ length-take-le bound down (omega arith) in
-    let order : start ≤ end = let below = c.in_ok-below.ensures.within in omega arith in
+    let at = is_hole (values_of c.args.copies.now) c.settle_down.new.payload c.walk_up.new.payload c.in_ok-below.start c.bound_below-bound.result
+    c.in_ok-above.end c.bound_below-bound.ensures c.in_ok-above.ensures.within c.in_ok-below.ensures.long c.in_ok-below.ensures.within in
+    let order : start ≤ end = let low = at.low in let below = at.below in omega arith in
     let reach : AllReach copies end =
     each_value c.args.copies.now (λ copy. end ≤ length copy)
-    (λ i e l. let long = c.requires.long i e l in let same = c.in_ok-above.ensures.long in omega arith) in
+    (λ i e l. let long = c.requires.long i e l in let same = c.in_ok-above.ensures.long in let within = at.within in omega arith) in
     let is = ap values_of c.as_slice.ensures.value ∙ c.in_ok-versions.ensures in
     length_of (versions_at copies start end) (end - start) (version_length copies start end order reach) c.as_slice.result.now is k d lt
-    ∙ sym (length-range (up ++ drop bound down) start end order (length-below down up bound end front below_end within))
+    ∙ sym (length-range (c.walk_up.new.payload ++ drop c.bound_below-bound.result c.settle_down.new.payload) start end order
+    (length-below c.settle_down.new.payload c.walk_up.new.payload c.bound_below-bound.result end at.front at.below at.within))
 
 pub push_moved-requires : goal.push_moved-requires
 push_moved-requires c = λ k d lt.
-    let copies : List (List ℕ) = values_of c.args.copies.now in
-    let start : ℕ = c.in_ok-below.start in
-    let end : ℕ = c.in_ok-above.end in
-    let bound : ℕ = c.bound_below-bound.result in
-    let below_end : bound ≤ end = bound_within copies end bound c.bound_below-bound.ensures in
-    let down : List ℕ = c.settle_down.new.payload in
-    let up : List ℕ = c.walk_up.new.payload in
-    let within : end ≤ length down = c.in_ok-above.ensures.within in
-    let front : length up ≡ bound = c.in_ok-below.ensures.long ∙ length-take-le bound down (omega arith) in
-    let order : start ≤ end = let below = c.in_ok-below.ensures.within in omega arith in
-    let divided : SplicedValue = record { places = c.in_ok-hole.hole.items; front = c.in_ok-hole.front; payload = c.divide.new.payload } in
-    let is : IsDivisionOf (versions_at copies start end) divided =
-    subst (λ versions. IsDivisionOf versions divided) (ap values_of c.as_slice.ensures.value ∙ c.in_ok-versions.ensures) c.in_ok-hole.ensures in
-    let long = division_long copies start end (length c.args.payload.now) divided
-    (each_value c.args.copies.now (λ copy. length copy ≡ length c.args.payload.now) c.requires.long) order (omega (arith, c.in_ok-above.ensures.long)) is in
-    let all : All (λ place. place.start ≤ place.end × place.end ≤ length c.divide.new.payload) c.as_slice-2.result.now =
-    subst (All (λ place. place.start ≤ place.end × place.end ≤ length c.divide.new.payload)) (sym c.as_slice-2.ensures.value)
-    (division_within (versions_at copies start end) divided is) in
-    let here = all k d lt in
+    let at = is_hole (values_of c.args.copies.now) c.settle_down.new.payload c.walk_up.new.payload c.in_ok-below.start c.bound_below-bound.result
+    c.in_ok-above.end c.bound_below-bound.ensures c.in_ok-above.ensures.within c.in_ok-below.ensures.long c.in_ok-below.ensures.within in
+    let lies = hole_within c.args.copies.now c.args.payload.now _ _ c.in_ok-below.start _ c.in_ok-above.end c.in_ok-hole.hole.items c.in_ok-hole.front
+    c.divide.new.payload _ at c.requires.long c.in_ok-above.ensures.long (ap values_of c.as_slice.ensures.value ∙ c.in_ok-versions.ensures) c.in_ok-hole.ensures in
+    let here = subst (All (λ place. place.start ≤ place.end × c.in_ok-below.start + place.end ≤ c.in_ok-above.end)) (sym c.as_slice-2.ensures.value) lies.0 k d lt in
     (here.0, let inside = here.1 in omega arith)
 
 pub push_undivided-requires : goal.push_undivided-requires
 push_undivided-requires c =
-    let copies : List (List ℕ) = values_of c.args.copies.now in
-    let start : ℕ = c.in_ok-below.start in
-    let end : ℕ = c.in_ok-above.end in
-    let bound : ℕ = c.bound_below-bound.result in
-    let below_end : bound ≤ end = bound_within copies end bound c.bound_below-bound.ensures in
-    let down : List ℕ = c.settle_down.new.payload in
-    let up : List ℕ = c.walk_up.new.payload in
-    let within : end ≤ length down = c.in_ok-above.ensures.within in
-    let front : length up ≡ bound = c.in_ok-below.ensures.long ∙ length-take-le bound down (omega arith) in
-    let order : start ≤ end = let below = c.in_ok-below.ensures.within in omega arith in
-    let divided : SplicedValue = record { places = c.in_ok-hole.hole.items; front = c.in_ok-hole.front; payload = c.divide.new.payload } in
-    let is : IsDivisionOf (versions_at copies start end) divided =
-    subst (λ versions. IsDivisionOf versions divided) (ap values_of c.as_slice.ensures.value ∙ c.in_ok-versions.ensures) c.in_ok-hole.ensures in
-    let long = division_long copies start end (length c.args.payload.now) divided
-    (each_value c.args.copies.now (λ copy. length copy ≡ length c.args.payload.now) c.requires.long) order (omega (arith, c.in_ok-above.ensures.long)) is in
-    let inside = front_within (versions_at copies start end) divided is in
+    let at = is_hole (values_of c.args.copies.now) c.settle_down.new.payload c.walk_up.new.payload c.in_ok-below.start c.bound_below-bound.result
+    c.in_ok-above.end c.bound_below-bound.ensures c.in_ok-above.ensures.within c.in_ok-below.ensures.long c.in_ok-below.ensures.within in
+    let lies = hole_within c.args.copies.now c.args.payload.now _ _ c.in_ok-below.start _ c.in_ok-above.end c.in_ok-hole.hole.items c.in_ok-hole.front
+    c.divide.new.payload _ at c.requires.long c.in_ok-above.ensures.long (ap values_of c.as_slice.ensures.value ∙ c.in_ok-versions.ensures) c.in_ok-hole.ensures in
+    let front = lies.1 in
     omega arith
 
 pub returns : goal.returns
@@ -81,25 +52,22 @@ returns c =
     let start : ℕ = c.in_ok-below.start in
     let end : ℕ = c.in_ok-above.end in
     let bound : ℕ = c.bound_below-bound.result in
-    let below_end : bound ≤ end = bound_within copies end bound c.bound_below-bound.ensures in
     let down : List ℕ = c.settle_down.new.payload in
     let up : List ℕ = c.walk_up.new.payload in
     let hole : List Place = c.in_ok-hole.hole.items in
     let above : List Place = c.in_ok-above.above.items in
     let below : List Place = c.in_ok-below.below.items in
-    let within : end ≤ length down = c.in_ok-above.ensures.within in
-    let long : length (take bound down) ≡ bound = length-take-le bound down (omega arith) in
-    let front : length up ≡ bound = c.in_ok-below.ensures.long ∙ long in
-    let low : start ≤ bound = let under = c.in_ok-below.ensures.within in omega arith in
-    let order : start ≤ end = omega arith in
+    let at = is_hole (values_of c.args.copies.now) c.settle_down.new.payload c.walk_up.new.payload c.in_ok-below.start c.bound_below-bound.result
+    c.in_ok-above.end c.bound_below-bound.ensures c.in_ok-above.ensures.within c.in_ok-below.ensures.long c.in_ok-below.ensures.within in
+    let order : start ≤ end = let low = at.low in let below = at.below in omega arith in
     let divided : SplicedValue = record { places = hole; front = c.in_ok-hole.front; payload = c.divide.new.payload } in
     let is : IsDivisionOf (versions_at copies start end) divided =
     subst (λ versions. IsDivisionOf versions divided) (ap values_of c.as_slice.ensures.value ∙ c.in_ok-versions.ensures) c.in_ok-hole.ensures in
     let one = each_value c.args.copies.now (λ copy. length copy ≡ length c.args.payload.now) c.requires.long in
     let size = division_long copies start end (length c.args.payload.now) divided one order (omega (arith, c.in_ok-above.ensures.long)) is in
     let walk = c.in_ok-below.ensures.walk in
-    let walk_up = subst (λ n. IsWalkUp copies n up 0 walk.0 walk.2) long walk.4 in
-    let across = subst (λ n. IsWalkAcross copies n up walk.2 walk.1 start) long walk.5 in
+    let walk_up = subst (λ n. IsWalkUp copies n up 0 walk.0 walk.2) at.long walk.4 in
+    let across = subst (λ n. IsWalkAcross copies n up walk.2 walk.1 start) at.long walk.5 in
     let moved : c.push_moved.new.places.items ≡ above ++ map (moved_by start) hole =
     c.in_ok-push_moved.ensures ∙ ap (λ z. above ++ map (moved_by start) z) c.as_slice-2.ensures.value in
     let more = undivided_places start c.in_ok-hole.front in
@@ -109,7 +77,7 @@ returns c =
     ∙ ap (λ z. z ++ reverse below) (append_assoc above (map (moved_by start) hole) more)
     ∙ append_assoc above (map (moved_by start) hole ++ more) (reverse below)
     ∙ ap (λ z. above ++ ((map (moved_by start) hole ++ more) ++ reverse z)) walk.3 in
-    filled_splice down up c.divide.new.payload start bound end low below_end within front size copies above walk.0 hole walk.1 walk.2 c.in_ok-hole.front
+    filled_splice down up c.divide.new.payload start bound end at.low at.below at.within at.front size copies above walk.0 hole walk.1 walk.2 c.in_ok-hole.front
     (λ copy there. one copy there ∙ sym c.in_ok-above.ensures.long) c.in_ok-above.ensures.walk c.bound_below-bound.ensures walk_up across is
     c.push_fallen.new.places.items c.if-start-eq0.result places (front_is start c.in_ok-hole.front c.if-start-eq0.result
     (λ here. elim c.if-start-eq0.branch [ then-start-eq0 w ↦ w.result-is | else-start-eq0 w ↦ absurd (omega (arith, w.if-start-eq0.false)) ])
