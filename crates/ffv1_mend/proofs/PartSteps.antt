@@ -181,7 +181,38 @@ module _ (parts : List Part) (splices : List SplicedValue) (size : ℕ) (fit : A
         splice_is = turn.3 no_splice;
       }
 
-  pub no_pair_left : item ≡ None → zips fronts fronts now item then → (take (length yielded) parts ≡ parts) × (take (length yielded) splices ≡ splices)
+  long : length parts ≡ length splices
+  long = sym (AllZip-long (IsFitting size) parts splices fit)
+
+  no_pair_left : item ≡ None → zips fronts fronts now item then → (take (length yielded) parts ≡ parts) × (take (length yielded) splices ≡ splices)
   no_pair_left is steps =
       let end : length yielded ≡ min (length parts) (length splices) = zip_end parts splices yielded start now then item first second come is steps in
-      all_taken parts splices (length yielded) (sym (AllZip-long (IsFitting size) parts splices fit)) (let same = AllZip-long (IsFitting size) parts splices fit in omega arith)
+      all_taken parts splices (length yielded) long (let same = AllZip-long (IsFitting size) parts splices fit in omega arith)
+
+  -- what is made with the pair that comes next
+  pub pair_given : (part : Bor Part) (spliced : Bor SplicedValue) → item ≡ Some (part, spliced) → zips fronts fronts now item then
+      → (version old new : List ℕ) → old ≡ patched version (given_patches (take (length yielded) parts) (take (length yielded) splices))
+      → new ≡ patched old (patches_of part.now spliced.now)
+      → new ≡ patched version (given_patches (take (length (yielded ++ (part, spliced) ∷ [])) parts) (take (length (yielded ++ (part, spliced) ∷ [])) splices))
+  pair_given part spliced is steps version old new so_far made =
+      let next = next_pair part spliced is steps in
+      part_given parts splices version yielded (part, spliced) no_part no_splice long next.more old new so_far
+      (made ∙ ap (λ p. patched old (patches_of p spliced.now)) next.part_is
+      ∙ ap (λ s. patched old (patches_of (get_or parts (length yielded) no_part) s)) next.splice_is)
+
+  pub pair_whole : (part : Bor Part) (spliced : Bor SplicedValue) → item ≡ Some (part, spliced) → zips fronts fronts now item then
+      → (version old new : List ℕ) → old ≡ patched version (whole_patches (take (length yielded) parts) (take (length yielded) splices))
+      → new ≡ written old part.now.start spliced.now.payload
+      → new ≡ patched version (whole_patches (take (length (yielded ++ (part, spliced) ∷ [])) parts) (take (length (yielded ++ (part, spliced) ∷ [])) splices))
+  pair_whole part spliced is steps version old new so_far made =
+      let next = next_pair part spliced is steps in
+      part_whole parts splices version yielded (part, spliced) no_part no_splice long next.more old new so_far
+      (made ∙ ap (λ p. written old p.start spliced.now.payload) next.part_is
+      ∙ ap (λ s. written old (get_or parts (length yielded) no_part).start s.payload) next.splice_is)
+
+  -- what is so of those so far is so of all where none is left
+  pub of_all : (P : List Part → List SplicedValue → Type 0) → item ≡ None → zips fronts fronts now item then
+      → P (take (length yielded) parts) (take (length yielded) splices) → P parts splices
+  of_all P is steps so_far =
+      let all = no_pair_left is steps in
+      subst (λ ss. P parts ss) all.1 (subst (λ ps. P ps (take (length yielded) splices)) all.0 so_far)
