@@ -50,7 +50,7 @@ pub struct Place {
 }
 
 /// Adds a place.
-pub(crate) fn push_place(
+pub(crate) fn add_place(
     places: &mut Vec<Place>,
     start: usize,
     end: usize,

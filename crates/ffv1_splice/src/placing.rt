@@ -9,9 +9,9 @@ ghost use Rattle.ffv1_splice.specs.Inner.Placing.{IsPlaced, IsPlacedOrStop};
 ghost use Rattle.ffv1_weave.specs.Parts.{written};
 ghost use Rattle.ffv1_splice.specs.Inner.Tally.{Tallies, starts_tally};
 
-use crate::first::first_before;
+use crate::first::first_woven;
 use crate::place::{Place, Standing};
-use crate::several::several_before;
+use crate::several::several_woven;
 use crate::tally::{Pieces, Starts, least_at, tally_at};
 use ffv1_weave::{Check, Outcome, repair, vote, weave};
 use std::alloc::{AllocError, Global};
@@ -86,12 +86,26 @@ fn woven_before(
     requires claim { Tallies (IsClaimedStart (map (λ copy. copy.now) copies.now) end) (starts_tally starts) }
     ensures { IfOk result (IsPlacedOrStop (map (λ copy. copy.now) copies.now) end payload.old payload.new) }
 {
-    let start = match starts {
-        Starts::One(start) => start,
-        Starts::None => return first_before(alloc, copies, end, payload),
-        Starts::Two => return several_before(alloc, copies, end, payload),
+    let (start, bytes, count) = match starts {
+        Starts::One(start) => {
+            let standing = weave_at(alloc, copies, start, end, payload)?;
+            return Ok(Some(Place {
+                start,
+                end,
+                standing,
+            }));
+        }
+        Starts::None => match first_woven(alloc, copies, end)? {
+            Some((bytes, count)) => (0, bytes, count),
+            None => return Ok(None),
+        },
+        Starts::Two => match several_woven(alloc, copies, end)? {
+            Some(woven) => woven,
+            None => return Ok(None),
+        },
     };
-    let standing = weave_at(alloc, copies, start, end, payload)?;
+    write_at(payload, start, bytes.as_slice());
+    let standing = Standing::Woven(count);
     Ok(Some(Place {
         start,
         end,

@@ -6,7 +6,7 @@ ghost use Rattle.ffv1_splice.specs.Pieces.{IsPiece, PieceFrom, IsShortest};
 ghost use Rattle.ffv1_splice.specs.Splice.{IsWalkDown, IsBound, IsWalkUp};
 ghost use Rattle.ffv1_splice.specs.declared.place.Place.{Place};
 
-use crate::place::{Place, Standing, push_place};
+use crate::place::{Place, Standing, add_place};
 use crate::placing::write_at;
 use crate::shortest::first_from;
 use crate::tally::{Pieces, claimed_start, tally_at};
@@ -41,7 +41,7 @@ pub(crate) fn settle_down(
     let mut end = payload.len();
     while let Some((start, bytes)) = only_piece(copies, end) {
         write_at(payload, start, bytes);
-        push_place(&mut places, start, end, Standing::Settled)?;
+        add_place(&mut places, start, end, Standing::Settled)?;
         end = start;
     }
     Ok((places, end))
@@ -101,7 +101,7 @@ pub(crate) fn settle_up(
     while let Some(bytes) = settled_from(copies, start, payload.len()) {
         write_at(payload, start, bytes);
         let end = start + bytes.len();
-        push_place(places, start, end, Standing::Settled)?;
+        add_place(places, start, end, Standing::Settled)?;
         start = end;
     }
     Ok(start)

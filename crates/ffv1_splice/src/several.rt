@@ -6,11 +6,10 @@ ghost use Rattle.ffv1_slice.specs.Members.{IsOfNone, IsOfTwo};
 ghost use Rattle.ffv1_weave.specs.Weave.{weave_tally};
 ghost use Rattle.ffv1_weave.specs.Weave.Weave.{woven, missing};
 ghost use Rattle.ffv1_splice.specs.Pieces.{HasContent, IsPiece, IsClaimedStart};
-ghost use Rattle.ffv1_splice.specs.Inner.Placing.{IsPlacedOrStop};
+ghost use Rattle.ffv1_splice.specs.Standings.{StandsAs, IsStop};
+ghost use Rattle.ffv1_splice.specs.declared.place.Standing.TheVariants.{Woven};
 ghost use Rattle.ffv1_splice.specs.Inner.Several.{IsNextClaimedStart, AreTriedBefore, tried_tally, tried_more};
 
-use crate::place::{Place, Standing};
-use crate::placing::write_at;
 use crate::sized::weave_sized;
 use crate::tally::claimed_start;
 use ffv1_weave::Outcome;
@@ -63,32 +62,25 @@ impl Tried {
     }
 }
 
-/// The place that ends there, where no piece does, and two starts that differ are claimed. It is there only where it can be woven from one
-/// start alone, and from no other any combination is a slice, each copy taken with the size that the slice then has: it is written over
-/// the payload's bytes. Each copy has the end, and so has the payload. It takes memory for what each copy has from a start on.
-pub(crate) fn several_before(
+/// What is woven up to an end at which no piece ends, and two starts that differ are claimed: where it begins, its bytes, and of how many
+/// combinations. It is there only where it can be woven from one start alone, and from no other any combination is a slice, each copy
+/// taken with the size that the slice then has. Each copy has the end. It takes memory for what each copy has from a start on.
+pub(crate) fn several_woven(
     alloc: Global,
     copies: &[&[u8]],
     end: usize,
-    payload: &mut [u8],
-) -> Result<Option<Place>, AllocError>
+) -> Result<Option<(usize, Vec<u8>, usize)>, AllocError>
     requires some { 0 < length copies.now }
     requires within { All (λ copy. end ≤ length copy.now) copies.now }
-    requires room { end ≤ length payload.old }
     requires none { IsOfNone (IsPiece (map (λ copy. copy.now) copies.now) end) }
     requires several { IsOfTwo (IsClaimedStart (map (λ copy. copy.now) copies.now) end) }
-    ensures { IfOk result (IsPlacedOrStop (map (λ copy. copy.now) copies.now) end payload.old payload.new) }
+    ensures { IfOk result (λ found. MatchOption found (IsStop (map (λ copy. copy.now) copies.now) end)
+        (λ (start, bytes, count). StandsAs (map (λ copy. copy.now) copies.now) start end bytes.items (Woven count))) }
 {
-    let Tried::Woven(start, bytes, count) = try_starts(alloc, copies, end)? else {
-        return Ok(None);
-    };
-    write_at(payload, start, bytes.as_slice());
-    let standing = Standing::Woven(count);
-    Ok(Some(Place {
-        start,
-        end,
-        standing,
-    }))
+    match try_starts(alloc, copies, end)? {
+        Tried::Woven(start, bytes, count) => Ok(Some((start, bytes, count))),
+        _ => Ok(None),
+    }
 }
 
 /// What comes of all starts that are claimed at an end. Each copy has it.

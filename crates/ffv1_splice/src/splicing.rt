@@ -5,7 +5,7 @@ ghost use Rattle.ffv1_splice.specs.Faults.{HasOneLength, IsOfOtherLength, IsSpli
 
 use crate::crossing::walk_up;
 use crate::dividing::divide;
-use crate::place::{Place, Standing, push_place};
+use crate::place::{Place, Standing, add_place};
 use crate::placing::versions_at;
 use crate::settling::{bound_below, settle_down};
 use std::alloc::{AllocError, AllocFailed, Global};
@@ -166,7 +166,7 @@ fn push_undivided(places: &mut Vec<Place>, start: usize, front: usize) -> Result
     ensures { OnOk result (places.new.items ≡ places.old.items ++ undivided_places start front) }
 {
     if start > 0 && front > 0 {
-        push_place(places, start, start + front, Standing::Undivided)?;
+        add_place(places, start, start + front, Standing::Undivided)?;
     }
     Ok(())
 }

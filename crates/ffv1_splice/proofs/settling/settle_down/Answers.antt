@@ -31,9 +31,9 @@ loop-start-preserved c =
     record {
       same_length = kept ∙ same;
       within = omega arith;
-      lie = subst (λ ps. LieFrom whole ps start) (sym c.in_ok-push_place.ensures)
+      lie = subst (λ ps. LieFrom whole ps start) (sym c.in_ok-add_place.ensures)
           (lie_more whole end c.loop-start.places.items place c.loop-start.invariant.lie refl);
-      settled = subst (λ ps. All (IsSettledDown copies c.write_at.new.payload) ps) (sym c.in_ok-push_place.ensures)
+      settled = subst (λ ps. All (IsSettledDown copies c.write_at.new.payload) ps) (sym c.in_ok-add_place.ensures)
           (subst (λ z. All (IsSettledDown copies z) (c.loop-start.places.items ++ place ∷ [])) (sym c.write_at.ensures)
           (down_more copies payload c.loop-start.places.items whole start end bytes c.loop-start.invariant.lie c.loop-start.invariant.settled only size within));
     }

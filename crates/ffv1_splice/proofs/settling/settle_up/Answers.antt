@@ -53,7 +53,7 @@ loop-bytes-preserved c =
           ∙ c.loop-bytes.invariant.before;
       added = (
         added.0 ++ place ∷ [],
-        c.in_ok-push_place.ensures ∙ ap (λ z. z ++ place ∷ []) added.1 ∙ append_assoc c.args.places.now.items added.0 (place ∷ []),
+        c.in_ok-add_place.ensures ∙ ap (λ z. z ++ place ∷ []) added.1 ∙ append_assoc c.args.places.now.items added.0 (place ∷ []),
         rise_more from start added.0 place added.2 refl,
         subst (λ z. All (IsSettledUp copies bound z) (added.0 ++ place ∷ [])) (sym c.write_at.ensures)
             (up_more copies bound payload from added.0 start end bytes added.2 added.3 first c.in-Some.ensures.1 refl (omega arith)),
