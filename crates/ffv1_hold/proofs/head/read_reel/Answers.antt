@@ -1,10 +1,9 @@
-use Rattle.std.proofs.Common.{◌≡◌, ◌++◌, [], arith, refl, sym, subst, inr, ap, Err, ◌∙◌}
+use Rattle.std.proofs.Common.{◌++◌, [], arith, refl, sym, subst}
 use Rattle.std.proofs.lemmas.Result.{err_from_is_err_and}
-use Rattle.ffv1_range.proofs.SetupFacts.{setup_size}
-use Rattle.ffv1_hold.specs.HoldingText.{be4, sized_record}
+use Rattle.ffv1_hold.specs.HoldingText.{be4}
 use Rattle.ffv1_hold.specs.Inner.Reading.{TakesText, IsShorter, Never}
 use Rattle.ffv1_hold.specs.FileFaults.{IsPartOfReel, ReelIsWhole, ReelShows}
-use Rattle.ffv1_hold.proofs.TextReads.{TakesText-trans, TakesText-four, TakesText-nil, StopsAt-after, shown, memory_stops}
+use Rattle.ffv1_hold.proofs.TextReads.{TakesText-trans, TakesText-four, TakesText-nil, StopsAt-after, shown}
 use Rattle.ffv1_hold.proofs.Heads.{part_of_width, part_of_height, part_of_count, part_of_config, sized_record-of, reel_judged}
 use Rattle.ffv1_hold.proofs.head.read_reel.Goals as goal
 

@@ -1,84 +1,95 @@
-use Rattle.std.proofs.Common.{rules, ◌≡◌, sym, ap, ◌∙◌, subst, map, inl, inr, [], ◌∷◌}
+use Rattle.std.proofs.Common.{◌≡◌, ℕ, List, Result, Ok, IfOk, IfErr, OnOk, sym, ap, ◌∙◌, rules, refl, ◌++◌, subst, map, inl, inr, [], ◌∷◌}
+use Rattle.std.specs.Result.{IsErrAnd}
 use Rattle.std.proofs.lemmas.Result.{IfOk-weaker, IfErr-weaker, on_ok_weaker, err_from_is_err_and}
 use Rattle.ffv1_range.specs.Setup.{IsSetupOf}
+use Rattle.ffv1_pool.specs.Reels.{Reel}
 use Rattle.ffv1_pool.specs.Contents.{Contents, holding_of, IsHolding, with_found, with_copies, joined}
+use Rattle.ffv1_pool.specs.Originals.{AreNear, HoldsExactly}
 use Rattle.ffv1_pool.specs.TakeFaults.{AreShort}
+use Rattle.ffv1_hold.specs.Headline.{IsReelOf}
 use Rattle.ffv1_hold.specs.Plans.{copies_of, IsCarriedOut, IsPlanFault, IsFaultOfCopy, IsFaultOfCopies, IsFaultOfFile, IsRereadFault, RereadsFit}
 use Rattle.ffv1_hold.specs.Saving.{IsTooLong}
 use Rattle.ffv1_hold.specs.declared.file_fault.HoldFileFault.{HoldFileFault}
 use Rattle.ffv1_hold.specs.declared.plan.Plan.{Plan}
+use Rattle.ffv1_hold.specs.declared.plan.PlanFault.{PlanFault}
 use Rattle.ffv1_hold.specs.declared.plan.PlanFault.TheVariants.{Hold, Setup, File}
 use Rattle.ffv1_pool.specs.declared.fault.HoldFault.TheVariants.{Memory}
 use Rattle.ffv1_pool.proofs.ExactlyHeld.{near_exact}
 use Rattle.ffv1_hold.proofs.PlanSteps.{after_same, after_found, after_copies, after_joined, AreShort-both, of_kept_reel, reel_on_same, one_reel, near_of_meaning}
 use Rattle.ffv1_hold.proofs.plan.+run.Goals as goal
 
--- a copy is taken into what the plan before gave: the reel stays, and what is held grows by what is found in the copy
+module _ (bytes : List ℕ) (width height : ℕ) where
+  -- what `run` says of what it returns
+  abbrev Says : Plan → Result Contents PlanFault → Type 0
+  Says plan r = record {
+    config : IfOk r (λ h. h.reel.config ≡ bytes);
+    setup : IfOk r (λ h. IsSetupOf bytes width height h.reel.setup);
+    meaning : IfOk r (λ h. h ≡ holding_of h.reel (copies_of plan));
+    sound : IfOk r IsHolding;
+    near : (original : List ℕ) (slices : List (List ℕ)) → IfOk r (λ h. AreNear h.reel.setup original slices (copies_of plan) → HoldsExactly h slices);
+    short : OnOk r (AreShort (copies_of plan));
+    fits : IfOk r (λ h. RereadsFit h.reel plan);
+    fault : IfErr r (IsPlanFault bytes width height plan);
+  }
+
+  -- a refusal says its fault alone
+  refused : (plan step : Plan) (r : Result Contents PlanFault) (f : PlanFault) → plan ≡ step → IsErrAnd r (λ e. e ≡ f)
+      → IsPlanFault bytes width height step f → Says plan r
+  refused plan step r f is refusal faulty =
+      let p = err_from_is_err_and r refusal in
+      rw (p.1, p.2, is) (record { config = tt; setup = tt; meaning = tt; sound = tt; near = λ original slices. tt; short = tt; fits = tt; fault = faulty })
+
+  -- a plan that gave a holding is carried out
+  carried : (plan lent : Plan) (h : Contents) → lent ≡ plan → Says lent (Ok h) → IsCarriedOut bytes width height plan
+  carried plan lent h is was = subst (IsCarriedOut bytes width height) is (h.reel, (was.config, was.setup), was.short, was.fits)
+
+  -- what a step says that keeps the reel of the holding before it
+  stepped : (plan step : Plan) (reel : Reel) (r : Result Contents PlanFault) (Took : Contents → Type 0) → plan ≡ step → IsReelOf bytes width height reel
+      → IfOk r Took → ((h : Contents) → Took h → h.reel ≡ reel) → ((h : Contents) → Took h → h ≡ holding_of h.reel (copies_of step)) → IfOk r IsHolding
+      → OnOk r (AreShort (copies_of step)) → IfOk r (λ h. RereadsFit h.reel step) → IfErr r (IsPlanFault bytes width height step) → Says plan r
+  stepped plan step reel r Took is of_reel took keeps means sound short fits faulty =
+      let meaning = IfOk-weaker r Took (λ h. h ≡ holding_of h.reel (copies_of step)) means took in
+      rw is (record {
+        config = of_kept_reel r Took reel keeps (λ q. q.config ≡ bytes) of_reel.0 took;
+        setup = of_kept_reel r Took reel keeps (λ q. IsSetupOf bytes width height q.setup) of_reel.1 took;
+        meaning = meaning;
+        sound = sound;
+        near = λ original slices. near_of_meaning r original slices (copies_of step) meaning;
+        short = short;
+        fits = fits;
+        fault = faulty;
+      })
+
+  -- copies are taken into what the plan before gave, which is `lent`: what is held grows by what is found in them
+  taken : (plan step before lent : Plan) (h grown : Contents) (r : Result Contents PlanFault) (more : List (List ℕ)) (Faulty : PlanFault → Type 0)
+      → plan ≡ step → lent ≡ before → Says lent (Ok h)
+      → record { ok : IfOk r (λ k. k ≡ grown); sound : IfOk r IsHolding; short : OnOk r (AreShort more); fault : IfErr r Faulty }
+      → copies_of step ≡ copies_of before ++ more → grown.reel ≡ h.reel → ((q : Reel) → RereadsFit q before → RereadsFit q step)
+      → ((k : Contents) → h ≡ holding_of h.reel (copies_of before) → k ≡ grown → k ≡ holding_of k.reel (copies_of step))
+      → ((f : PlanFault) → IsCarriedOut bytes width height before → Faulty f → IsPlanFault bytes width height step f) → Says plan r
+  taken plan step before lent h grown r more Faulty is deref given took all same fits means faulty =
+      let was : Says before (Ok h) = subst (λ p. Says p (Ok h)) deref given in
+      let keeps = λ (k : Contents) (e : k ≡ grown). ap (λ (k : Contents). k.reel) e ∙ same in
+      let short = on_ok_weaker r (AreShort-both (copies_of before) more was.short) took.short in
+      stepped plan step h.reel r (λ k. k ≡ grown) is (was.config, was.setup) took.ok keeps (λ k e. means k was.meaning e) took.sound
+      (subst (λ c. OnOk r (AreShort c)) (sym all) short)
+      (of_kept_reel r (λ k. k ≡ grown) h.reel keeps (λ q. RereadsFit q step) (fits h.reel was.fits) took.ok)
+      (IfErr-weaker r Faulty (IsPlanFault bytes width height step) (λ f. faulty f (carried before lent h deref given)) took.fault)
+
 pub returns-in_ok-run-in-Take : goal.returns-in_ok-run-in-Take
 returns-in_ok-run-in-Take t c =
-    let plan = c.args.plan.now in
-    let before = c.in_ok-run-in-Take.field-0 in
-    let was = c.in_ok-run-in-Take.ensures in
     let copy = c.in-Take.copy.now in
-    let r = c.with_copy.result in
-    let Took = λ (h : Contents). h ≡ with_found before copy in
-    let took = c.with_copy.ensures.ok in
-    let keeps = λ (h : Contents) (is : h ≡ with_found before copy). ap (λ (k : Contents). k.reel) is in
-    let meaning = IfOk-weaker r Took (λ h. h ≡ holding_of h.reel (copies_of plan)) (λ h is. after_found before h (copies_of c.in-Take.before.value)
-    (was.meaning ∙ ap (λ p. holding_of before.reel (copies_of p)) c.deref.ensures) copy is
-    ∙ ap (λ p. holding_of h.reel (copies_of p)) (sym c.in-Take.is)) took in
-    record {
-      config = of_kept_reel r Took before.reel keeps (λ q. q.config ≡ c.args.config.now) was.config took;
-      setup = of_kept_reel r Took before.reel keeps (λ q. IsSetupOf c.args.config.now c.args.width c.args.height q.setup) was.setup took;
-      meaning = meaning;
-      sound = c.with_copy.ensures.sound;
-      near = λ original slices. near_of_meaning r original slices (copies_of plan) meaning;
-      short = on_ok_weaker r (λ short. subst (λ (p : Plan). AreShort (copies_of p)) (sym c.in-Take.is)
-          (AreShort-both (copies_of c.in-Take.before.value) (copy ∷ []) (subst (λ (p : Plan). AreShort (copies_of p)) c.deref.ensures was.short) short))
-          c.with_copy.ensures.short;
-      fits = of_kept_reel r Took before.reel keeps (λ q. RereadsFit q plan)
-          (subst (RereadsFit before.reel) (sym c.in-Take.is) (subst (RereadsFit before.reel) c.deref.ensures was.fits)) took;
-      fault = IfErr-weaker r (IsFaultOfCopy copy) (IsPlanFault c.args.config.now c.args.width c.args.height plan)
-          (λ f is. subst (λ p. IsPlanFault c.args.config.now c.args.width c.args.height p f) (sym c.in-Take.is)
-          (inr (
-            subst (IsCarriedOut c.args.config.now c.args.width c.args.height) c.deref.ensures
-                (before.reel, (was.config, was.setup), was.short, was.fits),
-            is,
-          ))) c.with_copy.ensures.fault;
-    }
+    taken c.args.config.now c.args.width c.args.height _ _ c.in-Take.before.value _ _ (with_found c.in_ok-run-in-Take.field-0 copy) c.with_copy.result
+    (copy ∷ []) (IsFaultOfCopy copy) c.in-Take.is c.deref.ensures c.in_ok-run-in-Take.ensures c.with_copy.ensures refl refl (λ q fits. fits)
+    (λ k own is. after_found c.in_ok-run-in-Take.field-0 k (copies_of c.in-Take.before.value) own copy is) (λ f done is. inr (done, is))
 
 pub returns-in_ok-run-in-TakeAll : goal.returns-in_ok-run-in-TakeAll
 returns-in_ok-run-in-TakeAll t c =
-    let plan = c.args.plan.now in
-    let before = c.in_ok-run-in-TakeAll.field-0 in
-    let was = c.in_ok-run-in-TakeAll.ensures in
     let more = map (λ copy. copy.now) c.in-TakeAll.copies.now in
-    let r = c.with_all_copies.result in
-    let Took = λ (h : Contents). h ≡ with_copies before more in
-    let took = c.with_all_copies.ensures.ok in
-    let keeps = λ (h : Contents) (is : h ≡ with_copies before more). ap (λ (k : Contents). k.reel) is in
-    let meaning = IfOk-weaker r Took (λ h. h ≡ holding_of h.reel (copies_of plan)) (λ h is. after_copies before h (copies_of c.in-TakeAll.before.value)
-    (was.meaning ∙ ap (λ p. holding_of before.reel (copies_of p)) c.deref-in-TakeAll.ensures) more is
-    ∙ ap (λ p. holding_of h.reel (copies_of p)) (sym c.in-TakeAll.is)) took in
-    record {
-      config = of_kept_reel r Took before.reel keeps (λ q. q.config ≡ c.args.config.now) was.config took;
-      setup = of_kept_reel r Took before.reel keeps (λ q. IsSetupOf c.args.config.now c.args.width c.args.height q.setup) was.setup took;
-      meaning = meaning;
-      sound = c.with_all_copies.ensures.sound;
-      near = λ original slices. near_of_meaning r original slices (copies_of plan) meaning;
-      short = on_ok_weaker r (λ short. subst (λ (p : Plan). AreShort (copies_of p)) (sym c.in-TakeAll.is)
-          (AreShort-both (copies_of c.in-TakeAll.before.value) more (subst (λ (p : Plan). AreShort (copies_of p)) c.deref-in-TakeAll.ensures was.short) short))
-          c.with_all_copies.ensures.short;
-      fits = of_kept_reel r Took before.reel keeps (λ q. RereadsFit q plan)
-          (subst (RereadsFit before.reel) (sym c.in-TakeAll.is) (subst (RereadsFit before.reel) c.deref-in-TakeAll.ensures was.fits)) took;
-      fault = IfErr-weaker r (IsFaultOfCopies more) (IsPlanFault c.args.config.now c.args.width c.args.height plan)
-          (λ f is. subst (λ p. IsPlanFault c.args.config.now c.args.width c.args.height p f) (sym c.in-TakeAll.is)
-          (inr (
-            subst (IsCarriedOut c.args.config.now c.args.width c.args.height) c.deref-in-TakeAll.ensures
-                (before.reel, (was.config, was.setup), was.short, was.fits),
-            is,
-          ))) c.with_all_copies.ensures.fault;
-    }
+    taken c.args.config.now c.args.width c.args.height _ _ c.in-TakeAll.before.value _ _ (with_copies c.in_ok-run-in-TakeAll.field-0 more)
+    c.with_all_copies.result more (IsFaultOfCopies more) c.in-TakeAll.is c.deref-in-TakeAll.ensures c.in_ok-run-in-TakeAll.ensures
+    c.with_all_copies.ensures refl refl (λ q fits. fits)
+    (λ k own is. after_copies c.in_ok-run-in-TakeAll.field-0 k (copies_of c.in-TakeAll.before.value) own more is) (λ f done is. inr (done, is))
 
 -- both are of the record and the size asked for
 pub union_of-requires : goal.union_of-requires
@@ -91,42 +102,25 @@ union_of-requires t c =
 -- what the second plan gave is joined into what the first gave
 pub returns-in_ok-other-in-Join : goal.returns-in_ok-other-in-Join
 returns-in_ok-other-in-Join t c =
-    let plan = c.args.plan.now in
+    let says = Says c.args.config.now c.args.width c.args.height in
     let before = c.in_ok-holding-in-Join.holding in
-    let was = c.in_ok-holding-in-Join.ensures in
     let other = c.in_ok-other-in-Join.other in
-    let too = c.in_ok-other-in-Join.ensures in
+    let was : says c.in-Join.left.value (Ok before) = subst (λ p. says p (Ok before)) c.deref-in-Join.ensures c.in_ok-holding-in-Join.ensures in
+    let too : says c.in-Join.right.value (Ok other) = subst (λ p. says p (Ok other)) c.deref-in-Join-2.ensures c.in_ok-other-in-Join.ensures in
     let same = one_reel c.args.config.now c.args.width c.args.height before.reel other.reel (was.config, was.setup) (too.config, too.setup) in
     let r = c.union_of.result in
     let Took = λ (h : Contents). h ≡ joined before other in
-    let took = c.union_of.ensures.ok in
-    let keeps = λ (h : Contents) (is : h ≡ joined before other). ap (λ (k : Contents). k.reel) is in
-    let left_short = subst (λ (p : Plan). AreShort (copies_of p)) c.deref-in-Join.ensures was.short in
-    let right_short = subst (λ (p : Plan). AreShort (copies_of p)) c.deref-in-Join-2.ensures too.short in
-    let left_fits = subst (RereadsFit before.reel) c.deref-in-Join.ensures was.fits in
-    let right_fits = subst (λ q. RereadsFit q c.in-Join.right.value) (sym same) (subst (RereadsFit other.reel) c.deref-in-Join-2.ensures too.fits) in
-    let carried = IsCarriedOut c.args.config.now c.args.width c.args.height in
-    let left_done = subst carried c.deref-in-Join.ensures (before.reel, (was.config, was.setup), was.short, was.fits) in
-    let right_done = subst carried c.deref-in-Join-2.ensures (other.reel, (too.config, too.setup), too.short, too.fits) in
-    let meaning = IfOk-weaker r Took (λ h. h ≡ holding_of h.reel (copies_of plan)) (λ h is. after_joined before h (copies_of c.in-Join.left.value)
-    (was.meaning ∙ ap (λ p. holding_of before.reel (copies_of p)) c.deref-in-Join.ensures) other (copies_of c.in-Join.right.value)
-    (too.meaning ∙ ap (λ p. holding_of other.reel (copies_of p)) c.deref-in-Join-2.ensures) same is
-    ∙ ap (λ p. holding_of h.reel (copies_of p)) (sym c.in-Join.is)) took in
-    record {
-      config = of_kept_reel r Took before.reel keeps (λ q. q.config ≡ c.args.config.now) was.config took;
-      setup = of_kept_reel r Took before.reel keeps (λ q. IsSetupOf c.args.config.now c.args.width c.args.height q.setup) was.setup took;
-      meaning = meaning;
-      sound = c.union_of.ensures.sound;
-      near = λ original slices. near_of_meaning r original slices (copies_of plan) meaning;
-      short = IfOk-weaker r Took (λ _. AreShort (copies_of plan)) (λ _ _. subst (λ (p : Plan). AreShort (copies_of p)) (sym c.in-Join.is)
-          (AreShort-both (copies_of c.in-Join.left.value) (copies_of c.in-Join.right.value) left_short right_short)) took;
-      fits = of_kept_reel r Took before.reel keeps (λ q. RereadsFit q plan) (subst (RereadsFit before.reel) (sym c.in-Join.is) (left_fits, right_fits)) took;
-      fault = IfErr-weaker r (λ fault. fault ≡ Hold Memory) (IsPlanFault c.args.config.now c.args.width c.args.height plan)
-          (λ f is. subst (λ p. IsPlanFault c.args.config.now c.args.width c.args.height p f) (sym c.in-Join.is)
-          (inr (left_done, inr (right_done, is)))) c.union_of.ensures.memory;
-    }
+    let keeps = λ (h : Contents) (is : Took h). ap (λ (k : Contents). k.reel) is in
+    let done = carried c.args.config.now c.args.width c.args.height in
+    stepped c.args.config.now c.args.width c.args.height _ _ before.reel r Took c.in-Join.is (was.config, was.setup) c.union_of.ensures.ok keeps
+    (λ h is. after_joined before h (copies_of c.in-Join.left.value) was.meaning other (copies_of c.in-Join.right.value) too.meaning same is)
+    c.union_of.ensures.sound
+    (IfOk-weaker r Took _ (λ _ _. AreShort-both (copies_of c.in-Join.left.value) (copies_of c.in-Join.right.value) was.short too.short)
+    c.union_of.ensures.ok)
+    (of_kept_reel r Took before.reel keeps (λ q. RereadsFit q c.in-Join.left.value × RereadsFit q c.in-Join.right.value)
+    (was.fits, subst (λ q. RereadsFit q c.in-Join.right.value) (sym same) too.fits) c.union_of.ensures.ok)
+    (IfErr-weaker r (λ fault. fault ≡ Hold Memory) _ (λ f is. inr (done c.in-Join.left.value _ before refl was, inr (done c.in-Join.right.value _ other refl too, is))) c.union_of.ensures.memory)
 
--- what is held of near copies is the original's slices, by what is held
 -- nothing is held of no copies
 pub returns-in_ok-new-in-New : goal.returns-in_ok-new-in-New
 returns-in_ok-new-in-New t c =
@@ -148,135 +142,54 @@ returns-in_ok-new-in-New t c =
 -- a holding comes back from its file as it was
 pub returns-in_ok-holding-in-Reread : goal.returns-in_ok-holding-in-Reread
 returns-in_ok-holding-in-Reread t c =
-    let plan = c.args.plan.now in
+    let says = Says c.args.config.now c.args.width c.args.height in
     let before = c.in_ok-holding-in-Reread.holding in
-    let was = c.in_ok-holding-in-Reread.ensures in
+    let was : says c.in-Reread.before.value (Ok before) = subst (λ p. says p (Ok before)) c.deref-in-Reread.ensures c.in_ok-holding-in-Reread.ensures in
     let copies = copies_of c.in-Reread.before.value in
     let r = c.through_file.result in
-    let Same = λ (h : Contents). h ≡ before in
     let same = c.through_file.ensures.same in
-    let keeps = λ (h : Contents) (is : h ≡ before). ap (λ (k : Contents). k.reel) is in
-    let own = was.meaning ∙ ap (λ p. holding_of before.reel (copies_of p)) c.deref-in-Reread.ensures in
-    let meaning = IfOk-weaker r Same (λ h. h ≡ holding_of h.reel (copies_of plan))
-    (λ h is. after_same before h copies own is ∙ ap (λ p. holding_of h.reel (copies_of p)) (sym c.in-Reread.is)) same in
-    record {
-      config = of_kept_reel r Same before.reel keeps (λ q. q.config ≡ c.args.config.now) was.config same;
-      setup = of_kept_reel r Same before.reel keeps (λ q. IsSetupOf c.args.config.now c.args.width c.args.height q.setup) was.setup same;
-      meaning = meaning;
-      sound = IfOk-weaker r Same IsHolding (λ h is. subst IsHolding (sym is) was.sound) same;
-      near = λ original slices. near_of_meaning r original slices (copies_of plan) meaning;
-      short = IfOk-weaker r Same (λ _. AreShort (copies_of plan)) (λ _ _. subst (λ (p : Plan). AreShort (copies_of p)) (sym c.in-Reread.is)
-          (subst (λ (p : Plan). AreShort (copies_of p)) c.deref-in-Reread.ensures was.short)) same;
-      fits = reel_on_same r before (¬ IsTooLong before) (λ q. RereadsFit q plan) (λ fits. subst (RereadsFit before.reel) (sym c.in-Reread.is)
-          (subst (RereadsFit before.reel) c.deref-in-Reread.ensures was.fits, subst (λ (k : Contents). ¬ IsTooLong k) own fits)) same c.through_file.ensures.fits;
-      fault = IfErr-weaker r (λ f. (cause : HoldFileFault) × (f ≡ File cause) × IsRereadFault before cause)
-          (IsPlanFault c.args.config.now c.args.width c.args.height plan)
-          (λ f is. subst (λ p. IsPlanFault c.args.config.now c.args.width c.args.height p f) (sym c.in-Reread.is)
-          (inr (
-            subst (IsCarriedOut c.args.config.now c.args.width c.args.height) c.deref-in-Reread.ensures
-                (before.reel, (was.config, was.setup), was.short, was.fits),
-            subst (IsFaultOfFile c.args.config.now c.args.width c.args.height copies) (sym is.1)
-                (before.reel, (was.config, was.setup), subst (λ (k : Contents). IsRereadFault k is.0) own is.2),
-          ))) c.through_file.ensures.fault;
-    }
+    stepped c.args.config.now c.args.width c.args.height _ _ before.reel r (λ h. h ≡ before) c.in-Reread.is (was.config, was.setup) same
+    (λ h is. ap (λ (k : Contents). k.reel) is) (λ h is. after_same before h copies was.meaning is)
+    (IfOk-weaker r (λ h. h ≡ before) IsHolding (λ h is. subst IsHolding (sym is) was.sound) same)
+    (IfOk-weaker r (λ h. h ≡ before) _ (λ _ _. was.short) same)
+    (reel_on_same r before (¬ IsTooLong before) (λ q. RereadsFit q c.in-Reread.before.value × (¬ IsTooLong (holding_of q copies)))
+    (λ fits. (was.fits, subst (λ (k : Contents). ¬ IsTooLong k) was.meaning fits)) same c.through_file.ensures.fits)
+    (IfErr-weaker r (λ f. (cause : HoldFileFault) × (f ≡ File cause) × IsRereadFault before cause) _
+    (λ f is. inr (
+      carried c.args.config.now c.args.width c.args.height c.in-Reread.before.value _ before refl was,
+      subst (IsFaultOfFile c.args.config.now c.args.width c.args.height copies) (sym is.1)
+          (before.reel, (was.config, was.setup), subst (λ (k : Contents). IsRereadFault k is.0) was.meaning is.2),
+    )) c.through_file.ensures.fault)
 
 pub returns-in_err-new-in-New : goal.returns-in_err-new-in-New
 returns-in_err-new-in-New t c =
-    let p = err_from_is_err_and c.from_residual.result c.from_residual.ensures.1 in
-    let f = c.in_err-new-in-New.field-0.0 in
-    let faulty = λ (p : Plan). IsPlanFault c.args.config.now c.args.width c.args.height p (Setup f) in
-    rw (p.1, p.2) (record {
-      config = tt;
-      setup = tt;
-      meaning = tt;
-      sound = tt;
-      near = λ original slices. tt;
-      short = tt;
-      fits = tt;
-      fault = subst faulty (sym c.in-New.is) c.in_err-new-in-New.ensures.fault;
-    })
+    refused c.args.config.now c.args.width c.args.height _ _ c.from_residual.result (Setup c.in_err-new-in-New.field-0.0) c.in-New.is c.from_residual.ensures.1
+    c.in_err-new-in-New.ensures.fault
 
 pub returns-in_err-run-in-Take : goal.returns-in_err-run-in-Take
 returns-in_err-run-in-Take t c =
-    let p = err_from_is_err_and c.from_residual-in_err-run-in-Take.result c.from_residual-in_err-run-in-Take.ensures.1 in
-    let f = c.in_err-run-in-Take.field-0.0 in
-    let faulty = λ (p : Plan). IsPlanFault c.args.config.now c.args.width c.args.height p f in
-    rw (p.1, p.2) (record {
-      config = tt;
-      setup = tt;
-      meaning = tt;
-      sound = tt;
-      near = λ original slices. tt;
-      short = tt;
-      fits = tt;
-      fault = subst faulty (sym c.in-Take.is) (inl (subst faulty c.deref.ensures c.in_err-run-in-Take.ensures.fault));
-    })
+    refused c.args.config.now c.args.width c.args.height _ _ c.from_residual-in_err-run-in-Take.result c.in_err-run-in-Take.field-0.0 c.in-Take.is c.from_residual-in_err-run-in-Take.ensures.1
+    (inl (subst (λ p. IsPlanFault c.args.config.now c.args.width c.args.height p c.in_err-run-in-Take.field-0.0) c.deref.ensures c.in_err-run-in-Take.ensures.fault))
 
 pub returns-in_err-run-in-TakeAll : goal.returns-in_err-run-in-TakeAll
 returns-in_err-run-in-TakeAll t c =
-    let p = err_from_is_err_and c.from_residual-in_err-run-in-TakeAll.result c.from_residual-in_err-run-in-TakeAll.ensures.1 in
-    let f = c.in_err-run-in-TakeAll.field-0.0 in
-    let faulty = λ (p : Plan). IsPlanFault c.args.config.now c.args.width c.args.height p f in
-    rw (p.1, p.2) (record {
-      config = tt;
-      setup = tt;
-      meaning = tt;
-      sound = tt;
-      near = λ original slices. tt;
-      short = tt;
-      fits = tt;
-      fault = subst faulty (sym c.in-TakeAll.is) (inl (subst faulty c.deref-in-TakeAll.ensures c.in_err-run-in-TakeAll.ensures.fault));
-    })
+    refused c.args.config.now c.args.width c.args.height _ _ c.from_residual-in_err-run-in-TakeAll.result c.in_err-run-in-TakeAll.field-0.0 c.in-TakeAll.is c.from_residual-in_err-run-in-TakeAll.ensures.1
+    (inl (subst (λ p. IsPlanFault c.args.config.now c.args.width c.args.height p c.in_err-run-in-TakeAll.field-0.0) c.deref-in-TakeAll.ensures c.in_err-run-in-TakeAll.ensures.fault))
 
 pub returns-in_err-holding-in-Join : goal.returns-in_err-holding-in-Join
 returns-in_err-holding-in-Join t c =
-    let p = err_from_is_err_and c.from_residual-in_err-holding-in-Join.result c.from_residual-in_err-holding-in-Join.ensures.1 in
-    let f = c.in_err-holding-in-Join.field-0.0 in
-    let faulty = λ (p : Plan). IsPlanFault c.args.config.now c.args.width c.args.height p f in
-    rw (p.1, p.2) (record {
-      config = tt;
-      setup = tt;
-      meaning = tt;
-      sound = tt;
-      near = λ original slices. tt;
-      short = tt;
-      fits = tt;
-      fault = subst faulty (sym c.in-Join.is) (inl (subst faulty c.deref-in-Join.ensures c.in_err-holding-in-Join.ensures.fault));
-    })
+    refused c.args.config.now c.args.width c.args.height _ _ c.from_residual-in_err-holding-in-Join.result c.in_err-holding-in-Join.field-0.0 c.in-Join.is c.from_residual-in_err-holding-in-Join.ensures.1
+    (inl (subst (λ p. IsPlanFault c.args.config.now c.args.width c.args.height p c.in_err-holding-in-Join.field-0.0) c.deref-in-Join.ensures c.in_err-holding-in-Join.ensures.fault))
 
 pub returns-in_err-other-in-Join : goal.returns-in_err-other-in-Join
 returns-in_err-other-in-Join t c =
-    let left = c.in_ok-holding-in-Join in
-    let p = err_from_is_err_and c.from_residual-in_err-other-in-Join.result c.from_residual-in_err-other-in-Join.ensures.1 in
-    let f = c.in_err-other-in-Join.field-0.0 in
-    let faulty = λ (p : Plan). IsPlanFault c.args.config.now c.args.width c.args.height p f in
-    rw (p.1, p.2) (record {
-      config = tt;
-      setup = tt;
-      meaning = tt;
-      sound = tt;
-      near = λ original slices. tt;
-      short = tt;
-      fits = tt;
-      fault = subst faulty (sym c.in-Join.is) (inr (
-        subst (IsCarriedOut c.args.config.now c.args.width c.args.height) c.deref-in-Join.ensures
-            (left.holding.reel, (left.ensures.config, left.ensures.setup), left.ensures.short, left.ensures.fits),
-        inl (subst faulty c.deref-in-Join-2.ensures c.in_err-other-in-Join.ensures.fault),
-      ));
-    })
+    refused c.args.config.now c.args.width c.args.height _ _ c.from_residual-in_err-other-in-Join.result c.in_err-other-in-Join.field-0.0 c.in-Join.is c.from_residual-in_err-other-in-Join.ensures.1
+    (inr (
+      carried c.args.config.now c.args.width c.args.height _ _ c.in_ok-holding-in-Join.holding c.deref-in-Join.ensures c.in_ok-holding-in-Join.ensures,
+      inl (subst (λ p. IsPlanFault c.args.config.now c.args.width c.args.height p c.in_err-other-in-Join.field-0.0) c.deref-in-Join-2.ensures c.in_err-other-in-Join.ensures.fault),
+    ))
 
 pub returns-in_err-holding-in-Reread : goal.returns-in_err-holding-in-Reread
 returns-in_err-holding-in-Reread t c =
-    let p = err_from_is_err_and c.from_residual-in_err-holding-in-Reread.result c.from_residual-in_err-holding-in-Reread.ensures.1 in
-    let f = c.in_err-holding-in-Reread.field-0.0 in
-    let faulty = λ (p : Plan). IsPlanFault c.args.config.now c.args.width c.args.height p f in
-    rw (p.1, p.2) (record {
-      config = tt;
-      setup = tt;
-      meaning = tt;
-      sound = tt;
-      near = λ original slices. tt;
-      short = tt;
-      fits = tt;
-      fault = subst faulty (sym c.in-Reread.is) (inl (subst faulty c.deref-in-Reread.ensures c.in_err-holding-in-Reread.ensures.fault));
-    })
+    refused c.args.config.now c.args.width c.args.height _ _ c.from_residual-in_err-holding-in-Reread.result c.in_err-holding-in-Reread.field-0.0 c.in-Reread.is c.from_residual-in_err-holding-in-Reread.ensures.1
+    (inl (subst (λ p. IsPlanFault c.args.config.now c.args.width c.args.height p c.in_err-holding-in-Reread.field-0.0) c.deref-in-Reread.ensures c.in_err-holding-in-Reread.ensures.fault))
