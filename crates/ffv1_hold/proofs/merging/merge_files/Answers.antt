@@ -5,17 +5,15 @@ use Rattle.ffv1_hold.proofs.MergeAnswers.{after_heads, never_other}
 use Rattle.ffv1_hold.proofs.JoinSteps.{MergeWent-after}
 use Rattle.ffv1_hold.proofs.merging.merge_files.Goals as goal
 
-pub returns-in_err-reel : goal.returns-in_err-reel
-returns-in_err-reel g c =
+pub returns-in_err-reel-clause-err : goal.returns-in_err-reel-clause-err
+returns-in_err-reel-clause-err g c =
     let p = err_from_is_err_and c.from_residual.result c.from_residual.ensures.1 in
-    let e = c.in_err-reel.ensures in
-    rw (p.1, p.2) (record {
-      ok = tt;
-      most = tt;
-      err = inl (e.err, refl);
-      untouched = λ is. refl {a = c.args.sink.now};
-      went = e.went (g.W.Sink.log c.args.sink.now);
-    })
+    rw (p.1, p.2) (inl (c.in_err-reel.ensures.err, refl))
+
+pub returns-in_err-reel-clause-went : goal.returns-in_err-reel-clause-went
+returns-in_err-reel-clause-went g c =
+    let p = err_from_is_err_and c.from_residual.result c.from_residual.ensures.1 in
+    rw (p.1, p.2) (c.in_err-reel.ensures.went (g.W.Sink.log c.args.sink.now))
 
 pub returns : goal.returns
 returns g c =

@@ -8,62 +8,42 @@ use Rattle.ffv1_hold.proofs.MergeStarts.{head_stops, first_left_stops, first_rig
 use Rattle.ffv1_hold.proofs.MergeSteps.{same_version_entry}
 use Rattle.ffv1_hold.proofs.merging.Merge.begin.Goals as goal
 
-pub returns-in_err-write_head : goal.returns-in_err-write_head
-returns-in_err-write_head g c =
+pub returns-in_err-write_head-clause-err : goal.returns-in_err-write_head-clause-err
+returns-in_err-write_head-clause-err g c s is o =
     let p = err_from_is_err_and c.from_residual.result c.from_residual.ensures.1 in
-    let e = c.in_err-write_head.ensures in
-    rw (p.1, p.2) (record {
-      left_place = tt;
-      right_place = tt;
-      left_entry = tt;
-      right_entry = tt;
-      room = tt;
-      ok = λ s is o. tt;
-      err = λ s is o.
-          head_stops s _ _ _ _ _ _ o _ c.in_err-write_head.ensures.front;
-      went = sink_stops _ _ _ _ _ _ e c.requires.left_place c.requires.right_place;
-    })
+    rw (p.1, p.2) (head_stops s _ _ _ _ _ _ o _ c.in_err-write_head.ensures.front)
 
-pub returns-in_err-advance : goal.returns-in_err-advance
-returns-in_err-advance g c =
+pub returns-in_err-write_head-clause-went : goal.returns-in_err-write_head-clause-went
+returns-in_err-write_head-clause-went g c =
+    let p = err_from_is_err_and c.from_residual.result c.from_residual.ensures.1 in
+    rw (p.1, p.2) (sink_stops _ _ _ _ _ _ c.in_err-write_head.ensures c.requires.left_place c.requires.right_place)
+
+pub returns-in_err-advance-clause-err : goal.returns-in_err-advance-clause-err
+returns-in_err-advance-clause-err g c s is o =
     let p = err_from_is_err_and c.from_residual-in_err-advance.result c.from_residual-in_err-advance.ensures.1 in
-    let head = c.in_ok-write_head.ensures in
-    let e = c.in_err-advance.ensures in
-    rw (p.1, p.2) (record {
-      left_place = tt;
-      right_place = tt;
-      left_entry = tt;
-      right_entry = tt;
-      room = tt;
-      ok = λ s is o. tt;
-      err = λ s is o.
-          first_left_stops s _ _ _ _ _ _ o _ _ _ _ c.setup.result.now _ c.requires.left_held is.left_is c.setup.ensures.value
-          c.in_err-advance.ensures.read.fault c.in_ok-write_head.ensures.bytes';
-      went = OneStops-after _ _ _ _ _ _ (wrote _ _ _ _ _ _ head) (left_stops _ _ _ _ _ _ _ _ _ _ c.requires.right_place e.read);
-    })
+    rw (p.1, p.2) (first_left_stops s _ _ _ _ _ _ o _ _ _ _ c.setup.result.now _ c.requires.left_held is.left_is c.setup.ensures.value
+    c.in_err-advance.ensures.read.fault c.in_ok-write_head.ensures.bytes')
 
-pub returns-in_err-advance-2 : goal.returns-in_err-advance-2
-returns-in_err-advance-2 g c =
+pub returns-in_err-advance-clause-went : goal.returns-in_err-advance-clause-went
+returns-in_err-advance-clause-went g c =
+    let p = err_from_is_err_and c.from_residual-in_err-advance.result c.from_residual-in_err-advance.ensures.1 in
+    rw (p.1, p.2) (OneStops-after _ _ _ _ _ _ (wrote _ _ _ _ _ _ c.in_ok-write_head.ensures)
+    (left_stops _ _ _ _ _ _ _ _ _ _ c.requires.right_place c.in_err-advance.ensures.read))
+
+pub returns-in_err-advance-2-clause-err : goal.returns-in_err-advance-2-clause-err
+returns-in_err-advance-2-clause-err g c s is o =
     let p = err_from_is_err_and c.from_residual-in_err-advance-2.result c.from_residual-in_err-advance-2.ensures.1 in
-    let head = c.in_ok-write_head.ensures in
-    let first = c.in_ok-advance.ensures in
-    let e = c.in_err-advance-2.ensures in
-    rw (p.1, p.2) (record {
-      left_place = tt;
-      right_place = tt;
-      left_entry = tt;
-      right_entry = tt;
-      room = tt;
-      ok = λ s is o. tt;
-      err = λ s is o.
-          let one = c.in_ok-advance.ensures in
-          let setup = c.setup.ensures.value in
-          let held = left_held s _ _ _ _ _ _ o _ _ _ _ _ c.setup.result.now c.requires.left_held is.left_is
-          setup one.read.text one.entry one.follows one.end in
-          first_right_stops s _ _ _ _ _ _ o _ _ _ _ _ _ _ c.setup-2.result.now _ c.requires.right_held is.right_is c.setup-2.ensures.value
-          c.in_err-advance-2.ensures.read.fault held c.in_ok-write_head.ensures.bytes';
-      went = OneStops-after _ _ _ _ _ _ (AllGoOn-trans _ _ _ _ _ _ (wrote _ _ _ _ _ _ head) (left_read _ _ _ _ _ _ _ _ first.read)) (right_stops _ _ _ _ _ _ _ _ _ _ first.read.text.within e.read);
-    })
+    let one = c.in_ok-advance.ensures in
+    let held = left_held s _ _ _ _ _ _ o _ _ _ _ _ c.setup.result.now c.requires.left_held is.left_is c.setup.ensures.value one.read.text one.entry one.follows one.end in
+    rw (p.1, p.2) (first_right_stops s _ _ _ _ _ _ o _ _ _ _ _ _ _ c.setup-2.result.now _ c.requires.right_held is.right_is c.setup-2.ensures.value
+    c.in_err-advance-2.ensures.read.fault held c.in_ok-write_head.ensures.bytes')
+
+pub returns-in_err-advance-2-clause-went : goal.returns-in_err-advance-2-clause-went
+returns-in_err-advance-2-clause-went g c =
+    let p = err_from_is_err_and c.from_residual-in_err-advance-2.result c.from_residual-in_err-advance-2.ensures.1 in
+    let first = c.in_ok-advance.ensures.read in
+    rw (p.1, p.2) (OneStops-after _ _ _ _ _ _ (AllGoOn-trans _ _ _ _ _ _ (wrote _ _ _ _ _ _ c.in_ok-write_head.ensures) (left_read _ _ _ _ _ _ _ _ first))
+    (right_stops _ _ _ _ _ _ _ _ _ _ first.text.within c.in_err-advance-2.ensures.read))
 
 -- the head's bytes are taken off a file's room, and come back with it
 room_left : (room long size : ℕ) → room ≡ file_limit → long ≡ size → size ≤ record_limit → room - (20 + long) + (20 + size) ≡ file_limit

@@ -11,48 +11,38 @@ returns-in_err-begin g c =
     let e = c.in_err-begin.ensures in
     rw (p.1, p.2) (record { ok = λ s is o. tt; most = λ s is o. tt; err = e.err; went = e.went })
 
-pub returns-in_err-merge_entries : goal.returns-in_err-merge_entries
-returns-in_err-merge_entries g c =
+pub returns-in_err-merge_entries-clause-err : goal.returns-in_err-merge_entries-clause-err
+returns-in_err-merge_entries-clause-err g c s is o =
     let p = err_from_is_err_and c.from_residual-in_err-merge_entries.result c.from_residual-in_err-merge_entries.ensures.1 in
-    let begun = c.in_ok-begin.ensures in
-    let e = c.in_err-merge_entries.ensures in
-    rw (p.1, p.2) (record {
-      ok = λ s is o. tt;
-      most = λ s is o. tt;
-      err = λ s is o.
-          let at = begun.ok s is o in
-          e.err s (c.setup.ensures.value ∙ ap (λ (x : Reel). x.setup) o.same) at.0 at.1;
-      went = OneStops-after _ _ _ _ _ _ begun.went e.went;
-    })
+    let at = c.in_ok-begin.ensures.ok s is o in
+    rw (p.1, p.2) (c.in_err-merge_entries.ensures.err s (c.setup.ensures.value ∙ ap (λ (x : Reel). x.setup) o.same) at.0 at.1)
 
-pub returns-then-self-eq0 : goal.returns-then-self-eq0
-returns-then-self-eq0 g c =
-    let begun = c.in_ok-begin.ensures in
-    let merged = c.in_ok-merge_entries.ensures in
-    record {
-      ok = λ s is o. tt;
-      most = λ s is o. tt;
-      err = λ s is o.
-          let at = begun.ok s is o in
-          full_stops s _ _ _ _ (merged.ok s (c.setup.ensures.value ∙ ap (λ (x : Reel). x.setup) o.same) at.0 at.1) c.if-self-eq0.true;
-      went = inside _ _ _ _ _ (AllGoOn-trans _ _ _ _ _ _ begun.went merged.went) (le_refl _) (le_refl _) refl refl;
-    }
+pub returns-in_err-merge_entries-clause-went : goal.returns-in_err-merge_entries-clause-went
+returns-in_err-merge_entries-clause-went g c =
+    let p = err_from_is_err_and c.from_residual-in_err-merge_entries.result c.from_residual-in_err-merge_entries.ensures.1 in
+    rw (p.1, p.2) (OneStops-after _ _ _ _ _ _ c.in_ok-begin.ensures.went c.in_err-merge_entries.ensures.went)
 
-pub returns-in_err-write_field : goal.returns-in_err-write_field
-returns-in_err-write_field g c =
+pub returns-then-self-eq0-clause-err : goal.returns-then-self-eq0-clause-err
+returns-then-self-eq0-clause-err g c s is o =
+    let at = c.in_ok-begin.ensures.ok s is o in
+    full_stops s _ _ _ _ (c.in_ok-merge_entries.ensures.ok s (c.setup.ensures.value ∙ ap (λ (x : Reel). x.setup) o.same) at.0 at.1) c.if-self-eq0.true
+
+pub returns-then-self-eq0-clause-went : goal.returns-then-self-eq0-clause-went
+returns-then-self-eq0-clause-went g c =
+    inside _ _ _ _ _ (AllGoOn-trans _ _ _ _ _ _ c.in_ok-begin.ensures.went c.in_ok-merge_entries.ensures.went) (le_refl _) (le_refl _) refl refl
+
+pub returns-in_err-write_field-clause-err : goal.returns-in_err-write_field-clause-err
+returns-in_err-write_field-clause-err g c s is o =
     let p = err_from_is_err_and c.from_residual-in_err-write_field.result c.from_residual-in_err-write_field.ensures.1 in
-    let begun = c.in_ok-begin.ensures in
-    let merged = c.in_ok-merge_entries.ensures in
-    let e = c.in_err-write_field.ensures in
-    rw (p.1, p.2) (record {
-      ok = λ s is o. tt;
-      most = λ s is o. tt;
-      err = λ s is o.
-          let at = begun.ok s is o in
-          end_stops s _ _ _ _ (merged.ok s (c.setup.ensures.value ∙ ap (λ (x : Reel). x.setup) o.same) at.0 at.1) _ (omega (arith, c.if-self-eq0.false))
-          e.front;
-      went = OneStops-after _ _ _ _ _ _ (AllGoOn-trans _ _ _ _ _ _ begun.went merged.went) (sink_stops _ _ _ _ _ _ e (le_refl _) (le_refl _));
-    })
+    let at = c.in_ok-begin.ensures.ok s is o in
+    let merged = c.in_ok-merge_entries.ensures.ok s (c.setup.ensures.value ∙ ap (λ (x : Reel). x.setup) o.same) at.0 at.1 in
+    rw (p.1, p.2) (end_stops s _ _ _ _ merged _ (omega (arith, c.if-self-eq0.false)) c.in_err-write_field.ensures.front)
+
+pub returns-in_err-write_field-clause-went : goal.returns-in_err-write_field-clause-went
+returns-in_err-write_field-clause-went g c =
+    let p = err_from_is_err_and c.from_residual-in_err-write_field.result c.from_residual-in_err-write_field.ensures.1 in
+    rw (p.1, p.2) (OneStops-after _ _ _ _ _ _ (AllGoOn-trans _ _ _ _ _ _ c.in_ok-begin.ensures.went c.in_ok-merge_entries.ensures.went)
+    (sink_stops _ _ _ _ _ _ c.in_err-write_field.ensures (le_refl _) (le_refl _)))
 
 pub returns : goal.returns
 returns g c =
