@@ -5,7 +5,13 @@ use Rattle.ffv1_hold.specs.Inner.Reading.{TakesText, Never}
 use Rattle.ffv1_hold.specs.FileFaults.{IsPartOfSlice, IsEntryInPlace, IsPartAfter, IsPartOfEntry, SliceIsTooLong, ShowsAfter, EntryShows}
 use Rattle.ffv1_hold.proofs.TextReads.{TakesText-trans, StopsAt-part, StopsAt-after, shown}
 use Rattle.ffv1_hold.proofs.Entries.{single, entry_text-of, part_of_tag, part_of_slice, part_after_slice, slice_shows, after_shows, wrong_stops}
+use Rattle.ffv1_hold.proofs.entry.read_entry.Given.{Over}
+use Rattle.ffv1_hold.proofs.entry.read_entry.Goals.{In-1}
 use Rattle.ffv1_hold.proofs.entry.read_entry.Goals as goal
+
+tag_taken : (g : Over) (c : In-1 g) → TakesText (g.S.Source.log c.args.source.now) (g.S.Source.log c.read_field.new.source) c.args.place.now
+    c.read_field.new.place (1 ∷ [])
+tag_taken g c = subst (TakesText _ _ _ _) (single c.read_field.new.buf 1 (search rules) c.in-1.is) c.in_ok-read_field.ensures.read
 
 pub returns-in_err-read_field-clause-read : goal.returns-in_err-read_field-clause-read
 returns-in_err-read_field-clause-read g c =
@@ -18,17 +24,15 @@ returns-in-0-clause-read g c = subst (TakesText _ _ _ _) (single c.read_field.ne
 pub returns-in_err-slice-in-1-clause-read : goal.returns-in_err-slice-in-1-clause-read
 returns-in_err-slice-in-1-clause-read g c =
     let p = err_from_is_err_and c.from_residual-in_err-slice-in-1.result c.from_residual-in_err-slice-in-1.ensures.1 in
-    let v = c.args.version in
-    let setup = c.args.setup.now in
-    let last = c.args.last in
-    let tag = subst (TakesText _ _ _ _) (single c.read_field.new.buf 1 (search rules) c.in-1.is) c.in_ok-read_field.ensures.read in
-    rw (p.1, p.2) (StopsAt-after IsPartOfSlice (IsPartOfEntry v setup last) Never Never SliceIsTooLong (EntryShows v setup last) _ _ _ _ _ (1 ∷ []) tag _
-    c.in_err-slice-in-1.ensures.read (part_of_slice v setup last) (λ f s h. h) (slice_shows v setup last))
+    let tag = tag_taken g (goal.at.returns-in_err-slice-in-1-clause-read g c).In-1 in
+    rw (p.1, p.2) (StopsAt-after IsPartOfSlice (IsPartOfEntry c.args.version c.args.setup.now c.args.last) Never Never SliceIsTooLong
+    (EntryShows c.args.version c.args.setup.now c.args.last) _ _ _ _ _ (1 ∷ []) tag _ c.in_err-slice-in-1.ensures.read
+    (part_of_slice c.args.version c.args.setup.now c.args.last) (λ f s h. h) (slice_shows c.args.version c.args.setup.now c.args.last))
 
 pub returns-in_err-judge-in-1-clause-read : goal.returns-in_err-judge-in-1-clause-read
 returns-in_err-judge-in-1-clause-read g c =
     let p = err_from_is_err_and c.from_residual-in_err-judge-in-1.result c.from_residual-in_err-judge-in-1.ensures.1 in
-    let tag = subst (TakesText _ _ _ _) (single c.read_field.new.buf 1 (search rules) c.in-1.is) c.in_ok-read_field.ensures.read in
+    let tag = tag_taken g (goal.at.returns-in_err-judge-in-1-clause-read g c).In-1 in
     let slice = c.in_ok-slice-in-1.ensures in
     let whole = TakesText-trans _ _ _ _ _ _ _ _ tag slice.read in
     rw (p.1, p.2) (wrong_stops c.args.version c.args.setup.now c.args.last _ _ c.in_ok-slice-in-1.slice _ _ _ _ _ whole slice.tile slice.fits
@@ -40,7 +44,7 @@ returns-in_err-origins-in-1-clause-read g c =
     let v = c.args.version in
     let setup = c.args.setup.now in
     let last = c.args.last in
-    let tag = subst (TakesText _ _ _ _) (single c.read_field.new.buf 1 (search rules) c.in-1.is) c.in_ok-read_field.ensures.read in
+    let tag = tag_taken g (goal.at.returns-in_err-origins-in-1-clause-read g c).In-1 in
     let slice = c.in_ok-slice-in-1.ensures in
     let whole = TakesText-trans _ _ _ _ _ _ _ _ tag slice.read in
     let e = c.in_ok-slice-in-1.slice in
@@ -51,7 +55,7 @@ returns-in_err-origins-in-1-clause-read g c =
 
 pub returns-in_ok-origins-in-1 : goal.returns-in_ok-origins-in-1
 returns-in_ok-origins-in-1 g c =
-    let tag = subst (TakesText _ _ _ _) (single c.read_field.new.buf 1 (search rules) c.in-1.is) c.in_ok-read_field.ensures.read in
+    let tag = tag_taken g (goal.at.returns-in_ok-origins-in-1 g c).In-1 in
     let slice = c.in_ok-slice-in-1.ensures in
     let more = c.in_ok-origins-in-1.ensures in
     let judged = c.in_ok-judge-in-1.ensures in

@@ -1,14 +1,33 @@
-use Rattle.std.proofs.Common.{Option, refl, sym, ap, ◌∙◌, subst, IfSome}
+use Rattle.std.proofs.Common.{◌≡◌, Option, refl, sym, ap, ◌∙◌, subst, IfSome}
 use Rattle.std.proofs.lemmas.Result.{err_from_is_err_and}
 use Rattle.ffv1_range.specs.Setup.{SetupValue}
 use Rattle.ffv1_pool.specs.Reels.{Reel}
-use Rattle.ffv1_pool.specs.Contents.{IsEntryOf, with_entry}
+use Rattle.ffv1_pool.specs.Contents.{Contents, IsEntryOf, with_entry}
 use Rattle.ffv1_hold.specs.declared.version.Version.{Version}
 use Rattle.ffv1_hold.specs.HoldingText.{FileEntry, file_entries}
 use Rattle.ffv1_hold.specs.FileEntries.{last_of, Follows, IsFileEntryOf}
 use Rattle.ffv1_hold.proofs.TextReads.{TakesText-trans}
-use Rattle.ffv1_hold.proofs.ReadSteps.{none_read, one_more, next_refused, memory_refused, next_taken, next_follows, digests_in_version}
+use Rattle.ffv1_hold.proofs.ReadSteps.{AreRead, none_read, one_more, next_refused, memory_refused, next_taken, next_follows, digests_in_version}
+use Rattle.ffv1_hold.proofs.reading.read_entries.Given.{Over}
+use Rattle.ffv1_hold.proofs.reading.read_entries.Goals.{In-Some}
 use Rattle.ffv1_hold.proofs.reading.read_entries.Goals as goal
+
+-- the entry that is held after the last one that was taken
+module _ (g : Over) (c : In-Some g) where
+  entry_held : IsFileEntryOf c.args.reader.now.version c.args.holding.now.reel.setup c.in-Some.entry
+  entry_held =
+      subst (λ (o : Option FileEntry). IfSome o (IsFileEntryOf c.args.reader.now.version c.args.holding.now.reel.setup)) c.in-Some.is
+      c.loop-reader.invariant.entry
+
+  read_with : (grown : Contents) → grown ≡ with_entry c.loop-reader.holding c.in-Some.entry.0 c.in-Some.entry.1
+      → AreRead c.args.reader.now.version c.args.holding.now.reel (g.R.Source.log c.args.source.now) (g.R.Source.log c.loop-reader.source)
+      c.args.reader.now.place c.loop-reader.reader.place grown c.loop-reader.reader.held
+  read_with grown is =
+      let inv = c.loop-reader.invariant in
+      let h = c.loop-reader.holding in
+      let follows = subst (λ (o : Option FileEntry). IfSome o (λ e. Follows (last_of (file_entries h)) e.0)) c.in-Some.is inv.follows in
+      one_more c.args.reader.now.version c.args.holding.now.reel _ _ _ _ h grown c.in-Some.entry inv.sound inv.stated inv.reel entry_held follows
+      c.loop-reader.reader.held c.in-Some.is is inv.text
 
 pub returns-in_err-advance : goal.returns-in_err-advance
 returns-in_err-advance g c =
@@ -37,37 +56,21 @@ loop-reader-init g c =
 
 pub insert-requires-clause-origins : goal.insert-requires-clause-origins
 insert-requires-clause-origins g c =
-    let inv = c.loop-reader.invariant in
-    let v = c.args.reader.now.version in
-    let entry = subst (λ (o : Option FileEntry). IfSome o (IsFileEntryOf v c.args.holding.now.reel.setup)) c.in-Some.is inv.entry in
-    (digests_in_version v c.in-Some.entry.1 entry.origins).rising
+    (digests_in_version c.args.reader.now.version c.in-Some.entry.1 (entry_held g (goal.at.insert-requires-clause-origins g c).In-Some).origins).rising
 
 -- memory for the entry that is held is refused
-pub returns-in_err-insert : goal.returns-in_err-insert
-returns-in_err-insert g c =
+pub returns-in_err-insert-clause-read : goal.returns-in_err-insert-clause-read
+returns-in_err-insert-clause-read g c =
     let p = err_from_is_err_and c.from_residual-in_err-insert.result c.from_residual-in_err-insert.ensures.1 in
-    let inv = c.loop-reader.invariant in
-    let v = c.args.reader.now.version in
-    let reel = c.args.holding.now.reel in
-    let h = c.loop-reader.holding in
-    let e = c.in-Some.entry in
-    let entry = subst (λ (o : Option FileEntry). IfSome o (IsFileEntryOf v reel.setup)) c.in-Some.is inv.entry in
-    let follows = subst (λ (o : Option FileEntry). IfSome o (λ e. Follows (last_of (file_entries h)) e.0)) c.in-Some.is inv.follows in
-    let more = one_more v reel _ _ _ _ h (with_entry h e.0 e.1) e inv.sound inv.stated inv.reel entry follows
-    c.loop-reader.reader.held c.in-Some.is refl inv.text in
-    rw (p.1, p.2, c.in_err-insert.ensures.err.0) (record { read = memory_refused v reel _ _ _ _ _ _ more; end = tt; sound = tt; stated = tt; reel = tt })
+    let grown = with_entry c.loop-reader.holding c.in-Some.entry.0 c.in-Some.entry.1 in
+    let more = read_with g (goal.at.returns-in_err-insert-clause-read g c).In-Some grown refl in
+    rw (p.1, p.2, c.in_err-insert.ensures.err.0) (memory_refused c.args.reader.now.version c.args.holding.now.reel _ _ _ _ _ _ more)
 
 pub loop-reader-preserved : goal.loop-reader-preserved
 loop-reader-preserved g c =
     let inv = c.loop-reader.invariant in
     let v = c.args.reader.now.version in
-    let reel = c.args.holding.now.reel in
-    let h = c.loop-reader.holding in
-    let e = c.in-Some.entry in
-    let entry = subst (λ (o : Option FileEntry). IfSome o (IsFileEntryOf v reel.setup)) c.in-Some.is inv.entry in
-    let follows = subst (λ (o : Option FileEntry). IfSome o (λ e. Follows (last_of (file_entries h)) e.0)) c.in-Some.is inv.follows in
-    let more = one_more v reel _ _ _ _ h c.insert.new.holding e inv.sound inv.stated inv.reel entry follows
-    c.loop-reader.reader.held c.in-Some.is c.in_ok-insert.ensures.ok inv.text in
+    let more = read_with g (goal.at.loop-reader-preserved g c).In-Some c.insert.new.holding c.in_ok-insert.ensures.ok in
     let next = c.in_ok-advance-2.ensures in
     let setup = c.setup-in-Some.ensures.value ∙ ap (λ (r : Reel). r.setup) more.reel' in
     record {
@@ -78,24 +81,17 @@ loop-reader-preserved g c =
       reel = more.reel';
       entry = subst (λ (x : SetupValue). IfSome c.advance-in-Some.new.self.held (IsFileEntryOf v x)) setup
           (subst (λ (u : Version). IfSome c.advance-in-Some.new.self.held (IsFileEntryOf u c.setup-in-Some.result.now)) inv.version next.entry);
-      follows = next_follows v reel _ _ _ _ _ _ more c.advance-in-Some.new.self.held next.follows;
+      follows = next_follows v c.args.holding.now.reel _ _ _ _ _ _ more c.advance-in-Some.new.self.held next.follows;
       at_end = next.end;
     }
 
-pub returns-in_err-advance-2 : goal.returns-in_err-advance-2
-returns-in_err-advance-2 g c =
+pub returns-in_err-advance-2-clause-read : goal.returns-in_err-advance-2-clause-read
+returns-in_err-advance-2-clause-read g c =
     let p = err_from_is_err_and c.from_residual-in_err-advance-2.result c.from_residual-in_err-advance-2.ensures.1 in
-    let inv = c.loop-reader.invariant in
-    let v = c.args.reader.now.version in
-    let reel = c.args.holding.now.reel in
-    let h = c.loop-reader.holding in
-    let e = c.in-Some.entry in
-    let entry = subst (λ (o : Option FileEntry). IfSome o (IsFileEntryOf v reel.setup)) c.in-Some.is inv.entry in
-    let follows = subst (λ (o : Option FileEntry). IfSome o (λ e. Follows (last_of (file_entries h)) e.0)) c.in-Some.is inv.follows in
-    let more = one_more v reel _ _ _ _ h c.insert.new.holding e inv.sound inv.stated inv.reel entry follows
-    c.loop-reader.reader.held c.in-Some.is c.in_ok-insert.ensures.ok inv.text in
+    let more = read_with g (goal.at.returns-in_err-advance-2-clause-read g c).In-Some c.insert.new.holding c.in_ok-insert.ensures.ok in
     let setup = c.setup-in-Some.ensures.value ∙ ap (λ (r : Reel). r.setup) more.reel' in
-    rw (p.1, p.2) (record { read = next_refused v reel _ _ _ _ _ _ more _ _ inv.version setup _ _ c.in_err-advance-2.ensures.read; end = tt; sound = tt; stated = tt; reel = tt })
+    rw (p.1, p.2) (next_refused c.args.reader.now.version c.args.holding.now.reel _ _ _ _ _ _ more _ _ c.loop-reader.invariant.version setup _ _
+    c.in_err-advance-2.ensures.read)
 
 pub returns : goal.returns
 returns g c =
@@ -110,9 +106,8 @@ returns g c =
 
 pub insert-requires-clause-slice : goal.insert-requires-clause-slice
 insert-requires-clause-slice g c =
-    let inv = c.loop-reader.invariant in
-    let entry = subst (λ (o : Option FileEntry). IfSome o (IsFileEntryOf c.args.reader.now.version c.args.holding.now.reel.setup)) c.in-Some.is inv.entry in
-    subst (λ (r : Reel). IsEntryOf r.setup c.in-Some.entry.0) (sym inv.reel) entry.slice
+    subst (λ (r : Reel). IsEntryOf r.setup c.in-Some.entry.0) (sym c.loop-reader.invariant.reel)
+    (entry_held g (goal.at.insert-requires-clause-slice g c).In-Some).slice
 
 pub advance-requires : goal.advance-requires
 advance-requires g c = c.requires.place

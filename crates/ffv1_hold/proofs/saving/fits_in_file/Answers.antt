@@ -1,33 +1,33 @@
-use Rattle.std.proofs.Common.{length, arith, refl, sym, ap, ◌∙◌}
+use Rattle.std.proofs.Common.{◌≡◌, ◌+◌, length, arith, refl, sym, ap, ◌∙◌}
 use mathlib.Core.Bool.{true≢false}
 use Rattle.ffv1_hold.specs.declared.version.Version.TheVariants.{Second}
 use Rattle.ffv1_pool.specs.Reels.{Reel}
-use Rattle.ffv1_hold.specs.HoldingText.{entries_text, file_entries}
+use Rattle.ffv1_hold.specs.HoldingText.{entries_text, file_entries, holding_text}
 use Rattle.ffv1_hold.proofs.Slots.{length-text}
+use Rattle.ffv1_hold.proofs.saving.fits_in_file.Goals.{After-config-config, After-room_after}
 use Rattle.ffv1_hold.proofs.saving.fits_in_file.Goals as goal
 
-pub returns-then-config : goal.returns-then-config
-returns-then-config c =
-    let long = ap length (c.config-config.ensures ∙ ap (λ (r : Reel). r.config) c.reel.ensures.value) in
-    record {
-      sound = c.reel.ensures.sound;
-      fits = (λ no. absurd (true≢false (sym no)), λ fits. absurd (omega (arith, fits.0, c.if-config.true, long)));
-    }
+config_long : (c : After-config-config) → length c.config-config.result.now ≡ length c.args.holding.now.reel.config
+config_long c = ap length (c.config-config.ensures ∙ ap (λ (r : Reel). r.config) c.reel.ensures.value)
 
-pub returns-in-Some : goal.returns-in-Some
-returns-in-Some c =
+text_long : (c : After-room_after) → length (holding_text c.args.holding.now)
+    ≡ 21 + length c.config-config.result.now + length (entries_text Second (file_entries c.args.holding.now))
+text_long c =
     let text = length-text Second c.args.holding.now.reel (entries_text Second (file_entries c.args.holding.now)) in
-    let long = ap length (c.config-config.ensures ∙ ap (λ (r : Reel). r.config) c.reel.ensures.value) in
-    record {
-      sound = c.reel.ensures.sound;
-      fits = (λ _. (omega (arith, long), omega (arith, text, c.in-Some.ensures.some, long)), λ _. refl);
-    }
+    omega (arith, text, ap length (c.config-config.ensures ∙ ap (λ (r : Reel). r.config) c.reel.ensures.value))
 
-pub returns-in-None : goal.returns-in-None
-returns-in-None c =
-    let text = length-text Second c.args.holding.now.reel (entries_text Second (file_entries c.args.holding.now)) in
-    let long = ap length (c.config-config.ensures ∙ ap (λ (r : Reel). r.config) c.reel.ensures.value) in
-    record {
-      sound = c.reel.ensures.sound;
-      fits = (λ no. absurd (true≢false (sym no)), λ fits. absurd (omega (arith, text, c.in-None.ensures.none, fits.1, long)));
-    }
+pub returns-then-config-clause-fits : goal.returns-then-config-clause-fits
+returns-then-config-clause-fits c =
+    let long = config_long (goal.at.returns-then-config-clause-fits c).After-config-config in
+    (λ no. absurd (true≢false (sym no)), λ fits. absurd (omega (arith, fits.0, c.if-config.true, long)))
+
+pub returns-in-Some-clause-fits : goal.returns-in-Some-clause-fits
+returns-in-Some-clause-fits c =
+    let long = config_long (goal.at.returns-in-Some-clause-fits c).After-config-config in
+    let text = text_long (goal.at.returns-in-Some-clause-fits c).After-room_after in
+    (λ _. (omega (arith, long), omega (arith, text, c.in-Some.ensures.some)), λ _. refl)
+
+pub returns-in-None-clause-fits : goal.returns-in-None-clause-fits
+returns-in-None-clause-fits c =
+    let text = text_long (goal.at.returns-in-None-clause-fits c).After-room_after in
+    (λ no. absurd (true≢false (sym no)), λ fits. absurd (omega (arith, text, c.in-None.ensures.none, fits.1)))

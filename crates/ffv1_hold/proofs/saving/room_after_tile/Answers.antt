@@ -1,4 +1,4 @@
-use Rattle.std.proofs.Common.{◌<◌, ◌+◌, length, arith, ap, sym, ◌∙◌}
+use Rattle.std.proofs.Common.{◌≡◌, ◌<◌, ◌+◌, ◌*◌, take, length, arith, ap, sym, ◌∙◌}
 use Rattle.std.proofs.lemmas.List.{take_all}
 use Rattle.ffv1_pool.specs.Sets as set
 use Rattle.ffv1_pool.specs.TileSets.{tile_slices}
@@ -6,35 +6,35 @@ use Rattle.ffv1_pool.specs.Contents.{digests_of}
 use Rattle.ffv1_pool.proofs.RisingSets.{size-items}
 use Rattle.ffv1_hold.specs.Inner.Saving.{tile_file_entries, entries_length}
 use Rattle.ffv1_hold.proofs.TileTexts.{own, entry_at, tile_count, entries_length-more, entries_length-part}
+use Rattle.ffv1_hold.proofs.saving.room_after_tile.Goals.{After-origins_at-origins}
 use Rattle.ffv1_hold.proofs.saving.room_after_tile.Goals as goal
+
+-- the room that this place's entry takes
+taken : (c : After-origins_at-origins) → entries_length (take (c.loop-place.place + 1) (tile_file_entries c.args.holding.now c.args.tile))
+    ≡ entries_length (take c.loop-place.place (tile_file_entries c.args.holding.now c.args.tile))
+    + (11 + length c.slice-slice.result.now + 32 * length c.origins_at-origins.result.now)
+taken c =
+    let h = c.args.holding.now in
+    let tile = c.args.tile in
+    let bs = set.items (tile_slices h.slices tile) in
+    let i = c.loop-place.place in
+    let b = c.slice-slice.result.now in
+    let lt : i < length bs = omega (arith, c.loop-place-test.true, c.held-place-end.ensures, size-items (tile_slices h.slices tile)) in
+    let es = tile_file_entries h tile in
+    let in_range : i < length es = omega (arith, c.loop-place-test.true, c.held-place-end.ensures, tile_count h tile) in
+    let more = entries_length-more es i (own h (tile, b)) in_range (entry_at h tile bs i b lt c.slice-slice.ensures) in
+    let same = ap length (c.origins_at-origins.ensures.digests b ∙ ap (λ x. digests_of h (tile, x)) (sym c.slice-slice.ensures)) in
+    omega (arith, same, more)
 
 pub returns-in_err-left-clause-none : goal.returns-in_err-left-clause-none
 returns-in_err-left-clause-none c =
-    let h = c.args.holding.now in
-    let tile = c.args.tile in
-    let bs = set.items (tile_slices h.slices tile) in
-    let i = c.loop-place.place in
-    let b = c.slice-slice.result.now in
-    let lt : i < length bs = omega (arith, c.loop-place-test.true, c.held-place-end.ensures, size-items (tile_slices h.slices tile)) in
-    let es = tile_file_entries h tile in
-    let in_range : i < length es = omega (arith, c.loop-place-test.true, c.held-place-end.ensures, tile_count h tile) in
-    let more = entries_length-more es i (own h (tile, b)) in_range (entry_at h tile bs i b lt c.slice-slice.ensures) in
-    let same = ap length (c.origins_at-origins.ensures.digests b ∙ ap (λ x. digests_of h (tile, x)) (sym c.slice-slice.ensures)) in
-    rw c.from_residual.ensures (omega (arith, c.in_err-left.ensures.none, same, c.loop-place.invariant, more, entries_length-part es (i + 1)))
+    let long = taken (goal.at.returns-in_err-left-clause-none c).After-origins_at-origins in
+    rw c.from_residual.ensures
+    (omega (arith, c.in_err-left.ensures.none, long, c.loop-place.invariant, entries_length-part (tile_file_entries c.args.holding.now c.args.tile) (c.loop-place.place + 1)))
 
 pub loop-place-preserved : goal.loop-place-preserved
 loop-place-preserved c =
-    let h = c.args.holding.now in
-    let tile = c.args.tile in
-    let bs = set.items (tile_slices h.slices tile) in
-    let i = c.loop-place.place in
-    let b = c.slice-slice.result.now in
-    let lt : i < length bs = omega (arith, c.loop-place-test.true, c.held-place-end.ensures, size-items (tile_slices h.slices tile)) in
-    let es = tile_file_entries h tile in
-    let in_range : i < length es = omega (arith, c.loop-place-test.true, c.held-place-end.ensures, tile_count h tile) in
-    let more = entries_length-more es i (own h (tile, b)) in_range (entry_at h tile bs i b lt c.slice-slice.ensures) in
-    let same = ap length (c.origins_at-origins.ensures.digests b ∙ ap (λ x. digests_of h (tile, x)) (sym c.slice-slice.ensures)) in
-    omega (arith, c.loop-place.invariant, c.in_ok-left.ensures.some, same, more)
+    omega (arith, c.loop-place.invariant, c.in_ok-left.ensures.some, taken (goal.at.loop-place-preserved c).After-origins_at-origins)
 
 pub returns-clause-some : goal.returns-clause-some
 returns-clause-some c =
