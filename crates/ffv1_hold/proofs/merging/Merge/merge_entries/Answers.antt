@@ -5,30 +5,43 @@ use Rattle.std.proofs.lemmas.Result.{err_from_is_err_and}
 use Rattle.ffv1_hold.specs.Inner.Merging.{IsTurn}
 use Rattle.ffv1_hold.proofs.JoinSteps.{AllGoOn-trans, AllGoOn-to, OneStops-after, left_read, right_read, left_stops, right_stops, wrote, entry_stopped}
 use Rattle.ffv1_hold.proofs.MergeSteps.{entry_stops, left_shows_none, less_stands, greater_stands, equal_stands, left_refused, right_refused, left_now_shows_none, ends, same_version_entry, turn_written}
+use Rattle.std.specs.declared.cmp.Ordering.{Ordering}
+use Rattle.ffv1_hold.specs.MergeLogs.{AllGoOn}
+use Rattle.ffv1_hold.proofs.merging.Merge.merge_entries.Given.{Over}
+use Rattle.ffv1_hold.proofs.merging.Merge.merge_entries.Goals.{In_ok-write_entry}
 use Rattle.ffv1_hold.proofs.merging.Merge.merge_entries.Goals as goal
 
 room_left : (left long room : ℕ) → left + long ≡ room → room ≤ file_limit → left ≤ file_limit
 room_left left long room is fits = omega arith
 
-pub returns-in_err-write_entry : goal.returns-in_err-write_entry
-returns-in_err-write_entry g c =
+pub returns-in_err-write_entry-clause-err : goal.returns-in_err-write_entry-clause-err
+returns-in_err-write_entry-clause-err g c start same is first =
+    let p = err_from_is_err_and c.from_residual.result c.from_residual.ensures.1 in
+    rw (p.1, p.2) (entry_stops start _ _ _ _ _ _ _ _ (c.loop-entry.invariant.stands start same is first).1 _ c.in-Some.entry.now c.in-Some.others.now
+    c.in-Some.order _ c.in-Some.ensures.some c.in_err-write_entry.ensures.stops)
+
+pub returns-in_err-write_entry-clause-went : goal.returns-in_err-write_entry-clause-went
+returns-in_err-write_entry-clause-went g c =
     let p = err_from_is_err_and c.from_residual.result c.from_residual.ensures.1 in
     let inv = c.loop-entry.invariant in
-    let e = c.in_err-write_entry.ensures in
-    rw (p.1, p.2) (record {
-      ok = λ start same is first. tt;
-      err = λ start same is first.
-          entry_stops start _ _ _ _ _ _ _ _ (inv.stands start same is first).1 _ c.in-Some.entry.now c.in-Some.others.now c.in-Some.order _
-          c.in-Some.ensures.some e.stops;
-      went = OneStops-after _ _ _ _ _ _ inv.went (entry_stopped _ _ _ _ _ _ _ _ e inv.left_place inv.right_place);
-    })
+    rw (p.1, p.2) (OneStops-after _ _ _ _ _ _ inv.went (entry_stopped _ _ _ _ _ _ _ _ c.in_err-write_entry.ensures inv.left_place inv.right_place))
+
+-- ---- after an entry was written
+
+module _ (g : Over) (c : In_ok-write_entry g) where
+  turn_is : (o : Ordering) → c.in-Some.order ≡ o → IsTurn c.loop-entry.self.lefts.held c.loop-entry.self.rights.held c.in-Some.entry.now c.in-Some.others.now o
+  turn_is o is = subst (IsTurn c.loop-entry.self.lefts.held c.loop-entry.self.rights.held c.in-Some.entry.now c.in-Some.others.now) is c.in-Some.ensures.some
+
+  went_on : AllGoOn (record { left = g.R.Source.log c.args.left.now; right = g.Q.Source.log c.args.right.now; sink = g.W.Sink.log c.args.sink.now })
+      (record { left = g.R.Source.log c.loop-entry.left; right = g.Q.Source.log c.loop-entry.right; sink = g.W.Sink.log c.write_entry.new.sink })
+      (c.args.self.now.lefts.place, c.args.self.now.rights.place) (c.loop-entry.self.lefts.place, c.loop-entry.self.rights.place)
+  went_on = AllGoOn-trans _ _ _ _ _ _ c.loop-entry.invariant.went (wrote _ _ _ _ _ _ c.in_ok-write_entry.ensures.0)
 
 -- ---- the left input's entry was written
 
 pub loop-entry-preserved-in-Continue-branch-2 : goal.loop-entry-preserved-in-Continue-branch-2
 loop-entry-preserved-in-Continue-branch-2 g c =
-    let turn = subst (IsTurn c.loop-entry.self.lefts.held c.loop-entry.self.rights.held c.in-Some.entry.now c.in-Some.others.now) c.in-Less.is
-    c.in-Some.ensures.some in
+    let turn = turn_is g (goal.at.loop-entry-preserved-in-Continue-branch-2 g c).In_ok-write_entry Less c.in-Less.is in
     let inv = c.loop-entry.invariant in
     let done = c.in_ok-write_entry.ensures in
     let read = c.in_ok-advance-in-Less.ensures in
@@ -41,30 +54,29 @@ loop-entry-preserved-in-Continue-branch-2 g c =
       right_place = inv.right_place;
       left_entry = same_version_entry _ _ _ _ read.version read.entry;
       right_entry = inv.right_entry;
-      went = AllGoOn-trans _ _ _ _ _ _ (AllGoOn-trans _ _ _ _ _ _ inv.went (wrote _ _ _ _ _ _ done.0)) (left_read _ _ _ _ _ _ _ _ read.read);
+      went = AllGoOn-trans _ _ _ _ _ _ (went_on g (goal.at.loop-entry-preserved-in-Continue-branch-2 g c).In_ok-write_entry) (left_read _ _ _ _ _ _ _ _ read.read);
     }
 
-pub returns-in_err-advance-in-Less : goal.returns-in_err-advance-in-Less
-returns-in_err-advance-in-Less g c =
+pub returns-in_err-advance-in-Less-clause-err : goal.returns-in_err-advance-in-Less-clause-err
+returns-in_err-advance-in-Less-clause-err g c start same is first =
     let p = err_from_is_err_and c.from_residual-in_err-advance-in-Less.result c.from_residual-in_err-advance-in-Less.ensures.1 in
-    let turn = subst (IsTurn c.loop-entry.self.lefts.held c.loop-entry.self.rights.held c.in-Some.entry.now c.in-Some.others.now) c.in-Less.is
-    c.in-Some.ensures.some in
-    let inv = c.loop-entry.invariant in
+    let turn = turn_is g (goal.at.returns-in_err-advance-in-Less-clause-err g c).In_ok-write_entry Less c.in-Less.is in
+    let now = c.loop-entry.invariant.stands start same is first in
     let done = c.in_ok-write_entry.ensures in
-    let e = c.in_err-advance-in-Less.ensures.read in
-    rw (p.1, p.2) (record {
-      ok = λ start same is first. tt;
-      err = λ start same is first. let now = inv.stands start same is first in
-          left_refused start _ _ _ _ _ _ _ _ now.1 _ _ _ _ done.0.bytes' done.1 _ _ now.0 c.args.setup.now same Less turn turn.0 _ _ e.fault;
-      went = OneStops-after _ _ _ _ _ _ (AllGoOn-trans _ _ _ _ _ _ inv.went (wrote _ _ _ _ _ _ done.0)) (left_stops _ _ _ _ _ _ _ _ _ _ inv.right_place e);
-    })
+    rw (p.1, p.2) (left_refused start _ _ _ _ _ _ _ _ now.1 _ _ _ _ done.0.bytes' done.1 _ _ now.0 c.args.setup.now same Less turn turn.0 _ _
+    c.in_err-advance-in-Less.ensures.read.fault)
+
+pub returns-in_err-advance-in-Less-clause-went : goal.returns-in_err-advance-in-Less-clause-went
+returns-in_err-advance-in-Less-clause-went g c =
+    let p = err_from_is_err_and c.from_residual-in_err-advance-in-Less.result c.from_residual-in_err-advance-in-Less.ensures.1 in
+    rw (p.1, p.2) (OneStops-after _ _ _ _ _ _ (went_on g (goal.at.returns-in_err-advance-in-Less-clause-went g c).In_ok-write_entry)
+    (left_stops _ _ _ _ _ _ _ _ _ _ c.loop-entry.invariant.right_place c.in_err-advance-in-Less.ensures.read))
 
 -- ---- the right input's entry was written
 
 pub loop-entry-preserved-in-Continue-branch-3 : goal.loop-entry-preserved-in-Continue-branch-3
 loop-entry-preserved-in-Continue-branch-3 g c =
-    let turn = subst (IsTurn c.loop-entry.self.lefts.held c.loop-entry.self.rights.held c.in-Some.entry.now c.in-Some.others.now) c.in-Greater.is
-    c.in-Some.ensures.some in
+    let turn = turn_is g (goal.at.loop-entry-preserved-in-Continue-branch-3 g c).In_ok-write_entry Greater c.in-Greater.is in
     let inv = c.loop-entry.invariant in
     let done = c.in_ok-write_entry.ensures in
     let read = c.in_ok-advance-in-Greater.ensures in
@@ -77,65 +89,63 @@ loop-entry-preserved-in-Continue-branch-3 g c =
       right_place = read.read.text.within;
       left_entry = inv.left_entry;
       right_entry = same_version_entry _ _ _ _ read.version read.entry;
-      went = AllGoOn-trans _ _ _ _ _ _ (AllGoOn-trans _ _ _ _ _ _ inv.went (wrote _ _ _ _ _ _ done.0)) (right_read _ _ _ _ _ _ _ _ read.read);
+      went = AllGoOn-trans _ _ _ _ _ _ (went_on g (goal.at.loop-entry-preserved-in-Continue-branch-3 g c).In_ok-write_entry) (right_read _ _ _ _ _ _ _ _ read.read);
     }
 
-pub returns-in_err-advance-in-Greater : goal.returns-in_err-advance-in-Greater
-returns-in_err-advance-in-Greater g c =
+pub returns-in_err-advance-in-Greater-clause-err : goal.returns-in_err-advance-in-Greater-clause-err
+returns-in_err-advance-in-Greater-clause-err g c start same is first =
     let p = err_from_is_err_and c.from_residual-in_err-advance-in-Greater.result c.from_residual-in_err-advance-in-Greater.ensures.1 in
-    let turn = subst (IsTurn c.loop-entry.self.lefts.held c.loop-entry.self.rights.held c.in-Some.entry.now c.in-Some.others.now) c.in-Greater.is
-    c.in-Some.ensures.some in
-    let inv = c.loop-entry.invariant in
+    let turn = turn_is g (goal.at.returns-in_err-advance-in-Greater-clause-err g c).In_ok-write_entry Greater c.in-Greater.is in
+    let now = c.loop-entry.invariant.stands start same is first in
     let done = c.in_ok-write_entry.ensures in
-    let e = c.in_err-advance-in-Greater.ensures.read in
-    rw (p.1, p.2) (record {
-      ok = λ start same is first. tt;
-      err = λ start same is first. let now = inv.stands start same is first in
-          right_refused start _ _ _ _ _ _ _ _ now.1 _ _ _ _ done.0.bytes' done.1 _ _ now.0 c.args.setup.now same Greater turn _ turn.0 _ _
-          (left_shows_none start _ _ _ _ _ _ _ _ now.1) _ e.fault;
-      went = OneStops-after _ _ _ _ _ _ (AllGoOn-trans _ _ _ _ _ _ inv.went (wrote _ _ _ _ _ _ done.0)) (right_stops _ _ _ _ _ _ _ _ _ _ inv.left_place e);
-    })
+    rw (p.1, p.2) (right_refused start _ _ _ _ _ _ _ _ now.1 _ _ _ _ done.0.bytes' done.1 _ _ now.0 c.args.setup.now same Greater turn _ turn.0 _ _
+    (left_shows_none start _ _ _ _ _ _ _ _ now.1) _
+    c.in_err-advance-in-Greater.ensures.read.fault)
+
+pub returns-in_err-advance-in-Greater-clause-went : goal.returns-in_err-advance-in-Greater-clause-went
+returns-in_err-advance-in-Greater-clause-went g c =
+    let p = err_from_is_err_and c.from_residual-in_err-advance-in-Greater.result c.from_residual-in_err-advance-in-Greater.ensures.1 in
+    rw (p.1, p.2) (OneStops-after _ _ _ _ _ _ (went_on g (goal.at.returns-in_err-advance-in-Greater-clause-went g c).In_ok-write_entry)
+    (right_stops _ _ _ _ _ _ _ _ _ _ c.loop-entry.invariant.left_place c.in_err-advance-in-Greater.ensures.read))
 
 -- ---- both have the entry that was written
 
-pub returns-in_err-advance-in-Equal : goal.returns-in_err-advance-in-Equal
-returns-in_err-advance-in-Equal g c =
+pub returns-in_err-advance-in-Equal-clause-err : goal.returns-in_err-advance-in-Equal-clause-err
+returns-in_err-advance-in-Equal-clause-err g c start same is first =
     let p = err_from_is_err_and c.from_residual-in_err-advance-in-Equal.result c.from_residual-in_err-advance-in-Equal.ensures.1 in
-    let turn = subst (IsTurn c.loop-entry.self.lefts.held c.loop-entry.self.rights.held c.in-Some.entry.now c.in-Some.others.now) c.in-Equal.is
-    c.in-Some.ensures.some in
-    let inv = c.loop-entry.invariant in
+    let turn = turn_is g (goal.at.returns-in_err-advance-in-Equal-clause-err g c).In_ok-write_entry Equal c.in-Equal.is in
+    let now = c.loop-entry.invariant.stands start same is first in
     let done = c.in_ok-write_entry.ensures in
-    let e = c.in_err-advance-in-Equal.ensures.read in
-    rw (p.1, p.2) (record {
-      ok = λ start same is first. tt;
-      err = λ start same is first. let now = inv.stands start same is first in
-          left_refused start _ _ _ _ _ _ _ _ now.1 _ _ _ _ done.0.bytes' done.1 _ _ now.0 c.args.setup.now same Equal turn turn.0 _ _ e.fault;
-      went = OneStops-after _ _ _ _ _ _ (AllGoOn-trans _ _ _ _ _ _ inv.went (wrote _ _ _ _ _ _ done.0)) (left_stops _ _ _ _ _ _ _ _ _ _ inv.right_place e);
-    })
+    rw (p.1, p.2) (left_refused start _ _ _ _ _ _ _ _ now.1 _ _ _ _ done.0.bytes' done.1 _ _ now.0 c.args.setup.now same Equal turn turn.0 _ _
+    c.in_err-advance-in-Equal.ensures.read.fault)
 
-pub returns-in_err-advance-in-Equal-2 : goal.returns-in_err-advance-in-Equal-2
-returns-in_err-advance-in-Equal-2 g c =
+pub returns-in_err-advance-in-Equal-clause-went : goal.returns-in_err-advance-in-Equal-clause-went
+returns-in_err-advance-in-Equal-clause-went g c =
+    let p = err_from_is_err_and c.from_residual-in_err-advance-in-Equal.result c.from_residual-in_err-advance-in-Equal.ensures.1 in
+    rw (p.1, p.2) (OneStops-after _ _ _ _ _ _ (went_on g (goal.at.returns-in_err-advance-in-Equal-clause-went g c).In_ok-write_entry)
+    (left_stops _ _ _ _ _ _ _ _ _ _ c.loop-entry.invariant.right_place c.in_err-advance-in-Equal.ensures.read))
+
+pub returns-in_err-advance-in-Equal-2-clause-err : goal.returns-in_err-advance-in-Equal-2-clause-err
+returns-in_err-advance-in-Equal-2-clause-err g c start same is first =
     let p = err_from_is_err_and c.from_residual-in_err-advance-in-Equal-2.result c.from_residual-in_err-advance-in-Equal-2.ensures.1 in
-    let turn = subst (IsTurn c.loop-entry.self.lefts.held c.loop-entry.self.rights.held c.in-Some.entry.now c.in-Some.others.now) c.in-Equal.is
-    c.in-Some.ensures.some in
-    let inv = c.loop-entry.invariant in
+    let turn = turn_is g (goal.at.returns-in_err-advance-in-Equal-2-clause-err g c).In_ok-write_entry Equal c.in-Equal.is in
+    let now = c.loop-entry.invariant.stands start same is first in
     let done = c.in_ok-write_entry.ensures in
     let read = c.in_ok-advance-in-Equal.ensures in
-    let e = c.in_err-advance-in-Equal-2.ensures.read in
-    rw (p.1, p.2) (record {
-      ok = λ start same is first. tt;
-      err = λ start same is first. let now = inv.stands start same is first in
-          right_refused start _ _ _ _ _ _ _ _ now.1 _ _ _ _ done.0.bytes' done.1 _ _ now.0 c.args.setup.now same Equal turn _ turn.1 _ _
-          (left_now_shows_none start _ _ _ _ _ _ _ _ now.1 _ _ _ _ done.0.bytes' done.1 _ _ now.0 c.args.setup.now same turn _ _ _
-          read.read.text read.entry read.follows read.end) _ e.fault;
-      went = OneStops-after _ _ _ _ _ _ (AllGoOn-trans _ _ _ _ _ _ (AllGoOn-trans _ _ _ _ _ _ inv.went (wrote _ _ _ _ _ _ done.0))
-          (left_read _ _ _ _ _ _ _ _ read.read)) (right_stops _ _ _ _ _ _ _ _ _ _ read.read.text.within e);
-    })
+    rw (p.1, p.2) (right_refused start _ _ _ _ _ _ _ _ now.1 _ _ _ _ done.0.bytes' done.1 _ _ now.0 c.args.setup.now same Equal turn _ turn.1 _ _
+    (left_now_shows_none start _ _ _ _ _ _ _ _ now.1 _ _ _ _ done.0.bytes' done.1 _ _ now.0 c.args.setup.now same turn _ _ _
+    read.read.text read.entry read.follows read.end) _
+    c.in_err-advance-in-Equal-2.ensures.read.fault)
+
+pub returns-in_err-advance-in-Equal-2-clause-went : goal.returns-in_err-advance-in-Equal-2-clause-went
+returns-in_err-advance-in-Equal-2-clause-went g c =
+    let p = err_from_is_err_and c.from_residual-in_err-advance-in-Equal-2.result c.from_residual-in_err-advance-in-Equal-2.ensures.1 in
+    rw (p.1, p.2) (OneStops-after _ _ _ _ _ _ (AllGoOn-trans _ _ _ _ _ _ (went_on g (goal.at.returns-in_err-advance-in-Equal-2-clause-went g c).In_ok-write_entry) (left_read _ _ _ _ _ _ _ _ c.in_ok-advance-in-Equal.ensures.read))
+    (right_stops _ _ _ _ _ _ _ _ _ _ c.in_ok-advance-in-Equal.ensures.read.text.within c.in_err-advance-in-Equal-2.ensures.read))
 
 pub loop-entry-preserved : goal.loop-entry-preserved
 loop-entry-preserved g c =
-    let turn = subst (IsTurn c.loop-entry.self.lefts.held c.loop-entry.self.rights.held c.in-Some.entry.now c.in-Some.others.now) c.in-Equal.is
-    c.in-Some.ensures.some in
+    let turn = turn_is g (goal.at.loop-entry-preserved g c).In_ok-write_entry Equal c.in-Equal.is in
     let inv = c.loop-entry.invariant in
     let done = c.in_ok-write_entry.ensures in
     let read = c.in_ok-advance-in-Equal.ensures in
@@ -149,7 +159,7 @@ loop-entry-preserved g c =
       right_place = also.read.text.within;
       left_entry = same_version_entry _ _ _ _ read.version read.entry;
       right_entry = same_version_entry _ _ _ _ also.version also.entry;
-      went = AllGoOn-trans _ _ _ _ _ _ (AllGoOn-trans _ _ _ _ _ _ (AllGoOn-trans _ _ _ _ _ _ inv.went (wrote _ _ _ _ _ _ done.0))
+      went = AllGoOn-trans _ _ _ _ _ _ (AllGoOn-trans _ _ _ _ _ _ (went_on g (goal.at.loop-entry-preserved g c).In_ok-write_entry)
           (left_read _ _ _ _ _ _ _ _ read.read)) (right_read _ _ _ _ _ _ _ _ also.read);
     }
 
