@@ -32,6 +32,7 @@ pub mod Reels
 pub mod Leasts
 pub mod Standings
 pub mod TileUnions
+pub mod HoldingSteps
 pub mod Found
 pub mod TileReads
 pub mod Restored

@@ -64,7 +64,7 @@ module _ (bytes : List ℕ) (os : List PoolEntry) (ds : List (List ℕ)) (rows :
   lt_low Equal e = refl
   lt_low Greater e = e
 
-  pub lt_parted : IsPartitionedBy (λ e. is_lt (to e)) os
+  lt_parted : IsPartitionedBy (λ e. is_lt (to e)) os
   lt_parted i j d le lt holds = elim (cases_order i j) [
     | inl same ↦ rw same holds
     | inr (inl before) ↦ elim (owners_rise bytes os ds rows i j d before lt) [
@@ -74,7 +74,7 @@ module _ (bytes : List ℕ) (os : List PoolEntry) (ds : List (List ℕ)) (rows :
     | inr (inr after) ↦ absurd (omega arith)
   ]
 
-  pub le_parted : IsPartitionedBy (λ e. is_le (to e)) os
+  le_parted : IsPartitionedBy (λ e. is_le (to e)) os
   le_parted i j d le lt holds = elim (cases_order i j) [
     | inl same ↦ rw same holds
     | inr (inl before) ↦ elim (owners_rise bytes os ds rows i j d before lt) [
@@ -84,7 +84,7 @@ module _ (bytes : List ℕ) (os : List PoolEntry) (ds : List (List ℕ)) (rows :
     | inr (inr after) ↦ absurd (omega arith)
   ]
 
-  pub row_parted : (a b : ℕ) → a ≤ length os → b ≤ length os
+  row_parted : (a b : ℕ) → a ≤ length os → b ≤ length os
       → IsPartitionPoint (λ e. is_lt (to e) ≡ true) (λ e. is_lt (to e) ≡ false) os a
       → IsPartitionPoint (λ e. is_le (to e) ≡ true) (λ e. is_le (to e) ≡ false) os b → IsRowPart bytes os q a b
   row_parted a b in_a in_b low high =
@@ -99,6 +99,12 @@ module _ (bytes : List ℕ) (os : List PoolEntry) (ds : List (List ℕ)) (rows :
         here = λ i d ge lt. entries_antisymmetric _ _ (between _ (low.1 i d ge (omega arith)) (high.0 i d (omega arith) lt));
         after = λ i d ge lt. le_more _ (high.1 i d ge lt);
       }
+
+  -- what searches for both ends find is the part, since the owners are in order
+  pub part_found : (a b : ℕ) → a ≤ length os → b ≤ length os
+      → (IsPartitionedBy (λ e. is_lt (to e)) os → IsPartitionPoint (λ e. is_lt (to e) ≡ true) (λ e. is_lt (to e) ≡ false) os a)
+      → (IsPartitionedBy (λ e. is_le (to e)) os → IsPartitionPoint (λ e. is_le (to e) ≡ true) (λ e. is_le (to e) ≡ false) os b) → IsRowPart bytes os q a b
+  part_found a b in_a in_b low high = row_parted a b in_a in_b (low lt_parted) (high le_parted)
 
   -- what is above an owner that is above the slice is above the slice
   above_high : (x y : Entry) → entry_cmp x y ≡ Less → entry_cmp x q ≡ Greater → entry_cmp y q ≡ Greater

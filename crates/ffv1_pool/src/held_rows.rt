@@ -1,5 +1,5 @@
 //! The rows that a pool holds (own).
-ghost use Rattle.std.specs.Prelude.{◌≡◌, ℕ, ◌+◌, ◌<◌, ◌≤◌, true, [], length, map, slice_index_or, vec_len, vec_capacity, OnOk, OnErr};
+ghost use Rattle.std.specs.Prelude.{◌≡◌, ℕ, ◌+◌, ◌<◌, ◌≤◌, true, [], length, map, slice_index_or, vec_len, vec_capacity, OnOk};
 ghost use Rattle.ffv1_pool.specs.Sets as set;
 ghost use Rattle.ffv1_pool.specs.SliceOrder.{entry_cmp, origin_cmp};
 ghost use Rattle.ffv1_pool.specs.Inner.PoolEntries.{entry_in, IsPool};

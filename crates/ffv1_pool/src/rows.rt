@@ -1,14 +1,14 @@
 //! Which copies gave the slices of a pool (own): rows of a slice's entry, the owner, and the SHA-256 digest of a copy.
 ghost use Rattle.std.specs.Bool.{OnTrue};
-ghost use Rattle.std.specs.Prelude.{◌≡◌, ℕ, ◌+◌, ◌<◌, ◌≤◌, true, length, map, slice_index_or, vec_len, vec_capacity, IfOk, IfErr, OnErr};
+ghost use Rattle.std.specs.Prelude.{◌≡◌, ◌+◌, ◌<◌, IfOk, IfErr, OnErr};
 ghost use Rattle.ffv1_pool.specs.Sets as set;
-ghost use Rattle.ffv1_pool.specs.SliceOrder.{entry_cmp, origin_cmp};
+ghost use Rattle.ffv1_pool.specs.SliceOrder.{origin_cmp};
 ghost use Rattle.ffv1_pool.specs.Inner.Rising.{IsPlaceOf, IsInsertionPlace};
-ghost use Rattle.ffv1_pool.specs.Inner.PoolEntries.{entry_in, IsPool};
+ghost use Rattle.ffv1_pool.specs.Inner.PoolEntries.{entry_in};
 ghost use Rattle.ffv1_pool.specs.TileSets.{digests_in};
-ghost use Rattle.ffv1_pool.specs.Contents.{AreHeld, AreDigests};
+ghost use Rattle.ffv1_pool.specs.Contents.{AreDigests};
 ghost use Rattle.ffv1_pool.specs.Inner.Fresh.{AreAllFresh};
-ghost use Rattle.ffv1_pool.specs.Inner.Rows.{rows_in, rows_of, IsRows, AreRows, IsRowPart, fresh_rows_in, AreFreshRows, AreOwnersMoved};
+ghost use Rattle.ffv1_pool.specs.Inner.Rows.{rows_of, AreRows, IsRowPart, fresh_rows_in, AreFreshRows};
 
 use crate::fault::HoldFault;
 use crate::fresh::Fresh;

@@ -7,6 +7,7 @@ use Rattle.ffv1_pool.specs.HoldingParts.{IsKept}
 use Rattle.ffv1_pool.specs.declared.holding.Holding.TheInside.{Inside}
 use Rattle.ffv1_pool.proofs.EntrySteps.{all-insert}
 use Rattle.ffv1_pool.proofs.OriginSteps.{held_each, whole_each}
+use Rattle.ffv1_pool.proofs.HoldingSteps.{kept-same}
 use Rattle.ffv1_pool.proofs.holding.Holding.insert.Goals as goal
 
 -- what a holding keeps is kept with one slice more, and where none was added
@@ -21,7 +22,7 @@ kept (Ok x) a e digests new is entry long ok err = record {
   origins_held = subst (λ (h : TileSlices). AreHeld h.slices h.origins) (sym ok) (held_each a.held.slices a.held.origins e digests is.origins_held);
   digests_whole = subst (λ (h : TileSlices). AreOfDigestLength h.origins) (sym ok) (whole_each a.held.slices a.held.origins e digests is.digests_whole long);
 }
-kept (Err x) a e digests new is entry long ok err = subst (λ (h : TileSlices). IsKept (record { reel = a.reel; held = h })) (sym err) is
+kept (Err x) a e digests new is entry long ok err = kept-same a new err is
 
 pub invariant_of-self : goal.invariant_of-self
 invariant_of-self c =

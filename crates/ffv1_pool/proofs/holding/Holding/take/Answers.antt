@@ -4,18 +4,16 @@ use Rattle.sha2.specs.Sha256.{sha256}
 use Rattle.ffv1_range.specs.Setup.{SetupValue}
 use Rattle.ffv1_slice.specs.Slices.{found_slices}
 use Rattle.ffv1_pool.specs.Sets as set
-use Rattle.ffv1_pool.specs.SliceOrder.{entry_cmp, origin_cmp, entries_total, entries_antisymmetric}
+use Rattle.ffv1_pool.specs.SliceOrder.{entry_cmp, origin_cmp}
 use Rattle.ffv1_pool.specs.Inner.TileSets.{TileSlices, with_more}
 use Rattle.ffv1_pool.specs.Inner.PoolEntries.{entry_in, IsPool}
 use Rattle.ffv1_pool.specs.declared.pool_entry.PoolEntry.{PoolEntry}
-use Rattle.ffv1_pool.specs.Contents.{Contents, IsEntryOf, AreEntriesOf, AreHeld, AreOfDigestLength, origins_of_copy, with_facts, with_found}
-use Rattle.ffv1_pool.specs.HoldingParts.{IsKept}
-use Rattle.ffv1_pool.specs.declared.holding.Holding.TheInside.{Inside}
+use Rattle.ffv1_pool.specs.Contents.{Contents, AreEntriesOf, origins_of_copy, with_facts, with_found}
 use Rattle.ffv1_pool.proofs.Errors.{error_is}
-use Rattle.ffv1_pool.proofs.EntrySteps.{all-union}
 use Rattle.ffv1_pool.proofs.Digests.{length-sha256}
-use Rattle.ffv1_pool.proofs.OriginSteps.{held_union, whole_union, held_marked, whole_marked, marked_same}
-use Rattle.ffv1_pool.proofs.TileUnions.{tiles-grown, slices-grown, origins-grown, size_grown}
+use Rattle.ffv1_pool.proofs.OriginSteps.{held_marked, whole_marked, marked_same}
+use Rattle.ffv1_pool.proofs.TileUnions.{size_grown}
+use Rattle.ffv1_pool.proofs.HoldingSteps.{kept-same, kept-grown, shown}
 use Rattle.ffv1_pool.proofs.holding.Holding.take.Goals as goal
 
 pub returns-then-payload-gt-PAYLOAD_LIMIT : goal.returns-then-payload-gt-PAYLOAD_LIMIT
@@ -36,23 +34,19 @@ pub insert_copy-requires : goal.insert_copy-requires
 insert_copy-requires c = subst (IsPool c.args.payload.now) (sym c.deref.ensures.value) c.in_ok-put_in_order.ensures.ok
 
 pub invariant_of-self : goal.invariant_of-self
-invariant_of-self c =
-    let kept = λ (held : TileSlices). let a : Inside = record { reel = c.self.inside.reel; held = held } in IsKept a in
-    subst kept (sym c.in_err-insert_copy.ensures.err) c.self.invariant
+invariant_of-self c = kept-same c.self.inside c.insert_copy.new.self c.in_err-insert_copy.ensures.err c.self.invariant
 
 pub returns-in_err-insert_copy : goal.returns-in_err-insert_copy
 returns-in_err-insert_copy c =
     let p = err_from_is_err_and c.from_residual-in_err-insert_copy.result c.from_residual-in_err-insert_copy.ensures.1 in
-    let memory = error_is c.in_err-insert_copy.ensures.memory in
-    let whole = λ (held : TileSlices). let h : Contents = record { reel = c.self.inside.reel; slices = held.slices; origins = held.origins } in h in
-    rw (p.1, p.2, memory) (record {
+    rw (p.1, p.2, error_is c.in_err-insert_copy.ensures.memory) (record {
       ok = tt;
       short = tt;
       links = tt;
       slices = tt;
       new = tt;
       fault = omega arith;
-      err = ap whole c.in_err-insert_copy.ensures.err ∙ c.self.view_is;
+      err = shown c.self.inside c.insert_copy.new.self c.self.inside.held _ c.in_err-insert_copy.ensures.err c.self.view_is;
     })
 
 abbrev slices_in : SetupValue → List ℕ → set.SetOf entry_cmp
@@ -92,23 +86,12 @@ grown_last c =
 
 pub invariant_of-self-2 : goal.invariant_of-self-2
 invariant_of-self-2 c =
-    let setup = c.setup.result.now in
     let copy = c.args.payload.now in
-    let old = c.self.inside.held in
-    let new = grown_last c in
-    let slices = slices_in setup copy in
-    let origins = origins_in setup copy in
-    let held = held_union old.slices slices old.origins origins c.self.invariant.origins_held (held_marked (sha256 copy) (found_slices setup copy)) in
-    let whole = whole_union old.origins origins c.self.invariant.digests_whole (whole_marked (sha256 copy) (found_slices setup copy) (length-sha256 copy)) in
-    record {
-      reel = c.self.invariant.reel;
-      tiles = tiles-grown old c.insert_copy.new.self slices origins new ∙ c.self.invariant.tiles;
-      slices = subst (AreEntriesOf c.self.inside.reel.setup) (sym (slices-grown old c.insert_copy.new.self slices origins new))
-          (all-union entries_total entries_antisymmetric (IsEntryOf c.self.inside.reel.setup) old.slices slices c.self.invariant.slices
-          (subst (λ (s : SetupValue). AreEntriesOf s slices) c.setup.ensures.value c.in_ok-links.ensures.sound));
-      origins_held = subst (λ (h : TileSlices). AreHeld h.slices h.origins) (sym new) held;
-      digests_whole = subst AreOfDigestLength (sym (origins-grown old c.insert_copy.new.self slices origins new)) whole;
-    }
+    let found = found_slices c.setup.result.now copy in
+    let slices = slices_in c.setup.result.now copy in
+    kept-grown c.self.inside c.insert_copy.new.self slices (origins_in c.setup.result.now copy) (grown_last c) c.self.invariant
+    (subst (λ (s : SetupValue). AreEntriesOf s slices) c.setup.ensures.value c.in_ok-links.ensures.sound)
+    (held_marked (sha256 copy) found) (whole_marked (sha256 copy) found (length-sha256 copy))
 
 pub returns-clause-new : goal.returns-clause-new
 returns-clause-new c =

@@ -1,16 +1,14 @@
 use Rattle.std.proofs.Common.{◌≡◌, rules, sym, ap, ◌∙◌, subst, arith}
 use Rattle.std.proofs.lemmas.Result.{err_from_is_err_and}
 use Rattle.ffv1_pool.specs.Sets as set
-use Rattle.ffv1_pool.specs.SliceOrder.{entries_total, entries_antisymmetric}
 use Rattle.ffv1_pool.specs.Reels.{Reel}
 use Rattle.ffv1_pool.specs.Inner.TileSets.{TileSlices}
-use Rattle.ffv1_pool.specs.Contents.{Contents, joined, IsEntryOf, AreEntriesOf, AreHeld, AreOfDigestLength}
-use Rattle.ffv1_pool.specs.HoldingParts.{contents, IsKept}
+use Rattle.ffv1_pool.specs.Contents.{Contents, joined, AreEntriesOf}
+use Rattle.ffv1_pool.specs.HoldingParts.{contents}
 use Rattle.ffv1_pool.specs.declared.holding.Holding.TheInside.{Inside}
 use Rattle.ffv1_pool.proofs.Errors.{error_is, memory_is_no_other, memory_is_not_long}
-use Rattle.ffv1_pool.proofs.EntrySteps.{all-union}
-use Rattle.ffv1_pool.proofs.OriginSteps.{held_union, whole_union}
-use Rattle.ffv1_pool.proofs.TileUnions.{tiles-grown, slices-grown, origins-grown, size_grown}
+use Rattle.ffv1_pool.proofs.TileUnions.{size_grown}
+use Rattle.ffv1_pool.proofs.HoldingSteps.{kept-same, kept-grown, shown}
 use Rattle.ffv1_pool.proofs.holding.HoldingJoin.join_with.Goals as goal
 
 -- what is shown is of one reel where what is kept is
@@ -18,16 +16,12 @@ reels_shown : (a b : Inside) {x y : Contents} → contents a ≡ x → contents 
 reels_shown a b x y same = ap (λ (h : Contents). h.reel) (sym x) ∙ same ∙ ap (λ (h : Contents). h.reel) y
 
 pub invariant_of-self : goal.invariant_of-self
-invariant_of-self c =
-    let kept = λ (held : TileSlices). let a : Inside = record { reel = c.self.inside.reel; held = held } in IsKept a in
-    subst kept (sym c.in_err-join.ensures.err) c.self.invariant
+invariant_of-self c = kept-same c.self.inside c.join.new.self c.in_err-join.ensures.err c.self.invariant
 
 pub returns-in_err-join : goal.returns-in_err-join
 returns-in_err-join c =
     let p = err_from_is_err_and c.from_residual.result c.from_residual.ensures.1 in
-    let memory = error_is c.in_err-join.ensures.memory in
-    let whole = λ (held : TileSlices). let h : Contents = record { reel = c.self.inside.reel; slices = held.slices; origins = held.origins } in h in
-    rw (p.1, p.2, memory) (record {
+    rw (p.1, p.2, error_is c.in_err-join.ensures.memory) (record {
       joined = tt;
       growth = tt;
       fits = tt;
@@ -35,7 +29,7 @@ returns-in_err-join c =
       other_reel = λ e. absurd (memory_is_no_other e);
       memory = λ _. reels_shown c.self.inside c.other.inside c.self.view_is c.other.view_is (search rules);
       too_long = memory_is_not_long;
-      err = ap whole c.in_err-join.ensures.err ∙ c.self.view_is;
+      err = shown c.self.inside c.join.new.self c.self.inside.held _ c.in_err-join.ensures.err c.self.view_is;
     })
 
 pub returns-clause-joined : goal.returns-clause-joined
@@ -57,20 +51,10 @@ overflow_sub-result c =
 pub invariant_of-self-2 : goal.invariant_of-self-2
 invariant_of-self-2 c =
     let same : c.self.inside.reel ≡ c.other.inside.reel = search rules in
-    let old = c.self.inside.held in
     let more = c.other.inside.held in
-    let slices = slices-grown old c.join.new.self more.slices more.origins c.in_ok-join.ensures.ok in
-    let origins = origins-grown old c.join.new.self more.slices more.origins c.in_ok-join.ensures.ok in
-    let held = held_union old.slices more.slices old.origins more.origins c.self.invariant.origins_held c.other.invariant.origins_held in
-    record {
-      reel = c.self.invariant.reel;
-      tiles = tiles-grown old c.join.new.self more.slices more.origins c.in_ok-join.ensures.ok ∙ c.self.invariant.tiles;
-      slices = subst (AreEntriesOf c.self.inside.reel.setup) (sym slices)
-          (all-union entries_total entries_antisymmetric (IsEntryOf c.self.inside.reel.setup) old.slices more.slices c.self.invariant.slices
-          (subst (λ (r : Reel). AreEntriesOf r.setup more.slices) (sym same) c.other.invariant.slices));
-      origins_held = subst (λ (h : TileSlices). AreHeld h.slices h.origins) (sym c.in_ok-join.ensures.ok) held;
-      digests_whole = subst AreOfDigestLength (sym origins) (whole_union old.origins more.origins c.self.invariant.digests_whole c.other.invariant.digests_whole);
-    }
+    kept-grown c.self.inside c.join.new.self more.slices more.origins c.in_ok-join.ensures.ok c.self.invariant
+    (subst (λ (r : Reel). AreEntriesOf r.setup more.slices) (sym same) c.other.invariant.slices)
+    c.other.invariant.origins_held c.other.invariant.digests_whole
 
 pub returns-clause-growth : goal.returns-clause-growth
 returns-clause-growth c =
