@@ -1,5 +1,5 @@
 -- What a report counts and measures.
-use Rattle.std.proofs.Common.{◌≡◌, ℕ, zero, suc, ◌+◌, ◌<◌, ◌≤◌, Bool, true, false, cond, List, [], ◌∷◌, ◌++◌, length, get_or, take, count_by, Option, Some, None, Result, Ok, Err, OnOk, append_assoc, unwrap_or, sym, ap, ◌∙◌, arith}
+use Rattle.std.proofs.Common.{◌≡◌, ℕ, zero, suc, ◌+◌, ◌<◌, ◌≤◌, Bool, cond, List, [], ◌∷◌, ◌++◌, length, get_or, take, count_by, Option, Some, None, Result, Ok, Err, OnOk, append_assoc, unwrap_or, sym, ap, ◌∙◌, arith}
 use Rattle.std.specs.List.{flat_map, range_with_len, sum_by}
 use Rattle.std.proofs.lemmas.List.{take_more, append-nil}
 use Rattle.std.proofs.lemmas.Grind.{flat_map-append}
@@ -44,11 +44,9 @@ module _ (h : Contents) (stands : Standing → Bool) (n count : ℕ) (so_far : c
       ∙ count_by-push (λ tile. stands (tile_state h tile)) (range_with_len 0 n) n
       ∙ (λ i. sym so_far i + cond (stands (sym is i)) 1 0)
 
-  pub one_more : stands s ≡ true → count + 1 ≡ count_by (λ tile. stands (tile_state h tile)) (range_with_len 0 (n + 1))
-  one_more does = sym (more ∙ ap (λ b. count + cond b 1 0) does)
-
-  pub none_more : stands s ≡ false → count ≡ count_by (λ tile. stands (tile_state h tile)) (range_with_len 0 (n + 1))
-  none_more not_so = sym (more ∙ ap (λ b. count + cond b 1 0) not_so ∙ (let e : count + 0 ≡ count = omega arith in e))
+  -- the count with one tile more
+  pub with_tile : count + cond (stands s) 1 0 ≡ count_by (λ tile. stands (tile_state h tile)) (range_with_len 0 (n + 1))
+  with_tile = sym more
 
 -- ---- text that is added
 

@@ -2,88 +2,33 @@ use Rattle.std.proofs.Common.{rules}
 use Rattle.std.proofs.lemmas.Result.{err_from_is_err_and}
 use Rattle.ffv1_picture.specs.Headline.{IsHoldingOfPlan, IsRestored}
 use Rattle.ffv1_picture.proofs.Restorations.{equal_holdings, restores_original, shows_slices, near_plan}
+use Rattle.ffv1_hold.specs.Plans.{IsCarriedOut}
+use Rattle.ffv1_picture.proofs.restoring.restored.Goals.{In_ok-holding}
 use Rattle.ffv1_picture.proofs.restoring.restored.Goals as goal
 
-pub returns-in_err-holding : goal.returns-in_err-holding
-returns-in_err-holding c =
+pub returns-in_err-holding-clause-fault : goal.returns-in_err-holding-clause-fault
+returns-in_err-holding-clause-fault c =
     let p = err_from_is_err_and c.from_residual.result c.from_residual.ensures.1 in
-    rw (p.1, p.2) (record {
-      holding = tt;
-      payload = tt;
-      report = tt;
-      picture = tt;
-      whole = λ pictures. tt;
-      same_copies = λ other h also same. tt;
-      original = λ original slices. tt;
-      samples = λ original slices. tt;
-      near = λ original slices. tt;
-      near_samples = λ original slices. tt;
-      short = tt;
-      fits = tt;
-      fault = c.in_err-holding.ensures.fault;
-    })
+    rw (p.1, p.2) c.in_err-holding.ensures.fault
 
-pub returns-in-Err-Memory : goal.returns-in-Err-Memory
-returns-in-Err-Memory c =
-    let h = c.in_ok-holding.holding in
+-- the plan was carried out
+carried : (c : In_ok-holding) → IsCarriedOut c.args.config.now c.args.width c.args.height c.args.plan.now
+carried c =
     let e = c.in_ok-holding.ensures in
-    record {
-      holding = tt;
-      payload = tt;
-      report = tt;
-      picture = tt;
-      whole = λ pictures. tt;
-      same_copies = λ other h also same. tt;
-      original = λ original slices. tt;
-      samples = λ original slices. tt;
-      near = λ original slices. tt;
-      near_samples = λ original slices. tt;
-      short = tt;
-      fits = tt;
-      fault = (h.reel, (e.config, e.setup), e.short, e.fits);
-    }
+    (c.in_ok-holding.holding.reel, (e.config, e.setup), e.short, e.fits)
 
-pub returns-in_err-report : goal.returns-in_err-report
-returns-in_err-report c =
-    let h = c.in_ok-holding.holding in
-    let e = c.in_ok-holding.ensures in
+pub returns-in-Err-Memory-clause-fault : goal.returns-in-Err-Memory-clause-fault
+returns-in-Err-Memory-clause-fault c = carried (goal.at.returns-in-Err-Memory-clause-fault c).In_ok-holding
+
+pub returns-in_err-report-clause-fault : goal.returns-in_err-report-clause-fault
+returns-in_err-report-clause-fault c =
     let p = err_from_is_err_and c.from_residual-in_err-report.result c.from_residual-in_err-report.ensures.1 in
-    rw (p.1, p.2) (record {
-      holding = tt;
-      payload = tt;
-      report = tt;
-      picture = tt;
-      whole = λ pictures. tt;
-      same_copies = λ other h also same. tt;
-      original = λ original slices. tt;
-      samples = λ original slices. tt;
-      near = λ original slices. tt;
-      near_samples = λ original slices. tt;
-      short = tt;
-      fits = tt;
-      fault = (h.reel, (e.config, e.setup), e.short, e.fits);
-    })
+    rw (p.1, p.2) (carried (goal.at.returns-in_err-report-clause-fault c).In_ok-holding)
 
-pub returns-in_err-picture : goal.returns-in_err-picture
-returns-in_err-picture c =
-    let h = c.in_ok-holding.holding in
-    let e = c.in_ok-holding.ensures in
+pub returns-in_err-picture-clause-fault : goal.returns-in_err-picture-clause-fault
+returns-in_err-picture-clause-fault c =
     let p = err_from_is_err_and c.from_residual-in_err-picture.result c.from_residual-in_err-picture.ensures.1 in
-    rw (p.1, p.2) (record {
-      holding = tt;
-      payload = tt;
-      report = tt;
-      picture = tt;
-      whole = λ pictures. tt;
-      same_copies = λ other h also same. tt;
-      original = λ original slices. tt;
-      samples = λ original slices. tt;
-      near = λ original slices. tt;
-      near_samples = λ original slices. tt;
-      short = tt;
-      fits = tt;
-      fault = (h.reel, (e.config, e.setup), e.short, e.fits);
-    })
+    rw (p.1, p.2) (carried (goal.at.returns-in_err-picture-clause-fault c).In_ok-holding)
 
 pub returns : goal.returns
 returns c =
