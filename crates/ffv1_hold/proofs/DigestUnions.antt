@@ -4,6 +4,7 @@ use Rattle.std.proofs.lemmas.Bool.{or_left, or_right}
 use mathlib.Core.Bool.{true≢false, or_assoc, or-false}
 use Rattle.std.specs.Ordering.{is_eq, eq_by_cmp, ordering_reverse}
 use Rattle.std.specs.Cmp.{tied_itself}
+use Rattle.std.specs.declared.cmp.Ordering.{Ordering}
 use Rattle.std.specs.declared.cmp.Ordering.TheVariants.{Less, Equal, Greater}
 use Rattle.ffv1_pool.specs.Sets as set
 use Rattle.ffv1_pool.specs.SliceOrder.{bytes_cmp, bytes_total, bytes_antisymmetric}
@@ -115,21 +116,23 @@ union-alone xs up = same_digests (digests_union xs []) xs (union-rises xs []) up
 pub rest_rises : (xs : List (List ℕ)) (x : List ℕ) (rest : List (List ℕ)) → xs ≡ x ∷ rest → AreDigests xs → AreDigests rest
 rest_rises xs x rest is up = rising_rest bytes_cmp x rest (subst AreDigests is up)
 
+-- the union's first digest and what stands after it, by the order of both first ones
+abbrev pub BeginsBy : (xs ys : List (List ℕ)) (x y : List ℕ) (xs' ys' : List (List ℕ)) → Ordering → Type 0
+BeginsBy xs ys x y xs' ys' Less = digests_union xs ys ≡ x ∷ digests_union xs' ys
+BeginsBy xs ys x y xs' ys' Equal = digests_union xs ys ≡ x ∷ digests_union xs' ys'
+BeginsBy xs ys x y xs' ys' Greater = digests_union xs ys ≡ y ∷ digests_union xs ys'
+
 module _ (xs ys : List (List ℕ)) (x y : List ℕ) (xs' ys' : List (List ℕ)) (left : xs ≡ x ∷ xs') (right : ys ≡ y ∷ ys') (xs_up : AreDigests xs)
     (ys_up : AreDigests ys) where
-  pub first_less : bytes_cmp x y ≡ Less → digests_union xs ys ≡ x ∷ digests_union xs' ys
-  first_less less =
+  pub begins_by : (o : Ordering) → bytes_cmp x y ≡ o → BeginsBy xs ys x y xs' ys' o
+  begins_by Less less =
       (λ i. digests_union (left i) (right i)) ∙ union-less x y xs' ys' less (subst AreDigests left xs_up) (subst AreDigests right ys_up)
       ∙ ap (λ zs. x ∷ digests_union xs' zs) (sym right)
-
-  pub first_greater : bytes_cmp x y ≡ Greater → digests_union xs ys ≡ y ∷ digests_union xs ys'
-  first_greater greater =
+  begins_by Equal equal =
+      (λ i. digests_union (left i) (right i)) ∙ union-equal x y xs' ys' equal (subst AreDigests left xs_up) (subst AreDigests right ys_up)
+  begins_by Greater greater =
       (λ i. digests_union (left i) (right i)) ∙ union-greater x y xs' ys' greater (subst AreDigests left xs_up) (subst AreDigests right ys_up)
       ∙ ap (λ zs. y ∷ digests_union zs ys') (sym left)
-
-  pub first_equal : bytes_cmp x y ≡ Equal → digests_union xs ys ≡ x ∷ digests_union xs' ys'
-  first_equal equal =
-      (λ i. digests_union (left i) (right i)) ∙ union-equal x y xs' ys' equal (subst AreDigests left xs_up) (subst AreDigests right ys_up)
 
 pub first_alone : (xs : List (List ℕ)) (x : List ℕ) (rest none : List (List ℕ)) → xs ≡ x ∷ rest → none ≡ [] → AreDigests xs
     → digests_union xs none ≡ x ∷ digests_union rest none

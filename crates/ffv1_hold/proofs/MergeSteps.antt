@@ -21,8 +21,8 @@ use Rattle.ffv1_hold.specs.FileEntries.{last_of, Follows, AreOrigins, AreDigests
 use Rattle.ffv1_hold.specs.Inner.FileEntries.{next_text}
 use Rattle.ffv1_hold.specs.FileFaults.{IsFileReel, IsPartOfFile, FileIsWhole, FileShows, IsPartOfEntry, EntryShows}
 use Rattle.ffv1_hold.specs.Inner.FileFaults.{EndIsWhole}
-use Rattle.ffv1_hold.specs.MergedStreams.{ReadsPart, ReadsAll, ReadsSoFar, EntriesPass, InputRefuses, ShowsNoFault, OneRefuses, MergeRefuses, StreamBegins, BeginsWithPart, WritesFrontSoFar, Inputs}
-use Rattle.ffv1_hold.specs.Inner.Merging.{Start, AreVersions, inputs_from, Facts, part, with_file_entry, both, IsPassed, IsReadUpTo, ReadsToNext, FollowsAll, Stands, Stops, Ends, with_digests, IsWritten, IsTurn, EntryStops}
+use Rattle.ffv1_hold.specs.MergedStreams.{ReadsPart, ReadsAll, ReadsSoFar, EntriesPass, InputRefuses, ShowsNoFault, OneRefuses, MergeRefuses, StreamBegins, BeginsWithPart, WritesFrontSoFar, Inputs, WritesNoEnd, WritesAtMost}
+use Rattle.ffv1_hold.specs.Inner.Merging.{Start, AreVersions, inputs_from, Facts, part, with_file_entry, both, IsPassed, IsReadUpTo, ReadsToNext, FollowsAll, Stands, Stops, Ends, with_digests, IsWritten, IsTurn, EntryStops, StopsAtWrite}
 use Rattle.ffv1_hold.proofs.ReadRefusals.{Takes-trans, Refuses-after}
 use Rattle.ffv1_hold.proofs.Entries.{part_of_entries, entries_show}
 use Rattle.ffv1_hold.proofs.Heads.{file_from_entries_part, file_from_whole_entries, file_from_entries_fault}
@@ -156,11 +156,9 @@ one_refused_outside i f (inr r) = (λ is. subst (InputRefuses i.right_old i.righ
 
 module _ (i : Inputs) (r : Reel) (is : IsFileReel r) (v w : Version) (left_head : StreamBegins i.left_old (head_text v r))
     (right_head : StreamBegins i.right_old (head_text w r)) (old new : Option (List ℕ)) where
-  -- the sink is not the fault: the head and whole entries were written
-  pub stops_between : (x y : Facts) → BeginsWithPart i.left_old (part r x) → BeginsWithPart i.right_old (part r y)
-      → Appends old new (begun_text Second (part r (both x y))) → length (begun_text Second (part r (both x y))) ≤ file_limit
-      → (f : HoldFileFault) → MergeRefuses i f → (f ≡ faults.Write → ⊥) × (f ≡ faults.OtherReel → ⊥) → Stops i old new f
-  stops_between x y left right written few f fault outside = record {
+  stopped : (f : HoldFileFault) → MergeRefuses i f → (f ≡ faults.OtherReel → ⊥) → ((f ≡ faults.Write → ⊥) → WritesNoEnd i old new)
+      → (f ≡ faults.Write → StopsAtWrite i r old new) → WritesAtMost old new file_limit → Stops i old new f
+  stopped f fault inside no_end write most = record {
     reel = r;
     is = is;
     left_version = v;
@@ -168,11 +166,20 @@ module _ (i : Inputs) (r : Reel) (is : IsFileReel r) (v w : Version) (left_head 
     left_head = left_head;
     right_head = right_head;
     fault = fault;
-    inside = outside.1;
-    no_end = λ _. inr (record { left = part r x; right = part r y; left_begins = left; right_begins = right; same = refl; written = written });
-    write = λ is_write. absurd (outside.0 is_write);
-    most = record { done = begun_text Second (part r (both x y)); written = written; few = few };
+    inside = inside;
+    no_end = no_end;
+    write = write;
+    most = most;
   }
+
+  -- the sink is not the fault: the head and whole entries were written
+  pub stops_between : (x y : Facts) → BeginsWithPart i.left_old (part r x) → BeginsWithPart i.right_old (part r y)
+      → Appends old new (begun_text Second (part r (both x y))) → length (begun_text Second (part r (both x y))) ≤ file_limit
+      → (f : HoldFileFault) → MergeRefuses i f → (f ≡ faults.Write → ⊥) × (f ≡ faults.OtherReel → ⊥) → Stops i old new f
+  stops_between x y left right written few f fault outside =
+      stopped f fault outside.1
+      (λ _. inr (record { left = part r x; right = part r y; left_begins = left; right_begins = right; same = refl; written = written }))
+      (λ is_write. absurd (outside.0 is_write)) (record { done = begun_text Second (part r (both x y)); written = written; few = few })
 
   -- an input is the fault
   pub stops_reading : (x y : Facts) → BeginsWithPart i.left_old (part r x) → BeginsWithPart i.right_old (part r y)
@@ -184,19 +191,10 @@ module _ (i : Inputs) (r : Reel) (is : IsFileReel r) (v w : Version) (left_head 
   pub stops_writing : ShowsNoFault i.left_old i.left_new → ShowsNoFault i.right_old i.right_new → WritesFrontSoFar i old new
       → (done : List ℕ) → Appends old new done → length done ≤ file_limit → ReadsToNext v r i.left_old i.left_new i.right_old done
       → ReadsToNext w r i.right_old i.right_new i.left_old done → Stops i old new faults.Write
-  stops_writing left right front done written few left_read right_read = record {
-    reel = r;
-    is = is;
-    left_version = v;
-    right_version = w;
-    left_head = left_head;
-    right_head = right_head;
-    fault = inr (left, right);
-    inside = λ other. absurd (cc);
-    no_end = λ other. absurd (other refl);
-    write = λ _. record { front = front; done = done; written = written; left_version = v; right_version = w; left = left_read; right = right_read };
-    most = record { done = done; written = written; few = few };
-  }
+  stops_writing left right front done written few left_read right_read =
+      stopped faults.Write (inr (left, right)) (λ other. absurd (cc)) (λ other. absurd (other refl))
+      (λ _. record { front = front; done = done; written = written; left_version = v; right_version = w; left = left_read; right = right_read })
+      (record { done = done; written = written; few = few })
 
 -- ---- one step of both
 

@@ -1,55 +1,52 @@
-use Rattle.std.proofs.Common.{sym, ◌∙◌}
+use Rattle.std.proofs.Common.{◌≡◌, sym, ◌∙◌}
+use Rattle.std.specs.declared.cmp.Ordering.{Ordering}
+use Rattle.std.specs.declared.cmp.Ordering.TheVariants.{Less, Equal, Greater}
 use Rattle.std.proofs.lemmas.List.{nil_from_length}
 use Rattle.ffv1_hold.specs.Inner.Merging.{digests_union}
-use Rattle.ffv1_hold.proofs.DigestUnions.{rest_rises, first_less, first_equal, first_greater, first_alone, first_other, union-none}
+use Rattle.ffv1_hold.proofs.DigestUnions.{rest_rises, BeginsBy, begins_by, first_alone, first_other, union-none}
+use Rattle.ffv1_hold.proofs.union.next_digest.Goals.{After-cmp}
 use Rattle.ffv1_hold.proofs.union.next_digest.Goals as goal
 
+begins : (c : After-cmp) (o : Ordering) → c.cmp.result ≡ o → BeginsBy c.args.left.now c.args.right.now c.in-Some.a.now c.in-Some-split_first.b.now
+    c.in-Some.lefts.now c.in-Some-split_first.rights.now o
+begins c o is =
+    begins_by _ _ c.in-Some.a.now c.in-Some-split_first.b.now c.in-Some.lefts.now c.in-Some-split_first.rights.now
+    c.in-Some.ensures.cases.0 c.in-Some-split_first.ensures.cases.0 c.requires.left c.requires.right o (sym c.cmp.ensures ∙ is)
+
 pub returns-in-Less-clause-some : goal.returns-in-Less-clause-some
-returns-in-Less-clause-some c =
-    first_less _ _ c.in-Some.a.now c.in-Some-split_first.b.now c.in-Some.lefts.now c.in-Some-split_first.rights.now
-    c.in-Some.ensures.cases.0 c.in-Some-split_first.ensures.cases.0 c.requires.left c.requires.right (sym c.cmp.ensures ∙ c.in-Less.is)
+returns-in-Less-clause-some c = begins (goal.at.returns-in-Less-clause-some c).After-cmp Less c.in-Less.is
 
 pub returns-in-Less-clause-left_after : goal.returns-in-Less-clause-left_after
-returns-in-Less-clause-left_after c =
-    rest_rises _ _ _ c.in-Some.ensures.cases.0 c.requires.left
+returns-in-Less-clause-left_after c = rest_rises _ _ _ c.in-Some.ensures.cases.0 c.requires.left
 
 pub returns-in-Equal-clause-some : goal.returns-in-Equal-clause-some
-returns-in-Equal-clause-some c =
-    first_equal _ _ c.in-Some.a.now c.in-Some-split_first.b.now c.in-Some.lefts.now c.in-Some-split_first.rights.now
-    c.in-Some.ensures.cases.0 c.in-Some-split_first.ensures.cases.0 c.requires.left c.requires.right (sym c.cmp.ensures ∙ c.in-Equal.is)
+returns-in-Equal-clause-some c = begins (goal.at.returns-in-Equal-clause-some c).After-cmp Equal c.in-Equal.is
 
 pub returns-in-Equal-clause-left_after : goal.returns-in-Equal-clause-left_after
-returns-in-Equal-clause-left_after c =
-    rest_rises _ _ _ c.in-Some.ensures.cases.0 c.requires.left
+returns-in-Equal-clause-left_after c = rest_rises _ _ _ c.in-Some.ensures.cases.0 c.requires.left
 
 pub returns-in-Equal-clause-right_after : goal.returns-in-Equal-clause-right_after
-returns-in-Equal-clause-right_after c =
-    rest_rises _ _ _ c.in-Some-split_first.ensures.cases.0 c.requires.right
+returns-in-Equal-clause-right_after c = rest_rises _ _ _ c.in-Some-split_first.ensures.cases.0 c.requires.right
 
 pub returns-in-Greater-clause-some : goal.returns-in-Greater-clause-some
-returns-in-Greater-clause-some c =
-    first_greater _ _ c.in-Some.a.now c.in-Some-split_first.b.now c.in-Some.lefts.now c.in-Some-split_first.rights.now
-    c.in-Some.ensures.cases.0 c.in-Some-split_first.ensures.cases.0 c.requires.left c.requires.right (sym c.cmp.ensures ∙ c.in-Greater.is)
+returns-in-Greater-clause-some c = begins (goal.at.returns-in-Greater-clause-some c).After-cmp Greater c.in-Greater.is
 
 pub returns-in-Greater-clause-right_after : goal.returns-in-Greater-clause-right_after
-returns-in-Greater-clause-right_after c =
-    rest_rises _ _ _ c.in-Some-split_first.ensures.cases.0 c.requires.right
+returns-in-Greater-clause-right_after c = rest_rises _ _ _ c.in-Some-split_first.ensures.cases.0 c.requires.right
 
 pub returns-in-None-split_first-clause-some : goal.returns-in-None-split_first-clause-some
 returns-in-None-split_first-clause-some c =
     first_alone _ _ c.in-Some.lefts.now _ c.in-Some.ensures.cases.0 (nil_from_length _ c.in-None-split_first.ensures.cases) c.requires.left
 
 pub returns-in-None-split_first-clause-left_after : goal.returns-in-None-split_first-clause-left_after
-returns-in-None-split_first-clause-left_after c =
-    rest_rises _ _ _ c.in-Some.ensures.cases.0 c.requires.left
+returns-in-None-split_first-clause-left_after c = rest_rises _ _ _ c.in-Some.ensures.cases.0 c.requires.left
 
 pub returns-in-Some-split_first-2-clause-some : goal.returns-in-Some-split_first-2-clause-some
 returns-in-Some-split_first-2-clause-some c =
     first_other _ _ c.in-Some-split_first-2.rights.now _ c.in-Some-split_first-2.ensures.cases.0 (nil_from_length _ c.in-None.ensures.cases) c.requires.right
 
 pub returns-in-Some-split_first-2-clause-right_after : goal.returns-in-Some-split_first-2-clause-right_after
-returns-in-Some-split_first-2-clause-right_after c =
-    rest_rises _ _ _ c.in-Some-split_first-2.ensures.cases.0 c.requires.right
+returns-in-Some-split_first-2-clause-right_after c = rest_rises _ _ _ c.in-Some-split_first-2.ensures.cases.0 c.requires.right
 
 pub returns-in-None-split_first-2-clause-none : goal.returns-in-None-split_first-2-clause-none
 returns-in-None-split_first-2-clause-none c =

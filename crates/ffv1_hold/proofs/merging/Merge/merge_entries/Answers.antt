@@ -54,7 +54,8 @@ loop-entry-preserved-in-Continue-branch-2 g c =
       right_place = inv.right_place;
       left_entry = same_version_entry _ _ _ _ read.version read.entry;
       right_entry = inv.right_entry;
-      went = AllGoOn-trans _ _ _ _ _ _ (went_on g (goal.at.loop-entry-preserved-in-Continue-branch-2 g c).In_ok-write_entry) (left_read _ _ _ _ _ _ _ _ read.read);
+      went = AllGoOn-trans _ _ _ _ _ _ (went_on g (goal.at.loop-entry-preserved-in-Continue-branch-2 g c).In_ok-write_entry)
+          (left_read _ _ _ _ _ _ _ _ read.read);
     }
 
 pub returns-in_err-advance-in-Less-clause-err : goal.returns-in_err-advance-in-Less-clause-err
@@ -89,7 +90,8 @@ loop-entry-preserved-in-Continue-branch-3 g c =
       right_place = read.read.text.within;
       left_entry = inv.left_entry;
       right_entry = same_version_entry _ _ _ _ read.version read.entry;
-      went = AllGoOn-trans _ _ _ _ _ _ (went_on g (goal.at.loop-entry-preserved-in-Continue-branch-3 g c).In_ok-write_entry) (right_read _ _ _ _ _ _ _ _ read.read);
+      went = AllGoOn-trans _ _ _ _ _ _ (went_on g (goal.at.loop-entry-preserved-in-Continue-branch-3 g c).In_ok-write_entry)
+          (right_read _ _ _ _ _ _ _ _ read.read);
     }
 
 pub returns-in_err-advance-in-Greater-clause-err : goal.returns-in_err-advance-in-Greater-clause-err
@@ -99,8 +101,7 @@ returns-in_err-advance-in-Greater-clause-err g c start same is first =
     let now = c.loop-entry.invariant.stands start same is first in
     let done = c.in_ok-write_entry.ensures in
     rw (p.1, p.2) (right_refused start _ _ _ _ _ _ _ _ now.1 _ _ _ _ done.0.bytes' done.1 _ _ now.0 c.args.setup.now same Greater turn _ turn.0 _ _
-    (left_shows_none start _ _ _ _ _ _ _ _ now.1) _
-    c.in_err-advance-in-Greater.ensures.read.fault)
+    (left_shows_none start _ _ _ _ _ _ _ _ now.1) _ c.in_err-advance-in-Greater.ensures.read.fault)
 
 pub returns-in_err-advance-in-Greater-clause-went : goal.returns-in_err-advance-in-Greater-clause-went
 returns-in_err-advance-in-Greater-clause-went g c =
@@ -134,14 +135,15 @@ returns-in_err-advance-in-Equal-2-clause-err g c start same is first =
     let read = c.in_ok-advance-in-Equal.ensures in
     rw (p.1, p.2) (right_refused start _ _ _ _ _ _ _ _ now.1 _ _ _ _ done.0.bytes' done.1 _ _ now.0 c.args.setup.now same Equal turn _ turn.1 _ _
     (left_now_shows_none start _ _ _ _ _ _ _ _ now.1 _ _ _ _ done.0.bytes' done.1 _ _ now.0 c.args.setup.now same turn _ _ _
-    read.read.text read.entry read.follows read.end) _
-    c.in_err-advance-in-Equal-2.ensures.read.fault)
+    read.read.text read.entry read.follows read.end) _ c.in_err-advance-in-Equal-2.ensures.read.fault)
 
 pub returns-in_err-advance-in-Equal-2-clause-went : goal.returns-in_err-advance-in-Equal-2-clause-went
 returns-in_err-advance-in-Equal-2-clause-went g c =
     let p = err_from_is_err_and c.from_residual-in_err-advance-in-Equal-2.result c.from_residual-in_err-advance-in-Equal-2.ensures.1 in
-    rw (p.1, p.2) (OneStops-after _ _ _ _ _ _ (AllGoOn-trans _ _ _ _ _ _ (went_on g (goal.at.returns-in_err-advance-in-Equal-2-clause-went g c).In_ok-write_entry) (left_read _ _ _ _ _ _ _ _ c.in_ok-advance-in-Equal.ensures.read))
-    (right_stops _ _ _ _ _ _ _ _ _ _ c.in_ok-advance-in-Equal.ensures.read.text.within c.in_err-advance-in-Equal-2.ensures.read))
+    let went = went_on g (goal.at.returns-in_err-advance-in-Equal-2-clause-went g c).In_ok-write_entry in
+    let read = c.in_ok-advance-in-Equal.ensures.read in
+    rw (p.1, p.2) (OneStops-after _ _ _ _ _ _ (AllGoOn-trans _ _ _ _ _ _ went (left_read _ _ _ _ _ _ _ _ read))
+    (right_stops _ _ _ _ _ _ _ _ _ _ read.text.within c.in_err-advance-in-Equal-2.ensures.read))
 
 pub loop-entry-preserved : goal.loop-entry-preserved
 loop-entry-preserved g c =
