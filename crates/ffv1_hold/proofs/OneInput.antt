@@ -43,9 +43,8 @@ record IsOverLimit (input : List ℕ) (f : HoldFileFault) : Type 0 where
 record IsAfterText (input : List ℕ) (f : HoldFileFault) : Type 0 where
   is : f ≡ faults.Trailing
   seen : List ℕ
-  more : ℕ
   rest : List ℕ
-  split : input ≡ seen ++ more ∷ rest
+  split : input ≡ seen ++ rest
   whole : IsHoldingText seen
   within : length seen ≤ file_limit
 
@@ -86,7 +85,7 @@ kind_of input faults.TooLong left inside (inr r) =
     })))
 kind_of input faults.Trailing left inside r =
     let on = goes_on input r.seen r.more left r.taken in
-    inr (inr (inr (record { is = refl; seen = r.seen; more = r.more; rest = on.0; split = on.1; whole = r.whole; within = omega (arith, r.within) })))
+    inr (inr (inr (record { is = refl; seen = r.seen; rest = r.more ∷ on.0; split = on.1; whole = r.whole; within = omega (arith, r.within) })))
 kind_of input faults.Magic left inside r = shown_kind input faults.Magic left r
 kind_of input (faults.Setup k) left inside r = shown_kind input (faults.Setup k) left r
 kind_of input faults.Tag left inside r = shown_kind input faults.Tag left r
@@ -121,19 +120,19 @@ module _ (input : List ℕ) (f g : HoldFileFault) where
   shown_before : IsShown input f → IsAfterText input g → ⊥
   shown_before a b =
       let h = b.whole in
-      text_none h.3.0 h.0 h.1 h.2 h.3.1 (b.more ∷ b.rest) a.seen a.rest f (sym (ap (λ q. q ++ b.more ∷ b.rest) h.3.2) ∙ sym b.split ∙ a.split) a.shown
+      text_none h.3.0 h.0 h.1 h.2 h.3.1 b.rest a.seen a.rest f (sym (ap (λ q. q ++ b.rest) h.3.2) ∙ sym b.split ∙ a.split) a.shown
 
   cut_within : IsCutOff input f → IsOverLimit input g → ⊥
   cut_within a b = omega (arith, a.within, b.at_limit, ap length b.split, length-append b.seen (b.more ∷ b.rest))
 
   cut_before : IsCutOff input f → IsAfterText input g → ⊥
-  cut_before a b = text_apart b.seen input (b.more ∷ b.rest) b.whole b.split a.unfinished
+  cut_before a b = text_apart b.seen input b.rest b.whole b.split a.unfinished
 
   over_before : IsOverLimit input f → IsAfterText input g → ⊥
   over_before a b =
       let end = a.at_limit in
       let few = b.within in
-      text_apart b.seen a.seen _ b.whole (begins b.seen a.seen (b.more ∷ b.rest) (a.more ∷ a.rest) (sym b.split ∙ a.split) (omega arith)) a.unfinished
+      text_apart b.seen a.seen _ b.whole (begins b.seen a.seen b.rest (a.more ∷ a.rest) (sym b.split ∙ a.split) (omega arith)) a.unfinished
 
 pub one_input : (input : List ℕ) (f g : HoldFileFault) → IsFaultOf input f → IsFaultOf input g → f ≡ g
 one_input input f g (f_inside, (f_left, f_is)) (g_inside, (g_left, g_is)) = go (kind_of input f f_left f_inside f_is) (kind_of input g g_left g_inside g_is)
