@@ -1,6 +1,6 @@
 -- What a call that failed says, after bytes that an earlier call took.
 use Rattle.std.specs.Prelude.{◌⊎◌}
-use Rattle.std.proofs.Common.{◌≡◌, ℕ, ◌≤◌, List, [], ◌∷◌, ◌++◌, Option, arith, inl, inr, subst, sym, append_assoc, length-append}
+use Rattle.std.proofs.Common.{◌≡◌, ℕ, ◌+◌, ◌≤◌, List, length, [], ◌∷◌, ◌++◌, Option, arith, inl, inr, subst, sym, append_assoc, length-append}
 use Rattle.std.specs.Io.KnownBytes.{Consumes}
 use Rattle.std.proofs.KnownBytes.{Consumes-nil, Consumes-trans}
 use Rattle.ffv1_bits.specs.Limits.{file_limit}
@@ -22,44 +22,43 @@ Takes-trans a b c i j k xs ys p q = record {
 pub Takes-from : (a b : Option (List ℕ)) (i j k : ℕ) (xs : List ℕ) → i ≡ j → Takes a b i k xs → Takes a b j k xs
 Takes-from a b i j k xs same t = subst (λ n. Takes a b n k xs) same t
 
-EndsIn-after : (P P' : List ℕ → Type 0) (a b c : Option (List ℕ)) (i j : ℕ) (xs : List ℕ) → Takes a b i j xs → ((s : List ℕ) → P s → P' (xs ++ s))
-    → EndsIn P b c j → EndsIn P' a c i
-EndsIn-after P P' a b c i j xs t more e = record {
-  seen = xs ++ e.seen;
-  unfinished = more e.seen e.unfinished;
-  taken = Consumes-trans a b c xs e.seen t.taken e.taken;
-  at_end = e.at_end;
-  within = omega (arith, t.moved, e.within, length-append xs e.seen);
-}
+-- an earlier call took xs
+module _ (P P' : List ℕ → Type 0) (a b c : Option (List ℕ)) (i j : ℕ) (xs : List ℕ) (t : Takes a b i j xs) (more : (s : List ℕ) → P s → P' (xs ++ s)) where
+  taken_all : (s : List ℕ) → Consumes b c s → Consumes a c (xs ++ s)
+  taken_all s = Consumes-trans a b c xs s t.taken
 
-StopsIn-after : (P P' : List ℕ → Type 0) (a b c : Option (List ℕ)) (i j : ℕ) (xs : List ℕ) → Takes a b i j xs → ((s : List ℕ) → P s → P' (xs ++ s))
-    → StopsIn P b c j → StopsIn P' a c i
-StopsIn-after P P' a b c i j xs t more e = record {
-  seen = xs ++ e.seen;
-  is = more e.seen e.is;
-  taken = Consumes-trans a b c xs e.seen t.taken e.taken;
-  within = omega (arith, t.moved, e.within, length-append xs e.seen);
-}
+  taken_one : (s : List ℕ) (x : ℕ) → Consumes b c (s ++ x ∷ []) → Consumes a c ((xs ++ s) ++ x ∷ [])
+  taken_one s x taken = subst (Consumes a c) (sym (append_assoc xs s (x ∷ []))) (taken_all (s ++ x ∷ []) taken)
 
-PassesIn-after : (P P' : List ℕ → Type 0) (a b c : Option (List ℕ)) (i j : ℕ) (xs : List ℕ) → Takes a b i j xs → ((s : List ℕ) → P s → P' (xs ++ s))
-    → PassesIn P b c j → PassesIn P' a c i
-PassesIn-after P P' a b c i j xs t more e = record {
-  seen = xs ++ e.seen;
-  more = e.more;
-  unfinished = more e.seen e.unfinished;
-  taken = subst (Consumes a c) (sym (append_assoc xs e.seen (e.more ∷ []))) (Consumes-trans a b c xs (e.seen ++ e.more ∷ []) t.taken e.taken);
-  at_limit = omega (arith, t.moved, e.at_limit, length-append xs e.seen);
-}
+  moved : (s : List ℕ) → i + length (xs ++ s) ≡ j + length s
+  moved s = omega (arith, t.moved, length-append xs s)
 
-GoesOnIn-after : (P P' : List ℕ → Type 0) (a b c : Option (List ℕ)) (i j : ℕ) (xs : List ℕ) → Takes a b i j xs → ((s : List ℕ) → P s → P' (xs ++ s))
-    → GoesOnIn P b c j → GoesOnIn P' a c i
-GoesOnIn-after P P' a b c i j xs t more e = record {
-  seen = xs ++ e.seen;
-  more = e.more;
-  whole = more e.seen e.whole;
-  taken = subst (Consumes a c) (sym (append_assoc xs e.seen (e.more ∷ []))) (Consumes-trans a b c xs (e.seen ++ e.more ∷ []) t.taken e.taken);
-  within = omega (arith, t.moved, e.within, length-append xs e.seen);
-}
+  EndsIn-after : EndsIn P b c j → EndsIn P' a c i
+  EndsIn-after e = record {
+    seen = xs ++ e.seen;
+    unfinished = more e.seen e.unfinished;
+    taken = taken_all e.seen e.taken;
+    at_end = e.at_end;
+    within = omega (arith, moved e.seen, e.within);
+  }
+
+  StopsIn-after : StopsIn P b c j → StopsIn P' a c i
+  StopsIn-after e =
+      record { seen = xs ++ e.seen; is = more e.seen e.is; taken = taken_all e.seen e.taken; within = omega (arith, moved e.seen, e.within) }
+
+  PassesIn-after : PassesIn P b c j → PassesIn P' a c i
+  PassesIn-after e = record {
+    seen = xs ++ e.seen;
+    more = e.more;
+    unfinished = more e.seen e.unfinished;
+    taken = taken_one e.seen e.more e.taken;
+    at_limit = omega (arith, moved e.seen, e.at_limit);
+  }
+
+  GoesOnIn-after : GoesOnIn P b c j → GoesOnIn P' a c i
+  GoesOnIn-after e =
+      let taken = taken_one e.seen e.more e.taken in
+      record { seen = xs ++ e.seen; more = e.more; whole = more e.seen e.whole; taken = taken; within = omega (arith, moved e.seen, e.within) }
 
 either : (P P' W W' : Type 0) → P ⊎ W → (P → P') → (W → W') → P' ⊎ W'
 either P P' W W' (inl x) p w = inl (p x)
