@@ -39,24 +39,20 @@ returns-in_err-cells g c =
     c.args.copies.now c.loop-index.copies c.requires.order c.loop-index.auto.copies _ _ _ _ _ c.loop-index.invariant
     c.read_stretch.new.copies steps are)
 
-pub mend_one-requires-clause-from : goal.mend_one-requires-clause-from
-mend_one-requires-clause-from g c =
+pub mend_one-requires : goal.mend_one-requires
+mend_one-requires g c =
     let (steps, are) = c.in_ok-read_stretch.ensures in
-    from_held g.S.Source.log c.args.stretches.now c.loop-index.index c.index-stretches-index.result c.index-stretches-index.is c.loop-index-test.true
-    c.args.copies.now c.loop-index.copies c.requires.order c.loop-index.auto.copies _ _ _ _ _ c.loop-index.invariant
-    c.read_stretch.new.copies steps are (map cell_now c.as_slice.result.now) (ap (map cell_now) c.as_slice.ensures.value ∙ c.in_ok-cells.ensures)
-
-pub mend_one-requires-clause-long : goal.mend_one-requires-clause-long
-mend_one-requires-clause-long g c =
-    let (steps, are) = c.in_ok-read_stretch.ensures in
-    long_held g.S.Source.log c.args.stretches.now c.loop-index.index c.index-stretches-index.result c.index-stretches-index.is c.loop-index-test.true
-    c.args.copies.now c.loop-index.copies c.requires.order c.loop-index.auto.copies _ _ _ _ _ c.loop-index.invariant
-    c.read_stretch.new.copies steps are (map cell_now c.as_slice.result.now) (ap (map cell_now) c.as_slice.ensures.value ∙ c.in_ok-cells.ensures)
-
-pub mend_one-requires-clause-parts : goal.mend_one-requires-clause-parts
-mend_one-requires-clause-parts g c =
-    (stretch_here g.S.Source.log c.args.stretches.now c.loop-index.index c.index-stretches-index.result c.index-stretches-index.is c.loop-index-test.true
-    c.args.copies.now c.loop-index.copies c.requires.order c.loop-index.auto.copies _ _ _ _ _ c.loop-index.invariant).parts'
+    let cells = ap (map cell_now) c.as_slice.ensures.value ∙ c.in_ok-cells.ensures in
+    record {
+      from = from_held g.S.Source.log c.args.stretches.now c.loop-index.index c.index-stretches-index.result c.index-stretches-index.is c.loop-index-test.true
+          c.args.copies.now c.loop-index.copies c.requires.order c.loop-index.auto.copies _ _ _ _ _ c.loop-index.invariant
+          c.read_stretch.new.copies steps are (map cell_now c.as_slice.result.now) cells;
+      long = long_held g.S.Source.log c.args.stretches.now c.loop-index.index c.index-stretches-index.result c.index-stretches-index.is c.loop-index-test.true
+          c.args.copies.now c.loop-index.copies c.requires.order c.loop-index.auto.copies _ _ _ _ _ c.loop-index.invariant
+          c.read_stretch.new.copies steps are (map cell_now c.as_slice.result.now) cells;
+      parts = (stretch_here g.S.Source.log c.args.stretches.now c.loop-index.index c.index-stretches-index.result c.index-stretches-index.is c.loop-index-test.true
+          c.args.copies.now c.loop-index.copies c.requires.order c.loop-index.auto.copies _ _ _ _ _ c.loop-index.invariant).parts';
+    }
 
 pub returns-in_err-good : goal.returns-in_err-good
 returns-in_err-good g c =
