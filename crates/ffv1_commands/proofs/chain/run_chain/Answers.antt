@@ -1,18 +1,10 @@
-use Rattle.std.proofs.Common.{refl, rules}
-use Rattle.ffv1_commands.proofs.ChainSteps.{ChainOfBytes, chain_of_bytes}
-use Rattle.ffv1_commands.proofs.Wrapped.{one_through, remaining_as, contents_as, three_as}
+use Rattle.std.proofs.Common.{rules}
+use Rattle.ffv1_commands.proofs.ChainSteps.{chain_of_bytes}
+use Rattle.ffv1_commands.proofs.Wrapped.{one_through}
 use Rattle.ffv1_commands.proofs.chain.run_chain.Goals as goal
 
 pub returns : goal.returns
 returns g c =
-    let r = c.chain_of.result in
-    let bytes = chain_of_bytes _ _ _ _ r c.chain_of.ensures.reported in
-    let input = remaining_as _ _ c.new.ensures.log in
-    let before = contents_as _ _ c.new-2.ensures.log in
-    record {
-      ok = (three_as _ _ _ _ _ _ input before (search rules) (ChainOfBytes r) bytes).ok;
-      few = (three_as _ _ _ _ _ _ input before refl (ChainOfBytes r) bytes).few;
-      err = (three_as _ _ _ _ _ _ input before (search rules) (ChainOfBytes r) bytes).err;
-      untouched = one_through r _ _ _ _ c.new-2.ensures.writer (search rules) c.chain_of.ensures.untouched;
-      names = bytes.names;
-    }
+    let bytes = chain_of_bytes _ _ _ _ c.chain_of.result c.chain_of.ensures.reported in
+    let kept = one_through c.chain_of.result _ _ _ c.new-2.ensures.writer c.chain_of.ensures.untouched in
+    record { ok = search (rules, bytes.ok); few = search (rules, bytes.few); err = search (rules, bytes.err); untouched = search (rules, kept); names = bytes.names }

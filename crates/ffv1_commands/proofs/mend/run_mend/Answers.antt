@@ -1,4 +1,4 @@
-use Rattle.std.proofs.Common.{ℕ, List, Option, map, rules, sym, subst, ◌∙◌, IfErr}
+use Rattle.std.proofs.Common.{ℕ, rules, sym, subst, ◌∙◌, IfErr}
 use Rattle.std.proofs.KnownBytes.{Keeps-refl}
 use Rattle.std.proofs.lemmas.List.{length-map}
 use Rattle.std.proofs.lemmas.Result.{err_from_is_err_and}
@@ -6,8 +6,7 @@ use Rattle.ffv1_commands.specs.Fault.{NamesPath}
 use Rattle.ffv1_commands.specs.MendText.{of_list}
 use Rattle.ffv1_commands.specs.Paths.{IsMendPath}
 use Rattle.ffv1_commands.specs.declared.fault.CliFault.TheVariants as faults
-use Rattle.ffv1_commands.proofs.MendCommandSteps.{MendOfBytes, mend_of_files, none_is_read}
-use Rattle.ffv1_commands.proofs.Wrapped.{remaining_as, contents_as, five_as}
+use Rattle.ffv1_commands.proofs.MendCommandSteps.{mend_of_files, none_is_read}
 use Rattle.ffv1_commands.proofs.mend.run_mend.Goals as goal
 
 pub mend_of-requires : goal.mend_of-requires
@@ -20,19 +19,13 @@ returns-in_err-readers-clause-err g c =
 
 pub returns-clause-ok : goal.returns-clause-ok
 returns-clause-ok g c =
-    let r = c.mend_of.result in
     let bytes = mend_of_files _ g.C.Read.remaining _ _ c.args.copies.items c.as_mut_slice.ensures.value c.in_ok-readers.ensures _ _ _ _ _ _ _ c.mend_of.result c.mend_of.ensures.reported in
-    let Of = λ (a ob oa pb pa : Option (List ℕ)). MendOfBytes r a (map g.C.Read.remaining c.args.copies.items) ob oa pb pa in
-    (five_as _ _ _ _ _ _ (remaining_as _ _ c.new.ensures.log) (contents_as _ _ c.new-2.ensures.log) (search rules) _ _ (contents_as _ _ c.new-3.ensures.log)
-    _ _ (search rules) Of bytes).ok
+    search (rules, bytes.ok)
 
 pub returns-clause-err : goal.returns-clause-err
 returns-clause-err g c =
-    let r = c.mend_of.result in
     let bytes = mend_of_files _ g.C.Read.remaining _ _ c.args.copies.items c.as_mut_slice.ensures.value c.in_ok-readers.ensures _ _ _ _ _ _ _ c.mend_of.result c.mend_of.ensures.reported in
-    let Of = λ (a ob oa pb pa : Option (List ℕ)). MendOfBytes r a (map g.C.Read.remaining c.args.copies.items) ob oa pb pa in
-    (five_as _ _ _ _ _ _ (remaining_as _ _ c.new.ensures.log) (contents_as _ _ c.new-2.ensures.log) (search rules) _ _ (contents_as _ _ c.new-3.ensures.log)
-    _ _ (search rules) Of bytes).err
+    search (rules, bytes.err)
 
 pub returns-clause-names : goal.returns-clause-names
 returns-clause-names g c =

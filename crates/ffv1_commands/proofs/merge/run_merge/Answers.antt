@@ -1,36 +1,36 @@
-use Rattle.std.proofs.Common.{rules, List, ℕ, Option, refl, sym, subst}
+use Rattle.std.proofs.Common.{rules, List, ℕ, Option, sym, subst, ap}
+use Rattle.ffv1_devices.specs.Logs.{ReadLog}
 use Rattle.ffv1_hold.specs.MergedStreams.{BeginsWithHead, IsFileOf}
-use Rattle.ffv1_commands.proofs.MergedFiles.{MergeOfBytes, merge_of_bytes}
-use Rattle.ffv1_commands.proofs.Wrapped.{remaining_as, contents_as, four_as}
+use Rattle.ffv1_commands.proofs.MergedFiles.{merge_of_bytes}
 use Rattle.ffv1_commands.proofs.merge.run_merge.Goals as goal
+
+abbrev remaining_of : ReadLog → Option (List ℕ)
+remaining_of log = log.remaining
 
 pub returns-clause-other : goal.returns-clause-other
 returns-clause-other g c one two left right other =
-    c.merge_of.ensures.other one two (subst (λ (o : Option (List ℕ)). BeginsWithHead o one) (sym (remaining_as _ _ c.new.ensures.log)) left)
-    (subst (λ (o : Option (List ℕ)). BeginsWithHead o two) (sym (remaining_as _ _ c.new-2.ensures.log)) right) other
+    c.merge_of.ensures.other one two (subst (λ (o : Option (List ℕ)). BeginsWithHead o one) (sym (ap remaining_of c.new.ensures.log)) left)
+    (subst (λ (o : Option (List ℕ)). BeginsWithHead o two) (sym (ap remaining_of c.new-2.ensures.log)) right) other
 
 pub returns-clause-only : goal.returns-clause-only
 returns-clause-only g c v w one two same left right =
-    c.merge_of.ensures.only v w one two same (subst (λ (o : Option (List ℕ)). IsFileOf o v one) (sym (remaining_as _ _ c.new.ensures.log)) left)
-    (subst (λ (o : Option (List ℕ)). IsFileOf o w two) (sym (remaining_as _ _ c.new-2.ensures.log)) right)
+    c.merge_of.ensures.only v w one two same (subst (λ (o : Option (List ℕ)). IsFileOf o v one) (sym (ap remaining_of c.new.ensures.log)) left)
+    (subst (λ (o : Option (List ℕ)). IsFileOf o w two) (sym (ap remaining_of c.new-2.ensures.log)) right)
 
 pub returns-clause-ok : goal.returns-clause-ok
 returns-clause-ok g c =
     let bytes = merge_of_bytes _ _ c.merge_of.result c.merge_of.ensures.reported in
-    (four_as _ _ _ _ _ _ (remaining_as _ _ c.new.ensures.log) (remaining_as _ _ c.new-2.ensures.log) (contents_as _ _ c.new-3.ensures.log) _ _
-    (search rules) (MergeOfBytes c.merge_of.result) bytes).ok
+    search (rules, bytes.ok)
 
 pub returns-clause-err : goal.returns-clause-err
 returns-clause-err g c =
     let bytes = merge_of_bytes _ _ c.merge_of.result c.merge_of.ensures.reported in
-    (four_as _ _ _ _ _ _ (remaining_as _ _ c.new.ensures.log) (remaining_as _ _ c.new-2.ensures.log) (contents_as _ _ c.new-3.ensures.log) _ _ refl
-    (MergeOfBytes c.merge_of.result) bytes).err
+    search (rules, bytes.err)
 
 pub returns-clause-leaves : goal.returns-clause-leaves
 returns-clause-leaves g c =
     let bytes = merge_of_bytes _ _ c.merge_of.result c.merge_of.ensures.reported in
-    (four_as _ _ _ _ _ _ (remaining_as _ _ c.new.ensures.log) (remaining_as _ _ c.new-2.ensures.log) (contents_as _ _ c.new-3.ensures.log) _ _
-    (search rules) (MergeOfBytes c.merge_of.result) bytes).leaves
+    search (rules, bytes.leaves)
 
 pub returns-clause-names : goal.returns-clause-names
 returns-clause-names g c = (merge_of_bytes _ _ c.merge_of.result c.merge_of.ensures.reported).names

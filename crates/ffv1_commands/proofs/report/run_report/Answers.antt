@@ -1,9 +1,6 @@
-use Rattle.std.proofs.Common.{ℕ, List, Option, rules}
-use Rattle.ffv1_commands.specs.Paths.{IsReportPath}
-use Rattle.ffv1_commands.specs.ReportedText.{ReportsFile, ReportStops}
-use Rattle.ffv1_commands.proofs.OfBytes.{OfBytes}
+use Rattle.std.proofs.Common.{rules}
 use Rattle.ffv1_commands.proofs.ReportSteps.{report_of_bytes}
-use Rattle.ffv1_commands.proofs.Wrapped.{buffer_refused, one_through, remaining_as, contents_as, three_as}
+use Rattle.ffv1_commands.proofs.Wrapped.{buffer_refused, one_through}
 use Rattle.ffv1_commands.proofs.report.run_report.Goals as goal
 
 pub returns-in_err-file : goal.returns-in_err-file
@@ -12,14 +9,6 @@ returns-in_err-file g c =
 
 pub returns : goal.returns
 returns g c =
-    let r = c.report_of.result in
-    let bytes = report_of_bytes _ _ _ _ r c.report_of.ensures.reported in
-    let input = remaining_as _ _ c.in_ok-file.ensures.ok in
-    let before = contents_as _ _ c.new.ensures.log in
-    let Of = λ (a b d : Option (List ℕ)). OfBytes (λ done. ReportsFile a b d) (ReportStops a b d) IsReportPath r in
-    record {
-      ok = (three_as _ _ _ _ _ _ input before (search rules) Of bytes).ok;
-      err = (three_as _ _ _ _ _ _ input before (search rules) Of bytes).err;
-      untouched = one_through r _ _ _ _ c.new.ensures.writer (search rules) c.report_of.ensures.untouched;
-      names = bytes.names;
-    }
+    let bytes = report_of_bytes _ _ _ _ c.report_of.result c.report_of.ensures.reported in
+    let kept = one_through c.report_of.result _ _ _ c.new.ensures.writer c.report_of.ensures.untouched in
+    record { ok = search (rules, bytes.ok); err = search (rules, bytes.err); untouched = search (rules, kept); names = bytes.names }
