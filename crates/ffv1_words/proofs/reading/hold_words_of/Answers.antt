@@ -9,26 +9,11 @@ returns-in-join c = subst (λ name. ReadsWords (rows_matched c.args.matches.now)
 pub returns-in-merge : goal.returns-in-merge
 returns-in-merge c = subst (λ name. ReadsWords (rows_matched c.args.matches.now) name c.merge_words.result) (sym c.in-merge.is) c.merge_words.ensures
 
-pub returns-in_err-word-in-report : goal.returns-in_err-word-in-report
-returns-in_err-word-in-report c = fault_handed (rows_matched c.args.matches.now) c.args.name.now _ c.from_residual.result c.from_residual.ensures.1 c.in_err-word-in-report.ensures
-
 pub returns-in_ok-word-in-report : goal.returns-in_ok-word-in-report
 returns-in_ok-word-in-report c = (sym c.in-report.is, c.in_ok-word-in-report.ensures)
 
-pub returns-in_err-word-in-restore : goal.returns-in_err-word-in-restore
-returns-in_err-word-in-restore c = fault_handed (rows_matched c.args.matches.now) c.args.name.now _ c.from_residual-in_err-word-in-restore.result c.from_residual-in_err-word-in-restore.ensures.1 c.in_err-word-in-restore.ensures
-
-pub returns-in_err-word-in-restore-2 : goal.returns-in_err-word-in-restore-2
-returns-in_err-word-in-restore-2 c = fault_handed (rows_matched c.args.matches.now) c.args.name.now _ c.from_residual-in_err-word-in-restore-2.result c.from_residual-in_err-word-in-restore-2.ensures.1 c.in_err-word-in-restore-2.ensures
-
 pub returns-in_ok-word-in-restore-2 : goal.returns-in_ok-word-in-restore-2
 returns-in_ok-word-in-restore-2 c = (sym c.in-restore.is, (c.in_ok-word-in-restore.ensures, c.in_ok-word-in-restore-2.ensures))
-
-pub returns-in_err-word-in-picture : goal.returns-in_err-word-in-picture
-returns-in_err-word-in-picture c = fault_handed (rows_matched c.args.matches.now) c.args.name.now _ c.from_residual-in_err-word-in-picture.result c.from_residual-in_err-word-in-picture.ensures.1 c.in_err-word-in-picture.ensures
-
-pub returns-in_err-word-in-picture-2 : goal.returns-in_err-word-in-picture-2
-returns-in_err-word-in-picture-2 c = fault_handed (rows_matched c.args.matches.now) c.args.name.now _ c.from_residual-in_err-word-in-picture-2.result c.from_residual-in_err-word-in-picture-2.ensures.1 c.in_err-word-in-picture-2.ensures
 
 pub returns-in_ok-word-in-picture-2 : goal.returns-in_ok-word-in-picture-2
 returns-in_ok-word-in-picture-2 c = (sym c.in-picture.is, (c.in_ok-word-in-picture.ensures, c.in_ok-word-in-picture-2.ensures))

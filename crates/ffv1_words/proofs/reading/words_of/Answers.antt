@@ -15,23 +15,11 @@ returns-in-mend c = subst (λ name. ReadsWords (rows_matched c.args.matches.now)
 pub returns-in-decode : goal.returns-in-decode
 returns-in-decode c = subst (λ name. ReadsWords (rows_matched c.args.matches.now) name c.decode_words.result) (sym c.in-decode.is) c.decode_words.ensures
 
-pub returns-in_err-word-in-chain : goal.returns-in_err-word-in-chain
-returns-in_err-word-in-chain c = fault_handed (rows_matched c.args.matches.now) c.args.name.now _ c.from_residual.result c.from_residual.ensures.1 c.in_err-word-in-chain.ensures
-
 pub returns-in_ok-word-in-chain : goal.returns-in_ok-word-in-chain
 returns-in_ok-word-in-chain c = (sym c.in-chain.is, c.in_ok-word-in-chain.ensures)
 
-pub returns-in_err-word-in-scan : goal.returns-in_err-word-in-scan
-returns-in_err-word-in-scan c = fault_handed (rows_matched c.args.matches.now) c.args.name.now _ c.from_residual-in_err-word-in-scan.result c.from_residual-in_err-word-in-scan.ensures.1 c.in_err-word-in-scan.ensures
-
-pub returns-in_err-word-in-scan-2 : goal.returns-in_err-word-in-scan-2
-returns-in_err-word-in-scan-2 c = fault_handed (rows_matched c.args.matches.now) c.args.name.now _ c.from_residual-in_err-word-in-scan-2.result c.from_residual-in_err-word-in-scan-2.ensures.1 c.in_err-word-in-scan-2.ensures
-
 pub returns-in_ok-word-in-scan-2 : goal.returns-in_ok-word-in-scan-2
 returns-in_ok-word-in-scan-2 c = (sym c.in-scan.is, (c.in_ok-word-in-scan.ensures, c.in_ok-word-in-scan-2.ensures))
-
-pub returns-in_err-recording_words-in-show : goal.returns-in_err-recording_words-in-show
-returns-in_err-recording_words-in-show c = fault_handed (rows_matched c.args.matches.now) c.args.name.now _ c.from_residual-in_err-recording_words-in-show.result c.from_residual-in_err-recording_words-in-show.ensures.1 c.in_err-recording_words-in-show.ensures
 
 pub returns-in_ok-recording_words-in-show : goal.returns-in_ok-recording_words-in-show
 returns-in_ok-recording_words-in-show c = (sym c.in-show.is, c.in_ok-recording_words-in-show.ensures)
