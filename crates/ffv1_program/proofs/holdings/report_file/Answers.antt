@@ -1,10 +1,7 @@
 use Rattle.ffv1_program.proofs.holdings.report_file.Goals as goal
 
-pub returns : goal.returns
-returns g c =
-    record {
-      ok = rw c.input.ensures.bytes at c.run_report.ensures.ok;
-      err = rw c.input.ensures.bytes at c.run_report.ensures.err;
-      untouched = c.run_report.ensures.untouched;
-      names = c.run_report.ensures.names;
-    }
+pub returns-clause-ok : goal.returns-clause-ok
+returns-clause-ok g c = rw c.input.ensures.bytes at c.run_report.ensures.ok
+
+pub returns-clause-err : goal.returns-clause-err
+returns-clause-err g c = rw c.input.ensures.bytes at c.run_report.ensures.err
