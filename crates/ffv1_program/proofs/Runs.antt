@@ -1,9 +1,10 @@
 -- What a command returns, by what it calls.
-use Rattle.std.proofs.Common.{◌≡◌, Bool, true, Result, Ok, Err, IfOk, IfErr, IsErrOf, MatchResult, OnOk, sym, subst}
+use Rattle.std.proofs.Common.{◌≡◌, Bool, true, Result, Ok, Err, IfOk, IfErr, IsErrOf, MatchResult, OnOk, OnErr, refl, subst}
+use Rattle.ffv1_devices.specs.declared.writes.WriteFailed.{WriteFailed}
 use Rattle.ffv1_commands.specs.Devices.{UnlessWriting}
 use Rattle.ffv1_commands.specs.declared.fault.CliFault.{CliFault}
 use Rattle.ffv1_commands.specs.declared.fault.CliFault.TheVariants as faults
-use Rattle.ffv1_commands.specs.declared.path.CommandPath.{CommandPath}
+use Rattle.ffv1_commands.specs.declared.path.CommandPath.TheVariants as paths
 
 -- that all was done is returned as `true`, and a fault as it is
 abbrev pub IsAllDone : Result (Unit {0}) CliFault → Result Bool CliFault → Type 0
@@ -48,17 +49,22 @@ kept_beside (Ok value) P Q holds kept = tt
 kept_beside (Err (faults.Write path)) P Q holds kept = tt
 kept_beside (Err fault) P Q holds kept = (holds, kept)
 
--- printing is writing
-pub printing_is_writing : {T : Type 0} (result : Result T CliFault) (path : CommandPath) (Done : T → Type 0) (Left P : Type 0)
-    → MatchResult result Done (λ fault. (fault ≡ faults.Write path) × Left) → IfErr result (λ fault. UnlessWriting fault P)
-printing_is_writing (Ok value) path Done Left P said = tt
-printing_is_writing (Err fault) path Done Left P said = subst (λ fault. UnlessWriting fault P) (sym said.0) tt
+-- that a text was printed is returned as `true`, and a failure as the fault of standard output
+abbrev pub IsAllPrinted : Result (Unit {0}) WriteFailed → Result Bool CliFault → Type 0
+IsAllPrinted printed result = MatchResult printed (λ _. result ≡ Ok true) (λ _. result ≡ Err (faults.Write paths.StandardOutput))
 
--- what was printed, or why it was not
-pub printed : (result : Result (Unit {0}) CliFault) (P : Type 0) (Q : CliFault → Type 0) → MatchResult result (λ _. P) Q → OnOk result P
-printed (Ok value) P Q said = said
-printed (Err fault) P Q said = tt
+pub printed_ok : (printed : Result (Unit {0}) WriteFailed) (result : Result Bool CliFault) (P : Type 0) → IsAllPrinted printed result → OnOk printed P
+    → IfOk result (λ value. (value ≡ true) × P)
+printed_ok (Ok done) result P is holds = rw is (refl, holds)
+printed_ok (Err failed) result P is holds = rw is tt
 
-pub unprinted : (result : Result (Unit {0}) CliFault) (P : Type 0) (Q : CliFault → Type 0) → MatchResult result (λ _. P) Q → IfErr result Q
-unprinted (Ok value) P Q said = tt
-unprinted (Err fault) P Q said = said
+pub printed_err : (printed : Result (Unit {0}) WriteFailed) (result : Result Bool CliFault) (P : Type 0) → IsAllPrinted printed result → OnErr printed P
+    → IfErr result (λ fault. (fault ≡ faults.Write paths.StandardOutput) × P)
+printed_err (Ok done) result P is holds = rw is tt
+printed_err (Err failed) result P is holds = rw is (refl, holds)
+
+-- what holds of that fault holds of any that is returned
+pub printed_fault : (printed : Result (Unit {0}) WriteFailed) (result : Result Bool CliFault) (P : CliFault → Type 0) → IsAllPrinted printed result
+    → P (faults.Write paths.StandardOutput) → IfErr result P
+printed_fault (Ok done) result P is holds = rw is tt
+printed_fault (Err failed) result P is holds = rw is holds

@@ -1,11 +1,9 @@
 //! A command of words, run on the files that they name (own).
 ghost use Rattle.std.specs.Prelude.{◌≡◌, Ok, Err, IfOk, IfErr, IsErrOf, MatchResult, true};
-ghost use Rattle.std.specs.Io.KnownBytes.{Appends};
-ghost use Rattle.ffv1_help.specs.Texts.{help_text, version_text};
 ghost use Rattle.ffv1_commands.specs.Fault.{NamesPath};
 ghost use Rattle.ffv1_words.specs.WordPaths.{IsPathOf};
 ghost use Rattle.ffv1_program.specs.Merging.{FailsToOpen};
-ghost use Rattle.ffv1_program.specs.Running.{out_word, IfNoneMade, IfAlwaysMade, IsRefused, DoesCommand, StopsCommand, StopsPrinting, KeepsAtFault};
+ghost use Rattle.ffv1_program.specs.Running.{out_word, IfNoneMade, IfAlwaysMade, IsRefused, DoesCommand, StopsCommand, KeepsAtFault};
 
 use crate::files::{FileSystem, MakeFile};
 use crate::frames::{chain_file, scan_files, show_record, splice_files};
@@ -13,6 +11,7 @@ use crate::holdings::{join_files, merge_files, report_file, restore_file, take_f
 use crate::pictures::{decode_files, picture_file};
 use crate::stretches::mend_files;
 use ffv1_commands::{CliFault, CommandPath};
+use ffv1_devices::WriteFailed;
 use ffv1_help::{run_help, run_version};
 use ffv1_words::Words;
 use std::alloc::Global;
@@ -35,30 +34,6 @@ pub fn out_word<'a>(words: &Words<'a>) -> &'a str
     }
 }
 
-/// Prints the help. If that fails, standard output is at fault.
-fn print_help<W: Write>(output: &mut W) -> Result<(), CliFault>
-    ensures reported { MatchResult result (λ _. Appends (W.contents output.old) (W.contents output.new) help_text)
-        (StopsPrinting help_text (W.contents output.old) (W.contents output.new)) }
-    ensures names { IfErr result (NamesPath (λ path. path ≡ CommandPath.StandardOutput)) }
-{
-    match run_help(output) {
-        Ok(()) => Ok(()),
-        Err(_) => Err(CliFault::Write(CommandPath::StandardOutput)),
-    }
-}
-
-/// Prints the version. If that fails, standard output is at fault.
-fn print_version<W: Write>(output: &mut W) -> Result<(), CliFault>
-    ensures reported { MatchResult result (λ _. Appends (W.contents output.old) (W.contents output.new) version_text)
-        (StopsPrinting version_text (W.contents output.old) (W.contents output.new)) }
-    ensures names { IfErr result (NamesPath (λ path. path ≡ CommandPath.StandardOutput)) }
-{
-    match run_version(output) {
-        Ok(()) => Ok(()),
-        Err(_) => Err(CliFault::Write(CommandPath::StandardOutput)),
-    }
-}
-
 /// What a command returns that has no more to say than that it was done.
 fn all_done(done: Result<(), CliFault>) -> Result<bool, CliFault>
     ensures { MatchResult result (λ all. (all ≡ true) × (done ≡ Ok tt)) (λ fault. done ≡ Err fault) }
@@ -66,6 +41,16 @@ fn all_done(done: Result<(), CliFault>) -> Result<bool, CliFault>
     match done {
         Ok(()) => Ok(true),
         Err(fault) => Err(fault),
+    }
+}
+
+/// What a command returns that prints one text: if that fails, standard output is at fault.
+fn all_printed(printed: Result<(), WriteFailed>) -> Result<bool, CliFault>
+    ensures { MatchResult printed (λ _. result ≡ Ok true) (λ _. result ≡ Err (CliFault.Write CommandPath.StandardOutput)) }
+{
+    match printed {
+        Ok(()) => Ok(true),
+        Err(_) => Err(CliFault::Write(CommandPath::StandardOutput)),
     }
 }
 
@@ -120,7 +105,7 @@ pub fn run<'a, F: FileSystem<'a>, O: MakeFile, W: Write>(
             frame,
             ..
         } => all_done(decode_files(alloc, files, recording, frame, made, output)),
-        Words::Help => all_done(print_help(output)),
-        Words::Version => all_done(print_version(output)),
+        Words::Help => all_printed(run_help(output)),
+        Words::Version => all_printed(run_version(output)),
     }
 }

@@ -1,5 +1,5 @@
 use Rattle.std.proofs.Common.{◌≡◌, refl, rules}
-use Rattle.ffv1_program.proofs.Runs.{all_ok, all_err, all_err_of, all_ok_beside, nothing_said, beside, kept_beside, printing_is_writing, printed, unprinted}
+use Rattle.ffv1_program.proofs.Runs.{all_ok, all_err, all_err_of, all_ok_beside, nothing_said, beside, kept_beside, printed_ok, printed_err, printed_fault}
 use Rattle.ffv1_program.proofs.command.run.Goals as goal
 
 pub returns-in-Chain : goal.returns-in-Chain
@@ -148,24 +148,26 @@ returns-in-Decode g c =
 
 pub returns-in-Help : goal.returns-in-Help
 returns-in-Help g c =
+    let is = c.all_printed.ensures in
     record {
-      ok = rw c.in-Help.is (all_ok c.print_help.result c.all_done-in-Help.result _ c.all_done-in-Help.ensures (printed c.print_help.result _ _ c.print_help.ensures.reported));
-      err = rw c.in-Help.is (all_err c.print_help.result c.all_done-in-Help.result _ c.all_done-in-Help.ensures (unprinted c.print_help.result _ _ c.print_help.ensures.reported));
-      kept = rw c.in-Help.is (all_err c.print_help.result c.all_done-in-Help.result _ c.all_done-in-Help.ensures (printing_is_writing c.print_help.result _ _ _ _ c.print_help.ensures.reported));
+      ok = rw c.in-Help.is (printed_ok _ _ _ is c.run_help.ensures.ok);
+      err = rw c.in-Help.is (printed_err _ _ _ is c.run_help.ensures.err);
+      kept = rw c.in-Help.is (printed_fault _ _ _ is tt);
       refused = rw c.in-Help.is (λ is. absurd is);
       none_made = rw c.in-Help.is refl;
-      always_made = rw c.in-Help.is (nothing_said c.all_done-in-Help.result);
-      names = rw c.in-Help.is (all_err c.print_help.result c.all_done-in-Help.result _ c.all_done-in-Help.ensures c.print_help.ensures.names);
+      always_made = rw c.in-Help.is (nothing_said c.all_printed.result);
+      names = rw c.in-Help.is (printed_fault _ _ _ is refl);
     }
 
 pub returns-in-Version : goal.returns-in-Version
 returns-in-Version g c =
+    let is = c.all_printed-in-Version.ensures in
     record {
-      ok = rw c.in-Version.is (all_ok c.print_version.result c.all_done-in-Version.result _ c.all_done-in-Version.ensures (printed c.print_version.result _ _ c.print_version.ensures.reported));
-      err = rw c.in-Version.is (all_err c.print_version.result c.all_done-in-Version.result _ c.all_done-in-Version.ensures (unprinted c.print_version.result _ _ c.print_version.ensures.reported));
-      kept = rw c.in-Version.is (all_err c.print_version.result c.all_done-in-Version.result _ c.all_done-in-Version.ensures (printing_is_writing c.print_version.result _ _ _ _ c.print_version.ensures.reported));
+      ok = rw c.in-Version.is (printed_ok _ _ _ is c.run_version.ensures.ok);
+      err = rw c.in-Version.is (printed_err _ _ _ is c.run_version.ensures.err);
+      kept = rw c.in-Version.is (printed_fault _ _ _ is tt);
       refused = rw c.in-Version.is (λ is. absurd is);
       none_made = rw c.in-Version.is refl;
-      always_made = rw c.in-Version.is (nothing_said c.all_done-in-Version.result);
-      names = rw c.in-Version.is (all_err c.print_version.result c.all_done-in-Version.result _ c.all_done-in-Version.ensures c.print_version.ensures.names);
+      always_made = rw c.in-Version.is (nothing_said c.all_printed-in-Version.result);
+      names = rw c.in-Version.is (printed_fault _ _ _ is refl);
     }
