@@ -1,5 +1,9 @@
-//! Records, slices and frames that the tests of several crates use.
+//! Records, slices and frames that the tests of several crates use, and a writer that fails.
 #![tactic(auto)]
+
+mod narrow;
+
+pub use narrow::Narrow;
 
 /// A gray record of micro version 4 with one tile, its five tables of one run each (RFC 9043, section 4.2).
 pub const ONE_TILE: [u8; 17] = [

@@ -1,7 +1,9 @@
 //! Devices that move one byte at a time, and may fail.
+use ffv1_devices::FromWrite;
+use ffv1_frames::Narrow;
 use std::alloc::Global;
 use std::io;
-use std::io::{ErrorKind, Read, Write};
+use std::io::{ErrorKind, Read};
 
 /// A reader of bytes, one at a time. After them it ends or fails.
 #[derive(Drop)]
@@ -38,38 +40,7 @@ impl<'a> Read for Input<'a> {
     }
 }
 
-/// A writer that takes one byte at a time, so many in all, and then fails.
-#[derive(Drop)]
-pub(crate) struct Output {
-    room: usize,
-    /// What it has taken.
-    pub(crate) bytes: Vec<u8>,
-}
-
-impl Output {
-    /// One that has taken nothing, and takes so many bytes.
-    pub(crate) fn new(alloc: Global, room: usize) -> Output {
-        Output {
-            room,
-            bytes: Vec::new(alloc),
-        }
-    }
-}
-
-impl Write for Output {
-    fn write(&mut self, buf: &[u8]) -> io::Result<usize> {
-        if self.room == 0 {
-            return Err(io::Error::from(ErrorKind::StorageFull));
-        }
-        let Some(first) = buf.first() else {
-            return Ok(0);
-        };
-        self.bytes.push(*first)?;
-        self.room -= 1;
-        Ok(1)
-    }
-
-    fn flush(&mut self) -> io::Result<()> {
-        Ok(())
-    }
+/// A sink that takes one byte at a time, so many in all, and then fails.
+pub(crate) fn narrow_sink(alloc: Global, room: usize) -> FromWrite<Narrow> {
+    FromWrite::new(Narrow::new(alloc, room, ErrorKind::StorageFull))
 }

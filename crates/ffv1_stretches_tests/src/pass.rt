@@ -2,8 +2,8 @@
 ghost use Rattle.std.specs.Prelude.{◌≡◌, All};
 ghost use Rattle.ffv1_stretches.specs.Copies.{state_of};
 
-use crate::devices::{Input, Output};
-use ffv1_devices::{FromRead, FromWrite, Source};
+use crate::devices::{Input, narrow_sink};
+use ffv1_devices::{FromRead, Source};
 use ffv1_stretches::{CopyReader, MendFault, mend_stretches, read_list};
 use std::alloc::Global;
 
@@ -41,8 +41,8 @@ fn comes_to<S: Source>(
     let Ok(stretches) = read_list(alloc, list.as_bytes(), copies.len()) else {
         return false;
     };
-    let mut out = FromWrite::new(Output::new(alloc, rooms.out));
-    let mut output = FromWrite::new(Output::new(alloc, rooms.output));
+    let mut out = narrow_sink(alloc, rooms.out);
+    let mut output = narrow_sink(alloc, rooms.output);
     let answer = mend_stretches(alloc, stretches.as_slice(), copies, &mut out, &mut output);
     let (made, printed) = (out.into_inner().bytes, output.into_inner().bytes);
     answer == wanted.answer

@@ -1,12 +1,11 @@
 //! The commands on devices that fail after any number of bytes: which path is named, and what is left in the outputs.
 use crate::commands::taken;
-use crate::streams::Narrow;
 use crate::suite::merged;
 use ffv1_commands::{
     CliFault, CommandPath, run_chain, run_decode, run_join, run_merge, run_picture, run_report,
     run_restore, run_show, run_splice, run_take,
 };
-use ffv1_frames::{FRAME, LEFT_DAMAGED, TWO_TILES};
+use ffv1_frames::{FRAME, LEFT_DAMAGED, Narrow, TWO_TILES};
 use ffv1_hold::HoldFileFault;
 use std::alloc::Global;
 use std::io;
@@ -101,11 +100,7 @@ pub(crate) struct Output {
 impl Output {
     pub(crate) fn new(alloc: Global) -> Output {
         Output {
-            narrow: Narrow {
-                room: usize::MAX,
-                kind: ErrorKind::StorageFull,
-                bytes: Vec::new(alloc),
-            },
+            narrow: Narrow::new(alloc, usize::MAX, ErrorKind::StorageFull),
             interruptions: 0,
         }
     }

@@ -1,11 +1,10 @@
 //! A holding file byte for byte, devices that fail after any part of it, and plans.
 use crate::failing::Input;
 use crate::picture::joined;
-use crate::streams::{Failing, has_taken, narrow_sink};
+use crate::streams::{Failing, has_failed_after, narrow_sink};
 use ffv1_frames::{BLACK, DARK, ONE_TILE};
 use ffv1_hold::{
-    FromRead, FromWrite, HoldFileFault, Holding, Join, Plan, Sink, Source, read_hold, run,
-    write_hold,
+    FromRead, FromWrite, HoldFileFault, Holding, Join, Plan, Source, read_hold, run, write_hold,
 };
 use ffv1_range::SetupFault;
 use std::alloc::{AllocError, Global};
@@ -116,8 +115,7 @@ fn fronts_of_files_are_reported(rt: HostRuntime) {
 fn has_front(alloc: Global, holding: &Holding, room: usize, file: &[u8]) -> bool {
     let mut sink = narrow_sink(alloc, room);
     let is_failed = write_hold(holding, &mut sink) == Err(HoldFileFault::Write);
-    let is_counted = sink.failures() == 1;
-    has_taken(sink, room, file) && is_failed && is_counted
+    is_failed && has_failed_after(sink, room, file)
 }
 
 /// Whether sinks that fail, each after another number of bytes, have those fronts of the file.

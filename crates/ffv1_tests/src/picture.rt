@@ -2,9 +2,9 @@
 //!
 //! Helpers make the calls, so that each test sees plain values.
 use crate::holding::{held_of, is_payload};
-use crate::streams::{has_taken, narrow_sink};
+use crate::streams::{has_failed_after, narrow_sink};
 use ffv1_frames::{BLACK, FRAME, LEFT_DAMAGED, RIGHT, RIGHT_DAMAGED};
-use ffv1_hold::{FromWrite, Holding, Plan, RestoreFault, Sink};
+use ffv1_hold::{FromWrite, Holding, Plan, RestoreFault};
 use ffv1_picture::{
     Decoder, Frame, FrameFault, Partial, Restoration, TileOutcome, WriteFault, picture, report,
     restored, write_raw,
@@ -292,8 +292,7 @@ fn one_damaged_copy_is_missing_a_tile(rt: HostRuntime) {
 fn has_front(alloc: Global, frame: &Frame, room: usize, samples: &[u8]) -> bool {
     let mut sink = narrow_sink(alloc, room);
     let is_failed = write_raw(frame, &mut sink) == Err(WriteFault::Write);
-    let is_counted = sink.failures() == 1;
-    has_taken(sink, room, samples) && is_failed && is_counted
+    is_failed && has_failed_after(sink, room, samples)
 }
 
 /// Whether a sink that fails after any number of the 18 samples of a frame has that front of them.
