@@ -1,8 +1,6 @@
 -- What clap finds of the program's commands, by its rows.
 use Rattle.std.proofs.Common.{◌≡◌, ◌∙◌, refl, sym, ap, subst, Option, Some, None, Result, MatchResult, option_map, List, true}
 use Rattle.std.specs.Option.{ok_or}
-use Rattle.std.specs.Result.{IsErrAnd}
-use Rattle.std.proofs.lemmas.Result.{err_from_is_err_and}
 use Rattle.clap.specs.Words.{App, Row, Text, HasMatchesOf, first_value, found_of, is_simple, rows_of, raw_values, matched_of, subcommand_of, subcommand_rows_of}
 use Rattle.clap.specs.Matches.{subcommand_name_of}
 use Rattle.clap.specs.declared.parser.matches.ArgMatches.{ArgMatches}
@@ -12,10 +10,9 @@ use Rattle.clap.proofs.OnLiterals.{clap_on_literals}
 use Rattle.clap.proofs.WalkLemmas.{first_value-rows, raw_values-rows}
 use Rattle.ffv1_commands.specs.Fault.{NamesNoPath}
 use Rattle.ffv1_commands.specs.declared.fault.CliFault.{CliFault}
-use Rattle.ffv1_words.specs.Inner.Arguments.{rows_matched, ReadsWords}
+use Rattle.ffv1_words.specs.Inner.Arguments.{rows_matched}
 use Rattle.ffv1_words.specs.Arguments.{IsWord, AreValues}
 use Rattle.ffv1_words.specs.Grammar.{program_app}
-use Rattle.ffv1_words.specs.declared.words.Words.{Words}
 
 pub first_value-word : (m : ArgMatches) (name word : Text) → first_value (found_of m) name ≡ Some word → IsWord (rows_matched m) name word
 first_value-word m name word is = sym (first_value-rows (found_of m) name) ∙ is
@@ -29,11 +26,6 @@ pub found_or : {T : Type 0} (P : T → Type 0) (found : Option T) (fault : CliFa
     → ((value : T) → found ≡ Some value → P value) → NamesNoPath fault → MatchResult r P NamesNoPath
 found_or P None fault r is there none = subst (λ r. MatchResult r P NamesNoPath) (sym is) none
 found_or P (Some value) fault r is there none = subst (λ r. MatchResult r P NamesNoPath) (sym is) (there value refl)
-
--- a fault that names no path is handed on
-pub fault_handed : (rows : List Row) (name : Text) (fault : CliFault) (r : Result Words CliFault) → IsErrAnd r (λ handed. handed ≡ fault) → NamesNoPath fault
-    → ReadsWords rows name r
-fault_handed rows name fault r is none = let (handed, at, same) = err_from_is_err_and r is in rw (at, same) none
 
 -- clap's words are exact of these commands
 pub program_is_simple : is_simple program_app ≡ true

@@ -1,7 +1,5 @@
-use Rattle.std.proofs.Common.{◌∷◌, ℕ, List, [], Bor, Some, codes, get_or, map, refl, sym, ap, ◌∙◌}
+use Rattle.std.proofs.Common.{◌∷◌, ℕ, List, [], Bor, Some, get_or, map, refl, sym, ap, ◌∙◌}
 use Rattle.std.proofs.lemmas.Slice.{first_rest}
-use Rattle.ffv1_words.specs.Inner.Arguments.{rows_matched}
-use Rattle.ffv1_words.proofs.Grammar.{fault_handed}
 use Rattle.ffv1_words.proofs.reading.join_words.Goals as goal
 
 abbrev now : Bor (List ℕ) → List ℕ

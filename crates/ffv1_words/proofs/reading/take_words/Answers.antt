@@ -1,7 +1,6 @@
 use Rattle.std.proofs.Common.{ℕ, List, Bor, codes, map, refl, sym, subst}
 use Rattle.ffv1_words.specs.Inner.Arguments.{rows_matched}
 use Rattle.ffv1_words.specs.Arguments.{AreValues}
-use Rattle.ffv1_words.proofs.Grammar.{fault_handed}
 use Rattle.ffv1_words.proofs.reading.take_words.Goals as goal
 
 abbrev now : Bor (List ℕ) → List ℕ
