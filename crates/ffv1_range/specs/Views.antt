@@ -3,9 +3,11 @@ use Rattle.std.specs.Prelude.{List, map}
 use Rattle.ffv1_range.specs.Coding.{Coder}
 use Rattle.ffv1_range.specs.Fields.{PlanesValue, TileCounts}
 use Rattle.ffv1_range.specs.Tables.{SetValue}
+use Rattle.ffv1_range.specs.Tiles.{GridValue}
 use Rattle.ffv1_range.specs.declared.coding.Interval.{Interval}
 use Rattle.ffv1_range.specs.declared.fields.Counts.{Counts}
 use Rattle.ffv1_range.specs.declared.fields.Planes.{Planes}
+use Rattle.ffv1_range.specs.declared.grid.Grid.TheInside.{Inside}
 use Rattle.ffv1_range.specs.declared.tables.TableSet.{TableSet}
 
 abbrev pub coder_of : Interval → Coder
@@ -22,3 +24,12 @@ set_value x = record { halves = x.halves; contexts = x.contexts }
 
 abbrev pub set_values : List TableSet → List SetValue
 set_values sets = map set_value sets
+
+abbrev pub grid_value : Inside → GridValue
+grid_value g =
+    record { width = g.width; height = g.height; across = g.across; down = g.down; has_chroma = g.has_chroma; shift_h = g.shift_h; shift_v = g.shift_v }
+
+-- and back
+abbrev pub grid_fields : GridValue → Inside
+grid_fields g =
+    record { width = g.width; height = g.height; across = g.across; down = g.down; has_chroma = g.has_chroma; shift_h = g.shift_h; shift_v = g.shift_v }

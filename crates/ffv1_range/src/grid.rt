@@ -36,10 +36,9 @@ pub struct Grid {
 
 impl Model for Grid {
     ghost use Rattle.ffv1_range.specs.Tiles.{GridValue, IsGrid};
+    ghost use Rattle.ffv1_range.specs.Views.{grid_value, grid_fields};
 
     ghost Value = { GridValue };
-
-    ghost use Rattle.ffv1_range.specs.Inner.Grids.{grid_value, grid_fields};
 
     ghost view = { grid_value };
 
