@@ -10,7 +10,7 @@ use Rattle.ffv1_commands.specs.Holdings.{IsHoldingFile, IsHoldingFault, HoldingS
 use Rattle.ffv1_commands.specs.declared.fault.CliFault.{CliFault}
 use Rattle.ffv1_commands.specs.declared.path.CommandPath.{CommandPath}
 use Rattle.ffv1_commands.specs.declared.path.CommandPath.TheVariants as paths
-use Rattle.ffv1_commands.proofs.InputFaults.{IsUnwritten, untouched_one, untouched_both, IsHoldingFault-says}
+use Rattle.ffv1_commands.proofs.InputFaults.{IsUnwritten, untouched_one, IsHoldingFault-says}
 use Rattle.ffv1_commands.proofs.Reporting.{hold_refused}
 
 module _ (a b : ReadLog) where
@@ -37,7 +37,3 @@ module _ (a b : ReadLog) where
 
   pub unread_one : {W : Type 0} (output : W) (fault : CliFault) → HoldingStops (paths.Hold 0) fault a b → UnlessWriting fault (output ≡ output)
   unread_one output fault stops = untouched_one output fault (unread_unwritten fault stops)
-
-  pub unread_both : {O W : Type 0} (out : O) (output : W) (fault : CliFault) → HoldingStops (paths.Hold 0) fault a b
-      → UnlessWriting fault ((out ≡ out) × (output ≡ output))
-  unread_both out output fault stops = untouched_both out output fault (unread_unwritten fault stops)

@@ -1,5 +1,5 @@
 -- A command over readers and writers that wraps them as sources and sinks: what it leaves unchanged.
-use Rattle.std.proofs.Common.{◌≡◌, ◌∙◌, sym, ap, Result, Ok, Err, IfErr, IsErrAnd}
+use Rattle.std.proofs.Common.{◌≡◌, ◌∙◌, sym, ap, Result, Ok, Err, IfErr}
 use Rattle.std.specs.Borrow.{MutBor}
 use Rattle.ffv1_devices.specs.Streams.{reader_of, writer_of}
 use Rattle.ffv1_devices.specs.declared.streams.FromRead.{FromRead}
@@ -45,9 +45,3 @@ module _ {T R : Type 0} (r : Result T CliFault) (old new : FromRead (MutBor R)) 
   reader_kept is leaves kept = if_of_record (new ≡ old) (left ≡ reader.now) r (λ same.
       let here : reader_of new ≡ reader = ap reader_of same ∙ is in
       leaves (ap (λ (b : MutBor R). b.ghost_name) (sym here)) ∙ ap (λ (b : MutBor R). b.now) here) kept
-
--- a reader whose buffer is refused stops the command with Memory
-pub buffer_refused : {T : Type 0} (r : Result T CliFault) (fault : CliFault) → IsErrAnd r (λ reported. reported ≡ fault) → fault ≡ faults.Memory
-    → r ≡ Err faults.Memory
-buffer_refused (Ok x) fault is memory = absurd is
-buffer_refused (Err reported) fault is memory = ap Err (is ∙ memory)

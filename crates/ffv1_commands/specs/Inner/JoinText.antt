@@ -1,5 +1,5 @@
 -- What `join` does with one holding file.
-use Rattle.std.specs.Prelude.{ℕ, ◌≡◌, ◌+◌, ◌-◌, ◌++◌, List, Result, Ok, Err}
+use Rattle.std.specs.Prelude.{ℕ, ◌≡◌, ◌+◌, ◌++◌, List, Result, Ok, Err}
 use Rattle.ffv1_pool.specs.Contents.{Contents, IsSameReel, joined}
 use Rattle.ffv1_hold.specs.FileFaults.{ReadsHolding}
 use Rattle.ffv1_devices.specs.Logs.{ReadLog}

@@ -1,31 +1,21 @@
-use Rattle.std.proofs.Common.{◌↔◌, All, IsTrue, List, Err, refl, ap, ◌∙◌, subst, inl, inr}
+use Rattle.std.proofs.Common.{◌↔◌, All, IsTrue, List, Err, refl, ap, ◌∙◌, subst, inr}
 use Rattle.std.proofs.lemmas.Result.{err_from_is_err_and}
 use Rattle.ffv1_picture.specs.declared.partial.TileOutcome.{TileOutcome}
 use Rattle.ffv1_commands.specs.PictureText.{picture_text, IsDecoded}
 use Rattle.ffv1_commands.specs.SamplesText.{raw_bytes}
-use Rattle.ffv1_commands.proofs.InputFaults.{kept_both}
-use Rattle.ffv1_commands.proofs.HeldFiles.{unread_both}
 use Rattle.ffv1_commands.proofs.PictureSteps.{shown, picture_stopped}
 use Rattle.ffv1_commands.proofs.WrittenBoth.{both_untouched}
 use Rattle.ffv1_commands.proofs.picture.picture_of.Goals as goal
 
-pub returns-in_err-holding : goal.returns-in_err-holding
-returns-in_err-holding g c =
-    let p = err_from_is_err_and c.from_residual.result c.from_residual.ensures.1 in
-    let stops = c.in_err-holding.ensures.read in
-    rw (p.1, p.2) (record { reported = inl (stops, (refl, refl)); untouched = unread_both _ _ c.args.out.now c.args.output.now c.in_err-holding.field-0.0 stops })
-
-pub returns-in_err-partial : goal.returns-in_err-partial
-returns-in_err-partial g c =
+pub returns-in_err-partial-clause-reported : goal.returns-in_err-partial-clause-reported
+returns-in_err-partial-clause-reported g c =
     let p = err_from_is_err_and c.from_residual-in_err-partial.result c.from_residual-in_err-partial.ensures.1 in
-    let kept = kept_both c.args.out.now c.args.output.now in
-    rw (p.1, p.2) (record { reported = inr (c.in_ok-holding.holding, c.in_ok-holding.ensures.read, (refl, refl)); untouched = kept })
+    rw (p.1, p.2) (inr (c.in_ok-holding.holding, c.in_ok-holding.ensures.read, (refl, refl)))
 
-pub returns-in_err-lines : goal.returns-in_err-lines
-returns-in_err-lines g c =
+pub returns-in_err-lines-clause-reported : goal.returns-in_err-lines-clause-reported
+returns-in_err-lines-clause-reported g c =
     let p = err_from_is_err_and c.from_residual-in_err-lines.result c.from_residual-in_err-lines.ensures.1 in
-    let kept = kept_both c.args.out.now c.args.output.now in
-    rw (p.1, p.2) (record { reported = inr (c.in_ok-holding.holding, c.in_ok-holding.ensures.read, (refl, refl)); untouched = kept })
+    rw (p.1, p.2) (inr (c.in_ok-holding.holding, c.in_ok-holding.ensures.read, (refl, refl)))
 
 pub returns-in_err-write_shown : goal.returns-in_err-write_shown
 returns-in_err-write_shown g c =

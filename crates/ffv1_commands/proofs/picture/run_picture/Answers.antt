@@ -1,11 +1,7 @@
 use Rattle.std.proofs.Common.{rules}
 use Rattle.ffv1_commands.proofs.PictureSteps.{picture_of_bytes}
-use Rattle.ffv1_commands.proofs.Wrapped.{buffer_refused, both_through}
+use Rattle.ffv1_commands.proofs.Wrapped.{both_through}
 use Rattle.ffv1_commands.proofs.picture.run_picture.Goals as goal
-
-pub returns-in_err-file : goal.returns-in_err-file
-returns-in_err-file g c =
-    rw (buffer_refused c.from_residual.result c.in_err-file.field-0.0 c.from_residual.ensures.1 c.in_err-file.ensures.err) (search rules)
 
 pub returns : goal.returns
 returns g c =

@@ -1,18 +1,11 @@
-use Rattle.std.proofs.Common.{refl, sym, ap, ◌∙◌, inl, inr}
+use Rattle.std.proofs.Common.{refl, sym, ap, ◌∙◌, inr}
 use Rattle.std.proofs.lemmas.Result.{err_from_is_err_and}
 use Rattle.ffv1_commands.specs.Fault.{of_restore}
 use Rattle.ffv1_commands.specs.RestoreText.{restored_line}
 use Rattle.ffv1_commands.proofs.InputFaults.{IsUnwritten, kept_both, untouched_both}
-use Rattle.ffv1_commands.proofs.HeldFiles.{unread_both}
 use Rattle.ffv1_commands.proofs.RestoreSteps.{of_restore-says, refused_at, restored}
 use Rattle.ffv1_commands.proofs.WrittenBoth.{both_untouched}
 use Rattle.ffv1_commands.proofs.restore.restore_of.Goals as goal
-
-pub returns-in_err-holding : goal.returns-in_err-holding
-returns-in_err-holding g c =
-    let p = err_from_is_err_and c.from_residual.result c.from_residual.ensures.1 in
-    let stops = c.in_err-holding.ensures.read in
-    rw (p.1, p.2) (record { reported = inl (stops, (refl, refl)); untouched = unread_both _ _ c.args.out.now c.args.output.now c.in_err-holding.field-0.0 stops })
 
 pub returns-in_err-payload : goal.returns-in_err-payload
 returns-in_err-payload g c =

@@ -3,17 +3,10 @@ use Rattle.std.proofs.lemmas.Result.{err_from_is_err_and}
 use Rattle.ffv1_commands.specs.Inner.Devices.{WritesNamed}
 use Rattle.ffv1_commands.specs.Fault.{of_setup}
 use Rattle.ffv1_commands.specs.declared.path.CommandPath.TheVariants as paths
-use Rattle.ffv1_commands.proofs.RecordFaults.{record_unread, record_taken, record_refused, record_one}
+use Rattle.ffv1_commands.proofs.RecordFaults.{record_taken, record_refused, record_one}
 use Rattle.ffv1_commands.proofs.NamedFiles.{named-untouched}
 use Rattle.ffv1_commands.proofs.Shows.{record_shows, setup_printed}
 use Rattle.ffv1_commands.proofs.show.show_of.Goals as goal
-
-pub returns-in_err-config : goal.returns-in_err-config
-returns-in_err-config g c =
-    let p = err_from_is_err_and c.from_residual.result c.from_residual.ensures.1 in
-    let stops = record_unread c.args.width c.args.height _ _ c.in_err-config.field-0.0 c.in_err-config.ensures in
-    let kept = record_one c.args.width c.args.height _ _ c.args.output.now c.in_err-config.field-0.0 stops in
-    rw (p.1, p.2) (record { reported = record_shows _ _ _ _ (g.W.Sink.log c.args.output.now) c.in_err-config.field-0.0 stops; untouched = kept })
 
 pub returns-in_err-setup : goal.returns-in_err-setup
 returns-in_err-setup g c =

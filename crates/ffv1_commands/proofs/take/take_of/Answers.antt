@@ -3,17 +3,10 @@ use Rattle.std.proofs.lemmas.Result.{err_from_is_err_and}
 use Rattle.ffv1_hold.specs.Headline.{IsReelOf}
 use Rattle.ffv1_commands.specs.Fault.{of_setup}
 use Rattle.ffv1_commands.specs.TakeText.{TakesEach}
-use Rattle.ffv1_commands.proofs.RecordFaults.{record_unread, record_refused, record_both}
+use Rattle.ffv1_commands.proofs.RecordFaults.{record_refused, record_both}
 use Rattle.ffv1_commands.proofs.InputFaults.{untouched_both}
 use Rattle.ffv1_commands.proofs.TakeReported.{reel_read, copies-unwritten, made_reported}
 use Rattle.ffv1_commands.proofs.take.take_of.Goals as goal
-
-pub returns-in_err-config : goal.returns-in_err-config
-returns-in_err-config g c =
-    let p = err_from_is_err_and c.from_residual.result c.from_residual.ensures.1 in
-    let stops = record_unread c.args.width c.args.height _ _ c.in_err-config.field-0.0 c.in_err-config.ensures in
-    let kept = record_both c.args.width c.args.height _ _ c.args.out.now c.args.output.now c.in_err-config.field-0.0 stops in
-    rw (p.1, p.2) (record { reported = inl (stops, refl, (refl, refl)); untouched = kept })
 
 pub returns-in_err-holding : goal.returns-in_err-holding
 returns-in_err-holding g c =

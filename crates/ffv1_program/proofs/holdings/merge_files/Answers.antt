@@ -1,30 +1,25 @@
-use Rattle.std.proofs.Common.{◌∙◌, arith, inl, inr, refl, rules}
+use Rattle.std.proofs.Common.{◌∙◌, inl, inr, rules}
 use Rattle.ffv1_program.specs.Merging.{IsEither, FailsToOpen}
 use Rattle.ffv1_program.proofs.Begun.{not_begun, merging_stops}
 use Rattle.ffv1_program.proofs.Openings.{where_err}
 use Rattle.ffv1_program.proofs.holdings.merge_files.Goals as goal
 
-pub returns-then-is_err : goal.returns-then-is_err
-returns-then-is_err g c =
-    let failed = where_err (g.F.Input.ReadFile.cannot_open c.input-left.result) c.open.result c.is_err.result c.is_err.ensures.value c.if-is_err.true c.open.ensures.failed in
-    record {
-      ok = tt;
-      err = inr (inl (c.input-left.result, c.input-left.ensures.at, failed));
-      refused = search rules;
-      untouched = refl;
-      names = omega arith;
-    }
+-- a file that can't be opened stops the command
+pub returns-then-is_err-clause-err : goal.returns-then-is_err-clause-err
+returns-then-is_err-clause-err g c =
+    inr (inl (
+      c.input-left.result,
+      c.input-left.ensures.at,
+      where_err (g.F.Input.ReadFile.cannot_open c.input-left.result) c.open.result c.is_err.result c.is_err.ensures.value c.if-is_err.true c.open.ensures.failed,
+    ))
 
-pub returns-then-is_err-2 : goal.returns-then-is_err-2
-returns-then-is_err-2 g c =
-    let failed = where_err (g.F.Input.ReadFile.cannot_open c.input-right.result) c.open-2.result c.is_err-2.result c.is_err-2.ensures.value c.if-is_err-2.true c.open-2.ensures.failed in
-    record {
-      ok = tt;
-      err = inr (inl (c.input-right.result, c.input-right.ensures.at, failed));
-      refused = search rules;
-      untouched = refl;
-      names = omega arith;
-    }
+pub returns-then-is_err-2-clause-err : goal.returns-then-is_err-2-clause-err
+returns-then-is_err-2-clause-err g c =
+    inr (inl (
+      c.input-right.result,
+      c.input-right.ensures.at,
+      where_err (g.F.Input.ReadFile.cannot_open c.input-right.result) c.open-2.result c.is_err-2.result c.is_err-2.ensures.value c.if-is_err-2.true c.open-2.ensures.failed,
+    ))
 
 pub returns : goal.returns
 returns g c =
