@@ -109,6 +109,14 @@ static int fails(struct device *device, size_t *count, ssize_t *result)
     return 1;
 }
 
+/* What came of a try, after the device has counted the bytes that moved. */
+static ssize_t moved(struct device *device, ssize_t result)
+{
+    if (result > 0)
+        device->taken += (size_t)result;
+    return result;
+}
+
 ssize_t read(int fd, void *bytes, size_t count)
 {
     struct device *device = device_of(fd);
@@ -118,9 +126,7 @@ ssize_t read(int fd, void *bytes, size_t count)
         return system_read(fd, bytes, count);
     if (fails(device, &count, &result))
         return result;
-    result = system_read(fd, bytes, count);
-    if (result > 0)
-        device->taken += (size_t)result;
+    result = moved(device, system_read(fd, bytes, count));
     if (result == 0 && asked)
         report("ended", device->name);
     return result;
@@ -134,10 +140,7 @@ ssize_t write(int fd, const void *bytes, size_t count)
         return system_write(fd, bytes, count);
     if (fails(device, &count, &result))
         return result;
-    result = system_write(fd, bytes, count);
-    if (result > 0)
-        device->taken += (size_t)result;
-    return result;
+    return moved(device, system_write(fd, bytes, count));
 }
 
 static int opened(int fd, const char *path, int flags)

@@ -74,11 +74,16 @@ fn error_is_not_the_end(rt: HostRuntime) {
     assert!(rt; notes.counts() == (1, 6, 1), "closed");
 }
 
+/// A folder whose file `in` has one byte, and of which the first opening fails.
+fn refused_once(notes: &Notes) -> Folder<'_> {
+    notes.refusals.set(1);
+    Folder::to_read(notes, "in", &[Step::Byte(b'a')])
+}
+
 #[test]
 fn opening_that_fails_can_be_tried_again(rt: HostRuntime) {
     let notes = Notes::new(rt.alloc());
-    let folder = Folder::to_read(&notes, "in", &[Step::Byte(b'a')]);
-    notes.refusals.set(1);
+    let folder = refused_once(&notes);
     let mut file = InputFile::new(&folder, "in");
     assert!(rt; next_byte(&mut file) == Err(ErrorKind::Interrupted));
     assert!(rt; next_byte(&mut file) == Ok(Some(b'a')));
@@ -90,8 +95,7 @@ fn opening_that_fails_can_be_tried_again(rt: HostRuntime) {
 #[test]
 fn file_is_opened_ahead(rt: HostRuntime) {
     let notes = Notes::new(rt.alloc());
-    let folder = Folder::to_read(&notes, "in", &[Step::Byte(b'a')]);
-    notes.refusals.set(1);
+    let folder = refused_once(&notes);
     let mut file = InputFile::new(&folder, "in");
     assert!(rt; kind_of(file.open()) == Err(ErrorKind::Interrupted));
     assert!(rt; kind_of(file.open()) == Ok(()) && kind_of(file.open()) == Ok(()));
