@@ -214,10 +214,15 @@ module _ (copies : ℕ) (stretches front : List StretchValue) (s : StretchValue)
         as_many_files olds states so_far.files so_far.read,
       )
 
+  -- what was read until a copy stopped
+  read_until : {Went : ReadLog → ReadLog → List ℕ → Type 0} (news : List CopyState) (stops : StopsCopies Went s.size s.places states news)
+      → AreReadAs olds (olds_of stops.steps ++ stops.old ∷ stops.rest) so_far.files
+  read_until news stops = subst (λ ss. AreReadAs olds ss so_far.files) stops.olds' so_far.read
+
   stopped_ends : {Went : ReadLog → ReadLog → List ℕ → Type 0} (news : List CopyState) (stops : StopsCopies Went s.size s.places states news)
       → AllZip (λ end file. length file ≤ end) (ends_after (ends_of copies front) s) (joined so_far.files (stopped_mores s.size stops.steps stops.more stops.rest))
   stopped_ends {Went} news stops =
-      let read = subst (λ ss. AreReadAs olds ss so_far.files) stops.olds' so_far.read in
+      let read = read_until news stops in
       let after = subst (λ ps. FollowsStretch (ends_at (olds_of stops.steps ++ stops.old ∷ stops.rest)) (record s { places = ps })) stops.places'
       (subst (λ ss. FollowsStretch (ends_at ss) s) stops.olds' follows) in
       subst (λ es. AllZip (λ end file. length file ≤ end) (moved_ends s.size es s.places) (joined so_far.files (stopped_mores s.size stops.steps stops.more stops.rest)))
@@ -226,22 +231,32 @@ module _ (copies : ℕ) (stretches front : List StretchValue) (s : StretchValue)
       (joined so_far.files (stopped_mores s.size stops.steps stops.more stops.rest))) (sym stops.places')
       (stopped_most s.size Went stops.steps stops.place stops.old stops.new stops.more stops.later stops.rest olds so_far.files stops.stop read after))
 
+  -- it leaves the stretches of the front as they were
+  front_until : {Went : ReadLog → ReadLog → List ℕ → Type 0} (news : List CopyState) (stops : StopsCopies Went s.size s.places states news)
+      → MendsFront stretches front (joined so_far.files (stopped_mores s.size stops.steps stops.more stops.rest)) so_far.mended
+  unfolding front_more
+  front_until news stops = front_more (stopped_mores s.size stops.steps stops.more stops.rest) (stopped_many news stops) (stopped_ends news stops)
+
+  printed_until : {Went : ReadLog → ReadLog → List ℕ → Type 0} (news : List CopyState) (stops : StopsCopies Went s.size s.places states news)
+      → Writes x y (mend_text 1 (joined so_far.files (stopped_mores s.size stops.steps stops.more stops.rest)) front so_far.mended)
+  printed_until news stops =
+      subst (Writes x y) (sym (same_text (stopped_mores s.size stops.steps stops.more stops.rest) (stopped_many news stops) (stopped_ends news stops)))
+      so_far.printed
+
   pub reading_stops : (T : Type 0) (news : List CopyState) (fault : MendFault) → ReadsEach {T = T} s.size s.places (Err fault) states news
       → StopsMending stretches olds (logs_at news) a b x y fault
-  unfolding front_more
+  unfolding front_more front_until
   reading_stops T news (faults.Read copy) stop =
       let stops = stop.0 in
       let mores = stopped_mores s.size stops.steps stops.more stops.rest in
-      let read = subst (λ ss. AreReadAs olds ss so_far.files) stops.olds' so_far.read in
-      let many' = stopped_many news stops in
-      let ends = stopped_ends news stops in (
+      let read = read_until news stops in (
         front,
         joined so_far.files mores,
         so_far.mended,
         subst (λ n. AreReadBut n olds (logs_at news) (joined so_far.files mores)) (sym stop.1)
             (subst (λ ns. AreReadBut (length stops.steps) olds (logs_at ns) (joined so_far.files mores)) (sym stops.news')
             (but_one_read s.size stops.steps stops.old stops.new stops.more stops.rest olds so_far.files stops.stop.went read)),
-        front_more mores many' ends,
+        front_until news stops,
         record {
           stretch = s;
           later = rest;
@@ -254,21 +269,18 @@ module _ (copies : ℕ) (stretches front : List StretchValue) (s : StretchValue)
               (stopped_short s.size StopsReading stops.steps stops.place stops.old stops.new stops.more stops.rest olds so_far.files stops.stop read);
         },
         so_far.wrote,
-        subst (Writes x y) (sym (same_text mores many' ends)) so_far.printed,
+        printed_until news stops,
       )
   reading_stops T news faults.Memory stops =
-      let mores = stopped_mores s.size stops.steps stops.more stops.rest in
-      let read = subst (λ ss. AreReadAs olds ss so_far.files) stops.olds' so_far.read in
-      let many' = stopped_many news stops in
-      let ends = stopped_ends news stops in (
+      let mores = stopped_mores s.size stops.steps stops.more stops.rest in (
         front,
         joined so_far.files mores,
         so_far.mended,
         subst (λ ns. AreRead olds (logs_at ns) (joined so_far.files mores)) (sym stops.news')
-            (all_read_so_far s.size stops.steps stops.old stops.new stops.more stops.rest olds so_far.files stops.stop.went read),
-        front_more mores many' ends,
+            (all_read_so_far s.size stops.steps stops.old stops.new stops.more stops.rest olds so_far.files stops.stop.went (read_until news stops)),
+        front_until news stops,
         so_far.wrote,
-        subst (Writes x y) (sym (same_text mores many' ends)) so_far.printed,
+        printed_until news stops,
       )
   reading_stops T news faults.Out stop = absurd stop
   reading_stops T news faults.Output stop = absurd stop

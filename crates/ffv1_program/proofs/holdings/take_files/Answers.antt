@@ -1,12 +1,10 @@
-use Rattle.std.proofs.Common.{◌∙◌, ap, map, rules}
+use Rattle.std.proofs.Common.{◌∙◌, ap, map}
 use Rattle.ffv1_program.proofs.holdings.take_files.Goals as goal
 
-pub returns : goal.returns
-returns g c =
-    let copies = ap (map g.F.Input.Read.remaining) c.as_mut_slice.ensures.value ∙ c.in_ok-copies.ensures.bytes in
-    record {
-      ok = rw (c.input.ensures.bytes, copies) at c.run_take.ensures.ok;
-      err = rw (c.input.ensures.bytes, copies) at c.run_take.ensures.err;
-      untouched = c.run_take.ensures.untouched;
-      names = search rules;
-    }
+pub returns-clause-ok : goal.returns-clause-ok
+returns-clause-ok g c =
+    rw (c.input.ensures.bytes, ap (map g.F.Input.Read.remaining) c.as_mut_slice.ensures.value ∙ c.in_ok-copies.ensures.bytes) at c.run_take.ensures.ok
+
+pub returns-clause-err : goal.returns-clause-err
+returns-clause-err g c =
+    rw (c.input.ensures.bytes, ap (map g.F.Input.Read.remaining) c.as_mut_slice.ensures.value ∙ c.in_ok-copies.ensures.bytes) at c.run_take.ensures.err
