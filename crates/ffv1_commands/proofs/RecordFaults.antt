@@ -12,7 +12,7 @@ use Rattle.ffv1_commands.specs.RecordInputs.{TakesSetup, RecordStops}
 use Rattle.ffv1_commands.specs.declared.fault.CliFault.{CliFault}
 use Rattle.ffv1_commands.specs.declared.fault.CliFault.TheVariants as faults
 use Rattle.ffv1_commands.specs.declared.path.CommandPath.TheVariants as paths
-use Rattle.ffv1_commands.proofs.InputFaults.{IsUnwritten, untouched_one, untouched_both}
+use Rattle.ffv1_commands.proofs.InputFaults.{IsUnwritten, untouched_both}
 use Rattle.ffv1_commands.proofs.UnreadFiles.{file_says}
 
 -- what any fault of the record says, if that of each form says so
@@ -56,9 +56,6 @@ module _ (width height : ℕ) (a b : ReadLog) where
   -- it comes before anything is written
   record_unwritten : (fault : CliFault) → RecordStops width height a b fault → IsUnwritten fault
   record_unwritten fault stops = RecordStops-says IsUnwritten width height a b fault tt tt (λ setup config took first. tt) stops
-
-  pub record_one : {W : Type 0} (output : W) (fault : CliFault) → RecordStops width height a b fault → UnlessWriting fault (output ≡ output)
-  record_one output fault stops = untouched_one output fault (record_unwritten fault stops)
 
   pub record_both : {O W : Type 0} (out : O) (output : W) (fault : CliFault) → RecordStops width height a b fault
       → UnlessWriting fault ((out ≡ out) × (output ≡ output))

@@ -64,10 +64,6 @@ pub ranges_end-least : (from : ℕ) (ranges : List ByteRange) → Rises from ran
 ranges_end-least from [] h = omega arith
 ranges_end-least from (r ∷ ranges) h = omega (arith, h.0, ranges_end-least (r.place + r.size) ranges h.1)
 
-pub ranges_end-append : (from : ℕ) (front rest : List ByteRange) → ranges_end from (front ++ rest) ≡ ranges_end (ranges_end from front) rest
-ranges_end-append from [] rest = refl
-ranges_end-append from (r ∷ front) rest = ranges_end-append (r.place + r.size) front rest
-
 -- the ranges of a front end before all do
 pub ranges_end-front : (from : ℕ) (front rest : List ByteRange) → Rises from (front ++ rest) → ranges_end from front ≤ ranges_end from (front ++ rest)
 ranges_end-front from [] rest h = ranges_end-least from rest h

@@ -155,15 +155,6 @@ module _ {E : Type 0} (line : List ℕ) (words : List (List ℕ)) (ends : List E
   part_adds begins (Ok false) none = λ lines listed. part_no_more (length ends) lines line words old (map end_of ends) listed are begins none
   part_adds begins (Err e) h = tt
 
-  -- the ends are as they were
-  pub part_keeps : (r : Result Bool E) → IfOk r (λ added. MatchBool added (AddsPart words old new) (AddsNoPart words old))
-      → IfOk r (λ added. MatchBool added (IsListedTo ends new) (Unit {0}))
-  part_keeps (Ok true) adds =
-      listed_to ∙ ap (ends_of (length ends)) adds.was ∙ sym (ends_of-with_part (length ends) adds.before adds.last adds.part)
-      ∙ ap (ends_of (length ends)) (sym adds.now)
-  part_keeps (Ok false) none = tt
-  part_keeps (Err e) h = tt
-
   -- a line that does not
   pub stretch_adds : (BeginsPart words → ⊥) → (next_ends : List ℕ) → (r : Result Bool E)
       → IfOk r (λ added. MatchBool added (AddsStretch words old new (map end_of ends) next_ends) (AddsNoStretch words (map end_of ends)))

@@ -1,27 +1,19 @@
-use Rattle.std.proofs.Common.{refl, subst, ◌∙◌}
+use Rattle.std.proofs.Common.{subst, ◌∙◌}
 use Rattle.std.proofs.lemmas.Result.{err_from_is_err_and}
 use Rattle.ffv1_commands.specs.Inner.Devices.{WritesNamed}
 use Rattle.ffv1_commands.specs.Fault.{of_setup}
 use Rattle.ffv1_commands.specs.declared.path.CommandPath.TheVariants as paths
-use Rattle.ffv1_commands.proofs.RecordFaults.{record_taken, record_refused, record_one}
+use Rattle.ffv1_commands.proofs.RecordFaults.{record_taken, record_refused}
 use Rattle.ffv1_commands.proofs.NamedFiles.{named-untouched}
 use Rattle.ffv1_commands.proofs.Shows.{record_shows, setup_printed}
 use Rattle.ffv1_commands.proofs.show.show_of.Goals as goal
 
-pub returns-in_err-setup : goal.returns-in_err-setup
-returns-in_err-setup g c =
+pub returns-in_err-setup-clause-reported : goal.returns-in_err-setup-clause-reported
+returns-in_err-setup-clause-reported g c =
     let p = err_from_is_err_and c.from_residual-in_err-setup.result c.from_residual-in_err-setup.ensures.1 in
-    let f = of_setup c.in_err-setup.field-0.0 in
-    let stops = record_refused c.args.width c.args.height _ _ c.in_ok-config.config.items _ c.as_slice.ensures.value c.in_ok-config.ensures
-    c.in_err-setup.field-0.0 c.in_err-setup.ensures.first in
-    let kept = record_one c.args.width c.args.height _ _ c.args.output.now f stops in
-    rw (p.1, p.2) (record { reported = record_shows _ _ _ _ (g.W.Sink.log c.args.output.now) f stops; untouched = kept })
-
-pub returns-in_err-text : goal.returns-in_err-text
-returns-in_err-text g c =
-    let p = err_from_is_err_and c.from_residual-in_err-text.result c.from_residual-in_err-text.ensures.1 in
-    let took = c.in_ok-config.ensures in
-    rw (p.1, p.2) (record { reported = ((c.in_ok-config.config.items, took.read, took.few), refl); untouched = refl {a = c.args.output.now} })
+    rw (p.1, p.2) (record_shows _ _ _ _ (g.W.Sink.log c.args.output.now) (of_setup c.in_err-setup.field-0.0)
+    (record_refused c.args.width c.args.height _ _ c.in_ok-config.config.items _ c.as_slice.ensures.value c.in_ok-config.ensures
+    c.in_err-setup.field-0.0 c.in_err-setup.ensures.first))
 
 pub returns : goal.returns
 returns g c =

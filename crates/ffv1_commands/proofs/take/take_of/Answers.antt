@@ -1,21 +1,18 @@
 use Rattle.std.proofs.Common.{ℕ, List, refl, inl, inr, sym, subst}
 use Rattle.std.proofs.lemmas.Result.{err_from_is_err_and}
 use Rattle.ffv1_hold.specs.Headline.{IsReelOf}
-use Rattle.ffv1_commands.specs.Fault.{of_setup}
 use Rattle.ffv1_commands.specs.TakeText.{TakesEach}
-use Rattle.ffv1_commands.proofs.RecordFaults.{record_refused, record_both}
+use Rattle.ffv1_commands.proofs.RecordFaults.{record_refused}
 use Rattle.ffv1_commands.proofs.InputFaults.{untouched_both}
 use Rattle.ffv1_commands.proofs.TakeReported.{reel_read, copies-unwritten, made_reported}
 use Rattle.ffv1_commands.proofs.take.take_of.Goals as goal
 
-pub returns-in_err-holding : goal.returns-in_err-holding
-returns-in_err-holding g c =
+pub returns-in_err-holding-clause-reported : goal.returns-in_err-holding-clause-reported
+returns-in_err-holding-clause-reported g c =
     let p = err_from_is_err_and c.from_residual-in_err-holding.result c.from_residual-in_err-holding.ensures.1 in
-    let f = of_setup c.in_err-holding.field-0.0 in
     let stops = record_refused c.args.width c.args.height _ _ c.in_ok-config.config.items _ c.as_slice.ensures.value c.in_ok-config.ensures
     c.in_err-holding.field-0.0 c.in_err-holding.ensures.fault in
-    let kept = record_both c.args.width c.args.height _ _ c.args.out.now c.args.output.now f stops in
-    rw (p.1, p.2) (record { reported = inl (stops, refl, (refl, refl)); untouched = kept })
+    rw (p.1, p.2) (inl (stops, refl, (refl, refl)))
 
 pub returns-in_err-lines : goal.returns-in_err-lines
 returns-in_err-lines g c =
