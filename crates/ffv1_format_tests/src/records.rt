@@ -30,28 +30,6 @@ fn sets_of(alloc: Global, tables: &[[&[u32]; 5]]) -> Result<Vec<Vec<Vec<u32>>>, 
     Ok(sets)
 }
 
-/// A gray recording of one tile, with sets of these tables, of which it counts one.
-fn gray(alloc: Global, tables: &[[&[u32]; 5]]) -> Result<RecordSpec, AllocError> {
-    Ok(RecordSpec {
-        version: 3,
-        micro: 4,
-        coder: 0,
-        colorspace: 0,
-        raw_depth: 8,
-        has_chroma: false,
-        shift_h: 0,
-        shift_v: 0,
-        extra_plane: false,
-        across: 1,
-        down: 1,
-        set_count: 1,
-        sets: sets_of(alloc, tables)?,
-        delta: None,
-        ec: 1,
-        intra: 1,
-    })
-}
-
 /// The fields of a record before its tables, in reading order: the version, its micro number, coder, colour space, depth,
 /// chroma planes, their shift across, an extra plane, tiles across and down, sets of tables; and, after these, the parity.
 const FRONT: [u32; 12] = [3, 4, 0, 0, 8, 0, 0, 0, 1, 1, 1, 1];
@@ -59,11 +37,12 @@ const FRONT: [u32; 12] = [3, 4, 0, 0, 8, 0, 0, 0, 1, 1, 1, 1];
 /// The same, each beyond the profile.
 const BEYOND_FRONT: [u32; 12] = [4, 3, 1, 1, 10, 1, 3, 1, 65, 65, 9, 2];
 
-/// A record whose first `right` of these fields are of the profile, and no others.
-fn beyond_from(alloc: Global, right: usize) -> Result<RecordSpec, AllocError> {
-    let mut front = FRONT;
-    let right = right.min(front.len());
-    front[right..].copy_from_slice(&BEYOND_FRONT[right..]);
+/// A record of these fields, with sets of these tables.
+fn record_of(
+    alloc: Global,
+    front: &[u32; 12],
+    tables: &[[&[u32]; 5]],
+) -> Result<RecordSpec, AllocError> {
     Ok(RecordSpec {
         version: front[0],
         micro: front[1],
@@ -72,13 +51,29 @@ fn beyond_from(alloc: Global, right: usize) -> Result<RecordSpec, AllocError> {
         raw_depth: front[4],
         has_chroma: front[5] != 0,
         shift_h: front[6],
+        shift_v: 0,
         extra_plane: front[7] != 0,
         across: front[8],
         down: front[9],
         set_count: front[10],
+        sets: sets_of(alloc, tables)?,
+        delta: None,
         ec: front[11],
-        ..gray(alloc, &[PLAIN])?
+        intra: 1,
     })
+}
+
+/// A gray recording of one tile, with sets of these tables, of which it counts one.
+fn gray(alloc: Global, tables: &[[&[u32]; 5]]) -> Result<RecordSpec, AllocError> {
+    record_of(alloc, &FRONT, tables)
+}
+
+/// A record whose first `right` of these fields are of the profile, and no others.
+fn beyond_from(alloc: Global, right: usize) -> Result<RecordSpec, AllocError> {
+    let mut front = FRONT;
+    let right = right.min(front.len());
+    front[right..].copy_from_slice(&BEYOND_FRONT[right..]);
+    record_of(alloc, &front, &[PLAIN])
 }
 
 /// Why a record that was made is refused, for frames of this side.

@@ -14,7 +14,7 @@ use ffv1_range::{Setup, SetupFault};
 use ffv1_slice::content_of;
 use ffv1_splice::{SpliceFault, splice};
 use ffv1_weave::{Check, Outcome as Woven, repair, vote, weave};
-use std::alloc::Global;
+use std::alloc::{AllocError, Global};
 use std::io;
 use std::io::ErrorKind;
 
@@ -394,6 +394,16 @@ impl Attempt for Weave {
     }
 }
 
+/// Whether the last slice came back, of so many that were tried.
+fn last_slice_of(made: Result<Option<(Vec<u8>, usize)>, AllocError>, tried: usize) -> Outcome {
+    match made {
+        Ok(Some((bytes, count))) if count == tried && bytes.as_slice() == &RECORDED[LAST_SLICE..] =>
+            { Outcome::Answer(remainder(&bytes)) }
+        Ok(_) => Outcome::Wrong,
+        Err(_) => Outcome::Memory,
+    }
+}
+
 /// `repair` of the last slice of both torn copies, where one bit is wrong in both.
 #[derive(Drop)]
 pub struct Repair;
@@ -403,13 +413,10 @@ impl Attempt for Repair {
         let [mut one, mut other] = torn_copies();
         one[250] ^= 1;
         other[250] ^= 1;
-        match repair(alloc, &[&one[LAST_SLICE..], &other[LAST_SLICE..]]) {
-            Ok(Some((bytes, 3488))) if bytes.as_slice() == &RECORDED[LAST_SLICE..] => {
-                Outcome::Answer(remainder(&bytes))
-            }
-            Ok(_) => Outcome::Wrong,
-            Err(_) => Outcome::Memory,
-        }
+        last_slice_of(
+            repair(alloc, &[&one[LAST_SLICE..], &other[LAST_SLICE..]]),
+            3488,
+        )
     }
 }
 
@@ -427,13 +434,7 @@ impl Attempt for Vote {
             &other[LAST_SLICE..],
             &third[LAST_SLICE..],
         ];
-        match vote(alloc, &versions) {
-            Ok(Some((bytes, 4))) if bytes.as_slice() == &RECORDED[LAST_SLICE..] => {
-                Outcome::Answer(remainder(&bytes))
-            }
-            Ok(_) => Outcome::Wrong,
-            Err(_) => Outcome::Memory,
-        }
+        last_slice_of(vote(alloc, &versions), 4)
     }
 }
 

@@ -308,25 +308,6 @@ fn unreported_input(alloc: Global, command: Command, files: &Files) -> Option<us
     unreported_after(alloc, command, files, true)
 }
 
-/// The first command of which there is such an input, and after how many bytes.
-fn first_unreported(alloc: Global, files: &Files) -> Option<(Command, usize)> {
-    for &command in &COMMANDS {
-        if let Some(room) = unreported_input(alloc, command, files) {
-            return Some((command, room));
-        }
-    }
-    None
-}
-
-#[test]
-fn inputs_that_fail_are_reported(rt: HostRuntime) {
-    let unreported = match holding_files(rt.alloc()) {
-        Some(files) => first_unreported(rt.alloc(), &files),
-        None => Some((Command::Take, 0)),
-    };
-    assert!(rt; unreported.is_none(), "{unreported:?}");
-}
-
 /// What a command returns, makes and prints where there is so much room for what it makes and for what it prints.
 fn ran_with_room(
     alloc: Global,
@@ -403,22 +384,45 @@ fn without_front(alloc: Global, command: Command, files: &Files) -> Option<usize
     }
 }
 
-/// The first command of which there is such an output, and after how many bytes.
-fn first_without_front(alloc: Global, files: &Files) -> Option<(Command, usize)> {
+/// The devices of a command.
+#[derive(Clone, Copy)]
+enum Side {
+    Inputs,
+    Outputs,
+}
+
+/// The first command of which a failure of an input is not reported, or one of an output does not leave a front, and after how many
+/// bytes.
+fn first_unseen(alloc: Global, files: &Files, side: Side) -> Option<(Command, usize)> {
     for &command in &COMMANDS {
-        if let Some(room) = without_front(alloc, command, files) {
+        let unseen = match side {
+            Side::Inputs => unreported_input(alloc, command, files),
+            Side::Outputs => without_front(alloc, command, files),
+        };
+        if let Some(room) = unseen {
             return Some((command, room));
         }
     }
     None
 }
 
+/// The same of the commands over the stored files.
+fn unseen_on(alloc: Global, side: Side) -> Option<(Command, usize)> {
+    match holding_files(alloc) {
+        Some(files) => first_unseen(alloc, &files, side),
+        None => Some((Command::Take, 0)),
+    }
+}
+
+#[test]
+fn inputs_that_fail_are_reported(rt: HostRuntime) {
+    let unreported = unseen_on(rt.alloc(), Side::Inputs);
+    assert!(rt; unreported.is_none(), "{unreported:?}");
+}
+
 #[test]
 fn outputs_that_fail_have_a_front(rt: HostRuntime) {
-    let without_front = match holding_files(rt.alloc()) {
-        Some(files) => first_without_front(rt.alloc(), &files),
-        None => Some((Command::Take, 0)),
-    };
+    let without_front = unseen_on(rt.alloc(), Side::Outputs);
     assert!(rt; without_front.is_none(), "{without_front:?}");
 }
 
