@@ -130,15 +130,11 @@ fn recording_words<'a>(matches: &ArgMatches<'a>) -> Result<Recording<'a>, CliFau
     })
 }
 
-/// The words of `take`.
-fn take_words<'a>(alloc: Global, matches: &ArgMatches<'a>) -> Result<Words<'a>, CliFault>
-    ensures { ReadsWords (rows_matched matches.now) (codes "take") result }
+/// The words COPY.
+fn copies<'a>(alloc: Global, matches: &ArgMatches<'a>) -> Result<Vec<&'a str>, CliFault>
+    ensures { MatchResult result (λ copies. AreValues (rows_matched matches.now) (codes "COPY") (map (λ word. word.now) copies.items)) NamesNoPath }
 {
-    Ok(Words::Take {
-        recording: recording_words(matches)?,
-        out: word(matches, "OUT")?,
-        copies: list(alloc, several(matches, "COPY")?)?,
-    })
+    list(alloc, several(matches, "COPY")?)
 }
 
 /// The words of `join`.
@@ -155,49 +151,6 @@ fn join_words<'a>(alloc: Global, matches: &ArgMatches<'a>) -> Result<Words<'a>, 
     })
 }
 
-/// The words of `merge`.
-fn merge_words<'a>(matches: &ArgMatches<'a>) -> Result<Words<'a>, CliFault>
-    ensures { ReadsWords (rows_matched matches.now) (codes "merge") result }
-{
-    Ok(Words::Merge {
-        out: word(matches, "OUT")?,
-        left: word(matches, "A")?,
-        right: word(matches, "B")?,
-    })
-}
-
-/// The words of `splice`.
-fn splice_words<'a>(alloc: Global, matches: &ArgMatches<'a>) -> Result<Words<'a>, CliFault>
-    ensures { ReadsWords (rows_matched matches.now) (codes "splice") result }
-{
-    Ok(Words::Splice {
-        out: word(matches, "OUT")?,
-        copies: list(alloc, several(matches, "COPY")?)?,
-    })
-}
-
-/// The words of `mend`.
-fn mend_words<'a>(alloc: Global, matches: &ArgMatches<'a>) -> Result<Words<'a>, CliFault>
-    ensures { ReadsWords (rows_matched matches.now) (codes "mend") result }
-{
-    Ok(Words::Mend {
-        list: word(matches, "LIST")?,
-        out: word(matches, "OUT")?,
-        copies: list(alloc, several(matches, "COPY")?)?,
-    })
-}
-
-/// The words of `decode`.
-fn decode_words<'a>(matches: &ArgMatches<'a>) -> Result<Words<'a>, CliFault>
-    ensures { ReadsWords (rows_matched matches.now) (codes "decode") result }
-{
-    Ok(Words::Decode {
-        recording: recording_words(matches)?,
-        frame: word(matches, "FRAME")?,
-        out: word(matches, "OUT")?,
-    })
-}
-
 /// The command of this name that reads holding files, with its words.
 fn hold_words_of<'a>(
     alloc: Global,
@@ -208,7 +161,11 @@ fn hold_words_of<'a>(
 {
     match name {
         "join" => join_words(alloc, matches),
-        "merge" => merge_words(matches),
+        "merge" => Ok(Words::Merge {
+            out: word(matches, "OUT")?,
+            left: word(matches, "A")?,
+            right: word(matches, "B")?,
+        }),
         "report" => Ok(Words::Report {
             file: word(matches, "HOLD")?,
         }),
@@ -239,10 +196,25 @@ fn words_of<'a>(alloc: Global, name: &str, matches: &ArgMatches<'a>) -> Result<W
         "show" => Ok(Words::Show {
             recording: recording_words(matches)?,
         }),
-        "take" => take_words(alloc, matches),
-        "splice" => splice_words(alloc, matches),
-        "mend" => mend_words(alloc, matches),
-        "decode" => decode_words(matches),
+        "take" => Ok(Words::Take {
+            recording: recording_words(matches)?,
+            out: word(matches, "OUT")?,
+            copies: copies(alloc, matches)?,
+        }),
+        "splice" => Ok(Words::Splice {
+            out: word(matches, "OUT")?,
+            copies: copies(alloc, matches)?,
+        }),
+        "mend" => Ok(Words::Mend {
+            list: word(matches, "LIST")?,
+            out: word(matches, "OUT")?,
+            copies: copies(alloc, matches)?,
+        }),
+        "decode" => Ok(Words::Decode {
+            recording: recording_words(matches)?,
+            frame: word(matches, "FRAME")?,
+            out: word(matches, "OUT")?,
+        }),
         "help" => Ok(Words::Help),
         "version" => Ok(Words::Version),
         _ => hold_words_of(alloc, name, matches),
