@@ -11,8 +11,8 @@ use Rattle.std.specs.Simd.{first_chunks}
 use Rattle.std.proofs.lemmas.List.{append-nil, append_assoc, length-append, length-replicate, replicate-append-replicate, take-append-drop, take_more}
 use Rattle.std.proofs.lemmas.List.Folds.{concat-append}
 use Rattle.ffv1_bits.specs.Bits.{number_bits, bits_of}
-use Rattle.ffv1_bits.specs.Parity.{polynomial_of, reduced_at, divided, remainder_of}
-use Rattle.ffv1_bits.proofs.EightBytes.{moved_entry}
+use Rattle.ffv1_bits.specs.Parity.{polynomial_of, divided, remainder_of}
+use Rattle.ffv1_bits.proofs.SixteenBytes.{moved_entry}
 use Rattle.ffv1_bits.proofs.Remainders.{table_turn}
 use Rattle.ebml_crc.specs.Crc.{sent_bits, complemented, crc_remainder, crc32_of}
 use Rattle.ebml_crc.specs.Inner.Register.{register_of, Advances, left_before}
@@ -23,7 +23,7 @@ use Rattle.ebml_crc.proofs.Registers.{left_after, start, left_more, sent_append,
 -- ---- the register
 
 pub START_is : START ≡ register_of []
-unfolding number_bits polynomial_of reduced_at divided remainder_of reverse_bits_onto sent_bits complemented crc_remainder register_of
+unfolding number_bits polynomial_of divided remainder_of reverse_bits_onto sent_bits complemented crc_remainder register_of
 START_is = refl
 
 register_again : (bytes : List ℕ) → reverse_bits_onto 32 (register_of bytes) 0 ≡ crc_remainder bytes

@@ -7,7 +7,7 @@ use Rattle.std.specs.Int.Bits.{xor_comm, xor_self, xor_zero_r}
 use Rattle.std.proofs.lemmas.Bool.{cases_lt}
 use Rattle.std.proofs.lemmas.List.{length-append, length-drop, length-reverse, reverse-reverse, take-append-drop, take_all, drop_all}
 use Rattle.ffv1_bits.specs.Bits.{number_bits}
-use Rattle.ffv1_bits.specs.Parity.{polynomial_of, reduced_at, divided, remainder_of, AreBytes}
+use Rattle.ffv1_bits.specs.Parity.{polynomial_of, divided, remainder_of, AreBytes}
 use Rattle.ffv1_bits.proofs.Sums.{same_from_xor, xor_swap, xor_twice}
 use Rattle.ffv1_bits.proofs.Division.{shifted, remainder_is_fold, fold_injective}
 use Rattle.ffv1_bits.proofs.Numbers.{length-number_bits, polynomial_of-number_bits, fronts_alike}
@@ -32,7 +32,7 @@ with_complement : (p : ℕ) → p < 2 ^ 32 → bit_xor p (bit_not w32 p) ≡ 0xF
 with_complement p small = ap (bit_xor p) (sym (ones p small)) ∙ xor_comm p (bit_xor 0xFFFFFFFF p) ∙ xor_twice 0xFFFFFFFF p
 
 residue : divided 32 (0xFFFFFFFF * 2 ^ 32) ≡ 0xC704DD7B
-unfolding divided reduced_at
+unfolding divided
 residue = refl
 
 right_left : (rest : List ℕ) → crc_remainder (rest ++ to_le_bytes w32 (crc32_of rest)) ≡ 0xC704DD7B

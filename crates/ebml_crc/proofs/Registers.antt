@@ -11,7 +11,7 @@ use Rattle.std.proofs.lemmas.Grind.{flat_map-append}
 use Rattle.std.proofs.lemmas.List.{take-append-drop, length-append, length-replicate, length-reverse, length-take, length-map}
 use Rattle.std.proofs.lemmas.List.Sums.{fold-append}
 use Rattle.ffv1_bits.specs.Bits.{number_bits}
-use Rattle.ffv1_bits.specs.Parity.{polynomial_of, reduced_at, divided, remainder_of}
+use Rattle.ffv1_bits.specs.Parity.{polynomial_of, divided, remainder_of}
 use Rattle.ffv1_bits.proofs.Division.{shifted, divided_is_fold, remainder_is_fold, remainder_small, divided-xor, divided_low, polynomial_small}
 use Rattle.ffv1_bits.proofs.Register.{byte_whole}
 use Rattle.ffv1_bits.proofs.Numbers.{length-number_bits, polynomial_of-number_bits}
@@ -123,7 +123,7 @@ ones p small =
     turned (suc (suc b)) h = absurd (omega arith)
 
 start_makes_ones : divided 32 (start * 2 ^ 32) ≡ 0xFFFFFFFF
-unfolding divided reduced_at
+unfolding divided
 start_makes_ones = refl
 
 -- 32 bits more after a register: the sum of what the register leaves and the bits

@@ -8,9 +8,9 @@ use Rattle.std.proofs.lemmas.Nat.Bits.{bit_at_lowest}
 use Rattle.std.proofs.lemmas.Bool.{agree_below_at, eqb-true}
 use Rattle.std.proofs.lemmas.List.{reverse-append, reverse-reverse, append-nil, append_assoc}
 use Rattle.ffv1_bits.specs.Bits.{has_bit, number_bits}
-use Rattle.ffv1_bits.specs.Parity.{polynomial_of, reduced_at, divided}
+use Rattle.ffv1_bits.specs.Parity.{polynomial_of, divided}
 use Rattle.ffv1_bits.proofs.Division.{polynomial_small}
-use Rattle.ffv1_bits.proofs.EightBytes.{moved_entry, moved_entry_is}
+use Rattle.ffv1_bits.proofs.SixteenBytes.{moved_entry, moved_entry_is}
 use Rattle.ffv1_bits.proofs.Numbers.{halved, number_bits-polynomial_of, number_bits-split, number_bits-low, polynomial_of-number_bits}
 use Rattle.ebml_crc.specs.Crc.{sent_bits}
 use Rattle.ebml_crc.specs.declared.table.TheConstants.{ENTRIES}
@@ -174,7 +174,7 @@ moved_down n small =
 entries_agree : (n : ℕ) → n < 4096
     → nat_eq (get_or (get_or ENTRIES (n / 256) []) (n % 256) 0)
     (reverse_bits_onto 32 (divided (8 + 8 * (n / 256)) (reverse_bits_onto 8 (n % 256) 0 * 2 ^ (32 + 8 * (n / 256)))) 0) ≡ true
-unfolding reverse_bits_onto reduced_at divided
+unfolding reverse_bits_onto divided
 entries_agree n h =
     agree_below_at (λ m. nat_eq (get_or (get_or ENTRIES (m / 256) []) (m % 256) 0)
     (reverse_bits_onto 32 (divided (8 + 8 * (m / 256)) (reverse_bits_onto 8 (m % 256) 0 * 2 ^ (32 + 8 * (m / 256)))) 0)) (λ _. true) 4096 n refl h

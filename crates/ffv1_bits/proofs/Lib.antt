@@ -1,5 +1,6 @@
 pub mod Vectors
 pub mod Sums
+pub mod Divisors
 pub mod Division
 pub mod Burst
 pub mod Bytes
@@ -9,4 +10,5 @@ pub mod Numbers
 pub mod Places
 pub mod Remainders
 pub mod EightBytes
+pub mod SixteenBytes
 pub mod SameChanges

@@ -7,7 +7,8 @@ use Rattle.std.proofs.lemmas.Nat.{pow_pos, shl_below}
 use Rattle.std.proofs.lemmas.Nat.Bits.{bit_at_above}
 use Rattle.std.proofs.lemmas.Bool.{cond_both}
 use Rattle.ffv1_bits.specs.Bits.{has_bit}
-use Rattle.ffv1_bits.specs.Parity.{polynomial_of, divisor, reduced_at, divided, remainder_of, IsMultiple, RemainderIsOne}
+use Rattle.ffv1_bits.specs.Parity.{polynomial_of, divisor, divided, remainder_of, IsMultiple, RemainderIsOne}
+use Rattle.ffv1_bits.specs.Inner.Division.{reduced_at}
 use Rattle.ffv1_bits.specs.Parity.IsMultiple.{none, plus}
 use Rattle.ffv1_bits.proofs.Sums.{same_from_xor, xor_swap}
 use Rattle.ffv1_bits.proofs.Division.{divided-xor, divided_low, remainder_small, reduced_shift}
@@ -36,7 +37,7 @@ line_above k p small =
     ap (λ x. cond (eqb x 1) (bit_xor p (divisor * 2 ^ k)) p) (bit_at_above p (32 + k) (32 + k) small (omega arith))
 
 lines_above : (m n p : ℕ) → p < 2 ^ (32 + n) → divided (n + m) p ≡ divided n p
-unfolding divided
+unfolding divided reduced_at
 lines_above zero n p small = ap (λ x. divided x p) (add-zero n)
 lines_above (suc m) n p small =
     let wide : p < 2 ^ (32 + (n + m)) =

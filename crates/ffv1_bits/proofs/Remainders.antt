@@ -6,7 +6,7 @@ use Rattle.std.proofs.lemmas.Nat.{or_shifted}
 use Rattle.std.proofs.lemmas.Bool.{agree_below_at, eqb-true}
 use Rattle.ffv1_bits.specs.Bits.{number_bits, bits_of}
 use Rattle.ffv1_bits.specs.declared.table.TheConstants.{REMAINDERS}
-use Rattle.ffv1_bits.specs.Parity.{polynomial_of, reduced_at, divided, remainder_of}
+use Rattle.ffv1_bits.specs.Parity.{polynomial_of, divided, remainder_of}
 use Rattle.ffv1_bits.proofs.Division.{divided-xor, divided_low}
 use Rattle.ffv1_bits.proofs.Register.{remainder_push}
 
@@ -45,7 +45,7 @@ table_step r b h k =
 
 -- Each number of the table is computed.
 agrees : (b : ℕ) → b < 256 → nat_eq (get_or (get_or REMAINDERS 0 []) b 0) (entry_of b) ≡ true
-unfolding number_bits bits_of polynomial_of reduced_at divided remainder_of
+unfolding number_bits bits_of polynomial_of divided remainder_of
 agrees b h = agree_below_at (λ t. nat_eq (get_or (get_or REMAINDERS 0 []) t 0) (entry_of t)) (λ _. true) 256 b refl h
 
 pub table_has : (b : ℕ) → b < 256 → get_or (get_or REMAINDERS 0 []) b 0 ≡ entry_of b

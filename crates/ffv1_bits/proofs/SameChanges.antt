@@ -4,7 +4,8 @@ use Rattle.std.specs.Prelude.{bit_xor}
 use Rattle.std.specs.List.{fold, flat_map}
 use Rattle.std.specs.Int.Bits.{xor_block, xor_self}
 use Rattle.ffv1_bits.specs.Bits.{bit_value, number_bits, bits_of}
-use Rattle.ffv1_bits.specs.Parity.{reduced_at, remainder_of}
+use Rattle.ffv1_bits.specs.Parity.{remainder_of}
+use Rattle.ffv1_bits.specs.Inner.Division.{reduced_at}
 use Rattle.ffv1_bits.proofs.Division.{shifted, reduced-xor, remainder_is_fold}
 use Rattle.ffv1_bits.proofs.Numbers.{length-number_bits}
 

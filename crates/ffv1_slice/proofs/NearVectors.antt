@@ -4,7 +4,7 @@ use Rattle.std.specs.Prelude.{◌⊎◌, ◌==◌}
 use Rattle.std.specs.List.{list_all}
 use Rattle.std.proofs.lemmas.Bool.{and_parts, ltb-true}
 use Rattle.ffv1_bits.specs.Bits.{number_bits, bits_of}
-use Rattle.ffv1_bits.specs.Parity.{polynomial_of, reduced_at, divided, remainder_of, AreBytes, DifferWithin32, PassesParity}
+use Rattle.ffv1_bits.specs.Parity.{polynomial_of, divided, remainder_of, AreBytes, DifferWithin32, PassesParity}
 use Rattle.ffv1_bits.proofs.Burst.{burst}
 use Rattle.ffv1_range.specs.Setup.{SetupValue}
 use Rattle.ffv1_range.specs.Coding.{bit_at, slot_at, start_of}
@@ -60,11 +60,11 @@ abbrev marked_slice : List ℕ
 marked_slice = 0xFD ∷ 0xF6 ∷ 0x80 ∷ 0 ∷ 0 ∷ 3 ∷ 1 ∷ 0x18 ∷ 0xFF ∷ 0xBD ∷ 0x2C ∷ []
 
 first_passes : PassesParity first_slice
-unfolding number_bits bits_of polynomial_of reduced_at divided remainder_of
+unfolding number_bits bits_of polynomial_of divided remainder_of
 first_passes = (omega arith, refl)
 
 marked_passes : PassesParity marked_slice
-unfolding number_bits bits_of polynomial_of reduced_at divided remainder_of
+unfolding number_bits bits_of polynomial_of divided remainder_of
 marked_passes = (omega arith, refl)
 
 not_within_32 : (at : ℕ) → DifferWithin32 first_slice marked_slice at → ⊥
@@ -92,11 +92,11 @@ setup = record {
 }
 
 first_read : slice_read setup first_slice true ≡ Ok 0
-unfolding slice_read number_bits bits_of polynomial_of reduced_at divided remainder_of start_of bit_at slot_at symbol_form exponent_form low_form symbols_onto
+unfolding slice_read number_bits bits_of polynomial_of divided remainder_of start_of bit_at slot_at symbol_form exponent_form low_form symbols_onto
 first_read = refl
 
 second_read : slice_read setup second_slice false ≡ Ok 1
-unfolding slice_read number_bits bits_of polynomial_of reduced_at divided remainder_of start_of bit_at slot_at symbol_form exponent_form low_form symbols_onto
+unfolding slice_read number_bits bits_of polynomial_of divided remainder_of start_of bit_at slot_at symbol_form exponent_form low_form symbols_onto
 second_read = refl
 
 pub is_original : IsOriginal setup frame slices

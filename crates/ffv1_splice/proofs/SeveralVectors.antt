@@ -6,7 +6,7 @@ use Rattle.std.specs.List.{list_all}
 use Rattle.std.proofs.lemmas.Bool.{and_parts}
 use Rattle.std.proofs.lemmas.List.{ext_get_or}
 use Rattle.ffv1_bits.specs.Bits.{number_bits, bits_of}
-use Rattle.ffv1_bits.specs.Parity.{AreBytes, PassesParity, polynomial_of, reduced_at, divided, remainder_of}
+use Rattle.ffv1_bits.specs.Parity.{AreBytes, PassesParity, polynomial_of, divided, remainder_of}
 use Rattle.ffv1_slice.specs.Chain.{IsCut}
 use Rattle.ffv1_slice.specs.Members.{IsOfNone}
 use Rattle.ffv1_slice.proofs.NearVectors as vectors
@@ -48,11 +48,11 @@ from_the_other : map sized (versions_at torn_copies 1 11) ≡ later ∷ later �
 from_the_other = refl
 
 hurt_first_fails : PassesParity hurt_first → ⊥
-unfolding number_bits bits_of polynomial_of reduced_at divided remainder_of
+unfolding number_bits bits_of polynomial_of divided remainder_of
 hurt_first_fails passes = absurd (omega arith)
 
 later_fails : PassesParity later → ⊥
-unfolding number_bits bits_of polynomial_of reduced_at divided remainder_of
+unfolding number_bits bits_of polynomial_of divided remainder_of
 later_fails passes = absurd (omega arith)
 
 -- ---- what is claimed

@@ -10,7 +10,7 @@ use Rattle.std.specs.declared.cmp.Ordering.TheVariants.{Less}
 use Rattle.std.proofs.lemmas.List.{ext_get_or, length-take, take-replicate, drop-replicate}
 use Rattle.std.proofs.lemmas.List.Elements.{All-nil}
 use Rattle.ffv1_bits.specs.Bits.{number_bits, bits_of}
-use Rattle.ffv1_bits.specs.Parity.{AreBytes, PassesParity, polynomial_of, reduced_at, divided, remainder_of}
+use Rattle.ffv1_bits.specs.Parity.{AreBytes, PassesParity, polynomial_of, divided, remainder_of}
 use Rattle.ffv1_slice.specs.Setup.{SetupValue}
 use Rattle.ffv1_slice.specs.Chain.{size_before, IsCut, IsEnd, IsLinkOf}
 use Rattle.ffv1_slice.specs.Slices.{IsSliceOf, IsOriginal}
@@ -129,7 +129,7 @@ zeros = replicate 16 0
 
 -- eight zeros are a footer of size 0 that passes its parity
 zeros_pass : IsCut zeros 8 16 × PassesParity (slice_range zeros 8 16)
-unfolding number_bits bits_of polynomial_of reduced_at divided remainder_of
+unfolding number_bits bits_of polynomial_of divided remainder_of
 zeros_pass = (omega arith, (omega arith, refl))
 
 -- of one copy alone, the only one
@@ -155,7 +155,7 @@ zeros_cut copy start end there within cut content =
 
 -- with the size of a slice that is as long they do not pass
 sized_zeros_fail : PassesParity (sized zeros) → ⊥
-unfolding number_bits bits_of polynomial_of reduced_at divided remainder_of
+unfolding number_bits bits_of polynomial_of divided remainder_of
 sized_zeros_fail passes = absurd (omega arith)
 
 -- so no slice with content ends or begins within them
@@ -300,7 +300,7 @@ module _ (slice : List ℕ) where
 
 -- so the first slice is, once both copies have its size
 pub first_slice_passes : PassesParity vectors.first_slice
-unfolding number_bits bits_of polynomial_of reduced_at divided remainder_of
+unfolding number_bits bits_of polynomial_of divided remainder_of
 first_slice_passes = (omega arith, refl)
 
 -- so the slice is woven from the front, of one combination

@@ -10,7 +10,8 @@ use Rattle.std.proofs.lemmas.Grind.{flat_map-append}
 use Rattle.std.proofs.lemmas.List.{length-drop, length-replicate, take-append-drop, drop_more, take-set, drop-set, set-set, set-get_or, get_or-set_same}
 use Rattle.std.proofs.lemmas.List.Sums.{fold-append}
 use Rattle.ffv1_bits.specs.Bits.{number_bits, bits_of}
-use Rattle.ffv1_bits.specs.Parity.{divisor, reduced_at, divided, remainder_of, polynomial_of}
+use Rattle.ffv1_bits.specs.Parity.{divisor, divided, remainder_of, polynomial_of}
+use Rattle.ffv1_bits.specs.Inner.Division.{reduced_at}
 use Rattle.ffv1_bits.proofs.Burst.{length-bits}
 use Rattle.ffv1_bits.proofs.Division.{shifted, remainder_is_fold, divided-xor, divided_low, reduced_low}
 use Rattle.ffv1_bits.proofs.Register.{remainder_push}

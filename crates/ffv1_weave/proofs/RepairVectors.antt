@@ -6,7 +6,8 @@ use Rattle.std.specs.Int.Bits.{xor_lt}
 use Rattle.std.proofs.lemmas.Bool.{cases_lt}
 use Rattle.std.proofs.lemmas.List.Elements.{Contains-append_left, Contains-append_cases, All-set, All-get_or, All-from_get_or}
 use Rattle.ffv1_bits.specs.Bits.{number_bits, bits_of}
-use Rattle.ffv1_bits.specs.Parity.{polynomial_of, reduced_at, divided, remainder_of}
+use Rattle.ffv1_bits.specs.Inner.Division.{reduced_at}
+use Rattle.ffv1_bits.specs.Parity.{polynomial_of, divided, remainder_of}
 use Rattle.ffv1_bits.proofs.Division.{shifted, fold_injective}
 use Rattle.ffv1_slice.specs.Members.{IsOnly}
 use Rattle.ffv1_weave.specs.Checks.{PassesBy}
@@ -114,7 +115,7 @@ unfoldable pub small_slice : List ℕ
 small_slice = 0x5A ∷ 0x00 ∷ 0x00 ∷ 0x01 ∷ 0x00 ∷ 0x84 ∷ 0xF2 ∷ 0x04 ∷ 0x92 ∷ []
 
 pub small_passes : PassesBy Slice small_slice
-unfolding small_slice number_bits bits_of polynomial_of reduced_at divided remainder_of
+unfolding small_slice number_bits bits_of polynomial_of divided remainder_of
 small_passes = (record { footer = omega arith; size = refl }, (omega arith, refl))
 
 small_bytes : All (λ b. b < 256) small_slice

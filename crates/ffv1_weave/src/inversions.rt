@@ -2,7 +2,8 @@
 //! and only where that is all that is left of the bytes are they looked at.
 ghost use Rattle.std.specs.Prelude.{◌≡◌, ◌+◌, ◌-◌, ◌*◌, ◌%◌, ◌<◌, ◌≤◌, ℕ, true, false, List, ◌∷◌, ◌++◌, length, slice_index, slice_index_or, IfOk};
 ghost use Rattle.ffv1_bits.specs.Bits.{bits_of};
-ghost use Rattle.ffv1_bits.specs.Parity.{reduced_at, remainder_of};
+ghost use Rattle.ffv1_bits.specs.Inner.Division.{reduced_at};
+ghost use Rattle.ffv1_bits.specs.Parity.{remainder_of};
 ghost use Rattle.ffv1_weave.specs.Repairs.{inverted};
 ghost use Rattle.ffv1_weave.specs.Inner.Found.{IsFoundAmong};
 ghost use Rattle.ffv1_weave.specs.Inner.Inversions.{inversions_from, inversions, times_x};

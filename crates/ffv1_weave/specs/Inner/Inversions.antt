@@ -1,6 +1,6 @@
 -- Byte strings that are tried for a repair.
 use Rattle.std.specs.Prelude.{ℕ, zero, suc, ◌+◌, ◌*◌, List, [], ◌∷◌, length}
-use Rattle.ffv1_bits.specs.Parity.{reduced_at}
+use Rattle.ffv1_bits.specs.Inner.Division.{reduced_at}
 use Rattle.ffv1_weave.specs.Repairs.{inverted}
 
 -- the bytes with one bit inverted, for each of so many bits from one on

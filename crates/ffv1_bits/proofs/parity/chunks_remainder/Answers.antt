@@ -1,7 +1,7 @@
 use Rattle.std.proofs.Common.{◌∙◌, append-nil, ap, sym}
 use Rattle.ffv1_bits.specs.Bits.{bits_of}
 use Rattle.ffv1_bits.specs.Parity.{remainder_of}
-use Rattle.ffv1_bits.proofs.EightBytes.{chunk_turn}
+use Rattle.ffv1_bits.proofs.SixteenBytes.{chunk_turn}
 use Rattle.ffv1_bits.proofs.parity.chunks_remainder.Goals as goal
 
 pub loop-chunk-init : goal.loop-chunk-init
@@ -9,5 +9,5 @@ loop-chunk-init c = λ front before. before ∙ ap (λ bytes. remainder_of (bits
 
 pub loop-chunk-preserved : goal.loop-chunk-preserved
 loop-chunk-preserved c = λ front before.
-    chunk_turn front c.args.chunks.now c.loop-chunk.chunk-index c.loop-chunk.register c.with_eight-register.result c.loop-chunk-test.true
-    (c.told-chunks c.loop-chunk.chunk-index c.loop-chunk-test.true) (c.loop-chunk.invariant front before) c.with_eight-register.ensures
+    chunk_turn front c.args.chunks.now c.loop-chunk.chunk-index c.loop-chunk.register c.with_sixteen-register.result c.loop-chunk-test.true
+    (c.told-chunks c.loop-chunk.chunk-index c.loop-chunk-test.true) (c.loop-chunk.invariant front before) c.with_sixteen-register.ensures

@@ -1,6 +1,6 @@
 use Rattle.std.proofs.Common.{rules, ap, ◌∙◌, [], get_or}
 use Rattle.ffv1_bits.specs.declared.table.TheConstants.{REMAINDERS}
-use Rattle.ffv1_bits.proofs.EightBytes.{tables_have}
+use Rattle.ffv1_bits.proofs.SixteenBytes.{tables_have}
 use Rattle.ffv1_bits.proofs.table.moved_remainder.Goals as goal
 
 pub returns : goal.returns

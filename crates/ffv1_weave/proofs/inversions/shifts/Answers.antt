@@ -2,7 +2,7 @@ use Rattle.std.proofs.Common.{◌≡◌, ◌+◌, ◌*◌, suc, refl, sym, ap, �
 use Rattle.std.proofs.lemmas.Bool.{cases_lt}
 use Rattle.std.proofs.lemmas.List.{get_or-set_other, length-set}
 use Rattle.std.proofs.lemmas.Grind.{get_or-set_at}
-use Rattle.ffv1_bits.specs.Parity.{reduced_at}
+use Rattle.ffv1_bits.specs.Inner.Division.{reduced_at}
 use Rattle.ffv1_weave.specs.Inner.Inversions.{times_x}
 use Rattle.ffv1_weave.proofs.inversions.shifts.Goals as goal
 
