@@ -16,8 +16,10 @@ $(PROGRAM): crates.txt $(shell find crates -path '*/out' -prune -o -type f -prin
 	@echo "proves and builds the program, which takes some 25 minutes on four processors"
 	cd crates/ffv1restore && rt run -- chain data/f22.bin > /dev/null
 
-# The gate, and then the cases of the program that the gate has built, files that fail, growths that are refused, and rotten files.
+# What the gate needs is looked for, and installed where that may be done. Then come the gate, the cases of the program that it has built,
+# files that fail, growths that are refused, and rotten files.
 test:
+	tests/needs
 	rm -f $(PROGRAM) $(CALLS)
 	tests/manual
 	tests/recorded
