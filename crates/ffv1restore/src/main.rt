@@ -2,8 +2,10 @@
 //! line on standard error.
 #![tactic(auto)]
 
-ghost use Rattle.std.specs.Prelude.{IfErr};
-ghost use Rattle.ffv1_commands.specs.Fault.{NamesPath, NamesNoPath};
+ghost use Rattle.std.specs.Prelude.{◌≡◌, IfErr};
+ghost use Rattle.std.specs.Process.{exit_status};
+ghost use Rattle.ffv1_commands.specs.Fault.{NamesPath, NamesNoPath, exit_status_of};
+ghost use Rattle.ffv1_program.specs.Reporting.{end_status};
 ghost use Rattle.ffv1_words.specs.WordPaths.{IsPathOf};
 
 pub use ffv1_commands::{
@@ -14,39 +16,37 @@ pub use ffv1_commands::{
 };
 use ffv1_files::OutputFile;
 pub use ffv1_program::run;
-use ffv1_program::{Disk, out_word};
+use ffv1_program::{Disk, OUT_OF_MEMORY, command_line, early_line, end_status, out_word};
 use ffv1_words::{Words, read_words};
+use std::alloc::AllocError;
 use std::fs::File;
 use std::process::ExitCode;
 use std::{env, io};
 
-/// Reports a fault in one line on standard error, and returns its exit status. The path is the text of the one that the
-/// fault names.
-fn report(rt: &(impl Eprint + AllocGlobal), fault: &CliFault, path: &str) -> ExitCode {
-    let reported = match fault.line(rt.alloc(), path) {
-        Ok(line) => eprintln!(rt; "ffv1restore: {line}"),
-        Err(_) => eprintln!(rt; "ffv1restore: memory"),
+/// Prints the line of a fault on standard error.
+fn print_line(rt: &impl Eprint, line: Result<String, AllocError>) {
+    let printed = match line {
+        Ok(line) => eprintln!(rt; "{line}"),
+        Err(_) => eprintln!(rt; "{OUT_OF_MEMORY}"),
     };
     // Nothing more can be reported if standard error fails too.
-    let _ = reported;
-    ExitCode::from(fault.status())
+    let _ = printed;
 }
 
-/// Reports a fault that comes before there is a command, whose paths it could name.
-fn report_early(rt: &(impl Eprint + AllocGlobal), fault: &CliFault) -> ExitCode
-    requires { NamesNoPath fault.now }
+/// The end of the program, by what its command returned.
+fn ended(done: &Result<bool, CliFault>) -> ExitCode
+    ensures { exit_status result ≡ end_status done.now }
 {
-    report(rt, fault, "")
+    ExitCode::from(end_status(done))
 }
 
-/// Reports a fault of the command of these words.
-fn report_of(rt: &(impl Eprint + AllocGlobal), fault: &CliFault, words: &Words<'_>) -> ExitCode
-    requires { NamesPath (IsPathOf words.now) fault.now }
+/// Reports a fault that comes before there is a command, whose paths it could name, and ends.
+fn report_early(rt: &(impl Eprint + AllocGlobal), fault: CliFault) -> ExitCode
+    requires { NamesNoPath fault }
+    ensures { exit_status result ≡ exit_status_of fault }
 {
-    match fault.path() {
-        Some(path) => report(rt, fault, words.path(path)),
-        None => report(rt, fault, ""),
-    }
+    print_line(rt, early_line(rt.alloc(), &fault));
+    ended(&Err(fault))
 }
 
 /// The words that the program was given, the first of which is its own name.
@@ -85,23 +85,23 @@ fn run_words<'a>(rt: &'a HostRuntime, words: &Words<'a>) -> Result<bool, CliFaul
     )
 }
 
-/// Reads the words that the program was given, runs their command, reports its fault, and returns the exit status.
+/// Reads the words that the program was given, runs their command, reports its fault, and ends.
 fn run_given<'a>(rt: &'a HostRuntime, given: &'a [String]) -> ExitCode {
     let words = match read_words(rt.alloc(), given) {
         Ok(words) => words,
-        Err(fault) => return report_early(rt, &fault),
+        Err(fault) => return report_early(rt, fault),
     };
-    match run_words(rt, &words) {
-        Ok(true) => ExitCode::SUCCESS,
-        Ok(false) => ExitCode::from(3),
-        Err(fault) => report_of(rt, &fault, &words),
+    let done = run_words(rt, &words);
+    if let Err(fault) = &done {
+        print_line(rt, command_line(rt.alloc(), fault, &words));
     }
+    ended(&done)
 }
 
 fn main(rt: HostRuntime) -> ExitCode {
     let _held = hold_streams(&rt);
     match given_words(&rt) {
         Ok(given) => run_given(&rt, given.as_slice()),
-        Err(fault) => report_early(&rt, &fault),
+        Err(fault) => report_early(&rt, fault),
     }
 }
